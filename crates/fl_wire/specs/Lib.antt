@@ -1,0 +1,2 @@
+pub mod Errno
+pub mod Name

@@ -1,0 +1,66 @@
+ghost use Rattle.std.specs.Prelude.{◌≡◌};
+
+/// An error of an answer, named as in Linux's `errno.h`.
+#[derive(Clone, Copy, Debug, PartialEq, Eq)]
+pub enum Errno {
+    /// No such file or directory.
+    ENOENT,
+    /// Interrupted.
+    EINTR,
+    /// No such open file.
+    EBADF,
+    /// The lock is held by another owner.
+    EAGAIN,
+    /// Want of memory.
+    ENOMEM,
+    /// The file exists.
+    EEXIST,
+    /// Not a directory.
+    ENOTDIR,
+    /// Is a directory.
+    EISDIR,
+    /// Invalid argument.
+    EINVAL,
+    /// Too many open files.
+    ENFILE,
+    /// No space is left for a file.
+    ENOSPC,
+    /// The wait would close a circle.
+    EDEADLK,
+    /// The name is longer than 255 bytes.
+    ENAMETOOLONG,
+    /// No room is left for a lock.
+    ENOLCK,
+    /// No such message.
+    ENOSYS,
+    /// The message comes at the wrong time.
+    EPROTO,
+}
+
+impl Errno {
+    ghost use Rattle.fl_wire.specs.Errno.{number_of};
+
+    /// The number of Linux, positive.
+    pub const fn number(self) -> u32
+        ensures { result ≡ number_of self }
+    {
+        match self {
+            Errno::ENOENT => 2,
+            Errno::EINTR => 4,
+            Errno::EBADF => 9,
+            Errno::EAGAIN => 11,
+            Errno::ENOMEM => 12,
+            Errno::EEXIST => 17,
+            Errno::ENOTDIR => 20,
+            Errno::EISDIR => 21,
+            Errno::EINVAL => 22,
+            Errno::ENFILE => 23,
+            Errno::ENOSPC => 28,
+            Errno::EDEADLK => 35,
+            Errno::ENAMETOOLONG => 36,
+            Errno::ENOLCK => 37,
+            Errno::ENOSYS => 38,
+            Errno::EPROTO => 71,
+        }
+    }
+}
