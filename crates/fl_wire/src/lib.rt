@@ -12,4 +12,3 @@ pub use name::Name;
 pub use no_memory::NoMemory;
 pub use order::{LockAsk, Op, Order};
 pub use told::{Answer, Attr, Told};
-

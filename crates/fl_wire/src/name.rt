@@ -25,7 +25,6 @@ impl Model for Name {
     ghost inverse = { λ bytes. record { array = padded bytes; len = length bytes } };
 
     ghost inverse_ok = { λ n kept i. record { array = sym kept.padded_is i; len = sym kept.length_is i } };
-
 }
 
 impl Name {
