@@ -2,6 +2,14 @@
 //! and the history's text.
 #![tactic(auto)]
 
+mod directory;
 mod history;
+mod lock;
+mod locks;
+mod node;
+mod state;
 
+pub use directory::{Directory, ROOT};
 pub use history::{History, Line};
+pub use lock::{Class, Key, Kind, LAST_BYTE, Mark, Range};
+pub use node::Node;
