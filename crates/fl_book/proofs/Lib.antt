@@ -7,3 +7,5 @@ pub mod Conflicts
 pub mod Listings
 pub mod Recounts
 pub mod Creates
+pub mod Lawfulness
+pub mod Histories

@@ -9,3 +9,4 @@ pub mod Replies
 pub mod Snapshot
 pub mod Legal
 pub mod Kept
+pub mod BookCode
