@@ -9,3 +9,4 @@ pub mod Recounts
 pub mod Creates
 pub mod Lawfulness
 pub mod Histories
+pub mod ConflictWords

@@ -5,6 +5,7 @@
 mod desk;
 mod directory;
 mod history;
+pub mod laws;
 mod lock;
 mod locks;
 mod node;
@@ -12,8 +13,5 @@ mod state;
 mod tolds;
 
 pub use desk::Desk;
-pub use directory::{Directory, ROOT};
 pub use history::{History, Line};
-pub use lock::{Class, Key, Kind, LAST_BYTE, Mark, Range};
-pub use node::Node;
 pub use tolds::Tolds;
