@@ -15,3 +15,6 @@ mod tolds;
 pub use desk::Desk;
 pub use history::{History, Line};
 pub use tolds::Tolds;
+
+#[cfg(test)]
+mod tests;
