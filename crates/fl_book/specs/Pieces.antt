@@ -18,10 +18,11 @@ abbrev pub AreApart : List Stroke → Type 0
 AreApart [] = Unit {0}
 AreApart (s ∷ rest) = (s.start ≤ s.end) × ((spot : Spot) → covers s spot ≡ true → mark_at rest spot ≡ None) × AreApart rest
 
--- the part of a piece before a byte, and the part after one
+-- the part of a piece before a byte
 abbrev pub before : ℕ → Piece → List Piece
 before start p = if nat_lt p.start start then record p { end = start - 1 } ∷ [] else []
 
+-- the part of a piece after a byte
 abbrev pub after : ℕ → Piece → List Piece
 after end p = if nat_lt end p.end then record p { start = end + 1 } ∷ [] else []
 

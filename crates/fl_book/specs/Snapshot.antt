@@ -12,10 +12,12 @@ use Rattle.fl_book.specs.Directory.{Listing, opening_listing, after_create}
 use Rattle.fl_book.specs.State.{State, stroke_of}
 use Rattle.fl_book.specs.Replies.{reply_to}
 
+-- the directory and the marking
 pub record Snapshot : Type 0 where
   pub directory : Listing
   pub marking : Marking
 
+-- what a state shows
 abbrev pub snapshot_of : State → Snapshot
 snapshot_of s = record { directory = s.directory; marking = marking_of s.strokes }
 

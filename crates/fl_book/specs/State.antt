@@ -36,10 +36,11 @@ is_flock ask = bit_and ask.flags 1 == 1
 abbrev pub key_of : ℕ → LockAsk → Key
 key_of node ask = record { class = if is_flock ask then Flock else Record; node = node; owner = ask.owner }
 
--- a lock of the whole file covers all bytes; its start and end aren't consulted
+-- the first byte that is asked for: a lock of the whole file covers all bytes, and its start and end aren't consulted
 abbrev pub start_of : LockAsk → ℕ
 start_of ask = if is_flock ask then 0 else ask.start
 
+-- the last byte that is asked for, which is included
 abbrev pub end_of : LockAsk → ℕ
 end_of ask = if is_flock ask then 9223372036854775807 else ask.end
 
@@ -67,6 +68,7 @@ abbrev pub read_reply : Option Order → Told → State → State
 read_reply None told s = s
 read_reply (Some order) told s = if told.unique == order.unique then answered order order.op told.result s else s
 
+-- one line more
 abbrev pub read_line : Reading → Line → Reading
 read_line r (line.Asked worker order) = record { state = r.state; waiting = Some order }
 read_line r (line.Told told) = record { state = read_reply r.waiting told r.state; waiting = None }
