@@ -1,13 +1,13 @@
 -- Pieces stay apart when the bytes of a key are cut out and set anew.
-use Rattle.std.proofs.Common.{◌≡◌, ℕ, ◌+◌, ◌-◌, ◌<◌, ◌≤◌, Bool, true, false, cond, ◌&&◌, nat_lt, nat_le, Option, Some, None, List, [], ◌∷◌, ◌++◌, map, append_assoc, refl, ap, sym, ◌∙◌, subst, arith}
+use Rattle.std.proofs.Common.{◌≡◌, ℕ, ◌+◌, ◌-◌, ◌<◌, ◌≤◌, Bool, true, false, cond, ◌&&◌, nat_lt, nat_le, Option, Some, None, List, [], ◌∷◌, ◌++◌, map, append_assoc, refl, sym, ◌∙◌, subst, arith}
 use Rattle.std.proofs.lemmas.Bool.Decides.{nat_tests}
 use Rattle.std.specs.List.{flat_map}
 use Rattle.std.specs.Ordering.{eq_by_cmp}
 use Rattle.fl_book.specs.declared.lock.Key.{Key}
 use Rattle.fl_book.specs.declared.lock.Mark.{Mark}
 use Rattle.fl_book.specs.declared.locks.Piece.{Piece}
-use Rattle.fl_book.specs.Marking.{key_cmp, Spot, Stroke, covers, mark_at}
-use Rattle.fl_book.specs.Pieces.{meant, AreApart, before, after, touches, cut, new_piece, recut}
+use Rattle.fl_book.specs.Marking.{key_cmp, Spot, covers, mark_at}
+use Rattle.fl_book.specs.Pieces.{meant, AreApart, before, after, cut, recut}
 use Rattle.fl_book.proofs.Cutting.{at_after, at_left}
 
 -- what a test of a spot tells

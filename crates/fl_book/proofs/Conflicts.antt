@@ -1,20 +1,19 @@
 -- A conflict that the pieces show is a conflict of the marking that they mean.
-use Rattle.std.proofs.Common.{◌≡◌, ◌≢◌, ℕ, ◌<◌, ◌≤◌, Bool, true, false, cond, not, ◌&&◌, ◌||◌, ◌==◌, nat_lt, nat_le, Option, Some, None, List, [], ◌∷◌, map, refl, ap, sym, ◌∙◌, subst, arith}
+use Rattle.std.proofs.Common.{◌≡◌, ℕ, ◌≤◌, Bool, true, false, cond, ◌&&◌, ◌||◌, nat_le, Some, None, List, [], ◌∷◌, map, refl, ap, sym, ◌∙◌, arith}
 use Rattle.std.proofs.lemmas.Bool.Decides.{nat_tests}
 use Rattle.std.specs.List.{list_any}
 use Rattle.std.specs.Ordering.{eq_by_cmp}
 use Rattle.std.specs.Cmp.{both_ways}
-use Rattle.std.specs.FinMap.{get, entries}
 use Rattle.fl_book.specs.declared.lock.Kind.{Kind}
 use Rattle.fl_book.specs.declared.lock.Key.{Key}
 use Rattle.fl_book.specs.declared.lock.Mark.{Mark}
 use Rattle.fl_book.specs.declared.locks.Piece.{Piece}
-use Rattle.fl_book.specs.Marking.{key_cmp, class_number, Spot, Marking, covers, mark_at, marking_of}
+use Rattle.fl_book.specs.Marking.{key_cmp, Spot, covers, mark_at, marking_of}
 use Rattle.fl_book.specs.Conflict.{are_rivals, excludes, excludes_lock, conflicts}
 use Rattle.fl_book.specs.Pieces.{meant, AreApart, piece_excludes}
 use Rattle.fl_book.proofs.Markings.{spots_total, exact_spots, get-marking_of}
 use Rattle.fl_book.proofs.Cutting.{same_key, key_itself}
-use Rattle.fl_book.proofs.Apart.{IsWithin, within, is_within}
+use Rattle.fl_book.proofs.Apart.{within, is_within}
 use Rattle.fl_book.proofs.Entries.{any_entry, entry_passes}
 
 -- a byte that two ranges share

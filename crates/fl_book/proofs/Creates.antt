@@ -1,6 +1,5 @@
 -- The directory after a CREATE of a linked name.
-use Rattle.std.proofs.Common.{◌≡◌, ℕ, ◌+◌, Bool, true, false, cond, ◌==◌, Option, Some, None, Result, Ok, Err, OnOk, OnErr, is_some, option_map, List, refl, ap, sym, ◌∙◌, subst}
-use Rattle.std.specs.Ordering.{nat_cmp}
+use Rattle.std.proofs.Common.{◌≡◌, ℕ, ◌+◌, Bool, true, false, cond, ◌==◌, Some, Result, Ok, Err, OnOk, OnErr, is_some, option_map, List, ap, sym, ◌∙◌, subst}
 use Rattle.std.specs.Cmp.{nat_cmp_total}
 use Rattle.std.specs.FinMap as map
 use Rattle.fl_wire.specs.declared.errno.Errno.{Errno}

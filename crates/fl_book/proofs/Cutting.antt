@@ -1,5 +1,5 @@
 -- Pieces after a stroke: what they mark, and that they stay apart.
-use Rattle.std.proofs.Common.{◌≡◌, ℕ, ◌+◌, ◌-◌, ◌<◌, ◌≤◌, Bool, true, false, cond, ◌&&◌, ◌==◌, nat_lt, nat_le, Option, Some, None, List, [], ◌∷◌, ◌++◌, map, append_assoc, refl, ap, sym, ◌∙◌, subst, arith}
+use Rattle.std.proofs.Common.{◌≡◌, ℕ, ◌+◌, ◌-◌, Bool, true, false, cond, ◌&&◌, nat_lt, nat_le, Option, Some, None, List, [], ◌∷◌, ◌++◌, map, append_assoc, refl, ap, sym, ◌∙◌, arith}
 use Rattle.std.proofs.lemmas.Bool.Decides.{nat_tests}
 use Rattle.std.specs.List.{flat_map}
 use Rattle.std.specs.declared.cmp.Ordering.{Ordering}
@@ -8,10 +8,10 @@ use Rattle.std.specs.Ordering.{eq_by_cmp, is_eq}
 use Rattle.fl_book.specs.declared.lock.Key.{Key}
 use Rattle.fl_book.specs.declared.lock.Mark.{Mark}
 use Rattle.fl_book.specs.declared.locks.Piece.{Piece}
-use Rattle.fl_book.specs.Marking.{key_cmp, Spot, Stroke, covers, mark_at}
-use Rattle.fl_book.specs.Pieces.{meant, AreApart, before, after, touches, cut, new_piece, recut}
+use Rattle.fl_book.specs.Marking.{key_cmp, Spot, covers, mark_at}
+use Rattle.fl_book.specs.Pieces.{meant, before, after, cut, recut}
 use Rattle.fl_book.proofs.Markings.{exact_keys, keys_total}
-use Rattle.std.specs.Cmp.{eq_by_cmp_equiv, tied_itself}
+use Rattle.std.specs.Cmp.{tied_itself}
 
 is_Equal : (o : Ordering) → is_eq o ≡ true → o ≡ Equal
 is_Equal Less e = absurd (cc e)

@@ -1,5 +1,5 @@
 -- A legal history with one more order is legal, and what is there after it is what the history gives.
-use Rattle.std.proofs.Common.{◌≡◌, ℕ, Bool, true, false, cond, ◌==◌, Some, None, Result, Ok, Err, List, [], ◌∷◌, ◌++◌, refl, ap, sym, ◌∙◌, subst, arith}
+use Rattle.std.proofs.Common.{◌≡◌, ℕ, true, cond, ◌==◌, None, Result, Ok, Err, List, [], ◌∷◌, ◌++◌, refl, ap, sym, ◌∙◌, subst, arith}
 use Rattle.std.proofs.lemmas.Bool.Decides.{nat_tests}
 use Rattle.std.specs.List.{fold}
 use Rattle.std.specs.FinMap.{empty}
@@ -13,7 +13,7 @@ use Rattle.fl_book.specs.declared.history.Line.{Line}
 use Rattle.fl_book.specs.Directory.{opening_listing}
 use Rattle.fl_book.specs.State.{State, opening, answered, Reading, read_line, state_after}
 use Rattle.fl_book.specs.Snapshot.{Snapshot, snapshot_of, reply_at, changed, next}
-use Rattle.fl_book.specs.Legal.{IsLegal, nothing, step, step_lines}
+use Rattle.fl_book.specs.Legal.{nothing, step, step_lines}
 use Rattle.fl_book.specs.Kept.{IsKept}
 use Rattle.fl_book.proofs.Lawfulness.{lawful_empty, lawful_next}
 

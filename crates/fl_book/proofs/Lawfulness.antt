@@ -1,11 +1,9 @@
 -- No two owners hold conflicting locks: a stroke keeps that where it was tested for conflicts.
-use Rattle.std.proofs.Common.{◌≡◌, ℕ, ◌≤◌, Bool, true, false, cond, not, ◌&&◌, ◌==◌, nat_le, Option, Some, None, Result, Ok, Err, List, refl, ap, sym, ◌∙◌, subst, arith}
+use Rattle.std.proofs.Common.{◌≡◌, ℕ, Bool, true, false, cond, not, ◌&&◌, ◌==◌, nat_le, Option, Some, None, Ok, Err, refl, ap, sym, ◌∙◌, arith}
 use Rattle.std.proofs.lemmas.Bool.Decides.{nat_tests}
 use Rattle.std.specs.Ordering.{eq_by_cmp}
 use Rattle.std.specs.FinMap.{get, empty, get-empty}
-use Rattle.fl_wire.specs.declared.errno.Errno.{Errno}
 use Rattle.fl_wire.specs.declared.errno.Errno.TheVariants.{EBADF, EINVAL, EAGAIN}
-use Rattle.fl_wire.specs.declared.told.Answer.{Answer}
 use Rattle.fl_wire.specs.declared.told.Answer.TheVariants.{Done}
 use Rattle.fl_wire.specs.declared.order.Order.{Order}
 use Rattle.fl_wire.specs.declared.order.Op.{Op}
@@ -17,13 +15,12 @@ use Rattle.fl_book.specs.declared.lock.Key.{Key}
 use Rattle.fl_book.specs.declared.lock.Mark.{Mark}
 use Rattle.fl_book.specs.Marking.{key_cmp, class_number, spot_cmp, Marking, Stroke, covers, stroked}
 use Rattle.fl_book.specs.Conflict.{are_rivals, excludes, excludes_lock, conflicts, IsLawful}
-use Rattle.fl_book.specs.Directory.{Listing}
 use Rattle.fl_book.specs.State.{key_of, start_of, end_of, mark_of, stroke_of}
 use Rattle.fl_book.specs.Replies.{is_open, is_malformed, set_reply, setlk_reply, reply_to}
 use Rattle.fl_book.specs.Snapshot.{Snapshot, changed, next}
 use Rattle.fl_book.proofs.Markings.{spots_total, exact_spots, get-stroked}
 use Rattle.fl_book.proofs.Cutting.{same_key}
-use Rattle.fl_book.proofs.Apart.{IsWithin, within, is_within}
+use Rattle.fl_book.proofs.Apart.{within}
 use Rattle.fl_book.proofs.Entries.{entry_passes}
 
 pub lawful_empty : IsLawful empty

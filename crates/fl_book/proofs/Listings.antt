@@ -1,9 +1,9 @@
 -- Entries in the order of their numbers, as a finite map.
-use Rattle.std.proofs.Common.{◌≡◌, ◌≢◌, ℕ, ◌+◌, ◌<◌, ◌≤◌, Bool, true, false, cond, not, ◌==◌, nat_le, ◌||◌, ◌&&◌, T, Option, Some, None, Err, is_some, option_map, List, [], ◌∷◌, ◌++◌, length, refl, ap, sym, ◌∙◌, subst, arith}
+use Rattle.std.proofs.Common.{◌≡◌, ◌≢◌, ℕ, ◌+◌, ◌<◌, ◌≤◌, Bool, true, false, cond, ◌==◌, nat_le, ◌||◌, ◌&&◌, T, Option, Some, None, is_some, option_map, List, [], ◌∷◌, ◌++◌, length, refl, ap, sym, ◌∙◌, arith}
 use Rattle.std.proofs.lemmas.Bool.Decides.{nat_tests}
 use Rattle.std.specs.List.{find, list_any}
-use Rattle.std.specs.Ordering.{nat_cmp, eq_by_cmp, is_eq, is_lt}
-use Rattle.std.specs.Cmp.{nat_cmp_total, eq_by_cmp_equiv, first_so, second_so}
+use Rattle.std.specs.Ordering.{nat_cmp, eq_by_cmp, is_lt}
+use Rattle.std.specs.Cmp.{nat_cmp_total, first_so, second_so}
 use Rattle.std.specs.FinMap as map
 use Rattle.std.specs.FinMap.Entries as rising
 use Rattle.fl_book.specs.declared.node.Node.{Node}

@@ -1,5 +1,5 @@
 -- Which locks exclude each other (POSIX.1-2017 `fcntl`; Linux `flock(2)`).
-use Rattle.std.specs.Prelude.{◌≡◌, ◌≢◌, ℕ, ◌≤◌, Bool, true, false, not, ◌&&◌, ◌==◌, nat_le, Some, List}
+use Rattle.std.specs.Prelude.{◌≡◌, ◌≢◌, ℕ, ◌≤◌, Bool, true, false, not, ◌&&◌, ◌==◌, nat_le, Some}
 use Rattle.std.specs.List.{list_any}
 use Rattle.std.specs.FinMap.{entries, get}
 use Rattle.fl_book.specs.declared.lock.Kind.{Kind}

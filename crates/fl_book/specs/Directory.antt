@@ -1,5 +1,5 @@
 -- Names, nodes and open files of one flat directory (Linux `fuse.h`: FUSE_CREATE, lookup counts; POSIX.1-2017 `open`).
-use Rattle.std.specs.Prelude.{◌≡◌, ℕ, ◌+◌, ◌-◌, ◌^◌, Bool, true, false, not, ◌&&◌, ◌||◌, ◌==◌, nat_le, bit_and, bit_or, Option, Some, None, Result, Ok, Err, is_some, option_map, List, [], ◌∷◌, if◌then◌else◌}
+use Rattle.std.specs.Prelude.{ℕ, ◌+◌, ◌-◌, ◌^◌, Bool, false, not, ◌||◌, ◌==◌, nat_le, bit_and, bit_or, Option, Some, None, Result, Ok, Err, is_some, option_map, List, [], ◌∷◌, if◌then◌else◌}
 use Rattle.std.specs.List.{list_any, find}
 use Rattle.std.specs.Ordering.{nat_cmp}
 use Rattle.std.specs.Str.{bytes_eq}

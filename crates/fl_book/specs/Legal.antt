@@ -4,7 +4,7 @@ use Rattle.fl_wire.specs.declared.told.Told.{Told}
 use Rattle.fl_wire.specs.declared.order.Order.{Order}
 use Rattle.fl_book.specs.declared.history.Line.{Line}
 use Rattle.fl_book.specs.declared.history.Line.TheVariants as line
-use Rattle.fl_book.specs.State.{State, state_after}
+use Rattle.fl_book.specs.State.{state_after}
 use Rattle.fl_book.specs.Replies.{first_replies}
 
 -- an order and its replies, as lines

@@ -1,9 +1,8 @@
 -- How nodes and open files are kept: as entries whose numbers rise, all below the number that comes next.
-use Rattle.std.specs.Prelude.{◌≡◌, ℕ, ◌<◌, ◌≤◌, Bool, true, ◌==◌, Option, Some, None, List, [], ◌∷◌, if◌then◌else◌}
+use Rattle.std.specs.Prelude.{◌≡◌, ℕ, ◌<◌, ◌≤◌, true, ◌==◌, List, [], ◌∷◌, if◌then◌else◌}
 use Rattle.std.specs.Ordering.{nat_cmp}
 use Rattle.std.specs.FinMap.{is_sorted}
 use Rattle.fl_book.specs.declared.node.Node.{Node}
-use Rattle.fl_book.specs.Directory.{Listing}
 
 -- all numbers are below this one
 abbrev pub AreBelow : {X : Type 0} → ℕ → List (ℕ × X) → Type 0

@@ -1,5 +1,5 @@
 -- What an order is answered at once, in a state (POSIX.1-2017 `fcntl`, F_SETLK; Linux `flock(2)`; FUSE_CREATE and FUSE_SETLK of Linux `fuse.h`).
-use Rattle.std.specs.Prelude.{◌≡◌, ℕ, Bool, true, false, not, ◌||◌, ◌&&◌, ◌==◌, nat_lt, Option, Some, None, Result, Ok, Err, List, [], ◌∷◌, if◌then◌else◌}
+use Rattle.std.specs.Prelude.{ℕ, Bool, false, not, ◌||◌, ◌&&◌, ◌==◌, nat_lt, Option, Some, None, Result, Ok, Err, List, [], ◌∷◌, if◌then◌else◌}
 use Rattle.std.specs.FinMap.{get}
 use Rattle.fl_wire.specs.declared.errno.Errno.{Errno}
 use Rattle.fl_wire.specs.declared.errno.Errno.TheVariants.{EBADF, EINVAL, EAGAIN}

@@ -1,6 +1,5 @@
 -- What contracts see of the lock state: the directory, and the marking in the place of the strokes.
-use Rattle.std.specs.Prelude.{ℕ, Bool, false, Result, Ok, Err, is_ok, List, [], ◌∷◌}
-use Rattle.std.specs.FinMap.{empty}
+use Rattle.std.specs.Prelude.{Bool, false, Result, Ok, Err, is_ok}
 use Rattle.fl_wire.specs.declared.errno.Errno.{Errno}
 use Rattle.fl_wire.specs.declared.told.Answer.{Answer}
 use Rattle.fl_wire.specs.declared.told.Told.{Told}
@@ -8,7 +7,7 @@ use Rattle.fl_wire.specs.declared.order.Order.{Order}
 use Rattle.fl_wire.specs.declared.order.Op.{Op}
 use Rattle.fl_wire.specs.declared.order.Op.TheVariants.{Create, Setlk}
 use Rattle.fl_book.specs.Marking.{Marking, stroked, marking_of}
-use Rattle.fl_book.specs.Directory.{Listing, opening_listing, after_create}
+use Rattle.fl_book.specs.Directory.{Listing, after_create}
 use Rattle.fl_book.specs.State.{State, stroke_of}
 use Rattle.fl_book.specs.Replies.{reply_to}
 

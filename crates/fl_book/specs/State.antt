@@ -1,5 +1,5 @@
 -- The state of the lock directory, and the state that recorded lines alone give.
-use Rattle.std.specs.Prelude.{◌≡◌, ℕ, Bool, true, false, ◌==◌, nat_lt, nat_le, bit_and, Option, Some, None, Result, Ok, Err, List, [], ◌∷◌, if◌then◌else◌}
+use Rattle.std.specs.Prelude.{ℕ, Bool, ◌==◌, bit_and, Option, Some, None, Result, Ok, Err, List, [], ◌∷◌, if◌then◌else◌}
 use Rattle.std.specs.List.{fold}
 use Rattle.fl_wire.specs.declared.errno.Errno.{Errno}
 use Rattle.fl_wire.specs.declared.told.Answer.{Answer}
@@ -8,7 +8,6 @@ use Rattle.fl_wire.specs.declared.order.Order.{Order}
 use Rattle.fl_wire.specs.declared.order.Op.{Op}
 use Rattle.fl_wire.specs.declared.order.Op.TheVariants.{Create, Setlk}
 use Rattle.fl_wire.specs.declared.order.LockAsk.{LockAsk}
-use Rattle.fl_book.specs.declared.lock.Class.{Class}
 use Rattle.fl_book.specs.declared.lock.Class.TheVariants.{Record, Flock}
 use Rattle.fl_book.specs.declared.lock.Kind.TheVariants.{Read, Write}
 use Rattle.fl_book.specs.declared.lock.Key.{Key}

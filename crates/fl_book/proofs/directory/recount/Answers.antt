@@ -1,4 +1,4 @@
-use Rattle.std.proofs.Common.{◌≡◌, ◌==◌, ℕ, Some, None, List, sym, ap, ◌∙◌, arith}
+use Rattle.std.proofs.Common.{◌==◌, ℕ, sym, ap, ◌∙◌, arith}
 use Rattle.std.specs.List.{position_from}
 use Rattle.fl_book.specs.declared.node.Node.{Node}
 use Rattle.fl_book.proofs.Recounts.{written_at, none_written, counted_upto}

@@ -1,4 +1,4 @@
-use Rattle.std.proofs.Common.{◌≡◌, [], sym, subst}
+use Rattle.std.proofs.Common.{[], sym, subst}
 use Rattle.fl_book.specs.Snapshot.{Snapshot}
 use Rattle.fl_book.specs.Kept.{IsKept}
 use Rattle.fl_book.proofs.Histories.{opening_kept}

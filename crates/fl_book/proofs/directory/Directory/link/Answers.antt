@@ -1,4 +1,4 @@
-use Rattle.std.proofs.Common.{◌≡◌, refl, ◌+◌, ◌<◌, ◌≤◌, ℕ, false, None, length, subst, ap, sym, ◌∙◌, arith}
+use Rattle.std.proofs.Common.{◌≡◌, refl, ◌+◌, ◌<◌, false, None, length, subst, ap, sym, ◌∙◌, arith}
 use Rattle.std.specs.FinMap.{from_sorted, insert, get}
 use Rattle.fl_book.specs.contracts.directory.Directory.{the_view}
 use Rattle.fl_book.specs.Directory.{Listing, nodes_full}

@@ -1,4 +1,4 @@
-use Rattle.std.proofs.Common.{refl, ap, ◌∙◌}
+use Rattle.std.proofs.Common.{ap, ◌∙◌}
 use Rattle.std.specs.FinMap.{from_sorted}
 use Rattle.fl_book.proofs.Listings.{same_listing, none_listed}
 use Rattle.fl_book.proofs.directory.Directory.new.Goals as goal

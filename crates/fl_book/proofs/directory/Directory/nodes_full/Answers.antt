@@ -1,4 +1,4 @@
-use Rattle.std.proofs.Common.{◌≡◌, ◌==◌, nat_le, subst, ap, sym, ◌∙◌}
+use Rattle.std.proofs.Common.{◌≡◌, ◌==◌, nat_le, subst, sym, ◌∙◌}
 use Rattle.fl_book.specs.Directory.{nodes_full}
 use Rattle.fl_book.proofs.Listings.{len_listed, full_of_many, full_of_few}
 use Rattle.fl_book.proofs.directory.Directory.nodes_full.Goals as goal

@@ -1,10 +1,10 @@
-use Rattle.std.proofs.Common.{◌≡◌, refl, ◌+◌, ◌<◌, ◌≤◌, ℕ, false, None, length, subst, ap, sym, ◌∙◌, arith}
-use Rattle.std.specs.FinMap.{from_sorted, insert, get}
+use Rattle.std.proofs.Common.{◌≡◌, refl, ◌+◌, ◌<◌, false, length, subst, ap, sym, ◌∙◌, arith}
+use Rattle.std.specs.FinMap.{from_sorted, insert}
 use Rattle.fl_book.specs.contracts.directory.Directory.{the_view}
 use Rattle.fl_book.specs.Directory.{Listing, files_full}
 use Rattle.std.specs.Vec.{vec_capacity}
 use Rattle.fl_book.specs.Listed.{AreListed}
-use Rattle.fl_book.proofs.Listings.{len_listed, room_left, listed_pushed, map_pushed, fresh_listed, same_listing}
+use Rattle.fl_book.proofs.Listings.{len_listed, room_left, listed_pushed, map_pushed, same_listing}
 use Rattle.fl_book.proofs.directory.Directory.open_file.Goals as goal
 
 pub push_reserved-requires : goal.push_reserved-requires

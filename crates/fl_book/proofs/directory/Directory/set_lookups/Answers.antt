@@ -1,4 +1,4 @@
-use Rattle.std.proofs.Common.{◌≡◌, refl, ap, ◌∙◌}
+use Rattle.std.proofs.Common.{refl, ap, ◌∙◌}
 use Rattle.std.specs.FinMap.{from_sorted}
 use Rattle.fl_book.specs.Directory.{Listing, with_lookups}
 use Rattle.fl_book.proofs.Listings.{listed_recounted, map_recounted, same_listing}

@@ -1,4 +1,4 @@
-use Rattle.std.proofs.Common.{map, ap, ◌∙◌}
+use Rattle.std.proofs.Common.{ap, ◌∙◌}
 use Rattle.std.specs.List.{list_any}
 use Rattle.fl_book.specs.Conflict.{conflicts}
 use Rattle.fl_book.specs.Pieces.{piece_excludes}
