@@ -3,5 +3,7 @@
 #![tactic(auto)]
 
 mod history;
+mod text;
 
 pub use history::{History, Line};
+pub use text::{has_text, print_trace};
