@@ -38,9 +38,13 @@ abbrev pub op_text : Op → List ℕ
 op_text (Create excl mode name) = spaced (codes "create" ∷ flag_text excl ∷ decimal mode ∷ name_text name ∷ [])
 op_text (Setlk ask) = spaced (codes "setlk" ∷ lock_ask_text ask ∷ [])
 
+-- an order
+abbrev pub order_text : Order → List ℕ
+order_text o = spaced (decimal o.unique ∷ decimal o.node ∷ decimal o.uid ∷ decimal o.gid ∷ decimal o.pid ∷ op_text o.op ∷ [])
+
 -- an order, and the worker who handed it in
 abbrev pub ask_text : ℕ → Order → List ℕ
-ask_text worker o = spaced (codes "ask" ∷ decimal worker ∷ decimal o.unique ∷ decimal o.node ∷ decimal o.uid ∷ decimal o.gid ∷ decimal o.pid ∷ op_text o.op ∷ [])
+ask_text worker order = spaced (codes "ask" ∷ decimal worker ∷ order_text order ∷ [])
 
 -- a node's attributes
 abbrev pub attr_text : Attributes → List ℕ
