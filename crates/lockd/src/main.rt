@@ -37,7 +37,7 @@ fn read_command_line(rt: &HostRuntime) -> Result<(), Refusal> {
     Ok(())
 }
 
-fn command(alloc: Global) -> Result<Command<'static>, Error> {
+fn command<'a>(alloc: Global) -> Result<Command<'a>, Error> {
     let script = Command::new(alloc, "script").about(
         "Answers the ask lines on standard input and prints the trace",
     );
