@@ -1,1 +1,13 @@
+pub mod Marking
+pub mod Conflict
+pub mod Codes
+pub mod Pieces
+pub mod Directory
+pub mod Listed
+pub mod State
+pub mod Replies
+pub mod Snapshot
+pub mod Legal
+pub mod Kept
+pub mod BookCode
 pub mod Text

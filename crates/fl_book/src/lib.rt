@@ -2,8 +2,18 @@
 //! and the history's text.
 #![tactic(auto)]
 
+mod desk;
+mod directory;
 mod history;
+pub mod laws;
+mod lock;
+mod locks;
+mod node;
+mod state;
 mod text;
+mod tolds;
 
+pub use desk::Desk;
 pub use history::{History, Line};
 pub use text::{has_text, print_trace};
+pub use tolds::Tolds;

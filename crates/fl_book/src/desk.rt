@@ -1,0 +1,85 @@
+ghost use Rattle.std.specs.Prelude.{◌≡◌, ◌≤◌, ◌+◌, ◌++◌, ◌∷◌, [], false, IfOk, IsOk, OnOk, OnErr, vec_len, vec_capacity};
+ghost use Rattle.fl_book.specs.State.{state_after};
+ghost use Rattle.fl_book.specs.Replies.{first_replies};
+ghost use Rattle.fl_book.specs.Snapshot.{reply_at, grants};
+ghost use Rattle.fl_book.specs.Legal.{IsLegal, step_lines};
+ghost use Rattle.fl_book.specs.Kept.{IsKept, opening_book};
+
+use crate::history::{History, Line};
+use crate::state::LockState;
+use crate::tolds::Tolds;
+use fl_wire::{NoMemory, Order, Told};
+use std::alloc::Global;
+use std::marker::Model;
+
+/// A desk that takes orders one after another, and keeps their history. Contracts see it as a `Book`: its
+/// lines, what is there now, and for how many more lines memory is there.
+#[derive(Drop)]
+pub struct Desk {
+    lines: Vec<Line>,
+    present: LockState,
+}
+
+impl Model for Desk {
+    ghost use Rattle.std.specs.Prelude.{◌-◌, length, vec_capacity};
+    ghost use Rattle.fl_book.specs.Kept.{Book, IsKept};
+    ghost use Rattle.fl_book.specs.BookCode.{book_code};
+
+    ghost Value = { Book };
+
+    ghost coded = { book_code };
+
+    ghost view = { λ d. record { lines = d.lines.items; present = d.present; room = vec_capacity d.lines - length d.lines.items } };
+
+    ghost invariant = { λ d. IsKept d.lines.items d.present };
+}
+
+impl Desk {
+    /// A desk that has taken no order.
+    pub fn new(alloc: Global) -> Result<Desk, NoMemory>
+        ensures { IfOk result (λ desk. desk ≡ opening_book) }
+    {
+        Ok(Desk {
+            lines: Vec::new(alloc),
+            present: LockState::new(alloc)?,
+        })
+    }
+
+    /// Takes an order of a worker: records it, answers it, and hands out the replies that it records.
+    /// A refusal changes nothing. It comes only where memory for two more lines isn't there, or a lock is
+    /// set or taken away.
+    pub fn take(&mut self, worker: u32, order: &Order, tolds: &mut Tolds) -> Result<(), NoMemory>
+        ensures replies { OnOk result (tolds.new ≡ first_replies (state_after self.old.lines) order.now) }
+        ensures lines { OnOk result (self.new.lines ≡ self.old.lines ++ step_lines worker order.now tolds.new) }
+        ensures refused { OnErr result ((self.new.lines ≡ self.old.lines) × (self.new.present ≡ self.old.present) × (tolds.new ≡ tolds.old)) }
+        ensures succeeds { 2 ≤ self.old.room → grants order.now.op (reply_at self.old.present order.now).result ≡ false → IsOk result }
+        ensures kept { IsKept self.new.lines self.new.present }
+    {
+        self.lines.try_reserve(2)?;
+        let told = self.present.step(order)?;
+        append(&mut self.lines, worker, order, told);
+        tolds.set(told);
+        Ok(())
+    }
+
+    /// The history of all that it took.
+    pub fn into_history(self) -> History
+        ensures lines { result ≡ self.lines }
+        ensures legal { IsLegal result }
+    {
+        let Desk { lines, present: _ } = self;
+        History::new(lines)
+    }
+}
+
+// Adds an order and its reply to the lines.
+fn append(lines: &mut Vec<Line>, worker: u32, order: &Order, told: Told)
+    requires { vec_len lines.old + 2 ≤ vec_capacity lines.old }
+    ensures { lines.new.items ≡ lines.old.items ++ step_lines worker order.now (told ∷ []) }
+{
+    lines.push_reserved(Line::Asked {
+        worker,
+        order: *order,
+    });
+    lines.push_reserved(Line::Told(told));
+}

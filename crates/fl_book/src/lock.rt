@@ -1,0 +1,57 @@
+ghost use Rattle.std.specs.Prelude.{◌≡◌, ◌≤◌, ◌<◌, ◌^◌};
+
+/// Which locks meet: record locks (POSIX.1-2017 `fcntl`) with record locks, whole-file locks
+/// (Linux `flock(2)`) with whole-file locks.
+#[derive(Clone, Copy, Debug, PartialEq, Eq)]
+pub enum Class {
+    Record,
+    Flock,
+}
+
+/// Shared or exclusive.
+#[derive(Clone, Copy, Debug, PartialEq, Eq)]
+pub enum Kind {
+    Read,
+    Write,
+}
+
+/// Whose lock it is, of which class, and on which node.
+#[derive(Clone, Copy, Debug, PartialEq, Eq)]
+pub struct Key {
+    pub class: Class,
+    pub node: u64,
+    pub owner: u64,
+}
+
+/// What a locked byte carries.
+#[derive(Clone, Copy, Debug, PartialEq, Eq)]
+pub struct Mark {
+    pub kind: Kind,
+    /// The process that is named as the holder.
+    pub pid: u32,
+}
+
+/// The greatest byte of a range, 2^63 - 1 (`OFFSET_MAX` of Linux).
+pub const LAST_BYTE: u64 = 0x7fff_ffff_ffff_ffff;
+
+/// A range of bytes, both ends included.
+#[derive(Clone, Copy, Debug)]
+pub struct Range {
+    pub start: u64,
+    pub end: u64,
+    ghost ordered: { start ≤ end },
+    ghost in_range: { end ≤ 9223372036854775807 },
+}
+
+impl Range {
+    /// All bytes.
+    pub fn whole() -> Range
+        ensures start { result.start ≡ 0 }
+        ensures end { result.end ≡ LAST_BYTE }
+    {
+        Range {
+            start: 0,
+            end: LAST_BYTE,
+        }
+    }
+}

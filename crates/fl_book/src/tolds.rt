@@ -1,0 +1,51 @@
+ghost use Rattle.std.specs.Prelude.{◌≡◌, [], ◌∷◌, IfOk};
+
+use fl_wire::{NoMemory, Told};
+use std::alloc::Global;
+use std::marker::Model;
+
+/// The most replies that one order gives.
+const MOST_TOLDS: usize = 1;
+
+/// The replies that one order gives, with room for all of them. Contracts see their list.
+#[derive(Drop)]
+pub struct Tolds {
+    tolds: Vec<Told>,
+}
+
+impl Model for Tolds {
+    ghost use Rattle.std.specs.Prelude.{List, ◌≤◌, vec_capacity};
+    ghost use Rattle.fl_wire.specs.declared.told.Told.{Told};
+
+    ghost Value = { List Told };
+
+    ghost view = { λ t. t.tolds.items };
+
+    ghost invariant = { λ t. 1 ≤ vec_capacity t.tolds };
+}
+
+impl Tolds {
+    /// No replies.
+    pub fn new(alloc: Global) -> Result<Tolds, NoMemory>
+        ensures { IfOk result (λ tolds. tolds ≡ []) }
+    {
+        Ok(Tolds {
+            tolds: Vec::with_capacity(alloc, MOST_TOLDS)?,
+        })
+    }
+
+    /// The replies, in their order.
+    pub fn as_slice(&self) -> &[Told]
+        ensures { result.now ≡ self.now }
+    {
+        &self.tolds
+    }
+
+    /// One reply in the place of those before.
+    pub(crate) fn set(&mut self, told: Told)
+        ensures { self.new ≡ told ∷ [] }
+    {
+        self.tolds.clear();
+        self.tolds.push_reserved(told);
+    }
+}
