@@ -1,6 +1,7 @@
 -- Scripts: ask lines, taken at a desk in their order.
 use Rattle.std.specs.Prelude.{◌≡◌, ℕ, ◌+◌, ◌<◌, Bool, true, false, List, ◌++◌, length, filter, All, Option, IfSome}
 use Rattle.std.specs.Io.KnownBytes.{Appends}
+use Rattle.fl_book.specs.Legal.{IsLegal}
 use Rattle.fl_book.specs.Text.{text_of, Fits}
 use Rattle.fl_book.specs.declared.history.Line.{Line}
 use Rattle.fl_book.specs.declared.history.Line.TheVariants.{Asked, Told}
@@ -12,9 +13,10 @@ abbrev pub is_asked : Line → Bool
 is_asked (Asked worker order) = true
 is_asked (Told told) = false
 
--- The trace of a script is the text of a history whose ask lines are the script.
+-- The trace of a script is the text of a legal history whose ask lines are the script.
 pub record IsTraceOf (script trace : List ℕ) : Type 0 where
   pub lines : List Line
+  pub legal : IsLegal lines
   pub asked : script ≡ text_of (filter is_asked lines)
   pub fits : Fits lines
   pub printed : trace ≡ text_of lines

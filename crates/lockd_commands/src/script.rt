@@ -1,5 +1,6 @@
 ghost use Rattle.std.specs.Prelude.{◌≡◌, ◌≢◌, ℕ, ◌++◌, ◌∷◌, ◌<◌, length, map, filter, string_bytes, IfSome, IfOk, OnOk, IfErr};
 ghost use Rattle.std.specs.Io.KnownBytes.{Keeps, Appends};
+ghost use Rattle.fl_book.specs.Legal.{IsLegal};
 ghost use Rattle.fl_book.specs.Text.{line_text, text_of, LineFits, Fits};
 ghost use Rattle.lockd_commands.specs.Ask.{line_of};
 ghost use Rattle.lockd_commands.specs.Script.{is_asked, IsTraceOf, BreaksAt, FaultSays, IsAnswered};
@@ -112,6 +113,7 @@ fn first_ask(text: &[u8]) -> Option<(Ask, &[u8])>
 // The history of a desk that takes these orders in turn.
 fn take_all(alloc: Global, asks: &[Ask]) -> Result<History, Fault>
     ensures asked { IfOk result (λ history. filter is_asked history ≡ map line_of asks.now) }
+    ensures legal { IfOk result IsLegal }
     ensures error { IfErr result (λ fault. fault ≡ Fault.NoMemory) }
 {
     let mut desk = Desk::new(alloc)?;

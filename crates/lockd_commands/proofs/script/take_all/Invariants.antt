@@ -5,4 +5,4 @@ use Rattle.lockd_commands.proofs.script.take_all.Given as goal
 
 -- the desk was asked what is asked so far
 abbrev pub invariant-loop-ask : goal.invariant-loop-ask
-invariant-loop-ask l = filter is_asked l.desk ≡ map line_of (take l.ask-index l.asks)
+invariant-loop-ask l = filter is_asked l.desk.lines ≡ map line_of (take l.ask-index l.asks)

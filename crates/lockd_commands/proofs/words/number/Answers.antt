@@ -1,31 +1,23 @@
-use Rattle.std.proofs.Common.{◌≡◌, ◌≢◌, ℕ, List, length, get_or, IfSome, IfOk, Result, Ok, Err, Bool, true, false, sym, rules, arith, ◌<◌, ◌≤◌, inl, inr}
+use Rattle.std.proofs.Common.{◌≡◌, rules, ap, subst, sym, ◌∙◌, ◌^◌, ℕ, IfOk}
 use Rattle.std.specs.Fmt.{decimal}
-use Rattle.std.specs.Bool.{Decides}
-use Rattle.std.specs.Str.Parse.{ParsesUnsigned, AllDigits, digits_value}
-use Rattle.std.proofs.lemmas.Str.Parse.{IsNumeralModel, numerals_by_value, tells_digits, parse_plain}
-use Rattle.std.proofs.lemmas.Str.Pattern.{starts_char}
-use Rattle.std.proofs.lemmas.Fmt.{decimal-digits_value}
-use Rattle.std.proofs.lemmas.Grind.{common_steps}
+use Rattle.std.specs.Result.{result_ok}
+use Rattle.std.proofs.lemmas.Fmt.{parse-decimal}
+use Rattle.lockd_commands.specs.Words.{IsPlain}
+use Rattle.lockd_commands.proofs.WordLemmas.{decimal-parsed, IsPlain-decimal}
 use Rattle.lockd_commands.proofs.words.number.Goals as goal
 
-own : IsNumeralModel (AllDigits 10) (digits_value 10)
-own = numerals_by_value (AllDigits 10) tells_digits
+pub returns-then-not-is_plain-clause-only : goal.returns-then-not-is_plain-clause-only
+returns-then-not-is_plain-clause-only c = λ n small e.
+    let plain = subst IsPlain (sym e) (IsPlain-decimal n small) in
+    let told = c.is_plain.ensures.1 plain in
+    absurd (cc)
 
--- what parses, with no plus and no zero that leads, is the one spelling of its value
-plain : {E : Type 0} (word : List ℕ) (r : Result ℕ E) → ParsesUnsigned 64 10 word r → get_or word 0 0 ≢ 43 → (get_or word 0 0 ≡ 48 → length word ≤ 1)
-    → IfOk r (λ n. word ≡ decimal n)
-plain {E} word (Ok n) parsed no_plus no_zero =
-    let told = parse_plain own {E = E} 64 word (Ok n) parsed no_plus in
-    let same = decimal-digits_value own word told.0.0 told.0.1 (λ h. let most = no_zero h in let least = told.0.1 in omega arith) told.0.2 in
-    cc
-plain word (Err e) parsed no_plus no_zero = tt
-
-pub returns : goal.returns
-returns c =
-    let word = c.args.word.now in
-    let plus = starts_char 43 word c.starts_with.result c.starts_with.ensures.cases (omega arith) (omega arith) in
-    let zero = starts_char 48 word c.starts_with-else-starts_with.result c.starts_with-else-starts_with.ensures.cases (omega arith) (omega arith) in
-    let no_plus : get_or word 0 0 ≢ 43 = grind (arith, common_steps) in
-    let no_zero : get_or word 0 0 ≡ 48 → length word ≤ 1 = λ h. elim c.if-word-gt1.either [ inl short ↦ short.1 | inr other ↦ cc (other, zero.1 h) ] in
-    let spelled = plain word c.parse.result c.parse.ensures.value.0 no_plus no_zero in
+pub returns-clause-spelled : goal.returns-clause-spelled
+returns-clause-spelled c =
+    let plain : IsPlain c.args.word.now = search rules in
+    let spelled = decimal-parsed c.args.word.now c.parse.result c.parse.ensures.value.0 plain in
     search rules
+
+pub returns-clause-only : goal.returns-clause-only
+returns-clause-only c = λ n small e.
+    c.ok.ensures.value ∙ ap result_ok (parse-decimal 64 n c.args.word.now c.parse.result small small e c.parse.ensures.value.0)
