@@ -1,5 +1,5 @@
 -- Scripts: ask lines, taken at a desk in their order.
-use Rattle.std.specs.Prelude.{◌≡◌, ℕ, ◌+◌, ◌<◌, Bool, true, false, List, ◌++◌, length, filter, All, Option, IfSome}
+use Rattle.std.specs.Prelude.{◌≡◌, ℕ, ◌+◌, ◌<◌, Bool, true, false, List, ◌++◌, length, filter, Option, IfSome}
 use Rattle.std.specs.Io.KnownBytes.{Appends}
 use Rattle.fl_book.specs.Legal.{IsLegal}
 use Rattle.fl_book.specs.Text.{text_of, Fits}

@@ -1,4 +1,4 @@
-use Rattle.std.proofs.Common.{◌≡◌, ◌∙◌, inl, inr, sym}
+use Rattle.std.proofs.Common.{◌∙◌, inl, inr}
 use Rattle.lockd_commands.proofs.WordLemmas.{op_word}
 use Rattle.lockd_commands.proofs.ask.read_op.Goals as goal
 

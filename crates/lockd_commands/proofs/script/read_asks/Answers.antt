@@ -1,4 +1,4 @@
-use Rattle.std.proofs.Common.{rules, arith, ◌≡◌, ◌<◌, ◌+◌, length}
+use Rattle.std.proofs.Common.{arith, ◌≡◌, ◌<◌, ◌+◌, length}
 use Rattle.std.proofs.lemmas.Grind.{common_steps}
 use Rattle.lockd_commands.proofs.ScriptLemmas.{read_more, breaks}
 use Rattle.lockd_commands.proofs.script.read_asks.Goals as goal

@@ -1,6 +1,6 @@
-use Rattle.std.proofs.Common.{◌≡◌, ap, arith, length, List, ℕ, ◌/◌, take, replicate, length-take}
+use Rattle.std.proofs.Common.{◌≡◌, ap, arith, length, ℕ, ◌/◌, take, replicate, length-take}
 use Rattle.std.proofs.Math.ListN.{length-replicate}
-use Rattle.hex.specs.Hex.{encode_lower, lower_digits}
+use Rattle.hex.specs.Hex.{lower_digits}
 use Rattle.hex.proofs.HexLemmas.{length-encode_with}
 use Rattle.lockd_commands.proofs.words.decoded.Goals as goal
 

@@ -1,4 +1,4 @@
-use Rattle.std.proofs.Common.{◌≡◌, ap, subst, sym, ◌∙◌, Some, None}
+use Rattle.std.proofs.Common.{ap, subst, sym, ◌∙◌}
 use Rattle.std.specs.Result.{result_ok}
 use Rattle.fl_wire.specs.Name.{IsName}
 use Rattle.lockd_commands.proofs.WordLemmas.{decoded_name, some_of}

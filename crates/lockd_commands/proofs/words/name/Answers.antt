@@ -1,4 +1,4 @@
-use Rattle.std.proofs.Common.{◌≡◌, sym, subst, ◌∙◌, List, ℕ, [], ◌∷◌, rules}
+use Rattle.std.proofs.Common.{◌≡◌, sym, subst, ◌∙◌, [], ◌∷◌, rules}
 use Rattle.fl_wire.specs.Name.{IsName}
 use Rattle.lockd_commands.proofs.WordLemmas.{dash_is_empty, some_of}
 use Rattle.lockd_commands.proofs.words.name.Goals as goal

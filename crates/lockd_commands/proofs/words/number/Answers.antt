@@ -1,5 +1,4 @@
-use Rattle.std.proofs.Common.{◌≡◌, rules, ap, subst, sym, ◌∙◌, ◌^◌, ℕ, IfOk}
-use Rattle.std.specs.Fmt.{decimal}
+use Rattle.std.proofs.Common.{rules, ap, subst, sym, ◌∙◌}
 use Rattle.std.specs.Result.{result_ok}
 use Rattle.std.proofs.lemmas.Fmt.{parse-decimal}
 use Rattle.lockd_commands.specs.Words.{IsPlain}
