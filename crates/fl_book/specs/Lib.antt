@@ -10,3 +10,4 @@ pub mod Snapshot
 pub mod Legal
 pub mod Kept
 pub mod BookCode
+pub mod Text

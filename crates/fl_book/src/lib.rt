@@ -10,10 +10,12 @@ mod lock;
 mod locks;
 mod node;
 mod state;
+mod text;
 mod tolds;
 
 pub use desk::Desk;
 pub use history::{History, Line};
+pub use text::{has_text, print_trace};
 pub use tolds::Tolds;
 
 #[cfg(test)]

@@ -1,0 +1,19 @@
+#!/bin/sh
+# Times `lockd script` on a script that makes one file and asks for 5,000 locks on it, by seven owners, each on
+# bytes of its own, so that every lock stays held.
+set -eu
+cd "$(dirname "$0")/.."
+program=crates/lockd/out/lockd
+(cd crates/lockd && rt run < stdin > /dev/null)
+
+work=$(mktemp -d)
+trap 'rm -rf "$work"' EXIT
+awk 'BEGIN {
+    print "ask 0 1 1 0 0 0 create 0 420 61"
+    for (i = 0; i < 5000; i++)
+        print "ask 0 " i + 2 " 2 0 0 0 setlk 1 " i % 7 + 1 " " 3 * i " " 3 * i + 1 " 1 11 0"
+}' > "$work/script"
+start=$(date +%s%N)
+"$program" < "$work/script" > "$work/trace"
+end=$(date +%s%N)
+echo "$(wc -l < "$work/script") orders, $(wc -l < "$work/trace") lines of trace: $(((end - start) / 1000000)) ms"

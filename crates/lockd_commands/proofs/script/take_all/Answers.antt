@@ -1,0 +1,7 @@
+use Rattle.lockd_commands.proofs.ScriptLemmas.{take_more_asks}
+use Rattle.lockd_commands.proofs.script.take_all.Goals as goal
+
+pub loop-ask-preserved : goal.loop-ask-preserved
+loop-ask-preserved c =
+    take_more_asks c.loop-ask.desk.lines c.take.new.self.lines c.args.asks.now c.loop-ask.ask-index c.ask-item.result c.take.new.tolds c.loop-ask.invariant
+    c.in_ok-take.ensures.lines c.loop-ask-test.true c.ask-item.is

@@ -1,0 +1,8 @@
+use Rattle.std.proofs.Common.{◌≡◌, take, map, filter}
+use Rattle.lockd_commands.specs.Ask.{line_of}
+use Rattle.lockd_commands.specs.Script.{is_asked}
+use Rattle.lockd_commands.proofs.script.take_all.Given as goal
+
+-- the desk was asked what is asked so far
+abbrev pub invariant-loop-ask : goal.invariant-loop-ask
+invariant-loop-ask l = filter is_asked l.desk.lines ≡ map line_of (take l.ask-index l.asks)

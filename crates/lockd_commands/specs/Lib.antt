@@ -1,0 +1,5 @@
+pub mod Ask
+pub mod Order
+pub mod Script
+pub mod Status
+pub mod Words

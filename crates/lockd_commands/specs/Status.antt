@@ -1,0 +1,9 @@
+-- The exit status of a command.
+use Rattle.std.specs.Prelude.{ℕ}
+use Rattle.lockd_commands.specs.declared.status.Status.{Status}
+use Rattle.lockd_commands.specs.declared.status.Status.TheVariants.{Good, Faulted}
+
+-- 0 is good, and 2 is a fault
+abbrev pub exit_code_of : Status → ℕ
+exit_code_of Good = 0
+exit_code_of (Faulted fault) = 2

@@ -1,0 +1,12 @@
+//! The commands of `lockd`, as functions over a reader and two writers.
+#![tactic(auto)]
+
+mod ask;
+mod fault;
+mod script;
+mod status;
+mod words;
+
+pub use fault::Fault;
+pub use script::script_on;
+pub use status::Status;

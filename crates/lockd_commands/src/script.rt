@@ -1,0 +1,128 @@
+ghost use Rattle.std.specs.Prelude.{◌≡◌, ◌≢◌, ℕ, ◌++◌, ◌∷◌, ◌<◌, length, map, filter, string_bytes, IfSome, IfOk, OnOk, IfErr};
+ghost use Rattle.std.specs.Io.KnownBytes.{Keeps, Appends};
+ghost use Rattle.fl_book.specs.Legal.{IsLegal};
+ghost use Rattle.fl_book.specs.Text.{line_text, text_of, LineFits, Fits};
+ghost use Rattle.lockd_commands.specs.Ask.{line_of};
+ghost use Rattle.lockd_commands.specs.Script.{is_asked, IsTraceOf, BreaksAt, FaultSays, IsAnswered};
+ghost use Rattle.lockd_commands.specs.declared.fault.Fault.{Fault};
+
+use crate::ask::{Ask, read_ask};
+use crate::fault::Fault;
+use crate::status::Status;
+use fl_book::{Desk, History, Tolds, print_trace};
+use std::alloc::Global;
+use std::io::{ErrorKind, Read, Write};
+
+/// `lockd script`: reads `ask` lines of workers 0 to 15, takes each order at a desk in turn, and writes the
+/// trace of the desk's history. All input is read and checked before any output. A fault is told as one
+/// line on `faults`.
+pub fn script_on<R: Read, W: Write, F: Write>(
+    alloc: Global,
+    input: &mut R,
+    output: &mut W,
+    faults: &mut F,
+) -> Status
+    ensures good { result ≡ Status.Good → IsAnswered (R.remaining input.old) (W.contents output.old) (W.contents output.new) }
+
+    // The first n - 1 lines of the input are ask lines.
+    ensures bad { (n : ℕ) → result ≡ Status.Faulted (Fault.BadLine n) → IfSome (R.remaining input.old) (λ script. BreaksAt script n) }
+
+    // Only a write that fails leaves anything on the output.
+    ensures kept { (fault : Fault) → result ≡ Status.Faulted fault → fault ≢ Fault.Write → Keeps (W.contents output.old) (W.contents output.new) }
+    ensures quiet { result ≡ Status.Good → Keeps (F.contents faults.old) (F.contents faults.new) }
+{
+    match script(alloc, input, output) {
+        Ok(()) => Status::Good,
+        Err(fault) => {
+            let _ = writeln!(faults, "{fault}");
+            Status::Faulted(fault)
+        }
+    }
+}
+
+fn script<R: Read, W: Write>(alloc: Global, input: &mut R, output: &mut W) -> Result<(), Fault>
+    ensures good { OnOk result (IsAnswered (R.remaining input.old) (W.contents output.old) (W.contents output.new)) }
+    ensures bad { IfErr result (λ fault. (n : ℕ) → fault ≡ Fault.BadLine n → IfSome (R.remaining input.old) (λ script. BreaksAt script n)) }
+    ensures kept { IfErr result (λ fault. fault ≢ Fault.Write → Keeps (W.contents output.old) (W.contents output.new)) }
+{
+    let text = read_all(alloc, input)?;
+    let trace = trace_of(alloc, &text)?;
+    write_all(output, trace.as_bytes())
+}
+
+fn read_all<R: Read>(alloc: Global, input: &mut R) -> Result<Vec<u8>, Fault>
+    ensures bytes { IfOk result (λ text. IfSome (R.remaining input.old) (λ bytes. bytes ≡ text.items)) }
+    ensures error { IfErr result (λ fault. (n : ℕ) → fault ≢ Fault.BadLine n) }
+{
+    let mut text = Vec::new(alloc);
+    match input.read_to_end(&mut text) {
+        Ok(_) => Ok(text),
+        Err(error) if error.kind() == ErrorKind::OutOfMemory => Err(Fault::NoMemory),
+        Err(_) => Err(Fault::Read),
+    }
+}
+
+fn write_all<W: Write>(output: &mut W, text: &[u8]) -> Result<(), Fault>
+    ensures written { OnOk result (Appends (W.contents output.old) (W.contents output.new) text.now) }
+    ensures error { IfErr result (λ fault. fault ≡ Fault.Write) }
+{
+    output.write_all(text).map_err(|_| Fault::Write)?;
+    output.flush().map_err(|_| Fault::Write)
+}
+
+// The trace of a script.
+#[tactic(auto, using(crate::proofs::ScriptLemmas::fits_of_asked))]
+fn trace_of(alloc: Global, script: &[u8]) -> Result<String, Fault>
+    ensures trace { IfOk result (λ trace. IsTraceOf script.now (string_bytes trace)) }
+    ensures error { IfErr result (FaultSays script.now) }
+{
+    let asks = read_asks(alloc, script)?;
+    let history = take_all(alloc, &asks)?;
+    Ok(print_trace(alloc, &history)?)
+}
+
+// What the ask lines of a script ask.
+fn read_asks(alloc: Global, script: &[u8]) -> Result<Vec<Ask>, Fault>
+    ensures spelled { IfOk result (λ asks. script.now ≡ text_of (map line_of asks.items)) }
+    ensures fits { IfOk result (λ asks. Fits (map line_of asks.items)) }
+    ensures error { IfErr result (FaultSays script.now) }
+{
+    let mut asks = Vec::new(alloc);
+    let mut rest = script;
+    while !rest.is_empty() {
+        let Some((ask, after)) = first_ask(rest) else {
+            return Err(Fault::BadLine(asks.len() + 1));
+        };
+        asks.push(ask)?;
+        rest = after;
+    }
+    Ok(asks)
+}
+
+// What the first line of a text asks, and the text after it; none where it is no ask line.
+fn first_ask(text: &[u8]) -> Option<(Ask, &[u8])>
+    ensures spelled { IfSome result (λ read. text.now ≡ line_text (line_of read.0) ++ 10 ∷ read.1.now) }
+    ensures fits { IfSome result (λ read. LineFits (line_of read.0)) }
+    ensures shorter { IfSome result (λ read. length read.1.now < length text.now) }
+{
+    let end = text.iter().position(|byte| *byte == b'\n')?;
+    let ask = read_ask(&text[..end])?;
+    Some((ask, &text[end + 1..]))
+}
+
+// The history of a desk that takes these orders in turn.
+fn take_all(alloc: Global, asks: &[Ask]) -> Result<History, Fault>
+    ensures asked { IfOk result (λ history. filter is_asked history ≡ map line_of asks.now) }
+    ensures legal { IfOk result IsLegal }
+    ensures error { IfErr result (λ fault. fault ≡ Fault.NoMemory) }
+{
+    let mut desk = Desk::new(alloc)?;
+    let mut tolds = Tolds::new(alloc)?;
+    for ask in asks {
+        desk.take(ask.worker, &ask.order, &mut tolds)?;
+    }
+    Ok(desk.into_history())
+}
+
+#[cfg(test)]
+mod tests;

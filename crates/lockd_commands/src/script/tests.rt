@@ -1,0 +1,332 @@
+use super::*;
+use std::io;
+use std::process::Abort;
+use std::test::Fail;
+
+// The script that each other one goes on from.
+const MADE: &str = "ask 0 1 1 0 0 0 create 0 420 61\ntell 1 made 2 33188 1 0 0 1\n";
+
+// A script is the ask lines of the trace that is wanted for it.
+fn answers(rt: &(impl Abort + AllocGlobal), what: &str, trace: &str) -> Result<(), Fail> {
+    let mut script = String::new(rt.alloc());
+    for line in trace.lines().filter(|line| line.starts_with("ask ")) {
+        script.push_str(line)?;
+        script.push('\n')?;
+    }
+    let mut output = Vec::new(rt.alloc());
+    let mut faults = Vec::new(rt.alloc());
+    let mut input = script.as_bytes();
+    let status = script_on(rt.alloc(), &mut input, &mut output, &mut faults);
+    assert_eq!(rt; str::from_utf8(&output)?, trace, "{what}");
+    assert!(rt; faults.is_empty(), "{what}");
+    assert_eq!(rt; status.exit_code(), 0, "{what}");
+    Ok(())
+}
+
+// A script that is refused, for the fault that this line tells.
+fn refuses(
+    rt: &(impl Abort + AllocGlobal),
+    what: &str,
+    script: &[u8],
+    told: &str,
+) -> Result<(), Fail> {
+    let mut output = Vec::new(rt.alloc());
+    let mut faults = Vec::new(rt.alloc());
+    let mut input = script;
+    let status = script_on(rt.alloc(), &mut input, &mut output, &mut faults);
+    assert_eq!(rt; str::from_utf8(&faults)?, told, "{what}");
+    assert!(rt; output.is_empty(), "{what}");
+    assert_eq!(rt; status.exit_code(), 2, "{what}");
+    Ok(())
+}
+
+#[test]
+fn locks_and_files(rt: HostRuntime) -> Result<(), Fail> {
+    let traces = [
+        ("a read lock under another's write lock", READ_UNDER_WRITE),
+        ("a read lock beside another's write lock", READ_BESIDE_WRITE),
+        ("unlocking cuts a lock in two", UNLOCK_IN_THE_MIDDLE),
+        ("record locks of two owners", RECORD_LOCKS),
+        ("whole-file locks of two owners", WHOLE_FILE_LOCKS),
+        ("lock requests that make no sense", BAD_LOCK_REQUESTS),
+        (
+            "files that aren't made, by the first error that applies",
+            REFUSED_FILES,
+        ),
+        ("files that are made, or were there", MADE_FILES),
+    ];
+    answers(&rt, "an empty script", "")?;
+    for (what, rest) in traces {
+        let trace = format!(in rt.alloc(); "{MADE}{rest}")?;
+        answers(&rt, what, trace.as_str())?;
+    }
+    Ok(())
+}
+
+const READ_UNDER_WRITE: &str = "\
+ask 0 2 2 0 0 0 setlk 1 7 0 9 1 11 0
+tell 2 ok
+ask 0 3 2 0 0 0 setlk 1 8 9 9 0 12 0
+tell 3 err 11
+";
+
+const READ_BESIDE_WRITE: &str = "\
+ask 0 2 2 0 0 0 setlk 1 7 0 9 1 11 0
+tell 2 ok
+ask 0 3 2 0 0 0 setlk 1 8 10 10 0 12 0
+tell 3 ok
+";
+
+const UNLOCK_IN_THE_MIDDLE: &str = "\
+ask 0 2 2 0 0 0 setlk 1 7 0 99 1 11 0
+tell 2 ok
+ask 0 3 2 0 0 0 setlk 1 7 40 59 2 11 0
+tell 3 ok
+ask 0 4 2 0 0 0 setlk 1 8 39 39 0 12 0
+tell 4 err 11
+ask 0 5 2 0 0 0 setlk 1 8 60 60 0 12 0
+tell 5 err 11
+ask 0 6 2 0 0 0 setlk 1 8 40 59 1 12 0
+tell 6 ok
+ask 0 7 2 0 0 0 setlk 1 9 100 200 2 13 0
+tell 7 ok
+";
+
+const RECORD_LOCKS: &str = "\
+ask 0 2 1 0 0 0 create 0 420 62
+tell 2 made 3 33188 1 0 0 2
+ask 0 3 2 0 0 0 setlk 1 7 0 9 1 11 0
+tell 3 ok
+ask 0 4 2 0 0 0 setlk 1 7 5 9 0 11 0
+tell 4 ok
+ask 0 5 2 0 0 0 setlk 1 8 5 9 0 12 0
+tell 5 ok
+ask 0 6 2 0 0 0 setlk 1 8 4 4 0 12 0
+tell 6 err 11
+ask 0 7 2 0 0 0 setlk 1 8 9 9 1 12 0
+tell 7 err 11
+ask 0 8 2 0 0 0 setlk 1 7 5 5 1 11 0
+tell 8 err 11
+ask 0 9 2 0 0 0 setlk 1 8 10 9223372036854775807 1 12 0
+tell 9 ok
+ask 0 10 3 0 0 0 setlk 2 8 0 9 1 12 0
+tell 10 ok
+ask 0 11 2 0 0 0 setlk 1 8 0 0 1 12 1
+tell 11 ok
+";
+
+const WHOLE_FILE_LOCKS: &str = "\
+ask 0 2 1 0 0 0 create 0 420 62
+tell 2 made 3 33188 1 0 0 2
+ask 0 3 2 0 0 0 setlk 1 7 5 4 0 11 1
+tell 3 ok
+ask 0 4 2 0 0 0 setlk 1 8 0 0 0 12 1
+tell 4 ok
+ask 0 5 2 0 0 0 setlk 1 8 0 0 1 12 1
+tell 5 err 11
+ask 0 6 2 0 0 0 setlk 1 7 0 0 2 11 1
+tell 6 ok
+ask 0 7 2 0 0 0 setlk 1 8 0 0 1 12 1
+tell 7 ok
+ask 0 8 2 0 0 0 setlk 1 7 99 99 0 11 1
+tell 8 err 11
+ask 0 9 3 0 0 0 setlk 2 7 0 0 1 11 1
+tell 9 ok
+ask 0 10 2 0 0 0 setlk 1 7 0 0 1 11 0
+tell 10 ok
+";
+
+const BAD_LOCK_REQUESTS: &str = "\
+ask 0 2 2 0 0 0 setlk 1 7 0 9223372036854775808 0 11 0
+tell 2 err 22
+ask 0 3 2 0 0 0 setlk 1 7 5 4 0 11 0
+tell 3 err 22
+ask 0 4 2 0 0 0 setlk 1 7 0 0 3 11 0
+tell 4 err 22
+ask 0 5 2 0 0 0 setlk 1 7 0 0 0 11 2
+tell 5 err 22
+ask 0 6 2 0 0 0 setlk 9 7 0 0 3 11 0
+tell 6 err 9
+ask 0 7 1 0 0 0 setlk 1 7 0 0 0 11 0
+tell 7 err 9
+ask 0 8 2 0 0 0 setlk 1 7 5 4 0 11 1
+tell 8 ok
+";
+
+const REFUSED_FILES: &str = "\
+ask 0 2 9 0 0 0 create 0 420 62
+tell 2 err 2
+ask 0 3 2 0 0 0 create 0 420 62
+tell 3 err 20
+ask 0 4 1 0 0 0 create 0 420 -
+tell 4 err 22
+ask 0 5 1 0 0 0 create 0 420 2e
+tell 5 err 22
+ask 0 6 1 0 0 0 create 0 420 2e2e
+tell 6 err 22
+ask 0 7 1 0 0 0 create 0 420 612f62
+tell 7 err 22
+ask 0 8 1 0 0 0 create 1 420 61
+tell 8 err 17
+ask 0 9 9 0 0 0 create 0 420 -
+tell 9 err 2
+ask 0 10 9 0 0 0 create 1 420 61
+tell 10 err 2
+ask 0 11 2 0 0 0 create 0 420 2e
+tell 11 err 20
+ask 0 12 2 0 0 0 create 1 420 61
+tell 12 err 20
+ask 0 13 1 0 0 0 create 1 420 62
+tell 13 made 3 33188 1 0 0 2
+";
+
+const MADE_FILES: &str = "\
+ask 15 18446744073709551615 1 4294967295 6 7 create 1 511 2e2e2e
+tell 18446744073709551615 made 3 33279 1 4294967295 6 2
+ask 0 2 1 5 5 5 create 0 0 61
+tell 2 made 2 33188 1 0 0 3
+";
+
+#[test]
+fn bad_lines(rt: HostRuntime) -> Result<(), Fail> {
+    let lines = [
+        ("a zero before the mode", "ask 0 1 1 0 0 0 create 0 0420 61"),
+        (
+            "a zero before the worker",
+            "ask 00 1 1 0 0 0 create 0 420 61",
+        ),
+        ("a plus sign", "ask 0 +1 1 0 0 0 create 0 420 61"),
+        ("a minus sign", "ask 0 -1 1 0 0 0 create 0 420 61"),
+        ("two spaces", "ask 0 1  1 0 0 0 create 0 420 61"),
+        ("a space at the front", " ask 0 1 1 0 0 0 create 0 420 61"),
+        ("a space at the end", "ask 0 1 1 0 0 0 create 0 420 61 "),
+        ("a carriage return", "ask 0 1 1 0 0 0 create 0 420 61\r"),
+        ("a tab", "ask 0 1 1\t0 0 0 create 0 420 61"),
+        ("upper case hex", "ask 0 1 1 0 0 0 create 0 420 6A"),
+        (
+            "an odd number of digits",
+            "ask 0 1 1 0 0 0 create 0 420 616",
+        ),
+        ("a name that is no hex", "ask 0 1 1 0 0 0 create 0 420 6g"),
+        (
+            "a name with a zero byte",
+            "ask 0 1 1 0 0 0 create 0 420 610062",
+        ),
+        ("no name", "ask 0 1 1 0 0 0 create 0 420 "),
+        (
+            "a unique past 2^64 - 1",
+            "ask 0 18446744073709551616 1 0 0 0 create 0 420 61",
+        ),
+        (
+            "a uid past 2^32 - 1",
+            "ask 0 1 1 4294967296 0 0 create 0 420 61",
+        ),
+        (
+            "a lock type past 2^32 - 1",
+            "ask 0 2 2 0 0 0 setlk 1 7 0 9 4294967296 11 0",
+        ),
+        (
+            "flags past 2^32 - 1",
+            "ask 0 2 2 0 0 0 setlk 1 7 0 9 1 11 4294967296",
+        ),
+        ("a seventeenth worker", "ask 16 1 1 0 0 0 create 0 420 61"),
+        ("a mode past octal 777", "ask 0 1 1 0 0 0 create 0 512 61"),
+        (
+            "a flag that is no 0 or 1",
+            "ask 0 1 1 0 0 0 create 2 420 61",
+        ),
+        ("an unknown order", "ask 0 1 1 0 0 0 mkdir 0 420 61"),
+        ("an order in upper case", "ask 0 1 1 0 0 0 CREATE 0 420 61"),
+        ("an unknown word", "asks 0 1 1 0 0 0 create 0 420 61"),
+        ("a field too few", "ask 0 2 2 0 0 0 setlk 1 7 0 9 1 11"),
+        ("a field too many", "ask 0 2 2 0 0 0 setlk 1 7 0 9 1 11 0 0"),
+        ("no order", "ask 0 1 1 0 0 0"),
+        ("an empty line", ""),
+        ("a reply", "tell 1 ok"),
+    ];
+    let good = "ask 0 1 1 0 0 0 create 0 420 61\n";
+    for (what, line) in lines {
+        let first = format!(in rt.alloc(); "{line}\n{good}")?;
+        refuses(&rt, what, first.as_bytes(), "bad line 1\n")?;
+        let third = format!(in rt.alloc(); "{good}{good}{line}\n{good}\n")?;
+        refuses(&rt, what, third.as_bytes(), "bad line 3\n")?;
+    }
+    refuses(&rt, "no newline", good[..8].as_bytes(), "bad line 1\n")?;
+    let open = format!(in rt.alloc(); "{good}{}", good.trim_end())?;
+    refuses(
+        &rt,
+        "no newline at the end",
+        open.as_bytes(),
+        "bad line 2\n",
+    )?;
+    refuses(&rt, "no text", b"\xff\n", "bad line 1\n")
+}
+
+#[test]
+fn long_names(rt: HostRuntime) -> Result<(), Fail> {
+    let name = "61".repeat(rt.alloc(), 255)?;
+    let longest = format!(in rt.alloc();
+        "ask 0 1 1 0 0 0 create 0 420 {name}\ntell 1 made 2 33188 1 0 0 1\n"
+    )?;
+    answers(&rt, "a name of 255 bytes", longest.as_str())?;
+    let longer = format!(in rt.alloc(); "ask 0 1 1 0 0 0 create 0 420 {name}61\n")?;
+    refuses(
+        &rt,
+        "a name of 256 bytes",
+        longer.as_bytes(),
+        "bad line 1\n",
+    )
+}
+
+// A reader and a writer that move one byte at a time, and fail once there is no more room.
+#[derive(Drop)]
+struct Breaking {
+    left: usize,
+}
+
+impl Read for Breaking {
+    fn read(&mut self, buf: &mut [u8]) -> io::Result<usize> {
+        let room = buf.first_mut().filter(|_| self.left > 0);
+        let Some(byte) = room else {
+            return Err(io::Error::from(ErrorKind::Other));
+        };
+        *byte = b'\n';
+        self.left -= 1;
+        Ok(1)
+    }
+}
+
+impl Write for Breaking {
+    fn write(&mut self, buf: &[u8]) -> io::Result<usize> {
+        if self.left == 0 || buf.is_empty() {
+            return Err(io::Error::from(ErrorKind::Other));
+        }
+        self.left -= 1;
+        Ok(1)
+    }
+
+    fn flush(&mut self) -> io::Result<()> {
+        Ok(())
+    }
+}
+
+#[test]
+fn a_read_or_a_write_that_fails(rt: HostRuntime) -> Result<(), Fail> {
+    for left in [0, 1, 40] {
+        let mut output = Vec::new(rt.alloc());
+        let mut faults = Vec::new(rt.alloc());
+        let mut input = Breaking { left };
+        let status = script_on(rt.alloc(), &mut input, &mut output, &mut faults);
+        assert_eq!(rt; status, Status::Faulted(Fault::Read));
+        assert!(rt; output.is_empty());
+        assert_eq!(rt; faults.as_slice(), b"read failed\n".as_slice());
+
+        let mut input = b"ask 0 1 1 0 0 0 create 0 420 61\n".as_slice();
+        let mut output = Breaking { left };
+        let mut faults = Vec::new(rt.alloc());
+        let status = script_on(rt.alloc(), &mut input, &mut output, &mut faults);
+        assert_eq!(rt; status, Status::Faulted(Fault::Write));
+        assert_eq!(rt; faults.as_slice(), b"write failed\n".as_slice());
+    }
+    Ok(())
+}

@@ -1,0 +1,74 @@
+#!/bin/sh
+# Runs `lockd script` on the stored example once for each of its allocations, and refuses that one. Each run
+# must end with status 2, `no memory` on standard error and nothing on standard output, or else print the
+# whole trace. Wants a C compiler and the GNU C library.
+set -eu
+cd "$(dirname "$0")/.."
+program=crates/lockd/out/lockd
+input=crates/lockd/stdin
+wanted=crates/lockd/stdout
+(cd crates/lockd && rt run < stdin > /dev/null)
+
+work=$(mktemp -d)
+trap 'rm -rf "$work"' EXIT
+cat > "$work/refuse.c" <<'C'
+#include <stddef.h>
+#include <stdio.h>
+#include <stdlib.h>
+
+void *__libc_malloc(size_t size);
+void *__libc_realloc(void *old, size_t size);
+
+static unsigned long asked;
+static unsigned long refused;
+
+__attribute__((constructor)) static void begin(void)
+{
+    const char *number = getenv("REFUSE");
+    refused = number ? strtoul(number, NULL, 10) : 0;
+    asked = 0;
+}
+
+__attribute__((destructor)) static void end(void)
+{
+    const char *path = getenv("ASKED");
+    unsigned long count = asked;
+    FILE *file = path ? fopen(path, "w") : NULL;
+    if (file) {
+        fprintf(file, "%lu\n", count);
+        fclose(file);
+    }
+}
+
+void *malloc(size_t size)
+{
+    return ++asked == refused ? NULL : __libc_malloc(size);
+}
+
+void *realloc(void *old, size_t size)
+{
+    return ++asked == refused ? NULL : __libc_realloc(old, size);
+}
+C
+cc -shared -fPIC -O1 -fno-builtin -o "$work/refuse.so" "$work/refuse.c"
+
+ASKED="$work/asked" LD_PRELOAD="$work/refuse.so" "$program" < "$input" > "$work/out"
+cmp "$work/out" "$wanted"
+count=$(cat "$work/asked")
+
+failed=0
+no_memory=0
+number=1
+while [ "$number" -le "$count" ]; do
+    status=0
+    REFUSE=$number LD_PRELOAD="$work/refuse.so" "$program" < "$input" > "$work/out" 2> "$work/err" || status=$?
+    if [ "$status" -eq 2 ] && [ "$(cat "$work/err")" = "no memory" ] && [ ! -s "$work/out" ]; then
+        no_memory=$((no_memory + 1))
+    elif [ "$status" -ne 0 ] || ! cmp -s "$work/out" "$wanted"; then
+        echo "allocation $number refused: status $status, $(cat "$work/err")"
+        failed=$((failed + 1))
+    fi
+    number=$((number + 1))
+done
+echo "$count allocations refused in turn: $no_memory ended with no memory, $failed wrongly"
+[ "$failed" -eq 0 ]
