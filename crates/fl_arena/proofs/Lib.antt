@@ -1,3 +1,4 @@
 mod ReadLemmas
 mod PlaceLemmas
 mod LinkLemmas
+mod WalkLemmas
