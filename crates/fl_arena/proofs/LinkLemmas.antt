@@ -4,7 +4,7 @@ use Rattle.std.specs.Option.{option_map}
 use Rattle.std.proofs.lemmas.Bool.{cases_eq, ne_eqb}
 use Rattle.std.proofs.lemmas.Option.{slice_get_within}
 use Rattle.fl_arena.proofs.ReadLemmas.{slice_get-alter_same, slice_get-alter_other, length-alter, slice_get-set_same, slice_get-set_other}
-use Rattle.fl_arena.specs.Links.{alter, alter_link, at_link, with_previous, with_next, SpellsFree}
+use Rattle.fl_arena.specs.Links.{alter, alter_link, at_link, with_previous, with_next, relinked}
 use Rattle.fl_arena.specs.declared.nodes.Node.{Node}
 use Rattle.fl_arena.specs.declared.nodes.Node.TheVariants.{Free, Taken}
 use Rattle.fl_arena.specs.declared.nodes.Member.{Member}
@@ -41,11 +41,6 @@ module _ {A : Type 0} where
   length-alter_link f xs (Some slot) = length-alter f xs slot
 
 module _ {T : Type 0} where
-  -- the nodes once the node before a place leads to `next`, and the node after it back to `previous`
-  abbrev pub relinked : List (Node T) → Option ℕ → Option ℕ → Option ℕ → Option ℕ → List (Node T)
-  relinked nodes before after previous next =
-      alter_link (with_previous previous) (alter_link (with_next next) nodes before) after
-
   pub length-relinked : (nodes : List (Node T)) (before after previous next : Option ℕ) → length (relinked nodes before after previous next) ≡ length nodes
   length-relinked nodes before after previous next =
       length-alter_link (with_previous previous) (alter_link (with_next next) nodes before) after

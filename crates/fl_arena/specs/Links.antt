@@ -47,6 +47,11 @@ module _ {T : Type 0} where
   with_next link (Free next) = Free next
   with_next link (Taken m) = Taken (record m { next = link })
 
+  -- the nodes once the node before a place leads to `next`, and the node after it back to `previous`
+  abbrev pub relinked : List (Node T) → Option ℕ → Option ℕ → Option ℕ → Option ℕ → List (Node T)
+  relinked nodes before after previous next =
+      alter_link (with_previous previous) (alter_link (with_next next) nodes before) after
+
   -- the ends and the nodes spell these entries of a chain
   pub record SpellsChain (nodes : List (Node T)) (c : ℕ) (ends : Ends) (es : List (Entry T)) : Type 0 where
     pub first : ends.first ≡ link_at es 0
