@@ -1,7 +1,9 @@
+pub mod ChainLaws
 mod ReadLemmas
 mod PlaceLemmas
 mod LinkLemmas
 mod WalkLemmas
 mod FreeLemmas
 mod RelinkLemmas
+mod AssembleLemmas
 mod InsertLemmas
