@@ -48,12 +48,12 @@ module _ {T : Type 0} where
   link_before-insert_above es i (suc j) y h le = link_at-insert_above es i j y (omega arith) le
 
 module _ {T : Type 0} where
-  some_link : (es : List (Entry T)) (i : ℕ) → i < length es → (t : ℕ) × (link_at es i ≡ Some t)
+  pub some_link : (es : List (Entry T)) (i : ℕ) → i < length es → (t : ℕ) × (link_at es i ≡ Some t)
   some_link [] i h = absurd (omega arith)
   some_link (e ∷ es) zero h = (e.slot, refl)
   some_link (e ∷ es) (suc i) h = some_link es i (omega arith)
 
-  no_link : (es : List (Entry T)) (i : ℕ) → length es ≤ i → link_at es i ≡ None
+  pub no_link : (es : List (Entry T)) (i : ℕ) → length es ≤ i → link_at es i ≡ None
   no_link es i h = ap (option_map (λ (e : Entry T). e.slot)) (slice_get_past es i h)
 
   -- the first slot after an insert

@@ -7,3 +7,4 @@ mod FreeLemmas
 mod RelinkLemmas
 mod AssembleLemmas
 mod InsertLemmas
+mod RemoveLemmas
