@@ -9,7 +9,7 @@ use Rattle.std.proofs.lemmas.List.Edits.{length-insert}
 use Rattle.std.proofs.lemmas.List.Sums.{sum_by-set}
 use Rattle.std.proofs.lemmas.Option.{slice_get_within, slice_get-get_or, slice_get_past, none-some}
 use Rattle.fl_arena.specs.Chains.{Entry, Chains, entries, slot_at, item_count, with_entries}
-use Rattle.fl_arena.specs.Links.{at_link, link_at, link_before, member_of, relinked, SpellsChain, SpellsFree, IsOnChain, Spells}
+use Rattle.fl_arena.specs.Links.{ends_with, at_link, link_at, link_before, member_of, relinked, SpellsChain, SpellsFree, IsOnChain, Spells}
 use Rattle.fl_arena.specs.declared.nodes.Node.{Node}
 use Rattle.fl_arena.specs.declared.nodes.Node.TheVariants.{Free, Taken}
 use Rattle.fl_arena.specs.declared.nodes.Member.{Member}
@@ -20,14 +20,6 @@ use Rattle.fl_arena.proofs.AssembleLemmas.{assembled, on_changed, on_other}
 use Rattle.fl_arena.proofs.LinkLemmas.{at_link-same, length-relinked, free_in_relinked}
 use Rattle.fl_arena.proofs.RelinkLemmas.{around, entry_reads, at_other, before_other, elsewhere_reads, owned_before}
 use Rattle.fl_arena.proofs.FreeLemmas.{SpellsFree-rest}
-
--- the ends of a chain with one more entry in the slot, between these links
-abbrev pub ends_with : Ends → Option ℕ → Option ℕ → ℕ → Ends
-ends_with ends before after slot = record {
-  first = if is_some before then ends.first else Some slot;
-  last = if is_some after then ends.last else Some slot;
-  len = ends.len + 1
-}
 
 module _ {T : Type 0} where
   pub link_at-insert_below : (es : List (Entry T)) (i j : ℕ) (y : Entry T) → j < i → i ≤ length es → link_at (insert es i y) j ≡ link_at es j

@@ -8,3 +8,4 @@ mod RelinkLemmas
 mod AssembleLemmas
 mod InsertLemmas
 mod RemoveLemmas
+mod SetLemmas

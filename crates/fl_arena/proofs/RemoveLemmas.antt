@@ -6,7 +6,7 @@ use Rattle.std.proofs.lemmas.Bool.{cases_lt, cases_eq}
 use Rattle.std.proofs.lemmas.List.Edits.{length-remove}
 use Rattle.std.proofs.lemmas.Option.{slice_get_within, slice_get_past}
 use Rattle.fl_arena.specs.Chains.{Entry, Chains, entries, slot_at, with_entries}
-use Rattle.fl_arena.specs.Links.{at_link, link_at, link_before, member_of, relinked, SpellsChain, SpellsFree, IsOnChain, Spells}
+use Rattle.fl_arena.specs.Links.{ends_without, at_link, link_at, link_before, member_of, relinked, SpellsChain, SpellsFree, IsOnChain, Spells}
 use Rattle.fl_arena.specs.declared.nodes.Node.{Node}
 use Rattle.fl_arena.specs.declared.nodes.Node.TheVariants.{Free, Taken}
 use Rattle.fl_arena.specs.declared.nodes.Member.{Member}
@@ -18,14 +18,6 @@ use Rattle.fl_arena.proofs.LinkLemmas.{at_link-same, length-relinked, free_in_re
 use Rattle.fl_arena.proofs.RelinkLemmas.{around, entry_reads, at_other, before_other, elsewhere_reads, owned_before}
 use Rattle.fl_arena.proofs.FreeLemmas.{SpellsFree-kept}
 use Rattle.fl_arena.proofs.InsertLemmas.{some_link, no_link}
-
--- the ends of a chain with one entry fewer, which stood between these links
-abbrev pub ends_without : Ends → Option ℕ → Option ℕ → Ends
-ends_without ends before after = record {
-  first = if is_some before then ends.first else after;
-  last = if is_some after then ends.last else before;
-  len = ends.len - 1
-}
 
 module _ {T : Type 0} where
   link_at-remove_below : (es : List (Entry T)) (i j : ℕ) → j < i → link_at (remove es i) j ≡ link_at es j

@@ -37,3 +37,7 @@ module _ {T : Type 0} where
   -- the same chains, but for one that now has these entries
   abbrev pub with_entries : Chains T → ℕ → List (Entry T) → Chains T
   with_entries a c es = record a { chains = slice_set a.chains c es }
+
+  -- how many slots are left
+  abbrev pub free_count : Chains T → ℕ
+  free_count a = a.slots - item_count a

@@ -1,7 +1,7 @@
 -- Where a cursor stands.
-use Rattle.std.specs.Prelude.{◌≡◌, ℕ, ◌+◌, List, length, Option, Some, None, is_some, slice_get, MatchOption, if◌then◌else◌}
+use Rattle.std.specs.Prelude.{◌≡◌, ℕ, ◌+◌, List, length, Option, Some, None, is_some, slice_get, slice_set, unwrap_or, insert, remove, ◌<◌, MatchOption, if◌then◌else◌}
 use Rattle.std.specs.Bool.{⊤}
-use Rattle.fl_arena.specs.Chains.{Entry, Chains, entries, items, slot_at}
+use Rattle.fl_arena.specs.Chains.{Entry, Chains, entries, items, slot_at, IsFree, with_entries}
 use Rattle.fl_arena.specs.declared.cursors.Cursor.{Cursor}
 
 module _ {T : Type 0} where
@@ -20,3 +20,21 @@ module _ {T : Type 0} where
   -- the item that the cursor stands at, if it stands at one
   abbrev pub item_of : Chains T → Cursor → Option T
   item_of a cursor = if is_some cursor.slot then slice_get (items a cursor.chain) cursor.index else None
+
+  -- the same chains, but for the item at the cursor
+  abbrev pub with_item : Chains T → Cursor → T → Chains T
+  with_item a cursor item =
+      with_entries a cursor.chain
+      (slice_set (entries a cursor.chain) cursor.index (record { slot = unwrap_or cursor.slot 0; item = item }))
+
+  -- the same chains, but for one without the entry at an index
+  abbrev pub without : Chains T → ℕ → ℕ → Chains T
+  without a c i = with_entries a c (remove (entries a c) i)
+
+  -- an item was put in a slot that was free, before the old cursor, and the new cursor stands at it
+  pub record Inserts (old new : Chains T) (from to : Cursor) (item : T) : Type 0 where
+    pub slot : ℕ
+    pub in_range : slot < old.slots
+    pub was_free : IsFree old slot
+    pub chains : new ≡ with_entries old from.chain (insert (entries old from.chain) (index_of old from) (record { slot = slot; item = item }))
+    pub cursor : to ≡ record { chain = from.chain; index = index_of old from; slot = Some slot }

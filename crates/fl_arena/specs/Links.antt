@@ -1,6 +1,7 @@
 -- How the links inside the slots spell the chains and the free list. No public clause cites this module.
-use Rattle.std.specs.Prelude.{◌≡◌, ℕ, zero, suc, ◌+◌, ◌≤◌, ◌<◌, ◌==◌, Bool, true, false, List, [], ◌∷◌, map, length, sum_by, Option, Some, None, slice_get, if◌then◌else◌}
-use Rattle.std.specs.Option.{option_map, option_and_then}
+use Rattle.std.specs.Prelude.{◌≡◌, ℕ, zero, suc, ◌+◌, ◌-◌, ◌≤◌, ◌<◌, ◌==◌, Bool, true, false, List, [], ◌∷◌, map, length, sum_by, Option, Some, None, is_some, slice_get, MatchOption, if◌then◌else◌}
+use Rattle.std.specs.Bool.{⊤}
+use Rattle.std.specs.Option.{option_map}
 use Rattle.fl_arena.specs.Chains.{Entry, Chains, entries, slot_at, item_count}
 use Rattle.fl_arena.specs.declared.nodes.Node.{Node}
 use Rattle.fl_arena.specs.declared.nodes.Node.TheVariants.{Free, Taken}
@@ -22,6 +23,22 @@ at_link (Some named) slot x y = if named == slot then x else y
 abbrev pub alter_link : {A : Type 0} → (A → A) → List A → Option ℕ → List A
 alter_link f xs None = xs
 alter_link f xs (Some slot) = alter f xs slot
+
+-- the ends of a chain with one more entry in the slot, between these links
+abbrev pub ends_with : Ends → Option ℕ → Option ℕ → ℕ → Ends
+ends_with ends before after slot = record {
+  first = if is_some before then ends.first else Some slot;
+  last = if is_some after then ends.last else Some slot;
+  len = ends.len + 1
+}
+
+-- the ends of a chain with one entry fewer, which stood between these links
+abbrev pub ends_without : Ends → Option ℕ → Option ℕ → Ends
+ends_without ends before after = record {
+  first = if is_some before then ends.first else after;
+  last = if is_some after then ends.last else before;
+  len = ends.len - 1
+}
 
 module _ {T : Type 0} where
   -- the slot at an index of these entries, if there is one
@@ -46,6 +63,18 @@ module _ {T : Type 0} where
   abbrev pub with_next : Option ℕ → Node T → Node T
   with_next link (Free next) = Free next
   with_next link (Taken m) = Taken (record m { next = link })
+
+  -- the slot holds an item
+  abbrev pub IsTaken : List (Node T) → ℕ → Type 0
+  IsTaken nodes slot = (m : Member T) × (slice_get nodes slot ≡ Some (Taken m))
+
+  -- the slot holds none
+  abbrev pub IsSpare : List (Node T) → ℕ → Type 0
+  IsSpare nodes slot = (next : Option ℕ) × (slice_get nodes slot ≡ Some (Free next))
+
+  -- the link, if it names a slot, names one of these
+  abbrev pub IsWithin : List (Node T) → Option ℕ → Type 0
+  IsWithin nodes link = MatchOption link ⊤ (λ slot. slot < length nodes)
 
   -- the nodes once the node before a place leads to `next`, and the node after it back to `previous`
   abbrev pub relinked : List (Node T) → Option ℕ → Option ℕ → Option ℕ → Option ℕ → List (Node T)
@@ -81,6 +110,12 @@ module _ {T : Type 0} where
     pub count : item_count a + free ≡ length nodes
     pub few_nodes : length nodes ≤ 65536
     pub few_chains : length ends ≤ 65536
+
+  -- nodes that are all free, so many, in one free list from this link on
+  pub record AreFree (nodes : List (Node T)) (link : Option ℕ) (count : ℕ) : Type 0 where
+    pub len : length nodes ≡ count
+    pub free_list : SpellsFree nodes link count
+    pub untaken : (slot : ℕ) (m : Member T) → slice_get nodes slot ≡ Some (Taken m) → ⊥
 
   -- the entries that so many nodes spell, from this link on
   unfoldable pub walk : List (Node T) → Option ℕ → ℕ → List (Entry T)
