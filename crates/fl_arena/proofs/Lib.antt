@@ -9,3 +9,4 @@ mod AssembleLemmas
 mod InsertLemmas
 mod RemoveLemmas
 mod SetLemmas
+mod NodeLemmas

@@ -102,9 +102,10 @@ fn set_next<T: Copy>(nodes: &mut Vec<Node<T>>, slot: Option<u16>, next: Option<u
     ensures { nodes.new.items ≡ alter_link (with_next next) nodes.old.items slot }
 {
     if let Some(slot) = slot {
-        let node = nodes[usize::from(slot)];
+        let at = usize::from(slot);
+        let node = nodes[at];
         if let Node::Taken(member) = node {
-            nodes[usize::from(slot)] = Node::Taken(Member { next, ..member });
+            nodes[at] = Node::Taken(Member { next, ..member });
         }
     }
 }
@@ -114,9 +115,10 @@ fn set_previous<T: Copy>(nodes: &mut Vec<Node<T>>, slot: Option<u16>, previous: 
     ensures { nodes.new.items ≡ alter_link (with_previous previous) nodes.old.items slot }
 {
     if let Some(slot) = slot {
-        let node = nodes[usize::from(slot)];
+        let at = usize::from(slot);
+        let node = nodes[at];
         if let Node::Taken(member) = node {
-            nodes[usize::from(slot)] = Node::Taken(Member { previous, ..member });
+            nodes[at] = Node::Taken(Member { previous, ..member });
         }
     }
 }
