@@ -10,3 +10,5 @@ mod InsertLemmas
 mod RemoveLemmas
 mod SetLemmas
 mod NodeLemmas
+mod CursorLemmas
+mod CallLemmas

@@ -23,7 +23,7 @@ module _ {T : Type 0} where
   link_at-remove_below : (es : List (Entry T)) (i j : ℕ) → j < i → link_at (remove es i) j ≡ link_at es j
   link_at-remove_below es i j h = ap (option_map (λ (e : Entry T). e.slot)) (slice_get-remove_below es i j h)
 
-  link_at-remove_above : (es : List (Entry T)) (i j : ℕ) → i ≤ j → link_at (remove es i) j ≡ link_at es (suc j)
+  pub link_at-remove_above : (es : List (Entry T)) (i j : ℕ) → i ≤ j → link_at (remove es i) j ≡ link_at es (suc j)
   link_at-remove_above es i j h = ap (option_map (λ (e : Entry T). e.slot)) (slice_get-remove_above es i j h)
 
   link_before-remove_below : (es : List (Entry T)) (i j : ℕ) → j ≤ i → link_before (remove es i) j ≡ link_before es j

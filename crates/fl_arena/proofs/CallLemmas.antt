@@ -1,0 +1,98 @@
+-- Each call of the arena, from what it read to what it wrote.
+use Rattle.std.proofs.Common.{◌≡◌, ◌≢◌, ℕ, zero, suc, ◌+◌, ◌-◌, ◌<◌, ◌≤◌, ◌^◌, List, [], ◌∷◌, map, length, set, get_or, unwrap_or, Option, Some, None, is_some, if◌then◌else◌, slice_get, refl, sym, ◌∙◌, ap, subst, inl, inr, arith, add-one}
+use Rattle.std.specs.List.{insert, remove}
+use Rattle.std.specs.Option.{option_map}
+use Rattle.std.proofs.lemmas.Option.{slice_get_read, slice_get_past, slice_get-get_or}
+use Rattle.fl_arena.specs.Chains.{Entry, Chains, entries, items, slot_at, item_count, with_entries, IsFree, free_count}
+use Rattle.fl_arena.specs.Cursors.{cursor_at, IsInPlace, index_of, item_of, with_item, without, Inserts}
+use Rattle.fl_arena.specs.Links.{link_at, link_before, member_of, relinked, ends_with, ends_without, IsTaken, IsSpare, IsWithin, SpellsChain, SpellsFree, Spells, spelled}
+use Rattle.fl_arena.specs.declared.cursors.Cursor.{Cursor}
+use Rattle.fl_arena.specs.declared.nodes.Node.{Node}
+use Rattle.fl_arena.specs.declared.nodes.Node.TheVariants.{Free, Taken}
+use Rattle.fl_arena.specs.declared.nodes.Member.{Member}
+use Rattle.fl_arena.specs.declared.nodes.Ends.{Ends}
+use Rattle.fl_arena.proofs.ChainLaws.{entries-with_same}
+use Rattle.fl_arena.proofs.PlaceLemmas.{linked_at}
+use Rattle.fl_arena.proofs.WalkLemmas.{spelled_is}
+use Rattle.fl_arena.proofs.CursorLemmas.{IsAt, is_at, slot_there}
+use Rattle.fl_arena.proofs.InsertLemmas.{Spells-insert, entry_in, no_link, unused_slot}
+use Rattle.fl_arena.proofs.RemoveLemmas.{Spells-remove, link_at-remove_above}
+use Rattle.fl_arena.proofs.SetLemmas.{Spells-set}
+
+-- what was read at an index of the ends
+pub end_read : (ends : List Ends) (c : ℕ) (e : Ends) → c < length ends → e ≡ get_or ends c e → slice_get ends c ≡ Some e
+end_read ends c e within read = slice_get_read ends (length ends) c e refl within read
+
+module _ {T : Type 0} where
+  -- the links spell the value that contracts see
+  pub spells_value : (nodes : List (Node T)) (ends : List Ends) (spare : Option ℕ) (free : ℕ) (a : Chains T) → Spells nodes ends spare free (spelled nodes ends) → spelled nodes ends ≡ a → Spells nodes ends spare free a
+  spells_value nodes ends spare free a h e = subst (λ (x : Chains T). Spells nodes ends spare free x) e h
+
+  -- and the other way round
+  pub spells_own : (nodes : List (Node T)) (ends : List Ends) (spare : Option ℕ) (free : ℕ) (a : Chains T) → Spells nodes ends spare free a → Spells nodes ends spare free (spelled nodes ends)
+  spells_own nodes ends spare free a h = subst (λ (x : Chains T). Spells nodes ends spare free x) (sym (spelled_is nodes ends spare free a h)) h
+
+module _ {T : Type 0} (nodes : List (Node T)) (ends : List Ends) (spare : Option ℕ) (free : ℕ) (a : Chains T) (h : Spells nodes ends spare free a) (cursor : Cursor) (in_place : IsInPlace a cursor) where
+  pub got : (slot : ℕ) (m : Member T) → cursor.slot ≡ Some slot → slice_get nodes slot ≡ Some (Taken m) → Some m.item ≡ item_of a cursor
+  got slot m named read =
+      let at = is_at nodes ends spare free a h cursor.chain cursor.index slot m (slot_there a cursor slot named in_place) read in
+      rw named (sym at.item)
+
+  pub stepped : (slot : ℕ) (m : Member T) → cursor.slot ≡ Some slot → slice_get nodes slot ≡ Some (Taken m) → record { chain = cursor.chain; index = cursor.index + 1; slot = m.next } ≡ cursor_at a cursor.chain (cursor.index + 1)
+  stepped slot m named read =
+      let at = is_at nodes ends spare free a h cursor.chain cursor.index slot m (slot_there a cursor slot named in_place) read in
+      let next : m.next ≡ slot_at a cursor.chain (cursor.index + 1) = at.next ∙ ap (slot_at a cursor.chain) (sym (add-one cursor.index)) in
+      ap (λ (l : Option ℕ). record { chain = cursor.chain; index = cursor.index + 1; slot = l }) next
+
+  -- where the cursor stands, in the links of its chain
+  pub stands : cursor.chain < length a.chains → (cursor.slot ≡ link_at (entries a cursor.chain) (index_of a cursor)) × (index_of a cursor ≤ length (entries a cursor.chain))
+  stands in_chains = by_slot cursor.slot refl
+    where
+      by_slot : (o : Option ℕ) → cursor.slot ≡ o → (cursor.slot ≡ link_at (entries a cursor.chain) (index_of a cursor)) × (index_of a cursor ≤ length (entries a cursor.chain))
+      by_slot None named = rw named (sym (no_link (entries a cursor.chain) (length (entries a cursor.chain)) (omega arith)), omega arith)
+      by_slot (Some slot) named =
+          let there = slot_there a cursor slot named in_place in
+          let at = linked_at nodes ends spare free a h cursor.chain cursor.index slot there in
+          let m = is_at nodes ends spare free a h cursor.chain cursor.index slot _ there at.linked in
+          let within = m.in_chain in
+          rw named (sym there, omega arith)
+
+  -- where an insert goes, read from the node at the cursor
+  pub place_before : (slot : ℕ) (m : Member T) (at : Option ℕ × ℕ) → cursor.slot ≡ Some slot → slice_get nodes slot ≡ Some (Taken m) → at ≡ (m.previous, cursor.index) → (at.0 ≡ link_before (entries a cursor.chain) (index_of a cursor)) × (at.1 ≡ index_of a cursor)
+  place_before slot m at named read is =
+      let there = is_at nodes ends spare free a h cursor.chain cursor.index slot m (slot_there a cursor slot named in_place) read in
+      let index : index_of a cursor ≡ cursor.index = rw named refl in
+      rw (is, index) (there.previous, refl)
+
+  -- or from the ends of its chain
+  pub place_last : (e : Ends) (at : Option ℕ × ℕ) → cursor.slot ≡ None → slice_get ends cursor.chain ≡ Some e → at ≡ (e.last, e.len) → (at.0 ≡ link_before (entries a cursor.chain) (index_of a cursor)) × (at.1 ≡ index_of a cursor)
+  place_last e at named found is =
+      let spells = h.each cursor.chain e found in
+      let index : index_of a cursor ≡ length (entries a cursor.chain) = rw named refl in
+      rw (is, index) (spells.last, spells.len)
+
+module _ {T : Type 0} where
+  pub inserted : (nodes : List (Node T)) (ends : List Ends) (free : ℕ) (a : Chains T) (c i slot : ℕ) (y : T) (next before after : Option ℕ) (e end : Ends) (now : List (Node T)) → Spells nodes ends (Some slot) free a → c < length a.chains → i ≤ length (entries a c) → slice_get nodes slot ≡ Some (Free next) → slice_get ends c ≡ Some e → before ≡ link_before (entries a c) i → after ≡ link_at (entries a c) i → now ≡ set (relinked nodes before after (Some slot) (Some slot)) slot (Taken (record { chain = c; previous = before; next = after; item = y })) → end ≡ ends_with e before after slot → Spells now (set ends c end) next (free - 1) (with_entries a c (insert (entries a c) i (record { slot = slot; item = y })))
+  inserted nodes ends free a c i slot y next before after e end now h in_chains within read found back on written ended =
+      let whole = Spells-insert nodes ends free a c i slot y next e h in_chains within read found in
+      rw (written, ended, back, on) whole
+
+  pub removed : (nodes : List (Node T)) (ends : List Ends) (spare : Option ℕ) (free : ℕ) (a : Chains T) (c i slot : ℕ) (before after : Option ℕ) (e end : Ends) (now : List (Node T)) → Spells nodes ends spare free a → slot_at a c i ≡ Some slot → slot < length nodes → c < length a.chains → i < length (entries a c) → slice_get ends c ≡ Some e → before ≡ link_before (entries a c) i → after ≡ link_at (entries a c) (suc i) → now ≡ set (relinked nodes before after before after) slot (Free spare) → end ≡ ends_without e before after → Spells now (set ends c end) (Some slot) (free + 1) (with_entries a c (remove (entries a c) i))
+  removed nodes ends spare free a c i slot before after e end now h there in_nodes in_chains within found back on written ended =
+      let whole = Spells-remove nodes ends spare free a h c i slot there e found in_nodes in_chains within in
+      rw (written, ended, back, on) whole
+
+  -- the cursor after a remove stands at the entry that came next
+  pub cursor_after : (a : Chains T) (c i : ℕ) (next : Option ℕ) → c < length a.chains → next ≡ slot_at a c (suc i) → record { chain = c; index = i; slot = next } ≡ cursor_at (without a c i) c i
+  cursor_after a c i next in_chains on =
+      let same : entries (without a c i) c ≡ remove (entries a c) i = entries-with_same a c (remove (entries a c) i) in_chains in
+      let slot : next ≡ slot_at (without a c i) c i = on ∙ (sym (link_at-remove_above (entries a c) i i (omega arith)) ∙ ap (λ (es : List (Entry T)). link_at es i) (sym same)) in
+      ap (λ (l : Option ℕ). record { chain = c; index = i; slot = l }) slot
+
+  pub changed : (nodes : List (Node T)) (ends : List Ends) (spare : Option ℕ) (free : ℕ) (a : Chains T) (cursor : Cursor) (slot at : ℕ) (y : T) (m : Member T) → Spells nodes ends spare free a → IsInPlace a cursor → cursor.slot ≡ Some slot → slice_get nodes slot ≡ Some (Taken m) → at ≡ slot → Spells (set nodes at (Taken (record m { item = y }))) ends spare free (with_item a cursor y)
+  changed nodes ends spare free a cursor slot at y m h in_place named read same =
+      let there = slot_there a cursor slot named in_place in
+      let place = is_at nodes ends spare free a h cursor.chain cursor.index slot m there read in
+      let in_chains = place.in_chains in
+      let found = slice_get-get_or ends cursor.chain (record { first = None; last = None; len = 0 }) (let chains = h.chains in omega arith) in
+      rw (same, named) (Spells-set nodes ends spare free a h cursor.chain cursor.index slot y m there read _ found in_chains)

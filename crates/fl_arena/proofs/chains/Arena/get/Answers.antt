@@ -1,0 +1,16 @@
+use Rattle.std.proofs.Common.{◌≡◌, Some}
+use Rattle.fl_arena.proofs.CursorLemmas.{is_taken, slot_there}
+use Rattle.fl_arena.proofs.CallLemmas.{spells_value, got}
+use Rattle.fl_arena.proofs.chains.Arena.get.Goals as goal
+
+pub member_at-requires : goal.member_at-requires
+member_at-requires g c =
+    let spells = spells_value _ _ _ _ _ c.self.invariant c.self.view_is in
+    let named : c.args.cursor.now.slot ≡ Some c.in_ok-slot.slot = c.in_ok-slot.was in
+    is_taken _ _ _ _ _ spells _ _ _ (slot_there c.args.self.now c.args.cursor.now _ named c.requires)
+
+pub returns : goal.returns
+returns g c =
+    let spells = spells_value _ _ _ _ _ c.self.invariant c.self.view_is in
+    let named : c.args.cursor.now.slot ≡ Some c.in_ok-slot.slot = c.in_ok-slot.was in
+    got _ _ _ _ _ spells c.args.cursor.now c.requires _ c.member_at.result named c.member_at.ensures
