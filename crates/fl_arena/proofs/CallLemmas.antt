@@ -1,11 +1,13 @@
 -- Each call of the arena, from what it read to what it wrote.
-use Rattle.std.proofs.Common.{◌≡◌, ◌≢◌, ℕ, zero, suc, ◌+◌, ◌-◌, ◌<◌, ◌≤◌, ◌^◌, List, [], ◌∷◌, map, length, set, get_or, unwrap_or, Option, Some, None, is_some, if◌then◌else◌, slice_get, refl, sym, ◌∙◌, ap, subst, inl, inr, arith, add-one}
+use Rattle.std.proofs.Common.{◌≡◌, ◌≢◌, ℕ, zero, suc, ◌+◌, ◌-◌, ◌<◌, ◌≤◌, ◌^◌, List, [], ◌∷◌, map, length, set, get_or, replicate, sum_by, unwrap_or, Option, Some, None, is_some, if◌then◌else◌, slice_get, refl, sym, ◌∙◌, ap, subst, inl, inr, arith, add-one}
 use Rattle.std.specs.List.{insert, remove}
 use Rattle.std.specs.Option.{option_map}
-use Rattle.std.proofs.lemmas.Option.{slice_get_read, slice_get_past, slice_get-get_or}
+use Rattle.std.proofs.lemmas.List.{length-replicate}
+use Rattle.std.proofs.lemmas.List.Sums.{sum_by-cons}
+use Rattle.std.proofs.lemmas.Option.{slice_get_read, slice_get-get_or, none-some}
 use Rattle.fl_arena.specs.Chains.{Entry, Chains, entries, items, slot_at, item_count, with_entries, IsFree, free_count}
 use Rattle.fl_arena.specs.Cursors.{cursor_at, IsInPlace, index_of, item_of, with_item, without, Inserts}
-use Rattle.fl_arena.specs.Links.{link_at, link_before, member_of, relinked, ends_with, ends_without, IsTaken, IsSpare, IsWithin, SpellsChain, SpellsFree, Spells, spelled}
+use Rattle.fl_arena.specs.Links.{link_at, link_before, member_of, relinked, ends_with, ends_without, IsTaken, IsSpare, IsWithin, SpellsChain, SpellsFree, AreFree, Spells, spelled}
 use Rattle.fl_arena.specs.declared.cursors.Cursor.{Cursor}
 use Rattle.fl_arena.specs.declared.nodes.Node.{Node}
 use Rattle.fl_arena.specs.declared.nodes.Node.TheVariants.{Free, Taken}
@@ -14,7 +16,7 @@ use Rattle.fl_arena.specs.declared.nodes.Ends.{Ends}
 use Rattle.fl_arena.proofs.ChainLaws.{entries-with_same}
 use Rattle.fl_arena.proofs.PlaceLemmas.{linked_at}
 use Rattle.fl_arena.proofs.WalkLemmas.{spelled_is}
-use Rattle.fl_arena.proofs.CursorLemmas.{IsAt, is_at, slot_there}
+use Rattle.fl_arena.proofs.CursorLemmas.{is_at, slot_there, length-entries}
 use Rattle.fl_arena.proofs.InsertLemmas.{Spells-insert, entry_in, no_link, unused_slot}
 use Rattle.fl_arena.proofs.RemoveLemmas.{Spells-remove, link_at-remove_above}
 use Rattle.fl_arena.proofs.SetLemmas.{Spells-set}
@@ -22,6 +24,10 @@ use Rattle.fl_arena.proofs.SetLemmas.{Spells-set}
 -- what was read at an index of the ends
 pub end_read : (ends : List Ends) (c : ℕ) (e : Ends) → c < length ends → e ≡ get_or ends c e → slice_get ends c ≡ Some e
 end_read ends c e within read = slice_get_read ends (length ends) c e refl within read
+
+no_items : (T : Type 0) (n : ℕ) → sum_by (λ (es : List (Entry T)). length es) (replicate n []) ≡ 0
+no_items T zero = refl
+no_items T (suc n) = omega (arith, no_items T n, sum_by-cons (λ (es : List (Entry T)). length es) [] (replicate n []))
 
 module _ {T : Type 0} where
   -- the links spell the value that contracts see
@@ -96,3 +102,44 @@ module _ {T : Type 0} where
       let in_chains = place.in_chains in
       let found = slice_get-get_or ends cursor.chain (record { first = None; last = None; len = 0 }) (let chains = h.chains in omega arith) in
       rw (same, named) (Spells-set nodes ends spare free a h cursor.chain cursor.index slot y m there read _ found in_chains)
+
+  empty_at : (nodes : List (Node T)) (n c d : ℕ) (e : Ends) → slice_get (replicate n (record { first = None; last = None; len = 0 })) c ≡ Some e → SpellsChain nodes d e (get_or {A = List (Entry T)} (replicate n []) c [])
+  empty_at nodes zero c d e found = absurd (none-some e found)
+  empty_at nodes (suc n) zero d e found =
+      let same : e ≡ record { first = None; last = None; len = 0 } = let both = sym found in cc in
+      rw same (record { first = refl; last = refl; len = refl; linked = λ i x none. absurd (none-some x none) })
+  empty_at nodes (suc n) (suc c) d e found = empty_at nodes n c d e found
+
+  -- an arena as it is made
+  pub made : (nodes : List (Node T)) (spare : Option ℕ) (slots count : ℕ) → AreFree nodes spare slots → slots ≤ 2 ^ 16 → count ≤ 2 ^ 16 → Spells nodes (replicate count (record { first = None; last = None; len = 0 })) spare slots (record { chains = replicate count []; slots = slots })
+  made nodes spare slots count h few_slots few_chains = record {
+    slots = sym h.len;
+    chains = length-replicate count [] ∙ sym (length-replicate {A = Ends} count (record { first = None; last = None; len = 0 }));
+    each = λ c e found. empty_at nodes count c c e found;
+    owned = λ slot m read. absurd (h.untaken slot m read);
+    free_list = h.free_list;
+    count = let long = h.len in omega (arith, no_items T count);
+    few_nodes = let long = h.len in omega arith;
+    few_chains = omega (arith, length-replicate {A = Ends} count (record { first = None; last = None; len = 0 }))
+  }
+
+
+  -- the first slot of the free list is free
+  pub spare_is_free : (nodes : List (Node T)) (spare : Option ℕ) (free slot : ℕ) → spare ≡ Some slot → SpellsFree nodes spare free → IsSpare nodes slot
+  spare_is_free nodes spare zero slot named h = let none = sym h ∙ named in cc
+  spare_is_free nodes spare (suc free) slot named h =
+      let same : h.0 ≡ slot = let both = sym h.2 ∙ named in cc in
+      (h.1, subst (λ (s : ℕ). slice_get nodes s ≡ Some (Free h.1)) same h.3)
+
+  -- while a slot is free, no chain fills the slots
+  pub room : (nodes : List (Node T)) (ends : List Ends) (spare : Option ℕ) (free : ℕ) (a : Chains T) → Spells nodes ends spare free a → (c : ℕ) (e : Ends) (slot : ℕ) → slice_get ends c ≡ Some e → spare ≡ Some slot → e.len < 65536
+  room nodes ends spare free a h c e slot found named =
+      let some = some_free spare free slot named h.free_list in
+      let long = (h.each c e found).len in
+      let count = h.count in
+      let few = h.few_nodes in
+      omega (arith, length-entries a c)
+    where
+      some_free : (link : Option ℕ) (n t : ℕ) → link ≡ Some t → SpellsFree nodes link n → 0 < n
+      some_free link zero t named p = let none = sym p ∙ named in cc
+      some_free link (suc n) t named p = omega arith

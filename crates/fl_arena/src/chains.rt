@@ -4,7 +4,7 @@ ghost use Rattle.fl_arena.specs.Chains.{entries, items, slot_at, item_count, fre
 ghost use Rattle.fl_arena.specs.Cursors.{cursor_at, IsInPlace, index_of, item_of, with_item, without, Inserts};
 
 use crate::cursors::{Cursor, Full, Place};
-use crate::nodes::{Ends, Member, Node, free_nodes, link_in, link_out, member_at, next_free};
+use crate::nodes::{Ends, Member, Node, free_nodes, link_in, link_out, member_at, next_free, slot_number};
 use std::alloc::{AllocError, Global};
 use std::marker::Model;
 
@@ -179,10 +179,13 @@ impl<T: Copy> Arena<T> {
         ensures { slot_at self.now chain result ≡ Some slot }
     {
         let mut cursor = self.cursor(chain);
-        while cursor.slot.map(usize::from) != Some(slot) {
+        while let Some(found) = cursor.slot {
+            if usize::from(found) == slot {
+                return cursor.index;
+            }
             self.step(&mut cursor);
         }
-        cursor.index
+        unreachable!()
     }
 
     /// The slot of the item at an index of a chain, or none past the last. This walks along the chain.
@@ -194,6 +197,6 @@ impl<T: Copy> Arena<T> {
         while cursor.index < index && cursor.slot.is_some() {
             self.step(&mut cursor);
         }
-        cursor.slot.map(usize::from)
+        slot_number(cursor.slot)
     }
 }

@@ -77,6 +77,12 @@ pub(crate) fn free_nodes<T: Copy>(
     Ok((nodes, spare))
 }
 
+pub(crate) fn slot_number(link: Option<u16>) -> Option<usize>
+    ensures { result ≡ link }
+{
+    link.map(usize::from)
+}
+
 pub(crate) fn member_at<T: Copy>(nodes: &Vec<Node<T>>, slot: u16) -> Member<T>
     requires { IsTaken nodes.now.items slot }
     ensures { slice_get nodes.now.items slot ≡ Some (Node.Taken result) }

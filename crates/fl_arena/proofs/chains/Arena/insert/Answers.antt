@@ -1,29 +1,82 @@
-use Rattle.std.proofs.Common.{◌≡◌, ◌≢◌, ℕ, zero, suc, ◌+◌, ◌-◌, ◌<◌, ◌≤◌, ◌^◌, List, length, set, Option, Some, None, slice_get, refl, sym, ◌∙◌, ap, subst, arith, rules}
-use Rattle.fl_arena.specs.Chains.{Entry, Chains, entries, items, slot_at, item_count}
-use Rattle.fl_arena.specs.Cursors.{cursor_at, IsInPlace, index_of, item_of, with_item, without, Inserts}
-use Rattle.fl_arena.specs.Links.{Spells, spelled, IsTaken, IsSpare, IsWithin}
+use Rattle.std.proofs.Common.{◌≡◌, ◌+◌, ◌-◌, ◌<◌, ℕ, suc, length, Some, None, set, sym, ap, ◌∙◌, subst, slice_get, refl, arith}
+use Rattle.std.specs.List.{insert}
+use Rattle.std.proofs.lemmas.Option.{slice_get_within}
+use Rattle.fl_arena.specs.Chains.{Chains, entries, with_entries}
+use Rattle.fl_arena.specs.Cursors.{cursor_at, index_of, Inserts}
+use Rattle.fl_arena.specs.Links.{Spells, link_at, link_before, IsWithin, SpellsChain}
+use Rattle.fl_arena.proofs.CursorLemmas.{is_taken, slot_there, linked_within, before_within}
+use Rattle.fl_arena.proofs.InsertLemmas.{unused_slot}
+use Rattle.fl_arena.proofs.WalkLemmas.{spelled_is}
+use Rattle.fl_arena.proofs.CallLemmas.{spells_value, spells_own, end_read, inserted, stands, place_before, place_last, spare_is_free, room}
 use Rattle.fl_arena.proofs.chains.Arena.insert.Goals as goal
+use Rattle.fl_arena.proofs.chains.Arena.insert.Goals.{After-next_free-self-inside, After-with, in-Some-slot, in-None}
 
 pub member_at-requires : goal.member_at-requires
-member_at-requires g c = ?
+member_at-requires g c =
+    let spells = spells_value _ _ _ _ _ c.self.invariant c.self.view_is in
+    is_taken _ _ _ _ _ spells _ _ _ (slot_there c.args.self.now c.args.cursor.now _ c.in-Some-slot.is c.requires.in_place)
 
 pub next_free-self-inside-requires : goal.next_free-self-inside-requires
-next_free-self-inside-requires g c = ?
+next_free-self-inside-requires g c =
+    spare_is_free _ _ c.self.inside.free c.in-Some.slot c.in-Some.is c.self.invariant.free_list
+
+-- the place that the links are put in
+placed : (g : _) (c : After-next_free-self-inside g) → (c.match-cursor.previous.0 ≡ link_before (entries c.args.self.now c.args.cursor.now.chain) (index_of c.args.self.now c.args.cursor.now)) × (c.match-cursor.previous.1 ≡ index_of c.args.self.now c.args.cursor.now)
+placed g c =
+    let spells = spells_value _ _ _ _ _ c.self.invariant c.self.view_is in
+    let chains = spells.chains in
+    let in_chains = c.requires.chain in
+    elim c.match-cursor.branch [
+        in-Some-slot w ↦ place_before _ _ _ _ _ spells c.args.cursor.now c.requires.in_place _ _ c.match-cursor.previous w.in-Some-slot.is w.member_at.ensures w.previous-is
+      | in-None w ↦
+          let found = end_read c.self.inside.ends.items c.args.cursor.now.chain c.index-ends.result.now (omega arith) c.index-ends.ensures in
+          place_last _ _ _ _ _ spells c.args.cursor.now c.requires.in_place _ c.match-cursor.previous w.in-None.is found w.previous-is
+    ]
 
 pub link_in-requires-clause-slot : goal.link_in-requires-clause-slot
-link_in-requires-clause-slot g c = ?
+link_in-requires-clause-slot g c = slice_get_within c.self.inside.nodes.items c.in-Some.slot _ c.next_free-self-inside.ensures
 
 pub link_in-requires-clause-before : goal.link_in-requires-clause-before
-link_in-requires-clause-before g c = ?
+link_in-requires-clause-before g c =
+    let spells = spells_value _ _ _ _ _ c.self.invariant c.self.view_is in
+    let here = placed g (goal.at.link_in-requires-clause-before g c).After-next_free-self-inside in
+    rw here.0 (before_within _ _ _ _ _ spells c.args.cursor.now.chain (index_of c.args.self.now c.args.cursor.now))
 
 pub link_in-requires-clause-after : goal.link_in-requires-clause-after
-link_in-requires-clause-after g c = ?
+link_in-requires-clause-after g c =
+    let spells = spells_value _ _ _ _ _ c.self.invariant c.self.view_is in
+    let here = stands _ _ _ _ _ spells c.args.cursor.now c.requires.in_place c.requires.chain in
+    rw here.0 (linked_within _ _ _ _ _ spells c.args.cursor.now.chain (index_of c.args.self.now c.args.cursor.now))
 
 pub with-requires : goal.with-requires
-with-requires g c = ?
+with-requires g c =
+    let spells = spells_value _ _ _ _ _ c.self.invariant c.self.view_is in
+    let found = end_read c.self.inside.ends.items c.args.cursor.now.chain c.index-ends.result.now (let chains = spells.chains in let within = c.requires.chain in omega arith) c.index-ends.ensures in
+    room _ _ _ _ _ spells c.args.cursor.now.chain _ c.in-Some.slot found c.in-Some.is
+
+-- the links once the slot is on its chain
+after : (g : _) (c : After-with g) → c.match-cursor.previous.0 ≡ link_before (entries c.args.self.now c.args.cursor.now.chain) (index_of c.args.self.now c.args.cursor.now) → Spells c.link_in.new.nodes.items (set c.self.inside.ends.items c.args.cursor.now.chain c.with.result) c.next_free-self-inside.result (c.self.inside.free - 1) (with_entries c.args.self.now c.args.cursor.now.chain (insert (entries c.args.self.now c.args.cursor.now.chain) (index_of c.args.self.now c.args.cursor.now) (record { slot = c.in-Some.slot; item = c.args.item })))
+after g c back =
+    let spells = spells_value _ _ _ _ _ c.self.invariant c.self.view_is in
+    let found = end_read c.self.inside.ends.items c.args.cursor.now.chain c.index-ends.result.now (let chains = spells.chains in let within = c.requires.chain in omega arith) c.index-ends.ensures in
+    let here = stands _ _ _ _ _ spells c.args.cursor.now c.requires.in_place c.requires.chain in
+    inserted _ _ _ _ _ _ _ _ _ _ _ _ _ _ (subst (λ l. Spells c.self.inside.nodes.items c.self.inside.ends.items l c.self.inside.free c.args.self.now) c.in-Some.is spells)
+    c.requires.chain here.1 c.next_free-self-inside.ensures found back here.0 c.link_in.ensures c.with.ensures
 
 pub invariant_of-self : goal.invariant_of-self
-invariant_of-self g c = ?
+invariant_of-self g c =
+    let here = placed g (goal.at.invariant_of-self g c).After-next_free-self-inside in
+    spells_own _ _ _ _ _ (after g (goal.at.invariant_of-self g c).After-with here.0)
 
 pub returns-clause-ok : goal.returns-clause-ok
-returns-clause-ok g c = ?
+returns-clause-ok g c =
+    let spells = spells_value _ _ _ _ _ c.self.invariant c.self.view_is in
+    let slots = spells.slots in
+    let here = placed g (goal.at.returns-clause-ok g c).After-next_free-self-inside in
+    record {
+      slot = c.in-Some.slot;
+      in_range = omega (arith, slice_get_within c.self.inside.nodes.items c.in-Some.slot _ c.next_free-self-inside.ensures);
+      was_free = unused_slot _ _ _ _ _ spells c.in-Some.slot _ c.next_free-self-inside.ensures;
+      chains = spelled_is _ _ _ _ _ (after g (goal.at.returns-clause-ok g c).After-with here.0);
+      cursor = ap (λ (i : ℕ). record { chain = c.args.cursor.now.chain; index = i; slot = Some c.in-Some.slot }) here.1
+    }

@@ -7,7 +7,7 @@ use Rattle.fl_arena.proofs.CursorLemmas.{IsAt, is_at, is_taken, slot_there, link
 use Rattle.fl_arena.proofs.WalkLemmas.{spelled_is}
 use Rattle.fl_arena.proofs.CallLemmas.{spells_value, spells_own, end_read, removed, cursor_after}
 use Rattle.fl_arena.proofs.chains.Arena.remove.Goals as goal
-use Rattle.fl_arena.proofs.chains.Arena.remove.Goals.{After-link_out, After-result-1}
+use Rattle.fl_arena.proofs.chains.Arena.remove.Goals.{After-without}
 
 pub member_at-member-requires : goal.member_at-member-requires
 member_at-member-requires g c =
@@ -45,7 +45,7 @@ without-requires g c =
     omega arith
 
 -- the links once the slot is off its chain
-after : (g : _) (c : After-result-1 g) → Spells c.link_out.new.nodes.items (set c.self.inside.ends.items c.args.cursor.now.chain c.without.result) (Some c.in-Some.slot) (c.self.inside.free + 1) (with_entries c.args.self.now c.args.cursor.now.chain (remove (entries c.args.self.now c.args.cursor.now.chain) c.args.cursor.now.index))
+after : (g : _) (c : After-without g) → Spells c.link_out.new.nodes.items (set c.self.inside.ends.items c.args.cursor.now.chain c.without.result) (Some c.in-Some.slot) (c.self.inside.free + 1) (with_entries c.args.self.now c.args.cursor.now.chain (remove (entries c.args.self.now c.args.cursor.now.chain) c.args.cursor.now.index))
 after g c =
     let spells = spells_value _ _ _ _ _ c.self.invariant c.self.view_is in
     let there = slot_there c.args.self.now c.args.cursor.now _ c.in-Some.is c.requires.in_place in
@@ -54,7 +54,7 @@ after g c =
     removed _ _ _ _ _ _ _ _ _ _ _ _ _ spells there at.in_nodes at.in_chains at.in_chain found at.previous at.next c.link_out.ensures c.without.ensures
 
 pub invariant_of-self : goal.invariant_of-self
-invariant_of-self g c = spells_own _ _ _ _ _ (after g c)
+invariant_of-self g c = spells_own _ _ _ _ _ (after g (goal.at.invariant_of-self g c).After-without)
 
 pub returns-clause-value : goal.returns-clause-value
 returns-clause-value g c =
@@ -63,7 +63,7 @@ returns-clause-value g c =
     (is_at _ _ _ _ _ spells _ _ _ c.member_at-member.result there c.member_at-member.ensures).item
 
 pub returns-clause-chains : goal.returns-clause-chains
-returns-clause-chains g c = spelled_is _ _ _ _ _ (after g c)
+returns-clause-chains g c = spelled_is _ _ _ _ _ (after g (goal.at.returns-clause-chains g c).After-without)
 
 pub returns-clause-cursor : goal.returns-clause-cursor
 returns-clause-cursor g c =
@@ -71,4 +71,4 @@ returns-clause-cursor g c =
     let there = slot_there c.args.self.now c.args.cursor.now _ c.in-Some.is c.requires.in_place in
     let at = is_at _ _ _ _ _ spells _ _ _ c.member_at-member.result there c.member_at-member.ensures in
     cursor_after c.args.self.now c.args.cursor.now.chain c.args.cursor.now.index c.member_at-member.result.next at.in_chains at.next
-    ∙ ap (λ x. cursor_at x c.args.cursor.now.chain c.args.cursor.now.index) (sym (spelled_is _ _ _ _ _ (after g c)))
+    ∙ ap (λ x. cursor_at x c.args.cursor.now.chain c.args.cursor.now.index) (sym (spelled_is _ _ _ _ _ (after g (goal.at.returns-clause-cursor g c).After-without)))
