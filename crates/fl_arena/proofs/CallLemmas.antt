@@ -17,7 +17,7 @@ use Rattle.fl_arena.proofs.ChainLaws.{entries-with_same}
 use Rattle.fl_arena.proofs.PlaceLemmas.{linked_at}
 use Rattle.fl_arena.proofs.WalkLemmas.{spelled_is}
 use Rattle.fl_arena.proofs.CursorLemmas.{is_at, slot_there, length-entries}
-use Rattle.fl_arena.proofs.InsertLemmas.{Spells-insert, entry_in, no_link, unused_slot}
+use Rattle.fl_arena.proofs.InsertLemmas.{Spells-insert, no_link, link_at-insert_at}
 use Rattle.fl_arena.proofs.RemoveLemmas.{Spells-remove, link_at-remove_above}
 use Rattle.fl_arena.proofs.SetLemmas.{Spells-set}
 
@@ -143,3 +143,10 @@ module _ {T : Type 0} where
       some_free : (link : Option ℕ) (n t : ℕ) → link ≡ Some t → SpellsFree nodes link n → 0 < n
       some_free link zero t named p = let none = sym p ∙ named in cc
       some_free link (suc n) t named p = omega arith
+
+  -- the cursor after an insert stands at the new entry
+  pub cursor_at_new : (a : Chains T) (c i : ℕ) (e : Entry T) → c < length a.chains → i ≤ length (entries a c) → record { chain = c; index = i; slot = Some e.slot } ≡ cursor_at (with_entries a c (insert (entries a c) i e)) c i
+  cursor_at_new a c i e in_chains within =
+      let same : entries (with_entries a c (insert (entries a c) i e)) c ≡ insert (entries a c) i e = entries-with_same a c (insert (entries a c) i e) in_chains in
+      let slot : Some e.slot ≡ slot_at (with_entries a c (insert (entries a c) i e)) c i = sym (link_at-insert_at (entries a c) i e within) ∙ ap (λ (es : List (Entry T)). link_at es i) (sym same) in
+      ap (λ (l : Option ℕ). record { chain = c; index = i; slot = l }) slot

@@ -10,6 +10,8 @@ use Rattle.fl_arena.specs.declared.nodes.Node.{Node}
 use Rattle.fl_arena.specs.declared.nodes.Node.TheVariants.{Free, Taken}
 use Rattle.fl_arena.specs.declared.nodes.Member.{Member}
 use Rattle.fl_arena.specs.declared.nodes.Ends.{Ends}
+use Rattle.fl_arena.specs.declared.cursors.Place.TheVariants as Place
+use Rattle.fl_arena.specs.declared.cursors.Place.TheVariants.{On}
 
 some_inside : {A B : Type 0} (o : Option A) (f : A → B) (y : B) → option_map f o ≡ Some y → (x : A) × (o ≡ Some x) × (f x ≡ y)
 some_inside None f y h = absurd (none-some y h)
@@ -88,3 +90,19 @@ module _ {T : Type 0} where
       let there : link_at (entries a c) i ≡ Some before.0.slot = ap (option_map (λ (e : Entry T). e.slot)) before.1 in
       let earlier = same_place nodes ends spare free a h c d before.0.slot i j there (sym links ∙ there) in
       (earlier.0, ap suc earlier.1)
+
+  -- a free slot is on no chain
+  pub place_free : (nodes : List (Node T)) (ends : List Ends) (spare : Option ℕ) (free : ℕ) (a : Chains T) → Spells nodes ends spare free a → (slot : ℕ) (next : Option ℕ) → slice_get nodes slot ≡ Some (Free next) → (c i : ℕ) → (Place.Free ≡ On c i → slot_at a c i ≡ Some slot) × (slot_at a c i ≡ Some slot → Place.Free ≡ On c i)
+  place_free nodes ends spare free a h slot next read c i =
+      (λ same. cc, λ there. let clash = sym read ∙ (linked_at nodes ends spare free a h c i slot there).linked in cc)
+
+  -- a slot on a chain is at that place and at no other
+  pub place_on : (nodes : List (Node T)) (ends : List Ends) (spare : Option ℕ) (free : ℕ) (a : Chains T) → Spells nodes ends spare free a → (slot d j : ℕ) → slot_at a d j ≡ Some slot → (c i : ℕ) → (On d j ≡ On c i → slot_at a c i ≡ Some slot) × (slot_at a c i ≡ Some slot → On d j ≡ On c i)
+  place_on nodes ends spare free a h slot d j here c i =
+      (λ same.
+        let chains : d ≡ c = cc in
+        let indexes : j ≡ i = cc in
+        rw (← chains, ← indexes) here,
+       λ there.
+        let both = same_place nodes ends spare free a h d c slot j i here there in
+        ap (λ (k : ℕ). On k j) both.0 ∙ ap (λ (k : ℕ). On c k) both.1)

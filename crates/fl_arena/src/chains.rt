@@ -66,7 +66,8 @@ impl<T: Copy> Arena<T> {
     /// The item at the cursor, or none at the end.
     pub fn get(&self, cursor: &Cursor) -> Option<T>
         requires { IsInPlace self.now cursor.now }
-        ensures { result ≡ item_of self.now cursor.now }
+        ensures item { result ≡ item_of self.now cursor.now }
+        ensures at_index { (i : ℕ) → cursor.now ≡ cursor_at self.now cursor.now.chain i → result ≡ slice_get (items self.now cursor.now.chain) i }
     {
         let slot = cursor.slot?;
         Some(member_at(&self.nodes, slot).item)
@@ -88,7 +89,9 @@ impl<T: Copy> Arena<T> {
     pub fn set(&mut self, cursor: &Cursor, item: T)
         requires at_item { IsSome cursor.now.slot }
         requires in_place { IsInPlace self.old cursor.now }
-        ensures { self.new ≡ with_item self.old cursor.now item }
+        ensures chains { self.new ≡ with_item self.old cursor.now item }
+        ensures items { items self.new cursor.now.chain ≡ slice_set (items self.old cursor.now.chain) cursor.now.index item }
+        ensures others { (c : ℕ) → c ≢ cursor.now.chain → entries self.new c ≡ entries self.old c }
     {
         let Some(slot) = cursor.slot else {
             unreachable!()
@@ -104,6 +107,8 @@ impl<T: Copy> Arena<T> {
         requires in_place { IsInPlace self.old cursor.old }
         ensures value { slice_get (items self.old cursor.old.chain) cursor.old.index ≡ Some result }
         ensures chains { self.new ≡ without self.old cursor.old.chain cursor.old.index }
+        ensures items { items self.new cursor.old.chain ≡ remove (items self.old cursor.old.chain) cursor.old.index }
+        ensures others { (c : ℕ) → c ≢ cursor.old.chain → entries self.new c ≡ entries self.old c }
         ensures cursor { cursor.new ≡ cursor_at self.new cursor.old.chain cursor.old.index }
     {
         let Some(slot) = cursor.slot else {
@@ -126,6 +131,9 @@ impl<T: Copy> Arena<T> {
         requires in_place { IsInPlace self.old cursor.old }
         ensures full { IsErr result ↔ (free_count self.old ≡ 0) }
         ensures ok { OnOk result (Inserts self.old self.new cursor.old cursor.new item) }
+        ensures items { OnOk result (items self.new cursor.old.chain ≡ insert (items self.old cursor.old.chain) (index_of self.old cursor.old) item) }
+        ensures others { (c : ℕ) → c ≢ cursor.old.chain → entries self.new c ≡ entries self.old c }
+        ensures cursor { OnOk result (cursor.new ≡ cursor_at self.new cursor.old.chain (index_of self.old cursor.old)) }
         ensures err { OnErr result (self.new ≡ self.old) }
         ensures err_cursor { OnErr result (cursor.new ≡ cursor.old) }
     {

@@ -1,13 +1,14 @@
 use Rattle.std.proofs.Common.{◌≡◌, ◌+◌, ◌-◌, ◌<◌, ℕ, suc, length, Some, None, set, sym, ap, ◌∙◌, subst, slice_get, refl, arith}
 use Rattle.std.specs.List.{insert}
 use Rattle.std.proofs.lemmas.Option.{slice_get_within}
-use Rattle.fl_arena.specs.Chains.{Chains, entries, with_entries}
+use Rattle.fl_arena.specs.Chains.{Chains, entries, items, with_entries}
 use Rattle.fl_arena.specs.Cursors.{cursor_at, index_of, Inserts}
 use Rattle.fl_arena.specs.Links.{Spells, link_at, link_before, IsWithin, SpellsChain}
+use Rattle.fl_arena.proofs.ChainLaws.{items-insert, entries-with_other}
 use Rattle.fl_arena.proofs.CursorLemmas.{is_taken, slot_there, linked_within, before_within}
 use Rattle.fl_arena.proofs.InsertLemmas.{unused_slot}
 use Rattle.fl_arena.proofs.WalkLemmas.{spelled_is}
-use Rattle.fl_arena.proofs.CallLemmas.{spells_value, spells_own, end_read, inserted, stands, place_before, place_last, spare_is_free, room}
+use Rattle.fl_arena.proofs.CallLemmas.{spells_value, spells_own, end_read, inserted, stands, place_before, place_last, spare_is_free, room, cursor_at_new}
 use Rattle.fl_arena.proofs.chains.Arena.insert.Goals as goal
 use Rattle.fl_arena.proofs.chains.Arena.insert.Goals.{After-next_free-self-inside, After-with, in-Some-slot, in-None}
 
@@ -80,3 +81,24 @@ returns-clause-ok g c =
       chains = spelled_is _ _ _ _ _ (after g (goal.at.returns-clause-ok g c).After-with here.0);
       cursor = ap (λ (i : ℕ). record { chain = c.args.cursor.now.chain; index = i; slot = Some c.in-Some.slot }) here.1
     }
+
+pub returns-clause-items : goal.returns-clause-items
+returns-clause-items g c =
+    let here = placed g (goal.at.returns-clause-items g c).After-next_free-self-inside in
+    ap (λ x. items x c.args.cursor.now.chain) (spelled_is _ _ _ _ _ (after g (goal.at.returns-clause-items g c).After-with here.0))
+    ∙ items-insert c.args.self.now c.args.cursor.now.chain (index_of c.args.self.now c.args.cursor.now) (record { slot = c.in-Some.slot; item = c.args.item }) c.requires.chain
+
+pub returns-clause-others : goal.returns-clause-others
+returns-clause-others g c d apart =
+    let here = placed g (goal.at.returns-clause-others g c).After-next_free-self-inside in
+    ap (λ x. entries x d) (spelled_is _ _ _ _ _ (after g (goal.at.returns-clause-others g c).After-with here.0))
+    ∙ entries-with_other c.args.self.now c.args.cursor.now.chain d (insert (entries c.args.self.now c.args.cursor.now.chain) (index_of c.args.self.now c.args.cursor.now) (record { slot = c.in-Some.slot; item = c.args.item })) apart
+
+pub returns-clause-cursor : goal.returns-clause-cursor
+returns-clause-cursor g c =
+    let spells = spells_value _ _ _ _ _ c.self.invariant c.self.view_is in
+    let within = (stands _ _ _ _ _ spells c.args.cursor.now c.requires.in_place c.requires.chain).1 in
+    let here = placed g (goal.at.returns-clause-cursor g c).After-next_free-self-inside in
+    ap (λ (i : ℕ). record { chain = c.args.cursor.now.chain; index = i; slot = Some c.in-Some.slot }) here.1
+    ∙ (cursor_at_new c.args.self.now c.args.cursor.now.chain (index_of c.args.self.now c.args.cursor.now) (record { slot = c.in-Some.slot; item = c.args.item }) c.requires.chain within
+    ∙ ap (λ x. cursor_at x c.args.cursor.now.chain (index_of c.args.self.now c.args.cursor.now)) (sym (spelled_is _ _ _ _ _ (after g (goal.at.returns-clause-cursor g c).After-with here.0))))

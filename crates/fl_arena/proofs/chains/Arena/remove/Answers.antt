@@ -1,8 +1,9 @@
 use Rattle.std.proofs.Common.{◌≡◌, ◌+◌, ◌<◌, ℕ, suc, length, Some, None, set, sym, ap, ◌∙◌, subst, slice_get, arith}
 use Rattle.std.specs.List.{remove}
-use Rattle.fl_arena.specs.Chains.{Chains, entries, with_entries}
+use Rattle.fl_arena.specs.Chains.{Chains, entries, items, with_entries}
 use Rattle.fl_arena.specs.Cursors.{cursor_at}
 use Rattle.fl_arena.specs.Links.{Spells, link_at, IsWithin, SpellsChain}
+use Rattle.fl_arena.proofs.ChainLaws.{items-remove, entries-with_other}
 use Rattle.fl_arena.proofs.CursorLemmas.{IsAt, is_at, is_taken, slot_there, linked_within, before_within}
 use Rattle.fl_arena.proofs.WalkLemmas.{spelled_is}
 use Rattle.fl_arena.proofs.CallLemmas.{spells_value, spells_own, end_read, removed, cursor_after}
@@ -72,3 +73,16 @@ returns-clause-cursor g c =
     let at = is_at _ _ _ _ _ spells _ _ _ c.member_at-member.result there c.member_at-member.ensures in
     cursor_after c.args.self.now c.args.cursor.now.chain c.args.cursor.now.index c.member_at-member.result.next at.in_chains at.next
     ∙ ap (λ x. cursor_at x c.args.cursor.now.chain c.args.cursor.now.index) (sym (spelled_is _ _ _ _ _ (after g (goal.at.returns-clause-cursor g c).After-without)))
+
+pub returns-clause-items : goal.returns-clause-items
+returns-clause-items g c =
+    let spells = spells_value _ _ _ _ _ c.self.invariant c.self.view_is in
+    let there = slot_there c.args.self.now c.args.cursor.now _ c.in-Some.is c.requires.in_place in
+    let at = is_at _ _ _ _ _ spells _ _ _ c.member_at-member.result there c.member_at-member.ensures in
+    ap (λ x. items x c.args.cursor.now.chain) (spelled_is _ _ _ _ _ (after g (goal.at.returns-clause-items g c).After-without))
+    ∙ items-remove c.args.self.now c.args.cursor.now.chain c.args.cursor.now.index at.in_chains
+
+pub returns-clause-others : goal.returns-clause-others
+returns-clause-others g c d apart =
+    ap (λ x. entries x d) (spelled_is _ _ _ _ _ (after g (goal.at.returns-clause-others g c).After-without))
+    ∙ entries-with_other c.args.self.now c.args.cursor.now.chain d (remove (entries c.args.self.now c.args.cursor.now.chain) c.args.cursor.now.index) apart
