@@ -1,5 +1,5 @@
 -- Each call of the arena, from what it read to what it wrote.
-use Rattle.std.proofs.Common.{◌≡◌, ◌≢◌, ℕ, zero, suc, ◌+◌, ◌-◌, ◌<◌, ◌≤◌, ◌^◌, List, [], ◌∷◌, map, length, set, get_or, replicate, sum_by, unwrap_or, Option, Some, None, is_some, if◌then◌else◌, slice_get, refl, sym, ◌∙◌, ap, subst, inl, inr, arith, add-one}
+use Rattle.std.proofs.Common.{◌≡◌, ◌≢◌, ℕ, zero, suc, ◌+◌, ◌-◌, ◌<◌, ◌≤◌, ◌^◌, List, [], ◌∷◌, map, length, set, get_or, replicate, sum_by, unwrap_or, IfSome, Option, Some, None, is_some, if◌then◌else◌, slice_get, refl, sym, ◌∙◌, ap, subst, inl, inr, arith, add-one}
 use Rattle.std.specs.List.{insert, remove}
 use Rattle.std.specs.Option.{option_map}
 use Rattle.std.proofs.lemmas.List.{length-replicate}
@@ -16,7 +16,7 @@ use Rattle.fl_arena.specs.declared.nodes.Ends.{Ends}
 use Rattle.fl_arena.proofs.ChainLaws.{entries-with_same}
 use Rattle.fl_arena.proofs.PlaceLemmas.{linked_at}
 use Rattle.fl_arena.proofs.WalkLemmas.{spelled_is}
-use Rattle.fl_arena.proofs.CursorLemmas.{is_at, slot_there, length-entries}
+use Rattle.fl_arena.proofs.CursorLemmas.{is_at, slot_there, length-entries, linked_within}
 use Rattle.fl_arena.proofs.InsertLemmas.{Spells-insert, no_link, link_at-insert_at}
 use Rattle.fl_arena.proofs.RemoveLemmas.{Spells-remove, link_at-remove_above}
 use Rattle.fl_arena.proofs.SetLemmas.{Spells-set}
@@ -150,3 +150,7 @@ module _ {T : Type 0} where
       let same : entries (with_entries a c (insert (entries a c) i e)) c ≡ insert (entries a c) i e = entries-with_same a c (insert (entries a c) i e) in_chains in
       let slot : Some e.slot ≡ slot_at (with_entries a c (insert (entries a c) i e)) c i = sym (link_at-insert_at (entries a c) i e within) ∙ ap (λ (es : List (Entry T)). link_at es i) (sym same) in
       ap (λ (l : Option ℕ). record { chain = c; index = i; slot = l }) slot
+
+  -- a link of a chain names a slot of the arena
+  pub within_slots : (nodes : List (Node T)) (ends : List Ends) (spare : Option ℕ) (free : ℕ) (a : Chains T) → Spells nodes ends spare free a → (c i : ℕ) (link : Option ℕ) → link ≡ slot_at a c i → IfSome link (λ slot. slot < a.slots)
+  within_slots nodes ends spare free a h c i link e = rw (e, h.slots) (linked_within nodes ends spare free a h c i)

@@ -3,11 +3,11 @@
 use Rattle.std.proofs.Common.{◌≡◌, ◌≢◌, ℕ, ◌+◌, ◌<◌, List, [], length, set, get_or, sum_by, map, take, drop, zero, suc, inl, inr, ◌≤◌, ◌++◌, ◌∷◌, ◌∙◌, Option, Some, None, slice_get, refl, sym, ap, arith}
 use Rattle.std.specs.List.{insert, remove}
 use Rattle.std.specs.Option.{option_map}
-use Rattle.std.proofs.lemmas.List.{get_or-set_same, get_or-set_other, map-append, take-map, drop-map, map-set, length-map}
+use Rattle.std.proofs.lemmas.List.{length-set, get_or-set_same, get_or-set_other, map-append, take-map, drop-map, map-set, length-map}
 use Rattle.std.proofs.lemmas.Option.{slice_get-get_or, slice_get_past, slice_get-map}
 use Rattle.std.proofs.lemmas.Bool.{cases_lt}
 use Rattle.std.proofs.lemmas.List.Sums.{sum_by-set}
-use Rattle.fl_arena.specs.Chains.{Entry, Chains, entries, items, slot_at, item_count, with_entries}
+use Rattle.fl_arena.specs.Chains.{Entry, Chains, entries, items, slot_at, item_count, with_entries, HasSizeOf}
 use Rattle.fl_arena.specs.Cursors.{cursor_at, index_of, item_of}
 
 map-insert : {A B : Type 0} (f : A → B) (xs : List A) (i : ℕ) (x : A) → map f (insert xs i x) ≡ insert (map f xs) i (f x)
@@ -82,3 +82,7 @@ module _ {T : Type 0} where
             rw (ap (option_map (λ (x : Entry T). x.slot)) none)
             (sym (slice_get-map (λ (x : Entry T). x.item) (entries a c) i ∙ ap (option_map (λ (x : Entry T). x.item)) none))
       ]
+
+  -- with other entries in one chain there are as many chains and slots
+  pub HasSizeOf-with : (a new : Chains T) (c : ℕ) (es : List (Entry T)) → new ≡ with_entries a c es → HasSizeOf a new
+  HasSizeOf-with a new c es e = rw e (record { chains = length-set a.chains c es; slots = refl })

@@ -41,3 +41,8 @@ module _ {T : Type 0} where
   -- how many slots are left
   abbrev pub free_count : Chains T → ℕ
   free_count a = a.slots - item_count a
+
+  -- there are as many chains and as many slots
+  pub record HasSizeOf (old new : Chains T) : Type 0 where
+    pub chains : length new.chains ≡ length old.chains
+    pub slots : new.slots ≡ old.slots

@@ -1,6 +1,6 @@
 //! The arena.
-ghost use Rattle.std.specs.Prelude.{◌≡◌, ◌≢◌, ◌↔◌, ◌+◌, ◌<◌, ◌≤◌, ◌^◌, ℕ, [], length, replicate, insert, remove, slice_get, slice_set, Some, IsSome, IsNone, IsErr, OnOk, OnErr, IfOk};
-ghost use Rattle.fl_arena.specs.Chains.{entries, items, slot_at, item_count, free_count};
+ghost use Rattle.std.specs.Prelude.{◌≡◌, ◌≢◌, ◌↔◌, ◌+◌, ◌<◌, ◌≤◌, ◌^◌, ℕ, [], length, replicate, insert, remove, slice_get, slice_set, Some, IsSome, IsNone, IsErr, OnOk, OnErr, IfOk, IfSome};
+ghost use Rattle.fl_arena.specs.Chains.{entries, items, slot_at, item_count, free_count, HasSizeOf};
 ghost use Rattle.fl_arena.specs.Cursors.{cursor_at, IsInPlace, index_of, item_of, with_item, without, Inserts};
 
 use crate::cursors::{Cursor, Full, Place};
@@ -54,7 +54,8 @@ impl<T: Copy> Arena<T> {
     /// The cursor at the first item of the chain, or at its end.
     pub fn cursor(&self, chain: usize) -> Cursor
         requires { chain < length self.now.chains }
-        ensures { result ≡ cursor_at self.now chain 0 }
+        ensures first { result ≡ cursor_at self.now chain 0 }
+        ensures in_range { IfSome result.slot (λ slot. slot < self.now.slots) }
     {
         Cursor {
             chain,
@@ -78,6 +79,7 @@ impl<T: Copy> Arena<T> {
         requires { IsInPlace self.now cursor.old }
         ensures on { IsSome cursor.old.slot → cursor.new ≡ cursor_at self.now cursor.old.chain (cursor.old.index + 1) }
         ensures stays { IsNone cursor.old.slot → cursor.new ≡ cursor.old }
+        ensures in_range { IfSome cursor.new.slot (λ slot. slot < self.now.slots) }
     {
         if let Some(slot) = cursor.slot {
             cursor.index += 1;
@@ -92,6 +94,7 @@ impl<T: Copy> Arena<T> {
         ensures chains { self.new ≡ with_item self.old cursor.now item }
         ensures items { items self.new cursor.now.chain ≡ slice_set (items self.old cursor.now.chain) cursor.now.index item }
         ensures others { (c : ℕ) → c ≢ cursor.now.chain → entries self.new c ≡ entries self.old c }
+        ensures size { HasSizeOf self.old self.new }
     {
         let Some(slot) = cursor.slot else {
             unreachable!()
@@ -109,6 +112,7 @@ impl<T: Copy> Arena<T> {
         ensures chains { self.new ≡ without self.old cursor.old.chain cursor.old.index }
         ensures items { items self.new cursor.old.chain ≡ remove (items self.old cursor.old.chain) cursor.old.index }
         ensures others { (c : ℕ) → c ≢ cursor.old.chain → entries self.new c ≡ entries self.old c }
+        ensures size { HasSizeOf self.old self.new }
         ensures cursor { cursor.new ≡ cursor_at self.new cursor.old.chain cursor.old.index }
     {
         let Some(slot) = cursor.slot else {
@@ -133,6 +137,7 @@ impl<T: Copy> Arena<T> {
         ensures ok { OnOk result (Inserts self.old self.new cursor.old cursor.new item) }
         ensures items { OnOk result (items self.new cursor.old.chain ≡ insert (items self.old cursor.old.chain) (index_of self.old cursor.old) item) }
         ensures others { (c : ℕ) → c ≢ cursor.old.chain → entries self.new c ≡ entries self.old c }
+        ensures size { HasSizeOf self.old self.new }
         ensures cursor { OnOk result (cursor.new ≡ cursor_at self.new cursor.old.chain (index_of self.old cursor.old)) }
         ensures err { OnErr result (self.new ≡ self.old) }
         ensures err_cursor { OnErr result (cursor.new ≡ cursor.old) }
@@ -199,7 +204,8 @@ impl<T: Copy> Arena<T> {
     /// The slot of the item at an index of a chain, or none past the last. This walks along the chain.
     pub fn slot_at(&self, chain: usize, index: usize) -> Option<usize>
         requires { chain < length self.now.chains }
-        ensures { result ≡ slot_at self.now chain index }
+        ensures slot { result ≡ slot_at self.now chain index }
+        ensures in_range { IfSome result (λ slot. slot < self.now.slots) }
     {
         let mut cursor = self.cursor(chain);
         while cursor.index < index && cursor.slot.is_some() {

@@ -4,7 +4,7 @@ use Rattle.std.proofs.lemmas.Option.{slice_get_within}
 use Rattle.fl_arena.specs.Chains.{Chains, entries, items, with_entries}
 use Rattle.fl_arena.specs.Cursors.{cursor_at, index_of, Inserts}
 use Rattle.fl_arena.specs.Links.{Spells, link_at, link_before, IsWithin, SpellsChain}
-use Rattle.fl_arena.proofs.ChainLaws.{items-insert, entries-with_other}
+use Rattle.fl_arena.proofs.ChainLaws.{HasSizeOf-with, items-insert, entries-with_other}
 use Rattle.fl_arena.proofs.CursorLemmas.{is_taken, slot_there, linked_within, before_within}
 use Rattle.fl_arena.proofs.InsertLemmas.{unused_slot}
 use Rattle.fl_arena.proofs.WalkLemmas.{spelled_is}
@@ -102,3 +102,8 @@ returns-clause-cursor g c =
     ap (λ (i : ℕ). record { chain = c.args.cursor.now.chain; index = i; slot = Some c.in-Some.slot }) here.1
     ∙ (cursor_at_new c.args.self.now c.args.cursor.now.chain (index_of c.args.self.now c.args.cursor.now) (record { slot = c.in-Some.slot; item = c.args.item }) c.requires.chain within
     ∙ ap (λ x. cursor_at x c.args.cursor.now.chain (index_of c.args.self.now c.args.cursor.now)) (sym (spelled_is _ _ _ _ _ (after g (goal.at.returns-clause-cursor g c).After-with here.0))))
+
+pub returns-clause-size : goal.returns-clause-size
+returns-clause-size g c =
+    let here = placed g (goal.at.returns-clause-size g c).After-next_free-self-inside in
+    HasSizeOf-with c.args.self.now _ c.args.cursor.now.chain _ (spelled_is _ _ _ _ _ (after g (goal.at.returns-clause-size g c).After-with here.0))

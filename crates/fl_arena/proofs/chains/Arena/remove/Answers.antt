@@ -3,7 +3,7 @@ use Rattle.std.specs.List.{remove}
 use Rattle.fl_arena.specs.Chains.{Chains, entries, items, with_entries}
 use Rattle.fl_arena.specs.Cursors.{cursor_at}
 use Rattle.fl_arena.specs.Links.{Spells, link_at, IsWithin, SpellsChain}
-use Rattle.fl_arena.proofs.ChainLaws.{items-remove, entries-with_other}
+use Rattle.fl_arena.proofs.ChainLaws.{HasSizeOf-with, items-remove, entries-with_other}
 use Rattle.fl_arena.proofs.CursorLemmas.{IsAt, is_at, is_taken, slot_there, linked_within, before_within}
 use Rattle.fl_arena.proofs.WalkLemmas.{spelled_is}
 use Rattle.fl_arena.proofs.CallLemmas.{spells_value, spells_own, end_read, removed, cursor_after}
@@ -86,3 +86,7 @@ pub returns-clause-others : goal.returns-clause-others
 returns-clause-others g c d apart =
     ap (λ x. entries x d) (spelled_is _ _ _ _ _ (after g (goal.at.returns-clause-others g c).After-without))
     ∙ entries-with_other c.args.self.now c.args.cursor.now.chain d (remove (entries c.args.self.now c.args.cursor.now.chain) c.args.cursor.now.index) apart
+
+pub returns-clause-size : goal.returns-clause-size
+returns-clause-size g c =
+    HasSizeOf-with c.args.self.now _ c.args.cursor.now.chain _ (spelled_is _ _ _ _ _ (after g (goal.at.returns-clause-size g c).After-without))

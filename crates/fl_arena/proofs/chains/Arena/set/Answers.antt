@@ -1,6 +1,6 @@
 use Rattle.std.proofs.Common.{◌≡◌, ◌∙◌, Some, set, unwrap_or, sym, ap, arith}
 use Rattle.fl_arena.specs.Chains.{entries, items}
-use Rattle.fl_arena.proofs.ChainLaws.{items-set, entries-with_other}
+use Rattle.fl_arena.proofs.ChainLaws.{HasSizeOf-with, items-set, entries-with_other}
 use Rattle.fl_arena.proofs.CursorLemmas.{is_at, is_taken, slot_there}
 use Rattle.fl_arena.proofs.WalkLemmas.{spelled_is}
 use Rattle.fl_arena.proofs.CallLemmas.{spells_value, spells_own, changed}
@@ -44,3 +44,9 @@ returns-clause-others g c d apart =
     let now = spelled_is _ _ _ _ _ (changed _ _ _ _ _ c.args.cursor.now c.in-Some.slot c.from.result c.args.item c.member_at-member.result spells c.requires.in_place c.in-Some.is c.member_at-member.ensures c.from.ensures) in
     ap (λ x. entries x d) now
     ∙ entries-with_other c.args.self.now c.args.cursor.now.chain d (set (entries c.args.self.now c.args.cursor.now.chain) c.args.cursor.now.index (record { slot = unwrap_or c.args.cursor.now.slot 0; item = c.args.item })) apart
+
+pub returns-clause-size : goal.returns-clause-size
+returns-clause-size g c =
+    let spells = spells_value _ _ _ _ _ c.self.invariant c.self.view_is in
+    HasSizeOf-with c.args.self.now _ c.args.cursor.now.chain _
+    (spelled_is _ _ _ _ _ (changed _ _ _ _ _ c.args.cursor.now c.in-Some.slot c.from.result c.args.item c.member_at-member.result spells c.requires.in_place c.in-Some.is c.member_at-member.ensures c.from.ensures))
