@@ -9,6 +9,7 @@ use Rattle.std.proofs.lemmas.Bool.{cases_lt}
 use Rattle.std.proofs.lemmas.List.Sums.{sum_by-set}
 use Rattle.fl_arena.specs.Chains.{Entry, Chains, entries, items, slot_at, item_count, with_entries, HasSizeOf}
 use Rattle.fl_arena.specs.Cursors.{cursor_at, index_of, item_of}
+use Rattle.fl_arena.specs.declared.cursors.Cursor.{Cursor}
 
 map-insert : {A B : Type 0} (f : A → B) (xs : List A) (i : ℕ) (x : A) → map f (insert xs i x) ≡ insert (map f xs) i (f x)
 map-insert f xs i x =
@@ -86,3 +87,16 @@ module _ {T : Type 0} where
   -- with other entries in one chain there are as many chains and slots
   pub HasSizeOf-with : (a new : Chains T) (c : ℕ) (es : List (Entry T)) → new ≡ with_entries a c es → HasSizeOf a new
   HasSizeOf-with a new c es e = rw e (record { chains = length-set a.chains c es; slots = refl })
+
+  -- a cursor that walks a chain from an index stands at the next one after a step
+  pub stepped_at : (a : Chains T) (c : ℕ) (cursor next : Cursor) → cursor ≡ cursor_at a c cursor.index → next ≡ cursor_at a cursor.chain (cursor.index + 1) → (next ≡ cursor_at a c next.index) × (next.index ≡ cursor.index + 1)
+  stepped_at a c cursor next here on =
+      let chain : cursor.chain ≡ c = ap (λ (x : Cursor). x.chain) here in
+      let there : next ≡ cursor_at a c (cursor.index + 1) = on ∙ ap (λ (d : ℕ). cursor_at a d (cursor.index + 1)) chain in
+      let index : next.index ≡ cursor.index + 1 = ap (λ (x : Cursor). x.index) there in
+      (there ∙ ap (cursor_at a c) (sym index), index)
+
+  -- an insert where such a cursor stands is an insert at its index
+  pub inserted_at : (a : Chains T) (c : ℕ) (cursor : Cursor) → cursor ≡ cursor_at a c cursor.index → cursor.index ≤ length (items a c) → (cursor.chain ≡ c) × (index_of a cursor ≡ cursor.index)
+  inserted_at a c cursor here le =
+      (ap (λ (x : Cursor). x.chain) here, ap (index_of a) here ∙ index_of-at a c cursor.index le)

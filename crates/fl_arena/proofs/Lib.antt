@@ -12,3 +12,4 @@ mod SetLemmas
 mod NodeLemmas
 mod CursorLemmas
 mod CallLemmas
+mod SortedLemmas

@@ -68,7 +68,8 @@ impl<T: Copy> Arena<T> {
     pub fn get(&self, cursor: &Cursor) -> Option<T>
         requires { IsInPlace self.now cursor.now }
         ensures item { result ≡ item_of self.now cursor.now }
-        ensures at_index { (i : ℕ) → cursor.now ≡ cursor_at self.now cursor.now.chain i → result ≡ slice_get (items self.now cursor.now.chain) i }
+        ensures some { IsSome result ↔ IsSome cursor.now.slot }
+        ensures at_index { (c i : ℕ) → cursor.now ≡ cursor_at self.now c i → result ≡ slice_get (items self.now c) i }
     {
         let slot = cursor.slot?;
         Some(member_at(&self.nodes, slot).item)

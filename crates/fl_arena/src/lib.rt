@@ -7,6 +7,8 @@
 mod chains;
 mod cursors;
 mod nodes;
+#[cfg(test)]
+mod tests;
 
 pub use chains::Arena;
 pub use cursors::{Cursor, Full, Place};

@@ -18,8 +18,8 @@ returns-clause-item g c =
     got _ _ _ _ _ spells c.args.cursor.now c.requires _ c.member_at.result named c.member_at.ensures
 
 pub returns-clause-at_index : goal.returns-clause-at_index
-returns-clause-at_index g c i here =
+returns-clause-at_index g c d i here =
     let spells = spells_value _ _ _ _ _ c.self.invariant c.self.view_is in
     let named : c.args.cursor.now.slot ≡ Some c.in_ok-slot.slot = c.in_ok-slot.was in
     got _ _ _ _ _ spells c.args.cursor.now c.requires _ c.member_at.result named c.member_at.ensures
-    ∙ (ap (item_of c.args.self.now) here ∙ item_of-at c.args.self.now c.args.cursor.now.chain i)
+    ∙ (ap (item_of c.args.self.now) here ∙ item_of-at c.args.self.now d i)
