@@ -1,10 +1,10 @@
 -- A change to one chain, put together from what it does to that chain, to the others and to the free list.
-use Rattle.std.proofs.Common.{◌≡◌, ◌≢◌, ℕ, ◌+◌, ◌<◌, ◌≤◌, List, [], length, set, get_or, Option, Some, None, slice_get, refl, sym, ◌∙◌, ap, subst, inl, inr, arith, length-set}
+use Rattle.std.proofs.Common.{◌≡◌, ◌≢◌, ℕ, ◌+◌, ◌<◌, ◌≤◌, List, [], length, set, get_or, count_by, Option, Some, None, slice_get, refl, sym, ◌∙◌, ap, subst, inl, inr, arith, length-set}
 use Rattle.std.specs.Option.{option_map}
 use Rattle.std.proofs.lemmas.Bool.{cases_eq}
 use Rattle.std.proofs.lemmas.Option.{slice_get_within}
 use Rattle.fl_arena.specs.Chains.{Entry, Chains, entries, slot_at, item_count, with_entries}
-use Rattle.fl_arena.specs.Links.{link_at, link_before, member_of, SpellsChain, SpellsFree, IsOnChain, Spells}
+use Rattle.fl_arena.specs.Links.{is_free, link_at, link_before, member_of, SpellsChain, SpellsFree, IsOnChain, Spells}
 use Rattle.fl_arena.specs.declared.nodes.Node.{Node}
 use Rattle.fl_arena.specs.declared.nodes.Node.TheVariants.{Free, Taken}
 use Rattle.fl_arena.specs.declared.nodes.Member.{Member}
@@ -27,13 +27,14 @@ module _ {T : Type 0} where
   chain_kept old new c ends es h reads = record { first = h.first; last = h.last; len = h.len; linked = reads }
 
 module _ {T : Type 0} (nodes : List (Node T)) (ends : List Ends) (spare : Option ℕ) (free : ℕ) (a : Chains T) (h : Spells nodes ends spare free a) (c : ℕ) (within : c < length a.chains) (now : List (Node T)) (end : Ends) (es : List (Entry T)) (link : Option ℕ) (left : ℕ) where
-  pub assembled : length now ≡ length nodes → SpellsChain now c end es → ((d j : ℕ) (x : Entry T) → d ≢ c → slice_get (entries a d) j ≡ Some x → slice_get now x.slot ≡ Some (Taken (member_of d (entries a d) j x))) → ((t : ℕ) (m : Member T) → slice_get now t ≡ Some (Taken m) → IsOnChain (with_entries a c es) t m.chain) → SpellsFree now link left → length es + left ≡ length (entries a c) + free → Spells now (set ends c end) link left (with_entries a c es)
-  assembled same chain others owned list count = record {
+  pub assembled : length now ≡ length nodes → SpellsChain now c end es → ((d j : ℕ) (x : Entry T) → d ≢ c → slice_get (entries a d) j ≡ Some x → slice_get now x.slot ≡ Some (Taken (member_of d (entries a d) j x))) → ((t : ℕ) (m : Member T) → slice_get now t ≡ Some (Taken m) → IsOnChain (with_entries a c es) t m.chain) → SpellsFree now link left → count_by is_free now ≡ left → length es + left ≡ length (entries a c) + free → Spells now (set ends c end) link left (with_entries a c es)
+  assembled same chain others owned list spares count = record {
     slots = h.slots ∙ sym same;
     chains = length-set a.chains c es ∙ (h.chains ∙ sym (length-set ends c end));
     each = each_chain;
     owned = owned;
     free_list = list;
+    free_nodes = spares;
     count = let counted = item_count-with a c es within in let before = h.count in omega arith;
     few_nodes = let few = h.few_nodes in omega arith;
     few_chains = let few = h.few_chains in omega (arith, length-set ends c end)

@@ -118,6 +118,7 @@ module _ {T : Type 0} where
     each = λ c e found. empty_at nodes count c c e found;
     owned = λ slot m read. absurd (h.untaken slot m read);
     free_list = h.free_list;
+    free_nodes = h.counted;
     count = let long = h.len in omega (arith, no_items T count);
     few_nodes = let long = h.len in omega arith;
     few_chains = omega (arith, length-replicate {A = Ends} count (record { first = None; last = None; len = 0 }))

@@ -9,7 +9,7 @@ use Rattle.std.proofs.lemmas.List.Edits.{length-insert}
 use Rattle.std.proofs.lemmas.List.Sums.{sum_by-set}
 use Rattle.std.proofs.lemmas.Option.{slice_get_within, slice_get-get_or, slice_get_past, none-some}
 use Rattle.fl_arena.specs.Chains.{Entry, Chains, entries, slot_at, item_count, with_entries}
-use Rattle.fl_arena.specs.Links.{ends_with, at_link, link_at, link_before, member_of, relinked, SpellsChain, SpellsFree, IsOnChain, Spells}
+use Rattle.fl_arena.specs.Links.{is_free, ends_with, at_link, link_at, link_before, member_of, relinked, SpellsChain, SpellsFree, IsOnChain, Spells}
 use Rattle.fl_arena.specs.declared.nodes.Node.{Node}
 use Rattle.fl_arena.specs.declared.nodes.Node.TheVariants.{Free, Taken}
 use Rattle.fl_arena.specs.declared.nodes.Member.{Member}
@@ -19,6 +19,7 @@ use Rattle.fl_arena.proofs.PlaceLemmas.{linked_at, same_member}
 use Rattle.fl_arena.proofs.AssembleLemmas.{assembled, on_changed, on_other}
 use Rattle.fl_arena.proofs.LinkLemmas.{at_link-same, length-relinked, free_in_relinked}
 use Rattle.fl_arena.proofs.RelinkLemmas.{around, entry_reads, at_other, before_other, elsewhere_reads, owned_before}
+use Rattle.fl_arena.proofs.CountLemmas.{count-set, count-relinked}
 use Rattle.fl_arena.proofs.FreeLemmas.{SpellsFree-rest}
 
 module _ {T : Type 0} where
@@ -199,6 +200,7 @@ module _ {T : Type 0} where
       (other_reads nodes ends (Some slot) free a h c i slot y within unused in_nodes)
       (owned_after nodes ends (Some slot) free a h c i slot y within unused in_nodes in_chains)
       list
+      (let some = rest.0 in let before = h.free_nodes in omega (arith, count-set is_free (relinked nodes (link_before (entries a c) i) (link_at (entries a c) i) (Some slot) (Some slot)) slot (Free next) (node_in c (entries a c) i y) (free_in_relinked nodes (link_before (entries a c) i) (link_at (entries a c) i) (Some slot) (Some slot) slot next read), count-relinked nodes (link_before (entries a c) i) (link_at (entries a c) i) (Some slot) (Some slot)))
       (let some = rest.0 in omega (arith, length-insert (entries a c) i (entry_in slot y) within))
     where
       rest_of : (n : ℕ) → SpellsFree nodes (Some slot) n → (0 < n) × SpellsFree nodes next (n - 1)

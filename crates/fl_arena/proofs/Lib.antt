@@ -13,3 +13,4 @@ mod NodeLemmas
 mod CursorLemmas
 mod CallLemmas
 mod SortedLemmas
+mod CountLemmas

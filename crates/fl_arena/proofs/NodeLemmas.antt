@@ -1,8 +1,9 @@
 -- Writes of one link, and a list of free nodes.
-use Rattle.std.proofs.Common.{◌≡◌, ◌≢◌, ℕ, zero, suc, ◌+◌, ◌<◌, List, [], ◌∷◌, ◌++◌, length, set, get_or, Option, Some, None, slice_get, refl, sym, ◌∙◌, ap, subst, inl, inr, ◌⊎◌, arith, add-one, length-append}
+use Rattle.std.proofs.Common.{◌≡◌, ◌≢◌, ℕ, zero, suc, ◌+◌, ◌<◌, List, [], ◌∷◌, ◌++◌, length, set, get_or, cond, Option, Some, None, slice_get, refl, sym, ◌∙◌, ap, subst, inl, inr, ◌⊎◌, arith, add-one, length-append}
 use Rattle.std.proofs.lemmas.Bool.{cases_lt, cases_eq}
+use Rattle.std.proofs.lemmas.List.Sums.{sum_by_push}
 use Rattle.std.proofs.lemmas.Option.{slice_get_within, slice_get_read, none-some}
-use Rattle.fl_arena.specs.Links.{alter, alter_link, with_next, with_previous, SpellsFree, AreFree, IsWithin}
+use Rattle.fl_arena.specs.Links.{is_free, alter, alter_link, with_next, with_previous, SpellsFree, AreFree, IsWithin}
 use Rattle.fl_arena.specs.declared.nodes.Node.{Node}
 use Rattle.fl_arena.specs.declared.nodes.Node.TheVariants.{Free, Taken}
 use Rattle.fl_arena.specs.declared.nodes.Member.{Member}
@@ -60,6 +61,7 @@ module _ {T : Type 0} where
       rw add-one
       (count, link, refl, rw (← h.len) (slice_get_push nodes (Free link)),
        SpellsFree-kept nodes (nodes ++ Free link ∷ []) (λ slot next was. slice_get-append_left nodes (Free link ∷ []) slot (Free next) was) link count h.free_list);
+    counted = let before = h.counted in omega (arith, sum_by_push (λ (x : Node T). cond (is_free x) 1 0) nodes (Free link));
     untaken = λ slot m now.
       elim (pushed_cases nodes (Free link) slot (Taken m) now) [
           inl was ↦ h.untaken slot m was

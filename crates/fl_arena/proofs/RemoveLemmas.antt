@@ -6,7 +6,7 @@ use Rattle.std.proofs.lemmas.Bool.{cases_lt, cases_eq}
 use Rattle.std.proofs.lemmas.List.Edits.{length-remove}
 use Rattle.std.proofs.lemmas.Option.{slice_get_within, slice_get_past}
 use Rattle.fl_arena.specs.Chains.{Entry, Chains, entries, slot_at, with_entries}
-use Rattle.fl_arena.specs.Links.{ends_without, at_link, link_at, link_before, member_of, relinked, SpellsChain, SpellsFree, IsOnChain, Spells}
+use Rattle.fl_arena.specs.Links.{is_free, ends_without, at_link, link_at, link_before, member_of, relinked, SpellsChain, SpellsFree, IsOnChain, Spells}
 use Rattle.fl_arena.specs.declared.nodes.Node.{Node}
 use Rattle.fl_arena.specs.declared.nodes.Node.TheVariants.{Free, Taken}
 use Rattle.fl_arena.specs.declared.nodes.Member.{Member}
@@ -14,8 +14,9 @@ use Rattle.fl_arena.specs.declared.nodes.Ends.{Ends}
 use Rattle.fl_arena.proofs.ReadLemmas.{slice_get-set_same, slice_get-set_other, slice_get-remove_below, slice_get-remove_above}
 use Rattle.fl_arena.proofs.PlaceLemmas.{linked_at, same_place}
 use Rattle.fl_arena.proofs.AssembleLemmas.{assembled, on_changed, on_other}
-use Rattle.fl_arena.proofs.LinkLemmas.{at_link-same, length-relinked, free_in_relinked}
+use Rattle.fl_arena.proofs.LinkLemmas.{at_link-same, length-relinked, free_in_relinked, taken_in_relinked}
 use Rattle.fl_arena.proofs.RelinkLemmas.{around, entry_reads, at_other, before_other, elsewhere_reads, owned_before}
+use Rattle.fl_arena.proofs.CountLemmas.{count-set, count-relinked}
 use Rattle.fl_arena.proofs.FreeLemmas.{SpellsFree-kept}
 use Rattle.fl_arena.proofs.InsertLemmas.{some_link, no_link}
 
@@ -162,6 +163,7 @@ module _ {T : Type 0} (nodes : List (Node T)) (ends : List Ends) (spare : Option
       (length-set _ slot _ ∙ length-relinked nodes before after before after)
       chain other_reads (owned_after in_nodes in_chains)
       (rw add-one (slot, spare, refl, freed_reads in_nodes, list))
+      (let spares = h.free_nodes in let at = linked_at nodes ends spare free a h c i slot there in omega (arith, count-set is_free (relinked nodes before after before after) slot _ (Free spare) (taken_in_relinked nodes before after before after slot _ at.linked), count-relinked nodes before after before after))
       (omega arith)
     where
       free_kept : (t : ℕ) (link : Option ℕ) → slice_get nodes t ≡ Some (Free link) → slice_get (nodes_without nodes a c i slot spare) t ≡ Some (Free link)

@@ -5,7 +5,7 @@ use Rattle.std.proofs.lemmas.Bool.{cases_eq}
 use Rattle.std.proofs.lemmas.List.{set-get_or}
 use Rattle.std.proofs.lemmas.Option.{slice_get_within, get_or_from_slice_get}
 use Rattle.fl_arena.specs.Chains.{Entry, Chains, entries, slot_at, with_entries}
-use Rattle.fl_arena.specs.Links.{link_at, link_before, member_of, SpellsChain, SpellsFree, IsOnChain, Spells}
+use Rattle.fl_arena.specs.Links.{is_free, link_at, link_before, member_of, SpellsChain, SpellsFree, IsOnChain, Spells}
 use Rattle.fl_arena.specs.declared.nodes.Node.{Node}
 use Rattle.fl_arena.specs.declared.nodes.Node.TheVariants.{Free, Taken}
 use Rattle.fl_arena.specs.declared.nodes.Member.{Member}
@@ -13,6 +13,7 @@ use Rattle.fl_arena.specs.declared.nodes.Ends.{Ends}
 use Rattle.fl_arena.proofs.ReadLemmas.{slice_get-set_same, slice_get-set_other}
 use Rattle.fl_arena.proofs.PlaceLemmas.{linked_at, same_place, same_member}
 use Rattle.fl_arena.proofs.AssembleLemmas.{assembled, on_changed, on_other}
+use Rattle.fl_arena.proofs.CountLemmas.{count-set}
 use Rattle.fl_arena.proofs.FreeLemmas.{SpellsFree-kept}
 
 module _ {T : Type 0} where
@@ -105,6 +106,7 @@ module _ {T : Type 0} (nodes : List (Node T)) (ends : List Ends) (spare : Option
         (λ d j x apart seen. kept_reads d j x seen (λ same _. apart same))
         (owned_after in_chains)
         (SpellsFree-kept nodes _ free_kept spare free h.free_list)
+        (let spares = h.free_nodes in omega (arith, count-set is_free nodes slot (Taken m) (Taken (record m { item = y })) read))
         (omega (arith, length-set (entries a c) i z)) in
       let ends_same : set ends c e ≡ ends = ap (set ends c) (sym (get_or_from_slice_get ends c e e found)) ∙ set-get_or ends c e in
       subst (λ (x : List Ends). Spells (set nodes slot (Taken (record m { item = y }))) x spare free (with_entries a c (set (entries a c) i z))) ends_same whole

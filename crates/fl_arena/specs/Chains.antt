@@ -46,3 +46,11 @@ module _ {T : Type 0} where
   pub record HasSizeOf (old new : Chains T) : Type 0 where
     pub chains : length new.chains ≡ length old.chains
     pub slots : new.slots ≡ old.slots
+
+  -- the slot is on a chain
+  abbrev pub is_linked : Chains T → ℕ → Bool
+  is_linked a slot = list_any (λ es. list_any (λ e. e.slot == slot) es) a.chains
+
+  -- how many slots are on no chain
+  abbrev pub unlinked_count : Chains T → ℕ
+  unlinked_count a = count_by (λ slot. not (is_linked a slot)) (range_with_len 0 a.slots)

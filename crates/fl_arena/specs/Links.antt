@@ -1,5 +1,5 @@
 -- How the links inside the slots spell the chains and the free list. No public clause cites this module.
-use Rattle.std.specs.Prelude.{◌≡◌, ℕ, zero, suc, ◌+◌, ◌-◌, ◌≤◌, ◌<◌, ◌==◌, Bool, true, false, List, [], ◌∷◌, map, length, sum_by, Option, Some, None, is_some, slice_get, MatchOption, if◌then◌else◌}
+use Rattle.std.specs.Prelude.{◌≡◌, ℕ, zero, suc, ◌+◌, ◌-◌, ◌≤◌, ◌<◌, ◌==◌, Bool, true, false, List, [], ◌∷◌, map, length, sum_by, count_by, Option, Some, None, is_some, slice_get, MatchOption, if◌then◌else◌}
 use Rattle.std.specs.Bool.{⊤}
 use Rattle.std.specs.Option.{option_map}
 use Rattle.fl_arena.specs.Chains.{Entry, Chains, entries, slot_at, item_count}
@@ -88,6 +88,11 @@ module _ {T : Type 0} where
     pub len : ends.len ≡ length es
     pub linked : (i : ℕ) (e : Entry T) → slice_get es i ≡ Some e → slice_get nodes e.slot ≡ Some (Taken (member_of c es i e))
 
+  -- the node holds no item
+  abbrev pub is_free : Node T → Bool
+  is_free (Free next) = true
+  is_free (Taken m) = false
+
   -- from this link on, so many free nodes each name the next, and the last names none
   abbrev pub SpellsFree : List (Node T) → Option ℕ → ℕ → Type 0
   SpellsFree nodes link zero = link ≡ None
@@ -107,6 +112,7 @@ module _ {T : Type 0} where
     pub each : (c : ℕ) (e : Ends) → slice_get ends c ≡ Some e → SpellsChain nodes c e (entries a c)
     pub owned : (slot : ℕ) (m : Member T) → slice_get nodes slot ≡ Some (Taken m) → IsOnChain a slot m.chain
     pub free_list : SpellsFree nodes spare free
+    pub free_nodes : count_by is_free nodes ≡ free
     pub count : item_count a + free ≡ length nodes
     pub few_nodes : length nodes ≤ 65536
     pub few_chains : length ends ≤ 65536
@@ -115,6 +121,7 @@ module _ {T : Type 0} where
   pub record AreFree (nodes : List (Node T)) (link : Option ℕ) (count : ℕ) : Type 0 where
     pub len : length nodes ≡ count
     pub free_list : SpellsFree nodes link count
+    pub counted : count_by is_free nodes ≡ count
     pub untaken : (slot : ℕ) (m : Member T) → slice_get nodes slot ≡ Some (Taken m) → ⊥
 
   -- the entries that so many nodes spell, from this link on

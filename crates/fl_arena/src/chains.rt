@@ -1,6 +1,6 @@
 //! The arena.
 ghost use Rattle.std.specs.Prelude.{◌≡◌, ◌≢◌, ◌↔◌, ◌+◌, ◌<◌, ◌≤◌, ◌^◌, ℕ, [], length, replicate, insert, remove, slice_get, slice_set, Some, IsSome, IsNone, IsErr, OnOk, OnErr, IfOk, IfSome};
-ghost use Rattle.fl_arena.specs.Chains.{entries, items, slot_at, item_count, free_count, HasSizeOf};
+ghost use Rattle.fl_arena.specs.Chains.{entries, items, slot_at, item_count, free_count, unlinked_count, HasSizeOf};
 ghost use Rattle.fl_arena.specs.Cursors.{cursor_at, IsInPlace, index_of, item_of, with_item, without, Inserts};
 
 use crate::cursors::{Cursor, Full, Place};
@@ -168,7 +168,8 @@ impl<T: Copy> Arena<T> {
 
     /// How many slots hold no item.
     pub fn free(&self) -> usize
-        ensures { item_count self.now + result ≡ self.now.slots }
+        ensures total { item_count self.now + result ≡ self.now.slots }
+        ensures unlinked { result ≡ unlinked_count self.now }
     {
         self.free
     }
