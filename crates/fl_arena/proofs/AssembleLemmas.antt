@@ -37,13 +37,13 @@ module _ {T : Type 0} (nodes : List (Node T)) (ends : List Ends) (spare : Option
     free_nodes = spares;
     count = let counted = item_count-with a c es within in let before = h.count in omega arith;
     few_nodes = let few = h.few_nodes in omega arith;
-    few_chains = let few = h.few_chains in omega (arith, length-set ends c end)
+    few_chains = let few = h.few_chains in omega (arith, length-set ends c end);
   }
     where
       each_chain : (d : ℕ) (e : Ends) → slice_get (set ends c end) d ≡ Some e → SpellsChain now d e (entries (with_entries a c es) d)
       each_chain d e found =
           elim (cases_eq d c) [
-              inl this ↦
+            | inl this ↦
                 let there : slice_get (set ends c end) d ≡ Some end = rw this (slice_get-set_same ends c end (omega (arith, h.chains))) in
                 let same : end ≡ e = let both = sym there ∙ found in cc in
                 rw this (subst (λ (xs : List (Entry T)). SpellsChain now c e xs) (sym (entries-with_same a c es within)) (subst (λ (x : Ends). SpellsChain now c x es) same chain))

@@ -121,9 +121,8 @@ module _ {T : Type 0} where
     free_nodes = h.counted;
     count = let long = h.len in omega (arith, no_items T count);
     few_nodes = let long = h.len in omega arith;
-    few_chains = omega (arith, length-replicate {A = Ends} count (record { first = None; last = None; len = 0 }))
+    few_chains = omega (arith, length-replicate {A = Ends} count (record { first = None; last = None; len = 0 }));
   }
-
 
   -- the first slot of the free list is free
   pub spare_is_free : (nodes : List (Node T)) (spare : Option ℕ) (free slot : ℕ) → spare ≡ Some slot → SpellsFree nodes spare free → IsSpare nodes slot

@@ -64,7 +64,7 @@ module _ {T : Type 0} where
   pub index_of-at : (a : Chains T) (c i : ℕ) → i ≤ length (items a c) → index_of a (cursor_at a c i) ≡ i
   index_of-at a c i le =
       elim (cases_lt i (length (entries a c))) [
-          inl within ↦
+        | inl within ↦
             let e = some_entry (entries a c) i within in
             rw (ap (option_map (λ (x : Entry T). x.slot)) e.1) refl
         | inr past ↦
@@ -75,7 +75,7 @@ module _ {T : Type 0} where
   pub item_of-at : (a : Chains T) (c i : ℕ) → item_of a (cursor_at a c i) ≡ slice_get (items a c) i
   item_of-at a c i =
       elim (cases_lt i (length (entries a c))) [
-          inl within ↦
+        | inl within ↦
             let e = some_entry (entries a c) i within in
             rw (ap (option_map (λ (x : Entry T). x.slot)) e.1) refl
         | inr past ↦

@@ -45,7 +45,7 @@ module _ {X : Type 0} where
   any_place p [] e = absurd (let clash = e in cc)
   any_place p (y ∷ xs) e =
       elim (or_cases (p y) (list_any p xs) e) [
-          inl here ↦ (0, y, refl, here)
+        | inl here ↦ (0, y, refl, here)
         | inr later ↦
             let there = any_place p xs later in
             (suc there.0, there.1, there.2, there.3)
@@ -79,10 +79,12 @@ module _ {T : Type 0} where
   linked_place a slot h =
       let chain = any_place (λ (es : List (Entry T)). list_any (λ (e : Entry T). eqb e.slot slot) es) a.chains h in
       let entry = any_place (λ (e : Entry T). eqb e.slot slot) chain.1 chain.3 in
-      let same : entries a chain.0 ≡ chain.1 = get_or_from_slice_get a.chains chain.0 chain.1 [] chain.2 in
-      (chain.0, entry.0,
-       ap (λ (es : List (Entry T)). option_map (λ (e : Entry T). e.slot) (slice_get es entry.0)) same
-       ∙ (ap (option_map (λ (e : Entry T). e.slot)) entry.2 ∙ ap Some (eqb-true entry.1.slot slot entry.3)))
+      let same : entries a chain.0 ≡ chain.1 = get_or_from_slice_get a.chains chain.0 chain.1 [] chain.2 in (
+        chain.0,
+        entry.0,
+        ap (λ (es : List (Entry T)). option_map (λ (e : Entry T). e.slot) (slice_get es entry.0)) same
+            ∙ (ap (option_map (λ (e : Entry T). e.slot)) entry.2 ∙ ap Some (eqb-true entry.1.slot slot entry.3)),
+      )
 
   linked_from : (a : Chains T) (c i : ℕ) (e : Entry T) → c < length a.chains → slice_get (entries a c) i ≡ Some e → is_linked a e.slot ≡ true
   linked_from a c i e within found =
@@ -102,8 +104,8 @@ module _ {T : Type 0} where
       at_node : (i : ℕ) (x : Node T) → slice_get nodes i ≡ Some x → not (is_linked a i) ≡ is_free x
       at_node i (Free next) found =
           ap not (false_from_ne_true (is_linked a i) (λ e.
-            let place = linked_place a i e in
-            let clash = sym found ∙ (linked_at nodes ends spare free a h place.0 place.1 i place.2).linked in cc))
+          let place = linked_place a i e in
+          let clash = sym found ∙ (linked_at nodes ends spare free a h place.0 place.1 i place.2).linked in cc))
       at_node i (Taken m) found =
           let on = h.owned i m found in
           let at = linked_at nodes ends spare free a h m.chain on.index i on.found in

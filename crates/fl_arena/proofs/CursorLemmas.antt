@@ -20,7 +20,7 @@ module _ {T : Type 0} where
   pub length-entries : (a : Chains T) (c : ℕ) → length (entries a c) ≤ item_count a
   length-entries a c =
       elim (cases_lt c (length a.chains)) [
-          inl within ↦ omega (arith, sum_by-set length a.chains c [] [] within)
+        | inl within ↦ omega (arith, sum_by-set length a.chains c [] [] within)
         | inr past ↦
             let none : entries a c ≡ [] = get_or_past a.chains c [] past in
             rw none (omega arith)
@@ -51,7 +51,7 @@ module _ {T : Type 0} where
         chain = ap (λ (x : Member T). x.chain) (sym same);
         previous = ap (λ (x : Member T). x.previous) (sym same);
         next = ap (λ (x : Member T). x.next) (sym same);
-        item = slice_get-map (λ (e : Entry T). e.item) (entries a c) i ∙ (ap (option_map (λ (e : Entry T). e.item)) at.found ∙ ap Some (ap (λ (x : Member T). x.item) same))
+        item = slice_get-map (λ (e : Entry T). e.item) (entries a c) i ∙ (ap (option_map (λ (e : Entry T). e.item)) at.found ∙ ap Some (ap (λ (x : Member T). x.item) same));
       }
 
   pub is_taken : (nodes : List (Node T)) (ends : List Ends) (spare : Option ℕ) (free : ℕ) (a : Chains T) → Spells nodes ends spare free a → (c i slot : ℕ) → slot_at a c i ≡ Some slot → IsTaken nodes slot

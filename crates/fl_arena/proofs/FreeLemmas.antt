@@ -27,9 +27,9 @@ module _ {T : Type 0} where
   shorter_kept old new first next count h rest keeps link zero le p = p
   shorter_kept old new first next count h rest keeps link (suc n) le p =
       let other : p.0 ≢ first = λ same.
-        let nexts = same_next old first p.1 next (subst (λ (s : ℕ). slice_get old s ≡ Some (Free p.1)) same p.3) h in
-        let lengths = SpellsFree-unique old next n count (subst (λ (l : Option ℕ). SpellsFree old l n) nexts p.4) rest in
-        omega arith in
+      let nexts = same_next old first p.1 next (subst (λ (s : ℕ). slice_get old s ≡ Some (Free p.1)) same p.3) h in
+      let lengths = SpellsFree-unique old next n count (subst (λ (l : Option ℕ). SpellsFree old l n) nexts p.4) rest in
+      omega arith in
       (p.0, p.1, p.2, keeps p.0 p.1 other p.3, shorter_kept old new first next count h rest keeps p.1 n (omega arith) p.4)
 
   -- the free list without its first slot stays, whatever is put in that slot

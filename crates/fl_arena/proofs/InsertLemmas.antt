@@ -59,7 +59,7 @@ module _ {T : Type 0} where
   last_after es i y last le h =
       let long : length (insert es i y) ≡ suc (length es) = omega (arith, length-insert es i y le) in
       rw long (elim (cases_lt i (length es)) [
-          inl inner ↦ rw ((some_link es i inner).1) (h ∙ sym (kept (length es) inner))
+        | inl inner ↦ rw ((some_link es i inner).1) (h ∙ sym (kept (length es) inner))
         | inr at_end ↦
             let here : i ≡ length es = omega arith in
             rw (no_link es i at_end) (sym (rw (← here) (link_at-insert_at es i y le)))
@@ -90,9 +90,9 @@ module _ {T : Type 0} (nodes : List (Node T)) (ends : List Ends) (spare : Option
       entry_reads nodes ends spare free a h c i i (Some slot) (Some slot) slot (node_in c es i y) c j e (link_before (insert es i z) j) (link_at (insert es i z) (suc j)) found
       (λ same. unused c j (there ∙ ap Some same))
       (at_other nodes ends spare free a h c i i (Some slot) (Some slot) slot (node_in c es i y) c j e.slot (Some slot) (link_before es j) there (λ _ same. omega arith)
-       ∙ sym (link_before-insert_below es i j z (omega arith) within))
+      ∙ sym (link_before-insert_below es i j z (omega arith) within))
       (elim (cases_eq i (suc j)) [
-          inl last ↦ at_link-same (link_before es i) e.slot (Some slot) (link_at es (suc j)) (rw last there)
+        | inl last ↦ at_link-same (link_before es i) e.slot (Some slot) (link_at es (suc j)) (rw last there)
             ∙ sym (rw (← last) (link_at-insert_at es i z within))
         | inr earlier ↦ before_other nodes ends spare free a h c i i (Some slot) (Some slot) slot (node_in c es i y) c j e.slot (Some slot) (link_at es (suc j)) there (λ _ same. earlier same)
             ∙ sym (link_at-insert_below es i (suc j) z (omega arith) within)
@@ -107,13 +107,13 @@ module _ {T : Type 0} (nodes : List (Node T)) (ends : List Ends) (spare : Option
       entry_reads nodes ends spare free a h c i i (Some slot) (Some slot) slot (node_in c es i y) c j e (link_at (insert es i z) j) (link_at (insert es i z) (suc (suc j))) found
       (λ same. unused c j (there ∙ ap Some same))
       (elim (cases_eq i j) [
-          inl first ↦ at_link-same (link_at es i) e.slot (Some slot) (link_before es j) (rw first there)
+        | inl first ↦ at_link-same (link_at es i) e.slot (Some slot) (link_before es j) (rw first there)
             ∙ sym (rw (← first) (link_at-insert_at es i z within))
         | inr later ↦ at_other nodes ends spare free a h c i i (Some slot) (Some slot) slot (node_in c es i y) c j e.slot (Some slot) (link_before es j) there (λ _ same. later same)
             ∙ sym (link_before-insert_above es i j z (omega arith) within)
       ])
       (before_other nodes ends spare free a h c i i (Some slot) (Some slot) slot (node_in c es i y) c j e.slot (Some slot) (link_at es (suc j)) there (λ _ same. omega arith)
-       ∙ sym (link_at-insert_above es i (suc j) z (omega arith) within))
+      ∙ sym (link_at-insert_above es i (suc j) z (omega arith) within))
 
   -- the new entry
   new_reads : slice_get (nodes_after nodes a c i slot y) slot ≡ Some (Taken (member_of c (insert (entries a c) i (entry_in slot y)) i (entry_in slot y)))
@@ -128,12 +128,12 @@ module _ {T : Type 0} (nodes : List (Node T)) (ends : List Ends) (spare : Option
   inserted_reads : (j : ℕ) (e : Entry T) → slice_get (insert (entries a c) i (entry_in slot y)) j ≡ Some e → slice_get (nodes_after nodes a c i slot y) e.slot ≡ Some (Taken (member_of c (insert (entries a c) i (entry_in slot y)) j e))
   inserted_reads j e found =
       elim (cases_order j i) [
-          inl at ↦
+        | inl at ↦
             let there : slice_get (insert (entries a c) i (entry_in slot y)) j ≡ Some (entry_in slot y) = rw at (slice_get-insert_at (entries a c) i (entry_in slot y) within) in
             let same : entry_in slot y ≡ e = let both = sym there ∙ found in cc in
             subst (λ (x : Entry T). slice_get (nodes_after nodes a c i slot y) x.slot ≡ Some (Taken (member_of c (insert (entries a c) i (entry_in slot y)) j x))) same (rw at new_reads)
         | inr off ↦ elim off [
-            inl below ↦ below_reads j e below (sym (slice_get-insert_below (entries a c) i j (entry_in slot y) below within) ∙ found)
+          | inl below ↦ below_reads j e below (sym (slice_get-insert_below (entries a c) i j (entry_in slot y) below within) ∙ found)
           | inr above ↦ above_case j e above found
         ]
       ]
@@ -152,13 +152,13 @@ module _ {T : Type 0} (nodes : List (Node T)) (ends : List Ends) (spare : Option
   owned_after : c < length a.chains → (t : ℕ) (m : Member T) → slice_get (nodes_after nodes a c i slot y) t ≡ Some (Taken m) → IsOnChain (with_entries a c (insert (entries a c) i (entry_in slot y))) t m.chain
   owned_after in_chains t m read =
       elim (cases_eq t slot) [
-          inl new ↦
+        | inl new ↦
             let same = ap (λ (x : Member T). x.chain) (same_member (nodes_after nodes a c i slot y) slot _ m new_reads (subst (λ (s : ℕ). slice_get (nodes_after nodes a c i slot y) s ≡ Some (Taken m)) new read)) in
             rw (← same, new) (on_changed a c slot i (insert (entries a c) i (entry_in slot y)) in_chains (link_at-insert_at (entries a c) i (entry_in slot y) within))
         | inr old ↦
             let was = owned_before nodes ends spare free a h c i i (Some slot) (Some slot) slot (node_in c (entries a c) i y) t m old read in
             elim (cases_eq m.chain c) [
-                inl this ↦ rw this (shifted (rw this at was))
+              | inl this ↦ rw this (shifted (rw this at was))
               | inr other ↦ on_other a c m.chain t (insert (entries a c) i (entry_in slot y)) other was
             ]
       ]
@@ -166,7 +166,7 @@ module _ {T : Type 0} (nodes : List (Node T)) (ends : List Ends) (spare : Option
       shifted : IsOnChain a t c → IsOnChain (with_entries a c (insert (entries a c) i (entry_in slot y))) t c
       shifted p =
           elim (cases_lt p.index i) [
-              inl below ↦ on_changed a c t p.index (insert (entries a c) i (entry_in slot y)) in_chains (link_at-insert_below (entries a c) i p.index (entry_in slot y) below within ∙ p.found)
+            | inl below ↦ on_changed a c t p.index (insert (entries a c) i (entry_in slot y)) in_chains (link_at-insert_below (entries a c) i p.index (entry_in slot y) below within ∙ p.found)
             | inr above ↦ on_changed a c t (suc p.index) (insert (entries a c) i (entry_in slot y)) in_chains (link_at-insert_above (entries a c) i p.index (entry_in slot y) above within ∙ p.found)
           ]
 
@@ -178,7 +178,7 @@ module _ {T : Type 0} (nodes : List (Node T)) (ends : List Ends) (spare : Option
         first = first_after (entries a c) i (entry_in slot y) e.first within was.first;
         last = last_after (entries a c) i (entry_in slot y) e.last within was.last;
         len = let long = was.len in omega (arith, length-insert (entries a c) i (entry_in slot y) within);
-        linked = inserted_reads
+        linked = inserted_reads;
       }
 
 module _ {T : Type 0} where

@@ -32,7 +32,7 @@ module _ {A : Type 0} where
   slice_get-alter_link f xs None slot x h = h
   slice_get-alter_link f xs (Some named) slot x h =
       elim (cases_eq named slot) [
-          inl same ↦ rw (eq-eqb named slot same, same) (slice_get-alter_same f xs slot ∙ ap (option_map f) h)
+        | inl same ↦ rw (eq-eqb named slot same, same) (slice_get-alter_same f xs slot ∙ ap (option_map f) h)
         | inr other ↦ rw (ne_eqb named slot other) (slice_get-alter_other f xs named slot other ∙ h)
       ]
 

@@ -58,13 +58,17 @@ module _ {T : Type 0} where
   AreFree-push nodes link count h = record {
     len = let long = h.len in omega (arith, length-append nodes (Free link ∷ []));
     free_list =
-      rw add-one
-      (count, link, refl, rw (← h.len) (slice_get_push nodes (Free link)),
-       SpellsFree-kept nodes (nodes ++ Free link ∷ []) (λ slot next was. slice_get-append_left nodes (Free link ∷ []) slot (Free next) was) link count h.free_list);
+        rw add-one (
+          count,
+          link,
+          refl,
+          rw (← h.len) (slice_get_push nodes (Free link)),
+          SpellsFree-kept nodes (nodes ++ Free link ∷ []) (λ slot next was. slice_get-append_left nodes (Free link ∷ []) slot (Free next) was) link count h.free_list,
+        );
     counted = let before = h.counted in omega (arith, sum_by_push (λ (x : Node T). cond (is_free x) 1 0) nodes (Free link));
     untaken = λ slot m now.
-      elim (pushed_cases nodes (Free link) slot (Taken m) now) [
-          inl was ↦ h.untaken slot m was
-        | inr same ↦ cc
-      ]
+        elim (pushed_cases nodes (Free link) slot (Taken m) now) [
+          | inl was ↦ h.untaken slot m was
+          | inr same ↦ cc
+        ];
   }

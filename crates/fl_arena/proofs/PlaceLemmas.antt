@@ -32,7 +32,7 @@ module _ {T : Type 0} where
   pub chain_within : (a : Chains T) (c i : ℕ) (e : Entry T) → slice_get (entries a c) i ≡ Some e → c < length a.chains
   chain_within a c i e h =
       elim (cases_lt c (length a.chains)) [
-          inl in_range ↦ in_range
+        | inl in_range ↦ in_range
         | inr past ↦
             let none = get_or_past a.chains c [] past in
             absurd (none-some e (rw none at h))
@@ -98,11 +98,12 @@ module _ {T : Type 0} where
 
   -- a slot on a chain is at that place and at no other
   pub place_on : (nodes : List (Node T)) (ends : List Ends) (spare : Option ℕ) (free : ℕ) (a : Chains T) → Spells nodes ends spare free a → (slot d j : ℕ) → slot_at a d j ≡ Some slot → (c i : ℕ) → (On d j ≡ On c i → slot_at a c i ≡ Some slot) × (slot_at a c i ≡ Some slot → On d j ≡ On c i)
-  place_on nodes ends spare free a h slot d j here c i =
-      (λ same.
+  place_on nodes ends spare free a h slot d j here c i = (
+    λ same.
         let chains : d ≡ c = cc in
         let indexes : j ≡ i = cc in
         rw (← chains, ← indexes) here,
-       λ there.
+    λ there.
         let both = same_place nodes ends spare free a h d c slot j i here there in
-        ap (λ (k : ℕ). On k j) both.0 ∙ ap (λ (k : ℕ). On c k) both.1)
+        ap (λ (k : ℕ). On k j) both.0 ∙ ap (λ (k : ℕ). On c k) both.1,
+  )

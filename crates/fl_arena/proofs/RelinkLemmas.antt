@@ -36,8 +36,8 @@ module _ {T : Type 0} (nodes : List (Node T)) (ends : List Ends) (spare : Option
   pub at_other : (d j t : ℕ) (x y : Option ℕ) → slot_at a d j ≡ Some t → ((c ≡ d) → (k ≡ j) → ⊥) → at_link (link_at (entries a c) k) t x y ≡ y
   at_other d j t x y there apart =
       at_link-other (link_at (entries a c) k) t x y (λ same.
-        let both = same_place nodes ends spare free a h c d t k j same there in
-        apart both.0 both.1)
+      let both = same_place nodes ends spare free a h c d t k j same there in
+      apart both.0 both.1)
 
   -- nor does the link to the slot before `i`
   pub before_other : (d j t : ℕ) (x y : Option ℕ) → slot_at a d j ≡ Some t → ((c ≡ d) → (i ≡ suc j) → ⊥) → at_link (link_before (entries a c) i) t x y ≡ y
@@ -47,8 +47,8 @@ module _ {T : Type 0} (nodes : List (Node T)) (ends : List Ends) (spare : Option
       before_is zero e = refl
       before_is (suc m) e =
           at_link-other (link_at (entries a c) m) t x y (λ same.
-            let both = same_place nodes ends spare free a h c d t m j same there in
-            apart both.0 (sym e ∙ ap suc both.1))
+          let both = same_place nodes ends spare free a h c d t m j same there in
+          apart both.0 (sym e ∙ ap suc both.1))
 
   -- a chain that the place isn't on reads as before
   pub elsewhere_reads : (d j : ℕ) (e : Entry T) → d ≢ c → slice_get (entries a d) j ≡ Some e → e.slot ≢ slot → slice_get (around nodes (entries a c) i k previous next slot node) e.slot ≡ Some (Taken (member_of d (entries a d) j e))
@@ -63,7 +63,7 @@ module _ {T : Type 0} (nodes : List (Node T)) (ends : List Ends) (spare : Option
   owned_before t m other read =
       let now = sym (slice_get-set_other (relinked nodes (link_before (entries a c) i) (link_at (entries a c) k) previous next) slot t node other) ∙ read in
       elim (slice_get_cases nodes t).1 [
-          inl found ↦ by_node found.0 found.2 now
+        | inl found ↦ by_node found.0 found.2 now
         | inr past ↦
             let within = slice_get_within (relinked nodes (link_before (entries a c) i) (link_at (entries a c) k) previous next) t (Taken m) now in
             absurd (omega (arith, past.0, length-relinked nodes (link_before (entries a c) i) (link_at (entries a c) k) previous next))

@@ -47,7 +47,7 @@ module _ {T : Type 0} where
       by_length : (n : ℕ) → n + 1 ≡ length es → (if is_some (link_at es (suc i)) then last else link_before es i) ≡ link_before (remove es i) n
       by_length n long =
           elim (cases_lt (suc i) (length es)) [
-              inl inner ↦
+            | inl inner ↦
                 let suc_n : length es ≡ suc n = omega arith in
                 rw ((some_link es (suc i) inner).1) (h ∙ (rw suc_n (sym (link_before-remove_above es i n (omega arith)))))
             | inr at_end ↦
@@ -73,9 +73,9 @@ module _ {T : Type 0} (nodes : List (Node T)) (ends : List Ends) (spare : Option
       entry_reads nodes ends spare free a h c i (suc i) (link_before es i) (link_at es (suc i)) slot (Free spare) c j e (link_before (remove es i) j) (link_at (remove es i) (suc j)) found
       (apart_from c j e found (λ _ same. omega arith))
       (at_other nodes ends spare free a h c i (suc i) (link_before es i) (link_at es (suc i)) slot (Free spare) c j e.slot (link_before es i) (link_before es j) at_j (λ _ same. omega arith)
-       ∙ sym (link_before-remove_below es i j (omega arith)))
+      ∙ sym (link_before-remove_below es i j (omega arith)))
       (elim (cases_eq i (suc j)) [
-          inl last ↦ at_link-same (link_before es i) e.slot (link_at es (suc i)) (link_at es (suc j)) (rw last at_j)
+        | inl last ↦ at_link-same (link_before es i) e.slot (link_at es (suc i)) (link_at es (suc j)) (rw last at_j)
             ∙ sym (rw (← last) (link_at-remove_above es i i (omega arith)))
         | inr earlier ↦ before_other nodes ends spare free a h c i (suc i) (link_before es i) (link_at es (suc i)) slot (Free spare) c j e.slot (link_at es (suc i)) (link_at es (suc j)) at_j (λ _ same. earlier same)
             ∙ sym (link_at-remove_below es i (suc j) (omega arith))
@@ -89,19 +89,19 @@ module _ {T : Type 0} (nodes : List (Node T)) (ends : List Ends) (spare : Option
       entry_reads nodes ends spare free a h c i (suc i) (link_before es i) (link_at es (suc i)) slot (Free spare) c (suc j) e (link_before (remove es i) j) (link_at (remove es i) (suc j)) found
       (apart_from c (suc j) e found (λ _ same. omega arith))
       (elim (cases_eq i j) [
-          inl first ↦ at_link-same (link_at es (suc i)) e.slot (link_before es i) (link_at es j) (rw first at_j)
+        | inl first ↦ at_link-same (link_at es (suc i)) e.slot (link_before es i) (link_at es j) (rw first at_j)
             ∙ sym (rw (← first) (link_before-remove_below es i i (omega arith)))
         | inr later ↦ at_other nodes ends spare free a h c i (suc i) (link_before es i) (link_at es (suc i)) slot (Free spare) c (suc j) e.slot (link_before es i) (link_at es j) at_j (λ _ same. later (omega arith))
             ∙ sym (link_before-remove_above es i j (omega arith))
       ])
       (before_other nodes ends spare free a h c i (suc i) (link_before es i) (link_at es (suc i)) slot (Free spare) c (suc j) e.slot (link_at es (suc i)) (link_at es (suc (suc j))) at_j (λ _ same. omega arith)
-       ∙ sym (link_at-remove_above es i (suc j) (omega arith)))
+      ∙ sym (link_at-remove_above es i (suc j) (omega arith)))
 
   -- each entry that is left is linked as its new index says
   left_reads : (j : ℕ) (e : Entry T) → slice_get (remove (entries a c) i) j ≡ Some e → slice_get (nodes_without nodes a c i slot spare) e.slot ≡ Some (Taken (member_of c (remove (entries a c) i) j e))
   left_reads j e found =
       elim (cases_lt j i) [
-          inl below ↦ below_reads j e below (sym (slice_get-remove_below (entries a c) i j below) ∙ found)
+        | inl below ↦ below_reads j e below (sym (slice_get-remove_below (entries a c) i j below) ∙ found)
         | inr above ↦ above_reads j e above (sym (slice_get-remove_above (entries a c) i j above) ∙ found)
       ]
 
@@ -119,12 +119,12 @@ module _ {T : Type 0} (nodes : List (Node T)) (ends : List Ends) (spare : Option
   owned_after : slot < length nodes → c < length a.chains → (t : ℕ) (m : Member T) → slice_get (nodes_without nodes a c i slot spare) t ≡ Some (Taken m) → IsOnChain (with_entries a c (remove (entries a c) i)) t m.chain
   owned_after in_nodes in_chains t m read =
       elim (cases_eq t slot) [
-          inl freed ↦
+        | inl freed ↦
             let clash = sym (freed_reads in_nodes) ∙ subst (λ (s : ℕ). slice_get (nodes_without nodes a c i slot spare) s ≡ Some (Taken m)) freed read in cc
         | inr old ↦
             let was = owned_before nodes ends spare free a h c i (suc i) (link_before (entries a c) i) (link_at (entries a c) (suc i)) slot (Free spare) t m old read in
             elim (cases_eq m.chain c) [
-                inl this ↦ rw this (shifted old (rw this at was))
+              | inl this ↦ rw this (shifted old (rw this at was))
               | inr other ↦ on_other a c m.chain t (remove (entries a c) i) other was
             ]
       ]
@@ -136,13 +136,13 @@ module _ {T : Type 0} (nodes : List (Node T)) (ends : List Ends) (spare : Option
       shifted : t ≢ slot → IsOnChain a t c → IsOnChain (with_entries a c (remove (entries a c) i)) t c
       shifted old p =
           elim (cases_lt p.index i) [
-              inl below ↦ on_changed a c t p.index (remove (entries a c) i) in_chains (link_at-remove_below (entries a c) i p.index below ∙ p.found)
+            | inl below ↦ on_changed a c t p.index (remove (entries a c) i) in_chains (link_at-remove_below (entries a c) i p.index below ∙ p.found)
             | inr above ↦ elim (cases_eq p.index i) [
-                  inl here ↦
-                    let same : Some t ≡ Some slot = sym p.found ∙ subst (λ (k : ℕ). slot_at a c k ≡ Some slot) (sym here) there in
-                    absurd (old cc)
-                | inr off ↦ later p.index (omega arith) p.found
-              ]
+              | inl here ↦
+                  let same : Some t ≡ Some slot = sym p.found ∙ subst (λ (k : ℕ). slot_at a c k ≡ Some slot) (sym here) there in
+                  absurd (old cc)
+              | inr off ↦ later p.index (omega arith) p.found
+            ]
           ]
 
   -- the links after a remove
@@ -157,7 +157,7 @@ module _ {T : Type 0} (nodes : List (Node T)) (ends : List Ends) (spare : Option
         first = first_without (entries a c) i e.first within was.first;
         last = last_without (entries a c) i e.last within was.last;
         len = let long = was.len in omega arith;
-        linked = left_reads
+        linked = left_reads;
       } in
       assembled nodes ends spare free a h c in_chains (nodes_without nodes a c i slot spare) (ends_without e before after) (remove (entries a c) i) (Some slot) (free + 1)
       (length-set _ slot _ ∙ length-relinked nodes before after before after)
@@ -169,6 +169,6 @@ module _ {T : Type 0} (nodes : List (Node T)) (ends : List Ends) (spare : Option
       free_kept : (t : ℕ) (link : Option ℕ) → slice_get nodes t ≡ Some (Free link) → slice_get (nodes_without nodes a c i slot spare) t ≡ Some (Free link)
       free_kept t link read =
           let other : t ≢ slot = λ same.
-            let clash = sym (subst (λ (s : ℕ). slice_get nodes s ≡ Some (Free link)) same read) ∙ (linked_at nodes ends spare free a h c i slot there).linked in cc in
+          let clash = sym (subst (λ (s : ℕ). slice_get nodes s ≡ Some (Free link)) same read) ∙ (linked_at nodes ends spare free a h c i slot there).linked in cc in
           slice_get-set_other _ slot t (Free spare) other
           ∙ free_in_relinked nodes (link_before (entries a c) i) (link_at (entries a c) (suc i)) (link_before (entries a c) i) (link_at (entries a c) (suc i)) t link read

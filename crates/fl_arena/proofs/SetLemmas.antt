@@ -46,8 +46,8 @@ module _ {T : Type 0} (nodes : List (Node T)) (ends : List Ends) (spare : Option
   kept_reads d j e found apart =
       let at_j : slot_at a d j ≡ Some e.slot = ap (option_map (λ (x : Entry T). x.slot)) found in
       let other : e.slot ≢ slot = λ same.
-        let both = same_place nodes ends spare free a h d c slot j i (at_j ∙ ap Some same) there in
-        apart both.0 both.1 in
+      let both = same_place nodes ends spare free a h d c slot j i (at_j ∙ ap Some same) there in
+      apart both.0 both.1 in
       let at = linked_at nodes ends spare free a h d j e.slot at_j in
       let same : at.entry ≡ e = let both = sym at.found ∙ found in cc in
       slice_get-set_other nodes slot e.slot _ other
@@ -64,7 +64,7 @@ module _ {T : Type 0} (nodes : List (Node T)) (ends : List Ends) (spare : Option
       let z : Entry T = record { slot = slot; item = y } in
       let at = linked_at nodes ends spare free a h c i slot there in
       elim (cases_eq j i) [
-          inl this ↦
+        | inl this ↦
             let new : slice_get (set es i z) j ≡ Some z = rw this (slice_get-set_same es i z (slice_get_within es i at.entry at.found)) in
             let same : z ≡ e = let both = sym new ∙ found in cc in
             subst (λ (x : Entry T). slice_get (set nodes slot (Taken (record m { item = y }))) x.slot ≡ Some (Taken (member_of c (set es i z) j x))) same
@@ -77,13 +77,13 @@ module _ {T : Type 0} (nodes : List (Node T)) (ends : List Ends) (spare : Option
   owned_after : c < length a.chains → (t : ℕ) (n : Member T) → slice_get (set nodes slot (Taken (record m { item = y }))) t ≡ Some (Taken n) → IsOnChain (with_entries a c (set (entries a c) i (record { slot = slot; item = y }))) t n.chain
   owned_after in_chains t n now =
       elim (cases_eq t slot) [
-          inl this ↦
+        | inl this ↦
             let same = ap (λ (x : Member T). x.chain) (same_member (set nodes slot (Taken (record m { item = y }))) slot _ n set_reads (subst (λ (s : ℕ). slice_get (set nodes slot (Taken (record m { item = y }))) s ≡ Some (Taken n)) this now)) in
             rw (← same, this) (on_changed a c slot i _ in_chains (link_at-set (entries a c) i i (record { slot = slot; item = y }) there ∙ there))
         | inr other ↦
             let was = h.owned t n (sym (slice_get-set_other nodes slot t _ other) ∙ now) in
             elim (cases_eq n.chain c) [
-                inl this ↦
+              | inl this ↦
                   let index = rw this at was in
                   rw this (on_changed a c t index.index _ in_chains (link_at-set (entries a c) i index.index (record { slot = slot; item = y }) there ∙ index.found))
               | inr apart ↦ on_other a c n.chain t _ apart was
@@ -99,20 +99,20 @@ module _ {T : Type 0} (nodes : List (Node T)) (ends : List Ends) (spare : Option
         first = was.first ∙ sym (link_at-set (entries a c) i 0 z there);
         last = was.last ∙ (sym (link_before-set (entries a c) i (length (entries a c)) z there) ∙ ap (λ (n : ℕ). link_before (set (entries a c) i z) n) (sym (length-set (entries a c) i z)));
         len = was.len ∙ sym (length-set (entries a c) i z);
-        linked = chain_reads
+        linked = chain_reads;
       } in
       let whole = assembled nodes ends spare free a h c in_chains (set nodes slot (Taken (record m { item = y }))) e (set (entries a c) i z) spare free
-        (length-set nodes slot _) chain
-        (λ d j x apart seen. kept_reads d j x seen (λ same _. apart same))
-        (owned_after in_chains)
-        (SpellsFree-kept nodes _ free_kept spare free h.free_list)
-        (let spares = h.free_nodes in omega (arith, count-set is_free nodes slot (Taken m) (Taken (record m { item = y })) read))
-        (omega (arith, length-set (entries a c) i z)) in
+      (length-set nodes slot _) chain
+      (λ d j x apart seen. kept_reads d j x seen (λ same _. apart same))
+      (owned_after in_chains)
+      (SpellsFree-kept nodes _ free_kept spare free h.free_list)
+      (let spares = h.free_nodes in omega (arith, count-set is_free nodes slot (Taken m) (Taken (record m { item = y })) read))
+      (omega (arith, length-set (entries a c) i z)) in
       let ends_same : set ends c e ≡ ends = ap (set ends c) (sym (get_or_from_slice_get ends c e e found)) ∙ set-get_or ends c e in
       subst (λ (x : List Ends). Spells (set nodes slot (Taken (record m { item = y }))) x spare free (with_entries a c (set (entries a c) i z))) ends_same whole
     where
       free_kept : (t : ℕ) (link : Option ℕ) → slice_get nodes t ≡ Some (Free link) → slice_get (set nodes slot (Taken (record m { item = y }))) t ≡ Some (Free link)
       free_kept t link seen =
           let other : t ≢ slot = λ same.
-            let clash = sym (subst (λ (s : ℕ). slice_get nodes s ≡ Some (Free link)) same seen) ∙ read in cc in
+          let clash = sym (subst (λ (s : ℕ). slice_get nodes s ≡ Some (Free link)) same seen) ∙ read in cc in
           slice_get-set_other nodes slot t _ other ∙ seen

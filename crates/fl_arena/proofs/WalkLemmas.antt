@@ -41,17 +41,17 @@ module _ {T : Type 0} where
 
   spelled_at : (nodes : List (Node T)) (ends : List Ends) (spare : Option ℕ) (free : ℕ) (a : Chains T) → Spells nodes ends spare free a → (c : ℕ) → slice_get (map (λ (e : Ends). walk nodes e.first e.len) ends) c ≡ slice_get a.chains c
   spelled_at nodes ends spare free a h c = elim (cases_lt c (length ends)) [
-        inl within ↦
-          let found = slice_get-get_or ends c (record { first = None; last = None; len = 0 }) within in
-          slice_get-map (λ (e : Ends). walk nodes e.first e.len) ends c
-          ∙ (ap (option_map (λ (e : Ends). walk nodes e.first e.len)) found
-          ∙ (ap Some (walk-spelled nodes c _ (entries a c) (h.each c _ found))
-          ∙ sym (slice_get-get_or a.chains c [] (omega (arith, h.chains)))))
-      | inr past ↦
-          slice_get-map (λ (e : Ends). walk nodes e.first e.len) ends c
-          ∙ (ap (option_map (λ (e : Ends). walk nodes e.first e.len)) (slice_get_past ends c past)
-          ∙ sym (slice_get_past a.chains c (omega (arith, h.chains))))
-    ]
+    | inl within ↦
+        let found = slice_get-get_or ends c (record { first = None; last = None; len = 0 }) within in
+        slice_get-map (λ (e : Ends). walk nodes e.first e.len) ends c
+        ∙ (ap (option_map (λ (e : Ends). walk nodes e.first e.len)) found
+        ∙ (ap Some (walk-spelled nodes c _ (entries a c) (h.each c _ found))
+        ∙ sym (slice_get-get_or a.chains c [] (omega (arith, h.chains)))))
+    | inr past ↦
+        slice_get-map (λ (e : Ends). walk nodes e.first e.len) ends c
+        ∙ (ap (option_map (λ (e : Ends). walk nodes e.first e.len)) (slice_get_past ends c past)
+        ∙ sym (slice_get_past a.chains c (omega (arith, h.chains))))
+  ]
 
   -- the chains that are spelled are these
   pub spelled_is : (nodes : List (Node T)) (ends : List Ends) (spare : Option ℕ) (free : ℕ) (a : Chains T) → Spells nodes ends spare free a → spelled nodes ends ≡ a

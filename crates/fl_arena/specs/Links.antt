@@ -29,7 +29,7 @@ abbrev pub ends_with : Ends → Option ℕ → Option ℕ → ℕ → Ends
 ends_with ends before after slot = record {
   first = if is_some before then ends.first else Some slot;
   last = if is_some after then ends.last else Some slot;
-  len = ends.len + 1
+  len = ends.len + 1;
 }
 
 -- the ends of a chain with one entry fewer, which stood between these links
@@ -37,7 +37,7 @@ abbrev pub ends_without : Ends → Option ℕ → Option ℕ → Ends
 ends_without ends before after = record {
   first = if is_some before then ends.first else after;
   last = if is_some after then ends.last else before;
-  len = ends.len - 1
+  len = ends.len - 1;
 }
 
 module _ {T : Type 0} where
@@ -129,7 +129,7 @@ module _ {T : Type 0} where
   walk nodes link zero = []
   walk nodes None (suc n) = []
   walk nodes (Some slot) (suc n) = elim (slice_get nodes slot) [
-      None ↦ []
+    | None ↦ []
     | Some node ↦ elim node [ Free next ↦ [] | Taken m ↦ record { slot = slot; item = m.item } ∷ walk nodes m.next n ]
   ]
 

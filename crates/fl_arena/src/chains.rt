@@ -4,7 +4,9 @@ ghost use Rattle.fl_arena.specs.Chains.{entries, items, slot_at, item_count, fre
 ghost use Rattle.fl_arena.specs.Cursors.{cursor_at, IsInPlace, index_of, item_of, with_item, without, Inserts};
 
 use crate::cursors::{Cursor, Full, Place};
-use crate::nodes::{Ends, Member, Node, free_nodes, link_in, link_out, member_at, next_free, slot_number};
+use crate::nodes::{
+    Ends, Member, Node, free_nodes, link_in, link_out, member_at, next_free, slot_number,
+};
 use std::alloc::{AllocError, Global};
 use std::marker::Model;
 

@@ -41,8 +41,16 @@ impl Ends {
         ensures { result ≡ ends_with self before after slot }
     {
         Ends {
-            first: if before.is_some() { self.first } else { Some(slot) },
-            last: if after.is_some() { self.last } else { Some(slot) },
+            first: if before.is_some() {
+                self.first
+            } else {
+                Some(slot)
+            },
+            last: if after.is_some() {
+                self.last
+            } else {
+                Some(slot)
+            },
             len: self.len + 1,
         }
     }

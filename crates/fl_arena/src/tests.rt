@@ -83,6 +83,7 @@ impl Numbers {
 }
 
 const CHAINS: usize = 4;
+
 const SLOTS: usize = 24;
 
 // One step on the arena and on plain lists, whose answers are the same.

@@ -21,7 +21,7 @@ loop-here-preserved c =
     record {
       at = next.0;
       within = omega arith;
-      smaller = rw index (c.loop-here.invariant.smaller ∙ sorted_more c.args.item c.in-Some.here xs i found (omega arith))
+      smaller = rw index (c.loop-here.invariant.smaller ∙ sorted_more c.args.item c.in-Some.here xs i found (omega arith));
     }
 
 pub returns-clause-ok : goal.returns-clause-ok
@@ -31,12 +31,12 @@ returns-clause-ok c =
     let at = c.loop-here.invariant.at in
     let place = inserted_at c.args.arena.now c.args.chain c.loop-here.cursor at c.loop-here.invariant.within in
     let whole : insert_sorted c.args.item xs ≡ insert xs i c.args.item =
-      elim c.match-get.branch [
-          in-Some+then-item-here w ↦
-            let got = w.in-Some.ensures in
-            c.loop-here.invariant.smaller ∙ sorted_here c.args.item w.in-Some.here xs i (sym (got.at_index c.args.chain i at)) (omega arith)
-        | in_default w ↦
-            let got = c.get.ensures.at_index c.args.chain i at in
-            c.loop-here.invariant.smaller ∙ sorted_end c.args.item xs i (sym got ∙ w.in_default.is)
-      ] in
+    elim c.match-get.branch [
+      | in-Some+then-item-here w ↦
+          let got = w.in-Some.ensures in
+          c.loop-here.invariant.smaller ∙ sorted_here c.args.item w.in-Some.here xs i (sym (got.at_index c.args.chain i at)) (omega arith)
+      | in_default w ↦
+          let got = c.get.ensures.at_index c.args.chain i at in
+          c.loop-here.invariant.smaller ∙ sorted_end c.args.item xs i (sym got ∙ w.in_default.is)
+    ] in
     sorted_done c.insert.result c.args.arena.now c.insert.new.self c.args.chain c.loop-here.cursor.chain i _ c.args.item place.0 place.1 whole c.insert.ensures.items

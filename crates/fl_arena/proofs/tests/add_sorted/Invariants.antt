@@ -8,7 +8,7 @@ abbrev pub invariant-loop-here : goal.invariant-loop-here
 invariant-loop-here l = record {
   at : l.cursor ≡ cursor_at l.arena l.chain l.cursor.index;
   within : l.cursor.index ≤ length (items l.arena l.chain);
-  smaller : insert_sorted l.item (items l.arena l.chain) ≡ take l.cursor.index (items l.arena l.chain) ++ insert_sorted l.item (drop l.cursor.index (items l.arena l.chain))
+  smaller : insert_sorted l.item (items l.arena l.chain) ≡ take l.cursor.index (items l.arena l.chain) ++ insert_sorted l.item (drop l.cursor.index (items l.arena l.chain));
 }
 
 abbrev pub decreases-loop-here : goal.decreases-loop-here

@@ -28,7 +28,7 @@ placed g c =
     let chains = spells.chains in
     let in_chains = c.requires.chain in
     elim c.match-cursor.branch [
-        in-Some-slot w ↦ place_before _ _ _ _ _ spells c.args.cursor.now c.requires.in_place _ _ c.match-cursor.previous w.in-Some-slot.is w.member_at.ensures w.previous-is
+      | in-Some-slot w ↦ place_before _ _ _ _ _ spells c.args.cursor.now c.requires.in_place _ _ c.match-cursor.previous w.in-Some-slot.is w.member_at.ensures w.previous-is
       | in-None w ↦
           let found = end_read c.self.inside.ends.items c.args.cursor.now.chain c.index-ends.result.now (omega arith) c.index-ends.ensures in
           place_last _ _ _ _ _ spells c.args.cursor.now c.requires.in_place _ c.match-cursor.previous w.in-None.is found w.previous-is
@@ -79,7 +79,7 @@ returns-clause-ok g c =
       in_range = omega (arith, slice_get_within c.self.inside.nodes.items c.in-Some.slot _ c.next_free-self-inside.ensures);
       was_free = unused_slot _ _ _ _ _ spells c.in-Some.slot _ c.next_free-self-inside.ensures;
       chains = spelled_is _ _ _ _ _ (after g (goal.at.returns-clause-ok g c).After-with here.0);
-      cursor = ap (λ (i : ℕ). record { chain = c.args.cursor.now.chain; index = i; slot = Some c.in-Some.slot }) here.1
+      cursor = ap (λ (i : ℕ). record { chain = c.args.cursor.now.chain; index = i; slot = Some c.in-Some.slot }) here.1;
     }
 
 pub returns-clause-items : goal.returns-clause-items
