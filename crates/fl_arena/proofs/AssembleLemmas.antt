@@ -1,12 +1,10 @@
 -- A change to one chain, put together from what it does to that chain, to the others and to the free list.
-use Rattle.std.proofs.Common.{◌≡◌, ◌≢◌, ℕ, ◌+◌, ◌<◌, ◌≤◌, List, [], length, set, get_or, count_by, Option, Some, None, slice_get, refl, sym, ◌∙◌, ap, subst, inl, inr, arith, length-set}
-use Rattle.std.specs.Option.{option_map}
+use Rattle.std.proofs.Common.{◌≡◌, ◌≢◌, ℕ, ◌+◌, ◌<◌, List, length, set, count_by, Option, Some, slice_get, sym, ◌∙◌, subst, inl, inr, arith, length-set}
 use Rattle.std.proofs.lemmas.Bool.{cases_eq}
-use Rattle.std.proofs.lemmas.Option.{slice_get_within}
-use Rattle.fl_arena.specs.Chains.{Entry, Chains, entries, slot_at, item_count, with_entries}
-use Rattle.fl_arena.specs.Links.{is_free, link_at, link_before, member_of, SpellsChain, SpellsFree, IsOnChain, Spells}
+use Rattle.fl_arena.specs.Chains.{Entry, Chains, entries, with_entries}
+use Rattle.fl_arena.specs.Links.{is_free, link_at, member_of, SpellsChain, SpellsFree, IsOnChain, Spells}
 use Rattle.fl_arena.specs.declared.nodes.Node.{Node}
-use Rattle.fl_arena.specs.declared.nodes.Node.TheVariants.{Free, Taken}
+use Rattle.fl_arena.specs.declared.nodes.Node.TheVariants.{Taken}
 use Rattle.fl_arena.specs.declared.nodes.Member.{Member}
 use Rattle.fl_arena.specs.declared.nodes.Ends.{Ends}
 use Rattle.fl_arena.proofs.ReadLemmas.{slice_get-set_same, slice_get-set_other}

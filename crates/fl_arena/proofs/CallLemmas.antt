@@ -1,13 +1,12 @@
 -- Each call of the arena, from what it read to what it wrote.
-use Rattle.std.proofs.Common.{◌≡◌, ◌≢◌, ℕ, zero, suc, ◌+◌, ◌-◌, ◌<◌, ◌≤◌, ◌^◌, List, [], ◌∷◌, map, length, set, get_or, replicate, sum_by, unwrap_or, IfSome, Option, Some, None, is_some, if◌then◌else◌, slice_get, refl, sym, ◌∙◌, ap, subst, inl, inr, arith, add-one}
+use Rattle.std.proofs.Common.{◌≡◌, ℕ, zero, suc, ◌+◌, ◌-◌, ◌<◌, ◌≤◌, ◌^◌, List, [], length, set, get_or, replicate, sum_by, IfSome, Option, Some, None, slice_get, refl, sym, ◌∙◌, ap, subst, arith, add-one}
 use Rattle.std.specs.List.{insert, remove}
-use Rattle.std.specs.Option.{option_map}
 use Rattle.std.proofs.lemmas.List.{length-replicate}
 use Rattle.std.proofs.lemmas.List.Sums.{sum_by-cons}
 use Rattle.std.proofs.lemmas.Option.{slice_get_read, slice_get-get_or, none-some}
-use Rattle.fl_arena.specs.Chains.{Entry, Chains, entries, items, slot_at, item_count, with_entries, IsFree, free_count}
-use Rattle.fl_arena.specs.Cursors.{cursor_at, IsInPlace, index_of, item_of, with_item, without, Inserts}
-use Rattle.fl_arena.specs.Links.{link_at, link_before, member_of, relinked, ends_with, ends_without, IsTaken, IsSpare, IsWithin, SpellsChain, SpellsFree, AreFree, Spells, spelled}
+use Rattle.fl_arena.specs.Chains.{Entry, Chains, entries, slot_at, with_entries}
+use Rattle.fl_arena.specs.Cursors.{cursor_at, IsInPlace, index_of, item_of, with_item, without}
+use Rattle.fl_arena.specs.Links.{link_at, link_before, relinked, ends_with, ends_without, IsSpare, SpellsChain, SpellsFree, AreFree, Spells, spelled}
 use Rattle.fl_arena.specs.declared.cursors.Cursor.{Cursor}
 use Rattle.fl_arena.specs.declared.nodes.Node.{Node}
 use Rattle.fl_arena.specs.declared.nodes.Node.TheVariants.{Free, Taken}

@@ -1,13 +1,13 @@
 -- What callers need of the chains: a change to one of them leaves every other as it is, and the items
 -- change as the entries do.
-use Rattle.std.proofs.Common.{◌≡◌, ◌≢◌, ℕ, ◌+◌, ◌<◌, List, [], length, set, get_or, sum_by, map, take, drop, zero, suc, inl, inr, ◌≤◌, ◌++◌, ◌∷◌, ◌∙◌, Option, Some, None, slice_get, refl, sym, ap, arith}
+use Rattle.std.proofs.Common.{◌≡◌, ◌≢◌, ℕ, ◌+◌, ◌<◌, List, [], length, set, map, take, drop, zero, suc, inl, inr, ◌≤◌, ◌++◌, ◌∷◌, ◌∙◌, Some, slice_get, refl, sym, ap, arith}
 use Rattle.std.specs.List.{insert, remove}
 use Rattle.std.specs.Option.{option_map}
 use Rattle.std.proofs.lemmas.List.{length-set, get_or-set_same, get_or-set_other, map-append, take-map, drop-map, map-set, length-map}
-use Rattle.std.proofs.lemmas.Option.{slice_get-get_or, slice_get_past, slice_get-map}
+use Rattle.std.proofs.lemmas.Option.{slice_get_past, slice_get-map}
 use Rattle.std.proofs.lemmas.Bool.{cases_lt}
 use Rattle.std.proofs.lemmas.List.Sums.{sum_by-set}
-use Rattle.fl_arena.specs.Chains.{Entry, Chains, entries, items, slot_at, item_count, with_entries, HasSizeOf}
+use Rattle.fl_arena.specs.Chains.{Entry, Chains, entries, items, item_count, with_entries, HasSizeOf}
 use Rattle.fl_arena.specs.Cursors.{cursor_at, index_of, item_of}
 use Rattle.fl_arena.specs.declared.cursors.Cursor.{Cursor}
 

@@ -1,15 +1,14 @@
 -- The free nodes are as many as the slots that are on no chain.
-use Rattle.std.proofs.Common.{◌≡◌, ◌≢◌, ℕ, zero, suc, ◌+◌, ◌<◌, ◌≤◌, Bool, true, false, not, ◌||◌, cond, eqb, List, [], ◌∷◌, length, set, get_or, sum_by, count_by, Option, Some, None, slice_get, refl, sym, ◌∙◌, ap, inl, inr, arith, eq-eqb}
+use Rattle.std.proofs.Common.{◌≡◌, ℕ, zero, suc, ◌+◌, ◌<◌, Bool, true, not, cond, eqb, List, [], ◌∷◌, length, set, count_by, Option, Some, None, slice_get, refl, sym, ◌∙◌, ap, inl, inr, arith, eq-eqb}
 use Rattle.std.specs.List.{list_any, range_with_len}
 use Rattle.std.specs.Option.{option_map}
 use Rattle.std.proofs.lemmas.Bool.{or_cases, or_left, or_right, eqb-true, false_from_ne_true}
 use Rattle.std.proofs.lemmas.List.Sums.{sum_by-cons, sum_by-set}
 use Rattle.std.proofs.lemmas.Option.{none-some, slice_get_within, get_or_from_slice_get, slice_get-get_or}
 use Rattle.fl_arena.specs.Chains.{Entry, Chains, entries, slot_at, is_linked, unlinked_count}
-use Rattle.fl_arena.specs.Links.{alter, alter_link, with_next, with_previous, relinked, is_free, IsOnChain, Spells}
+use Rattle.fl_arena.specs.Links.{alter, alter_link, with_next, with_previous, relinked, is_free, Spells}
 use Rattle.fl_arena.specs.declared.nodes.Node.{Node}
 use Rattle.fl_arena.specs.declared.nodes.Node.TheVariants.{Free, Taken}
-use Rattle.fl_arena.specs.declared.nodes.Member.{Member}
 use Rattle.fl_arena.specs.declared.nodes.Ends.{Ends}
 use Rattle.fl_arena.proofs.PlaceLemmas.{linked_at, chain_within}
 

@@ -1,16 +1,16 @@
 -- What the node at a cursor has.
-use Rattle.std.proofs.Common.{◌≡◌, ◌≢◌, ℕ, zero, suc, ◌+◌, ◌-◌, ◌<◌, ◌≤◌, ◌^◌, List, [], ◌∷◌, map, length, set, get_or, sum_by, Option, Some, None, is_some, if◌then◌else◌, slice_get, MatchOption, IsSome, refl, sym, ◌∙◌, ap, subst, inl, inr, arith, add-one}
+use Rattle.std.proofs.Common.{◌≡◌, ℕ, zero, suc, ◌<◌, ◌≤◌, List, [], length, Option, Some, None, slice_get, refl, sym, ◌∙◌, ap, inl, inr, arith}
 use Rattle.std.specs.Option.{option_map}
 use Rattle.std.proofs.lemmas.Bool.{cases_lt}
 use Rattle.std.proofs.lemmas.List.{get_or_past}
 use Rattle.std.proofs.lemmas.List.Sums.{sum_by-set}
-use Rattle.std.proofs.lemmas.Option.{slice_get_within, slice_get-get_or, slice_get-map, none-some}
+use Rattle.std.proofs.lemmas.Option.{slice_get_within, slice_get-map}
 use Rattle.fl_arena.specs.Chains.{Entry, Chains, entries, items, slot_at, item_count}
-use Rattle.fl_arena.specs.Cursors.{cursor_at, IsInPlace, index_of, item_of}
-use Rattle.fl_arena.specs.Links.{link_at, link_before, member_of, IsTaken, IsWithin, SpellsChain, Spells}
+use Rattle.fl_arena.specs.Cursors.{IsInPlace}
+use Rattle.fl_arena.specs.Links.{link_at, link_before, IsTaken, IsWithin, Spells}
 use Rattle.fl_arena.specs.declared.cursors.Cursor.{Cursor}
 use Rattle.fl_arena.specs.declared.nodes.Node.{Node}
-use Rattle.fl_arena.specs.declared.nodes.Node.TheVariants.{Free, Taken}
+use Rattle.fl_arena.specs.declared.nodes.Node.TheVariants.{Taken}
 use Rattle.fl_arena.specs.declared.nodes.Member.{Member}
 use Rattle.fl_arena.specs.declared.nodes.Ends.{Ends}
 use Rattle.fl_arena.proofs.PlaceLemmas.{linked_at, chain_within, same_member}

@@ -1,8 +1,8 @@
 -- The free list has no slot twice, and keeps its slots while other nodes change.
-use Rattle.std.proofs.Common.{◌≡◌, ◌≢◌, ℕ, zero, suc, ◌+◌, ◌<◌, ◌≤◌, List, [], ◌∷◌, ◌++◌, length, Option, Some, None, slice_get, refl, sym, ◌∙◌, ap, subst, inl, inr, arith}
+use Rattle.std.proofs.Common.{◌≡◌, ◌≢◌, ℕ, zero, suc, ◌≤◌, List, Option, Some, slice_get, refl, sym, ◌∙◌, ap, subst, arith}
 use Rattle.fl_arena.specs.Links.{SpellsFree}
 use Rattle.fl_arena.specs.declared.nodes.Node.{Node}
-use Rattle.fl_arena.specs.declared.nodes.Node.TheVariants.{Free, Taken}
+use Rattle.fl_arena.specs.declared.nodes.Node.TheVariants.{Free}
 
 module _ {T : Type 0} where
   same_next : (nodes : List (Node T)) (slot : ℕ) (x y : Option ℕ) → slice_get nodes slot ≡ Some (Free x) → slice_get nodes slot ≡ Some (Free y) → x ≡ y

@@ -1,15 +1,13 @@
 -- An insert, from the links before it to the links after it.
-use Rattle.std.proofs.Common.{◌≡◌, ◌≢◌, ℕ, zero, suc, ◌+◌, ◌<◌, ◌≤◌, List, [], ◌∷◌, length, set, get_or, sum_by, Option, Some, None, is_some, if◌then◌else◌, cond, slice_get, refl, sym, ◌∙◌, ap, subst, inl, inr, arith, length-set, ◌-◌}
+use Rattle.std.proofs.Common.{◌≡◌, ◌≢◌, ℕ, zero, suc, ◌<◌, ◌≤◌, List, [], ◌∷◌, length, set, Option, Some, None, is_some, if◌then◌else◌, slice_get, refl, sym, ◌∙◌, ap, subst, inl, inr, arith, length-set, ◌-◌}
 use Rattle.std.proofs.Math.Numerals.{sub-one}
 use Rattle.std.specs.List.{insert}
 use Rattle.std.specs.Option.{option_map}
 use Rattle.std.proofs.lemmas.Bool.{cases_lt, cases_eq, cases_order}
-use Rattle.std.proofs.lemmas.List.{get_or-set_same, get_or-set_other}
 use Rattle.std.proofs.lemmas.List.Edits.{length-insert}
-use Rattle.std.proofs.lemmas.List.Sums.{sum_by-set}
-use Rattle.std.proofs.lemmas.Option.{slice_get_within, slice_get-get_or, slice_get_past, none-some}
-use Rattle.fl_arena.specs.Chains.{Entry, Chains, entries, slot_at, item_count, with_entries}
-use Rattle.fl_arena.specs.Links.{is_free, ends_with, at_link, link_at, link_before, member_of, relinked, SpellsChain, SpellsFree, IsOnChain, Spells}
+use Rattle.std.proofs.lemmas.Option.{slice_get_within, slice_get_past}
+use Rattle.fl_arena.specs.Chains.{Entry, Chains, entries, slot_at, with_entries}
+use Rattle.fl_arena.specs.Links.{is_free, ends_with, link_at, link_before, member_of, relinked, SpellsChain, SpellsFree, IsOnChain, Spells}
 use Rattle.fl_arena.specs.declared.nodes.Node.{Node}
 use Rattle.fl_arena.specs.declared.nodes.Node.TheVariants.{Free, Taken}
 use Rattle.fl_arena.specs.declared.nodes.Member.{Member}

@@ -1,10 +1,9 @@
 -- What each node reads once the links beside a slot were written.
-use Rattle.std.proofs.Common.{◌≡◌, ◌≢◌, ℕ, zero, suc, ◌+◌, ◌<◌, ◌≤◌, Bool, true, false, cond, eqb, List, [], ◌∷◌, map, length, set, Option, Some, None, slice_get, refl, sym, ◌∙◌, ap, inl, inr, arith, eq-eqb}
+use Rattle.std.proofs.Common.{◌≡◌, ◌≢◌, ℕ, true, false, cond, eqb, List, length, Option, Some, None, slice_get, refl, ◌∙◌, ap, inl, inr, eq-eqb}
 use Rattle.std.specs.Option.{option_map}
 use Rattle.std.proofs.lemmas.Bool.{cases_eq, ne_eqb}
-use Rattle.std.proofs.lemmas.Option.{slice_get_within}
-use Rattle.fl_arena.proofs.ReadLemmas.{slice_get-alter_same, slice_get-alter_other, length-alter, slice_get-set_same, slice_get-set_other}
-use Rattle.fl_arena.specs.Links.{alter, alter_link, at_link, with_previous, with_next, relinked}
+use Rattle.fl_arena.proofs.ReadLemmas.{slice_get-alter_same, slice_get-alter_other, length-alter}
+use Rattle.fl_arena.specs.Links.{alter_link, at_link, with_previous, with_next, relinked}
 use Rattle.fl_arena.specs.declared.nodes.Node.{Node}
 use Rattle.fl_arena.specs.declared.nodes.Node.TheVariants.{Free, Taken}
 use Rattle.fl_arena.specs.declared.nodes.Member.{Member}

@@ -1,11 +1,11 @@
 -- At most one place for each slot.
-use Rattle.std.proofs.Common.{◌≡◌, ◌≢◌, ℕ, zero, suc, ◌+◌, ◌<◌, ◌≤◌, Bool, true, false, cond, eqb, List, [], ◌∷◌, map, length, set, get_or, subst, Option, Some, None, slice_get, refl, sym, ◌∙◌, ap, inl, inr, arith}
+use Rattle.std.proofs.Common.{◌≡◌, ℕ, zero, suc, ◌<◌, List, [], length, get_or, subst, Option, Some, None, slice_get, refl, sym, ◌∙◌, ap, inl, inr, arith}
 use Rattle.std.specs.Option.{option_map}
 use Rattle.std.proofs.lemmas.Bool.{cases_lt}
 use Rattle.std.proofs.lemmas.List.{get_or_past}
 use Rattle.std.proofs.lemmas.Option.{none-some, slice_get_within, slice_get-get_or}
-use Rattle.fl_arena.specs.Chains.{Entry, Chains, entries, slot_at, item_count}
-use Rattle.fl_arena.specs.Links.{link_at, link_before, member_of, SpellsChain, SpellsFree, IsOnChain, Spells, walk, spelled}
+use Rattle.fl_arena.specs.Chains.{Entry, Chains, entries, slot_at}
+use Rattle.fl_arena.specs.Links.{link_at, member_of, Spells}
 use Rattle.fl_arena.specs.declared.nodes.Node.{Node}
 use Rattle.fl_arena.specs.declared.nodes.Node.TheVariants.{Free, Taken}
 use Rattle.fl_arena.specs.declared.nodes.Member.{Member}

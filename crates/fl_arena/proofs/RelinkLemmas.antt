@@ -1,16 +1,16 @@
 -- What the entries read once the links round a place of a chain lead elsewhere.
-use Rattle.std.proofs.Common.{◌≡◌, ◌≢◌, ℕ, zero, suc, ◌+◌, ◌<◌, ◌≤◌, List, length, set, Option, Some, None, slice_get, refl, sym, ◌∙◌, ap, subst, inl, inr, arith}
+use Rattle.std.proofs.Common.{◌≡◌, ◌≢◌, ℕ, zero, suc, List, set, Option, Some, slice_get, refl, sym, ◌∙◌, ap, subst, inl, inr, arith}
 use Rattle.std.specs.Option.{option_map}
-use Rattle.std.proofs.lemmas.Option.{slice_get_within, slice_get-get_or, slice_get_past, slice_get_cases, none-some}
+use Rattle.std.proofs.lemmas.Option.{slice_get_within, slice_get_cases}
 use Rattle.fl_arena.specs.Chains.{Entry, Chains, entries, slot_at}
 use Rattle.fl_arena.specs.Links.{at_link, link_at, link_before, member_of, relinked, IsOnChain, Spells}
 use Rattle.fl_arena.specs.declared.nodes.Node.{Node}
 use Rattle.fl_arena.specs.declared.nodes.Node.TheVariants.{Free, Taken}
 use Rattle.fl_arena.specs.declared.nodes.Member.{Member}
 use Rattle.fl_arena.specs.declared.nodes.Ends.{Ends}
-use Rattle.fl_arena.proofs.ReadLemmas.{slice_get-set_same, slice_get-set_other}
-use Rattle.fl_arena.proofs.PlaceLemmas.{linked_at, same_place, IsLinkedAt, same_member}
-use Rattle.fl_arena.proofs.LinkLemmas.{at_link-same, at_link-other, length-relinked, taken_in_relinked, free_in_relinked}
+use Rattle.fl_arena.proofs.ReadLemmas.{slice_get-set_other}
+use Rattle.fl_arena.proofs.PlaceLemmas.{linked_at, same_place, same_member}
+use Rattle.fl_arena.proofs.LinkLemmas.{at_link-other, length-relinked, taken_in_relinked, free_in_relinked}
 
 module _ {T : Type 0} where
   -- the nodes once the slot before `i` leads to `next`, and the slot at `k` back to `previous`, and a

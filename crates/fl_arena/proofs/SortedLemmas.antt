@@ -1,5 +1,5 @@
 -- A walk to the place of an item in a list that is kept in order.
-use Rattle.std.proofs.Common.{◌≡◌, ℕ, zero, suc, ◌+◌, ◌<◌, ◌≤◌, List, [], ◌∷◌, ◌++◌, length, take, drop, leb, cond, Option, Some, None, slice_get, Result, Ok, Err, OnOk, refl, sym, ◌∙◌, ap, arith, add-one}
+use Rattle.std.proofs.Common.{◌≡◌, ℕ, zero, suc, ◌+◌, ◌<◌, ◌≤◌, List, [], ◌∷◌, ◌++◌, take, drop, Some, None, slice_get, Result, Ok, Err, OnOk, refl, sym, ◌∙◌, ap, add-one}
 use Rattle.std.specs.List.{insert}
 use Rattle.std.proofs.lemmas.Bool.{le-leb, lt-leb}
 use Rattle.std.proofs.lemmas.Option.{none-some}

@@ -1,7 +1,7 @@
 -- Where a cursor stands.
-use Rattle.std.specs.Prelude.{◌≡◌, ℕ, ◌+◌, List, length, Option, Some, None, is_some, slice_get, slice_set, unwrap_or, insert, remove, ◌<◌, MatchOption, if◌then◌else◌}
+use Rattle.std.specs.Prelude.{◌≡◌, ℕ, length, Option, Some, None, is_some, slice_get, slice_set, unwrap_or, insert, remove, ◌<◌, MatchOption, if◌then◌else◌}
 use Rattle.std.specs.Bool.{⊤}
-use Rattle.fl_arena.specs.Chains.{Entry, Chains, entries, items, slot_at, IsFree, with_entries}
+use Rattle.fl_arena.specs.Chains.{Chains, entries, items, slot_at, IsFree, with_entries}
 use Rattle.fl_arena.specs.declared.cursors.Cursor.{Cursor}
 
 module _ {T : Type 0} where

@@ -1,5 +1,5 @@
 -- How the links inside the slots spell the chains and the free list. No public clause cites this module.
-use Rattle.std.specs.Prelude.{◌≡◌, ℕ, zero, suc, ◌+◌, ◌-◌, ◌≤◌, ◌<◌, ◌==◌, Bool, true, false, List, [], ◌∷◌, map, length, sum_by, count_by, Option, Some, None, is_some, slice_get, MatchOption, if◌then◌else◌}
+use Rattle.std.specs.Prelude.{◌≡◌, ℕ, zero, suc, ◌+◌, ◌-◌, ◌≤◌, ◌<◌, ◌==◌, Bool, true, false, List, [], ◌∷◌, map, length, count_by, Option, Some, None, is_some, slice_get, MatchOption, if◌then◌else◌}
 use Rattle.std.specs.Bool.{⊤}
 use Rattle.std.specs.Option.{option_map}
 use Rattle.fl_arena.specs.Chains.{Entry, Chains, entries, slot_at, item_count}

@@ -1,5 +1,4 @@
-use Rattle.std.proofs.Common.{Some, ◌≡◌, ◌+◌, arith, rules}
-use Rattle.fl_arena.specs.Links.{AreFree}
+use Rattle.std.proofs.Common.{◌≡◌, arith}
 use Rattle.fl_arena.proofs.NodeLemmas.{AreFree-push}
 use Rattle.fl_arena.proofs.nodes.free_nodes.Goals as goal
 

@@ -1,4 +1,4 @@
-use Rattle.std.proofs.Common.{Some, arith, ◌≡◌, ap, ◌∙◌, length}
+use Rattle.std.proofs.Common.{arith, ◌≡◌, ap, ◌∙◌, length}
 use Rattle.fl_arena.specs.Links.{with_next, with_previous}
 use Rattle.fl_arena.proofs.LinkLemmas.{length-alter_link}
 use Rattle.fl_arena.proofs.NodeLemmas.{IsWithin-same}

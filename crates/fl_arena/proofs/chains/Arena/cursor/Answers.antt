@@ -1,5 +1,4 @@
-use Rattle.std.proofs.Common.{◌≡◌, arith, sym}
-use Rattle.fl_arena.proofs.CursorLemmas.{linked_within}
+use Rattle.std.proofs.Common.{arith}
 use Rattle.fl_arena.proofs.CallLemmas.{spells_value, end_read, within_slots}
 use Rattle.fl_arena.proofs.chains.Arena.cursor.Goals as goal
 

@@ -1,4 +1,4 @@
-use Rattle.std.proofs.Common.{◌≡◌, ◌-◌, ◌<◌, ◌≤◌, ℕ, Some, length}
+use Rattle.std.proofs.Common.{◌≡◌, ◌-◌, ◌<◌, ℕ, Some, length}
 use Rattle.fl_arena.specs.Chains.{entries, slot_at}
 use Rattle.fl_arena.specs.Cursors.{cursor_at}
 use Rattle.fl_arena.proofs.chains.Arena.index_on.Given as goal

@@ -1,9 +1,9 @@
-use Rattle.std.proofs.Common.{◌≡◌, ◌+◌, ◌-◌, ◌<◌, ℕ, suc, length, Some, None, set, sym, ap, ◌∙◌, subst, slice_get, refl, arith}
+use Rattle.std.proofs.Common.{◌≡◌, ◌-◌, ℕ, Some, set, sym, ap, ◌∙◌, subst, arith}
 use Rattle.std.specs.List.{insert}
 use Rattle.std.proofs.lemmas.Option.{slice_get_within}
-use Rattle.fl_arena.specs.Chains.{Chains, entries, items, with_entries}
-use Rattle.fl_arena.specs.Cursors.{cursor_at, index_of, Inserts}
-use Rattle.fl_arena.specs.Links.{Spells, link_at, link_before, IsWithin, SpellsChain}
+use Rattle.fl_arena.specs.Chains.{entries, items, with_entries}
+use Rattle.fl_arena.specs.Cursors.{cursor_at, index_of}
+use Rattle.fl_arena.specs.Links.{Spells, link_before}
 use Rattle.fl_arena.proofs.ChainLaws.{HasSizeOf-with, items-insert, entries-with_other}
 use Rattle.fl_arena.proofs.CursorLemmas.{is_taken, slot_there, linked_within, before_within}
 use Rattle.fl_arena.proofs.InsertLemmas.{unused_slot}

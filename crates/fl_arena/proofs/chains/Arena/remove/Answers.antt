@@ -1,10 +1,10 @@
-use Rattle.std.proofs.Common.{◌≡◌, ◌+◌, ◌<◌, ℕ, suc, length, Some, None, set, sym, ap, ◌∙◌, subst, slice_get, arith}
+use Rattle.std.proofs.Common.{◌+◌, suc, Some, set, sym, ap, ◌∙◌, arith}
 use Rattle.std.specs.List.{remove}
-use Rattle.fl_arena.specs.Chains.{Chains, entries, items, with_entries}
+use Rattle.fl_arena.specs.Chains.{entries, items, with_entries}
 use Rattle.fl_arena.specs.Cursors.{cursor_at}
-use Rattle.fl_arena.specs.Links.{Spells, link_at, IsWithin, SpellsChain}
+use Rattle.fl_arena.specs.Links.{Spells}
 use Rattle.fl_arena.proofs.ChainLaws.{HasSizeOf-with, items-remove, entries-with_other}
-use Rattle.fl_arena.proofs.CursorLemmas.{IsAt, is_at, is_taken, slot_there, linked_within, before_within}
+use Rattle.fl_arena.proofs.CursorLemmas.{is_at, is_taken, slot_there, linked_within, before_within}
 use Rattle.fl_arena.proofs.WalkLemmas.{spelled_is}
 use Rattle.fl_arena.proofs.CallLemmas.{spells_value, spells_own, end_read, removed, cursor_after}
 use Rattle.fl_arena.proofs.chains.Arena.remove.Goals as goal

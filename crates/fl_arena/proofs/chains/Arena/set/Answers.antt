@@ -1,4 +1,4 @@
-use Rattle.std.proofs.Common.{◌≡◌, ◌∙◌, Some, set, unwrap_or, sym, ap, arith}
+use Rattle.std.proofs.Common.{◌∙◌, set, unwrap_or, ap, arith}
 use Rattle.fl_arena.specs.Chains.{entries, items}
 use Rattle.fl_arena.proofs.ChainLaws.{HasSizeOf-with, items-set, entries-with_other}
 use Rattle.fl_arena.proofs.CursorLemmas.{is_at, is_taken, slot_there}

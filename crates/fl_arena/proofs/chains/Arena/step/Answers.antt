@@ -1,4 +1,4 @@
-use Rattle.std.proofs.Common.{◌≡◌, Some, suc, arith}
+use Rattle.std.proofs.Common.{suc, arith}
 use Rattle.fl_arena.proofs.PlaceLemmas.{linked_at}
 use Rattle.fl_arena.proofs.CursorLemmas.{is_at, is_taken, slot_there}
 use Rattle.fl_arena.proofs.CallLemmas.{spells_value, stepped, within_slots}
