@@ -1,4 +1,4 @@
-use Rattle.std.proofs.Common.{◌≡◌, length}
+use Rattle.std.proofs.Common.{◌≡◌}
 use Rattle.fl_arena.specs.Cursors.{cursor_at}
 use Rattle.fl_arena.proofs.tests.compare.Given as goal
 
