@@ -1,0 +1,16 @@
+pub mod ChainLaws
+mod ReadLemmas
+mod PlaceLemmas
+mod LinkLemmas
+mod WalkLemmas
+mod FreeLemmas
+mod RelinkLemmas
+mod AssembleLemmas
+mod InsertLemmas
+mod RemoveLemmas
+mod SetLemmas
+mod NodeLemmas
+mod CursorLemmas
+mod CallLemmas
+mod SortedLemmas
+mod CountLemmas

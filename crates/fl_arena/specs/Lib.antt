@@ -1,0 +1,4 @@
+pub mod Chains
+pub mod Cursors
+pub mod Links
+pub mod Sorted

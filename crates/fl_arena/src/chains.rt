@@ -1,0 +1,220 @@
+//! The arena.
+ghost use Rattle.std.specs.Prelude.{◌≡◌, ◌≢◌, ◌↔◌, ◌+◌, ◌<◌, ◌≤◌, ◌^◌, ℕ, [], length, replicate, insert, remove, slice_get, slice_set, Some, IsSome, IsNone, IsErr, OnOk, OnErr, IfOk, IfSome};
+ghost use Rattle.fl_arena.specs.Chains.{entries, items, slot_at, item_count, free_count, unlinked_count, HasSizeOf};
+ghost use Rattle.fl_arena.specs.Cursors.{cursor_at, IsInPlace, index_of, item_of, with_item, without, Inserts};
+
+use crate::cursors::{Cursor, Full, Place};
+use crate::nodes::{
+    Ends, Member, Node, free_nodes, link_in, link_out, member_at, next_free, slot_number,
+};
+use std::alloc::{AllocError, Global};
+use std::marker::Model;
+
+/// Chains of items over a fixed number of slots, each of which is free or holds one item of one chain.
+///
+/// Contracts see the entries of each chain in order, an item with its slot each, and the number of
+/// slots.
+#[derive(Drop)]
+pub struct Arena<T: Copy> {
+    nodes: Vec<Node<T>>,
+    ends: Vec<Ends>,
+    // The first slot of the free list, and how many slots are in it.
+    spare: Option<u16>,
+    free: usize,
+}
+
+impl<T: Copy> Model for Arena<T> {
+    ghost use Rattle.fl_arena.specs.Chains.{Chains};
+
+    ghost Value = { Chains T };
+
+    ghost use Rattle.fl_arena.specs.Links.{Spells, spelled};
+
+    ghost view = { λ a. spelled a.nodes.items a.ends.items };
+
+    ghost invariant = { λ a. Spells a.nodes.items a.ends.items a.spare a.free (spelled a.nodes.items a.ends.items) };
+}
+
+impl<T: Copy> Arena<T> {
+    /// An arena of so many empty chains and so many free slots, which are numbered from 0. It fails
+    /// only for want of memory.
+    pub fn new(alloc: Global, chains: usize, slots: usize) -> Result<Self, AllocError>
+        requires chains { chains ≤ 2 ^ 16 }
+        requires slots { slots ≤ 2 ^ 16 }
+        ensures { IfOk result (λ a. a ≡ record { chains = replicate chains []; slots = slots }) }
+    {
+        let (nodes, spare) = free_nodes(alloc, slots)?;
+        let ends = vec![in alloc; Ends::EMPTY; chains]?;
+        Ok(Arena {
+            nodes,
+            ends,
+            spare,
+            free: slots,
+        })
+    }
+
+    /// The cursor at the first item of the chain, or at its end.
+    pub fn cursor(&self, chain: usize) -> Cursor
+        requires { chain < length self.now.chains }
+        ensures first { result ≡ cursor_at self.now chain 0 }
+        ensures in_range { IfSome result.slot (λ slot. slot < self.now.slots) }
+    {
+        Cursor {
+            chain,
+            index: 0,
+            slot: self.ends[chain].first,
+        }
+    }
+
+    /// The item at the cursor, or none at the end.
+    pub fn get(&self, cursor: &Cursor) -> Option<T>
+        requires { IsInPlace self.now cursor.now }
+        ensures item { result ≡ item_of self.now cursor.now }
+        ensures some { IsSome result ↔ IsSome cursor.now.slot }
+        ensures at_index { (c i : ℕ) → cursor.now ≡ cursor_at self.now c i → result ≡ slice_get (items self.now c) i }
+    {
+        let slot = cursor.slot?;
+        Some(member_at(&self.nodes, slot).item)
+    }
+
+    /// Takes the cursor on to the next item. At the end it stays.
+    pub fn step(&self, cursor: &mut Cursor)
+        requires { IsInPlace self.now cursor.old }
+        ensures on { IsSome cursor.old.slot → cursor.new ≡ cursor_at self.now cursor.old.chain (cursor.old.index + 1) }
+        ensures stays { IsNone cursor.old.slot → cursor.new ≡ cursor.old }
+        ensures in_range { IfSome cursor.new.slot (λ slot. slot < self.now.slots) }
+    {
+        if let Some(slot) = cursor.slot {
+            cursor.index += 1;
+            cursor.slot = member_at(&self.nodes, slot).next;
+        }
+    }
+
+    /// Puts another item in place of the one at the cursor.
+    pub fn set(&mut self, cursor: &Cursor, item: T)
+        requires at_item { IsSome cursor.now.slot }
+        requires in_place { IsInPlace self.old cursor.now }
+        ensures chains { self.new ≡ with_item self.old cursor.now item }
+        ensures items { items self.new cursor.now.chain ≡ slice_set (items self.old cursor.now.chain) cursor.now.index item }
+        ensures others { (c : ℕ) → c ≢ cursor.now.chain → entries self.new c ≡ entries self.old c }
+        ensures size { HasSizeOf self.old self.new }
+    {
+        let Some(slot) = cursor.slot else {
+            unreachable!()
+        };
+        let member = member_at(&self.nodes, slot);
+        self.nodes[usize::from(slot)] = Node::Taken(Member { item, ..member });
+    }
+
+    /// Takes the item at the cursor off its chain, and frees its slot. The cursor is then at the next
+    /// item.
+    pub fn remove(&mut self, cursor: &mut Cursor) -> T
+        requires at_item { IsSome cursor.old.slot }
+        requires in_place { IsInPlace self.old cursor.old }
+        ensures value { slice_get (items self.old cursor.old.chain) cursor.old.index ≡ Some result }
+        ensures chains { self.new ≡ without self.old cursor.old.chain cursor.old.index }
+        ensures items { items self.new cursor.old.chain ≡ remove (items self.old cursor.old.chain) cursor.old.index }
+        ensures others { (c : ℕ) → c ≢ cursor.old.chain → entries self.new c ≡ entries self.old c }
+        ensures size { HasSizeOf self.old self.new }
+        ensures cursor { cursor.new ≡ cursor_at self.new cursor.old.chain cursor.old.index }
+    {
+        let Some(slot) = cursor.slot else {
+            unreachable!()
+        };
+        let member = member_at(&self.nodes, slot);
+        let ends = self.ends[cursor.chain];
+        link_out(&mut self.nodes, slot, member, self.spare);
+        self.ends[cursor.chain] = ends.without(member.previous, member.next);
+        self.spare = Some(slot);
+        self.free += 1;
+        cursor.slot = member.next;
+        member.item
+    }
+
+    /// Puts an item before the cursor, which then stands at it. At the end of a chain, the item becomes
+    /// the last. A refusal changes neither the arena nor the cursor.
+    pub fn insert(&mut self, cursor: &mut Cursor, item: T) -> Result<(), Full>
+        requires chain { cursor.old.chain < length self.old.chains }
+        requires in_place { IsInPlace self.old cursor.old }
+        ensures full { IsErr result ↔ (free_count self.old ≡ 0) }
+        ensures ok { OnOk result (Inserts self.old self.new cursor.old cursor.new item) }
+        ensures items { OnOk result (items self.new cursor.old.chain ≡ insert (items self.old cursor.old.chain) (index_of self.old cursor.old) item) }
+        ensures others { (c : ℕ) → c ≢ cursor.old.chain → entries self.new c ≡ entries self.old c }
+        ensures size { HasSizeOf self.old self.new }
+        ensures cursor { OnOk result (cursor.new ≡ cursor_at self.new cursor.old.chain (index_of self.old cursor.old)) }
+        ensures err { OnErr result (self.new ≡ self.old) }
+        ensures err_cursor { OnErr result (cursor.new ≡ cursor.old) }
+    {
+        let Some(slot) = self.spare else {
+            return Err(Full);
+        };
+        let ends = self.ends[cursor.chain];
+        let (previous, index) = match cursor.slot {
+            Some(after) => (member_at(&self.nodes, after).previous, cursor.index),
+            None => (ends.last, ends.len),
+        };
+        let member = Member {
+            chain: cursor.chain as u16,
+            previous,
+            next: cursor.slot,
+            item,
+        };
+        self.spare = next_free(&self.nodes, slot);
+        self.free -= 1;
+        link_in(&mut self.nodes, slot, member);
+        self.ends[cursor.chain] = ends.with(member.previous, member.next, slot);
+        cursor.index = index;
+        cursor.slot = Some(slot);
+        Ok(())
+    }
+
+    /// How many slots hold no item.
+    pub fn free(&self) -> usize
+        ensures total { item_count self.now + result ≡ self.now.slots }
+        ensures unlinked { result ≡ unlinked_count self.now }
+    {
+        self.free
+    }
+
+    /// Where the slot is. This walks along its chain.
+    pub fn place(&self, slot: usize) -> Place
+        requires { slot < self.now.slots }
+        ensures { (c i : ℕ) → (result ≡ Place.On c i) ↔ (slot_at self.now c i ≡ Some slot) }
+    {
+        match self.nodes[slot] {
+            Node::Free(_) => Place::Free,
+            Node::Taken(member) => {
+                let chain = usize::from(member.chain);
+                Place::On(chain, self.index_on(chain, slot))
+            }
+        }
+    }
+
+    // The index of a slot on the chain that it is on.
+    fn index_on(&self, chain: usize, slot: usize) -> usize
+        requires { (i : ℕ) × (slot_at self.now chain i ≡ Some slot) }
+        ensures { slot_at self.now chain result ≡ Some slot }
+    {
+        let mut cursor = self.cursor(chain);
+        while let Some(found) = cursor.slot {
+            if usize::from(found) == slot {
+                return cursor.index;
+            }
+            self.step(&mut cursor);
+        }
+        unreachable!()
+    }
+
+    /// The slot of the item at an index of a chain, or none past the last. This walks along the chain.
+    pub fn slot_at(&self, chain: usize, index: usize) -> Option<usize>
+        requires { chain < length self.now.chains }
+        ensures slot { result ≡ slot_at self.now chain index }
+        ensures in_range { IfSome result (λ slot. slot < self.now.slots) }
+    {
+        let mut cursor = self.cursor(chain);
+        while cursor.index < index && cursor.slot.is_some() {
+            self.step(&mut cursor);
+        }
+        slot_number(cursor.slot)
+    }
+}

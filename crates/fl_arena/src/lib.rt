@@ -1,0 +1,14 @@
+//! Chains of items over a fixed number of slots.
+//!
+//! An `Arena` is made once, with a number of chains and a number of slots, and takes no memory
+//! afterwards. Each slot is free or holds one item of one chain.
+#![tactic(auto)]
+
+mod chains;
+mod cursors;
+mod nodes;
+#[cfg(test)]
+mod tests;
+
+pub use chains::Arena;
+pub use cursors::{Cursor, Full, Place};
