@@ -17,3 +17,6 @@ pub use desk::Desk;
 pub use history::{History, Line};
 pub use text::{has_text, print_trace};
 pub use tolds::Tolds;
+
+#[cfg(test)]
+mod tests;
