@@ -1,3 +1,4 @@
+pub mod Append
 pub mod Cut
 pub mod Errno
 pub mod Frame

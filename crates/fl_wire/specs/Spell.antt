@@ -21,6 +21,10 @@ entry_bytes a = laid_out entry_out (a.node ∷ 0 ∷ 0 ∷ 0 ∷ 0 ∷ 0 ∷ [])
 unfoldable pub open_bytes : ℕ → List ℕ
 open_bytes fh = laid_out open_out (fh ∷ 0 ∷ 0 ∷ [])
 
+-- a lock record
+unfoldable pub lock_bytes : ℕ → ℕ → ℕ → ℕ → List ℕ
+lock_bytes start end kind pid = laid_out lk_out (start ∷ end ∷ kind ∷ pid ∷ [])
+
 -- what stands behind the header
 abbrev pub answer_bytes : Answer → List ℕ
 answer_bytes Done = []
@@ -28,7 +32,7 @@ answer_bytes (Entry a) = entry_bytes a
 answer_bytes (Attr a) = laid_out attr_out (0 ∷ 0 ∷ 0 ∷ []) ++ attr_bytes a
 answer_bytes (Open fh) = open_bytes fh
 answer_bytes (Made a fh) = entry_bytes a ++ open_bytes fh
-answer_bytes (Lock start end kind pid) = laid_out lk_out (start ∷ end ∷ kind ∷ pid ∷ [])
+answer_bytes (Lock start end kind pid) = lock_bytes start end kind pid
 
 -- a header: the length of the whole reply, minus the error's number in two's complement or 0, and
 -- whose reply it is
