@@ -12,7 +12,7 @@ unfolding number_at
 number_at-take w i n bytes h =
     let split : n ≡ i + (n - i) = omega arith in
     let moved : drop i (take n bytes) ≡ take (n - i) (drop i bytes) =
-      ap (λ (m : ℕ). drop i (take m bytes)) split ∙ drop-take i (n - i) bytes in
+    ap (λ (m : ℕ). drop i (take m bytes)) split ∙ drop-take i (n - i) bytes in
     ap (little_from 0 w) moved ∙ little_from-take 0 w (n - i) (drop i bytes) (omega arith)
 
 -- as many bytes as the message says are a message

@@ -8,10 +8,10 @@ use Rattle.fl_wire.specs.declared.cut.Step.TheVariants.{Bad, More, Whole}
 -- of which more has to come, or a whole message.
 abbrev pub first_of_length : ℕ → List ℕ → Step
 first_of_length len bytes =
-  if nat_lt len 40 then Bad len
-  else if nat_lt 8192 len then Bad len
-  else if nat_lt (length bytes) len then More
-  else Whole (take len bytes)
+    if nat_lt len 40 then Bad len
+    else if nat_lt 8192 len then Bad len
+    else if nat_lt (length bytes) len then More
+    else Whole (take len bytes)
 
 -- what stands first in the bytes
 abbrev pub first_step : List ℕ → Step

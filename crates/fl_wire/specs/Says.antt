@@ -14,11 +14,11 @@ use Rattle.fl_wire.specs.declared.reading.Refusal.TheVariants.{Answer, Silent, D
 -- the name in these bytes, which a zero byte ends: no other byte is zero, and it has at most 255
 unfoldable pub name_in : List ℕ → Result (List ℕ) Errno
 name_in bytes =
-  let text = take (length bytes - 1) bytes in
-  if not (slice_index bytes (length bytes - 1) == 0) then Err EINVAL
-  else if list_any (λ b. b == 0) text then Err EINVAL
-  else if nat_lt 255 (length text) then Err ENAMETOOLONG
-  else Ok text
+    let text = take (length bytes - 1) bytes in
+    if not (slice_index bytes (length bytes - 1) == 0) then Err EINVAL
+    else if list_any (λ b. b == 0) text then Err EINVAL
+    else if nat_lt 255 (length text) then Err ENAMETOOLONG
+    else Ok text
 
 -- what a lock request asks: a header, then `struct fuse_lk_in`
 abbrev pub lock_asked : List ℕ → LockAsk
@@ -29,7 +29,8 @@ lock_asked bytes = record {
   end = field lk_in 3 40 bytes;
   kind = field lk_in 4 40 bytes;
   pid = field lk_in 5 40 bytes;
-  flags = field lk_in 6 40 bytes }
+  flags = field lk_in 6 40 bytes;
+}
 
 -- a file to be made, where a name is there: `O_EXCL` is octal 200 of the flags, and of the mode the
 -- permissions are kept
@@ -40,7 +41,7 @@ create_of bytes (Err e) = Err (Answer e)
 -- a header, then `struct fuse_create_in`, a name and a zero byte
 abbrev pub create_asked : List ℕ → Result Op Refusal
 create_asked bytes =
-  if nat_lt (length bytes) 57 then Err (Answer EINVAL) else create_of bytes (name_in (drop 56 bytes))
+    if nat_lt (length bytes) 57 then Err (Answer EINVAL) else create_of bytes (name_in (drop 56 bytes))
 
 -- a header, then `struct fuse_lk_in`
 abbrev pub setlk_asked : List ℕ → Result Op Refusal
@@ -50,13 +51,13 @@ setlk_asked bytes = if length bytes == 88 then Ok (Setlk (lock_asked bytes)) els
 -- BATCH_FORGET of `enum fuse_opcode`
 abbrev pub asked : ℕ → List ℕ → Result Op Refusal
 asked opcode bytes =
-  if opcode == 26 then Err (Answer EPROTO)
-  else if opcode == 38 then Err Destroy
-  else if opcode == 42 then Err Silent
-  else if opcode == 2 then Err Silent
-  else if opcode == 32 then setlk_asked bytes
-  else if opcode == 35 then create_asked bytes
-  else Err (Answer ENOSYS)
+    if opcode == 26 then Err (Answer EPROTO)
+    else if opcode == 38 then Err Destroy
+    else if opcode == 42 then Err Silent
+    else if opcode == 2 then Err Silent
+    else if opcode == 32 then setlk_asked bytes
+    else if opcode == 35 then create_asked bytes
+    else Err (Answer ENOSYS)
 
 -- the order whose operation this is
 abbrev pub order_of : List ℕ → Result Op Refusal → Result Order Refusal
@@ -66,7 +67,8 @@ order_of bytes (Ok op) = Ok (record {
   uid = field in_header 4 0 bytes;
   gid = field in_header 5 0 bytes;
   pid = field in_header 6 0 bytes;
-  op = op })
+  op = op;
+})
 order_of bytes (Err refusal) = Err refusal
 
 -- what a message says: an order, or a refusal

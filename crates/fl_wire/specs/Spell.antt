@@ -11,7 +11,7 @@ use Rattle.fl_wire.specs.declared.told.Told.{Told}
 -- the attributes of a node: its number, mode, links, owner and group, blocks of 4096 bytes, and zeros
 unfoldable pub attr_bytes : Attributes → List ℕ
 attr_bytes a =
-  laid_out attr (a.node ∷ 0 ∷ 0 ∷ 0 ∷ 0 ∷ 0 ∷ 0 ∷ 0 ∷ 0 ∷ a.mode ∷ a.nlink ∷ a.uid ∷ a.gid ∷ 0 ∷ 4096 ∷ 0 ∷ [])
+    laid_out attr (a.node ∷ 0 ∷ 0 ∷ 0 ∷ 0 ∷ 0 ∷ 0 ∷ 0 ∷ 0 ∷ a.mode ∷ a.nlink ∷ a.uid ∷ a.gid ∷ 0 ∷ 4096 ∷ 0 ∷ [])
 
 -- a name that was looked up
 unfoldable pub entry_bytes : Attributes → List ℕ

@@ -11,6 +11,7 @@ use crate::writing::{push_header, write_error};
 
 // The version that is spoken: protocol 7.31 of `fuse.h`.
 const MAJOR: u32 = 7;
+
 const MINOR: u32 = 31;
 
 // What is offered of INIT's flags: FUSE_POSIX_LOCKS and FUSE_FLOCK_LOCKS.
@@ -19,8 +20,11 @@ const OFFERED: u32 = 1 << 1 | 1 << 10;
 // What an agreement tells the kernel besides: requests in the background, and from how many on it holds
 // back; the most bytes of a write; the grain of times, in nanoseconds.
 const MAX_BACKGROUND: u16 = 16;
+
 const CONGESTION_THRESHOLD: u16 = 12;
+
 const MAX_WRITE: u32 = 4096;
+
 const TIME_GRAN: u32 = 1;
 
 /// What an INIT comes to.

@@ -9,14 +9,20 @@ use crate::order::{LockAsk, Op, Order};
 
 // Kinds of messages, by the numbers of `enum fuse_opcode`.
 const FORGET: u32 = 2;
+
 const INIT: u32 = 26;
+
 const SETLK: u32 = 32;
+
 const CREATE: u32 = 35;
+
 const DESTROY: u32 = 38;
+
 const BATCH_FORGET: u32 = 42;
 
 // `O_EXCL` of a kernel's flags, and the permissions of a mode.
 const O_EXCL: u32 = 0o200;
+
 const PERMISSIONS: u32 = 0o777;
 
 /// Why a message is no order.
