@@ -1,14 +1,28 @@
 //! The messages of the lock directory, as types: orders, their answers, and error numbers.
 #![tactic(auto)]
 
+mod append;
+mod cut;
 mod errno;
+mod frame;
+mod init;
+mod layout;
 mod name;
 mod no_memory;
 mod order;
+mod reading;
+#[cfg(test)]
+mod tests;
 mod told;
+mod writing;
 
+pub use cut::{Step, next_frame};
 pub use errno::Errno;
+pub use frame::Frame;
+pub use init::{InitStep, read_init, write_init};
 pub use name::Name;
 pub use no_memory::NoMemory;
 pub use order::{LockAsk, Op, Order};
+pub use reading::{Refusal, read_order};
 pub use told::{Answer, Attr, Told};
+pub use writing::write_told;

@@ -1,0 +1,48 @@
+ghost use Rattle.std.specs.Prelude.{◌≡◌};
+ghost use Rattle.fl_wire.specs.Frame.{IsMessage};
+ghost use Rattle.fl_wire.specs.Layout.{opcode_of, unique_of};
+
+use crate::layout::{u32_at, u64_at};
+use std::marker::Model;
+
+/// One whole message, of 40 to 8192 bytes: as many as its first field says. Contracts see it as the list of
+/// its bytes.
+#[derive(Drop)]
+pub struct Frame<'a> {
+    pub(crate) bytes: &'a [u8],
+}
+
+impl<'a> Model for Frame<'a> {
+    ghost use Rattle.std.specs.Prelude.{List, ℕ};
+    ghost use Rattle.fl_wire.specs.Frame.{IsMessage};
+
+    ghost Value = { List ℕ };
+
+    ghost view = { λ f. f.bytes.now };
+
+    ghost invariant = { λ f. IsMessage f.bytes.now };
+}
+
+impl Frame<'_> {
+    /// What kind of message it is (`enum fuse_opcode` of `fuse.h`).
+    pub fn opcode(&self) -> u32
+        ensures { result ≡ opcode_of self.now }
+    {
+        u32_at(self.bytes, 4)
+    }
+
+    /// The number by which its reply is known.
+    pub fn unique(&self) -> u64
+        ensures { result ≡ unique_of self.now }
+    {
+        u64_at(self.bytes, 8)
+    }
+
+    /// Its bytes, the header first.
+    pub(crate) fn as_bytes(&self) -> &[u8]
+        ensures bytes { result.now ≡ self.now }
+        ensures message { IsMessage self.now }
+    {
+        self.bytes
+    }
+}

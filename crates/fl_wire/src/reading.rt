@@ -1,0 +1,119 @@
+ghost use Rattle.std.specs.Prelude.{◌≡◌, ◌≤◌, ◌<◌, length};
+ghost use Rattle.fl_wire.specs.Says.{create_asked, lock_asked, name_in, said, setlk_asked};
+
+use crate::errno::Errno;
+use crate::frame::Frame;
+use crate::layout::{u32_at, u64_at};
+use crate::name::Name;
+use crate::order::{LockAsk, Op, Order};
+
+// Kinds of messages, by the numbers of `enum fuse_opcode`.
+const FORGET: u32 = 2;
+
+const INIT: u32 = 26;
+
+const SETLK: u32 = 32;
+
+const CREATE: u32 = 35;
+
+const DESTROY: u32 = 38;
+
+const BATCH_FORGET: u32 = 42;
+
+// `O_EXCL` of a kernel's flags, and the permissions of a mode.
+const O_EXCL: u32 = 0o200;
+
+const PERMISSIONS: u32 = 0o777;
+
+/// Why a message is no order.
+#[derive(Clone, Copy, Debug, PartialEq, Eq)]
+pub enum Refusal {
+    /// It is answered with this error.
+    Answer(Errno),
+    /// No reply is owed.
+    Silent,
+    /// It ends the session.
+    Destroy,
+}
+
+/// The order that a message says, or how it is refused: EPROTO for an INIT, ENOSYS for a kind that isn't
+/// served, EINVAL for a body of another length than its kind's or a name that no zero byte ends, and
+/// ENAMETOOLONG for a name of more than 255 bytes.
+pub fn read_order(frame: &Frame) -> Result<Order, Refusal>
+    ensures { result ≡ said frame.now }
+{
+    let bytes = frame.as_bytes();
+    let op = match frame.opcode() {
+        INIT => return Err(Refusal::Answer(Errno::EPROTO)),
+        DESTROY => return Err(Refusal::Destroy),
+        BATCH_FORGET | FORGET => return Err(Refusal::Silent),
+        SETLK => setlk(bytes)?,
+        CREATE => create(bytes)?,
+        _ => return Err(Refusal::Answer(Errno::ENOSYS)),
+    };
+    Ok(Order {
+        unique: frame.unique(),
+        node: u64_at(bytes, 16),
+        uid: u32_at(bytes, 24),
+        gid: u32_at(bytes, 28),
+        pid: u32_at(bytes, 32),
+        op,
+    })
+}
+
+// What a SETLK of these bytes asks.
+fn setlk(bytes: &[u8]) -> Result<Op, Refusal>
+    ensures { result ≡ setlk_asked bytes.now }
+{
+    if bytes.len() != 88 {
+        return Err(Refusal::Answer(Errno::EINVAL));
+    }
+    Ok(Op::Setlk(lock_ask(bytes)))
+}
+
+// What a lock request of these bytes asks.
+fn lock_ask(bytes: &[u8]) -> LockAsk
+    requires { 88 ≤ length bytes.now }
+    ensures { result ≡ lock_asked bytes.now }
+{
+    LockAsk {
+        fh: u64_at(bytes, 40),
+        owner: u64_at(bytes, 48),
+        start: u64_at(bytes, 56),
+        end: u64_at(bytes, 64),
+        kind: u32_at(bytes, 72),
+        pid: u32_at(bytes, 76),
+        flags: u32_at(bytes, 80),
+    }
+}
+
+// What a CREATE of these bytes asks.
+fn create(bytes: &[u8]) -> Result<Op, Refusal>
+    ensures { result ≡ create_asked bytes.now }
+{
+    if bytes.len() < 57 {
+        return Err(Refusal::Answer(Errno::EINVAL));
+    }
+    match name_of(&bytes[56..]) {
+        Ok(name) => Ok(Op::Create {
+            excl: u32_at(bytes, 40) & O_EXCL != 0,
+            mode: u32_at(bytes, 44) & PERMISSIONS,
+            name,
+        }),
+        Err(e) => Err(Refusal::Answer(e)),
+    }
+}
+
+// The name that these bytes spell, a zero byte at its end.
+#[tactic(auto, unfolding(crate::specs::Says::name_in))]
+fn name_of(bytes: &[u8]) -> Result<Name, Errno>
+    requires { 0 < length bytes.now }
+    ensures { result ≡ name_in bytes.now }
+{
+    let last = bytes.len() - 1;
+    let text = &bytes[..last];
+    if bytes[last] != 0 || text.contains(&0) {
+        return Err(Errno::EINVAL);
+    }
+    Name::new(text).ok_or(Errno::ENAMETOOLONG)
+}
