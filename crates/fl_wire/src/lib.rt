@@ -1,4 +1,5 @@
-//! The messages of the lock directory, as types: orders, their answers, and error numbers.
+//! The messages of the lock directory: orders, their answers and error numbers, as types and as the bytes
+//! of the FUSE kernel protocol 7.31 (Linux `fuse.h`).
 #![tactic(auto)]
 
 mod append;
