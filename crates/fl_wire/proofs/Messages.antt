@@ -36,7 +36,8 @@ heads o u n i g p body ho hu hn hi hg hp =
       node_is = little_number-reads_back 8 n (drop 24 bytes) hn;
       uid_is = little_number-reads_back 4 i (drop 28 bytes) hi;
       gid_is = little_number-reads_back 4 g (drop 32 bytes) hg;
-      pid_is = little_number-reads_back 4 p (drop 36 bytes) hp }
+      pid_is = little_number-reads_back 4 p (drop 36 bytes) hp;
+    }
 
 length-request : (o u n i g p : ℕ) (body : List ℕ) → length (request o u n i g p body) ≡ 40 + length body
 unfolding request
@@ -65,7 +66,7 @@ lock_again o u n i g p a h =
 order_again : (bytes : List ℕ) (opcode u n i g p : ℕ) (op : Op) → Heads bytes opcode u n i g p → asked opcode bytes ≡ Ok op → said bytes ≡ Ok (record { unique = u; node = n; uid = i; gid = g; pid = p; op = op })
 order_again bytes opcode u n i g p op h e =
     let parts : order_of bytes (Ok op) ≡ Ok (record { unique = u; node = n; uid = i; gid = g; pid = p; op = op }) =
-      λ k. Ok (record { unique = h.unique_is k; node = h.node_is k; uid = h.uid_is k; gid = h.gid_is k; pid = h.pid_is k; op = op }) in
+    λ k. Ok (record { unique = h.unique_is k; node = h.node_is k; uid = h.uid_is k; gid = h.gid_is k; pid = h.pid_is k; op = op }) in
     ap (λ o. order_of bytes (asked o bytes)) h.opcode_is ∙ ap (order_of bytes) e ∙ parts
 
 -- what a SETLK asks is read back
@@ -120,15 +121,15 @@ op_again : (u n i g p : ℕ) (op : Op) → u < 2 ^ 64 → n < 2 ^ 64 → i < 2 ^
 op_again u n i g p (Setlk a) hu hn hi hg hp h =
     let bytes : List ℕ = request 32 u n i g p (body_for (Setlk a)) in
     order_again bytes 32 u n i g p (Setlk a) (heads 32 u n i g p (body_for (Setlk a)) (lit< tt) hu hn hi hg hp)
-      (setlk_again bytes a (length-request 32 u n i g p (body_for (Setlk a))) (lock_again 32 u n i g p a h))
+    (setlk_again bytes a (length-request 32 u n i g p (body_for (Setlk a))) (lock_again 32 u n i g p a h))
 op_again u n i g p (Create excl mode name) hu hn hi hg hp h =
     let body : List ℕ = body_for (Create excl mode name) in
     let bytes : List ℕ = request 35 u n i g p body in
     let fields = create_fields 35 u n i g p excl mode name h.0 in
     let long : 57 ≤ length bytes = omega (arith, length-request 35 u n i g p body, length-create excl mode name) in
     order_again bytes 35 u n i g p (Create excl mode name) (heads 35 u n i g p body (lit< tt) hu hn hi hg hp)
-      (create_again bytes excl mode (if excl then 128 else 0) name long
-        (ap name_in (drop-request 35 u n i g p body) ∙ name_again name h.1) fields.0 fields.1 (flags_again excl) h.0)
+    (create_again bytes excl mode (if excl then 128 else 0) name long
+    (ap name_in (drop-request 35 u n i g p body) ∙ name_again name h.1) fields.0 fields.1 (flags_again excl) h.0)
 
 -- the message of an order says that order
 pub said_again : (order : Order) → IsSendable order → said (message_of order) ≡ Ok order

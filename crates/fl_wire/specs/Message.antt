@@ -21,7 +21,7 @@ body_for (Setlk ask) = laid_out lk_in (ask.fh ∷ ask.owner ∷ ask.start ∷ as
 -- a header, and the body behind it
 unfoldable pub request : ℕ → ℕ → ℕ → ℕ → ℕ → ℕ → List ℕ → List ℕ
 request opcode unique node uid gid pid body =
-  laid_out in_header ((40 + length body) ∷ opcode ∷ unique ∷ node ∷ uid ∷ gid ∷ pid ∷ 0 ∷ []) ++ body
+    laid_out in_header ((40 + length body) ∷ opcode ∷ unique ∷ node ∷ uid ∷ gid ∷ pid ∷ 0 ∷ []) ++ body
 
 -- the message of an order
 abbrev pub message_of : Order → List ℕ
