@@ -4,6 +4,7 @@ pub mod Errno
 pub mod Frame
 pub mod Init
 pub mod Layout
+pub mod Message
 pub mod Name
 pub mod Says
 pub mod Spell

@@ -1,5 +1,5 @@
 -- File names: up to 255 bytes, none of them zero (POSIX.1-2017, 3.170 Filename; NAME_MAX of Linux).
-use Rattle.std.specs.Prelude.{◌≡◌, ℕ, ◌-◌, ◌<◌, ◌≤◌, List, ◌++◌, length, replicate, Contains}
+use Rattle.std.specs.Prelude.{◌≡◌, ℕ, ◌-◌, ◌≤◌, List, ◌++◌, length, replicate, Contains}
 
 -- at most 255 bytes, none of them zero
 pub record IsName (bytes : List ℕ) : Type 0 where

@@ -1,5 +1,5 @@
 -- What a message says as an order, and how one that says none is refused.
-use Rattle.std.specs.Prelude.{ℕ, ◌+◌, ◌-◌, ◌==◌, ◌||◌, not, bit_and, nat_lt, if◌then◌else◌, List, length, take, drop, slice_index, Bool, Result, Ok, Err}
+use Rattle.std.specs.Prelude.{ℕ, ◌-◌, ◌==◌, not, bit_and, nat_lt, if◌then◌else◌, List, length, take, drop, slice_index, Result, Ok, Err}
 use Rattle.std.specs.List.{list_any}
 use Rattle.fl_wire.specs.Layout.{field, in_header, create_in, lk_in, opcode_of, unique_of}
 use Rattle.fl_wire.specs.declared.errno.Errno.{Errno}

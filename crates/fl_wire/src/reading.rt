@@ -1,4 +1,5 @@
 ghost use Rattle.std.specs.Prelude.{◌≡◌, ◌≤◌, ◌<◌, length};
+ghost use Rattle.fl_wire.specs.Message.{ReadsBack};
 ghost use Rattle.fl_wire.specs.Says.{create_asked, lock_asked, name_in, said, setlk_asked};
 
 use crate::errno::Errno;
@@ -40,6 +41,14 @@ pub enum Refusal {
 /// served, EINVAL for a body of another length than its kind's or a name that no zero byte ends, and
 /// ENAMETOOLONG for a name of more than 255 bytes.
 pub fn read_order(frame: &Frame) -> Result<Order, Refusal>
+    ensures said { result ≡ said frame.now }
+    ensures back { ReadsBack frame.now result }
+{
+    order_in(frame)
+}
+
+// What a message says.
+fn order_in(frame: &Frame) -> Result<Order, Refusal>
     ensures { result ≡ said frame.now }
 {
     let bytes = frame.as_bytes();

@@ -1,5 +1,5 @@
 -- Where the body is long enough, what the name's field says decides.
-use Rattle.std.proofs.Common.{◌≡◌, ◌≤◌, ◌-◌, ℕ, List, take, drop, length, Result, ap, sym, ◌∙◌, arith, Err, Ok}
+use Rattle.std.proofs.Common.{◌≡◌, ◌≤◌, ◌-◌, ℕ, List, take, drop, length, Result, ap, ◌∙◌}
 use Rattle.std.proofs.lemmas.Bool.{le-ltb}
 use Rattle.std.proofs.lemmas.List.{take_rest}
 use Rattle.fl_wire.specs.Says.{create_asked, create_of, name_in}
