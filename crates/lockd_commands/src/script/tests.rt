@@ -187,6 +187,50 @@ ask 0 2 1 5 5 5 create 0 0 61
 tell 2 made 2 33188 1 0 0 3
 ";
 
+// 256 files fill the directory, and 1,024 opens its open files; the first test that fails gives the error.
+#[test]
+fn a_full_directory(rt: HostRuntime) -> Result<(), Fail> {
+    let mut trace = String::new(rt.alloc());
+    for i in 1..257u32 {
+        let (a, b, c) = (i / 100, i / 10 % 10, i % 10);
+        let node = i + 1;
+        write!(trace, "ask 0 {i} 1 0 0 0 create 0 420 3{a}3{b}3{c}\n")?;
+        write!(trace, "tell {i} made {node} 33188 1 0 0 {i}\n")?;
+    }
+    trace.push_str("ask 0 257 1 0 0 0 create 0 420 323537\ntell 257 err 28\n")?;
+    for fh in 257..1025u32 {
+        let unique = fh + 1;
+        write!(trace, "ask 0 {unique} 1 0 0 0 create 0 420 303031\n")?;
+        write!(trace, "tell {unique} made 2 33188 1 0 0 {fh}\n")?;
+    }
+    trace.push_str(ALL_FULL)?;
+    answers(
+        &rt,
+        "no more nodes, then no more open files",
+        trace.as_str(),
+    )
+}
+
+const ALL_FULL: &str = "\
+ask 0 1026 1 0 0 0 create 0 420 303031
+tell 1026 err 23
+ask 0 1027 1 0 0 0 create 1 420 303031
+tell 1027 err 17
+ask 0 1028 1 0 0 0 create 0 420 323537
+tell 1028 err 28
+";
+
+#[test]
+fn no_more_open_files(rt: HostRuntime) -> Result<(), Fail> {
+    let mut trace = String::new(rt.alloc());
+    for fh in 1..1025u32 {
+        write!(trace, "ask 0 {fh} 1 0 0 0 create 0 420 61\n")?;
+        write!(trace, "tell {fh} made 2 33188 1 0 0 {fh}\n")?;
+    }
+    trace.push_str("ask 0 1025 1 0 0 0 create 0 420 62\ntell 1025 err 23\n")?;
+    answers(&rt, "a free name, and no more open files", trace.as_str())
+}
+
 #[test]
 fn bad_lines(rt: HostRuntime) -> Result<(), Fail> {
     let lines = [
