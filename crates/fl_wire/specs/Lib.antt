@@ -8,3 +8,4 @@ pub mod Message
 pub mod Name
 pub mod Says
 pub mod Spell
+pub mod Stream

@@ -4,6 +4,7 @@
 mod ask;
 mod fault;
 mod script;
+pub mod session;
 mod status;
 mod words;
 
