@@ -39,7 +39,7 @@ impl Frame<'_> {
     }
 
     /// Its bytes, the header first.
-    pub(crate) fn as_bytes(&self) -> &[u8]
+    pub fn as_bytes(&self) -> &[u8]
         ensures bytes { result.now ≡ self.now }
         ensures message { IsMessage self.now }
     {

@@ -1,2 +1,3 @@
 pub mod ScriptLemmas
+pub mod Sending
 pub mod WordLemmas

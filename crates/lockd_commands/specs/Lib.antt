@@ -1,7 +1,9 @@
 pub mod Ask
 pub mod Order
+pub mod Outbox
 pub mod Script
 pub mod Served
+pub mod Serving
 pub mod Session
 pub mod Status
 pub mod Words

@@ -3,11 +3,13 @@
 
 mod ask;
 mod fault;
+mod outbox;
 mod script;
 pub mod session;
 mod status;
 mod words;
 
 pub use fault::Fault;
+pub use outbox::{Broken, Outbox};
 pub use script::script_on;
 pub use status::Status;

@@ -1,6 +1,8 @@
 //! A whole session of the FUSE protocol with one worker, over any reader and any writer.
 ghost use Rattle.lockd_commands.specs.Served.{IsServed};
 
+mod server;
+
 use fl_book::History;
 use std::alloc::Global;
 use std::io::{Read, Write};
