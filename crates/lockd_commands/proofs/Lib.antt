@@ -1,3 +1,4 @@
 pub mod ScriptLemmas
-pub mod Sending
+pub mod SendLemmas
+pub mod WriteLemmas
 pub mod WordLemmas

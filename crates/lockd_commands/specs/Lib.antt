@@ -2,6 +2,7 @@ pub mod Ask
 pub mod Order
 pub mod Outbox
 pub mod Script
+pub mod Sending
 pub mod Served
 pub mod Serving
 pub mod Session

@@ -1,5 +1,5 @@
 use Rattle.std.proofs.Common.{◌≡◌, arith}
-use Rattle.lockd_commands.proofs.Sending.{more_written}
+use Rattle.lockd_commands.proofs.WriteLemmas.{more_written}
 use Rattle.lockd_commands.proofs.outbox.send_on.Goals as goal
 
 pub loop-at-preserved : goal.loop-at-preserved
