@@ -1,4 +1,5 @@
 pub mod ScriptLemmas
 pub mod SendLemmas
 pub mod WriteLemmas
+pub mod SessionLemmas
 pub mod WordLemmas

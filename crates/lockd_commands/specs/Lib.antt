@@ -7,4 +7,5 @@ pub mod Served
 pub mod Serving
 pub mod Session
 pub mod Status
+pub mod UnderWay
 pub mod Words

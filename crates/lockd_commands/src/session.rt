@@ -1,6 +1,7 @@
 //! A whole session of the FUSE protocol with one worker, over any reader and any writer.
 ghost use Rattle.lockd_commands.specs.Served.{IsServed};
 
+mod answering;
 mod mail;
 mod server;
 
