@@ -7,5 +7,6 @@ pub mod Served
 pub mod Serving
 pub mod Session
 pub mod Status
+pub mod Turns
 pub mod UnderWay
 pub mod Words

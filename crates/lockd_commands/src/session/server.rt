@@ -7,7 +7,7 @@ ghost use Rattle.fl_wire.specs.Says.{said};
 ghost use Rattle.lockd_commands.specs.Session.{before_init};
 ghost use Rattle.lockd_commands.specs.Serving.{bytes_of, session_with, IsFresh, IsMet, IsMetAs};
 
-use fl_book::{Desk, Tolds};
+use fl_book::{Desk, History, Tolds};
 use fl_wire::{Answer, Errno, Frame, InitStep, NoMemory, Order, Refusal, Told, read_init, read_order};
 use std::alloc::Global;
 
@@ -56,6 +56,14 @@ impl Server {
             over: false,
             refused: false,
         })
+    }
+
+    /// The history of the orders that it took.
+    pub(crate) fn into_history(self) -> History
+        ensures { result ≡ self.desk.lines }
+    {
+        let Server { desk, .. } = self;
+        desk.into_history()
     }
 
     /// What a message of a session that isn't over is answered.

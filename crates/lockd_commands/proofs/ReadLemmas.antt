@@ -1,0 +1,141 @@
+-- Bytes that are read behind others, and moved to the front.
+use Rattle.std.proofs.Common.{◌≡◌, ◌⊎◌, length-take, length-append, All, ℕ, ◌+◌, ◌-◌, ◌<◌, ◌≤◌, Bool, true, false, nat_lt, if◌then◌else◌, List, [], ◌∷◌, ◌++◌, length, take, drop, Option, Some, None, inl, inr, refl, sym, ap, subst, ◌∙◌, zero, arith, append_assoc, append-nil, length-drop, length-take-le, take_all, take-add}
+use Rattle.std.proofs.lemmas.List.{drop-take}
+use Rattle.std.proofs.lemmas.List.Edits.{take-paste}
+use Rattle.std.proofs.lemmas.List.Elements.{All-nil}
+use Rattle.std.proofs.lemmas.Bool.Decides.{nat_tests}
+use Rattle.fl_wire.specs.Frame.{IsMessage}
+use Rattle.lockd_commands.specs.Session.{Came}
+use lib.Seq.{paste}
+use Rattle.std.proofs.KnownBytes.{Consumes-nil, Consumes-trans, Consumes-kept, Appends-nil}
+use Rattle.std.specs.Io.KnownBytes.{Consumes, Keeps, IsAtEnd}
+use Rattle.fl_wire.specs.Cut.{first_step}
+use Rattle.fl_wire.specs.Layout.{len_of}
+use Rattle.fl_wire.specs.declared.cut.Step.{Step}
+use Rattle.fl_wire.specs.declared.cut.Step.TheVariants as step
+use Rattle.lockd_commands.specs.Serving.{session_with, IsFresh}
+use Rattle.lockd_commands.specs.Session.{session_of}
+use Rattle.lockd_commands.specs.UnderWay.{IsUnderWay, Answers, IsStop}
+use Rattle.lockd_commands.specs.Turns.{IsWaiting, IsEnding, HasEnded, HasTurned}
+use Rattle.lockd_commands.specs.declared.session.Fault.TheVariants.{Cut, BadLength, Read}
+use Rattle.lockd_commands.specs.declared.session.answering.Stop.{Stop}
+use Rattle.lockd_commands.specs.declared.session.answering.Stop.TheVariants.{More, Bad, Over}
+use Rattle.lockd_commands.specs.declared.session.server.Server.{Server}
+
+-- the bytes between two places, moved to the front
+pub moved : (room new : List ℕ) (at filled : ℕ) → at ≤ filled → filled ≤ length room → new ≡ paste room 0 (drop at room) (filled - at)
+    → take (filled - at) new ≡ drop at (take filled room)
+moved room new at filled order within e =
+    let n = filled - at in
+    let plain : n ≡ 0 + n = omega arith in
+    let upto : at + n ≡ filled = omega arith in
+    ap (take n) e ∙ ap (λ k. take k (paste room 0 (drop at room) n)) plain ∙ take-paste room 0 (drop at room) n (omega arith) (omega (arith, length-drop at room))
+    ∙ sym (drop-take at n room) ∙ ap (λ k. drop at (take k room)) upto
+
+-- the rest of the bytes that were read is at most all of them
+rest_bounded : (room : List ℕ) (at filled : ℕ) → length room ≡ 8192 → length (drop at (take filled room)) ≤ 8192
+rest_bounded room at filled long = omega (arith, long, length-drop at (take filled room), length-take filled room)
+
+-- why more has to come
+more_tests : (a b c d : Bool) (n : ℕ) (message : List ℕ)
+    → (if a then step.More else (if b then step.Bad n else (if c then step.Bad n else (if d then step.More else step.Whole message)))) ≡ step.More
+    → (a ≡ true) ⊎ ((c ≡ false) × (d ≡ true))
+more_tests true b c d n message e = inl refl
+more_tests false true c d n message e = cc
+more_tests false false true d n message e = cc
+more_tests false false false true n message e = inr (refl, refl)
+more_tests false false false false n message e = cc
+
+-- a rest of which more has to come is shorter than the room
+pub waiting_short : (rest : List ℕ) → first_step rest ≡ step.More → length rest < 8192
+waiting_short rest e =
+    let tests = more_tests (nat_lt (length rest) 4) (nat_lt (len_of rest) 40) (nat_lt 8192 (len_of rest)) (nat_lt (length rest) (len_of rest)) (len_of rest) (take (len_of rest) rest) e in
+    elim tests [ inl few ↦ grind (arith, nat_tests) | inr short ↦ let long = short.0 in let less = short.1 in grind (arith, nat_tests) ]
+
+-- a read of these bytes
+way_read : (left a b held held_now : Option (List ℕ)) (broken : Bool) (server : Server) (rest bytes : List ℕ) → IsUnderWay left a held held_now broken server rest
+    → Consumes a b bytes → IsUnderWay left b held held_now broken server (rest ++ bytes)
+way_read left a b held held_now broken server rest bytes way read = record {
+  came = way.came;
+  read = way.read ++ bytes;
+  consumed = Consumes-trans left a b way.read bytes way.consumed read;
+  cut = record {
+    parts = ap (λ xs. xs ++ bytes) way.cut.parts ∙ append_assoc _ rest bytes;
+    whole = way.cut.whole;
+  };
+  live = way.live;
+  stands = way.stands;
+  sending = way.sending;
+}
+
+-- a read that failed
+way_kept : (left a b held held_now : Option (List ℕ)) (broken : Bool) (server : Server) (rest : List ℕ) → IsUnderWay left a held held_now broken server rest
+    → Keeps a b → IsUnderWay left b held held_now broken server rest
+way_kept left a b held held_now broken server rest way kept = record {
+  came = way.came;
+  read = way.read;
+  consumed = Consumes-kept left a b way.read way.consumed kept;
+  cut = way.cut;
+  live = way.live;
+  stands = way.stands;
+  sending = way.sending;
+}
+
+-- a read behind the bytes that fill the front of the room
+pub way_read_in : (left a b held held_now : Option (List ℕ)) (broken : Bool) (server : Server) (room new : List ℕ) (filled n : ℕ)
+    → IsUnderWay left a held held_now broken server (take filled room) → take filled new ≡ take filled room → Consumes a b (take n (drop filled new))
+    → IsUnderWay left b held held_now broken server (take (filled + n) new)
+way_read_in left a b held held_now broken server room new filled n way front read =
+    let whole : take (filled + n) new ≡ take filled room ++ take n (drop filled new) = take-add filled n new ∙ ap (λ xs. xs ++ take n (drop filled new)) front in
+    let P : List ℕ → Type 0 = IsUnderWay left b held held_now broken server in
+    subst P (sym whole) (way_read left a b held held_now broken server (take filled room) (take n (drop filled new)) way read)
+
+-- nothing was read yet
+pub waiting_first : (left held : Option (List ℕ)) (broken : Bool) (server : Server) (room : List ℕ) → IsFresh server → broken ≡ false
+    → IsWaiting left left held held broken server room 0
+waiting_first left held broken server room fresh whole = record {
+  more = refl;
+  way = record {
+    came = [];
+    read = [];
+    consumed = Consumes-nil left;
+    cut = record { parts = refl; whole = All-nil IsMessage };
+    live = λ front last e. let none = ap length e in absurd (omega (arith, none, length-append front (last ∷ [])));
+    stands = rw (fresh.agreed, fresh.over, fresh.refused, fresh.lines) refl;
+    sending = record {
+      sent = [];
+      written = Appends-nil held;
+      in_order = record { rest = []; is = refl };
+      whole = λ e. refl;
+      short = λ e. let same = sym e ∙ whole in cc;
+    };
+  };
+}
+
+-- a length that no message has
+pub ended_bad : (old new : Server) (held held_now : Option (List ℕ)) (broken broken_now : Bool) (room : List ℕ) (at filled : ℕ) (stop : Stop) (n : ℕ) → length room ≡ 8192
+    → Answers old new held held_now broken broken_now (take filled room) (drop at (take filled room)) → IsStop stop new (drop at (take filled room)) → stop ≡ Bad n
+    → (left left_now start : Option (List ℕ)) → IsUnderWay left left_now start held broken old (take filled room)
+    → HasEnded left left_now start held_now broken_now new (Some (BadLength n))
+ended_bad old new held held_now broken broken_now room at filled stop n long answers stops e left left_now start way =
+    let P : Stop → Type 0 = λ s. IsStop s new (drop at (take filled room)) in
+    record {
+      rest = drop at (take filled room);
+      bounded = rest_bounded room at filled long;
+      way = answers.onward left left_now start way;
+      ending = subst P e stops;
+    }
+
+-- a DESTROY
+pub ended_over : (old new : Server) (held held_now : Option (List ℕ)) (broken broken_now : Bool) (room : List ℕ) (at filled : ℕ) (stop : Stop) → length room ≡ 8192
+    → Answers old new held held_now broken broken_now (take filled room) (drop at (take filled room)) → IsStop stop new (drop at (take filled room)) → stop ≡ Over
+    → (left left_now start : Option (List ℕ)) → IsUnderWay left left_now start held broken old (take filled room)
+    → HasEnded left left_now start held_now broken_now new None
+ended_over old new held held_now broken broken_now room at filled stop long answers stops e left left_now start way =
+    let P : Stop → Type 0 = λ s. IsStop s new (drop at (take filled room)) in
+    record {
+      rest = drop at (take filled room);
+      bounded = rest_bounded room at filled long;
+      way = answers.onward left left_now start way;
+      ending = inl (subst P e stops);
+    }
