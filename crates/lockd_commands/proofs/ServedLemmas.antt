@@ -1,5 +1,5 @@
 -- What a whole session did.
-use Rattle.std.proofs.Common.{◌≡◌, ℕ, Bool, true, false, List, [], ◌∷◌, ◌++◌, length, Option, Some, None, inl, inr, refl, sym, ap, ◌∙◌, arith}
+use Rattle.std.proofs.Common.{◌≡◌, ℕ, Bool, true, false, List, [], ◌∷◌, ◌++◌, length, ◌<◌, Option, Some, None, inl, inr, refl, sym, ap, ◌∙◌, arith}
 use Rattle.std.specs.List.{concat}
 use Rattle.std.proofs.KnownBytes.{Consumes-nil, Appends-nil}
 use Rattle.std.proofs.lemmas.List.Elements.{All-nil}
@@ -13,10 +13,22 @@ use Rattle.lockd_commands.specs.declared.session.Fault.{Fault}
 use Rattle.lockd_commands.specs.declared.session.Fault.TheVariants.{Cut, BadLength, Read, Write, NoMemory}
 use Rattle.lockd_commands.specs.declared.session.server.Server.{Server}
 
+-- where the reader ended, and the session with it
+is_whole : (s : Session) (server : Server) (rest : List ℕ) (left : Option (List ℕ)) → server.over ≡ s.over → IsEnding None server rest left → IsWhole s rest left
+is_whole s server rest left same (inl over) = inl (sym same ∙ over)
+is_whole s server rest left same (inr ended) = inr ended
+
 -- how a session ended, its writer's part too
-ends_by : (left left_now held held_now : Option (List ℕ)) (broken : Bool) (server : Server) (fault : Option Fault) (rest : List ℕ)
-    (way : IsUnderWay left left_now held held_now broken server rest) → IsEnding fault server rest left_now → EndsBy (first_fault fault broken) way.came rest left_now way.sending.sent
-ends_by left left_now held held_now broken server fault rest way ending = ?
+ends_by : (fault : Option Fault) (broken : Bool) (left : Option (List ℕ)) (server : Server) (rest sent : List ℕ) (came : List Came) → server.over ≡ (session_of came).over
+    → (broken ≡ false → sent ≡ concat (session_of came).replies) → (broken ≡ true → length sent < length (concat (session_of came).replies))
+    → IsEnding fault server rest left → EndsBy (first_fault fault broken) came rest left sent
+ends_by None true left server rest sent came same whole short ending = (is_whole (session_of came) server rest left same ending, short refl)
+ends_by None false left server rest sent came same whole short ending = (is_whole (session_of came) server rest left same ending, whole refl)
+ends_by (Some Cut) broken left server rest sent came same whole short ending = (sym same ∙ ending.0, ending.1, ending.2, ending.3)
+ends_by (Some (BadLength n)) broken left server rest sent came same whole short ending = (sym same ∙ ending.0, ending.1)
+ends_by (Some Read) broken left server rest sent came same whole short ending = (sym same ∙ ending.0, ending.1)
+ends_by (Some Write) broken left server rest sent came same whole short ending = absurd ending
+ends_by (Some NoMemory) broken left server rest sent came same whole short ending = absurd ending
 
 -- a session that ended is served
 pub served : (left left_now held held_now : Option (List ℕ)) (broken : Bool) (server : Server) (fault : Option Fault) (done : Done) → HasEnded left left_now held held_now broken server fault
@@ -36,23 +48,10 @@ served left left_now held held_now broken server fault done ended history told r
       refused = refused ∙ ap (λ s. s.refused) way.stands;
       written = way.sending.written;
       in_order = way.sending.in_order;
-      ending = rw told (ends_by left left_now held held_now broken server fault ended.rest way ended.ending);
+      ending = rw told (ends_by fault broken left_now server ended.rest way.sending.sent way.came (ap (λ s. s.over) way.stands) way.sending.whole way.sending.short ended.ending);
     }
 
--- nothing was read and nothing written
-pub unserved : (left held : Option (List ℕ)) (done : Done) → done.history ≡ [] → done.fault ≡ Some NoMemory → done.refused ≡ false → IsServed left left held held done
-unserved left held done history told refused = record {
-  came = [];
-  read = [];
-  rest = [];
-  sent = [];
-  consumed = Consumes-nil left;
-  cut = record { parts = refl; whole = All-nil IsMessage };
-  bounded = omega arith;
-  live = ?;
-  history = history;
-  refused = refused;
-  written = Appends-nil held;
-  in_order = record { rest = []; is = refl };
-  ending = rw told (refl, refl, refl);
-}
+-- the same, of a writer that holds the same bytes
+pub ended_with : (left left_now held held_now start end : Option (List ℕ)) (broken : Bool) (server : Server) (fault : Option Fault)
+    → HasEnded left left_now held held_now broken server fault → start ≡ held → end ≡ held_now → HasEnded left left_now start end broken server fault
+ended_with left left_now held held_now start end broken server fault ended e f = rw (e, f) ended

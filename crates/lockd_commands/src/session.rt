@@ -1,8 +1,8 @@
 //! A whole session of the FUSE protocol with one worker, over any reader and any writer.
-ghost use Rattle.std.specs.Prelude.{◌≡◌, IfOk, vec_len};
+ghost use Rattle.std.specs.Prelude.{◌≡◌, IfOk, length, vec_len};
 ghost use Rattle.lockd_commands.specs.Served.{IsServed};
 ghost use Rattle.lockd_commands.specs.Serving.{IsFresh};
-ghost use Rattle.lockd_commands.specs.Turns.{first_fault};
+ghost use Rattle.lockd_commands.specs.Turns.{first_fault, HasEnded};
 
 mod answering;
 mod mail;
@@ -59,28 +59,45 @@ pub struct Done {
 pub fn run_one<R: Read, W: Write>(alloc: Global, r: &mut R, w: &mut W) -> Done
     ensures { IsServed (R.remaining r.old) (R.remaining r.new) (W.contents w.old) (W.contents w.new) result }
 {
-    let Ok((mut room, mut server, reply)) = memory(alloc) else {
+    let Ok((mut room, server, reply)) = memory(alloc) else {
         return Done {
             history: History::new(Vec::new(alloc)),
             fault: Some(Fault::NoMemory),
             refused: false,
         };
     };
-    let mut mail = Mail {
-        room: reply,
-        out: Outbox::new(w),
-    };
-    let fault = serve(r, &mut room, &mut server, &mut mail);
-    let Mail { room: _, out } = mail;
-    let Outbox { writer, broken } = out;
-    // No effect at run time: the proof reads here what the writer holds.
-    let _ = &*writer;
+    let (server, fault, broken) = run(r, w, &mut room, server, reply);
     let refused = server.refused;
     Done {
         history: server.into_history(),
         fault: first(fault, broken),
         refused,
     }
+}
+
+// Runs a session with this memory, and tells what its server keeps, its reader's fault, and whether a write
+// failed.
+fn run<R: Read, W: Write>(
+    r: &mut R,
+    w: &mut W,
+    room: &mut [u8],
+    mut server: Server,
+    reply: Room,
+) -> (Server, Option<Fault>, bool)
+    requires room { length room.old ≡ 8192 }
+    requires fresh { IsFresh server }
+    ensures { HasEnded (R.remaining r.old) (R.remaining r.new) (W.contents w.old) (W.contents w.new) result.2 result.0 result.1 }
+{
+    let mut mail = Mail {
+        room: reply,
+        out: Outbox::new(w),
+    };
+    let fault = serve(r, room, &mut server, &mut mail);
+    let Mail { room: _, out } = mail;
+    let Outbox { writer, broken } = out;
+    // No effect at run time: the proof reads here what the writer holds.
+    let _ = &*writer;
+    (server, fault, broken)
 }
 
 // The memory of a session: room for a message, the lock directory, and room for a reply.
