@@ -1,5 +1,5 @@
 -- Replies that are sent one after another.
-use Rattle.std.proofs.Common.{get_or, ◌≡◌, ℕ, ◌+◌, ◌<◌, ◌≤◌, Bool, true, false, List, [], ◌∷◌, ◌++◌, length, take, drop, map, Option, refl, sym, ap, subst, ◌∙◌, arith, append_assoc, append-nil, length-append, take-append-drop, length-take-le}
+use Rattle.std.proofs.Common.{get_or, ◌≡◌, ℕ, ◌+◌, ◌<◌, Bool, true, false, List, [], ◌∷◌, ◌++◌, length, take, drop, map, Option, refl, sym, ap, subst, ◌∙◌, arith, append_assoc, append-nil, length-append, take-append-drop, length-take-le}
 use Rattle.std.specs.List.{concat}
 use Rattle.std.proofs.lemmas.List.{take_more, map-append}
 use Rattle.std.proofs.KnownBytes.{Appends-trans, Appends-kept}
@@ -7,7 +7,6 @@ use Rattle.std.specs.Io.KnownBytes.{Appends, Keeps}
 use Rattle.fl_wire.specs.Spell.{spelling_of}
 use Rattle.fl_wire.specs.declared.told.Told.{Told}
 use Rattle.lockd_commands.specs.Outbox.{IsBroken, IsSentBy}
-use Rattle.lockd_commands.specs.Served.{IsBeginning}
 use Rattle.lockd_commands.specs.Sending.{IsSending, Sends}
 
 -- one reply more
@@ -47,7 +46,7 @@ send_part start held held_now replies reply before part =
       };
       whole = λ e. cc;
       short = λ e. let long = ap length more in let same = ap length all in let short = part.short in
-        omega (arith, length-append (concat replies) reply, length-append before.sent front, length-take-le part.count reply (omega arith));
+          omega (arith, length-append (concat replies) reply, length-append before.sent front, length-take-le part.count reply (omega arith));
     }
 
 -- the whole reply goes out
@@ -79,7 +78,7 @@ Sends-nil held broken = record { onward = λ start replies before. let P : List 
 pub Sends-trans : (a b c : Option (List ℕ)) (x y z : Bool) (front back : List (List ℕ)) → Sends a b x y front → Sends b c y z back → Sends a c x z (front ++ back)
 Sends-trans a b c x y z front back first second = record {
   onward = λ start replies before. let P : List (List ℕ) → Type 0 = IsSending start c z in
-    subst P (append_assoc replies front back) (second.onward start (replies ++ front) (first.onward start replies before));
+      subst P (append_assoc replies front back) (second.onward start (replies ++ front) (first.onward start replies before));
 }
 
 -- one reply more of an order is sent

@@ -1,12 +1,8 @@
 -- What a whole session did.
-use Rattle.std.proofs.Common.{◌≡◌, ℕ, Bool, true, false, List, [], ◌∷◌, ◌++◌, length, ◌<◌, Option, Some, None, inl, inr, refl, sym, ap, ◌∙◌, arith}
+use Rattle.std.proofs.Common.{◌≡◌, ℕ, Bool, true, false, List, length, ◌<◌, Option, Some, None, inl, inr, refl, sym, ap, ◌∙◌}
 use Rattle.std.specs.List.{concat}
-use Rattle.std.proofs.KnownBytes.{Consumes-nil, Appends-nil}
-use Rattle.std.proofs.lemmas.List.Elements.{All-nil}
-use Rattle.fl_wire.specs.Frame.{IsMessage}
 use Rattle.lockd_commands.specs.Served.{IsServed, IsWhole, EndsBy}
 use Rattle.lockd_commands.specs.Session.{Came, Session, session_of}
-use Rattle.lockd_commands.specs.UnderWay.{IsUnderWay}
 use Rattle.lockd_commands.specs.Turns.{IsEnding, HasEnded, first_fault}
 use Rattle.lockd_commands.specs.declared.session.Done.{Done}
 use Rattle.lockd_commands.specs.declared.session.Fault.{Fault}
@@ -50,8 +46,3 @@ served left left_now held held_now broken server fault done ended history told r
       in_order = way.sending.in_order;
       ending = rw told (ends_by fault broken left_now server ended.rest way.sending.sent way.came (ap (λ s. s.over) way.stands) way.sending.whole way.sending.short ended.ending);
     }
-
--- the same, of a writer that holds the same bytes
-pub ended_with : (left left_now held held_now start end : Option (List ℕ)) (broken : Bool) (server : Server) (fault : Option Fault)
-    → HasEnded left left_now held held_now broken server fault → start ≡ held → end ≡ held_now → HasEnded left left_now start end broken server fault
-ended_with left left_now held held_now start end broken server fault ended e f = rw (e, f) ended

@@ -1,12 +1,10 @@
 -- Messages that are answered one after another.
-use Rattle.std.proofs.Common.{◌≡◌, ℕ, ◌+◌, ◌-◌, ◌<◌, ◌≤◌, Bool, true, false, nat_lt, if◌then◌else◌, List, [], ◌∷◌, ◌++◌, fold, length, take, drop, map, Option, refl, sym, zero, suc, take_at, ap, subst, ◌∙◌, arith, append_assoc, append-nil, length-append, length-drop, take-append-drop, length-take-le, take_all, drop-drop, All}
+use Rattle.std.proofs.Common.{◌≡◌, ℕ, ◌+◌, ◌-◌, ◌≤◌, Bool, true, false, nat_lt, if◌then◌else◌, List, [], ◌∷◌, ◌++◌, length, take, drop, map, Option, refl, sym, zero, suc, take_at, ap, subst, ◌∙◌, arith, append_assoc, length-append, length-drop, take_all, drop-drop, All}
 use Rattle.std.specs.List.{concat}
 use Rattle.std.proofs.lemmas.List.{map-append}
 use Rattle.std.proofs.lemmas.List.Elements.{All-cons, All-append}
 use Rattle.std.proofs.lemmas.Grind.{fold-append}
-use Rattle.std.proofs.KnownBytes.{Consumes-trans}
-use Rattle.std.specs.Io.KnownBytes.{Consumes}
-use Rattle.fl_wire.specs.Cut.{first_step, first_of_length}
+use Rattle.fl_wire.specs.Cut.{first_step}
 use Rattle.fl_wire.specs.Frame.{IsMessage}
 use Rattle.fl_wire.specs.Layout.{len_of}
 use Rattle.fl_wire.specs.Stream.{IsCut}
@@ -15,7 +13,7 @@ use Rattle.fl_wire.specs.declared.cut.Step.TheVariants.{Whole, More, Bad}
 use Rattle.lockd_commands.proofs.SendLemmas.{concat_one}
 use Rattle.lockd_commands.specs.Sending.{IsSending}
 use Rattle.lockd_commands.specs.Serving.{session_with}
-use Rattle.lockd_commands.specs.Session.{Came, Session, session_of, with_message, opening_session}
+use Rattle.lockd_commands.specs.Session.{Came, session_of, with_message, opening_session}
 use Rattle.lockd_commands.specs.UnderWay.{IsUnderWay, IsAnswered, Answers}
 use Rattle.lockd_commands.specs.declared.session.server.Server.{Server}
 
@@ -67,7 +65,7 @@ cut_more read came c rest rest_now cut message parts =
     let one : All IsMessage (c.message ∷ []) = All-cons IsMessage c.message [] message (λ k d below. absurd (omega arith)) in
     subst P (sym more) (record {
       parts = cut.parts ∙ ap (λ rest. concat messages ++ rest) (sym parts) ∙ sym (append_assoc (concat messages) c.message rest_now)
-        ∙ ap (λ bytes. bytes ++ rest_now) (sym (concat_one messages c.message));
+          ∙ ap (λ bytes. bytes ++ rest_now) (sym (concat_one messages c.message));
       whole = All-append IsMessage messages (c.message ∷ []) cut.whole one;
     })
 
@@ -110,9 +108,10 @@ Answers-more first old new a b c x y z message bytes at within before live whole
     let stands : first_step rest ≡ Whole message = ap first_step (sym all) ∙ step in
     let parts : message ++ drop (length message) rest ≡ rest = whole_front rest message stands in
     let next : drop (length message) rest ≡ drop (at + length message) bytes = drop-drop (length message) at bytes in
-    let long = ap length parts in
-    (omega (arith, length-append message (drop (length message) rest), length-drop at bytes),
-    record {
-      onward = λ left left_now start way. let P : List ℕ → Type 0 = IsUnderWay left left_now start c z new in
-        subst P next (under_way_more left left_now start b c y z old new message rest (drop (length message) rest) live whole parts answered (before.onward left left_now start way));
-    })
+    let long = ap length parts in (
+      omega (arith, length-append message (drop (length message) rest), length-drop at bytes),
+      record {
+        onward = λ left left_now start way. let P : List ℕ → Type 0 = IsUnderWay left left_now start c z new in
+            subst P next (under_way_more left left_now start b c y z old new message rest (drop (length message) rest) live whole parts answered (before.onward left left_now start way));
+      },
+    )

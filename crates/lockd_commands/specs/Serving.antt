@@ -1,15 +1,11 @@
 -- A session that is under way: what is kept of it, and what it did with its reader and its writer so far.
-use Rattle.std.specs.Prelude.{◌≡◌, ℕ, ◌<◌, Bool, true, false, List, [], ◌∷◌, ◌++◌, map, length, Option, Result}
-use Rattle.std.specs.List.{concat}
-use Rattle.std.specs.Io.KnownBytes.{Consumes, Appends}
+use Rattle.std.specs.Prelude.{◌≡◌, ℕ, Bool, false, List, [], ◌∷◌, ◌++◌, map, Result}
 use Rattle.fl_wire.specs.Init.{init_spelling}
 use Rattle.fl_wire.specs.Spell.{spelling_of}
-use Rattle.fl_wire.specs.Stream.{IsCut}
 use Rattle.fl_wire.specs.declared.order.Order.{Order}
 use Rattle.fl_wire.specs.declared.reading.Refusal.{Refusal}
 use Rattle.fl_wire.specs.declared.told.Told.{Told}
-use Rattle.lockd_commands.specs.Served.{IsBeginning}
-use Rattle.lockd_commands.specs.Session.{Came, Session, session_of, with_message, after_init}
+use Rattle.lockd_commands.specs.Session.{Session, with_message, after_init}
 use Rattle.lockd_commands.specs.declared.session.server.Owed.{Owed}
 use Rattle.lockd_commands.specs.declared.session.server.Owed.TheVariants.{Nothing, Init, One, Tolds}
 use Rattle.lockd_commands.specs.declared.session.server.Server.{Server}

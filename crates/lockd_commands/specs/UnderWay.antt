@@ -1,6 +1,6 @@
 -- A session that is under way: what it did with its reader and its writer so far.
-use Rattle.std.specs.Prelude.{◌≡◌, ℕ, ◌≤◌, ◌<◌, ◌⊎◌, Bool, true, false, List, [], ◌∷◌, ◌++◌, map, take, length, Option, Some, None}
-use Rattle.std.specs.Io.KnownBytes.{Consumes, IsAtEnd}
+use Rattle.std.specs.Prelude.{◌≡◌, ℕ, Bool, true, false, List, [], ◌∷◌, ◌++◌, map, Option}
+use Rattle.std.specs.Io.KnownBytes.{Consumes}
 use Rattle.fl_wire.specs.Cut.{first_step}
 use Rattle.fl_wire.specs.Stream.{IsCut}
 use Rattle.fl_wire.specs.declared.cut.Step.TheVariants as step

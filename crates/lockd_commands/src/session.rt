@@ -82,14 +82,14 @@ fn run<R: Read, W: Write>(
     w: &mut W,
     room: &mut [u8],
     mut server: Server,
-    reply: Room,
+    mut reply: Room,
 ) -> (Server, Option<Fault>, bool)
     requires room { length room.old ≡ 8192 }
     requires fresh { IsFresh server }
     ensures { HasEnded (R.remaining r.old) (R.remaining r.new) (W.contents w.old) (W.contents w.new) result.2 result.0 result.1 }
 {
     let mut mail = Mail {
-        room: reply,
+        room: &mut reply,
         out: Outbox::new(w),
     };
     let fault = serve(r, room, &mut server, &mut mail);

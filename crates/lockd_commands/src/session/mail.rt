@@ -69,7 +69,7 @@ impl Room {
 /// The replies of a session on their way out: the room for each, and the outbox that sends them.
 #[derive(Drop)]
 pub(crate) struct Mail<'a, W> {
-    pub room: Room,
+    pub room: &'a mut Room,
     pub out: Outbox<&'a mut W>,
 }
 

@@ -8,7 +8,9 @@ ghost use Rattle.lockd_commands.specs.Session.{before_init};
 ghost use Rattle.lockd_commands.specs.Serving.{bytes_of, session_with, IsFresh, IsMet, IsMetAs};
 
 use fl_book::{Desk, History, Tolds};
-use fl_wire::{Answer, Errno, Frame, InitStep, NoMemory, Order, Refusal, Told, read_init, read_order};
+use fl_wire::{
+    Answer, Errno, Frame, InitStep, NoMemory, Order, Refusal, Told, read_init, read_order,
+};
 use std::alloc::Global;
 
 // Kinds of messages that are told apart before an INIT is agreed (`enum fuse_opcode` of `fuse.h`).

@@ -1,4 +1,3 @@
-use Rattle.std.proofs.Common.{◌≡◌, arith}
 use Rattle.lockd_commands.proofs.WriteLemmas.{more_written}
 use Rattle.lockd_commands.proofs.outbox.send_on.Goals as goal
 

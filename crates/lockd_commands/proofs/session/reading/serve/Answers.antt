@@ -1,4 +1,4 @@
-use Rattle.std.proofs.Common.{◌≡◌, ◌≤◌, ◌∙◌, refl, arith}
+use Rattle.std.proofs.Common.{◌∙◌, refl, arith}
 use Rattle.lockd_commands.proofs.ReadLemmas.{waiting_first}
 use Rattle.lockd_commands.proofs.session.reading.serve.Goals as goal
 
