@@ -33,22 +33,6 @@ moved room new at filled order within e =
 rest_bounded : (room : List ℕ) (at filled : ℕ) → length room ≡ 8192 → length (drop at (take filled room)) ≤ 8192
 rest_bounded room at filled long = omega (arith, long, length-drop at (take filled room), length-take filled room)
 
--- why more has to come
-more_tests : (a b c d : Bool) (n : ℕ) (message : List ℕ)
-    → (if a then step.More else (if b then step.Bad n else (if c then step.Bad n else (if d then step.More else step.Whole message)))) ≡ step.More
-    → (a ≡ true) ⊎ ((c ≡ false) × (d ≡ true))
-more_tests true b c d n message e = inl refl
-more_tests false true c d n message e = cc
-more_tests false false true d n message e = cc
-more_tests false false false true n message e = inr (refl, refl)
-more_tests false false false false n message e = cc
-
--- a rest of which more has to come is shorter than the room
-pub waiting_short : (rest : List ℕ) → first_step rest ≡ step.More → length rest < 8192
-waiting_short rest e =
-    let tests = more_tests (nat_lt (length rest) 4) (nat_lt (len_of rest) 40) (nat_lt 8192 (len_of rest)) (nat_lt (length rest) (len_of rest)) (len_of rest) (take (len_of rest) rest) e in
-    elim tests [ inl few ↦ grind (arith, nat_tests) | inr short ↦ let long = short.0 in let less = short.1 in grind (arith, nat_tests) ]
-
 -- a read of these bytes
 way_read : (left a b held held_now : Option (List ℕ)) (broken : Bool) (server : Server) (rest bytes : List ℕ) → IsUnderWay left a held held_now broken server rest
     → Consumes a b bytes → IsUnderWay left b held held_now broken server (rest ++ bytes)

@@ -4,8 +4,6 @@ use Rattle.std.specs.List.{concat}
 use Rattle.std.proofs.lemmas.List.{take_more, map-append}
 use Rattle.std.proofs.KnownBytes.{Appends-trans, Appends-kept}
 use Rattle.std.specs.Io.KnownBytes.{Appends, Keeps}
-use Rattle.fl_wire.specs.Spell.{spelling_of}
-use Rattle.fl_wire.specs.declared.told.Told.{Told}
 use Rattle.lockd_commands.specs.Outbox.{IsBroken, IsSentBy}
 use Rattle.lockd_commands.specs.Sending.{IsSending, Sends}
 
@@ -69,23 +67,3 @@ Sends-one held held_now true true reply sent = record { onward = λ start replie
 Sends-one held held_now true false reply sent = absurd sent
 Sends-one held held_now false true reply sent = record { onward = λ start replies before. send_part start held held_now replies reply before sent }
 Sends-one held held_now false false reply sent = record { onward = λ start replies before. send_whole start held held_now replies reply before sent }
-
--- nothing is sent
-pub Sends-nil : (held : Option (List ℕ)) (broken : Bool) → Sends held held broken broken []
-Sends-nil held broken = record { onward = λ start replies before. let P : List (List ℕ) → Type 0 = IsSending start held broken in subst P (sym (append-nil replies)) before }
-
--- some replies are sent, and then others
-pub Sends-trans : (a b c : Option (List ℕ)) (x y z : Bool) (front back : List (List ℕ)) → Sends a b x y front → Sends b c y z back → Sends a c x z (front ++ back)
-Sends-trans a b c x y z front back first second = record {
-  onward = λ start replies before. let P : List (List ℕ) → Type 0 = IsSending start c z in
-      subst P (append_assoc replies front back) (second.onward start (replies ++ front) (first.onward start replies before));
-}
-
--- one reply more of an order is sent
-pub Sends-more : (a b c : Option (List ℕ)) (x y z : Bool) (tolds : List Told) (i : ℕ) (told : Told) → i < length tolds → told ≡ get_or tolds i told
-    → Sends a b x y (map spelling_of (take i tolds)) → Sends b c y z (spelling_of told ∷ []) → Sends a c x z (map spelling_of (take (i + 1) tolds))
-Sends-more a b c x y z tolds i told below at first second =
-    let replies : map spelling_of (take (i + 1) tolds) ≡ map spelling_of (take i tolds) ++ spelling_of told ∷ [] =
-    rw (take_more tolds i told below, map-append, ← at) refl in
-    let P : List (List ℕ) → Type 0 = Sends a c x z in
-    subst P (sym replies) (Sends-trans a b c x y z (map spelling_of (take i tolds)) (spelling_of told ∷ []) first second)

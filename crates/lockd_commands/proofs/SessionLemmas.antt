@@ -94,10 +94,6 @@ under_way_more left left_now start held held_now broken broken_now old new messa
       sending = subst P gets sent;
     }
 
--- no message is answered
-pub Answers-none : (server : Server) (held : Option (List ℕ)) (broken : Bool) (rest : List ℕ) → Answers server server held held broken broken rest rest
-Answers-none server held broken rest = record { onward = λ left left_now start before. before }
-
 -- one message more is answered
 pub Answers-more : (first old new : Server) (a b c : Option (List ℕ)) (x y z : Bool) (message bytes : List ℕ) (at : ℕ) → at ≤ length bytes
     → Answers first old a b x y bytes (drop at bytes) → old.over ≡ false → IsMessage message → first_step (take (length bytes - at) (drop at bytes)) ≡ Whole message
