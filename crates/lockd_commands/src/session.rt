@@ -120,3 +120,6 @@ fn first(fault: Option<Fault>, broken: bool) -> Option<Fault>
         fault => fault,
     }
 }
+
+#[cfg(test)]
+mod tests;
