@@ -1,5 +1,8 @@
 pub mod Ask
+pub mod Bytes
+pub mod Hex
 pub mod Order
+pub mod Replies
 pub mod Script
 pub mod Served
 pub mod Session

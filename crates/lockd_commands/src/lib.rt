@@ -2,12 +2,15 @@
 #![tactic(auto)]
 
 mod ask;
+mod bytes;
 mod fault;
 mod script;
 pub mod session;
 mod status;
+mod streams;
 mod words;
 
+pub use bytes::bytes_on;
 pub use fault::Fault;
 pub use script::script_on;
 pub use status::Status;
