@@ -19,16 +19,27 @@ pub(crate) fn print_replies(alloc: Global, sent: &[u8]) -> Result<Vec<u8>, Fault
     let mut lines = Vec::new(alloc);
     let mut rest = sent;
     while !rest.is_empty() {
-        let Some(len) = reply_len(rest) else {
+        let Some((reply, after)) = first_reply(rest) else {
             return Err(Fault::NoMemory);
         };
-        push_line(&mut lines, &rest[..len])?;
-        rest = &rest[len..];
+        push_line(&mut lines, reply)?;
+        rest = after;
     }
     Ok(lines)
 }
 
-// How many bytes the first reply has; none where it isn't whole, since there was no memory for its rest.
+// The first reply, and what stands behind it; none where it isn't whole, since there was no memory for its rest.
+fn first_reply(replies: &[u8]) -> Option<(&[u8], &[u8])>
+    ensures parts { IfSome result (λ parts. replies.now ≡ parts.0.now ++ parts.1.now) }
+    ensures said { IfSome result (λ parts. length parts.0.now ≡ len_of replies.now) }
+    ensures header { IfSome result (λ parts. 16 ≤ length parts.0.now) }
+    ensures most { IfSome result (λ parts. length parts.0.now ≤ 160) }
+{
+    let len = reply_len(replies)?;
+    Some((&replies[..len], &replies[len..]))
+}
+
+// How many bytes the first reply has; none where fewer are there.
 #[tactic(auto, unfolding(fl_wire::specs::Layout::number_at))]
 fn reply_len(replies: &[u8]) -> Option<usize>
     ensures said { IfSome result (λ len. len ≡ len_of replies.now) }
