@@ -8,9 +8,8 @@ use Rattle.std.specs.List.{concat, flat_map}
 use Rattle.hex.specs.Hex.{encode_lower}
 use Rattle.fl_wire.specs.Layout.{len_of}
 use Rattle.lockd_commands.proofs.SessionReplies.{IsReply, len-append, session_replies}
-use Rattle.lockd_commands.specs.Bytes.{IsSession, IsFirstLines, Prints}
+use Rattle.lockd_commands.specs.Bytes.{IsSession, IsCutOff, Prints}
 use Rattle.lockd_commands.specs.Hex.{hex_lines}
-use Rattle.lockd_commands.specs.Replies.{IsCutOff}
 use Rattle.lockd_commands.specs.Served.{IsServed, IsBeginning, EndsBy}
 use Rattle.lockd_commands.specs.declared.session.Done.{Done}
 use Rattle.lockd_commands.specs.declared.session.Fault.{Fault}
@@ -93,7 +92,7 @@ pub tells_all : (sent rest lines : List ℕ) → TellsSoFar sent rest lines → 
     → IsCutOff (session_of came).replies more lines
 tells_all sent [] lines so_far none came more e =
     let t = so_far came more e in
-    record { told = t.told; untold = t.untold; parts = t.parts; more_is = t.left; lines_are = t.lines_are }
+    record { told = t.told; untold = t.untold; parts = t.parts; unsent_is = t.left; lines_are = t.lines_are }
 tells_all sent (c ∷ rest) lines so_far none came more e = absurd (omega arith)
 
 -- nothing is left of replies of which no byte is left
@@ -106,20 +105,18 @@ untold_none replies told (reply ∷ untold) parts all none =
 
 all_lines : (replies : List (List ℕ)) (lines : List ℕ) → All IsReply replies → IsCutOff replies [] lines → lines ≡ hex_lines replies
 all_lines replies lines all cut =
-    let none = untold_none replies cut.told cut.untold cut.parts all cut.more_is in
+    let none = untold_none replies cut.told cut.untold cut.parts all cut.unsent_is in
     cut.lines_are ∙ ap hex_lines (sym (cut.parts ∙ ap (λ l. cut.told ++ l) none ∙ append-nil cut.told))
 
 -- what is told of the bytes that were sent
 abbrev pub Tells : List ℕ → List ℕ → Type 0
 Tells sent lines = (came : List Came) (more : List ℕ) → sent ++ more ≡ concat (session_of came).replies → IsCutOff (session_of came).replies more lines
 
-prints : (fault : Option Fault) (came : List Came) (rest sent lines : List ℕ) (left : Option (List ℕ)) → EndsBy fault came rest left sent → IsBeginning sent (concat (session_of came).replies)
-    → Tells sent lines → Prints fault (session_of came).replies lines
+prints : (fault : Option Fault) (came : List Came) (rest sent lines : List ℕ) (left : Option (List ℕ)) → EndsBy fault came rest left sent → (front : IsBeginning sent (concat (session_of came).replies))
+    → Tells sent lines → Prints fault (session_of came).replies front.rest lines
 prints None came rest sent lines left ending front tells =
     all_lines (session_of came).replies lines (session_replies came) (tells came [] (append-nil sent ∙ ending.1))
-prints (Some fault) came rest sent lines left ending front tells =
-    let cut = tells came front.rest front.is in
-    record { told = cut.told; untold = cut.untold; parts = cut.parts; lines_are = cut.lines_are }
+prints (Some fault) came rest sent lines left ending front tells = tells came front.rest front.is
 
 -- a session over a stream, by what was written to a vector
 pub session_is : (stream unread held lines : List ℕ) (done : Done) → IsServed (Some stream) (Some unread) (Some []) (Some held) done → Tells held lines → IsSession stream lines done.fault

@@ -1,5 +1,6 @@
 -- A session from bytes to bytes: what came of a text of hex lines.
 use Rattle.std.specs.Prelude.{◌≡◌, ℕ, List, [], ◌++◌, Option, Some, None, IfSome, IsOk, Result, Ok, Err, ⊤}
+use Rattle.std.specs.List.{concat}
 use Rattle.std.specs.Io.KnownBytes.{Appends, Keeps}
 use Rattle.lockd_commands.specs.Hex.{hex_stream, hex_lines}
 use Rattle.lockd_commands.specs.Served.{IsServed}
@@ -27,17 +28,18 @@ TextSays text CannotWrite = ⊥
 TextSays text CutShort = ⊥
 TextSays text (WrongLength n) = ⊥
 
--- the first of these replies as lines of hex
-pub record IsFirstLines (replies : List (List ℕ)) (lines : List ℕ) : Type 0 where
+-- these lines are the first of the replies, and these bytes are the replies behind them
+pub record IsCutOff (replies : List (List ℕ)) (unsent lines : List ℕ) : Type 0 where
   pub told : List (List ℕ)
   pub untold : List (List ℕ)
   pub parts : replies ≡ told ++ untold
+  pub unsent_is : unsent ≡ concat untold
   pub lines_are : lines ≡ hex_lines told
 
--- what is printed of a session's replies: all of them where it has no fault
-abbrev pub Prints : Option Fault → List (List ℕ) → List ℕ → Type 0
-Prints None replies lines = lines ≡ hex_lines replies
-Prints (Some fault) replies lines = IsFirstLines replies lines
+-- What is printed of a session's replies: all of them where there is no fault, and else those that were sent.
+abbrev pub Prints : Option Fault → List (List ℕ) → List ℕ → List ℕ → Type 0
+Prints None replies unsent lines = lines ≡ hex_lines replies
+Prints (Some fault) replies unsent lines = IsCutOff replies unsent lines
 
 -- A session over this stream, whose fault is this one, and the lines that are printed for it.
 pub record IsSession (stream lines : List ℕ) (fault : Option Fault) : Type 0 where
@@ -46,7 +48,7 @@ pub record IsSession (stream lines : List ℕ) (fault : Option Fault) : Type 0 w
   pub sent : List ℕ
   pub served : IsServed (Some stream) (Some unread) (Some []) (Some sent) done
   pub fault_is : done.fault ≡ fault
-  pub printed : Prints fault (session_of served.came).replies lines
+  pub printed : Prints fault (session_of served.came).replies served.in_order.rest lines
 
 -- The input is hex lines, and what a session over their bytes gives was printed.
 pub record IsPrinted (left old new : Option (List ℕ)) (fault : Option Fault) : Type 0 where

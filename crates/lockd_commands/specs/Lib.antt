@@ -2,7 +2,6 @@ pub mod Ask
 pub mod Bytes
 pub mod Hex
 pub mod Order
-pub mod Replies
 pub mod Script
 pub mod Served
 pub mod Session

@@ -85,3 +85,6 @@ fn serve(alloc: Global, stream: &[u8]) -> Result<Served, Fault>
         }
     }
 }
+
+#[cfg(test)]
+mod tests;

@@ -1,5 +1,5 @@
 //! Whole inputs and outputs.
-ghost use Rattle.std.specs.Prelude.{◌≡◌, ◌≢◌, ℕ, IfSome, IfOk, OnOk, IfErr};
+ghost use Rattle.std.specs.Prelude.{◌≡◌, ◌⊎◌, IfSome, IfOk, OnOk, IfErr};
 ghost use Rattle.std.specs.Io.KnownBytes.{Appends};
 ghost use Rattle.lockd_commands.specs.declared.fault.Fault.{Fault};
 
@@ -10,7 +10,7 @@ use std::io::{ErrorKind, Read, Write};
 /// All that there is to read.
 pub(crate) fn read_all<R: Read>(alloc: Global, input: &mut R) -> Result<Vec<u8>, Fault>
     ensures bytes { IfOk result (λ text. IfSome (R.remaining input.old) (λ bytes. bytes ≡ text.items)) }
-    ensures error { IfErr result (λ fault. (n : ℕ) → fault ≢ Fault.BadLine n) }
+    ensures error { IfErr result (λ fault. (fault ≡ Fault.NoMemory) ⊎ (fault ≡ Fault.Read)) }
 {
     let mut text = Vec::new(alloc);
     match input.read_to_end(&mut text) {
