@@ -1,10 +1,10 @@
 -- Lines of hex, one after another.
-use Rattle.std.proofs.Common.{◌≡◌, ◌≢◌, ℕ, zero, suc, ◌+◌, ◌-◌, ◌<◌, ◌≤◌, ◌==◌, ◌⊎◌, inl, inr, Bool, true, false, List, [], ◌∷◌, ◌++◌, length, take, drop, refl, sym, ap, subst, ◌∙◌, arith, append_assoc, append-nil, Option, Some, None, Result, Ok, Err, IsErr, IsOk}
+use Rattle.std.proofs.Common.{◌≡◌, ℕ, suc, ◌+◌, ◌<◌, ◌≤◌, ◌==◌, ◌⊎◌, inl, inr, Bool, true, false, List, [], ◌∷◌, ◌++◌, length, take, drop, refl, sym, ap, subst, ◌∙◌, arith, append_assoc, append-nil, Some, None, Result, Ok, Err, IsErr}
 use Rattle.std.specs.List.{position_from}
 use Rattle.hex.specs.Hex.{decode_of}
 use Rattle.hex.specs.declared.error.FromHexError.{FromHexError}
 use Rattle.lockd_commands.specs.Bytes.{TextSays}
-use Rattle.lockd_commands.specs.Hex.{lines_of, with_first, joined, ended, spelled_from, hex_stream}
+use Rattle.lockd_commands.specs.Hex.{lines_of, with_first, joined, spelled_from, hex_stream}
 use Rattle.lockd_commands.specs.declared.fault.Fault.{Fault}
 use Rattle.lockd_commands.specs.declared.fault.Fault.TheVariants.{BadLine, NoMemory}
 
