@@ -5,23 +5,22 @@
 mod refusal;
 
 use clap::{Command, Error};
-use lockd_commands::script_on;
+use lockd_commands::{Status, bytes_on, script_on};
 use refusal::Refusal;
 use std::alloc::Global;
 use std::process::ExitCode;
 use std::{env, io};
 
+// What the command line asks for.
+#[derive(Clone, Copy)]
+enum Asked {
+    Script,
+    Bytes,
+}
+
 fn main(rt: HostRuntime) -> ExitCode {
     match read_command_line(&rt) {
-        Ok(()) => {
-            let status = script_on(
-                rt.alloc(),
-                &mut rt.reader(),
-                &mut io::writer(&rt),
-                &mut rt.stderr(),
-            );
-            ExitCode::from(status.exit_code())
-        }
+        Ok(asked) => ExitCode::from(run(&rt, asked).exit_code()),
         Err(refusal) => {
             let _ = rt.eprint(refusal);
             ExitCode::from(2)
@@ -29,21 +28,38 @@ fn main(rt: HostRuntime) -> ExitCode {
     }
 }
 
-// With no command it is `script`, so there is nothing to choose.
-fn read_command_line(rt: &HostRuntime) -> Result<(), Refusal> {
+fn run(rt: &HostRuntime, asked: Asked) -> Status {
+    let mut input = rt.reader();
+    let mut output = io::writer(rt);
+    let mut faults = rt.stderr();
+    match asked {
+        Asked::Script => script_on(rt.alloc(), &mut input, &mut output, &mut faults),
+        Asked::Bytes => bytes_on(rt.alloc(), &mut input, &mut output, &mut faults),
+    }
+}
+
+// With no command it is `script`.
+fn read_command_line(rt: &HostRuntime) -> Result<Asked, Refusal> {
     let alloc = rt.alloc();
     let words: Vec<String> = env::args(rt)?.collect(alloc)?;
-    command(alloc)?.try_get_matches_from(words.as_slice())?;
-    Ok(())
+    let matches = command(alloc)?.try_get_matches_from(words.as_slice())?;
+    match matches.subcommand_name() {
+        Some("bytes") => Ok(Asked::Bytes),
+        _ => Ok(Asked::Script),
+    }
 }
 
 fn command<'a>(alloc: Global) -> Result<Command<'a>, Error> {
     let script = Command::new(alloc, "script").about(
         "Answers the ask lines on standard input and prints the trace",
     );
+    let bytes = Command::new(alloc, "bytes").about(
+        "Serves the messages on standard input, lines of hex, and prints each reply as one",
+    );
     let lockd = Command::new(alloc, "lockd")
         .about("Keeps the locks of a directory of lock files")
         .after_help("Without a command it is script.")
-        .subcommand(script)?;
+        .subcommand(script)?
+        .subcommand(bytes)?;
     Ok(lockd)
 }

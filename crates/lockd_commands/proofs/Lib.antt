@@ -1,7 +1,10 @@
+pub mod HexLemmas
 pub mod ReadLemmas
+pub mod ReplyLemmas
 pub mod ScriptLemmas
 pub mod SendLemmas
-pub mod WriteLemmas
 pub mod ServedLemmas
 pub mod SessionLemmas
+pub mod SessionReplies
 pub mod WordLemmas
+pub mod WriteLemmas

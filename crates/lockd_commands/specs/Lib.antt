@@ -1,4 +1,6 @@
 pub mod Ask
+pub mod Bytes
+pub mod Hex
 pub mod Order
 pub mod Outbox
 pub mod Script

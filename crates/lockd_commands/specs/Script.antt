@@ -6,7 +6,7 @@ use Rattle.fl_book.specs.Text.{text_of, Fits}
 use Rattle.fl_book.specs.declared.history.Line.{Line}
 use Rattle.fl_book.specs.declared.history.Line.TheVariants.{Asked, Told}
 use Rattle.lockd_commands.specs.declared.fault.Fault.{Fault}
-use Rattle.lockd_commands.specs.declared.fault.Fault.TheVariants.{BadLine, NoMemory, Read, Write}
+use Rattle.lockd_commands.specs.declared.fault.Fault.TheVariants.{BadLine, NoMemory, Read, Write, Cut, BadLength}
 
 -- the line asks
 abbrev pub is_asked : Line → Bool
@@ -37,6 +37,8 @@ FaultSays script (BadLine n) = BreaksAt script n
 FaultSays script NoMemory = Unit {0}
 FaultSays script Read = ⊥
 FaultSays script Write = ⊥
+FaultSays script Cut = ⊥
+FaultSays script (BadLength n) = ⊥
 
 -- a script was read, and its trace was written
 pub record IsAnswered (left old new : Option (List ℕ)) : Type 0 where

@@ -1,7 +1,8 @@
 ghost use Rattle.std.specs.Prelude.{◌≡◌};
 
+use crate::session;
 use fl_wire::NoMemory;
-use std::alloc::AllocFailed;
+use std::alloc::{AllocError, AllocFailed};
 use thiserror::Error;
 
 /// Why a command gave up. Its text is the line on standard error.
@@ -19,6 +20,12 @@ pub enum Fault {
     /// The output can't be written.
     #[error("write failed")]
     Write,
+    /// The stream of messages ended inside one.
+    #[error("cut")]
+    Cut,
+    /// A message says this length, which none has: it is outside 40 to 8192 bytes.
+    #[error("bad length {0}")]
+    BadLength(u32),
 }
 
 impl From<NoMemory> for Fault {
@@ -37,6 +44,32 @@ impl<T: Drop> From<AllocFailed<T>> for Fault {
     ghost from_gives = { λ _ fault. fault ≡ NoMemory };
 
     fn from(_e: AllocFailed<T>) -> Fault {
+        Fault::NoMemory
+    }
+}
+
+impl From<session::Fault> for Fault {
+    ghost use Rattle.lockd_commands.specs.Bytes.{fault_of};
+
+    ghost from_gives = { λ told fault. fault ≡ fault_of told };
+
+    fn from(told: session::Fault) -> Fault {
+        match told {
+            session::Fault::Cut => Fault::Cut,
+            session::Fault::BadLength(len) => Fault::BadLength(len),
+            session::Fault::Read => Fault::Read,
+            session::Fault::Write => Fault::Write,
+            session::Fault::NoMemory => Fault::NoMemory,
+        }
+    }
+}
+
+impl From<AllocError> for Fault {
+    ghost use Rattle.lockd_commands.specs.declared.fault.Fault.TheVariants.{NoMemory};
+
+    ghost from_gives = { λ _ fault. fault ≡ NoMemory };
+
+    fn from(_e: AllocError) -> Fault {
         Fault::NoMemory
     }
 }

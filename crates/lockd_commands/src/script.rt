@@ -9,9 +9,10 @@ ghost use Rattle.lockd_commands.specs.declared.fault.Fault.{Fault};
 use crate::ask::{Ask, read_ask};
 use crate::fault::Fault;
 use crate::status::Status;
+use crate::streams::{read_all, write_all};
 use fl_book::{Desk, History, Tolds, print_trace};
 use std::alloc::Global;
-use std::io::{ErrorKind, Read, Write};
+use std::io::{Read, Write};
 
 /// `lockd script`: reads `ask` lines of workers 0 to 15, takes each order at a desk in turn, and writes the
 /// trace of the desk's history. All input is read and checked before any output. A fault is told as one
@@ -48,26 +49,6 @@ fn script<R: Read, W: Write>(alloc: Global, input: &mut R, output: &mut W) -> Re
     let text = read_all(alloc, input)?;
     let trace = trace_of(alloc, &text)?;
     write_all(output, trace.as_bytes())
-}
-
-fn read_all<R: Read>(alloc: Global, input: &mut R) -> Result<Vec<u8>, Fault>
-    ensures bytes { IfOk result (λ text. IfSome (R.remaining input.old) (λ bytes. bytes ≡ text.items)) }
-    ensures error { IfErr result (λ fault. (n : ℕ) → fault ≢ Fault.BadLine n) }
-{
-    let mut text = Vec::new(alloc);
-    match input.read_to_end(&mut text) {
-        Ok(_) => Ok(text),
-        Err(error) if error.kind() == ErrorKind::OutOfMemory => Err(Fault::NoMemory),
-        Err(_) => Err(Fault::Read),
-    }
-}
-
-fn write_all<W: Write>(output: &mut W, text: &[u8]) -> Result<(), Fault>
-    ensures written { OnOk result (Appends (W.contents output.old) (W.contents output.new) text.now) }
-    ensures error { IfErr result (λ fault. fault ≡ Fault.Write) }
-{
-    output.write_all(text).map_err(|_| Fault::Write)?;
-    output.flush().map_err(|_| Fault::Write)
 }
 
 // The trace of a script.

@@ -1,5 +1,6 @@
 use super::*;
 use std::io;
+use std::io::ErrorKind;
 use std::process::Abort;
 use std::test::Fail;
 

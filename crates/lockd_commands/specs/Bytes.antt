@@ -1,0 +1,79 @@
+-- A session from bytes to bytes: what came of a text of hex lines.
+use Rattle.std.specs.Prelude.{◌≡◌, ℕ, List, [], ◌++◌, Option, Some, None, IfSome, IsOk, Result, Ok, Err, ⊤}
+use Rattle.std.specs.List.{concat}
+use Rattle.std.specs.Io.KnownBytes.{Appends, Keeps}
+use Rattle.lockd_commands.specs.Hex.{hex_stream, hex_lines}
+use Rattle.lockd_commands.specs.Served.{IsServed}
+use Rattle.lockd_commands.specs.Session.{session_of}
+use Rattle.lockd_commands.specs.declared.fault.Fault.{Fault as CommandFault}
+use Rattle.lockd_commands.specs.declared.fault.Fault.TheVariants.{BadLine, NoMemory as NoRoom, Read as CannotRead, Write as CannotWrite, Cut as CutShort, BadLength as WrongLength}
+use Rattle.lockd_commands.specs.declared.session.Done.{Done}
+use Rattle.lockd_commands.specs.declared.session.Fault.{Fault}
+use Rattle.lockd_commands.specs.declared.session.Fault.TheVariants.{Cut, BadLength, Read, Write, NoMemory}
+
+-- a session's fault as a command tells it
+abbrev pub fault_of : Fault → CommandFault
+fault_of Cut = CutShort
+fault_of (BadLength n) = WrongLength n
+fault_of Read = CannotRead
+fault_of Write = CannotWrite
+fault_of NoMemory = NoRoom
+
+-- what a fault says of a text of hex lines
+abbrev pub TextSays : List ℕ → CommandFault → Type 0
+TextSays text (BadLine n) = hex_stream text ≡ Err n
+TextSays text NoRoom = ⊤
+TextSays text CannotRead = ⊥
+TextSays text CannotWrite = ⊥
+TextSays text CutShort = ⊥
+TextSays text (WrongLength n) = ⊥
+
+-- these lines are the first of the replies, and these bytes are the replies behind them
+pub record IsCutOff (replies : List (List ℕ)) (unsent lines : List ℕ) : Type 0 where
+  pub told : List (List ℕ)
+  pub untold : List (List ℕ)
+  pub parts : replies ≡ told ++ untold
+  pub unsent_is : unsent ≡ concat untold
+  pub lines_are : lines ≡ hex_lines told
+
+-- What is printed of a session's replies: all of them where there is no fault, and else those that were sent.
+abbrev pub Prints : Option Fault → List (List ℕ) → List ℕ → List ℕ → Type 0
+Prints None replies unsent lines = lines ≡ hex_lines replies
+Prints (Some fault) replies unsent lines = IsCutOff replies unsent lines
+
+-- A session over this stream, whose fault is this one, and the lines that are printed for it.
+pub record IsSession (stream lines : List ℕ) (fault : Option Fault) : Type 0 where
+  pub done : Done
+  pub unread : List ℕ
+  pub sent : List ℕ
+  pub served : IsServed (Some stream) (Some unread) (Some []) (Some sent) done
+  pub fault_is : done.fault ≡ fault
+  pub printed : Prints fault (session_of served.came).replies served.in_order.rest lines
+
+-- The input is hex lines, and what a session over their bytes gives was printed.
+pub record IsPrinted (left old new : Option (List ℕ)) (fault : Option Fault) : Type 0 where
+  pub text : List ℕ
+  pub stream : List ℕ
+  pub lines : List ℕ
+  pub read : IfSome left (λ bytes. bytes ≡ text)
+  pub spelled : hex_stream text ≡ Ok stream
+  pub session : IsSession stream lines fault
+  pub written : Appends old new lines
+
+-- What was done, by how the command ended: only after a session is anything printed.
+abbrev pub Did : Option (List ℕ) → Option (List ℕ) → Option (List ℕ) → Result Unit CommandFault → Type 0
+Did left old new (Ok done) = IsPrinted left old new None
+Did left old new (Err CutShort) = IsPrinted left old new (Some Cut)
+Did left old new (Err (WrongLength n)) = IsPrinted left old new (Some (BadLength n))
+Did left old new (Err (BadLine n)) = IfSome left (λ text. hex_stream text ≡ Err n) × Keeps old new
+Did left old new (Err NoRoom) = Keeps old new
+Did left old new (Err CannotRead) = Keeps old new
+Did left old new (Err CannotWrite) = IfSome left (λ text. IsOk (hex_stream text))
+
+-- a fault of a stream, and not of what reads or writes it
+abbrev pub IsOfStream : Fault → Type 0
+IsOfStream Cut = ⊤
+IsOfStream (BadLength n) = ⊤
+IsOfStream Read = ⊥
+IsOfStream Write = ⊥
+IsOfStream NoMemory = ⊥

@@ -1,0 +1,90 @@
+ghost use Rattle.std.specs.Prelude.{◌≡◌, ◌≢◌, ◌⊎◌, ℕ, None, Some, Err, IfSome, IfOk, IfErr};
+ghost use Rattle.std.specs.Io.KnownBytes.{Keeps};
+ghost use Rattle.lockd_commands.specs.Bytes.{Did, IsOfStream, IsPrinted, IsSession};
+ghost use Rattle.lockd_commands.specs.Hex.{hex_stream};
+ghost use Rattle.lockd_commands.specs.declared.fault.Fault.{Fault};
+ghost use Rattle.lockd_commands.specs.declared.session.Fault.{Fault as Told};
+
+use crate::fault::Fault;
+use crate::session;
+use crate::status::Status;
+use crate::streams::{read_all, write_all};
+use hex_text::read_stream;
+use replies::print_replies;
+use std::alloc::Global;
+use std::io::{Read, Write};
+
+mod hex_text;
+mod replies;
+
+/// `lockd bytes`: reads lines of hex, serves a session over the bytes that they spell, and writes each reply as a
+/// line of lower case hex. All input is read and checked, and the whole session is over, before any output. A fault
+/// is told as one line on `faults`; before `cut` and `bad length` the replies up to there are written.
+pub fn bytes_on<R: Read, W: Write, F: Write>(
+    alloc: Global,
+    input: &mut R,
+    output: &mut W,
+    faults: &mut F,
+) -> Status
+    ensures good { result ≡ Status.Good → IsPrinted (R.remaining input.old) (W.contents output.old) (W.contents output.new) None }
+    ensures cut { result ≡ Status.Faulted Fault.Cut → IsPrinted (R.remaining input.old) (W.contents output.old) (W.contents output.new) (Some Told.Cut) }
+    ensures bad_length { (n : ℕ) → result ≡ Status.Faulted (Fault.BadLength n) → IsPrinted (R.remaining input.old) (W.contents output.old) (W.contents output.new) (Some (Told.BadLength n)) }
+
+    // A bad line is told, and nothing else is.
+    ensures bad { (n : ℕ) → result ≡ Status.Faulted (Fault.BadLine n) → IfSome (R.remaining input.old) (λ text. hex_stream text ≡ Err n) }
+    ensures told { (n : ℕ) → IfSome (R.remaining input.old) (λ text. hex_stream text ≡ Err n → (result ≡ Status.Faulted (Fault.BadLine n)) ⊎ ((result ≡ Status.Faulted Fault.NoMemory) ⊎ (result ≡ Status.Faulted Fault.Read))) }
+
+    // Only these faults leave anything on the output.
+    ensures kept { (fault : Fault) → result ≡ Status.Faulted fault → fault ≢ Fault.Write → fault ≢ Fault.Cut → ((n : ℕ) → fault ≢ Fault.BadLength n) → Keeps (W.contents output.old) (W.contents output.new) }
+    ensures quiet { result ≡ Status.Good → Keeps (F.contents faults.old) (F.contents faults.new) }
+{
+    match bytes(alloc, input, output) {
+        Ok(()) => Status::Good,
+        Err(fault) => {
+            let _ = writeln!(faults, "{fault}");
+            Status::Faulted(fault)
+        }
+    }
+}
+
+fn bytes<R: Read, W: Write>(alloc: Global, input: &mut R, output: &mut W) -> Result<(), Fault>
+    ensures { Did (R.remaining input.old) (W.contents output.old) (W.contents output.new) result }
+{
+    let text = read_all(alloc, input)?;
+    let stream = read_stream(alloc, &text)?;
+    let served = serve(alloc, &stream)?;
+    write_all(output, &served.lines)?;
+    match served.fault {
+        None => Ok(()),
+        Some(fault) => Err(Fault::from(fault)),
+    }
+}
+
+// What is printed for a session, and the fault of its stream, if there is one.
+#[derive(Drop)]
+struct Served {
+    lines: Vec<u8>,
+    fault: Option<session::Fault>,
+}
+
+// A session over these bytes. Memory is all that a vector needs to be written to.
+fn serve(alloc: Global, stream: &[u8]) -> Result<Served, Fault>
+    ensures session { IfOk result (λ served. IsSession stream.now served.lines.items served.fault) }
+    ensures fault { IfOk result (λ served. IfSome served.fault IsOfStream) }
+    ensures error { IfErr result (λ fault. (fault ≡ Fault.NoMemory) ⊎ (fault ≡ Fault.Read)) }
+{
+    let mut rest = stream;
+    let mut sent = Vec::new(alloc);
+    let done = session::run_one(alloc, &mut rest, &mut sent);
+    match done.fault {
+        Some(session::Fault::Read) => Err(Fault::Read),
+        Some(session::Fault::Write | session::Fault::NoMemory) => Err(Fault::NoMemory),
+        fault => {
+            let lines = print_replies(alloc, &sent)?;
+            Ok(Served { lines, fault })
+        }
+    }
+}
+
+#[cfg(test)]
+mod tests;
