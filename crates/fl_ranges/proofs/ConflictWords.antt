@@ -1,14 +1,14 @@
 -- The test for a conflict, and a conflict in words.
 use Rattle.std.proofs.Common.{◌≡◌, ◌≢◌, ◌↔◌, ℕ, ◌≤◌, Bool, true, false, not, ◌&&◌, ◌==◌, nat_le, refl, ap, sym, arith}
 use Rattle.std.proofs.lemmas.Bool.Decides.{nat_tests}
-use Rattle.fl_book.specs.declared.lock.Class.{Class}
-use Rattle.fl_book.specs.declared.lock.Class.TheVariants.{Record, Flock}
-use Rattle.fl_book.specs.declared.lock.Key.{Key}
-use Rattle.fl_book.specs.declared.lock.Kind.{Kind}
-use Rattle.fl_book.specs.Marking.{class_number, Marking}
-use Rattle.fl_book.specs.Conflict.{excludes, excludes_lock, conflicts, IsConflict}
-use Rattle.fl_book.proofs.Markings.{spots_total, exact_spots}
-use Rattle.fl_book.proofs.Entries.{any_entry, entry_passes}
+use Rattle.fl_ranges.specs.declared.lock.Class.{Class}
+use Rattle.fl_ranges.specs.declared.lock.Class.TheVariants.{Record, Flock}
+use Rattle.fl_ranges.specs.declared.lock.Key.{Key}
+use Rattle.fl_ranges.specs.declared.lock.Kind.{Kind}
+use Rattle.fl_ranges.specs.Marking.{class_number, Marking}
+use Rattle.fl_ranges.specs.Conflict.{excludes, excludes_lock, conflicts, IsConflict}
+use Rattle.fl_ranges.proofs.Markings.{spots_total, exact_spots}
+use Rattle.fl_ranges.proofs.Entries.{any_entry, entry_passes}
 
 same_class : (a b : Class) → class_number a ≡ class_number b → a ≡ b
 same_class Record Record e = refl

@@ -1,5 +1,5 @@
 -- What a marking has at a spot after strokes.
-use Rattle.std.proofs.Common.{◌≡◌, ℕ, zero, suc, ◌+◌, ◌-◌, Bool, true, false, cond, ◌&&◌, ◌==◌, nat_lt, nat_le, Option, Some, None, List, [], ◌∷◌, refl, ap, ◌∙◌, arith}
+use Rattle.std.proofs.Common.{◌≡◌, ℕ, zero, suc, ◌+◌, ◌-◌, Bool, true, false, cond, not, ◌&&◌, ◌==◌, nat_lt, nat_le, Option, Some, None, List, [], ◌∷◌, refl, ap, sym, ◌∙◌, arith}
 use Rattle.std.proofs.lemmas.Bool.Decides.{nat_tests}
 use Rattle.std.proofs.lemmas.Cmp.{on_total, then_total}
 use Rattle.std.proofs.lemmas.Map.Lookups.{CmpEqualImpliesEq, exact_unsigned}
@@ -7,12 +7,13 @@ use Rattle.std.specs.declared.cmp.Ordering.{Ordering}
 use Rattle.std.specs.declared.cmp.Ordering.TheVariants.{Less, Equal, Greater}
 use Rattle.std.specs.Ordering.{nat_cmp, ordering_then, eq_by_cmp, is_eq}
 use Rattle.std.specs.Cmp.{IsTotalOrder, eq_by_cmp_equiv, nat_cmp_total}
-use Rattle.std.specs.FinMap.{get, get-insert, get-remove, get-empty}
-use Rattle.fl_book.specs.declared.lock.Class.{Class}
-use Rattle.fl_book.specs.declared.lock.Class.TheVariants.{Record, Flock}
-use Rattle.fl_book.specs.declared.lock.Key.{Key}
-use Rattle.fl_book.specs.declared.lock.Mark.{Mark}
-use Rattle.fl_book.specs.Marking.{class_number, key_cmp, Spot, spot_cmp, Marking, Stroke, mark_spot, mark_bytes, stroked, marking_of, covers, mark_at}
+use Rattle.std.specs.FinMap.{get, get-insert, get-remove, get-retain_keys, get-empty}
+use Rattle.fl_ranges.specs.declared.lock.Class.{Class}
+use Rattle.fl_ranges.specs.declared.lock.Class.TheVariants.{Record, Flock}
+use Rattle.fl_ranges.specs.declared.lock.Key.{Key}
+use Rattle.fl_ranges.specs.declared.lock.Mark.{Mark}
+use Rattle.fl_ranges.specs.Runs.{without_node}
+use Rattle.fl_ranges.specs.Marking.{class_number, key_cmp, Spot, spot_cmp, Marking, Stroke, mark_spot, mark_bytes, stroked, marking_of, covers, mark_at}
 
 -- ---- the orders
 
@@ -101,3 +102,13 @@ get-stroked s m q = get-mark_bytes s.key s.mark s.start (s.end + 1 - s.start) m 
 pub get-marking_of : (strokes : List Stroke) (q : Spot) → get (marking_of strokes) q ≡ mark_at strokes q
 get-marking_of [] q = get-empty spot_cmp q
 get-marking_of (s ∷ earlier) q = get-stroked s (marking_of earlier) q ∙ ap (λ w. cond (covers s q) s.mark w) (get-marking_of earlier q)
+
+turned : {A : Type 0} (b : Bool) (x y : A) → cond (not b) x y ≡ cond b y x
+turned true x y = refl
+turned false x y = refl
+
+-- without a node, its spots have no mark, and every other has what it had
+pub get-without_node : (m : Marking) (node : ℕ) (q : Spot) → get (without_node node m) q ≡ cond (q.0.node == node) None (get m q)
+get-without_node m node q =
+    get-retain_keys m (λ (spot : Spot). not (spot.0.node == node)) q (λ x e. ap (λ (spot : Spot). not (spot.0.node == node)) (sym (exact_spots q x e)))
+    ∙ turned (q.0.node == node) (get m q) None

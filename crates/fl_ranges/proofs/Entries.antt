@@ -14,7 +14,12 @@ less_not_equal Less e = refl
 less_not_equal Equal e = absurd (cc e)
 less_not_equal Greater e = absurd (cc e)
 
-is_Less : (o : Ordering) → is_lt o ≡ true → o ≡ Less
+pub less_differs : (o : Ordering) → o ≡ Less → is_eq o ≡ false
+less_differs Less e = refl
+less_differs Equal e = absurd (cc e)
+less_differs Greater e = absurd (cc e)
+
+pub is_Less : (o : Ordering) → is_lt o ≡ true → o ≡ Less
 is_Less Less e = refl
 is_Less Equal e = absurd (cc e)
 is_Less Greater e = absurd (cc e)
@@ -24,7 +29,7 @@ is_Equal Less e = absurd (cc e)
 is_Equal Equal e = refl
 is_Equal Greater e = absurd (cc e)
 
-truth : (b : Bool) → T b → b ≡ true
+pub truth : (b : Bool) → T b → b ≡ true
 truth true t = refl
 truth false t = absurd t
 

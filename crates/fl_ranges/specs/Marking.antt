@@ -3,10 +3,10 @@ use Rattle.std.specs.Prelude.{ℕ, zero, suc, ◌+◌, ◌-◌, Bool, ◌&&◌, 
 use Rattle.std.specs.Ordering.{nat_cmp, ordering_then, eq_by_cmp}
 use Rattle.std.specs.declared.cmp.Ordering.{Ordering}
 use Rattle.std.specs.FinMap.{FinMap, empty, insert, remove}
-use Rattle.fl_book.specs.declared.lock.Class.{Class}
-use Rattle.fl_book.specs.declared.lock.Class.TheVariants.{Record, Flock}
-use Rattle.fl_book.specs.declared.lock.Key.{Key}
-use Rattle.fl_book.specs.declared.lock.Mark.{Mark}
+use Rattle.fl_ranges.specs.declared.lock.Class.{Class}
+use Rattle.fl_ranges.specs.declared.lock.Class.TheVariants.{Record, Flock}
+use Rattle.fl_ranges.specs.declared.lock.Key.{Key}
+use Rattle.fl_ranges.specs.declared.lock.Mark.{Mark}
 
 -- record locks stand before whole-file locks
 abbrev pub class_number : Class → ℕ

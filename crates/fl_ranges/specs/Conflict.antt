@@ -2,11 +2,11 @@
 use Rattle.std.specs.Prelude.{◌≡◌, ◌≢◌, ℕ, ◌≤◌, Bool, true, false, not, ◌&&◌, ◌==◌, nat_le, Some}
 use Rattle.std.specs.List.{list_any}
 use Rattle.std.specs.FinMap.{entries, get}
-use Rattle.fl_book.specs.declared.lock.Kind.{Kind}
-use Rattle.fl_book.specs.declared.lock.Kind.TheVariants.{Read, Write}
-use Rattle.fl_book.specs.declared.lock.Key.{Key}
-use Rattle.fl_book.specs.declared.lock.Mark.{Mark}
-use Rattle.fl_book.specs.Marking.{Spot, Marking, class_number}
+use Rattle.fl_ranges.specs.declared.lock.Kind.{Kind}
+use Rattle.fl_ranges.specs.declared.lock.Kind.TheVariants.{Read, Write}
+use Rattle.fl_ranges.specs.declared.lock.Key.{Key}
+use Rattle.fl_ranges.specs.declared.lock.Mark.{Mark}
+use Rattle.fl_ranges.specs.Marking.{Spot, Marking, class_number}
 
 -- one of the two is a write lock
 abbrev pub excludes : Kind → Kind → Bool

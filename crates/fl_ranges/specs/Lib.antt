@@ -1,0 +1,4 @@
+pub mod Marking
+pub mod Conflict
+pub mod Codes
+pub mod Runs

@@ -1,0 +1,7 @@
+//! Locks as marks on bytes.
+#![tactic(auto)]
+
+pub mod laws;
+mod lock;
+
+pub use lock::{Class, Key, Kind, LAST_BYTE, Mark, Range};
