@@ -10,14 +10,14 @@ use Rattle.fl_ranges.specs.Conflict.{excludes, excludes_lock, conflicts, IsConfl
 use Rattle.fl_ranges.proofs.Markings.{spots_total, exact_spots}
 use Rattle.fl_ranges.proofs.Entries.{any_entry, entry_passes}
 
-same_class : (a b : Class) → class_number a ≡ class_number b → a ≡ b
+pub same_class : (a b : Class) → class_number a ≡ class_number b → a ≡ b
 same_class Record Record e = refl
 same_class Record Flock e = absurd (omega arith)
 same_class Flock Record e = absurd (omega arith)
 same_class Flock Flock e = refl
 
 -- the parts of the test, told by numbers
-record Parts (a b n o p q start byte end : ℕ) (x : Bool) : Type 0 where
+pub record Parts (a b n o p q start byte end : ℕ) (x : Bool) : Type 0 where
   pub class : a ≡ b
   pub node : n ≡ o
   pub other : p ≢ q
@@ -25,7 +25,7 @@ record Parts (a b n o p q start byte end : ℕ) (x : Bool) : Type 0 where
   pub upto : byte ≤ end
   pub write : x ≡ true
 
-parts : (a b n o p q start byte end : ℕ) (x : Bool) → (((a == b) && ((n == o) && not (p == q))) && ((nat_le start byte && nat_le byte end) && x)) ≡ true → Parts a b n o p q start byte end x
+pub parts : (a b n o p q start byte end : ℕ) (x : Bool) → (((a == b) && ((n == o) && not (p == q))) && ((nat_le start byte && nat_le byte end) && x)) ≡ true → Parts a b n o p q start byte end x
 parts a b n o p q start byte end true e = record {
   class = grind (arith, nat_tests);
   node = grind (arith, nat_tests);
@@ -41,7 +41,7 @@ parts a b n o p q start byte end false e = absurd (none ((a == b) && ((n == o) &
     none true false h = absurd (cc h)
     none false c h = absurd (cc h)
 
-all_parts : (a b n o p q start byte end : ℕ) (x : Bool) → a ≡ b → n ≡ o → (p ≢ q) → start ≤ byte → byte ≤ end → x ≡ true
+pub all_parts : (a b n o p q start byte end : ℕ) (x : Bool) → a ≡ b → n ≡ o → (p ≢ q) → start ≤ byte → byte ≤ end → x ≡ true
     → (((a == b) && ((n == o) && not (p == q))) && ((nat_le start byte && nat_le byte end) && x)) ≡ true
 all_parts a b n o p q start byte end true class node other from upto write = grind (arith, nat_tests)
 all_parts a b n o p q start byte end false class node other from upto write = absurd (cc write)

@@ -24,7 +24,7 @@ is_Less Less e = refl
 is_Less Equal e = absurd (cc e)
 is_Less Greater e = absurd (cc e)
 
-is_Equal : (o : Ordering) → is_eq o ≡ true → o ≡ Equal
+pub is_Equal : (o : Ordering) → is_eq o ≡ true → o ≡ Equal
 is_Equal Less e = absurd (cc e)
 is_Equal Equal e = refl
 is_Equal Greater e = absurd (cc e)
@@ -35,7 +35,7 @@ truth false t = absurd t
 
 module _ {K X : Type 0} {R : K → K → Ordering} (o : IsTotalOrder R) where
   -- a key that is found in a list above x is above x
-  found_above : (x q : K) (v : X) (es : List (K × X)) → below_all R x es ≡ true → find R q es ≡ Some v → R x q ≡ Less
+  pub found_above : (x q : K) (v : X) (es : List (K × X)) → below_all R x es ≡ true → find R q es ≡ Some v → R x q ≡ Less
   found_above x q v [] below found = absurd (cc found)
   found_above x q v (e ∷ es) below found = go (found_above x q v es (second_so (is_lt (R x e.0)) (below_all R x es) below)) (eq_by_cmp R q e.0) refl found
     where

@@ -4,3 +4,6 @@ pub mod Spots
 pub mod ConflictWords
 pub mod Lawful
 pub mod Starts
+pub mod BlockersRows
+pub mod BlockersFirst
+pub mod Blockers

@@ -1,7 +1,9 @@
 //! Locks as marks on bytes.
 #![tactic(auto)]
 
+mod held;
 pub mod laws;
 mod lock;
 
+pub use held::Held;
 pub use lock::{Class, Key, Kind, LAST_BYTE, Mark, Range};
