@@ -4,3 +4,6 @@ pub mod Spots
 pub mod ConflictWords
 pub mod Lawful
 pub mod Starts
+pub mod RunLists
+pub mod Counting
+pub mod Cuts

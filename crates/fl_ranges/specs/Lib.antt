@@ -2,3 +2,4 @@ pub mod Marking
 pub mod Conflict
 pub mod Codes
 pub mod Runs
+pub mod RunList

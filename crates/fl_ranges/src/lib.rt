@@ -3,5 +3,6 @@
 
 pub mod laws;
 mod lock;
+mod run;
 
 pub use lock::{Class, Key, Kind, LAST_BYTE, Mark, Range};
