@@ -1,9 +1,12 @@
 pub mod Markings
 pub mod Entries
+pub mod BlockersRows
+pub mod BlockersFirst
+pub mod Blockers
 pub mod Spots
 pub mod ConflictWords
 pub mod Lawful
 pub mod Starts
-pub mod BlockersRows
-pub mod BlockersFirst
-pub mod Blockers
+pub mod RunLists
+pub mod Counting
+pub mod Cuts

@@ -122,7 +122,7 @@ module _ {K X : Type 0} {R : K → K → Ordering} (o : IsTotalOrder R) (p : (K 
       go true c rest = ap (λ (b : Bool). eq_by_cmp R q e.0 || b) rest ∙ ap (λ (b : Bool). b || list_any (λ (e : K × X). eq_by_cmp R q e.0 && p e) es) (sym (with_true (eq_by_cmp R q e.0)))
       go false c rest = rest ∙ ap (λ (b : Bool). b || list_any (λ (e : K × X). eq_by_cmp R q e.0 && p e) es) (sym (with_false (eq_by_cmp R q e.0)))
 
-spots_decided : (a b : Spot) → Decides (eq_by_cmp spot_cmp a b) (a ≡ b)
+pub spots_decided : (a b : Spot) → Decides (eq_by_cmp spot_cmp a b) (a ≡ b)
 spots_decided a b = (same_spot a b, λ e. ap (eq_by_cmp spot_cmp a) (sym e) ∙ spot_itself a)
 
 starts_at : Marking → Spot → (Spot × Mark) → Bool

@@ -1,0 +1,11 @@
+//! One run of bytes.
+use crate::lock::{Key, Mark};
+
+// A row of bytes of one key with one mark, both ends included.
+#[derive(Clone, Copy)]
+pub(crate) struct Run {
+    pub key: Key,
+    pub start: u64,
+    pub end: u64,
+    pub mark: Mark,
+}
