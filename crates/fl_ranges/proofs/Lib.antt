@@ -3,6 +3,7 @@ pub mod Entries
 pub mod BlockersRows
 pub mod BlockersFirst
 pub mod Blockers
+pub mod BlockersRuns
 pub mod Spots
 pub mod ConflictWords
 pub mod Lawful
