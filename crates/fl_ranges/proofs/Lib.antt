@@ -7,3 +7,4 @@ pub mod Starts
 pub mod RunLists
 pub mod Counting
 pub mod Cuts
+pub mod Strokes
