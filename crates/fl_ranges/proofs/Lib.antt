@@ -11,3 +11,4 @@ pub mod Starts
 pub mod RunLists
 pub mod Counting
 pub mod Cuts
+pub mod Strokes

@@ -9,6 +9,7 @@ use Rattle.fl_ranges.specs.declared.lock.Mark.{Mark}
 use Rattle.fl_ranges.specs.declared.run.Run.{Run}
 use Rattle.fl_ranges.specs.Marking.{Spot, Stroke, key_cmp, covers}
 use Rattle.fl_ranges.specs.Conflict.{are_rivals, excludes}
+use Rattle.fl_ranges.specs.Runs.{is_same_mark}
 
 -- a run means the stroke that would set it
 abbrev pub meant : Run → Stroke
@@ -68,6 +69,39 @@ left_over key start end rs = filter (λ r. not (overlaps key start end r)) rs
 abbrev pub cut : Key → ℕ → ℕ → List Run → List Run
 cut key start end rs =
     with_run (part_before start (run_at rs (key, start))) (with_run (part_after end (run_at rs (key, end))) (left_over key start end rs))
+
+-- a new run, where there is a mark to set
+abbrev pub new_run : Key → ℕ → ℕ → Option Mark → Option Run
+new_run key start end None = None
+new_run key start end (Some mark) = Some (record { key = key; start = start; end = end; mark = mark })
+
+-- where a new run starts that joins the run, if it has the same mark
+abbrev pub joined_start : Mark → ℕ → Option Run → ℕ
+joined_start mark start None = start
+joined_start mark start (Some r) = if is_same_mark r.mark mark then r.start else start
+
+-- where it ends
+abbrev pub joined_end : Mark → ℕ → Option Run → ℕ
+joined_end mark end None = end
+joined_end mark end (Some r) = if is_same_mark r.mark mark then r.end else end
+
+-- where the bytes that change start: with a mark to set, where a run of that mark starts that touches the range
+abbrev pub reach_start : Key → ℕ → Option Mark → List Run → ℕ
+reach_start key start None rs = start
+reach_start key start (Some mark) rs = joined_start mark start (run_at rs (key, start - 1))
+
+-- where they end
+abbrev pub reach_end : Key → ℕ → Option Mark → List Run → ℕ
+reach_end key end None rs = end
+reach_end key end (Some mark) rs = joined_end mark end (run_at rs (key, end + 1))
+
+-- the runs once the bytes from start to end have been cut out, and got the mark if there is one
+abbrev pub changed : Key → ℕ → ℕ → Option Mark → List Run → List Run
+changed key start end mark rs = with_run (new_run key start end mark) (cut key start end rs)
+
+-- the runs after a stroke
+abbrev pub after_stroke : Key → ℕ → ℕ → Option Mark → List Run → List Run
+after_stroke key start end mark rs = changed key (reach_start key start mark rs) (reach_end key end mark rs) mark rs
 
 -- a run excludes a lock of this kind, by this key, on the bytes from start to end
 abbrev pub run_excludes : Key → ℕ → ℕ → Kind → Run → Bool
