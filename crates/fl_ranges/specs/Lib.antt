@@ -3,3 +3,4 @@ pub mod Conflict
 pub mod Codes
 pub mod Runs
 pub mod RunList
+pub mod RunChains

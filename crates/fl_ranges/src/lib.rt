@@ -1,6 +1,7 @@
 //! Locks as marks on bytes.
 #![tactic(auto)]
 
+mod chain;
 pub mod laws;
 mod lock;
 mod run;
