@@ -12,3 +12,5 @@ pub mod RunLists
 pub mod Counting
 pub mod Cuts
 pub mod Strokes
+pub mod Walks
+pub mod ChainLists

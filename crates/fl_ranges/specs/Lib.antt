@@ -5,3 +5,4 @@ pub mod Conflict
 pub mod Codes
 pub mod Runs
 pub mod RunList
+pub mod RunChains
