@@ -72,6 +72,12 @@ record IsListed (rs : List Run) (r : Run) : Type 0 where
   pub whole : IsWhole (held_at rs) r
 
 module _ (key : Key) (start end : ℕ) (kind : Kind) where
+  -- a run that excludes the lock is on its node
+  pub excluding_node : (r : Run) → run_excludes key start end kind r ≡ true → key.node ≡ r.key.node
+  excluding_node r excluding =
+      let p = excluding_parts (class_number key.class) (class_number r.key.class) key.node r.key.node key.owner r.key.owner start end r.start r.end (excludes kind r.mark.kind) excluding in
+      p.node
+
   -- ---- what is found among runs
 
   record IsNearest (best : Option Run) (rs : List Run) (r : Run) : Type 0 where

@@ -4,6 +4,8 @@ pub mod BlockersRows
 pub mod BlockersFirst
 pub mod Blockers
 pub mod BlockersRuns
+pub mod BlockersTable
+pub mod BlockersWalk
 pub mod Spots
 pub mod ConflictWords
 pub mod Lawful

@@ -1,6 +1,7 @@
 //! Locks as marks on bytes.
 #![tactic(auto)]
 
+mod blocker;
 mod chain;
 mod held;
 pub mod laws;
