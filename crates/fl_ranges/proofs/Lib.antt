@@ -10,3 +10,5 @@ pub mod Cuts
 pub mod Strokes
 pub mod Walks
 pub mod ChainLists
+pub mod Rearranged
+pub mod TableLemmas

@@ -4,3 +4,5 @@ pub mod Codes
 pub mod Runs
 pub mod RunList
 pub mod RunChains
+pub mod RunPlan
+pub mod LockTable

@@ -4,6 +4,9 @@
 mod chain;
 pub mod laws;
 mod lock;
+mod plan;
 mod run;
+mod table;
 
 pub use lock::{Class, Key, Kind, LAST_BYTE, Mark, Range};
+pub use table::{NoRoom, Table};
