@@ -16,3 +16,5 @@ pub mod Cuts
 pub mod Strokes
 pub mod Walks
 pub mod ChainLists
+pub mod Rearranged
+pub mod TableLemmas

@@ -6,3 +6,5 @@ pub mod Codes
 pub mod Runs
 pub mod RunList
 pub mod RunChains
+pub mod RunPlan
+pub mod LockTable

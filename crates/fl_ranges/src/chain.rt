@@ -1,5 +1,5 @@
 //! The runs of one chain of the arena, where those of a node stand.
-ghost use Rattle.std.specs.Prelude.{◌≡◌, ◌≢◌, ◌%◌, ◌<◌, ◌==◌, ℕ, length, not};
+ghost use Rattle.std.specs.Prelude.{◌≡◌, ◌≢◌, ◌%◌, ◌<◌, ◌≤◌, ◌==◌, ℕ, length, not};
 ghost use Rattle.std.specs.List.{filter, list_any};
 ghost use Rattle.fl_arena.specs.Chains.{entries, items, HasSizeOf};
 ghost use Rattle.fl_ranges.specs.RunList.{run_at, overlaps, left_over, run_excludes};
@@ -37,7 +37,8 @@ pub(crate) fn run_at(runs: &Arena<Run>, key: &Key, byte: u64) -> Option<Run>
 
 // How many runs have a byte of the key from start to end.
 pub(crate) fn count_over(runs: &Arena<Run>, key: &Key, start: u64, end: u64) -> usize
-    requires { length runs.now.chains ≡ 256 }
+    requires chains { length runs.now.chains ≡ 256 }
+    requires few { length (items runs.now (home key.now.node)) ≤ 65536 }
     ensures { result ≡ length (filter (overlaps key.now start end) (items runs.now (home key.now.node))) }
 {
     let mut cursor = runs.cursor(home(key.node));

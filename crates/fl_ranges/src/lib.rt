@@ -6,7 +6,10 @@ mod chain;
 mod held;
 pub mod laws;
 mod lock;
+mod plan;
 mod run;
+mod table;
 
 pub use held::Held;
 pub use lock::{Class, Key, Kind, LAST_BYTE, Mark, Range};
+pub use table::{NoRoom, Table};

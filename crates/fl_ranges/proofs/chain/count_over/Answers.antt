@@ -7,7 +7,10 @@ use Rattle.fl_ranges.proofs.Walks.{on_at, count_yes, count_no, count_end}
 use Rattle.fl_ranges.proofs.chain.count_over.Goals as goal
 
 pub overflow_add-count : goal.overflow_add-count
-overflow_add-count c = c.step.auto.cursor
+overflow_add-count c =
+    let inv = c.loop-run.invariant in
+    let few = c.requires.few in
+    omega (arith, inv.few, inv.within, few)
 
 pub loop-run-smaller-then-overlaps : goal.loop-run-smaller-then-overlaps
 loop-run-smaller-then-overlaps c =
