@@ -1,11 +1,40 @@
 //! The lock that F_GETLK names, found among the runs.
-ghost use Rattle.std.specs.Prelude.{◌≡◌, ◌<◌, length, None};
+ghost use Rattle.std.specs.Prelude.{◌≡◌, ◌<◌, length, None, option_map};
 ghost use Rattle.fl_arena.specs.Chains.{items};
-ghost use Rattle.fl_ranges.specs.Nearest.{is_nearer, nearest_with, nearest_from};
+ghost use Rattle.fl_ranges.specs.Nearest.{is_nearer, nearest_with, nearest_from, lock_of};
 
+use crate::chain::home;
+use crate::held::Held;
 use crate::lock::{Key, Kind, Range};
 use crate::run::{Run, excludes};
+use crate::table::Table;
 use fl_arena::Arena;
+
+impl Table {
+    ghost use Rattle.fl_ranges.specs.Blocker.{blocker};
+
+    /// The lock that F_GETLK names (POSIX.1-2017 `fcntl`): at the least byte of the range at which a lock of
+    /// another owner excludes one of this kind, that of the least such owner, on all the bytes around that one
+    /// on which it has the same mark. None where no lock excludes it.
+    pub fn blocker(&self, key: &Key, range: &Range, kind: Kind) -> Option<Held>
+        ensures { result ≡ blocker self.now.marking key.now range.now.start range.now.end kind }
+    {
+        lock_of(nearest(&self.runs, home(key.node), key, range, kind))
+    }
+}
+
+// The lock of a run, where there is one.
+fn lock_of(run: Option<Run>) -> Option<Held>
+    ensures { result ≡ option_map lock_of run }
+{
+    let run = run?;
+    Some(Held {
+        owner: run.key.owner,
+        start: run.start,
+        end: run.end,
+        mark: run.mark,
+    })
+}
 
 // Whether the run's first byte in a range that begins there is less than the other's, or is the same, and the
 // run's owner is less.
@@ -31,13 +60,7 @@ fn nearest_with(key: &Key, range: &Range, kind: Kind, best: Option<Run>, run: Ru
 }
 
 // The nearest of a chain's runs that exclude a lock of this kind, by this key, on the range.
-pub(crate) fn nearest(
-    runs: &Arena<Run>,
-    chain: usize,
-    key: &Key,
-    range: &Range,
-    kind: Kind,
-) -> Option<Run>
+fn nearest(runs: &Arena<Run>, chain: usize, key: &Key, range: &Range, kind: Kind) -> Option<Run>
     requires { chain < length runs.now.chains }
     ensures { result ≡ nearest_from key.now range.now.start range.now.end kind None (items runs.now chain) }
 {

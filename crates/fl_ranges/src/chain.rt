@@ -13,7 +13,7 @@ use fl_arena::Arena;
 pub(crate) const CHAINS: usize = 256;
 
 // The chain of a node's runs.
-fn home(node: u64) -> usize
+pub(crate) fn home(node: u64) -> usize
     ensures home { result ≡ home node }
     ensures in_range { result < 256 }
 {

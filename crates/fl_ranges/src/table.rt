@@ -16,7 +16,7 @@ use std::marker::Model;
 /// memory.
 #[derive(Drop)]
 pub struct Table {
-    runs: Arena<Run>,
+    pub(crate) runs: Arena<Run>,
     limit: u32,
 }
 
