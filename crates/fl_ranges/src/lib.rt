@@ -2,6 +2,8 @@
 #![tactic(auto)]
 
 mod blocker;
+#[cfg(test)]
+mod blocker_tests;
 mod chain;
 mod held;
 pub mod laws;
