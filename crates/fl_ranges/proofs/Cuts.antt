@@ -41,13 +41,13 @@ each_with P (Some p) rs own all = (own p refl, all)
 
 -- ---- the parts at the edges
 
-record IsBefore (start : ℕ) (o : Option Run) (p : Run) : Type 0 where
+pub record IsBefore (start : ℕ) (o : Option Run) (p : Run) : Type 0 where
   pub run : Run
   pub is : o ≡ Some run
   pub less : run.start < start
   pub part : p ≡ record run { end = start - 1 }
 
-before_is : (start : ℕ) (o : Option Run) (p : Run) → part_before start o ≡ Some p → IsBefore start o p
+pub before_is : (start : ℕ) (o : Option Run) (p : Run) → part_before start o ≡ Some p → IsBefore start o p
 before_is start None p e = absurd (cc e)
 before_is start (Some r) p e = go (nat_lt r.start start) refl e
   where
@@ -62,13 +62,13 @@ is_before start o r e less = ap (part_before start) e ∙ go (nat_lt r.start sta
     go true is = refl
     go false is = absurd (grind (arith, nat_tests))
 
-record IsAfter (end : ℕ) (o : Option Run) (p : Run) : Type 0 where
+pub record IsAfter (end : ℕ) (o : Option Run) (p : Run) : Type 0 where
   pub run : Run
   pub is : o ≡ Some run
   pub more : end < run.end
   pub part : p ≡ record run { start = end + 1 }
 
-after_is : (end : ℕ) (o : Option Run) (p : Run) → part_after end o ≡ Some p → IsAfter end o p
+pub after_is : (end : ℕ) (o : Option Run) (p : Run) → part_after end o ≡ Some p → IsAfter end o p
 after_is end None p e = absurd (cc e)
 after_is end (Some r) p e = go (nat_lt end r.end) refl e
   where
@@ -82,6 +82,19 @@ is_after end o r e more = ap (part_after end) e ∙ go (nat_lt end r.end) refl
     go : (b : Bool) → nat_lt end r.end ≡ b → cond b (Some (record r { start = end + 1 })) None ≡ Some (record r { start = end + 1 })
     go true is = refl
     go false is = absurd (grind (arith, nat_tests))
+
+-- the parts are of the key of the run that was looked up
+pub before_key : (rs : List Run) (key : Key) (start : ℕ) (p : Run) → part_before start (run_at rs (key, start)) ≡ Some p → p.key ≡ key
+before_key rs key start p e =
+    let b = before_is start (run_at rs (key, start)) p e in
+    let at = at_spot b.run (key, start) (run_has rs (key, start) b.run b.is) in
+    ap (λ (x : Run). x.key) b.part ∙ at.key
+
+pub after_key : (rs : List Run) (key : Key) (end : ℕ) (p : Run) → part_after end (run_at rs (key, end)) ≡ Some p → p.key ≡ key
+after_key rs key end p e =
+    let a = after_is end (run_at rs (key, end)) p e in
+    let at = at_spot a.run (key, end) (run_has rs (key, end) a.run a.is) in
+    ap (λ (x : Run). x.key) a.part ∙ at.key
 
 -- the spot is one of the bytes from start to end of the key
 abbrev pub inside : Key → ℕ → ℕ → Spot → Bool

@@ -20,12 +20,12 @@ use Rattle.fl_ranges.proofs.Cuts.{inside, apart_with, held_with, none_with, each
 
 -- ---- bytes cut out and set anew, where the new mark doesn't stand beside them
 
-record IsNew (key : Key) (start end : ℕ) (o : Option Mark) (p : Run) : Type 0 where
+pub record IsNew (key : Key) (start end : ℕ) (o : Option Mark) (p : Run) : Type 0 where
   pub new : Mark
   pub set : o ≡ Some new
   pub is : p ≡ record { key = key; start = start; end = end; mark = new }
 
-new_is : (key : Key) (start end : ℕ) (o : Option Mark) (p : Run) → new_run key start end o ≡ Some p → IsNew key start end o p
+pub new_is : (key : Key) (start end : ℕ) (o : Option Mark) (p : Run) → new_run key start end o ≡ Some p → IsNew key start end o p
 new_is key start end None p e = absurd (cc e)
 new_is key start end (Some y) p e = record { new = y; set = refl; is = cc e }
 
