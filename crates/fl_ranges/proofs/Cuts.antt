@@ -1,5 +1,5 @@
 -- Runs once a key has lost a range of bytes, or has got a mark there.
-use Rattle.std.proofs.Common.{◌≡◌, ◌≢◌, ◌⊎◌, inl, inr, ℕ, ◌+◌, ◌-◌, ◌<◌, ◌≤◌, Bool, true, false, cond, not, ◌&&◌, nat_lt, nat_le, Option, Some, None, List, [], ◌∷◌, refl, ap, sym, ◌∙◌, subst, arith}
+use Rattle.std.proofs.Common.{◌≡◌, ◌≢◌, ℕ, ◌+◌, ◌-◌, ◌<◌, ◌≤◌, Bool, true, false, cond, not, ◌&&◌, nat_lt, nat_le, Option, Some, None, List, refl, ap, sym, ◌∙◌, subst, arith}
 use Rattle.std.proofs.lemmas.Bool.Decides.{nat_tests}
 use Rattle.std.specs.List.{AllByRecursion}
 use Rattle.std.specs.Option.{option_map}
@@ -122,8 +122,7 @@ module _ (rs : List Run) (good : AreRuns rs) (key : Key) (start end : ℕ) (orde
       let here = at_spot b.run (key, start) (run_has rs (key, start) b.run b.is) in
       let there = at_spot (record b.run { end = start - 1 }) q (subst (λ (x : Run). has_spot q x ≡ true) b.part has) in
       let below : q.1 < start = omega (arith, b.less, there.upto) in
-      let own : has_spot q b.run ≡ true = spot_of b.run q there.key there.from (omega (arith, below, here.upto)) in
-      (
+      let own : has_spot q b.run ≡ true = spot_of b.run q there.key there.from (omega (arith, below, here.upto)) in (
         record {
           run = b.run;
           found = same_run rs good.apart (key, start) q b.run b.is own;
@@ -139,8 +138,7 @@ module _ (rs : List Run) (good : AreRuns rs) (key : Key) (start end : ℕ) (orde
       let here = at_spot a.run (key, end) (run_has rs (key, end) a.run a.is) in
       let there = at_spot (record a.run { start = end + 1 }) q (subst (λ (x : Run). has_spot q x ≡ true) a.part has) in
       let above : end < q.1 = omega (arith, there.from) in
-      let own : has_spot q a.run ≡ true = spot_of a.run q there.key (omega (arith, above, here.from)) there.upto in
-      (
+      let own : has_spot q a.run ≡ true = spot_of a.run q there.key (omega (arith, above, here.from)) there.upto in (
         record {
           run = a.run;
           found = same_run rs good.apart (key, end) q a.run a.is own;
@@ -166,8 +164,7 @@ module _ (rs : List Run) (good : AreRuns rs) (key : Key) (start end : ℕ) (orde
   apart_rest : AreApart rest
   unfolding rest
   apart_rest = apart_with (part_after end (run_at rs (key, end))) (left_over key start end rs) (apart-filter (λ r. not (overlaps key start end r)) rs good.apart) (λ p e.
-      let a = after_is end (run_at rs (key, end)) p e in
-      (
+      let a = after_is end (run_at rs (key, end)) p e in (
         subst (λ (x : Run). x.start ≤ x.end) (sym a.part) (omega (arith, a.more)),
         λ q has. let o = (after_spot p e q has).0 in none_left q o.run o.found o.over,
       ))
@@ -175,8 +172,7 @@ module _ (rs : List Run) (good : AreRuns rs) (key : Key) (start end : ℕ) (orde
   pub apart_cut : AreApart (cut key start end rs)
   unfolding rest
   apart_cut = apart_with (part_before start (run_at rs (key, start))) rest apart_rest (λ p e.
-      let b = before_is start (run_at rs (key, start)) p e in
-      (
+      let b = before_is start (run_at rs (key, start)) p e in (
         subst (λ (x : Run). x.start ≤ x.end) (sym b.part) (omega (arith, b.less)),
         λ q has.
             let o = before_spot p e q has in

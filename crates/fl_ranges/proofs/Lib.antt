@@ -12,3 +12,5 @@ pub mod Walks
 pub mod ChainLists
 pub mod Rearranged
 pub mod TableLemmas
+pub mod TableCalls
+pub mod Clashes

@@ -1,23 +1,23 @@
 -- What a change of a node's chain means for the table.
-use Rattle.std.proofs.Common.{◌≡◌, ◌≢◌, ℕ, ◌+◌, ◌-◌, ◌<◌, ◌≤◌, Bool, true, false, cond, not, ◌==◌, Option, Some, None, List, [], ◌∷◌, ◌++◌, map, length, refl, ap, sym, ◌∙◌, subst, arith}
+use Rattle.std.proofs.Common.{◌≡◌, ◌≢◌, ℕ, ◌+◌, ◌-◌, ◌<◌, ◌≤◌, Bool, true, false, not, ◌==◌, Option, Some, None, List, ◌++◌, map, length, refl, ap, sym, ◌∙◌, subst, arith}
 use Rattle.std.specs.List.{filter, AllByRecursion}
 use Rattle.std.proofs.lemmas.Bool.Decides.{nat_tests}
 use Rattle.fl_arena.specs.Chains.{Entry, Chains, entries, items, HasSizeOf}
 use Rattle.fl_ranges.specs.declared.lock.Key.{Key}
 use Rattle.fl_ranges.specs.declared.lock.Mark.{Mark}
 use Rattle.fl_ranges.specs.declared.run.Run.{Run}
-use Rattle.fl_ranges.specs.Marking.{Spot, Stroke, stroked, marking_of}
+use Rattle.fl_ranges.specs.Marking.{stroked, marking_of}
 use Rattle.fl_ranges.specs.Runs.{runs}
-use Rattle.fl_ranges.specs.RunList.{meant, has_spot, run_at, overlaps, AreRuns, left_over, with_run, part_before, part_after, new_run, reach_start, reach_end, joined_start, joined_end, changed, after_stroke}
+use Rattle.fl_ranges.specs.RunList.{meant, has_spot, run_at, overlaps, left_over, with_run, part_before, part_after, new_run, reach_start, reach_end, joined_start, joined_end, changed, after_stroke}
 use Rattle.fl_ranges.specs.RunChains.{home, all_runs, IsTable}
 use Rattle.fl_ranges.specs.RunPlan.{plan_on, plan_of, pieces, count_run, insert_some, carried_out}
-use Rattle.fl_ranges.proofs.RunLists.{at_spot, run_has, each_filter, each_weaker}
+use Rattle.fl_ranges.proofs.RunLists.{each_filter, each_weaker}
 use Rattle.fl_ranges.proofs.Cuts.{before_key, after_key}
 use Rattle.fl_ranges.proofs.Strokes.{new_is, runs_stroked, marking_stroked, count_stroked}
 use Rattle.fl_ranges.proofs.ChainLists.{before_chain, after_chain, all_around, all_swapped, away_before, away_after, find_among, filter_among, no_spot, no_overlap, home_less, both_parts, lengths}
-use Rattle.fl_ranges.proofs.Rearranged.{Rearranged, same, rearranged_with, as_runs, as_marking, as_apart, each-insert_some}
+use Rattle.fl_ranges.proofs.Rearranged.{Rearranged, same, rearranged_with, as_runs, as_marking, each-insert_some}
 
-number_itself : (a b : ℕ) → a ≡ b → (a == b) ≡ true
+pub number_itself : (a b : ℕ) → a ≡ b → (a == b) ≡ true
 number_itself a b e = grind (arith, nat_tests)
 
 length-with_run : (o : Option Run) (rs : List Run) → length (with_run o rs) ≡ count_run o + length rs
@@ -25,11 +25,11 @@ length-with_run None rs = omega arith
 length-with_run (Some r) rs = omega arith
 
 module _ (a : Chains Run) (limit : ℕ) (t : IsTable a limit) (key : Key) where
-  within : home key.node < length a.chains
+  pub within : home key.node < length a.chains
   within = let less = home_less key.node in let chains = t.chains in omega (arith, less, chains)
 
   -- a look-up in the chain of a key finds what one in all runs does
-  same_found : (byte : ℕ) → run_at (items a (home key.node)) (key, byte) ≡ run_at (all_runs a) (key, byte)
+  pub same_found : (byte : ℕ) → run_at (items a (home key.node)) (key, byte) ≡ run_at (all_runs a) (key, byte)
   same_found byte =
       sym (ap (λ (l : List Run). run_at l (key, byte)) (all_around a (home key.node) within)
       ∙ find_among (has_spot (key, byte)) (before_chain a (home key.node)) (items a (home key.node)) (after_chain a (home key.node))
@@ -114,8 +114,7 @@ module _ (a : Chains Run) (limit : ℕ) (t : IsTable a limit) (key : Key) (start
   table_stroked b size others is =
       let order : Rearranged (after_stroke key start end mark (all_runs a)) (all_runs b) =
       subst (λ (l : List Run). Rearranged l (all_runs b)) after_is (all_changed a limit t key b from to mark size others is) in
-      let good = runs_stroked (all_runs a) t.runs key start end ordered limited mark in
-      (
+      let good = runs_stroked (all_runs a) t.runs key start end ordered limited mark in (
         record {
           chains = size.chains ∙ t.chains;
           slots = size.slots ∙ t.slots;

@@ -88,8 +88,9 @@ impl Table {
             (self.new ≡ record self.old { marking = stroked (record { key = key.now; start = range.now.start; end = range.now.end; mark = mark }) self.old.marking }) }
         ensures err { OnErr result (self.new ≡ self.old) }
     {
+        let free = self.runs.free();
         let plan = plan_of(&self.runs, key, range.start, range.end, mark);
-        if self.runs.free() + plan.taken < pieces(&plan) {
+        if free + plan.taken < pieces(&plan) {
             return Err(NoRoom);
         }
         carry_out(&mut self.runs, key, &plan);
