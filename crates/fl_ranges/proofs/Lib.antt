@@ -14,3 +14,4 @@ pub mod Rearranged
 pub mod TableLemmas
 pub mod TableCalls
 pub mod Clashes
+pub mod Places

@@ -6,3 +6,4 @@ pub mod RunList
 pub mod RunChains
 pub mod RunPlan
 pub mod LockTable
+pub mod Placing

@@ -8,5 +8,6 @@ mod plan;
 mod run;
 mod table;
 
+pub use fl_arena::Place;
 pub use lock::{Class, Key, Kind, LAST_BYTE, Mark, Range};
 pub use table::{NoRoom, Table};
