@@ -1,6 +1,5 @@
 -- All runs as a list, and those of one chain in it.
-use Rattle.std.proofs.Common.{◌≡◌, ◌≢◌, ℕ, zero, suc, ◌+◌, ◌<◌, ◌≤◌, Bool, true, false, cond, not, ◌&&◌, ◌||◌, ◌==◌, nat_le, Option, Some, None, List, [], ◌∷◌, ◌++◌, map, length, take, drop, get_or, length-append, append_assoc, refl, ap, sym, ◌∙◌, subst, arith}
-use Rattle.std.proofs.lemmas.Bool.Decides.{nat_tests}
+use Rattle.std.proofs.Common.{◌≡◌, ◌≢◌, ℕ, zero, suc, ◌+◌, ◌<◌, Bool, true, false, cond, not, ◌||◌, Option, Some, None, List, [], ◌∷◌, ◌++◌, map, length, take, drop, get_or, length-append, append_assoc, refl, ap, sym, ◌∙◌, arith}
 use Rattle.std.proofs.lemmas.List.{length-map}
 use Rattle.std.proofs.lemmas.List.Sums.{sum_by-cons}
 use Rattle.std.proofs.lemmas.List.Elements.{filter-append}
@@ -11,7 +10,7 @@ use Rattle.fl_arena.specs.Chains.{Entry, Chains, entries, items, item_count, fre
 use Rattle.fl_ranges.specs.declared.lock.Key.{Key}
 use Rattle.fl_ranges.specs.declared.run.Run.{Run}
 use Rattle.fl_ranges.specs.Marking.{Spot}
-use Rattle.fl_ranges.specs.RunList.{has_spot, run_at, overlaps, left_over}
+use Rattle.fl_ranges.specs.RunList.{has_spot, overlaps, left_over}
 use Rattle.fl_ranges.specs.RunChains.{home, all_runs}
 use Rattle.fl_ranges.proofs.RunLists.{at_spot, over, each_weaker}
 
@@ -197,15 +196,15 @@ both_parts t (r ∷ rs) = go (t r) (both_parts t rs)
 pub home_less : (node : ℕ) → home node < 256
 home_less node = omega arith
 
+pub lengths : (xs ys zs : List Run) → length (xs ++ (ys ++ zs)) ≡ length xs + (length ys + length zs)
+lengths xs ys zs = length-append xs (ys ++ zs) ∙ ap (λ (n : ℕ). length xs + n) (length-append ys zs)
+
 -- all runs grow and shrink as those of the chain that has changed
 pub swapped_length : (a b : Chains Run) (c : ℕ) → c < length a.chains → HasSizeOf a b → ((d : ℕ) → d ≢ c → entries b d ≡ entries a d) → length (all_runs b) + length (items a c) ≡ length (all_runs a) + length (items b c)
 swapped_length a b c h size others =
     let was : length (all_runs a) ≡ length (before_chain a c) + (length (items a c) + length (after_chain a c)) = ap length (all_around a c h) ∙ lengths (before_chain a c) (items a c) (after_chain a c) in
     let is : length (all_runs b) ≡ length (before_chain a c) + (length (items b c) + length (after_chain a c)) = ap length (all_swapped a b c h size others) ∙ lengths (before_chain a c) (items b c) (after_chain a c) in
     omega (arith, was, is)
-  where
-    lengths : (xs ys zs : List Run) → length (xs ++ (ys ++ zs)) ≡ length xs + (length ys + length zs)
-    lengths xs ys zs = length-append xs (ys ++ zs) ∙ ap (λ (n : ℕ). length xs + n) (length-append ys zs)
 
 -- without the runs of a key over a range there are so many fewer
 pub fewer_runs : (a b : Chains Run) (key : Key) (start end : ℕ) → length a.chains ≡ 256 → HasSizeOf a b → ((d : ℕ) → d ≢ home key.node → entries b d ≡ entries a d) → items b (home key.node) ≡ left_over key start end (items a (home key.node))

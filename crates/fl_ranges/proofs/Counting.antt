@@ -1,5 +1,5 @@
 -- The number of runs of a marking is the length of a list of runs that means it.
-use Rattle.std.proofs.Common.{◌≡◌, ◌≢◌, ℕ, ◌-◌, ◌<◌, ◌≤◌, Bool, true, false, cond, ◌&&◌, ◌||◌, nat_lt, Option, Some, None, List, [], ◌∷◌, map, length, refl, ap, sym, ◌∙◌, subst, arith}
+use Rattle.std.proofs.Common.{◌≡◌, ◌-◌, ◌<◌, ◌≤◌, Bool, true, false, cond, ◌||◌, nat_lt, Option, Some, None, List, [], ◌∷◌, map, length, refl, ap, sym, ◌∙◌, subst, arith}
 use Rattle.std.proofs.lemmas.Bool.Decides.{nat_tests}
 use Rattle.std.proofs.lemmas.List.{length-map}
 use Rattle.std.proofs.lemmas.Map.Made.{is_member-Decides}
@@ -10,7 +10,7 @@ use Rattle.std.specs.Ordering.{eq_by_cmp}
 use Rattle.std.specs.FinMap.{get}
 use Rattle.fl_ranges.specs.declared.lock.Mark.{Mark}
 use Rattle.fl_ranges.specs.declared.run.Run.{Run}
-use Rattle.fl_ranges.specs.Marking.{Spot, spot_cmp, Marking, marking_of}
+use Rattle.fl_ranges.specs.Marking.{Spot, spot_cmp, marking_of}
 use Rattle.fl_ranges.specs.Runs.{runs, IsStart}
 use Rattle.fl_ranges.specs.RunList.{meant, has_spot, run_at, held_at, AreApart, IsWhole, AreRuns}
 use Rattle.fl_ranges.proofs.Markings.{get-marking_of}
@@ -71,7 +71,7 @@ all_started [] = tt
 all_started (r ∷ rs) = (
   or_first _ _ (spot_itself (start_of r)),
   each_weaker (λ x. is_member (eq_by_cmp spot_cmp) (map start_of rs) (start_of x) ≡ true) (λ x. is_member (eq_by_cmp spot_cmp) (map start_of (r ∷ rs)) (start_of x) ≡ true)
-  (λ x h. or_later _ _ h) rs (all_started rs),
+      (λ x h. or_later _ _ h) rs (all_started rs),
 )
 
 -- the run whose mark a spot has

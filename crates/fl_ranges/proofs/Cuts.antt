@@ -1,5 +1,5 @@
 -- Runs once a key has lost a range of bytes, or has got a mark there.
-use Rattle.std.proofs.Common.{◌≡◌, ◌≢◌, ◌⊎◌, inl, inr, ℕ, ◌+◌, ◌-◌, ◌<◌, ◌≤◌, Bool, true, false, cond, not, ◌&&◌, nat_lt, nat_le, Option, Some, None, List, [], ◌∷◌, refl, ap, sym, ◌∙◌, subst, arith}
+use Rattle.std.proofs.Common.{◌≡◌, ◌≢◌, ℕ, ◌+◌, ◌-◌, ◌<◌, ◌≤◌, Bool, true, false, cond, not, ◌&&◌, nat_lt, nat_le, Option, Some, None, List, refl, ap, sym, ◌∙◌, subst, arith}
 use Rattle.std.proofs.lemmas.Bool.Decides.{nat_tests}
 use Rattle.std.specs.List.{AllByRecursion}
 use Rattle.std.specs.Option.{option_map}
@@ -41,13 +41,13 @@ each_with P (Some p) rs own all = (own p refl, all)
 
 -- ---- the parts at the edges
 
-record IsBefore (start : ℕ) (o : Option Run) (p : Run) : Type 0 where
+pub record IsBefore (start : ℕ) (o : Option Run) (p : Run) : Type 0 where
   pub run : Run
   pub is : o ≡ Some run
   pub less : run.start < start
   pub part : p ≡ record run { end = start - 1 }
 
-before_is : (start : ℕ) (o : Option Run) (p : Run) → part_before start o ≡ Some p → IsBefore start o p
+pub before_is : (start : ℕ) (o : Option Run) (p : Run) → part_before start o ≡ Some p → IsBefore start o p
 before_is start None p e = absurd (cc e)
 before_is start (Some r) p e = go (nat_lt r.start start) refl e
   where
@@ -62,13 +62,13 @@ is_before start o r e less = ap (part_before start) e ∙ go (nat_lt r.start sta
     go true is = refl
     go false is = absurd (grind (arith, nat_tests))
 
-record IsAfter (end : ℕ) (o : Option Run) (p : Run) : Type 0 where
+pub record IsAfter (end : ℕ) (o : Option Run) (p : Run) : Type 0 where
   pub run : Run
   pub is : o ≡ Some run
   pub more : end < run.end
   pub part : p ≡ record run { start = end + 1 }
 
-after_is : (end : ℕ) (o : Option Run) (p : Run) → part_after end o ≡ Some p → IsAfter end o p
+pub after_is : (end : ℕ) (o : Option Run) (p : Run) → part_after end o ≡ Some p → IsAfter end o p
 after_is end None p e = absurd (cc e)
 after_is end (Some r) p e = go (nat_lt end r.end) refl e
   where
@@ -82,6 +82,19 @@ is_after end o r e more = ap (part_after end) e ∙ go (nat_lt end r.end) refl
     go : (b : Bool) → nat_lt end r.end ≡ b → cond b (Some (record r { start = end + 1 })) None ≡ Some (record r { start = end + 1 })
     go true is = refl
     go false is = absurd (grind (arith, nat_tests))
+
+-- the parts are of the key of the run that was looked up
+pub before_key : (rs : List Run) (key : Key) (start : ℕ) (p : Run) → part_before start (run_at rs (key, start)) ≡ Some p → p.key ≡ key
+before_key rs key start p e =
+    let b = before_is start (run_at rs (key, start)) p e in
+    let at = at_spot b.run (key, start) (run_has rs (key, start) b.run b.is) in
+    ap (λ (x : Run). x.key) b.part ∙ at.key
+
+pub after_key : (rs : List Run) (key : Key) (end : ℕ) (p : Run) → part_after end (run_at rs (key, end)) ≡ Some p → p.key ≡ key
+after_key rs key end p e =
+    let a = after_is end (run_at rs (key, end)) p e in
+    let at = at_spot a.run (key, end) (run_has rs (key, end) a.run a.is) in
+    ap (λ (x : Run). x.key) a.part ∙ at.key
 
 -- the spot is one of the bytes from start to end of the key
 abbrev pub inside : Key → ℕ → ℕ → Spot → Bool
@@ -109,8 +122,7 @@ module _ (rs : List Run) (good : AreRuns rs) (key : Key) (start end : ℕ) (orde
       let here = at_spot b.run (key, start) (run_has rs (key, start) b.run b.is) in
       let there = at_spot (record b.run { end = start - 1 }) q (subst (λ (x : Run). has_spot q x ≡ true) b.part has) in
       let below : q.1 < start = omega (arith, b.less, there.upto) in
-      let own : has_spot q b.run ≡ true = spot_of b.run q there.key there.from (omega (arith, below, here.upto)) in
-      (
+      let own : has_spot q b.run ≡ true = spot_of b.run q there.key there.from (omega (arith, below, here.upto)) in (
         record {
           run = b.run;
           found = same_run rs good.apart (key, start) q b.run b.is own;
@@ -126,8 +138,7 @@ module _ (rs : List Run) (good : AreRuns rs) (key : Key) (start end : ℕ) (orde
       let here = at_spot a.run (key, end) (run_has rs (key, end) a.run a.is) in
       let there = at_spot (record a.run { start = end + 1 }) q (subst (λ (x : Run). has_spot q x ≡ true) a.part has) in
       let above : end < q.1 = omega (arith, there.from) in
-      let own : has_spot q a.run ≡ true = spot_of a.run q there.key (omega (arith, above, here.from)) there.upto in
-      (
+      let own : has_spot q a.run ≡ true = spot_of a.run q there.key (omega (arith, above, here.from)) there.upto in (
         record {
           run = a.run;
           found = same_run rs good.apart (key, end) q a.run a.is own;
@@ -153,8 +164,7 @@ module _ (rs : List Run) (good : AreRuns rs) (key : Key) (start end : ℕ) (orde
   apart_rest : AreApart rest
   unfolding rest
   apart_rest = apart_with (part_after end (run_at rs (key, end))) (left_over key start end rs) (apart-filter (λ r. not (overlaps key start end r)) rs good.apart) (λ p e.
-      let a = after_is end (run_at rs (key, end)) p e in
-      (
+      let a = after_is end (run_at rs (key, end)) p e in (
         subst (λ (x : Run). x.start ≤ x.end) (sym a.part) (omega (arith, a.more)),
         λ q has. let o = (after_spot p e q has).0 in none_left q o.run o.found o.over,
       ))
@@ -162,8 +172,7 @@ module _ (rs : List Run) (good : AreRuns rs) (key : Key) (start end : ℕ) (orde
   pub apart_cut : AreApart (cut key start end rs)
   unfolding rest
   apart_cut = apart_with (part_before start (run_at rs (key, start))) rest apart_rest (λ p e.
-      let b = before_is start (run_at rs (key, start)) p e in
-      (
+      let b = before_is start (run_at rs (key, start)) p e in (
         subst (λ (x : Run). x.start ≤ x.end) (sym b.part) (omega (arith, b.less)),
         λ q has.
             let o = before_spot p e q has in

@@ -18,3 +18,6 @@ pub mod Walks
 pub mod ChainLists
 pub mod Rearranged
 pub mod TableLemmas
+pub mod TableCalls
+pub mod Clashes
+pub mod Places

@@ -1,5 +1,5 @@
 -- The same runs in another order.
-use Rattle.std.proofs.Common.{◌≡◌, ◌≢◌, ℕ, suc, ◌+◌, ◌-◌, ◌≤◌, Bool, true, false, cond, Option, Some, None, List, [], ◌∷◌, ◌++◌, map, length, length-append, append_assoc, refl, ap, sym, ◌∙◌, subst, arith}
+use Rattle.std.proofs.Common.{◌≡◌, suc, ◌+◌, ◌-◌, Bool, true, false, cond, Option, Some, None, List, [], ◌∷◌, ◌++◌, map, length, length-append, append_assoc, refl, ap, sym, ◌∙◌, subst, arith}
 use Rattle.std.specs.List.{AllByRecursion}
 use Rattle.std.specs.Option.{option_map}
 use Rattle.std.specs.FinMap.{same_map}
@@ -21,8 +21,7 @@ pub as_apart : (rs zs : List Run) → Rearranged rs zs → AreApart rs → AreAp
 as_apart rs zs (same x) apart = (apart, λ q. refl)
 as_apart (r ∷ rs) zs (moved _ _ xs ys _ rest is) apart =
     let later = as_apart rs (xs ++ ys) rest apart.2 in
-    let front : AreApart (r ∷ xs ++ ys) = (apart.0, (λ q has. later.1 q ∙ apart.1 q has), later.0) in
-    (
+    let front : AreApart (r ∷ xs ++ ys) = (apart.0, (λ q has. later.1 q ∙ apart.1 q has), later.0) in (
       subst AreApart (sym is) (apart-moved r xs ys front),
       λ q. ap (λ (l : List Run). run_at l q) is ∙ run_at-moved r xs ys front q ∙ ap (λ o. cond (has_spot q r) (Some r) o) (later.1 q),
     )

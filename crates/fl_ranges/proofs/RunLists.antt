@@ -1,13 +1,12 @@
 -- Lists of runs: which run has a spot, in other lists of the same runs.
-use Rattle.std.proofs.Common.{◌≡◌, ℕ, ◌≤◌, Bool, true, false, cond, not, ◌&&◌, nat_le, Option, Some, None, List, [], ◌∷◌, ◌++◌, map, refl, ap, sym, ◌∙◌, subst, arith}
+use Rattle.std.proofs.Common.{◌≡◌, ℕ, ◌≤◌, Bool, true, false, cond, ◌&&◌, nat_le, Option, Some, None, List, [], ◌∷◌, ◌++◌, map, refl, ap, sym, ◌∙◌, subst, arith}
 use Rattle.std.proofs.lemmas.Bool.Decides.{nat_tests}
 use Rattle.std.specs.List.{find, filter, AllByRecursion}
 use Rattle.std.specs.Option.{option_map}
 use Rattle.std.specs.Ordering.{eq_by_cmp}
 use Rattle.fl_ranges.specs.declared.lock.Key.{Key}
-use Rattle.fl_ranges.specs.declared.lock.Mark.{Mark}
 use Rattle.fl_ranges.specs.declared.run.Run.{Run}
-use Rattle.fl_ranges.specs.Marking.{key_cmp, Spot, covers, mark_at}
+use Rattle.fl_ranges.specs.Marking.{key_cmp, Spot, mark_at}
 use Rattle.fl_ranges.specs.RunList.{meant, has_spot, run_at, held_at, AreApart, overlaps}
 use Rattle.fl_ranges.proofs.Spots.{same_key, key_itself, within, is_within}
 
@@ -164,8 +163,7 @@ run_at-moved r (x ∷ xs) ys apart q =
 pub apart-moved : (r : Run) (xs ys : List Run) → AreApart (r ∷ xs ++ ys) → AreApart (xs ++ r ∷ ys)
 apart-moved r [] ys apart = apart
 apart-moved r (x ∷ xs) ys apart =
-    let first : AreApart (r ∷ xs ++ ys) = (apart.0, (λ p has. later p (apart.1 p has)), apart.2.2) in
-    (
+    let first : AreApart (r ∷ xs ++ ys) = (apart.0, (λ p has. later p (apart.1 p has)), apart.2.2) in (
       apart.2.0,
       λ q has. run_at-moved r xs ys first q ∙ alone q has (has_spot q r) refl,
       apart-moved r xs ys first,
@@ -177,6 +175,7 @@ apart-moved r (x ∷ xs) ys apart =
         go : (b : Bool) → cond b (Some x) (run_at (xs ++ ys) p) ≡ None → run_at (xs ++ ys) p ≡ None
         go true h = absurd (cc h)
         go false h = h
+
     alone : (q : Spot) → has_spot q x ≡ true → (b : Bool) → has_spot q r ≡ b → cond b (Some r) (run_at (xs ++ ys) q) ≡ None
     alone q has true is = absurd (cc (sym (apart.1 q is) ∙ ap (λ d. cond d (Some x) (run_at (xs ++ ys) q)) has))
     alone q has false is = apart.2.1 q has

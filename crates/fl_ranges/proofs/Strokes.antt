@@ -1,31 +1,30 @@
 -- The runs after a stroke are runs, and mean the marking after it.
-use Rattle.std.proofs.Common.{◌≡◌, ◌≢◌, ℕ, zero, suc, ◌+◌, ◌-◌, ◌<◌, ◌≤◌, Bool, true, false, cond, ◌&&◌, nat_lt, nat_le, Option, Some, None, List, map, length, refl, ap, sym, ◌∙◌, subst, arith}
+use Rattle.std.proofs.Common.{◌≡◌, ◌≢◌, ℕ, zero, suc, ◌+◌, ◌-◌, ◌<◌, ◌≤◌, Bool, true, false, cond, nat_lt, nat_le, Option, Some, None, List, map, length, refl, ap, sym, ◌∙◌, subst, arith}
 use Rattle.std.proofs.lemmas.Bool.Decides.{nat_tests}
-use Rattle.std.specs.List.{AllByRecursion}
 use Rattle.std.specs.Option.{option_map}
 use Rattle.std.specs.Ordering.{eq_by_cmp}
-use Rattle.std.specs.FinMap.{get, same_map}
+use Rattle.std.specs.FinMap.{same_map}
 use Rattle.fl_ranges.specs.declared.lock.Key.{Key}
 use Rattle.fl_ranges.specs.declared.lock.Mark.{Mark}
 use Rattle.fl_ranges.specs.declared.run.Run.{Run}
-use Rattle.fl_ranges.specs.Marking.{key_cmp, Spot, Stroke, Marking, covers, stroked, marking_of}
+use Rattle.fl_ranges.specs.Marking.{key_cmp, Spot, Stroke, covers, stroked, marking_of}
 use Rattle.fl_ranges.specs.Runs.{is_same_mark, runs}
-use Rattle.fl_ranges.specs.RunList.{meant, has_spot, run_at, held_at, AreApart, IsWhole, AreRuns, with_run, cut, new_run, joined_start, joined_end, reach_start, reach_end, changed, after_stroke}
+use Rattle.fl_ranges.specs.RunList.{meant, has_spot, run_at, held_at, IsWhole, AreRuns, with_run, cut, new_run, joined_start, joined_end, changed, after_stroke}
 use Rattle.fl_ranges.proofs.Markings.{spots_total, exact_spots, get-stroked}
 use Rattle.fl_ranges.proofs.Starts.{same_mark, mark_itself}
-use Rattle.fl_ranges.proofs.Spots.{same_key, key_itself, within, is_within}
+use Rattle.fl_ranges.proofs.Spots.{same_key, within, is_within}
 use Rattle.fl_ranges.proofs.RunLists.{at_spot, spot_of, each_at, run_has, same_run}
 use Rattle.fl_ranges.proofs.Counting.{get-runs, held_by, held_of, runs_length}
-use Rattle.fl_ranges.proofs.Cuts.{inside, apart_with, held_with, none_with, each_with, apart_cut, cut_inside, cut_outside, whole_cut}
+use Rattle.fl_ranges.proofs.Cuts.{inside, apart_with, each_with, apart_cut, cut_inside, cut_outside, whole_cut}
 
 -- ---- bytes cut out and set anew, where the new mark doesn't stand beside them
 
-record IsNew (key : Key) (start end : ℕ) (o : Option Mark) (p : Run) : Type 0 where
+pub record IsNew (key : Key) (start end : ℕ) (o : Option Mark) (p : Run) : Type 0 where
   pub new : Mark
   pub set : o ≡ Some new
   pub is : p ≡ record { key = key; start = start; end = end; mark = new }
 
-new_is : (key : Key) (start end : ℕ) (o : Option Mark) (p : Run) → new_run key start end o ≡ Some p → IsNew key start end o p
+pub new_is : (key : Key) (start end : ℕ) (o : Option Mark) (p : Run) → new_run key start end o ≡ Some p → IsNew key start end o p
 new_is key start end None p e = absurd (cc e)
 new_is key start end (Some y) p e = record { new = y; set = refl; is = cc e }
 
@@ -68,18 +67,17 @@ module _ (rs : List Run) (good : AreRuns rs) (key : Key) (start end : ℕ) (orde
   runs_changed : AreRuns (changed key start end mark rs)
   runs_changed = record {
     apart = apart_with (new_run key start end mark) (cut key start end rs) (apart_cut rs good key start end ordered) (λ p e.
-        let n = new_is key start end mark p e in
-        (
+        let n = new_is key start end mark p e in (
           subst (λ (x : Run). x.start ≤ x.end) (sym n.is) ordered,
           λ q has. cut_inside rs good key start end ordered q (subst (λ (x : Run). has_spot q x ≡ true) n.is has),
         ));
     whole = each_with (IsWhole (held_at (changed key start end mark rs))) (new_run key start end mark) (cut key start end rs)
         (λ p e.
-            let n = new_is key start end mark p e in
-            subst (IsWhole (held_at (changed key start end mark rs))) (sym n.is) (record {
-              in_range = limited;
-              first = λ later same. left n.new n.set later (sym (changed_outside (key, start - 1) (not_inside (key, start - 1) (one_before start later))) ∙ same);
-            }))
+        let n = new_is key start end mark p e in
+        subst (IsWhole (held_at (changed key start end mark rs))) (sym n.is) (record {
+          in_range = limited;
+          first = λ later same. left n.new n.set later (sym (changed_outside (key, start - 1) (not_inside (key, start - 1) (one_before start later))) ∙ same);
+        }))
         (whole_cut rs good key start end ordered mark (held_at (changed key start end mark rs)) changed_inside changed_outside right);
   }
 

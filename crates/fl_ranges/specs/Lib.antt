@@ -8,3 +8,4 @@ pub mod RunList
 pub mod RunChains
 pub mod RunPlan
 pub mod LockTable
+pub mod Placing

@@ -12,6 +12,7 @@ mod plan;
 mod run;
 mod table;
 
+pub use fl_arena::Place;
 pub use held::Held;
 pub use lock::{Class, Key, Kind, LAST_BYTE, Mark, Range};
 pub use table::{NoRoom, Table};

@@ -6,7 +6,7 @@ use crate::chain::{CHAINS, remove_node, remove_over, some_excludes};
 use crate::lock::{Key, Kind, LAST_BYTE, Mark, Range};
 use crate::plan::{carry_out, pieces, plan_of};
 use crate::run::Run;
-use fl_arena::Arena;
+use fl_arena::{Arena, Place};
 use std::alloc::{AllocError, Global};
 use std::marker::Model;
 
@@ -45,6 +45,7 @@ impl Table {
     ghost use Rattle.fl_ranges.specs.Marking.{stroked};
     ghost use Rattle.fl_ranges.specs.Conflict.{conflicts};
     ghost use Rattle.fl_ranges.specs.Runs.{runs, without_node};
+    ghost use Rattle.fl_ranges.specs.Placing.{IsPlaced};
 
     /// A table with no locks. It fails only for want of memory.
     pub fn new(alloc: Global, limit: u32) -> Result<Table, AllocError>
@@ -88,8 +89,9 @@ impl Table {
             (self.new ≡ record self.old { marking = stroked (record { key = key.now; start = range.now.start; end = range.now.end; mark = mark }) self.old.marking }) }
         ensures err { OnErr result (self.new ≡ self.old) }
     {
+        let free = self.runs.free();
         let plan = plan_of(&self.runs, key, range.start, range.end, mark);
-        if self.runs.free() + plan.taken < pieces(&plan) {
+        if free + plan.taken < pieces(&plan) {
             return Err(NoRoom);
         }
         carry_out(&mut self.runs, key, &plan);
@@ -115,6 +117,16 @@ impl Table {
         ensures { result ≡ conflicts self.now.marking key.now range.now.start range.now.end kind }
     {
         some_excludes(&self.runs, key, range.start, range.end, kind)
+    }
+
+    /// Where a slot is: slots are numbered from 0, and each is free or holds a run on one of the chains. This
+    /// walks along its chain.
+    pub fn slot_place(&self, slot: usize) -> Place
+        requires { slot < self.now.limit }
+        ensures { IsPlaced self.now slot result }
+    {
+        prove!(self.runs.free() <= self.limit as usize);
+        self.runs.place(slot)
     }
 
     /// How many runs there are.

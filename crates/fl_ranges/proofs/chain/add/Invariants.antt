@@ -1,6 +1,6 @@
-use Rattle.std.proofs.Common.{◌≡◌, ◌≢◌, ℕ, ◌+◌, ◌-◌, ◌≤◌, ◌++◌, ◌==◌, length, take, drop, not}
+use Rattle.std.proofs.Common.{◌≡◌, ◌-◌, ◌≤◌, ◌++◌, length, take, drop}
 use Rattle.fl_ranges.specs.RunChains.{insert_run}
-use Rattle.fl_arena.specs.Chains.{entries, items, HasSizeOf}
+use Rattle.fl_arena.specs.Chains.{items}
 use Rattle.fl_arena.specs.Cursors.{cursor_at}
 use Rattle.fl_ranges.specs.RunChains.{home}
 use Rattle.fl_ranges.proofs.chain.add.Given as goal

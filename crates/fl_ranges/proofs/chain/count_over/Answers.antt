@@ -1,6 +1,5 @@
-use Rattle.std.proofs.Common.{◌≡◌, ◌≢◌, ℕ, ◌+◌, ◌-◌, ◌<◌, ◌≤◌, ◌++◌, ◌==◌, true, false, not, length, take, drop, Some, None, slice_get, refl, sym, ap, ◌∙◌, arith}
-use Rattle.fl_arena.specs.Chains.{entries, items}
-use Rattle.fl_ranges.specs.declared.run.Run.{Run}
+use Rattle.std.proofs.Common.{◌≡◌, Some, None, slice_get, refl, sym, ◌∙◌, arith}
+use Rattle.fl_arena.specs.Chains.{items}
 use Rattle.fl_ranges.specs.RunChains.{home}
 use Rattle.fl_ranges.specs.RunList.{overlaps}
 use Rattle.fl_ranges.proofs.Walks.{on_at, count_yes, count_no, count_end}

@@ -1,7 +1,7 @@
-use Rattle.std.proofs.Common.{◌≡◌, ◌≢◌, ℕ, ◌+◌, ◌-◌, ◌≤◌, ◌++◌, ◌==◌, length, take, drop, not}
+use Rattle.std.proofs.Common.{◌≡◌, ◌+◌, ◌-◌, ◌≤◌, length, drop}
 use Rattle.std.specs.List.{filter}
 use Rattle.fl_ranges.specs.RunList.{overlaps}
-use Rattle.fl_arena.specs.Chains.{entries, items, HasSizeOf}
+use Rattle.fl_arena.specs.Chains.{items}
 use Rattle.fl_arena.specs.Cursors.{cursor_at}
 use Rattle.fl_ranges.specs.RunChains.{home}
 use Rattle.fl_ranges.proofs.chain.count_over.Given as goal

@@ -1,4 +1,4 @@
-use Rattle.std.proofs.Common.{◌≡◌, ◌≢◌, ℕ, ◌+◌, ◌-◌, ◌≤◌, ◌++◌, ◌==◌, length, take, drop, not}
+use Rattle.std.proofs.Common.{◌≡◌, ◌≢◌, ℕ, ◌-◌, ◌≤◌, ◌++◌, ◌==◌, length, take, drop, not}
 use Rattle.std.specs.List.{filter}
 use Rattle.fl_arena.specs.Chains.{entries, items, HasSizeOf}
 use Rattle.fl_arena.specs.Cursors.{cursor_at}

@@ -1,5 +1,5 @@
-use Rattle.std.proofs.Common.{◌≡◌, ◌≢◌, ℕ, ◌+◌, ◌-◌, ◌<◌, ◌≤◌, ◌++◌, ◌==◌, true, false, not, length, take, drop, Some, None, slice_get, refl, sym, ap, ◌∙◌, arith}
-use Rattle.fl_arena.specs.Chains.{entries, items}
+use Rattle.std.proofs.Common.{◌≡◌, ℕ, ◌++◌, not, take, drop, Some, None, slice_get, refl, sym, ap, ◌∙◌}
+use Rattle.fl_arena.specs.Chains.{items}
 use Rattle.fl_ranges.specs.declared.run.Run.{Run}
 use Rattle.fl_ranges.specs.RunChains.{home}
 use Rattle.std.specs.List.{filter}

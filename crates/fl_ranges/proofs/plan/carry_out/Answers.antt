@@ -1,4 +1,4 @@
-use Rattle.std.proofs.Common.{◌≡◌, ◌+◌, length, ◌∙◌, arith}
+use Rattle.std.proofs.Common.{◌≡◌, ◌+◌, length, arith}
 use Rattle.fl_ranges.specs.RunChains.{all_runs}
 use Rattle.fl_ranges.proofs.ChainLists.{fewer_runs}
 use Rattle.fl_ranges.proofs.plan.carry_out.Goals as goal
