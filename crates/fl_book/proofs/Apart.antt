@@ -3,26 +3,13 @@ use Rattle.std.proofs.Common.{◌≡◌, ℕ, ◌+◌, ◌-◌, ◌<◌, ◌≤�
 use Rattle.std.proofs.lemmas.Bool.Decides.{nat_tests}
 use Rattle.std.specs.List.{flat_map}
 use Rattle.std.specs.Ordering.{eq_by_cmp}
-use Rattle.fl_book.specs.declared.lock.Key.{Key}
-use Rattle.fl_book.specs.declared.lock.Mark.{Mark}
+use Rattle.fl_ranges.specs.declared.lock.Key.{Key}
+use Rattle.fl_ranges.specs.declared.lock.Mark.{Mark}
 use Rattle.fl_book.specs.declared.locks.Piece.{Piece}
-use Rattle.fl_book.specs.Marking.{key_cmp, Spot, covers, mark_at}
+use Rattle.fl_ranges.specs.Marking.{key_cmp, Spot, covers, mark_at}
 use Rattle.fl_book.specs.Pieces.{meant, AreApart, before, after, cut, recut}
+use Rattle.fl_ranges.proofs.Spots.{within, is_within}
 use Rattle.fl_book.proofs.Cutting.{at_after, at_left}
-
--- what a test of a spot tells
-pub record IsWithin (k : Bool) (start byte end : ℕ) : Type 0 where
-  pub same : k ≡ true
-  pub from : start ≤ byte
-  pub upto : byte ≤ end
-
-pub within : (k : Bool) (start byte end : ℕ) → (k && (nat_le start byte && nat_le byte end)) ≡ true → IsWithin k start byte end
-within true start byte end e = record { same = refl; from = grind (arith, nat_tests); upto = grind (arith, nat_tests) }
-within false start byte end e = absurd (cc e)
-
-pub is_within : (k : Bool) (start byte end : ℕ) → k ≡ true → start ≤ byte → byte ≤ end → (k && (nat_le start byte && nat_le byte end)) ≡ true
-is_within true start byte end same from upto = grind (arith, nat_tests)
-is_within false start byte end same from upto = absurd (cc same)
 
 -- no spot that the piece covers is marked by the rest
 abbrev Free : Piece → List Piece → Type 0

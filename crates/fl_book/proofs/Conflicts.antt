@@ -4,17 +4,16 @@ use Rattle.std.proofs.lemmas.Bool.Decides.{nat_tests}
 use Rattle.std.specs.List.{list_any}
 use Rattle.std.specs.Ordering.{eq_by_cmp}
 use Rattle.std.specs.Cmp.{both_ways}
-use Rattle.fl_book.specs.declared.lock.Kind.{Kind}
-use Rattle.fl_book.specs.declared.lock.Key.{Key}
-use Rattle.fl_book.specs.declared.lock.Mark.{Mark}
+use Rattle.fl_ranges.specs.declared.lock.Kind.{Kind}
+use Rattle.fl_ranges.specs.declared.lock.Key.{Key}
+use Rattle.fl_ranges.specs.declared.lock.Mark.{Mark}
 use Rattle.fl_book.specs.declared.locks.Piece.{Piece}
-use Rattle.fl_book.specs.Marking.{key_cmp, Spot, covers, mark_at, marking_of}
-use Rattle.fl_book.specs.Conflict.{are_rivals, excludes, excludes_lock, conflicts}
+use Rattle.fl_ranges.specs.Marking.{key_cmp, Spot, covers, mark_at, marking_of}
+use Rattle.fl_ranges.specs.Conflict.{are_rivals, excludes, excludes_lock, conflicts}
 use Rattle.fl_book.specs.Pieces.{meant, AreApart, piece_excludes}
-use Rattle.fl_book.proofs.Markings.{spots_total, exact_spots, get-marking_of}
-use Rattle.fl_book.proofs.Cutting.{same_key, key_itself}
-use Rattle.fl_book.proofs.Apart.{within, is_within}
-use Rattle.fl_book.proofs.Entries.{any_entry, entry_passes}
+use Rattle.fl_ranges.proofs.Markings.{spots_total, exact_spots, get-marking_of}
+use Rattle.fl_ranges.proofs.Spots.{same_key, key_itself, within, is_within}
+use Rattle.fl_ranges.proofs.Entries.{any_entry, entry_passes}
 
 -- a byte that two ranges share
 record Shared (from to start end : ℕ) : Type 0 where

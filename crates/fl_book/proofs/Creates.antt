@@ -10,7 +10,7 @@ use Rattle.fl_wire.specs.declared.told.Attr.{Attr}
 use Rattle.fl_wire.specs.declared.order.Order.{Order}
 use Rattle.fl_book.specs.declared.node.Node.{Node}
 use Rattle.fl_book.specs.Directory.{Listing, with_lookups, set_at, looked_up, after_made, after_create, attributes, is_named, linked, files_full, made_node}
-use Rattle.fl_book.proofs.Entries.{get_found}
+use Rattle.fl_ranges.proofs.Entries.{get_found}
 
 -- a node that is looked up once more and opened is what the recorded answer says
 after_reopened : (d : Listing) (made node : Node) (number fh : ℕ) → map.get d.nodes number ≡ Some node

@@ -2,28 +2,13 @@
 use Rattle.std.proofs.Common.{◌≡◌, ℕ, ◌+◌, ◌-◌, Bool, true, false, cond, ◌&&◌, nat_lt, nat_le, Option, Some, None, List, [], ◌∷◌, ◌++◌, map, append_assoc, refl, ap, sym, ◌∙◌, arith}
 use Rattle.std.proofs.lemmas.Bool.Decides.{nat_tests}
 use Rattle.std.specs.List.{flat_map}
-use Rattle.std.specs.declared.cmp.Ordering.{Ordering}
-use Rattle.std.specs.declared.cmp.Ordering.TheVariants.{Less, Equal, Greater}
-use Rattle.std.specs.Ordering.{eq_by_cmp, is_eq}
-use Rattle.fl_book.specs.declared.lock.Key.{Key}
-use Rattle.fl_book.specs.declared.lock.Mark.{Mark}
+use Rattle.std.specs.Ordering.{eq_by_cmp}
+use Rattle.fl_ranges.specs.declared.lock.Key.{Key}
+use Rattle.fl_ranges.specs.declared.lock.Mark.{Mark}
 use Rattle.fl_book.specs.declared.locks.Piece.{Piece}
-use Rattle.fl_book.specs.Marking.{key_cmp, Spot, covers, mark_at}
+use Rattle.fl_ranges.specs.Marking.{key_cmp, Spot, covers, mark_at}
 use Rattle.fl_book.specs.Pieces.{meant, before, after, cut, recut}
-use Rattle.fl_book.proofs.Markings.{exact_keys, keys_total}
-use Rattle.std.specs.Cmp.{tied_itself}
-
-is_Equal : (o : Ordering) → is_eq o ≡ true → o ≡ Equal
-is_Equal Less e = absurd (cc e)
-is_Equal Equal e = refl
-is_Equal Greater e = absurd (cc e)
-
--- keys that are found equal are equal
-pub same_key : (a b : Key) → eq_by_cmp key_cmp a b ≡ true → a ≡ b
-same_key a b e = exact_keys a b (is_Equal (key_cmp a b) e)
-
-pub key_itself : (a : Key) → eq_by_cmp key_cmp a a ≡ true
-key_itself a = ap is_eq (tied_itself keys_total a)
+use Rattle.fl_ranges.proofs.Spots.{same_key, key_itself}
 
 -- the mark of one piece, before those of the rest
 abbrev piece_at : Piece → Spot → Option Mark → Option Mark

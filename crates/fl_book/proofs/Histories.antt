@@ -15,7 +15,8 @@ use Rattle.fl_book.specs.State.{State, opening, answered, Reading, read_line, st
 use Rattle.fl_book.specs.Snapshot.{Snapshot, snapshot_of, reply_at, changed, next}
 use Rattle.fl_book.specs.Legal.{nothing, step, step_lines}
 use Rattle.fl_book.specs.Kept.{IsKept}
-use Rattle.fl_book.proofs.Lawfulness.{lawful_empty, lawful_next}
+use Rattle.fl_ranges.proofs.Lawful.{lawful_empty}
+use Rattle.fl_book.proofs.Lawfulness.{lawful_next}
 
 fold-append : {A B : Type 0} (f : B → A → B) (b : B) (xs ys : List A) → fold f b (xs ++ ys) ≡ fold f (fold f b xs) ys
 fold-append f b [] ys = refl

@@ -1,88 +1,18 @@
--- No two owners hold conflicting locks: a stroke keeps that where it was tested for conflicts.
-use Rattle.std.proofs.Common.{◌≡◌, ℕ, Bool, true, false, cond, not, ◌&&◌, ◌==◌, nat_le, Option, Some, None, Ok, Err, refl, ap, sym, ◌∙◌, arith}
-use Rattle.std.proofs.lemmas.Bool.Decides.{nat_tests}
-use Rattle.std.specs.Ordering.{eq_by_cmp}
-use Rattle.std.specs.FinMap.{get, empty, get-empty}
+-- No two owners hold conflicting locks: a lock request keeps that.
+use Rattle.std.proofs.Common.{◌≡◌, Bool, true, false, cond, not, Option, Some, None, Ok, Err, refl, ap, sym, ◌∙◌}
+use Rattle.std.specs.FinMap.{get}
 use Rattle.fl_wire.specs.declared.errno.Errno.TheVariants.{EBADF, EINVAL, EAGAIN}
 use Rattle.fl_wire.specs.declared.told.Answer.TheVariants.{Done}
 use Rattle.fl_wire.specs.declared.order.Order.{Order}
 use Rattle.fl_wire.specs.declared.order.Op.{Op}
 use Rattle.fl_wire.specs.declared.order.Op.TheVariants.{Create, Setlk}
 use Rattle.fl_wire.specs.declared.order.LockAsk.{LockAsk}
-use Rattle.fl_book.specs.declared.lock.Kind.{Kind}
-use Rattle.fl_book.specs.declared.lock.Kind.TheVariants.{Read, Write}
-use Rattle.fl_book.specs.declared.lock.Key.{Key}
-use Rattle.fl_book.specs.declared.lock.Mark.{Mark}
-use Rattle.fl_book.specs.Marking.{key_cmp, class_number, spot_cmp, Marking, Stroke, covers, stroked}
-use Rattle.fl_book.specs.Conflict.{are_rivals, excludes, excludes_lock, conflicts, IsLawful}
+use Rattle.fl_ranges.specs.declared.lock.Mark.{Mark}
+use Rattle.fl_ranges.specs.Conflict.{conflicts, IsLawful}
+use Rattle.fl_ranges.proofs.Lawful.{lawful_stroked}
 use Rattle.fl_book.specs.State.{key_of, start_of, end_of, mark_of, stroke_of}
 use Rattle.fl_book.specs.Replies.{is_open, is_malformed, set_reply, setlk_reply, reply_to}
 use Rattle.fl_book.specs.Snapshot.{Snapshot, changed, next}
-use Rattle.fl_book.proofs.Markings.{spots_total, exact_spots, get-stroked}
-use Rattle.fl_book.proofs.Cutting.{same_key}
-use Rattle.fl_book.proofs.Apart.{within}
-use Rattle.fl_book.proofs.Entries.{entry_passes}
-
-pub lawful_empty : IsLawful empty
-lawful_empty a b byte x y at_a at_b rivals = absurd (cc (sym (get-empty spot_cmp (a, byte)) ∙ at_a))
-
-excludes_both_ways : (a b : Kind) → excludes a b ≡ excludes b a
-excludes_both_ways Read Read = refl
-excludes_both_ways Read Write = refl
-excludes_both_ways Write Read = refl
-excludes_both_ways Write Write = refl
-
-same_number_both_ways : (x y : ℕ) → (x == y) ≡ (y == x)
-same_number_both_ways x y = grind (arith, nat_tests)
-
-rivals_both_ways : (a b : Key) → are_rivals a b ≡ are_rivals b a
-rivals_both_ways a b = λ i. same_number_both_ways (class_number a.class) (class_number b.class) i && (same_number_both_ways a.node b.node i && not (same_number_both_ways a.owner b.owner i))
-
-not_own_rival : (c n : Bool) (owner : ℕ) → (c && (n && not (owner == owner))) ≡ true → ⊥
-not_own_rival true true owner e = absurd (grind (arith, nat_tests))
-not_own_rival true false owner e = absurd (cc e)
-not_own_rival false n owner e = absurd (cc e)
-
-all_true : (r c x : Bool) → r ≡ true → c ≡ true → x ≡ true → (r && (c && x)) ≡ true
-all_true true true true p q s = refl
-all_true false c x p q s = absurd (cc p)
-all_true true false x p q s = absurd (cc q)
-all_true true true false p q s = absurd (cc s)
-
-only_false : (b : Bool) → (b ≡ true → ⊥) → b ≡ false
-only_false true f = absurd (f refl)
-only_false false f = refl
-
-in_range : (k c : Bool) → (k && c) ≡ true → c ≡ true
-in_range true c e = e
-in_range false c e = absurd (cc e)
-
-module _ (m : Marking) (s : Stroke) where
-  -- another owner's mark in the range doesn't exclude the new one
-  spared : (a b : Key) (byte : ℕ) (x y : Mark) → (conflicts m s.key s.start s.end x.kind ≡ false) → covers s (a, byte) ≡ true → get m (b, byte) ≡ Some y → are_rivals a b ≡ true → excludes x.kind y.kind ≡ false
-  spared a b byte x y clear covered held rivals = only_false (excludes x.kind y.kind) (λ clash.
-      let w = within (eq_by_cmp key_cmp s.key a) s.start byte s.end covered in
-      let same : s.key ≡ a = same_key s.key a w.same in
-      let test : excludes_lock s.key s.start s.end x.kind ((b, byte), y) ≡ true =
-      all_true (are_rivals s.key b) (nat_le s.start byte && nat_le byte s.end) (excludes x.kind y.kind) (ap (λ (k : Key). are_rivals k b) same ∙ rivals) (in_range (eq_by_cmp key_cmp s.key a) _ covered) clash in
-      cc (sym clear ∙ entry_passes spots_total exact_spots (excludes_lock s.key s.start s.end x.kind) m (b, byte) y held test))
-
-  pub lawful_stroked : ((mark : Mark) → s.mark ≡ Some mark → conflicts m s.key s.start s.end mark.kind ≡ false) → IsLawful m → IsLawful (stroked s m)
-  lawful_stroked clear lawful a b byte x y at_a at_b rivals =
-      go (covers s (a, byte)) (covers s (b, byte)) refl refl (sym (get-stroked s m (a, byte)) ∙ at_a) (sym (get-stroked s m (b, byte)) ∙ at_b)
-    where
-      go : (t u : Bool) → covers s (a, byte) ≡ t → covers s (b, byte) ≡ u → cond (covers s (a, byte)) s.mark (get m (a, byte)) ≡ Some x → cond (covers s (b, byte)) s.mark (get m (b, byte)) ≡ Some y → excludes x.kind y.kind ≡ false
-      go true true p q h k =
-          let w = within (eq_by_cmp key_cmp s.key a) s.start byte s.end p in
-          let v = within (eq_by_cmp key_cmp s.key b) s.start byte s.end q in
-          let same : b ≡ a = sym (same_key s.key b v.same) ∙ same_key s.key a w.same in
-          absurd (not_own_rival _ _ a.owner (sym (ap (are_rivals a) same) ∙ rivals))
-      go true false p q h k =
-          spared a b byte x y (clear x (sym (ap (λ t. cond t s.mark (get m (a, byte))) p) ∙ h)) p (sym (ap (λ t. cond t s.mark (get m (b, byte))) q) ∙ k) rivals
-      go false true p q h k =
-          excludes_both_ways x.kind y.kind
-          ∙ spared b a byte y x (clear y (sym (ap (λ t. cond t s.mark (get m (b, byte))) q) ∙ k)) q (sym (ap (λ t. cond t s.mark (get m (a, byte))) p) ∙ h) (rivals_both_ways b a ∙ rivals)
-      go false false p q h k = lawful a b byte x y (sym (ap (λ t. cond t s.mark (get m (a, byte))) p) ∙ h) (sym (ap (λ t. cond t s.mark (get m (b, byte))) q) ∙ k) rivals
 
 -- a lock request leaves the marking lawful, granted or not
 lawful_setlk : (p : Snapshot) (order : Order) (ask : LockAsk) → IsLawful p.marking → IsLawful (changed p order (Setlk ask) (setlk_reply p.directory p.marking order.node ask)).marking

@@ -1,12 +1,9 @@
-pub mod Markings
 pub mod Cutting
 pub mod Apart
 pub mod Recut
-pub mod Entries
 pub mod Conflicts
 pub mod Listings
 pub mod Recounts
 pub mod Creates
 pub mod Lawfulness
 pub mod Histories
-pub mod ConflictWords

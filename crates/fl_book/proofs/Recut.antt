@@ -1,12 +1,12 @@
 -- The marking of pieces that were cut and set anew is the marking with the stroke.
 use Rattle.std.proofs.Common.{◌≡◌, ◌≤◌, ℕ, cond, Option, List, map, sym, ap, subst, ◌∙◌}
 use Rattle.std.specs.FinMap.{same_map}
-use Rattle.fl_book.specs.declared.lock.Key.{Key}
-use Rattle.fl_book.specs.declared.lock.Mark.{Mark}
+use Rattle.fl_ranges.specs.declared.lock.Key.{Key}
+use Rattle.fl_ranges.specs.declared.lock.Mark.{Mark}
 use Rattle.fl_book.specs.declared.locks.Piece.{Piece}
-use Rattle.fl_book.specs.Marking.{Marking, Stroke, stroked, marking_of, covers}
+use Rattle.fl_ranges.specs.Marking.{Marking, Stroke, stroked, marking_of, covers}
 use Rattle.fl_book.specs.Pieces.{meant, AreApart, recut}
-use Rattle.fl_book.proofs.Markings.{spots_total, exact_spots, get-stroked, get-marking_of}
+use Rattle.fl_ranges.proofs.Markings.{spots_total, exact_spots, get-stroked, get-marking_of}
 use Rattle.fl_book.proofs.Cutting.{at_recut}
 use Rattle.fl_book.proofs.Apart.{apart_recut}
 

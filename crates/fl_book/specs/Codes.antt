@@ -3,17 +3,12 @@ use Rattle.std.specs.Prelude.{ℕ, refl}
 use Rattle.std.specs.Coded.{Coded, code_by, coded×, coded_ℕ}
 use Rattle.std.specs.FinMap.{FinMap, code}
 use Rattle.std.specs.Ordering.{nat_cmp}
-use Rattle.fl_book.specs.contracts.lock.Key as key
-use Rattle.fl_book.specs.contracts.lock.Mark as mark
 use Rattle.fl_book.specs.contracts.node.Node as node
 use Rattle.fl_book.specs.declared.node.Node.{Node}
-use Rattle.fl_book.specs.Marking.{Marking}
+use Rattle.fl_ranges.specs.Marking.{Marking}
+use Rattle.fl_ranges.specs.Codes.{marking_code}
 use Rattle.fl_book.specs.Directory.{Listing}
 use Rattle.fl_book.specs.Snapshot.{Snapshot}
-
--- a marking, as its entries
-abbrev pub marking_code : Coded Marking
-marking_code = code (coded× (key.the_row).coded coded_ℕ) (mark.the_row).coded
 
 -- a listing, as its four parts
 abbrev pub listing_code : Coded Listing

@@ -2,7 +2,7 @@
 use Rattle.std.specs.Prelude.{◌≡◌, ℕ, List, []}
 use Rattle.std.specs.FinMap.{empty}
 use Rattle.fl_book.specs.declared.history.Line.{Line}
-use Rattle.fl_book.specs.Conflict.{IsLawful}
+use Rattle.fl_ranges.specs.Conflict.{IsLawful}
 use Rattle.fl_book.specs.Directory.{opening_listing}
 use Rattle.fl_book.specs.State.{state_after}
 use Rattle.fl_book.specs.Snapshot.{Snapshot, snapshot_of}

@@ -1,5 +1,3 @@
-pub mod Marking
-pub mod Conflict
 pub mod Codes
 pub mod Pieces
 pub mod Directory

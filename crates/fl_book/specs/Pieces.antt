@@ -2,12 +2,12 @@
 use Rattle.std.specs.Prelude.{◌≡◌, ℕ, ◌+◌, ◌-◌, ◌≤◌, Bool, true, ◌&&◌, nat_lt, nat_le, Option, Some, None, List, [], ◌∷◌, ◌++◌, if◌then◌else◌}
 use Rattle.std.specs.List.{flat_map}
 use Rattle.std.specs.Ordering.{eq_by_cmp}
-use Rattle.fl_book.specs.declared.lock.Key.{Key}
-use Rattle.fl_book.specs.declared.lock.Kind.{Kind}
-use Rattle.fl_book.specs.declared.lock.Mark.{Mark}
+use Rattle.fl_ranges.specs.declared.lock.Key.{Key}
+use Rattle.fl_ranges.specs.declared.lock.Kind.{Kind}
+use Rattle.fl_ranges.specs.declared.lock.Mark.{Mark}
 use Rattle.fl_book.specs.declared.locks.Piece.{Piece}
-use Rattle.fl_book.specs.Marking.{Spot, Stroke, key_cmp, covers, mark_at}
-use Rattle.fl_book.specs.Conflict.{are_rivals, excludes}
+use Rattle.fl_ranges.specs.Marking.{Spot, Stroke, key_cmp, covers, mark_at}
+use Rattle.fl_ranges.specs.Conflict.{are_rivals, excludes}
 
 -- a piece means the stroke that would set it
 abbrev pub meant : Piece → Stroke

@@ -10,10 +10,10 @@ use Rattle.fl_wire.specs.declared.order.Order.{Order}
 use Rattle.fl_wire.specs.declared.order.Op.{Op}
 use Rattle.fl_wire.specs.declared.order.Op.TheVariants.{Create, Setlk}
 use Rattle.fl_wire.specs.declared.order.LockAsk.{LockAsk}
-use Rattle.fl_book.specs.declared.lock.Key.{Key}
-use Rattle.fl_book.specs.declared.lock.Mark.{Mark}
-use Rattle.fl_book.specs.Marking.{Marking, marking_of}
-use Rattle.fl_book.specs.Conflict.{conflicts}
+use Rattle.fl_ranges.specs.declared.lock.Key.{Key}
+use Rattle.fl_ranges.specs.declared.lock.Mark.{Mark}
+use Rattle.fl_ranges.specs.Marking.{Marking, marking_of}
+use Rattle.fl_ranges.specs.Conflict.{conflicts}
 use Rattle.fl_book.specs.Directory.{Listing, create_reply}
 use Rattle.fl_book.specs.State.{State, is_flock, key_of, start_of, end_of, mark_of}
 

@@ -6,7 +6,7 @@ use Rattle.fl_wire.specs.declared.told.Told.{Told}
 use Rattle.fl_wire.specs.declared.order.Order.{Order}
 use Rattle.fl_wire.specs.declared.order.Op.{Op}
 use Rattle.fl_wire.specs.declared.order.Op.TheVariants.{Create, Setlk}
-use Rattle.fl_book.specs.Marking.{Marking, stroked, marking_of}
+use Rattle.fl_ranges.specs.Marking.{Marking, stroked, marking_of}
 use Rattle.fl_book.specs.Directory.{Listing, after_create}
 use Rattle.fl_book.specs.State.{State, stroke_of}
 use Rattle.fl_book.specs.Replies.{reply_to}

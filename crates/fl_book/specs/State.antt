@@ -8,13 +8,13 @@ use Rattle.fl_wire.specs.declared.order.Order.{Order}
 use Rattle.fl_wire.specs.declared.order.Op.{Op}
 use Rattle.fl_wire.specs.declared.order.Op.TheVariants.{Create, Setlk}
 use Rattle.fl_wire.specs.declared.order.LockAsk.{LockAsk}
-use Rattle.fl_book.specs.declared.lock.Class.TheVariants.{Record, Flock}
-use Rattle.fl_book.specs.declared.lock.Kind.TheVariants.{Read, Write}
-use Rattle.fl_book.specs.declared.lock.Key.{Key}
-use Rattle.fl_book.specs.declared.lock.Mark.{Mark}
+use Rattle.fl_ranges.specs.declared.lock.Class.TheVariants.{Record, Flock}
+use Rattle.fl_ranges.specs.declared.lock.Kind.TheVariants.{Read, Write}
+use Rattle.fl_ranges.specs.declared.lock.Key.{Key}
+use Rattle.fl_ranges.specs.declared.lock.Mark.{Mark}
 use Rattle.fl_book.specs.declared.history.Line.{Line}
 use Rattle.fl_book.specs.declared.history.Line.TheVariants as line
-use Rattle.fl_book.specs.Marking.{Stroke}
+use Rattle.fl_ranges.specs.Marking.{Stroke}
 use Rattle.fl_book.specs.Directory.{Listing, opening_listing, after_create}
 
 -- the directory, the strokes with the last one first, and the orders that wait for a lock, in the order of asking

@@ -5,8 +5,6 @@
 mod desk;
 mod directory;
 mod history;
-pub mod laws;
-mod lock;
 mod locks;
 mod node;
 mod state;

@@ -1,7 +1,7 @@
 ghost use Rattle.std.specs.Prelude.{◌≡◌, ◌≤◌, ◌++◌, IfOk, OnOk, OnErr};
 ghost use Rattle.std.specs.FinMap as map;
 
-use crate::lock::{Key, Kind, Mark, Range};
+use fl_ranges::{Key, Kind, Mark, Range};
 use std::alloc::{AllocError, Global};
 use std::marker::Model;
 
@@ -22,8 +22,8 @@ struct Piece {
 
 impl Model for Locks {
     ghost use Rattle.std.specs.Prelude.{map};
-    ghost use Rattle.fl_book.specs.Marking.{Marking, marking_of};
-    ghost use Rattle.fl_book.specs.Codes.{marking_code};
+    ghost use Rattle.fl_ranges.specs.Marking.{Marking, marking_of};
+    ghost use Rattle.fl_ranges.specs.Codes.{marking_code};
 
     ghost Value = { Marking };
 
@@ -37,8 +37,8 @@ impl Model for Locks {
 }
 
 impl Locks {
-    ghost use Rattle.fl_book.specs.Marking.{stroked};
-    ghost use Rattle.fl_book.specs.Conflict.{conflicts};
+    ghost use Rattle.fl_ranges.specs.Marking.{stroked};
+    ghost use Rattle.fl_ranges.specs.Conflict.{conflicts};
 
     /// No locks.
     pub fn new(alloc: Global) -> Locks

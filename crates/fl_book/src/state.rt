@@ -1,14 +1,14 @@
 ghost use Rattle.std.specs.Prelude.{◌≡◌, ◌↔◌, true, false, IfOk, IsOk, OnOk, OnErr, IsNone, IfSome, Some};
 ghost use Rattle.std.specs.FinMap as map;
 ghost use Rattle.fl_book.specs.Directory.{opening_listing};
-ghost use Rattle.fl_book.specs.Marking.{stroked};
+ghost use Rattle.fl_ranges.specs.Marking.{stroked};
 ghost use Rattle.fl_book.specs.State.{is_flock, key_of, start_of, end_of, mark_of, stroke_of};
 ghost use Rattle.fl_book.specs.Replies.{is_malformed, setlk_reply};
 ghost use Rattle.fl_book.specs.Snapshot.{reply_at, next, grants};
 
 use crate::directory::Directory;
-use crate::lock::{Class, Key, Kind, LAST_BYTE, Mark, Range};
 use crate::locks::Locks;
+use fl_ranges::{Class, Key, Kind, LAST_BYTE, Mark, Range};
 use fl_wire::{Answer, Errno, LockAsk, Op, Order, Told};
 use std::alloc::{AllocError, Global};
 use std::marker::Model;

@@ -1,6 +1,6 @@
 use Rattle.std.proofs.Common.{ap, ◌∙◌}
 use Rattle.std.specs.List.{list_any}
-use Rattle.fl_book.specs.Conflict.{conflicts}
+use Rattle.fl_ranges.specs.Conflict.{conflicts}
 use Rattle.fl_book.specs.Pieces.{piece_excludes}
 use Rattle.fl_book.proofs.Conflicts.{pieces_conflict}
 use Rattle.fl_book.proofs.locks.Locks.conflicts.Goals as goal

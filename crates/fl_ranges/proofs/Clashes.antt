@@ -1,0 +1,137 @@
+-- A conflict that the runs show is a conflict of the marking that they mean.
+use Rattle.std.proofs.Common.{◌≡◌, ℕ, ◌≤◌, Bool, true, false, cond, not, ◌&&◌, ◌||◌, ◌==◌, nat_le, Some, List, [], ◌∷◌, map, refl, ap, sym, ◌∙◌, arith}
+use Rattle.std.proofs.lemmas.Bool.Decides.{nat_tests}
+use Rattle.std.specs.List.{list_any, find, AllByRecursion}
+use Rattle.std.specs.Cmp.{both_ways}
+use Rattle.fl_arena.specs.Chains.{Chains, items}
+use Rattle.fl_ranges.specs.declared.lock.Kind.{Kind}
+use Rattle.fl_ranges.specs.declared.lock.Key.{Key}
+use Rattle.fl_ranges.specs.declared.lock.Mark.{Mark}
+use Rattle.fl_ranges.specs.declared.run.Run.{Run}
+use Rattle.fl_ranges.specs.Marking.{class_number, Spot, marking_of}
+use Rattle.fl_ranges.specs.Conflict.{are_rivals, excludes, excludes_lock, conflicts}
+use Rattle.fl_ranges.specs.RunList.{meant, has_spot, run_at, AreApart, run_excludes}
+use Rattle.fl_ranges.specs.RunChains.{home, all_runs, IsTable}
+use Rattle.fl_ranges.proofs.Markings.{spots_total, exact_spots}
+use Rattle.fl_ranges.proofs.Entries.{any_entry, entry_passes}
+use Rattle.fl_ranges.proofs.RunLists.{at_spot, spot_of, each_both, each_weaker, run_has, each_found, each_ordered}
+use Rattle.fl_ranges.proofs.Counting.{get-runs, held_by, held_of}
+use Rattle.fl_ranges.proofs.ChainLists.{IsAway, before_chain, after_chain, all_around, away_before, away_after, any_among}
+use Rattle.fl_ranges.proofs.TableLemmas.{within}
+
+-- a byte that two ranges share
+record Shared (from to start end : ℕ) : Type 0 where
+  pub byte : ℕ
+  pub after_from : from ≤ byte
+  pub before_to : byte ≤ to
+  pub after_start : start ≤ byte
+  pub before_end : byte ≤ end
+
+shared : (from to start end : ℕ) → from ≤ to → start ≤ end → from ≤ end → start ≤ to → Shared from to start end
+shared from to start end a b c d = go (nat_le from start) refl
+  where
+    go : (t : Bool) → nat_le from start ≡ t → Shared from to start end
+    go true is = record { byte = start; after_from = grind (arith, nat_tests); before_to = d; after_start = omega arith; before_end = b }
+    go false is = record { byte = from; after_from = omega arith; before_to = a; after_start = grind (arith, nat_tests); before_end = c }
+
+-- the parts of a test for a conflict
+record Passes (r x : Bool) (from to start end : ℕ) : Type 0 where
+  pub rivals : r ≡ true
+  pub kinds : x ≡ true
+  pub begins : from ≤ end
+  pub ends : start ≤ to
+
+passes : (r x : Bool) (from to start end : ℕ) → (r && ((nat_le from end && nat_le start to) && x)) ≡ true → Passes r x from to start end
+passes true true from to start end e = record { rivals = refl; kinds = refl; begins = grind (arith, nat_tests); ends = grind (arith, nat_tests) }
+passes true false from to start end e = absurd (none (nat_le from end && nat_le start to) e)
+  where
+    none : (b : Bool) → (b && false) ≡ true → ⊥
+    none true h = absurd (cc h)
+    none false h = absurd (cc h)
+passes false x from to start end e = absurd (cc e)
+
+all_pass : (r x : Bool) (from to start end : ℕ) → r ≡ true → x ≡ true → from ≤ end → start ≤ to → (r && ((nat_le from end && nat_le start to) && x)) ≡ true
+all_pass true true from to start end rivals kinds begins ends = grind (arith, nat_tests)
+all_pass true false from to start end rivals kinds begins ends = absurd (cc kinds)
+all_pass false x from to start end rivals kinds begins ends = absurd (cc rivals)
+
+-- a run that passes a test
+record Passing (P : Run → Type 0) (t : Run → Bool) : Type 0 where
+  pub run : Run
+  pub own : P run
+  pub test : t run ≡ true
+
+some_passing : (P : Run → Type 0) (t : Run → Bool) (rs : List Run) → AllByRecursion P rs → list_any t rs ≡ true → Passing P t
+some_passing P t [] all any = absurd (cc any)
+some_passing P t (r ∷ rs) all any = go (some_passing P t rs all.1) (t r) refl any
+  where
+    go : (list_any t rs ≡ true → Passing P t) → (b : Bool) → t r ≡ b → (b || list_any t rs) ≡ true → Passing P t
+    go rest true is h = record { run = r; own = all.0; test = is }
+    go rest false is h = rest h
+
+any_of_found : (t u : Run → Bool) (rs : List Run) (r : Run) → find u rs ≡ Some r → t r ≡ true → list_any t rs ≡ true
+any_of_found t u [] r found is = absurd (cc found)
+any_of_found t u (x ∷ rs) r found is = go (λ h. any_of_found t u rs r h is) (u x) found
+  where
+    or_first : (b c : Bool) → b ≡ true → (b || c) ≡ true
+    or_first true c h = refl
+    or_first false c h = absurd (cc h)
+
+    or_later : (b c : Bool) → c ≡ true → (b || c) ≡ true
+    or_later true c h = refl
+    or_later false c h = h
+
+    go : (find u rs ≡ Some r → list_any t rs ≡ true) → (b : Bool) → cond b (Some x) (find u rs) ≡ Some r → (t x || list_any t rs) ≡ true
+    go rest true h = let same : x ≡ r = cc h in or_first _ _ (ap t same ∙ is)
+    go rest false h = or_later _ _ (rest h)
+
+module _ (key : Key) (start end : ℕ) (kind : Kind) where
+  -- runs that are apart show a conflict exactly where their marking has one
+  pub runs_conflict : (rs : List Run) → start ≤ end → AreApart rs → list_any (run_excludes key start end kind) rs ≡ conflicts (marking_of (map meant rs)) key start end kind
+  runs_conflict rs range apart = both_ways _ _
+      (λ any.
+      let p = some_passing (λ r. (r.start ≤ r.end) × ((q : Spot) → has_spot q r ≡ true → run_at rs q ≡ Some r)) (run_excludes key start end kind) rs
+      (each_both (λ r. r.start ≤ r.end) (λ r. (q : Spot) → has_spot q r ≡ true → run_at rs q ≡ Some r) rs (each_ordered rs apart) (each_found rs apart)) any in
+      let w = passes (are_rivals key p.run.key) (excludes kind p.run.mark.kind) p.run.start p.run.end start end p.test in
+      let b = shared p.run.start p.run.end start end p.own.0 range w.begins w.ends in
+      entry_passes spots_total exact_spots (excludes_lock key start end kind) (marking_of (map meant rs)) (p.run.key, b.byte) p.run.mark
+      (get-runs rs (p.run.key, b.byte) ∙ held_of rs (p.run.key, b.byte) p.run (p.own.1 (p.run.key, b.byte) (spot_of p.run (p.run.key, b.byte) refl b.after_from b.before_to)))
+      (all_pass (are_rivals key p.run.key) (excludes kind p.run.mark.kind) start end b.byte b.byte w.rivals w.kinds b.after_start b.before_end))
+      (λ any.
+      let e = any_entry spots_total (excludes_lock key start end kind) (marking_of (map meant rs)) any in
+      let h = held_by rs e.0 e.1 (sym (get-runs rs e.0) ∙ e.2) in
+      let at = at_spot h.run e.0 (run_has rs e.0 h.run h.found) in
+      let t = passes (are_rivals key e.0.0) (excludes kind e.1.kind) start end e.0.1 e.0.1 e.3 in
+      any_of_found (run_excludes key start end kind) (has_spot e.0) rs h.run h.found
+      (all_pass (are_rivals key h.run.key) (excludes kind h.run.mark.kind) h.run.start h.run.end start end
+      (ap (are_rivals key) at.key ∙ t.rivals)
+      (ap (λ (m : Mark). excludes kind m.kind) h.mark_is ∙ t.kinds)
+      (omega (arith, at.from, t.ends))
+      (omega (arith, at.upto, t.begins))))
+
+  rival_node : (c n o : Bool) → (c && (n && o)) ≡ true → n ≡ true
+  rival_node true true o e = refl
+  rival_node true false o e = absurd (cc e)
+  rival_node false n o e = absurd (cc e)
+
+  same_number : (a b : ℕ) → (a == b) ≡ true → a ≡ b
+  same_number a b e = grind (arith, nat_tests)
+
+  only_false : (b : Bool) → (b ≡ true → ⊥) → b ≡ false
+  only_false true f = absurd (f refl)
+  only_false false f = refl
+
+  no_clash : (rs : List Run) → AllByRecursion (IsAway (home key.node)) rs → AllByRecursion (λ r. run_excludes key start end kind r ≡ false) rs
+  no_clash rs each = each_weaker (IsAway (home key.node)) (λ r. run_excludes key start end kind r ≡ false) (λ r far. only_false _ (λ is.
+      let w = passes (are_rivals key r.key) (excludes kind r.mark.kind) r.start r.end start end is in
+      far (ap home (sym (same_number key.node r.key.node (rival_node (class_number key.class == class_number r.key.class) (key.node == r.key.node) (not (key.owner == r.key.owner)) w.rivals)))))) rs each
+
+  -- and so does the chain of the node
+  pub table_conflict : (a : Chains Run) (limit : ℕ) (t : IsTable a limit) → start ≤ end → list_any (run_excludes key start end kind) (items a (home key.node)) ≡ conflicts (marking_of (map meant (all_runs a))) key start end kind
+  table_conflict a limit t range =
+      let good = t.runs in
+      sym (ap (list_any (run_excludes key start end kind)) (all_around a (home key.node) (within a limit t key))
+      ∙ any_among (run_excludes key start end kind) (before_chain a (home key.node)) (items a (home key.node)) (after_chain a (home key.node))
+      (no_clash (before_chain a (home key.node)) (away_before a (home key.node) t.at_home))
+      (no_clash (after_chain a (home key.node)) (away_after a (home key.node) t.at_home)))
+      ∙ runs_conflict (all_runs a) range good.apart

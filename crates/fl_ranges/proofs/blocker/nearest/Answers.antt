@@ -1,0 +1,33 @@
+use Rattle.std.proofs.Common.{◌≡◌, ◌+◌, Some, None, drop, slice_get, refl, sym, ap, ◌∙◌}
+use Rattle.fl_arena.specs.Chains.{items}
+use Rattle.fl_ranges.specs.Nearest.{nearest_from}
+use Rattle.fl_ranges.proofs.Walks.{on_at}
+use Rattle.fl_ranges.proofs.BlockersWalk.{nearest_more, nearest_end}
+use Rattle.fl_ranges.proofs.blocker.nearest.Goals as goal
+
+pub loop-run-preserved : goal.loop-run-preserved
+loop-run-preserved c =
+    let key = c.args.key.now in
+    let range = c.args.range.now in
+    let xs = items c.args.runs.now c.args.chain in
+    let i = c.loop-run.cursor.index in
+    let at = c.loop-run.invariant.at in
+    let got = c.in-Some.ensures in
+    let found : slice_get xs i ≡ Some c.in-Some.run' = sym (got.at_index c.args.chain i at) in
+    let step = on_at c.args.runs.now c.args.chain c.loop-run.cursor c.step.new.cursor c.in-Some.run' at found (c.step.ensures.on (got.some.0 refl)) in
+    let index = step.index in
+    record {
+      at = step.at;
+      within = step.within;
+      rest = rw index (c.loop-run.invariant.rest ∙ nearest_more key range.start range.end c.args.kind c.in-Some.run' xs i c.loop-run.best found
+          ∙ ap (λ best. nearest_from key range.start range.end c.args.kind best (drop (i + 1) xs)) (sym c.nearest_with-best.ensures));
+    }
+
+pub returns : goal.returns
+returns c =
+    let key = c.args.key.now in
+    let range = c.args.range.now in
+    let xs = items c.args.runs.now c.args.chain in
+    let i = c.loop-run.cursor.index in
+    let none : slice_get xs i ≡ None = sym (c.get.ensures.at_index c.args.chain i c.loop-run.invariant.at) ∙ c.in_default.is in
+    sym (c.loop-run.invariant.rest ∙ nearest_end key range.start range.end c.args.kind xs i c.loop-run.best none)

@@ -1,0 +1,72 @@
+use Rattle.std.proofs.Common.{◌≡◌, Some, None, slice_get, refl, sym, ◌∙◌, arith}
+use Rattle.fl_arena.specs.Chains.{items}
+use Rattle.fl_ranges.specs.RunChains.{home}
+use Rattle.fl_ranges.specs.RunList.{overlaps}
+use Rattle.fl_ranges.proofs.Walks.{on_at, count_yes, count_no, count_end}
+use Rattle.fl_ranges.proofs.chain.count_over.Goals as goal
+
+pub overflow_add-count : goal.overflow_add-count
+overflow_add-count c =
+    let inv = c.loop-run.invariant in
+    let few = c.requires.few in
+    omega (arith, inv.few, inv.within, few)
+
+pub loop-run-smaller-then-overlaps : goal.loop-run-smaller-then-overlaps
+loop-run-smaller-then-overlaps c =
+    let i = c.loop-run.cursor.index in
+    let xs = items c.args.runs.now (home c.args.key.now.node) in
+    let inv = c.loop-run.invariant in
+    let got = c.in-Some.ensures in
+    let found : slice_get xs i ≡ Some c.in-Some.run' = sym (got.at_index (home c.args.key.now.node) i inv.at) in
+    let step = on_at c.args.runs.now (home c.args.key.now.node) c.loop-run.cursor c.step.new.cursor c.in-Some.run' inv.at found (c.step.ensures.on (got.some.0 refl)) in
+    step.smaller
+
+pub loop-run-preserved-then-overlaps : goal.loop-run-preserved-then-overlaps
+loop-run-preserved-then-overlaps c =
+    let i = c.loop-run.cursor.index in
+    let xs = items c.args.runs.now (home c.args.key.now.node) in
+    let inv = c.loop-run.invariant in
+    let got = c.in-Some.ensures in
+    let found : slice_get xs i ≡ Some c.in-Some.run' = sym (got.at_index (home c.args.key.now.node) i inv.at) in
+    let step = on_at c.args.runs.now (home c.args.key.now.node) c.loop-run.cursor c.step.new.cursor c.in-Some.run' inv.at found (c.step.ensures.on (got.some.0 refl)) in
+    let index = step.index in
+    record {
+      at = step.at;
+      within = step.within;
+      few = omega (arith, inv.few, index);
+      rest = count_yes (overlaps c.args.key.now c.args.start c.args.end) xs i c.step.new.cursor.index c.loop-run.count c.in-Some.run' inv.rest found (sym c.overlaps.ensures ∙ c.if-overlaps.true) index;
+    }
+
+pub loop-run-smaller : goal.loop-run-smaller
+loop-run-smaller c =
+    let i = c.loop-run.cursor.index in
+    let xs = items c.args.runs.now (home c.args.key.now.node) in
+    let inv = c.loop-run.invariant in
+    let got = c.in-Some.ensures in
+    let found : slice_get xs i ≡ Some c.in-Some.run' = sym (got.at_index (home c.args.key.now.node) i inv.at) in
+    let step = on_at c.args.runs.now (home c.args.key.now.node) c.loop-run.cursor c.step.new.cursor c.in-Some.run' inv.at found (c.step.ensures.on (got.some.0 refl)) in
+    step.smaller
+
+pub loop-run-preserved : goal.loop-run-preserved
+loop-run-preserved c =
+    let i = c.loop-run.cursor.index in
+    let xs = items c.args.runs.now (home c.args.key.now.node) in
+    let inv = c.loop-run.invariant in
+    let got = c.in-Some.ensures in
+    let found : slice_get xs i ≡ Some c.in-Some.run' = sym (got.at_index (home c.args.key.now.node) i inv.at) in
+    let step = on_at c.args.runs.now (home c.args.key.now.node) c.loop-run.cursor c.step.new.cursor c.in-Some.run' inv.at found (c.step.ensures.on (got.some.0 refl)) in
+    let index = step.index in
+    record {
+      at = step.at;
+      within = step.within;
+      few = omega (arith, inv.few, index);
+      rest = count_no (overlaps c.args.key.now c.args.start c.args.end) xs i c.step.new.cursor.index c.loop-run.count c.in-Some.run' inv.rest found (sym c.overlaps.ensures ∙ c.if-overlaps.false) index;
+    }
+
+pub returns : goal.returns
+returns c =
+    let i = c.loop-run.cursor.index in
+    let xs = items c.args.runs.now (home c.args.key.now.node) in
+    let inv = c.loop-run.invariant in
+    let none : slice_get xs i ≡ None = sym (c.get.ensures.at_index (home c.args.key.now.node) i inv.at) ∙ c.in_default.is in
+    count_end (overlaps c.args.key.now c.args.start c.args.end) xs i c.loop-run.count inv.rest none

@@ -1,0 +1,70 @@
+use Rattle.std.proofs.Common.{◌≡◌, ℕ, ◌++◌, ◌==◌, not, take, drop, Some, None, slice_get, refl, sym, ap, ◌∙◌}
+use Rattle.fl_arena.specs.Chains.{items}
+use Rattle.fl_ranges.specs.declared.run.Run.{Run}
+use Rattle.fl_ranges.specs.RunChains.{home}
+use Rattle.std.specs.List.{filter}
+use Rattle.fl_ranges.proofs.Walks.{on_node, off_node, on_at, out_at, kept_on, kept_out, kept_all}
+use Rattle.fl_ranges.proofs.chain.remove_node.Goals as goal
+
+pub loop-run-smaller-then-run-node : goal.loop-run-smaller-then-run-node
+loop-run-smaller-then-run-node c =
+    let i = c.loop-run.cursor.index in
+    let xs = items c.loop-run.runs (home c.args.node) in
+    let inv = c.loop-run.invariant in
+    let got = c.in-Some.ensures in
+    let found : slice_get xs i ≡ Some c.in-Some.run' = sym (got.at_index (home c.args.node) i inv.at) in
+    let out = out_at c.loop-run.runs c.remove.new.self (home c.args.node) c.loop-run.cursor c.remove.new.cursor c.in-Some.run' inv.at found c.remove.ensures.items c.remove.ensures.others c.remove.ensures.cursor in
+    out.smaller
+
+pub loop-run-preserved-then-run-node : goal.loop-run-preserved-then-run-node
+loop-run-preserved-then-run-node c =
+    let i = c.loop-run.cursor.index in
+    let xs = items c.loop-run.runs (home c.args.node) in
+    let inv = c.loop-run.invariant in
+    let got = c.in-Some.ensures in
+    let found : slice_get xs i ≡ Some c.in-Some.run' = sym (got.at_index (home c.args.node) i inv.at) in
+    let out = out_at c.loop-run.runs c.remove.new.self (home c.args.node) c.loop-run.cursor c.remove.new.cursor c.in-Some.run' inv.at found c.remove.ensures.items c.remove.ensures.others c.remove.ensures.cursor in
+    record {
+      at = out.at;
+      within = out.within;
+      left =
+          inv.left
+          ∙ kept_out (λ (r : Run). not (r.key.node == c.args.node)) xs i c.in-Some.run' found (on_node _ _ c.if-run-node.true)
+          ∙ (λ j. take (sym out.index j) (sym out.items_are j) ++ filter (λ (r : Run). not (r.key.node == c.args.node)) (drop (sym out.index j) (sym out.items_are j)));
+      others = λ d apart. out.others d apart ∙ inv.others d apart;
+      size = record { chains = c.remove.ensures.size.chains ∙ inv.size.chains; slots = c.remove.ensures.size.slots ∙ inv.size.slots };
+    }
+
+pub loop-run-smaller : goal.loop-run-smaller
+loop-run-smaller c =
+    let i = c.loop-run.cursor.index in
+    let xs = items c.loop-run.runs (home c.args.node) in
+    let inv = c.loop-run.invariant in
+    let got = c.in-Some.ensures in
+    let found : slice_get xs i ≡ Some c.in-Some.run' = sym (got.at_index (home c.args.node) i inv.at) in
+    let step = on_at c.loop-run.runs (home c.args.node) c.loop-run.cursor c.step.new.cursor c.in-Some.run' inv.at found (c.step.ensures.on (got.some.0 refl)) in
+    step.smaller
+
+pub loop-run-preserved : goal.loop-run-preserved
+loop-run-preserved c =
+    let i = c.loop-run.cursor.index in
+    let xs = items c.loop-run.runs (home c.args.node) in
+    let inv = c.loop-run.invariant in
+    let got = c.in-Some.ensures in
+    let found : slice_get xs i ≡ Some c.in-Some.run' = sym (got.at_index (home c.args.node) i inv.at) in
+    let step = on_at c.loop-run.runs (home c.args.node) c.loop-run.cursor c.step.new.cursor c.in-Some.run' inv.at found (c.step.ensures.on (got.some.0 refl)) in
+    record {
+      at = step.at;
+      within = step.within;
+      left = inv.left ∙ kept_on (λ (r : Run). not (r.key.node == c.args.node)) xs i c.in-Some.run' found (off_node _ _ c.if-run-node.false) ∙ ap (λ (j : ℕ). take j xs ++ filter (λ (r : Run). not (r.key.node == c.args.node)) (drop j xs)) (sym step.index);
+      others = inv.others;
+      size = inv.size;
+    }
+
+pub returns-clause-items : goal.returns-clause-items
+returns-clause-items c =
+    let i = c.loop-run.cursor.index in
+    let xs = items c.loop-run.runs (home c.args.node) in
+    let inv = c.loop-run.invariant in
+    let none : slice_get xs i ≡ None = sym (c.get.ensures.at_index (home c.args.node) i inv.at) ∙ c.in_default.is in
+    sym (inv.left ∙ kept_all (λ (r : Run). not (r.key.node == c.args.node)) xs i none)

@@ -1,0 +1,71 @@
+use Rattle.std.proofs.Common.{◌≡◌, ℕ, ◌++◌, not, take, drop, Some, None, slice_get, refl, sym, ap, ◌∙◌}
+use Rattle.fl_arena.specs.Chains.{items}
+use Rattle.fl_ranges.specs.declared.run.Run.{Run}
+use Rattle.fl_ranges.specs.RunChains.{home}
+use Rattle.std.specs.List.{filter}
+use Rattle.fl_ranges.specs.RunList.{overlaps}
+use Rattle.fl_ranges.proofs.Walks.{on_at, out_at, kept_on, kept_out, kept_all}
+use Rattle.fl_ranges.proofs.chain.remove_over.Goals as goal
+
+pub loop-run-smaller-then-overlaps : goal.loop-run-smaller-then-overlaps
+loop-run-smaller-then-overlaps c =
+    let i = c.loop-run.cursor.index in
+    let xs = items c.loop-run.runs (home c.args.key.now.node) in
+    let inv = c.loop-run.invariant in
+    let got = c.in-Some.ensures in
+    let found : slice_get xs i ≡ Some c.in-Some.run' = sym (got.at_index (home c.args.key.now.node) i inv.at) in
+    let out = out_at c.loop-run.runs c.remove.new.self (home c.args.key.now.node) c.loop-run.cursor c.remove.new.cursor c.in-Some.run' inv.at found c.remove.ensures.items c.remove.ensures.others c.remove.ensures.cursor in
+    out.smaller
+
+pub loop-run-preserved-then-overlaps : goal.loop-run-preserved-then-overlaps
+loop-run-preserved-then-overlaps c =
+    let i = c.loop-run.cursor.index in
+    let xs = items c.loop-run.runs (home c.args.key.now.node) in
+    let inv = c.loop-run.invariant in
+    let got = c.in-Some.ensures in
+    let found : slice_get xs i ≡ Some c.in-Some.run' = sym (got.at_index (home c.args.key.now.node) i inv.at) in
+    let out = out_at c.loop-run.runs c.remove.new.self (home c.args.key.now.node) c.loop-run.cursor c.remove.new.cursor c.in-Some.run' inv.at found c.remove.ensures.items c.remove.ensures.others c.remove.ensures.cursor in
+    record {
+      at = out.at;
+      within = out.within;
+      left =
+          inv.left
+          ∙ kept_out (λ (r : Run). not (overlaps c.args.key.now c.args.start c.args.end r)) xs i c.in-Some.run' found (ap not (sym c.overlaps.ensures ∙ c.if-overlaps.true))
+          ∙ (λ j. take (sym out.index j) (sym out.items_are j) ++ filter (λ (r : Run). not (overlaps c.args.key.now c.args.start c.args.end r)) (drop (sym out.index j) (sym out.items_are j)));
+      others = λ d apart. out.others d apart ∙ inv.others d apart;
+      size = record { chains = c.remove.ensures.size.chains ∙ inv.size.chains; slots = c.remove.ensures.size.slots ∙ inv.size.slots };
+    }
+
+pub loop-run-smaller : goal.loop-run-smaller
+loop-run-smaller c =
+    let i = c.loop-run.cursor.index in
+    let xs = items c.loop-run.runs (home c.args.key.now.node) in
+    let inv = c.loop-run.invariant in
+    let got = c.in-Some.ensures in
+    let found : slice_get xs i ≡ Some c.in-Some.run' = sym (got.at_index (home c.args.key.now.node) i inv.at) in
+    let step = on_at c.loop-run.runs (home c.args.key.now.node) c.loop-run.cursor c.step.new.cursor c.in-Some.run' inv.at found (c.step.ensures.on (got.some.0 refl)) in
+    step.smaller
+
+pub loop-run-preserved : goal.loop-run-preserved
+loop-run-preserved c =
+    let i = c.loop-run.cursor.index in
+    let xs = items c.loop-run.runs (home c.args.key.now.node) in
+    let inv = c.loop-run.invariant in
+    let got = c.in-Some.ensures in
+    let found : slice_get xs i ≡ Some c.in-Some.run' = sym (got.at_index (home c.args.key.now.node) i inv.at) in
+    let step = on_at c.loop-run.runs (home c.args.key.now.node) c.loop-run.cursor c.step.new.cursor c.in-Some.run' inv.at found (c.step.ensures.on (got.some.0 refl)) in
+    record {
+      at = step.at;
+      within = step.within;
+      left = inv.left ∙ kept_on (λ (r : Run). not (overlaps c.args.key.now c.args.start c.args.end r)) xs i c.in-Some.run' found (ap not (sym c.overlaps.ensures ∙ c.if-overlaps.false)) ∙ ap (λ (j : ℕ). take j xs ++ filter (λ (r : Run). not (overlaps c.args.key.now c.args.start c.args.end r)) (drop j xs)) (sym step.index);
+      others = inv.others;
+      size = inv.size;
+    }
+
+pub returns-clause-items : goal.returns-clause-items
+returns-clause-items c =
+    let i = c.loop-run.cursor.index in
+    let xs = items c.loop-run.runs (home c.args.key.now.node) in
+    let inv = c.loop-run.invariant in
+    let none : slice_get xs i ≡ None = sym (c.get.ensures.at_index (home c.args.key.now.node) i inv.at) ∙ c.in_default.is in
+    sym (inv.left ∙ kept_all (λ (r : Run). not (overlaps c.args.key.now c.args.start c.args.end r)) xs i none)

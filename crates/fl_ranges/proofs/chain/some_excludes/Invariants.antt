@@ -1,0 +1,17 @@
+use Rattle.std.proofs.Common.{◌≡◌, ◌-◌, ◌≤◌, length, drop}
+use Rattle.std.specs.List.{list_any}
+use Rattle.fl_ranges.specs.RunList.{run_excludes}
+use Rattle.fl_arena.specs.Chains.{items}
+use Rattle.fl_arena.specs.Cursors.{cursor_at}
+use Rattle.fl_ranges.specs.RunChains.{home}
+use Rattle.fl_ranges.proofs.chain.some_excludes.Given as goal
+
+abbrev pub invariant-loop-run : goal.invariant-loop-run
+invariant-loop-run l = record {
+  at : l.cursor ≡ cursor_at l.runs (home l.key.node) l.cursor.index;
+  within : l.cursor.index ≤ length (items l.runs (home l.key.node));
+  rest : list_any (run_excludes l.key l.start l.end l.kind) (items l.runs (home l.key.node)) ≡ list_any (run_excludes l.key l.start l.end l.kind) (drop l.cursor.index (items l.runs (home l.key.node)));
+}
+
+abbrev pub decreases-loop-run : goal.decreases-loop-run
+decreases-loop-run l = length (items l.runs (home l.key.node)) - l.cursor.index

@@ -1,0 +1,44 @@
+-- Which locks exclude each other (POSIX.1-2017 `fcntl`; Linux `flock(2)`).
+use Rattle.std.specs.Prelude.{◌≡◌, ◌≢◌, ℕ, ◌≤◌, Bool, true, false, not, ◌&&◌, ◌==◌, nat_le, Some}
+use Rattle.std.specs.List.{list_any}
+use Rattle.std.specs.FinMap.{entries, get}
+use Rattle.fl_ranges.specs.declared.lock.Kind.{Kind}
+use Rattle.fl_ranges.specs.declared.lock.Kind.TheVariants.{Read, Write}
+use Rattle.fl_ranges.specs.declared.lock.Key.{Key}
+use Rattle.fl_ranges.specs.declared.lock.Mark.{Mark}
+use Rattle.fl_ranges.specs.Marking.{Spot, Marking, class_number}
+
+-- one of the two is a write lock
+abbrev pub excludes : Kind → Kind → Bool
+excludes Read Read = false
+excludes Read Write = true
+excludes Write other = true
+
+-- two keys of one class and node, of two owners
+abbrev pub are_rivals : Key → Key → Bool
+are_rivals a b = (class_number a.class == class_number b.class) && ((a.node == b.node) && not (a.owner == b.owner))
+
+-- a marked spot excludes a lock of this kind, by this key, on the bytes from start to end
+abbrev pub excludes_lock : Key → ℕ → ℕ → Kind → (Spot × Mark) → Bool
+excludes_lock key start end kind e = are_rivals key e.0.0 && ((nat_le start e.0.1 && nat_le e.0.1 end) && excludes kind e.1.kind)
+
+-- some marked spot excludes it
+abbrev pub conflicts : Marking → Key → ℕ → ℕ → Kind → Bool
+conflicts m key start end kind = list_any (excludes_lock key start end kind) (entries m)
+
+-- the same in words: another owner has a mark of the class on the node, at a byte of the range, and one of the two kinds is write
+pub record IsConflict (m : Marking) (key : Key) (start end : ℕ) (kind : Kind) : Type 0 where
+  pub rival : Key
+  pub byte : ℕ
+  pub mark : Mark
+  pub held : get m (rival, byte) ≡ Some mark
+  pub class : rival.class ≡ key.class
+  pub node : rival.node ≡ key.node
+  pub other : rival.owner ≢ key.owner
+  pub from : start ≤ byte
+  pub upto : byte ≤ end
+  pub write : excludes kind mark.kind ≡ true
+
+-- no byte of a node has marks of one class of two owners, one of them write
+abbrev pub IsLawful : Marking → Type 0
+IsLawful m = (a b : Key) (byte : ℕ) (x y : Mark) → get m (a, byte) ≡ Some x → get m (b, byte) ≡ Some y → are_rivals a b ≡ true → excludes x.kind y.kind ≡ false

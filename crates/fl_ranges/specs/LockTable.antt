@@ -1,0 +1,8 @@
+-- What contracts see of a table of locks.
+use Rattle.std.specs.Prelude.{ℕ}
+use Rattle.fl_ranges.specs.Marking.{Marking}
+
+-- how many runs it has room for, and the marks
+pub record LockTable : Type 0 where
+  pub limit : ℕ
+  pub marking : Marking

@@ -1,0 +1,74 @@
+//! The lock that F_GETLK names, found among the runs.
+ghost use Rattle.std.specs.Prelude.{◌≡◌, ◌<◌, length, None, option_map};
+ghost use Rattle.fl_arena.specs.Chains.{items};
+ghost use Rattle.fl_ranges.specs.Nearest.{is_nearer, nearest_with, nearest_from, lock_of};
+
+use crate::chain::home;
+use crate::held::Held;
+use crate::lock::{Key, Kind, Range};
+use crate::run::{Run, excludes};
+use crate::table::Table;
+use fl_arena::Arena;
+
+impl Table {
+    ghost use Rattle.fl_ranges.specs.Blocker.{blocker};
+
+    /// The lock that F_GETLK names (POSIX.1-2017 `fcntl`): at the least byte of the range at which a lock of
+    /// another owner excludes one of this kind, that of the least such owner, on all the bytes around that one
+    /// on which it has the same mark. None where no lock excludes it.
+    pub fn blocker(&self, key: &Key, range: &Range, kind: Kind) -> Option<Held>
+        ensures { result ≡ blocker self.now.marking key.now range.now.start range.now.end kind }
+    {
+        lock_of(nearest(&self.runs, home(key.node), key, range, kind))
+    }
+}
+
+// The lock of a run, where there is one.
+fn lock_of(run: Option<Run>) -> Option<Held>
+    ensures { result ≡ option_map lock_of run }
+{
+    let run = run?;
+    Some(Held {
+        owner: run.key.owner,
+        start: run.start,
+        end: run.end,
+        mark: run.mark,
+    })
+}
+
+// Whether the run's first byte in a range that begins there is less than the other's, or is the same, and the
+// run's owner is less.
+fn is_nearer(start: u64, run: &Run, other: &Run) -> bool
+    ensures { result ≡ is_nearer start run.now other.now }
+{
+    let byte = run.start.max(start);
+    let other_byte = other.start.max(start);
+    byte < other_byte || (byte == other_byte && run.key.owner < other.key.owner)
+}
+
+// The nearest run so far, once one more has been looked at.
+fn nearest_with(key: &Key, range: &Range, kind: Kind, best: Option<Run>, run: Run) -> Option<Run>
+    ensures { result ≡ nearest_with key.now range.now.start range.now.end kind best run }
+{
+    if !excludes(&run, key, range.start, range.end, kind) {
+        return best;
+    }
+    match best {
+        Some(best) if !is_nearer(range.start, &run, &best) => Some(best),
+        _ => Some(run),
+    }
+}
+
+// The nearest of a chain's runs that exclude a lock of this kind, by this key, on the range.
+fn nearest(runs: &Arena<Run>, chain: usize, key: &Key, range: &Range, kind: Kind) -> Option<Run>
+    requires { chain < length runs.now.chains }
+    ensures { result ≡ nearest_from key.now range.now.start range.now.end kind None (items runs.now chain) }
+{
+    let mut best = None;
+    let mut cursor = runs.cursor(chain);
+    while let Some(run) = runs.get(&cursor) {
+        best = nearest_with(key, range, kind, best, run);
+        runs.step(&mut cursor);
+    }
+    best
+}

@@ -1,0 +1,47 @@
+//! Laws of the definitions, in the words of their subject. Each is the contract of an empty function.
+
+ghost use Rattle.std.specs.Prelude.{◌≡◌, ◌↔◌, ◌==◌, ◌≤◌, ℕ, Option, Some, None, true, false, List, length, if◌then◌else◌};
+ghost use Rattle.std.specs.List.{Contains, IsDistinct};
+ghost use Rattle.std.specs.Ordering.{eq_by_cmp};
+ghost use Rattle.std.specs.FinMap.{get};
+ghost use Rattle.fl_ranges.specs.declared.lock.Key.{Key as Holder};
+ghost use Rattle.fl_ranges.specs.declared.lock.Kind.{Kind as Sharing};
+ghost use Rattle.fl_ranges.specs.declared.held.Held.{Held as Lock};
+ghost use Rattle.fl_ranges.specs.Marking.{Spot, spot_cmp, Marking, Stroke, marking_of, mark_at};
+ghost use Rattle.fl_ranges.specs.Conflict.{conflicts, IsConflict};
+ghost use Rattle.fl_ranges.specs.Runs.{runs, IsStart, without_node};
+ghost use Rattle.fl_ranges.specs.Blocker.{blocker, IsBlocker};
+
+/// After strokes a byte of a key has what the last stroke says that covers it, and no mark where none does.
+pub fn last_stroke_counts()
+    ensures { (strokes : List Stroke) (spot : Spot) → get (marking_of strokes) spot ≡ mark_at strokes spot }
+{}
+
+/// A request conflicts exactly where another owner has a mark of the class on the node, at a byte of the
+/// range, and one of the two kinds is write.
+pub fn conflict_is_another_owners_mark()
+    ensures { (m : Marking) (key : Holder) (start end : ℕ) (kind : Sharing) →
+        (conflicts m key start end kind ≡ true) ↔ IsConflict m key start end kind }
+{}
+
+/// A list of spots without doubles that holds exactly those where a run starts has as many spots as there
+/// are runs.
+pub fn runs_are_counted_by_their_starts()
+    ensures { (m : Marking) (starts : List Spot) → IsDistinct (eq_by_cmp spot_cmp) starts → ((spot : Spot) → Contains starts spot ↔ IsStart m spot) →
+        length starts ≡ runs m }
+{}
+
+/// Without a node, the spots of that node have no mark, and every other has what it had.
+pub fn no_mark_is_left_on_the_node()
+    ensures { (m : Marking) (node : ℕ) (spot : Spot) →
+        get (without_node node m) spot ≡ (if spot.0.node == node then None else get m spot) }
+{}
+
+/// The lock that is named for a request is that of the least owner that excludes it at the least byte at which
+/// one does, on the longest row of bytes around that byte; none is named exactly where there is no conflict.
+pub fn blocker_is_the_first_lock_that_excludes()
+    ensures named { (m : Marking) (key : Holder) (start end : ℕ) (kind : Sharing) (held : Lock) → end ≤ 9223372036854775807 →
+        (blocker m key start end kind ≡ Some held) ↔ IsBlocker m key start end kind held }
+    ensures none { (m : Marking) (key : Holder) (start end : ℕ) (kind : Sharing) →
+        (blocker m key start end kind ≡ None) ↔ (conflicts m key start end kind ≡ false) }
+{}

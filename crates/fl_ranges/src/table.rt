@@ -1,0 +1,138 @@
+//! The table of locks.
+ghost use Rattle.std.specs.Prelude.{◌≡◌, ◌≤◌, ◌<◌, ◌↔◌, Option, Some, None, IfOk, IsErr, OnOk, OnErr};
+ghost use Rattle.std.specs.FinMap as map;
+
+use crate::chain::{CHAINS, remove_node, remove_over, some_excludes};
+use crate::lock::{Key, Kind, LAST_BYTE, Mark, Range};
+use crate::plan::{carry_out, pieces, plan_of};
+use crate::run::Run;
+use fl_arena::{Arena, Place};
+use std::alloc::{AllocError, Global};
+use std::marker::Model;
+
+/// The locks that are held, as runs of bytes in a fixed number of slots.
+///
+/// Contracts see how many runs there is room for, and the mark of each byte. No call but `new` takes
+/// memory.
+#[derive(Drop)]
+pub struct Table {
+    pub(crate) runs: Arena<Run>,
+    limit: u32,
+}
+
+/// The change would leave more runs than there is room for.
+#[derive(Clone, Copy, Debug, PartialEq, Eq)]
+pub struct NoRoom;
+
+impl Model for Table {
+    ghost use Rattle.std.specs.Prelude.{map};
+    ghost use Rattle.fl_ranges.specs.Marking.{marking_of};
+    ghost use Rattle.fl_ranges.specs.LockTable.{LockTable};
+    ghost use Rattle.fl_ranges.specs.Codes.{lock_table_code};
+    ghost use Rattle.fl_ranges.specs.RunList.{meant};
+    ghost use Rattle.fl_ranges.specs.RunChains.{all_runs, IsTable};
+
+    ghost Value = { LockTable };
+
+    ghost coded = { lock_table_code };
+
+    ghost view = { λ t. record { limit = t.limit; marking = marking_of (map meant (all_runs t.runs)) } };
+
+    ghost invariant = { λ t. IsTable t.runs t.limit };
+}
+
+impl Table {
+    ghost use Rattle.fl_ranges.specs.Marking.{stroked};
+    ghost use Rattle.fl_ranges.specs.Conflict.{conflicts};
+    ghost use Rattle.fl_ranges.specs.Runs.{runs, without_node};
+    ghost use Rattle.fl_ranges.specs.Placing.{IsPlaced};
+
+    /// A table with no locks. It fails only for want of memory.
+    pub fn new(alloc: Global, limit: u32) -> Result<Table, AllocError>
+        requires { limit ≤ 65536 }
+        ensures { IfOk result (λ t. t ≡ record { limit = limit; marking = map.empty }) }
+    {
+        Ok(Table {
+            runs: Arena::new(alloc, CHAINS, limit as usize)?,
+            limit,
+        })
+    }
+
+    /// The bytes of the range get the mark. A refusal changes nothing.
+    pub fn put(&mut self, key: &Key, range: &Range, mark: Mark) -> Result<(), NoRoom>
+        ensures full { IsErr result ↔
+            (self.old.limit < runs (stroked (record { key = key.now; start = range.now.start; end = range.now.end; mark = Some mark }) self.old.marking)) }
+        ensures ok { OnOk result
+            (self.new ≡ record self.old { marking = stroked (record { key = key.now; start = range.now.start; end = range.now.end; mark = Some mark }) self.old.marking }) }
+        ensures err { OnErr result (self.new ≡ self.old) }
+    {
+        self.stroke(key, range, Some(mark))
+    }
+
+    /// The bytes of the range lose their marks. Cutting a run in its middle makes one run more, so this too
+    /// may be refused. A refusal changes nothing.
+    pub fn erase(&mut self, key: &Key, range: &Range) -> Result<(), NoRoom>
+        ensures full { IsErr result ↔
+            (self.old.limit < runs (stroked (record { key = key.now; start = range.now.start; end = range.now.end; mark = None }) self.old.marking)) }
+        ensures ok { OnOk result
+            (self.new ≡ record self.old { marking = stroked (record { key = key.now; start = range.now.start; end = range.now.end; mark = None }) self.old.marking }) }
+        ensures err { OnErr result (self.new ≡ self.old) }
+    {
+        self.stroke(key, range, None)
+    }
+
+    // The bytes of the range get the mark, or lose theirs.
+    fn stroke(&mut self, key: &Key, range: &Range, mark: Option<Mark>) -> Result<(), NoRoom>
+        ensures full { IsErr result ↔
+            (self.old.limit < runs (stroked (record { key = key.now; start = range.now.start; end = range.now.end; mark = mark }) self.old.marking)) }
+        ensures ok { OnOk result
+            (self.new ≡ record self.old { marking = stroked (record { key = key.now; start = range.now.start; end = range.now.end; mark = mark }) self.old.marking }) }
+        ensures err { OnErr result (self.new ≡ self.old) }
+    {
+        let free = self.runs.free();
+        let plan = plan_of(&self.runs, key, range.start, range.end, mark);
+        if free + plan.taken < pieces(&plan) {
+            return Err(NoRoom);
+        }
+        carry_out(&mut self.runs, key, &plan);
+        Ok(())
+    }
+
+    /// All bytes of the key lose their marks.
+    pub fn erase_owner(&mut self, key: &Key)
+        ensures { self.new ≡ record self.old { marking = stroked (record { key = key.now; start = 0; end = LAST_BYTE; mark = None }) self.old.marking } }
+    {
+        remove_over(&mut self.runs, key, 0, LAST_BYTE);
+    }
+
+    /// All bytes of the node lose their marks, of both classes and all owners.
+    pub fn erase_node(&mut self, node: u64)
+        ensures { self.new ≡ record self.old { marking = without_node node self.old.marking } }
+    {
+        remove_node(&mut self.runs, node);
+    }
+
+    /// Whether some lock that is held excludes a lock of this kind.
+    pub fn clashes(&self, key: &Key, range: &Range, kind: Kind) -> bool
+        ensures { result ≡ conflicts self.now.marking key.now range.now.start range.now.end kind }
+    {
+        some_excludes(&self.runs, key, range.start, range.end, kind)
+    }
+
+    /// Where a slot is: slots are numbered from 0, and each is free or holds a run on one of the chains. This
+    /// walks along its chain.
+    pub fn slot_place(&self, slot: usize) -> Place
+        requires { slot < self.now.limit }
+        ensures { IsPlaced self.now slot result }
+    {
+        prove!(self.runs.free() <= self.limit as usize);
+        self.runs.place(slot)
+    }
+
+    /// How many runs there are.
+    pub fn runs(&self) -> u32
+        ensures { result ≡ runs self.now.marking }
+    {
+        self.limit - self.runs.free() as u32
+    }
+}
