@@ -6,5 +6,6 @@ pub mod Init
 pub mod Layout
 pub mod Message
 pub mod Name
+pub mod Order
 pub mod Says
 pub mod Spell
