@@ -8,7 +8,7 @@ use Rattle.fl_wire.specs.declared.told.Answer.{Answer}
 use Rattle.fl_wire.specs.declared.told.Told.{Told}
 use Rattle.fl_wire.specs.declared.order.Order.{Order}
 use Rattle.fl_wire.specs.declared.order.Op.{Op}
-use Rattle.fl_wire.specs.declared.order.Op.TheVariants.{Create, Setlk}
+use Rattle.fl_wire.specs.declared.order.Op.TheVariants.{Create, Getlk, Setlk}
 use Rattle.fl_book.specs.declared.history.Line.{Line}
 use Rattle.fl_book.specs.Directory.{opening_listing}
 use Rattle.fl_book.specs.State.{State, opening, answered, Reading, read_line, state_after}
@@ -35,6 +35,7 @@ state_after_step lines worker order told own =
 -- what contracts see goes the same way as the state
 pub snapshot_answered : (order : Order) (op : Op) (reply : Result Answer Errno) (s : State) → snapshot_of (answered order op reply s) ≡ changed (snapshot_of s) order op reply
 snapshot_answered order (Create excl mode name) reply s = refl
+snapshot_answered order (Getlk ask) reply s = refl
 snapshot_answered order (Setlk ask) (Ok answer) s = refl
 snapshot_answered order (Setlk ask) (Err e) s = refl
 

@@ -1,7 +1,3 @@
-pub mod Cutting
-pub mod Apart
-pub mod Recut
-pub mod Conflicts
 pub mod Listings
 pub mod Recounts
 pub mod Creates

@@ -1,5 +1,4 @@
 pub mod Codes
-pub mod Pieces
 pub mod Directory
 pub mod Listed
 pub mod State

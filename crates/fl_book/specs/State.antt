@@ -6,7 +6,7 @@ use Rattle.fl_wire.specs.declared.told.Answer.{Answer}
 use Rattle.fl_wire.specs.declared.told.Told.{Told}
 use Rattle.fl_wire.specs.declared.order.Order.{Order}
 use Rattle.fl_wire.specs.declared.order.Op.{Op}
-use Rattle.fl_wire.specs.declared.order.Op.TheVariants.{Create, Setlk}
+use Rattle.fl_wire.specs.declared.order.Op.TheVariants.{Create, Getlk, Setlk}
 use Rattle.fl_wire.specs.declared.order.LockAsk.{LockAsk}
 use Rattle.fl_ranges.specs.declared.lock.Class.TheVariants.{Record, Flock}
 use Rattle.fl_ranges.specs.declared.lock.Kind.TheVariants.{Read, Write}
@@ -54,6 +54,7 @@ stroke_of node ask = record { key = key_of node ask; start = start_of ask; end =
 -- the state after an order with this reply of its own. It tests nothing, and an error changes nothing.
 abbrev pub answered : Order → Op → Result Answer Errno → State → State
 answered order (Create excl mode name) reply s = record s { directory = after_create s.directory order mode name reply }
+answered order (Getlk ask) reply s = s
 answered order (Setlk ask) (Ok answer) s = record s { strokes = stroke_of order.node ask ∷ s.strokes }
 answered order (Setlk ask) (Err e) s = s
 

@@ -7,7 +7,7 @@ use Rattle.fl_wire.specs.Errno.{number_of}
 use Rattle.fl_wire.specs.declared.errno.Errno.{Errno}
 use Rattle.fl_wire.specs.declared.order.LockAsk.{LockAsk}
 use Rattle.fl_wire.specs.declared.order.Op.{Op}
-use Rattle.fl_wire.specs.declared.order.Op.TheVariants.{Create, Setlk}
+use Rattle.fl_wire.specs.declared.order.Op.TheVariants.{Create, Getlk, Setlk}
 use Rattle.fl_wire.specs.declared.order.Order.{Order}
 use Rattle.fl_wire.specs.declared.told.Answer.{Answer}
 use Rattle.fl_wire.specs.declared.told.Answer.TheVariants.{Done, Entry, Attr, Open, Made, Lock}
@@ -36,6 +36,7 @@ lock_ask_text a = spaced (decimal a.fh ∷ decimal a.owner ∷ decimal a.start �
 -- what is asked
 abbrev pub op_text : Op → List ℕ
 op_text (Create excl mode name) = spaced (codes "create" ∷ flag_text excl ∷ decimal mode ∷ name_text name ∷ [])
+op_text (Getlk ask) = spaced (codes "getlk" ∷ lock_ask_text ask ∷ [])
 op_text (Setlk ask) = spaced (codes "setlk" ∷ lock_ask_text ask ∷ [])
 
 -- an order
@@ -80,6 +81,7 @@ text_of lines = flat_map (λ line. line_text line ++ 10 ∷ []) lines
 -- a mode that can be read back has no bits but those of octal 777
 abbrev pub ModeFits : Op → Type 0
 ModeFits (Create excl mode name) = mode ≤ 511
+ModeFits (Getlk ask) = Unit {0}
 ModeFits (Setlk ask) = Unit {0}
 
 -- a line that can be read back: its worker is one of sixteen, and its mode fits

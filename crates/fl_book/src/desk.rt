@@ -1,7 +1,6 @@
-ghost use Rattle.std.specs.Prelude.{◌≡◌, ◌≤◌, ◌+◌, ◌++◌, ◌∷◌, [], false, IfOk, IsOk, OnOk, OnErr, vec_len, vec_capacity};
+ghost use Rattle.std.specs.Prelude.{◌≡◌, ◌≤◌, ◌+◌, ◌++◌, ◌∷◌, [], IfOk, IsOk, OnOk, OnErr, vec_len, vec_capacity};
 ghost use Rattle.fl_book.specs.State.{state_after};
 ghost use Rattle.fl_book.specs.Replies.{first_replies};
-ghost use Rattle.fl_book.specs.Snapshot.{reply_at, grants};
 ghost use Rattle.fl_book.specs.Legal.{IsLegal, step_lines};
 ghost use Rattle.fl_book.specs.Kept.{IsKept, opening_book};
 
@@ -46,17 +45,16 @@ impl Desk {
     }
 
     /// Takes an order of a worker: records it, answers it, and hands out the replies that it records.
-    /// A refusal changes nothing. It comes only where memory for two more lines isn't there, or a lock is
-    /// set or taken away.
+    /// A refusal changes nothing, and comes only where memory for two more lines isn't there.
     pub fn take(&mut self, worker: u32, order: &Order, tolds: &mut Tolds) -> Result<(), NoMemory>
         ensures replies { OnOk result (tolds.new ≡ first_replies (state_after self.old.lines) order.now) }
         ensures lines { OnOk result (self.new.lines ≡ self.old.lines ++ step_lines worker order.now tolds.new) }
         ensures refused { OnErr result ((self.new.lines ≡ self.old.lines) × (self.new.present ≡ self.old.present) × (tolds.new ≡ tolds.old)) }
-        ensures succeeds { 2 ≤ self.old.room → grants order.now.op (reply_at self.old.present order.now).result ≡ false → IsOk result }
+        ensures succeeds { 2 ≤ self.old.room → IsOk result }
         ensures kept { IsKept self.new.lines self.new.present }
     {
         self.lines.try_reserve(2)?;
-        let told = self.present.step(order)?;
+        let told = self.present.step(order);
         append(&mut self.lines, worker, order, told);
         tolds.set(told);
         Ok(())

@@ -5,7 +5,6 @@
 mod desk;
 mod directory;
 mod history;
-mod locks;
 mod node;
 mod state;
 mod text;

@@ -39,7 +39,7 @@ fn mode_fits(op: &Op) -> bool
 {
     match op {
         Op::Create { mode, .. } => *mode <= 0o777,
-        Op::Setlk(_) => true,
+        Op::Getlk(_) | Op::Setlk(_) => true,
     }
 }
 
@@ -77,6 +77,10 @@ fn push_op(alloc: Global, text: &mut String, op: &Op) -> Result<(), NoMemory>
             let excl = flag_text(*excl);
             write!(text, "create {excl} {mode} ")?;
             push_name(alloc, text, name)
+        }
+        Op::Getlk(ask) => {
+            text.push_str("getlk ")?;
+            push_lock_ask(text, ask)
         }
         Op::Setlk(ask) => {
             text.push_str("setlk ")?;

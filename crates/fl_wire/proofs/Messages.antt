@@ -8,13 +8,13 @@ use Rattle.std.proofs.lemmas.Nat.{and_mask}
 use Rattle.std.specs.List.{list_any}
 use Rattle.byteorder.specs.Numbers.{little_number-reads_back}
 use Rattle.fl_wire.specs.Layout.{number_at, field, laid_out, in_header, create_in, lk_in, opcode_of, unique_of}
-use Rattle.fl_wire.specs.Message.{body_for, request, message_of, FitsLock, FitsOp, IsSendable, ReadsBack}
+use Rattle.fl_wire.specs.Message.{lock_body, body_for, request, message_of, FitsLock, FitsOp, IsSendable, ReadsBack}
 use Rattle.fl_wire.specs.Name.{IsName}
 use Rattle.fl_wire.specs.Says.{said, asked, order_of, lock_asked, create_of, name_in}
 use Rattle.fl_wire.specs.declared.order.Order.{Order}
 use Rattle.fl_wire.specs.declared.order.LockAsk.{LockAsk}
 use Rattle.fl_wire.specs.declared.order.Op.{Op}
-use Rattle.fl_wire.specs.declared.order.Op.TheVariants.{Create, Setlk}
+use Rattle.fl_wire.specs.declared.order.Op.TheVariants.{Create, Getlk, Setlk}
 use Rattle.fl_wire.specs.declared.reading.Refusal.{Refusal}
 
 -- what stands in the fields of a header
@@ -49,10 +49,10 @@ unfolding request
 drop-request o u n i g p body = refl
 
 -- a lock request is read back
-lock_again : (o u n i g p : ℕ) (a : LockAsk) → FitsLock a → lock_asked (request o u n i g p (body_for (Setlk a))) ≡ a
+lock_again : (o u n i g p : ℕ) (a : LockAsk) → FitsLock a → lock_asked (request o u n i g p (lock_body a)) ≡ a
 unfolding number_at request
 lock_again o u n i g p a h =
-    let bytes : List ℕ = request o u n i g p (body_for (Setlk a)) in
+    let bytes : List ℕ = request o u n i g p (lock_body a) in
     let e0 : field lk_in 0 40 bytes ≡ a.fh = little_number-reads_back 8 a.fh (drop 48 bytes) h.fh in
     let e1 : field lk_in 1 40 bytes ≡ a.owner = little_number-reads_back 8 a.owner (drop 56 bytes) h.owner in
     let e2 : field lk_in 2 40 bytes ≡ a.start = little_number-reads_back 8 a.start (drop 64 bytes) h.start in
@@ -68,6 +68,10 @@ order_again bytes opcode u n i g p op h e =
     let parts : order_of bytes (Ok op) ≡ Ok (record { unique = u; node = n; uid = i; gid = g; pid = p; op = op }) =
     λ k. Ok (record { unique = h.unique_is k; node = h.node_is k; uid = h.uid_is k; gid = h.gid_is k; pid = h.pid_is k; op = op }) in
     ap (λ o. order_of bytes (asked o bytes)) h.opcode_is ∙ ap (order_of bytes) e ∙ parts
+
+-- what a GETLK asks is read back
+getlk_again : (bytes : List ℕ) (a : LockAsk) → length bytes ≡ 88 → lock_asked bytes ≡ a → asked 31 bytes ≡ Ok (Getlk a)
+getlk_again bytes a long e = rw long (ap (λ x. Ok (Getlk x)) e)
 
 -- what a SETLK asks is read back
 setlk_again : (bytes : List ℕ) (a : LockAsk) → length bytes ≡ 88 → lock_asked bytes ≡ a → asked 32 bytes ≡ Ok (Setlk a)
@@ -118,10 +122,14 @@ length-create excl mode name =
     ∙ ap (λ n. 16 + n) (length-append name (0 ∷ [])) ∙ omega arith
 
 op_again : (u n i g p : ℕ) (op : Op) → u < 2 ^ 64 → n < 2 ^ 64 → i < 2 ^ 32 → g < 2 ^ 32 → p < 2 ^ 32 → FitsOp op → said (message_of (record { unique = u; node = n; uid = i; gid = g; pid = p; op = op })) ≡ Ok (record { unique = u; node = n; uid = i; gid = g; pid = p; op = op })
+op_again u n i g p (Getlk a) hu hn hi hg hp h =
+    let bytes : List ℕ = request 31 u n i g p (lock_body a) in
+    order_again bytes 31 u n i g p (Getlk a) (heads 31 u n i g p (lock_body a) (lit< tt) hu hn hi hg hp)
+    (getlk_again bytes a (length-request 31 u n i g p (lock_body a)) (lock_again 31 u n i g p a h))
 op_again u n i g p (Setlk a) hu hn hi hg hp h =
-    let bytes : List ℕ = request 32 u n i g p (body_for (Setlk a)) in
-    order_again bytes 32 u n i g p (Setlk a) (heads 32 u n i g p (body_for (Setlk a)) (lit< tt) hu hn hi hg hp)
-    (setlk_again bytes a (length-request 32 u n i g p (body_for (Setlk a))) (lock_again 32 u n i g p a h))
+    let bytes : List ℕ = request 32 u n i g p (lock_body a) in
+    order_again bytes 32 u n i g p (Setlk a) (heads 32 u n i g p (lock_body a) (lit< tt) hu hn hi hg hp)
+    (setlk_again bytes a (length-request 32 u n i g p (lock_body a)) (lock_again 32 u n i g p a h))
 op_again u n i g p (Create excl mode name) hu hn hi hg hp h =
     let body : List ℕ = body_for (Create excl mode name) in
     let bytes : List ℕ = request 35 u n i g p body in

@@ -6,6 +6,7 @@ pub mod Init
 pub mod Layout
 pub mod Message
 pub mod Name
+pub mod Order
 pub mod Says
 pub mod Spell
 pub mod Stream

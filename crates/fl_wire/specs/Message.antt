@@ -5,18 +5,24 @@ use Rattle.fl_wire.specs.Name.{IsName}
 use Rattle.fl_wire.specs.declared.order.Order.{Order}
 use Rattle.fl_wire.specs.declared.order.LockAsk.{LockAsk}
 use Rattle.fl_wire.specs.declared.order.Op.{Op}
-use Rattle.fl_wire.specs.declared.order.Op.TheVariants.{Create, Setlk}
+use Rattle.fl_wire.specs.declared.order.Op.TheVariants.{Create, Getlk, Setlk}
 use Rattle.fl_wire.specs.declared.reading.Refusal.{Refusal}
 
 -- the kind of its message
 abbrev pub opcode_for : Op → ℕ
 opcode_for (Create excl mode name) = 35
+opcode_for (Getlk ask) = 31
 opcode_for (Setlk ask) = 32
+
+-- a lock request
+abbrev pub lock_body : LockAsk → List ℕ
+lock_body ask = laid_out lk_in (ask.fh ∷ ask.owner ∷ ask.start ∷ ask.end ∷ ask.kind ∷ ask.pid ∷ ask.flags ∷ 0 ∷ [])
 
 -- what stands behind the header
 abbrev pub body_for : Op → List ℕ
 body_for (Create excl mode name) = laid_out create_in ((if excl then 128 else 0) ∷ mode ∷ 0 ∷ 0 ∷ []) ++ (name ++ 0 ∷ [])
-body_for (Setlk ask) = laid_out lk_in (ask.fh ∷ ask.owner ∷ ask.start ∷ ask.end ∷ ask.kind ∷ ask.pid ∷ ask.flags ∷ 0 ∷ [])
+body_for (Getlk ask) = lock_body ask
+body_for (Setlk ask) = lock_body ask
 
 -- a header, and the body behind it
 unfoldable pub request : ℕ → ℕ → ℕ → ℕ → ℕ → ℕ → List ℕ → List ℕ
@@ -40,6 +46,7 @@ pub record FitsLock (ask : LockAsk) : Type 0 where
 -- so does what is asked; a mode has permissions alone
 abbrev pub FitsOp : Op → Type 0
 FitsOp (Create excl mode name) = (mode < 512) × IsName name
+FitsOp (Getlk ask) = FitsLock ask
 FitsOp (Setlk ask) = FitsLock ask
 
 -- an order that a message can say

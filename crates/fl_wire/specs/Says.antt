@@ -7,7 +7,7 @@ use Rattle.fl_wire.specs.declared.errno.Errno.TheVariants.{EINVAL, ENAMETOOLONG,
 use Rattle.fl_wire.specs.declared.order.Order.{Order}
 use Rattle.fl_wire.specs.declared.order.LockAsk.{LockAsk}
 use Rattle.fl_wire.specs.declared.order.Op.{Op}
-use Rattle.fl_wire.specs.declared.order.Op.TheVariants.{Create, Setlk}
+use Rattle.fl_wire.specs.declared.order.Op.TheVariants.{Create, Getlk, Setlk}
 use Rattle.fl_wire.specs.declared.reading.Refusal.{Refusal}
 use Rattle.fl_wire.specs.declared.reading.Refusal.TheVariants.{Answer, Silent, Destroy}
 
@@ -44,18 +44,24 @@ create_asked bytes =
     if nat_lt (length bytes) 57 then Err (Answer EINVAL) else create_of bytes (name_in (drop 56 bytes))
 
 -- a header, then `struct fuse_lk_in`
-abbrev pub setlk_asked : List ℕ → Result Op Refusal
-setlk_asked bytes = if length bytes == 88 then Ok (Setlk (lock_asked bytes)) else Err (Answer EINVAL)
+abbrev pub lock_request : List ℕ → Result LockAsk Refusal
+lock_request bytes = if length bytes == 88 then Ok (lock_asked bytes) else Err (Answer EINVAL)
 
--- what a message of this opcode asks: 2 is FORGET, 26 INIT, 32 SETLK, 35 CREATE, 38 DESTROY and 42
--- BATCH_FORGET of `enum fuse_opcode`
+-- what is asked with a lock request, where there is one
+abbrev pub lock_op : (LockAsk → Op) → Result LockAsk Refusal → Result Op Refusal
+lock_op op (Ok ask) = Ok (op ask)
+lock_op op (Err refusal) = Err refusal
+
+-- what a message of this opcode asks: 2 is FORGET, 26 INIT, 31 GETLK, 32 SETLK, 35 CREATE, 38 DESTROY and
+-- 42 BATCH_FORGET of `enum fuse_opcode`
 abbrev pub asked : ℕ → List ℕ → Result Op Refusal
 asked opcode bytes =
     if opcode == 26 then Err (Answer EPROTO)
     else if opcode == 38 then Err Destroy
     else if opcode == 42 then Err Silent
     else if opcode == 2 then Err Silent
-    else if opcode == 32 then setlk_asked bytes
+    else if opcode == 31 then lock_op Getlk (lock_request bytes)
+    else if opcode == 32 then lock_op Setlk (lock_request bytes)
     else if opcode == 35 then create_asked bytes
     else Err (Answer ENOSYS)
 

@@ -1,3 +1,6 @@
+ghost use Rattle.std.specs.Prelude.{◌≡◌};
+ghost use Rattle.fl_wire.specs.Order.{only_reads};
+
 use crate::name::Name;
 
 /// A message that reaches the lock state.
@@ -16,12 +19,23 @@ pub struct Order {
     pub op: Op,
 }
 
+impl Order {
+    /// Whether it changes nothing whatever it is answered: GETLK.
+    pub fn only_reads(&self) -> bool
+        ensures { result ≡ only_reads self.now.op }
+    {
+        matches!(self.op, Op::Getlk(_))
+    }
+}
+
 /// What is asked.
 #[derive(Clone, Copy, Debug, PartialEq, Eq)]
 pub enum Op {
     /// Makes the file of this name where there is none, and opens it (FUSE_CREATE). With `excl` it is
     /// an error if there is one (`O_EXCL` of POSIX.1-2017 `open`).
     Create { excl: bool, mode: u32, name: Name },
+    /// Tells a lock that excludes the one asked for (FUSE_GETLK; POSIX.1-2017 `fcntl`, F_GETLK).
+    Getlk(LockAsk),
     /// Sets or takes away a lock, and doesn't wait (FUSE_SETLK).
     Setlk(LockAsk),
 }

@@ -1,6 +1,6 @@
-ghost use Rattle.std.specs.Prelude.{◌≡◌, ◌≤◌, ◌<◌, length};
+ghost use Rattle.std.specs.Prelude.{◌≡◌, ◌<◌, length};
 ghost use Rattle.fl_wire.specs.Message.{ReadsBack};
-ghost use Rattle.fl_wire.specs.Says.{create_asked, lock_asked, name_in, said, setlk_asked};
+ghost use Rattle.fl_wire.specs.Says.{create_asked, lock_request, name_in, said};
 
 use crate::errno::Errno;
 use crate::frame::Frame;
@@ -12,6 +12,8 @@ use crate::order::{LockAsk, Op, Order};
 const FORGET: u32 = 2;
 
 const INIT: u32 = 26;
+
+const GETLK: u32 = 31;
 
 const SETLK: u32 = 32;
 
@@ -56,7 +58,8 @@ fn order_in(frame: &Frame) -> Result<Order, Refusal>
         INIT => return Err(Refusal::Answer(Errno::EPROTO)),
         DESTROY => return Err(Refusal::Destroy),
         BATCH_FORGET | FORGET => return Err(Refusal::Silent),
-        SETLK => setlk(bytes)?,
+        GETLK => Op::Getlk(lock_ask(bytes)?),
+        SETLK => Op::Setlk(lock_ask(bytes)?),
         CREATE => create(bytes)?,
         _ => return Err(Refusal::Answer(Errno::ENOSYS)),
     };
@@ -70,22 +73,14 @@ fn order_in(frame: &Frame) -> Result<Order, Refusal>
     })
 }
 
-// What a SETLK of these bytes asks.
-fn setlk(bytes: &[u8]) -> Result<Op, Refusal>
-    ensures { result ≡ setlk_asked bytes.now }
+// What a lock request of these bytes asks.
+fn lock_ask(bytes: &[u8]) -> Result<LockAsk, Refusal>
+    ensures { result ≡ lock_request bytes.now }
 {
     if bytes.len() != 88 {
         return Err(Refusal::Answer(Errno::EINVAL));
     }
-    Ok(Op::Setlk(lock_ask(bytes)))
-}
-
-// What a lock request of these bytes asks.
-fn lock_ask(bytes: &[u8]) -> LockAsk
-    requires { 88 ≤ length bytes.now }
-    ensures { result ≡ lock_asked bytes.now }
-{
-    LockAsk {
+    Ok(LockAsk {
         fh: u64_at(bytes, 40),
         owner: u64_at(bytes, 48),
         start: u64_at(bytes, 56),
@@ -93,7 +88,7 @@ fn lock_ask(bytes: &[u8]) -> LockAsk
         kind: u32_at(bytes, 72),
         pid: u32_at(bytes, 76),
         flags: u32_at(bytes, 80),
-    }
+    })
 }
 
 // What a CREATE of these bytes asks.

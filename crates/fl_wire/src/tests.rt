@@ -79,6 +79,26 @@ const SETLK: [u8; 88] = [
     1, 0, 0, 0, 11, 0, 0, 0, 0, 0, 0, 0, 0, 0, 0, 0,
 ];
 
+// GETLK of a read lock of bytes 4 to 4 by owner 8, process 12.
+const GETLK: [u8; 88] = [
+    0x58, 0, 0, 0, 31, 0, 0, 0, //
+    4, 0, 0, 0, 0, 0, 0, 0, //
+    2, 0, 0, 0, 0, 0, 0, 0, //
+    0, 0, 0, 0, 0, 0, 0, 0, 0, 0, 0, 0, 0, 0, 0, 0, //
+    1, 0, 0, 0, 0, 0, 0, 0, //
+    8, 0, 0, 0, 0, 0, 0, 0, //
+    4, 0, 0, 0, 0, 0, 0, 0, //
+    4, 0, 0, 0, 0, 0, 0, 0, //
+    0, 0, 0, 0, 12, 0, 0, 0, 0, 0, 0, 0, 0, 0, 0, 0,
+];
+
+// The reply that names the lock of bytes 0 to 9 of process 11, a write lock: start, end, type, pid.
+const LOCK_REPLY: [u8; 40] = [
+    0x28, 0, 0, 0, 0, 0, 0, 0, 4, 0, 0, 0, 0, 0, 0, 0, //
+    0, 0, 0, 0, 0, 0, 0, 0, 9, 0, 0, 0, 0, 0, 0, 0, //
+    1, 0, 0, 0, 11, 0, 0, 0,
+];
+
 // The whole message that these bytes begin with.
 fn whole<'a>(rt: &impl Abort, bytes: &'a [u8]) -> Frame<'a> {
     let Step::Whole(frame) = next_frame(bytes) else {
@@ -180,6 +200,40 @@ fn create_and_its_reply(rt: HostRuntime) -> Result<(), Fail> {
     let mut out = Vec::new(rt.alloc());
     write_told(&told, &mut out)?;
     assert_eq!(rt; out.as_slice(), MADE_REPLY.as_slice());
+    Ok(())
+}
+
+#[test]
+fn getlk_and_its_reply(rt: HostRuntime) -> Result<(), Fail> {
+    let op = Op::Getlk(LockAsk {
+        fh: 1,
+        owner: 8,
+        start: 4,
+        end: 4,
+        kind: 0,
+        pid: 12,
+        flags: 0,
+    });
+    assert_eq!(rt;
+        read_order(&whole(&rt, &GETLK)),
+        Ok(Order {
+            unique: 4,
+            node: 2,
+            uid: 0,
+            gid: 0,
+            pid: 0,
+            op
+        })
+    );
+    let mut out = Vec::new(rt.alloc());
+    let result = Ok(Answer::Lock {
+        start: 0,
+        end: 9,
+        kind: 1,
+        pid: 11,
+    });
+    write_told(&Told { unique: 4, result }, &mut out)?;
+    assert_eq!(rt; out.as_slice(), LOCK_REPLY.as_slice());
     Ok(())
 }
 

@@ -10,7 +10,7 @@ use Rattle.hex.specs.Hex.{IsBytes, encode_lower, lower_digits, decode_sized}
 use Rattle.hex.specs.declared.error.FromHexError.{FromHexError}
 use Rattle.hex.proofs.HexLemmas.{length-encode_with, decode_sized-encode_lower}
 use Rattle.fl_wire.specs.declared.order.Op.{Op}
-use Rattle.fl_wire.specs.declared.order.Op.TheVariants.{Create, Setlk}
+use Rattle.fl_wire.specs.declared.order.Op.TheVariants.{Create, Getlk, Setlk}
 use Rattle.fl_book.specs.Text.{name_text, op_text, lock_ask_text}
 use Rattle.lockd_commands.specs.Order.{create_text}
 use Rattle.lockd_commands.specs.Words.{IsPlain}
@@ -83,10 +83,17 @@ pub ask_lacks_space : LacksByte 32 (codes "ask")
 ask_lacks_space =
     lacks_step 32 97 (115 ∷ 107 ∷ []) (λ e. omega arith) (lacks_step 32 115 (107 ∷ []) (λ e. omega arith) (lacks_step 32 107 [] (λ e. omega arith) (lacks_nil 32)))
 
+etlk_lacks_space : LacksByte 32 (codes "etlk")
+etlk_lacks_space =
+    lacks_step 32 101 (116 ∷ 108 ∷ 107 ∷ []) (λ e. omega arith) (lacks_step 32 116 (108 ∷ 107 ∷ []) (λ e. omega arith)
+    (lacks_step 32 108 (107 ∷ []) (λ e. omega arith) (lacks_step 32 107 [] (λ e. omega arith) (lacks_nil 32))))
+
+getlk_lacks_space : LacksByte 32 (codes "getlk")
+getlk_lacks_space = lacks_step 32 103 (101 ∷ 116 ∷ 108 ∷ 107 ∷ []) (λ e. omega arith) etlk_lacks_space
+
 setlk_lacks_space : LacksByte 32 (codes "setlk")
 setlk_lacks_space =
-    lacks_step 32 115 (101 ∷ 116 ∷ 108 ∷ 107 ∷ []) (λ e. omega arith) (lacks_step 32 101 (116 ∷ 108 ∷ 107 ∷ []) (λ e. omega arith)
-    (lacks_step 32 116 (108 ∷ 107 ∷ []) (λ e. omega arith) (lacks_step 32 108 (107 ∷ []) (λ e. omega arith) (lacks_step 32 107 [] (λ e. omega arith) (lacks_nil 32)))))
+    lacks_step 32 115 (101 ∷ 116 ∷ 108 ∷ 107 ∷ []) (λ e. omega arith) etlk_lacks_space
 
 create_lacks_space : LacksByte 32 (codes "create")
 create_lacks_space =
@@ -100,7 +107,7 @@ pub record HasOpWord (op : Op) : Type 0 where
   pub rest : List ℕ
   pub parts : op_text op ≡ word ++ 32 ∷ rest
   pub lacks : LacksByte 32 word
-  pub known : (word ≡ codes "create") ⊎ (word ≡ codes "setlk")
+  pub known : (word ≡ codes "create") ⊎ ((word ≡ codes "getlk") ⊎ (word ≡ codes "setlk"))
 
 pub op_word : (op : Op) → HasOpWord op
 op_word (Create excl mode name) = record {
@@ -110,10 +117,17 @@ op_word (Create excl mode name) = record {
   lacks = create_lacks_space;
   known = inl refl;
 }
+op_word (Getlk ask) = record {
+  word = codes "getlk";
+  rest = lock_ask_text ask;
+  parts = refl;
+  lacks = getlk_lacks_space;
+  known = inr (inl refl);
+}
 op_word (Setlk ask) = record {
   word = codes "setlk";
   rest = lock_ask_text ask;
   parts = refl;
   lacks = setlk_lacks_space;
-  known = inr refl;
+  known = inr (inr refl);
 }

@@ -1,11 +1,9 @@
--- Orders as a program holds them: each number fits its type, and each name is one.
-use Rattle.std.specs.Prelude.{ℕ, ◌<◌, ◌^◌, Bool, List, [], ◌∷◌}
+-- The words of ask lines, and orders whose names are bytes.
+use Rattle.std.specs.Prelude.{ℕ, Bool, List, [], ◌∷◌}
 use Rattle.std.specs.Fmt.{decimal}
 use Rattle.hex.specs.Hex.{IsBytes}
-use Rattle.fl_wire.specs.Name.{IsName}
-use Rattle.fl_wire.specs.declared.order.LockAsk.{LockAsk}
 use Rattle.fl_wire.specs.declared.order.Op.{Op}
-use Rattle.fl_wire.specs.declared.order.Op.TheVariants.{Create, Setlk}
+use Rattle.fl_wire.specs.declared.order.Op.TheVariants.{Create, Getlk, Setlk}
 use Rattle.fl_wire.specs.declared.order.Order.{Order}
 use Rattle.fl_book.specs.Text.{spaced, flag_text, name_text, order_text}
 
@@ -17,26 +15,8 @@ create_text excl mode name = spaced (flag_text excl ∷ decimal mode ∷ name_te
 abbrev pub asked_text : ℕ → Order → List ℕ
 asked_text worker order = spaced (decimal worker ∷ order_text order ∷ [])
 
--- a lock request's numbers fit their types
-pub record IsLockAsk (a : LockAsk) : Type 0 where
-  pub fh : a.fh < 2 ^ 64
-  pub owner : a.owner < 2 ^ 64
-  pub start : a.start < 2 ^ 64
-  pub end : a.end < 2 ^ 64
-  pub kind : a.kind < 2 ^ 32
-  pub pid : a.pid < 2 ^ 32
-  pub flags : a.flags < 2 ^ 32
-
--- what is asked fits its types
-abbrev pub IsOp : Op → Type 0
-IsOp (Create excl mode name) = IsName name × IsBytes name
-IsOp (Setlk ask) = IsLockAsk ask
-
--- an order's numbers fit their types
-pub record IsOrder (o : Order) : Type 0 where
-  pub unique : o.unique < 2 ^ 64
-  pub node : o.node < 2 ^ 64
-  pub uid : o.uid < 2 ^ 32
-  pub gid : o.gid < 2 ^ 32
-  pub pid : o.pid < 2 ^ 32
-  pub op : IsOp o.op
+-- the name, if it has one, is bytes
+abbrev pub HasBytes : Op → Type 0
+HasBytes (Create excl mode name) = IsBytes name
+HasBytes (Getlk ask) = Unit {0}
+HasBytes (Setlk ask) = Unit {0}

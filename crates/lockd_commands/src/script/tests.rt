@@ -49,6 +49,13 @@ fn locks_and_files(rt: HostRuntime) -> Result<(), Fail> {
         ("unlocking cuts a lock in two", UNLOCK_IN_THE_MIDDLE),
         ("record locks of two owners", RECORD_LOCKS),
         ("whole-file locks of two owners", WHOLE_FILE_LOCKS),
+        (
+            "a lock is named whole, on either side of a hole",
+            NAMED_LOCKS,
+        ),
+        ("touching locks of one mark are one lock", TOUCHING_LOCKS),
+        ("locks of two processes stay two", TWO_PROCESSES),
+        ("the least byte's least owner is named", LEAST_OWNER),
         ("lock requests that make no sense", BAD_LOCK_REQUESTS),
         (
             "files that aren't made, by the first error that applies",
@@ -91,6 +98,56 @@ ask 0 6 2 0 0 0 setlk 1 8 40 59 1 12 0
 tell 6 ok
 ask 0 7 2 0 0 0 setlk 1 9 100 200 2 13 0
 tell 7 ok
+";
+
+const NAMED_LOCKS: &str = "\
+ask 0 2 2 0 0 0 setlk 1 7 0 99 1 11 0
+tell 2 ok
+ask 0 3 2 0 0 0 setlk 1 7 40 59 2 11 0
+tell 3 ok
+ask 0 4 2 0 0 0 getlk 1 8 0 99 1 12 0
+tell 4 lock 0 39 1 11
+ask 0 5 2 0 0 0 getlk 1 8 40 59 1 12 0
+tell 5 lock 40 59 2 12
+ask 0 6 2 0 0 0 getlk 1 8 50 60 0 12 0
+tell 6 lock 60 99 1 11
+";
+
+const TOUCHING_LOCKS: &str = "\
+ask 0 2 2 0 0 0 setlk 1 7 0 9223372036854775806 0 11 0
+tell 2 ok
+ask 0 3 2 0 0 0 setlk 1 7 9223372036854775807 9223372036854775807 0 11 0
+tell 3 ok
+ask 0 4 2 0 0 0 getlk 1 8 5 5 1 12 0
+tell 4 lock 0 9223372036854775807 0 11
+";
+
+const TWO_PROCESSES: &str = "\
+ask 0 2 2 0 0 0 setlk 1 7 0 4 1 11 0
+tell 2 ok
+ask 0 3 2 0 0 0 setlk 1 7 5 9 1 12 0
+tell 3 ok
+ask 0 4 2 0 0 0 getlk 1 8 0 9 1 13 0
+tell 4 lock 0 4 1 11
+ask 0 5 2 0 0 0 getlk 1 8 5 9 0 13 0
+tell 5 lock 5 9 1 12
+";
+
+const LEAST_OWNER: &str = "\
+ask 0 2 2 0 0 0 setlk 1 9 2 6 0 13 0
+tell 2 ok
+ask 0 3 2 0 0 0 setlk 1 7 4 9 0 11 0
+tell 3 ok
+ask 0 4 2 0 0 0 setlk 1 8 9 9 0 12 1
+tell 4 ok
+ask 0 5 2 0 0 0 getlk 1 8 0 9 1 12 0
+tell 5 lock 2 6 0 13
+ask 0 6 2 0 0 0 getlk 1 8 5 9 1 12 0
+tell 6 lock 4 9 0 11
+ask 0 7 2 0 0 0 getlk 1 8 0 9 0 12 0
+tell 7 lock 0 9 2 12
+ask 0 8 2 0 0 0 getlk 1 7 7 9 1 11 0
+tell 8 lock 7 9 2 11
 ";
 
 const RECORD_LOCKS: &str = "\
@@ -152,6 +209,16 @@ ask 0 7 1 0 0 0 setlk 1 7 0 0 0 11 0
 tell 7 err 9
 ask 0 8 2 0 0 0 setlk 1 7 5 4 0 11 1
 tell 8 ok
+ask 0 9 2 0 0 0 getlk 1 7 0 0 2 11 0
+tell 9 err 22
+ask 0 10 2 0 0 0 getlk 1 7 0 0 0 11 1
+tell 10 err 22
+ask 0 11 2 0 0 0 getlk 1 7 5 4 0 11 0
+tell 11 err 22
+ask 0 12 2 0 0 0 getlk 1 7 0 0 0 11 2
+tell 12 err 22
+ask 0 13 1 0 0 0 getlk 1 7 0 0 0 11 0
+tell 13 err 9
 ";
 
 const REFUSED_FILES: &str = "\
@@ -231,6 +298,37 @@ fn no_more_open_files(rt: HostRuntime) -> Result<(), Fail> {
     trace.push_str("ask 0 1025 1 0 0 0 create 0 420 62\ntell 1025 err 23\n")?;
     answers(&rt, "a free name, and no more open files", trace.as_str())
 }
+
+// 4,096 runs are all that there is room for: a lock that would make one more is refused, and so is an unlock that
+// would cut one in two; a lock over all of them is set.
+#[test]
+fn no_more_room_for_locks(rt: HostRuntime) -> Result<(), Fail> {
+    let mut trace = String::new(rt.alloc());
+    trace.push_str(MADE)?;
+    for i in 0..4096u32 {
+        let (unique, start, end) = (i + 2, 4 * i, 4 * i + 2);
+        write!(
+            trace,
+            "ask 0 {unique} 2 0 0 0 setlk 1 7 {start} {end} 1 11 0\n"
+        )?;
+        write!(trace, "tell {unique} ok\n")?;
+    }
+    trace.push_str(NO_ROOM)?;
+    answers(&rt, "4,096 runs", trace.as_str())
+}
+
+const NO_ROOM: &str = "\
+ask 0 4098 2 0 0 0 setlk 1 7 1 1 2 11 0
+tell 4098 err 37
+ask 0 4099 2 0 0 0 setlk 1 8 20000 20000 0 12 0
+tell 4099 err 37
+ask 0 4100 2 0 0 0 getlk 1 8 0 0 1 12 0
+tell 4100 lock 0 2 1 11
+ask 0 4101 2 0 0 0 setlk 1 7 0 16383 1 11 0
+tell 4101 ok
+ask 0 4102 2 0 0 0 getlk 1 8 9 9 0 12 0
+tell 4102 lock 0 16383 1 11
+";
 
 #[test]
 fn bad_lines(rt: HostRuntime) -> Result<(), Fail> {
