@@ -1,16 +1,12 @@
 -- Bytes that are read behind others, and moved to the front.
-use Rattle.std.proofs.Common.{◌≡◌, ◌⊎◌, length-take, length-append, ℕ, ◌+◌, ◌-◌, ◌<◌, ◌≤◌, Bool, true, false, nat_lt, if◌then◌else◌, List, [], ◌∷◌, ◌++◌, length, take, drop, Option, Some, None, inl, inr, refl, sym, ap, subst, ◌∙◌, arith, append_assoc, length-drop, take-add}
+use Rattle.std.proofs.Common.{◌≡◌, length-take, length-append, ℕ, ◌+◌, ◌-◌, ◌≤◌, Bool, false, List, [], ◌∷◌, ◌++◌, length, take, drop, Option, Some, None, inl, refl, sym, ap, subst, ◌∙◌, arith, append_assoc, length-drop, take-add}
 use Rattle.std.proofs.lemmas.List.{drop-take}
 use Rattle.std.proofs.lemmas.List.Edits.{take-paste}
 use Rattle.std.proofs.lemmas.List.Elements.{All-nil}
-use Rattle.std.proofs.lemmas.Bool.Decides.{nat_tests}
 use Rattle.fl_wire.specs.Frame.{IsMessage}
 use lib.Seq.{paste}
 use Rattle.std.proofs.KnownBytes.{Consumes-nil, Consumes-trans, Consumes-kept, Appends-nil}
 use Rattle.std.specs.Io.KnownBytes.{Consumes, Keeps}
-use Rattle.fl_wire.specs.Cut.{first_step}
-use Rattle.fl_wire.specs.Layout.{len_of}
-use Rattle.fl_wire.specs.declared.cut.Step.TheVariants as step
 use Rattle.lockd_commands.specs.Serving.{IsFresh}
 use Rattle.lockd_commands.specs.UnderWay.{IsUnderWay, Answers, IsStop}
 use Rattle.lockd_commands.specs.Turns.{IsWaiting, HasEnded}

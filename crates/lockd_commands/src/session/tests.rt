@@ -1,6 +1,6 @@
 use super::*;
 use fl_book::print_trace;
-use std::alloc::AllocGlobal;
+use std::alloc::{AllocError, AllocGlobal};
 use std::io;
 use std::io::ErrorKind;
 use std::process::Abort;
@@ -9,34 +9,31 @@ use std::test::Fail;
 // The messages and replies below are laid out by hand from `fuse.h` (protocol 7.31). Each row is a field, or
 // some fields of one struct.
 
-// INIT 7.31, CREATE of `a` in the root, and two SETLK: a write lock of bytes 0 to 9 by owner 7, and a read
-// lock of byte 9 by owner 8.
-const STREAM: [u8; 290] = [
+// INIT at 7.31.
+const INIT: [u8; 56] = [
     0x38, 0, 0, 0, 26, 0, 0, 0, 1, 0, 0, 0, 0, 0, 0, 0, //
     0, 0, 0, 0, 0, 0, 0, 0, 0, 0, 0, 0, 0, 0, 0, 0, 0, 0, 0, 0, 0, 0, 0, 0, //
-    7, 0, 0, 0, 31, 0, 0, 0, 0, 0, 0, 0, 0, 0, 0, 0, //
-    0x3a, 0, 0, 0, 35, 0, 0, 0, 2, 0, 0, 0, 0, 0, 0, 0, //
-    1, 0, 0, 0, 0, 0, 0, 0, 0, 0, 0, 0, 0, 0, 0, 0, 0, 0, 0, 0, 0, 0, 0, 0, //
-    0, 0, 0, 0, 0xa4, 0x81, 0, 0, 0, 0, 0, 0, 0, 0, 0, 0, b'a', 0, //
-    0x58, 0, 0, 0, 32, 0, 0, 0, 3, 0, 0, 0, 0, 0, 0, 0, //
-    2, 0, 0, 0, 0, 0, 0, 0, 0, 0, 0, 0, 0, 0, 0, 0, 0, 0, 0, 0, 0, 0, 0, 0, //
-    1, 0, 0, 0, 0, 0, 0, 0, 7, 0, 0, 0, 0, 0, 0, 0, //
-    0, 0, 0, 0, 0, 0, 0, 0, 9, 0, 0, 0, 0, 0, 0, 0, //
-    1, 0, 0, 0, 11, 0, 0, 0, 0, 0, 0, 0, 0, 0, 0, 0, //
-    0x58, 0, 0, 0, 32, 0, 0, 0, 4, 0, 0, 0, 0, 0, 0, 0, //
-    2, 0, 0, 0, 0, 0, 0, 0, 0, 0, 0, 0, 0, 0, 0, 0, 0, 0, 0, 0, 0, 0, 0, 0, //
-    1, 0, 0, 0, 0, 0, 0, 0, 8, 0, 0, 0, 0, 0, 0, 0, //
-    9, 0, 0, 0, 0, 0, 0, 0, 9, 0, 0, 0, 0, 0, 0, 0, //
-    0, 0, 0, 0, 12, 0, 0, 0, 0, 0, 0, 0, 0, 0, 0, 0,
+    7, 0, 0, 0, 31, 0, 0, 0, 0, 0, 0, 0, 0, 0, 0, 0,
 ];
 
-// Their replies: what is agreed, the file made, done, and EAGAIN.
-const REPLIES: [u8; 272] = [
+// What is agreed.
+const AGREED: [u8; 80] = [
     0x50, 0, 0, 0, 0, 0, 0, 0, 1, 0, 0, 0, 0, 0, 0, 0, //
     7, 0, 0, 0, 31, 0, 0, 0, 0, 0, 0, 0, 0, 0, 0, 0, //
     16, 0, 12, 0, 0, 0x10, 0, 0, 1, 0, 0, 0, //
     0, 0, 0, 0, 0, 0, 0, 0, 0, 0, 0, 0, 0, 0, 0, 0, 0, 0, //
-    0, 0, 0, 0, 0, 0, 0, 0, 0, 0, 0, 0, 0, 0, 0, 0, 0, 0, //
+    0, 0, 0, 0, 0, 0, 0, 0, 0, 0, 0, 0, 0, 0, 0, 0, 0, 0,
+];
+
+// CREATE of `a` in the root.
+const CREATE: [u8; 58] = [
+    0x3a, 0, 0, 0, 35, 0, 0, 0, 2, 0, 0, 0, 0, 0, 0, 0, //
+    1, 0, 0, 0, 0, 0, 0, 0, 0, 0, 0, 0, 0, 0, 0, 0, 0, 0, 0, 0, 0, 0, 0, 0, //
+    0, 0, 0, 0, 0xa4, 0x81, 0, 0, 0, 0, 0, 0, 0, 0, 0, 0, b'a', 0,
+];
+
+// The file that is made.
+const MADE: [u8; 160] = [
     0xa0, 0, 0, 0, 0, 0, 0, 0, 2, 0, 0, 0, 0, 0, 0, 0, //
     2, 0, 0, 0, 0, 0, 0, 0, //
     0, 0, 0, 0, 0, 0, 0, 0, 0, 0, 0, 0, 0, 0, 0, 0, //
@@ -47,8 +44,30 @@ const REPLIES: [u8; 272] = [
     0, 0, 0, 0, 0, 0, 0, 0, 0, 0, 0, 0, //
     0xa4, 0x81, 0, 0, 1, 0, 0, 0, 0, 0, 0, 0, 0, 0, 0, 0, //
     0, 0, 0, 0, 0, 0x10, 0, 0, 0, 0, 0, 0, //
-    1, 0, 0, 0, 0, 0, 0, 0, 0, 0, 0, 0, 0, 0, 0, 0, //
-    0x10, 0, 0, 0, 0, 0, 0, 0, 3, 0, 0, 0, 0, 0, 0, 0, //
+    1, 0, 0, 0, 0, 0, 0, 0, 0, 0, 0, 0, 0, 0, 0, 0,
+];
+
+// A write lock of bytes 0 to 9 by owner 7, and a read lock of byte 9 by owner 8.
+const WRITE_LOCK: [u8; 88] = [
+    0x58, 0, 0, 0, 32, 0, 0, 0, 3, 0, 0, 0, 0, 0, 0, 0, //
+    2, 0, 0, 0, 0, 0, 0, 0, 0, 0, 0, 0, 0, 0, 0, 0, 0, 0, 0, 0, 0, 0, 0, 0, //
+    1, 0, 0, 0, 0, 0, 0, 0, 7, 0, 0, 0, 0, 0, 0, 0, //
+    0, 0, 0, 0, 0, 0, 0, 0, 9, 0, 0, 0, 0, 0, 0, 0, //
+    1, 0, 0, 0, 11, 0, 0, 0, 0, 0, 0, 0, 0, 0, 0, 0,
+];
+
+const READ_LOCK: [u8; 88] = [
+    0x58, 0, 0, 0, 32, 0, 0, 0, 4, 0, 0, 0, 0, 0, 0, 0, //
+    2, 0, 0, 0, 0, 0, 0, 0, 0, 0, 0, 0, 0, 0, 0, 0, 0, 0, 0, 0, 0, 0, 0, 0, //
+    1, 0, 0, 0, 0, 0, 0, 0, 8, 0, 0, 0, 0, 0, 0, 0, //
+    9, 0, 0, 0, 0, 0, 0, 0, 9, 0, 0, 0, 0, 0, 0, 0, //
+    0, 0, 0, 0, 12, 0, 0, 0, 0, 0, 0, 0, 0, 0, 0, 0,
+];
+
+// Done, and EAGAIN.
+const LOCKED: [u8; 16] = [0x10, 0, 0, 0, 0, 0, 0, 0, 3, 0, 0, 0, 0, 0, 0, 0];
+
+const NOT_LOCKED: [u8; 16] = [
     0x10, 0, 0, 0, 0xf5, 0xff, 0xff, 0xff, 4, 0, 0, 0, 0, 0, 0, 0,
 ];
 
@@ -140,14 +159,35 @@ fn output_of(alloc: Global, most: usize, writes: usize, fails: bool) -> Sink {
     }
 }
 
+// The four messages, one after another.
+fn stream(alloc: Global) -> Result<Vec<u8>, AllocError> {
+    let mut bytes = Vec::new(alloc);
+    bytes.extend_from_slice(&INIT)?;
+    bytes.extend_from_slice(&CREATE)?;
+    bytes.extend_from_slice(&WRITE_LOCK)?;
+    bytes.extend_from_slice(&READ_LOCK)?;
+    Ok(bytes)
+}
+
+// Their replies.
+fn replies(alloc: Global) -> Result<Vec<u8>, AllocError> {
+    let mut bytes = Vec::new(alloc);
+    bytes.extend_from_slice(&AGREED)?;
+    bytes.extend_from_slice(&MADE)?;
+    bytes.extend_from_slice(&LOCKED)?;
+    bytes.extend_from_slice(&NOT_LOCKED)?;
+    Ok(bytes)
+}
+
 #[test]
 fn a_byte_at_a_time(rt: HostRuntime) -> Result<(), Fail> {
-    let mut input = input_of(&STREAM, 1, MANY);
+    let stream = stream(rt.alloc())?;
+    let mut input = input_of(&stream, 1, MANY);
     let mut output = output_of(rt.alloc(), 1, MANY, true);
     let done = run_one(rt.alloc(), &mut input, &mut output);
     assert_eq!(&rt; done.fault, None);
     assert!(&rt; !done.refused);
-    assert!(&rt; output.held[..] == REPLIES[..]);
+    assert_eq!(&rt; output.held, replies(rt.alloc())?);
     let trace = print_trace(rt.alloc(), &done.history)?;
     assert_eq!(&rt; trace.as_str(), TRACE);
     Ok(())
@@ -155,14 +195,16 @@ fn a_byte_at_a_time(rt: HostRuntime) -> Result<(), Fail> {
 
 #[test]
 fn cut_after_each_byte(rt: HostRuntime) -> Result<(), Fail> {
-    for len in 0..=STREAM.len() {
-        let mut input = &STREAM[..len];
+    let stream = stream(rt.alloc())?;
+    let replies = replies(rt.alloc())?;
+    for len in 0..=stream.len() {
+        let mut input = stream.get(..len).unwrap_or(&[]);
         let mut output = Vec::new(rt.alloc());
         let done = run_one(rt.alloc(), &mut input, &mut output);
         let (end, sent) = last_end(len);
         let fault = if end == len { None } else { Some(Fault::Cut) };
         assert_eq!(&rt; done.fault, fault, "{len} bytes");
-        assert!(&rt; output[..] == REPLIES[..sent], "{len} bytes");
+        assert_eq!(&rt; Some(output.as_slice()), replies.get(..sent), "{len} bytes");
     }
     Ok(())
 }
@@ -178,15 +220,23 @@ fn last_end(len: usize) -> (usize, usize) {
     last
 }
 
+// Of 29 bytes each; beside the number of reads before the one that fails, how many bytes of replies are
+// sent by then.
 #[test]
 fn each_read_fails(rt: HostRuntime) -> Result<(), Fail> {
-    for reads in 0..=10 {
-        let mut input = input_of(&STREAM, 29, reads);
+    let stream = stream(rt.alloc())?;
+    let replies = replies(rt.alloc())?;
+    let sent = [0, 0, 80, 80, 240, 240, 240, 256, 256, 256, 272];
+    for (reads, sent) in sent.iter().enumerate() {
+        let mut input = input_of(&stream, 29, reads);
         let mut output = Vec::new(rt.alloc());
         let done = run_one(rt.alloc(), &mut input, &mut output);
-        let (_, sent) = last_end(29 * reads);
         assert_eq!(&rt; done.fault, Some(Fault::Read), "{reads} reads");
-        assert!(&rt; output[..] == REPLIES[..sent], "{reads} reads");
+        assert_eq!(&rt;
+            Some(output.as_slice()),
+            replies.get(..*sent),
+            "{reads} reads"
+        );
     }
     Ok(())
 }
@@ -194,18 +244,29 @@ fn each_read_fails(rt: HostRuntime) -> Result<(), Fail> {
 // The replies are written in 41 pieces of at most 7 bytes.
 #[test]
 fn each_write_fails_or_takes_nothing(rt: HostRuntime) -> Result<(), Fail> {
-    for fails in [false, true] {
-        for writes in 0..41 {
-            let mut input = &STREAM[..];
-            let mut output = output_of(rt.alloc(), 7, writes, fails);
-            let done = run_one(rt.alloc(), &mut input, &mut output);
-            assert_eq!(&rt; done.fault, Some(Fault::Write), "{writes} writes");
-            assert!(&rt; REPLIES.starts_with(&output.held), "{writes} writes");
-            assert!(&rt; output.held.len() < REPLIES.len(), "{writes} writes");
-            let trace = print_trace(rt.alloc(), &done.history)?;
-            assert_eq!(&rt; trace.as_str(), TRACE, "{writes} writes");
-        }
+    for writes in 0..41 {
+        ends_by_a_write(&rt, writes, false)?;
+        ends_by_a_write(&rt, writes, true)?;
     }
+    Ok(())
+}
+
+// After so many writes one fails or takes nothing.
+fn ends_by_a_write(
+    rt: &(impl Abort + AllocGlobal),
+    writes: usize,
+    fails: bool,
+) -> Result<(), Fail> {
+    let stream = stream(rt.alloc())?;
+    let replies = replies(rt.alloc())?;
+    let mut input = stream.as_slice();
+    let mut output = output_of(rt.alloc(), 7, writes, fails);
+    let done = run_one(rt.alloc(), &mut input, &mut output);
+    assert_eq!(rt; done.fault, Some(Fault::Write), "{writes} writes");
+    assert!(rt; replies.starts_with(&output.held), "{writes} writes");
+    assert!(rt; output.held.len() < replies.len(), "{writes} writes");
+    let trace = print_trace(rt.alloc(), &done.history)?;
+    assert_eq!(rt; trace.as_str(), TRACE, "{writes} writes");
     Ok(())
 }
 
@@ -213,16 +274,18 @@ fn each_write_fails_or_takes_nothing(rt: HostRuntime) -> Result<(), Fail> {
 #[test]
 fn destroy_is_the_last(rt: HostRuntime) -> Result<(), Fail> {
     let mut stream = Vec::new(rt.alloc());
-    stream.extend_from_slice(&STREAM[..56])?;
+    stream.extend_from_slice(&INIT)?;
     stream.extend_from_slice(&DESTROY)?;
-    stream.extend_from_slice(&STREAM[56..])?;
+    stream.extend_from_slice(&CREATE)?;
     stream.extend_from_slice(&[1, 2, 3, 4])?;
-    let mut input = &stream[..];
+    let mut replies = Vec::new(rt.alloc());
+    replies.extend_from_slice(&AGREED)?;
+    replies.extend_from_slice(&DESTROYED)?;
+    let mut input = stream.as_slice();
     let mut output = Vec::new(rt.alloc());
     let done = run_one(rt.alloc(), &mut input, &mut output);
     assert_eq!(&rt; done.fault, None);
     assert!(&rt; done.history.lines().is_empty());
-    assert!(&rt; output[..80] == REPLIES[..80]);
-    assert!(&rt; output[80..] == DESTROYED[..]);
+    assert_eq!(&rt; output, replies);
     Ok(())
 }
