@@ -7,6 +7,8 @@ mod lock;
 mod plan;
 mod run;
 mod table;
+#[cfg(test)]
+mod tests;
 
 pub use fl_arena::Place;
 pub use lock::{Class, Key, Kind, LAST_BYTE, Mark, Range};
