@@ -71,6 +71,7 @@ fn paint(
     end: usize,
     mark: Option<Mark>,
 ) {
+    assert!(rt; row < KEYS && end < BYTES);
     for byte in start..end + 1 {
         let cell = row * BYTES + byte;
         assert!(rt; cell < grid.len());
@@ -103,6 +104,7 @@ fn is_excluded(
         return false;
     }
     let other = 1 - row;
+    assert!(rt; end < BYTES);
     for byte in start..end + 1 {
         let cell = other * BYTES + byte;
         assert!(rt; cell < grid.len());
