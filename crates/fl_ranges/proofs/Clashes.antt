@@ -86,6 +86,12 @@ any_of_found t u (x ∷ rs) r found is = go (λ h. any_of_found t u rs r h is) (
     go rest false h = or_later _ _ (rest h)
 
 module _ (key : Key) (start end : ℕ) (kind : Kind) where
+  run_shows : (rs : List Run) (r : Run) (byte : ℕ) → run_at rs (r.key, byte) ≡ Some r → are_rivals key r.key ≡ true → excludes kind r.mark.kind ≡ true → start ≤ byte → byte ≤ end → conflicts (marking_of (map meant rs)) key start end kind ≡ true
+  run_shows rs r byte found rivals kinds from upto =
+      entry_passes spots_total exact_spots (excludes_lock key start end kind) (marking_of (map meant rs)) (r.key, byte) r.mark
+      (get-runs rs (r.key, byte) ∙ held_of rs (r.key, byte) r found)
+      (all_pass (are_rivals key r.key) (excludes kind r.mark.kind) start end byte byte rivals kinds from upto)
+
   -- runs that are apart show a conflict exactly where their marking has one
   pub runs_conflict : (rs : List Run) → start ≤ end → AreApart rs → list_any (run_excludes key start end kind) rs ≡ conflicts (marking_of (map meant rs)) key start end kind
   runs_conflict rs range apart = both_ways _ _
@@ -94,9 +100,7 @@ module _ (key : Key) (start end : ℕ) (kind : Kind) where
       (each_both (λ r. r.start ≤ r.end) (λ r. (q : Spot) → has_spot q r ≡ true → run_at rs q ≡ Some r) rs (each_ordered rs apart) (each_found rs apart)) any in
       let w = passes (are_rivals key p.run.key) (excludes kind p.run.mark.kind) p.run.start p.run.end start end p.test in
       let b = shared p.run.start p.run.end start end p.own.0 range w.begins w.ends in
-      entry_passes spots_total exact_spots (excludes_lock key start end kind) (marking_of (map meant rs)) (p.run.key, b.byte) p.run.mark
-      (get-runs rs (p.run.key, b.byte) ∙ held_of rs (p.run.key, b.byte) p.run (p.own.1 (p.run.key, b.byte) (spot_of p.run (p.run.key, b.byte) refl b.after_from b.before_to)))
-      (all_pass (are_rivals key p.run.key) (excludes kind p.run.mark.kind) start end b.byte b.byte w.rivals w.kinds b.after_start b.before_end))
+      run_shows rs p.run b.byte (p.own.1 (p.run.key, b.byte) (spot_of p.run (p.run.key, b.byte) refl b.after_from b.before_to)) w.rivals w.kinds b.after_start b.before_end)
       (λ any.
       let e = any_entry spots_total (excludes_lock key start end kind) (marking_of (map meant rs)) any in
       let h = held_by rs e.0 e.1 (sym (get-runs rs e.0) ∙ e.2) in

@@ -21,3 +21,4 @@ pub mod TableLemmas
 pub mod TableCalls
 pub mod Clashes
 pub mod Places
+pub mod Sorted

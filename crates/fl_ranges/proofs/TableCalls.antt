@@ -1,5 +1,5 @@
 -- The calls of a table: how many runs there are, and what they mean.
-use Rattle.std.proofs.Common.{◌≡◌, ◌≢◌, ℕ, ◌+◌, ◌-◌, ◌<◌, ◌≤◌, Bool, true, false, cond, not, ◌==◌, nat_lt, Option, Some, None, List, ◌++◌, map, length, refl, ap, sym, ◌∙◌, subst, arith}
+use Rattle.std.proofs.Common.{[], replicate, get_or, suc, zero, ◌≡◌, ◌≢◌, ℕ, ◌+◌, ◌-◌, ◌<◌, ◌≤◌, Bool, true, false, cond, not, ◌==◌, nat_lt, Option, Some, None, List, ◌++◌, map, length, refl, ap, sym, ◌∙◌, subst, arith}
 use Rattle.std.proofs.lemmas.Bool.Decides.{nat_tests}
 use Rattle.std.specs.Prelude.{IfSome}
 use Rattle.std.specs.List.{filter, AllByRecursion}
@@ -14,11 +14,12 @@ use Rattle.fl_ranges.specs.Marking.{Spot, Marking, stroked, marking_of}
 use Rattle.fl_ranges.specs.Runs.{runs, without_node}
 use Rattle.fl_ranges.specs.LockTable.{LockTable}
 use Rattle.fl_ranges.specs.RunList.{meant, has_spot, run_at, held_at, overlaps, IsWhole, AreRuns, left_over, part_before, part_after}
-use Rattle.fl_ranges.specs.RunChains.{home, all_runs, IsTable}
+use Rattle.fl_ranges.specs.RunChains.{home, all_runs, IsSorted, IsTable}
 use Rattle.fl_ranges.specs.RunPlan.{plan_of, pieces, insert_some}
 use Rattle.fl_ranges.proofs.Markings.{spots_total, exact_spots, get-without_node}
 use Rattle.fl_ranges.proofs.RunLists.{at_spot, run_has, each_at, each_filter, each_weaker, keep, run_at-filter, apart-filter}
 use Rattle.fl_ranges.proofs.Counting.{get-runs, runs_length}
+use Rattle.fl_ranges.proofs.Sorted.{sorted_filter}
 use Rattle.fl_ranges.proofs.ChainLists.{IsAway, count_all, before_chain, after_chain, all_around, all_swapped, away_before, away_after, filter_among, home_less, both_parts, lengths}
 use Rattle.fl_ranges.proofs.TableLemmas.{within, same_found, table_stroked, runs_planned, number_itself}
 
@@ -174,6 +175,7 @@ node_erased a limit t node b size others is =
         slots = size.slots ∙ t.slots;
         small = t.small;
         at_home = λ c. go c (c == home node) refl;
+        sorted = λ c. in_order c (c == home node) refl;
         runs = subst AreRuns (sym all) (runs-filter (λ r. not (r.key.node == node)) (all_runs a) t.runs);
       },
       ap (λ (l : List Run). marking_of (map meant l)) all ∙ without node (all_runs a) t.runs,
@@ -188,3 +190,27 @@ node_erased a limit t node b size others is =
         (each_filter (λ r. home r.key.node ≡ home node) (λ r. not (r.key.node == node)) (items a (home node)) (t.at_home (home node)))))
     go c false other =
         subst (AllByRecursion (λ r. home r.key.node ≡ c)) (ap (map (λ (x : Entry Run). x.item)) (sym (others c (λ e. absurd (cc (sym other ∙ number_itself c (home node) e)))))) (t.at_home c)
+
+    in_order : (c : ℕ) (x : Bool) → (c == home node) ≡ x → IsSorted (items b c)
+    in_order c true same_chain =
+        let e : home node ≡ c = sym (same_number c (home node) same_chain) in
+        subst (λ (d : ℕ). IsSorted (items b d)) e (subst IsSorted (sym is) (sorted_filter (λ r. not (r.key.node == node)) (items a (home node)) (t.sorted (home node))))
+    in_order c false other =
+        subst IsSorted (ap (map (λ (x : Entry Run). x.item)) (sym (others c (λ e. absurd (cc (sym other ∙ number_itself c (home node) e)))))) (t.sorted c)
+
+-- ---- a new table
+
+no_entries : (n c : ℕ) → ◌≡◌ {A = List (Entry Run)} (get_or (replicate n []) c []) []
+no_entries zero c = refl
+no_entries (suc n) zero = refl
+no_entries (suc n) (suc c) = no_entries n c
+
+pub new_table : (a : Chains Run) (limit : ℕ) → limit ≤ 65536 → a ≡ record { chains = replicate 256 []; slots = limit } → IsTable a limit
+new_table a limit small is = subst (λ (b : Chains Run). IsTable b limit) (sym is) (record {
+  chains = refl;
+  slots = refl;
+  small = small;
+  at_home = λ c. subst (λ (es : List (Entry Run)). AllByRecursion (λ r. home r.key.node ≡ c) (map (λ (e : Entry Run). e.item) es)) (sym (no_entries 256 c)) tt;
+  sorted = λ c. subst (λ (es : List (Entry Run)). IsSorted (map (λ (e : Entry Run). e.item) es)) (sym (no_entries 256 c)) tt;
+  runs = record { apart = tt; whole = tt };
+})

@@ -9,12 +9,13 @@ use Rattle.fl_ranges.specs.declared.run.Run.{Run}
 use Rattle.fl_ranges.specs.Marking.{stroked, marking_of}
 use Rattle.fl_ranges.specs.Runs.{runs}
 use Rattle.fl_ranges.specs.RunList.{meant, has_spot, run_at, overlaps, left_over, with_run, part_before, part_after, new_run, reach_start, reach_end, joined_start, joined_end, changed, after_stroke}
-use Rattle.fl_ranges.specs.RunChains.{home, all_runs, IsTable}
+use Rattle.fl_ranges.specs.RunChains.{home, all_runs, IsSorted, IsTable}
 use Rattle.fl_ranges.specs.RunPlan.{plan_on, plan_of, pieces, count_run, insert_some, carried_out}
 use Rattle.fl_ranges.proofs.RunLists.{each_filter, each_weaker}
 use Rattle.fl_ranges.proofs.Cuts.{before_key, after_key}
 use Rattle.fl_ranges.proofs.Strokes.{new_is, runs_stroked, marking_stroked, count_stroked}
 use Rattle.fl_ranges.proofs.ChainLists.{before_chain, after_chain, all_around, all_swapped, away_before, away_after, find_among, filter_among, no_spot, no_overlap, home_less, both_parts, lengths}
+use Rattle.fl_ranges.proofs.Sorted.{sorted_filter, sorted_insert_some}
 use Rattle.fl_ranges.proofs.Rearranged.{Rearranged, same, rearranged_with, as_runs, as_marking, each-insert_some}
 
 pub number_itself : (a b : ℕ) → a ≡ b → (a == b) ≡ true
@@ -95,6 +96,21 @@ module _ (a : Chains Run) (limit : ℕ) (t : IsTable a limit) (key : Key) where
         go false other =
             subst (AllByRecursion (λ r. home r.key.node ≡ c)) (ap (map (λ (x : Entry Run). x.item)) (sym (others c (λ e. absurd (cc (sym other ∙ number_itself c (home key.node) e)))))) (t.at_home c)
 
+    sorted_changed : (c : ℕ) → IsSorted (items b c)
+    sorted_changed c = go (c == home key.node) refl
+      where
+        go : (x : Bool) → (c == home key.node) ≡ x → IsSorted (items b c)
+        go true same_chain =
+            let e : home key.node ≡ c = grind (arith, nat_tests) in
+            subst (λ (d : ℕ). IsSorted (items b d)) e
+            (subst IsSorted (sym is)
+            (sorted_insert_some (new_run key start end mark) _
+            (sorted_insert_some (part_before start (run_at (items a (home key.node)) (key, start))) _
+            (sorted_insert_some (part_after end (run_at (items a (home key.node)) (key, end))) _
+            (sorted_filter (λ r. not (overlaps key start end r)) (items a (home key.node)) (t.sorted (home key.node)))))))
+        go false other =
+            subst IsSorted (ap (map (λ (x : Entry Run). x.item)) (sym (others c (λ e. absurd (cc (sym other ∙ number_itself c (home key.node) e)))))) (t.sorted c)
+
 -- ---- a stroke
 
 module _ (a : Chains Run) (limit : ℕ) (t : IsTable a limit) (key : Key) (start end : ℕ) (mark : Option Mark) (ordered : start ≤ end) (limited : end ≤ 9223372036854775807) where
@@ -120,6 +136,7 @@ module _ (a : Chains Run) (limit : ℕ) (t : IsTable a limit) (key : Key) (start
           slots = size.slots ∙ t.slots;
           small = t.small;
           at_home = at_home_changed a limit t key b from to mark size others is;
+          sorted = sorted_changed a limit t key b from to mark size others is;
           runs = as_runs _ _ order good;
         },
         as_marking _ _ order good.apart ∙ marking_stroked (all_runs a) t.runs key start end ordered limited mark,

@@ -3,7 +3,7 @@ ghost use Rattle.std.specs.Prelude.{◌≡◌, ◌≢◌, ◌%◌, ◌<◌, ◌�
 ghost use Rattle.std.specs.List.{filter, list_any};
 ghost use Rattle.fl_arena.specs.Chains.{entries, items, HasSizeOf};
 ghost use Rattle.fl_ranges.specs.RunList.{run_at, overlaps, left_over, run_excludes};
-ghost use Rattle.fl_ranges.specs.RunChains.{home, all_runs, insert_run, goes_before};
+ghost use Rattle.fl_ranges.specs.RunChains.{home, all_runs, insert_run, goes_before, is_past, IsSorted};
 
 use crate::lock::{Key, Kind};
 use crate::run::{Run, excludes, has_spot, overlaps};
@@ -20,13 +20,29 @@ pub(crate) fn home(node: u64) -> usize
     (node % 256) as usize
 }
 
+// Whether a run stands past a byte of the key, as all runs after it then do.
+fn is_past(run: &Run, key: &Key, byte: u64) -> bool
+    ensures { result ≡ is_past key.now byte run.now }
+{
+    let class = (key.class as u8).cmp(&(run.key.class as u8));
+    key.node
+        .cmp(&run.key.node)
+        .then(class)
+        .then(byte.cmp(&run.start))
+        .is_lt()
+}
+
 // The run that has this byte of the key.
 pub(crate) fn run_at(runs: &Arena<Run>, key: &Key, byte: u64) -> Option<Run>
-    requires { length runs.now.chains ≡ 256 }
+    requires chains { length runs.now.chains ≡ 256 }
+    requires sorted { IsSorted (items runs.now (home key.now.node)) }
     ensures { result ≡ run_at (items runs.now (home key.now.node)) (key.now, byte) }
 {
     let mut cursor = runs.cursor(home(key.node));
     while let Some(run) = runs.get(&cursor) {
+        if is_past(&run, key, byte) {
+            break;
+        }
         if has_spot(&run, key, byte) {
             return Some(run);
         }
@@ -38,12 +54,16 @@ pub(crate) fn run_at(runs: &Arena<Run>, key: &Key, byte: u64) -> Option<Run>
 // How many runs have a byte of the key from start to end.
 pub(crate) fn count_over(runs: &Arena<Run>, key: &Key, start: u64, end: u64) -> usize
     requires chains { length runs.now.chains ≡ 256 }
+    requires sorted { IsSorted (items runs.now (home key.now.node)) }
     requires few { length (items runs.now (home key.now.node)) ≤ 65536 }
     ensures { result ≡ length (filter (overlaps key.now start end) (items runs.now (home key.now.node))) }
 {
     let mut cursor = runs.cursor(home(key.node));
     let mut count = 0;
     while let Some(run) = runs.get(&cursor) {
+        if is_past(&run, key, end) {
+            break;
+        }
         runs.step(&mut cursor);
         if overlaps(&run, key, start, end) {
             count += 1;
@@ -54,11 +74,15 @@ pub(crate) fn count_over(runs: &Arena<Run>, key: &Key, start: u64, end: u64) -> 
 
 // Whether some run excludes a lock of this kind, by this key, on the bytes from start to end.
 pub(crate) fn some_excludes(runs: &Arena<Run>, key: &Key, start: u64, end: u64, kind: Kind) -> bool
-    requires { length runs.now.chains ≡ 256 }
+    requires chains { length runs.now.chains ≡ 256 }
+    requires sorted { IsSorted (items runs.now (home key.now.node)) }
     ensures { result ≡ list_any (run_excludes key.now start end kind) (items runs.now (home key.now.node)) }
 {
     let mut cursor = runs.cursor(home(key.node));
     while let Some(run) = runs.get(&cursor) {
+        if is_past(&run, key, end) {
+            break;
+        }
         if excludes(&run, key, start, end, kind) {
             return true;
         }
@@ -69,13 +93,17 @@ pub(crate) fn some_excludes(runs: &Arena<Run>, key: &Key, start: u64, end: u64, 
 
 // Takes out each run that has a byte of the key from start to end.
 pub(crate) fn remove_over(runs: &mut Arena<Run>, key: &Key, start: u64, end: u64)
-    requires { length runs.old.chains ≡ 256 }
+    requires chains { length runs.old.chains ≡ 256 }
+    requires sorted { IsSorted (items runs.old (home key.now.node)) }
     ensures items { items runs.new (home key.now.node) ≡ left_over key.now start end (items runs.old (home key.now.node)) }
     ensures others { (c : ℕ) → c ≢ home key.now.node → entries runs.new c ≡ entries runs.old c }
     ensures size { HasSizeOf runs.old runs.new }
 {
     let mut cursor = runs.cursor(home(key.node));
     while let Some(run) = runs.get(&cursor) {
+        if is_past(&run, key, end) {
+            break;
+        }
         if overlaps(&run, key, start, end) {
             runs.remove(&mut cursor);
         } else {

@@ -11,6 +11,8 @@ mod lock;
 mod plan;
 mod run;
 mod table;
+#[cfg(test)]
+mod tests;
 
 pub use fl_arena::Place;
 pub use held::Held;

@@ -3,7 +3,7 @@ ghost use Rattle.std.specs.Prelude.{◌≡◌, ◌≢◌, ◌+◌, ◌<◌, ◌�
 ghost use Rattle.std.specs.List.{filter};
 ghost use Rattle.fl_arena.specs.Chains.{entries, items, HasSizeOf};
 ghost use Rattle.fl_ranges.specs.RunList.{reach_start, reach_end, overlaps};
-ghost use Rattle.fl_ranges.specs.RunChains.{home, all_runs};
+ghost use Rattle.fl_ranges.specs.RunChains.{home, all_runs, IsSorted};
 ghost use Rattle.fl_ranges.specs.RunPlan.{plan_of, count_run, pieces, insert_some, carried_out};
 
 use crate::chain::{add, count_over, remove_over, run_at};
@@ -27,7 +27,8 @@ pub(crate) struct Plan {
 
 // Where the bytes that change start.
 fn reach_start(runs: &Arena<Run>, key: &Key, start: u64, mark: Option<Mark>) -> u64
-    requires { length runs.now.chains ≡ 256 }
+    requires chains { length runs.now.chains ≡ 256 }
+    requires sorted { IsSorted (items runs.now (home key.now.node)) }
     ensures { result ≡ reach_start key.now start mark (items runs.now (home key.now.node)) }
 {
     match mark {
@@ -39,6 +40,7 @@ fn reach_start(runs: &Arena<Run>, key: &Key, start: u64, mark: Option<Mark>) -> 
 // Where they end.
 fn reach_end(runs: &Arena<Run>, key: &Key, end: u64, mark: Option<Mark>) -> u64
     requires chains { length runs.now.chains ≡ 256 }
+    requires sorted { IsSorted (items runs.now (home key.now.node)) }
     requires in_range { end ≤ 9223372036854775807 }
     ensures { result ≡ reach_end key.now end mark (items runs.now (home key.now.node)) }
 {
@@ -57,6 +59,7 @@ pub(crate) fn plan_of(
     mark: Option<Mark>,
 ) -> Plan
     requires chains { length runs.now.chains ≡ 256 }
+    requires sorted { IsSorted (items runs.now (home key.now.node)) }
     requires few { length (items runs.now (home key.now.node)) ≤ 65536 }
     requires in_range { end ≤ 9223372036854775807 }
     ensures { result ≡ plan_of key.now start end mark (items runs.now (home key.now.node)) }
@@ -101,6 +104,7 @@ fn add_some(runs: &mut Arena<Run>, node: u64, run: Option<Run>)
 // Takes out what a plan says, and puts in its runs.
 pub(crate) fn carry_out(runs: &mut Arena<Run>, key: &Key, plan: &Plan)
     requires chains { length runs.old.chains ≡ 256 }
+    requires sorted { IsSorted (items runs.old (home key.now.node)) }
     requires before { IfSome plan.now.before (λ r. r.key.node ≡ key.now.node) }
     requires new { IfSome plan.now.new (λ r. r.key.node ≡ key.now.node) }
     requires after { IfSome plan.now.after (λ r. r.key.node ≡ key.now.node) }

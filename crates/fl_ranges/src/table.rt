@@ -125,6 +125,7 @@ impl Table {
         requires { slot < self.now.limit }
         ensures { IsPlaced self.now slot result }
     {
+        // The contract of `free` says how many slots are on chains.
         prove!(self.runs.free() <= self.limit as usize);
         self.runs.place(slot)
     }

@@ -2,6 +2,7 @@ use Rattle.std.proofs.Common.{◌≡◌, Some, None, slice_get, refl, sym, ◌�
 use Rattle.fl_arena.specs.Chains.{items}
 use Rattle.fl_ranges.specs.RunChains.{home}
 use Rattle.fl_ranges.specs.RunList.{overlaps}
+use Rattle.fl_ranges.proofs.Sorted.{past_overlap, count_stop}
 use Rattle.fl_ranges.proofs.Walks.{on_at, count_yes, count_no, count_end}
 use Rattle.fl_ranges.proofs.chain.count_over.Goals as goal
 
@@ -63,8 +64,18 @@ loop-run-preserved c =
       rest = count_no (overlaps c.args.key.now c.args.start c.args.end) xs i c.step.new.cursor.index c.loop-run.count c.in-Some.run' inv.rest found (sym c.overlaps.ensures ∙ c.if-overlaps.false) index;
     }
 
-pub returns : goal.returns
-returns c =
+pub returns-then-is_past : goal.returns-then-is_past
+returns-then-is_past c =
+    let i = c.loop-run.cursor.index in
+    let xs = items c.args.runs.now (home c.args.key.now.node) in
+    let inv = c.loop-run.invariant in
+    let got = c.in-Some.ensures in
+    let found : slice_get xs i ≡ Some c.in-Some.run' = sym (got.at_index (home c.args.key.now.node) i inv.at) in
+    let past = sym c.is_past.ensures ∙ c.if-is_past.true in
+    count_stop (overlaps c.args.key.now c.args.start c.args.end) c.args.key.now c.args.end (past_overlap c.args.key.now c.args.start c.args.end) xs i c.in-Some.run' c.requires.sorted found past c.loop-run.count inv.rest
+
+pub returns-in_default : goal.returns-in_default
+returns-in_default c =
     let i = c.loop-run.cursor.index in
     let xs = items c.args.runs.now (home c.args.key.now.node) in
     let inv = c.loop-run.invariant in

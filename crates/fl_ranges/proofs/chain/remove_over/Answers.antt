@@ -1,9 +1,10 @@
-use Rattle.std.proofs.Common.{◌≡◌, ℕ, ◌++◌, not, take, drop, Some, None, slice_get, refl, sym, ap, ◌∙◌}
+use Rattle.std.proofs.Common.{subst, ◌≡◌, ℕ, ◌++◌, not, take, drop, Some, None, slice_get, refl, sym, ap, ◌∙◌}
 use Rattle.fl_arena.specs.Chains.{items}
 use Rattle.fl_ranges.specs.declared.run.Run.{Run}
-use Rattle.fl_ranges.specs.RunChains.{home}
+use Rattle.fl_ranges.specs.RunChains.{home, IsSorted}
 use Rattle.std.specs.List.{filter}
 use Rattle.fl_ranges.specs.RunList.{overlaps}
+use Rattle.fl_ranges.proofs.Sorted.{past_overlap, kept_stop, sorted_remove}
 use Rattle.fl_ranges.proofs.Walks.{on_at, out_at, kept_on, kept_out, kept_all}
 use Rattle.fl_ranges.proofs.chain.remove_over.Goals as goal
 
@@ -32,6 +33,7 @@ loop-run-preserved-then-overlaps c =
           inv.left
           ∙ kept_out (λ (r : Run). not (overlaps c.args.key.now c.args.start c.args.end r)) xs i c.in-Some.run' found (ap not (sym c.overlaps.ensures ∙ c.if-overlaps.true))
           ∙ (λ j. take (sym out.index j) (sym out.items_are j) ++ filter (λ (r : Run). not (overlaps c.args.key.now c.args.start c.args.end r)) (drop (sym out.index j) (sym out.items_are j)));
+      sorted = subst IsSorted (sym out.items_are) (sorted_remove i xs inv.sorted);
       others = λ d apart. out.others d apart ∙ inv.others d apart;
       size = record { chains = c.remove.ensures.size.chains ∙ inv.size.chains; slots = c.remove.ensures.size.slots ∙ inv.size.slots };
     }
@@ -58,12 +60,23 @@ loop-run-preserved c =
       at = step.at;
       within = step.within;
       left = inv.left ∙ kept_on (λ (r : Run). not (overlaps c.args.key.now c.args.start c.args.end r)) xs i c.in-Some.run' found (ap not (sym c.overlaps.ensures ∙ c.if-overlaps.false)) ∙ ap (λ (j : ℕ). take j xs ++ filter (λ (r : Run). not (overlaps c.args.key.now c.args.start c.args.end r)) (drop j xs)) (sym step.index);
+      sorted = inv.sorted;
       others = inv.others;
       size = inv.size;
     }
 
-pub returns-clause-items : goal.returns-clause-items
-returns-clause-items c =
+pub returns-then-is_past-clause-items : goal.returns-then-is_past-clause-items
+returns-then-is_past-clause-items c =
+    let i = c.loop-run.cursor.index in
+    let xs = items c.loop-run.runs (home c.args.key.now.node) in
+    let inv = c.loop-run.invariant in
+    let got = c.in-Some.ensures in
+    let found : slice_get xs i ≡ Some c.in-Some.run' = sym (got.at_index (home c.args.key.now.node) i inv.at) in
+    let past = sym c.is_past.ensures ∙ c.if-is_past.true in
+    sym (inv.left ∙ kept_stop (overlaps c.args.key.now c.args.start c.args.end) c.args.key.now c.args.end (past_overlap c.args.key.now c.args.start c.args.end) xs i c.in-Some.run' inv.sorted found past)
+
+pub returns-in_default-clause-items : goal.returns-in_default-clause-items
+returns-in_default-clause-items c =
     let i = c.loop-run.cursor.index in
     let xs = items c.loop-run.runs (home c.args.key.now.node) in
     let inv = c.loop-run.invariant in
