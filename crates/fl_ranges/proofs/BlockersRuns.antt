@@ -20,7 +20,7 @@ use Rattle.fl_ranges.proofs.Blockers.{named_words}
 
 -- ---- the tests, as facts
 
-record ExcludingParts (a b n o p q start end from to : ℕ) (x : Bool) : Type 0 where
+pub record ExcludingParts (a b n o p q start end from to : ℕ) (x : Bool) : Type 0 where
   pub class : a ≡ b
   pub node : n ≡ o
   pub other : p ≢ q
@@ -28,7 +28,7 @@ record ExcludingParts (a b n o p q start end from to : ℕ) (x : Bool) : Type 0 
   pub ends : start ≤ to
   pub write : x ≡ true
 
-excluding_parts : (a b n o p q start end from to : ℕ) (x : Bool) → (((a == b) && ((n == o) && not (p == q))) && ((nat_le from end && nat_le start to) && x)) ≡ true → ExcludingParts a b n o p q start end from to x
+pub excluding_parts : (a b n o p q start end from to : ℕ) (x : Bool) → (((a == b) && ((n == o) && not (p == q))) && ((nat_le from end && nat_le start to) && x)) ≡ true → ExcludingParts a b n o p q start end from to x
 excluding_parts a b n o p q start end from to true e = record {
   class = grind (arith, nat_tests);
   node = grind (arith, nat_tests);
@@ -44,7 +44,7 @@ excluding_parts a b n o p q start end from to false e = absurd (none ((a == b) &
     none true false h = absurd (cc h)
     none false c h = absurd (cc h)
 
-excluding_all : (a b n o p q start end from to : ℕ) (x : Bool) → a ≡ b → n ≡ o → (p ≢ q) → from ≤ end → start ≤ to → x ≡ true → (((a == b) && ((n == o) && not (p == q))) && ((nat_le from end && nat_le start to) && x)) ≡ true
+pub excluding_all : (a b n o p q start end from to : ℕ) (x : Bool) → a ≡ b → n ≡ o → (p ≢ q) → from ≤ end → start ≤ to → x ≡ true → (((a == b) && ((n == o) && not (p == q))) && ((nat_le from end && nat_le start to) && x)) ≡ true
 excluding_all a b n o p q start end from to true class node other begins ends write = grind (arith, nat_tests)
 excluding_all a b n o p q start end from to false class node other begins ends write = absurd (cc write)
 

@@ -89,7 +89,7 @@ sorted_rest zero xs sorted = sorted
 sorted_rest (suc i) [] sorted = tt
 sorted_rest (suc i) (x ∷ xs) sorted = sorted_rest i xs sorted.1
 
-past_rest : (key : Key) (byte : ℕ) (xs : List Run) (i : ℕ) (r : Run) → IsSorted xs → slice_get xs i ≡ Some r → is_past key byte r ≡ true → AllByRecursion (λ x. is_past key byte x ≡ true) (drop i xs)
+pub past_rest : (key : Key) (byte : ℕ) (xs : List Run) (i : ℕ) (r : Run) → IsSorted xs → slice_get xs i ≡ Some r → is_past key byte r ≡ true → AllByRecursion (λ x. is_past key byte x ≡ true) (drop i xs)
 past_rest key byte xs i r sorted found past =
     let here = drop_here xs i r found in
     let rest : IsSorted (r ∷ drop (i + 1) xs) = subst IsSorted here (sorted_rest i xs sorted) in

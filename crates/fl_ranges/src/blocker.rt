@@ -1,9 +1,10 @@
 //! The lock that F_GETLK names, found among the runs.
 ghost use Rattle.std.specs.Prelude.{◌≡◌, ◌<◌, length, None, option_map};
 ghost use Rattle.fl_arena.specs.Chains.{items};
-ghost use Rattle.fl_ranges.specs.Nearest.{is_nearer, nearest_with, nearest_from, lock_of};
+ghost use Rattle.fl_ranges.specs.Nearest.{is_nearer, nearest_with, nearest_from, last_start, lock_of};
+ghost use Rattle.fl_ranges.specs.RunChains.{IsSorted};
 
-use crate::chain::home;
+use crate::chain::{home, is_past};
 use crate::held::Held;
 use crate::lock::{Key, Kind, Range};
 use crate::run::{Run, excludes};
@@ -59,14 +60,28 @@ fn nearest_with(key: &Key, range: &Range, kind: Kind, best: Option<Run>, run: Ru
     }
 }
 
+// A run that starts past this byte isn't nearer than the nearest so far.
+fn last_start(range: &Range, best: Option<Run>) -> u64
+    ensures { result ≡ last_start range.now.start range.now.end best }
+{
+    match best {
+        None => range.end,
+        Some(best) => best.start.max(range.start),
+    }
+}
+
 // The nearest of a chain's runs that exclude a lock of this kind, by this key, on the range.
 fn nearest(runs: &Arena<Run>, chain: usize, key: &Key, range: &Range, kind: Kind) -> Option<Run>
-    requires { chain < length runs.now.chains }
+    requires chain { chain < length runs.now.chains }
+    requires sorted { IsSorted (items runs.now chain) }
     ensures { result ≡ nearest_from key.now range.now.start range.now.end kind None (items runs.now chain) }
 {
     let mut best = None;
     let mut cursor = runs.cursor(chain);
     while let Some(run) = runs.get(&cursor) {
+        if is_past(&run, key, last_start(range, best)) {
+            break;
+        }
         best = nearest_with(key, range, kind, best, run);
         runs.step(&mut cursor);
     }

@@ -21,7 +21,7 @@ pub(crate) fn home(node: u64) -> usize
 }
 
 // Whether a run stands past a byte of the key, as all runs after it then do.
-fn is_past(run: &Run, key: &Key, byte: u64) -> bool
+pub(crate) fn is_past(run: &Run, key: &Key, byte: u64) -> bool
     ensures { result ≡ is_past key.now byte run.now }
 {
     let class = (key.class as u8).cmp(&(run.key.class as u8));
