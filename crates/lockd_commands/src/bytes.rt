@@ -87,4 +87,6 @@ fn serve(alloc: Global, stream: &[u8]) -> Result<Served, Fault>
 }
 
 #[cfg(test)]
+mod getlk_tests;
+#[cfg(test)]
 mod tests;

@@ -8,12 +8,12 @@ use std::test::Fail;
 // gid, pid, padding and the body; of a reply len, error, unique and the body.
 
 // INIT 7.31 that asks for no readahead and no flags.
-const INIT: &str = "\
+pub(super) const INIT: &str = "\
 380000001a0000000100000000000000000000000000000000000000000000000000000000000000\
 070000001f0000000000000000000000\n";
 
 // Its reply: 7, 31, 0, 0, 16 and 12 requests, writes of 4096 bytes, times by the nanosecond.
-const INIT_REPLY: &str = "\
+pub(super) const INIT_REPLY: &str = "\
 50000000000000000100000000000000070000001f000000000000000000000010000c0000100000\
 01000000000000000000000000000000000000000000000000000000000000000000000000000000\n";
 
@@ -134,7 +134,7 @@ a0000000000000000400000000000000020000000000000000000000000000000000000000000000
 10000000000000000800000000000000\n";
 
 // What is read, and all that it comes to.
-fn gives(
+pub(super) fn gives(
     rt: &(impl Abort + AllocGlobal),
     what: &str,
     text: &str,
