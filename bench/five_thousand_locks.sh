@@ -1,6 +1,6 @@
 #!/bin/sh
 # Times `lockd script` on a script that makes one file and asks for 5,000 locks on it, by seven owners, each on
-# bytes of its own, so that every lock stays held.
+# bytes of its own: the first 4,096 stay held, and the others are refused for want of room.
 set -eu
 cd "$(dirname "$0")/.."
 program=crates/lockd/out/lockd
