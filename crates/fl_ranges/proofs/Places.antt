@@ -78,7 +78,7 @@ some_index (e ∷ es) slot = go (e.slot == slot) (index_in es slot) (some_index 
 some_place : (chains : List (List (Entry Run))) (slot : ℕ) → is_on (place_in chains slot) ≡ list_any (λ es. list_any (λ (e : Entry Run). e.slot == slot) es) chains
 unfolding place_in either_place later
 some_place [] slot = refl
-some_place (es ∷ chains) slot = ap (λ p. is_on p) refl ∙ go (index_in es slot) (place_in chains slot) (some_index es slot) (some_place chains slot)
+some_place (es ∷ chains) slot = go (index_in es slot) (place_in chains slot) (some_index es slot) (some_place chains slot)
   where
     go : (o : Option ℕ) (p : Place) → is_some o ≡ list_any (λ (e : Entry Run). e.slot == slot) es → is_on p ≡ list_any (λ es. list_any (λ (e : Entry Run). e.slot == slot) es) chains
         → is_on (either_place o p) ≡ (list_any (λ (e : Entry Run). e.slot == slot) es || list_any (λ es. list_any (λ (e : Entry Run). e.slot == slot) es) chains)

@@ -58,6 +58,9 @@ past_not key byte x past node class le =
     let less : byte < x.start = less_number byte x.start ((λ i. is_lt (ordering_then (ordering_then (sym same_node i) (sym same_class i)) (nat_cmp byte x.start))) ∙ past) in
     omega (arith, less, le)
 
+same_number : (a b : ℕ) → (a == b) ≡ true → a ≡ b
+same_number a b e = grind (arith, nat_tests)
+
 only_false : (b : Bool) → (b ≡ true → ⊥) → b ≡ false
 only_false true f = absurd (f refl)
 only_false false f = refl
@@ -178,3 +181,31 @@ sorted_remove zero [] sorted = tt
 sorted_remove (suc i) [] sorted = tt
 sorted_remove zero (x ∷ xs) sorted = sorted.1
 sorted_remove (suc i) (x ∷ xs) sorted = (each_remove (λ y. goes_before y x ≡ false) i xs sorted.0, sorted_remove i xs sorted.1)
+
+-- ---- from a run on that is of a later node
+
+no_less_number : (a b : ℕ) → is_lt (nat_cmp a b) ≡ false → b ≤ a
+no_less_number a b e = grind (arith, nat_tests)
+
+node_later : (node : ℕ) (r x : Run) → node < r.key.node → goes_before x r ≡ false → (x.key.node == node) ≡ false
+node_later node r x above after = go (is_lt (nat_cmp x.key.node r.key.node)) refl
+  where
+    go : (b : Bool) → is_lt (nat_cmp x.key.node r.key.node) ≡ b → (x.key.node == node) ≡ false
+    go true is =
+        let less : nat_cmp x.key.node r.key.node ≡ Less = is_Less (nat_cmp x.key.node r.key.node) is in
+        absurd (cc (sym after ∙ ap (λ o. is_lt (ordering_then (ordering_then (ordering_then o (nat_cmp (class_number x.key.class) (class_number r.key.class))) (nat_cmp x.start r.start)) (nat_cmp x.key.owner r.key.owner))) less))
+    go false is =
+        let le = no_less_number x.key.node r.key.node is in
+        only_false _ (λ same. omega (arith, le, above, same_number x.key.node node same))
+
+-- a walk may stop at a run of a later node
+pub node_stop : (node : ℕ) (xs : List Run) (i : ℕ) (r : Run) → IsSorted xs → slice_get xs i ≡ Some r → node < r.key.node → take i xs ++ filter (λ x. not (x.key.node == node)) (drop i xs) ≡ xs
+node_stop node xs i r sorted found above =
+    let here = drop_here xs i r found in
+    let rest : IsSorted (r ∷ drop (i + 1) xs) = subst IsSorted here (sorted_rest i xs sorted) in
+    let each : AllByRecursion (λ x. (x.key.node == node) ≡ false) (drop i xs) =
+    subst (AllByRecursion (λ x. (x.key.node == node) ≡ false)) (sym here) (
+      only_false _ (λ same. omega (arith, above, same_number r.key.node node same)),
+      each_weaker (λ x. goes_before x r ≡ false) (λ x. (x.key.node == node) ≡ false) (λ x after. node_later node r x above after) (drop (i + 1) xs) rest.0,
+    ) in
+    ap (λ (l : List Run). take i xs ++ l) (kept_rest (λ x. x.key.node == node) (drop i xs) each) ∙ all_of i xs

@@ -114,13 +114,17 @@ pub(crate) fn remove_over(runs: &mut Arena<Run>, key: &Key, start: u64, end: u64
 
 // Takes out each run of the node.
 pub(crate) fn remove_node(runs: &mut Arena<Run>, node: u64)
-    requires { length runs.old.chains ≡ 256 }
+    requires chains { length runs.old.chains ≡ 256 }
+    requires sorted { IsSorted (items runs.old (home node)) }
     ensures items { items runs.new (home node) ≡ filter (λ r. not (r.key.node == node)) (items runs.old (home node)) }
     ensures others { (c : ℕ) → c ≢ home node → entries runs.new c ≡ entries runs.old c }
     ensures size { HasSizeOf runs.old runs.new }
 {
     let mut cursor = runs.cursor(home(node));
     while let Some(run) = runs.get(&cursor) {
+        if run.key.node > node {
+            break;
+        }
         if run.key.node == node {
             runs.remove(&mut cursor);
         } else {

@@ -1,13 +1,14 @@
-use Rattle.std.proofs.Common.{◌≡◌, ℕ, ◌++◌, ◌==◌, not, take, drop, Some, None, slice_get, refl, sym, ap, ◌∙◌}
+use Rattle.std.proofs.Common.{subst, ◌≡◌, ℕ, ◌++◌, ◌==◌, not, take, drop, Some, None, slice_get, refl, sym, ap, ◌∙◌}
 use Rattle.fl_arena.specs.Chains.{items}
 use Rattle.fl_ranges.specs.declared.run.Run.{Run}
-use Rattle.fl_ranges.specs.RunChains.{home}
+use Rattle.fl_ranges.specs.RunChains.{home, IsSorted}
 use Rattle.std.specs.List.{filter}
+use Rattle.fl_ranges.proofs.Sorted.{node_stop, sorted_remove}
 use Rattle.fl_ranges.proofs.Walks.{on_node, off_node, on_at, out_at, kept_on, kept_out, kept_all}
 use Rattle.fl_ranges.proofs.chain.remove_node.Goals as goal
 
-pub loop-run-smaller-then-run-node : goal.loop-run-smaller-then-run-node
-loop-run-smaller-then-run-node c =
+pub loop-run-smaller-then-run-node-2 : goal.loop-run-smaller-then-run-node-2
+loop-run-smaller-then-run-node-2 c =
     let i = c.loop-run.cursor.index in
     let xs = items c.loop-run.runs (home c.args.node) in
     let inv = c.loop-run.invariant in
@@ -16,8 +17,8 @@ loop-run-smaller-then-run-node c =
     let out = out_at c.loop-run.runs c.remove.new.self (home c.args.node) c.loop-run.cursor c.remove.new.cursor c.in-Some.run' inv.at found c.remove.ensures.items c.remove.ensures.others c.remove.ensures.cursor in
     out.smaller
 
-pub loop-run-preserved-then-run-node : goal.loop-run-preserved-then-run-node
-loop-run-preserved-then-run-node c =
+pub loop-run-preserved-then-run-node-2 : goal.loop-run-preserved-then-run-node-2
+loop-run-preserved-then-run-node-2 c =
     let i = c.loop-run.cursor.index in
     let xs = items c.loop-run.runs (home c.args.node) in
     let inv = c.loop-run.invariant in
@@ -29,8 +30,9 @@ loop-run-preserved-then-run-node c =
       within = out.within;
       left =
           inv.left
-          ∙ kept_out (λ (r : Run). not (r.key.node == c.args.node)) xs i c.in-Some.run' found (on_node _ _ c.if-run-node.true)
+          ∙ kept_out (λ (r : Run). not (r.key.node == c.args.node)) xs i c.in-Some.run' found (on_node _ _ c.if-run-node-2.true)
           ∙ (λ j. take (sym out.index j) (sym out.items_are j) ++ filter (λ (r : Run). not (r.key.node == c.args.node)) (drop (sym out.index j) (sym out.items_are j)));
+      sorted = subst IsSorted (sym out.items_are) (sorted_remove i xs inv.sorted);
       others = λ d apart. out.others d apart ∙ inv.others d apart;
       size = record { chains = c.remove.ensures.size.chains ∙ inv.size.chains; slots = c.remove.ensures.size.slots ∙ inv.size.slots };
     }
@@ -56,13 +58,23 @@ loop-run-preserved c =
     record {
       at = step.at;
       within = step.within;
-      left = inv.left ∙ kept_on (λ (r : Run). not (r.key.node == c.args.node)) xs i c.in-Some.run' found (off_node _ _ c.if-run-node.false) ∙ ap (λ (j : ℕ). take j xs ++ filter (λ (r : Run). not (r.key.node == c.args.node)) (drop j xs)) (sym step.index);
+      left = inv.left ∙ kept_on (λ (r : Run). not (r.key.node == c.args.node)) xs i c.in-Some.run' found (off_node _ _ c.if-run-node-2.false) ∙ ap (λ (j : ℕ). take j xs ++ filter (λ (r : Run). not (r.key.node == c.args.node)) (drop j xs)) (sym step.index);
+      sorted = inv.sorted;
       others = inv.others;
       size = inv.size;
     }
 
-pub returns-clause-items : goal.returns-clause-items
-returns-clause-items c =
+pub returns-then-run-node-clause-items : goal.returns-then-run-node-clause-items
+returns-then-run-node-clause-items c =
+    let i = c.loop-run.cursor.index in
+    let xs = items c.loop-run.runs (home c.args.node) in
+    let inv = c.loop-run.invariant in
+    let got = c.in-Some.ensures in
+    let found : slice_get xs i ≡ Some c.in-Some.run' = sym (got.at_index (home c.args.node) i inv.at) in
+    sym (inv.left ∙ node_stop c.args.node xs i c.in-Some.run' inv.sorted found c.if-run-node.true)
+
+pub returns-in_default-clause-items : goal.returns-in_default-clause-items
+returns-in_default-clause-items c =
     let i = c.loop-run.cursor.index in
     let xs = items c.loop-run.runs (home c.args.node) in
     let inv = c.loop-run.invariant in
