@@ -1,12 +1,11 @@
 #!/bin/sh
-# Runs `lockd script` on the stored example once for each of its allocations, and refuses that one. Each run
-# must end with status 2, `no memory` on standard error and nothing on standard output, or else print the
-# whole trace. Wants a C compiler and the GNU C library.
+# Runs `lockd script` and `lockd bytes` on a stored example each, once for each of its allocations, and refuses that
+# one. Each run must end with status 2, `no memory` on standard error and nothing on standard output, or else print
+# all that it prints otherwise. A session may answer an order ENOMEM in place of that, and then goes on. Wants a C
+# compiler and the GNU C library.
 set -eu
 cd "$(dirname "$0")/.."
 program=crates/lockd/out/lockd
-input=crates/lockd/stdin
-wanted=crates/lockd/stdout
 (cd crates/lockd && rt run < stdin > /dev/null)
 
 work=$(mktemp -d)
@@ -52,23 +51,36 @@ void *realloc(void *old, size_t size)
 C
 cc -shared -fPIC -O1 -fno-builtin -o "$work/refuse.so" "$work/refuse.c"
 
-ASKED="$work/asked" LD_PRELOAD="$work/refuse.so" "$program" < "$input" > "$work/out"
-cmp "$work/out" "$wanted"
-count=$(cat "$work/asked")
+# Refuses each allocation of one command on one input.
+refuse_each() {
+    command=$1
+    input=$2
+    ASKED="$work/asked" LD_PRELOAD="$work/refuse.so" "$program" "$command" < "$input" > "$work/wanted"
+    count=$(cat "$work/asked")
+    lines=$(wc -l < "$work/wanted")
+    failed=0
+    no_memory=0
+    refused=0
+    number=1
+    while [ "$number" -le "$count" ]; do
+        status=0
+        REFUSE=$number LD_PRELOAD="$work/refuse.so" "$program" "$command" < "$input" > "$work/out" 2> "$work/err" || status=$?
+        if [ "$status" -eq 2 ] && [ "$(cat "$work/err")" = "no memory" ] && [ ! -s "$work/out" ]; then
+            no_memory=$((no_memory + 1))
+        elif [ "$command" = bytes ] && [ "$status" -eq 0 ] && grep -q '^10000000f4ffffff' "$work/out" &&
+            [ "$(wc -l < "$work/out")" -eq "$lines" ]; then
+            refused=$((refused + 1))
+        elif [ "$status" -ne 0 ] || ! cmp -s "$work/out" "$work/wanted"; then
+            echo "$command, allocation $number refused: status $status, $(cat "$work/err")"
+            failed=$((failed + 1))
+        fi
+        number=$((number + 1))
+    done
+    echo "$command: $count allocations refused in turn: $no_memory ended with no memory," \
+        "$refused answered an order ENOMEM, $failed wrongly"
+    [ "$failed" -eq 0 ]
+}
 
-failed=0
-no_memory=0
-number=1
-while [ "$number" -le "$count" ]; do
-    status=0
-    REFUSE=$number LD_PRELOAD="$work/refuse.so" "$program" < "$input" > "$work/out" 2> "$work/err" || status=$?
-    if [ "$status" -eq 2 ] && [ "$(cat "$work/err")" = "no memory" ] && [ ! -s "$work/out" ]; then
-        no_memory=$((no_memory + 1))
-    elif [ "$status" -ne 0 ] || ! cmp -s "$work/out" "$wanted"; then
-        echo "allocation $number refused: status $status, $(cat "$work/err")"
-        failed=$((failed + 1))
-    fi
-    number=$((number + 1))
-done
-echo "$count allocations refused in turn: $no_memory ended with no memory, $failed wrongly"
-[ "$failed" -eq 0 ]
+refuse_each script crates/lockd/stdin
+cmp "$work/wanted" crates/lockd/stdout
+refuse_each bytes examples/two_locks.hex

@@ -1,5 +1,5 @@
 -- How many runs of bytes a marking has, which is what a table of locks has room for.
-use Rattle.std.specs.Prelude.{◌≡◌, ◌≢◌, ℕ, ◌-◌, ◌≤◌, Bool, false, not, ◌&&◌, ◌||◌, ◌==◌, Option, Some, None, count_by}
+use Rattle.std.specs.Prelude.{◌≡◌, ◌≢◌, ℕ, ◌-◌, Bool, false, not, ◌&&◌, ◌||◌, ◌==◌, Option, Some, None, count_by}
 use Rattle.std.specs.FinMap.{entries, get, retain_keys}
 use Rattle.fl_ranges.specs.declared.lock.Kind.{Kind}
 use Rattle.fl_ranges.specs.declared.lock.Kind.TheVariants.{Read, Write}
@@ -27,10 +27,6 @@ is_start m e = (e.0.1 == 0) || not (is_mark e.1 (get m (e.0.0, e.0.1 - 1)))
 -- how many runs there are: rows of bytes of one key with one mark, each as long as it can be
 abbrev pub runs : Marking → ℕ
 runs m = count_by (is_start m) (entries m)
-
--- there are at most so many
-abbrev pub HasRoom : ℕ → Marking → Type 0
-HasRoom limit m = runs m ≤ limit
 
 -- the same in words: a spot has a mark, and is the first byte or has another mark or none before it
 pub record IsStart (m : Marking) (spot : Spot) : Type 0 where
