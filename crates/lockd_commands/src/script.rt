@@ -107,3 +107,5 @@ fn take_all(alloc: Global, asks: &[Ask]) -> Result<History, Fault>
 
 #[cfg(test)]
 mod tests;
+#[cfg(test)]
+mod traces;

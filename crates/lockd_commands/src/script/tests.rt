@@ -1,3 +1,4 @@
+use super::traces::*;
 use super::*;
 use std::io;
 use std::io::ErrorKind;
@@ -71,190 +72,6 @@ fn locks_and_files(rt: HostRuntime) -> Result<(), Fail> {
     Ok(())
 }
 
-const READ_UNDER_WRITE: &str = "\
-ask 0 2 2 0 0 0 setlk 1 7 0 9 1 11 0
-tell 2 ok
-ask 0 3 2 0 0 0 setlk 1 8 9 9 0 12 0
-tell 3 err 11
-";
-
-const READ_BESIDE_WRITE: &str = "\
-ask 0 2 2 0 0 0 setlk 1 7 0 9 1 11 0
-tell 2 ok
-ask 0 3 2 0 0 0 setlk 1 8 10 10 0 12 0
-tell 3 ok
-";
-
-const UNLOCK_IN_THE_MIDDLE: &str = "\
-ask 0 2 2 0 0 0 setlk 1 7 0 99 1 11 0
-tell 2 ok
-ask 0 3 2 0 0 0 setlk 1 7 40 59 2 11 0
-tell 3 ok
-ask 0 4 2 0 0 0 setlk 1 8 39 39 0 12 0
-tell 4 err 11
-ask 0 5 2 0 0 0 setlk 1 8 60 60 0 12 0
-tell 5 err 11
-ask 0 6 2 0 0 0 setlk 1 8 40 59 1 12 0
-tell 6 ok
-ask 0 7 2 0 0 0 setlk 1 9 100 200 2 13 0
-tell 7 ok
-";
-
-const NAMED_LOCKS: &str = "\
-ask 0 2 2 0 0 0 setlk 1 7 0 99 1 11 0
-tell 2 ok
-ask 0 3 2 0 0 0 setlk 1 7 40 59 2 11 0
-tell 3 ok
-ask 0 4 2 0 0 0 getlk 1 8 0 99 1 12 0
-tell 4 lock 0 39 1 11
-ask 0 5 2 0 0 0 getlk 1 8 40 59 1 12 0
-tell 5 lock 40 59 2 12
-ask 0 6 2 0 0 0 getlk 1 8 50 60 0 12 0
-tell 6 lock 60 99 1 11
-";
-
-const TOUCHING_LOCKS: &str = "\
-ask 0 2 2 0 0 0 setlk 1 7 0 9223372036854775806 0 11 0
-tell 2 ok
-ask 0 3 2 0 0 0 setlk 1 7 9223372036854775807 9223372036854775807 0 11 0
-tell 3 ok
-ask 0 4 2 0 0 0 getlk 1 8 5 5 1 12 0
-tell 4 lock 0 9223372036854775807 0 11
-";
-
-const TWO_PROCESSES: &str = "\
-ask 0 2 2 0 0 0 setlk 1 7 0 4 1 11 0
-tell 2 ok
-ask 0 3 2 0 0 0 setlk 1 7 5 9 1 12 0
-tell 3 ok
-ask 0 4 2 0 0 0 getlk 1 8 0 9 1 13 0
-tell 4 lock 0 4 1 11
-ask 0 5 2 0 0 0 getlk 1 8 5 9 0 13 0
-tell 5 lock 5 9 1 12
-";
-
-const LEAST_OWNER: &str = "\
-ask 0 2 2 0 0 0 setlk 1 9 2 6 0 13 0
-tell 2 ok
-ask 0 3 2 0 0 0 setlk 1 7 4 9 0 11 0
-tell 3 ok
-ask 0 4 2 0 0 0 setlk 1 8 9 9 0 12 1
-tell 4 ok
-ask 0 5 2 0 0 0 getlk 1 8 0 9 1 12 0
-tell 5 lock 2 6 0 13
-ask 0 6 2 0 0 0 getlk 1 8 5 9 1 12 0
-tell 6 lock 4 9 0 11
-ask 0 7 2 0 0 0 getlk 1 8 0 9 0 12 0
-tell 7 lock 0 9 2 12
-ask 0 8 2 0 0 0 getlk 1 7 7 9 1 11 0
-tell 8 lock 7 9 2 11
-";
-
-const RECORD_LOCKS: &str = "\
-ask 0 2 1 0 0 0 create 0 420 62
-tell 2 made 3 33188 1 0 0 2
-ask 0 3 2 0 0 0 setlk 1 7 0 9 1 11 0
-tell 3 ok
-ask 0 4 2 0 0 0 setlk 1 7 5 9 0 11 0
-tell 4 ok
-ask 0 5 2 0 0 0 setlk 1 8 5 9 0 12 0
-tell 5 ok
-ask 0 6 2 0 0 0 setlk 1 8 4 4 0 12 0
-tell 6 err 11
-ask 0 7 2 0 0 0 setlk 1 8 9 9 1 12 0
-tell 7 err 11
-ask 0 8 2 0 0 0 setlk 1 7 5 5 1 11 0
-tell 8 err 11
-ask 0 9 2 0 0 0 setlk 1 8 10 9223372036854775807 1 12 0
-tell 9 ok
-ask 0 10 3 0 0 0 setlk 2 8 0 9 1 12 0
-tell 10 ok
-ask 0 11 2 0 0 0 setlk 1 8 0 0 1 12 1
-tell 11 ok
-";
-
-const WHOLE_FILE_LOCKS: &str = "\
-ask 0 2 1 0 0 0 create 0 420 62
-tell 2 made 3 33188 1 0 0 2
-ask 0 3 2 0 0 0 setlk 1 7 5 4 0 11 1
-tell 3 ok
-ask 0 4 2 0 0 0 setlk 1 8 0 0 0 12 1
-tell 4 ok
-ask 0 5 2 0 0 0 setlk 1 8 0 0 1 12 1
-tell 5 err 11
-ask 0 6 2 0 0 0 setlk 1 7 0 0 2 11 1
-tell 6 ok
-ask 0 7 2 0 0 0 setlk 1 8 0 0 1 12 1
-tell 7 ok
-ask 0 8 2 0 0 0 setlk 1 7 99 99 0 11 1
-tell 8 err 11
-ask 0 9 3 0 0 0 setlk 2 7 0 0 1 11 1
-tell 9 ok
-ask 0 10 2 0 0 0 setlk 1 7 0 0 1 11 0
-tell 10 ok
-";
-
-const BAD_LOCK_REQUESTS: &str = "\
-ask 0 2 2 0 0 0 setlk 1 7 0 9223372036854775808 0 11 0
-tell 2 err 22
-ask 0 3 2 0 0 0 setlk 1 7 5 4 0 11 0
-tell 3 err 22
-ask 0 4 2 0 0 0 setlk 1 7 0 0 3 11 0
-tell 4 err 22
-ask 0 5 2 0 0 0 setlk 1 7 0 0 0 11 2
-tell 5 err 22
-ask 0 6 2 0 0 0 setlk 9 7 0 0 3 11 0
-tell 6 err 9
-ask 0 7 1 0 0 0 setlk 1 7 0 0 0 11 0
-tell 7 err 9
-ask 0 8 2 0 0 0 setlk 1 7 5 4 0 11 1
-tell 8 ok
-ask 0 9 2 0 0 0 getlk 1 7 0 0 2 11 0
-tell 9 err 22
-ask 0 10 2 0 0 0 getlk 1 7 0 0 0 11 1
-tell 10 err 22
-ask 0 11 2 0 0 0 getlk 1 7 5 4 0 11 0
-tell 11 err 22
-ask 0 12 2 0 0 0 getlk 1 7 0 0 0 11 2
-tell 12 err 22
-ask 0 13 1 0 0 0 getlk 1 7 0 0 0 11 0
-tell 13 err 9
-";
-
-const REFUSED_FILES: &str = "\
-ask 0 2 9 0 0 0 create 0 420 62
-tell 2 err 2
-ask 0 3 2 0 0 0 create 0 420 62
-tell 3 err 20
-ask 0 4 1 0 0 0 create 0 420 -
-tell 4 err 22
-ask 0 5 1 0 0 0 create 0 420 2e
-tell 5 err 22
-ask 0 6 1 0 0 0 create 0 420 2e2e
-tell 6 err 22
-ask 0 7 1 0 0 0 create 0 420 612f62
-tell 7 err 22
-ask 0 8 1 0 0 0 create 1 420 61
-tell 8 err 17
-ask 0 9 9 0 0 0 create 0 420 -
-tell 9 err 2
-ask 0 10 9 0 0 0 create 1 420 61
-tell 10 err 2
-ask 0 11 2 0 0 0 create 0 420 2e
-tell 11 err 20
-ask 0 12 2 0 0 0 create 1 420 61
-tell 12 err 20
-ask 0 13 1 0 0 0 create 1 420 62
-tell 13 made 3 33188 1 0 0 2
-";
-
-const MADE_FILES: &str = "\
-ask 15 18446744073709551615 1 4294967295 6 7 create 1 511 2e2e2e
-tell 18446744073709551615 made 3 33279 1 4294967295 6 2
-ask 0 2 1 5 5 5 create 0 0 61
-tell 2 made 2 33188 1 0 0 3
-";
-
 // 256 files fill the directory, and 1,024 opens its open files; the first test that fails gives the error.
 #[test]
 fn a_full_directory(rt: HostRuntime) -> Result<(), Fail> {
@@ -278,15 +95,6 @@ fn a_full_directory(rt: HostRuntime) -> Result<(), Fail> {
         trace.as_str(),
     )
 }
-
-const ALL_FULL: &str = "\
-ask 0 1026 1 0 0 0 create 0 420 303031
-tell 1026 err 23
-ask 0 1027 1 0 0 0 create 1 420 303031
-tell 1027 err 17
-ask 0 1028 1 0 0 0 create 0 420 323537
-tell 1028 err 28
-";
 
 #[test]
 fn no_more_open_files(rt: HostRuntime) -> Result<(), Fail> {
@@ -316,19 +124,6 @@ fn no_more_room_for_locks(rt: HostRuntime) -> Result<(), Fail> {
     trace.push_str(NO_ROOM)?;
     answers(&rt, "4,096 runs", trace.as_str())
 }
-
-const NO_ROOM: &str = "\
-ask 0 4098 2 0 0 0 setlk 1 7 1 1 2 11 0
-tell 4098 err 37
-ask 0 4099 2 0 0 0 setlk 1 8 20000 20000 0 12 0
-tell 4099 err 37
-ask 0 4100 2 0 0 0 getlk 1 8 0 0 1 12 0
-tell 4100 lock 0 2 1 11
-ask 0 4101 2 0 0 0 setlk 1 7 0 16383 1 11 0
-tell 4101 ok
-ask 0 4102 2 0 0 0 getlk 1 8 9 9 0 12 0
-tell 4102 lock 0 16383 1 11
-";
 
 #[test]
 fn bad_lines(rt: HostRuntime) -> Result<(), Fail> {
