@@ -2,12 +2,7 @@
 # Times `lockd script` on a script that makes one file and asks for 5,000 locks on it, by seven owners, each on
 # bytes of its own: the first 4,096 stay held, and the others are refused for want of room.
 set -eu
-cd "$(dirname "$0")/.."
-program=crates/lockd/out/lockd
-(cd crates/lockd && rt run < stdin > /dev/null)
-
-work=$(mktemp -d)
-trap 'rm -rf "$work"' EXIT
+. "$(dirname "$0")/../tools/built_lockd.sh"
 awk 'BEGIN {
     print "ask 0 1 1 0 0 0 create 0 420 61"
     for (i = 0; i < 5000; i++)

@@ -3,12 +3,7 @@
 # others are SETLK on the file that was opened last, each lock unlocked by the next message, so that few are held at once.
 # Prints messages a second and the most memory that was held.
 set -eu
-cd "$(dirname "$0")/.."
-program=crates/lockd/out/lockd
-(cd crates/lockd && rt run < stdin > /dev/null)
-
-work=$(mktemp -d)
-trap 'rm -rf "$work"' EXIT
+. "$(dirname "$0")/../tools/built_lockd.sh"
 python3 - "$work/stream" <<'END'
 import struct, sys
 

@@ -2,9 +2,7 @@
 # Times a SETLK in `lockd script` where one file has 16 runs of locked bytes and where it has 4,096: 40,000 orders that
 # each set one of the runs anew, with the other kind, one run after the other. Prints microseconds an order and the ratio.
 set -eu
-cd "$(dirname "$0")/.."
-program=crates/lockd/out/lockd
-(cd crates/lockd && rt run < stdin > /dev/null)
+. "$(dirname "$0")/../tools/built_lockd.sh"
 python3 - "$program" <<'END'
 import subprocess, sys, time
 

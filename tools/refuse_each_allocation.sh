@@ -4,12 +4,7 @@
 # all that it prints otherwise. A session may answer an order ENOMEM in place of that, and then goes on. Wants a C
 # compiler and the GNU C library.
 set -eu
-cd "$(dirname "$0")/.."
-program=crates/lockd/out/lockd
-(cd crates/lockd && rt run < stdin > /dev/null)
-
-work=$(mktemp -d)
-trap 'rm -rf "$work"' EXIT
+. "$(dirname "$0")/../tools/built_lockd.sh"
 cat > "$work/refuse.c" <<'C'
 #include <stddef.h>
 #include <stdio.h>
