@@ -10,13 +10,14 @@ use Rattle.fl_wire.specs.declared.order.Order.{Order}
 use Rattle.fl_wire.specs.declared.order.Op.{Op}
 use Rattle.fl_wire.specs.declared.order.Op.TheVariants.{Create, Getlk, Setlk}
 use Rattle.fl_book.specs.declared.history.Line.{Line}
-use Rattle.fl_book.specs.Directory.{opening_listing}
-use Rattle.fl_book.specs.State.{State, opening, answered, Reading, read_line, state_after}
-use Rattle.fl_book.specs.Snapshot.{Snapshot, snapshot_of, reply_at, changed, next}
+use Rattle.fl_dir.specs.Directory.{opening_listing}
+use Rattle.fl_core.specs.State.{State, opening, answered}
+use Rattle.fl_book.specs.Replay.{Reading, read_line, state_after}
+use Rattle.fl_core.specs.Snapshot.{Snapshot, snapshot_of, reply_at, changed, next}
 use Rattle.fl_book.specs.Legal.{nothing, step, step_lines}
 use Rattle.fl_book.specs.Kept.{IsKept}
 use Rattle.fl_ranges.proofs.Lawful.{lawful_empty}
-use Rattle.fl_book.proofs.Lawfulness.{lawful_next}
+use Rattle.fl_core.proofs.Lawfulness.{lawful_next}
 
 fold-append : {A B : Type 0} (f : B → A → B) (b : B) (xs ys : List A) → fold f b (xs ++ ys) ≡ fold f (fold f b xs) ys
 fold-append f b [] ys = refl

@@ -1,5 +1,1 @@
-pub mod Listings
-pub mod Recounts
-pub mod Creates
-pub mod Lawfulness
 pub mod Histories

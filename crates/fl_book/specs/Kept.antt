@@ -3,9 +3,9 @@ use Rattle.std.specs.Prelude.{◌≡◌, ℕ, List, []}
 use Rattle.std.specs.FinMap.{empty}
 use Rattle.fl_book.specs.declared.history.Line.{Line}
 use Rattle.fl_ranges.specs.Conflict.{IsLawful}
-use Rattle.fl_book.specs.Directory.{opening_listing}
-use Rattle.fl_book.specs.State.{state_after}
-use Rattle.fl_book.specs.Snapshot.{Snapshot, snapshot_of}
+use Rattle.fl_dir.specs.Directory.{opening_listing}
+use Rattle.fl_book.specs.Replay.{state_after}
+use Rattle.fl_core.specs.Snapshot.{Snapshot, snapshot_of}
 use Rattle.fl_book.specs.Legal.{IsLegal}
 
 -- the history so far, what is there now, and for how many more lines memory is there

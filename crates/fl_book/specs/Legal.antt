@@ -4,8 +4,8 @@ use Rattle.fl_wire.specs.declared.told.Told.{Told}
 use Rattle.fl_wire.specs.declared.order.Order.{Order}
 use Rattle.fl_book.specs.declared.history.Line.{Line}
 use Rattle.fl_book.specs.declared.history.Line.TheVariants as line
-use Rattle.fl_book.specs.State.{state_after}
-use Rattle.fl_book.specs.Replies.{first_replies}
+use Rattle.fl_book.specs.Replay.{state_after}
+use Rattle.fl_core.specs.Replies.{first_replies}
 
 -- an order and its replies, as lines
 abbrev pub step_lines : ℕ → Order → List Told → List Line

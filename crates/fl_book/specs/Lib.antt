@@ -1,9 +1,4 @@
-pub mod Codes
-pub mod Directory
-pub mod Listed
-pub mod State
-pub mod Replies
-pub mod Snapshot
+pub mod Replay
 pub mod Legal
 pub mod Kept
 pub mod BookCode

@@ -1,12 +1,12 @@
 ghost use Rattle.std.specs.Prelude.{◌≡◌, ◌≤◌, ◌+◌, ◌++◌, ◌∷◌, [], IfOk, IsOk, OnOk, OnErr, vec_len, vec_capacity};
-ghost use Rattle.fl_book.specs.State.{state_after};
-ghost use Rattle.fl_book.specs.Replies.{first_replies};
+ghost use Rattle.fl_book.specs.Replay.{state_after};
+ghost use Rattle.fl_core.specs.Replies.{first_replies};
 ghost use Rattle.fl_book.specs.Legal.{IsLegal, step_lines};
 ghost use Rattle.fl_book.specs.Kept.{IsKept, opening_book};
 
 use crate::history::{History, Line};
-use crate::state::LockState;
 use crate::tolds::Tolds;
+use fl_core::Core;
 use fl_wire::{NoMemory, Order, Told};
 use std::alloc::Global;
 use std::marker::Model;
@@ -16,7 +16,7 @@ use std::marker::Model;
 #[derive(Drop)]
 pub struct Desk {
     lines: Vec<Line>,
-    present: LockState,
+    present: Core,
 }
 
 impl Model for Desk {
@@ -40,7 +40,7 @@ impl Desk {
     {
         Ok(Desk {
             lines: Vec::new(alloc),
-            present: LockState::new(alloc)?,
+            present: Core::new(alloc)?,
         })
     }
 

@@ -3,10 +3,7 @@
 #![tactic(auto)]
 
 mod desk;
-mod directory;
 mod history;
-mod node;
-mod state;
 mod text;
 mod tolds;
 

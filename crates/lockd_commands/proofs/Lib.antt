@@ -1,10 +1,4 @@
 pub mod HexLemmas
-pub mod ReadLemmas
 pub mod ReplyLemmas
 pub mod ScriptLemmas
-pub mod SendLemmas
-pub mod ServedLemmas
-pub mod SessionLemmas
-pub mod SessionReplies
 pub mod WordLemmas
-pub mod WriteLemmas

@@ -7,13 +7,13 @@ use Rattle.std.proofs.lemmas.List.Elements.{All-head, All-tail}
 use Rattle.std.specs.List.{concat}
 use Rattle.hex.specs.Hex.{encode_lower}
 use Rattle.fl_wire.specs.Layout.{len_of}
-use Rattle.lockd_commands.proofs.SessionReplies.{IsReply, len-append, session_replies}
+use Rattle.fl_serve.proofs.SessionReplies.{IsReply, len-append, session_replies}
 use Rattle.lockd_commands.specs.Bytes.{IsSession, IsCutOff, Prints}
 use Rattle.lockd_commands.specs.Hex.{hex_lines}
-use Rattle.lockd_commands.specs.Served.{IsServed, IsBeginning, EndsBy}
-use Rattle.lockd_commands.specs.declared.session.Done.{Done}
-use Rattle.lockd_commands.specs.declared.session.Fault.{Fault}
-use Rattle.lockd_commands.specs.Session.{Came, session_of}
+use Rattle.fl_serve.specs.Served.{IsServed, IsBeginning, EndsBy}
+use Rattle.fl_serve.specs.declared.session.Done.{Done}
+use Rattle.fl_serve.specs.declared.session.Fault.{Fault}
+use Rattle.fl_serve.specs.Session.{Came, session_of}
 
 -- the first of the replies were told as lines, and these bytes are left of those that were sent
 pub record IsToldSoFar (replies : List (List ℕ)) (more rest lines : List ℕ) : Type 0 where

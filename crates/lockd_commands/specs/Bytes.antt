@@ -3,13 +3,13 @@ use Rattle.std.specs.Prelude.{◌≡◌, ℕ, List, [], ◌++◌, Option, Some, 
 use Rattle.std.specs.List.{concat}
 use Rattle.std.specs.Io.KnownBytes.{Appends, Keeps}
 use Rattle.lockd_commands.specs.Hex.{hex_stream, hex_lines}
-use Rattle.lockd_commands.specs.Served.{IsServed}
-use Rattle.lockd_commands.specs.Session.{session_of}
+use Rattle.fl_serve.specs.Served.{IsServed}
+use Rattle.fl_serve.specs.Session.{session_of}
 use Rattle.lockd_commands.specs.declared.fault.Fault.{Fault as CommandFault}
 use Rattle.lockd_commands.specs.declared.fault.Fault.TheVariants.{BadLine, NoMemory as NoRoom, Read as CannotRead, Write as CannotWrite, Cut as CutShort, BadLength as WrongLength}
-use Rattle.lockd_commands.specs.declared.session.Done.{Done}
-use Rattle.lockd_commands.specs.declared.session.Fault.{Fault}
-use Rattle.lockd_commands.specs.declared.session.Fault.TheVariants.{Cut, BadLength, Read, Write, NoMemory}
+use Rattle.fl_serve.specs.declared.session.Done.{Done}
+use Rattle.fl_serve.specs.declared.session.Fault.{Fault}
+use Rattle.fl_serve.specs.declared.session.Fault.TheVariants.{Cut, BadLength, Read, Write, NoMemory}
 
 -- a session's fault as a command tells it
 abbrev pub fault_of : Fault → CommandFault

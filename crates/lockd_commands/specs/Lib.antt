@@ -2,13 +2,6 @@ pub mod Ask
 pub mod Bytes
 pub mod Hex
 pub mod Order
-pub mod Outbox
 pub mod Script
-pub mod Sending
-pub mod Served
-pub mod Serving
-pub mod Session
 pub mod Status
-pub mod Turns
-pub mod UnderWay
 pub mod Words

@@ -3,10 +3,9 @@ ghost use Rattle.std.specs.Io.KnownBytes.{Keeps};
 ghost use Rattle.lockd_commands.specs.Bytes.{Did, IsOfStream, IsPrinted, IsSession};
 ghost use Rattle.lockd_commands.specs.Hex.{hex_stream};
 ghost use Rattle.lockd_commands.specs.declared.fault.Fault.{Fault};
-ghost use Rattle.lockd_commands.specs.declared.session.Fault.{Fault as Told};
+ghost use Rattle.fl_serve.specs.declared.session.Fault.{Fault as Told};
 
 use crate::fault::Fault;
-use crate::session;
 use crate::status::Status;
 use crate::streams::{read_all, write_all};
 use hex_text::read_stream;
@@ -64,7 +63,7 @@ fn bytes<R: Read, W: Write>(alloc: Global, input: &mut R, output: &mut W) -> Res
 #[derive(Drop)]
 struct Served {
     lines: Vec<u8>,
-    fault: Option<session::Fault>,
+    fault: Option<fl_serve::Fault>,
 }
 
 // A session over these bytes. Memory is all that a vector needs to be written to.
@@ -75,10 +74,10 @@ fn serve(alloc: Global, stream: &[u8]) -> Result<Served, Fault>
 {
     let mut rest = stream;
     let mut sent = Vec::new(alloc);
-    let done = session::run_one(alloc, &mut rest, &mut sent);
+    let done = fl_serve::run_one(alloc, &mut rest, &mut sent);
     match done.fault {
-        Some(session::Fault::Read) => Err(Fault::Read),
-        Some(session::Fault::Write | session::Fault::NoMemory) => Err(Fault::NoMemory),
+        Some(fl_serve::Fault::Read) => Err(Fault::Read),
+        Some(fl_serve::Fault::Write | fl_serve::Fault::NoMemory) => Err(Fault::NoMemory),
         fault => {
             let lines = print_replies(alloc, &sent)?;
             Ok(Served { lines, fault })

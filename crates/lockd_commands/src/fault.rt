@@ -1,6 +1,5 @@
 ghost use Rattle.std.specs.Prelude.{◌≡◌};
 
-use crate::session;
 use fl_wire::NoMemory;
 use std::alloc::{AllocError, AllocFailed};
 use thiserror::Error;
@@ -48,18 +47,18 @@ impl<T: Drop> From<AllocFailed<T>> for Fault {
     }
 }
 
-impl From<session::Fault> for Fault {
+impl From<fl_serve::Fault> for Fault {
     ghost use Rattle.lockd_commands.specs.Bytes.{fault_of};
 
     ghost from_gives = { λ told fault. fault ≡ fault_of told };
 
-    fn from(told: session::Fault) -> Fault {
+    fn from(told: fl_serve::Fault) -> Fault {
         match told {
-            session::Fault::Cut => Fault::Cut,
-            session::Fault::BadLength(len) => Fault::BadLength(len),
-            session::Fault::Read => Fault::Read,
-            session::Fault::Write => Fault::Write,
-            session::Fault::NoMemory => Fault::NoMemory,
+            fl_serve::Fault::Cut => Fault::Cut,
+            fl_serve::Fault::BadLength(len) => Fault::BadLength(len),
+            fl_serve::Fault::Read => Fault::Read,
+            fl_serve::Fault::Write => Fault::Write,
+            fl_serve::Fault::NoMemory => Fault::NoMemory,
         }
     }
 }

@@ -4,15 +4,12 @@
 mod ask;
 mod bytes;
 mod fault;
-mod outbox;
 mod script;
-pub mod session;
 mod status;
 mod streams;
 mod words;
 
 pub use bytes::bytes_on;
 pub use fault::Fault;
-pub use outbox::{Broken, Outbox};
 pub use script::script_on;
 pub use status::Status;

@@ -4,7 +4,7 @@ ghost use Rattle.std.specs.List.{concat};
 ghost use Rattle.hex.specs.Hex.{encode_lower};
 ghost use Rattle.fl_wire.specs.Layout.{len_of};
 ghost use Rattle.lockd_commands.specs.Bytes.{IsCutOff};
-ghost use Rattle.lockd_commands.specs.Session.{Came, session_of};
+ghost use Rattle.fl_serve.specs.Session.{Came, session_of};
 ghost use Rattle.lockd_commands.specs.declared.fault.Fault.TheVariants.{NoMemory};
 
 use crate::fault::Fault;

@@ -1,5 +1,5 @@
 use Rattle.std.proofs.Common.{[], sym, subst}
-use Rattle.fl_book.specs.Snapshot.{Snapshot}
+use Rattle.fl_core.specs.Snapshot.{Snapshot}
 use Rattle.fl_book.specs.Kept.{IsKept}
 use Rattle.fl_book.proofs.Histories.{opening_kept}
 use Rattle.fl_book.proofs.desk.Desk.new.Goals as goal

@@ -1,0 +1,86 @@
+-- What an order is answered at once, in a state (POSIX.1-2017 `fcntl`, F_GETLK and F_SETLK; Linux `flock(2)`; FUSE_CREATE, FUSE_GETLK and FUSE_SETLK of Linux `fuse.h`).
+use Rattle.std.specs.Prelude.{ℕ, Bool, false, not, ◌||◌, ◌&&◌, ◌==◌, nat_lt, Option, Some, None, Result, Ok, Err, List, [], ◌∷◌, if◌then◌else◌}
+use Rattle.std.specs.FinMap.{get}
+use Rattle.fl_wire.specs.declared.errno.Errno.{Errno}
+use Rattle.fl_wire.specs.declared.errno.Errno.TheVariants.{EBADF, EINVAL, EAGAIN, ENOLCK}
+use Rattle.fl_wire.specs.declared.told.Answer.{Answer}
+use Rattle.fl_wire.specs.declared.told.Answer.TheVariants.{Done, Lock}
+use Rattle.fl_wire.specs.declared.told.Told.{Told}
+use Rattle.fl_wire.specs.declared.order.Order.{Order}
+use Rattle.fl_wire.specs.declared.order.Op.{Op}
+use Rattle.fl_wire.specs.declared.order.Op.TheVariants.{Create, Getlk, Setlk}
+use Rattle.fl_wire.specs.declared.order.LockAsk.{LockAsk}
+use Rattle.fl_ranges.specs.declared.held.Held.{Held}
+use Rattle.fl_ranges.specs.declared.lock.Key.{Key}
+use Rattle.fl_ranges.specs.declared.lock.Kind.{Kind}
+use Rattle.fl_ranges.specs.declared.lock.Kind.TheVariants.{Read, Write}
+use Rattle.fl_ranges.specs.declared.lock.Mark.{Mark}
+use Rattle.fl_ranges.specs.Marking.{Marking, Stroke, stroked, marking_of}
+use Rattle.fl_ranges.specs.Conflict.{conflicts}
+use Rattle.fl_ranges.specs.Runs.{runs}
+use Rattle.fl_ranges.specs.Blocker.{blocker}
+use Rattle.fl_dir.specs.Directory.{Listing, create_reply}
+use Rattle.fl_core.specs.State.{State, is_flock, key_of, mark_of, stroke_of}
+
+-- the fh is open, and on this node
+abbrev pub is_open : Option ℕ → ℕ → Bool
+is_open None node = false
+is_open (Some of) node = of == node
+
+-- other flags than the whole-file bit, a type above 2, or a range of a record lock that is no range
+abbrev pub is_malformed : LockAsk → Bool
+is_malformed ask = nat_lt 1 ask.flags || (nat_lt 2 ask.kind || (not (is_flock ask) && (nat_lt ask.end ask.start || nat_lt 9223372036854775807 ask.end)))
+
+-- a change of locks is made where at most 4096 runs are there afterwards, over all files
+abbrev pub room_reply : Marking → Stroke → Result Answer Errno
+room_reply m s = if nat_lt 4096 (runs (stroked s m)) then Err ENOLCK else Ok Done
+
+-- a lock is set where it conflicts with none that is held, and unlocking has no such test
+abbrev pub set_reply : Marking → Stroke → Option Mark → Result Answer Errno
+set_reply m s None = room_reply m s
+set_reply m s (Some mark) = if conflicts m s.key s.start s.end mark.kind then Err EAGAIN else room_reply m s
+
+-- the first test that a lock request fails whatever locks are held, if there is one
+abbrev pub ask_error : Listing → ℕ → LockAsk → Option Errno
+ask_error d node ask =
+    if not (is_open (get d.files ask.fh) node) then Some EBADF
+    else (if is_malformed ask then Some EINVAL else None)
+
+-- that error, or else this answer
+abbrev pub unless_error : Option Errno → Result Answer Errno → Result Answer Errno
+unless_error None reply = reply
+unless_error (Some e) reply = Err e
+
+-- what a SETLK is answered
+abbrev pub setlk_reply : Listing → Marking → ℕ → LockAsk → Result Answer Errno
+setlk_reply d m node ask = unless_error (ask_error d node ask) (set_reply m (stroke_of node ask) (mark_of ask))
+
+-- the type of a lock record: 0 is read and 1 is write
+abbrev pub type_of : Kind → ℕ
+type_of Read = 0
+type_of Write = 1
+
+-- the lock that is named; where none excludes the one that was asked for, that one's own record with type 2, unlock
+abbrev pub lock_answer : LockAsk → Option Held → Answer
+lock_answer ask None = Lock ask.start ask.end 2 ask.pid
+lock_answer ask (Some held) = Lock held.start held.end (type_of held.mark.kind) held.mark.pid
+
+-- what would keep a lock from being set; unlocking has no such test
+abbrev pub test_reply : Marking → Key → LockAsk → Option Mark → Result Answer Errno
+test_reply m key ask None = Err EINVAL
+test_reply m key ask (Some mark) = Ok (lock_answer ask (blocker m key ask.start ask.end mark.kind))
+
+-- what a GETLK is answered, which asks for record locks alone
+abbrev pub getlk_reply : Listing → Marking → ℕ → LockAsk → Result Answer Errno
+getlk_reply d m node ask =
+    unless_error (ask_error d node ask) (if is_flock ask then Err EINVAL else test_reply m (key_of node ask) ask (mark_of ask))
+
+-- what an order is answered where these nodes, files and locks are there
+abbrev pub reply_to : Listing → Marking → Order → Op → Result Answer Errno
+reply_to d m order (Create excl mode name) = create_reply d order excl mode name
+reply_to d m order (Getlk ask) = getlk_reply d m order.node ask
+reply_to d m order (Setlk ask) = setlk_reply d m order.node ask
+
+-- the replies that an order gets at once, in the state before it: one of its own
+abbrev pub first_replies : State → Order → List Told
+first_replies s order = record { unique = order.unique; result = reply_to s.directory (marking_of s.strokes) order order.op } ∷ []

@@ -1,0 +1,6 @@
+//! One order: what it is answered, and what it changes in the directory and in the table of locks.
+#![tactic(auto)]
+
+mod state;
+
+pub use state::Core;

@@ -1,0 +1,235 @@
+ghost use Rattle.std.specs.Prelude.{◌≡◌, ◌↔◌, true, IfErr, IfOk, OnOk, OnErr, IsNone, IfSome, None, Some};
+ghost use Rattle.std.specs.FinMap as map;
+ghost use Rattle.fl_dir.specs.Directory.{opening_listing};
+ghost use Rattle.fl_ranges.specs.Marking.{stroked};
+ghost use Rattle.fl_core.specs.State.{is_flock, key_of, start_of, end_of, mark_of, stroke_of};
+ghost use Rattle.fl_core.specs.Replies.{ask_error, is_malformed, room_reply, set_reply, type_of, lock_answer, setlk_reply, getlk_reply};
+ghost use Rattle.fl_core.specs.Snapshot.{reply_at, next};
+
+use fl_dir::Dir;
+use fl_ranges::{Class, Held, Key, Kind, LAST_BYTE, Mark, Range, Table};
+use fl_wire::{Answer, Errno, LockAsk, Op, Order, Told};
+use std::alloc::{AllocError, Global};
+use std::marker::Model;
+
+// The lock types of Linux `fcntl.h`.
+const READ: u32 = 0;
+
+const WRITE: u32 = 1;
+
+const UNLOCK: u32 = 2;
+
+// The most runs of locked bytes, over all files and both classes.
+const MOST_RUNS: u32 = 4096;
+
+/// The directory and the locks. Contracts see them as a `Snapshot`.
+#[derive(Drop)]
+pub struct Core {
+    directory: Dir,
+    locks: Table,
+}
+
+impl Model for Core {
+    ghost use Rattle.std.specs.Prelude.{◌≡◌};
+    ghost use Rattle.fl_core.specs.Snapshot.{Snapshot};
+    ghost use Rattle.fl_core.specs.Codes.{snapshot_code};
+
+    ghost Value = { Snapshot };
+
+    ghost coded = { snapshot_code };
+
+    ghost view = { λ s. record { directory = s.directory; marking = s.locks.marking } };
+
+    ghost invariant = { λ s. s.locks.limit ≡ 4096 };
+}
+
+impl Core {
+    /// No files and no locks.
+    pub fn new(alloc: Global) -> Result<Core, AllocError>
+        ensures { IfOk result (λ s. s ≡ record { directory = opening_listing; marking = map.empty }) }
+    {
+        Ok(Core {
+            directory: Dir::new(alloc)?,
+            locks: Table::new(alloc, MOST_RUNS)?,
+        })
+    }
+
+    /// Answers an order, and makes its change.
+    pub fn step(&mut self, order: &Order) -> Told
+        ensures reply { result ≡ reply_at self.old order.now }
+        ensures present { self.new ≡ next self.old order.now }
+    {
+        let result = match &order.op {
+            Op::Create { excl, mode, name } => self.directory.create(order, *excl, *mode, name),
+            Op::Getlk(ask) => test_lock(&self.directory, &self.locks, order.node, ask),
+            Op::Setlk(ask) => set_lock(&self.directory, &mut self.locks, order.node, ask),
+        };
+        Told {
+            unique: order.unique,
+            result,
+        }
+    }
+}
+
+// FUSE_SETLK: sets or takes away a lock where its tests pass.
+fn set_lock(
+    directory: &Dir,
+    locks: &mut Table,
+    node: u64,
+    ask: &LockAsk,
+) -> Result<Answer, Errno>
+    requires { locks.old.limit ≡ 4096 }
+    ensures reply { result ≡ setlk_reply directory.now locks.old.marking node ask.now }
+    ensures granted { OnOk result (locks.new.marking ≡ stroked (stroke_of node ask.now) locks.old.marking) }
+    ensures refused { OnErr result (locks.new.marking ≡ locks.old.marking) }
+    ensures limit { locks.new.limit ≡ 4096 }
+{
+    let range = asked_range(directory, node, ask)?;
+    change(locks, &key_of(node, ask), &range, mark_of(ask))
+}
+
+// The bytes of the range get the mark, or lose theirs: where no lock that is held excludes it, and where there is
+// room for the runs afterwards.
+fn change(locks: &mut Table, key: &Key, range: &Range, mark: Option<Mark>) -> Result<Answer, Errno>
+    requires { locks.old.limit ≡ 4096 }
+    ensures reply { result ≡ set_reply locks.old.marking (record { key = key.now; start = range.now.start; end = range.now.end; mark = mark }) mark }
+    ensures granted { OnOk result (locks.new.marking ≡ stroked (record { key = key.now; start = range.now.start; end = range.now.end; mark = mark }) locks.old.marking) }
+    ensures refused { OnErr result (locks.new.marking ≡ locks.old.marking) }
+    ensures limit { locks.new.limit ≡ 4096 }
+{
+    match mark {
+        Some(own) if locks.clashes(key, range, own.kind) => Err(Errno::EAGAIN),
+        Some(_) => store(locks, key, range, mark),
+        None => store(locks, key, range, mark),
+    }
+}
+
+// The same for locks that nothing excludes.
+fn store(locks: &mut Table, key: &Key, range: &Range, mark: Option<Mark>) -> Result<Answer, Errno>
+    requires { locks.old.limit ≡ 4096 }
+    ensures reply { result ≡ room_reply locks.old.marking (record { key = key.now; start = range.now.start; end = range.now.end; mark = mark }) }
+    ensures granted { OnOk result (locks.new.marking ≡ stroked (record { key = key.now; start = range.now.start; end = range.now.end; mark = mark }) locks.old.marking) }
+    ensures refused { OnErr result (locks.new.marking ≡ locks.old.marking) }
+    ensures limit { locks.new.limit ≡ 4096 }
+{
+    let stored = match mark {
+        Some(mark) => locks.put(key, range, mark),
+        None => locks.erase(key, range),
+    };
+    match stored {
+        Ok(()) => Ok(Answer::Done),
+        Err(_) => Err(Errno::ENOLCK),
+    }
+}
+
+// FUSE_GETLK: tells the lock that keeps the one asked for from being set.
+fn test_lock(
+    directory: &Dir,
+    locks: &Table,
+    node: u64,
+    ask: &LockAsk,
+) -> Result<Answer, Errno>
+    ensures { result ≡ getlk_reply directory.now locks.now.marking node ask.now }
+{
+    let range = asked_range(directory, node, ask)?;
+    let key = key_of(node, ask);
+    if key.class == Class::Flock {
+        return Err(Errno::EINVAL);
+    }
+    let Some(mark) = mark_of(ask) else {
+        return Err(Errno::EINVAL);
+    };
+    Ok(lock_answer(ask, locks.blocker(&key, &range, mark.kind)))
+}
+
+// What a GETLK is told where this lock excludes it, or none.
+fn lock_answer(ask: &LockAsk, held: Option<Held>) -> Answer
+    ensures { result ≡ lock_answer ask.now held }
+{
+    match held {
+        None => Answer::Lock {
+            start: ask.start,
+            end: ask.end,
+            kind: UNLOCK,
+            pid: ask.pid,
+        },
+        Some(held) => Answer::Lock {
+            start: held.start,
+            end: held.end,
+            kind: type_of(held.mark.kind),
+            pid: held.mark.pid,
+        },
+    }
+}
+
+fn type_of(kind: Kind) -> u32
+    ensures { result ≡ type_of kind }
+{
+    match kind {
+        Kind::Read => READ,
+        Kind::Write => WRITE,
+    }
+}
+
+// The range of a lock request, by the tests that it meets whatever locks are held.
+fn asked_range(directory: &Dir, node: u64, ask: &LockAsk) -> Result<Range, Errno>
+    ensures error { IfErr result (λ e. ask_error directory.now node ask.now ≡ Some e) }
+    ensures passed { OnOk result (ask_error directory.now node ask.now ≡ None) }
+    ensures range { IfOk result (λ range. (range.start ≡ start_of ask.now) × (range.end ≡ end_of ask.now)) }
+{
+    if directory.node_of(ask.fh) != Some(node) {
+        return Err(Errno::EBADF);
+    }
+    range_of(ask).ok_or(Errno::EINVAL)
+}
+
+// The range of a lock request; none where the request is malformed.
+fn range_of(ask: &LockAsk) -> Option<Range>
+    ensures malformed { IsNone result ↔ (is_malformed ask.now ≡ true) }
+    ensures range { IfSome result (λ range. (range.start ≡ start_of ask.now) × (range.end ≡ end_of ask.now)) }
+{
+    if ask.flags > 1 || ask.kind > UNLOCK {
+        return None;
+    }
+    if is_flock(ask) {
+        return Some(Range::whole());
+    }
+    if ask.start > ask.end || ask.end > LAST_BYTE {
+        return None;
+    }
+    Some(Range {
+        start: ask.start,
+        end: ask.end,
+    })
+}
+
+fn key_of(node: u64, ask: &LockAsk) -> Key
+    ensures { result ≡ key_of node ask.now }
+{
+    Key {
+        class: if is_flock(ask) {
+            Class::Flock
+        } else {
+            Class::Record
+        },
+        node,
+        owner: ask.owner,
+    }
+}
+
+fn mark_of(ask: &LockAsk) -> Option<Mark>
+    ensures { result ≡ mark_of ask.now }
+{
+    let kind = match ask.kind {
+        READ => Kind::Read,
+        WRITE => Kind::Write,
+        _ => return None,
+    };
+    Some(Mark { kind, pid: ask.pid })
+}
+
+fn is_flock(ask: &LockAsk) -> bool
+    ensures { result ≡ is_flock ask.now }
+{
+    ask.flags & 1 == 1
+}

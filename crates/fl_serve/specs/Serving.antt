@@ -1,0 +1,40 @@
+-- A session that is under way: what is kept of it, and what it did with its reader and its writer so far.
+use Rattle.std.specs.Prelude.{◌≡◌, ℕ, Bool, false, List, [], ◌∷◌, ◌++◌, map, Result}
+use Rattle.fl_wire.specs.Init.{init_spelling}
+use Rattle.fl_wire.specs.Spell.{spelling_of}
+use Rattle.fl_wire.specs.declared.order.Order.{Order}
+use Rattle.fl_wire.specs.declared.reading.Refusal.{Refusal}
+use Rattle.fl_wire.specs.declared.told.Told.{Told}
+use Rattle.fl_serve.specs.Session.{Session, with_message, after_init}
+use Rattle.fl_serve.specs.declared.session.server.Owed.{Owed}
+use Rattle.fl_serve.specs.declared.session.server.Owed.TheVariants.{Nothing, Init, One, Tolds}
+use Rattle.fl_serve.specs.declared.session.server.Server.{Server}
+
+-- the bytes of each reply that is owed, where an order gets these
+abbrev pub bytes_of : Owed → List Told → List (List ℕ)
+bytes_of Nothing tolds = []
+bytes_of (Init unique step) tolds = init_spelling unique step ∷ []
+bytes_of (One told) tolds = spelling_of told ∷ []
+bytes_of Tolds tolds = map spelling_of tolds
+
+-- the session that a server keeps, and that got these replies
+abbrev pub session_with : Server → List (List ℕ) → Session
+session_with server replies =
+    record { agreed = server.agreed; over = server.over; replies = replies; lines = server.desk.lines; refused = server.refused }
+
+-- no message came yet
+pub record IsFresh (server : Server) : Type 0 where
+  pub agreed : server.agreed ≡ false
+  pub over : server.over ≡ false
+  pub refused : server.refused ≡ false
+  pub lines : server.desk.lines ≡ []
+
+-- a message is answered, whatever was answered before
+pub record IsMet (old new : Server) (owed : List (List ℕ)) (message : List ℕ) : Type 0 where
+  pub refused : Bool
+  pub is : (replies : List (List ℕ)) → session_with new (replies ++ owed) ≡ with_message (session_with old replies) (record { message = message; refused = refused })
+
+-- the same of a message that says this, after an INIT is agreed
+pub record IsMetAs (old new : Server) (owed : List (List ℕ)) (unique : ℕ) (says : Result Order Refusal) : Type 0 where
+  pub refused : Bool
+  pub is : (replies : List (List ℕ)) → session_with new (replies ++ owed) ≡ after_init (session_with old replies) refused unique says

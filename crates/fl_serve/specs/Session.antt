@@ -1,0 +1,85 @@
+-- A session: its messages, what is answered to them, and the lines that they give (Linux `fuse.h`, protocol 7.31).
+use Rattle.std.specs.Prelude.{ℕ, ◌==◌, Bool, true, false, List, [], ◌∷◌, ◌++◌, map, fold, Result, Ok, Err, if◌then◌else◌}
+use Rattle.fl_wire.specs.Init.{init_step, init_spelling}
+use Rattle.fl_wire.specs.Layout.{opcode_of, unique_of}
+use Rattle.fl_wire.specs.Says.{said}
+use Rattle.fl_wire.specs.Spell.{reply_bytes, spelling_of}
+use Rattle.fl_wire.specs.declared.errno.Errno.TheVariants.{ENOMEM, EPROTO}
+use Rattle.fl_wire.specs.declared.init.InitStep.{InitStep}
+use Rattle.fl_wire.specs.declared.init.InitStep.TheVariants.{Refused, Again, Agreed}
+use Rattle.fl_wire.specs.declared.order.Order.{Order}
+use Rattle.fl_wire.specs.declared.reading.Refusal.{Refusal}
+use Rattle.fl_wire.specs.declared.reading.Refusal.TheVariants.{Answer, Silent, Destroy}
+use Rattle.fl_wire.specs.declared.told.Answer.TheVariants.{Done}
+use Rattle.fl_wire.specs.declared.told.Told.{Told}
+use Rattle.fl_book.specs.Legal.{step_lines}
+use Rattle.fl_core.specs.Replies.{first_replies}
+use Rattle.fl_book.specs.Replay.{state_after}
+use Rattle.fl_book.specs.declared.history.Line.{Line}
+
+-- a message that came, and whether its order was refused for want of memory
+pub record Came : Type 0 where
+  pub message : List ℕ
+  pub refused : Bool
+
+-- A session so far: whether an INIT was agreed and whether a DESTROY ended it, the bytes of each reply, the lines of
+-- its orders, and whether some order was refused for want of memory.
+pub record Session : Type 0 where
+  pub agreed : Bool
+  pub over : Bool
+  pub replies : List (List ℕ)
+  pub lines : List Line
+  pub refused : Bool
+
+-- no message came yet
+abbrev pub opening_session : Session
+opening_session = record { agreed = false; over = false; replies = []; lines = []; refused = false }
+
+-- one reply more
+abbrev pub replied : Session → List ℕ → Session
+replied s reply = record s { replies = s.replies ++ reply ∷ [] }
+
+-- an INIT came to an agreement
+abbrev pub is_agreed : InitStep → Bool
+is_agreed (Refused e) = false
+is_agreed Again = false
+is_agreed (Agreed max_readahead flags) = true
+
+-- an INIT before any was agreed
+abbrev pub greeted : Session → ℕ → InitStep → Session
+greeted s unique step = record s { agreed = is_agreed step; replies = s.replies ++ init_spelling unique step ∷ [] }
+
+-- Before an INIT is agreed any other message is EPROTO, but FORGET (2) and BATCH_FORGET (42), which are dropped.
+abbrev pub before_init : Session → ℕ → List ℕ → Session
+before_init s opcode message =
+    if opcode == 26 then greeted s (unique_of message) (init_step message)
+    else if opcode == 2 then s
+    else if opcode == 42 then s
+    else replied s (reply_bytes (unique_of message) (Err EPROTO))
+
+-- an order that worker 0 handed in, with the replies that it gets
+abbrev pub with_step : Session → Order → List Told → Session
+with_step s order tolds = record s { replies = s.replies ++ map spelling_of tolds; lines = s.lines ++ step_lines 0 order tolds }
+
+-- an order that was refused for want of memory
+abbrev pub with_refusal : Session → Order → Session
+with_refusal s order = record s { replies = s.replies ++ reply_bytes order.unique (Err ENOMEM) ∷ []; refused = true }
+
+-- An order gets the replies of the lock directory, or is refused for want of memory. A message that is no order gets
+-- its error or nothing, and after the reply to a DESTROY nothing comes.
+abbrev pub after_init : Session → Bool → ℕ → Result Order Refusal → Session
+after_init s refused unique (Ok order) = if refused then with_refusal s order else with_step s order (first_replies (state_after s.lines) order)
+after_init s refused unique (Err (Answer e)) = replied s (reply_bytes unique (Err e))
+after_init s refused unique (Err Silent) = s
+after_init s refused unique (Err Destroy) = record (replied s (reply_bytes unique (Ok Done))) { over = true }
+
+-- one message more
+abbrev pub with_message : Session → Came → Session
+with_message s came =
+    if s.over then s
+    else if s.agreed then after_init s came.refused (unique_of came.message) (said came.message)
+    else before_init s (opcode_of came.message) came.message
+
+-- the session of these messages
+abbrev pub session_of : List Came → Session
+session_of came = fold with_message opening_session came

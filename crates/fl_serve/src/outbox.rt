@@ -1,0 +1,76 @@
+//! Replies that go out one after another, each whole.
+
+ghost use Rattle.std.specs.Prelude.{◌≡◌, ◌↔◌, true, false, IsErr, OnOk, OnErr};
+ghost use Rattle.std.specs.Io.KnownBytes.{Appends, Keeps};
+ghost use Rattle.fl_serve.specs.Outbox.{writer_of, is_broken, IsBroken, IsSentBy};
+
+use std::io::Write;
+use thiserror::Error;
+
+/// A reply didn't go out whole, this one or one before it.
+#[derive(Clone, Copy, Debug, PartialEq, Eq, Error)]
+#[error("broken")]
+pub struct Broken;
+
+/// Replies on their way to a writer. After a write that failed or took nothing it is broken: no more is
+/// written. No memory is taken.
+#[derive(Drop)]
+pub struct Outbox<W> {
+    pub(crate) writer: W,
+    pub(crate) broken: bool,
+}
+
+impl<W: Write> Outbox<W> {
+    /// Nothing was sent yet.
+    pub fn new(writer: W) -> Outbox<W>
+        ensures writer { writer_of result ≡ writer }
+        ensures whole { is_broken result ≡ false }
+    {
+        Outbox {
+            writer,
+            broken: false,
+        }
+    }
+
+    /// Writes the whole reply. An error of a write breaks it, of whatever kind, and so does a write that takes
+    /// 0 bytes.
+    pub fn send(&mut self, reply: &[u8]) -> Result<(), Broken>
+        ensures whole { OnOk result (Appends (W.contents (writer_of self.old)) (W.contents (writer_of self.new)) reply.now) }
+        ensures part { OnErr result (is_broken self.old ≡ false → IsBroken (W.contents (writer_of self.old)) (W.contents (writer_of self.new)) reply.now) }
+        ensures nothing { is_broken self.old ≡ true → Keeps (W.contents (writer_of self.old)) (W.contents (writer_of self.new)) }
+        ensures refuses { is_broken self.old ≡ true → IsErr result }
+        ensures broken { IsErr result ↔ (is_broken self.new ≡ true) }
+    {
+        let broken = self.broken;
+        self.broken = send_on(&mut self.writer, broken, reply);
+        if self.broken { Err(Broken) } else { Ok(()) }
+    }
+}
+
+impl<W: Write> Outbox<&mut W> {
+    /// Sends to a writer that is lent, and holds it still.
+    pub(crate) fn post(&mut self, reply: &[u8])
+        ensures same { self.new.writer.ghost_name ≡ self.old.writer.ghost_name }
+        ensures sent { IsSentBy (W.contents self.old.writer.now) (W.contents self.new.writer.now) self.old.broken self.new.broken reply.now }
+    {
+        let broken = self.broken;
+        self.broken = send_on(self.writer, broken, reply);
+    }
+}
+
+// Writes the whole reply, where it isn't broken before, and tells whether it is broken then.
+fn send_on<W: Write>(writer: &mut W, broken: bool, reply: &[u8]) -> bool
+    ensures { IsSentBy (W.contents writer.old) (W.contents writer.new) broken result reply.now }
+{
+    if broken {
+        return true;
+    }
+    let mut at = 0;
+    while at < reply.len() {
+        match writer.write(&reply[at..]) {
+            Ok(0) | Err(_) => return true,
+            Ok(n) => at += n,
+        }
+    }
+    false
+}

@@ -1,0 +1,125 @@
+//! A whole session of the FUSE protocol with one worker, over any reader and any writer.
+ghost use Rattle.std.specs.Prelude.{◌≡◌, IfOk, length, vec_len};
+ghost use Rattle.fl_serve.specs.Served.{IsServed};
+ghost use Rattle.fl_serve.specs.Serving.{IsFresh};
+ghost use Rattle.fl_serve.specs.Turns.{first_fault, HasEnded};
+
+mod answering;
+mod mail;
+mod reading;
+mod server;
+
+use crate::outbox::Outbox;
+use crate::session::mail::{Mail, Room};
+use crate::session::reading::serve;
+use crate::session::server::Server;
+use fl_book::History;
+use fl_wire::NoMemory;
+use std::alloc::Global;
+use std::io::{Read, Write};
+use thiserror::Error;
+
+// The most bytes of a message.
+const ROOM: usize = 8192;
+
+/// Why a session ended before its stream did. Its text is the line on standard error.
+#[derive(Clone, Copy, Debug, PartialEq, Eq, Error)]
+pub enum Fault {
+    /// The stream ended inside a message.
+    #[error("cut")]
+    Cut,
+    /// A message says this length, which none has: it is outside 40 to 8192 bytes.
+    #[error("bad length {0}")]
+    BadLength(u32),
+    /// A read failed.
+    #[error("read failed")]
+    Read,
+    /// A write failed, or took nothing.
+    #[error("write failed")]
+    Write,
+    /// Want of memory, before anything was read.
+    #[error("no memory")]
+    NoMemory,
+}
+
+/// What a session came to.
+#[derive(Debug, Drop)]
+pub struct Done {
+    /// The orders that it took and their replies.
+    pub history: History,
+    /// Why it ended early, if it did: the reader's fault before the writer's.
+    pub fault: Option<Fault>,
+    /// Some order was refused for want of memory.
+    pub refused: bool,
+}
+
+/// Serves a whole session: each message is answered when it is whole, and each reply goes out by itself. Its
+/// room for reading and for a reply is made before the first read. A read that fails ends it, and so does a
+/// DESTROY after an INIT is agreed. After a write that failed it goes on, and writes no more.
+pub fn run_one<R: Read, W: Write>(alloc: Global, r: &mut R, w: &mut W) -> Done
+    ensures { IsServed (R.remaining r.old) (R.remaining r.new) (W.contents w.old) (W.contents w.new) result }
+{
+    let Ok((mut room, server, reply)) = memory(alloc) else {
+        return Done {
+            history: History::new(Vec::new(alloc)),
+            fault: Some(Fault::NoMemory),
+            refused: false,
+        };
+    };
+    let (server, fault, broken) = run(r, w, &mut room, server, reply);
+    let refused = server.refused;
+    Done {
+        history: server.into_history(),
+        fault: first(fault, broken),
+        refused,
+    }
+}
+
+// Runs a session with this memory, and tells what its server keeps, its reader's fault, and whether a write
+// failed.
+fn run<R: Read, W: Write>(
+    r: &mut R,
+    w: &mut W,
+    room: &mut [u8],
+    mut server: Server,
+    mut reply: Room,
+) -> (Server, Option<Fault>, bool)
+    requires room { length room.old ≡ 8192 }
+    requires fresh { IsFresh server }
+    ensures { HasEnded (R.remaining r.old) (R.remaining r.new) (W.contents w.old) (W.contents w.new) result.2 result.0 result.1 }
+{
+    let mut mail = Mail {
+        room: &mut reply,
+        out: Outbox::new(w),
+    };
+    let fault = serve(r, room, &mut server, &mut mail);
+    let Mail { room: _, out } = mail;
+    let Outbox { writer, broken } = out;
+    // No effect at run time: the proof reads here what the writer holds.
+    let _ = &*writer;
+    (server, fault, broken)
+}
+
+// The memory of a session: room for a message, the lock directory, and room for a reply.
+fn memory(alloc: Global) -> Result<(Vec<u8>, Server, Room), NoMemory>
+    ensures room { IfOk result (λ made. vec_len made.0 ≡ 8192) }
+    ensures fresh { IfOk result (λ made. IsFresh made.1) }
+{
+    let room = vec![in alloc; 0; ROOM]?;
+    let server = Server::new(alloc)?;
+    let reply = Room::new(alloc)?;
+    Ok((room, server, reply))
+}
+
+// The reader's fault before the writer's.
+fn first(fault: Option<Fault>, broken: bool) -> Option<Fault>
+    ensures { result ≡ first_fault fault broken }
+{
+    match fault {
+        None if broken => Some(Fault::Write),
+        fault => fault,
+    }
+}
+
+#[cfg(test)]
+mod tests;

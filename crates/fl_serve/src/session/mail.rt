@@ -1,0 +1,114 @@
+//! How the replies of a session go out.
+
+ghost use Rattle.std.specs.Prelude.{◌≡◌, [], ◌∷◌, IfOk, map};
+ghost use Rattle.fl_wire.specs.Init.{init_spelling};
+ghost use Rattle.fl_wire.specs.Spell.{spelling_of};
+ghost use Rattle.fl_serve.specs.Serving.{bytes_of};
+ghost use Rattle.fl_serve.specs.Sending.{Sends};
+
+use crate::outbox::Outbox;
+use crate::session::server::Owed;
+use fl_wire::{InitStep, NoMemory, Told, write_init, write_told};
+use std::alloc::Global;
+use std::io::Write;
+use std::marker::Model;
+
+// The most bytes of a reply.
+const MOST_BYTES: usize = 160;
+
+/// Room in which one reply after another is laid out. Contracts see the bytes of the last one.
+#[derive(Drop)]
+pub(crate) struct Room {
+    bytes: Vec<u8>,
+}
+
+impl Model for Room {
+    ghost use Rattle.std.specs.Prelude.{List, ℕ, ◌≤◌, vec_capacity};
+
+    ghost Value = { List ℕ };
+
+    ghost view = { λ r. r.bytes.items };
+
+    ghost invariant = { λ r. 160 ≤ vec_capacity r.bytes };
+}
+
+impl Room {
+    /// No reply yet.
+    pub(crate) fn new(alloc: Global) -> Result<Room, NoMemory>
+        ensures { IfOk result (λ room. room ≡ []) }
+    {
+        Ok(Room {
+            bytes: Vec::with_capacity(alloc, MOST_BYTES)?,
+        })
+    }
+
+    // Lays out a reply.
+    fn lay_out(&mut self, told: &Told)
+        ensures { self.new ≡ spelling_of told.now }
+    {
+        self.bytes.clear();
+        write_told(told, &mut self.bytes).unwrap();
+    }
+
+    // Lays out the reply to an INIT.
+    fn lay_out_init(&mut self, unique: u64, step: &InitStep)
+        ensures { self.new ≡ init_spelling unique step.now }
+    {
+        self.bytes.clear();
+        write_init(unique, step, &mut self.bytes).unwrap();
+    }
+
+    // The bytes of the last reply.
+    fn as_slice(&self) -> &[u8]
+        ensures { result.now ≡ self.now }
+    {
+        &self.bytes
+    }
+}
+
+/// The replies of a session on their way out: the room for each, and the outbox that sends them.
+#[derive(Drop)]
+pub(crate) struct Mail<'a, W> {
+    pub room: &'a mut Room,
+    pub out: Outbox<&'a mut W>,
+}
+
+impl<W: Write> Mail<'_, W> {
+    /// Sends what is owed, each reply by itself.
+    pub(crate) fn send(&mut self, owed: &Owed, tolds: &[Told])
+        ensures same { self.new.out.writer.ghost_name ≡ self.old.out.writer.ghost_name }
+        ensures sent { Sends (W.contents self.old.out.writer.now) (W.contents self.new.out.writer.now) self.old.out.broken self.new.out.broken (bytes_of owed.now tolds.now) }
+    {
+        match owed {
+            Owed::Nothing => {}
+            Owed::Init(unique, step) => self.send_init(*unique, step),
+            Owed::One(told) => self.send_one(told),
+            Owed::Tolds => self.send_all(tolds),
+        }
+    }
+
+    fn send_init(&mut self, unique: u64, step: &InitStep)
+        ensures same { self.new.out.writer.ghost_name ≡ self.old.out.writer.ghost_name }
+        ensures sent { Sends (W.contents self.old.out.writer.now) (W.contents self.new.out.writer.now) self.old.out.broken self.new.out.broken (init_spelling unique step.now ∷ []) }
+    {
+        self.room.lay_out_init(unique, step);
+        self.out.post(self.room.as_slice());
+    }
+
+    fn send_one(&mut self, told: &Told)
+        ensures same { self.new.out.writer.ghost_name ≡ self.old.out.writer.ghost_name }
+        ensures sent { Sends (W.contents self.old.out.writer.now) (W.contents self.new.out.writer.now) self.old.out.broken self.new.out.broken (spelling_of told.now ∷ []) }
+    {
+        self.room.lay_out(told);
+        self.out.post(self.room.as_slice());
+    }
+
+    fn send_all(&mut self, tolds: &[Told])
+        ensures same { self.new.out.writer.ghost_name ≡ self.old.out.writer.ghost_name }
+        ensures sent { Sends (W.contents self.old.out.writer.now) (W.contents self.new.out.writer.now) self.old.out.broken self.new.out.broken (map spelling_of tolds.now) }
+    {
+        for told in tolds {
+            self.send_one(told);
+        }
+    }
+}

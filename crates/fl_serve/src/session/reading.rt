@@ -1,0 +1,117 @@
+//! How a session reads its stream.
+
+ghost use Rattle.std.specs.Prelude.{◌≡◌, ℕ, List, Option, ◌≤◌, ◌<◌, ◌+◌, ◌-◌, false, take, drop, length, IfOk, OnErr};
+ghost use Rattle.std.specs.Io.KnownBytes.{Consumes, IsAtEnd, Keeps};
+ghost use Rattle.fl_serve.specs.Serving.{IsFresh};
+ghost use Rattle.fl_serve.specs.UnderWay.{IsUnderWay};
+ghost use Rattle.fl_serve.specs.Turns.{IsWaiting, HasTurned, Fits, HasEnded};
+
+use crate::session::Fault;
+use crate::session::answering::{Stop, answer_all};
+use crate::session::mail::Mail;
+use crate::session::server::Server;
+use std::io;
+use std::io::{Read, Write};
+
+/// What comes after one read.
+#[derive(Clone, Copy, Debug, PartialEq, Eq)]
+pub(crate) enum Turn {
+    /// Another read. So many bytes, of a message that isn't whole yet, stand at the front of the room.
+    More(usize),
+    /// Nothing: the session ends, with this fault of its reader, if any.
+    End(Option<Fault>),
+}
+
+/// Reads and answers until the session ends, and tells the fault of its reader, if any.
+pub(crate) fn serve<R: Read, W: Write>(
+    r: &mut R,
+    room: &mut [u8],
+    server: &mut Server,
+    mail: &mut Mail<'_, W>,
+) -> Option<Fault>
+    requires room { length room.old ≡ 8192 }
+    requires fresh { IsFresh server.old }
+    requires whole { mail.old.out.broken ≡ false }
+    ensures same { mail.new.out.writer.ghost_name ≡ mail.old.out.writer.ghost_name }
+    ensures ended { HasEnded (R.remaining r.old) (R.remaining r.new) (W.contents mail.old.out.writer.now) (W.contents mail.new.out.writer.now) mail.new.out.broken server.new result }
+{
+    let mut filled = 0;
+    for _ in 0..u64::MAX {
+        match read_once(r, room, filled, server, mail) {
+            Turn::More(left) => filled = left,
+            Turn::End(fault) => return fault,
+        }
+    }
+    Some(Fault::Read)
+}
+
+// Reads once, behind the bytes that fill the front of the room, and answers the messages that are whole then.
+fn read_once<R: Read, W: Write>(
+    r: &mut R,
+    room: &mut [u8],
+    filled: usize,
+    server: &mut Server,
+    mail: &mut Mail<'_, W>,
+) -> Turn
+    requires room { length room.old ≡ 8192 }
+    requires within { filled ≤ length room.old }
+    requires live { server.old.over ≡ false }
+    ensures same { mail.new.out.writer.ghost_name ≡ mail.old.out.writer.ghost_name }
+    ensures fits { Fits result server.new room.new }
+    ensures turned { (left start : Option (List ℕ)) → IsWaiting left (R.remaining r.old) start (W.contents mail.old.out.writer.now) mail.old.out.broken server.old room.old filled
+        → HasTurned result left (R.remaining r.new) start (W.contents mail.new.out.writer.now) mail.new.out.broken server.new room.new }
+{
+    match read_behind(r, room, filled) {
+        Ok(0) if filled == 0 => Turn::End(None),
+        Ok(0) => Turn::End(Some(Fault::Cut)),
+        Ok(n) => answer_read(room, filled + n, server, mail),
+        Err(_) => Turn::End(Some(Fault::Read)),
+    }
+}
+
+// Reads behind the bytes that fill the front of the room.
+fn read_behind<R: Read>(r: &mut R, room: &mut [u8], filled: usize) -> io::Result<usize>
+    requires { filled ≤ length room.old }
+    ensures front { take filled room.new ≡ take filled room.old }
+    ensures within { IfOk result (λ n. filled + n ≤ length room.new) }
+    ensures read { IfOk result (λ n. Consumes (R.remaining r.old) (R.remaining r.new) (take n (drop filled room.new))) }
+    ensures end { IfOk result (λ n. n ≡ 0 → filled < length room.new → IsAtEnd (R.remaining r.new)) }
+    ensures failed { OnErr result (Keeps (R.remaining r.old) (R.remaining r.new)) }
+{
+    r.read(&mut room[filled..])
+}
+
+// Answers the whole messages among the bytes that fill the front of the room, and moves the rest there.
+fn answer_read<W: Write>(
+    room: &mut [u8],
+    filled: usize,
+    server: &mut Server,
+    mail: &mut Mail<'_, W>,
+) -> Turn
+    requires room { length room.old ≡ 8192 }
+    requires within { filled ≤ length room.old }
+    requires live { server.old.over ≡ false }
+    ensures same { mail.new.out.writer.ghost_name ≡ mail.old.out.writer.ghost_name }
+    ensures fits { Fits result server.new room.new }
+    ensures turned { (left left_now start : Option (List ℕ)) → IsUnderWay left left_now start (W.contents mail.old.out.writer.now) mail.old.out.broken server.old (take filled room.old)
+        → HasTurned result left left_now start (W.contents mail.new.out.writer.now) mail.new.out.broken server.new room.new }
+{
+    let (at, stop) = answer_all(server, mail, &room[..filled]);
+    match stop {
+        Stop::More => {
+            move_front(room, at, filled);
+            Turn::More(filled - at)
+        }
+        Stop::Bad(len) => Turn::End(Some(Fault::BadLength(len))),
+        Stop::Over => Turn::End(None),
+    }
+}
+
+// Moves the bytes from `at` to `filled` to the front.
+fn move_front(room: &mut [u8], at: usize, filled: usize)
+    requires order { at ≤ filled }
+    requires within { filled ≤ length room.old }
+    ensures { take (filled - at) room.new ≡ drop at (take filled room.old) }
+{
+    room.copy_within(at..filled, 0);
+}

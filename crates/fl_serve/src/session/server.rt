@@ -1,0 +1,138 @@
+//! What a session does with each message, apart from reading and writing.
+
+ghost use Rattle.std.specs.Prelude.{◌≡◌, ℕ, List, false, ◌++◌};
+ghost use Rattle.std.specs.Prelude.{IfOk};
+ghost use Rattle.fl_wire.specs.Layout.{opcode_of, unique_of};
+ghost use Rattle.fl_wire.specs.Says.{said};
+ghost use Rattle.fl_serve.specs.Session.{before_init};
+ghost use Rattle.fl_serve.specs.Serving.{bytes_of, session_with, IsFresh, IsMet, IsMetAs};
+
+use fl_book::{Desk, History, Tolds};
+use fl_wire::{
+    Answer, Errno, Frame, InitStep, NoMemory, Order, Refusal, Told, read_init, read_order,
+};
+use std::alloc::Global;
+
+// Kinds of messages that are told apart before an INIT is agreed (`enum fuse_opcode` of `fuse.h`).
+const FORGET: u32 = 2;
+
+const INIT: u32 = 26;
+
+const BATCH_FORGET: u32 = 42;
+
+/// What a message is answered.
+#[derive(Clone, Copy, Debug)]
+pub(crate) enum Owed {
+    /// No reply.
+    Nothing,
+    /// The reply to the INIT with this unique.
+    Init(u64, InitStep),
+    /// One reply.
+    One(Told),
+    /// The replies of an order, which the server holds.
+    Tolds,
+}
+
+/// The lock directory of a session, and how far the session is.
+#[derive(Drop)]
+pub(crate) struct Server {
+    pub desk: Desk,
+    pub tolds: Tolds,
+    /// An INIT was agreed.
+    pub agreed: bool,
+    /// A DESTROY ended the session.
+    pub over: bool,
+    /// Some order was refused for want of memory.
+    pub refused: bool,
+}
+
+impl Server {
+    /// No message came yet.
+    pub(crate) fn new(alloc: Global) -> Result<Server, NoMemory>
+        ensures { IfOk result IsFresh }
+    {
+        Ok(Server {
+            desk: Desk::new(alloc)?,
+            tolds: Tolds::new(alloc)?,
+            agreed: false,
+            over: false,
+            refused: false,
+        })
+    }
+
+    /// The history of the orders that it took.
+    pub(crate) fn into_history(self) -> History
+        ensures { result ≡ self.desk.lines }
+    {
+        let Server { desk, .. } = self;
+        desk.into_history()
+    }
+
+    /// What a message of a session that isn't over is answered.
+    pub(crate) fn meet(&mut self, frame: &Frame) -> Owed
+        requires { self.old.over ≡ false }
+        ensures { IsMet self.old self.new (bytes_of result self.new.tolds) frame.now }
+    {
+        if self.agreed {
+            self.meet_after_init(frame)
+        } else {
+            self.meet_before_init(frame)
+        }
+    }
+
+    // The same, before an INIT is agreed.
+    fn meet_before_init(&mut self, frame: &Frame) -> Owed
+        ensures { (replies : List (List ℕ)) → session_with self.new (replies ++ bytes_of result self.new.tolds) ≡ before_init (session_with self.old replies) (opcode_of frame.now) frame.now }
+    {
+        match frame.opcode() {
+            INIT => {
+                let step = read_init(frame);
+                self.agreed = matches!(step, InitStep::Agreed { .. });
+                Owed::Init(frame.unique(), step)
+            }
+            FORGET | BATCH_FORGET => Owed::Nothing,
+            _ => refusal(frame.unique(), Errno::EPROTO),
+        }
+    }
+
+    // The same, after an INIT is agreed.
+    fn meet_after_init(&mut self, frame: &Frame) -> Owed
+        ensures { IsMetAs self.old self.new (bytes_of result self.new.tolds) (unique_of frame.now) (said frame.now) }
+    {
+        match read_order(frame) {
+            Ok(order) => self.take(&order),
+            Err(Refusal::Answer(e)) => refusal(frame.unique(), e),
+            Err(Refusal::Silent) => Owed::Nothing,
+            Err(Refusal::Destroy) => {
+                self.over = true;
+                Owed::One(Told {
+                    unique: frame.unique(),
+                    result: Ok(Answer::Done),
+                })
+            }
+        }
+    }
+
+    // Takes an order of worker 0.
+    fn take(&mut self, order: &Order) -> Owed
+        ensures { (unique : ℕ) → IsMetAs self.old self.new (bytes_of result self.new.tolds) unique (Ok order.now) }
+    {
+        match self.desk.take(0, order, &mut self.tolds) {
+            Ok(()) => Owed::Tolds,
+            Err(NoMemory) => {
+                self.refused = true;
+                refusal(order.unique, Errno::ENOMEM)
+            }
+        }
+    }
+}
+
+// A reply that is an error.
+fn refusal(unique: u64, e: Errno) -> Owed
+    ensures { result ≡ Owed.One (record { unique = unique; result = Err e }) }
+{
+    Owed::One(Told {
+        unique,
+        result: Err(e),
+    })
+}

@@ -1,5 +1,0 @@
-use Rattle.lockd_commands.proofs.ReadLemmas.{moved}
-use Rattle.lockd_commands.proofs.session.reading.move_front.Goals as goal
-
-pub returns : goal.returns
-returns c = moved c.args.room.now c.copy_within.new.self c.args.at c.args.filled c.requires.order c.requires.within c.copy_within.ensures.after
