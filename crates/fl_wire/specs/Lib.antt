@@ -3,6 +3,7 @@ pub mod Cut
 pub mod Errno
 pub mod Frame
 pub mod Init
+pub mod Kind
 pub mod Layout
 pub mod Message
 pub mod Name

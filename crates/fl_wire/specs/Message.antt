@@ -1,18 +1,14 @@
 -- The message that a kernel sends for an order. Fields that aren't read are zeros here.
 use Rattle.std.specs.Prelude.{◌≡◌, ℕ, ◌+◌, ◌<◌, ◌^◌, if◌then◌else◌, List, [], ◌∷◌, ◌++◌, length, Result, Ok}
+use Rattle.fl_wire.specs.Kind.{opcode_for}
 use Rattle.fl_wire.specs.Layout.{laid_out, in_header, create_in, lk_in}
 use Rattle.fl_wire.specs.Name.{IsName}
+use Rattle.fl_wire.specs.Order.{kind_of}
 use Rattle.fl_wire.specs.declared.order.Order.{Order}
 use Rattle.fl_wire.specs.declared.order.LockAsk.{LockAsk}
 use Rattle.fl_wire.specs.declared.order.Op.{Op}
 use Rattle.fl_wire.specs.declared.order.Op.TheVariants.{Create, Getlk, Setlk}
 use Rattle.fl_wire.specs.declared.reading.Refusal.{Refusal}
-
--- the kind of its message
-abbrev pub opcode_for : Op → ℕ
-opcode_for (Create excl mode name) = 35
-opcode_for (Getlk ask) = 31
-opcode_for (Setlk ask) = 32
 
 -- a lock request
 abbrev pub lock_body : LockAsk → List ℕ
@@ -31,7 +27,7 @@ request opcode unique node uid gid pid body =
 
 -- the message of an order
 abbrev pub message_of : Order → List ℕ
-message_of order = request (opcode_for order.op) order.unique order.node order.uid order.gid order.pid (body_for order.op)
+message_of order = request (opcode_for (kind_of order.op)) order.unique order.node order.uid order.gid order.pid (body_for order.op)
 
 -- the numbers of a lock request fit their fields
 pub record FitsLock (ask : LockAsk) : Type 0 where
