@@ -9,8 +9,9 @@ use Rattle.std.specs.List.{list_any}
 use Rattle.byteorder.specs.Numbers.{little_number-reads_back}
 use Rattle.fl_wire.specs.Kind.{kind_of_opcode, opcode_for}
 use Rattle.fl_wire.specs.Layout.{number_at, field, laid_out, in_header, create_in, lk_in, opcode_of, unique_of}
-use Rattle.fl_wire.specs.Message.{lock_body, body_for, request, message_of, FitsLock, FitsOp, IsSendable, ReadsBack}
+use Rattle.fl_wire.specs.Message.{lock_body, body_for, request, message_of, ReadsBack}
 use Rattle.fl_wire.specs.Name.{IsName}
+use Rattle.fl_wire.specs.Sayable.{FitsLock, FitsOp, IsSayable}
 use Rattle.fl_wire.specs.Says.{said, asked, order_of, lock_asked, create_of, name_in}
 use Rattle.fl_wire.specs.declared.kind.Kind.TheVariants.{Getlk as GetlkKind, Setlk as SetlkKind, Create as CreateKind}
 use Rattle.fl_wire.specs.declared.order.Order.{Order}
@@ -142,7 +143,7 @@ op_again u n i g p (Create excl mode name) hu hn hi hg hp h =
     (ap name_in (drop-request (opcode_for CreateKind) u n i g p body) ∙ name_again name h.1) fields.0 fields.1 (flags_again excl) h.0)
 
 -- the message of an order says that order
-pub said_again : (order : Order) → IsSendable order → said (message_of order) ≡ Ok order
+pub said_again : (order : Order) → IsSayable order → said (message_of order) ≡ Ok order
 said_again order h = op_again order.unique order.node order.uid order.gid order.pid order.op h.unique h.node h.uid h.gid h.pid h.op
 
 pub reads_back : (bytes : List ℕ) (result : Result Order Refusal) → result ≡ said bytes → ReadsBack bytes result

@@ -8,6 +8,7 @@ pub mod Layout
 pub mod Message
 pub mod Name
 pub mod Order
+pub mod Sayable
 pub mod Says
 pub mod Spell
 pub mod Stream
