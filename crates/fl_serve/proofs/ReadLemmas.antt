@@ -7,6 +7,7 @@ use Rattle.fl_wire.specs.Frame.{IsMessage}
 use lib.Seq.{paste}
 use Rattle.std.proofs.KnownBytes.{Consumes-nil, Consumes-trans, Consumes-kept, Appends-nil}
 use Rattle.std.specs.Io.KnownBytes.{Consumes, Keeps}
+use Rattle.fl_serve.specs.Served.{AreSent}
 use Rattle.fl_serve.specs.Serving.{IsFresh}
 use Rattle.fl_serve.specs.UnderWay.{IsUnderWay, Answers, IsStop}
 use Rattle.fl_serve.specs.Turns.{IsWaiting, HasEnded}
@@ -82,9 +83,7 @@ waiting_first left held broken server room fresh whole = record {
     sending = record {
       sent = [];
       written = Appends-nil held;
-      in_order = record { rest = []; is = refl };
-      whole = λ e. refl;
-      short = λ e. let same = sym e ∙ whole in cc;
+      are_sent = subst (λ b. AreSent b [] []) (sym whole) refl;
     };
   };
 }

@@ -21,12 +21,8 @@ use Rattle.fl_wire.specs.declared.told.Attr.{Attr as Attributes}
 use Rattle.fl_wire.specs.declared.told.Told.{Told}
 use Rattle.fl_core.specs.Replies.{first_replies}
 use Rattle.fl_book.specs.Replay.{state_after}
+use Rattle.fl_serve.specs.Served.{IsReply}
 use Rattle.fl_serve.specs.Session.{Came, Session, opening_session, replied, greeted, before_init, after_init, with_step, with_refusal, with_message, session_of}
-
--- as many bytes as it says itself, a header at least
-pub record IsReply (reply : List ℕ) : Type 0 where
-  pub whole : len_of reply ≡ length reply
-  pub header : 16 ≤ length reply
 
 -- the length stands in the first four bytes
 pub len-append : (xs ys : List ℕ) → 4 ≤ length xs → len_of (xs ++ ys) ≡ len_of xs

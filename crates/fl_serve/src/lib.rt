@@ -5,4 +5,4 @@ mod outbox;
 mod session;
 
 pub use outbox::{Broken, Outbox};
-pub use session::{Done, Fault, run_one};
+pub use session::{Done, Ended, Fault, run_one, run_session};

@@ -1,5 +1,5 @@
 //! A whole session of the FUSE protocol with one worker, over any reader and any writer.
-ghost use Rattle.std.specs.Prelude.{◌≡◌, IfOk, length, vec_len};
+ghost use Rattle.std.specs.Prelude.{◌≡◌, Bool, IfOk, length, vec_len};
 ghost use Rattle.fl_serve.specs.Served.{IsServed};
 ghost use Rattle.fl_serve.specs.Serving.{IsFresh};
 ghost use Rattle.fl_serve.specs.Turns.{first_fault, HasEnded};
@@ -53,26 +53,51 @@ pub struct Done {
     pub refused: bool,
 }
 
+/// What a session came to, and whether a write failed.
+#[derive(Debug, Drop)]
+pub struct Ended {
+    /// What it came to.
+    pub done: Done,
+    /// A write failed, or took nothing: a reply didn't go out whole, and those behind it didn't go out. A fault of
+    /// the reader doesn't hide it.
+    pub broken: bool,
+}
+
 /// Serves a whole session: each message is answered when it is whole, and each reply goes out by itself. Its
 /// room for reading and for a reply is made before the first read. A read that fails ends it, and so does a
 /// DESTROY after an INIT is agreed. After a write that failed it goes on, and writes no more.
 pub fn run_one<R: Read, W: Write>(alloc: Global, r: &mut R, w: &mut W) -> Done
-    ensures { IsServed (R.remaining r.old) (R.remaining r.new) (W.contents w.old) (W.contents w.new) result }
+    ensures { (broken : Bool)
+        × IsServed (R.remaining r.old) (R.remaining r.new) (W.contents w.old) (W.contents w.new) broken result }
+{
+    let Ended { done, broken: _ } = run_session(alloc, r, w);
+    done
+}
+
+/// The same, and tells beside it whether a write failed.
+pub fn run_session<R: Read, W: Write>(alloc: Global, r: &mut R, w: &mut W) -> Ended
+    ensures { IsServed (R.remaining r.old) (R.remaining r.new) (W.contents w.old) (W.contents w.new)
+        result.broken result.done }
 {
     let Ok((mut room, server, reply)) = memory(alloc) else {
-        return Done {
+        let done = Done {
             history: History::new(Vec::new(alloc)),
             fault: Some(Fault::NoMemory),
             refused: false,
         };
+        return Ended {
+            done,
+            broken: false,
+        };
     };
     let (server, fault, broken) = run(r, w, &mut room, server, reply);
     let refused = server.refused;
-    Done {
+    let done = Done {
         history: server.into_history(),
         fault: first(fault, broken),
         refused,
-    }
+    };
+    Ended { done, broken }
 }
 
 // Runs a session with this memory, and tells what its server keeps, its reader's fault, and whether a write
