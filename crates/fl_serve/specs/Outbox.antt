@@ -17,7 +17,8 @@ pub record IsBroken (held held_now : Option (List ℕ)) (reply : List ℕ) : Typ
   pub short : count < length reply
   pub written : Appends held held_now (take count reply)
 
--- a reply went out whole, or a beginning of it that isn't all of it, or nothing where one before it was broken
+-- A reply went out whole, or a beginning of it that isn't all of it, or nothing where one before it was broken. A writer
+-- shows no failure to contracts: that a reply is broken only by a write that failed is tested, and not proved.
 abbrev pub IsSentBy : Option (List ℕ) → Option (List ℕ) → Bool → Bool → List ℕ → Type 0
 IsSentBy held held_now true true reply = Keeps held held_now
 IsSentBy held held_now true false reply = ⊥

@@ -1,6 +1,8 @@
 //! A session of the FUSE protocol over any reader and any writer.
 #![tactic(auto)]
 
+#[cfg(test)]
+mod doubles;
 mod outbox;
 mod session;
 

@@ -32,8 +32,8 @@ impl<W: Write> Outbox<W> {
         }
     }
 
-    /// Writes the whole reply. An error of a write breaks it, of whatever kind, and so does a write that takes
-    /// 0 bytes.
+    /// Writes the whole reply. An error of a write breaks the outbox, of whatever kind, and so does a write that
+    /// takes 0 bytes; nothing else does, which contracts can't say, since they see no failure of a writer.
     pub fn send(&mut self, reply: &[u8]) -> Result<(), Broken>
         ensures whole { OnOk result (Appends (W.contents (writer_of self.old)) (W.contents (writer_of self.new)) reply.now) }
         ensures part { OnErr result (is_broken self.old ≡ false → IsBroken (W.contents (writer_of self.old)) (W.contents (writer_of self.new)) reply.now) }
@@ -74,3 +74,6 @@ fn send_on<W: Write>(writer: &mut W, broken: bool, reply: &[u8]) -> bool
     }
     false
 }
+
+#[cfg(test)]
+mod tests;
