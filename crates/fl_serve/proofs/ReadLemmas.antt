@@ -4,6 +4,7 @@ use Rattle.std.proofs.lemmas.List.{drop-take}
 use Rattle.std.proofs.lemmas.List.Edits.{take-paste}
 use Rattle.std.proofs.lemmas.List.Elements.{All-nil}
 use Rattle.fl_wire.specs.Frame.{IsMessage}
+use Rattle.fl_wire.specs.Spell.{IsReply}
 use lib.Seq.{paste}
 use Rattle.std.proofs.KnownBytes.{Consumes-nil, Consumes-trans, Consumes-kept, Appends-nil}
 use Rattle.std.specs.Io.KnownBytes.{Consumes, Keeps}
@@ -84,6 +85,7 @@ waiting_first left held broken server room fresh whole = record {
       sent = [];
       written = Appends-nil held;
       are_sent = subst (λ b. AreSent b [] []) (sym whole) refl;
+      framed = All-nil IsReply;
     };
   };
 }

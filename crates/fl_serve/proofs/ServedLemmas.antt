@@ -1,6 +1,5 @@
 -- What a whole session did.
 use Rattle.std.proofs.Common.{◌≡◌, ℕ, Bool, true, false, List, Option, Some, None, inl, inr, refl, sym, ap, ◌∙◌}
-use Rattle.fl_serve.proofs.SessionReplies.{session_replies}
 use Rattle.fl_serve.specs.Served.{IsServed, IsComplete, EndsBy}
 use Rattle.fl_serve.specs.Session.{Came, Session, session_of}
 use Rattle.fl_serve.specs.Turns.{IsEnding, HasEnded, first_fault}
@@ -45,7 +44,7 @@ served left left_now held held_now broken server fault done ended history told r
       live = way.live;
       history = history ∙ ap (λ s. s.lines) way.stands;
       refused = refused ∙ ap (λ s. s.refused) way.stands;
-      framed = session_replies way.came;
+      framed = way.sending.framed;
       written = way.sending.written;
       are_sent = way.sending.are_sent;
       ending = rw told (ends_by fault broken left_now server ended.rest way.came (ap (λ s. s.over) way.stands) ended.ending);

@@ -3,18 +3,13 @@ use Rattle.std.specs.Prelude.{◌≡◌, ℕ, ◌≤◌, ◌<◌, ◌⊎◌, Boo
 use Rattle.std.specs.List.{concat}
 use Rattle.std.specs.Io.KnownBytes.{Consumes, Appends, IsAtEnd}
 use Rattle.fl_wire.specs.Cut.{first_step}
-use Rattle.fl_wire.specs.Layout.{len_of}
+use Rattle.fl_wire.specs.Spell.{IsReply}
 use Rattle.fl_wire.specs.Stream.{IsCut}
 use Rattle.fl_wire.specs.declared.cut.Step.TheVariants.{Bad, More}
 use Rattle.fl_serve.specs.Session.{Came, Session, session_of}
 use Rattle.fl_serve.specs.declared.session.Done.{Done}
 use Rattle.fl_serve.specs.declared.session.Fault.{Fault}
 use Rattle.fl_serve.specs.declared.session.Fault.TheVariants.{Cut, BadLength, Read, Write, NoMemory}
-
--- a reply has as many bytes as it says itself, a header (16) at least
-pub record IsReply (reply : List ℕ) : Type 0 where
-  pub whole : len_of reply ≡ length reply
-  pub header : 16 ≤ length reply
 
 -- these bytes begin those, and aren't all of them
 pub record IsCutShort (front whole : List ℕ) : Type 0 where

@@ -10,7 +10,8 @@ use Rattle.hex.specs.Hex.{encode_lower}
 use Rattle.fl_wire.specs.Layout.{len_of, number_at}
 use Rattle.lockd_commands.specs.Bytes.{IsSession, AreReplies}
 use Rattle.lockd_commands.specs.Hex.{hex_lines}
-use Rattle.fl_serve.specs.Served.{IsServed, IsReply}
+use Rattle.fl_serve.specs.Served.{IsServed}
+use Rattle.fl_wire.specs.Spell.{IsReply}
 use Rattle.fl_serve.specs.declared.session.Done.{Done}
 use Rattle.fl_serve.specs.Session.{session_of}
 

@@ -3,7 +3,8 @@ use Rattle.std.specs.Prelude.{◌≡◌, ℕ, false, List, [], All, Option, Some
 use Rattle.std.specs.List.{concat}
 use Rattle.std.specs.Io.KnownBytes.{Appends, Keeps}
 use Rattle.lockd_commands.specs.Hex.{hex_stream, hex_lines}
-use Rattle.fl_serve.specs.Served.{IsServed, IsReply}
+use Rattle.fl_serve.specs.Served.{IsServed}
+use Rattle.fl_wire.specs.Spell.{IsReply}
 use Rattle.fl_serve.specs.Session.{session_of}
 use Rattle.lockd_commands.specs.declared.fault.Fault.{Fault as CommandFault}
 use Rattle.lockd_commands.specs.declared.fault.Fault.TheVariants.{BadLine, NoMemory as NoRoom, Read as CannotRead, Write as CannotWrite, Cut as CutShort, BadLength as WrongLength}

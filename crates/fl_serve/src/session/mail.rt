@@ -2,7 +2,7 @@
 
 ghost use Rattle.std.specs.Prelude.{◌≡◌, [], ◌∷◌, IfOk, map};
 ghost use Rattle.fl_wire.specs.Init.{init_spelling};
-ghost use Rattle.fl_wire.specs.Spell.{spelling_of};
+ghost use Rattle.fl_wire.specs.Spell.{spelling_of, IsReply};
 ghost use Rattle.fl_serve.specs.Serving.{bytes_of};
 ghost use Rattle.fl_serve.specs.Sending.{Sends};
 
@@ -44,7 +44,8 @@ impl Room {
 
     // Lays out a reply.
     fn lay_out(&mut self, told: &Told)
-        ensures { self.new ≡ spelling_of told.now }
+        ensures bytes { self.new ≡ spelling_of told.now }
+        ensures reply { IsReply (spelling_of told.now) }
     {
         self.bytes.clear();
         write_told(told, &mut self.bytes).unwrap();
@@ -52,7 +53,8 @@ impl Room {
 
     // Lays out the reply to an INIT.
     fn lay_out_init(&mut self, unique: u64, step: &InitStep)
-        ensures { self.new ≡ init_spelling unique step.now }
+        ensures bytes { self.new ≡ init_spelling unique step.now }
+        ensures reply { IsReply (init_spelling unique step.now) }
     {
         self.bytes.clear();
         write_init(unique, step, &mut self.bytes).unwrap();

@@ -2,6 +2,7 @@
 
 ghost use Rattle.std.specs.Prelude.{◌≡◌, ℕ, List, false, ◌++◌};
 ghost use Rattle.std.specs.Prelude.{IfOk};
+ghost use Rattle.fl_wire.specs.Kind.{kind_of_opcode};
 ghost use Rattle.fl_wire.specs.Layout.{opcode_of, unique_of};
 ghost use Rattle.fl_wire.specs.Says.{said};
 ghost use Rattle.fl_serve.specs.Session.{before_init};
@@ -9,16 +10,9 @@ ghost use Rattle.fl_serve.specs.Serving.{bytes_of, session_with, IsFresh, IsMet,
 
 use fl_book::{Desk, History, Tolds};
 use fl_wire::{
-    Answer, Errno, Frame, InitStep, NoMemory, Order, Refusal, Told, read_init, read_order,
+    Answer, Errno, Frame, InitStep, Kind, NoMemory, Order, Refusal, Told, read_init, read_order,
 };
 use std::alloc::Global;
-
-// Kinds of messages that are told apart before an INIT is agreed (`enum fuse_opcode` of `fuse.h`).
-const FORGET: u32 = 2;
-
-const INIT: u32 = 26;
-
-const BATCH_FORGET: u32 = 42;
 
 /// What a message is answered.
 #[derive(Clone, Copy, Debug)]
@@ -82,15 +76,16 @@ impl Server {
 
     // The same, before an INIT is agreed.
     fn meet_before_init(&mut self, frame: &Frame) -> Owed
-        ensures { (replies : List (List ℕ)) → session_with self.new (replies ++ bytes_of result self.new.tolds) ≡ before_init (session_with self.old replies) (opcode_of frame.now) frame.now }
+        ensures { (replies : List (List ℕ)) → session_with self.new (replies ++ bytes_of result self.new.tolds)
+            ≡ before_init (session_with self.old replies) (kind_of_opcode (opcode_of frame.now)) frame.now }
     {
-        match frame.opcode() {
-            INIT => {
+        match Kind::of_opcode(frame.opcode()) {
+            Some(Kind::Init) => {
                 let step = read_init(frame);
                 self.agreed = matches!(step, InitStep::Agreed { .. });
                 Owed::Init(frame.unique(), step)
             }
-            FORGET | BATCH_FORGET => Owed::Nothing,
+            Some(Kind::Forget | Kind::BatchForget) => Owed::Nothing,
             _ => refusal(frame.unique(), Errno::EPROTO),
         }
     }

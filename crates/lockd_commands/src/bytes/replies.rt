@@ -2,7 +2,7 @@
 ghost use Rattle.std.specs.Prelude.{◌≡◌, ◌≤◌, ◌++◌, [], ◌∷◌, All, ℕ, List, length, IfOk, IfErr, OnOk};
 ghost use Rattle.std.specs.List.{concat};
 ghost use Rattle.hex.specs.Hex.{encode_lower};
-ghost use Rattle.fl_serve.specs.Served.{IsReply};
+ghost use Rattle.fl_wire.specs.Spell.{IsReply};
 ghost use Rattle.fl_wire.specs.Layout.{len_of};
 ghost use Rattle.lockd_commands.specs.Bytes.{AreReplies};
 ghost use Rattle.lockd_commands.specs.Hex.{hex_lines};
