@@ -5,8 +5,8 @@ use Rattle.std.specs.List.{concat}
 use Rattle.std.proofs.KnownBytes.{Appends-trans, Appends-kept}
 use Rattle.std.specs.Io.KnownBytes.{Appends, Keeps}
 use Rattle.fl_wire.specs.Spell.{IsReply}
-use Rattle.fl_serve.specs.Outbox.{IsBroken, IsSentBy}
-use Rattle.fl_serve.specs.Sending.{IsSending, Sends}
+use Rattle.fl_serve.specs.Outbox.{IsPartSent, IsSentBy}
+use Rattle.fl_serve.specs.Inside.Sending.{IsSending, Sends}
 
 -- one reply more
 pub concat_one : (replies : List (List ℕ)) (reply : List ℕ) → concat (replies ++ reply ∷ []) ≡ concat replies ++ reply
@@ -36,7 +36,7 @@ send_none start held held_now replies reply is before kept =
 
 -- a write fails
 send_part : (start held held_now : Option (List ℕ)) (replies : List (List ℕ)) (reply : List ℕ)
-    → IsReply reply → IsSending start held false replies → IsBroken held held_now reply
+    → IsReply reply → IsSending start held false replies → IsPartSent held held_now reply
     → IsSending start held_now true (replies ++ reply ∷ [])
 send_part start held held_now replies reply is before part =
     let front = take part.count reply in

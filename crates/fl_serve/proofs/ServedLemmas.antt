@@ -2,7 +2,7 @@
 use Rattle.std.proofs.Common.{◌≡◌, ℕ, Bool, true, false, List, Option, Some, None, inl, inr, refl, sym, ap, ◌∙◌}
 use Rattle.fl_serve.specs.Served.{IsServed, IsComplete, EndsBy}
 use Rattle.fl_serve.specs.Session.{Came, Session, session_of}
-use Rattle.fl_serve.specs.Turns.{IsEnding, HasEnded, first_fault}
+use Rattle.fl_serve.specs.Inside.Turns.{IsEnding, HasEnded, first_fault}
 use Rattle.fl_serve.specs.declared.session.Done.{Done}
 use Rattle.fl_serve.specs.declared.session.Fault.{Fault}
 use Rattle.fl_serve.specs.declared.session.Fault.TheVariants.{Cut, BadLength, Read, Write, NoMemory}

@@ -12,7 +12,7 @@ use Rattle.fl_serve.specs.declared.session.Fault.{Fault}
 use Rattle.fl_serve.specs.declared.session.Fault.TheVariants.{Cut, BadLength, Read, Write, NoMemory}
 
 -- these bytes begin those, and aren't all of them
-pub record IsCutShort (front whole : List ℕ) : Type 0 where
+pub record IsProperPrefix (front whole : List ℕ) : Type 0 where
   pub rest : List ℕ
   pub more : 0 < length rest
   pub is : front ++ rest ≡ whole
@@ -21,7 +21,7 @@ pub record IsCutShort (front whole : List ℕ) : Type 0 where
 -- failure to contracts: that a write did fail where one is told to have failed is tested, and not proved.
 abbrev pub AreSent : Bool → List ℕ → List (List ℕ) → Type 0
 AreSent false sent replies = sent ≡ concat replies
-AreSent true sent replies = IsCutShort sent (concat replies)
+AreSent true sent replies = IsProperPrefix sent (concat replies)
 
 -- the stream ended between messages, or a DESTROY ended the session
 abbrev pub IsComplete : Session → List ℕ → Option (List ℕ) → Type 0

@@ -2,7 +2,7 @@
 
 ghost use Rattle.std.specs.Prelude.{◌≡◌, ◌↔◌, true, false, IsErr, OnOk, OnErr};
 ghost use Rattle.std.specs.Io.KnownBytes.{Appends, Keeps};
-ghost use Rattle.fl_serve.specs.Outbox.{writer_of, is_broken, IsBroken, IsSentBy};
+ghost use Rattle.fl_serve.specs.Outbox.{writer_of, is_broken, IsPartSent, IsSentBy};
 
 use std::io::Write;
 use thiserror::Error;
@@ -36,7 +36,7 @@ impl<W: Write> Outbox<W> {
     /// takes 0 bytes; nothing else does, which contracts can't say, since they see no failure of a writer.
     pub fn send(&mut self, reply: &[u8]) -> Result<(), Broken>
         ensures whole { OnOk result (Appends (W.contents (writer_of self.old)) (W.contents (writer_of self.new)) reply.now) }
-        ensures part { OnErr result (is_broken self.old ≡ false → IsBroken (W.contents (writer_of self.old)) (W.contents (writer_of self.new)) reply.now) }
+        ensures part { OnErr result (is_broken self.old ≡ false → IsPartSent (W.contents (writer_of self.old)) (W.contents (writer_of self.new)) reply.now) }
         ensures nothing { is_broken self.old ≡ true → Keeps (W.contents (writer_of self.old)) (W.contents (writer_of self.new)) }
         ensures refuses { is_broken self.old ≡ true → IsErr result }
         ensures broken { IsErr result ↔ (is_broken self.new ≡ true) }

@@ -6,7 +6,7 @@ ghost use Rattle.fl_wire.specs.Kind.{kind_of_opcode};
 ghost use Rattle.fl_wire.specs.Layout.{opcode_of, unique_of};
 ghost use Rattle.fl_wire.specs.Says.{said};
 ghost use Rattle.fl_serve.specs.Session.{before_init};
-ghost use Rattle.fl_serve.specs.Serving.{bytes_of, session_with, IsFresh, IsMet, IsMetAs};
+ghost use Rattle.fl_serve.specs.Inside.Serving.{bytes_of, session_with, IsFresh, IsMet, IsMetAs};
 
 use fl_book::{Desk, History, Tolds};
 use fl_wire::{
@@ -24,7 +24,7 @@ pub(crate) enum Owed {
     /// One reply.
     One(Told),
     /// The replies of an order, which the server holds.
-    Tolds,
+    Replies,
 }
 
 /// The lock directory of a session, and how far the session is.
@@ -86,7 +86,7 @@ impl Server {
                 Owed::Init(frame.unique(), step)
             }
             Some(Kind::Forget | Kind::BatchForget) => Owed::Nothing,
-            _ => refusal(frame.unique(), Errno::EPROTO),
+            _ => error_reply(frame.unique(), Errno::EPROTO),
         }
     }
 
@@ -96,7 +96,7 @@ impl Server {
     {
         match read_order(frame) {
             Ok(order) => self.take(&order),
-            Err(Refusal::Answer(e)) => refusal(frame.unique(), e),
+            Err(Refusal::Answer(e)) => error_reply(frame.unique(), e),
             Err(Refusal::Silent) => Owed::Nothing,
             Err(Refusal::Destroy) => {
                 self.over = true;
@@ -113,17 +113,17 @@ impl Server {
         ensures { (unique : ℕ) → IsMetAs self.old self.new (bytes_of result self.new.tolds) unique (Ok order.now) }
     {
         match self.desk.take(0, order, &mut self.tolds) {
-            Ok(()) => Owed::Tolds,
+            Ok(()) => Owed::Replies,
             Err(NoMemory) => {
                 self.refused = true;
-                refusal(order.unique, Errno::ENOMEM)
+                error_reply(order.unique, Errno::ENOMEM)
             }
         }
     }
 }
 
 // A reply that is an error.
-fn refusal(unique: u64, e: Errno) -> Owed
+fn error_reply(unique: u64, e: Errno) -> Owed
     ensures { result ≡ Owed.One (record { unique = unique; result = Err e }) }
 {
     Owed::One(Told {
