@@ -2,5 +2,4 @@ pub mod ReadLemmas
 pub mod SendLemmas
 pub mod ServedLemmas
 pub mod SessionLemmas
-pub mod SessionReplies
 pub mod WriteLemmas

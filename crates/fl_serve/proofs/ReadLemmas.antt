@@ -4,30 +4,32 @@ use Rattle.std.proofs.lemmas.List.{drop-take}
 use Rattle.std.proofs.lemmas.List.Edits.{take-paste}
 use Rattle.std.proofs.lemmas.List.Elements.{All-nil}
 use Rattle.fl_wire.specs.Frame.{IsMessage}
+use Rattle.fl_wire.specs.Spell.{IsReply}
 use lib.Seq.{paste}
 use Rattle.std.proofs.KnownBytes.{Consumes-nil, Consumes-trans, Consumes-kept, Appends-nil}
 use Rattle.std.specs.Io.KnownBytes.{Consumes, Keeps}
-use Rattle.fl_serve.specs.Serving.{IsFresh}
-use Rattle.fl_serve.specs.UnderWay.{IsUnderWay, Answers, IsStop}
-use Rattle.fl_serve.specs.Turns.{IsWaiting, HasEnded}
+use Rattle.fl_serve.specs.Served.{AreSent}
+use Rattle.fl_serve.specs.Inside.Serving.{IsFresh}
+use Rattle.fl_serve.specs.Inside.UnderWay.{IsUnderWay, Answers, IsStop}
+use Rattle.fl_serve.specs.Inside.Turns.{IsWaiting, HasEnded}
 use Rattle.fl_serve.specs.declared.session.Fault.TheVariants.{BadLength}
 use Rattle.fl_serve.specs.declared.session.answering.Stop.{Stop}
 use Rattle.fl_serve.specs.declared.session.answering.Stop.TheVariants.{Bad, Over}
 use Rattle.fl_serve.specs.declared.session.server.Server.{Server}
 
 -- the bytes between two places, moved to the front
-pub moved : (room new : List ℕ) (at filled : ℕ) → at ≤ filled → filled ≤ length room → new ≡ paste room 0 (drop at room) (filled - at)
-    → take (filled - at) new ≡ drop at (take filled room)
-moved room new at filled order within e =
+pub moved : (buffer new : List ℕ) (at filled : ℕ) → at ≤ filled → filled ≤ length buffer → new ≡ paste buffer 0 (drop at buffer) (filled - at)
+    → take (filled - at) new ≡ drop at (take filled buffer)
+moved buffer new at filled order within e =
     let n = filled - at in
     let plain : n ≡ 0 + n = omega arith in
     let upto : at + n ≡ filled = omega arith in
-    ap (take n) e ∙ ap (λ k. take k (paste room 0 (drop at room) n)) plain ∙ take-paste room 0 (drop at room) n (omega arith) (omega (arith, length-drop at room))
-    ∙ sym (drop-take at n room) ∙ ap (λ k. drop at (take k room)) upto
+    ap (take n) e ∙ ap (λ k. take k (paste buffer 0 (drop at buffer) n)) plain ∙ take-paste buffer 0 (drop at buffer) n (omega arith) (omega (arith, length-drop at buffer))
+    ∙ sym (drop-take at n buffer) ∙ ap (λ k. drop at (take k buffer)) upto
 
 -- the rest of the bytes that were read is at most all of them
-rest_bounded : (room : List ℕ) (at filled : ℕ) → length room ≡ 8192 → length (drop at (take filled room)) ≤ 8192
-rest_bounded room at filled long = omega (arith, long, length-drop at (take filled room), length-take filled room)
+rest_bounded : (buffer : List ℕ) (at filled : ℕ) → length buffer ≡ 8192 → length (drop at (take filled buffer)) ≤ 8192
+rest_bounded buffer at filled long = omega (arith, long, length-drop at (take filled buffer), length-take filled buffer)
 
 -- a read of these bytes
 way_read : (left a b held held_now : Option (List ℕ)) (broken : Bool) (server : Server) (rest bytes : List ℕ) → IsUnderWay left a held held_now broken server rest
@@ -58,19 +60,19 @@ way_kept left a b held held_now broken server rest way kept = record {
   sending = way.sending;
 }
 
--- a read behind the bytes that fill the front of the room
-pub way_read_in : (left a b held held_now : Option (List ℕ)) (broken : Bool) (server : Server) (room new : List ℕ) (filled n : ℕ)
-    → IsUnderWay left a held held_now broken server (take filled room) → take filled new ≡ take filled room → Consumes a b (take n (drop filled new))
+-- a read behind the bytes that fill the front of the buffer
+pub way_read_in : (left a b held held_now : Option (List ℕ)) (broken : Bool) (server : Server) (buffer new : List ℕ) (filled n : ℕ)
+    → IsUnderWay left a held held_now broken server (take filled buffer) → take filled new ≡ take filled buffer → Consumes a b (take n (drop filled new))
     → IsUnderWay left b held held_now broken server (take (filled + n) new)
-way_read_in left a b held held_now broken server room new filled n way front read =
-    let whole : take (filled + n) new ≡ take filled room ++ take n (drop filled new) = take-add filled n new ∙ ap (λ xs. xs ++ take n (drop filled new)) front in
+way_read_in left a b held held_now broken server buffer new filled n way front read =
+    let whole : take (filled + n) new ≡ take filled buffer ++ take n (drop filled new) = take-add filled n new ∙ ap (λ xs. xs ++ take n (drop filled new)) front in
     let P : List ℕ → Type 0 = IsUnderWay left b held held_now broken server in
-    subst P (sym whole) (way_read left a b held held_now broken server (take filled room) (take n (drop filled new)) way read)
+    subst P (sym whole) (way_read left a b held held_now broken server (take filled buffer) (take n (drop filled new)) way read)
 
 -- nothing was read yet
-pub waiting_first : (left held : Option (List ℕ)) (broken : Bool) (server : Server) (room : List ℕ) → IsFresh server → broken ≡ false
-    → IsWaiting left left held held broken server room 0
-waiting_first left held broken server room fresh whole = record {
+pub waiting_first : (left held : Option (List ℕ)) (broken : Bool) (server : Server) (buffer : List ℕ) → IsFresh server → broken ≡ false
+    → IsWaiting left left held held broken server buffer 0
+waiting_first left held broken server buffer fresh whole = record {
   more = refl;
   way = record {
     came = [];
@@ -82,37 +84,36 @@ waiting_first left held broken server room fresh whole = record {
     sending = record {
       sent = [];
       written = Appends-nil held;
-      in_order = record { rest = []; is = refl };
-      whole = λ e. refl;
-      short = λ e. let same = sym e ∙ whole in cc;
+      are_sent = subst (λ b. AreSent b [] []) (sym whole) refl;
+      framed = All-nil IsReply;
     };
   };
 }
 
 -- a length that no message has
-pub ended_bad : (old new : Server) (held held_now : Option (List ℕ)) (broken broken_now : Bool) (room : List ℕ) (at filled : ℕ) (stop : Stop) (n : ℕ) → length room ≡ 8192
-    → Answers old new held held_now broken broken_now (take filled room) (drop at (take filled room)) → IsStop stop new (drop at (take filled room)) → stop ≡ Bad n
-    → (left left_now start : Option (List ℕ)) → IsUnderWay left left_now start held broken old (take filled room)
+pub ended_bad : (old new : Server) (held held_now : Option (List ℕ)) (broken broken_now : Bool) (buffer : List ℕ) (at filled : ℕ) (stop : Stop) (n : ℕ) → length buffer ≡ 8192
+    → Answers old new held held_now broken broken_now (take filled buffer) (drop at (take filled buffer)) → IsStop stop new (drop at (take filled buffer)) → stop ≡ Bad n
+    → (left left_now start : Option (List ℕ)) → IsUnderWay left left_now start held broken old (take filled buffer)
     → HasEnded left left_now start held_now broken_now new (Some (BadLength n))
-ended_bad old new held held_now broken broken_now room at filled stop n long answers stops e left left_now start way =
-    let P : Stop → Type 0 = λ s. IsStop s new (drop at (take filled room)) in
+ended_bad old new held held_now broken broken_now buffer at filled stop n long answers stops e left left_now start way =
+    let P : Stop → Type 0 = λ s. IsStop s new (drop at (take filled buffer)) in
     record {
-      rest = drop at (take filled room);
-      bounded = rest_bounded room at filled long;
+      rest = drop at (take filled buffer);
+      bounded = rest_bounded buffer at filled long;
       way = answers.onward left left_now start way;
       ending = subst P e stops;
     }
 
 -- a DESTROY
-pub ended_over : (old new : Server) (held held_now : Option (List ℕ)) (broken broken_now : Bool) (room : List ℕ) (at filled : ℕ) (stop : Stop) → length room ≡ 8192
-    → Answers old new held held_now broken broken_now (take filled room) (drop at (take filled room)) → IsStop stop new (drop at (take filled room)) → stop ≡ Over
-    → (left left_now start : Option (List ℕ)) → IsUnderWay left left_now start held broken old (take filled room)
+pub ended_over : (old new : Server) (held held_now : Option (List ℕ)) (broken broken_now : Bool) (buffer : List ℕ) (at filled : ℕ) (stop : Stop) → length buffer ≡ 8192
+    → Answers old new held held_now broken broken_now (take filled buffer) (drop at (take filled buffer)) → IsStop stop new (drop at (take filled buffer)) → stop ≡ Over
+    → (left left_now start : Option (List ℕ)) → IsUnderWay left left_now start held broken old (take filled buffer)
     → HasEnded left left_now start held_now broken_now new None
-ended_over old new held held_now broken broken_now room at filled stop long answers stops e left left_now start way =
-    let P : Stop → Type 0 = λ s. IsStop s new (drop at (take filled room)) in
+ended_over old new held held_now broken broken_now buffer at filled stop long answers stops e left left_now start way =
+    let P : Stop → Type 0 = λ s. IsStop s new (drop at (take filled buffer)) in
     record {
-      rest = drop at (take filled room);
-      bounded = rest_bounded room at filled long;
+      rest = drop at (take filled buffer);
+      bounded = rest_bounded buffer at filled long;
       way = answers.onward left left_now start way;
       ending = inl (subst P e stops);
     }

@@ -1,34 +1,36 @@
 -- What a whole session did.
-use Rattle.std.proofs.Common.{◌≡◌, ℕ, Bool, true, false, List, length, ◌<◌, Option, Some, None, inl, inr, refl, sym, ap, ◌∙◌}
-use Rattle.std.specs.List.{concat}
-use Rattle.fl_serve.specs.Served.{IsServed, IsWhole, EndsBy}
+use Rattle.std.proofs.Common.{◌≡◌, ℕ, Bool, true, false, List, Option, Some, None, inl, inr, refl, sym, ap, ◌∙◌}
+use Rattle.fl_serve.specs.Served.{IsServed, IsComplete, EndsBy}
 use Rattle.fl_serve.specs.Session.{Came, Session, session_of}
-use Rattle.fl_serve.specs.Turns.{IsEnding, HasEnded, first_fault}
+use Rattle.fl_serve.specs.Inside.Turns.{IsEnding, HasEnded, first_fault}
 use Rattle.fl_serve.specs.declared.session.Done.{Done}
 use Rattle.fl_serve.specs.declared.session.Fault.{Fault}
 use Rattle.fl_serve.specs.declared.session.Fault.TheVariants.{Cut, BadLength, Read, Write, NoMemory}
 use Rattle.fl_serve.specs.declared.session.server.Server.{Server}
 
 -- where the reader ended, and the session with it
-is_whole : (s : Session) (server : Server) (rest : List ℕ) (left : Option (List ℕ)) → server.over ≡ s.over → IsEnding None server rest left → IsWhole s rest left
-is_whole s server rest left same (inl over) = inl (sym same ∙ over)
-is_whole s server rest left same (inr ended) = inr ended
+is_complete : (s : Session) (server : Server) (rest : List ℕ) (left : Option (List ℕ)) → server.over ≡ s.over
+    → IsEnding None server rest left → IsComplete s rest left
+is_complete s server rest left same (inl over) = inl (sym same ∙ over)
+is_complete s server rest left same (inr ended) = inr ended
 
 -- how a session ended, its writer's part too
-ends_by : (fault : Option Fault) (broken : Bool) (left : Option (List ℕ)) (server : Server) (rest sent : List ℕ) (came : List Came) → server.over ≡ (session_of came).over
-    → (broken ≡ false → sent ≡ concat (session_of came).replies) → (broken ≡ true → length sent < length (concat (session_of came).replies))
-    → IsEnding fault server rest left → EndsBy (first_fault fault broken) came rest left sent
-ends_by None true left server rest sent came same whole short ending = (is_whole (session_of came) server rest left same ending, short refl)
-ends_by None false left server rest sent came same whole short ending = (is_whole (session_of came) server rest left same ending, whole refl)
-ends_by (Some Cut) broken left server rest sent came same whole short ending = (sym same ∙ ending.0, ending.1, ending.2, ending.3)
-ends_by (Some (BadLength n)) broken left server rest sent came same whole short ending = (sym same ∙ ending.0, ending.1)
-ends_by (Some Read) broken left server rest sent came same whole short ending = (sym same ∙ ending.0, ending.1)
-ends_by (Some Write) broken left server rest sent came same whole short ending = absurd ending
-ends_by (Some NoMemory) broken left server rest sent came same whole short ending = absurd ending
+ends_by : (fault : Option Fault) (broken : Bool) (left : Option (List ℕ)) (server : Server) (rest : List ℕ)
+    (came : List Came) → server.over ≡ (session_of came).over → IsEnding fault server rest left
+    → EndsBy (first_fault fault broken) broken came rest left
+ends_by None true left server rest came same ending = (refl, is_complete (session_of came) server rest left same ending)
+ends_by None false left server rest came same ending = (refl, is_complete (session_of came) server rest left same ending)
+ends_by (Some Cut) broken left server rest came same ending = (sym same ∙ ending.0, ending.1, ending.2, ending.3)
+ends_by (Some (BadLength n)) broken left server rest came same ending = (sym same ∙ ending.0, ending.1)
+ends_by (Some Read) broken left server rest came same ending = (sym same ∙ ending.0, ending.1)
+ends_by (Some Write) broken left server rest came same ending = absurd ending
+ends_by (Some NoMemory) broken left server rest came same ending = absurd ending
 
 -- a session that ended is served
-pub served : (left left_now held held_now : Option (List ℕ)) (broken : Bool) (server : Server) (fault : Option Fault) (done : Done) → HasEnded left left_now held held_now broken server fault
-    → done.history ≡ server.desk.lines → done.fault ≡ first_fault fault broken → done.refused ≡ server.refused → IsServed left left_now held held_now done
+pub served : (left left_now held held_now : Option (List ℕ)) (broken : Bool) (server : Server) (fault : Option Fault)
+    (done : Done) → HasEnded left left_now held held_now broken server fault → done.history ≡ server.desk.lines
+    → done.fault ≡ first_fault fault broken → done.refused ≡ server.refused
+    → IsServed left left_now held held_now broken done
 served left left_now held held_now broken server fault done ended history told refused =
     let way = ended.way in
     record {
@@ -42,7 +44,8 @@ served left left_now held held_now broken server fault done ended history told r
       live = way.live;
       history = history ∙ ap (λ s. s.lines) way.stands;
       refused = refused ∙ ap (λ s. s.refused) way.stands;
+      framed = way.sending.framed;
       written = way.sending.written;
-      in_order = way.sending.in_order;
-      ending = rw told (ends_by fault broken left_now server ended.rest way.sending.sent way.came (ap (λ s. s.over) way.stands) way.sending.whole way.sending.short ended.ending);
+      are_sent = way.sending.are_sent;
+      ending = rw told (ends_by fault broken left_now server ended.rest way.came (ap (λ s. s.over) way.stands) ended.ending);
     }

@@ -11,10 +11,10 @@ use Rattle.fl_wire.specs.Stream.{IsCut}
 use Rattle.fl_wire.specs.declared.cut.Step.{Step}
 use Rattle.fl_wire.specs.declared.cut.Step.TheVariants.{Whole, More, Bad}
 use Rattle.fl_serve.proofs.SendLemmas.{concat_one}
-use Rattle.fl_serve.specs.Sending.{IsSending}
-use Rattle.fl_serve.specs.Serving.{session_with}
+use Rattle.fl_serve.specs.Inside.Sending.{IsSending}
+use Rattle.fl_serve.specs.Inside.Serving.{session_with}
 use Rattle.fl_serve.specs.Session.{Came, session_of, with_message, opening_session}
-use Rattle.fl_serve.specs.UnderWay.{IsUnderWay, IsAnswered, Answers}
+use Rattle.fl_serve.specs.Inside.UnderWay.{IsUnderWay, IsAnswered, Answers}
 use Rattle.fl_serve.specs.declared.session.server.Server.{Server}
 
 -- a list has one last item

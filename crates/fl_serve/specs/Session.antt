@@ -1,12 +1,15 @@
 -- A session: its messages, what is answered to them, and the lines that they give (Linux `fuse.h`, protocol 7.31).
-use Rattle.std.specs.Prelude.{ℕ, ◌==◌, Bool, true, false, List, [], ◌∷◌, ◌++◌, map, fold, Result, Ok, Err, if◌then◌else◌}
+use Rattle.std.specs.Prelude.{ℕ, Bool, true, false, List, [], ◌∷◌, ◌++◌, map, fold, Option, Some, Result, Ok, Err, if◌then◌else◌}
 use Rattle.fl_wire.specs.Init.{init_step, init_spelling}
+use Rattle.fl_wire.specs.Kind.{kind_of_opcode}
 use Rattle.fl_wire.specs.Layout.{opcode_of, unique_of}
 use Rattle.fl_wire.specs.Says.{said}
 use Rattle.fl_wire.specs.Spell.{reply_bytes, spelling_of}
 use Rattle.fl_wire.specs.declared.errno.Errno.TheVariants.{ENOMEM, EPROTO}
 use Rattle.fl_wire.specs.declared.init.InitStep.{InitStep}
 use Rattle.fl_wire.specs.declared.init.InitStep.TheVariants.{Refused, Again, Agreed}
+use Rattle.fl_wire.specs.declared.kind.Kind.{Kind}
+use Rattle.fl_wire.specs.declared.kind.Kind.TheVariants.{Forget, Init, BatchForget}
 use Rattle.fl_wire.specs.declared.order.Order.{Order}
 use Rattle.fl_wire.specs.declared.reading.Refusal.{Refusal}
 use Rattle.fl_wire.specs.declared.reading.Refusal.TheVariants.{Answer, Silent, Destroy}
@@ -49,13 +52,12 @@ is_agreed (Agreed max_readahead flags) = true
 abbrev pub greeted : Session → ℕ → InitStep → Session
 greeted s unique step = record s { agreed = is_agreed step; replies = s.replies ++ init_spelling unique step ∷ [] }
 
--- Before an INIT is agreed any other message is EPROTO, but FORGET (2) and BATCH_FORGET (42), which are dropped.
-abbrev pub before_init : Session → ℕ → List ℕ → Session
-before_init s opcode message =
-    if opcode == 26 then greeted s (unique_of message) (init_step message)
-    else if opcode == 2 then s
-    else if opcode == 42 then s
-    else replied s (reply_bytes (unique_of message) (Err EPROTO))
+-- Before an INIT is agreed any other message is EPROTO, but FORGET and BATCH_FORGET, which are dropped.
+abbrev pub before_init : Session → Option Kind → List ℕ → Session
+before_init s (Some Init) message = greeted s (unique_of message) (init_step message)
+before_init s (Some Forget) message = s
+before_init s (Some BatchForget) message = s
+before_init s _ message = replied s (reply_bytes (unique_of message) (Err EPROTO))
 
 -- an order that worker 0 handed in, with the replies that it gets
 abbrev pub with_step : Session → Order → List Told → Session
@@ -78,7 +80,7 @@ abbrev pub with_message : Session → Came → Session
 with_message s came =
     if s.over then s
     else if s.agreed then after_init s came.refused (unique_of came.message) (said came.message)
-    else before_init s (opcode_of came.message) came.message
+    else before_init s (kind_of_opcode (opcode_of came.message)) came.message
 
 -- the session of these messages
 abbrev pub session_of : List Came → Session

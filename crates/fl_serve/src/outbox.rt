@@ -2,7 +2,7 @@
 
 ghost use Rattle.std.specs.Prelude.{◌≡◌, ◌↔◌, true, false, IsErr, OnOk, OnErr};
 ghost use Rattle.std.specs.Io.KnownBytes.{Appends, Keeps};
-ghost use Rattle.fl_serve.specs.Outbox.{writer_of, is_broken, IsBroken, IsSentBy};
+ghost use Rattle.fl_serve.specs.Outbox.{writer_of, is_broken, IsPartSent, IsSentBy};
 
 use std::io::Write;
 use thiserror::Error;
@@ -32,11 +32,11 @@ impl<W: Write> Outbox<W> {
         }
     }
 
-    /// Writes the whole reply. An error of a write breaks it, of whatever kind, and so does a write that takes
-    /// 0 bytes.
+    /// Writes the whole reply. An error of a write breaks the outbox, of whatever kind, and so does a write that
+    /// takes 0 bytes; nothing else does, which contracts can't say, since they see no failure of a writer.
     pub fn send(&mut self, reply: &[u8]) -> Result<(), Broken>
         ensures whole { OnOk result (Appends (W.contents (writer_of self.old)) (W.contents (writer_of self.new)) reply.now) }
-        ensures part { OnErr result (is_broken self.old ≡ false → IsBroken (W.contents (writer_of self.old)) (W.contents (writer_of self.new)) reply.now) }
+        ensures part { OnErr result (is_broken self.old ≡ false → IsPartSent (W.contents (writer_of self.old)) (W.contents (writer_of self.new)) reply.now) }
         ensures nothing { is_broken self.old ≡ true → Keeps (W.contents (writer_of self.old)) (W.contents (writer_of self.new)) }
         ensures refuses { is_broken self.old ≡ true → IsErr result }
         ensures broken { IsErr result ↔ (is_broken self.new ≡ true) }
@@ -74,3 +74,6 @@ fn send_on<W: Write>(writer: &mut W, broken: bool, reply: &[u8]) -> bool
     }
     false
 }
+
+#[cfg(test)]
+mod tests;

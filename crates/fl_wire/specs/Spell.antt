@@ -1,7 +1,7 @@
 -- The bytes of a reply.
-use Rattle.std.specs.Prelude.{ℕ, ◌+◌, ◌-◌, ◌^◌, List, [], ◌∷◌, ◌++◌, length, Result, Ok, Err}
+use Rattle.std.specs.Prelude.{◌≡◌, ℕ, ◌+◌, ◌-◌, ◌^◌, ◌≤◌, List, [], ◌∷◌, ◌++◌, length, Result, Ok, Err}
 use Rattle.fl_wire.specs.Errno.{number_of}
-use Rattle.fl_wire.specs.Layout.{laid_out, out_header, attr, entry_out, attr_out, open_out, lk_out}
+use Rattle.fl_wire.specs.Layout.{field, laid_out, out_header, attr, entry_out, attr_out, open_out, lk_out}
 use Rattle.fl_wire.specs.declared.errno.Errno.{Errno}
 use Rattle.fl_wire.specs.declared.told.Answer.{Answer}
 use Rattle.fl_wire.specs.declared.told.Answer.TheVariants.{Done, Entry, Attr, Open, Made, Lock}
@@ -51,3 +51,9 @@ reply_bytes unique (Err e) = header_bytes 0 (minus e) unique
 -- the bytes of a reply
 abbrev pub spelling_of : Told → List ℕ
 spelling_of told = reply_bytes told.unique told.result
+
+-- a whole reply: as many bytes as its first field says, from 16 (a header alone) to 160
+pub record IsReply (reply : List ℕ) : Type 0 where
+  pub whole : field out_header 0 0 reply ≡ length reply
+  pub header : 16 ≤ length reply
+  pub bounded : length reply ≤ 160

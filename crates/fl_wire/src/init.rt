@@ -1,6 +1,7 @@
 ghost use Rattle.std.specs.Prelude.{◌≡◌, ◌+◌, ◌≤◌, ◌++◌, IsOk, OnErr, OnOk, vec_len, vec_capacity};
 ghost use Rattle.fl_wire.specs.Append.{Appends};
 ghost use Rattle.fl_wire.specs.Init.{again_bytes, agreed_bytes, init_spelling, init_step};
+ghost use Rattle.fl_wire.specs.Spell.{IsReply};
 
 use crate::append::{push_u16, push_u32, push_zeros};
 use crate::errno::Errno;
@@ -67,6 +68,7 @@ pub fn read_init(frame: &Frame) -> InitStep
 /// room for 80 more bytes.
 pub fn write_init(unique: u64, step: &InitStep, out: &mut Vec<u8>) -> Result<(), NoMemory>
     ensures ok { OnOk result (out.new.items ≡ out.old.items ++ init_spelling unique step.now) }
+    ensures reply { IsReply (init_spelling unique step.now) }
     ensures err { OnErr result (out.new.items ≡ out.old.items) }
     ensures room { vec_len out.old + 80 ≤ vec_capacity out.old → IsOk result }
     ensures capacity { vec_capacity out.old ≤ vec_capacity out.new }

@@ -1,6 +1,6 @@
 ghost use Rattle.std.specs.Prelude.{◌≡◌, ◌+◌, ◌≤◌, ◌++◌, length, IsOk, OnErr, OnOk, vec_len, vec_capacity};
 ghost use Rattle.fl_wire.specs.Append.{Appends};
-ghost use Rattle.fl_wire.specs.Spell.{answer_bytes, attr_bytes, entry_bytes, header_bytes, lock_bytes, minus, open_bytes, spelling_of};
+ghost use Rattle.fl_wire.specs.Spell.{answer_bytes, attr_bytes, entry_bytes, header_bytes, lock_bytes, minus, open_bytes, spelling_of, IsReply};
 
 use crate::append::{push_u32, push_u64, push_zeros};
 use crate::errno::Errno;
@@ -14,6 +14,7 @@ const BLOCK_SIZE: u32 = 4096;
 /// room for 160 more bytes.
 pub fn write_told(told: &Told, out: &mut Vec<u8>) -> Result<(), NoMemory>
     ensures ok { OnOk result (out.new.items ≡ out.old.items ++ spelling_of told.now) }
+    ensures reply { IsReply (spelling_of told.now) }
     ensures err { OnErr result (out.new.items ≡ out.old.items) }
     ensures room { vec_len out.old + 160 ≤ vec_capacity out.old → IsOk result }
     ensures capacity { vec_capacity out.old ≤ vec_capacity out.new }

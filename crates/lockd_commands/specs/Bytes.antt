@@ -1,9 +1,10 @@
 -- A session from bytes to bytes: what came of a text of hex lines.
-use Rattle.std.specs.Prelude.{◌≡◌, ℕ, List, [], ◌++◌, Option, Some, None, IfSome, IsOk, Result, Ok, Err, ⊤}
+use Rattle.std.specs.Prelude.{◌≡◌, ℕ, false, List, [], All, Option, Some, None, IfSome, IsOk, Result, Ok, Err, ⊤}
 use Rattle.std.specs.List.{concat}
 use Rattle.std.specs.Io.KnownBytes.{Appends, Keeps}
 use Rattle.lockd_commands.specs.Hex.{hex_stream, hex_lines}
 use Rattle.fl_serve.specs.Served.{IsServed}
+use Rattle.fl_wire.specs.Spell.{IsReply}
 use Rattle.fl_serve.specs.Session.{session_of}
 use Rattle.lockd_commands.specs.declared.fault.Fault.{Fault as CommandFault}
 use Rattle.lockd_commands.specs.declared.fault.Fault.TheVariants.{BadLine, NoMemory as NoRoom, Read as CannotRead, Write as CannotWrite, Cut as CutShort, BadLength as WrongLength}
@@ -28,27 +29,21 @@ TextSays text CannotWrite = ⊥
 TextSays text CutShort = ⊥
 TextSays text (WrongLength n) = ⊥
 
--- these lines are the first of the replies, and these bytes are the replies behind them
-pub record IsCutOff (replies : List (List ℕ)) (unsent lines : List ℕ) : Type 0 where
-  pub told : List (List ℕ)
-  pub untold : List (List ℕ)
-  pub parts : replies ≡ told ++ untold
-  pub unsent_is : unsent ≡ concat untold
-  pub lines_are : lines ≡ hex_lines told
+-- these bytes are whole replies, one after another
+pub record AreReplies (bytes : List ℕ) : Type 0 where
+  pub replies : List (List ℕ)
+  pub framed : All IsReply replies
+  pub is : bytes ≡ concat replies
 
--- What is printed of a session's replies: all of them where there is no fault, and else those that were sent.
-abbrev pub Prints : Option Fault → List (List ℕ) → List ℕ → List ℕ → Type 0
-Prints None replies unsent lines = lines ≡ hex_lines replies
-Prints (Some fault) replies unsent lines = IsCutOff replies unsent lines
-
--- A session over this stream, whose fault is this one, and the lines that are printed for it.
+-- A session over this stream, no write of which failed and whose fault is this one, and the lines that are printed for
+-- it: one for each of its replies.
 pub record IsSession (stream lines : List ℕ) (fault : Option Fault) : Type 0 where
   pub done : Done
   pub unread : List ℕ
   pub sent : List ℕ
-  pub served : IsServed (Some stream) (Some unread) (Some []) (Some sent) done
+  pub served : IsServed (Some stream) (Some unread) (Some []) (Some sent) false done
   pub fault_is : done.fault ≡ fault
-  pub printed : Prints fault (session_of served.came).replies served.in_order.rest lines
+  pub printed : lines ≡ hex_lines (session_of served.came).replies
 
 -- The input is hex lines, and what a session over their bytes gives was printed.
 pub record IsPrinted (left old new : Option (List ℕ)) (fault : Option Fault) : Type 0 where

@@ -8,6 +8,7 @@ ghost use Rattle.fl_serve.specs.declared.session.Fault.{Fault as Told};
 use crate::fault::Fault;
 use crate::status::Status;
 use crate::streams::{read_all, write_all};
+use fl_serve::{Ended, run_session};
 use hex_text::read_stream;
 use replies::print_replies;
 use std::alloc::Global;
@@ -18,7 +19,7 @@ mod replies;
 
 /// `lockd bytes`: reads lines of hex, serves a session over the bytes that they spell, and writes each reply as a
 /// line of lower case hex. All input is read and checked, and the whole session is over, before any output. A fault
-/// is told as one line on `faults`; before `cut` and `bad length` the replies up to there are written.
+/// is told as one line on `faults`; before `cut` and `bad length` all replies up to there are written.
 pub fn bytes_on<R: Read, W: Write, F: Write>(
     alloc: Global,
     input: &mut R,
@@ -51,36 +52,38 @@ fn bytes<R: Read, W: Write>(alloc: Global, input: &mut R, output: &mut W) -> Res
 {
     let text = read_all(alloc, input)?;
     let stream = read_stream(alloc, &text)?;
-    let served = serve(alloc, &stream)?;
-    write_all(output, &served.lines)?;
-    match served.fault {
+    let printed = print_session(alloc, &stream)?;
+    write_all(output, &printed.lines)?;
+    match printed.fault {
         None => Ok(()),
         Some(fault) => Err(Fault::from(fault)),
     }
 }
 
-// What is printed for a session, and the fault of its stream, if there is one.
+// The lines that are printed for a session, and the fault of its stream, if there is one.
 #[derive(Drop)]
-struct Served {
+struct Printed {
     lines: Vec<u8>,
     fault: Option<fl_serve::Fault>,
 }
 
-// A session over these bytes. Memory is all that a vector needs to be written to.
-fn serve(alloc: Global, stream: &[u8]) -> Result<Served, Fault>
-    ensures session { IfOk result (λ served. IsSession stream.now served.lines.items served.fault) }
-    ensures fault { IfOk result (λ served. IfSome served.fault IsOfStream) }
+// A session over these bytes, and a line for each of its replies. A vector takes what is written to it where there is
+// memory: a write that failed is want of memory, also where the stream has a fault.
+fn print_session(alloc: Global, stream: &[u8]) -> Result<Printed, Fault>
+    ensures session { IfOk result (λ printed. IsSession stream.now printed.lines.items printed.fault) }
+    ensures fault { IfOk result (λ printed. IfSome printed.fault IsOfStream) }
     ensures error { IfErr result (λ fault. (fault ≡ Fault.NoMemory) ⊎ (fault ≡ Fault.Read)) }
 {
     let mut rest = stream;
     let mut sent = Vec::new(alloc);
-    let done = fl_serve::run_one(alloc, &mut rest, &mut sent);
+    let Ended { done, broken } = run_session(alloc, &mut rest, &mut sent);
     match done.fault {
         Some(fl_serve::Fault::Read) => Err(Fault::Read),
         Some(fl_serve::Fault::Write | fl_serve::Fault::NoMemory) => Err(Fault::NoMemory),
+        _ if broken => Err(Fault::NoMemory),
         fault => {
             let lines = print_replies(alloc, &sent)?;
-            Ok(Served { lines, fault })
+            Ok(Printed { lines, fault })
         }
     }
 }

@@ -1,7 +1,7 @@
 //! How the messages that were read are answered, one after another.
 
 ghost use Rattle.std.specs.Prelude.{◌≡◌, ◌≤◌, false, length, drop};
-ghost use Rattle.fl_serve.specs.UnderWay.{IsAnswered, Answers, IsStop};
+ghost use Rattle.fl_serve.specs.Inside.UnderWay.{IsAnswered, Answers, IsStop};
 
 use crate::session::mail::Mail;
 use crate::session::server::Server;

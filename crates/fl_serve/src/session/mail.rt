@@ -2,9 +2,9 @@
 
 ghost use Rattle.std.specs.Prelude.{◌≡◌, [], ◌∷◌, IfOk, map};
 ghost use Rattle.fl_wire.specs.Init.{init_spelling};
-ghost use Rattle.fl_wire.specs.Spell.{spelling_of};
-ghost use Rattle.fl_serve.specs.Serving.{bytes_of};
-ghost use Rattle.fl_serve.specs.Sending.{Sends};
+ghost use Rattle.fl_wire.specs.Spell.{spelling_of, IsReply};
+ghost use Rattle.fl_serve.specs.Inside.Serving.{bytes_of};
+ghost use Rattle.fl_serve.specs.Inside.Sending.{Sends};
 
 use crate::outbox::Outbox;
 use crate::session::server::Owed;
@@ -14,15 +14,15 @@ use std::io::Write;
 use std::marker::Model;
 
 // The most bytes of a reply.
-const MOST_BYTES: usize = 160;
+const REPLY_BYTES: usize = 160;
 
-/// Room in which one reply after another is laid out. Contracts see the bytes of the last one.
+/// Where one reply after another is laid out. Contracts see the bytes of the last one.
 #[derive(Drop)]
-pub(crate) struct Room {
+pub(crate) struct ReplyBuffer {
     bytes: Vec<u8>,
 }
 
-impl Model for Room {
+impl Model for ReplyBuffer {
     ghost use Rattle.std.specs.Prelude.{List, ℕ, ◌≤◌, vec_capacity};
 
     ghost Value = { List ℕ };
@@ -32,19 +32,20 @@ impl Model for Room {
     ghost invariant = { λ r. 160 ≤ vec_capacity r.bytes };
 }
 
-impl Room {
+impl ReplyBuffer {
     /// No reply yet.
-    pub(crate) fn new(alloc: Global) -> Result<Room, NoMemory>
-        ensures { IfOk result (λ room. room ≡ []) }
+    pub(crate) fn new(alloc: Global) -> Result<ReplyBuffer, NoMemory>
+        ensures { IfOk result (λ made. made ≡ []) }
     {
-        Ok(Room {
-            bytes: Vec::with_capacity(alloc, MOST_BYTES)?,
+        Ok(ReplyBuffer {
+            bytes: Vec::with_capacity(alloc, REPLY_BYTES)?,
         })
     }
 
     // Lays out a reply.
     fn lay_out(&mut self, told: &Told)
-        ensures { self.new ≡ spelling_of told.now }
+        ensures bytes { self.new ≡ spelling_of told.now }
+        ensures reply { IsReply (spelling_of told.now) }
     {
         self.bytes.clear();
         write_told(told, &mut self.bytes).unwrap();
@@ -52,7 +53,8 @@ impl Room {
 
     // Lays out the reply to an INIT.
     fn lay_out_init(&mut self, unique: u64, step: &InitStep)
-        ensures { self.new ≡ init_spelling unique step.now }
+        ensures bytes { self.new ≡ init_spelling unique step.now }
+        ensures reply { IsReply (init_spelling unique step.now) }
     {
         self.bytes.clear();
         write_init(unique, step, &mut self.bytes).unwrap();
@@ -66,10 +68,10 @@ impl Room {
     }
 }
 
-/// The replies of a session on their way out: the room for each, and the outbox that sends them.
+/// The replies of a session on their way out: where each is laid out, and the outbox that sends it.
 #[derive(Drop)]
 pub(crate) struct Mail<'a, W> {
-    pub room: &'a mut Room,
+    pub reply: &'a mut ReplyBuffer,
     pub out: Outbox<&'a mut W>,
 }
 
@@ -83,7 +85,7 @@ impl<W: Write> Mail<'_, W> {
             Owed::Nothing => {}
             Owed::Init(unique, step) => self.send_init(*unique, step),
             Owed::One(told) => self.send_one(told),
-            Owed::Tolds => self.send_all(tolds),
+            Owed::Replies => self.send_all(tolds),
         }
     }
 
@@ -91,16 +93,16 @@ impl<W: Write> Mail<'_, W> {
         ensures same { self.new.out.writer.ghost_name ≡ self.old.out.writer.ghost_name }
         ensures sent { Sends (W.contents self.old.out.writer.now) (W.contents self.new.out.writer.now) self.old.out.broken self.new.out.broken (init_spelling unique step.now ∷ []) }
     {
-        self.room.lay_out_init(unique, step);
-        self.out.post(self.room.as_slice());
+        self.reply.lay_out_init(unique, step);
+        self.out.post(self.reply.as_slice());
     }
 
     fn send_one(&mut self, told: &Told)
         ensures same { self.new.out.writer.ghost_name ≡ self.old.out.writer.ghost_name }
         ensures sent { Sends (W.contents self.old.out.writer.now) (W.contents self.new.out.writer.now) self.old.out.broken self.new.out.broken (spelling_of told.now ∷ []) }
     {
-        self.room.lay_out(told);
-        self.out.post(self.room.as_slice());
+        self.reply.lay_out(told);
+        self.out.post(self.reply.as_slice());
     }
 
     fn send_all(&mut self, tolds: &[Told])

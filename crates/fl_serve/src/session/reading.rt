@@ -2,9 +2,9 @@
 
 ghost use Rattle.std.specs.Prelude.{◌≡◌, ℕ, List, Option, ◌≤◌, ◌<◌, ◌+◌, ◌-◌, false, take, drop, length, IfOk, OnErr};
 ghost use Rattle.std.specs.Io.KnownBytes.{Consumes, IsAtEnd, Keeps};
-ghost use Rattle.fl_serve.specs.Serving.{IsFresh};
-ghost use Rattle.fl_serve.specs.UnderWay.{IsUnderWay};
-ghost use Rattle.fl_serve.specs.Turns.{IsWaiting, HasTurned, Fits, HasEnded};
+ghost use Rattle.fl_serve.specs.Inside.Serving.{IsFresh};
+ghost use Rattle.fl_serve.specs.Inside.UnderWay.{IsUnderWay};
+ghost use Rattle.fl_serve.specs.Inside.Turns.{IsWaiting, HasTurned, Fits, HasEnded};
 
 use crate::session::Fault;
 use crate::session::answering::{Stop, answer_all};
@@ -16,20 +16,20 @@ use std::io::{Read, Write};
 /// What comes after one read.
 #[derive(Clone, Copy, Debug, PartialEq, Eq)]
 pub(crate) enum Turn {
-    /// Another read. So many bytes, of a message that isn't whole yet, stand at the front of the room.
+    /// Another read. So many bytes, of a message that isn't whole yet, stand at the front of the buffer.
     More(usize),
     /// Nothing: the session ends, with this fault of its reader, if any.
     End(Option<Fault>),
 }
 
 /// Reads and answers until the session ends, and tells the fault of its reader, if any.
-pub(crate) fn serve<R: Read, W: Write>(
+pub(crate) fn read_and_answer<R: Read, W: Write>(
     r: &mut R,
-    room: &mut [u8],
+    buffer: &mut [u8],
     server: &mut Server,
     mail: &mut Mail<'_, W>,
 ) -> Option<Fault>
-    requires room { length room.old ≡ 8192 }
+    requires size { length buffer.old ≡ 8192 }
     requires fresh { IsFresh server.old }
     requires whole { mail.old.out.broken ≡ false }
     ensures same { mail.new.out.writer.ghost_name ≡ mail.old.out.writer.ghost_name }
@@ -37,7 +37,7 @@ pub(crate) fn serve<R: Read, W: Write>(
 {
     let mut filled = 0;
     for _ in 0..u64::MAX {
-        match read_once(r, room, filled, server, mail) {
+        match read_once(r, buffer, filled, server, mail) {
             Turn::More(left) => filled = left,
             Turn::End(fault) => return fault,
         }
@@ -45,61 +45,61 @@ pub(crate) fn serve<R: Read, W: Write>(
     Some(Fault::Read)
 }
 
-// Reads once, behind the bytes that fill the front of the room, and answers the messages that are whole then.
+// Reads once, behind the bytes that fill the front of the buffer, and answers the messages that are whole then.
 fn read_once<R: Read, W: Write>(
     r: &mut R,
-    room: &mut [u8],
+    buffer: &mut [u8],
     filled: usize,
     server: &mut Server,
     mail: &mut Mail<'_, W>,
 ) -> Turn
-    requires room { length room.old ≡ 8192 }
-    requires within { filled ≤ length room.old }
+    requires size { length buffer.old ≡ 8192 }
+    requires within { filled ≤ length buffer.old }
     requires live { server.old.over ≡ false }
     ensures same { mail.new.out.writer.ghost_name ≡ mail.old.out.writer.ghost_name }
-    ensures fits { Fits result server.new room.new }
-    ensures turned { (left start : Option (List ℕ)) → IsWaiting left (R.remaining r.old) start (W.contents mail.old.out.writer.now) mail.old.out.broken server.old room.old filled
-        → HasTurned result left (R.remaining r.new) start (W.contents mail.new.out.writer.now) mail.new.out.broken server.new room.new }
+    ensures fits { Fits result server.new buffer.new }
+    ensures turned { (left start : Option (List ℕ)) → IsWaiting left (R.remaining r.old) start (W.contents mail.old.out.writer.now) mail.old.out.broken server.old buffer.old filled
+        → HasTurned result left (R.remaining r.new) start (W.contents mail.new.out.writer.now) mail.new.out.broken server.new buffer.new }
 {
-    match read_behind(r, room, filled) {
+    match read_behind(r, buffer, filled) {
         Ok(0) if filled == 0 => Turn::End(None),
         Ok(0) => Turn::End(Some(Fault::Cut)),
-        Ok(n) => answer_read(room, filled + n, server, mail),
+        Ok(n) => answer_read(buffer, filled + n, server, mail),
         Err(_) => Turn::End(Some(Fault::Read)),
     }
 }
 
-// Reads behind the bytes that fill the front of the room.
-fn read_behind<R: Read>(r: &mut R, room: &mut [u8], filled: usize) -> io::Result<usize>
-    requires { filled ≤ length room.old }
-    ensures front { take filled room.new ≡ take filled room.old }
-    ensures within { IfOk result (λ n. filled + n ≤ length room.new) }
-    ensures read { IfOk result (λ n. Consumes (R.remaining r.old) (R.remaining r.new) (take n (drop filled room.new))) }
-    ensures end { IfOk result (λ n. n ≡ 0 → filled < length room.new → IsAtEnd (R.remaining r.new)) }
+// Reads behind the bytes that fill the front of the buffer.
+fn read_behind<R: Read>(r: &mut R, buffer: &mut [u8], filled: usize) -> io::Result<usize>
+    requires { filled ≤ length buffer.old }
+    ensures front { take filled buffer.new ≡ take filled buffer.old }
+    ensures within { IfOk result (λ n. filled + n ≤ length buffer.new) }
+    ensures read { IfOk result (λ n. Consumes (R.remaining r.old) (R.remaining r.new) (take n (drop filled buffer.new))) }
+    ensures end { IfOk result (λ n. n ≡ 0 → filled < length buffer.new → IsAtEnd (R.remaining r.new)) }
     ensures failed { OnErr result (Keeps (R.remaining r.old) (R.remaining r.new)) }
 {
-    r.read(&mut room[filled..])
+    r.read(&mut buffer[filled..])
 }
 
-// Answers the whole messages among the bytes that fill the front of the room, and moves the rest there.
+// Answers the whole messages among the bytes that fill the front of the buffer, and moves the rest there.
 fn answer_read<W: Write>(
-    room: &mut [u8],
+    buffer: &mut [u8],
     filled: usize,
     server: &mut Server,
     mail: &mut Mail<'_, W>,
 ) -> Turn
-    requires room { length room.old ≡ 8192 }
-    requires within { filled ≤ length room.old }
+    requires size { length buffer.old ≡ 8192 }
+    requires within { filled ≤ length buffer.old }
     requires live { server.old.over ≡ false }
     ensures same { mail.new.out.writer.ghost_name ≡ mail.old.out.writer.ghost_name }
-    ensures fits { Fits result server.new room.new }
-    ensures turned { (left left_now start : Option (List ℕ)) → IsUnderWay left left_now start (W.contents mail.old.out.writer.now) mail.old.out.broken server.old (take filled room.old)
-        → HasTurned result left left_now start (W.contents mail.new.out.writer.now) mail.new.out.broken server.new room.new }
+    ensures fits { Fits result server.new buffer.new }
+    ensures turned { (left left_now start : Option (List ℕ)) → IsUnderWay left left_now start (W.contents mail.old.out.writer.now) mail.old.out.broken server.old (take filled buffer.old)
+        → HasTurned result left left_now start (W.contents mail.new.out.writer.now) mail.new.out.broken server.new buffer.new }
 {
-    let (at, stop) = answer_all(server, mail, &room[..filled]);
+    let (at, stop) = answer_all(server, mail, &buffer[..filled]);
     match stop {
         Stop::More => {
-            move_front(room, at, filled);
+            move_front(buffer, at, filled);
             Turn::More(filled - at)
         }
         Stop::Bad(len) => Turn::End(Some(Fault::BadLength(len))),
@@ -108,10 +108,10 @@ fn answer_read<W: Write>(
 }
 
 // Moves the bytes from `at` to `filled` to the front.
-fn move_front(room: &mut [u8], at: usize, filled: usize)
+fn move_front(buffer: &mut [u8], at: usize, filled: usize)
     requires order { at ≤ filled }
-    requires within { filled ≤ length room.old }
-    ensures { take (filled - at) room.new ≡ drop at (take filled room.old) }
+    requires within { filled ≤ length buffer.old }
+    ensures { take (filled - at) buffer.new ≡ drop at (take filled buffer.old) }
 {
-    room.copy_within(at..filled, 0);
+    buffer.copy_within(at..filled, 0);
 }

@@ -2,23 +2,17 @@
 
 ghost use Rattle.std.specs.Prelude.{◌≡◌, ℕ, List, false, ◌++◌};
 ghost use Rattle.std.specs.Prelude.{IfOk};
+ghost use Rattle.fl_wire.specs.Kind.{kind_of_opcode};
 ghost use Rattle.fl_wire.specs.Layout.{opcode_of, unique_of};
 ghost use Rattle.fl_wire.specs.Says.{said};
 ghost use Rattle.fl_serve.specs.Session.{before_init};
-ghost use Rattle.fl_serve.specs.Serving.{bytes_of, session_with, IsFresh, IsMet, IsMetAs};
+ghost use Rattle.fl_serve.specs.Inside.Serving.{bytes_of, session_with, IsFresh, IsMet, IsMetAs};
 
 use fl_book::{Desk, History, Tolds};
 use fl_wire::{
-    Answer, Errno, Frame, InitStep, NoMemory, Order, Refusal, Told, read_init, read_order,
+    Answer, Errno, Frame, InitStep, Kind, NoMemory, Order, Refusal, Told, read_init, read_order,
 };
 use std::alloc::Global;
-
-// Kinds of messages that are told apart before an INIT is agreed (`enum fuse_opcode` of `fuse.h`).
-const FORGET: u32 = 2;
-
-const INIT: u32 = 26;
-
-const BATCH_FORGET: u32 = 42;
 
 /// What a message is answered.
 #[derive(Clone, Copy, Debug)]
@@ -30,7 +24,7 @@ pub(crate) enum Owed {
     /// One reply.
     One(Told),
     /// The replies of an order, which the server holds.
-    Tolds,
+    Replies,
 }
 
 /// The lock directory of a session, and how far the session is.
@@ -82,16 +76,17 @@ impl Server {
 
     // The same, before an INIT is agreed.
     fn meet_before_init(&mut self, frame: &Frame) -> Owed
-        ensures { (replies : List (List ℕ)) → session_with self.new (replies ++ bytes_of result self.new.tolds) ≡ before_init (session_with self.old replies) (opcode_of frame.now) frame.now }
+        ensures { (replies : List (List ℕ)) → session_with self.new (replies ++ bytes_of result self.new.tolds)
+            ≡ before_init (session_with self.old replies) (kind_of_opcode (opcode_of frame.now)) frame.now }
     {
-        match frame.opcode() {
-            INIT => {
+        match Kind::of_opcode(frame.opcode()) {
+            Some(Kind::Init) => {
                 let step = read_init(frame);
                 self.agreed = matches!(step, InitStep::Agreed { .. });
                 Owed::Init(frame.unique(), step)
             }
-            FORGET | BATCH_FORGET => Owed::Nothing,
-            _ => refusal(frame.unique(), Errno::EPROTO),
+            Some(Kind::Forget | Kind::BatchForget) => Owed::Nothing,
+            _ => error_reply(frame.unique(), Errno::EPROTO),
         }
     }
 
@@ -101,7 +96,7 @@ impl Server {
     {
         match read_order(frame) {
             Ok(order) => self.take(&order),
-            Err(Refusal::Answer(e)) => refusal(frame.unique(), e),
+            Err(Refusal::Answer(e)) => error_reply(frame.unique(), e),
             Err(Refusal::Silent) => Owed::Nothing,
             Err(Refusal::Destroy) => {
                 self.over = true;
@@ -118,17 +113,17 @@ impl Server {
         ensures { (unique : ℕ) → IsMetAs self.old self.new (bytes_of result self.new.tolds) unique (Ok order.now) }
     {
         match self.desk.take(0, order, &mut self.tolds) {
-            Ok(()) => Owed::Tolds,
+            Ok(()) => Owed::Replies,
             Err(NoMemory) => {
                 self.refused = true;
-                refusal(order.unique, Errno::ENOMEM)
+                error_reply(order.unique, Errno::ENOMEM)
             }
         }
     }
 }
 
 // A reply that is an error.
-fn refusal(unique: u64, e: Errno) -> Owed
+fn error_reply(unique: u64, e: Errno) -> Owed
     ensures { result ≡ Owed.One (record { unique = unique; result = Err e }) }
 {
     Owed::One(Told {

@@ -1,8 +1,7 @@
 use super::*;
+use crate::doubles::{MANY, Sink, Source};
 use fl_book::print_trace;
 use std::alloc::{AllocError, AllocGlobal};
-use std::io;
-use std::io::ErrorKind;
 use std::process::Abort;
 use std::test::Fail;
 
@@ -91,74 +90,6 @@ const DESTROY: [u8; 40] = [
 
 const DESTROYED: [u8; 16] = [0x10, 0, 0, 0, 0, 0, 0, 0, 5, 0, 0, 0, 0, 0, 0, 0];
 
-// Gives at most `most` bytes a read, and fails after this many reads.
-#[derive(Drop)]
-struct Source<'a> {
-    bytes: &'a [u8],
-    most: usize,
-    reads: usize,
-}
-
-impl Read for Source<'_> {
-    fn read(&mut self, buf: &mut [u8]) -> io::Result<usize> {
-        if self.reads == 0 {
-            return Err(io::Error::from(ErrorKind::Other));
-        }
-        self.reads -= 1;
-        let n = self.most.min(self.bytes.len()).min(buf.len());
-        buf[..n].copy_from_slice(&self.bytes[..n]);
-        self.bytes = &self.bytes[n..];
-        Ok(n)
-    }
-}
-
-// Takes at most `most` bytes a write, and after this many writes fails, or takes nothing.
-#[derive(Drop)]
-struct Sink {
-    held: Vec<u8>,
-    most: usize,
-    writes: usize,
-    fails: bool,
-}
-
-impl Write for Sink {
-    fn write(&mut self, buf: &[u8]) -> io::Result<usize> {
-        if self.writes == 0 {
-            return if self.fails {
-                Err(io::Error::from(ErrorKind::Interrupted))
-            } else {
-                Ok(0)
-            };
-        }
-        self.writes -= 1;
-        let n = self.most.min(buf.len());
-        match self.held.extend_from_slice(&buf[..n]) {
-            Ok(()) => Ok(n),
-            Err(_) => Err(io::Error::from(ErrorKind::OutOfMemory)),
-        }
-    }
-
-    fn flush(&mut self) -> io::Result<()> {
-        Ok(())
-    }
-}
-
-// More reads or writes than any of these sessions has.
-const MANY: usize = 1000;
-
-fn input_of(bytes: &[u8], most: usize, reads: usize) -> Source<'_> {
-    Source { bytes, most, reads }
-}
-
-fn output_of(alloc: Global, most: usize, writes: usize, fails: bool) -> Sink {
-    Sink {
-        held: Vec::new(alloc),
-        most,
-        writes,
-        fails,
-    }
-}
-
 // The four messages, one after another.
 fn stream(alloc: Global) -> Result<Vec<u8>, AllocError> {
     let mut bytes = Vec::new(alloc);
@@ -182,8 +113,8 @@ fn replies(alloc: Global) -> Result<Vec<u8>, AllocError> {
 #[test]
 fn a_byte_at_a_time(rt: HostRuntime) -> Result<(), Fail> {
     let stream = stream(rt.alloc())?;
-    let mut input = input_of(&stream, 1, MANY);
-    let mut output = output_of(rt.alloc(), 1, MANY, true);
+    let mut input = Source::new(&stream, 1, MANY);
+    let mut output = Sink::new(rt.alloc(), 1, MANY, true);
     let done = run_one(rt.alloc(), &mut input, &mut output);
     assert_eq!(&rt; done.fault, None);
     assert!(&rt; !done.refused);
@@ -228,7 +159,7 @@ fn each_read_fails(rt: HostRuntime) -> Result<(), Fail> {
     let replies = replies(rt.alloc())?;
     let sent = [0, 0, 80, 80, 240, 240, 240, 256, 256, 256, 272];
     for (reads, sent) in sent.iter().enumerate() {
-        let mut input = input_of(&stream, 29, reads);
+        let mut input = Source::new(&stream, 29, reads);
         let mut output = Vec::new(rt.alloc());
         let done = run_one(rt.alloc(), &mut input, &mut output);
         assert_eq!(&rt; done.fault, Some(Fault::Read), "{reads} reads");
@@ -260,7 +191,7 @@ fn ends_by_a_write(
     let stream = stream(rt.alloc())?;
     let replies = replies(rt.alloc())?;
     let mut input = stream.as_slice();
-    let mut output = output_of(rt.alloc(), 7, writes, fails);
+    let mut output = Sink::new(rt.alloc(), 7, writes, fails);
     let done = run_one(rt.alloc(), &mut input, &mut output);
     assert_eq!(rt; done.fault, Some(Fault::Write), "{writes} writes");
     assert!(rt; replies.starts_with(&output.held), "{writes} writes");
@@ -287,5 +218,44 @@ fn destroy_is_the_last(rt: HostRuntime) -> Result<(), Fail> {
     assert_eq!(&rt; done.fault, None);
     assert!(&rt; done.history.lines().is_empty());
     assert_eq!(&rt; output, replies);
+    Ok(())
+}
+
+// A further read is there to be made each time, and isn't: behind a DESTROY, and behind a length that no message has.
+#[test]
+fn nothing_is_read_behind_the_end(rt: HostRuntime) -> Result<(), Fail> {
+    let ends: [(&[u8], Option<Fault>); 3] = [
+        (&DESTROY, None),
+        (&[39, 0, 0, 0], Some(Fault::BadLength(39))),
+        (&[1, 0x20, 0, 0], Some(Fault::BadLength(8193))),
+    ];
+    for (end, fault) in ends {
+        let mut stream = Vec::new(rt.alloc());
+        stream.extend_from_slice(&INIT)?;
+        stream.extend_from_slice(end)?;
+        let most = stream.len();
+        stream.extend_from_slice(&CREATE)?;
+        let mut input = Source::new(&stream, most, MANY);
+        let mut output = Vec::new(rt.alloc());
+        let done = run_one(rt.alloc(), &mut input, &mut output);
+        assert_eq!(&rt; done.fault, fault);
+        assert_eq!(&rt; input.reads, MANY - 1, "{fault:?}");
+        assert_eq!(&rt; input.bytes, CREATE.as_slice(), "{fault:?}");
+    }
+    Ok(())
+}
+
+// A stream that is cut, and a write that fails: the first is the fault, and the second is told beside it.
+#[test]
+fn a_cut_stream_and_a_failed_write(rt: HostRuntime) -> Result<(), Fail> {
+    let stream = stream(rt.alloc())?;
+    let cut = stream.get(..stream.len() - 1).unwrap_or(&[]);
+    for (writes, broken) in [(3, false), (2, true)] {
+        let mut input = cut;
+        let mut output = Sink::new(rt.alloc(), 240, writes, true);
+        let ended = run_session(rt.alloc(), &mut input, &mut output);
+        assert_eq!(&rt; ended.done.fault, Some(Fault::Cut), "{writes} writes");
+        assert_eq!(&rt; ended.broken, broken, "{writes} writes");
+    }
     Ok(())
 }

@@ -1,5 +1,5 @@
 use Rattle.std.proofs.Common.{◌≡◌, ◌≤◌, ◌-◌, length, drop}
-use Rattle.fl_serve.specs.UnderWay.{Answers}
+use Rattle.fl_serve.specs.Inside.UnderWay.{Answers}
 use Rattle.fl_serve.proofs.session.answering.answer_all.Given as goal
 
 -- the messages before this place are answered

@@ -1,6 +1,6 @@
 use Rattle.std.proofs.Common.{◌≡◌, map, take}
 use Rattle.fl_wire.specs.Spell.{spelling_of}
-use Rattle.fl_serve.specs.Sending.{Sends}
+use Rattle.fl_serve.specs.Inside.Sending.{Sends}
 use Rattle.fl_serve.proofs.session.mail.Mail.send_all.Given as goal
 
 -- the replies so far are sent

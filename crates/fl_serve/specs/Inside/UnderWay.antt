@@ -4,8 +4,8 @@ use Rattle.std.specs.Io.KnownBytes.{Consumes}
 use Rattle.fl_wire.specs.Cut.{first_step}
 use Rattle.fl_wire.specs.Stream.{IsCut}
 use Rattle.fl_wire.specs.declared.cut.Step.TheVariants as step
-use Rattle.fl_serve.specs.Sending.{IsSending, Sends}
-use Rattle.fl_serve.specs.Serving.{session_with, IsMet}
+use Rattle.fl_serve.specs.Inside.Sending.{IsSending, Sends}
+use Rattle.fl_serve.specs.Inside.Serving.{session_with, IsMet}
 use Rattle.fl_serve.specs.Session.{Came, session_of}
 use Rattle.fl_serve.specs.declared.session.answering.Stop.{Stop}
 use Rattle.fl_serve.specs.declared.session.answering.Stop.TheVariants.{More, Bad, Over}

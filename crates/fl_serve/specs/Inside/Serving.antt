@@ -7,7 +7,7 @@ use Rattle.fl_wire.specs.declared.reading.Refusal.{Refusal}
 use Rattle.fl_wire.specs.declared.told.Told.{Told}
 use Rattle.fl_serve.specs.Session.{Session, with_message, after_init}
 use Rattle.fl_serve.specs.declared.session.server.Owed.{Owed}
-use Rattle.fl_serve.specs.declared.session.server.Owed.TheVariants.{Nothing, Init, One, Tolds}
+use Rattle.fl_serve.specs.declared.session.server.Owed.TheVariants.{Nothing, Init, One, Replies}
 use Rattle.fl_serve.specs.declared.session.server.Server.{Server}
 
 -- the bytes of each reply that is owed, where an order gets these
@@ -15,7 +15,7 @@ abbrev pub bytes_of : Owed → List Told → List (List ℕ)
 bytes_of Nothing tolds = []
 bytes_of (Init unique step) tolds = init_spelling unique step ∷ []
 bytes_of (One told) tolds = spelling_of told ∷ []
-bytes_of Tolds tolds = map spelling_of tolds
+bytes_of Replies tolds = map spelling_of tolds
 
 -- the session that a server keeps, and that got these replies
 abbrev pub session_with : Server → List (List ℕ) → Session

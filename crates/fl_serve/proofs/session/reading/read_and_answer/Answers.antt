@@ -1,6 +1,6 @@
 use Rattle.std.proofs.Common.{◌∙◌, refl, arith}
 use Rattle.fl_serve.proofs.ReadLemmas.{waiting_first}
-use Rattle.fl_serve.proofs.session.reading.serve.Goals as goal
+use Rattle.fl_serve.proofs.session.reading.read_and_answer.Goals as goal
 
 pub loop-init : goal.loop-init
 loop-init g c = (omega arith, c.requires.fresh.over, refl, waiting_first _ _ _ _ _ c.requires.fresh c.requires.whole)

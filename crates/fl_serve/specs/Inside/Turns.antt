@@ -3,17 +3,17 @@ use Rattle.std.specs.Prelude.{◌≡◌, ℕ, ◌≤◌, ◌<◌, ◌⊎◌, Boo
 use Rattle.std.specs.Io.KnownBytes.{IsAtEnd}
 use Rattle.fl_wire.specs.Cut.{first_step}
 use Rattle.fl_wire.specs.declared.cut.Step.TheVariants as step
-use Rattle.fl_serve.specs.UnderWay.{IsUnderWay}
+use Rattle.fl_serve.specs.Inside.UnderWay.{IsUnderWay}
 use Rattle.fl_serve.specs.declared.session.Fault.{Fault}
 use Rattle.fl_serve.specs.declared.session.Fault.TheVariants.{Cut, BadLength, Read, Write, NoMemory}
 use Rattle.fl_serve.specs.declared.session.reading.Turn.{Turn}
 use Rattle.fl_serve.specs.declared.session.reading.Turn.TheVariants.{More, End}
 use Rattle.fl_serve.specs.declared.session.server.Server.{Server}
 
--- the front of the room is a beginning of a message, and nothing is left to answer
-pub record IsWaiting (left left_now held held_now : Option (List ℕ)) (broken : Bool) (server : Server) (room : List ℕ) (filled : ℕ) : Type 0 where
-  pub more : first_step (take filled room) ≡ step.More
-  pub way : IsUnderWay left left_now held held_now broken server (take filled room)
+-- the front of the buffer is a beginning of a message, and nothing is left to answer
+pub record IsWaiting (left left_now held held_now : Option (List ℕ)) (broken : Bool) (server : Server) (buffer : List ℕ) (filled : ℕ) : Type 0 where
+  pub more : first_step (take filled buffer) ≡ step.More
+  pub way : IsUnderWay left left_now held held_now broken server (take filled buffer)
 
 -- how the reader's part of a session ended, after this rest and with these bytes left
 abbrev pub IsEnding : Option Fault → Server → List ℕ → Option (List ℕ) → Type 0
@@ -33,13 +33,13 @@ pub record HasEnded (left left_now held held_now : Option (List ℕ)) (broken : 
 
 -- the session waits for more, or it ended
 abbrev pub HasTurned : Turn → Option (List ℕ) → Option (List ℕ) → Option (List ℕ) → Option (List ℕ) → Bool → Server → List ℕ → Type 0
-HasTurned (More filled) left left_now held held_now broken server room = IsWaiting left left_now held held_now broken server room filled
-HasTurned (End fault) left left_now held held_now broken server room = HasEnded left left_now held held_now broken server fault
+HasTurned (More filled) left left_now held held_now broken server buffer = IsWaiting left left_now held held_now broken server buffer filled
+HasTurned (End fault) left left_now held held_now broken server buffer = HasEnded left left_now held held_now broken server fault
 
 -- where more has to come, the session isn't over
 abbrev pub Fits : Turn → Server → List ℕ → Type 0
-Fits (More filled) server room = (filled ≤ length room) × (server.over ≡ false)
-Fits (End fault) server room = Unit {0}
+Fits (More filled) server buffer = (filled ≤ length buffer) × (server.over ≡ false)
+Fits (End fault) server buffer = Unit {0}
 
 -- the fault that is told, where some write failed or none did
 abbrev pub first_fault : Option Fault → Bool → Option Fault
