@@ -1,5 +1,5 @@
 -- No two owners hold conflicting locks: a stroke keeps that where it was tested for conflicts.
-use Rattle.std.proofs.Common.{◌≡◌, ℕ, Bool, true, false, cond, not, ◌&&◌, ◌==◌, nat_le, Some, refl, ap, sym, ◌∙◌, arith}
+use Rattle.std.proofs.Common.{◌≡◌, ℕ, Bool, true, false, cond, not, ◌&&◌, ◌==◌, nat_le, Option, Some, None, refl, ap, sym, ◌∙◌, arith}
 use Rattle.std.proofs.lemmas.Bool.Decides.{nat_tests}
 use Rattle.std.specs.Ordering.{eq_by_cmp}
 use Rattle.std.specs.FinMap.{get, empty, get-empty}
@@ -9,7 +9,8 @@ use Rattle.fl_ranges.specs.declared.lock.Key.{Key}
 use Rattle.fl_ranges.specs.declared.lock.Mark.{Mark}
 use Rattle.fl_ranges.specs.Marking.{key_cmp, class_number, spot_cmp, Marking, Stroke, covers, stroked}
 use Rattle.fl_ranges.specs.Conflict.{are_rivals, excludes, excludes_lock, conflicts, IsLawful}
-use Rattle.fl_ranges.proofs.Markings.{spots_total, exact_spots, get-stroked}
+use Rattle.fl_ranges.specs.Runs.{without_node}
+use Rattle.fl_ranges.proofs.Markings.{spots_total, exact_spots, get-stroked, get-without_node}
 use Rattle.fl_ranges.proofs.Spots.{same_key, within}
 use Rattle.fl_ranges.proofs.Entries.{entry_passes}
 
@@ -73,3 +74,14 @@ module _ (m : Marking) (s : Stroke) where
           excludes_both_ways x.kind y.kind
           ∙ spared b a byte y x (clear y (sym (ap (λ t. cond t s.mark (get m (b, byte))) q) ∙ k)) q (sym (ap (λ t. cond t s.mark (get m (a, byte))) p) ∙ h) (rivals_both_ways b a ∙ rivals)
       go false false p q h k = lawful a b byte x y (sym (ap (λ t. cond t s.mark (get m (a, byte))) p) ∙ h) (sym (ap (λ t. cond t s.mark (get m (b, byte))) q) ∙ k) rivals
+
+-- a mark that is there without a node was there before
+still_held : (m : Marking) (node : ℕ) (key : Key) (byte : ℕ) (mark : Mark) → get (without_node node m) (key, byte) ≡ Some mark → get m (key, byte) ≡ Some mark
+still_held m node key byte mark held = go (key.node == node) (get m (key, byte)) (sym (get-without_node m node (key, byte)) ∙ held)
+  where
+    go : (b : Bool) (o : Option Mark) → cond b None o ≡ Some mark → o ≡ Some mark
+    go true o e = absurd (cc e)
+    go false o e = e
+
+pub lawful_without_node : (m : Marking) (node : ℕ) → IsLawful m → IsLawful (without_node node m)
+lawful_without_node m node lawful a b byte x y at_a at_b rivals = lawful a b byte x y (still_held m node a byte x at_a) (still_held m node b byte y at_b) rivals
