@@ -5,8 +5,7 @@ ghost use Rattle.fl_book.specs.Legal.{IsLegal, step_lines};
 ghost use Rattle.fl_book.specs.Kept.{IsKept, opening_book};
 
 use crate::history::{History, Line};
-use crate::tolds::Tolds;
-use fl_core::Core;
+use fl_core::{Core, Tolds};
 use fl_wire::{NoMemory, Order, Told};
 use std::alloc::Global;
 use std::marker::Model;

@@ -5,12 +5,10 @@
 mod desk;
 mod history;
 mod text;
-mod tolds;
 
 pub use desk::Desk;
 pub use history::{History, Line};
 pub use text::{has_text, print_trace};
-pub use tolds::Tolds;
 
 #[cfg(test)]
 mod tests;

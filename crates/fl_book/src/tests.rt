@@ -1,4 +1,5 @@
 use super::*;
+use fl_core::Tolds;
 use fl_wire::{Answer, Attr, Errno, LockAsk, Name, Op, Order, Told};
 use std::test::Fail;
 

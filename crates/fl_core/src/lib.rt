@@ -2,5 +2,7 @@
 #![tactic(auto)]
 
 mod state;
+mod tolds;
 
 pub use state::Core;
+pub use tolds::Tolds;

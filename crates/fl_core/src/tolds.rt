@@ -42,7 +42,7 @@ impl Tolds {
     }
 
     /// One reply in the place of those before.
-    pub(crate) fn set(&mut self, told: Told)
+    pub fn set(&mut self, told: Told)
         ensures { self.new ≡ told ∷ [] }
     {
         self.tolds.clear();
