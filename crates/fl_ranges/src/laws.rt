@@ -8,7 +8,7 @@ ghost use Rattle.fl_ranges.specs.declared.lock.Key.{Key as Holder};
 ghost use Rattle.fl_ranges.specs.declared.lock.Kind.{Kind as Sharing};
 ghost use Rattle.fl_ranges.specs.declared.held.Held.{Held as Lock};
 ghost use Rattle.fl_ranges.specs.Marking.{Spot, spot_cmp, Marking, Stroke, marking_of, mark_at};
-ghost use Rattle.fl_ranges.specs.Conflict.{conflicts, IsConflict, IsLawful};
+ghost use Rattle.fl_ranges.specs.Conflict.{conflicts, IsConflict};
 ghost use Rattle.fl_ranges.specs.Runs.{runs, IsStart, without_node};
 ghost use Rattle.fl_ranges.specs.Change.{Change, marking_after, last_said};
 ghost use Rattle.fl_ranges.specs.Blocker.{blocker, IsBlocker};
@@ -51,9 +51,4 @@ pub fn blocker_is_the_first_lock_that_excludes()
 /// no mark where none does.
 pub fn last_change_counts()
     ensures { (changes : List Change) (spot : Spot) → get (marking_after changes) spot ≡ last_said changes spot }
-{}
-
-/// A node that is cleared leaves no two owners with conflicting locks where there were none.
-pub fn clearing_keeps_locks_lawful()
-    ensures { (m : Marking) (node : ℕ) → IsLawful m → IsLawful (without_node node m) }
 {}

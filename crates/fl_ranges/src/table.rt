@@ -1,5 +1,5 @@
 //! The table of locks.
-ghost use Rattle.std.specs.Prelude.{◌≡◌, ◌≤◌, ◌<◌, ◌↔◌, Option, Some, None, IfOk, IsErr, OnOk, OnErr};
+ghost use Rattle.std.specs.Prelude.{◌≡◌, ◌≤◌, ◌<◌, ◌↔◌, false, Option, Some, None, IfOk, IsErr, OnOk, OnErr};
 ghost use Rattle.std.specs.FinMap as map;
 
 use crate::chain::{CHAINS, remove_node, remove_over, some_excludes};
@@ -43,14 +43,15 @@ impl Model for Table {
 
 impl Table {
     ghost use Rattle.fl_ranges.specs.Marking.{stroked};
-    ghost use Rattle.fl_ranges.specs.Conflict.{conflicts};
+    ghost use Rattle.fl_ranges.specs.Conflict.{conflicts, IsLawful};
     ghost use Rattle.fl_ranges.specs.Runs.{runs, without_node};
     ghost use Rattle.fl_ranges.specs.Placing.{IsPlaced};
 
     /// A table with no locks. It fails only for want of memory.
     pub fn new(alloc: Global, limit: u32) -> Result<Table, AllocError>
         requires { limit ≤ 65536 }
-        ensures { IfOk result (λ t. t ≡ record { limit = limit; marking = map.empty }) }
+        ensures empty { IfOk result (λ t. t ≡ record { limit = limit; marking = map.empty }) }
+        ensures lawful { IfOk result (λ t. IsLawful t.marking) }
     {
         Ok(Table {
             runs: Arena::new(alloc, CHAINS, limit as usize)?,
@@ -65,6 +66,8 @@ impl Table {
         ensures ok { OnOk result
             (self.new ≡ record self.old { marking = stroked (record { key = key.now; start = range.now.start; end = range.now.end; mark = Some mark }) self.old.marking }) }
         ensures err { OnErr result (self.new ≡ self.old) }
+        ensures lawful { conflicts self.old.marking key.now range.now.start range.now.end mark.kind ≡ false →
+            IsLawful self.old.marking → IsLawful self.new.marking }
     {
         self.stroke(key, range, Some(mark))
     }
@@ -77,6 +80,7 @@ impl Table {
         ensures ok { OnOk result
             (self.new ≡ record self.old { marking = stroked (record { key = key.now; start = range.now.start; end = range.now.end; mark = None }) self.old.marking }) }
         ensures err { OnErr result (self.new ≡ self.old) }
+        ensures lawful { IsLawful self.old.marking → IsLawful self.new.marking }
     {
         self.stroke(key, range, None)
     }
@@ -100,14 +104,16 @@ impl Table {
 
     /// All bytes of the key lose their marks.
     pub fn erase_owner(&mut self, key: &Key)
-        ensures { self.new ≡ record self.old { marking = stroked (record { key = key.now; start = 0; end = LAST_BYTE; mark = None }) self.old.marking } }
+        ensures erased { self.new ≡ record self.old { marking = stroked (record { key = key.now; start = 0; end = LAST_BYTE; mark = None }) self.old.marking } }
+        ensures lawful { IsLawful self.old.marking → IsLawful self.new.marking }
     {
         remove_over(&mut self.runs, key, 0, LAST_BYTE);
     }
 
     /// All bytes of the node lose their marks, of both classes and all owners.
     pub fn erase_node(&mut self, node: u64)
-        ensures { self.new ≡ record self.old { marking = without_node node self.old.marking } }
+        ensures erased { self.new ≡ record self.old { marking = without_node node self.old.marking } }
+        ensures lawful { IsLawful self.old.marking → IsLawful self.new.marking }
     {
         remove_node(&mut self.runs, node);
     }
