@@ -4,9 +4,10 @@
 
 mod desk;
 mod history;
+pub mod laws;
 mod text;
 
-pub use desk::Desk;
+pub use desk::{Desk, MOST_LINES};
 pub use history::{History, Line};
 pub use text::{has_text, print_trace};
 

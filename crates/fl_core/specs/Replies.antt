@@ -15,12 +15,13 @@ use Rattle.fl_ranges.specs.declared.lock.Key.{Key}
 use Rattle.fl_ranges.specs.declared.lock.Kind.{Kind}
 use Rattle.fl_ranges.specs.declared.lock.Kind.TheVariants.{Read, Write}
 use Rattle.fl_ranges.specs.declared.lock.Mark.{Mark}
-use Rattle.fl_ranges.specs.Marking.{Marking, Stroke, stroked, marking_of}
+use Rattle.fl_ranges.specs.Marking.{Marking, Stroke, stroked}
 use Rattle.fl_ranges.specs.Conflict.{conflicts}
 use Rattle.fl_ranges.specs.Runs.{runs}
 use Rattle.fl_ranges.specs.Blocker.{blocker}
 use Rattle.fl_dir.specs.Directory.{Listing, create_reply}
-use Rattle.fl_core.specs.State.{State, is_flock, key_of, mark_of, stroke_of}
+use Rattle.fl_core.specs.LockRequest.{is_flock, key_of, mark_of, stroke_of}
+use Rattle.fl_core.specs.State.{State, Snapshot, snapshot_of}
 
 -- the fh is open, and on this node
 abbrev pub is_open : Option ℕ → ℕ → Bool
@@ -81,6 +82,10 @@ reply_to d m order (Create excl mode name) = create_reply d order excl mode name
 reply_to d m order (Getlk ask) = getlk_reply d m order.node ask
 reply_to d m order (Setlk ask) = setlk_reply d m order.node ask
 
--- the replies that an order gets at once, in the state before it: one of its own
+-- the replies that an order gives: one of its own
+abbrev pub replies : Snapshot → Order → List Told
+replies p order = record { unique = order.unique; result = reply_to p.view.directory p.marking order order.op } ∷ []
+
+-- the same, in the state before it
 abbrev pub first_replies : State → Order → List Told
-first_replies s order = record { unique = order.unique; result = reply_to s.directory (marking_of s.strokes) order order.op } ∷ []
+first_replies s order = replies (snapshot_of s) order

@@ -5,4 +5,4 @@ mod state;
 mod tolds;
 
 pub use state::Core;
-pub use tolds::Tolds;
+pub use tolds::{MOST_TOLDS, Tolds};

@@ -1,11 +1,16 @@
-ghost use Rattle.std.specs.Prelude.{◌≡◌, ◌↔◌, true, IfErr, IfOk, OnOk, OnErr, IsNone, IfSome, None, Some};
-ghost use Rattle.std.specs.FinMap as map;
-ghost use Rattle.fl_dir.specs.Directory.{opening_listing};
+ghost use Rattle.std.specs.Prelude.{◌≡◌, ◌≤◌, ◌↔◌, true, false, length, IfErr, IfOk, IfSome, OnOk, OnErr, IsNone, Some, None};
 ghost use Rattle.fl_ranges.specs.Marking.{stroked};
-ghost use Rattle.fl_core.specs.State.{is_flock, key_of, start_of, end_of, mark_of, stroke_of};
-ghost use Rattle.fl_core.specs.Replies.{ask_error, is_malformed, room_reply, set_reply, type_of, lock_answer, setlk_reply, getlk_reply};
-ghost use Rattle.fl_core.specs.Snapshot.{reply_at, next};
+ghost use Rattle.fl_ranges.specs.Conflict.{conflicts, IsLawful};
+ghost use Rattle.fl_ranges.specs.Change.{after_changes};
+ghost use Rattle.fl_core.specs.LockRequest.{is_flock, key_of, start_of, end_of, mark_of, stroke_on};
+ghost use Rattle.fl_core.specs.State.{State, opening, snapshot_of};
+ghost use Rattle.fl_core.specs.Effects.{locked, answered, replied, recorded, made};
+ghost use Rattle.fl_core.specs.Replies.{
+    ask_error, is_malformed, room_reply, set_reply, type_of, lock_answer, setlk_reply, getlk_reply, reply_to, replies
+};
+ghost use Rattle.fl_core.specs.Step.{next};
 
+use crate::tolds::{MOST_TOLDS, Tolds};
 use fl_dir::Dir;
 use fl_ranges::{Class, Held, Key, Kind, LAST_BYTE, Mark, Range, Table};
 use fl_wire::{Answer, Errno, LockAsk, Op, Order, Told};
@@ -22,7 +27,7 @@ const UNLOCK: u32 = 2;
 // The most runs of locked bytes, over all files and both classes.
 const MOST_RUNS: u32 = 4096;
 
-/// The directory and the locks. Contracts see them as a `Snapshot`.
+/// The directory and the locks. Contracts see them as a `Snapshot`; no request is parked.
 #[derive(Drop)]
 pub struct Core {
     directory: Dir,
@@ -30,15 +35,15 @@ pub struct Core {
 }
 
 impl Model for Core {
-    ghost use Rattle.std.specs.Prelude.{◌≡◌};
-    ghost use Rattle.fl_core.specs.Snapshot.{Snapshot};
+    ghost use Rattle.std.specs.Prelude.{◌≡◌, []};
+    ghost use Rattle.fl_core.specs.State.{Snapshot};
     ghost use Rattle.fl_core.specs.Codes.{snapshot_code};
 
     ghost Value = { Snapshot };
 
     ghost coded = { snapshot_code };
 
-    ghost view = { λ s. record { directory = s.directory; marking = s.locks.marking } };
+    ghost view = { λ s. record { view = record { directory = s.directory; parked = [] }; marking = s.locks.marking } };
 
     ghost invariant = { λ s. s.locks.limit ≡ 4096 };
 }
@@ -46,7 +51,8 @@ impl Model for Core {
 impl Core {
     /// No files and no locks.
     pub fn new(alloc: Global) -> Result<Core, AllocError>
-        ensures { IfOk result (λ s. s ≡ record { directory = opening_listing; marking = map.empty }) }
+        ensures opening { IfOk result (λ s. s ≡ snapshot_of opening) }
+        ensures lawful { IfOk result (λ s. IsLawful s.marking) }
     {
         Ok(Core {
             directory: Dir::new(alloc)?,
@@ -54,19 +60,35 @@ impl Core {
         })
     }
 
-    /// Answers an order, and makes its change.
-    pub fn step(&mut self, order: &Order) -> Told
-        ensures reply { result ≡ reply_at self.old order.now }
-        ensures present { self.new ≡ next self.old order.now }
+    /// Answers an order, and makes its change. It leaves the replies in `tolds`, in the place of those before.
+    pub fn step(&mut self, order: &Order, tolds: &mut Tolds)
+        ensures replies { tolds.new ≡ replies self.old order.now }
+        ensures few { length tolds.new ≤ MOST_TOLDS }
+        ensures next { self.new ≡ next self.old order.now }
+
+        // A state that the core stands for goes the same way by the order and its replies alone.
+        ensures recorded { (s : State) → snapshot_of s ≡ self.old →
+            snapshot_of (recorded (replied order.now tolds.new) s) ≡ self.new }
+        ensures lawful { IsLawful self.old.marking → IsLawful self.new.marking }
     {
-        let result = match &order.op {
+        tolds.clear();
+        let result = self.answer(order);
+        tolds.push(Told {
+            unique: order.unique,
+            result,
+        });
+    }
+
+    // The order's own reply, with its change made.
+    fn answer(&mut self, order: &Order) -> Result<Answer, Errno>
+        ensures reply { result ≡ reply_to self.old.view.directory self.old.marking order.now order.now.op }
+        ensures changed { self.new ≡ made (answered order.now order.now.op result) self.old }
+        ensures lawful { IsLawful self.old.marking → IsLawful self.new.marking }
+    {
+        match &order.op {
             Op::Create { excl, mode, name } => self.directory.create(order, *excl, *mode, name),
             Op::Getlk(ask) => test_lock(&self.directory, &self.locks, order.node, ask),
             Op::Setlk(ask) => set_lock(&self.directory, &mut self.locks, order.node, ask),
-        };
-        Told {
-            unique: order.unique,
-            result,
         }
     }
 }
@@ -80,8 +102,8 @@ fn set_lock(
 ) -> Result<Answer, Errno>
     requires { locks.old.limit ≡ 4096 }
     ensures reply { result ≡ setlk_reply directory.now locks.old.marking node ask.now }
-    ensures granted { OnOk result (locks.new.marking ≡ stroked (stroke_of node ask.now) locks.old.marking) }
-    ensures refused { OnErr result (locks.new.marking ≡ locks.old.marking) }
+    ensures changed { locks.new.marking ≡ after_changes (locked node ask.now result) locks.old.marking }
+    ensures lawful { IsLawful locks.old.marking → IsLawful locks.new.marking }
     ensures limit { locks.new.limit ≡ 4096 }
 {
     let range = asked_range(directory, node, ask)?;
@@ -92,9 +114,10 @@ fn set_lock(
 // room for the runs afterwards.
 fn change(locks: &mut Table, key: &Key, range: &Range, mark: Option<Mark>) -> Result<Answer, Errno>
     requires { locks.old.limit ≡ 4096 }
-    ensures reply { result ≡ set_reply locks.old.marking (record { key = key.now; start = range.now.start; end = range.now.end; mark = mark }) mark }
-    ensures granted { OnOk result (locks.new.marking ≡ stroked (record { key = key.now; start = range.now.start; end = range.now.end; mark = mark }) locks.old.marking) }
+    ensures reply { result ≡ set_reply locks.old.marking (stroke_on key.now range.now mark) mark }
+    ensures granted { OnOk result (locks.new.marking ≡ stroked (stroke_on key.now range.now mark) locks.old.marking) }
     ensures refused { OnErr result (locks.new.marking ≡ locks.old.marking) }
+    ensures lawful { IsLawful locks.old.marking → IsLawful locks.new.marking }
     ensures limit { locks.new.limit ≡ 4096 }
 {
     match mark {
@@ -106,10 +129,12 @@ fn change(locks: &mut Table, key: &Key, range: &Range, mark: Option<Mark>) -> Re
 
 // The same for locks that nothing excludes.
 fn store(locks: &mut Table, key: &Key, range: &Range, mark: Option<Mark>) -> Result<Answer, Errno>
-    requires { locks.old.limit ≡ 4096 }
-    ensures reply { result ≡ room_reply locks.old.marking (record { key = key.now; start = range.now.start; end = range.now.end; mark = mark }) }
-    ensures granted { OnOk result (locks.new.marking ≡ stroked (record { key = key.now; start = range.now.start; end = range.now.end; mark = mark }) locks.old.marking) }
+    requires limit { locks.old.limit ≡ 4096 }
+    requires clear { IfSome mark (λ own. conflicts locks.old.marking key.now range.now.start range.now.end own.kind ≡ false) }
+    ensures reply { result ≡ room_reply locks.old.marking (stroke_on key.now range.now mark) }
+    ensures granted { OnOk result (locks.new.marking ≡ stroked (stroke_on key.now range.now mark) locks.old.marking) }
     ensures refused { OnErr result (locks.new.marking ≡ locks.old.marking) }
+    ensures lawful { IsLawful locks.old.marking → IsLawful locks.new.marking }
     ensures limit { locks.new.limit ≡ 4096 }
 {
     let stored = match mark {
