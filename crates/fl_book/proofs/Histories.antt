@@ -7,7 +7,6 @@ use Rattle.fl_wire.specs.declared.told.Told.{Told}
 use Rattle.fl_wire.specs.declared.order.Order.{Order}
 use Rattle.fl_book.specs.declared.history.Line.{Line}
 use Rattle.fl_book.specs.declared.history.Line.TheVariants as line
-use Rattle.fl_ranges.specs.Change.{Change}
 use Rattle.fl_ranges.specs.Conflict.{IsLawful}
 use Rattle.fl_core.specs.State.{View, State, Snapshot, opening, snapshot_of}
 use Rattle.fl_core.specs.Effects.{Effect, answered, unanswered, later, followed_by, told_first, replied, recorded}
@@ -32,7 +31,7 @@ read_later (told ∷ tolds) s = read_later tolds (recorded (later told) s)
 recorded_twice : (f g : View → Effect) (s : State) → recorded g (recorded f s) ≡ recorded (λ v. followed_by g (f v)) s
 recorded_twice f g s =
     let e = f s.view in
-    ap (λ (changes : List Change). record { view = (g e.view).view; changes = changes }) (sym (append_assoc (g e.view).changes e.changes s.changes))
+    λ i. record { view = (g e.view).view; changes = sym (append_assoc (g e.view).changes e.changes s.changes) i }
 
 later_recorded : (tolds : List Told) (f : View → Effect) (s : State) → all_later tolds (recorded f s) ≡ recorded (λ v. fold (λ e t. followed_by (later t) e) (f v) tolds) s
 later_recorded [] f s = refl
@@ -59,7 +58,7 @@ read_own lines worker order told tolds own =
     read_asked lines worker order (told ∷ tolds)
     ∙ read_later tolds (recorded (told_first order told) (state_after lines))
     ∙ ap (λ b. all_later tolds (recorded (λ v. cond b (answered order order.op told.result v) (followed_by (later told) (unanswered order v))) (state_after lines)))
-      (same_number told.unique order.unique own)
+    (same_number told.unique order.unique own)
 
 -- one more step without a reply of its own
 pub read_none : (lines : List Line) (worker : ℕ) (order : Order) (tolds : List Told) → AllOthers order.unique tolds
@@ -69,7 +68,7 @@ read_none lines worker order (told ∷ tolds) others =
     read_asked lines worker order (told ∷ tolds)
     ∙ read_later tolds (recorded (told_first order told) (state_after lines))
     ∙ ap (λ b. all_later tolds (recorded (λ v. cond b (answered order order.op told.result v) (followed_by (later told) (unanswered order v))) (state_after lines)))
-      (other_number told.unique order.unique others.0)
+    (other_number told.unique order.unique others.0)
     ∙ ap (all_later tolds) (sym (recorded_twice (unanswered order) (later told) (state_after lines)))
 
 -- ---- what a desk keeps

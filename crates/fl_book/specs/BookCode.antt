@@ -9,4 +9,6 @@ use Rattle.fl_book.specs.Kept.{Book}
 
 -- a book, as its three parts
 abbrev pub book_code : Coded Book
-book_code = code_by (List Line × (Snapshot × ℕ)) (coded× (coded_list (the_row).coded) (coded× snapshot_code coded_ℕ)) (λ b. (b.lines, (b.present, b.room))) (λ t. record { lines = t.0; present = t.1.0; room = t.1.1 }) (λ _. refl)
+book_code =
+    code_by (List Line × (Snapshot × ℕ)) (coded× (coded_list (the_row).coded) (coded× snapshot_code coded_ℕ))
+    (λ b. (b.lines, (b.present, b.room))) (λ t. record { lines = t.0; present = t.1.0; room = t.1.1 }) (λ _. refl)

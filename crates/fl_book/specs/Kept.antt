@@ -16,7 +16,7 @@ pub record Book : Type 0 where
 abbrev pub opening_book : Book
 opening_book = record { lines = []; present = snapshot_of opening; room = 0 }
 
--- The history is legal, what is there now is what the history alone gives, and no two owners hold conflicting locks on a byte.
+-- The history is legal, what is there now is what the history alone gives, and no two owners have conflicting locks.
 pub record IsKept (lines : List Line) (present : Snapshot) : Type 0 where
   pub legal : IsLegal lines
   pub stands : present ≡ snapshot_of (state_after lines)

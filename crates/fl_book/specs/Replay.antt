@@ -22,7 +22,7 @@ abbrev pub committed : Option Order → State → State
 committed None s = s
 committed (Some order) s = recorded (unanswered order) s
 
--- A reply directly after an order of its unique is that order's own. Any other answers the parked request of its unique.
+-- A reply directly after an order of its unique is its own. Any other answers the parked request of its unique.
 abbrev pub read_reply : Option Order → Told → State → State
 read_reply None told s = recorded (later told) s
 read_reply (Some order) told s = recorded (told_first order told) s

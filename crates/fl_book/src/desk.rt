@@ -30,7 +30,8 @@ impl Model for Desk {
 
     ghost coded = { book_code };
 
-    ghost view = { λ d. record { lines = d.lines.items; present = d.present; room = vec_capacity d.lines - length d.lines.items } };
+    ghost view = { λ d.
+        record { lines = d.lines.items; present = d.present; room = vec_capacity d.lines - length d.lines.items } };
 
     ghost invariant = { λ d. IsKept d.lines.items d.present };
 }

@@ -13,9 +13,9 @@ pub fn own_reply_comes_first()
     ensures own { (lines : List Record) (worker : ℕ) (order : Request) (told : Reply) (tolds : List Reply) →
         told.unique ≡ order.unique →
         state_after (lines ++ step_lines worker order (told ∷ tolds)) ≡
-            all_later tolds (recorded (answered order order.op told.result) (state_after lines)) }
+        all_later tolds (recorded (answered order order.op told.result) (state_after lines)) }
     ensures none { (lines : List Record) (worker : ℕ) (order : Request) (tolds : List Reply) →
         AllOthers order.unique tolds →
         state_after (lines ++ step_lines worker order tolds) ≡
-            all_later tolds (recorded (unanswered order) (state_after lines)) }
+        all_later tolds (recorded (unanswered order) (state_after lines)) }
 {}

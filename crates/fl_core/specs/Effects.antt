@@ -1,5 +1,6 @@
--- What a recorded order and its recorded replies change. It is read off the order, the replies, and all but the locks; nothing is tested.
-use Rattle.std.specs.Prelude.{ℕ, Bool, ◌==◌, Option, Some, None, option_map, Result, Ok, Err, List, [], ◌∷◌, ◌++◌, if◌then◌else◌}
+-- What a recorded order changes with its recorded replies: read off these and all but the locks, and nothing is tested.
+use Rattle.std.specs.Prelude.{ℕ, Bool, ◌==◌, Option, Some, None, option_map, Result, Ok, Err, List, [], ◌∷◌, ◌++◌}
+use Rattle.std.specs.Prelude.{if◌then◌else◌}
 use Rattle.std.specs.List.{fold}
 use Rattle.fl_wire.specs.declared.errno.Errno.{Errno}
 use Rattle.fl_wire.specs.declared.told.Answer.{Answer}
@@ -29,7 +30,8 @@ locked node ask (Err e) = []
 
 -- an order with this reply of its own; an error changes nothing
 abbrev pub answered : Order → Op → Result Answer Errno → View → Effect
-answered order (Create excl mode name) reply v = leaving (record v { directory = after_create v.directory order mode name reply })
+answered order (Create excl mode name) reply v =
+    leaving (record v { directory = after_create v.directory order mode name reply })
 answered order (Getlk ask) reply v = leaving v
 answered order (Setlk ask) reply v = record { view = v; changes = locked order.node ask reply }
 

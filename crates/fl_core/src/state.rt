@@ -1,4 +1,5 @@
-ghost use Rattle.std.specs.Prelude.{◌≡◌, ◌≤◌, ◌↔◌, true, false, length, IfErr, IfOk, IfSome, OnOk, OnErr, IsNone, Some, None};
+ghost use Rattle.std.specs.Prelude.{◌≡◌, ◌≤◌, ◌↔◌, true, false, length, Some, None};
+ghost use Rattle.std.specs.Prelude.{IfErr, IfOk, IfSome, OnOk, OnErr, IsNone};
 ghost use Rattle.fl_ranges.specs.Marking.{stroked};
 ghost use Rattle.fl_ranges.specs.Conflict.{conflicts, IsLawful};
 ghost use Rattle.fl_ranges.specs.Change.{after_changes};
@@ -6,7 +7,16 @@ ghost use Rattle.fl_core.specs.LockRequest.{is_flock, key_of, start_of, end_of, 
 ghost use Rattle.fl_core.specs.State.{State, opening, snapshot_of};
 ghost use Rattle.fl_core.specs.Effects.{locked, answered, replied, recorded, made};
 ghost use Rattle.fl_core.specs.Replies.{
-    ask_error, is_malformed, room_reply, set_reply, type_of, lock_answer, setlk_reply, getlk_reply, reply_to, replies
+  ask_error,
+  is_malformed,
+  room_reply,
+  set_reply,
+  type_of,
+  lock_answer,
+  setlk_reply,
+  getlk_reply,
+  reply_to,
+  replies,
 };
 ghost use Rattle.fl_core.specs.Step.{next};
 
@@ -94,12 +104,7 @@ impl Core {
 }
 
 // FUSE_SETLK: sets or takes away a lock where its tests pass.
-fn set_lock(
-    directory: &Dir,
-    locks: &mut Table,
-    node: u64,
-    ask: &LockAsk,
-) -> Result<Answer, Errno>
+fn set_lock(directory: &Dir, locks: &mut Table, node: u64, ask: &LockAsk) -> Result<Answer, Errno>
     requires { locks.old.limit ≡ 4096 }
     ensures reply { result ≡ setlk_reply directory.now locks.old.marking node ask.now }
     ensures changed { locks.new.marking ≡ after_changes (locked node ask.now result) locks.old.marking }
@@ -130,7 +135,8 @@ fn change(locks: &mut Table, key: &Key, range: &Range, mark: Option<Mark>) -> Re
 // The same for locks that nothing excludes.
 fn store(locks: &mut Table, key: &Key, range: &Range, mark: Option<Mark>) -> Result<Answer, Errno>
     requires limit { locks.old.limit ≡ 4096 }
-    requires clear { IfSome mark (λ own. conflicts locks.old.marking key.now range.now.start range.now.end own.kind ≡ false) }
+    requires clear { IfSome mark
+        (λ own. conflicts locks.old.marking key.now range.now.start range.now.end own.kind ≡ false) }
     ensures reply { result ≡ room_reply locks.old.marking (stroke_on key.now range.now mark) }
     ensures granted { OnOk result (locks.new.marking ≡ stroked (stroke_on key.now range.now mark) locks.old.marking) }
     ensures refused { OnErr result (locks.new.marking ≡ locks.old.marking) }
@@ -148,12 +154,7 @@ fn store(locks: &mut Table, key: &Key, range: &Range, mark: Option<Mark>) -> Res
 }
 
 // FUSE_GETLK: tells the lock that keeps the one asked for from being set.
-fn test_lock(
-    directory: &Dir,
-    locks: &Table,
-    node: u64,
-    ask: &LockAsk,
-) -> Result<Answer, Errno>
+fn test_lock(directory: &Dir, locks: &Table, node: u64, ask: &LockAsk) -> Result<Answer, Errno>
     ensures { result ≡ getlk_reply directory.now locks.now.marking node ask.now }
 {
     let range = asked_range(directory, node, ask)?;
