@@ -1,5 +1,5 @@
 -- A legal history with one more order is legal, and what is there after it is what the history gives.
-use Rattle.std.proofs.Common.{◌≡◌, ◌≢◌, ℕ, true, false, cond, ◌==◌, Option, Some, None, List, [], ◌∷◌, ◌++◌, map, append_assoc, refl, ap, sym, ◌∙◌, subst, arith}
+use Rattle.std.proofs.Common.{◌≡◌, ◌≢◌, ℕ, true, false, cond, ◌==◌, Some, None, List, [], ◌∷◌, ◌++◌, map, append_assoc, refl, ap, sym, ◌∙◌, arith}
 use Rattle.std.proofs.lemmas.Bool.Decides.{nat_tests}
 use Rattle.std.proofs.lemmas.List.Sums.{fold-append}
 use Rattle.std.specs.List.{fold}
@@ -8,11 +8,11 @@ use Rattle.fl_wire.specs.declared.order.Order.{Order}
 use Rattle.fl_book.specs.declared.history.Line.{Line}
 use Rattle.fl_book.specs.declared.history.Line.TheVariants as line
 use Rattle.fl_ranges.specs.Conflict.{IsLawful}
-use Rattle.fl_core.specs.State.{View, State, Snapshot, opening, snapshot_of}
+use Rattle.fl_core.specs.State.{View, State, Snapshot, snapshot_of}
 use Rattle.fl_core.specs.Effects.{Effect, answered, unanswered, later, followed_by, told_first, replied, recorded}
 use Rattle.fl_core.specs.Replies.{replies}
-use Rattle.fl_book.specs.Replay.{Reading, unread, read_line, state_at_end, state_after, all_later, AllOthers}
-use Rattle.fl_book.specs.Legal.{nothing, step, step_lines}
+use Rattle.fl_book.specs.Replay.{unread, read_line, state_at_end, state_after, all_later, AllOthers}
+use Rattle.fl_book.specs.Legal.{step, step_lines}
 use Rattle.fl_book.specs.Kept.{IsKept}
 
 -- ---- how the lines of a step are read

@@ -1,5 +1,5 @@
 -- The state that recorded lines alone give.
-use Rattle.std.specs.Prelude.{◌≢◌, ℕ, Option, Some, None, List, [], ◌∷◌}
+use Rattle.std.specs.Prelude.{◌≢◌, ℕ, Option, Some, None, List}
 use Rattle.std.specs.List.{fold, AllByRecursion}
 use Rattle.fl_wire.specs.declared.order.Order.{Order}
 use Rattle.fl_wire.specs.declared.told.Told.{Told}

@@ -1,5 +1,5 @@
 -- Effects on a state, and on what contracts see of it.
-use Rattle.std.proofs.Common.{◌≡◌, ℕ, true, cond, ◌==◌, Result, List, [], ◌∷◌, ◌++◌, refl, sym, ap, ◌∙◌, subst, arith}
+use Rattle.std.proofs.Common.{◌≡◌, ℕ, true, cond, ◌==◌, Result, List, [], ◌∷◌, ◌++◌, refl, sym, ap, ◌∙◌, arith}
 use Rattle.std.proofs.lemmas.Bool.Decides.{nat_tests}
 use Rattle.std.specs.FinMap.{empty}
 use Rattle.fl_wire.specs.declared.errno.Errno.{Errno}

@@ -1,5 +1,5 @@
 -- What a recorded order changes with its recorded replies: read off these and all but the locks, and nothing is tested.
-use Rattle.std.specs.Prelude.{ℕ, Bool, ◌==◌, Option, Some, None, option_map, Result, Ok, Err, List, [], ◌∷◌, ◌++◌}
+use Rattle.std.specs.Prelude.{ℕ, ◌==◌, Option, Some, None, option_map, Result, Ok, Err, List, [], ◌∷◌, ◌++◌}
 use Rattle.std.specs.Prelude.{if◌then◌else◌}
 use Rattle.std.specs.List.{fold}
 use Rattle.fl_wire.specs.declared.errno.Errno.{Errno}

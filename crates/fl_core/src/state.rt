@@ -6,18 +6,8 @@ ghost use Rattle.fl_ranges.specs.Change.{after_changes};
 ghost use Rattle.fl_core.specs.LockRequest.{is_flock, key_of, start_of, end_of, mark_of, stroke_on};
 ghost use Rattle.fl_core.specs.State.{State, opening, snapshot_of};
 ghost use Rattle.fl_core.specs.Effects.{locked, answered, replied, recorded, made};
-ghost use Rattle.fl_core.specs.Replies.{
-  ask_error,
-  is_malformed,
-  room_reply,
-  set_reply,
-  type_of,
-  lock_answer,
-  setlk_reply,
-  getlk_reply,
-  reply_to,
-  replies,
-};
+ghost use Rattle.fl_core.specs.Replies.{ask_error, is_malformed, type_of, lock_answer};
+ghost use Rattle.fl_core.specs.Replies.{room_reply, set_reply, setlk_reply, getlk_reply, reply_to, replies};
 ghost use Rattle.fl_core.specs.Step.{next};
 
 use crate::tolds::{MOST_TOLDS, Tolds};
@@ -48,6 +38,7 @@ impl Model for Core {
     ghost use Rattle.std.specs.Prelude.{◌≡◌, []};
     ghost use Rattle.fl_core.specs.State.{Snapshot};
     ghost use Rattle.fl_core.specs.Codes.{snapshot_code};
+    ghost use Rattle.fl_core.specs.declared.state.TheConstants.{MOST_RUNS};
 
     ghost Value = { Snapshot };
 
@@ -55,7 +46,7 @@ impl Model for Core {
 
     ghost view = { λ s. record { view = record { directory = s.directory; parked = [] }; marking = s.locks.marking } };
 
-    ghost invariant = { λ s. s.locks.limit ≡ 4096 };
+    ghost invariant = { λ s. s.locks.limit ≡ MOST_RUNS };
 }
 
 impl Core {
@@ -105,11 +96,11 @@ impl Core {
 
 // FUSE_SETLK: sets or takes away a lock where its tests pass.
 fn set_lock(directory: &Dir, locks: &mut Table, node: u64, ask: &LockAsk) -> Result<Answer, Errno>
-    requires { locks.old.limit ≡ 4096 }
+    requires { locks.old.limit ≡ MOST_RUNS }
     ensures reply { result ≡ setlk_reply directory.now locks.old.marking node ask.now }
     ensures changed { locks.new.marking ≡ after_changes (locked node ask.now result) locks.old.marking }
     ensures lawful { IsLawful locks.old.marking → IsLawful locks.new.marking }
-    ensures limit { locks.new.limit ≡ 4096 }
+    ensures limit { locks.new.limit ≡ MOST_RUNS }
 {
     let range = asked_range(directory, node, ask)?;
     change(locks, &key_of(node, ask), &range, mark_of(ask))
@@ -118,12 +109,12 @@ fn set_lock(directory: &Dir, locks: &mut Table, node: u64, ask: &LockAsk) -> Res
 // The bytes of the range get the mark, or lose theirs: where no lock that is held excludes it, and where there is
 // room for the runs afterwards.
 fn change(locks: &mut Table, key: &Key, range: &Range, mark: Option<Mark>) -> Result<Answer, Errno>
-    requires { locks.old.limit ≡ 4096 }
+    requires { locks.old.limit ≡ MOST_RUNS }
     ensures reply { result ≡ set_reply locks.old.marking (stroke_on key.now range.now mark) mark }
     ensures granted { OnOk result (locks.new.marking ≡ stroked (stroke_on key.now range.now mark) locks.old.marking) }
     ensures refused { OnErr result (locks.new.marking ≡ locks.old.marking) }
     ensures lawful { IsLawful locks.old.marking → IsLawful locks.new.marking }
-    ensures limit { locks.new.limit ≡ 4096 }
+    ensures limit { locks.new.limit ≡ MOST_RUNS }
 {
     match mark {
         Some(own) if locks.clashes(key, range, own.kind) => Err(Errno::EAGAIN),
@@ -134,14 +125,14 @@ fn change(locks: &mut Table, key: &Key, range: &Range, mark: Option<Mark>) -> Re
 
 // The same for locks that nothing excludes.
 fn store(locks: &mut Table, key: &Key, range: &Range, mark: Option<Mark>) -> Result<Answer, Errno>
-    requires limit { locks.old.limit ≡ 4096 }
+    requires limit { locks.old.limit ≡ MOST_RUNS }
     requires clear { IfSome mark
         (λ own. conflicts locks.old.marking key.now range.now.start range.now.end own.kind ≡ false) }
     ensures reply { result ≡ room_reply locks.old.marking (stroke_on key.now range.now mark) }
     ensures granted { OnOk result (locks.new.marking ≡ stroked (stroke_on key.now range.now mark) locks.old.marking) }
     ensures refused { OnErr result (locks.new.marking ≡ locks.old.marking) }
     ensures lawful { IsLawful locks.old.marking → IsLawful locks.new.marking }
-    ensures limit { locks.new.limit ≡ 4096 }
+    ensures limit { locks.new.limit ≡ MOST_RUNS }
 {
     let stored = match mark {
         Some(mark) => locks.put(key, range, mark),

@@ -53,6 +53,7 @@ fn a_file_is_made_and_locked(rt: HostRuntime) -> Result<(), Fail> {
         (order(3, 2, Op::Setlk(lock(8, 9, 9, 0))), Err(Errno::EAGAIN)),
         (order(4, 2, Op::Getlk(lock(8, 5, 20, 0))), Ok(held)),
     ];
+    laws::effects_are_shown_alike();
     let mut core = Core::new(rt.alloc())?;
     let mut tolds = Tolds::new(rt.alloc())?;
     for (order, result) in steps {

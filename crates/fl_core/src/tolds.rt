@@ -16,12 +16,13 @@ pub struct Tolds {
 impl Model for Tolds {
     ghost use Rattle.std.specs.Prelude.{List, ◌≤◌, vec_capacity};
     ghost use Rattle.fl_wire.specs.declared.told.Told.{Told};
+    ghost use Rattle.fl_core.specs.declared.tolds.TheConstants.{MOST_TOLDS};
 
     ghost Value = { List Told };
 
     ghost view = { λ t. t.tolds.items };
 
-    ghost invariant = { λ t. 1 ≤ vec_capacity t.tolds };
+    ghost invariant = { λ t. MOST_TOLDS ≤ vec_capacity t.tolds };
 }
 
 impl Tolds {
