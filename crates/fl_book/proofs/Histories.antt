@@ -1,63 +1,85 @@
 -- A legal history with one more order is legal, and what is there after it is what the history gives.
-use Rattle.std.proofs.Common.{◌≡◌, ℕ, true, cond, ◌==◌, None, Result, Ok, Err, List, [], ◌∷◌, ◌++◌, refl, ap, sym, ◌∙◌, subst, arith}
+use Rattle.std.proofs.Common.{◌≡◌, ◌≢◌, ℕ, true, false, cond, ◌==◌, Some, None, List, [], ◌∷◌, ◌++◌, map, append_assoc, refl, ap, sym, ◌∙◌, arith}
 use Rattle.std.proofs.lemmas.Bool.Decides.{nat_tests}
+use Rattle.std.proofs.lemmas.List.Sums.{fold-append}
 use Rattle.std.specs.List.{fold}
-use Rattle.std.specs.FinMap.{empty}
-use Rattle.fl_wire.specs.declared.errno.Errno.{Errno}
-use Rattle.fl_wire.specs.declared.told.Answer.{Answer}
 use Rattle.fl_wire.specs.declared.told.Told.{Told}
 use Rattle.fl_wire.specs.declared.order.Order.{Order}
-use Rattle.fl_wire.specs.declared.order.Op.{Op}
-use Rattle.fl_wire.specs.declared.order.Op.TheVariants.{Create, Getlk, Setlk}
 use Rattle.fl_book.specs.declared.history.Line.{Line}
-use Rattle.fl_dir.specs.Directory.{opening_listing}
-use Rattle.fl_core.specs.State.{State, opening, answered}
-use Rattle.fl_book.specs.Replay.{Reading, read_line, state_after}
-use Rattle.fl_core.specs.Snapshot.{Snapshot, snapshot_of, reply_at, changed, next}
-use Rattle.fl_book.specs.Legal.{nothing, step, step_lines}
+use Rattle.fl_book.specs.declared.history.Line.TheVariants as line
+use Rattle.fl_ranges.specs.Conflict.{IsLawful}
+use Rattle.fl_core.specs.State.{View, State, Snapshot, snapshot_of}
+use Rattle.fl_core.specs.Effects.{Effect, answered, unanswered, later, followed_by, told_first, replied, recorded}
+use Rattle.fl_core.specs.Replies.{replies}
+use Rattle.fl_book.specs.Replay.{unread, read_line, state_at_end, state_after, all_later, AllOthers}
+use Rattle.fl_book.specs.Legal.{step, step_lines}
 use Rattle.fl_book.specs.Kept.{IsKept}
-use Rattle.fl_ranges.proofs.Lawful.{lawful_empty}
-use Rattle.fl_core.proofs.Lawfulness.{lawful_next}
 
-fold-append : {A B : Type 0} (f : B → A → B) (b : B) (xs ys : List A) → fold f b (xs ++ ys) ≡ fold f (fold f b xs) ys
-fold-append f b [] ys = refl
-fold-append f b (x ∷ xs) ys = fold-append f (f b x) xs ys
+-- ---- how the lines of a step are read
 
-same_number : (x : ℕ) → (x == x) ≡ true
-same_number x = grind (arith, nat_tests)
+-- an order that was asked is read from the state before it
+read_asked : (lines : List Line) (worker : ℕ) (order : Order) (tolds : List Told)
+    → state_after (lines ++ step_lines worker order tolds) ≡ state_at_end (fold read_line (record { state = state_after lines; waiting = Some order }) (map (λ told. line.Told told) tolds))
+read_asked lines worker order tolds = ap state_at_end (fold-append read_line unread lines (step_lines worker order tolds))
 
--- after an order and its own reply the state is the one that the reply tells
-pub state_after_step : (lines : List Line) (worker : ℕ) (order : Order) (told : Told) → told.unique ≡ order.unique
-    → state_after (lines ++ step_lines worker order (told ∷ [])) ≡ answered order order.op told.result (state_after lines)
-state_after_step lines worker order told own =
-    ap (λ (r : Reading). r.state) (fold-append read_line (record { state = opening; waiting = None }) lines (step_lines worker order (told ∷ [])))
-    ∙ ap (λ b. cond b (answered order order.op told.result (state_after lines)) (state_after lines)) (ap (λ n. n == order.unique) own ∙ same_number order.unique)
+-- once no order waits for its own reply, each reply answers a parked request
+read_later : (tolds : List Told) (s : State) → state_at_end (fold read_line (record { state = s; waiting = None }) (map (λ told. line.Told told) tolds)) ≡ all_later tolds s
+read_later [] s = refl
+read_later (told ∷ tolds) s = read_later tolds (recorded (later told) s)
 
--- what contracts see goes the same way as the state
-pub snapshot_answered : (order : Order) (op : Op) (reply : Result Answer Errno) (s : State) → snapshot_of (answered order op reply s) ≡ changed (snapshot_of s) order op reply
-snapshot_answered order (Create excl mode name) reply s = refl
-snapshot_answered order (Getlk ask) reply s = refl
-snapshot_answered order (Setlk ask) (Ok answer) s = refl
-snapshot_answered order (Setlk ask) (Err e) s = refl
+-- two effects, one after the other
+recorded_twice : (f g : View → Effect) (s : State) → recorded g (recorded f s) ≡ recorded (λ v. followed_by g (f v)) s
+recorded_twice f g s =
+    let e = f s.view in
+    λ i. record { view = (g e.view).view; changes = sym (append_assoc (g e.view).changes e.changes s.changes) i }
 
-pub opening_kept : IsKept [] (record { directory = opening_listing; marking = empty })
-opening_kept = record { legal = nothing; stands = refl; lawful = lawful_empty }
+later_recorded : (tolds : List Told) (f : View → Effect) (s : State) → all_later tolds (recorded f s) ≡ recorded (λ v. fold (λ e t. followed_by (later t) e) (f v) tolds) s
+later_recorded [] f s = refl
+later_recorded (told ∷ tolds) f s = ap (all_later tolds) (recorded_twice f (later told) s) ∙ later_recorded tolds (λ v. followed_by (later told) (f v)) s
 
-pub step_kept : (lines : List Line) (present : Snapshot) (worker : ℕ) (order : Order) → IsKept lines present → IsKept (lines ++ step_lines worker order (reply_at present order ∷ [])) (next present order)
-step_kept lines present worker order kept =
-    let s = state_after lines in
+-- the state after lines and one more step
+pub read_step : (lines : List Line) (worker : ℕ) (order : Order) (tolds : List Told) → state_after (lines ++ step_lines worker order tolds) ≡ recorded (replied order tolds) (state_after lines)
+read_step lines worker order [] = read_asked lines worker order []
+read_step lines worker order (told ∷ tolds) =
+    read_asked lines worker order (told ∷ tolds)
+    ∙ read_later tolds (recorded (told_first order told) (state_after lines))
+    ∙ later_recorded tolds (told_first order told) (state_after lines)
+
+same_number : (m n : ℕ) → m ≡ n → (m == n) ≡ true
+same_number m n same = grind (arith, nat_tests)
+
+other_number : (m n : ℕ) → m ≢ n → (m == n) ≡ false
+other_number m n other = grind (arith, nat_tests)
+
+-- one more step whose first reply is its own
+pub read_own : (lines : List Line) (worker : ℕ) (order : Order) (told : Told) (tolds : List Told) → told.unique ≡ order.unique
+    → state_after (lines ++ step_lines worker order (told ∷ tolds)) ≡ all_later tolds (recorded (answered order order.op told.result) (state_after lines))
+read_own lines worker order told tolds own =
+    read_asked lines worker order (told ∷ tolds)
+    ∙ read_later tolds (recorded (told_first order told) (state_after lines))
+    ∙ ap (λ b. all_later tolds (recorded (λ v. cond b (answered order order.op told.result v) (followed_by (later told) (unanswered order v))) (state_after lines)))
+    (same_number told.unique order.unique own)
+
+-- one more step without a reply of its own
+pub read_none : (lines : List Line) (worker : ℕ) (order : Order) (tolds : List Told) → AllOthers order.unique tolds
+    → state_after (lines ++ step_lines worker order tolds) ≡ all_later tolds (recorded (unanswered order) (state_after lines))
+read_none lines worker order [] others = read_asked lines worker order []
+read_none lines worker order (told ∷ tolds) others =
+    read_asked lines worker order (told ∷ tolds)
+    ∙ read_later tolds (recorded (told_first order told) (state_after lines))
+    ∙ ap (λ b. all_later tolds (recorded (λ v. cond b (answered order order.op told.result v) (followed_by (later told) (unanswered order v))) (state_after lines)))
+    (other_number told.unique order.unique others.0)
+    ∙ ap (all_later tolds) (sym (recorded_twice (unanswered order) (later told) (state_after lines)))
+
+-- ---- what a desk keeps
+
+pub taken_kept : (lines given new : List Line) (present after : Snapshot) (worker : ℕ) (order : Order) (tolds shown : List Told) → IsKept lines present
+    → given ≡ lines → tolds ≡ replies present order → ((s : State) → snapshot_of s ≡ present → snapshot_of (recorded (replied order tolds) s) ≡ after)
+    → (IsLawful present.marking → IsLawful after.marking) → shown ≡ tolds → new ≡ given ++ step_lines worker order shown → IsKept new after
+taken_kept lines given new present after worker order tolds shown kept given_is tolds_is goes lawful shown_is new_is =
+    let all : new ≡ lines ++ step_lines worker order tolds = new_is ∙ (λ i. given_is i ++ step_lines worker order (shown_is i)) in
     record {
-      legal = step lines worker order kept.legal (ap (λ (p : Snapshot). lines ++ step_lines worker order (reply_at p order ∷ [])) kept.stands);
-      stands =
-          ap (λ (p : Snapshot). next p order) kept.stands
-          ∙ sym (snapshot_answered order order.op (reply_at (snapshot_of s) order).result s)
-          ∙ ap (λ (p : Snapshot). snapshot_of (answered order order.op (reply_at p order).result s)) (sym kept.stands)
-          ∙ sym (ap snapshot_of (state_after_step lines worker order (reply_at present order) refl));
-      lawful = lawful_next present order kept.lawful;
+      legal = step lines worker order kept.legal (all ∙ ap (λ t. lines ++ step_lines worker order t) (tolds_is ∙ ap (λ (p : Snapshot). replies p order) kept.stands));
+      stands = sym (goes (state_after lines) (sym kept.stands)) ∙ ap snapshot_of (sym (read_step lines worker order tolds) ∙ ap state_after (sym all));
+      lawful = lawful kept.lawful;
     }
-
-pub taken_kept : (lines given new : List Line) (present after : Snapshot) (worker : ℕ) (order : Order) (told : Told) → IsKept lines present
-    → given ≡ lines → told ≡ reply_at present order → after ≡ next present order → new ≡ given ++ step_lines worker order (told ∷ []) → IsKept new after
-taken_kept lines given new present after worker order told kept given_is told_is after_is new_is =
-    let all : new ≡ lines ++ step_lines worker order (reply_at present order ∷ []) = new_is ∙ (λ i. given_is i ++ step_lines worker order (told_is i ∷ [])) in
-    subst (λ l. IsKept l after) (sym all) (subst (λ (p : Snapshot). IsKept (lines ++ step_lines worker order (reply_at present order ∷ [])) p) (sym after_is) (step_kept lines present worker order kept))

@@ -1,11 +1,9 @@
 -- What a desk keeps.
 use Rattle.std.specs.Prelude.{◌≡◌, ℕ, List, []}
-use Rattle.std.specs.FinMap.{empty}
 use Rattle.fl_book.specs.declared.history.Line.{Line}
 use Rattle.fl_ranges.specs.Conflict.{IsLawful}
-use Rattle.fl_dir.specs.Directory.{opening_listing}
+use Rattle.fl_core.specs.State.{Snapshot, opening, snapshot_of}
 use Rattle.fl_book.specs.Replay.{state_after}
-use Rattle.fl_core.specs.Snapshot.{Snapshot, snapshot_of}
 use Rattle.fl_book.specs.Legal.{IsLegal}
 
 -- the history so far, what is there now, and for how many more lines memory is there
@@ -16,9 +14,9 @@ pub record Book : Type 0 where
 
 -- nothing is recorded, and no memory is there for it
 abbrev pub opening_book : Book
-opening_book = record { lines = []; present = record { directory = opening_listing; marking = empty }; room = 0 }
+opening_book = record { lines = []; present = snapshot_of opening; room = 0 }
 
--- The history is legal, what is there now is what the history alone gives, and no two owners hold conflicting locks on a byte.
+-- The history is legal, what is there now is what the history alone gives, and no two owners have conflicting locks.
 pub record IsKept (lines : List Line) (present : Snapshot) : Type 0 where
   pub legal : IsLegal lines
   pub stands : present ≡ snapshot_of (state_after lines)

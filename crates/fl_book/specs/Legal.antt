@@ -1,4 +1,4 @@
--- Which histories are those of one thread: each order is answered as the sequential lock directory answers at that point.
+-- Which histories are those of one thread: each order is answered as the sequential lock directory answers then.
 use Rattle.std.specs.Prelude.{◌≡◌, ℕ, List, [], ◌∷◌, ◌++◌, map}
 use Rattle.fl_wire.specs.declared.told.Told.{Told}
 use Rattle.fl_wire.specs.declared.order.Order.{Order}
@@ -14,4 +14,5 @@ step_lines worker order replies = line.Asked worker order ∷ map (λ told. line
 -- no lines; or a legal beginning, and one more order with the replies that it gets in the state after that beginning
 pub data IsLegal : List Line → Type 0 where
   nothing : IsLegal []
-  step : (before : List Line) (worker : ℕ) (order : Order) {lines : List Line} → IsLegal before → lines ≡ before ++ step_lines worker order (first_replies (state_after before) order) → IsLegal lines
+  step : (before : List Line) (worker : ℕ) (order : Order) {lines : List Line} → IsLegal before
+      → lines ≡ before ++ step_lines worker order (first_replies (state_after before) order) → IsLegal lines

@@ -1,27 +1,49 @@
 -- The state that recorded lines alone give.
-use Rattle.std.specs.Prelude.{◌==◌, Option, Some, None, List, [], ◌∷◌, if◌then◌else◌}
-use Rattle.std.specs.List.{fold}
+use Rattle.std.specs.Prelude.{◌≢◌, ℕ, Option, Some, None, List}
+use Rattle.std.specs.List.{fold, AllByRecursion}
 use Rattle.fl_wire.specs.declared.order.Order.{Order}
 use Rattle.fl_wire.specs.declared.told.Told.{Told}
-use Rattle.fl_core.specs.State.{State, opening, answered}
+use Rattle.fl_core.specs.State.{State, opening}
+use Rattle.fl_core.specs.Effects.{unanswered, later, told_first, recorded}
 use Rattle.fl_book.specs.declared.history.Line.{Line}
 use Rattle.fl_book.specs.declared.history.Line.TheVariants as line
 
--- lines that are read one after another: the state, and the order that the last line asks, if that has no reply yet
+-- lines that are read one after another: the state, and the order that was asked last, if it has no reply yet
 pub record Reading : Type 0 where
   pub state : State
   pub waiting : Option Order
 
--- A reply directly after an order of its unique is that order's own. No order waits for a later reply yet, so any other changes nothing.
+-- nothing is read yet
+abbrev pub unread : Reading
+unread = record { state = opening; waiting = None }
+
+-- no reply of its own comes to the order that was asked last
+abbrev pub committed : Option Order → State → State
+committed None s = s
+committed (Some order) s = recorded (unanswered order) s
+
+-- A reply directly after an order of its unique is its own. Any other answers the parked request of its unique.
 abbrev pub read_reply : Option Order → Told → State → State
-read_reply None told s = s
-read_reply (Some order) told s = if told.unique == order.unique then answered order order.op told.result s else s
+read_reply None told s = recorded (later told) s
+read_reply (Some order) told s = recorded (told_first order told) s
 
 -- one line more
 abbrev pub read_line : Reading → Line → Reading
-read_line r (line.Asked worker order) = record { state = r.state; waiting = Some order }
+read_line r (line.Asked worker order) = record { state = committed r.waiting r.state; waiting = Some order }
 read_line r (line.Told told) = record { state = read_reply r.waiting told r.state; waiting = None }
+
+-- the state at the end of lines
+abbrev pub state_at_end : Reading → State
+state_at_end r = committed r.waiting r.state
 
 -- the state after lines, read off the lines alone
 abbrev pub state_after : List Line → State
-state_after lines = (fold read_line (record { state = opening; waiting = None }) lines).state
+state_after lines = state_at_end (fold read_line unread lines)
+
+-- the state after later replies, one after another
+abbrev pub all_later : List Told → State → State
+all_later tolds s = fold (λ s told. recorded (later told) s) s tolds
+
+-- none of the replies is of this unique
+abbrev pub AllOthers : ℕ → List Told → Type 0
+AllOthers unique tolds = AllByRecursion (λ (told : Told). told.unique ≢ unique) tolds

@@ -1,15 +1,17 @@
-ghost use Rattle.std.specs.Prelude.{◌≡◌, ◌≤◌, ◌+◌, ◌++◌, ◌∷◌, [], IfOk, IsOk, OnOk, OnErr, vec_len, vec_capacity};
+ghost use Rattle.std.specs.Prelude.{◌≡◌, ◌≤◌, ◌+◌, ◌++◌, length, IfOk, IsOk, OnOk, OnErr, vec_len, vec_capacity};
 ghost use Rattle.fl_book.specs.Replay.{state_after};
 ghost use Rattle.fl_core.specs.Replies.{first_replies};
 ghost use Rattle.fl_book.specs.Legal.{IsLegal, step_lines};
 ghost use Rattle.fl_book.specs.Kept.{IsKept, opening_book};
 
 use crate::history::{History, Line};
-use crate::tolds::Tolds;
-use fl_core::Core;
+use fl_core::{Core, MOST_TOLDS, Tolds};
 use fl_wire::{NoMemory, Order, Told};
 use std::alloc::Global;
 use std::marker::Model;
+
+/// The most lines that one order gives: its own, and one for each reply.
+pub const MOST_LINES: usize = 1 + MOST_TOLDS;
 
 /// A desk that takes orders one after another, and keeps their history. Contracts see it as a `Book`: its
 /// lines, what is there now, and for how many more lines memory is there.
@@ -28,7 +30,8 @@ impl Model for Desk {
 
     ghost coded = { book_code };
 
-    ghost view = { λ d. record { lines = d.lines.items; present = d.present; room = vec_capacity d.lines - length d.lines.items } };
+    ghost view = { λ d.
+        record { lines = d.lines.items; present = d.present; room = vec_capacity d.lines - length d.lines.items } };
 
     ghost invariant = { λ d. IsKept d.lines.items d.present };
 }
@@ -45,18 +48,18 @@ impl Desk {
     }
 
     /// Takes an order of a worker: records it, answers it, and hands out the replies that it records.
-    /// A refusal changes nothing, and comes only where memory for two more lines isn't there.
+    /// A refusal changes nothing, and doesn't come where there is room for `MOST_LINES` lines more.
     pub fn take(&mut self, worker: u32, order: &Order, tolds: &mut Tolds) -> Result<(), NoMemory>
         ensures replies { OnOk result (tolds.new ≡ first_replies (state_after self.old.lines) order.now) }
         ensures lines { OnOk result (self.new.lines ≡ self.old.lines ++ step_lines worker order.now tolds.new) }
-        ensures refused { OnErr result ((self.new.lines ≡ self.old.lines) × (self.new.present ≡ self.old.present) × (tolds.new ≡ tolds.old)) }
-        ensures succeeds { 2 ≤ self.old.room → IsOk result }
+        ensures refused { OnErr result
+            ((self.new.lines ≡ self.old.lines) × (self.new.present ≡ self.old.present) × (tolds.new ≡ tolds.old)) }
+        ensures succeeds { MOST_LINES ≤ self.old.room → IsOk result }
         ensures kept { IsKept self.new.lines self.new.present }
     {
-        self.lines.try_reserve(2)?;
-        let told = self.present.step(order);
-        append(&mut self.lines, worker, order, told);
-        tolds.set(told);
+        self.lines.try_reserve(MOST_LINES)?;
+        self.present.step(order, tolds);
+        append(&mut self.lines, worker, order, tolds.as_slice());
         Ok(())
     }
 
@@ -70,14 +73,16 @@ impl Desk {
     }
 }
 
-// Adds an order and its reply to the lines.
-fn append(lines: &mut Vec<Line>, worker: u32, order: &Order, told: Told)
-    requires { vec_len lines.old + 2 ≤ vec_capacity lines.old }
-    ensures { lines.new.items ≡ lines.old.items ++ step_lines worker order.now (told ∷ []) }
+// Adds an order and its replies to the lines.
+fn append(lines: &mut Vec<Line>, worker: u32, order: &Order, tolds: &[Told])
+    requires { vec_len lines.old + 1 + length tolds.now ≤ vec_capacity lines.old }
+    ensures { lines.new.items ≡ lines.old.items ++ step_lines worker order.now tolds.now }
 {
     lines.push_reserved(Line::Asked {
         worker,
         order: *order,
     });
-    lines.push_reserved(Line::Told(told));
+    for told in tolds {
+        lines.push_reserved(Line::Told(*told));
+    }
 }

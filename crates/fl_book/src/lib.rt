@@ -4,13 +4,12 @@
 
 mod desk;
 mod history;
+pub mod laws;
 mod text;
-mod tolds;
 
-pub use desk::Desk;
+pub use desk::{Desk, MOST_LINES};
 pub use history::{History, Line};
 pub use text::{has_text, print_trace};
-pub use tolds::Tolds;
 
 #[cfg(test)]
 mod tests;

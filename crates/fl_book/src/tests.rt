@@ -1,4 +1,5 @@
 use super::*;
+use fl_core::Tolds;
 use fl_wire::{Answer, Attr, Errno, LockAsk, Name, Op, Order, Told};
 use std::test::Fail;
 
@@ -48,6 +49,7 @@ fn a_desk_answers_and_records(rt: HostRuntime) -> Result<(), Fail> {
         (order(4, 2, lock(7, 5, 9, 2)), Ok(Answer::Done)),
         (order(5, 2, lock(8, 9, 9, 0)), Ok(Answer::Done)),
     ];
+    laws::own_reply_comes_first();
     let mut desk = Desk::new(rt.alloc())?;
     let mut tolds = Tolds::new(rt.alloc())?;
     for (order, result) in steps {

@@ -1,4 +1,6 @@
 pub mod Codes
+pub mod Effects
+pub mod LockRequest
 pub mod Replies
-pub mod Snapshot
 pub mod State
+pub mod Step

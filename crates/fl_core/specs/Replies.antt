@@ -1,5 +1,7 @@
--- What an order is answered at once, in a state (POSIX.1-2017 `fcntl`, F_GETLK and F_SETLK; Linux `flock(2)`; FUSE_CREATE, FUSE_GETLK and FUSE_SETLK of Linux `fuse.h`).
-use Rattle.std.specs.Prelude.{ℕ, Bool, false, not, ◌||◌, ◌&&◌, ◌==◌, nat_lt, Option, Some, None, Result, Ok, Err, List, [], ◌∷◌, if◌then◌else◌}
+-- What an order is answered at once (POSIX.1-2017 `fcntl`, F_GETLK and F_SETLK; Linux `flock(2)`; FUSE_CREATE,
+-- FUSE_GETLK and FUSE_SETLK of Linux `fuse.h`).
+use Rattle.std.specs.Prelude.{ℕ, Bool, false, not, ◌||◌, ◌&&◌, ◌==◌, nat_lt, Option, Some, None, Result, Ok, Err}
+use Rattle.std.specs.Prelude.{List, [], ◌∷◌, if◌then◌else◌}
 use Rattle.std.specs.FinMap.{get}
 use Rattle.fl_wire.specs.declared.errno.Errno.{Errno}
 use Rattle.fl_wire.specs.declared.errno.Errno.TheVariants.{EBADF, EINVAL, EAGAIN, ENOLCK}
@@ -15,12 +17,13 @@ use Rattle.fl_ranges.specs.declared.lock.Key.{Key}
 use Rattle.fl_ranges.specs.declared.lock.Kind.{Kind}
 use Rattle.fl_ranges.specs.declared.lock.Kind.TheVariants.{Read, Write}
 use Rattle.fl_ranges.specs.declared.lock.Mark.{Mark}
-use Rattle.fl_ranges.specs.Marking.{Marking, Stroke, stroked, marking_of}
+use Rattle.fl_ranges.specs.Marking.{Marking, Stroke, stroked}
 use Rattle.fl_ranges.specs.Conflict.{conflicts}
 use Rattle.fl_ranges.specs.Runs.{runs}
 use Rattle.fl_ranges.specs.Blocker.{blocker}
 use Rattle.fl_dir.specs.Directory.{Listing, create_reply}
-use Rattle.fl_core.specs.State.{State, is_flock, key_of, mark_of, stroke_of}
+use Rattle.fl_core.specs.LockRequest.{is_flock, key_of, mark_of, stroke_of}
+use Rattle.fl_core.specs.State.{State, Snapshot, snapshot_of}
 
 -- the fh is open, and on this node
 abbrev pub is_open : Option ℕ → ℕ → Bool
@@ -29,7 +32,9 @@ is_open (Some of) node = of == node
 
 -- other flags than the whole-file bit, a type above 2, or a range of a record lock that is no range
 abbrev pub is_malformed : LockAsk → Bool
-is_malformed ask = nat_lt 1 ask.flags || (nat_lt 2 ask.kind || (not (is_flock ask) && (nat_lt ask.end ask.start || nat_lt 9223372036854775807 ask.end)))
+is_malformed ask =
+    nat_lt 1 ask.flags
+    || (nat_lt 2 ask.kind || (not (is_flock ask) && (nat_lt ask.end ask.start || nat_lt 9223372036854775807 ask.end)))
 
 -- a change of locks is made where at most 4096 runs are there afterwards, over all files
 abbrev pub room_reply : Marking → Stroke → Result Answer Errno
@@ -73,7 +78,8 @@ test_reply m key ask (Some mark) = Ok (lock_answer ask (blocker m key ask.start 
 -- what a GETLK is answered, which asks for record locks alone
 abbrev pub getlk_reply : Listing → Marking → ℕ → LockAsk → Result Answer Errno
 getlk_reply d m node ask =
-    unless_error (ask_error d node ask) (if is_flock ask then Err EINVAL else test_reply m (key_of node ask) ask (mark_of ask))
+    unless_error (ask_error d node ask)
+    (if is_flock ask then Err EINVAL else test_reply m (key_of node ask) ask (mark_of ask))
 
 -- what an order is answered where these nodes, files and locks are there
 abbrev pub reply_to : Listing → Marking → Order → Op → Result Answer Errno
@@ -81,6 +87,10 @@ reply_to d m order (Create excl mode name) = create_reply d order excl mode name
 reply_to d m order (Getlk ask) = getlk_reply d m order.node ask
 reply_to d m order (Setlk ask) = setlk_reply d m order.node ask
 
--- the replies that an order gets at once, in the state before it: one of its own
+-- the replies that an order gives: one of its own
+abbrev pub replies : Snapshot → Order → List Told
+replies p order = record { unique = order.unique; result = reply_to p.view.directory p.marking order order.op } ∷ []
+
+-- the same, in the state before it
 abbrev pub first_replies : State → Order → List Told
-first_replies s order = record { unique = order.unique; result = reply_to s.directory (marking_of s.strokes) order order.op } ∷ []
+first_replies s order = replies (snapshot_of s) order

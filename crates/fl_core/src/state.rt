@@ -1,11 +1,16 @@
-ghost use Rattle.std.specs.Prelude.{◌≡◌, ◌↔◌, true, IfErr, IfOk, OnOk, OnErr, IsNone, IfSome, None, Some};
-ghost use Rattle.std.specs.FinMap as map;
-ghost use Rattle.fl_dir.specs.Directory.{opening_listing};
+ghost use Rattle.std.specs.Prelude.{◌≡◌, ◌≤◌, ◌↔◌, true, false, length, Some, None};
+ghost use Rattle.std.specs.Prelude.{IfErr, IfOk, IfSome, OnOk, OnErr, IsNone};
 ghost use Rattle.fl_ranges.specs.Marking.{stroked};
-ghost use Rattle.fl_core.specs.State.{is_flock, key_of, start_of, end_of, mark_of, stroke_of};
-ghost use Rattle.fl_core.specs.Replies.{ask_error, is_malformed, room_reply, set_reply, type_of, lock_answer, setlk_reply, getlk_reply};
-ghost use Rattle.fl_core.specs.Snapshot.{reply_at, next};
+ghost use Rattle.fl_ranges.specs.Conflict.{conflicts, IsLawful};
+ghost use Rattle.fl_ranges.specs.Change.{after_changes};
+ghost use Rattle.fl_core.specs.LockRequest.{is_flock, key_of, start_of, end_of, mark_of, stroke_on};
+ghost use Rattle.fl_core.specs.State.{State, opening, snapshot_of};
+ghost use Rattle.fl_core.specs.Effects.{locked, answered, replied, recorded, made};
+ghost use Rattle.fl_core.specs.Replies.{ask_error, is_malformed, type_of, lock_answer};
+ghost use Rattle.fl_core.specs.Replies.{room_reply, set_reply, setlk_reply, getlk_reply, reply_to, replies};
+ghost use Rattle.fl_core.specs.Step.{next};
 
+use crate::tolds::{MOST_TOLDS, Tolds};
 use fl_dir::Dir;
 use fl_ranges::{Class, Held, Key, Kind, LAST_BYTE, Mark, Range, Table};
 use fl_wire::{Answer, Errno, LockAsk, Op, Order, Told};
@@ -22,7 +27,7 @@ const UNLOCK: u32 = 2;
 // The most runs of locked bytes, over all files and both classes.
 const MOST_RUNS: u32 = 4096;
 
-/// The directory and the locks. Contracts see them as a `Snapshot`.
+/// The directory and the locks. Contracts see them as a `Snapshot`; no request is parked.
 #[derive(Drop)]
 pub struct Core {
     directory: Dir,
@@ -30,23 +35,25 @@ pub struct Core {
 }
 
 impl Model for Core {
-    ghost use Rattle.std.specs.Prelude.{◌≡◌};
-    ghost use Rattle.fl_core.specs.Snapshot.{Snapshot};
+    ghost use Rattle.std.specs.Prelude.{◌≡◌, []};
+    ghost use Rattle.fl_core.specs.State.{Snapshot};
     ghost use Rattle.fl_core.specs.Codes.{snapshot_code};
+    ghost use Rattle.fl_core.specs.declared.state.TheConstants.{MOST_RUNS};
 
     ghost Value = { Snapshot };
 
     ghost coded = { snapshot_code };
 
-    ghost view = { λ s. record { directory = s.directory; marking = s.locks.marking } };
+    ghost view = { λ s. record { view = record { directory = s.directory; parked = [] }; marking = s.locks.marking } };
 
-    ghost invariant = { λ s. s.locks.limit ≡ 4096 };
+    ghost invariant = { λ s. s.locks.limit ≡ MOST_RUNS };
 }
 
 impl Core {
     /// No files and no locks.
     pub fn new(alloc: Global) -> Result<Core, AllocError>
-        ensures { IfOk result (λ s. s ≡ record { directory = opening_listing; marking = map.empty }) }
+        ensures opening { IfOk result (λ s. s ≡ snapshot_of opening) }
+        ensures lawful { IfOk result (λ s. IsLawful s.marking) }
     {
         Ok(Core {
             directory: Dir::new(alloc)?,
@@ -54,35 +61,46 @@ impl Core {
         })
     }
 
-    /// Answers an order, and makes its change.
-    pub fn step(&mut self, order: &Order) -> Told
-        ensures reply { result ≡ reply_at self.old order.now }
-        ensures present { self.new ≡ next self.old order.now }
+    /// Answers an order, and makes its change. It leaves the replies in `tolds`, in the place of those before.
+    pub fn step(&mut self, order: &Order, tolds: &mut Tolds)
+        ensures replies { tolds.new ≡ replies self.old order.now }
+        ensures few { length tolds.new ≤ MOST_TOLDS }
+        ensures next { self.new ≡ next self.old order.now }
+
+        // A state that the core stands for goes the same way by the order and its replies alone.
+        ensures recorded { (s : State) → snapshot_of s ≡ self.old →
+            snapshot_of (recorded (replied order.now tolds.new) s) ≡ self.new }
+        ensures lawful { IsLawful self.old.marking → IsLawful self.new.marking }
     {
-        let result = match &order.op {
+        tolds.clear();
+        let result = self.answer(order);
+        tolds.push(Told {
+            unique: order.unique,
+            result,
+        });
+    }
+
+    // The order's own reply, with its change made.
+    fn answer(&mut self, order: &Order) -> Result<Answer, Errno>
+        ensures reply { result ≡ reply_to self.old.view.directory self.old.marking order.now order.now.op }
+        ensures changed { self.new ≡ made (answered order.now order.now.op result) self.old }
+        ensures lawful { IsLawful self.old.marking → IsLawful self.new.marking }
+    {
+        match &order.op {
             Op::Create { excl, mode, name } => self.directory.create(order, *excl, *mode, name),
             Op::Getlk(ask) => test_lock(&self.directory, &self.locks, order.node, ask),
             Op::Setlk(ask) => set_lock(&self.directory, &mut self.locks, order.node, ask),
-        };
-        Told {
-            unique: order.unique,
-            result,
         }
     }
 }
 
 // FUSE_SETLK: sets or takes away a lock where its tests pass.
-fn set_lock(
-    directory: &Dir,
-    locks: &mut Table,
-    node: u64,
-    ask: &LockAsk,
-) -> Result<Answer, Errno>
-    requires { locks.old.limit ≡ 4096 }
+fn set_lock(directory: &Dir, locks: &mut Table, node: u64, ask: &LockAsk) -> Result<Answer, Errno>
+    requires { locks.old.limit ≡ MOST_RUNS }
     ensures reply { result ≡ setlk_reply directory.now locks.old.marking node ask.now }
-    ensures granted { OnOk result (locks.new.marking ≡ stroked (stroke_of node ask.now) locks.old.marking) }
-    ensures refused { OnErr result (locks.new.marking ≡ locks.old.marking) }
-    ensures limit { locks.new.limit ≡ 4096 }
+    ensures changed { locks.new.marking ≡ after_changes (locked node ask.now result) locks.old.marking }
+    ensures lawful { IsLawful locks.old.marking → IsLawful locks.new.marking }
+    ensures limit { locks.new.limit ≡ MOST_RUNS }
 {
     let range = asked_range(directory, node, ask)?;
     change(locks, &key_of(node, ask), &range, mark_of(ask))
@@ -91,11 +109,12 @@ fn set_lock(
 // The bytes of the range get the mark, or lose theirs: where no lock that is held excludes it, and where there is
 // room for the runs afterwards.
 fn change(locks: &mut Table, key: &Key, range: &Range, mark: Option<Mark>) -> Result<Answer, Errno>
-    requires { locks.old.limit ≡ 4096 }
-    ensures reply { result ≡ set_reply locks.old.marking (record { key = key.now; start = range.now.start; end = range.now.end; mark = mark }) mark }
-    ensures granted { OnOk result (locks.new.marking ≡ stroked (record { key = key.now; start = range.now.start; end = range.now.end; mark = mark }) locks.old.marking) }
+    requires { locks.old.limit ≡ MOST_RUNS }
+    ensures reply { result ≡ set_reply locks.old.marking (stroke_on key.now range.now mark) mark }
+    ensures granted { OnOk result (locks.new.marking ≡ stroked (stroke_on key.now range.now mark) locks.old.marking) }
     ensures refused { OnErr result (locks.new.marking ≡ locks.old.marking) }
-    ensures limit { locks.new.limit ≡ 4096 }
+    ensures lawful { IsLawful locks.old.marking → IsLawful locks.new.marking }
+    ensures limit { locks.new.limit ≡ MOST_RUNS }
 {
     match mark {
         Some(own) if locks.clashes(key, range, own.kind) => Err(Errno::EAGAIN),
@@ -106,11 +125,14 @@ fn change(locks: &mut Table, key: &Key, range: &Range, mark: Option<Mark>) -> Re
 
 // The same for locks that nothing excludes.
 fn store(locks: &mut Table, key: &Key, range: &Range, mark: Option<Mark>) -> Result<Answer, Errno>
-    requires { locks.old.limit ≡ 4096 }
-    ensures reply { result ≡ room_reply locks.old.marking (record { key = key.now; start = range.now.start; end = range.now.end; mark = mark }) }
-    ensures granted { OnOk result (locks.new.marking ≡ stroked (record { key = key.now; start = range.now.start; end = range.now.end; mark = mark }) locks.old.marking) }
+    requires limit { locks.old.limit ≡ MOST_RUNS }
+    requires clear { IfSome mark
+        (λ own. conflicts locks.old.marking key.now range.now.start range.now.end own.kind ≡ false) }
+    ensures reply { result ≡ room_reply locks.old.marking (stroke_on key.now range.now mark) }
+    ensures granted { OnOk result (locks.new.marking ≡ stroked (stroke_on key.now range.now mark) locks.old.marking) }
     ensures refused { OnErr result (locks.new.marking ≡ locks.old.marking) }
-    ensures limit { locks.new.limit ≡ 4096 }
+    ensures lawful { IsLawful locks.old.marking → IsLawful locks.new.marking }
+    ensures limit { locks.new.limit ≡ MOST_RUNS }
 {
     let stored = match mark {
         Some(mark) => locks.put(key, range, mark),
@@ -123,12 +145,7 @@ fn store(locks: &mut Table, key: &Key, range: &Range, mark: Option<Mark>) -> Res
 }
 
 // FUSE_GETLK: tells the lock that keeps the one asked for from being set.
-fn test_lock(
-    directory: &Dir,
-    locks: &Table,
-    node: u64,
-    ask: &LockAsk,
-) -> Result<Answer, Errno>
+fn test_lock(directory: &Dir, locks: &Table, node: u64, ask: &LockAsk) -> Result<Answer, Errno>
     ensures { result ≡ getlk_reply directory.now locks.now.marking node ask.now }
 {
     let range = asked_range(directory, node, ask)?;

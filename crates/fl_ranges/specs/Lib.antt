@@ -4,6 +4,7 @@ pub mod Nearest
 pub mod Conflict
 pub mod Codes
 pub mod Runs
+pub mod Change
 pub mod RunList
 pub mod RunChains
 pub mod RunPlan

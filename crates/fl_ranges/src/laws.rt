@@ -10,6 +10,7 @@ ghost use Rattle.fl_ranges.specs.declared.held.Held.{Held as Lock};
 ghost use Rattle.fl_ranges.specs.Marking.{Spot, spot_cmp, Marking, Stroke, marking_of, mark_at};
 ghost use Rattle.fl_ranges.specs.Conflict.{conflicts, IsConflict};
 ghost use Rattle.fl_ranges.specs.Runs.{runs, IsStart, without_node};
+ghost use Rattle.fl_ranges.specs.Change.{Change, marking_after, last_said};
 ghost use Rattle.fl_ranges.specs.Blocker.{blocker, IsBlocker};
 
 /// After strokes a byte of a key has what the last stroke says that covers it, and no mark where none does.
@@ -44,4 +45,10 @@ pub fn blocker_is_the_first_lock_that_excludes()
         (blocker m key start end kind ≡ Some held) ↔ IsBlocker m key start end kind held }
     ensures none { (m : Marking) (key : Holder) (start end : ℕ) (kind : Sharing) →
         (blocker m key start end kind ≡ None) ↔ (conflicts m key start end kind ≡ false) }
+{}
+
+/// After changes, strokes and nodes cleared, a byte of a key has what the last change says that covers it, and
+/// no mark where none does.
+pub fn last_change_counts()
+    ensures { (changes : List Change) (spot : Spot) → get (marking_after changes) spot ≡ last_said changes spot }
 {}

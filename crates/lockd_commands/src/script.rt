@@ -10,7 +10,8 @@ use crate::ask::{Ask, read_ask};
 use crate::fault::Fault;
 use crate::status::Status;
 use crate::streams::{read_all, write_all};
-use fl_book::{Desk, History, Tolds, print_trace};
+use fl_book::{Desk, History, print_trace};
+use fl_core::Tolds;
 use std::alloc::Global;
 use std::io::{Read, Write};
 

@@ -8,7 +8,8 @@ ghost use Rattle.fl_wire.specs.Says.{said};
 ghost use Rattle.fl_serve.specs.Session.{before_init};
 ghost use Rattle.fl_serve.specs.Inside.Serving.{bytes_of, session_with, IsFresh, IsMet, IsMetAs};
 
-use fl_book::{Desk, History, Tolds};
+use fl_book::{Desk, History};
+use fl_core::Tolds;
 use fl_wire::{
     Answer, Errno, Frame, InitStep, Kind, NoMemory, Order, Refusal, Told, read_init, read_order,
 };

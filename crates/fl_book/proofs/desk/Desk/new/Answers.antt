@@ -1,9 +1,12 @@
-use Rattle.std.proofs.Common.{[], sym, subst}
-use Rattle.fl_core.specs.Snapshot.{Snapshot}
-use Rattle.fl_book.specs.Kept.{IsKept}
-use Rattle.fl_book.proofs.Histories.{opening_kept}
+use Rattle.std.proofs.Common.{sym, ap, ◌∙◌, subst}
+use Rattle.fl_core.specs.State.{snapshot_of}
+use Rattle.fl_book.specs.Replay.{state_after}
+use Rattle.fl_book.specs.Legal.{IsLegal, nothing}
 use Rattle.fl_book.proofs.desk.Desk.new.Goals as goal
 
 pub invariant_of-result : goal.invariant_of-result
-invariant_of-result c =
-    subst (λ l. IsKept l c.in_ok-new.field-0) (sym c.new.ensures.items) (subst (λ (p : Snapshot). IsKept [] p) (sym c.in_ok-new.ensures) opening_kept)
+invariant_of-result c = record {
+  legal = subst IsLegal (sym c.new.ensures.items) nothing;
+  stands = c.in_ok-new.ensures.opening ∙ ap (λ l. snapshot_of (state_after l)) (sym c.new.ensures.items);
+  lawful = c.in_ok-new.ensures.lawful;
+}

@@ -1,11 +1,11 @@
-ghost use Rattle.std.specs.Prelude.{◌≡◌, [], ◌∷◌, IfOk};
+ghost use Rattle.std.specs.Prelude.{◌≡◌, ◌<◌, [], ◌∷◌, ◌++◌, length, IfOk};
 
 use fl_wire::{NoMemory, Told};
 use std::alloc::Global;
 use std::marker::Model;
 
 /// The most replies that one order gives.
-const MOST_TOLDS: usize = 1;
+pub const MOST_TOLDS: usize = 1;
 
 /// The replies that one order gives, with room for all of them. Contracts see their list.
 #[derive(Drop)]
@@ -16,12 +16,13 @@ pub struct Tolds {
 impl Model for Tolds {
     ghost use Rattle.std.specs.Prelude.{List, ◌≤◌, vec_capacity};
     ghost use Rattle.fl_wire.specs.declared.told.Told.{Told};
+    ghost use Rattle.fl_core.specs.declared.tolds.TheConstants.{MOST_TOLDS};
 
     ghost Value = { List Told };
 
     ghost view = { λ t. t.tolds.items };
 
-    ghost invariant = { λ t. 1 ≤ vec_capacity t.tolds };
+    ghost invariant = { λ t. MOST_TOLDS ≤ vec_capacity t.tolds };
 }
 
 impl Tolds {
@@ -41,11 +42,18 @@ impl Tolds {
         &self.tolds
     }
 
-    /// One reply in the place of those before.
-    pub(crate) fn set(&mut self, told: Told)
-        ensures { self.new ≡ told ∷ [] }
+    /// Forgets all replies. The room stays.
+    pub(crate) fn clear(&mut self)
+        ensures { self.new ≡ [] }
     {
         self.tolds.clear();
+    }
+
+    /// One reply more, after the others.
+    pub(crate) fn push(&mut self, told: Told)
+        requires { length self.old < MOST_TOLDS }
+        ensures { self.new ≡ self.old ++ (told ∷ []) }
+    {
         self.tolds.push_reserved(told);
     }
 }

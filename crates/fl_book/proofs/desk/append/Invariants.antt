@@ -1,0 +1,10 @@
+use Rattle.std.proofs.Common.{◌≡◌, ◌≤◌, ◌+◌, ◌++◌, length, take, vec_len, vec_capacity}
+use Rattle.fl_book.specs.Legal.{step_lines}
+use Rattle.fl_book.proofs.desk.append.Given as goal
+
+-- the order and the replies so far are there, and there is room for the rest
+abbrev pub invariant-loop-told : goal.invariant-loop-told
+invariant-loop-told l = record {
+  lines : l.lines.items ≡ l.fn.lines.items ++ step_lines l.worker l.order (take l.told-index l.tolds);
+  room : vec_len l.lines + length l.tolds ≤ vec_capacity l.lines + l.told-index;
+}

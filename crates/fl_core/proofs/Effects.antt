@@ -1,0 +1,37 @@
+-- Effects on a state, and on what contracts see of it.
+use Rattle.std.proofs.Common.{◌≡◌, ℕ, true, cond, ◌==◌, Result, List, [], ◌∷◌, ◌++◌, refl, sym, ap, ◌∙◌, arith}
+use Rattle.std.proofs.lemmas.Bool.Decides.{nat_tests}
+use Rattle.std.specs.FinMap.{empty}
+use Rattle.fl_wire.specs.declared.errno.Errno.{Errno}
+use Rattle.fl_wire.specs.declared.told.Answer.{Answer}
+use Rattle.fl_wire.specs.declared.told.Told.{Told}
+use Rattle.fl_wire.specs.declared.order.Order.{Order}
+use Rattle.fl_ranges.specs.Marking.{Marking}
+use Rattle.fl_ranges.specs.Change.{Change, after_change, after_changes}
+use Rattle.fl_core.specs.State.{View, State, Snapshot, snapshot_of}
+use Rattle.fl_core.specs.Replies.{replies}
+use Rattle.fl_core.specs.Step.{next}
+use Rattle.fl_core.specs.Effects.{Effect, answered, unanswered, later, followed_by, replied, recorded, made}
+
+after_changes-append : (later earlier : List Change) (m : Marking) → after_changes (later ++ earlier) m ≡ after_changes later (after_changes earlier m)
+after_changes-append [] earlier m = refl
+after_changes-append (c ∷ later) earlier m = ap (after_change c) (after_changes-append later earlier m)
+
+-- what is shown of a state after an effect is what is shown of it before, after that effect
+pub shown_recorded : (f : View → Effect) (s : State) → snapshot_of (recorded f s) ≡ made f (snapshot_of s)
+shown_recorded f s = ap (λ (m : Marking). record { view = (f s.view).view; marking = m }) (after_changes-append (f s.view).changes s.changes empty)
+
+-- what goes the same way as a step
+pub is_recorded : (order : Order) (old new : Snapshot) (tolds : List Told) → tolds ≡ replies old order → new ≡ next old order
+    → (s : State) → snapshot_of s ≡ old → snapshot_of (recorded (replied order tolds) s) ≡ new
+is_recorded order old new tolds tolds_are next_is s stands = shown_recorded (replied order tolds) s ∙ (λ i. made (replied order (tolds_are i)) (stands i)) ∙ sym next_is
+
+same_number : (n : ℕ) → (n == n) ≡ true
+same_number n = grind (arith, nat_tests)
+
+-- an order with one reply, which is its own
+pub made_only : (order : Order) (reply : Result Answer Errno) (p : Snapshot)
+    → made (replied order (record { unique = order.unique; result = reply } ∷ [])) p ≡ made (answered order order.op reply) p
+made_only order reply p =
+    let told : Told = record { unique = order.unique; result = reply } in
+    ap (λ b. made (λ v. cond b (answered order order.op reply v) (followed_by (later told) (unanswered order v))) p) (same_number order.unique)
