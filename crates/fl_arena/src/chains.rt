@@ -181,7 +181,8 @@ impl<T: Copy> Arena<T> {
     /// Where the slot is. This walks along its chain.
     pub fn place(&self, slot: usize) -> Place
         requires { slot < self.now.slots }
-        ensures { (c i : ℕ) → (result ≡ Place.On c i) ↔ (slot_at self.now c i ≡ Some slot) }
+        ensures on { (c i : ℕ) → (result ≡ Place.On c i) ↔ (slot_at self.now c i ≡ Some slot) }
+        ensures free { result ≡ Place.Free → 0 < free_count self.now }
     {
         match self.nodes[slot] {
             Node::Free(_) => Place::Free,

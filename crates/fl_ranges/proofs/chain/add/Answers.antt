@@ -1,7 +1,8 @@
 use Rattle.std.proofs.Common.{◌≡◌, ℕ, ◌++◌, take, drop, Some, slice_get, refl, sym, ap, ◌∙◌}
 use Rattle.std.specs.List.{insert}
 use Rattle.fl_arena.specs.Chains.{items}
-use Rattle.fl_ranges.specs.RunChains.{home, insert_run}
+use Rattle.fl_ranges.specs.Placing.{home}
+use Rattle.fl_ranges.specs.RunChains.{insert_run}
 use Rattle.fl_ranges.proofs.ChainLists.{no_room}
 use Rattle.fl_ranges.proofs.Walks.{on_at, place_on, place_here, place_end}
 use Rattle.fl_ranges.proofs.chain.add.Goals as goal

@@ -1,6 +1,6 @@
 use Rattle.std.proofs.Common.{◌≡◌, Some, None, slice_get, refl, sym, ◌∙◌, arith}
 use Rattle.fl_arena.specs.Chains.{items}
-use Rattle.fl_ranges.specs.RunChains.{home}
+use Rattle.fl_ranges.specs.Placing.{home}
 use Rattle.fl_ranges.specs.RunList.{overlaps}
 use Rattle.fl_ranges.proofs.Sorted.{past_overlap, count_stop}
 use Rattle.fl_ranges.proofs.Walks.{on_at, count_yes, count_no, count_end}

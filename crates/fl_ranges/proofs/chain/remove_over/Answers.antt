@@ -1,7 +1,8 @@
 use Rattle.std.proofs.Common.{subst, ◌≡◌, ℕ, ◌++◌, not, take, drop, Some, None, slice_get, refl, sym, ap, ◌∙◌}
 use Rattle.fl_arena.specs.Chains.{items}
 use Rattle.fl_ranges.specs.declared.run.Run.{Run}
-use Rattle.fl_ranges.specs.RunChains.{home, IsSorted}
+use Rattle.fl_ranges.specs.Placing.{home}
+use Rattle.fl_ranges.specs.RunChains.{IsSorted}
 use Rattle.std.specs.List.{filter}
 use Rattle.fl_ranges.specs.RunList.{overlaps}
 use Rattle.fl_ranges.proofs.Sorted.{past_overlap, kept_stop, sorted_remove}

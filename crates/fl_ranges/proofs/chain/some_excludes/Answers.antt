@@ -1,6 +1,6 @@
 use Rattle.std.proofs.Common.{◌≡◌, Some, None, slice_get, refl, sym, ◌∙◌}
 use Rattle.fl_arena.specs.Chains.{items}
-use Rattle.fl_ranges.specs.RunChains.{home}
+use Rattle.fl_ranges.specs.Placing.{home}
 use Rattle.fl_ranges.specs.RunList.{run_excludes}
 use Rattle.fl_ranges.proofs.Sorted.{past_clash, any_stop}
 use Rattle.fl_ranges.proofs.Walks.{on_at, any_found, any_on, any_end}
