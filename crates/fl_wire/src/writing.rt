@@ -1,6 +1,6 @@
 ghost use Rattle.std.specs.Prelude.{◌≡◌, ◌+◌, ◌≤◌, ◌++◌, length, IsOk, OnErr, OnOk, vec_len, vec_capacity};
 ghost use Rattle.fl_wire.specs.Append.{Appends};
-ghost use Rattle.fl_wire.specs.Spell.{answer_bytes, attr_bytes, entry_bytes, header_bytes, lock_bytes, minus, open_bytes, spelling_of, IsReply};
+ghost use Rattle.fl_wire.specs.Spell.{answer_bytes, attr_bytes, entry_bytes, header_bytes, lock_bytes, minus, open_bytes, reply_bytes, spelling_of, IsReply};
 
 use crate::append::{push_u32, push_u64, push_zeros};
 use crate::errno::Errno;
@@ -27,7 +27,7 @@ pub fn write_told(told: &Told, out: &mut Vec<u8>) -> Result<(), NoMemory>
 
 // Appends the reply with this answer.
 fn write_answer(unique: u64, answer: &Answer, out: &mut Vec<u8>) -> Result<(), NoMemory>
-    ensures ok { OnOk result (out.new.items ≡ out.old.items ++ (header_bytes (length (answer_bytes answer.now)) 0 unique ++ answer_bytes answer.now)) }
+    ensures ok { OnOk result (out.new.items ≡ out.old.items ++ reply_bytes unique (Ok answer.now)) }
     ensures err { OnErr result (out.new.items ≡ out.old.items) }
     ensures room { vec_len out.old + 160 ≤ vec_capacity out.old → IsOk result }
     ensures capacity { vec_capacity out.old ≤ vec_capacity out.new }
@@ -41,7 +41,7 @@ fn write_answer(unique: u64, answer: &Answer, out: &mut Vec<u8>) -> Result<(), N
 
 /// Appends the reply that is this error: a header alone.
 pub(crate) fn write_error(unique: u64, e: Errno, out: &mut Vec<u8>) -> Result<(), NoMemory>
-    ensures ok { OnOk result (out.new.items ≡ out.old.items ++ header_bytes 0 (minus e) unique) }
+    ensures ok { OnOk result (out.new.items ≡ out.old.items ++ reply_bytes unique (Err e)) }
     ensures err { OnErr result (out.new.items ≡ out.old.items) }
     ensures room { vec_len out.old + 16 ≤ vec_capacity out.old → IsOk result }
     ensures capacity { vec_capacity out.old ≤ vec_capacity out.new }
