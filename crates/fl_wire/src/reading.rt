@@ -1,7 +1,9 @@
-ghost use Rattle.std.specs.Prelude.{◌≡◌, ◌+◌, ◌<◌, ◌≤◌, length, OnOk};
+ghost use Rattle.std.specs.Prelude.{◌≡◌, ◌+◌, ◌<◌, ◌≤◌, length, IfOk, OnOk};
 ghost use Rattle.fl_wire.specs.Body.{by_fields, by_fields_and_name, name_behind, name_in};
 ghost use Rattle.fl_wire.specs.Layout.{create_in, lk_in};
 ghost use Rattle.fl_wire.specs.Message.{ReadsBack};
+ghost use Rattle.fl_wire.specs.Name.{IsName};
+ghost use Rattle.fl_wire.specs.Sayable.{FitsLock, FitsOp, IsSayable};
 ghost use Rattle.fl_wire.specs.Says.{create_of, lock_of, said};
 
 use crate::errno::Errno;
@@ -32,6 +34,7 @@ pub enum Refusal {
 /// ENAMETOOLONG for a name of more than 255 bytes.
 pub fn read_order(frame: &Frame) -> Result<Order, Refusal>
     ensures said { result ≡ said frame.now }
+    ensures sayable { IfOk result IsSayable }
     ensures back { ReadsBack frame.now result }
 {
     order_in(frame)
@@ -39,7 +42,8 @@ pub fn read_order(frame: &Frame) -> Result<Order, Refusal>
 
 // What a message says.
 fn order_in(frame: &Frame) -> Result<Order, Refusal>
-    ensures { result ≡ said frame.now }
+    ensures said { result ≡ said frame.now }
+    ensures sayable { IfOk result IsSayable }
 {
     let bytes = frame.as_bytes();
     let op = match Kind::of_opcode(frame.opcode()) {
@@ -63,7 +67,8 @@ fn order_in(frame: &Frame) -> Result<Order, Refusal>
 
 // What a lock request asks.
 fn lock_ask(message: &[u8]) -> Result<LockAsk, Refusal>
-    ensures { result ≡ by_fields lk_in lock_of message.now }
+    ensures value { result ≡ by_fields lk_in lock_of message.now }
+    ensures fits { IfOk result FitsLock }
 {
     if message.len() != 88 {
         return Err(Refusal::Answer(Errno::EINVAL));
@@ -81,7 +86,8 @@ fn lock_ask(message: &[u8]) -> Result<LockAsk, Refusal>
 
 // What a CREATE asks.
 fn create(message: &[u8]) -> Result<Op, Refusal>
-    ensures { result ≡ by_fields_and_name create_in create_of message.now }
+    ensures value { result ≡ by_fields_and_name create_in create_of message.now }
+    ensures fits { IfOk result FitsOp }
 {
     let name = name_behind(message, 16)?;
     Ok(Op::Create {
@@ -96,6 +102,7 @@ fn name_behind(message: &[u8], fields: usize) -> Result<Name, Refusal>
     requires { fields ≤ 16 }
     ensures value { result ≡ name_behind fields message.now }
     ensures long { OnOk result (40 + fields < length message.now) }
+    ensures name { IfOk result IsName }
 {
     if message.len() <= 40 + fields {
         return Err(Refusal::Answer(Errno::EINVAL));
@@ -107,7 +114,8 @@ fn name_behind(message: &[u8], fields: usize) -> Result<Name, Refusal>
 #[tactic(auto, unfolding(crate::specs::Body::name_in))]
 fn name_in(bytes: &[u8]) -> Result<Name, Errno>
     requires { 0 < length bytes.now }
-    ensures { result ≡ name_in bytes.now }
+    ensures value { result ≡ name_in bytes.now }
+    ensures name { IfOk result IsName }
 {
     let last = bytes.len() - 1;
     let text = &bytes[..last];
