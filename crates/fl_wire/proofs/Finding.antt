@@ -29,7 +29,7 @@ found_by {Mark} same decides mark_of finds mark = record {
   apart = λ kind other e. same_Some kind other (sym (finds kind) ∙ ap (λ m. find (λ k. same (mark_of k) m) all_kinds) e ∙ finds other);
 }
 
-opcode_finds : (kind : Kind) → kind_of_opcode (opcode_for kind) ≡ Some kind
+pub opcode_finds : (kind : Kind) → kind_of_opcode (opcode_for kind) ≡ Some kind
 opcode_finds Forget = refl
 opcode_finds Init = refl
 opcode_finds Getlk = refl

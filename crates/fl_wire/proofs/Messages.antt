@@ -1,19 +1,27 @@
 -- The message of an order says that order.
-use Rattle.std.proofs.Common.{◌≡◌, ◌≤◌, ◌<◌, ◌^◌, ◌+◌, ◌-◌, ℕ, zero, suc, ◌==◌, ◌||◌, Bool, true, false, not, nat_lt, if◌then◌else◌, List, [], ◌∷◌, ◌++◌, length, take, drop, slice_index_or, Contains, Some, Result, Ok, refl, ap, ◌∙◌, arith, lit<, bit_and, length-append}
+use Rattle.std.proofs.Common.{◌≡◌, ◌<◌, ◌^◌, ◌+◌, ◌-◌, ℕ, zero, suc, ◌==◌, ◌||◌, Bool, true, false, not, nat_lt, if◌then◌else◌, List, [], ◌∷◌, ◌++◌, length, sum, take, drop, slice_index_or, Contains, Some, Result, Ok, refl, sym, ap, ◌∙◌, arith, lit<, bit_and, append_assoc, append-nil, length-append}
 use Rattle.std.proofs.Math.Dec.{eqb-suc-zero}
 use Rattle.std.proofs.Math.Nat.{mod-eq_of_lt}
-use Rattle.std.proofs.Math.Seq.{get_or-append_seam, take-append_seam}
+use Rattle.std.proofs.Math.Seq.{drop-append_seam, get_or-append_seam, take-append_seam}
 use Rattle.std.proofs.lemmas.Bool.{le-ltb}
+use Rattle.std.proofs.lemmas.Bool.Decides.{Decides-eqb}
+use Rattle.std.proofs.lemmas.List.Sums.{sum_by-cons}
 use Rattle.std.proofs.lemmas.Nat.{and_mask}
 use Rattle.std.specs.List.{list_any}
-use Rattle.byteorder.specs.Numbers.{little_number-reads_back}
+use Rattle.std.specs.Result.{result_map_both}
+use Rattle.byteorder.specs.Endian.{little_bytes, little_number}
+use Rattle.byteorder.specs.Numbers.{length-bytes_low_first, little_number-reads_back}
+use Rattle.fl_wire.proofs.Finding.{opcode_finds}
+use Rattle.fl_wire.specs.Body.{name_bytes, name_in, by_fields, by_fields_and_name}
 use Rattle.fl_wire.specs.Kind.{kind_of_opcode, opcode_for}
-use Rattle.fl_wire.specs.Layout.{number_at, field, laid_out, in_header, create_in, lk_in, opcode_of, unique_of}
-use Rattle.fl_wire.specs.Message.{lock_body, body_for, request, message_of, ReadsBack}
+use Rattle.fl_wire.specs.Layout.{number_at, values_at, field, laid_out, in_header, create_in, lk_in, opcode_of, unique_of}
+use Rattle.fl_wire.specs.Message.{lock_values, create_values, body_for, request, message_of, ReadsBack}
 use Rattle.fl_wire.specs.Name.{IsName}
+use Rattle.fl_wire.specs.Order.{kind_of}
 use Rattle.fl_wire.specs.Sayable.{FitsLock, FitsOp, IsSayable}
-use Rattle.fl_wire.specs.Says.{said, asked, order_of, lock_asked, create_of, name_in}
-use Rattle.fl_wire.specs.declared.kind.Kind.TheVariants.{Getlk as GetlkKind, Setlk as SetlkKind, Create as CreateKind}
+use Rattle.fl_wire.specs.Says.{said, asked, order_of, lock_of, create_of}
+use Rattle.fl_wire.specs.declared.kind.Kind.{Kind}
+use Rattle.fl_wire.specs.declared.kind.Kind.TheVariants.{Forget, Init, Getlk as GetlkKind, Setlk as SetlkKind, Create as CreateKind, Destroy, BatchForget}
 use Rattle.fl_wire.specs.declared.order.Order.{Order}
 use Rattle.fl_wire.specs.declared.order.LockAsk.{LockAsk}
 use Rattle.fl_wire.specs.declared.order.Op.{Op}
@@ -42,28 +50,37 @@ heads o u n i g p body ho hu hn hi hg hp =
       pid_is = little_number-reads_back 4 p (drop 36 bytes) hp;
     }
 
-length-request : (o u n i g p : ℕ) (body : List ℕ) → length (request o u n i g p body) ≡ 40 + length body
-unfolding request
-length-request o u n i g p body =
-    length-append (laid_out in_header ((40 + length body) ∷ o ∷ u ∷ n ∷ i ∷ g ∷ p ∷ 0 ∷ [])) body
+-- values that fit their fields
+abbrev FitAll : List ℕ → List ℕ → Type 0
+FitAll [] [] = Unit {0}
+FitAll [] (value ∷ values) = ⊥
+FitAll (width ∷ widths) [] = ⊥
+FitAll (width ∷ widths) (value ∷ values) = (value < 256 ^ width) × FitAll widths values
 
-drop-request : (o u n i g p : ℕ) (body : List ℕ) → drop 56 (request o u n i g p body) ≡ drop 16 body
-unfolding request
-drop-request o u n i g p body = refl
+-- they have as many bytes as their fields
+length-laid_out : (widths values : List ℕ) → FitAll widths values → length (laid_out widths values) ≡ sum widths
+length-laid_out [] values fit = refl
+length-laid_out (w ∷ ws) [] fit = absurd fit
+length-laid_out (w ∷ ws) (v ∷ vs) fit =
+    length-append (little_bytes w v) (laid_out ws vs) ∙ ap (λ n. n + length (laid_out ws vs)) (length-bytes_low_first 0 w v) ∙ ap (λ n. w + n) (length-laid_out ws vs fit.1) ∙ sym (sum_by-cons (λ x. x) w ws)
 
--- a lock request is read back
-lock_again : (o u n i g p : ℕ) (a : LockAsk) → FitsLock a → lock_asked (request o u n i g p (lock_body a)) ≡ a
-unfolding number_at request
-lock_again o u n i g p a h =
-    let bytes : List ℕ = request o u n i g p (lock_body a) in
-    let e0 : field lk_in 0 40 bytes ≡ a.fh = little_number-reads_back 8 a.fh (drop 48 bytes) h.fh in
-    let e1 : field lk_in 1 40 bytes ≡ a.owner = little_number-reads_back 8 a.owner (drop 56 bytes) h.owner in
-    let e2 : field lk_in 2 40 bytes ≡ a.start = little_number-reads_back 8 a.start (drop 64 bytes) h.start in
-    let e3 : field lk_in 3 40 bytes ≡ a.end = little_number-reads_back 8 a.end (drop 72 bytes) h.end in
-    let e4 : field lk_in 4 40 bytes ≡ a.kind = little_number-reads_back 4 a.kind (drop 76 bytes) h.kind in
-    let e5 : field lk_in 5 40 bytes ≡ a.pid = little_number-reads_back 4 a.pid (drop 80 bytes) h.pid in
-    let e6 : field lk_in 6 40 bytes ≡ a.flags = little_number-reads_back 4 a.flags (drop 84 bytes) h.flags in
-    λ k. record { fh = e0 k; owner = e1 k; start = e2 k; end = e3 k; kind = e4 k; pid = e5 k; flags = e6 k }
+-- values that were laid out behind other bytes are read back
+values_again : (widths values before rest : List ℕ) → FitAll widths values → values_at widths (length before) (before ++ (laid_out widths values ++ rest)) ≡ values
+unfolding number_at
+values_again [] [] before rest fit = refl
+values_again [] (v ∷ vs) before rest fit = absurd fit
+values_again (w ∷ ws) [] before rest fit = absurd fit
+values_again (w ∷ ws) (v ∷ vs) before rest fit =
+    let bytes : List ℕ = before ++ ((little_bytes w v ++ laid_out ws vs) ++ rest) in
+    let behind : drop (length before) bytes ≡ little_bytes w v ++ (laid_out ws vs ++ rest) =
+    drop-append_seam before ((little_bytes w v ++ laid_out ws vs) ++ rest) ∙ append_assoc (little_bytes w v) (laid_out ws vs) rest in
+    let first : little_number w (drop (length before) bytes) ≡ v = ap (little_number w) behind ∙ little_number-reads_back w v (laid_out ws vs ++ rest) fit.0 in
+    let place : length before + w ≡ length (before ++ little_bytes w v) = sym (length-append before (little_bytes w v) ∙ ap (λ n. length before + n) (length-bytes_low_first 0 w v)) in
+    let same : bytes ≡ (before ++ little_bytes w v) ++ (laid_out ws vs ++ rest) =
+    ap (λ xs. before ++ xs) (append_assoc (little_bytes w v) (laid_out ws vs) rest) ∙ sym (append_assoc before (little_bytes w v) (laid_out ws vs ++ rest)) in
+    let later : values_at ws (length before + w) bytes ≡ vs =
+    ap (λ n. values_at ws n bytes) place ∙ ap (values_at ws (length (before ++ little_bytes w v))) same ∙ values_again ws vs (before ++ little_bytes w v) rest fit.1 in
+    λ k. first k ∷ later k
 
 -- an order whose parts are read back is read back
 order_again : (bytes : List ℕ) (opcode u n i g p : ℕ) (op : Op) → Heads bytes opcode u n i g p → asked (kind_of_opcode opcode) bytes ≡ Ok op → said bytes ≡ Ok (record { unique = u; node = n; uid = i; gid = g; pid = p; op = op })
@@ -72,13 +89,16 @@ order_again bytes opcode u n i g p op h e =
     λ k. Ok (record { unique = h.unique_is k; node = h.node_is k; uid = h.uid_is k; gid = h.gid_is k; pid = h.pid_is k; op = op }) in
     ap (λ o. order_of bytes (asked (kind_of_opcode o) bytes)) h.opcode_is ∙ ap (order_of bytes) e ∙ parts
 
--- what a GETLK asks is read back
-getlk_again : (bytes : List ℕ) (a : LockAsk) → length bytes ≡ 88 → lock_asked bytes ≡ a → asked (Some GetlkKind) bytes ≡ Ok (Getlk a)
-getlk_again bytes a long e = rw long (ap (λ x. Ok (Getlk x)) e)
-
--- what a SETLK asks is read back
-setlk_again : (bytes : List ℕ) (a : LockAsk) → length bytes ≡ 88 → lock_asked bytes ≡ a → asked (Some SetlkKind) bytes ≡ Ok (Setlk a)
-setlk_again bytes a long e = rw long (ap (λ x. Ok (Setlk x)) e)
+-- what fields alone ask for is read back
+fields_again : {T : Type 0} (o u n i g p : ℕ) (widths values : List ℕ) (asks : List ℕ → T) → FitAll widths values → by_fields widths asks (request o u n i g p (laid_out widths values)) ≡ Ok (asks values)
+unfolding request
+fields_again o u n i g p widths values asks fit =
+    let body : List ℕ = laid_out widths values in
+    let before : List ℕ = laid_out in_header ((40 + length body) ∷ o ∷ u ∷ n ∷ i ∷ g ∷ p ∷ 0 ∷ []) in
+    let long : length (before ++ body) ≡ 40 + sum widths = length-append before body ∙ ap (λ n. 40 + n) (length-laid_out widths values fit) in
+    let same : values_at widths 40 (before ++ body) ≡ values =
+    ap (λ xs. values_at widths 40 (before ++ xs)) (sym (append-nil body)) ∙ values_again widths values before [] fit in
+    rw (long, (Decides-eqb (40 + sum widths) (40 + sum widths)).1 refl) (ap (λ vs. Ok (asks vs)) same)
 
 -- a name without zero bytes has none
 none_is_zero : (xs : List ℕ) → (Contains xs 0 → ⊥) → list_any (λ b. b == 0) xs ≡ false
@@ -97,14 +117,22 @@ name_again name h =
     let short : nat_lt 255 (length name) ≡ false = le-ltb 255 (length name) h.short in
     rw (long, last, text, clean, short) refl
 
--- what a CREATE asks is read back
-create_again : (bytes : List ℕ) (excl : Bool) (mode flags : ℕ) (name : List ℕ) → 57 ≤ length bytes → name_in (drop 56 bytes) ≡ Ok name → field create_in 0 40 bytes ≡ flags → field create_in 1 40 bytes ≡ mode → not (bit_and flags 128 == 0) ≡ excl → mode < 512 → asked (Some CreateKind) bytes ≡ Ok (Create excl mode name)
-create_again bytes excl mode flags name long e ef em ex hm =
-    let x : not (bit_and (field create_in 0 40 bytes) 128 == 0) ≡ excl = ap (λ f. not (bit_and f 128 == 0)) ef ∙ ex in
-    let m : bit_and (field create_in 1 40 bytes) 511 ≡ mode = ap (λ f. bit_and f 511) em ∙ and_mask mode 9 ∙ mod-eq_of_lt hm in
-    let parts : create_of bytes (Ok name) ≡ Ok (Create excl mode name) = λ k. Ok (Create (x k) (m k) name) in
-    rw (le-ltb (length bytes) 57 long, e) parts
+-- what fields and a name ask for is read back
+named_again : {T : Type 0} (o u n i g p : ℕ) (widths values name : List ℕ) (asks : List ℕ → List ℕ → T) → FitAll widths values → IsName name → by_fields_and_name widths asks (request o u n i g p (laid_out widths values ++ name_bytes name)) ≡ Ok (asks values name)
+unfolding request
+named_again o u n i g p widths values name asks fit is =
+    let fields : List ℕ = laid_out widths values in
+    let body : List ℕ = fields ++ name_bytes name in
+    let before : List ℕ = laid_out in_header ((40 + length body) ∷ o ∷ u ∷ n ∷ i ∷ g ∷ p ∷ 0 ∷ []) in
+    let wide : length (before ++ fields) ≡ 40 + sum widths = length-append before fields ∙ ap (λ n. 40 + n) (length-laid_out widths values fit) in
+    let split : before ++ body ≡ (before ++ fields) ++ name_bytes name = sym (append_assoc before fields (name_bytes name)) in
+    let behind : drop (40 + sum widths) (before ++ body) ≡ name_bytes name =
+    ap (λ n. drop n (before ++ body)) (sym wide) ∙ ap (drop (length (before ++ fields))) split ∙ drop-append_seam (before ++ fields) (name_bytes name) in
+    let same : values_at widths 40 (before ++ body) ≡ values = values_again widths values before (name_bytes name) fit in
+    let there : (length (name_bytes name) == 0) ≡ false = ap (λ n. n == 0) (length-append name (0 ∷ []) ∙ omega arith) ∙ eqb-suc-zero (length name) in
+    rw (behind, there, name_again name is) (ap (λ vs. Ok (asks vs name)) same)
 
+-- the flags and the mode of a CREATE are read back
 flags_again : (excl : Bool) → not (bit_and (if excl then 128 else 0) 128 == 0) ≡ excl
 flags_again true = refl
 flags_again false = refl
@@ -113,38 +141,42 @@ flags_fit : (excl : Bool) → (if excl then 128 else 0) < 2 ^ 32
 flags_fit true = lit< tt
 flags_fit false = lit< tt
 
-create_fields : (o u n i g p : ℕ) (excl : Bool) (mode : ℕ) (name : List ℕ) → mode < 512 → let bytes = request o u n i g p (body_for (Create excl mode name)) in (field create_in 0 40 bytes ≡ (if excl then 128 else 0)) × (field create_in 1 40 bytes ≡ mode)
-unfolding number_at request
-create_fields o u n i g p excl mode name h =
-    let bytes : List ℕ = request o u n i g p (body_for (Create excl mode name)) in
-    (little_number-reads_back 4 (if excl then 128 else 0) (drop 44 bytes) (flags_fit excl), little_number-reads_back 4 mode (drop 48 bytes) (omega arith))
+mode_again : (mode : ℕ) → mode < 512 → bit_and mode 511 ≡ mode
+mode_again mode small = and_mask mode 9 ∙ mod-eq_of_lt small
 
-length-create : (excl : Bool) (mode : ℕ) (name : List ℕ) → length (body_for (Create excl mode name)) ≡ 17 + length name
-length-create excl mode name =
-    length-append (laid_out create_in ((if excl then 128 else 0) ∷ mode ∷ 0 ∷ 0 ∷ [])) (name ++ 0 ∷ [])
-    ∙ ap (λ n. 16 + n) (length-append name (0 ∷ [])) ∙ omega arith
+lock_fits : (a : LockAsk) → FitsLock a → FitAll lk_in (lock_values a)
+lock_fits a h = (h.fh, (h.owner, (h.start, (h.end, (h.kind, (h.pid, (h.flags, (lit< tt, tt))))))))
 
-op_again : (u n i g p : ℕ) (op : Op) → u < 2 ^ 64 → n < 2 ^ 64 → i < 2 ^ 32 → g < 2 ^ 32 → p < 2 ^ 32 → FitsOp op → said (message_of (record { unique = u; node = n; uid = i; gid = g; pid = p; op = op })) ≡ Ok (record { unique = u; node = n; uid = i; gid = g; pid = p; op = op })
-op_again u n i g p (Getlk a) hu hn hi hg hp h =
-    let bytes : List ℕ = request (opcode_for GetlkKind) u n i g p (lock_body a) in
-    order_again bytes (opcode_for GetlkKind) u n i g p (Getlk a) (heads (opcode_for GetlkKind) u n i g p (lock_body a) (lit< tt) hu hn hi hg hp)
-    (getlk_again bytes a (length-request (opcode_for GetlkKind) u n i g p (lock_body a)) (lock_again 31 u n i g p a h))
-op_again u n i g p (Setlk a) hu hn hi hg hp h =
-    let bytes : List ℕ = request (opcode_for SetlkKind) u n i g p (lock_body a) in
-    order_again bytes (opcode_for SetlkKind) u n i g p (Setlk a) (heads (opcode_for SetlkKind) u n i g p (lock_body a) (lit< tt) hu hn hi hg hp)
-    (setlk_again bytes a (length-request (opcode_for SetlkKind) u n i g p (lock_body a)) (lock_again 32 u n i g p a h))
-op_again u n i g p (Create excl mode name) hu hn hi hg hp h =
-    let body : List ℕ = body_for (Create excl mode name) in
-    let bytes : List ℕ = request (opcode_for CreateKind) u n i g p body in
-    let fields = create_fields (opcode_for CreateKind) u n i g p excl mode name h.0 in
-    let long : 57 ≤ length bytes = omega (arith, length-request (opcode_for CreateKind) u n i g p body, length-create excl mode name) in
-    order_again bytes (opcode_for CreateKind) u n i g p (Create excl mode name) (heads (opcode_for CreateKind) u n i g p body (lit< tt) hu hn hi hg hp)
-    (create_again bytes excl mode (if excl then 128 else 0) name long
-    (ap name_in (drop-request (opcode_for CreateKind) u n i g p body) ∙ name_again name h.1) fields.0 fields.1 (flags_again excl) h.0)
+op_asked : (o u n i g p : ℕ) (op : Op) → FitsOp op → asked (Some (kind_of op)) (request o u n i g p (body_for op)) ≡ Ok op
+op_asked o u n i g p (Getlk a) h =
+    ap (result_map_both Getlk (λ refusal. refusal)) (fields_again o u n i g p lk_in (lock_values a) lock_of (lock_fits a h))
+op_asked o u n i g p (Setlk a) h =
+    ap (result_map_both Setlk (λ refusal. refusal)) (fields_again o u n i g p lk_in (lock_values a) lock_of (lock_fits a h))
+op_asked o u n i g p (Create excl mode name) h =
+    let fit : FitAll create_in (create_values excl mode) = (flags_fit excl, (omega (arith, h.0), (lit< tt, (lit< tt, tt)))) in
+    let flags = flags_again excl in
+    let permissions = mode_again mode h.0 in
+    let parts : create_of (create_values excl mode) name ≡ Create excl mode name = λ k. Create (flags k) (permissions k) name in
+    named_again o u n i g p create_in (create_values excl mode) name create_of fit h.1 ∙ ap Ok parts
+
+opcode_fits : (kind : Kind) → opcode_for kind < 2 ^ 32
+opcode_fits Forget = lit< tt
+opcode_fits Init = lit< tt
+opcode_fits GetlkKind = lit< tt
+opcode_fits SetlkKind = lit< tt
+opcode_fits CreateKind = lit< tt
+opcode_fits Destroy = lit< tt
+opcode_fits BatchForget = lit< tt
 
 -- the message of an order says that order
 pub said_again : (order : Order) → IsSayable order → said (message_of order) ≡ Ok order
-said_again order h = op_again order.unique order.node order.uid order.gid order.pid order.op h.unique h.node h.uid h.gid h.pid h.op
+said_again order h =
+    let o = opcode_for (kind_of order.op) in
+    let body = body_for order.op in
+    let bytes : List ℕ = message_of order in
+    order_again bytes o order.unique order.node order.uid order.gid order.pid order.op
+    (heads o order.unique order.node order.uid order.gid order.pid body (opcode_fits (kind_of order.op)) h.unique h.node h.uid h.gid h.pid)
+    (ap (λ kind. asked kind bytes) (opcode_finds (kind_of order.op)) ∙ op_asked o order.unique order.node order.uid order.gid order.pid order.op h.op)
 
 pub reads_back : (bytes : List ℕ) (result : Result Order Refusal) → result ≡ said bytes → ReadsBack bytes result
 reads_back bytes result e order fits same = e ∙ ap said same ∙ said_again order fits

@@ -18,8 +18,8 @@ agreed major minor max_readahead flags =
 -- what is answered to an INIT: a header, then `struct fuse_init_in`, after which bytes may follow
 abbrev pub init_step : List ℕ → InitStep
 init_step bytes =
-    if nat_lt (length bytes) 56 then Refused EINVAL
-    else agreed (field init_in 0 40 bytes) (field init_in 1 40 bytes) (field init_in 2 40 bytes) (field init_in 3 40 bytes)
+    let value : ℕ → ℕ = λ k. field init_in k 40 bytes in
+    if nat_lt (length bytes) 56 then Refused EINVAL else agreed (value 0) (value 1) (value 2) (value 3)
 
 -- a body of 64 bytes: version 7.31, and after an agreement max_readahead and flags, 16 requests in the
 -- background and 12 before the kernel holds back, writes of 4096 bytes, times by the nanosecond

@@ -1,15 +1,20 @@
 -- The structs of Linux `fuse.h` (protocol 7.31) as lists of the widths of their fields, in bytes. Fields
 -- stand in the struct's order, without gaps, and each is a number whose lowest byte is first.
-use Rattle.std.specs.Prelude.{ℕ, ◌+◌, List, [], ◌∷◌, ◌++◌, sum, take, drop, slice_index}
+use Rattle.std.specs.Prelude.{ℕ, ◌+◌, List, [], ◌∷◌, ◌++◌, drop, slice_index}
 use Rattle.byteorder.specs.Endian.{little_number, little_bytes}
 
 -- the number in `width` bytes from byte `start` on
 unfoldable pub number_at : ℕ → ℕ → List ℕ → ℕ
 number_at width start bytes = little_number width (drop start bytes)
 
--- what a struct that begins at byte `start` has in its field `k`, counted from 0
+-- the values of a struct's fields, where it begins at byte `start`
+abbrev pub values_at : List ℕ → ℕ → List ℕ → List ℕ
+values_at [] start bytes = []
+values_at (width ∷ widths) start bytes = number_at width start bytes ∷ values_at widths (start + width) bytes
+
+-- the value of field `k`, counted from 0
 abbrev pub field : List ℕ → ℕ → ℕ → List ℕ → ℕ
-field widths k start bytes = number_at (slice_index widths k) (start + sum (take k widths)) bytes
+field widths k start bytes = slice_index (values_at widths start bytes) k
 
 -- the bytes of a struct whose fields have these values
 abbrev pub laid_out : List ℕ → List ℕ → List ℕ

@@ -1,4 +1,5 @@
 pub mod Append
+pub mod Body
 pub mod Cut
 pub mod Errno
 pub mod Frame

@@ -1,6 +1,10 @@
-ghost use Rattle.std.specs.Prelude.{◌≡◌, ◌<◌, length};
+ghost use Rattle.std.specs.Prelude.{◌≡◌, ◌+◌, ◌<◌, ◌≤◌, length, IfOk, OnOk};
+ghost use Rattle.fl_wire.specs.Body.{by_fields, by_fields_and_name, name_behind, name_in};
+ghost use Rattle.fl_wire.specs.Layout.{create_in, lk_in};
 ghost use Rattle.fl_wire.specs.Message.{ReadsBack};
-ghost use Rattle.fl_wire.specs.Says.{create_asked, lock_request, name_in, said};
+ghost use Rattle.fl_wire.specs.Name.{IsName};
+ghost use Rattle.fl_wire.specs.Sayable.{FitsLock, FitsOp, IsSayable};
+ghost use Rattle.fl_wire.specs.Says.{create_of, lock_of, said};
 
 use crate::errno::Errno;
 use crate::frame::Frame;
@@ -30,6 +34,7 @@ pub enum Refusal {
 /// ENAMETOOLONG for a name of more than 255 bytes.
 pub fn read_order(frame: &Frame) -> Result<Order, Refusal>
     ensures said { result ≡ said frame.now }
+    ensures sayable { IfOk result IsSayable }
     ensures back { ReadsBack frame.now result }
 {
     order_in(frame)
@@ -37,7 +42,8 @@ pub fn read_order(frame: &Frame) -> Result<Order, Refusal>
 
 // What a message says.
 fn order_in(frame: &Frame) -> Result<Order, Refusal>
-    ensures { result ≡ said frame.now }
+    ensures said { result ≡ said frame.now }
+    ensures sayable { IfOk result IsSayable }
 {
     let bytes = frame.as_bytes();
     let op = match Kind::of_opcode(frame.opcode()) {
@@ -59,46 +65,57 @@ fn order_in(frame: &Frame) -> Result<Order, Refusal>
     })
 }
 
-// What a lock request of these bytes asks.
-fn lock_ask(bytes: &[u8]) -> Result<LockAsk, Refusal>
-    ensures { result ≡ lock_request bytes.now }
+// What a lock request asks.
+fn lock_ask(message: &[u8]) -> Result<LockAsk, Refusal>
+    ensures value { result ≡ by_fields lk_in lock_of message.now }
+    ensures fits { IfOk result FitsLock }
 {
-    if bytes.len() != 88 {
+    if message.len() != 88 {
         return Err(Refusal::Answer(Errno::EINVAL));
     }
     Ok(LockAsk {
-        fh: u64_at(bytes, 40),
-        owner: u64_at(bytes, 48),
-        start: u64_at(bytes, 56),
-        end: u64_at(bytes, 64),
-        kind: u32_at(bytes, 72),
-        pid: u32_at(bytes, 76),
-        flags: u32_at(bytes, 80),
+        fh: u64_at(message, 40),
+        owner: u64_at(message, 48),
+        start: u64_at(message, 56),
+        end: u64_at(message, 64),
+        kind: u32_at(message, 72),
+        pid: u32_at(message, 76),
+        flags: u32_at(message, 80),
     })
 }
 
-// What a CREATE of these bytes asks.
-fn create(bytes: &[u8]) -> Result<Op, Refusal>
-    ensures { result ≡ create_asked bytes.now }
+// What a CREATE asks.
+fn create(message: &[u8]) -> Result<Op, Refusal>
+    ensures value { result ≡ by_fields_and_name create_in create_of message.now }
+    ensures fits { IfOk result FitsOp }
 {
-    if bytes.len() < 57 {
+    let name = name_behind(message, 16)?;
+    Ok(Op::Create {
+        excl: u32_at(message, 40) & O_EXCL != 0,
+        mode: u32_at(message, 44) & PERMISSIONS,
+        name,
+    })
+}
+
+// The name behind fields of this many bytes.
+fn name_behind(message: &[u8], fields: usize) -> Result<Name, Refusal>
+    requires { fields ≤ 16 }
+    ensures value { result ≡ name_behind fields message.now }
+    ensures long { OnOk result (40 + fields < length message.now) }
+    ensures name { IfOk result IsName }
+{
+    if message.len() <= 40 + fields {
         return Err(Refusal::Answer(Errno::EINVAL));
     }
-    match name_of(&bytes[56..]) {
-        Ok(name) => Ok(Op::Create {
-            excl: u32_at(bytes, 40) & O_EXCL != 0,
-            mode: u32_at(bytes, 44) & PERMISSIONS,
-            name,
-        }),
-        Err(e) => Err(Refusal::Answer(e)),
-    }
+    name_in(&message[40 + fields..]).map_err(Refusal::Answer)
 }
 
 // The name that these bytes spell, a zero byte at its end.
-#[tactic(auto, unfolding(crate::specs::Says::name_in))]
-fn name_of(bytes: &[u8]) -> Result<Name, Errno>
+#[tactic(auto, unfolding(crate::specs::Body::name_in))]
+fn name_in(bytes: &[u8]) -> Result<Name, Errno>
     requires { 0 < length bytes.now }
-    ensures { result ≡ name_in bytes.now }
+    ensures value { result ≡ name_in bytes.now }
+    ensures name { IfOk result IsName }
 {
     let last = bytes.len() - 1;
     let text = &bytes[..last];
