@@ -1,7 +1,9 @@
 //! The arena.
-ghost use Rattle.std.specs.Prelude.{◌≡◌, ◌≢◌, ◌↔◌, ◌+◌, ◌<◌, ◌≤◌, ◌^◌, ℕ, [], length, replicate, insert, remove, slice_get, slice_set, Some, IsSome, IsNone, IsErr, OnOk, OnErr, IfOk, IfSome};
+ghost use Rattle.std.specs.Prelude.{◌≡◌, ◌≢◌, ◌↔◌, ◌+◌, ◌<◌, ◌≤◌, ◌^◌, ℕ, Bool, [], length, replicate, insert, remove, slice_get, slice_set, Some, IsSome, IsNone, IsErr, OnOk, OnErr, IfOk, IfSome};
+ghost use Rattle.std.specs.Option.{option_copied};
+ghost use Rattle.std.specs.List.{find, position_or_len};
 ghost use Rattle.fl_arena.specs.Chains.{entries, items, slot_at, item_count, free_count, unlinked_count, HasSizeOf};
-ghost use Rattle.fl_arena.specs.Cursors.{cursor_at, IsInPlace, index_of, item_of, with_item, without, Inserts};
+ghost use Rattle.fl_arena.specs.Cursors.{Tests, cursor_at, IsInPlace, index_of, item_of, with_item, without, Inserts};
 
 use crate::cursors::{Cursor, Full, Place};
 use crate::nodes::{
@@ -67,14 +69,43 @@ impl<T: Copy> Arena<T> {
     }
 
     /// The item at the cursor, or none at the end.
+    pub fn item(&self, cursor: &Cursor) -> Option<&T>
+        requires { IsInPlace self.now cursor.now }
+        ensures item { option_copied result ≡ item_of self.now cursor.now }
+        ensures some { IsSome result ↔ IsSome cursor.now.slot }
+        ensures at_index { (c i : ℕ) → cursor.now ≡ cursor_at self.now c i → option_copied result ≡ slice_get (items self.now c) i }
+    {
+        let slot = cursor.slot?;
+        Some(&member_at(&self.nodes, slot).item)
+    }
+
+    /// The cursor at the first item of the chain that passes the test, or at its end.
+    pub fn first_where<F: Fn(&T) -> bool>(&self, chain: usize, test: F) -> Cursor
+        requires chain { chain < length self.now.chains }
+        requires callable { F.IsAlwaysCallable test }
+        ensures chain { result.chain ≡ chain }
+        ensures in_place { IsInPlace self.now result }
+        ensures first { (p : T → Bool) → Tests F.Fn p test → result ≡ cursor_at self.now chain (position_or_len p (items self.now chain)) }
+        ensures found { (p : T → Bool) → Tests F.Fn p test → item_of self.now result ≡ find p (items self.now chain) }
+    {
+        let mut cursor = self.cursor(chain);
+        while let Some(item) = self.item(&cursor) {
+            if test(item) {
+                break;
+            }
+            self.step(&mut cursor);
+        }
+        cursor
+    }
+
+    /// A copy of the item at the cursor, or none at the end.
     pub fn get(&self, cursor: &Cursor) -> Option<T>
         requires { IsInPlace self.now cursor.now }
         ensures item { result ≡ item_of self.now cursor.now }
         ensures some { IsSome result ↔ IsSome cursor.now.slot }
         ensures at_index { (c i : ℕ) → cursor.now ≡ cursor_at self.now c i → result ≡ slice_get (items self.now c) i }
     {
-        let slot = cursor.slot?;
-        Some(member_at(&self.nodes, slot).item)
+        self.item(cursor).copied()
     }
 
     /// Takes the cursor on to the next item. At the end it stays.
@@ -103,7 +134,7 @@ impl<T: Copy> Arena<T> {
         let Some(slot) = cursor.slot else {
             unreachable!()
         };
-        let member = member_at(&self.nodes, slot);
+        let member = *member_at(&self.nodes, slot);
         self.nodes[usize::from(slot)] = Node::Taken(Member { item, ..member });
     }
 
@@ -122,7 +153,7 @@ impl<T: Copy> Arena<T> {
         let Some(slot) = cursor.slot else {
             unreachable!()
         };
-        let member = member_at(&self.nodes, slot);
+        let member = *member_at(&self.nodes, slot);
         let ends = self.ends[cursor.chain];
         link_out(&mut self.nodes, slot, member, self.spare);
         self.ends[cursor.chain] = ends.without(member.previous, member.next);
