@@ -73,7 +73,8 @@ impl<T: Copy> Arena<T> {
         requires { IsInPlace self.now cursor.now }
         ensures item { option_copied result ≡ item_of self.now cursor.now }
         ensures some { IsSome result ↔ IsSome cursor.now.slot }
-        ensures at_index { (c i : ℕ) → cursor.now ≡ cursor_at self.now c i → option_copied result ≡ slice_get (items self.now c) i }
+        ensures at_index { (c i : ℕ) → cursor.now ≡ cursor_at self.now c i → option_copied result
+            ≡ slice_get (items self.now c) i }
     {
         let slot = cursor.slot?;
         Some(&member_at(&self.nodes, slot).item)
@@ -85,7 +86,8 @@ impl<T: Copy> Arena<T> {
         requires callable { F.IsAlwaysCallable test }
         ensures chain { result.chain ≡ chain }
         ensures in_place { IsInPlace self.now result }
-        ensures first { (p : T → Bool) → Tests F.Fn p test → result ≡ cursor_at self.now chain (position_or_len p (items self.now chain)) }
+        ensures first { (p : T → Bool) → Tests F.Fn p test → result
+            ≡ cursor_at self.now chain (position_or_len p (items self.now chain)) }
         ensures found { (p : T → Bool) → Tests F.Fn p test → item_of self.now result ≡ find p (items self.now chain) }
     {
         let mut cursor = self.cursor(chain);
@@ -113,7 +115,8 @@ impl<T: Copy> Arena<T> {
         requires { IsInPlace self.now cursor.old }
         ensures on { IsSome cursor.old.slot → cursor.new ≡ cursor_at self.now cursor.old.chain (cursor.old.index + 1) }
         ensures stays { IsNone cursor.old.slot → cursor.new ≡ cursor.old }
-        ensures at_index { (c i : ℕ) → IsSome cursor.old.slot → cursor.old ≡ cursor_at self.now c i → cursor.new ≡ cursor_at self.now c (i + 1) }
+        ensures at_index { (c i : ℕ) → IsSome cursor.old.slot → cursor.old ≡ cursor_at self.now c i → cursor.new
+            ≡ cursor_at self.now c (i + 1) }
         ensures in_range { IfSome cursor.new.slot (λ slot. slot < self.now.slots) }
     {
         if let Some(slot) = cursor.slot {
@@ -127,7 +130,8 @@ impl<T: Copy> Arena<T> {
         requires at_item { IsSome cursor.now.slot }
         requires in_place { IsInPlace self.old cursor.now }
         ensures chains { self.new ≡ with_item self.old cursor.now item }
-        ensures items { items self.new cursor.now.chain ≡ slice_set (items self.old cursor.now.chain) cursor.now.index item }
+        ensures items { items self.new cursor.now.chain
+            ≡ slice_set (items self.old cursor.now.chain) cursor.now.index item }
         ensures others { (c : ℕ) → c ≢ cursor.now.chain → entries self.new c ≡ entries self.old c }
         ensures size { HasSizeOf self.old self.new }
     {
@@ -170,11 +174,13 @@ impl<T: Copy> Arena<T> {
         requires in_place { IsInPlace self.old cursor.old }
         ensures full { IsErr result ↔ (free_count self.old ≡ 0) }
         ensures ok { OnOk result (Inserts self.old self.new cursor.old cursor.new item) }
-        ensures items { OnOk result (items self.new cursor.old.chain ≡ insert (items self.old cursor.old.chain) (index_of self.old cursor.old) item) }
+        ensures items { OnOk result (items self.new cursor.old.chain
+            ≡ insert (items self.old cursor.old.chain) (index_of self.old cursor.old) item) }
         ensures others { (c : ℕ) → c ≢ cursor.old.chain → entries self.new c ≡ entries self.old c }
         ensures size { HasSizeOf self.old self.new }
         ensures cursor { OnOk result (cursor.new ≡ cursor_at self.new cursor.old.chain (index_of self.old cursor.old)) }
-        ensures at_index { (c i : ℕ) → cursor.old ≡ cursor_at self.old c i → OnOk result (items self.new c ≡ insert (items self.old c) i item) }
+        ensures at_index { (c i : ℕ) → cursor.old ≡ cursor_at self.old c i
+            → OnOk result (items self.new c ≡ insert (items self.old c) i item) }
         ensures err { OnErr result (self.new ≡ self.old) }
         ensures err_cursor { OnErr result (cursor.new ≡ cursor.old) }
     {

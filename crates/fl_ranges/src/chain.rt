@@ -83,7 +83,8 @@ pub(crate) fn some_excludes(runs: &Arena<Run>, key: &Key, start: u64, end: u64, 
 pub(crate) fn remove_over(runs: &mut Arena<Run>, key: &Key, start: u64, end: u64)
     requires chains { length runs.old.chains ≡ 256 }
     requires sorted { IsSorted (items runs.old (home key.now.node)) }
-    ensures items { items runs.new (home key.now.node) ≡ left_over key.now start end (items runs.old (home key.now.node)) }
+    ensures items { items runs.new (home key.now.node)
+        ≡ left_over key.now start end (items runs.old (home key.now.node)) }
     ensures others { (c : ℕ) → c ≢ home key.now.node → entries runs.new c ≡ entries runs.old c }
     ensures size { HasSizeOf runs.old runs.new }
 {
@@ -139,7 +140,8 @@ fn goes_before(a: &Run, b: &Run) -> bool
 pub(crate) fn add(runs: &mut Arena<Run>, run: &Run)
     requires chains { length runs.old.chains ≡ 256 }
     requires room { length (all_runs runs.old) < runs.old.slots }
-    ensures items { items runs.new (home run.now.key.node) ≡ insert_run run.now (items runs.old (home run.now.key.node)) }
+    ensures items { items runs.new (home run.now.key.node)
+        ≡ insert_run run.now (items runs.old (home run.now.key.node)) }
     ensures others { (c : ℕ) → c ≢ home run.now.key.node → entries runs.new c ≡ entries runs.old c }
     ensures size { HasSizeOf runs.old runs.new }
 {
