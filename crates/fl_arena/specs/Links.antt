@@ -86,7 +86,8 @@ module _ {T : Type 0} where
     pub first : ends.first ≡ link_at es 0
     pub last : ends.last ≡ link_before es (length es)
     pub len : ends.len ≡ length es
-    pub linked : (i : ℕ) (e : Entry T) → slice_get es i ≡ Some e → slice_get nodes e.slot ≡ Some (Taken (member_of c es i e))
+    pub linked : (i : ℕ) (e : Entry T) → slice_get es i ≡ Some e → slice_get nodes e.slot
+        ≡ Some (Taken (member_of c es i e))
 
   -- the node holds no item
   abbrev pub is_free : Node T → Bool

@@ -91,11 +91,11 @@ pub(crate) fn slot_number(link: Option<u16>) -> Option<usize>
     link.map(usize::from)
 }
 
-pub(crate) fn member_at<T: Copy>(nodes: &Vec<Node<T>>, slot: u16) -> Member<T>
+pub(crate) fn member_at<T: Copy>(nodes: &Vec<Node<T>>, slot: u16) -> &Member<T>
     requires { IsTaken nodes.now.items slot }
-    ensures { slice_get nodes.now.items slot ≡ Some (Node.Taken result) }
+    ensures { slice_get nodes.now.items slot ≡ Some (Node.Taken result.now) }
 {
-    match nodes[usize::from(slot)] {
+    match &nodes[usize::from(slot)] {
         Node::Taken(member) => member,
         Node::Free(_) => unreachable!(),
     }

@@ -38,7 +38,8 @@ linked d name = find (λ e. is_named e.1.name name) (entries d.nodes)
 
 -- no file can have the name: it is empty, `.`, `..`, or has a `/` in it
 abbrev pub is_reserved : List ℕ → Bool
-is_reserved name = bytes_eq name [] || bytes_eq name (46 ∷ []) || bytes_eq name (46 ∷ 46 ∷ []) || list_any (λ byte. byte == 47) name
+is_reserved name =
+    bytes_eq name [] || bytes_eq name (46 ∷ []) || bytes_eq name (46 ∷ 46 ∷ []) || list_any (λ byte. byte == 47) name
 
 -- 256 nodes live beside the root, or all node numbers are given
 abbrev pub nodes_full : Listing → Bool
@@ -54,19 +55,32 @@ file_mode mode = bit_or 32768 (bit_and mode 511)
 
 -- the node that a CREATE makes
 abbrev pub made_node : Order → ℕ → List ℕ → Node
-made_node order mode name = record { lookups = 1; name = Some name; mode = file_mode mode; uid = order.uid; gid = order.gid }
+made_node order mode name =
+    record { lookups = 1; name = Some name; mode = file_mode mode; uid = order.uid; gid = order.gid }
 
 -- a node's attributes: a linked file has one name
 abbrev pub attributes : ℕ → Node → Attr
-attributes number node = record { node = number; mode = node.mode; nlink = if is_some node.name then 1 else 0; uid = node.uid; gid = node.gid }
+attributes number node =
+    record {
+      node = number;
+      mode = node.mode;
+      nlink = if is_some node.name then 1 else 0;
+      uid = node.uid;
+      gid = node.gid;
+    }
 
 -- CREATE of a name that is linked
 abbrev pub reopened : Listing → Bool → (ℕ × Node) → Result Answer Errno
-reopened d excl found = if excl then Err EEXIST else (if found.1.lookups == 2 ^ 64 - 1 then Err ENFILE else (if files_full d then Err ENFILE else Ok (Made (attributes found.0 found.1) d.next_fh)))
+reopened d excl found =
+    if excl then Err EEXIST
+    else (if found.1.lookups == 2 ^ 64 - 1 then Err ENFILE
+    else (if files_full d then Err ENFILE else Ok (Made (attributes found.0 found.1) d.next_fh)))
 
 -- CREATE of a name that is free
 abbrev pub created : Listing → Node → Result Answer Errno
-created d node = if nodes_full d then Err ENOSPC else (if files_full d then Err ENFILE else Ok (Made (attributes d.next_node node) d.next_fh))
+created d node =
+    if nodes_full d then Err ENOSPC
+    else (if files_full d then Err ENFILE else Ok (Made (attributes d.next_node node) d.next_fh))
 
 -- CREATE of a name that a file can have
 abbrev pub created_or_reopened : Listing → Bool → Node → Option (ℕ × Node) → Result Answer Errno
@@ -93,7 +107,8 @@ set_at nodes number (Some node) = insert nodes number node
 
 -- the nodes with another lookup count at a number
 abbrev pub with_lookups : FinMap nat_cmp Node → ℕ → ℕ → FinMap nat_cmp Node
-with_lookups nodes number lookups = set_at nodes number (option_map (λ (node : Node). record node { lookups = lookups }) (get nodes number))
+with_lookups nodes number lookups =
+    set_at nodes number (option_map (λ (node : Node). record node { lookups = lookups }) (get nodes number))
 
 -- the directory after a CREATE that made or opened this node under this fh
 abbrev pub after_made : Listing → Node → Attr → ℕ → Listing

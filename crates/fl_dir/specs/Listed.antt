@@ -18,4 +18,5 @@ pub record AreListed {X : Type 0} (es : List (ℕ × X)) (next room most : ℕ) 
 -- the entries with another lookup count at a number
 abbrev pub recounted : ℕ → ℕ → List (ℕ × Node) → List (ℕ × Node)
 recounted number lookups [] = []
-recounted number lookups (e ∷ es) = if e.0 == number then (e.0, record e.1 { lookups = lookups }) ∷ es else e ∷ recounted number lookups es
+recounted number lookups (e ∷ es) =
+    if e.0 == number then (e.0, record e.1 { lookups = lookups }) ∷ es else e ∷ recounted number lookups es

@@ -45,9 +45,15 @@ impl Model for Dir {
 
     ghost coded = { listing_code };
 
-    ghost view = { λ d. record { nodes = from_sorted d.nodes.items; files = from_sorted d.files.items; next_node = d.next_node; next_fh = d.next_fh } };
+    ghost view = { λ d. record {
+      nodes = from_sorted d.nodes.items;
+      files = from_sorted d.files.items;
+      next_node = d.next_node;
+      next_fh = d.next_fh;
+    } };
 
-    ghost invariant = { λ d. AreListed d.nodes.items d.next_node (vec_capacity d.nodes) 256 × AreListed d.files.items d.next_fh (vec_capacity d.files) 1024 };
+    ghost invariant = { λ d. AreListed d.nodes.items d.next_node (vec_capacity d.nodes) 256
+        × AreListed d.files.items d.next_fh (vec_capacity d.files) 1024 };
 }
 
 impl Dir {
@@ -145,7 +151,8 @@ impl Dir {
 
     // Looks a node up once more, and opens it.
     fn reopen(&mut self, attr: Attr, lookups: u64) -> Result<Answer, Errno>
-        ensures answer { result ≡ (if lookups == 18446744073709551615 then Err Errno.ENFILE else (if files_full self.old then Err Errno.ENFILE else Ok (Answer.Made attr self.old.next_fh))) }
+        ensures answer { result ≡ (if lookups == 18446744073709551615 then Err Errno.ENFILE
+            else (if files_full self.old then Err Errno.ENFILE else Ok (Answer.Made attr self.old.next_fh))) }
         ensures ok { OnOk result (self.new ≡ record self.old {
           nodes = with_lookups self.old.nodes attr.node (lookups + 1);
           files = map.insert self.old.files self.old.next_fh attr.node;
@@ -164,7 +171,10 @@ impl Dir {
     fn link(&mut self, node: &Node)
         requires { nodes_full self.old ≡ false }
         ensures fresh { map.get self.old.nodes self.old.next_node ≡ None }
-        ensures after { self.new ≡ record self.old { nodes = map.insert self.old.nodes self.old.next_node node.now; next_node = self.old.next_node + 1 } }
+        ensures after { self.new ≡ record self.old {
+          nodes = map.insert self.old.nodes self.old.next_node node.now;
+          next_node = self.old.next_node + 1;
+        } }
     {
         // The name by itself: rattle-kit-13b can't follow a push of a struct with an `Option` that isn't named here.
         let name = node.name;
@@ -184,7 +194,10 @@ impl Dir {
     fn open_file(&mut self, node: u64) -> u64
         requires { files_full self.old ≡ false }
         ensures fh { result ≡ self.old.next_fh }
-        ensures after { self.new ≡ record self.old { files = map.insert self.old.files self.old.next_fh node; next_fh = self.old.next_fh + 1 } }
+        ensures after { self.new ≡ record self.old {
+          files = map.insert self.old.files self.old.next_fh node;
+          next_fh = self.old.next_fh + 1;
+        } }
     {
         let fh = self.next_fh;
         self.files.push_reserved((fh, node));

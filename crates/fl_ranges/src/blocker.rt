@@ -78,11 +78,11 @@ fn nearest(runs: &Arena<Run>, chain: usize, key: &Key, range: &Range, kind: Kind
 {
     let mut best = None;
     let mut cursor = runs.cursor(chain);
-    while let Some(run) = runs.get(&cursor) {
-        if is_past(&run, key, last_start(range, best)) {
+    while let Some(run) = runs.item(&cursor) {
+        if is_past(run, key, last_start(range, best)) {
             break;
         }
-        best = nearest_with(key, range, kind, best, run);
+        best = nearest_with(key, range, kind, best, *run);
         runs.step(&mut cursor);
     }
     best
