@@ -1,4 +1,5 @@
 -- A session from bytes to bytes: what came of a text of hex lines.
+pub mod Inside
 use Rattle.std.specs.Prelude.{◌≡◌, ℕ, false, List, [], All, Option, Some, None, IfSome, IsOk, Result, Ok, Err, ⊤}
 use Rattle.std.specs.List.{concat}
 use Rattle.std.specs.Io.KnownBytes.{Appends, Keeps}
@@ -20,21 +21,6 @@ fault_of Read = CannotRead
 fault_of Write = CannotWrite
 fault_of NoMemory = NoRoom
 
--- what a fault says of a text of hex lines
-abbrev pub TextSays : List ℕ → CommandFault → Type 0
-TextSays text (BadLine n) = hex_stream text ≡ Err n
-TextSays text NoRoom = ⊤
-TextSays text CannotRead = ⊥
-TextSays text CannotWrite = ⊥
-TextSays text CutShort = ⊥
-TextSays text (WrongLength n) = ⊥
-
--- these bytes are whole replies, one after another
-pub record AreReplies (bytes : List ℕ) : Type 0 where
-  pub replies : List (List ℕ)
-  pub framed : All IsReply replies
-  pub is : bytes ≡ concat replies
-
 -- A session over this stream, no write of which failed and whose fault is this one, and the lines that are printed for
 -- it: one for each of its replies.
 pub record IsSession (stream lines : List ℕ) (fault : Option Fault) : Type 0 where
@@ -54,21 +40,3 @@ pub record IsPrinted (left old new : Option (List ℕ)) (fault : Option Fault) :
   pub spelled : hex_stream text ≡ Ok stream
   pub session : IsSession stream lines fault
   pub written : Appends old new lines
-
--- What was done, by how the command ended: only after a session is anything printed.
-abbrev pub Did : Option (List ℕ) → Option (List ℕ) → Option (List ℕ) → Result Unit CommandFault → Type 0
-Did left old new (Ok done) = IsPrinted left old new None
-Did left old new (Err CutShort) = IsPrinted left old new (Some Cut)
-Did left old new (Err (WrongLength n)) = IsPrinted left old new (Some (BadLength n))
-Did left old new (Err (BadLine n)) = IfSome left (λ text. hex_stream text ≡ Err n) × Keeps old new
-Did left old new (Err NoRoom) = Keeps old new
-Did left old new (Err CannotRead) = Keeps old new
-Did left old new (Err CannotWrite) = IfSome left (λ text. IsOk (hex_stream text))
-
--- a fault of a stream, and not of what reads or writes it
-abbrev pub IsOfStream : Fault → Type 0
-IsOfStream Cut = ⊤
-IsOfStream (BadLength n) = ⊤
-IsOfStream Read = ⊥
-IsOfStream Write = ⊥
-IsOfStream NoMemory = ⊥
