@@ -7,23 +7,23 @@ use Rattle.lockd_commands.specs.Hex.{hex_stream, hex_lines}
 use Rattle.fl_serve.specs.Served.{IsServed}
 use Rattle.fl_wire.specs.Spell.{IsReply}
 use Rattle.fl_serve.specs.Session.{session_of}
-use Rattle.lockd_commands.specs.declared.fault.Fault.{Fault as CommandFault}
-use Rattle.lockd_commands.specs.declared.fault.Fault.TheVariants.{BadLine, NoMemory as NoRoom, Read as CannotRead, Write as CannotWrite, Cut as CutShort, BadLength as WrongLength}
+use Rattle.lockd_commands.specs.declared.fault.Fault.{Fault}
+use Rattle.lockd_commands.specs.declared.fault.Fault.TheVariants as command
 use Rattle.fl_serve.specs.declared.session.Done.{Done}
-use Rattle.fl_serve.specs.declared.session.Fault.{Fault}
-use Rattle.fl_serve.specs.declared.session.Fault.TheVariants.{Cut, BadLength, Read, Write, NoMemory}
+use Rattle.fl_serve.specs.declared.session.Fault.{Fault as SessionFault}
+use Rattle.fl_serve.specs.declared.session.Fault.TheVariants as session
 
 -- a session's fault as a command tells it
-abbrev pub fault_of : Fault → CommandFault
-fault_of Cut = CutShort
-fault_of (BadLength n) = WrongLength n
-fault_of Read = CannotRead
-fault_of Write = CannotWrite
-fault_of NoMemory = NoRoom
+abbrev pub fault_of : SessionFault → Fault
+fault_of session.Cut = command.Cut
+fault_of (session.BadLength n) = command.BadLength n
+fault_of session.Read = command.Read
+fault_of session.Write = command.Write
+fault_of session.NoMemory = command.NoMemory
 
 -- A session over this stream, no write of which failed and whose fault is this one, and the lines that are printed for
 -- it: one for each of its replies.
-pub record IsSession (stream lines : List ℕ) (fault : Option Fault) : Type 0 where
+pub record IsSession (stream lines : List ℕ) (fault : Option SessionFault) : Type 0 where
   pub done : Done
   pub unread : List ℕ
   pub sent : List ℕ
@@ -32,7 +32,7 @@ pub record IsSession (stream lines : List ℕ) (fault : Option Fault) : Type 0 w
   pub printed : lines ≡ hex_lines (session_of served.came).replies
 
 -- The input is hex lines, and what a session over their bytes gives was printed.
-pub record IsPrinted (left old new : Option (List ℕ)) (fault : Option Fault) : Type 0 where
+pub record IsPrinted (left old new : Option (List ℕ)) (fault : Option SessionFault) : Type 0 where
   pub text : List ℕ
   pub stream : List ℕ
   pub lines : List ℕ

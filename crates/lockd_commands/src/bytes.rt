@@ -4,7 +4,7 @@ ghost use Rattle.lockd_commands.specs.Bytes.{IsPrinted, IsSession};
 ghost use Rattle.lockd_commands.specs.Bytes.Inside.{Did, IsOfStream};
 ghost use Rattle.lockd_commands.specs.Hex.{hex_stream};
 ghost use Rattle.lockd_commands.specs.declared.fault.Fault.{Fault};
-ghost use Rattle.fl_serve.specs.declared.session.Fault.{Fault as Told};
+ghost use Rattle.fl_serve.specs.declared.session.Fault.{Fault as SessionFault};
 
 use crate::fault::Fault;
 use crate::status::Status;
@@ -30,9 +30,9 @@ pub fn bytes_on<R: Read, W: Write, F: Write>(
     ensures good { result ≡ Status.Good
         → IsPrinted (R.remaining input.old) (W.contents output.old) (W.contents output.new) None }
     ensures cut { result ≡ Status.Faulted Fault.Cut
-        → IsPrinted (R.remaining input.old) (W.contents output.old) (W.contents output.new) (Some Told.Cut) }
+        → IsPrinted (R.remaining input.old) (W.contents output.old) (W.contents output.new) (Some SessionFault.Cut) }
     ensures bad_length { (n : ℕ) → result ≡ Status.Faulted (Fault.BadLength n)
-        → IsPrinted (R.remaining input.old) (W.contents output.old) (W.contents output.new) (Some (Told.BadLength n)) }
+        → IsPrinted (R.remaining input.old) (W.contents output.old) (W.contents output.new) (Some (SessionFault.BadLength n)) }
 
     // A bad line is told, and nothing else is.
     ensures bad { (n : ℕ) → result ≡ Status.Faulted (Fault.BadLine n)
