@@ -18,13 +18,15 @@ use Rattle.fl_serve.specs.declared.session.answering.Stop.TheVariants.{Bad, Over
 use Rattle.fl_serve.specs.declared.session.server.Server.{Server}
 
 -- the bytes between two places, moved to the front
-pub moved : (buffer new : List ℕ) (at filled : ℕ) → at ≤ filled → filled ≤ length buffer → new ≡ paste buffer 0 (drop at buffer) (filled - at)
+pub moved : (buffer new : List ℕ) (at filled : ℕ) → at ≤ filled → filled ≤ length buffer
+    → new ≡ paste buffer 0 (drop at buffer) (filled - at)
     → take (filled - at) new ≡ drop at (take filled buffer)
 moved buffer new at filled order within e =
     let n = filled - at in
     let plain : n ≡ 0 + n = omega arith in
     let upto : at + n ≡ filled = omega arith in
-    ap (take n) e ∙ ap (λ k. take k (paste buffer 0 (drop at buffer) n)) plain ∙ take-paste buffer 0 (drop at buffer) n (omega arith) (omega (arith, length-drop at buffer))
+    ap (take n) e ∙ ap (λ k. take k (paste buffer 0 (drop at buffer) n)) plain ∙ take-paste buffer 0
+    (drop at buffer) n (omega arith) (omega (arith, length-drop at buffer))
     ∙ sym (drop-take at n buffer) ∙ ap (λ k. drop at (take k buffer)) upto
 
 -- the rest of the bytes that were read is at most all of them
@@ -32,7 +34,8 @@ rest_bounded : (buffer : List ℕ) (at filled : ℕ) → length buffer ≡ 8192 
 rest_bounded buffer at filled long = omega (arith, long, length-drop at (take filled buffer), length-take filled buffer)
 
 -- a read of these bytes
-way_read : (left a b held held_now : Option (List ℕ)) (broken : Bool) (server : Server) (rest bytes : List ℕ) → IsUnderWay left a held held_now broken server rest
+way_read : (left a b held held_now : Option (List ℕ)) (broken : Bool) (server : Server) (rest bytes : List ℕ)
+    → IsUnderWay left a held held_now broken server rest
     → Consumes a b bytes → IsUnderWay left b held held_now broken server (rest ++ bytes)
 way_read left a b held held_now broken server rest bytes way read = record {
   came = way.came;
@@ -48,7 +51,8 @@ way_read left a b held held_now broken server rest bytes way read = record {
 }
 
 -- a read that failed
-way_kept : (left a b held held_now : Option (List ℕ)) (broken : Bool) (server : Server) (rest : List ℕ) → IsUnderWay left a held held_now broken server rest
+way_kept : (left a b held held_now : Option (List ℕ)) (broken : Bool) (server : Server) (rest : List ℕ)
+    → IsUnderWay left a held held_now broken server rest
     → Keeps a b → IsUnderWay left b held held_now broken server rest
 way_kept left a b held held_now broken server rest way kept = record {
   came = way.came;
@@ -61,16 +65,21 @@ way_kept left a b held held_now broken server rest way kept = record {
 }
 
 -- a read behind the bytes that fill the front of the buffer
-pub way_read_in : (left a b held held_now : Option (List ℕ)) (broken : Bool) (server : Server) (buffer new : List ℕ) (filled n : ℕ)
-    → IsUnderWay left a held held_now broken server (take filled buffer) → take filled new ≡ take filled buffer → Consumes a b (take n (drop filled new))
+pub way_read_in : (left a b held held_now : Option (List ℕ)) (broken : Bool) (server : Server) (buffer new : List ℕ)
+    (filled n : ℕ)
+    → IsUnderWay left a held held_now broken server (take filled buffer) → take filled new ≡ take filled buffer
+    → Consumes a b (take n (drop filled new))
     → IsUnderWay left b held held_now broken server (take (filled + n) new)
 way_read_in left a b held held_now broken server buffer new filled n way front read =
-    let whole : take (filled + n) new ≡ take filled buffer ++ take n (drop filled new) = take-add filled n new ∙ ap (λ xs. xs ++ take n (drop filled new)) front in
+    let whole : take (filled + n) new ≡ take filled buffer ++ take n (drop filled new) = take-add filled n new
+    ∙ ap (λ xs. xs ++ take n (drop filled new)) front in
     let P : List ℕ → Type 0 = IsUnderWay left b held held_now broken server in
-    subst P (sym whole) (way_read left a b held held_now broken server (take filled buffer) (take n (drop filled new)) way read)
+    subst P (sym whole) (way_read left a b held held_now broken server (take filled buffer)
+    (take n (drop filled new)) way read)
 
 -- nothing was read yet
-pub waiting_first : (left held : Option (List ℕ)) (broken : Bool) (server : Server) (buffer : List ℕ) → IsFresh server → broken ≡ false
+pub waiting_first : (left held : Option (List ℕ)) (broken : Bool) (server : Server) (buffer : List ℕ) → IsFresh server
+    → broken ≡ false
     → IsWaiting left left held held broken server buffer 0
 waiting_first left held broken server buffer fresh whole = record {
   more = refl;
@@ -91,8 +100,10 @@ waiting_first left held broken server buffer fresh whole = record {
 }
 
 -- a length that no message has
-pub ended_bad : (old new : Server) (held held_now : Option (List ℕ)) (broken broken_now : Bool) (buffer : List ℕ) (at filled : ℕ) (stop : Stop) (n : ℕ) → length buffer ≡ 8192
-    → Answers old new held held_now broken broken_now (take filled buffer) (drop at (take filled buffer)) → IsStop stop new (drop at (take filled buffer)) → stop ≡ Bad n
+pub ended_bad : (old new : Server) (held held_now : Option (List ℕ)) (broken broken_now : Bool) (buffer : List ℕ)
+    (at filled : ℕ) (stop : Stop) (n : ℕ) → length buffer ≡ 8192
+    → Answers old new held held_now broken broken_now (take filled buffer) (drop at (take filled buffer))
+    → IsStop stop new (drop at (take filled buffer)) → stop ≡ Bad n
     → (left left_now start : Option (List ℕ)) → IsUnderWay left left_now start held broken old (take filled buffer)
     → HasEnded left left_now start held_now broken_now new (Some (BadLength n))
 ended_bad old new held held_now broken broken_now buffer at filled stop n long answers stops e left left_now start way =
@@ -105,8 +116,10 @@ ended_bad old new held held_now broken broken_now buffer at filled stop n long a
     }
 
 -- a DESTROY
-pub ended_over : (old new : Server) (held held_now : Option (List ℕ)) (broken broken_now : Bool) (buffer : List ℕ) (at filled : ℕ) (stop : Stop) → length buffer ≡ 8192
-    → Answers old new held held_now broken broken_now (take filled buffer) (drop at (take filled buffer)) → IsStop stop new (drop at (take filled buffer)) → stop ≡ Over
+pub ended_over : (old new : Server) (held held_now : Option (List ℕ)) (broken broken_now : Bool) (buffer : List ℕ)
+    (at filled : ℕ) (stop : Stop) → length buffer ≡ 8192
+    → Answers old new held held_now broken broken_now (take filled buffer) (drop at (take filled buffer))
+    → IsStop stop new (drop at (take filled buffer)) → stop ≡ Over
     → (left left_now start : Option (List ℕ)) → IsUnderWay left left_now start held broken old (take filled buffer)
     → HasEnded left left_now start held_now broken_now new None
 ended_over old new held held_now broken broken_now buffer at filled stop long answers stops e left left_now start way =

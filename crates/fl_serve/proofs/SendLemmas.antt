@@ -1,6 +1,7 @@
 -- Replies that are sent one after another.
-use Rattle.std.proofs.Common.{◌≡◌, ℕ, Bool, true, false, List, [], ◌∷◌, ◌++◌, take, drop, Option, sym, ap, ◌∙◌, arith, append_assoc, append-nil, length-append, take-append-drop, length-drop, All, subst}
-use Rattle.std.proofs.lemmas.List.Elements.{All-nil, All-cons, All-append}
+use Rattle.std.proofs.Common.{◌≡◌, ℕ, Bool, true, false, List, [], ◌∷◌, ◌++◌, take, drop, Option, sym, ap, ◌∙◌, arith, append_assoc, append-nil, length-append, take-append-drop, length-drop, subst}
+use Rattle.std.proofs.lemmas.List.Elements.{All-push}
+use Rattle.std.proofs.lemmas.List.Folds.{concat-append}
 use Rattle.std.specs.List.{concat}
 use Rattle.std.proofs.KnownBytes.{Appends-trans, Appends-kept}
 use Rattle.std.specs.Io.KnownBytes.{Appends, Keeps}
@@ -10,11 +11,7 @@ use Rattle.fl_serve.specs.Inside.Sending.{IsSending, Sends}
 
 -- one reply more
 pub concat_one : (replies : List (List ℕ)) (reply : List ℕ) → concat (replies ++ reply ∷ []) ≡ concat replies ++ reply
-concat_one [] reply = append-nil reply
-concat_one (first ∷ replies) reply = ap (λ bytes. first ++ bytes) (concat_one replies reply) ∙ sym (append_assoc first (concat replies) reply)
-
-one_more : (replies : List (List ℕ)) (reply : List ℕ) → All IsReply replies → IsReply reply → All IsReply (replies ++ reply ∷ [])
-one_more replies reply framed is = All-append IsReply replies (reply ∷ []) framed (All-cons IsReply reply [] is (All-nil IsReply))
+concat_one replies reply = concat-append replies (reply ∷ []) ∙ ap (λ bytes. concat replies ++ bytes) (append-nil reply)
 
 -- after a failed write nothing more goes out
 send_none : (start held held_now : Option (List ℕ)) (replies : List (List ℕ)) (reply : List ℕ)
@@ -31,7 +28,7 @@ send_none start held held_now replies reply is before kept =
         is = sym (append_assoc before.sent cut.rest reply) ∙ ap (λ bytes. bytes ++ reply) cut.is
             ∙ sym (concat_one replies reply);
       };
-      framed = one_more replies reply before.framed is;
+      framed = All-push IsReply replies reply before.framed is;
     }
 
 -- a write fails
@@ -51,7 +48,7 @@ send_part start held held_now replies reply is before part =
             ∙ ap (λ bytes. before.sent ++ bytes) (take-append-drop part.count reply)
             ∙ ap (λ bytes. bytes ++ reply) before.are_sent ∙ sym (concat_one replies reply);
       };
-      framed = one_more replies reply before.framed is;
+      framed = All-push IsReply replies reply before.framed is;
     }
 
 -- the whole reply goes out
@@ -62,19 +59,23 @@ send_whole start held held_now replies reply is before written = record {
   sent = before.sent ++ reply;
   written = Appends-trans start held held_now before.sent reply before.written written;
   are_sent = ap (λ bytes. bytes ++ reply) before.are_sent ∙ sym (concat_one replies reply);
-  framed = one_more replies reply before.framed is;
+  framed = All-push IsReply replies reply before.framed is;
 }
 
 -- one reply is sent
 sends_one : (held held_now : Option (List ℕ)) (broken broken_now : Bool) (reply : List ℕ) → IsReply reply
     → IsSentBy held held_now broken broken_now reply → Sends held held_now broken broken_now (reply ∷ [])
-sends_one held held_now true true reply is sent = record { onward = λ start replies before. send_none start held held_now replies reply is before sent }
+sends_one held held_now true true reply is sent = record
+    { onward = λ start replies before. send_none start held held_now replies reply is before sent }
 sends_one held held_now true false reply is sent = absurd sent
-sends_one held held_now false true reply is sent = record { onward = λ start replies before. send_part start held held_now replies reply is before sent }
-sends_one held held_now false false reply is sent = record { onward = λ start replies before. send_whole start held held_now replies reply is before sent }
+sends_one held held_now false true reply is sent = record
+    { onward = λ start replies before. send_part start held held_now replies reply is before sent }
+sends_one held held_now false false reply is sent = record
+    { onward = λ start replies before. send_whole start held held_now replies reply is before sent }
 
 -- the same of bytes that are this reply
-pub Sends-one : (held held_now : Option (List ℕ)) (broken broken_now : Bool) (bytes reply : List ℕ) → bytes ≡ reply → IsReply reply
+pub Sends-one : (held held_now : Option (List ℕ)) (broken broken_now : Bool) (bytes reply : List ℕ) → bytes ≡ reply
+    → IsReply reply
     → IsSentBy held held_now broken broken_now bytes → Sends held held_now broken broken_now (reply ∷ [])
 Sends-one held held_now broken broken_now bytes reply same is sent =
     sends_one held held_now broken broken_now reply is (subst (IsSentBy held held_now broken broken_now) same sent)

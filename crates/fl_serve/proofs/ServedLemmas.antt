@@ -19,7 +19,11 @@ ends_by : (fault : Option Fault) (broken : Bool) (left : Option (List ℕ)) (ser
     (came : List Came) → server.over ≡ (session_of came).over → IsEnding fault server rest left
     → EndsBy (first_fault fault broken) broken came rest left
 ends_by None true left server rest came same ending = (refl, is_complete (session_of came) server rest left same ending)
-ends_by None false left server rest came same ending = (refl, is_complete (session_of came) server rest left same ending)
+ends_by None false left server rest came same ending = (
+  refl,
+  is_complete
+      (session_of came) server rest left same ending,
+)
 ends_by (Some Cut) broken left server rest came same ending = (sym same ∙ ending.0, ending.1, ending.2, ending.3)
 ends_by (Some (BadLength n)) broken left server rest came same ending = (sym same ∙ ending.0, ending.1)
 ends_by (Some Read) broken left server rest came same ending = (sym same ∙ ending.0, ending.1)
@@ -47,5 +51,6 @@ served left left_now held held_now broken server fault done ended history told r
       framed = way.sending.framed;
       written = way.sending.written;
       are_sent = way.sending.are_sent;
-      ending = rw told (ends_by fault broken left_now server ended.rest way.came (ap (λ s. s.over) way.stands) ended.ending);
+      ending = rw told (ends_by fault broken left_now server ended.rest way.came
+          (ap (λ s. s.over) way.stands) ended.ending);
     }

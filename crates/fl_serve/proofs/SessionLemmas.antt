@@ -1,8 +1,8 @@
 -- Messages that are answered one after another.
-use Rattle.std.proofs.Common.{◌≡◌, ℕ, ◌+◌, ◌-◌, ◌≤◌, Bool, true, false, nat_lt, if◌then◌else◌, List, [], ◌∷◌, ◌++◌, length, take, drop, map, Option, refl, sym, zero, suc, take_at, ap, subst, ◌∙◌, arith, append_assoc, length-append, length-drop, take_all, drop-drop, All}
+use Rattle.std.proofs.Common.{◌≡◌, ℕ, ◌+◌, ◌-◌, ◌≤◌, Bool, true, false, nat_lt, if◌then◌else◌, List, [], ◌∷◌, ◌++◌, length, take, drop, map, Option, refl, sym, zero, suc, take_at, ap, subst, ◌∙◌, arith, append_assoc, length-append, length-drop, take_all, drop-drop}
 use Rattle.std.specs.List.{concat}
 use Rattle.std.proofs.lemmas.List.{map-append}
-use Rattle.std.proofs.lemmas.List.Elements.{All-cons, All-append}
+use Rattle.std.proofs.lemmas.List.Elements.{All-push}
 use Rattle.std.proofs.lemmas.Grind.{fold-append}
 use Rattle.fl_wire.specs.Cut.{first_step}
 use Rattle.fl_wire.specs.Frame.{IsMessage}
@@ -20,7 +20,8 @@ use Rattle.fl_serve.specs.declared.session.server.Server.{Server}
 -- a list has one last item
 snoc_front : (xs ys : List Came) (x y : Came) → xs ++ x ∷ [] ≡ ys ++ y ∷ [] → xs ≡ ys
 snoc_front xs ys x y e =
-    let long : length xs ≡ length ys = let all = ap length e in omega (arith, length-append xs (x ∷ []), length-append ys (y ∷ [])) in
+    let long : length xs ≡ length ys = let all = ap length e in omega
+    (arith, length-append xs (x ∷ []), length-append ys (y ∷ [])) in
     sym (take_at xs (x ∷ []) (length xs) refl) ∙ ap (take (length xs)) e ∙ take_at ys (y ∷ []) (length xs) (sym long)
 
 -- one message more
@@ -41,7 +42,8 @@ message_of (Whole message) = message
 
 -- a whole message is as long as its length says
 whole_taken : (a b c d : Bool) (n : ℕ) (bytes message : List ℕ)
-    → (if a then More else (if b then Bad n else (if c then Bad n else (if d then More else Whole (take n bytes))))) ≡ Whole message → message ≡ take n bytes
+    → (if a then More else (if b then Bad n else (if c then Bad n else (if d then More else Whole (take n bytes))))) ≡
+    Whole message → message ≡ take n bytes
 whole_taken true b c d n bytes message e = cc
 whole_taken false true c d n bytes message e = cc
 whole_taken false false true d n bytes message e = cc
@@ -49,31 +51,39 @@ whole_taken false false false true n bytes message e = cc
 whole_taken false false false false n bytes message e = cc
 
 -- a message that is whole stands in front
-whole_front : (bytes message : List ℕ) → first_step bytes ≡ Whole message → message ++ drop (length message) bytes ≡ bytes
+whole_front : (bytes message : List ℕ) → first_step bytes ≡ Whole message
+    → message ++ drop (length message) bytes ≡ bytes
 whole_front bytes message e =
     let taken : message ≡ take (len_of bytes) bytes =
-    whole_taken (nat_lt (length bytes) 4) (nat_lt (len_of bytes) 40) (nat_lt 8192 (len_of bytes)) (nat_lt (length bytes) (len_of bytes)) (len_of bytes) bytes message e in
+    whole_taken (nat_lt (length bytes) 4) (nat_lt (len_of bytes) 40) (nat_lt 8192 (len_of bytes))
+    (nat_lt (length bytes) (len_of bytes)) (len_of bytes) bytes message e in
     rw taken (take_and_drop (len_of bytes) bytes)
 
 -- the bytes are cut one message further
-cut_more : (read : List ℕ) (came : List Came) (c : Came) (rest rest_now : List ℕ) → IsCut read (map (λ c. c.message) came) rest → IsMessage c.message
+cut_more : (read : List ℕ) (came : List Came) (c : Came) (rest rest_now : List ℕ)
+    → IsCut read (map (λ c. c.message) came) rest → IsMessage c.message
     → c.message ++ rest_now ≡ rest → IsCut read (map (λ c. c.message) (came ++ c ∷ [])) rest_now
 cut_more read came c rest rest_now cut message parts =
     let messages = map (λ c. c.message) came in
-    let more : map (λ c. c.message) (came ++ c ∷ []) ≡ messages ++ c.message ∷ [] = map-append (λ c. c.message) came (c ∷ []) in
+    let more : map (λ c. c.message) (came ++ c ∷ []) ≡ messages ++ c.message ∷ [] = map-append (λ c. c.message) came
+    (c ∷ []) in
     let P : List (List ℕ) → Type 0 = λ messages. IsCut read messages rest_now in
-    let one : All IsMessage (c.message ∷ []) = All-cons IsMessage c.message [] message (λ k d below. absurd (omega arith)) in
     subst P (sym more) (record {
-      parts = cut.parts ∙ ap (λ rest. concat messages ++ rest) (sym parts) ∙ sym (append_assoc (concat messages) c.message rest_now)
+      parts = cut.parts ∙ ap (λ rest. concat messages ++ rest) (sym parts)
+          ∙ sym (append_assoc (concat messages) c.message rest_now)
           ∙ ap (λ bytes. bytes ++ rest_now) (sym (concat_one messages c.message));
-      whole = All-append IsMessage messages (c.message ∷ []) cut.whole one;
+      whole = All-push IsMessage messages c.message cut.whole message;
     })
 
 -- a message is answered
-under_way_more : (left left_now start held held_now : Option (List ℕ)) (broken broken_now : Bool) (old new : Server) (message rest rest_now : List ℕ)
-    → old.over ≡ false → IsMessage message → message ++ rest_now ≡ rest → IsAnswered old new held held_now broken broken_now message
-    → IsUnderWay left left_now start held broken old rest → IsUnderWay left left_now start held_now broken_now new rest_now
-under_way_more left left_now start held held_now broken broken_now old new message rest rest_now live whole parts answered before =
+under_way_more : (left left_now start held held_now : Option (List ℕ)) (broken broken_now : Bool) (old new : Server)
+    (message rest rest_now : List ℕ)
+    → old.over ≡ false → IsMessage message → message ++ rest_now ≡ rest
+    → IsAnswered old new held held_now broken broken_now message
+    → IsUnderWay left left_now start held broken old rest
+    → IsUnderWay left left_now start held_now broken_now new rest_now
+under_way_more left left_now start held held_now broken broken_now old new message rest rest_now live whole parts
+    answered before =
     let c : Came = record { message = message; refused = answered.met.refused } in
     let came = before.came in
     let replies = (session_of came).replies in
@@ -81,7 +91,8 @@ under_way_more left left_now start held held_now broken broken_now old new messa
     let next : session_with new (replies ++ answered.owed) ≡ session_of (came ++ c ∷ []) =
     answered.met.is replies ∙ ap (λ s. with_message s c) before.stands ∙ sym one in
     let gets : replies ++ answered.owed ≡ (session_of (came ++ c ∷ [])).replies = ap (λ s. s.replies) next in
-    let sent : IsSending start held_now broken_now (replies ++ answered.owed) = answered.sent.onward start replies before.sending in
+    let sent : IsSending start held_now broken_now (replies ++ answered.owed) = answered.sent.onward start replies
+    before.sending in
     let over : (session_of came).over ≡ false = sym (ap (λ s. s.over) before.stands) ∙ live in
     let P : List (List ℕ) → Type 0 = IsSending start held_now broken_now in
     record {
@@ -95,12 +106,16 @@ under_way_more left left_now start held held_now broken broken_now old new messa
     }
 
 -- one message more is answered
-pub Answers-more : (first old new : Server) (a b c : Option (List ℕ)) (x y z : Bool) (message bytes : List ℕ) (at : ℕ) → at ≤ length bytes
-    → Answers first old a b x y bytes (drop at bytes) → old.over ≡ false → IsMessage message → first_step (take (length bytes - at) (drop at bytes)) ≡ Whole message
-    → IsAnswered old new b c y z message → (at + length message ≤ length bytes) × Answers first new a c x z bytes (drop (at + length message) bytes)
+pub Answers-more : (first old new : Server) (a b c : Option (List ℕ)) (x y z : Bool) (message bytes : List ℕ) (at : ℕ)
+    → at ≤ length bytes
+    → Answers first old a b x y bytes (drop at bytes) → old.over ≡ false → IsMessage message
+    → first_step (take (length bytes - at) (drop at bytes)) ≡ Whole message
+    → IsAnswered old new b c y z message → (at + length message ≤ length bytes) × Answers first new a c x z bytes
+    (drop (at + length message) bytes)
 Answers-more first old new a b c x y z message bytes at within before live whole step answered =
     let rest = drop at bytes in
-    let all : take (length bytes - at) rest ≡ rest = take_all (length bytes - at) rest (omega (arith, length-drop at bytes)) in
+    let all : take (length bytes - at) rest ≡ rest = take_all (length bytes - at) rest
+    (omega (arith, length-drop at bytes)) in
     let stands : first_step rest ≡ Whole message = ap first_step (sym all) ∙ step in
     let parts : message ++ drop (length message) rest ≡ rest = whole_front rest message stands in
     let next : drop (length message) rest ≡ drop (at + length message) bytes = drop-drop (length message) at bytes in
@@ -108,6 +123,7 @@ Answers-more first old new a b c x y z message bytes at within before live whole
       omega (arith, length-append message (drop (length message) rest), length-drop at bytes),
       record {
         onward = λ left left_now start way. let P : List ℕ → Type 0 = IsUnderWay left left_now start c z new in
-            subst P next (under_way_more left left_now start b c y z old new message rest (drop (length message) rest) live whole parts answered (before.onward left left_now start way));
+            subst P next (under_way_more left left_now start b c y z old new message rest
+            (drop (length message) rest) live whole parts answered (before.onward left left_now start way));
       },
     )

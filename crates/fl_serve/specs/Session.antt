@@ -61,7 +61,8 @@ before_init s _ message = replied s (reply_bytes (unique_of message) (Err EPROTO
 
 -- an order that worker 0 handed in, with the replies that it gets
 abbrev pub with_step : Session → Order → List Told → Session
-with_step s order tolds = record s { replies = s.replies ++ map spelling_of tolds; lines = s.lines ++ step_lines 0 order tolds }
+with_step s order tolds =
+    record s { replies = s.replies ++ map spelling_of tolds; lines = s.lines ++ step_lines 0 order tolds }
 
 -- an order that was refused for want of memory
 abbrev pub with_refusal : Session → Order → Session
@@ -70,7 +71,8 @@ with_refusal s order = record s { replies = s.replies ++ reply_bytes order.uniqu
 -- An order gets the replies of the lock directory, or is refused for want of memory. A message that is no order gets
 -- its error or nothing, and after the reply to a DESTROY nothing comes.
 abbrev pub after_init : Session → Bool → ℕ → Result Order Refusal → Session
-after_init s refused unique (Ok order) = if refused then with_refusal s order else with_step s order (first_replies (state_after s.lines) order)
+after_init s refused unique (Ok order) =
+    if refused then with_refusal s order else with_step s order (first_replies (state_after s.lines) order)
 after_init s refused unique (Err (Answer e)) = replied s (reply_bytes unique (Err e))
 after_init s refused unique (Err Silent) = s
 after_init s refused unique (Err Destroy) = record (replied s (reply_bytes unique (Ok Done))) { over = true }

@@ -35,9 +35,12 @@ impl<W: Write> Outbox<W> {
     /// Writes the whole reply. An error of a write breaks the outbox, of whatever kind, and so does a write that
     /// takes 0 bytes; nothing else does, which contracts can't say, since they see no failure of a writer.
     pub fn send(&mut self, reply: &[u8]) -> Result<(), Broken>
-        ensures whole { OnOk result (Appends (W.contents (writer_of self.old)) (W.contents (writer_of self.new)) reply.now) }
-        ensures part { OnErr result (is_broken self.old ≡ false → IsPartSent (W.contents (writer_of self.old)) (W.contents (writer_of self.new)) reply.now) }
-        ensures nothing { is_broken self.old ≡ true → Keeps (W.contents (writer_of self.old)) (W.contents (writer_of self.new)) }
+        ensures whole { OnOk result
+            (Appends (W.contents (writer_of self.old)) (W.contents (writer_of self.new)) reply.now) }
+        ensures part { OnErr result (is_broken self.old ≡ false
+            → IsPartSent (W.contents (writer_of self.old)) (W.contents (writer_of self.new)) reply.now) }
+        ensures nothing { is_broken self.old ≡ true
+            → Keeps (W.contents (writer_of self.old)) (W.contents (writer_of self.new)) }
         ensures refuses { is_broken self.old ≡ true → IsErr result }
         ensures broken { IsErr result ↔ (is_broken self.new ≡ true) }
     {
@@ -51,7 +54,8 @@ impl<W: Write> Outbox<&mut W> {
     /// Sends to a writer that is lent, and holds it still.
     pub(crate) fn post(&mut self, reply: &[u8])
         ensures same { self.new.writer.ghost_name ≡ self.old.writer.ghost_name }
-        ensures sent { IsSentBy (W.contents self.old.writer.now) (W.contents self.new.writer.now) self.old.broken self.new.broken reply.now }
+        ensures sent { IsSentBy (W.contents self.old.writer.now) (W.contents self.new.writer.now)
+            self.old.broken self.new.broken reply.now }
     {
         let broken = self.broken;
         self.broken = send_on(self.writer, broken, reply);

@@ -111,7 +111,8 @@ fn run<R: Read, W: Write>(
 ) -> (Server, Option<Fault>, bool)
     requires size { length buffer.old ≡ 8192 }
     requires fresh { IsFresh server }
-    ensures { HasEnded (R.remaining r.old) (R.remaining r.new) (W.contents w.old) (W.contents w.new) result.2 result.0 result.1 }
+    ensures { HasEnded (R.remaining r.old) (R.remaining r.new) (W.contents w.old) (W.contents w.new)
+        result.2 result.0 result.1 }
 {
     let mut mail = Mail {
         reply: &mut reply,

@@ -8,7 +8,8 @@ use Rattle.byteorder.specs.Endian.{little_from}
 use Rattle.byteorder.specs.Numbers.{little_from-take}
 use Rattle.hex.specs.Hex.{encode_lower}
 use Rattle.fl_wire.specs.Layout.{len_of, number_at}
-use Rattle.lockd_commands.specs.Bytes.{IsSession, AreReplies}
+use Rattle.lockd_commands.specs.Bytes.{IsSession}
+use Rattle.lockd_commands.specs.Bytes.Inside.{AreReplies}
 use Rattle.lockd_commands.specs.Hex.{hex_lines}
 use Rattle.fl_serve.specs.Served.{IsServed}
 use Rattle.fl_wire.specs.Spell.{IsReply}
@@ -18,7 +19,8 @@ use Rattle.fl_serve.specs.Session.{session_of}
 -- the length stands in the first four bytes
 len-append : (xs ys : List ℕ) → 4 ≤ length xs → len_of (xs ++ ys) ≡ len_of xs
 unfolding number_at
-len-append xs ys long = sym (little_from-take 0 4 (length xs) (xs ++ ys) long) ∙ ap (little_from 0 4) (take_at xs ys (length xs) refl)
+len-append xs ys long = sym (little_from-take 0 4 (length xs) (xs ++ ys) long)
+    ∙ ap (little_from 0 4) (take_at xs ys (length xs) refl)
 
 -- the first of the replies were told as lines, and the bytes of the others are left
 pub record IsToldSoFar (replies : List (List ℕ)) (rest lines : List ℕ) : Type 0 where
@@ -37,11 +39,14 @@ record IsFirst (reply later first after : List ℕ) : Type 0 where
 first_is : (reply later first after : List ℕ) → IsReply reply → first ++ after ≡ reply ++ later
     → length first ≡ len_of (first ++ after) → IsFirst reply later first after
 first_is reply later first after is same said =
-    let own : len_of (first ++ after) ≡ len_of reply = ap len_of same ∙ len-append reply later (omega (arith, is.header)) in
+    let own : len_of (first ++ after) ≡ len_of reply = ap len_of same
+    ∙ len-append reply later (omega (arith, is.header)) in
     let long : length reply ≡ length first = sym (said ∙ own ∙ is.whole) in
     record {
-      reply_is = sym (take_at first after (length first) refl) ∙ ap (take (length first)) same ∙ take_at reply later (length first) long;
-      rest_is = sym (drop_at first after (length first) refl) ∙ ap (drop (length first)) same ∙ drop_at reply later (length first) long;
+      reply_is = sym (take_at first after (length first) refl) ∙ ap (take (length first)) same
+          ∙ take_at reply later (length first) long;
+      rest_is = sym (drop_at first after (length first) refl) ∙ ap (drop (length first)) same
+          ∙ drop_at reply later (length first) long;
     }
 
 -- one reply more is told
@@ -49,10 +54,13 @@ line_more : (told : List (List ℕ)) (reply lines : List ℕ) → lines ≡ hex_
     → lines ++ (encode_lower reply ++ 10 ∷ []) ≡ hex_lines (told ++ reply ∷ [])
 line_more told reply lines e =
     let F : List ℕ → List ℕ = λ reply. encode_lower reply ++ 10 ∷ [] in
-    ap (λ l. l ++ F reply) e ∙ ap (λ l. hex_lines told ++ l) (sym (append-nil (F reply))) ∙ sym (flat_map-append F told (reply ∷ []))
+    ap (λ l. l ++ F reply) e ∙ ap (λ l. hex_lines told ++ l) (sym (append-nil (F reply)))
+    ∙ sym (flat_map-append F told (reply ∷ []))
 
-told_by : (replies : List (List ℕ)) (first after lines : List ℕ) (told untold : List (List ℕ)) → replies ≡ told ++ untold
-    → first ++ after ≡ concat untold → All IsReply untold → lines ≡ hex_lines told → length first ≡ len_of (first ++ after)
+told_by : (replies : List (List ℕ)) (first after lines : List ℕ) (told untold : List (List ℕ))
+    → replies ≡ told ++ untold
+    → first ++ after ≡ concat untold → All IsReply untold → lines ≡ hex_lines told
+    → length first ≡ len_of (first ++ after)
     → 0 < length first → IsToldSoFar replies after (lines ++ (encode_lower first ++ 10 ∷ []))
 told_by replies first after lines told [] parts left framed e said some =
     let none = ap length left in absurd (omega (arith, length-append first after))
@@ -69,27 +77,38 @@ told_by replies first after lines told (reply ∷ untold) parts left framed e sa
 
 -- so far, of the replies that these bytes are
 abbrev pub TellsSoFar : List ℕ → List ℕ → List ℕ → Type 0
-TellsSoFar sent rest lines = (replies : List (List ℕ)) → All IsReply replies → sent ≡ concat replies → IsToldSoFar replies rest lines
+TellsSoFar sent rest lines = (replies : List (List ℕ)) → All IsReply replies → sent ≡ concat replies
+    → IsToldSoFar replies rest lines
 
 pub tells_nothing : (sent : List ℕ) → TellsSoFar sent sent []
-tells_nothing sent replies framed e = record { told = []; untold = replies; parts = refl; left = e; framed = framed; lines_are = refl }
+tells_nothing sent replies framed e = record {
+  told = [];
+  untold = replies;
+  parts = refl;
+  left = e;
+  framed = framed;
+  lines_are = refl;
+}
 
 pub tells_more : (sent rest first after lines : List ℕ) → TellsSoFar sent rest lines → rest ≡ first ++ after
     → length first ≡ len_of rest → 0 < length first → TellsSoFar sent after (lines ++ (encode_lower first ++ 10 ∷ []))
 tells_more sent rest first after lines so_far parts said some replies framed e =
     let t = so_far replies framed e in
-    told_by replies first after lines t.told t.untold t.parts (sym parts ∙ t.left) t.framed t.lines_are (said ∙ ap len_of parts) some
+    told_by replies first after lines t.told t.untold t.parts (sym parts ∙ t.left) t.framed t.lines_are
+    (said ∙ ap len_of parts) some
 
 -- a reply stands first in what is left, and it is whole
 pub record IsNext (rest : List ℕ) : Type 0 where
   pub header : 16 ≤ len_of rest
   pub whole : len_of rest ≤ length rest
 
-next_of : (rest : List ℕ) (untold : List (List ℕ)) → rest ≡ concat untold → All IsReply untold → 0 < length rest → IsNext rest
+next_of : (rest : List ℕ) (untold : List (List ℕ)) → rest ≡ concat untold → All IsReply untold → 0 < length rest
+    → IsNext rest
 next_of rest [] left framed some = let none = ap length left in absurd (omega arith)
 next_of rest (reply ∷ untold) left framed some =
     let is = All-head IsReply reply untold framed in
-    let own : len_of rest ≡ length reply = ap len_of left ∙ len-append reply (concat untold) (omega (arith, is.header)) ∙ is.whole in
+    let own : len_of rest ≡ length reply = ap len_of left
+    ∙ len-append reply (concat untold) (omega (arith, is.header)) ∙ is.whole in
     let long = ap length left in
     record {
       header = omega (arith, is.header, own);
@@ -113,7 +132,8 @@ pub tells_all : (sent rest lines : List ℕ) → TellsSoFar sent rest lines → 
     → All IsReply replies → sent ≡ concat replies → lines ≡ hex_lines replies
 tells_all sent [] lines so_far none replies framed e =
     let t = so_far replies framed e in
-    let all : replies ≡ t.told = t.parts ∙ ap (λ l. t.told ++ l) (untold_none t.untold t.left t.framed) ∙ append-nil t.told in
+    let all : replies ≡ t.told = t.parts ∙ ap (λ l. t.told ++ l) (untold_none t.untold t.left t.framed)
+    ∙ append-nil t.told in
     t.lines_are ∙ ap hex_lines (sym all)
 tells_all sent (c ∷ rest) lines so_far none replies framed e = absurd (omega arith)
 
@@ -123,25 +143,35 @@ pub record Held (stream unread empty held : List ℕ) (broken : Bool) (done : Do
   pub whole : broken ≡ false
   pub served : IsServed (Some stream) (Some unread) (Some empty) (Some held) broken done
 
-served_whole : (stream unread empty held : List ℕ) (broken : Bool) (done : Done) → Held stream unread empty held broken done
+served_whole : (stream unread empty held : List ℕ) (broken : Bool) (done : Done)
+    → Held stream unread empty held broken done
     → IsServed (Some stream) (Some unread) (Some []) (Some held) false done
 served_whole stream unread empty held broken done h =
     let P : Bool → Type 0 = λ b. IsServed (Some stream) (Some unread) (Some empty) (Some held) b done in
     let Q : List ℕ → Type 0 = λ old. IsServed (Some stream) (Some unread) (Some old) (Some held) false done in
     subst Q h.none (subst P h.whole h.served)
 
-held_is : (stream unread held : List ℕ) (done : Done) (served : IsServed (Some stream) (Some unread) (Some []) (Some held) false done)
+held_is : (stream unread held : List ℕ) (done : Done) (served : IsServed (Some stream) (Some unread) (Some [])
+    (Some held) false done)
     → held ≡ concat (session_of served.came).replies
 held_is stream unread held done served = served.written ∙ served.are_sent
 
-pub held_replies : (stream unread empty held slice : List ℕ) (broken : Bool) (done : Done) → slice ≡ held → Held stream unread empty held broken done
+pub held_replies : (stream unread empty held slice : List ℕ) (broken : Bool) (done : Done) → slice ≡ held
+    → Held stream unread empty held broken done
     → AreReplies slice
 held_replies stream unread empty held slice broken done same h =
     let served = served_whole stream unread empty held broken done h in
-    record { replies = (session_of served.came).replies; framed = served.framed; is = same ∙ held_is stream unread held done served }
+    record {
+      replies = (session_of served.came).replies;
+      framed = served.framed;
+      is = same
+          ∙ held_is stream unread held done served;
+    }
 
-pub session_of_vector : (stream unread empty held slice lines : List ℕ) (broken : Bool) (done : Done) → slice ≡ held → Held stream unread empty held broken done
-    → ((replies : List (List ℕ)) → All IsReply replies → slice ≡ concat replies → lines ≡ hex_lines replies) → IsSession stream lines done.fault
+pub session_of_vector : (stream unread empty held slice lines : List ℕ) (broken : Bool) (done : Done) → slice ≡ held
+    → Held stream unread empty held broken done
+    → ((replies : List (List ℕ)) → All IsReply replies → slice ≡ concat replies → lines ≡ hex_lines replies)
+    → IsSession stream lines done.fault
 session_of_vector stream unread empty held slice lines broken done same h tells =
     let served = served_whole stream unread empty held broken done h in
     record {

@@ -1,4 +1,5 @@
 -- A session from bytes to bytes: what came of a text of hex lines.
+pub mod Inside
 use Rattle.std.specs.Prelude.{◌≡◌, ℕ, false, List, [], All, Option, Some, None, IfSome, IsOk, Result, Ok, Err, ⊤}
 use Rattle.std.specs.List.{concat}
 use Rattle.std.specs.Io.KnownBytes.{Appends, Keeps}
@@ -6,38 +7,23 @@ use Rattle.lockd_commands.specs.Hex.{hex_stream, hex_lines}
 use Rattle.fl_serve.specs.Served.{IsServed}
 use Rattle.fl_wire.specs.Spell.{IsReply}
 use Rattle.fl_serve.specs.Session.{session_of}
-use Rattle.lockd_commands.specs.declared.fault.Fault.{Fault as CommandFault}
-use Rattle.lockd_commands.specs.declared.fault.Fault.TheVariants.{BadLine, NoMemory as NoRoom, Read as CannotRead, Write as CannotWrite, Cut as CutShort, BadLength as WrongLength}
+use Rattle.lockd_commands.specs.declared.fault.Fault.{Fault}
+use Rattle.lockd_commands.specs.declared.fault.Fault.TheVariants as command
 use Rattle.fl_serve.specs.declared.session.Done.{Done}
-use Rattle.fl_serve.specs.declared.session.Fault.{Fault}
-use Rattle.fl_serve.specs.declared.session.Fault.TheVariants.{Cut, BadLength, Read, Write, NoMemory}
+use Rattle.fl_serve.specs.declared.session.Fault.{Fault as SessionFault}
+use Rattle.fl_serve.specs.declared.session.Fault.TheVariants as session
 
 -- a session's fault as a command tells it
-abbrev pub fault_of : Fault → CommandFault
-fault_of Cut = CutShort
-fault_of (BadLength n) = WrongLength n
-fault_of Read = CannotRead
-fault_of Write = CannotWrite
-fault_of NoMemory = NoRoom
-
--- what a fault says of a text of hex lines
-abbrev pub TextSays : List ℕ → CommandFault → Type 0
-TextSays text (BadLine n) = hex_stream text ≡ Err n
-TextSays text NoRoom = ⊤
-TextSays text CannotRead = ⊥
-TextSays text CannotWrite = ⊥
-TextSays text CutShort = ⊥
-TextSays text (WrongLength n) = ⊥
-
--- these bytes are whole replies, one after another
-pub record AreReplies (bytes : List ℕ) : Type 0 where
-  pub replies : List (List ℕ)
-  pub framed : All IsReply replies
-  pub is : bytes ≡ concat replies
+abbrev pub fault_of : SessionFault → Fault
+fault_of session.Cut = command.Cut
+fault_of (session.BadLength n) = command.BadLength n
+fault_of session.Read = command.Read
+fault_of session.Write = command.Write
+fault_of session.NoMemory = command.NoMemory
 
 -- A session over this stream, no write of which failed and whose fault is this one, and the lines that are printed for
 -- it: one for each of its replies.
-pub record IsSession (stream lines : List ℕ) (fault : Option Fault) : Type 0 where
+pub record IsSession (stream lines : List ℕ) (fault : Option SessionFault) : Type 0 where
   pub done : Done
   pub unread : List ℕ
   pub sent : List ℕ
@@ -46,7 +32,7 @@ pub record IsSession (stream lines : List ℕ) (fault : Option Fault) : Type 0 w
   pub printed : lines ≡ hex_lines (session_of served.came).replies
 
 -- The input is hex lines, and what a session over their bytes gives was printed.
-pub record IsPrinted (left old new : Option (List ℕ)) (fault : Option Fault) : Type 0 where
+pub record IsPrinted (left old new : Option (List ℕ)) (fault : Option SessionFault) : Type 0 where
   pub text : List ℕ
   pub stream : List ℕ
   pub lines : List ℕ
@@ -54,21 +40,3 @@ pub record IsPrinted (left old new : Option (List ℕ)) (fault : Option Fault) :
   pub spelled : hex_stream text ≡ Ok stream
   pub session : IsSession stream lines fault
   pub written : Appends old new lines
-
--- What was done, by how the command ended: only after a session is anything printed.
-abbrev pub Did : Option (List ℕ) → Option (List ℕ) → Option (List ℕ) → Result Unit CommandFault → Type 0
-Did left old new (Ok done) = IsPrinted left old new None
-Did left old new (Err CutShort) = IsPrinted left old new (Some Cut)
-Did left old new (Err (WrongLength n)) = IsPrinted left old new (Some (BadLength n))
-Did left old new (Err (BadLine n)) = IfSome left (λ text. hex_stream text ≡ Err n) × Keeps old new
-Did left old new (Err NoRoom) = Keeps old new
-Did left old new (Err CannotRead) = Keeps old new
-Did left old new (Err CannotWrite) = IfSome left (λ text. IsOk (hex_stream text))
-
--- a fault of a stream, and not of what reads or writes it
-abbrev pub IsOfStream : Fault → Type 0
-IsOfStream Cut = ⊤
-IsOfStream (BadLength n) = ⊤
-IsOfStream Read = ⊥
-IsOfStream Write = ⊥
-IsOfStream NoMemory = ⊥

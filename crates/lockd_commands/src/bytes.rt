@@ -1,9 +1,10 @@
 ghost use Rattle.std.specs.Prelude.{◌≡◌, ◌≢◌, ◌⊎◌, ℕ, None, Some, Err, IfSome, IfOk, IfErr};
 ghost use Rattle.std.specs.Io.KnownBytes.{Keeps};
-ghost use Rattle.lockd_commands.specs.Bytes.{Did, IsOfStream, IsPrinted, IsSession};
+ghost use Rattle.lockd_commands.specs.Bytes.{IsPrinted, IsSession};
+ghost use Rattle.lockd_commands.specs.Bytes.Inside.{Did, IsOfStream};
 ghost use Rattle.lockd_commands.specs.Hex.{hex_stream};
 ghost use Rattle.lockd_commands.specs.declared.fault.Fault.{Fault};
-ghost use Rattle.fl_serve.specs.declared.session.Fault.{Fault as Told};
+ghost use Rattle.fl_serve.specs.declared.session.Fault.{Fault as SessionFault};
 
 use crate::fault::Fault;
 use crate::status::Status;
@@ -26,16 +27,24 @@ pub fn bytes_on<R: Read, W: Write, F: Write>(
     output: &mut W,
     faults: &mut F,
 ) -> Status
-    ensures good { result ≡ Status.Good → IsPrinted (R.remaining input.old) (W.contents output.old) (W.contents output.new) None }
-    ensures cut { result ≡ Status.Faulted Fault.Cut → IsPrinted (R.remaining input.old) (W.contents output.old) (W.contents output.new) (Some Told.Cut) }
-    ensures bad_length { (n : ℕ) → result ≡ Status.Faulted (Fault.BadLength n) → IsPrinted (R.remaining input.old) (W.contents output.old) (W.contents output.new) (Some (Told.BadLength n)) }
+    ensures good { result ≡ Status.Good
+        → IsPrinted (R.remaining input.old) (W.contents output.old) (W.contents output.new) None }
+    ensures cut { result ≡ Status.Faulted Fault.Cut
+        → IsPrinted (R.remaining input.old) (W.contents output.old) (W.contents output.new) (Some SessionFault.Cut) }
+    ensures bad_length { (n : ℕ) → result ≡ Status.Faulted (Fault.BadLength n)
+        → IsPrinted (R.remaining input.old) (W.contents output.old) (W.contents output.new) (Some (SessionFault.BadLength n)) }
 
     // A bad line is told, and nothing else is.
-    ensures bad { (n : ℕ) → result ≡ Status.Faulted (Fault.BadLine n) → IfSome (R.remaining input.old) (λ text. hex_stream text ≡ Err n) }
-    ensures told { (n : ℕ) → IfSome (R.remaining input.old) (λ text. hex_stream text ≡ Err n → (result ≡ Status.Faulted (Fault.BadLine n)) ⊎ ((result ≡ Status.Faulted Fault.NoMemory) ⊎ (result ≡ Status.Faulted Fault.Read))) }
+    ensures bad { (n : ℕ) → result ≡ Status.Faulted (Fault.BadLine n)
+        → IfSome (R.remaining input.old) (λ text. hex_stream text ≡ Err n) }
+    ensures told { (n : ℕ) → IfSome (R.remaining input.old) (λ text. hex_stream text ≡ Err n
+        → (result ≡ Status.Faulted (Fault.BadLine n))
+        ⊎ ((result ≡ Status.Faulted Fault.NoMemory) ⊎ (result ≡ Status.Faulted Fault.Read))) }
 
     // Only these faults leave anything on the output.
-    ensures kept { (fault : Fault) → result ≡ Status.Faulted fault → fault ≢ Fault.Write → fault ≢ Fault.Cut → ((n : ℕ) → fault ≢ Fault.BadLength n) → Keeps (W.contents output.old) (W.contents output.new) }
+    ensures kept { (fault : Fault) → result ≡ Status.Faulted fault
+        → fault ≢ Fault.Write → fault ≢ Fault.Cut → ((n : ℕ) → fault ≢ Fault.BadLength n)
+        → Keeps (W.contents output.old) (W.contents output.new) }
     ensures quiet { result ≡ Status.Good → Keeps (F.contents faults.old) (F.contents faults.new) }
 {
     match bytes(alloc, input, output) {

@@ -20,7 +20,13 @@ bytes_of Replies tolds = map spelling_of tolds
 -- the session that a server keeps, and that got these replies
 abbrev pub session_with : Server → List (List ℕ) → Session
 session_with server replies =
-    record { agreed = server.agreed; over = server.over; replies = replies; lines = server.desk.lines; refused = server.refused }
+    record {
+      agreed = server.agreed;
+      over = server.over;
+      replies = replies;
+      lines = server.desk.lines;
+      refused = server.refused;
+    }
 
 -- no message came yet
 pub record IsFresh (server : Server) : Type 0 where
@@ -32,9 +38,11 @@ pub record IsFresh (server : Server) : Type 0 where
 -- a message is answered, whatever was answered before
 pub record IsMet (old new : Server) (owed : List (List ℕ)) (message : List ℕ) : Type 0 where
   pub refused : Bool
-  pub is : (replies : List (List ℕ)) → session_with new (replies ++ owed) ≡ with_message (session_with old replies) (record { message = message; refused = refused })
+  pub is : (replies : List (List ℕ)) → session_with new (replies ++ owed)
+      ≡ with_message (session_with old replies) (record { message = message; refused = refused })
 
 -- the same of a message that says this, after an INIT is agreed
 pub record IsMetAs (old new : Server) (owed : List (List ℕ)) (unique : ℕ) (says : Result Order Refusal) : Type 0 where
   pub refused : Bool
-  pub is : (replies : List (List ℕ)) → session_with new (replies ++ owed) ≡ after_init (session_with old replies) refused unique says
+  pub is : (replies : List (List ℕ)) → session_with new (replies ++ owed)
+      ≡ after_init (session_with old replies) refused unique says

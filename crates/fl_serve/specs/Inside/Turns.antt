@@ -11,30 +11,36 @@ use Rattle.fl_serve.specs.declared.session.reading.Turn.TheVariants.{More, End}
 use Rattle.fl_serve.specs.declared.session.server.Server.{Server}
 
 -- the front of the buffer is a beginning of a message, and nothing is left to answer
-pub record IsWaiting (left left_now held held_now : Option (List ℕ)) (broken : Bool) (server : Server) (buffer : List ℕ) (filled : ℕ) : Type 0 where
+pub record IsWaiting (left left_now held held_now : Option (List ℕ)) (broken : Bool) (server : Server)
+    (buffer : List ℕ) (filled : ℕ) : Type 0 where
   pub more : first_step (take filled buffer) ≡ step.More
   pub way : IsUnderWay left left_now held held_now broken server (take filled buffer)
 
 -- how the reader's part of a session ended, after this rest and with these bytes left
 abbrev pub IsEnding : Option Fault → Server → List ℕ → Option (List ℕ) → Type 0
 IsEnding None server rest left = (server.over ≡ true) ⊎ ((rest ≡ []) × IsAtEnd left)
-IsEnding (Some Cut) server rest left = (server.over ≡ false) × (0 < length rest) × (first_step rest ≡ step.More) × IsAtEnd left
+IsEnding (Some Cut) server rest left =
+    (server.over ≡ false) × (0 < length rest) × (first_step rest ≡ step.More) × IsAtEnd left
 IsEnding (Some (BadLength n)) server rest left = (server.over ≡ false) × (first_step rest ≡ step.Bad n)
 IsEnding (Some Read) server rest left = (server.over ≡ false) × (first_step rest ≡ step.More)
 IsEnding (Some Write) server rest left = ⊥
 IsEnding (Some NoMemory) server rest left = ⊥
 
 -- the session ended, with this fault of its reader
-pub record HasEnded (left left_now held held_now : Option (List ℕ)) (broken : Bool) (server : Server) (fault : Option Fault) : Type 0 where
+pub record HasEnded (left left_now held held_now : Option (List ℕ)) (broken : Bool) (server : Server)
+    (fault : Option Fault) : Type 0 where
   pub rest : List ℕ
   pub bounded : length rest ≤ 8192
   pub way : IsUnderWay left left_now held held_now broken server rest
   pub ending : IsEnding fault server rest left_now
 
 -- the session waits for more, or it ended
-abbrev pub HasTurned : Turn → Option (List ℕ) → Option (List ℕ) → Option (List ℕ) → Option (List ℕ) → Bool → Server → List ℕ → Type 0
-HasTurned (More filled) left left_now held held_now broken server buffer = IsWaiting left left_now held held_now broken server buffer filled
-HasTurned (End fault) left left_now held held_now broken server buffer = HasEnded left left_now held held_now broken server fault
+abbrev pub HasTurned : Turn → Option (List ℕ) → Option (List ℕ) → Option (List ℕ) → Option (List ℕ) → Bool → Server
+    → List ℕ → Type 0
+HasTurned (More filled) left left_now held held_now broken server buffer =
+    IsWaiting left left_now held held_now broken server buffer filled
+HasTurned (End fault) left left_now held held_now broken server buffer =
+    HasEnded left left_now held held_now broken server fault
 
 -- where more has to come, the session isn't over
 abbrev pub Fits : Turn → Server → List ℕ → Type 0

@@ -13,7 +13,8 @@ use Rattle.fl_serve.specs.declared.session.server.Server.{Server}
 
 -- What was read is whole messages and a rest, the server stands where the session of these messages stands, and what
 -- was written is a beginning of its replies.
-pub record IsUnderWay (left left_now held held_now : Option (List ℕ)) (broken : Bool) (server : Server) (rest : List ℕ) : Type 0 where
+pub record IsUnderWay (left left_now held held_now : Option (List ℕ)) (broken : Bool) (server : Server)
+    (rest : List ℕ) : Type 0 where
   pub came : List Came
   pub read : List ℕ
   pub consumed : Consumes left left_now read
@@ -23,14 +24,17 @@ pub record IsUnderWay (left left_now held held_now : Option (List ℕ)) (broken 
   pub sending : IsSending held held_now broken (session_of came).replies
 
 -- a message is met, and its replies are sent
-pub record IsAnswered (old new : Server) (held held_now : Option (List ℕ)) (broken broken_now : Bool) (message : List ℕ) : Type 0 where
+pub record IsAnswered (old new : Server) (held held_now : Option (List ℕ)) (broken broken_now : Bool)
+    (message : List ℕ) : Type 0 where
   pub owed : List (List ℕ)
   pub met : IsMet old new owed message
   pub sent : Sends held held_now broken broken_now owed
 
 -- the session goes on from this rest to that one, and reads nothing
-pub record Answers (old new : Server) (held held_now : Option (List ℕ)) (broken broken_now : Bool) (rest rest_now : List ℕ) : Type 0 where
-  pub onward : (left left_now start : Option (List ℕ)) → IsUnderWay left left_now start held broken old rest → IsUnderWay left left_now start held_now broken_now new rest_now
+pub record Answers (old new : Server) (held held_now : Option (List ℕ)) (broken broken_now : Bool)
+    (rest rest_now : List ℕ) : Type 0 where
+  pub onward : (left left_now start : Option (List ℕ)) → IsUnderWay left left_now start held broken old rest
+      → IsUnderWay left left_now start held_now broken_now new rest_now
 
 -- what stands after the messages that were answered
 abbrev pub IsStop : Stop → Server → List ℕ → Type 0

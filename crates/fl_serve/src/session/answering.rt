@@ -29,7 +29,9 @@ pub(crate) fn answer_all<W: Write>(
     requires { server.old.over ≡ false }
     ensures same { mail.new.out.writer.ghost_name ≡ mail.old.out.writer.ghost_name }
     ensures within { result.0 ≤ length bytes.now }
-    ensures answered { Answers server.old server.new (W.contents mail.old.out.writer.now) (W.contents mail.new.out.writer.now) mail.old.out.broken mail.new.out.broken bytes.now (drop result.0 bytes.now) }
+    ensures answered { Answers server.old server.new
+        (W.contents mail.old.out.writer.now) (W.contents mail.new.out.writer.now)
+        mail.old.out.broken mail.new.out.broken bytes.now (drop result.0 bytes.now) }
     ensures stop { IsStop result.1 server.new (drop result.0 bytes.now) }
 {
     let mut at = 0;
@@ -50,7 +52,9 @@ pub(crate) fn answer_all<W: Write>(
 fn answer<W: Write>(server: &mut Server, mail: &mut Mail<'_, W>, frame: &Frame)
     requires { server.old.over ≡ false }
     ensures same { mail.new.out.writer.ghost_name ≡ mail.old.out.writer.ghost_name }
-    ensures answered { IsAnswered server.old server.new (W.contents mail.old.out.writer.now) (W.contents mail.new.out.writer.now) mail.old.out.broken mail.new.out.broken frame.now }
+    ensures answered { IsAnswered server.old server.new
+        (W.contents mail.old.out.writer.now) (W.contents mail.new.out.writer.now)
+        mail.old.out.broken mail.new.out.broken frame.now }
 {
     let owed = server.meet(frame);
     mail.send(&owed, server.tolds.as_slice());

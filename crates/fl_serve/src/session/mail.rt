@@ -79,7 +79,8 @@ impl<W: Write> Mail<'_, W> {
     /// Sends what is owed, each reply by itself.
     pub(crate) fn send(&mut self, owed: &Owed, tolds: &[Told])
         ensures same { self.new.out.writer.ghost_name ≡ self.old.out.writer.ghost_name }
-        ensures sent { Sends (W.contents self.old.out.writer.now) (W.contents self.new.out.writer.now) self.old.out.broken self.new.out.broken (bytes_of owed.now tolds.now) }
+        ensures sent { Sends (W.contents self.old.out.writer.now) (W.contents self.new.out.writer.now)
+            self.old.out.broken self.new.out.broken (bytes_of owed.now tolds.now) }
     {
         match owed {
             Owed::Nothing => {}
@@ -91,7 +92,8 @@ impl<W: Write> Mail<'_, W> {
 
     fn send_init(&mut self, unique: u64, step: &InitStep)
         ensures same { self.new.out.writer.ghost_name ≡ self.old.out.writer.ghost_name }
-        ensures sent { Sends (W.contents self.old.out.writer.now) (W.contents self.new.out.writer.now) self.old.out.broken self.new.out.broken (init_spelling unique step.now ∷ []) }
+        ensures sent { Sends (W.contents self.old.out.writer.now) (W.contents self.new.out.writer.now)
+            self.old.out.broken self.new.out.broken (init_spelling unique step.now ∷ []) }
     {
         self.reply.lay_out_init(unique, step);
         self.out.post(self.reply.as_slice());
@@ -99,7 +101,8 @@ impl<W: Write> Mail<'_, W> {
 
     fn send_one(&mut self, told: &Told)
         ensures same { self.new.out.writer.ghost_name ≡ self.old.out.writer.ghost_name }
-        ensures sent { Sends (W.contents self.old.out.writer.now) (W.contents self.new.out.writer.now) self.old.out.broken self.new.out.broken (spelling_of told.now ∷ []) }
+        ensures sent { Sends (W.contents self.old.out.writer.now) (W.contents self.new.out.writer.now)
+            self.old.out.broken self.new.out.broken (spelling_of told.now ∷ []) }
     {
         self.reply.lay_out(told);
         self.out.post(self.reply.as_slice());
@@ -107,7 +110,8 @@ impl<W: Write> Mail<'_, W> {
 
     fn send_all(&mut self, tolds: &[Told])
         ensures same { self.new.out.writer.ghost_name ≡ self.old.out.writer.ghost_name }
-        ensures sent { Sends (W.contents self.old.out.writer.now) (W.contents self.new.out.writer.now) self.old.out.broken self.new.out.broken (map spelling_of tolds.now) }
+        ensures sent { Sends (W.contents self.old.out.writer.now) (W.contents self.new.out.writer.now)
+            self.old.out.broken self.new.out.broken (map spelling_of tolds.now) }
     {
         for told in tolds {
             self.send_one(told);

@@ -33,7 +33,9 @@ pub(crate) fn read_and_answer<R: Read, W: Write>(
     requires fresh { IsFresh server.old }
     requires whole { mail.old.out.broken ≡ false }
     ensures same { mail.new.out.writer.ghost_name ≡ mail.old.out.writer.ghost_name }
-    ensures ended { HasEnded (R.remaining r.old) (R.remaining r.new) (W.contents mail.old.out.writer.now) (W.contents mail.new.out.writer.now) mail.new.out.broken server.new result }
+    ensures ended { HasEnded (R.remaining r.old) (R.remaining r.new)
+        (W.contents mail.old.out.writer.now) (W.contents mail.new.out.writer.now)
+        mail.new.out.broken server.new result }
 {
     let mut filled = 0;
     for _ in 0..u64::MAX {
@@ -58,8 +60,11 @@ fn read_once<R: Read, W: Write>(
     requires live { server.old.over ≡ false }
     ensures same { mail.new.out.writer.ghost_name ≡ mail.old.out.writer.ghost_name }
     ensures fits { Fits result server.new buffer.new }
-    ensures turned { (left start : Option (List ℕ)) → IsWaiting left (R.remaining r.old) start (W.contents mail.old.out.writer.now) mail.old.out.broken server.old buffer.old filled
-        → HasTurned result left (R.remaining r.new) start (W.contents mail.new.out.writer.now) mail.new.out.broken server.new buffer.new }
+    ensures turned { (left start : Option (List ℕ))
+        → IsWaiting left (R.remaining r.old) start (W.contents mail.old.out.writer.now)
+        mail.old.out.broken server.old buffer.old filled
+        → HasTurned result left (R.remaining r.new) start (W.contents mail.new.out.writer.now)
+        mail.new.out.broken server.new buffer.new }
 {
     match read_behind(r, buffer, filled) {
         Ok(0) if filled == 0 => Turn::End(None),
@@ -74,7 +79,8 @@ fn read_behind<R: Read>(r: &mut R, buffer: &mut [u8], filled: usize) -> io::Resu
     requires { filled ≤ length buffer.old }
     ensures front { take filled buffer.new ≡ take filled buffer.old }
     ensures within { IfOk result (λ n. filled + n ≤ length buffer.new) }
-    ensures read { IfOk result (λ n. Consumes (R.remaining r.old) (R.remaining r.new) (take n (drop filled buffer.new))) }
+    ensures read { IfOk result (λ n.
+        Consumes (R.remaining r.old) (R.remaining r.new) (take n (drop filled buffer.new))) }
     ensures end { IfOk result (λ n. n ≡ 0 → filled < length buffer.new → IsAtEnd (R.remaining r.new)) }
     ensures failed { OnErr result (Keeps (R.remaining r.old) (R.remaining r.new)) }
 {
@@ -93,8 +99,11 @@ fn answer_read<W: Write>(
     requires live { server.old.over ≡ false }
     ensures same { mail.new.out.writer.ghost_name ≡ mail.old.out.writer.ghost_name }
     ensures fits { Fits result server.new buffer.new }
-    ensures turned { (left left_now start : Option (List ℕ)) → IsUnderWay left left_now start (W.contents mail.old.out.writer.now) mail.old.out.broken server.old (take filled buffer.old)
-        → HasTurned result left left_now start (W.contents mail.new.out.writer.now) mail.new.out.broken server.new buffer.new }
+    ensures turned { (left left_now start : Option (List ℕ))
+        → IsUnderWay left left_now start (W.contents mail.old.out.writer.now)
+        mail.old.out.broken server.old (take filled buffer.old)
+        → HasTurned result left left_now start (W.contents mail.new.out.writer.now)
+        mail.new.out.broken server.new buffer.new }
 {
     let (at, stop) = answer_all(server, mail, &buffer[..filled]);
     match stop {

@@ -44,8 +44,8 @@ const CUT_LOCK_REPLIES: &str = "\
 2800000000000000060000000000000028000000000000003b00000000000000020000000c000000\n\
 280000000000000007000000000000003c000000000000006300000000000000010000000b000000\n";
 
-// SETLK of a read lock on bytes 0 to 2^63 - 2, and of one on byte 2^63 - 1, by owner 7, pid 11; GETLK by owner 8 of a write
-// lock on byte 5.
+// SETLK of a read lock on bytes 0 to 2^63 - 2, and of one on byte 2^63 - 1, by owner 7, pid 11; GETLK by owner 8 of a
+// write lock on byte 5.
 const JOINED_LOCKS: &str = "\
 58000000200000000300000000000000020000000000000000000000000000000000000000000000\
 010000000000000007000000000000000000000000000000feffffffffffff7f000000000b000000\
@@ -63,8 +63,8 @@ const JOINED_LOCKS_REPLIES: &str = "\
 10000000000000000400000000000000\n\
 280000000000000005000000000000000000000000000000ffffffffffffff7f000000000b000000\n";
 
-// SETLK of a write lock on bytes 0 to 4 with pid 11, and on bytes 5 to 9 with pid 12, by owner 7; GETLK by owner 8, pid 13,
-// of a write lock on bytes 0 to 9, and of a read lock on bytes 5 to 9.
+// SETLK of a write lock on bytes 0 to 4 with pid 11, and on bytes 5 to 9 with pid 12, by owner 7; GETLK by owner 8,
+// pid 13, of a write lock on bytes 0 to 9, and of a read lock on bytes 5 to 9.
 const TWO_PIDS: &str = "\
 58000000200000000300000000000000020000000000000000000000000000000000000000000000\
 0100000000000000070000000000000000000000000000000400000000000000010000000b000000\

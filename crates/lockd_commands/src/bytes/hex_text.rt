@@ -2,7 +2,7 @@
 ghost use Rattle.std.specs.Prelude.{◌==◌, ◌≡◌, ◌⊎◌, ◌<◌, [], ◌∷◌, length, IsErr, IfSome, IfOk, IfErr};
 ghost use Rattle.std.specs.List.{position_from};
 ghost use Rattle.hex.specs.Hex.{decode_of};
-ghost use Rattle.lockd_commands.specs.Bytes.{TextSays};
+ghost use Rattle.lockd_commands.specs.Bytes.Inside.{TextSays};
 ghost use Rattle.lockd_commands.specs.Hex.{hex_stream, lines_of};
 ghost use Rattle.lockd_commands.specs.declared.fault.Fault.TheVariants.{BadLine, NoMemory};
 
@@ -51,7 +51,8 @@ fn first_newline(text: &[u8]) -> Option<usize>
 // The bytes of the line of this number.
 fn read_line(alloc: Global, line: &[u8], number: usize) -> Result<Vec<u8>, Fault>
     ensures spelled { IfOk result (λ bytes. decode_of line.now ≡ Ok bytes.items) }
-    ensures error { IfErr result (λ fault. (fault ≡ NoMemory) ⊎ ((fault ≡ BadLine number) × IsErr (decode_of line.now))) }
+    ensures error { IfErr result (λ fault. (fault ≡ NoMemory)
+        ⊎ ((fault ≡ BadLine number) × IsErr (decode_of line.now))) }
 {
     match hex::decode(alloc, line) {
         Ok(bytes) => Ok(bytes),

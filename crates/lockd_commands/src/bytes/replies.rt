@@ -4,7 +4,7 @@ ghost use Rattle.std.specs.List.{concat};
 ghost use Rattle.hex.specs.Hex.{encode_lower};
 ghost use Rattle.fl_wire.specs.Spell.{IsReply};
 ghost use Rattle.fl_wire.specs.Layout.{len_of};
-ghost use Rattle.lockd_commands.specs.Bytes.{AreReplies};
+ghost use Rattle.lockd_commands.specs.Bytes.Inside.{AreReplies};
 ghost use Rattle.lockd_commands.specs.Hex.{hex_lines};
 ghost use Rattle.lockd_commands.specs.declared.fault.Fault.TheVariants.{NoMemory};
 

@@ -91,8 +91,8 @@ const UNKNOWN_REPLY: &str = "\
 10000000daffffff0900000000000000\n";
 
 // What Linux 5.4 sends for `open("app.lock", O_RDWR | O_CREAT | O_EXCL, 0644)` and then `fcntl` with `F_SETLK`, first
-// `F_WRLCK` on the first ten bytes and then `F_UNLCK` on them, by process 4242 of user and group 1000, umask 022. Offsets
-// are those in the message.
+// `F_WRLCK` on the first ten bytes and then `F_UNLCK` on them, by process 4242 of user and group 1000, umask 022.
+// Offsets are those in the message.
 //
 // | 0 len | 4 opcode | 8 unique | 16 nodeid | 24 uid | 28 gid | 32 pid | 36 padding |
 // |---|---|---|---|---|---|---|---|
@@ -119,9 +119,9 @@ c2800000a481000012000000000000006170702e6c6f636b00\n\
 0100000000000000c31f5ae97be0d24f000000000000000009000000000000000200000000000000\
 0000000000000000\n";
 
-// The agreement on bits 1 and 10 of the flags. `struct fuse_entry_out`: nodeid 2, generation, entry_valid, attr_valid and
-// their nanoseconds 0; ino 2, size, blocks and times 0, mode 0100644, nlink 1, uid and gid 1000, rdev 0, blksize 4096,
-// padding. `struct fuse_open_out`: fh 1, open_flags 0, padding. Then two replies without a body.
+// The agreement on bits 1 and 10 of the flags. `struct fuse_entry_out`: nodeid 2, generation, entry_valid, attr_valid
+// and their nanoseconds 0; ino 2, size, blocks and times 0, mode 0100644, nlink 1, uid and gid 1000, rdev 0,
+// blksize 4096, padding. `struct fuse_open_out`: fh 1, open_flags 0, padding. Then two replies without a body.
 const LINUX_REPLIES: &str = "\
 50000000000000000200000000000000070000001f000000000002000204000010000c0000100000\
 01000000000000000000000000000000000000000000000000000000000000000000000000000000\n\

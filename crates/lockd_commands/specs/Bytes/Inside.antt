@@ -1,0 +1,44 @@
+-- What the steps of a session from bytes to bytes come to. No contract of a public function cites these definitions.
+use Rattle.std.specs.Prelude.{◌≡◌, ℕ, List, All, Option, Some, None, IfSome, IsOk, Result, Ok, Err, ⊤}
+use Rattle.std.specs.List.{concat}
+use Rattle.std.specs.Io.KnownBytes.{Keeps}
+use Rattle.fl_wire.specs.Spell.{IsReply}
+use Rattle.lockd_commands.specs.Bytes.{IsPrinted}
+use Rattle.lockd_commands.specs.Hex.{hex_stream}
+use Rattle.lockd_commands.specs.declared.fault.Fault.{Fault}
+use Rattle.lockd_commands.specs.declared.fault.Fault.TheVariants as command
+use Rattle.fl_serve.specs.declared.session.Fault.{Fault as SessionFault}
+use Rattle.fl_serve.specs.declared.session.Fault.TheVariants as session
+
+-- what a fault says of a text of hex lines
+abbrev pub TextSays : List ℕ → Fault → Type 0
+TextSays text (command.BadLine n) = hex_stream text ≡ Err n
+TextSays text command.NoMemory = ⊤
+TextSays text command.Read = ⊥
+TextSays text command.Write = ⊥
+TextSays text command.Cut = ⊥
+TextSays text (command.BadLength n) = ⊥
+
+-- these bytes are whole replies, one after another
+pub record AreReplies (bytes : List ℕ) : Type 0 where
+  pub replies : List (List ℕ)
+  pub framed : All IsReply replies
+  pub is : bytes ≡ concat replies
+
+-- What was done, by how the command ended: only after a session is anything printed.
+abbrev pub Did : Option (List ℕ) → Option (List ℕ) → Option (List ℕ) → Result Unit Fault → Type 0
+Did left old new (Ok done) = IsPrinted left old new None
+Did left old new (Err command.Cut) = IsPrinted left old new (Some session.Cut)
+Did left old new (Err (command.BadLength n)) = IsPrinted left old new (Some (session.BadLength n))
+Did left old new (Err (command.BadLine n)) = IfSome left (λ text. hex_stream text ≡ Err n) × Keeps old new
+Did left old new (Err command.NoMemory) = Keeps old new
+Did left old new (Err command.Read) = Keeps old new
+Did left old new (Err command.Write) = IfSome left (λ text. IsOk (hex_stream text))
+
+-- a fault of a stream, and not of what reads or writes it
+abbrev pub IsOfStream : SessionFault → Type 0
+IsOfStream session.Cut = ⊤
+IsOfStream (session.BadLength n) = ⊤
+IsOfStream session.Read = ⊥
+IsOfStream session.Write = ⊥
+IsOfStream session.NoMemory = ⊥
