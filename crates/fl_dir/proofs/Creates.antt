@@ -1,6 +1,5 @@
 -- The directory after a CREATE of a linked name.
 use Rattle.std.proofs.Common.{◌≡◌, ℕ, ◌+◌, Bool, true, false, cond, ◌==◌, Some, Result, Ok, Err, OnOk, OnErr, is_some, option_map, List, ap, sym, ◌∙◌, subst}
-use Rattle.std.specs.Cmp.{nat_cmp_total}
 use Rattle.std.specs.FinMap as map
 use Rattle.fl_wire.specs.declared.errno.Errno.{Errno}
 use Rattle.fl_wire.specs.declared.errno.Errno.TheVariants.{ENFILE}
@@ -9,8 +8,7 @@ use Rattle.fl_wire.specs.declared.told.Answer.TheVariants.{Made}
 use Rattle.fl_wire.specs.declared.told.Attr.{Attr}
 use Rattle.fl_wire.specs.declared.order.Order.{Order}
 use Rattle.fl_dir.specs.declared.node.Node.{Node}
-use Rattle.fl_dir.specs.Directory.{Listing, with_lookups, set_at, looked_up, after_made, after_create, attributes, is_named, linked, files_full, made_node}
-use Rattle.fl_ranges.proofs.Entries.{get_found}
+use Rattle.fl_dir.specs.Directory.{Listing, with_lookups, set_at, looked_up, after_made, after_create, attributes, files_full, made_node}
 
 -- a node that is looked up once more and opened is what the recorded answer says
 after_reopened : (d : Listing) (made node : Node) (number fh : ℕ) → map.get d.nodes number ≡ Some node
@@ -25,14 +23,11 @@ abbrev reopened_at : Listing → ℕ → ℕ → Listing
 reopened_at d number lookups = record d { nodes = with_lookups d.nodes number (lookups + 1); files = map.insert d.files d.next_fh number; next_fh = d.next_fh + 1 }
 
 pub after_create_linked : (d : Listing) (order : Order) (mode : ℕ) (name : List ℕ) (found : ℕ × Node) (attr : Attr) (lookups : ℕ) (reply : Result Answer Errno) (new : Listing)
-    → linked d name ≡ Some found → attr ≡ attributes found.0 found.1 → lookups ≡ found.1.lookups
+    → map.get d.nodes found.0 ≡ Some found.1 → attr ≡ attributes found.0 found.1 → lookups ≡ found.1.lookups
     → reply ≡ cond (lookups == 18446744073709551615) (Err ENFILE) (cond (files_full d) (Err ENFILE) (Ok (Made attr d.next_fh)))
     → OnOk reply (new ≡ reopened_at d attr.node lookups) → OnErr reply (new ≡ d) → new ≡ after_create d order mode name reply
-after_create_linked d order mode name found attr lookups reply new is attr_is lookups_is reply_is ok err = go (lookups == 18446744073709551615) (files_full d) reply_is
+after_create_linked d order mode name found attr lookups reply new there attr_is lookups_is reply_is ok err = go (lookups == 18446744073709551615) (files_full d) reply_is
   where
-    there : map.get d.nodes found.0 ≡ Some found.1
-    there = get_found nat_cmp_total (λ (e : ℕ × Node). is_named e.1.name name) d.nodes found is
-
     unchanged : reply ≡ Err ENFILE → new ≡ after_create d order mode name reply
     unchanged e = subst (λ (r : Result Answer Errno). OnErr r (new ≡ d)) e err ∙ ap (after_create d order mode name) (sym e)
 

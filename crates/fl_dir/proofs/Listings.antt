@@ -1,5 +1,5 @@
 -- Entries in the order of their numbers, as a finite map.
-use Rattle.std.proofs.Common.{◌≡◌, ◌≢◌, ℕ, ◌+◌, ◌<◌, ◌≤◌, Bool, true, false, cond, ◌==◌, nat_le, ◌||◌, ◌&&◌, T, Option, Some, None, is_some, option_map, List, [], ◌∷◌, ◌++◌, length, refl, ap, sym, ◌∙◌, arith}
+use Rattle.std.proofs.Common.{◌≡◌, ◌≢◌, ℕ, ◌+◌, ◌<◌, ◌≤◌, Bool, true, false, cond, ◌==◌, nat_le, ◌||◌, ◌&&◌, T, Option, Some, None, IfSome, is_some, option_map, List, [], ◌∷◌, ◌++◌, length, refl, ap, sym, ◌∙◌, subst, arith}
 use Rattle.std.proofs.lemmas.Bool.Decides.{nat_tests}
 use Rattle.std.specs.List.{find, list_any}
 use Rattle.std.specs.Ordering.{nat_cmp, eq_by_cmp, is_lt}
@@ -91,6 +91,45 @@ module _ {X : Type 0} where
       ∙ rising.find-append nat_cmp nat_cmp_total es next x q (none_below es next kept.below)
       ∙ ap (cond (eq_by_cmp nat_cmp q next) (Some x)) (sym (map.get-from_sorted nat_cmp es q (held _ kept.sorted)))
       ∙ sym (map.get-insert nat_cmp_total (map.from_sorted es) next x q))
+
+-- ---- an entry that passes a test
+
+less_told : (a b : ℕ) → is_lt (nat_cmp a b) ≡ true → a < b
+less_told a b less = grind (arith, nat_tests)
+
+tied_itself : (a : ℕ) → eq_by_cmp nat_cmp a a ≡ true
+tied_itself a = grind (arith, nat_tests)
+
+less_apart : (a b : ℕ) → a < b → eq_by_cmp nat_cmp b a ≡ false
+less_apart a b less = grind (arith, nat_tests)
+
+module _ {X : Type 0} (test : ℕ × X → Bool) where
+  found_above : (k : ℕ) (es : List (ℕ × X)) (e : ℕ × X) → rising.below_all nat_cmp k es ≡ true → find test es ≡ Some e → k < e.0
+  found_above k [] e above is = absurd (cc is)
+  found_above k (f ∷ es) e above is = go (found_above k es e (second_so (is_lt (nat_cmp k f.0)) (rising.below_all nat_cmp k es) above)) (test f) is
+    where
+      go : (find test es ≡ Some e → k < e.0) → (b : Bool) → cond b (Some f) (find test es) ≡ Some e → k < e.0
+      go later true h =
+          let same : f ≡ e = cc h in
+          subst (λ (g : ℕ × X). k < g.0) same (less_told k f.0 (first_so (is_lt (nat_cmp k f.0)) (rising.below_all nat_cmp k es) above))
+      go later false h = later h
+
+  own_found : (es : List (ℕ × X)) (e : ℕ × X) → map.is_sorted nat_cmp es ≡ true → find test es ≡ Some e → map.find nat_cmp e.0 es ≡ Some e.1
+  own_found [] e sorted is = absurd (cc is)
+  own_found (f ∷ es) e sorted is = go (own_found es e (second_so (rising.below_all nat_cmp f.0 es) (map.is_sorted nat_cmp es) sorted)) (test f) is
+    where
+      go : (find test es ≡ Some e → map.find nat_cmp e.0 es ≡ Some e.1) → (b : Bool) → cond b (Some f) (find test es) ≡ Some e → map.find nat_cmp e.0 (f ∷ es) ≡ Some e.1
+      go later true h =
+          let same : f ≡ e = cc h in
+          subst (λ (g : ℕ × X). map.find nat_cmp g.0 (f ∷ es) ≡ Some g.1) same (ap (λ b. cond b (Some f.1) (map.find nat_cmp f.0 es)) (tied_itself f.0))
+      go later false h =
+          let above = found_above f.0 es e (first_so (rising.below_all nat_cmp f.0 es) (map.is_sorted nat_cmp es) sorted) h in
+          ap (λ b. cond b (Some f.1) (map.find nat_cmp e.0 es)) (less_apart f.0 e.0 above) ∙ later h
+
+  -- such a map has it at its number
+  pub own_listed : (es : List (ℕ × X)) (o : Option (ℕ × X)) → map.is_sorted nat_cmp es ≡ true → o ≡ find test es → IfSome o (λ e. map.get (map.from_sorted {R = nat_cmp} es) e.0 ≡ Some e.1)
+  own_listed es None sorted is = tt
+  own_listed es (Some e) sorted is = map.get-from_sorted nat_cmp es e.0 (held _ sorted) ∙ own_found es e sorted (sym is)
 
 -- ---- another lookup count
 

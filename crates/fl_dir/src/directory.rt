@@ -1,4 +1,4 @@
-ghost use Rattle.std.specs.Prelude.{◌≡◌, ◌<◌, ◌≤◌, ◌+◌, ◌==◌, if◌then◌else◌, IfOk, OnOk, OnErr, Some, None, false, option_map, vec_capacity};
+ghost use Rattle.std.specs.Prelude.{◌≡◌, ◌<◌, ◌≤◌, ◌+◌, ◌==◌, if◌then◌else◌, IfOk, IfSome, OnOk, OnErr, Some, None, false, option_map, vec_capacity};
 ghost use Rattle.std.specs.List.{find, list_any, position_from};
 ghost use Rattle.std.specs.Option.{option_copied};
 ghost use Rattle.std.specs.Ordering.{nat_cmp};
@@ -109,7 +109,8 @@ impl Dir {
     }
 
     fn linked(&self, name: &Name) -> Option<&(u64, Node)>
-        ensures { option_copied result ≡ linked self.now name.now }
+        ensures found { option_copied result ≡ linked self.now name.now }
+        ensures at_number { IfSome (option_copied result) (λ e. map.get self.now.nodes e.0 ≡ Some e.1) }
     {
         entry_named(&self.nodes, name)
     }

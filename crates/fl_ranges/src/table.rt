@@ -1,5 +1,5 @@
 //! The table of locks.
-ghost use Rattle.std.specs.Prelude.{◌≡◌, ◌≤◌, ◌<◌, ◌↔◌, false, Option, Some, None, IfOk, IsErr, OnOk, OnErr};
+ghost use Rattle.std.specs.Prelude.{◌≡◌, ◌≤◌, ◌<◌, ◌↔◌, ℕ, false, Option, Some, None, IfOk, IsErr, OnOk, OnErr};
 ghost use Rattle.std.specs.FinMap as map;
 
 use crate::chain::{CHAINS, remove_node, remove_over, some_excludes};
@@ -45,7 +45,7 @@ impl Table {
     ghost use Rattle.fl_ranges.specs.Marking.{stroked};
     ghost use Rattle.fl_ranges.specs.Conflict.{conflicts, IsLawful};
     ghost use Rattle.fl_ranges.specs.Runs.{runs, without_node};
-    ghost use Rattle.fl_ranges.specs.Placing.{IsPlaced};
+    ghost use Rattle.fl_ranges.specs.Placing.{on_chain};
 
     /// A table with no locks. It fails only for want of memory.
     pub fn new(alloc: Global, limit: u32) -> Result<Table, AllocError>
@@ -125,14 +125,13 @@ impl Table {
         some_excludes(&self.runs, key, range.start, range.end, kind)
     }
 
-    /// Where a slot is: slots are numbered from 0, and each is free or holds a run on one of the chains. This
-    /// walks along its chain.
+    /// Where a slot is: slots are numbered from 0, and each is free or holds a run, which stands on the chain
+    /// of its node's number modulo 256. This walks along its chain.
     pub fn slot_place(&self, slot: usize) -> Place
         requires { slot < self.now.limit }
-        ensures { IsPlaced self.now slot result }
+        ensures on { (chain index : ℕ) → result ≡ Place.On chain index → index < runs (on_chain chain self.now.marking) }
+        ensures free { result ≡ Place.Free → runs self.now.marking < self.now.limit }
     {
-        // The contract of `free` says how many slots are on chains.
-        prove!(self.runs.free() <= self.limit as usize);
         self.runs.place(slot)
     }
 
