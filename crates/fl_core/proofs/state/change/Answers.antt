@@ -3,6 +3,7 @@ use Rattle.fl_wire.specs.declared.errno.Errno.TheVariants.{EAGAIN}
 use Rattle.fl_ranges.specs.declared.lock.Mark.{Mark}
 use Rattle.fl_ranges.specs.Marking.{Marking, Stroke}
 use Rattle.fl_ranges.specs.Conflict.{conflicts}
+use Rattle.fl_core.specs.LockRequest.{stroke_on}
 use Rattle.fl_core.specs.Replies.{room_reply, set_reply}
 use Rattle.fl_core.proofs.state.change.Goals as goal
 
@@ -13,7 +14,7 @@ in_clear m s mark clear = ap (λ b. cond b (Err EAGAIN) (room_reply m s)) clear
 pub returns-in-Some-2-clause-reply : goal.returns-in-Some-2-clause-reply
 returns-in-Some-2-clause-reply c =
     let m = c.args.locks.now.marking in
-    let s : Stroke = record { key = c.args.key.now; start = c.args.range.now.start; end = c.args.range.now.end; mark = c.args.mark } in
+    let s = stroke_on c.args.key.now c.args.range.now c.args.mark in
     c.store.ensures.reply
     ∙ ap (λ (o : Option Mark). room_reply m (record s { mark = o })) (sym c.in-Some.is)
     ∙ sym (ap (set_reply m s) c.in-Some.is ∙ in_clear m s c.in-Some.own (sym c.if-clashes.ensures))
@@ -21,5 +22,5 @@ returns-in-Some-2-clause-reply c =
 pub returns-in-None-clause-reply : goal.returns-in-None-clause-reply
 returns-in-None-clause-reply c =
     let m = c.args.locks.now.marking in
-    let s : Stroke = record { key = c.args.key.now; start = c.args.range.now.start; end = c.args.range.now.end; mark = c.args.mark } in
+    let s = stroke_on c.args.key.now c.args.range.now c.args.mark in
     c.store-in-None.ensures.reply ∙ sym (ap (set_reply m s) c.in-None.is)
