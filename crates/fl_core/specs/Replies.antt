@@ -19,7 +19,8 @@ use Rattle.fl_ranges.specs.Marking.{Marking, Stroke, stroked, marking_of}
 use Rattle.fl_ranges.specs.Conflict.{conflicts}
 use Rattle.fl_ranges.specs.Runs.{runs}
 use Rattle.fl_ranges.specs.Blocker.{blocker}
-use Rattle.fl_dir.specs.Directory.{Listing, create_reply}
+use Rattle.fl_dir.specs.Directory.{Listing}
+use Rattle.fl_dir.specs.Replies.{create_reply}
 use Rattle.fl_core.specs.State.{State, is_flock, key_of, mark_of, stroke_of}
 
 -- the fh is open, and on this node
@@ -77,7 +78,7 @@ getlk_reply d m node ask =
 
 -- what an order is answered where these nodes, files and locks are there
 abbrev pub reply_to : Listing → Marking → Order → Op → Result Answer Errno
-reply_to d m order (Create excl mode name) = create_reply d order excl mode name
+reply_to d m order (Create excl mode name) = create_reply d order.node order.uid order.gid excl mode name
 reply_to d m order (Getlk ask) = getlk_reply d m order.node ask
 reply_to d m order (Setlk ask) = setlk_reply d m order.node ask
 

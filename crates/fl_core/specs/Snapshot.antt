@@ -7,7 +7,8 @@ use Rattle.fl_wire.specs.declared.order.Order.{Order}
 use Rattle.fl_wire.specs.declared.order.Op.{Op}
 use Rattle.fl_wire.specs.declared.order.Op.TheVariants.{Create, Getlk, Setlk}
 use Rattle.fl_ranges.specs.Marking.{Marking, stroked, marking_of}
-use Rattle.fl_dir.specs.Directory.{Listing, after_create}
+use Rattle.fl_dir.specs.Directory.{Listing}
+use Rattle.fl_dir.specs.Changes.{after_create}
 use Rattle.fl_core.specs.State.{State, stroke_of}
 use Rattle.fl_core.specs.Replies.{reply_to}
 
@@ -26,7 +27,7 @@ reply_at s order = record { unique = order.unique; result = reply_to s.directory
 
 -- what an order with this reply leaves
 abbrev pub changed : Snapshot → Order → Op → Result Answer Errno → Snapshot
-changed s order (Create excl mode name) reply = record s { directory = after_create s.directory order mode name reply }
+changed s order (Create excl mode name) reply = record s { directory = after_create s.directory order.uid order.gid mode name reply }
 changed s order (Getlk ask) reply = s
 changed s order (Setlk ask) (Ok answer) = record s { marking = stroked (stroke_of order.node ask) s.marking }
 changed s order (Setlk ask) (Err e) = s

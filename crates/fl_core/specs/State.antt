@@ -11,7 +11,8 @@ use Rattle.fl_ranges.specs.declared.lock.Kind.TheVariants.{Read, Write}
 use Rattle.fl_ranges.specs.declared.lock.Key.{Key}
 use Rattle.fl_ranges.specs.declared.lock.Mark.{Mark}
 use Rattle.fl_ranges.specs.Marking.{Stroke}
-use Rattle.fl_dir.specs.Directory.{Listing, opening_listing, after_create}
+use Rattle.fl_dir.specs.Directory.{Listing, opening_listing}
+use Rattle.fl_dir.specs.Changes.{after_create}
 
 -- the directory, the strokes with the last one first, and the orders that wait for a lock, in the order of asking
 pub record State : Type 0 where
@@ -49,7 +50,7 @@ stroke_of node ask = record { key = key_of node ask; start = start_of ask; end =
 
 -- the state after an order with this reply of its own. It tests nothing, and an error changes nothing.
 abbrev pub answered : Order → Op → Result Answer Errno → State → State
-answered order (Create excl mode name) reply s = record s { directory = after_create s.directory order mode name reply }
+answered order (Create excl mode name) reply s = record s { directory = after_create s.directory order.uid order.gid mode name reply }
 answered order (Getlk ask) reply s = s
 answered order (Setlk ask) (Ok answer) s = record s { strokes = stroke_of order.node ask ∷ s.strokes }
 answered order (Setlk ask) (Err e) s = s

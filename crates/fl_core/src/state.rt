@@ -8,8 +8,8 @@ ghost use Rattle.fl_core.specs.Snapshot.{reply_at, next};
 
 use fl_dir::Dir;
 use fl_ranges::{Class, Held, Key, Kind, LAST_BYTE, Mark, Range, Table};
-use fl_wire::{Answer, Errno, LockAsk, Op, Order, Told};
-use std::alloc::{AllocError, Global};
+use fl_wire::{Answer, Errno, LockAsk, NoMemory, Op, Order, Told};
+use std::alloc::Global;
 use std::marker::Model;
 
 // The lock types of Linux `fcntl.h`.
@@ -45,7 +45,7 @@ impl Model for Core {
 
 impl Core {
     /// No files and no locks.
-    pub fn new(alloc: Global) -> Result<Core, AllocError>
+    pub fn new(alloc: Global) -> Result<Core, NoMemory>
         ensures { IfOk result (λ s. s ≡ record { directory = opening_listing; marking = map.empty }) }
     {
         Ok(Core {
@@ -60,7 +60,10 @@ impl Core {
         ensures present { self.new ≡ next self.old order.now }
     {
         let result = match &order.op {
-            Op::Create { excl, mode, name } => self.directory.create(order, *excl, *mode, name),
+            Op::Create { excl, mode, name } => {
+                self.directory
+                    .create(order.node, order.uid, order.gid, *excl, *mode, name)
+            },
             Op::Getlk(ask) => test_lock(&self.directory, &self.locks, order.node, ask),
             Op::Setlk(ask) => set_lock(&self.directory, &mut self.locks, order.node, ask),
         };
