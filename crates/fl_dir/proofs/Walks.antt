@@ -38,8 +38,8 @@ module _ {A : Type 0} where
     pub any_here : (x : A) → list_any t xs ≡ list_any t (drop i xs) → slice_get xs i ≡ Some x → t x ≡ true → true ≡ list_any t xs
     any_here x so_far found is = sym (so_far ∙ ap (list_any t) (drop_here xs i x found) ∙ ap (λ b. b || list_any t (drop (i + 1) xs)) is)
 
-    pub any_on : (j : ℕ) (x : A) → list_any t xs ≡ list_any t (drop i xs) → slice_get xs i ≡ Some x → t x ≡ false → j ≡ i + 1 → list_any t xs ≡ list_any t (drop j xs)
-    any_on j x so_far found is next = so_far ∙ ap (list_any t) (drop_here xs i x found) ∙ ap (λ b. b || list_any t (drop (i + 1) xs)) is ∙ ap (λ (k : ℕ). list_any t (drop k xs)) (sym next)
+    pub any_past : (j : ℕ) (x : A) → list_any t xs ≡ list_any t (drop i xs) → slice_get xs i ≡ Some x → t x ≡ false → j ≡ i + 1 → list_any t xs ≡ list_any t (drop j xs)
+    any_past j x so_far found is next = so_far ∙ ap (list_any t) (drop_here xs i x found) ∙ ap (λ b. b || list_any t (drop (i + 1) xs)) is ∙ ap (λ (k : ℕ). list_any t (drop k xs)) (sym next)
 
     pub any_end : list_any t xs ≡ list_any t (drop i xs) → slice_get xs i ≡ None → false ≡ list_any t xs
     any_end so_far none = sym (so_far ∙ ap (list_any t) (drop_end xs i none))

@@ -27,6 +27,10 @@ counted_up node = record node { lookups = node.lookups + 1 }
 abbrev pub counted_down : ℕ → Node → Node
 counted_down n node = record node { lookups = node.lookups - n }
 
+-- a node that is linked no more
+abbrev pub nameless : Node → Node
+nameless node = record node { name = None }
+
 -- without this node, where nothing keeps it alive
 abbrev pub swept_node : Listing → ℕ → Option Node → Listing
 swept_node d number None = d
@@ -72,7 +76,7 @@ after_open d node other = d
 -- the directory without the name of this node, if there is one
 abbrev pub unlinked : Listing → Option (ℕ × Node) → Listing
 unlinked d None = d
-unlinked d (Some found) = swept found.0 (record d { nodes = insert d.nodes found.0 (record found.1 { name = None }) })
+unlinked d (Some found) = swept found.0 (record d { nodes = insert d.nodes found.0 (nameless found.1) })
 
 -- the directory after an UNLINK of the name, by its recorded answer
 abbrev pub after_unlink : Listing → List ℕ → Result Answer Errno → Listing

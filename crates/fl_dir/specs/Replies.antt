@@ -12,9 +12,14 @@ use Rattle.fl_dir.specs.declared.dir.Closed.{Closed}
 use Rattle.fl_dir.specs.Directory.{Listing, is_known, is_reserved, linked, nodes_full, made_node, attributes, attributes_at}
 use Rattle.fl_dir.specs.OpenFiles.{files_full, is_open_on, has_open_file}
 
--- where the node is the directory, its own answer; else an unknown node or a file is refused
-abbrev pub in_directory : Listing → ℕ → Result Answer Errno → Result Answer Errno
-in_directory d node reply = if not (is_known d node) then Err ENOENT else (if not (node == 1) then Err ENOTDIR else reply)
+-- why the node has no names in it: it is unknown, or a file
+abbrev pub directory_error : Listing → ℕ → Option Errno
+directory_error d node = if not (is_known d node) then Some ENOENT else (if not (node == 1) then Some ENOTDIR else None)
+
+-- the reply, or the error where there is one
+abbrev pub unless_error : Option Errno → Result Answer Errno → Result Answer Errno
+unless_error None reply = reply
+unless_error (Some e) reply = Err e
 
 -- a node's lookup count can't grow
 abbrev pub lookups_full : Node → Bool
@@ -27,7 +32,7 @@ found_reply (Some found) = if lookups_full found.1 then Err ENFILE else Ok (Entr
 
 -- what a LOOKUP is answered
 abbrev pub lookup_reply : Listing → ℕ → List ℕ → Result Answer Errno
-lookup_reply d node name = in_directory d node (found_reply (linked d name))
+lookup_reply d node name = unless_error (directory_error d node) (found_reply (linked d name))
 
 -- CREATE of a name that is linked
 abbrev pub reopened : Listing → Bool → (ℕ × Node) → Result Answer Errno
@@ -52,7 +57,7 @@ created_or_reopened d excl node (Some found) = reopened d excl found
 -- what a CREATE is answered
 abbrev pub create_reply : Listing → ℕ → ℕ → ℕ → Bool → ℕ → List ℕ → Result Answer Errno
 create_reply d node uid gid excl mode name =
-    in_directory d node
+    unless_error (directory_error d node)
     (if is_reserved name then Err EINVAL else created_or_reopened d excl (made_node uid gid mode name) (linked d name))
 
 -- what an OPEN is answered
@@ -79,7 +84,7 @@ unlinked_reply (Some found) = Ok Done
 
 -- what an UNLINK is answered
 abbrev pub unlink_reply : Listing → ℕ → List ℕ → Result Answer Errno
-unlink_reply d node name = in_directory d node (unlinked_reply (linked d name))
+unlink_reply d node name = unless_error (directory_error d node) (unlinked_reply (linked d name))
 
 -- what closing an fh gives: its node, and whether no fh is left open on it
 abbrev pub close_reply : Listing → ℕ → ℕ → Result Closed Errno

@@ -2,11 +2,32 @@
 ghost use Rattle.std.specs.Prelude.{◌≡◌, ◌+◌, Some, IfOk, OnOk, OnErr, false};
 ghost use Rattle.std.specs.FinMap as map;
 ghost use Rattle.fl_dir.specs.Directory.{opening_listing};
-ghost use Rattle.fl_dir.specs.Replies.{created, reopened, create_reply};
-ghost use Rattle.fl_dir.specs.Changes.{after_reply, after_create, counted_up};
+ghost use Rattle.fl_dir.specs.Replies.{
+  directory_error,
+  lookup_reply,
+  created,
+  reopened,
+  create_reply,
+  open_reply,
+  getattr_reply,
+  unlink_reply,
+  close_reply,
+};
+ghost use Rattle.fl_dir.specs.Changes.{
+  after_lookup,
+  after_reply,
+  after_create,
+  after_open,
+  after_unlink,
+  after_forget,
+  after_close,
+  counted_up,
+};
 
 use crate::names::is_reserved;
-use crate::node::{Node, attributes, counted_up, made_node};
+use crate::node::{
+    Node, attributes, counted_down, counted_up, made_node, nameless, root_attributes,
+};
 use fl_arena::Arena;
 use fl_wire::{Answer, Errno, Name, NoMemory};
 use std::alloc::Global;
@@ -70,6 +91,24 @@ impl Dir {
         })
     }
 
+    /// FUSE_LOOKUP of a name in a node: counts one more lookup of the node of this name.
+    pub fn lookup(&mut self, node: u64, name: &Name) -> Result<Answer, Errno>
+        ensures answer { result ≡ lookup_reply self.old node name.now }
+        ensures after { self.new ≡ after_lookup self.old result }
+    {
+        if let Some(error) = self.directory_error(node) {
+            return Err(error);
+        }
+        let Some((number, found)) = self.linked(name) else {
+            return Err(Errno::ENOENT);
+        };
+        if found.lookups == u64::MAX {
+            return Err(Errno::ENFILE);
+        }
+        self.change(number, &counted_up(&found));
+        Ok(Answer::Entry(attributes(number, &found)))
+    }
+
     /// FUSE_CREATE, by this user and group: makes the file, or opens the one of this name.
     pub fn create(
         &mut self,
@@ -83,11 +122,8 @@ impl Dir {
         ensures answer { result ≡ create_reply self.old node uid gid excl mode name.now }
         ensures after { self.new ≡ after_create self.old uid gid mode name.now result }
     {
-        if !self.is_known(node) {
-            return Err(Errno::ENOENT);
-        }
-        if node != ROOT {
-            return Err(Errno::ENOTDIR);
+        if let Some(error) = self.directory_error(node) {
+            return Err(error);
         }
         if is_reserved(name) {
             return Err(Errno::EINVAL);
@@ -97,6 +133,89 @@ impl Dir {
             Some(_) if excl => Err(Errno::EEXIST),
             Some((number, found)) => self.reopen(number, &found),
         }
+    }
+
+    /// FUSE_OPEN: opens the node under the next fh.
+    pub fn open(&mut self, node: u64) -> Result<Answer, Errno>
+        ensures answer { result ≡ open_reply self.old node }
+        ensures after { self.new ≡ after_open self.old node result }
+    {
+        if !self.is_known(node) {
+            return Err(Errno::ENOENT);
+        }
+        if node == ROOT {
+            return Err(Errno::EISDIR);
+        }
+        if self.files_full() {
+            return Err(Errno::ENFILE);
+        }
+        Ok(Answer::Open(self.open_file(node)))
+    }
+
+    /// FUSE_GETATTR: the node's attributes.
+    pub fn getattr(&self, node: u64) -> Result<Answer, Errno>
+        ensures { result ≡ getattr_reply self.now node }
+    {
+        if node == ROOT {
+            return Ok(Answer::Attr(root_attributes()));
+        }
+        match self.node_at(node) {
+            None => Err(Errno::ENOENT),
+            Some(found) => Ok(Answer::Attr(attributes(node, &found))),
+        }
+    }
+
+    /// FUSE_UNLINK of a name in a node: the name is free at once. Its node stays while it has lookups or an open fh.
+    pub fn unlink(&mut self, node: u64, name: &Name) -> Result<Answer, Errno>
+        ensures answer { result ≡ unlink_reply self.old node name.now }
+        ensures after { self.new ≡ after_unlink self.old name.now result }
+    {
+        if let Some(error) = self.directory_error(node) {
+            return Err(error);
+        }
+        let Some((number, found)) = self.linked(name) else {
+            return Err(Errno::ENOENT);
+        };
+        self.change(number, &nameless(&found));
+        self.sweep(number);
+        Ok(Answer::Done)
+    }
+
+    /// FUSE_FORGET of `n` lookups of the node, or of all where it has fewer. The root's lookups aren't counted.
+    pub fn forget(&mut self, node: u64, n: u64)
+        ensures { self.new ≡ after_forget self.old node n }
+    {
+        if let Some(found) = self.node_at(node) {
+            self.change(node, &counted_down(&found, n));
+            self.sweep(node);
+        }
+    }
+
+    /// FUSE_RELEASE: closes an fh of the node; EBADF where it isn't open on it.
+    pub fn close(&mut self, node: u64, fh: u64) -> Result<Closed, Errno>
+        ensures answer { result ≡ close_reply self.old node fh }
+        ensures after { self.new ≡ after_close self.old node fh result }
+    {
+        if self.node_of(fh) != Some(node) {
+            return Err(Errno::EBADF);
+        }
+        self.close_file(fh);
+        let last = !self.has_open_file(node);
+        self.sweep(node);
+        Ok(Closed { node, last })
+    }
+
+    // Why the node has no names in it.
+    fn directory_error(&self, node: u64) -> Option<Errno>
+        ensures { result ≡ directory_error self.now node }
+    {
+        if !self.is_known(node) {
+            return Some(Errno::ENOENT);
+        }
+        if node != ROOT {
+            return Some(Errno::ENOTDIR);
+        }
+        None
     }
 
     // Makes a file with this node.

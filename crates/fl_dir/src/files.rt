@@ -1,10 +1,13 @@
 //! The directory's open files.
-ghost use Rattle.std.specs.Prelude.{◌≡◌, ◌+◌, false};
+ghost use Rattle.std.specs.Prelude.{◌≡◌, ◌+◌, ◌==◌, IsSome, length, false};
 ghost use Rattle.std.specs.FinMap as map;
-ghost use Rattle.fl_dir.specs.OpenFiles.{files_full};
+ghost use Rattle.std.specs.List.{list_any};
+ghost use Rattle.fl_arena.specs.Chains.{items};
+ghost use Rattle.fl_dir.specs.OpenFiles.{files_full, has_open_file};
 
-use crate::chain::{push, value_at};
+use crate::chain::{push, take_out, value_at};
 use crate::dir::Dir;
+use fl_arena::Arena;
 
 impl Dir {
     /// The node on which an fh is open.
@@ -31,4 +34,34 @@ impl Dir {
         self.next_fh += 1;
         fh
     }
+
+    // Some fh is open on the node.
+    pub(crate) fn has_open_file(&self, node: u64) -> bool
+        ensures { result ≡ has_open_file self.now node }
+    {
+        any_on(&self.files, node)
+    }
+
+    // An fh that is open is closed.
+    pub(crate) fn close_file(&mut self, fh: u64)
+        requires { IsSome (map.get self.old.files fh) }
+        ensures { self.new ≡ record self.old { files = map.remove self.old.files fh } }
+    {
+        take_out(&mut self.files, fh);
+    }
+}
+
+// Some open file is this node's.
+fn any_on(files: &Arena<(u64, u64)>, node: u64) -> bool
+    requires { length files.now.chains ≡ 1 }
+    ensures { result ≡ list_any (λ e. e.1 == node) (items files.now 0) }
+{
+    let mut cursor = files.cursor(0);
+    while let Some(here) = files.get(&cursor) {
+        if here.1 == node {
+            return true;
+        }
+        files.step(&mut cursor);
+    }
+    false
 }

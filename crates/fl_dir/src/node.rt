@@ -1,7 +1,7 @@
 //! What is kept of a file, and what is told of it.
 ghost use Rattle.std.specs.Prelude.{◌≡◌, ◌<◌, ◌^◌, ◌-◌};
 ghost use Rattle.fl_dir.specs.Directory.{made_node, attributes, root_attributes};
-ghost use Rattle.fl_dir.specs.Changes.{counted_up};
+ghost use Rattle.fl_dir.specs.Changes.{counted_up, counted_down, nameless};
 
 use crate::dir::ROOT;
 use fl_wire::{Attr, Name};
@@ -71,6 +71,26 @@ pub(crate) fn counted_up(node: &Node) -> Node
 {
     Node {
         lookups: node.lookups + 1,
+        ..*node
+    }
+}
+
+// The node, with so many lookups less, at least none.
+pub(crate) fn counted_down(node: &Node, n: u64) -> Node
+    ensures { result ≡ counted_down n node.now }
+{
+    Node {
+        lookups: node.lookups.saturating_sub(n),
+        ..*node
+    }
+}
+
+// The node, linked no more.
+pub(crate) fn nameless(node: &Node) -> Node
+    ensures { result ≡ nameless node.now }
+{
+    Node {
+        name: None,
         ..*node
     }
 }

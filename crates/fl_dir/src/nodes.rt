@@ -39,6 +39,32 @@ impl Dir {
         self.nodes.free() == 0 || self.next_node == u64::MAX
     }
 
+    // Something keeps this node alive.
+    fn lives(&self, number: u64, node: &Node) -> bool
+        ensures { result ≡ lives self.now number node.now }
+    {
+        node.name.is_some() || node.lookups != 0 || self.has_open_file(number)
+    }
+
+    // Without the node, where nothing keeps it alive.
+    pub(crate) fn sweep(&mut self, number: u64)
+        ensures { self.new ≡ swept number self.old }
+    {
+        if let Some(node) = self.node_at(number) {
+            if !self.lives(number, &node) {
+                self.remove_node(number);
+            }
+        }
+    }
+
+    // A node that is there goes.
+    fn remove_node(&mut self, number: u64)
+        requires { IsSome (map.get self.old.nodes number) }
+        ensures { self.new ≡ record self.old { nodes = map.remove self.old.nodes number } }
+    {
+        take_out(&mut self.nodes, number);
+    }
+
     // The node gets the next number.
     pub(crate) fn link(&mut self, node: &Node)
         requires { nodes_full self.old ≡ false }
