@@ -1,9 +1,9 @@
 -- What callers need of the chains: a change to one of them leaves every other as it is, and the items
 -- change as the entries do.
-use Rattle.std.proofs.Common.{◌≡◌, ◌≢◌, ℕ, ◌+◌, ◌<◌, List, [], length, set, map, take, drop, zero, suc, inl, inr, ◌≤◌, ◌++◌, ◌∷◌, ◌∙◌, Some, slice_get, refl, sym, ap, arith}
+use Rattle.std.proofs.Common.{◌≡◌, ◌≢◌, ℕ, ◌+◌, ◌<◌, List, [], length, set, map, take, drop, zero, suc, inl, inr, ◌≤◌, ◌++◌, ◌∷◌, ◌∙◌, Some, slice_get, refl, sym, ap, subst, arith}
 use Rattle.std.specs.List.{insert, remove}
 use Rattle.std.specs.Option.{option_map}
-use Rattle.std.proofs.lemmas.List.{length-set, get_or-set_same, get_or-set_other, map-append, take-map, drop-map, map-set, length-map}
+use Rattle.std.proofs.lemmas.List.{length-set, get_or-set_same, get_or-set_other, map-append, take-map, drop-map, take_all, drop_all, map-set, length-map}
 use Rattle.std.proofs.lemmas.Option.{slice_get_past, slice_get-map}
 use Rattle.std.proofs.lemmas.Bool.{cases_lt}
 use Rattle.std.proofs.lemmas.List.Sums.{sum_by-set}
@@ -22,6 +22,9 @@ map-remove f xs i =
     map-append f (take i xs) (drop (suc i) xs)
     ∙ (ap (λ l. l ++ map f (drop (suc i) xs)) (sym (take-map f i xs))
     ∙ ap (λ l. take i (map f xs) ++ l) (sym (drop-map f (suc i) xs)))
+
+insert-end : {A : Type 0} (xs : List A) (i : ℕ) (x : A) → length xs ≤ i → insert xs i x ≡ xs ++ x ∷ []
+insert-end xs i x past = ap (λ l. l ++ x ∷ drop i xs) (take_all i xs past) ∙ ap (λ l. xs ++ x ∷ l) (drop_all i xs past)
 
 some_entry : {A : Type 0} (xs : List A) (i : ℕ) → i < length xs → (x : A) × (slice_get xs i ≡ Some x)
 some_entry [] i h = absurd (omega arith)
@@ -88,15 +91,26 @@ module _ {T : Type 0} where
   pub HasSizeOf-with : (a new : Chains T) (c : ℕ) (es : List (Entry T)) → new ≡ with_entries a c es → HasSizeOf a new
   HasSizeOf-with a new c es e = rw e (record { chains = length-set a.chains c es; slots = refl })
 
-  -- a cursor that walks a chain from an index stands at the next one after a step
-  pub stepped_at : (a : Chains T) (c : ℕ) (cursor next : Cursor) → cursor ≡ cursor_at a c cursor.index → next ≡ cursor_at a cursor.chain (cursor.index + 1) → (next ≡ cursor_at a c next.index) × (next.index ≡ cursor.index + 1)
-  stepped_at a c cursor next here on =
-      let chain : cursor.chain ≡ c = ap (λ (x : Cursor). x.chain) here in
-      let there : next ≡ cursor_at a c (cursor.index + 1) = on ∙ ap (λ (d : ℕ). cursor_at a d (cursor.index + 1)) chain in
-      let index : next.index ≡ cursor.index + 1 = ap (λ (x : Cursor). x.index) there in
-      (there ∙ ap (cursor_at a c) (sym index), index)
+  -- a cursor at an index of a chain stands at the next one after a step
+  pub stepped_at : (a : Chains T) (c i : ℕ) (cursor next : Cursor) → cursor ≡ cursor_at a c i → next ≡ cursor_at a cursor.chain (cursor.index + 1) → next ≡ cursor_at a c (i + 1)
+  stepped_at a c i cursor next here on = on ∙ ap (λ (x : Cursor). cursor_at a x.chain (x.index + 1)) here
 
-  -- an insert where such a cursor stands is an insert at its index
-  pub inserted_at : (a : Chains T) (c : ℕ) (cursor : Cursor) → cursor ≡ cursor_at a c cursor.index → cursor.index ≤ length (items a c) → (cursor.chain ≡ c) × (index_of a cursor ≡ cursor.index)
-  inserted_at a c cursor here le =
-      (ap (λ (x : Cursor). x.chain) here, ap (index_of a) here ∙ index_of-at a c cursor.index le)
+  -- what is put before such a cursor is put in at its index
+  insert_where : (a : Chains T) (c i : ℕ) (x : T) → insert (items a c) (index_of a (cursor_at a c i)) x ≡ insert (items a c) i x
+  insert_where a c i x =
+      elim (cases_lt i (length (entries a c))) [
+        | inl within ↦ ap (λ j. insert (items a c) j x) (index_of-at a c i (omega (arith, length-items a c)))
+        | inr past ↦
+            let none = slice_get_past (entries a c) i past in
+            let long = length-items a c in
+            rw (ap (option_map (λ (x : Entry T). x.slot)) none)
+            (insert-end (items a c) (length (entries a c)) x (omega (arith, long)) ∙ sym (insert-end (items a c) i x (omega (arith, long, past))))
+      ]
+
+  pub inserted_at : (a : Chains T) (c i : ℕ) (cursor : Cursor) (e : Entry T) → cursor ≡ cursor_at a c i → cursor.chain < length a.chains
+      → items (with_entries a cursor.chain (insert (entries a cursor.chain) (index_of a cursor) e)) c ≡ insert (items a c) i e.item
+  inserted_at a c i cursor e here within =
+      let chain : cursor.chain ≡ c = ap (λ (k : Cursor). k.chain) here in
+      (λ j. items (with_entries a (chain j) (insert (entries a (chain j)) (index_of a (here j)) e)) c)
+      ∙ items-insert a c (index_of a (cursor_at a c i)) e (subst (λ (d : ℕ). d < length a.chains) chain within)
+      ∙ insert_where a c i e.item

@@ -82,6 +82,7 @@ impl<T: Copy> Arena<T> {
         requires { IsInPlace self.now cursor.old }
         ensures on { IsSome cursor.old.slot → cursor.new ≡ cursor_at self.now cursor.old.chain (cursor.old.index + 1) }
         ensures stays { IsNone cursor.old.slot → cursor.new ≡ cursor.old }
+        ensures at_index { (c i : ℕ) → IsSome cursor.old.slot → cursor.old ≡ cursor_at self.now c i → cursor.new ≡ cursor_at self.now c (i + 1) }
         ensures in_range { IfSome cursor.new.slot (λ slot. slot < self.now.slots) }
     {
         if let Some(slot) = cursor.slot {
@@ -142,6 +143,7 @@ impl<T: Copy> Arena<T> {
         ensures others { (c : ℕ) → c ≢ cursor.old.chain → entries self.new c ≡ entries self.old c }
         ensures size { HasSizeOf self.old self.new }
         ensures cursor { OnOk result (cursor.new ≡ cursor_at self.new cursor.old.chain (index_of self.old cursor.old)) }
+        ensures at_index { (c i : ℕ) → cursor.old ≡ cursor_at self.old c i → OnOk result (items self.new c ≡ insert (items self.old c) i item) }
         ensures err { OnErr result (self.new ≡ self.old) }
         ensures err_cursor { OnErr result (cursor.new ≡ cursor.old) }
     {
@@ -179,7 +181,8 @@ impl<T: Copy> Arena<T> {
     /// Where the slot is. This walks along its chain.
     pub fn place(&self, slot: usize) -> Place
         requires { slot < self.now.slots }
-        ensures { (c i : ℕ) → (result ≡ Place.On c i) ↔ (slot_at self.now c i ≡ Some slot) }
+        ensures on { (c i : ℕ) → (result ≡ Place.On c i) ↔ (slot_at self.now c i ≡ Some slot) }
+        ensures free { result ≡ Place.Free → 0 < free_count self.now }
     {
         match self.nodes[slot] {
             Node::Free(_) => Place::Free,

@@ -51,10 +51,8 @@ pub record IsOn {T : Type 0} (a : Chains T) (cursor next : Cursor) : Type 0 wher
   pub within : next.index ≤ length (items a 0)
   pub smaller : length (items a 0) - next.index < length (items a 0) - cursor.index
 
-pub on_at : {T : Type 0} (a : Chains T) (cursor next : Cursor) (x : T) → cursor ≡ cursor_at a 0 cursor.index → slice_get (items a 0) cursor.index ≡ Some x → next ≡ cursor_at a cursor.chain (cursor.index + 1) → IsOn a cursor next
-on_at a cursor next x at found on =
-    let chain : cursor.chain ≡ 0 = ap (λ (k : Cursor). k.chain) at in
-    let there : next ≡ cursor_at a 0 (cursor.index + 1) = on ∙ ap (λ (d : ℕ). cursor_at a d (cursor.index + 1)) chain in
-    let index : next.index ≡ cursor.index + 1 = ap (λ (k : Cursor). k.index) there in
+pub on_at : {T : Type 0} (a : Chains T) (cursor next : Cursor) (x : T) → slice_get (items a 0) cursor.index ≡ Some x → next ≡ cursor_at a 0 (cursor.index + 1) → IsOn a cursor next
+on_at a cursor next x found on =
+    let index : next.index ≡ cursor.index + 1 = ap (λ (k : Cursor). k.index) on in
     let more : cursor.index < length (items a 0) = slice_get_within (items a 0) cursor.index x found in
-    record { at = there ∙ ap (cursor_at a 0) (sym index); index = index; within = omega (arith, index, more); smaller = omega (arith, index, more) }
+    record { at = on ∙ ap (cursor_at a 0) (sym index); index = index; within = omega (arith, index, more); smaller = omega (arith, index, more) }

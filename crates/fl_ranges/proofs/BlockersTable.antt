@@ -8,7 +8,8 @@ use Rattle.fl_ranges.specs.declared.run.Run.{Run}
 use Rattle.fl_ranges.specs.Marking.{Marking, marking_of}
 use Rattle.fl_ranges.specs.Blocker.{blocker}
 use Rattle.fl_ranges.specs.RunList.{meant, run_excludes}
-use Rattle.fl_ranges.specs.RunChains.{home, all_runs, IsTable}
+use Rattle.fl_ranges.specs.Placing.{home}
+use Rattle.fl_ranges.specs.RunChains.{all_runs, IsTable}
 use Rattle.fl_ranges.specs.Nearest.{nearest_from, lock_of}
 use Rattle.fl_ranges.proofs.RunLists.{each_weaker}
 use Rattle.fl_ranges.proofs.ChainLists.{IsAway, before_chain, after_chain, all_around, away_before, away_after}

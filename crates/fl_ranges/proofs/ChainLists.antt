@@ -11,7 +11,8 @@ use Rattle.fl_ranges.specs.declared.lock.Key.{Key}
 use Rattle.fl_ranges.specs.declared.run.Run.{Run}
 use Rattle.fl_ranges.specs.Marking.{Spot}
 use Rattle.fl_ranges.specs.RunList.{has_spot, overlaps, left_over}
-use Rattle.fl_ranges.specs.RunChains.{home, all_runs}
+use Rattle.fl_ranges.specs.Placing.{home}
+use Rattle.fl_ranges.specs.RunChains.{all_runs}
 use Rattle.fl_ranges.proofs.RunLists.{at_spot, over, each_weaker}
 
 abbrev items_of : List (Entry Run) → List Run

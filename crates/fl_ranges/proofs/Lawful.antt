@@ -1,5 +1,5 @@
 -- No two owners hold conflicting locks: a stroke keeps that where it was tested for conflicts.
-use Rattle.std.proofs.Common.{◌≡◌, ℕ, Bool, true, false, cond, not, ◌&&◌, ◌==◌, nat_le, Some, refl, ap, sym, ◌∙◌, arith}
+use Rattle.std.proofs.Common.{◌≡◌, ℕ, Bool, true, false, cond, not, ◌&&◌, ◌==◌, nat_le, Option, Some, None, Result, Ok, Err, OnOk, OnErr, refl, ap, sym, ◌∙◌, subst, arith}
 use Rattle.std.proofs.lemmas.Bool.Decides.{nat_tests}
 use Rattle.std.specs.Ordering.{eq_by_cmp}
 use Rattle.std.specs.FinMap.{get, empty, get-empty}
@@ -9,7 +9,9 @@ use Rattle.fl_ranges.specs.declared.lock.Key.{Key}
 use Rattle.fl_ranges.specs.declared.lock.Mark.{Mark}
 use Rattle.fl_ranges.specs.Marking.{key_cmp, class_number, spot_cmp, Marking, Stroke, covers, stroked}
 use Rattle.fl_ranges.specs.Conflict.{are_rivals, excludes, excludes_lock, conflicts, IsLawful}
-use Rattle.fl_ranges.proofs.Markings.{spots_total, exact_spots, get-stroked}
+use Rattle.fl_ranges.specs.Runs.{without_node}
+use Rattle.fl_ranges.specs.LockTable.{LockTable}
+use Rattle.fl_ranges.proofs.Markings.{spots_total, exact_spots, get-stroked, get-without_node}
 use Rattle.fl_ranges.proofs.Spots.{same_key, within}
 use Rattle.fl_ranges.proofs.Entries.{entry_passes}
 
@@ -73,3 +75,25 @@ module _ (m : Marking) (s : Stroke) where
           excludes_both_ways x.kind y.kind
           ∙ spared b a byte y x (clear y (sym (ap (λ t. cond t s.mark (get m (b, byte))) q) ∙ k)) q (sym (ap (λ t. cond t s.mark (get m (a, byte))) p) ∙ h) (rivals_both_ways b a ∙ rivals)
       go false false p q h k = lawful a b byte x y (sym (ap (λ t. cond t s.mark (get m (a, byte))) p) ∙ h) (sym (ap (λ t. cond t s.mark (get m (b, byte))) q) ∙ k) rivals
+
+-- ---- the calls of a table
+
+-- without a node's marks
+pub lawful_without : (m : Marking) (node : ℕ) → IsLawful m → IsLawful (without_node node m)
+lawful_without m node lawful a b byte x y at_a at_b = lawful a b byte x y (held a x at_a) (held b y at_b)
+  where
+    kept : (gone : Bool) (o : Option Mark) (x : Mark) → cond gone None o ≡ Some x → o ≡ Some x
+    kept true o x e = absurd (cc e)
+    kept false o x e = e
+    held : (k : Key) (x : Mark) → get (without_node node m) (k, byte) ≡ Some x → get m (k, byte) ≡ Some x
+    held k x e = kept (k.node == node) (get m (k, byte)) x (sym (get-without_node m node (k, byte)) ∙ e)
+
+-- what contracts see, with this marking
+pub lawful_with : (old new : LockTable) (m : Marking) → new ≡ record old { marking = m } → IsLawful m → IsLawful new.marking
+lawful_with old new m is lawful = subst IsLawful (sym (ap (λ (t : LockTable). t.marking) is)) lawful
+
+-- a stroke that may be refused
+pub lawful_either : {T E : Type 0} (r : Result T E) (s : Stroke) (old new : LockTable) → OnOk r (new ≡ record old { marking = stroked s old.marking }) → OnErr r (new ≡ old)
+    → ((mark : Mark) → s.mark ≡ Some mark → conflicts old.marking s.key s.start s.end mark.kind ≡ false) → IsLawful old.marking → IsLawful new.marking
+lawful_either (Ok v) s old new ok err clear lawful = lawful_with old new (stroked s old.marking) ok (lawful_stroked old.marking s clear lawful)
+lawful_either (Err e) s old new ok err clear lawful = lawful_with old new old.marking err lawful

@@ -7,7 +7,7 @@ use Rattle.std.specs.declared.cmp.Ordering.{Ordering}
 use Rattle.std.specs.declared.cmp.Ordering.TheVariants.{Less, Equal, Greater}
 use Rattle.std.specs.Ordering.{nat_cmp, ordering_then, eq_by_cmp, is_eq}
 use Rattle.std.specs.Cmp.{IsTotalOrder, eq_by_cmp_equiv, nat_cmp_total}
-use Rattle.std.specs.FinMap.{get, get-insert, get-remove, get-retain_keys, get-empty}
+use Rattle.std.specs.FinMap.{get, retain_keys, get-insert, get-remove, get-retain_keys, get-empty}
 use Rattle.fl_ranges.specs.declared.lock.Class.{Class}
 use Rattle.fl_ranges.specs.declared.lock.Class.TheVariants.{Record, Flock}
 use Rattle.fl_ranges.specs.declared.lock.Key.{Key}
@@ -103,12 +103,14 @@ pub get-marking_of : (strokes : List Stroke) (q : Spot) → get (marking_of stro
 get-marking_of [] q = get-empty spot_cmp q
 get-marking_of (s ∷ earlier) q = get-stroked s (marking_of earlier) q ∙ ap (λ w. cond (covers s q) s.mark w) (get-marking_of earlier q)
 
+-- a spot of a node that passes a test has what it had, and every other has no mark
+pub get-kept_nodes : (m : Marking) (p : ℕ → Bool) (q : Spot) → get (retain_keys m (λ spot. p spot.0.node)) q ≡ cond (p q.0.node) (get m q) None
+get-kept_nodes m p q = get-retain_keys m (λ (spot : Spot). p spot.0.node) q (λ x e. ap (λ (spot : Spot). p spot.0.node) (sym (exact_spots q x e)))
+
 turned : {A : Type 0} (b : Bool) (x y : A) → cond (not b) x y ≡ cond b y x
 turned true x y = refl
 turned false x y = refl
 
 -- without a node, its spots have no mark, and every other has what it had
 pub get-without_node : (m : Marking) (node : ℕ) (q : Spot) → get (without_node node m) q ≡ cond (q.0.node == node) None (get m q)
-get-without_node m node q =
-    get-retain_keys m (λ (spot : Spot). not (spot.0.node == node)) q (λ x e. ap (λ (spot : Spot). not (spot.0.node == node)) (sym (exact_spots q x e)))
-    ∙ turned (q.0.node == node) (get m q) None
+get-without_node m node q = get-kept_nodes m (λ n. not (n == node)) q ∙ turned (q.0.node == node) (get m q) None

@@ -1,144 +1,88 @@
 -- The places of the slots.
-use Rattle.std.proofs.Common.{◌≡◌, ◌↔◌, ℕ, zero, suc, ◌+◌, ◌-◌, Bool, true, false, cond, not, ◌||◌, ◌==◌, Option, Some, None, is_some, List, [], ◌∷◌, map, length, get_or, slice_get, refl, ap, sym, ◌∙◌, subst, arith}
+use Rattle.std.proofs.Common.{◌≡◌, ◌≢◌, ◌↔◌, ℕ, ◌+◌, ◌-◌, ◌<◌, Bool, true, false, cond, ◌==◌, Some, List, [], ◌∷◌, ◌++◌, map, length, refl, ap, sym, ◌∙◌, subst, inl, inr, arith}
+use Rattle.std.proofs.lemmas.Bool.{cases_lt, false_from_ne_true}
 use Rattle.std.proofs.lemmas.Bool.Decides.{nat_tests}
-use Rattle.std.proofs.lemmas.List.Sums.{sum_by-cons}
-use Rattle.std.proofs.lemmas.List.FromFn.{length-range_with_len}
-use Rattle.std.specs.List.{list_any, count_by, range_with_len}
+use Rattle.std.proofs.lemmas.List.{append-nil, get_or_past, length-map}
+use Rattle.std.proofs.lemmas.List.Elements.{filter-append}
+use Rattle.std.proofs.lemmas.Option.{none-some, slice_get_past}
+use Rattle.std.specs.List.{filter, slice_get, AllByRecursion}
 use Rattle.std.specs.Option.{option_map}
-use Rattle.fl_arena.specs.Chains.{Entry, Chains, slot_at, item_count, is_linked, unlinked_count}
-use Rattle.fl_arena.specs.declared.cursors.Place.{Place}
-use Rattle.fl_arena.specs.declared.cursors.Place.TheVariants.{Free, On}
+use Rattle.fl_arena.specs.Chains.{Entry, Chains, entries, items, slot_at, item_count, free_count}
 use Rattle.fl_ranges.specs.declared.run.Run.{Run}
 use Rattle.fl_ranges.specs.Runs.{runs}
 use Rattle.fl_ranges.specs.LockTable.{LockTable}
+use Rattle.fl_ranges.specs.Placing.{home, on_chain}
 use Rattle.fl_ranges.specs.RunList.{meant}
 use Rattle.fl_ranges.specs.RunChains.{all_runs, IsTable}
 use Rattle.fl_ranges.specs.Marking.{marking_of}
-use Rattle.fl_ranges.specs.Placing.{is_on, IsPlaced}
+use Rattle.fl_ranges.proofs.RunLists.{each_weaker}
+use Rattle.fl_ranges.proofs.ChainLists.{IsAway, before_chain, after_chain, all_around, away_before, away_after, count_all}
+use Rattle.fl_ranges.proofs.Counting.{runs_length}
 use Rattle.fl_ranges.proofs.TableLemmas.{number_itself}
-use Rattle.fl_ranges.proofs.TableCalls.{runs_counted}
+use Rattle.fl_ranges.proofs.TableCalls.{runs-filter, kept_nodes}
 
--- the index of a slot in a chain
-index_in : List (Entry Run) → ℕ → Option ℕ
-index_in [] slot = None
-index_in (e ∷ es) slot = cond (e.slot == slot) (Some 0) (option_map (λ (i : ℕ). suc i) (index_in es slot))
+same_number : (a b : ℕ) → (a == b) ≡ true → a ≡ b
+same_number a b e = grind (arith, nat_tests)
 
--- the same place, one chain later
-later : Place → Place
-later Free = Free
-later (On c i) = On (suc c) i
+keeps_none : (t : Run → Bool) (rs : List Run) → AllByRecursion (λ r. t r ≡ false) rs → filter t rs ≡ []
+keeps_none t [] each = refl
+keeps_none t (r ∷ rs) each = ap (λ b. cond b (r ∷ filter t rs) (filter t rs)) each.0 ∙ keeps_none t rs each.1
 
-either_place : Option ℕ → Place → Place
-either_place None rest = later rest
-either_place (Some i) rest = On 0 i
+keeps_all : (t : Run → Bool) (rs : List Run) → AllByRecursion (λ r. t r ≡ true) rs → filter t rs ≡ rs
+keeps_all t [] each = refl
+keeps_all t (r ∷ rs) each = ap (λ b. cond b (r ∷ filter t rs) (filter t rs)) each.0 ∙ ap (λ (l : List Run). r ∷ l) (keeps_all t rs each.1)
 
-place_in : List (List (Entry Run)) → ℕ → Place
-place_in [] slot = Free
-place_in (es ∷ chains) slot = either_place (index_in es slot) (place_in chains slot)
+module _ (a : Chains Run) (limit : ℕ) (t : IsTable a limit) where
+  module _ (c : ℕ) (within : c < length a.chains) where
+    none_on : (rs : List Run) → AllByRecursion (IsAway c) rs → filter (λ r. home r.key.node == c) rs ≡ []
+    none_on rs away = keeps_none (λ r. home r.key.node == c) rs (each_weaker (IsAway c) (λ r. (home r.key.node == c) ≡ false) (λ r far. false_from_ne_true _ (λ is. far (same_number (home r.key.node) c is))) rs away)
 
-same_slot : (a b : ℕ) → (a == b) ≡ true → a ≡ b
-same_slot a b e = grind (arith, nat_tests)
+    -- a chain has the runs of its nodes
+    of_chain : filter (λ r. home r.key.node == c) (all_runs a) ≡ items a c
+    of_chain =
+        ap (filter (λ r. home r.key.node == c)) (all_around a c within)
+        ∙ filter-append (λ r. home r.key.node == c) (before_chain a c) (items a c ++ after_chain a c)
+        ∙ ap (λ (l : List Run). l ++ filter (λ r. home r.key.node == c) (items a c ++ after_chain a c)) (none_on (before_chain a c) (away_before a c t.at_home))
+        ∙ filter-append (λ r. home r.key.node == c) (items a c) (after_chain a c)
+        ∙ (λ i. keeps_all (λ r. home r.key.node == c) (items a c) own i ++ none_on (after_chain a c) (away_after a c t.at_home) i)
+        ∙ append-nil (items a c)
+      where
+        own : AllByRecursion (λ r. (home r.key.node == c) ≡ true) (items a c)
+        own = each_weaker (λ r. home r.key.node ≡ c) (λ r. (home r.key.node == c) ≡ true) (λ r is. number_itself (home r.key.node) c is) (items a c) (t.at_home c)
 
-at_index : (es : List (Entry Run)) (slot i : ℕ) → index_in es slot ≡ Some i → option_map (λ (e : Entry Run). e.slot) (slice_get es i) ≡ Some slot
-unfolding index_in
-at_index [] slot i is = absurd (cc is)
-at_index (e ∷ es) slot i is = go (e.slot == slot) refl (at_index es slot) is
-  where
-    tail : (o : Option ℕ) (j : ℕ) → option_map (λ (k : ℕ). suc k) o ≡ Some j → ((k : ℕ) → o ≡ Some k → option_map (λ (e : Entry Run). e.slot) (slice_get es k) ≡ Some slot) → option_map (λ (e : Entry Run). e.slot) (slice_get (e ∷ es) j) ≡ Some slot
-    tail None j h rest = absurd (cc h)
-    tail (Some k) j h rest = let same : suc k ≡ j = cc h in subst (λ (n : ℕ). option_map (λ (e : Entry Run). e.slot) (slice_get (e ∷ es) n) ≡ Some slot) same (rest k refl)
+    length-chain : length (items a c) ≡ runs (on_chain c (marking_of (map meant (all_runs a))))
+    length-chain =
+        ap length (sym of_chain)
+        ∙ sym (runs_length (filter (λ r. home r.key.node == c) (all_runs a)) (runs-filter (λ r. home r.key.node == c) (all_runs a) t.runs))
+        ∙ ap runs (kept_nodes (λ n. home n == c) (all_runs a) t.runs)
 
-    go : (b : Bool) → (e.slot == slot) ≡ b → ((k : ℕ) → index_in es slot ≡ Some k → option_map (λ (e : Entry Run). e.slot) (slice_get es k) ≡ Some slot) → cond b (Some 0) (option_map (λ (k : ℕ). suc k) (index_in es slot)) ≡ Some i → option_map (λ (e : Entry Run). e.slot) (slice_get (e ∷ es) i) ≡ Some slot
-    go true same rest h = let zero_is : 0 ≡ i = cc h in subst (λ (n : ℕ). option_map (λ (e : Entry Run). e.slot) (slice_get (e ∷ es) n) ≡ Some slot) zero_is (ap Some (same_slot e.slot slot same))
-    go false same rest h = tail (index_in es slot) i h rest
+  chain_within : (c i slot : ℕ) → slot_at a c i ≡ Some slot → c < length a.chains
+  chain_within c i slot there =
+      elim (cases_lt c (length a.chains)) [
+        | inl within ↦ within
+        | inr past ↦ absurd (none-some slot (ap (λ (es : List (Entry Run)). option_map (λ e. e.slot) (slice_get es i)) (sym (get_or_past a.chains c [] past)) ∙ there))
+      ]
 
-at_place : (chains : List (List (Entry Run))) (slot c i : ℕ) → place_in chains slot ≡ On c i → option_map (λ (e : Entry Run). e.slot) (slice_get (get_or chains c []) i) ≡ Some slot
-unfolding place_in either_place later
-at_place [] slot c i is = absurd (cc is)
-at_place (es ∷ chains) slot c i is = go (index_in es slot) refl (place_in chains slot) (at_place chains slot) is
-  where
-    moved : (d j : ℕ) → option_map (λ (e : Entry Run). e.slot) (slice_get (get_or (es ∷ chains) d []) j) ≡ Some slot → d ≡ c → j ≡ i → option_map (λ (e : Entry Run). e.slot) (slice_get (get_or (es ∷ chains) c []) i) ≡ Some slot
-    moved d j found chain index = (λ k. option_map (λ (e : Entry Run). e.slot) (slice_get (get_or (es ∷ chains) (sym chain k) []) (sym index k))) ∙ found
+  index_within : (c i slot : ℕ) → slot_at a c i ≡ Some slot → i < length (items a c)
+  index_within c i slot there =
+      elim (cases_lt i (length (entries a c))) [
+        | inl within ↦ omega (arith, within, length-map (entries a c) (λ (e : Entry Run). e.item))
+        | inr past ↦ absurd (none-some slot (ap (option_map (λ (e : Entry Run). e.slot)) (sym (slice_get_past (entries a c) i past)) ∙ there))
+      ]
 
-    go : (o : Option ℕ) → index_in es slot ≡ o → (p : Place) → ((d j : ℕ) → p ≡ On d j → option_map (λ (e : Entry Run). e.slot) (slice_get (get_or chains d []) j) ≡ Some slot) → either_place o p ≡ On c i → option_map (λ (e : Entry Run). e.slot) (slice_get (get_or (es ∷ chains) c []) i) ≡ Some slot
-    go (Some j) own p rest h = let chain : 0 ≡ c = cc h in let index : j ≡ i = cc h in moved 0 j (at_index es slot j own) chain index
-    go None own Free rest h = absurd (cc h)
-    go None own (On d j) rest h = let chain : suc d ≡ c = cc h in let index : j ≡ i = cc h in moved (suc d) j (rest d j refl) chain index
+  -- a place on a chain is below the number of its runs
+  pub place_on : (c i slot : ℕ) → slot_at a c i ≡ Some slot → (v : LockTable) → record { limit = limit; marking = marking_of (map meant (all_runs a)) } ≡ v → i < runs (on_chain c v.marking)
+  place_on c i slot there v view =
+      let index = index_within c i slot there in
+      let long = length-chain c (chain_within c i slot there) in
+      let same = ap (λ (x : LockTable). runs (on_chain c x.marking)) view in
+      omega (arith, index, long, same)
 
-some_index : (es : List (Entry Run)) (slot : ℕ) → is_some (index_in es slot) ≡ list_any (λ (e : Entry Run). e.slot == slot) es
-unfolding index_in
-some_index [] slot = refl
-some_index (e ∷ es) slot = go (e.slot == slot) (index_in es slot) (some_index es slot)
-  where
-    go : (b : Bool) (o : Option ℕ) → is_some o ≡ list_any (λ (e : Entry Run). e.slot == slot) es → is_some (cond b (Some 0) (option_map (λ (k : ℕ). suc k) o)) ≡ (b || list_any (λ (e : Entry Run). e.slot == slot) es)
-    go true o rest = refl
-    go false None rest = rest
-    go false (Some i) rest = rest
-
-some_place : (chains : List (List (Entry Run))) (slot : ℕ) → is_on (place_in chains slot) ≡ list_any (λ es. list_any (λ (e : Entry Run). e.slot == slot) es) chains
-unfolding place_in either_place later
-some_place [] slot = refl
-some_place (es ∷ chains) slot = go (index_in es slot) (place_in chains slot) (some_index es slot) (some_place chains slot)
-  where
-    go : (o : Option ℕ) (p : Place) → is_some o ≡ list_any (λ (e : Entry Run). e.slot == slot) es → is_on p ≡ list_any (λ es. list_any (λ (e : Entry Run). e.slot == slot) es) chains
-        → is_on (either_place o p) ≡ (list_any (λ (e : Entry Run). e.slot == slot) es || list_any (λ es. list_any (λ (e : Entry Run). e.slot == slot) es) chains)
-    go None Free own rest = rest ∙ ap (λ b. b || list_any (λ es. list_any (λ (e : Entry Run). e.slot == slot) es) chains) own
-    go None (On c i) own rest = rest ∙ ap (λ b. b || list_any (λ es. list_any (λ (e : Entry Run). e.slot == slot) es) chains) own
-    go (Some i) p own rest = ap (λ b. b || list_any (λ es. list_any (λ (e : Entry Run). e.slot == slot) es) chains) own
-
-or_first : (b c : Bool) → b ≡ true → (b || c) ≡ true
-or_first true c h = refl
-or_first false c h = absurd (cc h)
-
-or_later : (b c : Bool) → c ≡ true → (b || c) ≡ true
-or_later true c h = refl
-or_later false c h = h
-
--- a slot on a chain is linked
-linked_at : (es : List (Entry Run)) (slot i : ℕ) → option_map (λ (e : Entry Run). e.slot) (slice_get es i) ≡ Some slot → list_any (λ (e : Entry Run). e.slot == slot) es ≡ true
-linked_at [] slot i is = absurd (cc is)
-linked_at (e ∷ es) slot zero is = let same : e.slot ≡ slot = cc is in or_first _ _ (number_itself e.slot slot same)
-linked_at (e ∷ es) slot (suc i) is = or_later _ _ (linked_at es slot i is)
-
-linked : (chains : List (List (Entry Run))) (slot c i : ℕ) → option_map (λ (e : Entry Run). e.slot) (slice_get (get_or chains c []) i) ≡ Some slot → list_any (λ es. list_any (λ (e : Entry Run). e.slot == slot) es) chains ≡ true
-linked [] slot c i is = absurd (cc is)
-linked (es ∷ chains) slot zero i is = or_first _ _ (linked_at es slot i is)
-linked (es ∷ chains) slot (suc c) i is = or_later _ _ (linked chains slot c i is)
-
-count_parts : (p : ℕ → Bool) (xs : List ℕ) → count_by p xs + count_by (λ x. not (p x)) xs ≡ length xs
-count_parts p [] = refl
-count_parts p (x ∷ xs) =
-    let a = sum_by-cons (λ (x : ℕ). cond (p x) 1 0) x xs in
-    let b = sum_by-cons (λ (x : ℕ). cond (not (p x)) 1 0) x xs in
-    let rest = count_parts p xs in
-    let one = one_of (p x) in
-    omega (arith, a, b, rest, one)
-  where
-    one_of : (b : Bool) → cond b 1 0 + cond (not b) 1 0 ≡ 1
-    one_of true = refl
-    one_of false = refl
-
-pub placed : (a : Chains Run) (limit : ℕ) (t : IsTable a limit) (free : ℕ) → item_count a + free ≡ a.slots → free ≡ unlinked_count a → (v : LockTable) → record { limit = limit; marking = marking_of (map meant (all_runs a)) } ≡ v
-    → (slot : ℕ) (told : Place) → ((c i : ℕ) → (told ≡ On c i) ↔ (slot_at a c i ≡ Some slot)) → IsPlaced v slot told
-placed a limit t free total unlinked v view slot told is = record {
-  place = place_in a.chains;
-  apart = λ p q c i at_p at_q. cc (at_place a.chains p c i at_p, at_place a.chains q c i at_q);
-  counted =
-      let room : v.limit ≡ a.slots = ap (λ (x : LockTable). x.limit) (sym view) ∙ sym t.slots in
-      let slots : a.slots ≡ limit = t.slots in
-      let on : count_by (λ s. is_on (place_in a.chains s)) (range_with_len 0 v.limit) ≡ count_by (is_linked a) (range_with_len 0 a.slots) =
-      (λ k. count_by (λ s. some_place a.chains s k) (range_with_len 0 (room k))) in
-      let parts = count_parts (is_linked a) (range_with_len 0 a.slots) in
-      let all = length-range_with_len 0 a.slots in
-      let long : limit - free ≡ runs v.marking = runs_counted a limit t free total ∙ ap (λ (x : LockTable). runs x.marking) view in
-      omega (arith, on, parts, all, long, slots, unlinked);
-  here = go (place_in a.chains slot) refl;
-}
-  where
-    told_free : (p : Place) → told ≡ p → place_in a.chains slot ≡ Free → told ≡ Free
-    told_free Free e none = e
-    told_free (On c i) e none = absurd (cc (sym (ap is_on none) ∙ some_place a.chains slot ∙ linked a.chains slot c i ((is c i).0 e)))
-
-    go : (p : Place) → place_in a.chains slot ≡ p → told ≡ place_in a.chains slot
-    go Free e = told_free told refl e ∙ sym e
-    go (On c i) e = (is c i).1 (at_place a.chains slot c i e) ∙ sym e
+  -- where a slot is free, so is one of the table's
+  pub place_free : 0 < free_count a → (v : LockTable) → record { limit = limit; marking = marking_of (map meant (all_runs a)) } ≡ v → runs v.marking < v.limit
+  place_free some v view =
+      let count = count_all a in
+      let long = runs_length (all_runs a) t.runs in
+      let slots = t.slots in
+      let few : runs (marking_of (map meant (all_runs a))) < limit = omega (arith, some, count, long, slots) in
+      subst (λ (x : LockTable). runs x.marking < x.limit) view few

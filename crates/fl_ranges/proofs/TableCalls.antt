@@ -4,7 +4,7 @@ use Rattle.std.proofs.lemmas.Bool.Decides.{nat_tests}
 use Rattle.std.specs.Prelude.{IfSome}
 use Rattle.std.specs.List.{filter, AllByRecursion}
 use Rattle.std.specs.Option.{option_map}
-use Rattle.std.specs.FinMap.{same_map}
+use Rattle.std.specs.FinMap.{same_map, retain_keys}
 use Rattle.fl_arena.specs.Chains.{Entry, Chains, entries, items, item_count, HasSizeOf}
 use Rattle.fl_ranges.specs.declared.lock.Key.{Key}
 use Rattle.fl_ranges.specs.declared.lock.Mark.{Mark}
@@ -14,9 +14,10 @@ use Rattle.fl_ranges.specs.Marking.{Spot, Marking, stroked, marking_of}
 use Rattle.fl_ranges.specs.Runs.{runs, without_node}
 use Rattle.fl_ranges.specs.LockTable.{LockTable}
 use Rattle.fl_ranges.specs.RunList.{meant, has_spot, run_at, held_at, overlaps, IsWhole, AreRuns, left_over, part_before, part_after}
-use Rattle.fl_ranges.specs.RunChains.{home, all_runs, IsSorted, IsTable}
+use Rattle.fl_ranges.specs.Placing.{home}
+use Rattle.fl_ranges.specs.RunChains.{all_runs, IsSorted, IsTable}
 use Rattle.fl_ranges.specs.RunPlan.{plan_of, pieces, insert_some}
-use Rattle.fl_ranges.proofs.Markings.{spots_total, exact_spots, get-without_node}
+use Rattle.fl_ranges.proofs.Markings.{spots_total, exact_spots, get-kept_nodes}
 use Rattle.fl_ranges.proofs.RunLists.{at_spot, run_has, each_at, each_filter, each_weaker, keep, run_at-filter, apart-filter}
 use Rattle.fl_ranges.proofs.Counting.{get-runs, runs_length}
 use Rattle.fl_ranges.proofs.Sorted.{sorted_filter}
@@ -106,7 +107,7 @@ owner_erased a limit t key b size others is =
 -- ---- all bytes of a node
 
 module _ (p : Run → Bool) (rs : List Run) (good : AreRuns rs) where
-  runs-filter : AreRuns (filter p rs)
+  pub runs-filter : AreRuns (filter p rs)
   runs-filter = record {
     apart = apart-filter p rs good.apart;
     whole = each_weaker (λ r. (p r ≡ true) × IsWhole (held_at rs) r) (IsWhole (held_at (filter p rs)))
@@ -132,30 +133,31 @@ same_number a b e = grind (arith, nat_tests)
 not_of_node : (node : ℕ) (rs : List Run) → AllByRecursion (IsAway (home node)) rs → AllByRecursion (λ r. (r.key.node == node) ≡ false) rs
 not_of_node node rs each = each_weaker (IsAway (home node)) (λ r. (r.key.node == node) ≡ false) (λ r far. only_false _ (λ is. far (ap home (same_number r.key.node node is)))) rs each
 
-without : (node : ℕ) (rs : List Run) → AreRuns rs → marking_of (map meant (filter (λ r. not (r.key.node == node)) rs)) ≡ without_node node (marking_of (map meant rs))
-without node rs good = same_map spots_total exact_spots _ _ (λ q.
-    get-runs (filter (λ r. not (r.key.node == node)) rs) q
-    ∙ ap (option_map (λ (x : Run). x.mark)) (run_at-filter (λ r. not (r.key.node == node)) rs good.apart q)
+-- the runs of the nodes that pass a test mean the marks of those nodes
+pub kept_nodes : (p : ℕ → Bool) (rs : List Run) → AreRuns rs → marking_of (map meant (filter (λ r. p r.key.node) rs)) ≡ retain_keys (marking_of (map meant rs)) (λ spot. p spot.0.node)
+kept_nodes p rs good = same_map spots_total exact_spots _ _ (λ q.
+    get-runs (filter (λ r. p r.key.node) rs) q
+    ∙ ap (option_map (λ (x : Run). x.mark)) (run_at-filter (λ r. p r.key.node) rs good.apart q)
     ∙ go q (run_at rs q) refl
-    ∙ ap (λ (o : Option Mark). cond (q.0.node == node) None o) (sym (get-runs rs q))
-    ∙ sym (get-without_node (marking_of (map meant rs)) node q))
+    ∙ ap (λ (o : Option Mark). cond (p q.0.node) o None) (sym (get-runs rs q))
+    ∙ sym (get-kept_nodes (marking_of (map meant rs)) p q))
   where
     none_either : (b : Bool) → ◌≡◌ {A = Option Mark} None (cond b None None)
     none_either true = refl
     none_either false = refl
 
-    turned : (b : Bool) (r : Run) → option_map (λ (x : Run). x.mark) (cond (not b) (Some r) None) ≡ cond b None (Some r.mark)
-    turned true r = refl
-    turned false r = refl
+    kept : (b : Bool) (r : Run) → option_map (λ (x : Run). x.mark) (cond b (Some r) None) ≡ cond b (Some r.mark) None
+    kept true r = refl
+    kept false r = refl
 
-    go : (q : Spot) (o : Option Run) → run_at rs q ≡ o → option_map (λ (x : Run). x.mark) (keep (λ r. not (r.key.node == node)) (run_at rs q)) ≡ cond (q.0.node == node) None (held_at rs q)
-    go q None none = ap (λ (o : Option Run). option_map (λ (x : Run). x.mark) (keep (λ r. not (r.key.node == node)) o)) none ∙ none_either (q.0.node == node) ∙ ap (λ (o : Option Run). cond (q.0.node == node) None (option_map (λ (x : Run). x.mark) o)) (sym none)
+    go : (q : Spot) (o : Option Run) → run_at rs q ≡ o → option_map (λ (x : Run). x.mark) (keep (λ r. p r.key.node) (run_at rs q)) ≡ cond (p q.0.node) (held_at rs q) None
+    go q None none = ap (λ (o : Option Run). option_map (λ (x : Run). x.mark) (keep (λ r. p r.key.node) o)) none ∙ none_either (p q.0.node) ∙ ap (λ (o : Option Run). cond (p q.0.node) (option_map (λ (x : Run). x.mark) o) None) (sym none)
     go q (Some r) found =
         let at = at_spot r q (run_has rs q r found) in
-        ap (λ (o : Option Run). option_map (λ (x : Run). x.mark) (keep (λ r. not (r.key.node == node)) o)) found
-        ∙ turned (r.key.node == node) r
-        ∙ ap (λ (k : Key). cond (k.node == node) None (Some r.mark)) at.key
-        ∙ ap (λ (o : Option Run). cond (q.0.node == node) None (option_map (λ (x : Run). x.mark) o)) (sym found)
+        ap (λ (o : Option Run). option_map (λ (x : Run). x.mark) (keep (λ r. p r.key.node) o)) found
+        ∙ kept (p r.key.node) r
+        ∙ ap (λ (k : Key). cond (p k.node) (Some r.mark) None) at.key
+        ∙ ap (λ (o : Option Run). cond (p q.0.node) (option_map (λ (x : Run). x.mark) o) None) (sym found)
 
 pub node_erased : (a : Chains Run) (limit : ℕ) (t : IsTable a limit) (node : ℕ) (b : Chains Run) → HasSizeOf a b → ((d : ℕ) → d ≢ home node → entries b d ≡ entries a d) → items b (home node) ≡ filter (λ r. not (r.key.node == node)) (items a (home node))
     → IsTable b limit × (marking_of (map meant (all_runs b)) ≡ without_node node (marking_of (map meant (all_runs a))))
@@ -178,7 +180,7 @@ node_erased a limit t node b size others is =
         sorted = λ c. in_order c (c == home node) refl;
         runs = subst AreRuns (sym all) (runs-filter (λ r. not (r.key.node == node)) (all_runs a) t.runs);
       },
-      ap (λ (l : List Run). marking_of (map meant l)) all ∙ without node (all_runs a) t.runs,
+      ap (λ (l : List Run). marking_of (map meant l)) all ∙ kept_nodes (λ n. not (n == node)) (all_runs a) t.runs,
     )
   where
     go : (c : ℕ) (x : Bool) → (c == home node) ≡ x → AllByRecursion (λ r. home r.key.node ≡ c) (items b c)

@@ -6,7 +6,6 @@ use Rattle.std.proofs.lemmas.Option.{none-some, slice_get_within}
 use Rattle.fl_arena.specs.Chains.{Chains, items, entries}
 use Rattle.fl_arena.specs.Cursors.{cursor_at}
 use Rattle.fl_arena.specs.declared.cursors.Cursor.{Cursor}
-use Rattle.fl_arena.proofs.ChainLaws.{stepped_at}
 use Rattle.fl_ranges.specs.declared.run.Run.{Run}
 use Rattle.fl_ranges.specs.RunChains.{goes_before, insert_run}
 
@@ -107,12 +106,11 @@ pub record IsOn {T : Type 0} (a : Chains T) (c : ℕ) (cursor next : Cursor) : T
   pub within : next.index ≤ length (items a c)
   pub smaller : length (items a c) - next.index < length (items a c) - cursor.index
 
-pub on_at : {T : Type 0} (a : Chains T) (c : ℕ) (cursor next : Cursor) (x : T) → cursor ≡ cursor_at a c cursor.index → slice_get (items a c) cursor.index ≡ Some x → next ≡ cursor_at a cursor.chain (cursor.index + 1) → IsOn a c cursor next
-on_at a c cursor next x at found on =
-    let step = stepped_at a c cursor next at on in
+pub on_at : {T : Type 0} (a : Chains T) (c : ℕ) (cursor next : Cursor) (x : T) → slice_get (items a c) cursor.index ≡ Some x → next ≡ cursor_at a c (cursor.index + 1) → IsOn a c cursor next
+on_at a c cursor next x found on =
+    let index : next.index ≡ cursor.index + 1 = ap (λ (k : Cursor). k.index) on in
     let more : cursor.index < length (items a c) = slice_get_within (items a c) cursor.index x found in
-    let index : next.index ≡ cursor.index + 1 = step.1 in
-    record { at = step.0; index = index; more = more; within = omega (arith, index, more); smaller = omega (arith, index, more) }
+    record { at = on ∙ ap (cursor_at a c) (sym index); index = index; more = more; within = omega (arith, index, more); smaller = omega (arith, index, more) }
 
 fewer : {A : Type 0} (xs : List A) (i : ℕ) → i < length xs → length (remove xs i) + 1 ≡ length xs
 fewer [] i h = absurd (omega (arith, h))

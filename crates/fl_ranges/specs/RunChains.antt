@@ -1,5 +1,5 @@
 -- How the runs stand in the chains of an arena. No public clause cites this module.
-use Rattle.std.specs.Prelude.{◌≡◌, ℕ, ◌%◌, ◌≤◌, Bool, false, List, [], ◌∷◌, map, length, if◌then◌else◌}
+use Rattle.std.specs.Prelude.{◌≡◌, ℕ, ◌≤◌, Bool, false, List, [], ◌∷◌, map, length, if◌then◌else◌}
 use Rattle.std.specs.List.{flat_map, AllByRecursion}
 use Rattle.std.specs.Ordering.{nat_cmp, ordering_then, is_lt}
 use Rattle.std.specs.declared.cmp.Ordering.{Ordering}
@@ -7,11 +7,8 @@ use Rattle.fl_arena.specs.Chains.{Chains, items}
 use Rattle.fl_ranges.specs.declared.lock.Key.{Key}
 use Rattle.fl_ranges.specs.declared.run.Run.{Run}
 use Rattle.fl_ranges.specs.Marking.{class_number}
+use Rattle.fl_ranges.specs.Placing.{home}
 use Rattle.fl_ranges.specs.RunList.{AreRuns}
-
--- the chain of a node's runs
-abbrev pub home : ℕ → ℕ
-home node = node % 256
 
 -- all runs, chain after chain
 abbrev pub all_runs : Chains Run → List Run

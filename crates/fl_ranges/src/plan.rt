@@ -3,7 +3,8 @@ ghost use Rattle.std.specs.Prelude.{◌≡◌, ◌≢◌, ◌+◌, ◌<◌, ◌�
 ghost use Rattle.std.specs.List.{filter};
 ghost use Rattle.fl_arena.specs.Chains.{entries, items, HasSizeOf};
 ghost use Rattle.fl_ranges.specs.RunList.{reach_start, reach_end, overlaps};
-ghost use Rattle.fl_ranges.specs.RunChains.{home, all_runs, IsSorted};
+ghost use Rattle.fl_ranges.specs.Placing.{home};
+ghost use Rattle.fl_ranges.specs.RunChains.{all_runs, IsSorted};
 ghost use Rattle.fl_ranges.specs.RunPlan.{plan_of, count_run, pieces, insert_some, carried_out};
 
 use crate::chain::{add, count_over, remove_over, run_at};

@@ -1,5 +1,5 @@
 //! The table of locks.
-ghost use Rattle.std.specs.Prelude.{◌≡◌, ◌≤◌, ◌<◌, ◌↔◌, Option, Some, None, IfOk, IsErr, OnOk, OnErr};
+ghost use Rattle.std.specs.Prelude.{◌≡◌, ◌≤◌, ◌<◌, ◌↔◌, ℕ, false, Option, Some, None, IfOk, IsErr, OnOk, OnErr};
 ghost use Rattle.std.specs.FinMap as map;
 
 use crate::chain::{CHAINS, remove_node, remove_over, some_excludes};
@@ -43,14 +43,15 @@ impl Model for Table {
 
 impl Table {
     ghost use Rattle.fl_ranges.specs.Marking.{stroked};
-    ghost use Rattle.fl_ranges.specs.Conflict.{conflicts};
+    ghost use Rattle.fl_ranges.specs.Conflict.{conflicts, IsLawful};
     ghost use Rattle.fl_ranges.specs.Runs.{runs, without_node};
-    ghost use Rattle.fl_ranges.specs.Placing.{IsPlaced};
+    ghost use Rattle.fl_ranges.specs.Placing.{on_chain};
 
     /// A table with no locks. It fails only for want of memory.
     pub fn new(alloc: Global, limit: u32) -> Result<Table, AllocError>
         requires { limit ≤ 65536 }
-        ensures { IfOk result (λ t. t ≡ record { limit = limit; marking = map.empty }) }
+        ensures empty { IfOk result (λ t. t ≡ record { limit = limit; marking = map.empty }) }
+        ensures lawful { IfOk result (λ t. IsLawful t.marking) }
     {
         Ok(Table {
             runs: Arena::new(alloc, CHAINS, limit as usize)?,
@@ -65,6 +66,8 @@ impl Table {
         ensures ok { OnOk result
             (self.new ≡ record self.old { marking = stroked (record { key = key.now; start = range.now.start; end = range.now.end; mark = Some mark }) self.old.marking }) }
         ensures err { OnErr result (self.new ≡ self.old) }
+        ensures lawful { conflicts self.old.marking key.now range.now.start range.now.end mark.kind ≡ false →
+            IsLawful self.old.marking → IsLawful self.new.marking }
     {
         self.stroke(key, range, Some(mark))
     }
@@ -77,6 +80,7 @@ impl Table {
         ensures ok { OnOk result
             (self.new ≡ record self.old { marking = stroked (record { key = key.now; start = range.now.start; end = range.now.end; mark = None }) self.old.marking }) }
         ensures err { OnErr result (self.new ≡ self.old) }
+        ensures lawful { IsLawful self.old.marking → IsLawful self.new.marking }
     {
         self.stroke(key, range, None)
     }
@@ -100,14 +104,16 @@ impl Table {
 
     /// All bytes of the key lose their marks.
     pub fn erase_owner(&mut self, key: &Key)
-        ensures { self.new ≡ record self.old { marking = stroked (record { key = key.now; start = 0; end = LAST_BYTE; mark = None }) self.old.marking } }
+        ensures erased { self.new ≡ record self.old { marking = stroked (record { key = key.now; start = 0; end = LAST_BYTE; mark = None }) self.old.marking } }
+        ensures lawful { IsLawful self.old.marking → IsLawful self.new.marking }
     {
         remove_over(&mut self.runs, key, 0, LAST_BYTE);
     }
 
     /// All bytes of the node lose their marks, of both classes and all owners.
     pub fn erase_node(&mut self, node: u64)
-        ensures { self.new ≡ record self.old { marking = without_node node self.old.marking } }
+        ensures erased { self.new ≡ record self.old { marking = without_node node self.old.marking } }
+        ensures lawful { IsLawful self.old.marking → IsLawful self.new.marking }
     {
         remove_node(&mut self.runs, node);
     }
@@ -119,14 +125,13 @@ impl Table {
         some_excludes(&self.runs, key, range.start, range.end, kind)
     }
 
-    /// Where a slot is: slots are numbered from 0, and each is free or holds a run on one of the chains. This
-    /// walks along its chain.
+    /// Where a slot is: slots are numbered from 0, and each is free or holds a run, which stands on the chain
+    /// of its node's number modulo 256. This walks along its chain.
     pub fn slot_place(&self, slot: usize) -> Place
         requires { slot < self.now.limit }
-        ensures { IsPlaced self.now slot result }
+        ensures on { (chain index : ℕ) → result ≡ Place.On chain index → index < runs (on_chain chain self.now.marking) }
+        ensures free { result ≡ Place.Free → runs self.now.marking < self.now.limit }
     {
-        // The contract of `free` says how many slots are on chains.
-        prove!(self.runs.free() <= self.limit as usize);
         self.runs.place(slot)
     }
 

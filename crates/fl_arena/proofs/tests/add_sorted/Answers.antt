@@ -3,7 +3,6 @@ use Rattle.std.specs.List.{insert}
 use Rattle.std.proofs.lemmas.Option.{slice_get_within}
 use Rattle.fl_arena.specs.Chains.{items}
 use Rattle.fl_arena.specs.Sorted.{insert_sorted}
-use Rattle.fl_arena.proofs.ChainLaws.{stepped_at, inserted_at}
 use Rattle.fl_arena.proofs.SortedLemmas.{sorted_more, sorted_here, sorted_end, sorted_done}
 use Rattle.fl_arena.proofs.tests.add_sorted.Goals as goal
 use Rattle.fl_arena.proofs.tests.add_sorted.Goals.{in-Some+then-item-here, in_default}
@@ -15,11 +14,11 @@ loop-here-preserved c =
     let at = c.loop-here.invariant.at in
     let got = c.in-Some.ensures in
     let found : slice_get xs i ≡ Some c.in-Some.here = sym (got.at_index c.args.chain i at) in
-    let next = stepped_at c.args.arena.now c.args.chain c.loop-here.cursor c.step.new.cursor at (c.step.ensures.on (got.some.0 refl)) in
+    let next = c.step.ensures.at_index c.args.chain i (got.some.0 refl) at in
     let within = slice_get_within xs i c.in-Some.here found in
-    let index = next.1 in
+    let index = ap (λ (k : Cursor). k.index) next in
     record {
-      at = next.0;
+      at = next ∙ ap (cursor_at c.args.arena.now c.args.chain) (sym index);
       within = omega arith;
       smaller = rw index (c.loop-here.invariant.smaller ∙ sorted_more c.args.item c.in-Some.here xs i found (omega arith));
     }

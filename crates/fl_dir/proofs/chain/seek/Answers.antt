@@ -19,7 +19,7 @@ loop-here-smaller g c =
     let inv = c.loop-here.invariant in
     let got = c.in-Some.ensures in
     let found : slice_get xs i ≡ Some c.in-Some.here = sym (got.at_index 0 i inv.at) in
-    let step = on_at c.args.chain.now c.loop-here.cursor c.step.new.cursor c.in-Some.here inv.at found (c.step.ensures.on (got.some.0 refl)) in
+    let step = on_at c.args.chain.now c.loop-here.cursor c.step.new.cursor c.in-Some.here found (c.step.ensures.at_index 0 i (got.some.0 refl) inv.at) in
     step.smaller
 
 pub loop-here-preserved : goal.loop-here-preserved
@@ -29,7 +29,7 @@ loop-here-preserved g c =
     let inv = c.loop-here.invariant in
     let got = c.in-Some.ensures in
     let found : slice_get xs i ≡ Some c.in-Some.here = sym (got.at_index 0 i inv.at) in
-    let step = on_at c.args.chain.now c.loop-here.cursor c.step.new.cursor c.in-Some.here inv.at found (c.step.ensures.on (got.some.0 refl)) in
+    let step = on_at c.args.chain.now c.loop-here.cursor c.step.new.cursor c.in-Some.here found (c.step.ensures.at_index 0 i (got.some.0 refl) inv.at) in
     record {
       at = step.at;
       within = step.within;

@@ -15,7 +15,7 @@ loop-run-preserved c =
     let at = c.loop-run.invariant.at in
     let got = c.in-Some.ensures in
     let found : slice_get xs i ≡ Some c.in-Some.run' = sym (got.at_index c.args.chain i at) in
-    let step = on_at c.args.runs.now c.args.chain c.loop-run.cursor c.step.new.cursor c.in-Some.run' at found (c.step.ensures.on (got.some.0 refl)) in
+    let step = on_at c.args.runs.now c.args.chain c.loop-run.cursor c.step.new.cursor c.in-Some.run' found (c.step.ensures.at_index _ _ (got.some.0 refl) at) in
     let index = step.index in
     record {
       at = step.at;

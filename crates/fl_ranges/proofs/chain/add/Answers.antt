@@ -1,8 +1,8 @@
 use Rattle.std.proofs.Common.{◌≡◌, ℕ, ◌++◌, take, drop, Some, slice_get, refl, sym, ap, ◌∙◌}
 use Rattle.std.specs.List.{insert}
 use Rattle.fl_arena.specs.Chains.{items}
-use Rattle.fl_arena.proofs.ChainLaws.{inserted_at}
-use Rattle.fl_ranges.specs.RunChains.{home, insert_run}
+use Rattle.fl_ranges.specs.Placing.{home}
+use Rattle.fl_ranges.specs.RunChains.{insert_run}
 use Rattle.fl_ranges.proofs.ChainLists.{no_room}
 use Rattle.fl_ranges.proofs.Walks.{on_at, place_on, place_here, place_end}
 use Rattle.fl_ranges.proofs.chain.add.Goals as goal
@@ -15,7 +15,7 @@ loop-here-preserved c =
     let inv = c.loop-here.invariant in
     let got = c.in-Some.ensures in
     let found : slice_get xs i ≡ Some c.in-Some.here = sym (got.at_index (home c.args.run.now.key.node) i inv.at) in
-    let step = on_at c.args.runs.now (home c.args.run.now.key.node) c.loop-here.cursor c.step.new.cursor c.in-Some.here inv.at found (c.step.ensures.on (got.some.0 refl)) in
+    let step = on_at c.args.runs.now (home c.args.run.now.key.node) c.loop-here.cursor c.step.new.cursor c.in-Some.here found (c.step.ensures.at_index _ _ (got.some.0 refl) inv.at) in
     record {
       at = step.at;
       within = step.within;
@@ -31,7 +31,6 @@ returns-clause-items c =
     let xs = items c.args.runs.now h in
     let i = c.loop-here.cursor.index in
     let at = c.loop-here.invariant.at in
-    let place = inserted_at c.args.runs.now h c.loop-here.cursor at c.loop-here.invariant.within in
     let whole : insert_run c.args.run.now xs ≡ insert xs i c.args.run.now =
     elim c.match-get.branch [
       | in-Some+then-goes_before w ↦
@@ -41,5 +40,4 @@ returns-clause-items c =
           let got = c.get.ensures.at_index h i at in
           c.loop-here.invariant.place ∙ place_end c.args.run.now xs i (sym got ∙ w.in_default.is)
     ] in
-    ap (items c.insert.new.self) (sym place.0) ∙ c.in-Ok.ensures.items
-    ∙ (λ j. insert (items c.args.runs.now (place.0 j)) (place.1 j) c.args.run.now) ∙ sym whole
+    c.in-Ok.ensures.at_index h i at ∙ sym whole

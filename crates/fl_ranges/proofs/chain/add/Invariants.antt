@@ -2,7 +2,7 @@ use Rattle.std.proofs.Common.{◌≡◌, ◌-◌, ◌≤◌, ◌++◌, length, t
 use Rattle.fl_ranges.specs.RunChains.{insert_run}
 use Rattle.fl_arena.specs.Chains.{items}
 use Rattle.fl_arena.specs.Cursors.{cursor_at}
-use Rattle.fl_ranges.specs.RunChains.{home}
+use Rattle.fl_ranges.specs.Placing.{home}
 use Rattle.fl_ranges.proofs.chain.add.Given as goal
 
 abbrev pub invariant-loop-here : goal.invariant-loop-here

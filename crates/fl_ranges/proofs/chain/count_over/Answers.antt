@@ -1,6 +1,6 @@
 use Rattle.std.proofs.Common.{◌≡◌, Some, None, slice_get, refl, sym, ◌∙◌, arith}
 use Rattle.fl_arena.specs.Chains.{items}
-use Rattle.fl_ranges.specs.RunChains.{home}
+use Rattle.fl_ranges.specs.Placing.{home}
 use Rattle.fl_ranges.specs.RunList.{overlaps}
 use Rattle.fl_ranges.proofs.Sorted.{past_overlap, count_stop}
 use Rattle.fl_ranges.proofs.Walks.{on_at, count_yes, count_no, count_end}
@@ -19,7 +19,7 @@ loop-run-smaller-then-overlaps c =
     let inv = c.loop-run.invariant in
     let got = c.in-Some.ensures in
     let found : slice_get xs i ≡ Some c.in-Some.run' = sym (got.at_index (home c.args.key.now.node) i inv.at) in
-    let step = on_at c.args.runs.now (home c.args.key.now.node) c.loop-run.cursor c.step.new.cursor c.in-Some.run' inv.at found (c.step.ensures.on (got.some.0 refl)) in
+    let step = on_at c.args.runs.now (home c.args.key.now.node) c.loop-run.cursor c.step.new.cursor c.in-Some.run' found (c.step.ensures.at_index _ _ (got.some.0 refl) inv.at) in
     step.smaller
 
 pub loop-run-preserved-then-overlaps : goal.loop-run-preserved-then-overlaps
@@ -29,7 +29,7 @@ loop-run-preserved-then-overlaps c =
     let inv = c.loop-run.invariant in
     let got = c.in-Some.ensures in
     let found : slice_get xs i ≡ Some c.in-Some.run' = sym (got.at_index (home c.args.key.now.node) i inv.at) in
-    let step = on_at c.args.runs.now (home c.args.key.now.node) c.loop-run.cursor c.step.new.cursor c.in-Some.run' inv.at found (c.step.ensures.on (got.some.0 refl)) in
+    let step = on_at c.args.runs.now (home c.args.key.now.node) c.loop-run.cursor c.step.new.cursor c.in-Some.run' found (c.step.ensures.at_index _ _ (got.some.0 refl) inv.at) in
     let index = step.index in
     record {
       at = step.at;
@@ -45,7 +45,7 @@ loop-run-smaller c =
     let inv = c.loop-run.invariant in
     let got = c.in-Some.ensures in
     let found : slice_get xs i ≡ Some c.in-Some.run' = sym (got.at_index (home c.args.key.now.node) i inv.at) in
-    let step = on_at c.args.runs.now (home c.args.key.now.node) c.loop-run.cursor c.step.new.cursor c.in-Some.run' inv.at found (c.step.ensures.on (got.some.0 refl)) in
+    let step = on_at c.args.runs.now (home c.args.key.now.node) c.loop-run.cursor c.step.new.cursor c.in-Some.run' found (c.step.ensures.at_index _ _ (got.some.0 refl) inv.at) in
     step.smaller
 
 pub loop-run-preserved : goal.loop-run-preserved
@@ -55,7 +55,7 @@ loop-run-preserved c =
     let inv = c.loop-run.invariant in
     let got = c.in-Some.ensures in
     let found : slice_get xs i ≡ Some c.in-Some.run' = sym (got.at_index (home c.args.key.now.node) i inv.at) in
-    let step = on_at c.args.runs.now (home c.args.key.now.node) c.loop-run.cursor c.step.new.cursor c.in-Some.run' inv.at found (c.step.ensures.on (got.some.0 refl)) in
+    let step = on_at c.args.runs.now (home c.args.key.now.node) c.loop-run.cursor c.step.new.cursor c.in-Some.run' found (c.step.ensures.at_index _ _ (got.some.0 refl) inv.at) in
     let index = step.index in
     record {
       at = step.at;

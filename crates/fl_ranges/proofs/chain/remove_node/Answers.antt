@@ -1,7 +1,8 @@
 use Rattle.std.proofs.Common.{subst, ◌≡◌, ℕ, ◌++◌, ◌==◌, not, take, drop, Some, None, slice_get, refl, sym, ap, ◌∙◌}
 use Rattle.fl_arena.specs.Chains.{items}
 use Rattle.fl_ranges.specs.declared.run.Run.{Run}
-use Rattle.fl_ranges.specs.RunChains.{home, IsSorted}
+use Rattle.fl_ranges.specs.Placing.{home}
+use Rattle.fl_ranges.specs.RunChains.{IsSorted}
 use Rattle.std.specs.List.{filter}
 use Rattle.fl_ranges.proofs.Sorted.{node_stop, sorted_remove}
 use Rattle.fl_ranges.proofs.Walks.{on_node, off_node, on_at, out_at, kept_on, kept_out, kept_all}
@@ -44,7 +45,7 @@ loop-run-smaller c =
     let inv = c.loop-run.invariant in
     let got = c.in-Some.ensures in
     let found : slice_get xs i ≡ Some c.in-Some.run' = sym (got.at_index (home c.args.node) i inv.at) in
-    let step = on_at c.loop-run.runs (home c.args.node) c.loop-run.cursor c.step.new.cursor c.in-Some.run' inv.at found (c.step.ensures.on (got.some.0 refl)) in
+    let step = on_at c.loop-run.runs (home c.args.node) c.loop-run.cursor c.step.new.cursor c.in-Some.run' found (c.step.ensures.at_index _ _ (got.some.0 refl) inv.at) in
     step.smaller
 
 pub loop-run-preserved : goal.loop-run-preserved
@@ -54,7 +55,7 @@ loop-run-preserved c =
     let inv = c.loop-run.invariant in
     let got = c.in-Some.ensures in
     let found : slice_get xs i ≡ Some c.in-Some.run' = sym (got.at_index (home c.args.node) i inv.at) in
-    let step = on_at c.loop-run.runs (home c.args.node) c.loop-run.cursor c.step.new.cursor c.in-Some.run' inv.at found (c.step.ensures.on (got.some.0 refl)) in
+    let step = on_at c.loop-run.runs (home c.args.node) c.loop-run.cursor c.step.new.cursor c.in-Some.run' found (c.step.ensures.at_index _ _ (got.some.0 refl) inv.at) in
     record {
       at = step.at;
       within = step.within;

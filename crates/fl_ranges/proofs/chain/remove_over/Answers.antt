@@ -1,7 +1,8 @@
 use Rattle.std.proofs.Common.{subst, ◌≡◌, ℕ, ◌++◌, not, take, drop, Some, None, slice_get, refl, sym, ap, ◌∙◌}
 use Rattle.fl_arena.specs.Chains.{items}
 use Rattle.fl_ranges.specs.declared.run.Run.{Run}
-use Rattle.fl_ranges.specs.RunChains.{home, IsSorted}
+use Rattle.fl_ranges.specs.Placing.{home}
+use Rattle.fl_ranges.specs.RunChains.{IsSorted}
 use Rattle.std.specs.List.{filter}
 use Rattle.fl_ranges.specs.RunList.{overlaps}
 use Rattle.fl_ranges.proofs.Sorted.{past_overlap, kept_stop, sorted_remove}
@@ -45,7 +46,7 @@ loop-run-smaller c =
     let inv = c.loop-run.invariant in
     let got = c.in-Some.ensures in
     let found : slice_get xs i ≡ Some c.in-Some.run' = sym (got.at_index (home c.args.key.now.node) i inv.at) in
-    let step = on_at c.loop-run.runs (home c.args.key.now.node) c.loop-run.cursor c.step.new.cursor c.in-Some.run' inv.at found (c.step.ensures.on (got.some.0 refl)) in
+    let step = on_at c.loop-run.runs (home c.args.key.now.node) c.loop-run.cursor c.step.new.cursor c.in-Some.run' found (c.step.ensures.at_index _ _ (got.some.0 refl) inv.at) in
     step.smaller
 
 pub loop-run-preserved : goal.loop-run-preserved
@@ -55,7 +56,7 @@ loop-run-preserved c =
     let inv = c.loop-run.invariant in
     let got = c.in-Some.ensures in
     let found : slice_get xs i ≡ Some c.in-Some.run' = sym (got.at_index (home c.args.key.now.node) i inv.at) in
-    let step = on_at c.loop-run.runs (home c.args.key.now.node) c.loop-run.cursor c.step.new.cursor c.in-Some.run' inv.at found (c.step.ensures.on (got.some.0 refl)) in
+    let step = on_at c.loop-run.runs (home c.args.key.now.node) c.loop-run.cursor c.step.new.cursor c.in-Some.run' found (c.step.ensures.at_index _ _ (got.some.0 refl) inv.at) in
     record {
       at = step.at;
       within = step.within;

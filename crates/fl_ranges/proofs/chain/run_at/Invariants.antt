@@ -2,7 +2,7 @@ use Rattle.std.proofs.Common.{◌≡◌, ◌-◌, ◌≤◌, length, drop}
 use Rattle.fl_ranges.specs.RunList.{run_at}
 use Rattle.fl_arena.specs.Chains.{items}
 use Rattle.fl_arena.specs.Cursors.{cursor_at}
-use Rattle.fl_ranges.specs.RunChains.{home}
+use Rattle.fl_ranges.specs.Placing.{home}
 use Rattle.fl_ranges.proofs.chain.run_at.Given as goal
 
 abbrev pub invariant-loop-run : goal.invariant-loop-run

@@ -3,7 +3,7 @@ use Rattle.std.specs.List.{list_any}
 use Rattle.fl_ranges.specs.RunList.{run_excludes}
 use Rattle.fl_arena.specs.Chains.{items}
 use Rattle.fl_arena.specs.Cursors.{cursor_at}
-use Rattle.fl_ranges.specs.RunChains.{home}
+use Rattle.fl_ranges.specs.Placing.{home}
 use Rattle.fl_ranges.proofs.chain.some_excludes.Given as goal
 
 abbrev pub invariant-loop-run : goal.invariant-loop-run

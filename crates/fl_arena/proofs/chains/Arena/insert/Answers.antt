@@ -4,7 +4,7 @@ use Rattle.std.proofs.lemmas.Option.{slice_get_within}
 use Rattle.fl_arena.specs.Chains.{entries, items, with_entries}
 use Rattle.fl_arena.specs.Cursors.{cursor_at, index_of}
 use Rattle.fl_arena.specs.Links.{Spells, link_before}
-use Rattle.fl_arena.proofs.ChainLaws.{HasSizeOf-with, items-insert, entries-with_other}
+use Rattle.fl_arena.proofs.ChainLaws.{HasSizeOf-with, items-insert, entries-with_other, inserted_at}
 use Rattle.fl_arena.proofs.CursorLemmas.{is_taken, slot_there, linked_within, before_within}
 use Rattle.fl_arena.proofs.InsertLemmas.{unused_slot}
 use Rattle.fl_arena.proofs.WalkLemmas.{spelled_is}
@@ -107,3 +107,9 @@ pub returns-clause-size : goal.returns-clause-size
 returns-clause-size g c =
     let here = placed g (goal.at.returns-clause-size g c).After-next_free-self-inside in
     HasSizeOf-with c.args.self.now _ c.args.cursor.now.chain _ (spelled_is _ _ _ _ _ (after g (goal.at.returns-clause-size g c).After-with here.0))
+
+pub returns-clause-at_index : goal.returns-clause-at_index
+returns-clause-at_index g c d i at =
+    let here = placed g (goal.at.returns-clause-at_index g c).After-next_free-self-inside in
+    ap (λ x. items x d) (spelled_is _ _ _ _ _ (after g (goal.at.returns-clause-at_index g c).After-with here.0))
+    ∙ inserted_at c.args.self.now d i c.args.cursor.now (record { slot = c.in-Some.slot; item = c.args.item }) at c.requires.chain

@@ -15,14 +15,14 @@ index_on-requires g c =
     let same : c.from-chain.result ≡ c.in-Taken.member.chain = c.from-chain.ensures in
     subst (λ (d : ℕ). (i : ℕ) × (slot_at c.args.self.now d i ≡ Some c.args.slot)) (sym same) (on.index, on.found)
 
-pub returns-in-Free : goal.returns-in-Free
-returns-in-Free g c =
+pub returns-in-Free-clause-on : goal.returns-in-Free-clause-on
+returns-in-Free-clause-on g c =
     let spells = spells_value _ _ _ _ _ c.self.invariant c.self.view_is in
     let within : c.args.slot < length c.self.inside.nodes.items = let slots = spells.slots in omega arith in
     let read = slice_get_read c.self.inside.nodes.items _ c.args.slot (Free c.in-Free.field-0) refl within (rw c.in-Free.is at c.index.ensures) in
     place_free _ _ _ _ _ spells c.args.slot c.in-Free.field-0 read
 
-pub returns-in-Taken : goal.returns-in-Taken
-returns-in-Taken g c =
+pub returns-in-Taken-clause-on : goal.returns-in-Taken-clause-on
+returns-in-Taken-clause-on g c =
     let spells = spells_value _ _ _ _ _ c.self.invariant c.self.view_is in
     place_on _ _ _ _ _ spells c.args.slot c.from-chain.result c.index_on.result c.index_on.ensures

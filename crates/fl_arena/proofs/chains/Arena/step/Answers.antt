@@ -1,6 +1,7 @@
-use Rattle.std.proofs.Common.{suc, arith}
+use Rattle.std.proofs.Common.{suc, refl, arith}
 use Rattle.fl_arena.proofs.PlaceLemmas.{linked_at}
 use Rattle.fl_arena.proofs.CursorLemmas.{is_at, is_taken, slot_there}
+use Rattle.fl_arena.proofs.ChainLaws.{stepped_at}
 use Rattle.fl_arena.proofs.CallLemmas.{spells_value, stepped, within_slots}
 use Rattle.fl_arena.proofs.chains.Arena.step.Goals as goal
 
@@ -30,3 +31,7 @@ returns-in-Some-clause-in_range g c =
     let there = slot_there c.args.self.now c.args.cursor.now _ c.in-Some.is c.requires in
     let place = is_at _ _ _ _ _ spells _ _ _ c.member_at.result there c.member_at.ensures in
     within_slots _ _ _ _ _ spells c.args.cursor.now.chain (suc c.args.cursor.now.index) _ place.next
+
+pub returns-in-Some-clause-at_index : goal.returns-in-Some-clause-at_index
+returns-in-Some-clause-at_index g c d i _ here =
+    stepped_at c.args.self.now d i c.args.cursor.now _ here (returns-in-Some-clause-on g c (rw c.in-Some.is refl))

@@ -5,7 +5,7 @@ use Rattle.fl_ranges.specs.declared.run.Run.{Run}
 use Rattle.fl_ranges.specs.declared.plan.Plan.{Plan}
 use Rattle.fl_ranges.specs.Marking.{stroked}
 use Rattle.fl_ranges.specs.RunList.{reach_start, reach_end}
-use Rattle.fl_ranges.specs.RunChains.{home}
+use Rattle.fl_ranges.specs.Placing.{home}
 use Rattle.fl_ranges.specs.RunPlan.{carried_out}
 use Rattle.fl_ranges.proofs.Cuts.{before_key, after_key}
 use Rattle.fl_ranges.proofs.ChainLists.{count_all}
