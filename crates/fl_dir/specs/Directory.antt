@@ -33,7 +33,8 @@ linked d name = find (λ e. is_named e.1.name name) (entries d.nodes)
 
 -- no file can have the name: it is empty, `.`, `..`, or has a `/` in it
 abbrev pub is_reserved : List ℕ → Bool
-is_reserved name = bytes_eq name [] || bytes_eq name (46 ∷ []) || bytes_eq name (46 ∷ 46 ∷ []) || list_any (λ byte. byte == 47) name
+is_reserved name =
+    bytes_eq name [] || bytes_eq name (46 ∷ []) || bytes_eq name (46 ∷ 46 ∷ []) || list_any (λ byte. byte == 47) name
 
 -- 256 nodes live beside the root, or all node numbers are given
 abbrev pub nodes_full : Listing → Bool
@@ -45,11 +46,18 @@ file_mode mode = bit_or 32768 (bit_and mode 511)
 
 -- the node that a CREATE makes, by the user and group that ask
 abbrev pub made_node : ℕ → ℕ → ℕ → List ℕ → Node
-made_node uid gid mode name = record { lookups = 1; name = Some name; mode = file_mode mode; uid = uid; gid = gid }
+made_node uid gid mode name =
+    record { lookups = 1; name = Some name; mode = file_mode mode; uid = uid; gid = gid }
 
 -- a file's attributes: one that is linked has one name
 abbrev pub attributes : ℕ → Node → Attr
-attributes number node = record { node = number; mode = node.mode; nlink = if is_some node.name then 1 else 0; uid = node.uid; gid = node.gid }
+attributes number node = record {
+  node = number;
+  mode = node.mode;
+  nlink = if is_some node.name then 1 else 0;
+  uid = node.uid;
+  gid = node.gid;
+}
 
 -- the root's attributes: a directory (octal 40000) that all may read and search and its owner may change (octal 755)
 abbrev pub root_attributes : Attr
@@ -57,4 +65,5 @@ root_attributes = record { node = 1; mode = 16877; nlink = 2; uid = 0; gid = 0 }
 
 -- the attributes of the root, or of a file that is known
 abbrev pub attributes_at : Listing → ℕ → Option Attr
-attributes_at d number = if number == 1 then Some root_attributes else option_map (attributes number) (get d.nodes number)
+attributes_at d number =
+    if number == 1 then Some root_attributes else option_map (attributes number) (get d.nodes number)

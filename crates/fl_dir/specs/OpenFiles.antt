@@ -10,13 +10,13 @@ abbrev pub files_full : Listing → Bool
 files_full d = nat_le 1024 (len d.files) || (d.next_fh == 2 ^ 64 - 1)
 
 -- an fh that may be open is open on this node
-abbrev pub is_node : Option ℕ → ℕ → Bool
-is_node None node = false
-is_node (Some own) node = own == node
+abbrev pub is_on : Option ℕ → ℕ → Bool
+is_on None node = false
+is_on (Some own) node = own == node
 
 -- the fh is open, and on this node
 abbrev pub is_open_on : Listing → ℕ → ℕ → Bool
-is_open_on d fh node = is_node (get d.files fh) node
+is_open_on d fh node = is_on (get d.files fh) node
 
 -- some fh is open on the node
 abbrev pub has_open_file : Listing → ℕ → Bool

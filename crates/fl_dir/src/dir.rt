@@ -73,7 +73,12 @@ impl Model for Dir {
 
     ghost coded = { listing_code };
 
-    ghost view = { λ d. record { nodes = from_sorted (items d.nodes 0); files = from_sorted (items d.files 0); next_node = d.next_node; next_fh = d.next_fh } };
+    ghost view = { λ d. record {
+      nodes = from_sorted (items d.nodes 0);
+      files = from_sorted (items d.files 0);
+      next_node = d.next_node;
+      next_fh = d.next_fh;
+    } };
 
     ghost invariant = { λ d. IsList d.nodes 256 d.next_node × IsList d.files 1024 d.next_fh };
 }

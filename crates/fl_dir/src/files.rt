@@ -27,7 +27,10 @@ impl Dir {
     pub(crate) fn open_file(&mut self, node: u64) -> u64
         requires { files_full self.old ≡ false }
         ensures fh { result ≡ self.old.next_fh }
-        ensures after { self.new ≡ record self.old { files = map.insert self.old.files self.old.next_fh node; next_fh = self.old.next_fh + 1 } }
+        ensures after { self.new ≡ record self.old {
+          files = map.insert self.old.files self.old.next_fh node;
+          next_fh = self.old.next_fh + 1;
+        } }
     {
         let fh = self.next_fh;
         push(&mut self.files, fh, node);

@@ -69,7 +69,10 @@ impl Dir {
     pub(crate) fn link(&mut self, node: &Node)
         requires { nodes_full self.old ≡ false }
         ensures fresh { map.get self.old.nodes self.old.next_node ≡ None }
-        ensures after { self.new ≡ record self.old { nodes = map.insert self.old.nodes self.old.next_node node.now; next_node = self.old.next_node + 1 } }
+        ensures after { self.new ≡ record self.old {
+          nodes = map.insert self.old.nodes self.old.next_node node.now;
+          next_node = self.old.next_node + 1;
+        } }
     {
         push(&mut self.nodes, self.next_node, *node);
         self.next_node += 1;
