@@ -10,7 +10,7 @@ use Rattle.fl_wire.specs.declared.order.Op.{Op}
 use Rattle.fl_wire.specs.declared.order.Op.TheVariants.{Create, Getlk, Setlk}
 use Rattle.fl_wire.specs.declared.order.LockAsk.{LockAsk}
 use Rattle.fl_ranges.specs.Change.{Change, struck, after_changes}
-use Rattle.fl_dir.specs.Directory.{after_create}
+use Rattle.fl_dir.specs.Changes.{after_create}
 use Rattle.fl_core.specs.LockRequest.{stroke_of}
 use Rattle.fl_core.specs.State.{Request, View, State, Snapshot}
 
@@ -31,7 +31,7 @@ locked node ask (Err e) = []
 -- an order with this reply of its own; an error changes nothing
 abbrev pub answered : Order → Op → Result Answer Errno → View → Effect
 answered order (Create excl mode name) reply v =
-    leaving (record v { directory = after_create v.directory order mode name reply })
+    leaving (record v { directory = after_create v.directory order.uid order.gid mode name reply })
 answered order (Getlk ask) reply v = leaving v
 answered order (Setlk ask) reply v = record { view = v; changes = locked order.node ask reply }
 

@@ -21,7 +21,8 @@ use Rattle.fl_ranges.specs.Marking.{Marking, Stroke, stroked}
 use Rattle.fl_ranges.specs.Conflict.{conflicts}
 use Rattle.fl_ranges.specs.Runs.{runs}
 use Rattle.fl_ranges.specs.Blocker.{blocker}
-use Rattle.fl_dir.specs.Directory.{Listing, create_reply}
+use Rattle.fl_dir.specs.Directory.{Listing}
+use Rattle.fl_dir.specs.Replies.{create_reply}
 use Rattle.fl_core.specs.LockRequest.{is_flock, key_of, mark_of, stroke_of}
 use Rattle.fl_core.specs.State.{State, Snapshot, snapshot_of}
 
@@ -83,7 +84,7 @@ getlk_reply d m node ask =
 
 -- what an order is answered where these nodes, files and locks are there
 abbrev pub reply_to : Listing → Marking → Order → Op → Result Answer Errno
-reply_to d m order (Create excl mode name) = create_reply d order excl mode name
+reply_to d m order (Create excl mode name) = create_reply d order.node order.uid order.gid excl mode name
 reply_to d m order (Getlk ask) = getlk_reply d m order.node ask
 reply_to d m order (Setlk ask) = setlk_reply d m order.node ask
 

@@ -13,8 +13,8 @@ ghost use Rattle.fl_core.specs.Step.{next};
 use crate::tolds::{MOST_TOLDS, Tolds};
 use fl_dir::Dir;
 use fl_ranges::{Class, Held, Key, Kind, LAST_BYTE, Mark, Range, Table};
-use fl_wire::{Answer, Errno, LockAsk, Op, Order, Told};
-use std::alloc::{AllocError, Global};
+use fl_wire::{Answer, Errno, LockAsk, NoMemory, Op, Order, Told};
+use std::alloc::Global;
 use std::marker::Model;
 
 // The lock types of Linux `fcntl.h`.
@@ -51,7 +51,7 @@ impl Model for Core {
 
 impl Core {
     /// No files and no locks.
-    pub fn new(alloc: Global) -> Result<Core, AllocError>
+    pub fn new(alloc: Global) -> Result<Core, NoMemory>
         ensures opening { IfOk result (λ s. s ≡ snapshot_of opening) }
         ensures lawful { IfOk result (λ s. IsLawful s.marking) }
     {
@@ -87,7 +87,10 @@ impl Core {
         ensures lawful { IsLawful self.old.marking → IsLawful self.new.marking }
     {
         match &order.op {
-            Op::Create { excl, mode, name } => self.directory.create(order, *excl, *mode, name),
+            Op::Create { excl, mode, name } => {
+                self.directory
+                    .create(order.node, order.uid, order.gid, *excl, *mode, name)
+            }
             Op::Getlk(ask) => test_lock(&self.directory, &self.locks, order.node, ask),
             Op::Setlk(ask) => set_lock(&self.directory, &mut self.locks, order.node, ask),
         }

@@ -1,3 +1,3 @@
-pub mod Listings
-pub mod Recounts
-pub mod Creates
+pub mod Walks
+pub mod Entries
+pub mod Chained

@@ -1,8 +1,14 @@
 //! The lock directory: names, nodes and open files.
 #![tactic(auto)]
 
-mod directory;
+mod chain;
+mod dir;
+mod files;
+mod names;
 mod node;
+mod nodes;
+#[cfg(test)]
+mod tests;
 
-pub use directory::{Dir, ROOT};
+pub use dir::{Closed, Dir, ROOT};
 pub use node::Node;

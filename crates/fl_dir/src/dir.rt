@@ -1,0 +1,259 @@
+//! The directory and its calls.
+ghost use Rattle.std.specs.Prelude.{◌≡◌, ◌+◌, Some, IfOk, OnOk, OnErr, false};
+ghost use Rattle.std.specs.FinMap as map;
+ghost use Rattle.fl_dir.specs.Directory.{opening_listing};
+ghost use Rattle.fl_dir.specs.Replies.{
+  directory_error,
+  lookup_reply,
+  created,
+  reopened,
+  create_reply,
+  open_reply,
+  getattr_reply,
+  unlink_reply,
+  close_reply,
+};
+ghost use Rattle.fl_dir.specs.Changes.{
+  after_lookup,
+  after_reply,
+  after_create,
+  after_open,
+  after_unlink,
+  after_forget,
+  after_close,
+  counted_up,
+};
+
+use crate::names::is_reserved;
+use crate::node::{
+    Node, attributes, counted_down, counted_up, made_node, nameless, root_attributes,
+};
+use fl_arena::Arena;
+use fl_wire::{Answer, Errno, Name, NoMemory};
+use std::alloc::Global;
+use std::marker::Model;
+
+/// The root's node number, `FUSE_ROOT_ID` of Linux `fuse.h`.
+pub const ROOT: u64 = 1;
+
+const MOST_NODES: usize = 256;
+
+const MOST_FILES: usize = 1024;
+
+/// Names, nodes and open files of a flat directory. Contracts see them as a `Listing`.
+///
+/// No call but `new` takes memory. The tests of each call are made in the order of its definition, and a refusal
+/// changes nothing.
+#[derive(Drop)]
+pub struct Dir {
+    // One chain each, in the order of the numbers, which only grow.
+    pub(crate) nodes: Arena<(u64, Node)>,
+    pub(crate) files: Arena<(u64, u64)>,
+    pub(crate) next_node: u64,
+    pub(crate) next_fh: u64,
+}
+
+/// An fh that was closed.
+#[derive(Clone, Copy, Debug, PartialEq, Eq)]
+pub struct Closed {
+    /// The node on which it was open.
+    pub node: u64,
+    /// No fh is left open on the node.
+    pub last: bool,
+}
+
+impl Model for Dir {
+    ghost use Rattle.std.specs.FinMap.{from_sorted};
+    ghost use Rattle.fl_arena.specs.Chains.{items};
+    ghost use Rattle.fl_dir.specs.Directory.{Listing};
+    ghost use Rattle.fl_dir.specs.Codes.{listing_code};
+    ghost use Rattle.fl_dir.specs.Listed.{IsList};
+
+    ghost Value = { Listing };
+
+    ghost coded = { listing_code };
+
+    ghost view = { λ d. record {
+      nodes = from_sorted (items d.nodes 0);
+      files = from_sorted (items d.files 0);
+      next_node = d.next_node;
+      next_fh = d.next_fh;
+    } };
+
+    ghost invariant = { λ d. IsList d.nodes 256 d.next_node × IsList d.files 1024 d.next_fh };
+}
+
+impl Dir {
+    /// An empty directory, with room for all that it may hold. It fails only for want of memory.
+    pub fn new(alloc: Global) -> Result<Dir, NoMemory>
+        ensures { IfOk result (λ d. d ≡ opening_listing) }
+    {
+        Ok(Dir {
+            nodes: Arena::new(alloc, 1, MOST_NODES)?,
+            files: Arena::new(alloc, 1, MOST_FILES)?,
+            next_node: ROOT + 1,
+            next_fh: 1,
+        })
+    }
+
+    /// FUSE_LOOKUP of a name in a node: counts one more lookup of the node of this name.
+    pub fn lookup(&mut self, node: u64, name: &Name) -> Result<Answer, Errno>
+        ensures answer { result ≡ lookup_reply self.old node name.now }
+        ensures after { self.new ≡ after_lookup self.old result }
+    {
+        if let Some(error) = self.directory_error(node) {
+            return Err(error);
+        }
+        let Some((number, found)) = self.linked(name) else {
+            return Err(Errno::ENOENT);
+        };
+        if found.lookups == u64::MAX {
+            return Err(Errno::ENFILE);
+        }
+        self.change(number, &counted_up(&found));
+        Ok(Answer::Entry(attributes(number, &found)))
+    }
+
+    /// FUSE_CREATE, by this user and group: makes the file, or opens the one of this name.
+    pub fn create(
+        &mut self,
+        node: u64,
+        uid: u32,
+        gid: u32,
+        excl: bool,
+        mode: u32,
+        name: &Name,
+    ) -> Result<Answer, Errno>
+        ensures answer { result ≡ create_reply self.old node uid gid excl mode name.now }
+        ensures after { self.new ≡ after_create self.old uid gid mode name.now result }
+    {
+        if let Some(error) = self.directory_error(node) {
+            return Err(error);
+        }
+        if is_reserved(name) {
+            return Err(Errno::EINVAL);
+        }
+        match self.linked(name) {
+            None => self.make(&made_node(uid, gid, mode, name)),
+            Some(_) if excl => Err(Errno::EEXIST),
+            Some((number, found)) => self.reopen(number, &found),
+        }
+    }
+
+    /// FUSE_OPEN: opens the node under the next fh.
+    pub fn open(&mut self, node: u64) -> Result<Answer, Errno>
+        ensures answer { result ≡ open_reply self.old node }
+        ensures after { self.new ≡ after_open self.old node result }
+    {
+        if !self.is_known(node) {
+            return Err(Errno::ENOENT);
+        }
+        if node == ROOT {
+            return Err(Errno::EISDIR);
+        }
+        if self.files_full() {
+            return Err(Errno::ENFILE);
+        }
+        Ok(Answer::Open(self.open_file(node)))
+    }
+
+    /// FUSE_GETATTR: the node's attributes.
+    pub fn getattr(&self, node: u64) -> Result<Answer, Errno>
+        ensures { result ≡ getattr_reply self.now node }
+    {
+        if node == ROOT {
+            return Ok(Answer::Attr(root_attributes()));
+        }
+        match self.node_at(node) {
+            None => Err(Errno::ENOENT),
+            Some(found) => Ok(Answer::Attr(attributes(node, &found))),
+        }
+    }
+
+    /// FUSE_UNLINK of a name in a node: the name is free at once. Its node stays while it has lookups or an open fh.
+    pub fn unlink(&mut self, node: u64, name: &Name) -> Result<Answer, Errno>
+        ensures answer { result ≡ unlink_reply self.old node name.now }
+        ensures after { self.new ≡ after_unlink self.old name.now result }
+    {
+        if let Some(error) = self.directory_error(node) {
+            return Err(error);
+        }
+        let Some((number, found)) = self.linked(name) else {
+            return Err(Errno::ENOENT);
+        };
+        self.change(number, &nameless(&found));
+        self.sweep(number);
+        Ok(Answer::Done)
+    }
+
+    /// FUSE_FORGET of `n` lookups of the node, or of all where it has fewer. The root's lookups aren't counted.
+    pub fn forget(&mut self, node: u64, n: u64)
+        ensures { self.new ≡ after_forget self.old node n }
+    {
+        if let Some(found) = self.node_at(node) {
+            self.change(node, &counted_down(&found, n));
+            self.sweep(node);
+        }
+    }
+
+    /// FUSE_RELEASE: closes an fh of the node; EBADF where it isn't open on it.
+    pub fn close(&mut self, node: u64, fh: u64) -> Result<Closed, Errno>
+        ensures answer { result ≡ close_reply self.old node fh }
+        ensures after { self.new ≡ after_close self.old node fh result }
+    {
+        if self.node_of(fh) != Some(node) {
+            return Err(Errno::EBADF);
+        }
+        self.close_file(fh);
+        let last = !self.has_open_file(node);
+        self.sweep(node);
+        Ok(Closed { node, last })
+    }
+
+    // Why the node has no names in it.
+    fn directory_error(&self, node: u64) -> Option<Errno>
+        ensures { result ≡ directory_error self.now node }
+    {
+        if !self.is_known(node) {
+            return Some(Errno::ENOENT);
+        }
+        if node != ROOT {
+            return Some(Errno::ENOTDIR);
+        }
+        None
+    }
+
+    // Makes a file with this node.
+    fn make(&mut self, node: &Node) -> Result<Answer, Errno>
+        ensures answer { result ≡ created self.old node.now }
+        ensures after { self.new ≡ after_reply self.old node.now result }
+    {
+        if self.nodes_full() {
+            return Err(Errno::ENOSPC);
+        }
+        if self.files_full() {
+            return Err(Errno::ENFILE);
+        }
+        let attr = attributes(self.next_node, node);
+        self.link(node);
+        Ok(Answer::Made(attr, self.open_file(attr.node)))
+    }
+
+    // Looks this node up once more, and opens it.
+    fn reopen(&mut self, number: u64, node: &Node) -> Result<Answer, Errno>
+        requires { map.get self.old.nodes number ≡ Some node.now }
+        ensures answer { result ≡ reopened self.old false (number, node.now) }
+        ensures ok { OnOk result (self.new ≡ record self.old {
+          nodes = map.insert self.old.nodes number (counted_up node.now);
+          files = map.insert self.old.files self.old.next_fh number;
+          next_fh = self.old.next_fh + 1;
+        }) }
+        ensures err { OnErr result (self.new ≡ self.old) }
+    {
+        if node.lookups == u64::MAX || self.files_full() {
+            return Err(Errno::ENFILE);
+        }
+        self.change(number, &counted_up(node));
+        Ok(Answer::Made(attributes(number, node), self.open_file(number)))
+    }
+}
