@@ -8,7 +8,7 @@ use Rattle.std.specs.FinMap as map
 use Rattle.std.specs.FinMap.Entries as rising
 use Rattle.fl_dir.specs.declared.node.Node.{Node}
 use Rattle.fl_dir.specs.Directory.{Listing, with_lookups, set_at}
-use Rattle.fl_dir.specs.Listed.{AreBelow, AreListed, recounted}
+use Rattle.fl_dir.specs.Inside.Listed.{AreBelow, AreListed, recounted}
 
 held : (b : Bool) → b ≡ true → T b
 held true e = tt

@@ -3,7 +3,7 @@ use Rattle.std.proofs.Common.{◌≡◌, ℕ, zero, suc, ◌+◌, ◌<◌, ◌�
 use Rattle.std.proofs.Math.ListN.{set}
 use Rattle.std.specs.List.{position_from}
 use Rattle.fl_dir.specs.declared.node.Node.{Node}
-use Rattle.fl_dir.specs.Listed.{recounted}
+use Rattle.fl_dir.specs.Inside.Listed.{recounted}
 
 -- a place is counted from where the search began
 counted_from : (es : List (ℕ × Node)) (n j i : ℕ) → position_from (λ e. e.0 == n) j es ≡ Some i → j ≤ i

@@ -1,3 +1,3 @@
 pub mod Codes
 pub mod Directory
-pub mod Listed
+pub mod Inside

@@ -4,7 +4,7 @@ ghost use Rattle.std.specs.Option.{option_copied};
 ghost use Rattle.std.specs.Ordering.{nat_cmp};
 ghost use Rattle.std.specs.FinMap as map;
 ghost use Rattle.fl_dir.specs.Directory.{opening_listing, is_known, is_named, linked, is_reserved, nodes_full, files_full, file_mode, made_node, attributes, created, reopened, create_reply, after_reply, after_create, with_lookups};
-ghost use Rattle.fl_dir.specs.Listed.{recounted};
+ghost use Rattle.fl_dir.specs.Inside.Listed.{recounted};
 
 use crate::node::Node;
 use fl_wire::{Answer, Attr, Errno, Name, Order};
@@ -39,7 +39,7 @@ impl Model for Dir {
     ghost use Rattle.std.specs.FinMap.{from_sorted};
     ghost use Rattle.fl_dir.specs.Directory.{Listing};
     ghost use Rattle.fl_dir.specs.Codes.{listing_code};
-    ghost use Rattle.fl_dir.specs.Listed.{AreListed};
+    ghost use Rattle.fl_dir.specs.Inside.Listed.{AreListed};
 
     ghost Value = { Listing };
 

@@ -3,7 +3,7 @@ use Rattle.std.specs.FinMap.{from_sorted, insert, get}
 use Rattle.fl_dir.specs.contracts.directory.Dir.{the_view}
 use Rattle.fl_dir.specs.Directory.{Listing, nodes_full}
 use Rattle.std.specs.Vec.{vec_capacity}
-use Rattle.fl_dir.specs.Listed.{AreListed}
+use Rattle.fl_dir.specs.Inside.Listed.{AreListed}
 use Rattle.fl_dir.proofs.Listings.{len_listed, room_left, listed_pushed, map_pushed, fresh_listed, same_listing}
 use Rattle.fl_dir.proofs.directory.Dir.link.Goals as goal
 

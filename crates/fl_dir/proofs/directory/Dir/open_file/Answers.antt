@@ -3,7 +3,7 @@ use Rattle.std.specs.FinMap.{from_sorted, insert}
 use Rattle.fl_dir.specs.contracts.directory.Dir.{the_view}
 use Rattle.fl_dir.specs.Directory.{Listing, files_full}
 use Rattle.std.specs.Vec.{vec_capacity}
-use Rattle.fl_dir.specs.Listed.{AreListed}
+use Rattle.fl_dir.specs.Inside.Listed.{AreListed}
 use Rattle.fl_dir.proofs.Listings.{len_listed, room_left, listed_pushed, map_pushed, same_listing}
 use Rattle.fl_dir.proofs.directory.Dir.open_file.Goals as goal
 
