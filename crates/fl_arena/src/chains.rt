@@ -30,7 +30,7 @@ impl<T: Copy> Model for Arena<T> {
 
     ghost Value = { Chains T };
 
-    ghost use Rattle.fl_arena.specs.Links.{Spells, spelled};
+    ghost use Rattle.fl_arena.specs.Inside.Links.{Spells, spelled};
 
     ghost view = { λ a. spelled a.nodes.items a.ends.items };
 

@@ -12,7 +12,7 @@ use Rattle.fl_arena.specs.Cursors.{cursor_at}
 use Rattle.fl_arena.specs.declared.cursors.Cursor.{Cursor}
 use Rattle.fl_dir.specs.declared.node.Node.{Node}
 use Rattle.fl_dir.specs.Directory.{Listing}
-use Rattle.fl_dir.specs.Listed.{AreListed, IsList}
+use Rattle.fl_dir.specs.Inside.Listed.{AreListed, IsList}
 use Rattle.fl_dir.proofs.Entries.{set_put, remove_where, listed_pushed, listed_put, listed_where, map_pushed, map_put, map_where, get_listed, len_listed, fresh_listed, keys_equal}
 
 some_entry : {A : Type 0} (o : Option A) → IsSome o → (x : A) × (o ≡ Some x)

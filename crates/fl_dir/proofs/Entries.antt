@@ -9,7 +9,7 @@ use Rattle.std.specs.Ordering.{nat_cmp, eq_by_cmp, is_eq, is_lt}
 use Rattle.std.specs.Cmp.{nat_cmp_total, first_so, second_so}
 use Rattle.std.specs.FinMap as map
 use Rattle.std.specs.FinMap.Entries as rising
-use Rattle.fl_dir.specs.Listed.{AreBelow, AreListed}
+use Rattle.fl_dir.specs.Inside.Listed.{AreBelow, AreListed}
 
 held : (b : Bool) → b ≡ true → T b
 held true e = tt

@@ -14,9 +14,9 @@ use Rattle.fl_ranges.specs.declared.lock.Kind.{Kind}
 use Rattle.fl_ranges.specs.declared.run.Run.{Run}
 use Rattle.fl_ranges.specs.Marking.{class_number}
 use Rattle.fl_ranges.specs.Conflict.{excludes}
-use Rattle.fl_ranges.specs.RunList.{has_spot, overlaps, run_excludes}
-use Rattle.fl_ranges.specs.RunChains.{place_cmp, run_cmp, goes_before, insert_run, is_past, IsSorted}
-use Rattle.fl_ranges.specs.RunPlan.{insert_some}
+use Rattle.fl_ranges.specs.Inside.RunList.{has_spot, overlaps, run_excludes}
+use Rattle.fl_ranges.specs.Inside.RunChains.{place_cmp, run_cmp, goes_before, insert_run, is_past, IsSorted}
+use Rattle.fl_ranges.specs.Inside.RunPlan.{insert_some}
 use Rattle.fl_ranges.proofs.RunLists.{at_spot, over, keep, each_filter, each_weaker}
 use Rattle.fl_ranges.proofs.Rearranged.{each-insert_some}
 use Rattle.fl_ranges.proofs.Walks.{drop_here}

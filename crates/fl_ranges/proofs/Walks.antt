@@ -7,7 +7,7 @@ use Rattle.fl_arena.specs.Chains.{Chains, items, entries}
 use Rattle.fl_arena.specs.Cursors.{cursor_at}
 use Rattle.fl_arena.specs.declared.cursors.Cursor.{Cursor}
 use Rattle.fl_ranges.specs.declared.run.Run.{Run}
-use Rattle.fl_ranges.specs.RunChains.{goes_before, insert_run}
+use Rattle.fl_ranges.specs.Inside.RunChains.{goes_before, insert_run}
 
 module _ {A : Type 0} where
   from_here : (xs : List A) (i : ℕ) (x : A) → slice_get xs i ≡ Some x → drop i xs ≡ x ∷ drop (suc i) xs

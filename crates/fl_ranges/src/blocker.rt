@@ -1,8 +1,8 @@
 //! The lock that F_GETLK names, found among the runs.
 ghost use Rattle.std.specs.Prelude.{◌≡◌, ◌<◌, length, None, option_map};
 ghost use Rattle.fl_arena.specs.Chains.{items};
-ghost use Rattle.fl_ranges.specs.Nearest.{is_nearer, nearest_with, nearest_from, last_start, lock_of};
-ghost use Rattle.fl_ranges.specs.RunChains.{IsSorted};
+ghost use Rattle.fl_ranges.specs.Inside.Nearest.{is_nearer, nearest_with, nearest_from, last_start, lock_of};
+ghost use Rattle.fl_ranges.specs.Inside.RunChains.{IsSorted};
 
 use crate::chain::{home, is_past};
 use crate::held::Held;

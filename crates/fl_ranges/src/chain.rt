@@ -2,9 +2,9 @@
 ghost use Rattle.std.specs.Prelude.{◌≡◌, ◌≢◌, ◌%◌, ◌<◌, ◌≤◌, ◌==◌, ℕ, length, not};
 ghost use Rattle.std.specs.List.{filter, list_any};
 ghost use Rattle.fl_arena.specs.Chains.{entries, items, HasSizeOf};
-ghost use Rattle.fl_ranges.specs.RunList.{run_at, overlaps, left_over, run_excludes};
+ghost use Rattle.fl_ranges.specs.Inside.RunList.{run_at, overlaps, left_over, run_excludes};
 ghost use Rattle.fl_ranges.specs.Placing.{home};
-ghost use Rattle.fl_ranges.specs.RunChains.{all_runs, insert_run, goes_before, is_past, IsSorted};
+ghost use Rattle.fl_ranges.specs.Inside.RunChains.{all_runs, insert_run, goes_before, is_past, IsSorted};
 
 use crate::lock::{Key, Kind};
 use crate::run::{Run, excludes, has_spot, overlaps};

@@ -2,10 +2,10 @@
 ghost use Rattle.std.specs.Prelude.{◌≡◌, ◌≢◌, ◌+◌, ◌<◌, ◌≤◌, ℕ, length, IsSome, IfSome};
 ghost use Rattle.std.specs.List.{filter};
 ghost use Rattle.fl_arena.specs.Chains.{entries, items, HasSizeOf};
-ghost use Rattle.fl_ranges.specs.RunList.{reach_start, reach_end, overlaps};
+ghost use Rattle.fl_ranges.specs.Inside.RunList.{reach_start, reach_end, overlaps};
 ghost use Rattle.fl_ranges.specs.Placing.{home};
-ghost use Rattle.fl_ranges.specs.RunChains.{all_runs, IsSorted};
-ghost use Rattle.fl_ranges.specs.RunPlan.{plan_of, count_run, pieces, insert_some, carried_out};
+ghost use Rattle.fl_ranges.specs.Inside.RunChains.{all_runs, IsSorted};
+ghost use Rattle.fl_ranges.specs.Inside.RunPlan.{plan_of, count_run, pieces, insert_some, carried_out};
 
 use crate::chain::{add, count_over, remove_over, run_at};
 use crate::lock::{Key, Mark};

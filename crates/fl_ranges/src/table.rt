@@ -29,8 +29,8 @@ impl Model for Table {
     ghost use Rattle.fl_ranges.specs.Marking.{marking_of};
     ghost use Rattle.fl_ranges.specs.LockTable.{LockTable};
     ghost use Rattle.fl_ranges.specs.Codes.{lock_table_code};
-    ghost use Rattle.fl_ranges.specs.RunList.{meant};
-    ghost use Rattle.fl_ranges.specs.RunChains.{all_runs, IsTable};
+    ghost use Rattle.fl_ranges.specs.Inside.RunList.{meant};
+    ghost use Rattle.fl_ranges.specs.Inside.RunChains.{all_runs, IsTable};
 
     ghost Value = { LockTable };
 

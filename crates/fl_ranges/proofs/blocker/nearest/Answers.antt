@@ -1,8 +1,8 @@
 use Rattle.std.proofs.Common.{◌≡◌, ◌+◌, Some, None, true, drop, slice_get, refl, sym, ap, ◌∙◌}
 use Rattle.std.specs.Option.{option_copied}
 use Rattle.fl_arena.specs.Chains.{items}
-use Rattle.fl_ranges.specs.RunChains.{is_past}
-use Rattle.fl_ranges.specs.Nearest.{nearest_from, last_start}
+use Rattle.fl_ranges.specs.Inside.RunChains.{is_past}
+use Rattle.fl_ranges.specs.Inside.Nearest.{nearest_from, last_start}
 use Rattle.fl_ranges.proofs.Walks.{on_at}
 use Rattle.fl_ranges.proofs.BlockersWalk.{nearest_more, nearest_end, nearest_stop}
 use Rattle.fl_ranges.proofs.blocker.nearest.Goals as goal

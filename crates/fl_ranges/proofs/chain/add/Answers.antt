@@ -3,7 +3,7 @@ use Rattle.std.specs.List.{position_or_len}
 use Rattle.fl_arena.specs.Chains.{items}
 use Rattle.fl_arena.specs.Cursors.{cursor_at}
 use Rattle.fl_ranges.specs.Placing.{home}
-use Rattle.fl_ranges.specs.RunChains.{goes_before}
+use Rattle.fl_ranges.specs.Inside.RunChains.{goes_before}
 use Rattle.fl_ranges.proofs.ChainLists.{no_room}
 use Rattle.fl_ranges.proofs.Walks.{insert_first}
 use Rattle.fl_ranges.proofs.chain.add.Goals as goal

@@ -2,7 +2,7 @@ use Rattle.std.proofs.Common.{◌≡◌, Some, None, slice_get, refl, sym, ◌�
 use Rattle.std.specs.Option.{option_copied}
 use Rattle.fl_arena.specs.Chains.{items}
 use Rattle.fl_ranges.specs.Placing.{home}
-use Rattle.fl_ranges.specs.RunList.{overlaps}
+use Rattle.fl_ranges.specs.Inside.RunList.{overlaps}
 use Rattle.fl_ranges.proofs.Sorted.{past_overlap, count_stop}
 use Rattle.fl_ranges.proofs.Walks.{on_at, count_yes, count_no, count_end}
 use Rattle.fl_ranges.proofs.chain.count_over.Goals as goal

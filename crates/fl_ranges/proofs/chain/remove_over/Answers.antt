@@ -3,9 +3,9 @@ use Rattle.std.specs.Option.{option_copied}
 use Rattle.fl_arena.specs.Chains.{items}
 use Rattle.fl_ranges.specs.declared.run.Run.{Run}
 use Rattle.fl_ranges.specs.Placing.{home}
-use Rattle.fl_ranges.specs.RunChains.{IsSorted}
+use Rattle.fl_ranges.specs.Inside.RunChains.{IsSorted}
 use Rattle.std.specs.List.{filter}
-use Rattle.fl_ranges.specs.RunList.{overlaps}
+use Rattle.fl_ranges.specs.Inside.RunList.{overlaps}
 use Rattle.fl_ranges.proofs.Sorted.{past_overlap, kept_stop, sorted_remove}
 use Rattle.fl_ranges.proofs.Walks.{on_at, out_at, kept_on, kept_out, kept_all}
 use Rattle.fl_ranges.proofs.chain.remove_over.Goals as goal

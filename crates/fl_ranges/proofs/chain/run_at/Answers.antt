@@ -2,8 +2,8 @@ use Rattle.std.proofs.Common.{rules, ◌||◌, ap, ◌∙◌}
 use Rattle.std.specs.List.{find}
 use Rattle.fl_arena.specs.Chains.{items}
 use Rattle.fl_ranges.specs.Placing.{home}
-use Rattle.fl_ranges.specs.RunList.{has_spot}
-use Rattle.fl_ranges.specs.RunChains.{is_past}
+use Rattle.fl_ranges.specs.Inside.RunList.{has_spot}
+use Rattle.fl_ranges.specs.Inside.RunChains.{is_past}
 use Rattle.fl_ranges.proofs.RunLists.{keep}
 use Rattle.fl_ranges.proofs.Sorted.{past_spot, find_first, filtered}
 use Rattle.fl_ranges.proofs.chain.run_at.Goals as goal

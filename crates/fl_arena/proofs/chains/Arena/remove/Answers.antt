@@ -2,7 +2,7 @@ use Rattle.std.proofs.Common.{◌+◌, suc, Some, set, sym, ap, ◌∙◌, arith
 use Rattle.std.specs.List.{remove}
 use Rattle.fl_arena.specs.Chains.{entries, items, with_entries}
 use Rattle.fl_arena.specs.Cursors.{cursor_at}
-use Rattle.fl_arena.specs.Links.{Spells}
+use Rattle.fl_arena.specs.Inside.Links.{Spells}
 use Rattle.fl_arena.proofs.ChainLaws.{HasSizeOf-with, items-remove, entries-with_other}
 use Rattle.fl_arena.proofs.CursorLemmas.{is_at, is_taken, slot_there, linked_within, before_within}
 use Rattle.fl_arena.proofs.WalkLemmas.{spelled_is}

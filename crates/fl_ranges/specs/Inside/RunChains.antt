@@ -1,4 +1,4 @@
--- How the runs stand in the chains of an arena. No public clause cites this module.
+-- How the runs stand in the chains of an arena.
 use Rattle.std.specs.Prelude.{◌≡◌, ℕ, ◌≤◌, Bool, false, List, [], ◌∷◌, map, length, if◌then◌else◌}
 use Rattle.std.specs.List.{flat_map, AllByRecursion}
 use Rattle.std.specs.Ordering.{nat_cmp, ordering_then, is_lt}
@@ -8,7 +8,7 @@ use Rattle.fl_ranges.specs.declared.lock.Key.{Key}
 use Rattle.fl_ranges.specs.declared.run.Run.{Run}
 use Rattle.fl_ranges.specs.Marking.{class_number}
 use Rattle.fl_ranges.specs.Placing.{home}
-use Rattle.fl_ranges.specs.RunList.{AreRuns}
+use Rattle.fl_ranges.specs.Inside.RunList.{AreRuns}
 
 -- all runs, chain after chain
 abbrev pub all_runs : Chains Run → List Run

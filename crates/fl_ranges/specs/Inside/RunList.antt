@@ -1,4 +1,4 @@
--- How locks are kept: as runs, each a row of bytes of one key with one mark. No public clause cites this module.
+-- How locks are kept: as runs, each a row of bytes of one key with one mark.
 use Rattle.std.specs.Prelude.{◌≡◌, ◌≢◌, ℕ, ◌+◌, ◌-◌, ◌≤◌, Bool, true, not, ◌&&◌, nat_lt, nat_le, Option, Some, None, List, [], ◌∷◌, if◌then◌else◌}
 use Rattle.std.specs.List.{find, filter, AllByRecursion}
 use Rattle.std.specs.Option.{option_map}

@@ -1,4 +1,4 @@
--- How the links inside the slots spell the chains and the free list. No public clause cites this module.
+-- How the links inside the slots spell the chains and the free list.
 use Rattle.std.specs.Prelude.{◌≡◌, ℕ, zero, suc, ◌+◌, ◌-◌, ◌≤◌, ◌<◌, ◌==◌, Bool, true, false, List, [], ◌∷◌, map, length, count_by, Option, Some, None, is_some, slice_get, MatchOption, if◌then◌else◌}
 use Rattle.std.specs.Bool.{⊤}
 use Rattle.std.specs.Option.{option_map}
