@@ -3,7 +3,7 @@ ghost use Rattle.fl_wire.specs.Append.{Appends};
 ghost use Rattle.fl_wire.specs.Init.{again_bytes, agreed_bytes, init_spelling, init_step};
 ghost use Rattle.fl_wire.specs.Spell.{IsReply};
 
-use crate::append::{push_u16, push_u32, push_zeros};
+use crate::append::{make_room, push_u16, push_u32, push_zeros};
 use crate::errno::Errno;
 use crate::frame::Frame;
 use crate::layout::u32_at;
@@ -65,18 +65,19 @@ pub fn read_init(frame: &Frame) -> InitStep
 }
 
 /// Appends the reply to an INIT: at most 80 bytes. An `Err` changes nothing, and doesn't come where there is
-/// room for 80 more bytes.
+/// room for 80 more bytes; no memory is taken then.
 pub fn write_init(unique: u64, step: &InitStep, out: &mut Vec<u8>) -> Result<(), NoMemory>
     ensures ok { OnOk result (out.new.items ≡ out.old.items ++ init_spelling unique step.now) }
     ensures reply { IsReply (init_spelling unique step.now) }
     ensures err { OnErr result (out.new.items ≡ out.old.items) }
     ensures room { vec_len out.old + 80 ≤ vec_capacity out.old → IsOk result }
+    ensures in_place { vec_len out.old + 80 ≤ vec_capacity out.old → vec_capacity out.new ≡ vec_capacity out.old }
     ensures capacity { vec_capacity out.old ≤ vec_capacity out.new }
 {
     match *step {
         InitStep::Refused(e) => return write_error(unique, e, out),
         InitStep::Again => {
-            out.try_reserve(80)?;
+            make_room(out, 80)?;
             push_header(out, 64, 0, unique);
             push_version(out);
         }
@@ -84,7 +85,7 @@ pub fn write_init(unique: u64, step: &InitStep, out: &mut Vec<u8>) -> Result<(),
             max_readahead,
             flags,
         } => {
-            out.try_reserve(80)?;
+            make_room(out, 80)?;
             push_header(out, 64, 0, unique);
             push_agreed(out, max_readahead, flags);
         }
@@ -96,7 +97,7 @@ pub fn write_init(unique: u64, step: &InitStep, out: &mut Vec<u8>) -> Result<(),
 fn push_version(out: &mut Vec<u8>)
     requires { vec_len out.old + 64 ≤ vec_capacity out.old }
     ensures items { Appends out.old.items again_bytes out.new.items }
-    ensures capacity { vec_capacity out.old ≤ vec_capacity out.new }
+    ensures capacity { vec_capacity out.new ≡ vec_capacity out.old }
 {
     push_u32(out, MAJOR);
     push_u32(out, MINOR);
@@ -107,7 +108,7 @@ fn push_version(out: &mut Vec<u8>)
 fn push_agreed(out: &mut Vec<u8>, max_readahead: u32, flags: u32)
     requires { vec_len out.old + 64 ≤ vec_capacity out.old }
     ensures items { Appends out.old.items (agreed_bytes max_readahead flags) out.new.items }
-    ensures capacity { vec_capacity out.old ≤ vec_capacity out.new }
+    ensures capacity { vec_capacity out.new ≡ vec_capacity out.old }
 {
     push_u32(out, MAJOR);
     push_u32(out, MINOR);

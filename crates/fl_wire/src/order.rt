@@ -65,7 +65,11 @@ impl Op {
         ensures shaped { IsSome result ↔ (shape_for kind ≡ Ok (body_shape body)) }
     {
         match (kind, body) {
-            (Kind::Create, Body::Create { excl, mode, name }) => Some(Op::Create { excl, mode, name }),
+            (Kind::Create, Body::Create { excl, mode, name }) => Some(Op::Create {
+                excl,
+                mode,
+                name,
+            }),
             (Kind::Getlk, Body::Lock(ask)) => Some(Op::Getlk(ask)),
             (Kind::Setlk, Body::Lock(ask)) => Some(Op::Setlk(ask)),
             _ => None,

@@ -1,7 +1,9 @@
-ghost use Rattle.std.specs.Prelude.{◌≡◌, ◌+◌, ◌<◌, ◌≤◌, length, OnOk};
+ghost use Rattle.std.specs.Prelude.{◌≡◌, ◌+◌, ◌<◌, ◌≤◌, length, IfOk, OnOk};
 ghost use Rattle.fl_wire.specs.Body.{name_behind, name_in};
 ghost use Rattle.fl_wire.specs.Kind.{form_for};
 ghost use Rattle.fl_wire.specs.Message.{ReadsBack};
+ghost use Rattle.fl_wire.specs.Name.{IsName};
+ghost use Rattle.fl_wire.specs.Sayable.{FitsBody, FitsOp, IsSayable};
 ghost use Rattle.fl_wire.specs.Says.{asked_by, body_in, create_body, lock_body, said};
 ghost use Rattle.fl_wire.specs.declared.body.Body.TheVariants as body;
 
@@ -34,6 +36,7 @@ pub enum Refusal {
 /// ENAMETOOLONG for a name of more than 255 bytes.
 pub fn read_order(frame: &Frame) -> Result<Order, Refusal>
     ensures said { result ≡ said frame.now }
+    ensures sayable { IfOk result IsSayable }
     ensures back { ReadsBack frame.now result }
 {
     order_in(frame)
@@ -41,7 +44,8 @@ pub fn read_order(frame: &Frame) -> Result<Order, Refusal>
 
 // What a message says.
 fn order_in(frame: &Frame) -> Result<Order, Refusal>
-    ensures { result ≡ said frame.now }
+    ensures said { result ≡ said frame.now }
+    ensures sayable { IfOk result IsSayable }
 {
     let bytes = frame.as_bytes();
     let kind = Kind::of_opcode(frame.opcode()).ok_or(Refusal::Answer(Errno::ENOSYS))?;
@@ -58,7 +62,8 @@ fn order_in(frame: &Frame) -> Result<Order, Refusal>
 
 // What a message of this kind asks.
 fn op_in(kind: Kind, message: &[u8]) -> Result<Op, Refusal>
-    ensures { result ≡ asked_by (form_for kind) message.now }
+    ensures value { result ≡ asked_by (form_for kind) message.now }
+    ensures fits { IfOk result FitsOp }
 {
     let body = body_in(kind.shape()?, message)?;
     Ok(Op::of(kind, body).unwrap())
@@ -66,7 +71,8 @@ fn op_in(kind: Kind, message: &[u8]) -> Result<Op, Refusal>
 
 // The body of this shape.
 fn body_in(shape: Shape, message: &[u8]) -> Result<Body, Refusal>
-    ensures { result ≡ body_in shape message.now }
+    ensures value { result ≡ body_in shape message.now }
+    ensures fits { IfOk result FitsBody }
 {
     match shape {
         Shape::Lock => lock_body(message),
@@ -76,7 +82,8 @@ fn body_in(shape: Shape, message: &[u8]) -> Result<Body, Refusal>
 
 // A lock request.
 fn lock_body(message: &[u8]) -> Result<Body, Refusal>
-    ensures { result ≡ lock_body body.Lock message.now }
+    ensures value { result ≡ lock_body body.Lock message.now }
+    ensures fits { IfOk result FitsBody }
 {
     if message.len() != 88 {
         return Err(Refusal::Answer(Errno::EINVAL));
@@ -94,7 +101,8 @@ fn lock_body(message: &[u8]) -> Result<Body, Refusal>
 
 // The body of a CREATE.
 fn create_body(message: &[u8]) -> Result<Body, Refusal>
-    ensures { result ≡ create_body body.Create message.now }
+    ensures value { result ≡ create_body body.Create message.now }
+    ensures fits { IfOk result FitsBody }
 {
     let name = name_behind(message, 16)?;
     Ok(Body::Create {
@@ -109,6 +117,7 @@ fn name_behind(message: &[u8], fields: usize) -> Result<Name, Refusal>
     requires { fields ≤ 16 }
     ensures value { result ≡ name_behind fields message.now }
     ensures long { OnOk result (40 + fields < length message.now) }
+    ensures name { IfOk result IsName }
 {
     if message.len() <= 40 + fields {
         return Err(Refusal::Answer(Errno::EINVAL));
@@ -120,7 +129,8 @@ fn name_behind(message: &[u8], fields: usize) -> Result<Name, Refusal>
 #[tactic(auto, unfolding(crate::specs::Body::name_in))]
 fn name_in(bytes: &[u8]) -> Result<Name, Errno>
     requires { 0 < length bytes.now }
-    ensures { result ≡ name_in bytes.now }
+    ensures value { result ≡ name_in bytes.now }
+    ensures name { IfOk result IsName }
 {
     let last = bytes.len() - 1;
     let text = &bytes[..last];

@@ -1,3 +1,7 @@
+mod kinds;
+mod orders;
+mod replies;
+
 use crate::{
     Answer, Attr, Errno, Frame, InitStep, LockAsk, Name, Op, Order, Refusal, Step, Told,
     next_frame, read_init, read_order, write_init, write_told,

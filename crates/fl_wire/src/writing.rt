@@ -2,7 +2,7 @@ ghost use Rattle.std.specs.Prelude.{◌≡◌, ◌+◌, ◌≤◌, ◌++◌, len
 ghost use Rattle.fl_wire.specs.Append.{Appends};
 ghost use Rattle.fl_wire.specs.Spell.{answer_bytes, attr_bytes, entry_bytes, header_bytes, lock_bytes, minus, open_bytes, reply_bytes, spelling_of, IsReply};
 
-use crate::append::{push_u32, push_u64, push_zeros};
+use crate::append::{make_room, push_u32, push_u64, push_zeros};
 use crate::errno::Errno;
 use crate::no_memory::NoMemory;
 use crate::told::{Answer, Attr, Told};
@@ -11,12 +11,13 @@ use crate::told::{Answer, Attr, Told};
 const BLOCK_SIZE: u32 = 4096;
 
 /// Appends the bytes of a reply: at most 160. An `Err` changes nothing, and doesn't come where there is
-/// room for 160 more bytes.
+/// room for 160 more bytes; no memory is taken then.
 pub fn write_told(told: &Told, out: &mut Vec<u8>) -> Result<(), NoMemory>
     ensures ok { OnOk result (out.new.items ≡ out.old.items ++ spelling_of told.now) }
     ensures reply { IsReply (spelling_of told.now) }
     ensures err { OnErr result (out.new.items ≡ out.old.items) }
     ensures room { vec_len out.old + 160 ≤ vec_capacity out.old → IsOk result }
+    ensures in_place { vec_len out.old + 160 ≤ vec_capacity out.old → vec_capacity out.new ≡ vec_capacity out.old }
     ensures capacity { vec_capacity out.old ≤ vec_capacity out.new }
 {
     match told.result {
@@ -30,10 +31,11 @@ fn write_answer(unique: u64, answer: &Answer, out: &mut Vec<u8>) -> Result<(), N
     ensures ok { OnOk result (out.new.items ≡ out.old.items ++ reply_bytes unique (Ok answer.now)) }
     ensures err { OnErr result (out.new.items ≡ out.old.items) }
     ensures room { vec_len out.old + 160 ≤ vec_capacity out.old → IsOk result }
+    ensures in_place { vec_len out.old + 160 ≤ vec_capacity out.old → vec_capacity out.new ≡ vec_capacity out.old }
     ensures capacity { vec_capacity out.old ≤ vec_capacity out.new }
 {
     let body = body_len(answer);
-    out.try_reserve(16 + body as usize)?;
+    make_room(out, 16 + body as usize)?;
     push_header(out, body, 0, unique);
     push_answer(out, answer);
     Ok(())
@@ -44,9 +46,10 @@ pub(crate) fn write_error(unique: u64, e: Errno, out: &mut Vec<u8>) -> Result<()
     ensures ok { OnOk result (out.new.items ≡ out.old.items ++ reply_bytes unique (Err e)) }
     ensures err { OnErr result (out.new.items ≡ out.old.items) }
     ensures room { vec_len out.old + 16 ≤ vec_capacity out.old → IsOk result }
+    ensures in_place { vec_len out.old + 16 ≤ vec_capacity out.old → vec_capacity out.new ≡ vec_capacity out.old }
     ensures capacity { vec_capacity out.old ≤ vec_capacity out.new }
 {
-    out.try_reserve(16)?;
+    make_room(out, 16)?;
     push_header(out, 0, minus(e), unique);
     Ok(())
 }
@@ -64,7 +67,7 @@ pub(crate) fn push_header(out: &mut Vec<u8>, body: u32, error: u32, unique: u64)
     requires room { vec_len out.old + 16 ≤ vec_capacity out.old }
     ensures items { Appends out.old.items (header_bytes body error unique) out.new.items }
     ensures len { vec_len out.new ≡ vec_len out.old + 16 }
-    ensures capacity { vec_capacity out.old ≤ vec_capacity out.new }
+    ensures capacity { vec_capacity out.new ≡ vec_capacity out.old }
 {
     push_u32(out, 16 + body);
     push_u32(out, error);
@@ -92,7 +95,7 @@ fn body_len(answer: &Answer) -> u32
 fn push_answer(out: &mut Vec<u8>, answer: &Answer)
     requires { vec_len out.old + length (answer_bytes answer.now) ≤ vec_capacity out.old }
     ensures items { Appends out.old.items (answer_bytes answer.now) out.new.items }
-    ensures capacity { vec_capacity out.old ≤ vec_capacity out.new }
+    ensures capacity { vec_capacity out.new ≡ vec_capacity out.old }
 {
     match *answer {
         Answer::Done => {}
@@ -119,7 +122,7 @@ fn push_answer(out: &mut Vec<u8>, answer: &Answer)
 fn push_lock(out: &mut Vec<u8>, start: u64, end: u64, kind: u32, pid: u32)
     requires { vec_len out.old + 24 ≤ vec_capacity out.old }
     ensures items { Appends out.old.items (lock_bytes start end kind pid) out.new.items }
-    ensures capacity { vec_capacity out.old ≤ vec_capacity out.new }
+    ensures capacity { vec_capacity out.new ≡ vec_capacity out.old }
 {
     push_u64(out, start);
     push_u64(out, end);
@@ -132,7 +135,7 @@ fn push_entry(out: &mut Vec<u8>, attr: Attr)
     requires { vec_len out.old + 128 ≤ vec_capacity out.old }
     ensures items { Appends out.old.items (entry_bytes attr) out.new.items }
     ensures len { vec_len out.new ≡ vec_len out.old + 128 }
-    ensures capacity { vec_capacity out.old ≤ vec_capacity out.new }
+    ensures capacity { vec_capacity out.new ≡ vec_capacity out.old }
 {
     push_u64(out, attr.node);
     push_zeros(out, 32);
@@ -144,7 +147,7 @@ fn push_open(out: &mut Vec<u8>, fh: u64)
     requires { vec_len out.old + 16 ≤ vec_capacity out.old }
     ensures items { Appends out.old.items (open_bytes fh) out.new.items }
     ensures len { vec_len out.new ≡ vec_len out.old + 16 }
-    ensures capacity { vec_capacity out.old ≤ vec_capacity out.new }
+    ensures capacity { vec_capacity out.new ≡ vec_capacity out.old }
 {
     push_u64(out, fh);
     push_zeros(out, 8);
@@ -155,7 +158,7 @@ fn push_attr(out: &mut Vec<u8>, attr: Attr)
     requires { vec_len out.old + 88 ≤ vec_capacity out.old }
     ensures items { Appends out.old.items (attr_bytes attr) out.new.items }
     ensures len { vec_len out.new ≡ vec_len out.old + 88 }
-    ensures capacity { vec_capacity out.old ≤ vec_capacity out.new }
+    ensures capacity { vec_capacity out.new ≡ vec_capacity out.old }
 {
     push_u64(out, attr.node);
     push_zeros(out, 52);

@@ -5,14 +5,14 @@ use Rattle.fl_wire.proofs.init.write_init.Goals as goal
 pub returns-in-Refused-clause-reply : goal.returns-in-Refused-clause-reply
 returns-in-Refused-clause-reply c = init_is_reply c.args.unique c.args.step.now
 
-pub returns-in_err-try_reserve-in-Again-clause-reply : goal.returns-in_err-try_reserve-in-Again-clause-reply
-returns-in_err-try_reserve-in-Again-clause-reply c = init_is_reply c.args.unique c.args.step.now
+pub returns-in_err-make_room-in-Again-clause-reply : goal.returns-in_err-make_room-in-Again-clause-reply
+returns-in_err-make_room-in-Again-clause-reply c = init_is_reply c.args.unique c.args.step.now
 
-pub returns-in_err-try_reserve-in-Agreed-clause-reply : goal.returns-in_err-try_reserve-in-Agreed-clause-reply
-returns-in_err-try_reserve-in-Agreed-clause-reply c = init_is_reply c.args.unique c.args.step.now
+pub returns-in_err-make_room-in-Agreed-clause-reply : goal.returns-in_err-make_room-in-Agreed-clause-reply
+returns-in_err-make_room-in-Agreed-clause-reply c = init_is_reply c.args.unique c.args.step.now
 
-pub returns-in_ok-try_reserve-in-Again-clause-reply : goal.returns-in_ok-try_reserve-in-Again-clause-reply
-returns-in_ok-try_reserve-in-Again-clause-reply c = init_is_reply c.args.unique c.args.step.now
+pub returns-in_ok-make_room-in-Again-clause-reply : goal.returns-in_ok-make_room-in-Again-clause-reply
+returns-in_ok-make_room-in-Again-clause-reply c = init_is_reply c.args.unique c.args.step.now
 
-pub returns-in_ok-try_reserve-in-Agreed-clause-reply : goal.returns-in_ok-try_reserve-in-Agreed-clause-reply
-returns-in_ok-try_reserve-in-Agreed-clause-reply c = init_is_reply c.args.unique c.args.step.now
+pub returns-in_ok-make_room-in-Agreed-clause-reply : goal.returns-in_ok-make_room-in-Agreed-clause-reply
+returns-in_ok-make_room-in-Agreed-clause-reply c = init_is_reply c.args.unique c.args.step.now
