@@ -1,5 +1,5 @@
 -- Kinds are found by their numbers and by their words.
-use Rattle.std.proofs.Common.{◌≡◌, ℕ, ◌==◌, Bool, true, false, if◌then◌else◌, Option, Some, List, [], ◌∷◌, refl, sym, subst, ap, ◌∙◌}
+use Rattle.std.proofs.Common.{◌≡◌, ℕ, ◌==◌, Bool, true, false, if◌then◌else◌, Option, Some, List, [], ◌∷◌, refl, sym, subst, ap, ◌∙◌, arith}
 use Rattle.std.proofs.lemmas.Bool.Decides.{Decides-eqb}
 use Rattle.std.proofs.lemmas.Option.{none-some, same_Some}
 use Rattle.std.proofs.lemmas.Slice.Eq.{bytes_eq-Decides}
@@ -8,7 +8,6 @@ use Rattle.std.specs.List.{find}
 use Rattle.std.specs.Str.{bytes_eq}
 use Rattle.fl_wire.specs.Kind.{all_kinds, opcode_for, word_for, kind_of_opcode, kind_of_word, IsFoundBy}
 use Rattle.fl_wire.specs.declared.kind.Kind.{Kind}
-use Rattle.fl_wire.specs.declared.kind.Kind.TheVariants.{Forget, Init, Getlk, Setlk, Create, Destroy, BatchForget}
 
 -- what is found passes the test
 first_passes : {X : Type 0} (test : X → Bool) (y : X) (rest : Option X) (x : X) (b : Bool) → test y ≡ b → (if b then Some y else rest) ≡ Some x → (rest ≡ Some x → test x ≡ true) → test x ≡ true
@@ -30,22 +29,10 @@ found_by {Mark} same decides mark_of finds mark = record {
 }
 
 pub opcode_finds : (kind : Kind) → kind_of_opcode (opcode_for kind) ≡ Some kind
-opcode_finds Forget = refl
-opcode_finds Init = refl
-opcode_finds Getlk = refl
-opcode_finds Setlk = refl
-opcode_finds Create = refl
-opcode_finds Destroy = refl
-opcode_finds BatchForget = refl
+opcode_finds kind = grind arith
 
 word_finds : (kind : Kind) → kind_of_word (word_for kind) ≡ Some kind
-word_finds Forget = refl
-word_finds Init = refl
-word_finds Getlk = refl
-word_finds Setlk = refl
-word_finds Create = refl
-word_finds Destroy = refl
-word_finds BatchForget = refl
+word_finds kind = grind arith
 
 pub found_by_opcode : (opcode : ℕ) → IsFoundBy opcode_for opcode (kind_of_opcode opcode)
 found_by_opcode opcode = found_by (λ a b. a == b) Decides-eqb opcode_for opcode_finds opcode

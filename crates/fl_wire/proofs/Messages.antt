@@ -7,25 +7,26 @@ use Rattle.std.proofs.lemmas.Bool.{le-ltb}
 use Rattle.std.proofs.lemmas.Bool.Decides.{Decides-eqb}
 use Rattle.std.proofs.lemmas.List.Sums.{sum_by-cons}
 use Rattle.std.proofs.lemmas.Nat.{and_mask}
+use Rattle.std.proofs.lemmas.Option.{none-some, same_Some}
 use Rattle.std.specs.List.{list_any}
-use Rattle.std.specs.Result.{result_map_both}
 use Rattle.byteorder.specs.Endian.{little_bytes, little_number}
 use Rattle.byteorder.specs.Numbers.{length-bytes_low_first, little_number-reads_back}
 use Rattle.fl_wire.proofs.Finding.{opcode_finds}
 use Rattle.fl_wire.specs.Body.{name_bytes, name_in, by_fields, by_fields_and_name}
-use Rattle.fl_wire.specs.Kind.{kind_of_opcode, opcode_for}
+use Rattle.fl_wire.specs.Form.{Form, Refused, OfLock, OfCreate, made}
+use Rattle.fl_wire.specs.Kind.{form_for, kind_of_opcode, opcode_for}
 use Rattle.fl_wire.specs.Layout.{number_at, values_at, field, laid_out, in_header, create_in, lk_in, opcode_of, unique_of}
-use Rattle.fl_wire.specs.Message.{lock_values, create_values, body_for, request, message_of, ReadsBack}
+use Rattle.fl_wire.specs.Message.{lock_values, create_values, body_bytes, request, message_of, ReadsBack}
 use Rattle.fl_wire.specs.Name.{IsName}
-use Rattle.fl_wire.specs.Order.{kind_of}
-use Rattle.fl_wire.specs.Sayable.{FitsLock, FitsOp, IsSayable}
-use Rattle.fl_wire.specs.Says.{said, asked, order_of, lock_of, create_of}
+use Rattle.fl_wire.specs.Order.{body_of, kind_of, op_of}
+use Rattle.fl_wire.specs.Sayable.{FitsLock, FitsBody, IsSayable}
+use Rattle.fl_wire.specs.Says.{said, asked, asked_by, order_of, lock_of, create_of}
+use Rattle.fl_wire.specs.declared.body.Body.{Body}
+use Rattle.fl_wire.specs.declared.body.Body.TheVariants.{Lock, Create}
 use Rattle.fl_wire.specs.declared.kind.Kind.{Kind}
-use Rattle.fl_wire.specs.declared.kind.Kind.TheVariants.{Forget, Init, Getlk as GetlkKind, Setlk as SetlkKind, Create as CreateKind, Destroy, BatchForget}
 use Rattle.fl_wire.specs.declared.order.Order.{Order}
 use Rattle.fl_wire.specs.declared.order.LockAsk.{LockAsk}
 use Rattle.fl_wire.specs.declared.order.Op.{Op}
-use Rattle.fl_wire.specs.declared.order.Op.TheVariants.{Create, Getlk, Setlk}
 use Rattle.fl_wire.specs.declared.reading.Refusal.{Refusal}
 
 -- what stands in the fields of a header
@@ -147,36 +148,36 @@ mode_again mode small = and_mask mode 9 ∙ mod-eq_of_lt small
 lock_fits : (a : LockAsk) → FitsLock a → FitAll lk_in (lock_values a)
 lock_fits a h = (h.fh, (h.owner, (h.start, (h.end, (h.kind, (h.pid, (h.flags, (lit< tt, tt))))))))
 
-op_asked : (o u n i g p : ℕ) (op : Op) → FitsOp op → asked (Some (kind_of op)) (request o u n i g p (body_for op)) ≡ Ok op
-op_asked o u n i g p (Getlk a) h =
-    ap (result_map_both Getlk (λ refusal. refusal)) (fields_again o u n i g p lk_in (lock_values a) lock_of (lock_fits a h))
-op_asked o u n i g p (Setlk a) h =
-    ap (result_map_both Setlk (λ refusal. refusal)) (fields_again o u n i g p lk_in (lock_values a) lock_of (lock_fits a h))
-op_asked o u n i g p (Create excl mode name) h =
+-- the order that is made of a body is read back where the body was laid out
+body_asked : (o u n i g p : ℕ) (form : Form) (body : Body) (op : Op) → made form body ≡ Some op → FitsBody body → asked_by form (request o u n i g p (body_bytes body)) ≡ Ok op
+body_asked o u n i g p (Refused refusal) body op e h = absurd (none-some op e)
+body_asked o u n i g p (OfLock f) (Lock a) op e h =
+    fields_again o u n i g p lk_in (lock_values a) (λ values. f (lock_of values)) (lock_fits a h) ∙ ap Ok (same_Some (f a) op e)
+body_asked o u n i g p (OfLock f) (Create excl mode name) op e h = absurd (none-some op e)
+body_asked o u n i g p (OfCreate f) (Lock a) op e h = absurd (none-some op e)
+body_asked o u n i g p (OfCreate f) (Create excl mode name) op e h =
     let fit : FitAll create_in (create_values excl mode) = (flags_fit excl, (omega (arith, h.0), (lit< tt, (lit< tt, tt)))) in
     let flags = flags_again excl in
     let permissions = mode_again mode h.0 in
-    let parts : create_of (create_values excl mode) name ≡ Create excl mode name = λ k. Create (flags k) (permissions k) name in
-    named_again o u n i g p create_in (create_values excl mode) name create_of fit h.1 ∙ ap Ok parts
+    let parts : create_of f (create_values excl mode) name ≡ f excl mode name = λ k. f (flags k) (permissions k) name in
+    named_again o u n i g p create_in (create_values excl mode) name (create_of f) fit h.1 ∙ ap Ok (parts ∙ same_Some (f excl mode name) op e)
+
+-- an order is made of its parts
+parts_made : (op : Op) → op_of (kind_of op) (body_of op) ≡ Some op
+parts_made op = grind arith
 
 opcode_fits : (kind : Kind) → opcode_for kind < 2 ^ 32
-opcode_fits Forget = lit< tt
-opcode_fits Init = lit< tt
-opcode_fits GetlkKind = lit< tt
-opcode_fits SetlkKind = lit< tt
-opcode_fits CreateKind = lit< tt
-opcode_fits Destroy = lit< tt
-opcode_fits BatchForget = lit< tt
+opcode_fits kind = grind arith
 
 -- the message of an order says that order
 pub said_again : (order : Order) → IsSayable order → said (message_of order) ≡ Ok order
 said_again order h =
-    let o = opcode_for (kind_of order.op) in
-    let body = body_for order.op in
+    let kind = kind_of order.op in
+    let o = opcode_for kind in
     let bytes : List ℕ = message_of order in
     order_again bytes o order.unique order.node order.uid order.gid order.pid order.op
-    (heads o order.unique order.node order.uid order.gid order.pid body (opcode_fits (kind_of order.op)) h.unique h.node h.uid h.gid h.pid)
-    (ap (λ kind. asked kind bytes) (opcode_finds (kind_of order.op)) ∙ op_asked o order.unique order.node order.uid order.gid order.pid order.op h.op)
+    (heads o order.unique order.node order.uid order.gid order.pid (body_bytes (body_of order.op)) (opcode_fits kind) h.unique h.node h.uid h.gid h.pid)
+    (ap (λ k. asked k bytes) (opcode_finds kind) ∙ body_asked o order.unique order.node order.uid order.gid order.pid (form_for kind) (body_of order.op) order.op (parts_made order.op) h.op)
 
 pub reads_back : (bytes : List ℕ) (result : Result Order Refusal) → result ≡ said bytes → ReadsBack bytes result
 reads_back bytes result e order fits same = e ∙ ap said same ∙ said_again order fits

@@ -3,12 +3,12 @@ use Rattle.std.specs.Prelude.{◌≡◌, ℕ, ◌+◌, Bool, if◌then◌else◌
 use Rattle.fl_wire.specs.Body.{name_bytes}
 use Rattle.fl_wire.specs.Kind.{opcode_for}
 use Rattle.fl_wire.specs.Layout.{laid_out, in_header, create_in, lk_in}
-use Rattle.fl_wire.specs.Order.{kind_of}
+use Rattle.fl_wire.specs.Order.{body_of, kind_of}
 use Rattle.fl_wire.specs.Sayable.{IsSayable}
+use Rattle.fl_wire.specs.declared.body.Body.{Body}
+use Rattle.fl_wire.specs.declared.body.Body.TheVariants.{Lock, Create}
 use Rattle.fl_wire.specs.declared.order.Order.{Order}
 use Rattle.fl_wire.specs.declared.order.LockAsk.{LockAsk}
-use Rattle.fl_wire.specs.declared.order.Op.{Op}
-use Rattle.fl_wire.specs.declared.order.Op.TheVariants.{Create, Getlk, Setlk}
 use Rattle.fl_wire.specs.declared.reading.Refusal.{Refusal}
 
 -- the values of a lock request's fields
@@ -20,10 +20,9 @@ abbrev pub create_values : Bool → ℕ → List ℕ
 create_values excl mode = (if excl then 128 else 0) ∷ mode ∷ 0 ∷ 0 ∷ []
 
 -- what stands behind the header
-abbrev pub body_for : Op → List ℕ
-body_for (Create excl mode name) = laid_out create_in (create_values excl mode) ++ name_bytes name
-body_for (Getlk ask) = laid_out lk_in (lock_values ask)
-body_for (Setlk ask) = laid_out lk_in (lock_values ask)
+abbrev pub body_bytes : Body → List ℕ
+body_bytes (Lock ask) = laid_out lk_in (lock_values ask)
+body_bytes (Create excl mode name) = laid_out create_in (create_values excl mode) ++ name_bytes name
 
 -- a header, and the body behind it
 unfoldable pub request : ℕ → ℕ → ℕ → ℕ → ℕ → ℕ → List ℕ → List ℕ
@@ -33,7 +32,8 @@ request opcode unique node uid gid pid body =
 -- the message of an order
 abbrev pub message_of : Order → List ℕ
 message_of order =
-    request (opcode_for (kind_of order.op)) order.unique order.node order.uid order.gid order.pid (body_for order.op)
+    let body = body_bytes (body_of order.op) in
+    request (opcode_for (kind_of order.op)) order.unique order.node order.uid order.gid order.pid body
 
 -- what is read in these bytes is the order whose message they are, where there is one
 abbrev pub ReadsBack : List ℕ → Result Order Refusal → Type 0

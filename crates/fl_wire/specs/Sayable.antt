@@ -1,11 +1,13 @@
 -- Which orders and replies can be said, in bytes and in text: those whose numbers fit their fields.
 use Rattle.std.specs.Prelude.{◌<◌, ◌^◌, Result, Ok, Err}
 use Rattle.fl_wire.specs.Name.{IsName}
+use Rattle.fl_wire.specs.Order.{body_of}
+use Rattle.fl_wire.specs.declared.body.Body.{Body}
+use Rattle.fl_wire.specs.declared.body.Body.TheVariants as body
 use Rattle.fl_wire.specs.declared.errno.Errno.{Errno}
 use Rattle.fl_wire.specs.declared.order.Order.{Order}
 use Rattle.fl_wire.specs.declared.order.LockAsk.{LockAsk}
 use Rattle.fl_wire.specs.declared.order.Op.{Op}
-use Rattle.fl_wire.specs.declared.order.Op.TheVariants.{Create, Getlk, Setlk}
 use Rattle.fl_wire.specs.declared.told.Answer.{Answer}
 use Rattle.fl_wire.specs.declared.told.Answer.TheVariants.{Done, Entry, Attr, Open, Made, Lock}
 use Rattle.fl_wire.specs.declared.told.Attr.{Attr as Attributes}
@@ -21,11 +23,14 @@ pub record FitsLock (ask : LockAsk) : Type 0 where
   pub pid : ask.pid < 2 ^ 32
   pub flags : ask.flags < 2 ^ 32
 
--- so does what is asked; a mode has permissions alone, which are octal 777
+-- so do those of a body; a mode has permissions alone, which are octal 777
+abbrev pub FitsBody : Body → Type 0
+FitsBody (body.Lock ask) = FitsLock ask
+FitsBody (body.Create excl mode name) = (mode < 512) × IsName name
+
+-- so does what is asked
 abbrev pub FitsOp : Op → Type 0
-FitsOp (Create excl mode name) = (mode < 512) × IsName name
-FitsOp (Getlk ask) = FitsLock ask
-FitsOp (Setlk ask) = FitsLock ask
+FitsOp op = FitsBody (body_of op)
 
 -- an order that can be said
 pub record IsSayable (order : Order) : Type 0 where

@@ -1,18 +1,20 @@
 -- What a message says as an order, and how one that says none is refused.
-use Rattle.std.specs.Prelude.{ℕ, ◌==◌, not, bit_and, List, slice_index, Option, None, Some, Result, Ok, Err}
-use Rattle.std.specs.Result.{result_map_both}
+use Rattle.std.specs.Prelude.{ℕ, ◌==◌, not, bit_and, Bool, List, slice_index, Option, None, Some, Result, Ok, Err}
 use Rattle.fl_wire.specs.Body.{by_fields, by_fields_and_name}
-use Rattle.fl_wire.specs.Kind.{kind_of_opcode}
+use Rattle.fl_wire.specs.Form.{Form, Refused, OfLock, OfCreate}
+use Rattle.fl_wire.specs.Kind.{form_for, kind_of_opcode}
 use Rattle.fl_wire.specs.Layout.{field, in_header, create_in, lk_in, opcode_of, unique_of}
-use Rattle.fl_wire.specs.declared.errno.Errno.TheVariants.{ENOSYS, EPROTO}
+use Rattle.fl_wire.specs.declared.body.Body.{Body}
+use Rattle.fl_wire.specs.declared.body.Body.TheVariants.{Lock, Create}
+use Rattle.fl_wire.specs.declared.body.Shape.{Shape}
+use Rattle.fl_wire.specs.declared.body.Shape.TheVariants.{Lock as LockShape, Create as CreateShape}
+use Rattle.fl_wire.specs.declared.errno.Errno.TheVariants.{ENOSYS}
 use Rattle.fl_wire.specs.declared.kind.Kind.{Kind}
-use Rattle.fl_wire.specs.declared.kind.Kind.TheVariants.{Forget as ForgetKind, Init as InitKind, Getlk as GetlkKind, Setlk as SetlkKind, Create as CreateKind, Destroy as DestroyKind, BatchForget as BatchForgetKind}
 use Rattle.fl_wire.specs.declared.order.Order.{Order}
 use Rattle.fl_wire.specs.declared.order.LockAsk.{LockAsk}
 use Rattle.fl_wire.specs.declared.order.Op.{Op}
-use Rattle.fl_wire.specs.declared.order.Op.TheVariants.{Create, Getlk, Setlk}
 use Rattle.fl_wire.specs.declared.reading.Refusal.{Refusal}
-use Rattle.fl_wire.specs.declared.reading.Refusal.TheVariants.{Answer, Silent, Destroy}
+use Rattle.fl_wire.specs.declared.reading.Refusal.TheVariants.{Answer}
 
 -- the lock request of these fields
 abbrev pub lock_of : List ℕ → LockAsk
@@ -26,24 +28,35 @@ lock_of values = record {
   flags = slice_index values 6;
 }
 
--- the CREATE of these fields and a name: `O_EXCL` is octal 200 of the flags, and of the mode the permissions are kept
-abbrev pub create_of : List ℕ → List ℕ → Op
-create_of values name = Create (not (bit_and (slice_index values 0) 128 == 0)) (bit_and (slice_index values 1) 511) name
+-- what is made of the fields of a CREATE and a name: `O_EXCL` is octal 200 of the flags, and of the mode the
+-- permissions are kept
+abbrev pub create_of : {T : Type 0} → (Bool → ℕ → List ℕ → T) → List ℕ → List ℕ → T
+create_of made values name =
+    made (not (bit_and (slice_index values 0) 128 == 0)) (bit_and (slice_index values 1) 511) name
 
--- what a lock request asks: a header, then `struct fuse_lk_in`
-abbrev pub lock_asked : (LockAsk → Op) → List ℕ → Result Op Refusal
-lock_asked op bytes = result_map_both op (λ refusal. refusal) (by_fields lk_in lock_of bytes)
+-- what is made of the body of a lock request: a header, then `struct fuse_lk_in`
+abbrev pub lock_body : {T : Type 0} → (LockAsk → T) → List ℕ → Result T Refusal
+lock_body made bytes = by_fields lk_in (λ values. made (lock_of values)) bytes
+
+-- what is made of the body of a CREATE: a header, `struct fuse_create_in`, then a name
+abbrev pub create_body : {T : Type 0} → (Bool → ℕ → List ℕ → T) → List ℕ → Result T Refusal
+create_body made bytes = by_fields_and_name create_in (create_of made) bytes
+
+-- what a message of this form asks
+abbrev pub asked_by : Form → List ℕ → Result Op Refusal
+asked_by (Refused refusal) bytes = Err refusal
+asked_by (OfLock op) bytes = lock_body op bytes
+asked_by (OfCreate op) bytes = create_body op bytes
 
 -- what a message of this kind asks
 abbrev pub asked : Option Kind → List ℕ → Result Op Refusal
 asked None bytes = Err (Answer ENOSYS)
-asked (Some InitKind) bytes = Err (Answer EPROTO)
-asked (Some DestroyKind) bytes = Err Destroy
-asked (Some ForgetKind) bytes = Err Silent
-asked (Some BatchForgetKind) bytes = Err Silent
-asked (Some GetlkKind) bytes = lock_asked Getlk bytes
-asked (Some SetlkKind) bytes = lock_asked Setlk bytes
-asked (Some CreateKind) bytes = by_fields_and_name create_in create_of bytes
+asked (Some kind) bytes = asked_by (form_for kind) bytes
+
+-- the body of this shape
+abbrev pub body_in : Shape → List ℕ → Result Body Refusal
+body_in LockShape bytes = lock_body Lock bytes
+body_in CreateShape bytes = create_body Create bytes
 
 -- the order whose operation this is
 abbrev pub order_of : List ℕ → Result Op Refusal → Result Order Refusal

@@ -1,5 +1,9 @@
 ghost use Rattle.std.specs.Prelude.{◌≡◌, ◌↔◌};
 
+use crate::body::Shape;
+use crate::errno::Errno;
+use crate::reading::Refusal;
+
 /// The kinds of message that are told apart, with the numbers of `enum fuse_opcode` (Linux `fuse.h`).
 #[derive(Clone, Copy, Debug, PartialEq, Eq)]
 pub enum Kind {
@@ -31,7 +35,7 @@ const ALL: [Kind; 7] = [
 ];
 
 impl Kind {
-    ghost use Rattle.fl_wire.specs.Kind.{opcode_for, word_for, kind_of_opcode, kind_of_word, IsFoundBy};
+    ghost use Rattle.fl_wire.specs.Kind.{opcode_for, word_for, shape_for, kind_of_opcode, kind_of_word, IsFoundBy};
 
     /// Its number in a message's header.
     pub fn opcode(self) -> u32
@@ -48,19 +52,34 @@ impl Kind {
         ALL.iter().find(|kind| kind.opcode() == opcode).copied()
     }
 
+    // Its word, and the shape of its bodies or how its messages are refused.
+    fn row(self) -> (&'static str, Result<Shape, Refusal>)
+        ensures word { result.0.now ≡ word_for self }
+        ensures shape { result.1 ≡ shape_for self }
+    {
+        match self {
+            Kind::Forget => ("forget", Err(Refusal::Silent)),
+            Kind::Init => ("init", Err(Refusal::Answer(Errno::EPROTO))),
+            Kind::Getlk => ("getlk", Ok(Shape::Lock)),
+            Kind::Setlk => ("setlk", Ok(Shape::Lock)),
+            Kind::Create => ("create", Ok(Shape::Create)),
+            Kind::Destroy => ("destroy", Err(Refusal::Destroy)),
+            Kind::BatchForget => ("batch_forget", Err(Refusal::Silent)),
+        }
+    }
+
     /// Its word in the text of a trace.
     pub fn word(self) -> &'static str
         ensures { result.now ≡ word_for self }
     {
-        match self {
-            Kind::Forget => "forget",
-            Kind::Init => "init",
-            Kind::Getlk => "getlk",
-            Kind::Setlk => "setlk",
-            Kind::Create => "create",
-            Kind::Destroy => "destroy",
-            Kind::BatchForget => "batch_forget",
-        }
+        self.row().0
+    }
+
+    /// The shape of the bodies of its messages; where they are no orders, how they are refused.
+    pub fn shape(self) -> Result<Shape, Refusal>
+        ensures { result ≡ shape_for self }
+    {
+        self.row().1
     }
 
     /// The kind of this word; none where no kind has it.

@@ -3,6 +3,7 @@
 #![tactic(auto)]
 
 mod append;
+mod body;
 mod cut;
 mod errno;
 mod frame;
@@ -18,6 +19,7 @@ mod tests;
 mod told;
 mod writing;
 
+pub use body::{Body, Shape};
 pub use cut::{Step, next_frame};
 pub use errno::Errno;
 pub use frame::Frame;

@@ -1,6 +1,7 @@
-ghost use Rattle.std.specs.Prelude.{◌≡◌};
+ghost use Rattle.std.specs.Prelude.{◌≡◌, ◌↔◌, Some, IsSome, Ok};
 ghost use Rattle.fl_wire.specs.Order.{only_reads};
 
+use crate::body::Body;
 use crate::kind::Kind;
 use crate::name::Name;
 
@@ -42,17 +43,44 @@ pub enum Op {
 }
 
 impl Op {
-    ghost use Rattle.fl_wire.specs.Order.{kind_of};
+    ghost use Rattle.fl_wire.specs.Form.{body_shape};
+    ghost use Rattle.fl_wire.specs.Kind.{shape_for};
+    ghost use Rattle.fl_wire.specs.Order.{kind_of, op_of, parts_of};
+
+    /// The kind of its message, and the body.
+    pub fn parts(&self) -> (Kind, Body)
+        ensures { result ≡ parts_of self.now }
+    {
+        match *self {
+            Op::Create { excl, mode, name } => (Kind::Create, Body::Create { excl, mode, name }),
+            Op::Getlk(ask) => (Kind::Getlk, Body::Lock(ask)),
+            Op::Setlk(ask) => (Kind::Setlk, Body::Lock(ask)),
+        }
+    }
+
+    /// The order of these parts; none where the kind is no order's, or its orders have bodies of another shape.
+    pub fn of(kind: Kind, body: Body) -> Option<Op>
+        ensures value { result ≡ op_of kind body }
+        ensures inverse { (op : Op) → (result ≡ Some op) ↔ (parts_of op ≡ (kind, body)) }
+        ensures shaped { IsSome result ↔ (shape_for kind ≡ Ok (body_shape body)) }
+    {
+        match (kind, body) {
+            (Kind::Create, Body::Create { excl, mode, name }) => Some(Op::Create {
+                excl,
+                mode,
+                name,
+            }),
+            (Kind::Getlk, Body::Lock(ask)) => Some(Op::Getlk(ask)),
+            (Kind::Setlk, Body::Lock(ask)) => Some(Op::Setlk(ask)),
+            _ => None,
+        }
+    }
 
     /// The kind of its message.
     pub fn kind(&self) -> Kind
         ensures { result ≡ kind_of self.now }
     {
-        match self {
-            Op::Create { .. } => Kind::Create,
-            Op::Getlk(_) => Kind::Getlk,
-            Op::Setlk(_) => Kind::Setlk,
-        }
+        self.parts().0
     }
 }
 

@@ -1,11 +1,13 @@
 ghost use Rattle.std.specs.Prelude.{◌≡◌, ◌+◌, ◌<◌, ◌≤◌, length, IfOk, OnOk};
-ghost use Rattle.fl_wire.specs.Body.{by_fields, by_fields_and_name, name_behind, name_in};
-ghost use Rattle.fl_wire.specs.Layout.{create_in, lk_in};
+ghost use Rattle.fl_wire.specs.Body.{name_behind, name_in};
+ghost use Rattle.fl_wire.specs.Kind.{form_for};
 ghost use Rattle.fl_wire.specs.Message.{ReadsBack};
 ghost use Rattle.fl_wire.specs.Name.{IsName};
-ghost use Rattle.fl_wire.specs.Sayable.{FitsLock, FitsOp, IsSayable};
-ghost use Rattle.fl_wire.specs.Says.{create_of, lock_of, said};
+ghost use Rattle.fl_wire.specs.Sayable.{FitsBody, FitsOp, IsSayable};
+ghost use Rattle.fl_wire.specs.Says.{asked_by, body_in, create_body, lock_body, said};
+ghost use Rattle.fl_wire.specs.declared.body.Body.TheVariants as body;
 
+use crate::body::{Body, Shape};
 use crate::errno::Errno;
 use crate::frame::Frame;
 use crate::kind::Kind;
@@ -46,15 +48,8 @@ fn order_in(frame: &Frame) -> Result<Order, Refusal>
     ensures sayable { IfOk result IsSayable }
 {
     let bytes = frame.as_bytes();
-    let op = match Kind::of_opcode(frame.opcode()) {
-        None => return Err(Refusal::Answer(Errno::ENOSYS)),
-        Some(Kind::Init) => return Err(Refusal::Answer(Errno::EPROTO)),
-        Some(Kind::Destroy) => return Err(Refusal::Destroy),
-        Some(Kind::Forget | Kind::BatchForget) => return Err(Refusal::Silent),
-        Some(Kind::Getlk) => Op::Getlk(lock_ask(bytes)?),
-        Some(Kind::Setlk) => Op::Setlk(lock_ask(bytes)?),
-        Some(Kind::Create) => create(bytes)?,
-    };
+    let kind = Kind::of_opcode(frame.opcode()).ok_or(Refusal::Answer(Errno::ENOSYS))?;
+    let op = op_in(kind, bytes)?;
     Ok(Order {
         unique: frame.unique(),
         node: u64_at(bytes, 16),
@@ -65,15 +60,35 @@ fn order_in(frame: &Frame) -> Result<Order, Refusal>
     })
 }
 
-// What a lock request asks.
-fn lock_ask(message: &[u8]) -> Result<LockAsk, Refusal>
-    ensures value { result ≡ by_fields lk_in lock_of message.now }
-    ensures fits { IfOk result FitsLock }
+// What a message of this kind asks.
+fn op_in(kind: Kind, message: &[u8]) -> Result<Op, Refusal>
+    ensures value { result ≡ asked_by (form_for kind) message.now }
+    ensures fits { IfOk result FitsOp }
+{
+    let body = body_in(kind.shape()?, message)?;
+    Ok(Op::of(kind, body).unwrap())
+}
+
+// The body of this shape.
+fn body_in(shape: Shape, message: &[u8]) -> Result<Body, Refusal>
+    ensures value { result ≡ body_in shape message.now }
+    ensures fits { IfOk result FitsBody }
+{
+    match shape {
+        Shape::Lock => lock_body(message),
+        Shape::Create => create_body(message),
+    }
+}
+
+// A lock request.
+fn lock_body(message: &[u8]) -> Result<Body, Refusal>
+    ensures value { result ≡ lock_body body.Lock message.now }
+    ensures fits { IfOk result FitsBody }
 {
     if message.len() != 88 {
         return Err(Refusal::Answer(Errno::EINVAL));
     }
-    Ok(LockAsk {
+    Ok(Body::Lock(LockAsk {
         fh: u64_at(message, 40),
         owner: u64_at(message, 48),
         start: u64_at(message, 56),
@@ -81,16 +96,16 @@ fn lock_ask(message: &[u8]) -> Result<LockAsk, Refusal>
         kind: u32_at(message, 72),
         pid: u32_at(message, 76),
         flags: u32_at(message, 80),
-    })
+    }))
 }
 
-// What a CREATE asks.
-fn create(message: &[u8]) -> Result<Op, Refusal>
-    ensures value { result ≡ by_fields_and_name create_in create_of message.now }
-    ensures fits { IfOk result FitsOp }
+// The body of a CREATE.
+fn create_body(message: &[u8]) -> Result<Body, Refusal>
+    ensures value { result ≡ create_body body.Create message.now }
+    ensures fits { IfOk result FitsBody }
 {
     let name = name_behind(message, 16)?;
-    Ok(Op::Create {
+    Ok(Body::Create {
         excl: u32_at(message, 40) & O_EXCL != 0,
         mode: u32_at(message, 44) & PERMISSIONS,
         name,

@@ -1,4 +1,5 @@
 mod kinds;
+mod orders;
 mod replies;
 
 use crate::{
