@@ -3,3 +3,6 @@ pub mod Legal
 pub mod Kept
 pub mod BookCode
 pub mod Text
+pub mod Words
+pub mod Order
+pub mod Ask

@@ -9,7 +9,7 @@ mod tolds;
 
 pub use desk::Desk;
 pub use history::{History, Line};
-pub use text::{has_text, print_trace};
+pub use text::{Ask, has_text, print_trace, read_ask};
 pub use tolds::Tolds;
 
 #[cfg(test)]

@@ -7,9 +7,9 @@ use Rattle.fl_wire.specs.declared.told.Told.{Told as Reply}
 use Rattle.fl_book.specs.Text.{line_text, text_of, LineFits, Fits}
 use Rattle.fl_book.specs.declared.history.Line.{Line}
 use Rattle.fl_book.specs.declared.history.Line.TheVariants.{Asked, Told}
-use Rattle.lockd_commands.specs.Ask.{line_of}
+use Rattle.fl_book.specs.Ask.{line_of}
 use Rattle.lockd_commands.specs.Script.{is_asked, BreaksAt}
-use Rattle.lockd_commands.specs.declared.ask.Ask.{Ask}
+use Rattle.fl_book.specs.declared.text.ask.Ask.{Ask}
 
 -- only ask lines can fail to fit
 pub fits_of_asked : (lines : List Line) → Fits (filter is_asked lines) → Fits lines

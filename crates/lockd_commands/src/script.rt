@@ -2,15 +2,14 @@ ghost use Rattle.std.specs.Prelude.{◌≡◌, ◌≢◌, ℕ, ◌++◌, ◌∷�
 ghost use Rattle.std.specs.Io.KnownBytes.{Keeps, Appends};
 ghost use Rattle.fl_book.specs.Legal.{IsLegal};
 ghost use Rattle.fl_book.specs.Text.{line_text, text_of, LineFits, Fits};
-ghost use Rattle.lockd_commands.specs.Ask.{line_of};
+ghost use Rattle.fl_book.specs.Ask.{line_of};
 ghost use Rattle.lockd_commands.specs.Script.{is_asked, IsTraceOf, BreaksAt, FaultSays, IsAnswered};
 ghost use Rattle.lockd_commands.specs.declared.fault.Fault.{Fault};
 
-use crate::ask::{Ask, read_ask};
 use crate::fault::Fault;
 use crate::status::Status;
 use crate::streams::{read_all, write_all};
-use fl_book::{Desk, History, Tolds, print_trace};
+use fl_book::{Ask, Desk, History, Tolds, print_trace, read_ask};
 use std::alloc::Global;
 use std::io::{Read, Write};
 

@@ -1,0 +1,251 @@
+ghost use Rattle.std.specs.Prelude.{◌≡◌, ◌++◌, ◌∷◌, [], ◌↔◌, IsTrue, IfOk, OnOk, string_bytes};
+ghost use Rattle.fl_book.specs.Text.{flag_text, name_text, lock_ask_text, op_text, ask_text, attr_text, answer_text, result_text, tell_text, line_text, text_of, ModeFits, LineFits, Fits};
+
+use crate::history::{History, Line};
+use fl_wire::{Answer, Attr, Errno, LockAsk, Name, NoMemory, Op, Order, Told};
+use std::alloc::Global;
+
+/// The text of a history, as `docs/TRACE.md` says: a line of text for each of its lines. Want of memory
+/// comes only where a growth of the text was refused.
+pub fn print_trace(alloc: Global, history: &History) -> Result<String, NoMemory>
+    ensures { IfOk result (λ text. string_bytes text ≡ text_of history.now) }
+{
+    let mut text = String::new(alloc);
+    for line in history.lines() {
+        push_line(alloc, &mut text, line)?;
+    }
+    Ok(text)
+}
+
+/// Whether the text of a history can be read back: its workers are at most 15, and the modes of its
+/// CREATEs at most octal 777.
+pub fn has_text(history: &History) -> bool
+    ensures { IsTrue result ↔ Fits history.now }
+{
+    history.lines().iter().all(|line| fits(line))
+}
+
+fn fits(line: &Line) -> bool
+    ensures { IsTrue result ↔ LineFits line.now }
+{
+    match line {
+        Line::Asked { worker, order } => *worker <= 15 && mode_fits(&order.op),
+        Line::Told(_) => true,
+    }
+}
+
+fn mode_fits(op: &Op) -> bool
+    ensures { IsTrue result ↔ ModeFits op.now }
+{
+    match op {
+        Op::Create { mode, .. } => *mode <= 0o777,
+        Op::Getlk(_) | Op::Setlk(_) => true,
+    }
+}
+
+fn push_line(alloc: Global, text: &mut String, line: &Line) -> Result<(), NoMemory>
+    ensures { OnOk result (string_bytes text.new ≡ string_bytes text.old ++ (line_text line.now ++ 10 ∷ [])) }
+{
+    match line {
+        Line::Asked { worker, order } => push_ask(alloc, text, *worker, order)?,
+        Line::Told(told) => push_tell(text, told)?,
+    }
+    text.push('\n')?;
+    Ok(())
+}
+
+fn push_ask(alloc: Global, text: &mut String, worker: u32, order: &Order) -> Result<(), NoMemory>
+    ensures { OnOk result (string_bytes text.new ≡ string_bytes text.old ++ ask_text worker order.now) }
+{
+    let Order {
+        unique,
+        node,
+        uid,
+        gid,
+        pid,
+        op,
+    } = order;
+    write!(text, "ask {worker} {unique} {node} {uid} {gid} {pid} ")?;
+    push_op(alloc, text, op)
+}
+
+fn push_op(alloc: Global, text: &mut String, op: &Op) -> Result<(), NoMemory>
+    ensures { OnOk result (string_bytes text.new ≡ string_bytes text.old ++ op_text op.now) }
+{
+    match op {
+        Op::Create { excl, mode, name } => {
+            let excl = flag_text(*excl);
+            write!(text, "create {excl} {mode} ")?;
+            push_name(alloc, text, name)
+        }
+        Op::Getlk(ask) => {
+            text.push_str("getlk ")?;
+            push_lock_ask(text, ask)
+        }
+        Op::Setlk(ask) => {
+            text.push_str("setlk ")?;
+            push_lock_ask(text, ask)
+        }
+    }
+}
+
+fn flag_text(flag: bool) -> &'static str
+    ensures { result.now ≡ flag_text flag }
+{
+    if flag { "1" } else { "0" }
+}
+
+fn push_name(alloc: Global, text: &mut String, name: &Name) -> Result<(), NoMemory>
+    ensures { OnOk result (string_bytes text.new ≡ string_bytes text.old ++ name_text name.now) }
+{
+    let bytes = name.as_bytes();
+    if bytes.is_empty() {
+        text.push('-')?;
+    } else {
+        text.push_str(hex::encode(alloc, bytes)?.as_str())?;
+    }
+    Ok(())
+}
+
+fn push_lock_ask(text: &mut String, ask: &LockAsk) -> Result<(), NoMemory>
+    ensures { OnOk result (string_bytes text.new ≡ string_bytes text.old ++ lock_ask_text ask.now) }
+{
+    let LockAsk {
+        fh,
+        owner,
+        start,
+        end,
+        kind,
+        pid,
+        flags,
+    } = ask;
+    write!(text, "{fh} {owner} {start} {end} {kind} {pid} {flags}")?;
+    Ok(())
+}
+
+fn push_tell(text: &mut String, told: &Told) -> Result<(), NoMemory>
+    ensures { OnOk result (string_bytes text.new ≡ string_bytes text.old ++ tell_text told.now) }
+{
+    let unique = told.unique;
+    write!(text, "tell {unique} ")?;
+    push_result(text, &told.result)
+}
+
+fn push_result(text: &mut String, result_told: &Result<Answer, Errno>) -> Result<(), NoMemory>
+    ensures { OnOk result (string_bytes text.new ≡ string_bytes text.old ++ result_text result_told.now) }
+{
+    match result_told {
+        Ok(answer) => push_answer(text, answer),
+        Err(error) => {
+            let number = error.number();
+            write!(text, "err {number}")?;
+            Ok(())
+        }
+    }
+}
+
+fn push_answer(text: &mut String, answer: &Answer) -> Result<(), NoMemory>
+    ensures { OnOk result (string_bytes text.new ≡ string_bytes text.old ++ answer_text answer.now) }
+{
+    match answer {
+        Answer::Done => text.push_str("ok")?,
+        Answer::Entry(attr) => push_attr(text, "entry", attr)?,
+        Answer::Attr(attr) => push_attr(text, "attr", attr)?,
+        Answer::Open(fh) => write!(text, "open {fh}")?,
+        Answer::Made(attr, fh) => {
+            push_attr(text, "made", attr)?;
+            write!(text, " {fh}")?;
+        }
+        Answer::Lock {
+            start,
+            end,
+            kind,
+            pid,
+        } => write!(text, "lock {start} {end} {kind} {pid}")?,
+    }
+    Ok(())
+}
+
+// A word, and a node's attributes after it.
+fn push_attr(text: &mut String, word: &str, attr: &Attr) -> Result<(), NoMemory>
+    ensures { OnOk result (string_bytes text.new ≡ string_bytes text.old ++ (word.now ++ 32 ∷ attr_text attr.now)) }
+{
+    let Attr {
+        node,
+        mode,
+        nlink,
+        uid,
+        gid,
+    } = attr;
+    write!(text, "{word} {node} {mode} {nlink} {uid} {gid}")?;
+    Ok(())
+}
+
+#[cfg(test)]
+mod tests {
+    use super::*;
+    use std::alloc::AllocError;
+    use std::test::Fail;
+
+    const ATTR: Attr = Attr {
+        node: 2,
+        mode: 33188,
+        nlink: 1,
+        uid: 3,
+        gid: 4,
+    };
+
+    fn create(name: Name, mode: u32) -> Order {
+        Order {
+            unique: 1,
+            node: 1,
+            uid: 3,
+            gid: 4,
+            pid: 5,
+            op: Op::Create {
+                excl: true,
+                mode,
+                name,
+            },
+        }
+    }
+
+    fn history(alloc: Global, lines: &[Line]) -> Result<History, AllocError> {
+        Ok(History::new(lines.to_vec(alloc)?))
+    }
+
+    #[test]
+    fn a_line_of_text_for_each_line(rt: HostRuntime) -> Result<(), Fail> {
+        let answers = [
+            (Ok(Answer::Done), "tell 9 ok\n"),
+            (Ok(Answer::Entry(ATTR)), "tell 9 entry 2 33188 1 3 4\n"),
+            (Ok(Answer::Attr(ATTR)), "tell 9 attr 2 33188 1 3 4\n"),
+            (Ok(Answer::Open(7)), "tell 9 open 7\n"),
+            (Ok(Answer::Made(ATTR, 7)), "tell 9 made 2 33188 1 3 4 7\n"),
+            (Err(Errno::EDEADLK), "tell 9 err 35\n"),
+        ];
+        for (result, text) in answers {
+            let told = Line::Told(Told { unique: 9, result });
+            let printed = print_trace(rt.alloc(), &history(rt.alloc(), &[told])?)?;
+            assert_eq!(rt; printed.as_str(), text);
+        }
+        Ok(())
+    }
+
+    #[test]
+    fn what_can_be_read_back(rt: HostRuntime) -> Result<(), Fail> {
+        let name = Name::new(b"a").ok_or("a name")?;
+        for (worker, mode, can) in [(15, 511, true), (16, 511, false), (15, 512, false)] {
+            let asked = Line::Asked {
+                worker,
+                order: create(name, mode),
+            };
+            assert_eq!(rt;
+                has_text(&history(rt.alloc(), &[asked])?),
+                can,
+                "{worker} {mode}"
+            );
+        }
+        Ok(())
+    }
+}
