@@ -1,3 +1,4 @@
 pub mod Appending
+pub mod Finding
 pub mod Messages
 pub mod Numbers

@@ -1,5 +1,5 @@
 -- The message of an order says that order.
-use Rattle.std.proofs.Common.{◌≡◌, ◌≤◌, ◌<◌, ◌^◌, ◌+◌, ◌-◌, ℕ, zero, suc, ◌==◌, ◌||◌, Bool, true, false, not, nat_lt, if◌then◌else◌, List, [], ◌∷◌, ◌++◌, length, take, drop, slice_index_or, Contains, Result, Ok, refl, ap, ◌∙◌, arith, lit<, bit_and, length-append}
+use Rattle.std.proofs.Common.{◌≡◌, ◌≤◌, ◌<◌, ◌^◌, ◌+◌, ◌-◌, ℕ, zero, suc, ◌==◌, ◌||◌, Bool, true, false, not, nat_lt, if◌then◌else◌, List, [], ◌∷◌, ◌++◌, length, take, drop, slice_index_or, Contains, Some, Result, Ok, refl, ap, ◌∙◌, arith, lit<, bit_and, length-append}
 use Rattle.std.proofs.Math.Dec.{eqb-suc-zero}
 use Rattle.std.proofs.Math.Nat.{mod-eq_of_lt}
 use Rattle.std.proofs.Math.Seq.{get_or-append_seam, take-append_seam}
@@ -7,10 +7,13 @@ use Rattle.std.proofs.lemmas.Bool.{le-ltb}
 use Rattle.std.proofs.lemmas.Nat.{and_mask}
 use Rattle.std.specs.List.{list_any}
 use Rattle.byteorder.specs.Numbers.{little_number-reads_back}
+use Rattle.fl_wire.specs.Kind.{kind_of_opcode, opcode_for}
 use Rattle.fl_wire.specs.Layout.{number_at, field, laid_out, in_header, create_in, lk_in, opcode_of, unique_of}
-use Rattle.fl_wire.specs.Message.{lock_body, body_for, request, message_of, FitsLock, FitsOp, IsSendable, ReadsBack}
+use Rattle.fl_wire.specs.Message.{lock_body, body_for, request, message_of, ReadsBack}
 use Rattle.fl_wire.specs.Name.{IsName}
+use Rattle.fl_wire.specs.Sayable.{FitsLock, FitsOp, IsSayable}
 use Rattle.fl_wire.specs.Says.{said, asked, order_of, lock_asked, create_of, name_in}
+use Rattle.fl_wire.specs.declared.kind.Kind.TheVariants.{Getlk as GetlkKind, Setlk as SetlkKind, Create as CreateKind}
 use Rattle.fl_wire.specs.declared.order.Order.{Order}
 use Rattle.fl_wire.specs.declared.order.LockAsk.{LockAsk}
 use Rattle.fl_wire.specs.declared.order.Op.{Op}
@@ -63,18 +66,18 @@ lock_again o u n i g p a h =
     λ k. record { fh = e0 k; owner = e1 k; start = e2 k; end = e3 k; kind = e4 k; pid = e5 k; flags = e6 k }
 
 -- an order whose parts are read back is read back
-order_again : (bytes : List ℕ) (opcode u n i g p : ℕ) (op : Op) → Heads bytes opcode u n i g p → asked opcode bytes ≡ Ok op → said bytes ≡ Ok (record { unique = u; node = n; uid = i; gid = g; pid = p; op = op })
+order_again : (bytes : List ℕ) (opcode u n i g p : ℕ) (op : Op) → Heads bytes opcode u n i g p → asked (kind_of_opcode opcode) bytes ≡ Ok op → said bytes ≡ Ok (record { unique = u; node = n; uid = i; gid = g; pid = p; op = op })
 order_again bytes opcode u n i g p op h e =
     let parts : order_of bytes (Ok op) ≡ Ok (record { unique = u; node = n; uid = i; gid = g; pid = p; op = op }) =
     λ k. Ok (record { unique = h.unique_is k; node = h.node_is k; uid = h.uid_is k; gid = h.gid_is k; pid = h.pid_is k; op = op }) in
-    ap (λ o. order_of bytes (asked o bytes)) h.opcode_is ∙ ap (order_of bytes) e ∙ parts
+    ap (λ o. order_of bytes (asked (kind_of_opcode o) bytes)) h.opcode_is ∙ ap (order_of bytes) e ∙ parts
 
 -- what a GETLK asks is read back
-getlk_again : (bytes : List ℕ) (a : LockAsk) → length bytes ≡ 88 → lock_asked bytes ≡ a → asked 31 bytes ≡ Ok (Getlk a)
+getlk_again : (bytes : List ℕ) (a : LockAsk) → length bytes ≡ 88 → lock_asked bytes ≡ a → asked (Some GetlkKind) bytes ≡ Ok (Getlk a)
 getlk_again bytes a long e = rw long (ap (λ x. Ok (Getlk x)) e)
 
 -- what a SETLK asks is read back
-setlk_again : (bytes : List ℕ) (a : LockAsk) → length bytes ≡ 88 → lock_asked bytes ≡ a → asked 32 bytes ≡ Ok (Setlk a)
+setlk_again : (bytes : List ℕ) (a : LockAsk) → length bytes ≡ 88 → lock_asked bytes ≡ a → asked (Some SetlkKind) bytes ≡ Ok (Setlk a)
 setlk_again bytes a long e = rw long (ap (λ x. Ok (Setlk x)) e)
 
 -- a name without zero bytes has none
@@ -95,7 +98,7 @@ name_again name h =
     rw (long, last, text, clean, short) refl
 
 -- what a CREATE asks is read back
-create_again : (bytes : List ℕ) (excl : Bool) (mode flags : ℕ) (name : List ℕ) → 57 ≤ length bytes → name_in (drop 56 bytes) ≡ Ok name → field create_in 0 40 bytes ≡ flags → field create_in 1 40 bytes ≡ mode → not (bit_and flags 128 == 0) ≡ excl → mode < 512 → asked 35 bytes ≡ Ok (Create excl mode name)
+create_again : (bytes : List ℕ) (excl : Bool) (mode flags : ℕ) (name : List ℕ) → 57 ≤ length bytes → name_in (drop 56 bytes) ≡ Ok name → field create_in 0 40 bytes ≡ flags → field create_in 1 40 bytes ≡ mode → not (bit_and flags 128 == 0) ≡ excl → mode < 512 → asked (Some CreateKind) bytes ≡ Ok (Create excl mode name)
 create_again bytes excl mode flags name long e ef em ex hm =
     let x : not (bit_and (field create_in 0 40 bytes) 128 == 0) ≡ excl = ap (λ f. not (bit_and f 128 == 0)) ef ∙ ex in
     let m : bit_and (field create_in 1 40 bytes) 511 ≡ mode = ap (λ f. bit_and f 511) em ∙ and_mask mode 9 ∙ mod-eq_of_lt hm in
@@ -123,24 +126,24 @@ length-create excl mode name =
 
 op_again : (u n i g p : ℕ) (op : Op) → u < 2 ^ 64 → n < 2 ^ 64 → i < 2 ^ 32 → g < 2 ^ 32 → p < 2 ^ 32 → FitsOp op → said (message_of (record { unique = u; node = n; uid = i; gid = g; pid = p; op = op })) ≡ Ok (record { unique = u; node = n; uid = i; gid = g; pid = p; op = op })
 op_again u n i g p (Getlk a) hu hn hi hg hp h =
-    let bytes : List ℕ = request 31 u n i g p (lock_body a) in
-    order_again bytes 31 u n i g p (Getlk a) (heads 31 u n i g p (lock_body a) (lit< tt) hu hn hi hg hp)
-    (getlk_again bytes a (length-request 31 u n i g p (lock_body a)) (lock_again 31 u n i g p a h))
+    let bytes : List ℕ = request (opcode_for GetlkKind) u n i g p (lock_body a) in
+    order_again bytes (opcode_for GetlkKind) u n i g p (Getlk a) (heads (opcode_for GetlkKind) u n i g p (lock_body a) (lit< tt) hu hn hi hg hp)
+    (getlk_again bytes a (length-request (opcode_for GetlkKind) u n i g p (lock_body a)) (lock_again 31 u n i g p a h))
 op_again u n i g p (Setlk a) hu hn hi hg hp h =
-    let bytes : List ℕ = request 32 u n i g p (lock_body a) in
-    order_again bytes 32 u n i g p (Setlk a) (heads 32 u n i g p (lock_body a) (lit< tt) hu hn hi hg hp)
-    (setlk_again bytes a (length-request 32 u n i g p (lock_body a)) (lock_again 32 u n i g p a h))
+    let bytes : List ℕ = request (opcode_for SetlkKind) u n i g p (lock_body a) in
+    order_again bytes (opcode_for SetlkKind) u n i g p (Setlk a) (heads (opcode_for SetlkKind) u n i g p (lock_body a) (lit< tt) hu hn hi hg hp)
+    (setlk_again bytes a (length-request (opcode_for SetlkKind) u n i g p (lock_body a)) (lock_again 32 u n i g p a h))
 op_again u n i g p (Create excl mode name) hu hn hi hg hp h =
     let body : List ℕ = body_for (Create excl mode name) in
-    let bytes : List ℕ = request 35 u n i g p body in
-    let fields = create_fields 35 u n i g p excl mode name h.0 in
-    let long : 57 ≤ length bytes = omega (arith, length-request 35 u n i g p body, length-create excl mode name) in
-    order_again bytes 35 u n i g p (Create excl mode name) (heads 35 u n i g p body (lit< tt) hu hn hi hg hp)
+    let bytes : List ℕ = request (opcode_for CreateKind) u n i g p body in
+    let fields = create_fields (opcode_for CreateKind) u n i g p excl mode name h.0 in
+    let long : 57 ≤ length bytes = omega (arith, length-request (opcode_for CreateKind) u n i g p body, length-create excl mode name) in
+    order_again bytes (opcode_for CreateKind) u n i g p (Create excl mode name) (heads (opcode_for CreateKind) u n i g p body (lit< tt) hu hn hi hg hp)
     (create_again bytes excl mode (if excl then 128 else 0) name long
-    (ap name_in (drop-request 35 u n i g p body) ∙ name_again name h.1) fields.0 fields.1 (flags_again excl) h.0)
+    (ap name_in (drop-request (opcode_for CreateKind) u n i g p body) ∙ name_again name h.1) fields.0 fields.1 (flags_again excl) h.0)
 
 -- the message of an order says that order
-pub said_again : (order : Order) → IsSendable order → said (message_of order) ≡ Ok order
+pub said_again : (order : Order) → IsSayable order → said (message_of order) ≡ Ok order
 said_again order h = op_again order.unique order.node order.uid order.gid order.pid order.op h.unique h.node h.uid h.gid h.pid h.op
 
 pub reads_back : (bytes : List ℕ) (result : Result Order Refusal) → result ≡ said bytes → ReadsBack bytes result

@@ -1,18 +1,14 @@
 -- The message that a kernel sends for an order. Fields that aren't read are zeros here.
-use Rattle.std.specs.Prelude.{◌≡◌, ℕ, ◌+◌, ◌<◌, ◌^◌, if◌then◌else◌, List, [], ◌∷◌, ◌++◌, length, Result, Ok}
+use Rattle.std.specs.Prelude.{◌≡◌, ℕ, ◌+◌, if◌then◌else◌, List, [], ◌∷◌, ◌++◌, length, Result, Ok}
+use Rattle.fl_wire.specs.Kind.{opcode_for}
 use Rattle.fl_wire.specs.Layout.{laid_out, in_header, create_in, lk_in}
-use Rattle.fl_wire.specs.Name.{IsName}
+use Rattle.fl_wire.specs.Order.{kind_of}
+use Rattle.fl_wire.specs.Sayable.{IsSayable}
 use Rattle.fl_wire.specs.declared.order.Order.{Order}
 use Rattle.fl_wire.specs.declared.order.LockAsk.{LockAsk}
 use Rattle.fl_wire.specs.declared.order.Op.{Op}
 use Rattle.fl_wire.specs.declared.order.Op.TheVariants.{Create, Getlk, Setlk}
 use Rattle.fl_wire.specs.declared.reading.Refusal.{Refusal}
-
--- the kind of its message
-abbrev pub opcode_for : Op → ℕ
-opcode_for (Create excl mode name) = 35
-opcode_for (Getlk ask) = 31
-opcode_for (Setlk ask) = 32
 
 -- a lock request
 abbrev pub lock_body : LockAsk → List ℕ
@@ -31,33 +27,8 @@ request opcode unique node uid gid pid body =
 
 -- the message of an order
 abbrev pub message_of : Order → List ℕ
-message_of order = request (opcode_for order.op) order.unique order.node order.uid order.gid order.pid (body_for order.op)
-
--- the numbers of a lock request fit their fields
-pub record FitsLock (ask : LockAsk) : Type 0 where
-  pub fh : ask.fh < 2 ^ 64
-  pub owner : ask.owner < 2 ^ 64
-  pub start : ask.start < 2 ^ 64
-  pub end : ask.end < 2 ^ 64
-  pub kind : ask.kind < 2 ^ 32
-  pub pid : ask.pid < 2 ^ 32
-  pub flags : ask.flags < 2 ^ 32
-
--- so does what is asked; a mode has permissions alone
-abbrev pub FitsOp : Op → Type 0
-FitsOp (Create excl mode name) = (mode < 512) × IsName name
-FitsOp (Getlk ask) = FitsLock ask
-FitsOp (Setlk ask) = FitsLock ask
-
--- an order that a message can say
-pub record IsSendable (order : Order) : Type 0 where
-  pub unique : order.unique < 2 ^ 64
-  pub node : order.node < 2 ^ 64
-  pub uid : order.uid < 2 ^ 32
-  pub gid : order.gid < 2 ^ 32
-  pub pid : order.pid < 2 ^ 32
-  pub op : FitsOp order.op
+message_of order = request (opcode_for (kind_of order.op)) order.unique order.node order.uid order.gid order.pid (body_for order.op)
 
 -- what is read in these bytes is the order whose message they are, where there is one
 abbrev pub ReadsBack : List ℕ → Result Order Refusal → Type 0
-ReadsBack bytes result = (order : Order) → IsSendable order → bytes ≡ message_of order → result ≡ Ok order
+ReadsBack bytes result = (order : Order) → IsSayable order → bytes ≡ message_of order → result ≡ Ok order

@@ -1,9 +1,12 @@
 -- What a message says as an order, and how one that says none is refused.
-use Rattle.std.specs.Prelude.{ℕ, ◌-◌, ◌==◌, not, bit_and, nat_lt, if◌then◌else◌, List, length, take, drop, slice_index, Result, Ok, Err}
+use Rattle.std.specs.Prelude.{ℕ, ◌-◌, ◌==◌, not, bit_and, nat_lt, if◌then◌else◌, List, length, take, drop, slice_index, Option, None, Some, Result, Ok, Err}
 use Rattle.std.specs.List.{list_any}
+use Rattle.fl_wire.specs.Kind.{kind_of_opcode}
 use Rattle.fl_wire.specs.Layout.{field, in_header, create_in, lk_in, opcode_of, unique_of}
 use Rattle.fl_wire.specs.declared.errno.Errno.{Errno}
 use Rattle.fl_wire.specs.declared.errno.Errno.TheVariants.{EINVAL, ENAMETOOLONG, ENOSYS, EPROTO}
+use Rattle.fl_wire.specs.declared.kind.Kind.{Kind}
+use Rattle.fl_wire.specs.declared.kind.Kind.TheVariants.{Forget as ForgetKind, Init as InitKind, Getlk as GetlkKind, Setlk as SetlkKind, Create as CreateKind, Destroy as DestroyKind, BatchForget as BatchForgetKind}
 use Rattle.fl_wire.specs.declared.order.Order.{Order}
 use Rattle.fl_wire.specs.declared.order.LockAsk.{LockAsk}
 use Rattle.fl_wire.specs.declared.order.Op.{Op}
@@ -52,18 +55,16 @@ abbrev pub lock_op : (LockAsk → Op) → Result LockAsk Refusal → Result Op R
 lock_op op (Ok ask) = Ok (op ask)
 lock_op op (Err refusal) = Err refusal
 
--- what a message of this opcode asks: 2 is FORGET, 26 INIT, 31 GETLK, 32 SETLK, 35 CREATE, 38 DESTROY and
--- 42 BATCH_FORGET of `enum fuse_opcode`
-abbrev pub asked : ℕ → List ℕ → Result Op Refusal
-asked opcode bytes =
-    if opcode == 26 then Err (Answer EPROTO)
-    else if opcode == 38 then Err Destroy
-    else if opcode == 42 then Err Silent
-    else if opcode == 2 then Err Silent
-    else if opcode == 31 then lock_op Getlk (lock_request bytes)
-    else if opcode == 32 then lock_op Setlk (lock_request bytes)
-    else if opcode == 35 then create_asked bytes
-    else Err (Answer ENOSYS)
+-- what a message of this kind asks
+abbrev pub asked : Option Kind → List ℕ → Result Op Refusal
+asked None bytes = Err (Answer ENOSYS)
+asked (Some InitKind) bytes = Err (Answer EPROTO)
+asked (Some DestroyKind) bytes = Err Destroy
+asked (Some ForgetKind) bytes = Err Silent
+asked (Some BatchForgetKind) bytes = Err Silent
+asked (Some GetlkKind) bytes = lock_op Getlk (lock_request bytes)
+asked (Some SetlkKind) bytes = lock_op Setlk (lock_request bytes)
+asked (Some CreateKind) bytes = create_asked bytes
 
 -- the order whose operation this is
 abbrev pub order_of : List ℕ → Result Op Refusal → Result Order Refusal
@@ -79,4 +80,4 @@ order_of bytes (Err refusal) = Err refusal
 
 -- what a message says: an order, or a refusal
 abbrev pub said : List ℕ → Result Order Refusal
-said bytes = order_of bytes (asked (opcode_of bytes) bytes)
+said bytes = order_of bytes (asked (kind_of_opcode (opcode_of bytes)) bytes)

@@ -1,6 +1,7 @@
 ghost use Rattle.std.specs.Prelude.{◌≡◌};
 ghost use Rattle.fl_wire.specs.Order.{only_reads};
 
+use crate::kind::Kind;
 use crate::name::Name;
 
 /// A message that reaches the lock state.
@@ -38,6 +39,21 @@ pub enum Op {
     Getlk(LockAsk),
     /// Sets or takes away a lock, and doesn't wait (FUSE_SETLK).
     Setlk(LockAsk),
+}
+
+impl Op {
+    ghost use Rattle.fl_wire.specs.Order.{kind_of};
+
+    /// The kind of its message.
+    pub fn kind(&self) -> Kind
+        ensures { result ≡ kind_of self.now }
+    {
+        match self {
+            Op::Create { .. } => Kind::Create,
+            Op::Getlk(_) => Kind::Getlk,
+            Op::Setlk(_) => Kind::Setlk,
+        }
+    }
 }
 
 /// A lock request, in the raw numbers of `struct fuse_lk_in` (Linux `fuse.h`).

@@ -4,24 +4,10 @@ ghost use Rattle.fl_wire.specs.Says.{create_asked, lock_request, name_in, said};
 
 use crate::errno::Errno;
 use crate::frame::Frame;
+use crate::kind::Kind;
 use crate::layout::{u32_at, u64_at};
 use crate::name::Name;
 use crate::order::{LockAsk, Op, Order};
-
-// Kinds of messages, by the numbers of `enum fuse_opcode`.
-const FORGET: u32 = 2;
-
-const INIT: u32 = 26;
-
-const GETLK: u32 = 31;
-
-const SETLK: u32 = 32;
-
-const CREATE: u32 = 35;
-
-const DESTROY: u32 = 38;
-
-const BATCH_FORGET: u32 = 42;
 
 // `O_EXCL` of a kernel's flags, and the permissions of a mode.
 const O_EXCL: u32 = 0o200;
@@ -54,14 +40,14 @@ fn order_in(frame: &Frame) -> Result<Order, Refusal>
     ensures { result ≡ said frame.now }
 {
     let bytes = frame.as_bytes();
-    let op = match frame.opcode() {
-        INIT => return Err(Refusal::Answer(Errno::EPROTO)),
-        DESTROY => return Err(Refusal::Destroy),
-        BATCH_FORGET | FORGET => return Err(Refusal::Silent),
-        GETLK => Op::Getlk(lock_ask(bytes)?),
-        SETLK => Op::Setlk(lock_ask(bytes)?),
-        CREATE => create(bytes)?,
-        _ => return Err(Refusal::Answer(Errno::ENOSYS)),
+    let op = match Kind::of_opcode(frame.opcode()) {
+        None => return Err(Refusal::Answer(Errno::ENOSYS)),
+        Some(Kind::Init) => return Err(Refusal::Answer(Errno::EPROTO)),
+        Some(Kind::Destroy) => return Err(Refusal::Destroy),
+        Some(Kind::Forget | Kind::BatchForget) => return Err(Refusal::Silent),
+        Some(Kind::Getlk) => Op::Getlk(lock_ask(bytes)?),
+        Some(Kind::Setlk) => Op::Setlk(lock_ask(bytes)?),
+        Some(Kind::Create) => create(bytes)?,
     };
     Ok(Order {
         unique: frame.unique(),

@@ -5,7 +5,7 @@ ghost use Rattle.fl_wire.specs.Name.{IsName};
 ghost use Rattle.fl_wire.specs.declared.order.Order.{Order};
 ghost use Rattle.fl_wire.specs.declared.order.Op.{Op};
 ghost use Rattle.fl_wire.specs.declared.order.LockAsk.{LockAsk};
-ghost use Rattle.fl_wire.specs.Message.{FitsLock, FitsOp, IsSendable};
+ghost use Rattle.fl_wire.specs.Sayable.{FitsLock, FitsOp, IsSayable};
 ghost use Rattle.fl_book.specs.Order.{create_text, asked_text, HasBytes};
 
 use crate::text::words::{flag_word, name, split_word, u32_number, u32_word, u64_word};
@@ -31,7 +31,7 @@ fn read_ask_text(line: &str) -> Option<Ask>
     ensures spelled { IfSome result (λ ask. line.now ≡ ask_text ask.worker ask.order) }
     ensures worker { IfSome result (λ ask. ask.worker ≤ 15) }
     ensures mode { IfSome result (λ ask. ModeFits ask.order.op) }
-    ensures only { (worker : ℕ) (order : Order) → worker ≤ 15 → IsSendable order → HasBytes order.op → line.now ≡ ask_text worker order → IsSome result }
+    ensures only { (worker : ℕ) (order : Order) → worker ≤ 15 → IsSayable order → HasBytes order.op → line.now ≡ ask_text worker order → IsSome result }
 {
     let (word, rest) = split_word(line)?;
     match word {
@@ -44,7 +44,7 @@ fn read_asked(text: &str) -> Option<Ask>
     ensures spelled { IfSome result (λ ask. text.now ≡ asked_text ask.worker ask.order) }
     ensures worker { IfSome result (λ ask. ask.worker ≤ 15) }
     ensures mode { IfSome result (λ ask. ModeFits ask.order.op) }
-    ensures only { (worker : ℕ) (order : Order) → worker ≤ 15 → IsSendable order → HasBytes order.op → text.now ≡ asked_text worker order → IsSome result }
+    ensures only { (worker : ℕ) (order : Order) → worker ≤ 15 → IsSayable order → HasBytes order.op → text.now ≡ asked_text worker order → IsSome result }
 {
     let (worker, rest) = u32_word(text)?;
     if worker > 15 {
@@ -57,7 +57,7 @@ fn read_asked(text: &str) -> Option<Ask>
 fn read_order(text: &str) -> Option<Order>
     ensures spelled { IfSome result (λ order. text.now ≡ order_text order) }
     ensures mode { IfSome result (λ order. ModeFits order.op) }
-    ensures only { (order : Order) → IsSendable order → HasBytes order.op → text.now ≡ order_text order → IsSome result }
+    ensures only { (order : Order) → IsSayable order → HasBytes order.op → text.now ≡ order_text order → IsSome result }
 {
     let (unique, rest) = u64_word(text)?;
     let (node, rest) = u64_word(rest)?;

@@ -1,0 +1,14 @@
+use Rattle.std.proofs.Common.{◌∙◌, sym, subst, rules, tests}
+use Rattle.std.proofs.lemmas.Iterator.{YieldsList-from_slice}
+use Rattle.std.proofs.lemmas.Iterator.Search.{find_from_yields_List}
+use Rattle.std.specs.Str.{bytes_eq}
+use Rattle.fl_wire.specs.Kind.{all_kinds, word_for, IsFoundBy}
+use Rattle.fl_wire.proofs.Finding.{found_by_word}
+use Rattle.fl_wire.proofs.kind.Kind.of_word.Goals as goal
+
+pub returns-clause-value : goal.returns-clause-value
+returns-clause-value c =
+    c.copied.ensures ∙ find_from_yields_List (λ kind. bytes_eq (word_for kind) c.args.word.now) _ _ _ c.find.ensures.ran (YieldsList-from_slice all_kinds cc) (λ x b q k. search (rules, tests))
+
+pub returns-clause-inverse : goal.returns-clause-inverse
+returns-clause-inverse c = subst (IsFoundBy word_for c.args.word.now) (sym (returns-clause-value c)) (found_by_word c.args.word.now)

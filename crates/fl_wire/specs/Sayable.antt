@@ -1,0 +1,64 @@
+-- Which orders and replies can be said, in bytes and in text: those whose numbers fit their fields.
+use Rattle.std.specs.Prelude.{◌<◌, ◌^◌, Result, Ok, Err}
+use Rattle.fl_wire.specs.Name.{IsName}
+use Rattle.fl_wire.specs.declared.errno.Errno.{Errno}
+use Rattle.fl_wire.specs.declared.order.Order.{Order}
+use Rattle.fl_wire.specs.declared.order.LockAsk.{LockAsk}
+use Rattle.fl_wire.specs.declared.order.Op.{Op}
+use Rattle.fl_wire.specs.declared.order.Op.TheVariants.{Create, Getlk, Setlk}
+use Rattle.fl_wire.specs.declared.told.Answer.{Answer}
+use Rattle.fl_wire.specs.declared.told.Answer.TheVariants.{Done, Entry, Attr, Open, Made, Lock}
+use Rattle.fl_wire.specs.declared.told.Attr.{Attr as Attributes}
+use Rattle.fl_wire.specs.declared.told.Told.{Told}
+
+-- the numbers of a lock request fit their fields
+pub record FitsLock (ask : LockAsk) : Type 0 where
+  pub fh : ask.fh < 2 ^ 64
+  pub owner : ask.owner < 2 ^ 64
+  pub start : ask.start < 2 ^ 64
+  pub end : ask.end < 2 ^ 64
+  pub kind : ask.kind < 2 ^ 32
+  pub pid : ask.pid < 2 ^ 32
+  pub flags : ask.flags < 2 ^ 32
+
+-- so does what is asked; a mode has permissions alone, which are octal 777
+abbrev pub FitsOp : Op → Type 0
+FitsOp (Create excl mode name) = (mode < 512) × IsName name
+FitsOp (Getlk ask) = FitsLock ask
+FitsOp (Setlk ask) = FitsLock ask
+
+-- an order that can be said
+pub record IsSayable (order : Order) : Type 0 where
+  pub unique : order.unique < 2 ^ 64
+  pub node : order.node < 2 ^ 64
+  pub uid : order.uid < 2 ^ 32
+  pub gid : order.gid < 2 ^ 32
+  pub pid : order.pid < 2 ^ 32
+  pub op : FitsOp order.op
+
+-- the numbers of attributes fit their fields
+pub record FitsAttr (attr : Attributes) : Type 0 where
+  pub node : attr.node < 2 ^ 64
+  pub mode : attr.mode < 2 ^ 32
+  pub nlink : attr.nlink < 2 ^ 32
+  pub uid : attr.uid < 2 ^ 32
+  pub gid : attr.gid < 2 ^ 32
+
+-- so do those of an answer
+abbrev pub FitsAnswer : Answer → Type 0
+FitsAnswer Done = Unit {0}
+FitsAnswer (Entry attr) = FitsAttr attr
+FitsAnswer (Attr attr) = FitsAttr attr
+FitsAnswer (Open fh) = fh < 2 ^ 64
+FitsAnswer (Made attr fh) = FitsAttr attr × (fh < 2 ^ 64)
+FitsAnswer (Lock start end kind pid) = (start < 2 ^ 64) × (end < 2 ^ 64) × (kind < 2 ^ 32) × (pid < 2 ^ 32)
+
+-- an error always does
+abbrev pub FitsResult : Result Answer Errno → Type 0
+FitsResult (Ok answer) = FitsAnswer answer
+FitsResult (Err e) = Unit {0}
+
+-- a reply that can be said
+pub record FitsTold (told : Told) : Type 0 where
+  pub unique : told.unique < 2 ^ 64
+  pub result : FitsResult told.result
