@@ -1,5 +1,5 @@
 -- Numbers' words.
-use Rattle.std.proofs.Common.{◌≡◌, ◌≢◌, ℕ, ◌<◌, ◌≤◌, ◌^◌, ◌⊎◌, inl, inr, List, ◌++◌, codes, length, get_or, IfOk, Result, Ok, Err, Option, Some, None, IsSome, IfSome, IsSomeAnd, MatchOption, MatchResult, zero, suc, [], ◌∷◌, refl, sym, ◌∙◌, ap, subst, arith}
+use Rattle.std.proofs.Common.{◌≡◌, ℕ, ◌<◌, ◌≤◌, ◌^◌, List, length, get_or, IfOk, Result, Ok, Err, Option, Some, None, IsSome, IfSome, IsSomeAnd, MatchOption, MatchResult, zero, suc, [], ◌∷◌, refl, sym, ◌∙◌, ap, subst, arith}
 use Rattle.std.specs.Fmt.{decimal}
 use Rattle.std.specs.Int.{IsInRange}
 use Rattle.std.specs.Str.Iter.{LacksByte}
@@ -9,13 +9,10 @@ use Rattle.std.proofs.lemmas.Fmt.{decimal-digits_value, digits_decimal, decimal_
 use Rattle.hex.specs.Hex.{IsBytes, encode_lower, lower_digits, decode_sized}
 use Rattle.hex.specs.declared.error.FromHexError.{FromHexError}
 use Rattle.hex.proofs.HexLemmas.{length-encode_with, decode_sized-encode_lower}
-use Rattle.fl_wire.specs.declared.order.Op.{Op}
-use Rattle.fl_wire.specs.declared.order.Op.TheVariants.{Create, Getlk, Setlk}
-use Rattle.fl_book.specs.Text.{name_text, op_text, lock_ask_text}
-use Rattle.fl_book.specs.Order.{create_text}
+use Rattle.fl_book.specs.Text.{name_text}
 use Rattle.fl_book.specs.Words.{IsPlain}
 
-own : IsNumeralModel (AllDigits 10) (digits_value 10)
+pub own : IsNumeralModel (AllDigits 10) (digits_value 10)
 own = numerals_by_value (AllDigits 10) tells_digits
 
 -- what parses, with no plus and no zero that leads, is the one spelling of its value
@@ -70,64 +67,3 @@ name_digits (b ∷ bytes) some = refl
 pub some_of : {X : Type 0} (o : Option X) (x y : X) → IsSome o → IfSome o (λ held. held ≡ y) → y ≡ x → o ≡ Some x
 some_of (Some z) x y is held e = ap (λ v. Some v) (held ∙ e)
 some_of None x y is held e = cc
-
--- a literal word without a byte
-lacks_step : (c b : ℕ) (bs : List ℕ) → b ≢ c → LacksByte c bs → LacksByte c (b ∷ bs)
-lacks_step c b bs other lacks zero below = other
-lacks_step c b bs other lacks (suc k) below = lacks k (omega arith)
-
-lacks_nil : (c : ℕ) → LacksByte c []
-lacks_nil c k below = absurd (omega arith)
-
-pub ask_lacks_space : LacksByte 32 (codes "ask")
-ask_lacks_space =
-    lacks_step 32 97 (115 ∷ 107 ∷ []) (λ e. omega arith) (lacks_step 32 115 (107 ∷ []) (λ e. omega arith) (lacks_step 32 107 [] (λ e. omega arith) (lacks_nil 32)))
-
-etlk_lacks_space : LacksByte 32 (codes "etlk")
-etlk_lacks_space =
-    lacks_step 32 101 (116 ∷ 108 ∷ 107 ∷ []) (λ e. omega arith) (lacks_step 32 116 (108 ∷ 107 ∷ []) (λ e. omega arith)
-    (lacks_step 32 108 (107 ∷ []) (λ e. omega arith) (lacks_step 32 107 [] (λ e. omega arith) (lacks_nil 32))))
-
-getlk_lacks_space : LacksByte 32 (codes "getlk")
-getlk_lacks_space = lacks_step 32 103 (101 ∷ 116 ∷ 108 ∷ 107 ∷ []) (λ e. omega arith) etlk_lacks_space
-
-setlk_lacks_space : LacksByte 32 (codes "setlk")
-setlk_lacks_space =
-    lacks_step 32 115 (101 ∷ 116 ∷ 108 ∷ 107 ∷ []) (λ e. omega arith) etlk_lacks_space
-
-create_lacks_space : LacksByte 32 (codes "create")
-create_lacks_space =
-    lacks_step 32 99 (114 ∷ 101 ∷ 97 ∷ 116 ∷ 101 ∷ []) (λ e. omega arith) (lacks_step 32 114 (101 ∷ 97 ∷ 116 ∷ 101 ∷ []) (λ e. omega arith)
-    (lacks_step 32 101 (97 ∷ 116 ∷ 101 ∷ []) (λ e. omega arith) (lacks_step 32 97 (116 ∷ 101 ∷ []) (λ e. omega arith)
-    (lacks_step 32 116 (101 ∷ []) (λ e. omega arith) (lacks_step 32 101 [] (λ e. omega arith) (lacks_nil 32))))))
-
--- the first word of what is asked
-pub record HasOpWord (op : Op) : Type 0 where
-  pub word : List ℕ
-  pub rest : List ℕ
-  pub parts : op_text op ≡ word ++ 32 ∷ rest
-  pub lacks : LacksByte 32 word
-  pub known : (word ≡ codes "create") ⊎ ((word ≡ codes "getlk") ⊎ (word ≡ codes "setlk"))
-
-pub op_word : (op : Op) → HasOpWord op
-op_word (Create excl mode name) = record {
-  word = codes "create";
-  rest = create_text excl mode name;
-  parts = refl;
-  lacks = create_lacks_space;
-  known = inl refl;
-}
-op_word (Getlk ask) = record {
-  word = codes "getlk";
-  rest = lock_ask_text ask;
-  parts = refl;
-  lacks = getlk_lacks_space;
-  known = inr (inl refl);
-}
-op_word (Setlk ask) = record {
-  word = codes "setlk";
-  rest = lock_ask_text ask;
-  parts = refl;
-  lacks = setlk_lacks_space;
-  known = inr (inr refl);
-}

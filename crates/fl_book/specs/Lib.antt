@@ -4,5 +4,3 @@ pub mod Kept
 pub mod BookCode
 pub mod Text
 pub mod Words
-pub mod Order
-pub mod Ask

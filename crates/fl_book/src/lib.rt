@@ -9,7 +9,7 @@ mod tolds;
 
 pub use desk::Desk;
 pub use history::{History, Line};
-pub use text::{Ask, has_text, print_trace, read_ask};
+pub use text::{TraceFault, first_line, has_text, laws, print_trace, read_trace};
 pub use tolds::Tolds;
 
 #[cfg(test)]

@@ -1,8 +1,11 @@
 //! The text of a history, both ways.
 
 mod ask;
+pub mod laws;
 mod print;
+mod read;
+mod tell;
 mod words;
 
-pub use ask::{Ask, read_ask};
 pub use print::{has_text, print_trace};
+pub use read::{TraceFault, first_line, read_trace};

@@ -1,5 +1,7 @@
 ghost use Rattle.std.specs.Prelude.{◌≡◌, ◌++◌, ◌∷◌, [], ◌↔◌, IsTrue, IfOk, OnOk, string_bytes};
-ghost use Rattle.fl_book.specs.Text.{flag_text, name_text, lock_ask_text, op_text, ask_text, attr_text, answer_text, result_text, tell_text, line_text, text_of, ModeFits, LineFits, Fits};
+ghost use Rattle.fl_book.specs.Text.{flag_text, name_text, lock_ask_text, fields_text, op_text, attr_text, answer_text, result_text, line_text, text_of, LineFits, Fits};
+ghost use Rattle.fl_book.specs.declared.history.Line.TheVariants.{Asked, Told as Reply};
+ghost use Rattle.fl_wire.specs.Sayable.{FitsOp, FitsTold, IsSayable};
 
 use crate::history::{History, Line};
 use fl_wire::{Answer, Attr, Errno, LockAsk, Name, NoMemory, Op, Order, Told};
@@ -29,16 +31,30 @@ fn fits(line: &Line) -> bool
     ensures { IsTrue result ↔ LineFits line.now }
 {
     match line {
-        Line::Asked { worker, order } => *worker <= 15 && mode_fits(&order.op),
-        Line::Told(_) => true,
+        Line::Asked { worker, order } => *worker <= 15 && order_fits(*order),
+        Line::Told(told) => told_fits(*told),
     }
 }
 
-fn mode_fits(op: &Op) -> bool
-    ensures { IsTrue result ↔ ModeFits op.now }
+fn told_fits(told: Told) -> bool
+    ensures { IsTrue result ↔ FitsTold told }
+{
+    let _ = told;
+    true
+}
+
+// Whether what is asked can be said: every number of a program fits its field, and only a mode can be too great.
+fn order_fits(order: Order) -> bool
+    ensures { IsTrue result ↔ IsSayable order }
+{
+    op_fits(order.op)
+}
+
+fn op_fits(op: Op) -> bool
+    ensures { IsTrue result ↔ FitsOp op }
 {
     match op {
-        Op::Create { mode, .. } => *mode <= 0o777,
+        Op::Create { mode, .. } => mode <= 0o777,
         Op::Getlk(_) | Op::Setlk(_) => true,
     }
 }
@@ -55,7 +71,7 @@ fn push_line(alloc: Global, text: &mut String, line: &Line) -> Result<(), NoMemo
 }
 
 fn push_ask(alloc: Global, text: &mut String, worker: u32, order: &Order) -> Result<(), NoMemory>
-    ensures { OnOk result (string_bytes text.new ≡ string_bytes text.old ++ ask_text worker order.now) }
+    ensures { OnOk result (string_bytes text.new ≡ string_bytes text.old ++ line_text (Asked worker order.now)) }
 {
     let Order {
         unique,
@@ -72,20 +88,21 @@ fn push_ask(alloc: Global, text: &mut String, worker: u32, order: &Order) -> Res
 fn push_op(alloc: Global, text: &mut String, op: &Op) -> Result<(), NoMemory>
     ensures { OnOk result (string_bytes text.new ≡ string_bytes text.old ++ op_text op.now) }
 {
+    let word = op.kind().word();
+    write!(text, "{word} ")?;
+    push_fields(alloc, text, op)
+}
+
+fn push_fields(alloc: Global, text: &mut String, op: &Op) -> Result<(), NoMemory>
+    ensures { OnOk result (string_bytes text.new ≡ string_bytes text.old ++ fields_text op.now) }
+{
     match op {
         Op::Create { excl, mode, name } => {
             let excl = flag_text(*excl);
-            write!(text, "create {excl} {mode} ")?;
+            write!(text, "{excl} {mode} ")?;
             push_name(alloc, text, name)
         }
-        Op::Getlk(ask) => {
-            text.push_str("getlk ")?;
-            push_lock_ask(text, ask)
-        }
-        Op::Setlk(ask) => {
-            text.push_str("setlk ")?;
-            push_lock_ask(text, ask)
-        }
+        Op::Getlk(ask) | Op::Setlk(ask) => push_lock_ask(text, ask),
     }
 }
 
@@ -124,7 +141,7 @@ fn push_lock_ask(text: &mut String, ask: &LockAsk) -> Result<(), NoMemory>
 }
 
 fn push_tell(text: &mut String, told: &Told) -> Result<(), NoMemory>
-    ensures { OnOk result (string_bytes text.new ≡ string_bytes text.old ++ tell_text told.now) }
+    ensures { OnOk result (string_bytes text.new ≡ string_bytes text.old ++ line_text (Reply told.now)) }
 {
     let unique = told.unique;
     write!(text, "tell {unique} ")?;
