@@ -6,3 +6,4 @@ pub mod OneText
 pub mod FirstWords
 pub mod Reading
 pub mod Newlines
+pub mod Places

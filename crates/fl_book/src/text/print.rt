@@ -13,8 +13,8 @@ pub fn print_trace(alloc: Global, history: &History) -> Result<String, NoMemory>
     ensures { IfOk result (λ text. string_bytes text ≡ text_of history.now) }
 {
     let mut text = String::new(alloc);
-    for line in history.lines() {
-        push_line(alloc, &mut text, line)?;
+    for at in 0..history.len() {
+        push_line(alloc, &mut text, &history.line(at))?;
     }
     Ok(text)
 }
@@ -24,7 +24,12 @@ pub fn print_trace(alloc: Global, history: &History) -> Result<String, NoMemory>
 pub fn has_text(history: &History) -> bool
     ensures { IsTrue result ↔ Fits history.now }
 {
-    history.lines().iter().all(|line| fits(line))
+    for at in 0..history.len() {
+        if !fits(&history.line(at)) {
+            return false;
+        }
+    }
+    true
 }
 
 fn fits(line: &Line) -> bool
@@ -196,73 +201,4 @@ fn push_attr(text: &mut String, word: &str, attr: &Attr) -> Result<(), NoMemory>
     } = attr;
     write!(text, "{word} {node} {mode} {nlink} {uid} {gid}")?;
     Ok(())
-}
-
-#[cfg(test)]
-mod tests {
-    use super::*;
-    use std::alloc::AllocError;
-    use std::test::Fail;
-
-    const ATTR: Attr = Attr {
-        node: 2,
-        mode: 33188,
-        nlink: 1,
-        uid: 3,
-        gid: 4,
-    };
-
-    fn create(name: Name, mode: u32) -> Order {
-        Order {
-            unique: 1,
-            node: 1,
-            uid: 3,
-            gid: 4,
-            pid: 5,
-            op: Op::Create {
-                excl: true,
-                mode,
-                name,
-            },
-        }
-    }
-
-    fn history(alloc: Global, lines: &[Line]) -> Result<History, AllocError> {
-        Ok(History::new(lines.to_vec(alloc)?))
-    }
-
-    #[test]
-    fn a_line_of_text_for_each_line(rt: HostRuntime) -> Result<(), Fail> {
-        let answers = [
-            (Ok(Answer::Done), "tell 9 ok\n"),
-            (Ok(Answer::Entry(ATTR)), "tell 9 entry 2 33188 1 3 4\n"),
-            (Ok(Answer::Attr(ATTR)), "tell 9 attr 2 33188 1 3 4\n"),
-            (Ok(Answer::Open(7)), "tell 9 open 7\n"),
-            (Ok(Answer::Made(ATTR, 7)), "tell 9 made 2 33188 1 3 4 7\n"),
-            (Err(Errno::EDEADLK), "tell 9 err 35\n"),
-        ];
-        for (result, text) in answers {
-            let told = Line::Told(Told { unique: 9, result });
-            let printed = print_trace(rt.alloc(), &history(rt.alloc(), &[told])?)?;
-            assert_eq!(rt; printed.as_str(), text);
-        }
-        Ok(())
-    }
-
-    #[test]
-    fn what_can_be_read_back(rt: HostRuntime) -> Result<(), Fail> {
-        let name = Name::new(b"a").ok_or("a name")?;
-        for (worker, mode, can) in [(15, 511, true), (16, 511, false), (15, 512, false)] {
-            let asked = Line::Asked {
-                worker,
-                order: create(name, mode),
-            };
-            assert_eq!(rt;
-                has_text(&history(rt.alloc(), &[asked])?),
-                can,
-                "{worker} {mode}"
-            );
-        }
-        Ok(())
-    }
 }
