@@ -1,9 +1,12 @@
 -- The text of a history: a line of text for each of its lines, and which histories can be read back.
-use Rattle.std.specs.Prelude.{ℕ, ◌≤◌, Bool, if◌then◌else◌, List, [], ◌∷◌, ◌++◌, All, Result, Ok, Err, codes}
+use Rattle.std.specs.Prelude.{◌≡◌, ℕ, ◌+◌, ◌≤◌, ◌<◌, Bool, if◌then◌else◌, List, [], ◌∷◌, ◌++◌, length, All, Result, Ok, Err, codes}
 use Rattle.std.specs.List.{flat_map, join_with_byte}
 use Rattle.std.specs.Fmt.{decimal}
 use Rattle.hex.specs.Hex.{encode_lower}
 use Rattle.fl_wire.specs.Errno.{number_of}
+use Rattle.fl_wire.specs.Kind.{word_for}
+use Rattle.fl_wire.specs.Order.{kind_of}
+use Rattle.fl_wire.specs.Sayable.{IsSayable, FitsTold}
 use Rattle.fl_wire.specs.declared.errno.Errno.{Errno}
 use Rattle.fl_wire.specs.declared.order.LockAsk.{LockAsk}
 use Rattle.fl_wire.specs.declared.order.Op.{Op}
@@ -31,25 +34,38 @@ name_text (b ∷ bytes) = encode_lower (b ∷ bytes)
 
 -- what a lock request asks for
 abbrev pub lock_ask_text : LockAsk → List ℕ
-lock_ask_text a = spaced (decimal a.fh ∷ decimal a.owner ∷ decimal a.start ∷ decimal a.end ∷ decimal a.kind ∷ decimal a.pid ∷ decimal a.flags ∷ [])
+lock_ask_text a =
+    spaced (decimal a.fh ∷ decimal a.owner ∷ decimal a.start ∷ decimal a.end ∷ decimal a.kind ∷ decimal a.pid ∷ decimal a.flags ∷ [])
 
--- what is asked
+-- the fields of what is asked
+abbrev pub fields_text : Op → List ℕ
+fields_text (Create excl mode name) = spaced (flag_text excl ∷ decimal mode ∷ name_text name ∷ [])
+fields_text (Getlk ask) = lock_ask_text ask
+fields_text (Setlk ask) = lock_ask_text ask
+
+-- what is asked: the word of its kind, and its fields
 abbrev pub op_text : Op → List ℕ
-op_text (Create excl mode name) = spaced (codes "create" ∷ flag_text excl ∷ decimal mode ∷ name_text name ∷ [])
-op_text (Getlk ask) = spaced (codes "getlk" ∷ lock_ask_text ask ∷ [])
-op_text (Setlk ask) = spaced (codes "setlk" ∷ lock_ask_text ask ∷ [])
+op_text op = spaced (word_for (kind_of op) ∷ fields_text op ∷ [])
 
 -- an order
 abbrev pub order_text : Order → List ℕ
 order_text o = spaced (decimal o.unique ∷ decimal o.node ∷ decimal o.uid ∷ decimal o.gid ∷ decimal o.pid ∷ op_text o.op ∷ [])
 
--- an order, and the worker who handed it in
-abbrev pub ask_text : ℕ → Order → List ℕ
-ask_text worker order = spaced (codes "ask" ∷ decimal worker ∷ order_text order ∷ [])
+-- a worker, and the order that it handed in
+abbrev pub asked_text : ℕ → Order → List ℕ
+asked_text worker order = spaced (decimal worker ∷ order_text order ∷ [])
 
 -- a node's attributes
 abbrev pub attr_text : Attributes → List ℕ
 attr_text a = spaced (decimal a.node ∷ decimal a.mode ∷ decimal a.nlink ∷ decimal a.uid ∷ decimal a.gid ∷ [])
+
+-- a node's attributes and the number of an open file
+abbrev pub made_text : Attributes → ℕ → List ℕ
+made_text a fh = spaced (decimal a.node ∷ decimal a.mode ∷ decimal a.nlink ∷ decimal a.uid ∷ decimal a.gid ∷ decimal fh ∷ [])
+
+-- a lock record
+abbrev pub lock_text : ℕ → ℕ → ℕ → ℕ → List ℕ
+lock_text start end kind pid = spaced (decimal start ∷ decimal end ∷ decimal kind ∷ decimal pid ∷ [])
 
 -- an answer that is no error
 abbrev pub answer_text : Answer → List ℕ
@@ -57,8 +73,8 @@ answer_text Done = codes "ok"
 answer_text (Entry a) = spaced (codes "entry" ∷ attr_text a ∷ [])
 answer_text (Attr a) = spaced (codes "attr" ∷ attr_text a ∷ [])
 answer_text (Open fh) = spaced (codes "open" ∷ decimal fh ∷ [])
-answer_text (Made a fh) = spaced (codes "made" ∷ attr_text a ∷ decimal fh ∷ [])
-answer_text (Lock start end kind pid) = spaced (codes "lock" ∷ decimal start ∷ decimal end ∷ decimal kind ∷ decimal pid ∷ [])
+answer_text (Made a fh) = spaced (codes "made" ∷ made_text a fh ∷ [])
+answer_text (Lock start end kind pid) = spaced (codes "lock" ∷ lock_text start end kind pid ∷ [])
 
 -- an answer, or the number of an error
 abbrev pub result_text : Result Answer Errno → List ℕ
@@ -66,29 +82,33 @@ result_text (Ok answer) = answer_text answer
 result_text (Err error) = spaced (codes "err" ∷ decimal (number_of error) ∷ [])
 
 -- a reply
-abbrev pub tell_text : Reply → List ℕ
-tell_text t = spaced (codes "tell" ∷ decimal t.unique ∷ result_text t.result ∷ [])
+abbrev pub told_text : Reply → List ℕ
+told_text t = spaced (decimal t.unique ∷ result_text t.result ∷ [])
 
 -- a line of a history, without the newline at its end
 abbrev pub line_text : Line → List ℕ
-line_text (Asked worker order) = ask_text worker order
-line_text (Told told) = tell_text told
+line_text (Asked worker order) = spaced (codes "ask" ∷ asked_text worker order ∷ [])
+line_text (Told told) = spaced (codes "tell" ∷ told_text told ∷ [])
 
 -- the whole text: each line with a newline at its end
 abbrev pub text_of : List Line → List ℕ
 text_of lines = flat_map (λ line. line_text line ++ 10 ∷ []) lines
 
--- a mode that can be read back has no bits but those of octal 777
-abbrev pub ModeFits : Op → Type 0
-ModeFits (Create excl mode name) = mode ≤ 511
-ModeFits (Getlk ask) = Unit {0}
-ModeFits (Setlk ask) = Unit {0}
-
--- a line that can be read back: its worker is one of sixteen, and its mode fits
+-- a line that can be read back: its worker is one of sixteen, and what it says can be said
 abbrev pub LineFits : Line → Type 0
-LineFits (Asked worker order) = (worker ≤ 15) × ModeFits order.op
-LineFits (Told told) = Unit {0}
+LineFits (Asked worker order) = (worker ≤ 15) × IsSayable order
+LineFits (Told told) = FitsTold told
 
 -- a history whose text can be read back
 abbrev pub Fits : List Line → Type 0
 Fits lines = All LineFits lines
+
+-- The first n - 1 lines of a text are lines of a sort. Something is left after them, and no line of the sort begins it.
+pub record BreaksAt (IsGood : Line → Type 0) (text : List ℕ) (n : ℕ) : Type 0 where
+  pub front : List Line
+  pub rest : List ℕ
+  pub good : All IsGood front
+  pub parts : text ≡ text_of front ++ rest
+  pub number : n ≡ length front + 1
+  pub more : 0 < length rest
+  pub bad : (line : Line) (after : List ℕ) → IsGood line → rest ≡ line_text line ++ 10 ∷ after → ⊥

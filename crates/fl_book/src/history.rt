@@ -1,4 +1,5 @@
-ghost use Rattle.std.specs.Prelude.{◌≡◌};
+ghost use Rattle.std.specs.Prelude.{◌≡◌, ◌<◌, ◌↔◌, [], Some, IsTrue, length};
+ghost use Rattle.std.specs.List.{slice_get};
 
 use fl_wire::{Order, Told};
 use std::marker::Model;
@@ -33,10 +34,25 @@ impl History {
         History { lines }
     }
 
-    /// Its lines.
-    pub fn lines(&self) -> &[Line]
-        ensures { result.now ≡ self.now }
+    /// How many lines it has.
+    pub fn len(&self) -> usize
+        ensures { result ≡ length self.now }
     {
-        &self.lines
+        self.lines.len()
+    }
+
+    /// Whether it has no line.
+    pub fn is_empty(&self) -> bool
+        ensures { IsTrue result ↔ (self.now ≡ []) }
+    {
+        self.lines.is_empty()
+    }
+
+    /// The line at this place, from 0.
+    pub fn line(&self, at: usize) -> Line
+        requires { at < length self.now }
+        ensures { slice_get self.now at ≡ Some result }
+    {
+        self.lines[at]
     }
 }

@@ -9,7 +9,7 @@ mod text;
 
 pub use desk::{Desk, MOST_LINES};
 pub use history::{History, Line};
-pub use text::{has_text, print_trace};
+pub use text::{TraceFault, first_line, has_text, print_trace, read_trace};
 
 #[cfg(test)]
 mod tests;

@@ -61,8 +61,7 @@ fn a_desk_answers_and_records(rt: HostRuntime) -> Result<(), Fail> {
         assert_eq!(rt; tolds.as_slice(), [told].as_slice());
     }
     let history = desk.into_history();
-    let lines = history.lines();
-    assert_eq!(rt; lines.len(), 10);
+    assert_eq!(rt; history.len(), 10);
     let asked = Line::Asked {
         worker: 3,
         order: order(2, 2, lock(7, 0, 9, 1)),
@@ -71,7 +70,7 @@ fn a_desk_answers_and_records(rt: HostRuntime) -> Result<(), Fail> {
         unique: 2,
         result: Ok(Answer::Done),
     });
-    assert_eq!(rt; lines[2], asked);
-    assert_eq!(rt; lines[3], told);
+    assert_eq!(rt; history.line(2), asked);
+    assert_eq!(rt; history.line(3), told);
     Ok(())
 }

@@ -1,4 +1,3 @@
 pub mod HexLemmas
 pub mod ReplyLemmas
 pub mod ScriptLemmas
-pub mod WordLemmas

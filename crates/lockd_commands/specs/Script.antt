@@ -1,11 +1,12 @@
 -- Scripts: ask lines, taken at a desk in their order.
-use Rattle.std.specs.Prelude.{◌≡◌, ℕ, ◌+◌, ◌<◌, Bool, true, false, List, ◌++◌, length, filter, Option, IfSome}
+use Rattle.std.specs.Prelude.{◌≡◌, ℕ, Bool, true, false, List, filter, Option, IfSome}
 use Rattle.std.specs.Io.KnownBytes.{Appends}
 use Rattle.fl_book.specs.Legal.{IsLegal}
-use Rattle.fl_book.specs.Text.{text_of, Fits}
+use Rattle.fl_book.specs.Text.{text_of, LineFits, Fits, BreaksAt}
 use Rattle.fl_book.specs.declared.history.Line.{Line}
 use Rattle.fl_book.specs.declared.history.Line.TheVariants.{Asked, Told}
 use Rattle.lockd_commands.specs.declared.fault.Fault.{Fault}
+use Rattle.lockd_commands.specs.declared.script.Ask.{Ask}
 use Rattle.lockd_commands.specs.declared.fault.Fault.TheVariants.{BadLine, NoMemory, Read, Write, Cut, BadLength}
 
 -- the line asks
@@ -13,27 +14,25 @@ abbrev pub is_asked : Line → Bool
 is_asked (Asked worker order) = true
 is_asked (Told told) = false
 
+-- an ask line that can be read back
+abbrev pub IsAskLine : Line → Type 0
+IsAskLine line = LineFits line × (is_asked line ≡ true)
+
+-- the line of a history in which a worker asks
+abbrev pub line_of : Ask → Line
+line_of ask = Asked ask.worker ask.order
+
 -- The trace of a script is the text of a legal history whose ask lines are the script.
 pub record IsTraceOf (script trace : List ℕ) : Type 0 where
   pub lines : List Line
   pub legal : IsLegal lines
   pub asked : script ≡ text_of (filter is_asked lines)
-  pub fits : Fits lines
+  pub fits : Fits (filter is_asked lines)
   pub printed : trace ≡ text_of lines
-
--- the first n - 1 lines of a script are ask lines, and there is something after them
-pub record BreaksAt (script : List ℕ) (n : ℕ) : Type 0 where
-  pub front : List Line
-  pub rest : List ℕ
-  pub asked : filter is_asked front ≡ front
-  pub fits : Fits front
-  pub parts : script ≡ text_of front ++ rest
-  pub number : n ≡ length front + 1
-  pub more : 0 < length rest
 
 -- what a fault says of a script
 abbrev pub FaultSays : List ℕ → Fault → Type 0
-FaultSays script (BadLine n) = BreaksAt script n
+FaultSays script (BadLine n) = BreaksAt IsAskLine script n
 FaultSays script NoMemory = Unit {0}
 FaultSays script Read = ⊥
 FaultSays script Write = ⊥

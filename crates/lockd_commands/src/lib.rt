@@ -1,13 +1,11 @@
 //! The commands of `lockd`, as functions over a reader and two writers.
 #![tactic(auto)]
 
-mod ask;
 mod bytes;
 mod fault;
 mod script;
 mod status;
 mod streams;
-mod words;
 
 pub use bytes::bytes_on;
 pub use fault::Fault;

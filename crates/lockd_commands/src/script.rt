@@ -1,19 +1,26 @@
-ghost use Rattle.std.specs.Prelude.{◌≡◌, ◌≢◌, ℕ, ◌++◌, ◌∷◌, ◌<◌, length, map, filter, string_bytes, IfSome, IfOk, OnOk, IfErr};
+ghost use Rattle.std.specs.Prelude.{◌≡◌, ◌≢◌, ℕ, ◌++◌, ◌∷◌, List, map, filter, string_bytes, All, IfSome, IsNone, IfOk, OnOk, IfErr};
 ghost use Rattle.std.specs.Io.KnownBytes.{Keeps, Appends};
 ghost use Rattle.fl_book.specs.Legal.{IsLegal};
-ghost use Rattle.fl_book.specs.Text.{line_text, text_of, LineFits, Fits};
-ghost use Rattle.lockd_commands.specs.Ask.{line_of};
-ghost use Rattle.lockd_commands.specs.Script.{is_asked, IsTraceOf, BreaksAt, FaultSays, IsAnswered};
+ghost use Rattle.fl_book.specs.Text.{line_text, text_of, BreaksAt};
+ghost use Rattle.lockd_commands.specs.Script.{line_of, is_asked, IsAskLine, IsTraceOf, FaultSays, IsAnswered};
+ghost use Rattle.fl_book.specs.declared.history.Line.{Line as Entry};
 ghost use Rattle.lockd_commands.specs.declared.fault.Fault.{Fault};
 
-use crate::ask::{Ask, read_ask};
 use crate::fault::Fault;
 use crate::status::Status;
 use crate::streams::{read_all, write_all};
-use fl_book::{Desk, History, print_trace};
+use fl_book::{Desk, History, Line, first_line, print_trace};
 use fl_core::Tolds;
+use fl_wire::Order;
 use std::alloc::Global;
 use std::io::{Read, Write};
+
+/// An order, and the worker who hands it in.
+#[derive(Clone, Copy, Debug, PartialEq, Eq)]
+struct Ask {
+    worker: u32,
+    order: Order,
+}
 
 /// `lockd script`: reads `ask` lines of workers 0 to 15, takes each order at a desk in turn, and writes the
 /// trace of the desk's history. All input is read and checked before any output. A fault is told as one
@@ -26,8 +33,9 @@ pub fn script_on<R: Read, W: Write, F: Write>(
 ) -> Status
     ensures good { result ≡ Status.Good → IsAnswered (R.remaining input.old) (W.contents output.old) (W.contents output.new) }
 
-    // The first n - 1 lines of the input are ask lines.
-    ensures bad { (n : ℕ) → result ≡ Status.Faulted (Fault.BadLine n) → IfSome (R.remaining input.old) (λ script. BreaksAt script n) }
+    // The first n - 1 lines of the input are ask lines, and the next is none.
+    ensures bad { (n : ℕ) → result ≡ Status.Faulted (Fault.BadLine n) →
+        IfSome (R.remaining input.old) (λ script. BreaksAt IsAskLine script n) }
 
     // Only a write that fails leaves anything on the output.
     ensures kept { (fault : Fault) → result ≡ Status.Faulted fault → fault ≢ Fault.Write → Keeps (W.contents output.old) (W.contents output.new) }
@@ -44,7 +52,8 @@ pub fn script_on<R: Read, W: Write, F: Write>(
 
 fn script<R: Read, W: Write>(alloc: Global, input: &mut R, output: &mut W) -> Result<(), Fault>
     ensures good { OnOk result (IsAnswered (R.remaining input.old) (W.contents output.old) (W.contents output.new)) }
-    ensures bad { IfErr result (λ fault. (n : ℕ) → fault ≡ Fault.BadLine n → IfSome (R.remaining input.old) (λ script. BreaksAt script n)) }
+    ensures bad { IfErr result (λ fault. (n : ℕ) → fault ≡ Fault.BadLine n →
+        IfSome (R.remaining input.old) (λ script. BreaksAt IsAskLine script n)) }
     ensures kept { IfErr result (λ fault. fault ≢ Fault.Write → Keeps (W.contents output.old) (W.contents output.new)) }
 {
     let text = read_all(alloc, input)?;
@@ -53,7 +62,7 @@ fn script<R: Read, W: Write>(alloc: Global, input: &mut R, output: &mut W) -> Re
 }
 
 // The trace of a script.
-#[tactic(auto, using(crate::proofs::ScriptLemmas::fits_of_asked))]
+#[tactic(auto, using(crate::proofs::ScriptLemmas::fits_of_asks))]
 fn trace_of(alloc: Global, script: &[u8]) -> Result<String, Fault>
     ensures trace { IfOk result (λ trace. IsTraceOf script.now (string_bytes trace)) }
     ensures error { IfErr result (FaultSays script.now) }
@@ -66,7 +75,7 @@ fn trace_of(alloc: Global, script: &[u8]) -> Result<String, Fault>
 // What the ask lines of a script ask.
 fn read_asks(alloc: Global, script: &[u8]) -> Result<Vec<Ask>, Fault>
     ensures spelled { IfOk result (λ asks. script.now ≡ text_of (map line_of asks.items)) }
-    ensures fits { IfOk result (λ asks. Fits (map line_of asks.items)) }
+    ensures fits { IfOk result (λ asks. All IsAskLine (map line_of asks.items)) }
     ensures error { IfErr result (FaultSays script.now) }
 {
     let mut asks = Vec::new(alloc);
@@ -83,13 +92,14 @@ fn read_asks(alloc: Global, script: &[u8]) -> Result<Vec<Ask>, Fault>
 
 // What the first line of a text asks, and the text after it; none where it is no ask line.
 fn first_ask(text: &[u8]) -> Option<(Ask, &[u8])>
+    ensures fits { IfSome result (λ read. IsAskLine (line_of read.0)) }
     ensures spelled { IfSome result (λ read. text.now ≡ line_text (line_of read.0) ++ 10 ∷ read.1.now) }
-    ensures fits { IfSome result (λ read. LineFits (line_of read.0)) }
-    ensures shorter { IfSome result (λ read. length read.1.now < length text.now) }
+    ensures none { IsNone result → (line : Entry) (after : List ℕ) → IsAskLine line → text.now ≡ line_text line ++ 10 ∷ after → ⊥ }
 {
-    let end = text.iter().position(|byte| *byte == b'\n')?;
-    let ask = read_ask(&text[..end])?;
-    Some((ask, &text[end + 1..]))
+    let Some((Line::Asked { worker, order }, rest)) = first_line(text) else {
+        return None;
+    };
+    Some((Ask { worker, order }, rest))
 }
 
 // The history of a desk that takes these orders in turn.

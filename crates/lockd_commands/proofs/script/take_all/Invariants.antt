@@ -1,6 +1,5 @@
 use Rattle.std.proofs.Common.{◌≡◌, take, map, filter}
-use Rattle.lockd_commands.specs.Ask.{line_of}
-use Rattle.lockd_commands.specs.Script.{is_asked}
+use Rattle.lockd_commands.specs.Script.{is_asked, line_of}
 use Rattle.lockd_commands.proofs.script.take_all.Given as goal
 
 -- the desk was asked what is asked so far

@@ -1,0 +1,344 @@
+-- A line is found again in its text: its words are what stands between spaces, and each field is read off its word.
+use Rattle.std.proofs.Common.{◌≡◌, ℕ, ◌<◌, ◌^◌, ◌==◌, Bool, true, false, if◌then◌else◌, Option, Some, List, [], ◌∷◌, ◌++◌, get_or, drop, codes, Result, Ok, Err, refl, sym, ap, ◌∙◌, arith, lit<}
+use Rattle.std.proofs.Math.Dec.{eqb}
+use Rattle.std.proofs.lemmas.Fmt.{digits_value-decimal}
+use Rattle.std.proofs.lemmas.List.Splits.{slice_split_at, slice_split_none}
+use Rattle.std.specs.Fmt.{decimal}
+use Rattle.std.specs.List.{find, slice_split}
+use Rattle.std.specs.Option.{unwrap_or}
+use Rattle.std.specs.Result.{result_unwrap_or}
+use Rattle.std.specs.Str.{bytes_eq}
+use Rattle.std.specs.Str.Parse.{digits_value}
+use Rattle.hex.specs.Hex.{IsBytes, decode_of}
+use Rattle.hex.proofs.HexLemmas.{decode_of-encode_lower}
+use Rattle.fl_wire.specs.Errno.{number_of}
+use Rattle.fl_wire.specs.Kind.{word_for, kind_of_word}
+use Rattle.fl_wire.specs.Order.{kind_of}
+use Rattle.fl_wire.specs.Sayable.{FitsOp, FitsLock, FitsResult, FitsAttr}
+use Rattle.fl_wire.specs.declared.errno.Errno.{Errno}
+use Rattle.fl_wire.specs.declared.errno.Errno.TheVariants.{ENOENT, EINTR, EBADF, EAGAIN, ENOMEM, EEXIST, ENOTDIR, EISDIR, EINVAL, ENFILE, ENOSPC, EDEADLK, ENAMETOOLONG, ENOLCK, ENOSYS, EPROTO}
+use Rattle.fl_wire.specs.declared.kind.Kind.{Kind}
+use Rattle.fl_wire.specs.declared.kind.Kind.TheVariants as kind
+use Rattle.fl_wire.specs.declared.order.LockAsk.{LockAsk}
+use Rattle.fl_wire.specs.declared.order.Op.{Op}
+use Rattle.fl_wire.specs.declared.order.Op.TheVariants.{Create, Getlk, Setlk}
+use Rattle.fl_wire.specs.declared.order.Order.{Order}
+use Rattle.fl_wire.specs.declared.told.Answer.{Answer}
+use Rattle.fl_wire.specs.declared.told.Answer.TheVariants.{Done, Entry, Attr, Open, Made, Lock}
+use Rattle.fl_wire.specs.declared.told.Attr.{Attr as Attributes}
+use Rattle.fl_book.specs.Text.{spaced, flag_text, name_text, fields_text, result_text, line_text, LineFits}
+use Rattle.fl_book.specs.declared.history.Line.{Line}
+use Rattle.fl_book.specs.declared.history.Line.TheVariants.{Asked, Told}
+use Rattle.fl_book.proofs.Letters.{IsWord, AreWords, AreLetters, literal, decimal_word, name_word, no_low, spaced_letters}
+use Rattle.fl_book.proofs.WordLemmas.{own}
+
+-- ---- the words of a line
+
+abbrev pub lock_ask_words : LockAsk → List (List ℕ)
+lock_ask_words a = decimal a.fh ∷ decimal a.owner ∷ decimal a.start ∷ decimal a.end ∷ decimal a.kind ∷ decimal a.pid ∷ decimal a.flags ∷ []
+
+abbrev pub field_words : Op → List (List ℕ)
+field_words (Create excl mode name) = flag_text excl ∷ decimal mode ∷ name_text name ∷ []
+field_words (Getlk ask) = lock_ask_words ask
+field_words (Setlk ask) = lock_ask_words ask
+
+abbrev pub attr_words : Attributes → List (List ℕ) → List (List ℕ)
+attr_words a more = decimal a.node ∷ decimal a.mode ∷ decimal a.nlink ∷ decimal a.uid ∷ decimal a.gid ∷ more
+
+abbrev pub result_words : Result Answer Errno → List (List ℕ)
+result_words (Ok Done) = codes "ok" ∷ []
+result_words (Ok (Entry a)) = codes "entry" ∷ attr_words a []
+result_words (Ok (Attr a)) = codes "attr" ∷ attr_words a []
+result_words (Ok (Open fh)) = codes "open" ∷ decimal fh ∷ []
+result_words (Ok (Made a fh)) = codes "made" ∷ attr_words a (decimal fh ∷ [])
+result_words (Ok (Lock start end kind pid)) = codes "lock" ∷ decimal start ∷ decimal end ∷ decimal kind ∷ decimal pid ∷ []
+result_words (Err error) = codes "err" ∷ decimal (number_of error) ∷ []
+
+abbrev pub order_words : Order → List (List ℕ)
+order_words o = decimal o.unique ∷ decimal o.node ∷ decimal o.uid ∷ decimal o.gid ∷ decimal o.pid ∷ word_for (kind_of o.op) ∷ field_words o.op
+
+abbrev pub line_words : Line → List (List ℕ)
+line_words (Asked worker order) = codes "ask" ∷ decimal worker ∷ order_words order
+line_words (Told told) = codes "tell" ∷ decimal told.unique ∷ result_words told.result
+
+op_spaced : (word : List ℕ) (op : Op) → spaced (word ∷ field_words op) ≡ word ++ 32 ∷ fields_text op
+op_spaced word (Create excl mode name) = refl
+op_spaced word (Getlk ask) = refl
+op_spaced word (Setlk ask) = refl
+
+result_spaced : (word : List ℕ) (told : Result Answer Errno) → spaced (word ∷ result_words told) ≡ word ++ 32 ∷ result_text told
+result_spaced word (Ok Done) = refl
+result_spaced word (Ok (Entry a)) = refl
+result_spaced word (Ok (Attr a)) = refl
+result_spaced word (Ok (Open fh)) = refl
+result_spaced word (Ok (Made a fh)) = refl
+result_spaced word (Ok (Lock start end kind pid)) = refl
+result_spaced word (Err error) = refl
+
+-- the words with spaces between them are the text
+pub line_spaced : (line : Line) → spaced (line_words line) ≡ line_text line
+line_spaced (Asked worker o) =
+    ap (λ end. codes "ask" ++ 32 ∷ (decimal worker ++ 32 ∷ (decimal o.unique ++ 32 ∷ (decimal o.node ++ 32 ∷ (decimal o.uid ++ 32 ∷ (decimal o.gid ++ 32 ∷ (decimal o.pid ++ 32 ∷ end)))))))
+    (op_spaced (word_for (kind_of o.op)) o.op)
+line_spaced (Told told) = ap (λ end. codes "tell" ++ 32 ∷ end) (result_spaced (decimal told.unique) told.result)
+
+-- ---- they are words
+
+small : (n : ℕ) → n < 2 ^ 32 → n < 2 ^ 64
+small n below = omega arith
+
+u32_word : (n : ℕ) → n < 2 ^ 32 → IsWord (decimal n)
+u32_word n below = decimal_word n (small n below)
+
+lock_ask_are : (a : LockAsk) → FitsLock a → AreWords (lock_ask_words a)
+lock_ask_are a f = (
+  decimal_word a.fh f.fh,
+  (
+    decimal_word a.owner f.owner,
+    (
+      decimal_word a.start f.start,
+      (
+        decimal_word a.end f.end,
+        (u32_word a.kind f.kind, (u32_word a.pid f.pid, (u32_word a.flags f.flags, tt))),
+      ),
+    ),
+  ),
+)
+
+pub flag_word : (flag : Bool) → IsWord (flag_text flag)
+flag_word true = literal (codes "1") refl
+flag_word false = literal (codes "0") refl
+
+pub kind_word : (k : Kind) → IsWord (word_for k)
+kind_word kind.Forget = literal (word_for kind.Forget) refl
+kind_word kind.Init = literal (word_for kind.Init) refl
+kind_word kind.Getlk = literal (word_for kind.Getlk) refl
+kind_word kind.Setlk = literal (word_for kind.Setlk) refl
+kind_word kind.Create = literal (word_for kind.Create) refl
+kind_word kind.Destroy = literal (word_for kind.Destroy) refl
+kind_word kind.BatchForget = literal (word_for kind.BatchForget) refl
+
+fields_are : (op : Op) → FitsOp op → AreWords (field_words op)
+fields_are (Create excl mode name) f = let few = f.0 in (flag_word excl, (decimal_word mode (omega arith), (name_word name f.1.are_bytes, tt)))
+fields_are (Getlk ask) f = lock_ask_are ask f
+fields_are (Setlk ask) f = lock_ask_are ask f
+
+attr_are : (a : Attributes) (more : List (List ℕ)) → FitsAttr a → AreWords more → AreWords (attr_words a more)
+attr_are a more f are = (decimal_word a.node f.node, (u32_word a.mode f.mode, (u32_word a.nlink f.nlink, (u32_word a.uid f.uid, (u32_word a.gid f.gid, are)))))
+
+number_small : (e : Errno) → number_of e < 2 ^ 32
+number_small ENOENT = lit< tt
+number_small EINTR = lit< tt
+number_small EBADF = lit< tt
+number_small EAGAIN = lit< tt
+number_small ENOMEM = lit< tt
+number_small EEXIST = lit< tt
+number_small ENOTDIR = lit< tt
+number_small EISDIR = lit< tt
+number_small EINVAL = lit< tt
+number_small ENFILE = lit< tt
+number_small ENOSPC = lit< tt
+number_small EDEADLK = lit< tt
+number_small ENAMETOOLONG = lit< tt
+number_small ENOLCK = lit< tt
+number_small ENOSYS = lit< tt
+number_small EPROTO = lit< tt
+
+result_are : (told : Result Answer Errno) → FitsResult told → AreWords (result_words told)
+result_are (Ok Done) f = (literal (codes "ok") refl, tt)
+result_are (Ok (Entry a)) f = (literal (codes "entry") refl, attr_are a [] f tt)
+result_are (Ok (Attr a)) f = (literal (codes "attr") refl, attr_are a [] f tt)
+result_are (Ok (Open fh)) f = (literal (codes "open") refl, (decimal_word fh f, tt))
+result_are (Ok (Made a fh)) f = (literal (codes "made") refl, attr_are a (decimal fh ∷ []) f.0 (decimal_word fh f.1, tt))
+result_are (Ok (Lock start end kind pid)) f =
+    (literal (codes "lock") refl, (decimal_word start f.0, (decimal_word end f.1, (u32_word kind f.2, (u32_word pid f.3, tt)))))
+result_are (Err error) f = (literal (codes "err") refl, (u32_word (number_of error) (number_small error), tt))
+
+pub line_are : (line : Line) → LineFits line → AreWords (line_words line)
+line_are (Asked worker o) f =
+    let few = f.0 in
+    let s = f.1 in (
+      literal (codes "ask") refl,
+      (
+        decimal_word worker (omega arith),
+        (
+          decimal_word o.unique s.unique,
+          (
+            decimal_word o.node s.node,
+            (
+              u32_word o.uid s.uid,
+              (
+                u32_word o.gid s.gid,
+                (u32_word o.pid s.pid, (kind_word (kind_of o.op), fields_are o.op s.op)),
+              ),
+            ),
+          ),
+        ),
+      ),
+    )
+line_are (Told told) f = (literal (codes "tell") refl, (decimal_word told.unique f.unique, result_are told.result f.result))
+
+-- ---- the line of its words
+
+abbrev pub word_at : List (List ℕ) → ℕ → List ℕ
+word_at words k = get_or words k []
+
+abbrev pub number_at : List (List ℕ) → ℕ → ℕ
+number_at words k = digits_value 10 (word_at words k)
+
+abbrev pub name_of : List ℕ → List ℕ
+name_of word = result_unwrap_or (decode_of word) []
+
+abbrev pub lock_ask_of : List (List ℕ) → LockAsk
+lock_ask_of ws = record { fh = number_at ws 0; owner = number_at ws 1; start = number_at ws 2; end = number_at ws 3; kind = number_at ws 4; pid = number_at ws 5; flags = number_at ws 6 }
+
+abbrev pub op_of : Option Kind → List (List ℕ) → Op
+op_of (Some kind.Create) ws = Create (bytes_eq (word_at ws 0) (codes "1")) (number_at ws 1) (name_of (word_at ws 2))
+op_of (Some kind.Getlk) ws = Getlk (lock_ask_of ws)
+op_of _ ws = Setlk (lock_ask_of ws)
+
+abbrev pub attr_of : List (List ℕ) → Attributes
+attr_of ws = record { node = number_at ws 1; mode = number_at ws 2; nlink = number_at ws 3; uid = number_at ws 4; gid = number_at ws 5 }
+
+-- each error once
+abbrev pub all_errors : List Errno
+all_errors =
+    ENOENT ∷ EINTR ∷ EBADF ∷ EAGAIN ∷ ENOMEM ∷ EEXIST ∷ ENOTDIR ∷ EISDIR ∷ EINVAL ∷ ENFILE ∷ ENOSPC ∷ EDEADLK ∷ ENAMETOOLONG ∷ ENOLCK ∷ ENOSYS ∷ EPROTO ∷ []
+
+abbrev pub error_of : ℕ → Errno
+error_of number = unwrap_or (find (λ e. number_of e == number) all_errors) ENOENT
+
+abbrev pub result_of : List (List ℕ) → Result Answer Errno
+result_of ws =
+    let is : List ℕ → Bool = bytes_eq (word_at ws 0) in
+    if is (codes "ok") then Ok Done
+    else if is (codes "entry") then Ok (Entry (attr_of ws))
+    else if is (codes "attr") then Ok (Attr (attr_of ws))
+    else if is (codes "open") then Ok (Open (number_at ws 1))
+    else if is (codes "made") then Ok (Made (attr_of ws) (number_at ws 6))
+    else if is (codes "lock") then Ok (Lock (number_at ws 1) (number_at ws 2) (number_at ws 3) (number_at ws 4))
+    else Err (error_of (number_at ws 1))
+
+abbrev pub order_of : List (List ℕ) → Order
+order_of ws = record { unique = number_at ws 2; node = number_at ws 3; uid = number_at ws 4; gid = number_at ws 5; pid = number_at ws 6; op = op_of (kind_of_word (word_at ws 7)) (drop 8 ws) }
+
+abbrev pub line_of_words : List (List ℕ) → Line
+line_of_words ws =
+    if bytes_eq (word_at ws 0) (codes "ask") then Asked (number_at ws 1) (order_of ws)
+    else Told (record { unique = number_at ws 1; result = result_of (drop 2 ws) })
+
+value : (n : ℕ) → n < 2 ^ 64 → digits_value 10 (decimal n) ≡ n
+value n below = digits_value-decimal own n below
+
+value32 : (n : ℕ) → n < 2 ^ 32 → digits_value 10 (decimal n) ≡ n
+value32 n below = value n (small n below)
+
+lock_ask_back : (a : LockAsk) → FitsLock a → lock_ask_of (lock_ask_words a) ≡ a
+lock_ask_back a f = λ i. record {
+  fh = value a.fh f.fh i;
+  owner = value a.owner f.owner i;
+  start = value a.start f.start i;
+  end = value a.end f.end i;
+  kind = value32 a.kind f.kind i;
+  pid = value32 a.pid f.pid i;
+  flags = value32 a.flags f.flags i;
+}
+
+flag_back : (flag : Bool) → bytes_eq (flag_text flag) (codes "1") ≡ flag
+flag_back true = refl
+flag_back false = refl
+
+name_back : (name : List ℕ) → IsBytes name → name_of (name_text name) ≡ name
+name_back [] bytes = refl
+name_back (b ∷ name) bytes = ap (λ r. result_unwrap_or r []) (decode_of-encode_lower (b ∷ name) bytes)
+
+op_back : (op : Op) → FitsOp op → op_of (kind_of_word (word_for (kind_of op))) (field_words op) ≡ op
+op_back (Create excl mode name) f = let few = f.0 in λ i. Create (flag_back excl i) (value mode (omega arith) i) (name_back name f.1.are_bytes i)
+op_back (Getlk ask) f = λ i. Getlk (lock_ask_back ask f i)
+op_back (Setlk ask) f = λ i. Setlk (lock_ask_back ask f i)
+
+attr_back : (word : List ℕ) (a : Attributes) (more : List (List ℕ)) → FitsAttr a → attr_of (word ∷ attr_words a more) ≡ a
+attr_back word a more f = λ i. record {
+  node = value a.node f.node i;
+  mode = value32 a.mode f.mode i;
+  nlink = value32 a.nlink f.nlink i;
+  uid = value32 a.uid f.uid i;
+  gid = value32 a.gid f.gid i;
+}
+
+-- each error is found by its number
+pub error_is_found : (e : Errno) → find (λ one. number_of one == number_of e) all_errors ≡ Some e
+error_is_found ENOENT = refl
+error_is_found EINTR = refl
+error_is_found EBADF = refl
+error_is_found EAGAIN = refl
+error_is_found ENOMEM = refl
+error_is_found EEXIST = refl
+error_is_found ENOTDIR = refl
+error_is_found EISDIR = refl
+error_is_found EINVAL = refl
+error_is_found ENFILE = refl
+error_is_found ENOSPC = refl
+error_is_found EDEADLK = refl
+error_is_found ENAMETOOLONG = refl
+error_is_found ENOLCK = refl
+error_is_found ENOSYS = refl
+error_is_found EPROTO = refl
+
+error_back : (e : Errno) → error_of (number_of e) ≡ e
+error_back e = ap (λ found. unwrap_or found ENOENT) (error_is_found e)
+
+result_back : (told : Result Answer Errno) → FitsResult told → result_of (result_words told) ≡ told
+result_back (Ok Done) f = refl
+result_back (Ok (Entry a)) f = λ i. Ok (Entry (attr_back (codes "entry") a [] f i))
+result_back (Ok (Attr a)) f = λ i. Ok (Attr (attr_back (codes "attr") a [] f i))
+result_back (Ok (Open fh)) f = λ i. Ok (Open (value fh f i))
+result_back (Ok (Made a fh)) f = λ i. Ok (Made (attr_back (codes "made") a (decimal fh ∷ []) f.0 i) (value fh f.1 i))
+result_back (Ok (Lock start end kind pid)) f = λ i. Ok (Lock (value start f.0 i) (value end f.1 i) (value32 kind f.2 i) (value32 pid f.3 i))
+result_back (Err error) f = ap (λ n. Err (error_of n)) (value32 (number_of error) (number_small error)) ∙ ap (λ e. Err e) (error_back error)
+
+line_back : (line : Line) → LineFits line → line_of_words (line_words line) ≡ line
+line_back (Asked worker o) f =
+    let few = f.0 in
+    let s = f.1 in
+    λ i. Asked (value worker (omega arith) i) (record {
+      unique = value o.unique s.unique i;
+      node = value o.node s.node i;
+      uid = value32 o.uid s.uid i;
+      gid = value32 o.gid s.gid i;
+      pid = value32 o.pid s.pid i;
+      op = op_back o.op s.op i;
+    })
+line_back (Told told) f = λ i. Told (record { unique = value told.unique f.unique i; result = result_back told.result f.result i })
+
+-- ---- the words of a text
+
+space : ℕ → Bool
+space b = eqb b 32
+
+split_spaced : (word : List ℕ) (words : List (List ℕ)) → AreWords (word ∷ words) → slice_split space (spaced (word ∷ words)) ≡ word ∷ words
+unfolding space
+split_spaced word [] are = slice_split_none space word (no_low 33 32 word are.0 (lit< tt))
+split_spaced word (next ∷ words) are =
+    slice_split_at space word 32 (spaced (next ∷ words)) (no_low 33 32 word are.0 (lit< tt)) refl ∙ ap (λ rest. word ∷ rest) (split_spaced next words are.1)
+
+split_line : (line : Line) → AreWords (line_words line) → slice_split space (spaced (line_words line)) ≡ line_words line
+split_line (Asked worker o) are = split_spaced (codes "ask") (decimal worker ∷ order_words o) are
+split_line (Told told) are = split_spaced (codes "tell") (decimal told.unique ∷ result_words told.result) are
+
+-- the line that a text is of
+pub line_in : List ℕ → Line
+line_in text = line_of_words (slice_split space text)
+
+pub line_found : (line : Line) → LineFits line → line_in (line_text line) ≡ line
+unfolding line_in
+line_found line fits =
+    ap (λ text. line_of_words (slice_split space text)) (sym (line_spaced line)) ∙ ap line_of_words (split_line line (line_are line fits)) ∙ line_back line fits
+
+-- two lines never have one text
+pub line_alone : (line other : Line) → LineFits line → LineFits other → line_text line ≡ line_text other → line ≡ other
+line_alone line other fits also e = sym (line_found line fits) ∙ ap line_in e ∙ line_found other also
+
+-- a line's text is ASCII, and has no newline
+pub line_letters : (line : Line) → LineFits line → AreLetters 32 (line_text line)
+line_letters line fits = rw (← line_spaced line) (spaced_letters (line_words line) (line_are line fits))

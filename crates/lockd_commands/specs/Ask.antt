@@ -1,8 +1,0 @@
--- Ask lines.
-use Rattle.fl_book.specs.declared.history.Line.{Line}
-use Rattle.fl_book.specs.declared.history.Line.TheVariants.{Asked}
-use Rattle.lockd_commands.specs.declared.ask.Ask.{Ask}
-
--- the line of a history in which a worker asks
-abbrev pub line_of : Ask → Line
-line_of ask = Asked ask.worker ask.order
