@@ -1,5 +1,5 @@
 -- A line is found again in its text: its words are what stands between spaces, and each field is read off its word.
-use Rattle.std.proofs.Common.{◌≡◌, ℕ, ◌<◌, ◌^◌, ◌==◌, Bool, true, false, if◌then◌else◌, Option, Some, List, [], ◌∷◌, ◌++◌, get_or, drop, codes, Result, Ok, Err, refl, sym, ap, ◌∙◌, arith, lit<}
+use Rattle.std.proofs.Common.{◌≡◌, ℕ, ◌<◌, ◌^◌, ◌==◌, Bool, true, false, if◌then◌else◌, Option, None, Some, List, [], ◌∷◌, ◌++◌, get_or, drop, codes, Result, Ok, Err, refl, sym, ap, ◌∙◌, arith, lit<}
 use Rattle.std.proofs.Math.Dec.{eqb}
 use Rattle.std.proofs.lemmas.Fmt.{digits_value-decimal}
 use Rattle.std.proofs.lemmas.List.Splits.{slice_split_at, slice_split_none}
@@ -12,16 +12,22 @@ use Rattle.std.specs.Str.Parse.{digits_value}
 use Rattle.hex.specs.Hex.{IsBytes, decode_of}
 use Rattle.hex.proofs.HexLemmas.{decode_of-encode_lower}
 use Rattle.fl_wire.specs.Errno.{number_of}
-use Rattle.fl_wire.specs.Kind.{word_for, kind_of_word}
-use Rattle.fl_wire.specs.Order.{kind_of}
-use Rattle.fl_wire.specs.Sayable.{FitsOp, FitsLock, FitsResult, FitsAttr}
+use Rattle.fl_wire.specs.Form.{body_shape}
+use Rattle.fl_wire.specs.Kind.{word_for, shape_for, kind_of_word}
+use Rattle.fl_wire.specs.Order.{kind_of, body_of, op_of}
+use Rattle.fl_wire.specs.Sayable.{FitsBody, FitsOp, FitsLock, FitsResult, FitsAttr}
+use Rattle.fl_wire.specs.declared.body.Body.{Body}
+use Rattle.fl_wire.specs.declared.body.Body.TheVariants as body
+use Rattle.fl_wire.specs.declared.body.Shape.{Shape}
+use Rattle.fl_wire.specs.declared.body.Shape.TheVariants as shape
+use Rattle.fl_wire.specs.declared.reading.Refusal.{Refusal}
 use Rattle.fl_wire.specs.declared.errno.Errno.{Errno}
 use Rattle.fl_wire.specs.declared.errno.Errno.TheVariants.{ENOENT, EINTR, EBADF, EAGAIN, ENOMEM, EEXIST, ENOTDIR, EISDIR, EINVAL, ENFILE, ENOSPC, EDEADLK, ENAMETOOLONG, ENOLCK, ENOSYS, EPROTO}
 use Rattle.fl_wire.specs.declared.kind.Kind.{Kind}
 use Rattle.fl_wire.specs.declared.kind.Kind.TheVariants as kind
 use Rattle.fl_wire.specs.declared.order.LockAsk.{LockAsk}
 use Rattle.fl_wire.specs.declared.order.Op.{Op}
-use Rattle.fl_wire.specs.declared.order.Op.TheVariants.{Create, Getlk, Setlk}
+use Rattle.fl_wire.specs.declared.order.Op.TheVariants.{Getlk}
 use Rattle.fl_wire.specs.declared.order.Order.{Order}
 use Rattle.fl_wire.specs.declared.told.Answer.{Answer}
 use Rattle.fl_wire.specs.declared.told.Answer.TheVariants.{Done, Entry, Attr, Open, Made, Lock}
@@ -37,10 +43,9 @@ use Rattle.fl_book.proofs.WordLemmas.{own}
 abbrev pub lock_ask_words : LockAsk → List (List ℕ)
 lock_ask_words a = decimal a.fh ∷ decimal a.owner ∷ decimal a.start ∷ decimal a.end ∷ decimal a.kind ∷ decimal a.pid ∷ decimal a.flags ∷ []
 
-abbrev pub field_words : Op → List (List ℕ)
-field_words (Create excl mode name) = flag_text excl ∷ decimal mode ∷ name_text name ∷ []
-field_words (Getlk ask) = lock_ask_words ask
-field_words (Setlk ask) = lock_ask_words ask
+abbrev pub field_words : Body → List (List ℕ)
+field_words (body.Lock ask) = lock_ask_words ask
+field_words (body.Create excl mode name) = flag_text excl ∷ decimal mode ∷ name_text name ∷ []
 
 abbrev pub attr_words : Attributes → List (List ℕ) → List (List ℕ)
 attr_words a more = decimal a.node ∷ decimal a.mode ∷ decimal a.nlink ∷ decimal a.uid ∷ decimal a.gid ∷ more
@@ -55,16 +60,15 @@ result_words (Ok (Lock start end kind pid)) = codes "lock" ∷ decimal start ∷
 result_words (Err error) = codes "err" ∷ decimal (number_of error) ∷ []
 
 abbrev pub order_words : Order → List (List ℕ)
-order_words o = decimal o.unique ∷ decimal o.node ∷ decimal o.uid ∷ decimal o.gid ∷ decimal o.pid ∷ word_for (kind_of o.op) ∷ field_words o.op
+order_words o = decimal o.unique ∷ decimal o.node ∷ decimal o.uid ∷ decimal o.gid ∷ decimal o.pid ∷ word_for (kind_of o.op) ∷ field_words (body_of o.op)
 
 abbrev pub line_words : Line → List (List ℕ)
 line_words (Asked worker order) = codes "ask" ∷ decimal worker ∷ order_words order
 line_words (Told told) = codes "tell" ∷ decimal told.unique ∷ result_words told.result
 
-op_spaced : (word : List ℕ) (op : Op) → spaced (word ∷ field_words op) ≡ word ++ 32 ∷ fields_text op
-op_spaced word (Create excl mode name) = refl
-op_spaced word (Getlk ask) = refl
-op_spaced word (Setlk ask) = refl
+body_spaced : (word : List ℕ) (b : Body) → spaced (word ∷ field_words b) ≡ word ++ 32 ∷ fields_text b
+body_spaced word (body.Lock ask) = refl
+body_spaced word (body.Create excl mode name) = refl
 
 result_spaced : (word : List ℕ) (told : Result Answer Errno) → spaced (word ∷ result_words told) ≡ word ++ 32 ∷ result_text told
 result_spaced word (Ok Done) = refl
@@ -79,7 +83,7 @@ result_spaced word (Err error) = refl
 pub line_spaced : (line : Line) → spaced (line_words line) ≡ line_text line
 line_spaced (Asked worker o) =
     ap (λ end. codes "ask" ++ 32 ∷ (decimal worker ++ 32 ∷ (decimal o.unique ++ 32 ∷ (decimal o.node ++ 32 ∷ (decimal o.uid ++ 32 ∷ (decimal o.gid ++ 32 ∷ (decimal o.pid ++ 32 ∷ end)))))))
-    (op_spaced (word_for (kind_of o.op)) o.op)
+    (body_spaced (word_for (kind_of o.op)) (body_of o.op))
 line_spaced (Told told) = ap (λ end. codes "tell" ++ 32 ∷ end) (result_spaced (decimal told.unique) told.result)
 
 -- ---- they are words
@@ -118,10 +122,9 @@ kind_word kind.Create = literal (word_for kind.Create) refl
 kind_word kind.Destroy = literal (word_for kind.Destroy) refl
 kind_word kind.BatchForget = literal (word_for kind.BatchForget) refl
 
-fields_are : (op : Op) → FitsOp op → AreWords (field_words op)
-fields_are (Create excl mode name) f = let few = f.0 in (flag_word excl, (decimal_word mode (omega arith), (name_word name f.1.are_bytes, tt)))
-fields_are (Getlk ask) f = lock_ask_are ask f
-fields_are (Setlk ask) f = lock_ask_are ask f
+fields_are : (b : Body) → FitsBody b → AreWords (field_words b)
+fields_are (body.Lock ask) f = lock_ask_are ask f
+fields_are (body.Create excl mode name) f = let few = f.0 in (flag_word excl, (decimal_word mode (omega arith), (name_word name f.1.are_bytes, tt)))
 
 attr_are : (a : Attributes) (more : List (List ℕ)) → FitsAttr a → AreWords more → AreWords (attr_words a more)
 attr_are a more f are = (decimal_word a.node f.node, (u32_word a.mode f.mode, (u32_word a.nlink f.nlink, (u32_word a.uid f.uid, (u32_word a.gid f.gid, are)))))
@@ -169,7 +172,7 @@ line_are (Asked worker o) f =
               u32_word o.uid s.uid,
               (
                 u32_word o.gid s.gid,
-                (u32_word o.pid s.pid, (kind_word (kind_of o.op), fields_are o.op s.op)),
+                (u32_word o.pid s.pid, (kind_word (kind_of o.op), fields_are (body_of o.op) s.op)),
               ),
             ),
           ),
@@ -192,10 +195,13 @@ name_of word = result_unwrap_or (decode_of word) []
 abbrev pub lock_ask_of : List (List ℕ) → LockAsk
 lock_ask_of ws = record { fh = number_at ws 0; owner = number_at ws 1; start = number_at ws 2; end = number_at ws 3; kind = number_at ws 4; pid = number_at ws 5; flags = number_at ws 6 }
 
-abbrev pub op_of : Option Kind → List (List ℕ) → Op
-op_of (Some kind.Create) ws = Create (bytes_eq (word_at ws 0) (codes "1")) (number_at ws 1) (name_of (word_at ws 2))
-op_of (Some kind.Getlk) ws = Getlk (lock_ask_of ws)
-op_of _ ws = Setlk (lock_ask_of ws)
+abbrev pub body_of_words : Result Shape Refusal → List (List ℕ) → Body
+body_of_words (Ok shape.Create) ws = body.Create (bytes_eq (word_at ws 0) (codes "1")) (number_at ws 1) (name_of (word_at ws 2))
+body_of_words _ ws = body.Lock (lock_ask_of ws)
+
+abbrev pub op_of_words : Option Kind → List (List ℕ) → Option Op
+op_of_words None ws = None
+op_of_words (Some k) ws = op_of k (body_of_words (shape_for k) ws)
 
 abbrev pub attr_of : List (List ℕ) → Attributes
 attr_of ws = record { node = number_at ws 1; mode = number_at ws 2; nlink = number_at ws 3; uid = number_at ws 4; gid = number_at ws 5 }
@@ -220,7 +226,7 @@ result_of ws =
     else Err (error_of (number_at ws 1))
 
 abbrev pub order_of : List (List ℕ) → Order
-order_of ws = record { unique = number_at ws 2; node = number_at ws 3; uid = number_at ws 4; gid = number_at ws 5; pid = number_at ws 6; op = op_of (kind_of_word (word_at ws 7)) (drop 8 ws) }
+order_of ws = record { unique = number_at ws 2; node = number_at ws 3; uid = number_at ws 4; gid = number_at ws 5; pid = number_at ws 6; op = unwrap_or (op_of_words (kind_of_word (word_at ws 7)) (drop 8 ws)) (Getlk (lock_ask_of ws)) }
 
 abbrev pub line_of_words : List (List ℕ) → Line
 line_of_words ws =
@@ -252,10 +258,26 @@ name_back : (name : List ℕ) → IsBytes name → name_of (name_text name) ≡ 
 name_back [] bytes = refl
 name_back (b ∷ name) bytes = ap (λ r. result_unwrap_or r []) (decode_of-encode_lower (b ∷ name) bytes)
 
-op_back : (op : Op) → FitsOp op → op_of (kind_of_word (word_for (kind_of op))) (field_words op) ≡ op
-op_back (Create excl mode name) f = let few = f.0 in λ i. Create (flag_back excl i) (value mode (omega arith) i) (name_back name f.1.are_bytes i)
-op_back (Getlk ask) f = λ i. Getlk (lock_ask_back ask f i)
-op_back (Setlk ask) f = λ i. Setlk (lock_ask_back ask f i)
+body_back : (b : Body) → FitsBody b → body_of_words (Ok (body_shape b)) (field_words b) ≡ b
+body_back (body.Lock ask) f = λ i. body.Lock (lock_ask_back ask f i)
+body_back (body.Create excl mode name) f = let few = f.0 in λ i. body.Create (flag_back excl i) (value mode (omega arith) i) (name_back name f.1.are_bytes i)
+
+kind_found : (k : Kind) → kind_of_word (word_for k) ≡ Some k
+kind_found k = grind arith
+
+-- an order's kind has the shape of its body
+pub shape_made : (op : Op) → shape_for (kind_of op) ≡ Ok (body_shape (body_of op))
+shape_made op = grind arith
+
+op_made : (op : Op) → op_of (kind_of op) (body_of op) ≡ Some op
+op_made op = grind arith
+
+op_back : (op : Op) → FitsOp op → op_of_words (kind_of_word (word_for (kind_of op))) (field_words (body_of op)) ≡ Some op
+op_back op f =
+    ap (λ found. op_of_words found (field_words (body_of op))) (kind_found (kind_of op))
+    ∙ ap (λ s. op_of (kind_of op) (body_of_words s (field_words (body_of op)))) (shape_made op)
+    ∙ ap (op_of (kind_of op)) (body_back (body_of op) f)
+    ∙ op_made op
 
 attr_back : (word : List ℕ) (a : Attributes) (more : List (List ℕ)) → FitsAttr a → attr_of (word ∷ attr_words a more) ≡ a
 attr_back word a more f = λ i. record {
@@ -307,7 +329,7 @@ line_back (Asked worker o) f =
       uid = value32 o.uid s.uid i;
       gid = value32 o.gid s.gid i;
       pid = value32 o.pid s.pid i;
-      op = op_back o.op s.op i;
+      op = unwrap_or (op_back o.op s.op i) (Getlk (lock_ask_of (line_words (Asked worker o))));
     })
 line_back (Told told) f = λ i. Told (record { unique = value told.unique f.unique i; result = result_back told.result f.result i })
 

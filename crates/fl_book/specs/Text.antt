@@ -5,15 +5,16 @@ use Rattle.std.specs.Fmt.{decimal}
 use Rattle.hex.specs.Hex.{encode_lower}
 use Rattle.fl_wire.specs.Errno.{number_of}
 use Rattle.fl_wire.specs.Kind.{word_for}
-use Rattle.fl_wire.specs.Order.{kind_of}
+use Rattle.fl_wire.specs.Order.{kind_of, body_of}
 use Rattle.fl_wire.specs.Sayable.{IsSayable, FitsTold}
+use Rattle.fl_wire.specs.declared.body.Body.{Body}
+use Rattle.fl_wire.specs.declared.body.Body.TheVariants.{Lock, Create}
 use Rattle.fl_wire.specs.declared.errno.Errno.{Errno}
 use Rattle.fl_wire.specs.declared.order.LockAsk.{LockAsk}
 use Rattle.fl_wire.specs.declared.order.Op.{Op}
-use Rattle.fl_wire.specs.declared.order.Op.TheVariants.{Create, Getlk, Setlk}
 use Rattle.fl_wire.specs.declared.order.Order.{Order}
 use Rattle.fl_wire.specs.declared.told.Answer.{Answer}
-use Rattle.fl_wire.specs.declared.told.Answer.TheVariants.{Done, Entry, Attr, Open, Made, Lock}
+use Rattle.fl_wire.specs.declared.told.Answer.TheVariants.{Done, Entry, Attr, Open, Made, Lock as LockTold}
 use Rattle.fl_wire.specs.declared.told.Attr.{Attr as Attributes}
 use Rattle.fl_wire.specs.declared.told.Told.{Told as Reply}
 use Rattle.fl_book.specs.declared.history.Line.{Line}
@@ -37,15 +38,14 @@ abbrev pub lock_ask_text : LockAsk → List ℕ
 lock_ask_text a =
     spaced (decimal a.fh ∷ decimal a.owner ∷ decimal a.start ∷ decimal a.end ∷ decimal a.kind ∷ decimal a.pid ∷ decimal a.flags ∷ [])
 
--- the fields of what is asked
-abbrev pub fields_text : Op → List ℕ
+-- the fields of a body
+abbrev pub fields_text : Body → List ℕ
+fields_text (Lock ask) = lock_ask_text ask
 fields_text (Create excl mode name) = spaced (flag_text excl ∷ decimal mode ∷ name_text name ∷ [])
-fields_text (Getlk ask) = lock_ask_text ask
-fields_text (Setlk ask) = lock_ask_text ask
 
--- what is asked: the word of its kind, and its fields
+-- what is asked: the word of its kind, and the fields of its body
 abbrev pub op_text : Op → List ℕ
-op_text op = spaced (word_for (kind_of op) ∷ fields_text op ∷ [])
+op_text op = spaced (word_for (kind_of op) ∷ fields_text (body_of op) ∷ [])
 
 -- an order
 abbrev pub order_text : Order → List ℕ
@@ -74,7 +74,7 @@ answer_text (Entry a) = spaced (codes "entry" ∷ attr_text a ∷ [])
 answer_text (Attr a) = spaced (codes "attr" ∷ attr_text a ∷ [])
 answer_text (Open fh) = spaced (codes "open" ∷ decimal fh ∷ [])
 answer_text (Made a fh) = spaced (codes "made" ∷ made_text a fh ∷ [])
-answer_text (Lock start end kind pid) = spaced (codes "lock" ∷ lock_text start end kind pid ∷ [])
+answer_text (LockTold start end kind pid) = spaced (codes "lock" ∷ lock_text start end kind pid ∷ [])
 
 -- an answer, or the number of an error
 abbrev pub result_text : Result Answer Errno → List ℕ

@@ -2,15 +2,16 @@
 
 ghost use Rattle.std.specs.Prelude.{◌≡◌, ℕ, IfSome, IsSome};
 ghost use Rattle.fl_book.specs.Text.{order_text, op_text, fields_text, lock_ask_text};
-ghost use Rattle.fl_wire.specs.Order.{kind_of};
-ghost use Rattle.fl_wire.specs.Sayable.{FitsLock, FitsOp, IsSayable};
-ghost use Rattle.fl_wire.specs.declared.kind.Kind.TheVariants.{Create as CreateKind};
+ghost use Rattle.fl_wire.specs.Form.{body_shape};
+ghost use Rattle.fl_wire.specs.Sayable.{FitsBody, FitsLock, FitsOp, IsSayable};
+ghost use Rattle.fl_wire.specs.declared.body.Body.{Body};
+ghost use Rattle.fl_wire.specs.declared.body.Shape.TheVariants.{Create as CreateShape};
 ghost use Rattle.fl_wire.specs.declared.order.Order.{Order};
 ghost use Rattle.fl_wire.specs.declared.order.Op.{Op};
 ghost use Rattle.fl_wire.specs.declared.order.LockAsk.{LockAsk};
 
 use crate::text::words::{flag_word, name, split_word, u32_number, u32_word, u64_word};
-use fl_wire::{Kind, LockAsk, Op, Order};
+use fl_wire::{Body, Kind, LockAsk, Op, Order, Shape};
 
 /// An order; none where it has any other spelling.
 pub(super) fn read_order(text: &str) -> Option<Order>
@@ -34,26 +35,38 @@ pub(super) fn read_order(text: &str) -> Option<Order>
     })
 }
 
-// The word of a kind, and its fields.
+// The word of a kind, and the fields of its body.
+#[tactic(auto, using(crate::proofs::ReadBack::shape_made))]
 fn read_op(text: &str) -> Option<Op>
     ensures fits { IfSome result FitsOp }
     ensures spelled { IfSome result (λ op. text.now ≡ op_text op) }
     ensures only { (op : Op) → FitsOp op → text.now ≡ op_text op → IsSome result }
 {
     let (word, rest) = split_word(text)?;
-    match Kind::of_word(word)? {
-        Kind::Create => read_create(rest),
-        Kind::Getlk => Some(Op::Getlk(read_lock_ask(rest)?)),
-        Kind::Setlk => Some(Op::Setlk(read_lock_ask(rest)?)),
-        _ => None,
+    let kind = Kind::of_word(word)?;
+    let body = read_body(kind.shape().ok()?, rest)?;
+    Op::of(kind, body)
+}
+
+// The fields of a body of this shape.
+fn read_body(shape: Shape, text: &str) -> Option<Body>
+    ensures shape { IfSome result (λ body. body_shape body ≡ shape) }
+    ensures fits { IfSome result FitsBody }
+    ensures spelled { IfSome result (λ body. text.now ≡ fields_text body) }
+    ensures only { (body : Body) → body_shape body ≡ shape → FitsBody body → text.now ≡ fields_text body → IsSome result }
+{
+    match shape {
+        Shape::Lock => Some(Body::Lock(read_lock_ask(text)?)),
+        Shape::Create => read_create(text),
     }
 }
 
-fn read_create(text: &str) -> Option<Op>
-    ensures kind { IfSome result (λ op. kind_of op ≡ CreateKind) }
-    ensures fits { IfSome result FitsOp }
-    ensures spelled { IfSome result (λ op. text.now ≡ fields_text op) }
-    ensures only { (op : Op) → kind_of op ≡ CreateKind → FitsOp op → text.now ≡ fields_text op → IsSome result }
+fn read_create(text: &str) -> Option<Body>
+    ensures shape { IfSome result (λ body. body_shape body ≡ CreateShape) }
+    ensures fits { IfSome result FitsBody }
+    ensures spelled { IfSome result (λ body. text.now ≡ fields_text body) }
+    ensures only { (body : Body) → body_shape body ≡ CreateShape → FitsBody body → text.now ≡ fields_text body →
+        IsSome result }
 {
     let (excl, rest) = flag_word(text)?;
     let (mode, rest) = u32_word(rest)?;
@@ -61,7 +74,7 @@ fn read_create(text: &str) -> Option<Op>
         return None;
     }
     let name = name(rest)?;
-    Some(Op::Create { excl, mode, name })
+    Some(Body::Create { excl, mode, name })
 }
 
 fn read_lock_ask(text: &str) -> Option<LockAsk>

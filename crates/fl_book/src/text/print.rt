@@ -1,10 +1,10 @@
 ghost use Rattle.std.specs.Prelude.{◌≡◌, ◌++◌, ◌∷◌, [], ◌↔◌, IsTrue, IfOk, OnOk, string_bytes};
 ghost use Rattle.fl_book.specs.Text.{flag_text, name_text, lock_ask_text, fields_text, op_text, attr_text, answer_text, result_text, line_text, text_of, LineFits, Fits};
 ghost use Rattle.fl_book.specs.declared.history.Line.TheVariants.{Asked, Told as Reply};
-ghost use Rattle.fl_wire.specs.Sayable.{FitsOp, FitsTold, IsSayable};
+ghost use Rattle.fl_wire.specs.Sayable.{FitsBody, FitsTold, IsSayable};
 
 use crate::history::{History, Line};
-use fl_wire::{Answer, Attr, Errno, LockAsk, Name, NoMemory, Op, Order, Told};
+use fl_wire::{Answer, Attr, Body, Errno, LockAsk, Name, NoMemory, Op, Order, Told};
 use std::alloc::Global;
 
 /// The text of a history, as `docs/TRACE.md` says: a line of text for each of its lines. Want of memory
@@ -52,15 +52,15 @@ fn told_fits(told: Told) -> bool
 fn order_fits(order: Order) -> bool
     ensures { IsTrue result ↔ IsSayable order }
 {
-    op_fits(order.op)
+    body_fits(order.op.parts().1)
 }
 
-fn op_fits(op: Op) -> bool
-    ensures { IsTrue result ↔ FitsOp op }
+fn body_fits(body: Body) -> bool
+    ensures { IsTrue result ↔ FitsBody body }
 {
-    match op {
-        Op::Create { mode, .. } => mode <= 0o777,
-        Op::Getlk(_) | Op::Setlk(_) => true,
+    match body {
+        Body::Lock(_) => true,
+        Body::Create { mode, .. } => mode <= 0o777,
     }
 }
 
@@ -93,21 +93,22 @@ fn push_ask(alloc: Global, text: &mut String, worker: u32, order: &Order) -> Res
 fn push_op(alloc: Global, text: &mut String, op: &Op) -> Result<(), NoMemory>
     ensures { OnOk result (string_bytes text.new ≡ string_bytes text.old ++ op_text op.now) }
 {
-    let word = op.kind().word();
+    let (kind, body) = op.parts();
+    let word = kind.word();
     write!(text, "{word} ")?;
-    push_fields(alloc, text, op)
+    push_fields(alloc, text, &body)
 }
 
-fn push_fields(alloc: Global, text: &mut String, op: &Op) -> Result<(), NoMemory>
-    ensures { OnOk result (string_bytes text.new ≡ string_bytes text.old ++ fields_text op.now) }
+fn push_fields(alloc: Global, text: &mut String, body: &Body) -> Result<(), NoMemory>
+    ensures { OnOk result (string_bytes text.new ≡ string_bytes text.old ++ fields_text body.now) }
 {
-    match op {
-        Op::Create { excl, mode, name } => {
+    match body {
+        Body::Create { excl, mode, name } => {
             let excl = flag_text(*excl);
             write!(text, "{excl} {mode} ")?;
             push_name(alloc, text, name)
         }
-        Op::Getlk(ask) | Op::Setlk(ask) => push_lock_ask(text, ask),
+        Body::Lock(ask) => push_lock_ask(text, ask),
     }
 }
 

@@ -1,4 +1,5 @@
 use super::*;
+use crate::laws;
 use crate::history::{History, Line};
 use fl_wire::{Answer, Attr, Errno, LockAsk, Name, Op, Order, Told};
 use std::process::Abort;
