@@ -1,6 +1,6 @@
 -- A walk to the first item that passes a test.
-use Rattle.std.proofs.Common.{◌≡◌, ℕ, ◌+◌, ◌-◌, ◌≤◌, Bool, true, false, not, List, length, drop, Some, None, slice_get, refl, sym, ◌∙◌, ap, inl, inr, arith}
-use Rattle.std.specs.List.{find, position_or_len, prefix_len}
+use Rattle.std.proofs.Common.{◌≡◌, ℕ, ◌+◌, ◌≤◌, Bool, true, false, not, List, length, drop, Some, None, slice_get, sym, ◌∙◌, ap, inl, inr, arith}
+use Rattle.std.specs.List.{find, position_or_len}
 use Rattle.std.proofs.lemmas.List.{drop_all}
 use Rattle.std.proofs.lemmas.List.Folds.{find_at}
 use Rattle.std.proofs.lemmas.List.Sums.{prefix_len-drop_yes, prefix_len-drop_no}

@@ -1,4 +1,4 @@
-use Rattle.std.proofs.Common.{rules, nat_le, ◌∙◌}
+use Rattle.std.proofs.Common.{rules, nat_le}
 use Rattle.std.specs.List.{position_or_len}
 use Rattle.fl_arena.specs.Chains.{items}
 use Rattle.fl_arena.proofs.SortedLemmas.{sorted_at, sorted_done}
