@@ -67,7 +67,7 @@ impl Model for Dir {
     ghost use Rattle.fl_arena.specs.Chains.{items};
     ghost use Rattle.fl_dir.specs.Directory.{Listing};
     ghost use Rattle.fl_dir.specs.Codes.{listing_code};
-    ghost use Rattle.fl_dir.specs.Listed.{IsList};
+    ghost use Rattle.fl_dir.specs.Inside.Listed.{IsList};
 
     ghost Value = { Listing };
 

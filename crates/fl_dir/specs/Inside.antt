@@ -1,0 +1,2 @@
+-- How a directory is kept. No public clause cites this module.
+pub mod Listed
