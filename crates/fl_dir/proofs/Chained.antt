@@ -1,5 +1,5 @@
 -- Changes in the chain of an arena, as changes of entries and of a finite map.
-use Rattle.std.proofs.Common.{◌≡◌, ◌≢◌, ℕ, zero, suc, ◌+◌, ◌<◌, ◌≤◌, Bool, true, false, cond, not, sum_by, slice_index_or, ◌==◌, ◌||◌, nat_le, Option, Some, None, IsSome, option_map, slice_get, slice_set, List, [], ◌∷◌, ◌++◌, length, refl, ap, sym, ◌∙◌, subst, arith}
+use Rattle.std.proofs.Common.{◌≡◌, ◌≢◌, ℕ, ◌+◌, ◌<◌, ◌≤◌, Bool, true, false, cond, not, sum_by, slice_index_or, ◌==◌, ◌||◌, nat_le, Option, Some, None, IsSome, option_map, slice_get, slice_set, List, [], ◌∷◌, ◌++◌, length, refl, ap, sym, ◌∙◌, subst, arith}
 use Rattle.std.proofs.lemmas.Bool.Decides.{nat_tests}
 use Rattle.std.proofs.lemmas.List.{length-map}
 use Rattle.std.proofs.lemmas.Option.{none-some}
@@ -13,7 +13,7 @@ use Rattle.fl_arena.specs.declared.cursors.Cursor.{Cursor}
 use Rattle.fl_dir.specs.declared.node.Node.{Node}
 use Rattle.fl_dir.specs.Directory.{Listing}
 use Rattle.fl_dir.specs.Inside.Listed.{AreListed, IsList}
-use Rattle.fl_dir.proofs.Entries.{set_put, remove_where, listed_pushed, listed_put, listed_where, map_pushed, map_put, map_where, get_listed, len_listed, fresh_listed, keys_equal}
+use Rattle.fl_dir.proofs.Entries.{set_put, remove_where, listed_pushed, listed_put, listed_where, get_listed, len_listed, keys_equal}
 
 some_entry : {A : Type 0} (o : Option A) → IsSome o → (x : A) × (o ≡ Some x)
 some_entry None h = absurd (cc h)

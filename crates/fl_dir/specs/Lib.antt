@@ -1,6 +1,6 @@
 pub mod Changes
 pub mod Codes
 pub mod Directory
+pub mod Inside
 pub mod OpenFiles
 pub mod Replies
-pub mod Inside

@@ -1,5 +1,4 @@
 -- How nodes and open files are kept: as the items of a chain whose numbers rise, all below the one that comes next.
--- No public clause cites this module.
 use Rattle.std.specs.Prelude.{◌≡◌, ℕ, ◌<◌, true, List, [], ◌∷◌, length}
 use Rattle.std.specs.Ordering.{nat_cmp}
 use Rattle.std.specs.FinMap.{is_sorted}

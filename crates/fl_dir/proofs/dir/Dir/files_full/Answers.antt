@@ -1,4 +1,4 @@
-use Rattle.std.proofs.Common.{◌≡◌, ◌==◌, subst, ap, sym, ◌∙◌}
+use Rattle.std.proofs.Common.{◌≡◌, ◌==◌, subst, ◌∙◌}
 use Rattle.fl_dir.specs.OpenFiles.{files_full}
 use Rattle.fl_dir.proofs.Chained.{full_of_none, room_of_some}
 use Rattle.fl_dir.proofs.Entries.{same_number}

@@ -1,6 +1,6 @@
 use Rattle.std.proofs.Common.{ap, ◌∙◌}
 use Rattle.std.specs.FinMap.{from_sorted}
-use Rattle.fl_arena.specs.Chains.{Chains, items}
+use Rattle.fl_arena.specs.Chains.{items}
 use Rattle.fl_dir.proofs.Entries.{none_listed}
 use Rattle.fl_dir.proofs.Chained.{same_listing}
 use Rattle.fl_dir.proofs.dir.Dir.new.Goals as goal

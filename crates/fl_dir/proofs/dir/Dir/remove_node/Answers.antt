@@ -1,4 +1,4 @@
-use Rattle.std.proofs.Common.{◌≡◌, IsSome, refl, subst, ap, sym, ◌∙◌}
+use Rattle.std.proofs.Common.{IsSome, refl, subst, ap, sym, ◌∙◌}
 use Rattle.std.specs.FinMap.{from_sorted, remove, get}
 use Rattle.fl_arena.specs.Chains.{items}
 use Rattle.fl_dir.specs.Directory.{Listing}
