@@ -36,7 +36,8 @@ name_text (b ∷ bytes) = encode_lower (b ∷ bytes)
 -- what a lock request asks for
 abbrev pub lock_ask_text : LockAsk → List ℕ
 lock_ask_text a =
-    spaced (decimal a.fh ∷ decimal a.owner ∷ decimal a.start ∷ decimal a.end ∷ decimal a.kind ∷ decimal a.pid ∷ decimal a.flags ∷ [])
+    spaced (decimal a.fh ∷ decimal a.owner ∷ decimal a.start ∷ decimal a.end ∷
+    decimal a.kind ∷ decimal a.pid ∷ decimal a.flags ∷ [])
 
 -- the fields of a body
 abbrev pub fields_text : Body → List ℕ
@@ -49,7 +50,8 @@ op_text op = spaced (word_for (kind_of op) ∷ fields_text (body_of op) ∷ [])
 
 -- an order
 abbrev pub order_text : Order → List ℕ
-order_text o = spaced (decimal o.unique ∷ decimal o.node ∷ decimal o.uid ∷ decimal o.gid ∷ decimal o.pid ∷ op_text o.op ∷ [])
+order_text o =
+    spaced (decimal o.unique ∷ decimal o.node ∷ decimal o.uid ∷ decimal o.gid ∷ decimal o.pid ∷ op_text o.op ∷ [])
 
 -- a worker, and the order that it handed in
 abbrev pub asked_text : ℕ → Order → List ℕ
@@ -61,7 +63,8 @@ attr_text a = spaced (decimal a.node ∷ decimal a.mode ∷ decimal a.nlink ∷ 
 
 -- a node's attributes and the number of an open file
 abbrev pub made_text : Attributes → ℕ → List ℕ
-made_text a fh = spaced (decimal a.node ∷ decimal a.mode ∷ decimal a.nlink ∷ decimal a.uid ∷ decimal a.gid ∷ decimal fh ∷ [])
+made_text a fh =
+    spaced (decimal a.node ∷ decimal a.mode ∷ decimal a.nlink ∷ decimal a.uid ∷ decimal a.gid ∷ decimal fh ∷ [])
 
 -- a lock record
 abbrev pub lock_text : ℕ → ℕ → ℕ → ℕ → List ℕ

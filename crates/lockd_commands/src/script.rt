@@ -31,14 +31,16 @@ pub fn script_on<R: Read, W: Write, F: Write>(
     output: &mut W,
     faults: &mut F,
 ) -> Status
-    ensures good { result ≡ Status.Good → IsAnswered (R.remaining input.old) (W.contents output.old) (W.contents output.new) }
+    ensures good { result ≡ Status.Good →
+        IsAnswered (R.remaining input.old) (W.contents output.old) (W.contents output.new) }
 
     // The first n - 1 lines of the input are ask lines, and the next is none.
     ensures bad { (n : ℕ) → result ≡ Status.Faulted (Fault.BadLine n) →
         IfSome (R.remaining input.old) (λ script. BreaksAt IsAskLine script n) }
 
     // Only a write that fails leaves anything on the output.
-    ensures kept { (fault : Fault) → result ≡ Status.Faulted fault → fault ≢ Fault.Write → Keeps (W.contents output.old) (W.contents output.new) }
+    ensures kept { (fault : Fault) → result ≡ Status.Faulted fault → fault ≢ Fault.Write →
+        Keeps (W.contents output.old) (W.contents output.new) }
     ensures quiet { result ≡ Status.Good → Keeps (F.contents faults.old) (F.contents faults.new) }
 {
     match script(alloc, input, output) {
@@ -94,7 +96,8 @@ fn read_asks(alloc: Global, script: &[u8]) -> Result<Vec<Ask>, Fault>
 fn first_ask(text: &[u8]) -> Option<(Ask, &[u8])>
     ensures fits { IfSome result (λ read. IsAskLine (line_of read.0)) }
     ensures spelled { IfSome result (λ read. text.now ≡ line_text (line_of read.0) ++ 10 ∷ read.1.now) }
-    ensures none { IsNone result → (line : Entry) (after : List ℕ) → IsAskLine line → text.now ≡ line_text line ++ 10 ∷ after → ⊥ }
+    ensures none { IsNone result → (line : Entry) (after : List ℕ) → IsAskLine line →
+        text.now ≡ line_text line ++ 10 ∷ after → ⊥ }
 {
     let Some((Line::Asked { worker, order }, rest)) = first_line(text) else {
         return None;

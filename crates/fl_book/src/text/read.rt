@@ -80,7 +80,8 @@ fn read_line(text: &str) -> Option<Line>
 fn read_asked(text: &str) -> Option<Line>
     ensures fits { IfSome result LineFits }
     ensures spelled { IfSome result (λ line. line_text line ≡ codes "ask " ++ text.now) }
-    ensures only { (worker : ℕ) (order : Asking) → LineFits (Asked worker order) → text.now ≡ asked_text worker order → IsSome result }
+    ensures only { (worker : ℕ) (order : Asking) → LineFits (Asked worker order) →
+        text.now ≡ asked_text worker order → IsSome result }
 {
     let (worker, rest) = u32_word(text)?;
     if worker > 15 {

@@ -88,7 +88,8 @@ fn read_attr(text: &str) -> Option<Attr>
 fn read_made(text: &str) -> Option<Answer>
     ensures fits { IfSome result FitsAnswer }
     ensures spelled { IfSome result (λ answer. answer_text answer ≡ codes "made " ++ text.now) }
-    ensures only { (attr : Attributes) (fh : ℕ) → FitsAnswer (Made attr fh) → text.now ≡ made_text attr fh → IsSome result }
+    ensures only { (attr : Attributes) (fh : ℕ) → FitsAnswer (Made attr fh) →
+        text.now ≡ made_text attr fh → IsSome result }
 {
     let (node, rest) = u64_word(text)?;
     let (mode, rest) = u32_word(rest)?;
@@ -109,7 +110,8 @@ fn read_made(text: &str) -> Option<Answer>
 fn read_lock(text: &str) -> Option<Answer>
     ensures fits { IfSome result FitsAnswer }
     ensures spelled { IfSome result (λ answer. answer_text answer ≡ codes "lock " ++ text.now) }
-    ensures only { (start end kind pid : ℕ) → FitsAnswer (Lock start end kind pid) → text.now ≡ lock_text start end kind pid → IsSome result }
+    ensures only { (start end kind pid : ℕ) → FitsAnswer (Lock start end kind pid) →
+        text.now ≡ lock_text start end kind pid → IsSome result }
 {
     let (start, rest) = u64_word(text)?;
     let (end, rest) = u64_word(rest)?;

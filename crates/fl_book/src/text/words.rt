@@ -127,7 +127,8 @@ fn decoded(word: &str) -> Option<Name>
 
 // The same, by way of room for just its bytes.
 fn decoded_into(room: &mut [u8], word: &str) -> Option<Name>
-    ensures { (name : List ℕ) → IsName name → length room.old ≡ length name → word.now ≡ encode_lower name → result ≡ Some name }
+    ensures { (name : List ℕ) → IsName name → length room.old ≡ length name →
+        word.now ≡ encode_lower name → result ≡ Some name }
 {
     hex::decode_to_slice(word, room).ok()?;
     Name::new(room)
