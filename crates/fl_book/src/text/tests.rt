@@ -1,6 +1,6 @@
 use super::*;
-use crate::laws;
 use crate::history::{History, Line};
+use crate::laws;
 use fl_wire::{Answer, Attr, Errno, LockAsk, Name, Op, Order, Told};
 use std::process::Abort;
 use std::test::Fail;
