@@ -2,7 +2,7 @@
 use Rattle.std.proofs.Common.{◌≡◌, ◌≢◌, ℕ, ◌+◌, ◌<◌, List, length, set, count_by, Option, Some, slice_get, sym, ◌∙◌, subst, inl, inr, arith, length-set}
 use Rattle.std.proofs.lemmas.Bool.{cases_eq}
 use Rattle.fl_arena.specs.Chains.{Entry, Chains, entries, with_entries}
-use Rattle.fl_arena.specs.Links.{is_free, link_at, member_of, SpellsChain, SpellsFree, IsOnChain, Spells}
+use Rattle.fl_arena.specs.Inside.Links.{is_free, link_at, member_of, SpellsChain, SpellsFree, IsOnChain, Spells}
 use Rattle.fl_arena.specs.declared.nodes.Node.{Node}
 use Rattle.fl_arena.specs.declared.nodes.Node.TheVariants.{Taken}
 use Rattle.fl_arena.specs.declared.nodes.Member.{Member}

@@ -6,7 +6,7 @@ use Rattle.std.proofs.lemmas.List.Sums.{sum_by-cons}
 use Rattle.std.proofs.lemmas.Option.{slice_get_read, slice_get-get_or, none-some}
 use Rattle.fl_arena.specs.Chains.{Entry, Chains, entries, slot_at, with_entries}
 use Rattle.fl_arena.specs.Cursors.{cursor_at, IsInPlace, index_of, item_of, with_item, without}
-use Rattle.fl_arena.specs.Links.{link_at, link_before, relinked, ends_with, ends_without, IsSpare, SpellsChain, SpellsFree, AreFree, Spells, spelled}
+use Rattle.fl_arena.specs.Inside.Links.{link_at, link_before, relinked, ends_with, ends_without, IsSpare, SpellsChain, SpellsFree, AreFree, Spells, spelled}
 use Rattle.fl_arena.specs.declared.cursors.Cursor.{Cursor}
 use Rattle.fl_arena.specs.declared.nodes.Node.{Node}
 use Rattle.fl_arena.specs.declared.nodes.Node.TheVariants.{Free, Taken}

@@ -6,7 +6,7 @@ use Rattle.std.proofs.lemmas.Bool.{or_cases, or_left, or_right, eqb-true, false_
 use Rattle.std.proofs.lemmas.List.Sums.{sum_by-cons, sum_by-set}
 use Rattle.std.proofs.lemmas.Option.{none-some, slice_get_within, get_or_from_slice_get, slice_get-get_or}
 use Rattle.fl_arena.specs.Chains.{Entry, Chains, entries, slot_at, is_linked, unlinked_count}
-use Rattle.fl_arena.specs.Links.{alter, alter_link, with_next, with_previous, relinked, is_free, Spells}
+use Rattle.fl_arena.specs.Inside.Links.{alter, alter_link, with_next, with_previous, relinked, is_free, Spells}
 use Rattle.fl_arena.specs.declared.nodes.Node.{Node}
 use Rattle.fl_arena.specs.declared.nodes.Node.TheVariants.{Free, Taken}
 use Rattle.fl_arena.specs.declared.nodes.Ends.{Ends}

@@ -7,7 +7,7 @@ use Rattle.std.proofs.lemmas.List.Sums.{sum_by-set}
 use Rattle.std.proofs.lemmas.Option.{slice_get_within, slice_get-map}
 use Rattle.fl_arena.specs.Chains.{Entry, Chains, entries, items, slot_at, item_count}
 use Rattle.fl_arena.specs.Cursors.{IsInPlace}
-use Rattle.fl_arena.specs.Links.{link_at, link_before, IsTaken, IsWithin, Spells}
+use Rattle.fl_arena.specs.Inside.Links.{link_at, link_before, IsTaken, IsWithin, Spells}
 use Rattle.fl_arena.specs.declared.cursors.Cursor.{Cursor}
 use Rattle.fl_arena.specs.declared.nodes.Node.{Node}
 use Rattle.fl_arena.specs.declared.nodes.Node.TheVariants.{Taken}

@@ -7,7 +7,7 @@ use Rattle.std.proofs.lemmas.Bool.{cases_lt, cases_eq, cases_order}
 use Rattle.std.proofs.lemmas.List.Edits.{length-insert}
 use Rattle.std.proofs.lemmas.Option.{slice_get_within, slice_get_past}
 use Rattle.fl_arena.specs.Chains.{Entry, Chains, entries, slot_at, with_entries}
-use Rattle.fl_arena.specs.Links.{is_free, ends_with, link_at, link_before, member_of, relinked, SpellsChain, SpellsFree, IsOnChain, Spells}
+use Rattle.fl_arena.specs.Inside.Links.{is_free, ends_with, link_at, link_before, member_of, relinked, SpellsChain, SpellsFree, IsOnChain, Spells}
 use Rattle.fl_arena.specs.declared.nodes.Node.{Node}
 use Rattle.fl_arena.specs.declared.nodes.Node.TheVariants.{Free, Taken}
 use Rattle.fl_arena.specs.declared.nodes.Member.{Member}

@@ -14,3 +14,4 @@ mod CursorLemmas
 mod CallLemmas
 mod SortedLemmas
 mod CountLemmas
+mod FirstLemmas

@@ -3,7 +3,7 @@ use Rattle.std.proofs.Common.{◌≡◌, ◌≢◌, ℕ, true, false, cond, eqb,
 use Rattle.std.specs.Option.{option_map}
 use Rattle.std.proofs.lemmas.Bool.{cases_eq, ne_eqb}
 use Rattle.fl_arena.proofs.ReadLemmas.{slice_get-alter_same, slice_get-alter_other, length-alter}
-use Rattle.fl_arena.specs.Links.{alter_link, at_link, with_previous, with_next, relinked}
+use Rattle.fl_arena.specs.Inside.Links.{alter_link, at_link, with_previous, with_next, relinked}
 use Rattle.fl_arena.specs.declared.nodes.Node.{Node}
 use Rattle.fl_arena.specs.declared.nodes.Node.TheVariants.{Free, Taken}
 use Rattle.fl_arena.specs.declared.nodes.Member.{Member}

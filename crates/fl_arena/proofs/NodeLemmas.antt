@@ -2,7 +2,7 @@
 use Rattle.std.proofs.Common.{◌≡◌, ℕ, zero, suc, ◌+◌, ◌<◌, List, [], ◌∷◌, ◌++◌, length, set, get_or, cond, Option, Some, None, slice_get, refl, sym, ap, inl, inr, ◌⊎◌, arith, add-one, length-append}
 use Rattle.std.proofs.lemmas.List.Sums.{sum_by_push}
 use Rattle.std.proofs.lemmas.Option.{slice_get_read, none-some}
-use Rattle.fl_arena.specs.Links.{is_free, alter, alter_link, AreFree, IsWithin}
+use Rattle.fl_arena.specs.Inside.Links.{is_free, alter, alter_link, AreFree, IsWithin}
 use Rattle.fl_arena.specs.declared.nodes.Node.{Node}
 use Rattle.fl_arena.specs.declared.nodes.Node.TheVariants.{Free, Taken}
 use Rattle.fl_arena.proofs.FreeLemmas.{SpellsFree-kept}

@@ -5,7 +5,7 @@ use Rattle.std.proofs.lemmas.Bool.{cases_lt}
 use Rattle.std.proofs.lemmas.List.{get_or_past}
 use Rattle.std.proofs.lemmas.Option.{none-some, slice_get_within, slice_get-get_or}
 use Rattle.fl_arena.specs.Chains.{Entry, Chains, entries, slot_at}
-use Rattle.fl_arena.specs.Links.{link_at, member_of, Spells}
+use Rattle.fl_arena.specs.Inside.Links.{link_at, member_of, Spells}
 use Rattle.fl_arena.specs.declared.nodes.Node.{Node}
 use Rattle.fl_arena.specs.declared.nodes.Node.TheVariants.{Free, Taken}
 use Rattle.fl_arena.specs.declared.nodes.Member.{Member}

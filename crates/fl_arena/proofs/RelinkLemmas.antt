@@ -3,7 +3,7 @@ use Rattle.std.proofs.Common.{◌≡◌, ◌≢◌, ℕ, zero, suc, List, set, O
 use Rattle.std.specs.Option.{option_map}
 use Rattle.std.proofs.lemmas.Option.{slice_get_within, slice_get_cases}
 use Rattle.fl_arena.specs.Chains.{Entry, Chains, entries, slot_at}
-use Rattle.fl_arena.specs.Links.{at_link, link_at, link_before, member_of, relinked, IsOnChain, Spells}
+use Rattle.fl_arena.specs.Inside.Links.{at_link, link_at, link_before, member_of, relinked, IsOnChain, Spells}
 use Rattle.fl_arena.specs.declared.nodes.Node.{Node}
 use Rattle.fl_arena.specs.declared.nodes.Node.TheVariants.{Free, Taken}
 use Rattle.fl_arena.specs.declared.nodes.Member.{Member}

@@ -5,7 +5,7 @@ use Rattle.std.proofs.lemmas.Bool.{cases_lt}
 use Rattle.std.proofs.lemmas.List.{drop_all}
 use Rattle.std.proofs.lemmas.Option.{slice_get-get_or, slice_get_past, slice_get-map}
 use Rattle.fl_arena.specs.Chains.{Entry, Chains, entries}
-use Rattle.fl_arena.specs.Links.{link_at, SpellsChain, Spells, walk, spelled}
+use Rattle.fl_arena.specs.Inside.Links.{link_at, SpellsChain, Spells, walk, spelled}
 use Rattle.fl_arena.specs.declared.nodes.Node.{Node}
 use Rattle.fl_arena.specs.declared.nodes.Node.TheVariants.{Taken}
 use Rattle.fl_arena.specs.declared.nodes.Member.{Member}

@@ -1,8 +1,14 @@
 -- Where a cursor stands.
-use Rattle.std.specs.Prelude.{◌≡◌, ℕ, length, Option, Some, None, is_some, slice_get, slice_set, unwrap_or, insert, remove, ◌<◌, MatchOption, if◌then◌else◌}
+use Rattle.std.specs.Prelude.{◌≡◌, ℕ, Bool, length, Option, Some, None, is_some, slice_get, slice_set, unwrap_or, insert, remove, ◌<◌, MatchOption, if◌then◌else◌}
 use Rattle.std.specs.Bool.{⊤}
+use Rattle.std.specs.Fn.{Shared, AnyResult}
+use denote.Ref.{Bor}
 use Rattle.fl_arena.specs.Chains.{Chains, entries, items, slot_at, IsFree, with_entries}
 use Rattle.fl_arena.specs.declared.cursors.Cursor.{Cursor}
+
+-- each call of a closure at an item answers what the test does
+abbrev pub Tests : {F T : Type 0} → Shared F (Bor T × Unit {0}) Bool → (T → Bool) → F → Type 0
+Tests {F} {T} g test f = (a : Bor T × Unit {0}) → AnyResult g f a (λ r. r ≡ test a.0.now)
 
 module _ {T : Type 0} where
   -- the cursor at an index of a chain, with the slot of the item there, or with none past the last item

@@ -1,4 +1,3 @@
 pub mod Chains
 pub mod Cursors
-pub mod Links
-pub mod Sorted
+pub mod Inside

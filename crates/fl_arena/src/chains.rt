@@ -1,7 +1,9 @@
 //! The arena.
-ghost use Rattle.std.specs.Prelude.{◌≡◌, ◌≢◌, ◌↔◌, ◌+◌, ◌<◌, ◌≤◌, ◌^◌, ℕ, [], length, replicate, insert, remove, slice_get, slice_set, Some, IsSome, IsNone, IsErr, OnOk, OnErr, IfOk, IfSome};
+ghost use Rattle.std.specs.Prelude.{◌≡◌, ◌≢◌, ◌↔◌, ◌+◌, ◌<◌, ◌≤◌, ◌^◌, ℕ, Bool, [], length, replicate, insert, remove, slice_get, slice_set, Some, IsSome, IsNone, IsErr, OnOk, OnErr, IfOk, IfSome};
+ghost use Rattle.std.specs.Option.{option_copied};
+ghost use Rattle.std.specs.List.{find, position_or_len};
 ghost use Rattle.fl_arena.specs.Chains.{entries, items, slot_at, item_count, free_count, unlinked_count, HasSizeOf};
-ghost use Rattle.fl_arena.specs.Cursors.{cursor_at, IsInPlace, index_of, item_of, with_item, without, Inserts};
+ghost use Rattle.fl_arena.specs.Cursors.{Tests, cursor_at, IsInPlace, index_of, item_of, with_item, without, Inserts};
 
 use crate::cursors::{Cursor, Full, Place};
 use crate::nodes::{
@@ -28,7 +30,7 @@ impl<T: Copy> Model for Arena<T> {
 
     ghost Value = { Chains T };
 
-    ghost use Rattle.fl_arena.specs.Links.{Spells, spelled};
+    ghost use Rattle.fl_arena.specs.Inside.Links.{Spells, spelled};
 
     ghost view = { λ a. spelled a.nodes.items a.ends.items };
 
@@ -67,14 +69,45 @@ impl<T: Copy> Arena<T> {
     }
 
     /// The item at the cursor, or none at the end.
+    pub fn item(&self, cursor: &Cursor) -> Option<&T>
+        requires { IsInPlace self.now cursor.now }
+        ensures item { option_copied result ≡ item_of self.now cursor.now }
+        ensures some { IsSome result ↔ IsSome cursor.now.slot }
+        ensures at_index { (c i : ℕ) → cursor.now ≡ cursor_at self.now c i → option_copied result
+            ≡ slice_get (items self.now c) i }
+    {
+        let slot = cursor.slot?;
+        Some(&member_at(&self.nodes, slot).item)
+    }
+
+    /// The cursor at the first item of the chain that passes the test, or at its end.
+    pub fn first_where<F: Fn(&T) -> bool>(&self, chain: usize, test: F) -> Cursor
+        requires chain { chain < length self.now.chains }
+        requires callable { F.IsAlwaysCallable test }
+        ensures chain { result.chain ≡ chain }
+        ensures in_place { IsInPlace self.now result }
+        ensures first { (p : T → Bool) → Tests F.Fn p test → result
+            ≡ cursor_at self.now chain (position_or_len p (items self.now chain)) }
+        ensures found { (p : T → Bool) → Tests F.Fn p test → item_of self.now result ≡ find p (items self.now chain) }
+    {
+        let mut cursor = self.cursor(chain);
+        while let Some(item) = self.item(&cursor) {
+            if test(item) {
+                break;
+            }
+            self.step(&mut cursor);
+        }
+        cursor
+    }
+
+    /// A copy of the item at the cursor, or none at the end.
     pub fn get(&self, cursor: &Cursor) -> Option<T>
         requires { IsInPlace self.now cursor.now }
         ensures item { result ≡ item_of self.now cursor.now }
         ensures some { IsSome result ↔ IsSome cursor.now.slot }
         ensures at_index { (c i : ℕ) → cursor.now ≡ cursor_at self.now c i → result ≡ slice_get (items self.now c) i }
     {
-        let slot = cursor.slot?;
-        Some(member_at(&self.nodes, slot).item)
+        self.item(cursor).copied()
     }
 
     /// Takes the cursor on to the next item. At the end it stays.
@@ -82,7 +115,8 @@ impl<T: Copy> Arena<T> {
         requires { IsInPlace self.now cursor.old }
         ensures on { IsSome cursor.old.slot → cursor.new ≡ cursor_at self.now cursor.old.chain (cursor.old.index + 1) }
         ensures stays { IsNone cursor.old.slot → cursor.new ≡ cursor.old }
-        ensures at_index { (c i : ℕ) → IsSome cursor.old.slot → cursor.old ≡ cursor_at self.now c i → cursor.new ≡ cursor_at self.now c (i + 1) }
+        ensures at_index { (c i : ℕ) → IsSome cursor.old.slot → cursor.old ≡ cursor_at self.now c i → cursor.new
+            ≡ cursor_at self.now c (i + 1) }
         ensures in_range { IfSome cursor.new.slot (λ slot. slot < self.now.slots) }
     {
         if let Some(slot) = cursor.slot {
@@ -96,14 +130,15 @@ impl<T: Copy> Arena<T> {
         requires at_item { IsSome cursor.now.slot }
         requires in_place { IsInPlace self.old cursor.now }
         ensures chains { self.new ≡ with_item self.old cursor.now item }
-        ensures items { items self.new cursor.now.chain ≡ slice_set (items self.old cursor.now.chain) cursor.now.index item }
+        ensures items { items self.new cursor.now.chain
+            ≡ slice_set (items self.old cursor.now.chain) cursor.now.index item }
         ensures others { (c : ℕ) → c ≢ cursor.now.chain → entries self.new c ≡ entries self.old c }
         ensures size { HasSizeOf self.old self.new }
     {
         let Some(slot) = cursor.slot else {
             unreachable!()
         };
-        let member = member_at(&self.nodes, slot);
+        let member = *member_at(&self.nodes, slot);
         self.nodes[usize::from(slot)] = Node::Taken(Member { item, ..member });
     }
 
@@ -122,7 +157,7 @@ impl<T: Copy> Arena<T> {
         let Some(slot) = cursor.slot else {
             unreachable!()
         };
-        let member = member_at(&self.nodes, slot);
+        let member = *member_at(&self.nodes, slot);
         let ends = self.ends[cursor.chain];
         link_out(&mut self.nodes, slot, member, self.spare);
         self.ends[cursor.chain] = ends.without(member.previous, member.next);
@@ -139,11 +174,13 @@ impl<T: Copy> Arena<T> {
         requires in_place { IsInPlace self.old cursor.old }
         ensures full { IsErr result ↔ (free_count self.old ≡ 0) }
         ensures ok { OnOk result (Inserts self.old self.new cursor.old cursor.new item) }
-        ensures items { OnOk result (items self.new cursor.old.chain ≡ insert (items self.old cursor.old.chain) (index_of self.old cursor.old) item) }
+        ensures items { OnOk result (items self.new cursor.old.chain
+            ≡ insert (items self.old cursor.old.chain) (index_of self.old cursor.old) item) }
         ensures others { (c : ℕ) → c ≢ cursor.old.chain → entries self.new c ≡ entries self.old c }
         ensures size { HasSizeOf self.old self.new }
         ensures cursor { OnOk result (cursor.new ≡ cursor_at self.new cursor.old.chain (index_of self.old cursor.old)) }
-        ensures at_index { (c i : ℕ) → cursor.old ≡ cursor_at self.old c i → OnOk result (items self.new c ≡ insert (items self.old c) i item) }
+        ensures at_index { (c i : ℕ) → cursor.old ≡ cursor_at self.old c i
+            → OnOk result (items self.new c ≡ insert (items self.old c) i item) }
         ensures err { OnErr result (self.new ≡ self.old) }
         ensures err_cursor { OnErr result (cursor.new ≡ cursor.old) }
     {

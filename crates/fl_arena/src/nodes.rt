@@ -1,6 +1,6 @@
 //! The nodes in the slots, and the links between them.
 ghost use Rattle.std.specs.Prelude.{◌≡◌, ◌≤◌, ◌<◌, ◌^◌, length, slice_get, slice_set, Some, IfOk};
-ghost use Rattle.fl_arena.specs.Links.{alter_link, with_previous, with_next, relinked, ends_with, ends_without, IsTaken, IsSpare, IsWithin, AreFree};
+ghost use Rattle.fl_arena.specs.Inside.Links.{alter_link, with_previous, with_next, relinked, ends_with, ends_without, IsTaken, IsSpare, IsWithin, AreFree};
 
 use std::alloc::{AllocError, Global};
 
@@ -91,11 +91,11 @@ pub(crate) fn slot_number(link: Option<u16>) -> Option<usize>
     link.map(usize::from)
 }
 
-pub(crate) fn member_at<T: Copy>(nodes: &Vec<Node<T>>, slot: u16) -> Member<T>
+pub(crate) fn member_at<T: Copy>(nodes: &Vec<Node<T>>, slot: u16) -> &Member<T>
     requires { IsTaken nodes.now.items slot }
-    ensures { slice_get nodes.now.items slot ≡ Some (Node.Taken result) }
+    ensures { slice_get nodes.now.items slot ≡ Some (Node.Taken result.now) }
 {
-    match nodes[usize::from(slot)] {
+    match &nodes[usize::from(slot)] {
         Node::Taken(member) => member,
         Node::Free(_) => unreachable!(),
     }

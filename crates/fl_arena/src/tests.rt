@@ -2,7 +2,7 @@
 ghost use Rattle.std.specs.Prelude.{◌≡◌, ◌≢◌, ◌↔◌, ◌+◌, ◌<◌, ◌≤◌, ◌^◌, ℕ, length, IsErr, OnOk, OnErr, IfOk, IfSome};
 ghost use Rattle.fl_arena.specs.Chains.{entries, items, free_count, HasSizeOf};
 ghost use Rattle.fl_arena.specs.Cursors.{cursor_at};
-ghost use Rattle.fl_arena.specs.Sorted.{insert_sorted};
+ghost use Rattle.fl_arena.specs.Inside.Sorted.{insert_sorted};
 
 use crate::chains::Arena;
 use crate::cursors::{Cursor, Full, Place};
@@ -18,13 +18,7 @@ fn add_sorted(arena: &mut Arena<(u32, u32)>, chain: usize, item: (u32, u32)) -> 
     ensures size { HasSizeOf arena.old arena.new }
     ensures err { OnErr result (arena.new ≡ arena.old) }
 {
-    let mut cursor = arena.cursor(chain);
-    while let Some(here) = arena.get(&cursor) {
-        if item.0 <= here.0 {
-            break;
-        }
-        arena.step(&mut cursor);
-    }
+    let mut cursor = arena.first_where(chain, |here| item.0 <= here.0);
     arena.insert(&mut cursor, item)
 }
 
@@ -146,6 +140,21 @@ fn compare(rt: &impl Abort, arena: &Arena<u64>, lists: &[Vec<u64>]) -> Result<()
         assert_eq!(rt; arena.slot_at(chain, lists[chain].len()), None);
     }
     assert_eq!(rt; arena.free(), free);
+    Ok(())
+}
+
+#[test]
+fn finds_the_first_item_that_passes(rt: HostRuntime) -> Result<(), Fail> {
+    let mut arena = Arena::new(rt.alloc(), 2, 4)?;
+    assert_eq!(rt; push_front(&mut arena, 1, 7), Ok(()));
+    assert_eq!(rt; push_front(&mut arena, 1, 4), Ok(()));
+    assert_eq!(rt; push_front(&mut arena, 1, 9), Ok(()));
+    let cursor = arena.first_where(1, |item| *item < 8);
+    assert_eq!(rt; cursor.index, 1);
+    assert_eq!(rt; arena.item(&cursor).copied(), Some(4_u64));
+    let end = arena.first_where(1, |item| *item > 9);
+    assert_eq!(rt; end.index, 3);
+    assert_eq!(rt; arena.item(&end).copied(), None);
     Ok(())
 }
 

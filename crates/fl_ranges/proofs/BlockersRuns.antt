@@ -11,8 +11,8 @@ use Rattle.fl_ranges.specs.declared.run.Run.{Run}
 use Rattle.fl_ranges.specs.Marking.{class_number, Spot, marking_of}
 use Rattle.fl_ranges.specs.Conflict.{excludes}
 use Rattle.fl_ranges.specs.Blocker.{of_owner, IsExcluder, IsRow, IsBlocker, blocker}
-use Rattle.fl_ranges.specs.RunList.{meant, has_spot, run_at, held_at, IsWhole, AreRuns, run_excludes}
-use Rattle.fl_ranges.specs.Nearest.{is_nearer, nearer_of, nearest_with, nearest_from, lock_of}
+use Rattle.fl_ranges.specs.Inside.RunList.{meant, has_spot, run_at, held_at, IsWhole, AreRuns, run_excludes}
+use Rattle.fl_ranges.specs.Inside.Nearest.{is_nearer, nearer_of, nearest_with, nearest_from, lock_of}
 use Rattle.fl_ranges.proofs.ConflictWords.{same_class}
 use Rattle.fl_ranges.proofs.RunLists.{IsAt, at_spot, spot_of, each_at, each_both, each_weaker, each_found, each_ordered, run_has, same_run}
 use Rattle.fl_ranges.proofs.Counting.{Held as HeldBy, get-runs, held_by, held_of}

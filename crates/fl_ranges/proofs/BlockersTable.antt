@@ -7,10 +7,10 @@ use Rattle.fl_ranges.specs.declared.lock.Kind.{Kind}
 use Rattle.fl_ranges.specs.declared.run.Run.{Run}
 use Rattle.fl_ranges.specs.Marking.{Marking, marking_of}
 use Rattle.fl_ranges.specs.Blocker.{blocker}
-use Rattle.fl_ranges.specs.RunList.{meant, run_excludes}
+use Rattle.fl_ranges.specs.Inside.RunList.{meant, run_excludes}
 use Rattle.fl_ranges.specs.Placing.{home}
-use Rattle.fl_ranges.specs.RunChains.{all_runs, IsTable}
-use Rattle.fl_ranges.specs.Nearest.{nearest_from, lock_of}
+use Rattle.fl_ranges.specs.Inside.RunChains.{all_runs, IsTable}
+use Rattle.fl_ranges.specs.Inside.Nearest.{nearest_from, lock_of}
 use Rattle.fl_ranges.proofs.RunLists.{each_weaker}
 use Rattle.fl_ranges.proofs.ChainLists.{IsAway, before_chain, after_chain, all_around, away_before, away_after}
 use Rattle.fl_ranges.proofs.BlockersRuns.{nearest_past, nearest_append, excluding_node, blocker_of_runs}

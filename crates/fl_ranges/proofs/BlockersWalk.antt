@@ -7,9 +7,9 @@ use Rattle.fl_ranges.specs.declared.lock.Kind.{Kind}
 use Rattle.fl_ranges.specs.declared.run.Run.{Run}
 use Rattle.fl_ranges.specs.Marking.{class_number}
 use Rattle.fl_ranges.specs.Conflict.{excludes}
-use Rattle.fl_ranges.specs.RunList.{run_excludes}
-use Rattle.fl_ranges.specs.RunChains.{is_past, IsSorted}
-use Rattle.fl_ranges.specs.Nearest.{nearer_of, nearest_with, nearest_from, last_start}
+use Rattle.fl_ranges.specs.Inside.RunList.{run_excludes}
+use Rattle.fl_ranges.specs.Inside.RunChains.{is_past, IsSorted}
+use Rattle.fl_ranges.specs.Inside.Nearest.{nearer_of, nearest_with, nearest_from, last_start}
 use Rattle.fl_ranges.proofs.Walks.{drop_here, drop_end}
 use Rattle.fl_ranges.proofs.Sorted.{past_clash, past_rest}
 use Rattle.fl_ranges.proofs.BlockersRuns.{excluding_parts, excluding_all}

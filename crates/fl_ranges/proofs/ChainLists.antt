@@ -10,9 +10,9 @@ use Rattle.fl_arena.specs.Chains.{Entry, Chains, entries, items, item_count, fre
 use Rattle.fl_ranges.specs.declared.lock.Key.{Key}
 use Rattle.fl_ranges.specs.declared.run.Run.{Run}
 use Rattle.fl_ranges.specs.Marking.{Spot}
-use Rattle.fl_ranges.specs.RunList.{has_spot, overlaps, left_over}
+use Rattle.fl_ranges.specs.Inside.RunList.{has_spot, overlaps, left_over}
 use Rattle.fl_ranges.specs.Placing.{home}
-use Rattle.fl_ranges.specs.RunChains.{all_runs}
+use Rattle.fl_ranges.specs.Inside.RunChains.{all_runs}
 use Rattle.fl_ranges.proofs.RunLists.{at_spot, over, each_weaker}
 
 abbrev items_of : List (Entry Run) → List Run

@@ -10,9 +10,9 @@ use Rattle.fl_ranges.specs.declared.lock.Mark.{Mark}
 use Rattle.fl_ranges.specs.declared.run.Run.{Run}
 use Rattle.fl_ranges.specs.Marking.{class_number, Spot, marking_of}
 use Rattle.fl_ranges.specs.Conflict.{are_rivals, excludes, excludes_lock, conflicts}
-use Rattle.fl_ranges.specs.RunList.{meant, has_spot, run_at, AreApart, run_excludes}
+use Rattle.fl_ranges.specs.Inside.RunList.{meant, has_spot, run_at, AreApart, run_excludes}
 use Rattle.fl_ranges.specs.Placing.{home}
-use Rattle.fl_ranges.specs.RunChains.{all_runs, IsTable}
+use Rattle.fl_ranges.specs.Inside.RunChains.{all_runs, IsTable}
 use Rattle.fl_ranges.proofs.Markings.{spots_total, exact_spots}
 use Rattle.fl_ranges.proofs.Entries.{any_entry, entry_passes}
 use Rattle.fl_ranges.proofs.RunLists.{at_spot, spot_of, each_both, each_weaker, run_has, each_found, each_ordered}

@@ -12,7 +12,7 @@ use Rattle.fl_ranges.specs.declared.lock.Mark.{Mark}
 use Rattle.fl_ranges.specs.declared.run.Run.{Run}
 use Rattle.fl_ranges.specs.Marking.{Spot, spot_cmp, marking_of}
 use Rattle.fl_ranges.specs.Runs.{runs, IsStart}
-use Rattle.fl_ranges.specs.RunList.{meant, has_spot, run_at, held_at, AreApart, IsWhole, AreRuns}
+use Rattle.fl_ranges.specs.Inside.RunList.{meant, has_spot, run_at, held_at, AreApart, IsWhole, AreRuns}
 use Rattle.fl_ranges.proofs.Markings.{get-marking_of}
 use Rattle.fl_ranges.proofs.Spots.{same_spot, spot_itself}
 use Rattle.fl_ranges.proofs.Starts.{starts_counted, spots_decided}

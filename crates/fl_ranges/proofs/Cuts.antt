@@ -8,7 +8,7 @@ use Rattle.fl_ranges.specs.declared.lock.Key.{Key}
 use Rattle.fl_ranges.specs.declared.lock.Mark.{Mark}
 use Rattle.fl_ranges.specs.declared.run.Run.{Run}
 use Rattle.fl_ranges.specs.Marking.{key_cmp, Spot}
-use Rattle.fl_ranges.specs.RunList.{has_spot, run_at, held_at, AreApart, IsWhole, AreRuns, overlaps, part_before, part_after, with_run, left_over, cut}
+use Rattle.fl_ranges.specs.Inside.RunList.{has_spot, run_at, held_at, AreApart, IsWhole, AreRuns, overlaps, part_before, part_after, with_run, left_over, cut}
 use Rattle.fl_ranges.proofs.Spots.{same_key, key_itself, within, is_within}
 use Rattle.fl_ranges.proofs.RunLists.{at_spot, spot_of, over, overlapping, each_at, each_filter, each_weaker, each_both, run_has, same_run, each_found, each_ordered, keep, run_at-filter, apart-filter}
 use Rattle.fl_ranges.proofs.Counting.{held_of}

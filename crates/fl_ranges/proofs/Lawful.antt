@@ -85,6 +85,7 @@ lawful_without m node lawful a b byte x y at_a at_b = lawful a b byte x y (held 
     kept : (gone : Bool) (o : Option Mark) (x : Mark) → cond gone None o ≡ Some x → o ≡ Some x
     kept true o x e = absurd (cc e)
     kept false o x e = e
+
     held : (k : Key) (x : Mark) → get (without_node node m) (k, byte) ≡ Some x → get m (k, byte) ≡ Some x
     held k x e = kept (k.node == node) (get m (k, byte)) x (sym (get-without_node m node (k, byte)) ∙ e)
 

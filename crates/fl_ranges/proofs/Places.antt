@@ -12,8 +12,8 @@ use Rattle.fl_ranges.specs.declared.run.Run.{Run}
 use Rattle.fl_ranges.specs.Runs.{runs}
 use Rattle.fl_ranges.specs.LockTable.{LockTable}
 use Rattle.fl_ranges.specs.Placing.{home, on_chain}
-use Rattle.fl_ranges.specs.RunList.{meant}
-use Rattle.fl_ranges.specs.RunChains.{all_runs, IsTable}
+use Rattle.fl_ranges.specs.Inside.RunList.{meant}
+use Rattle.fl_ranges.specs.Inside.RunChains.{all_runs, IsTable}
 use Rattle.fl_ranges.specs.Marking.{marking_of}
 use Rattle.fl_ranges.proofs.RunLists.{each_weaker}
 use Rattle.fl_ranges.proofs.ChainLists.{IsAway, before_chain, after_chain, all_around, away_before, away_after, count_all}

@@ -5,9 +5,9 @@ use Rattle.std.specs.Option.{option_map}
 use Rattle.std.specs.FinMap.{same_map}
 use Rattle.fl_ranges.specs.declared.run.Run.{Run}
 use Rattle.fl_ranges.specs.Marking.{Spot, marking_of}
-use Rattle.fl_ranges.specs.RunList.{meant, has_spot, run_at, held_at, AreApart, IsWhole, AreRuns, with_run}
-use Rattle.fl_ranges.specs.RunChains.{goes_before, insert_run}
-use Rattle.fl_ranges.specs.RunPlan.{insert_some}
+use Rattle.fl_ranges.specs.Inside.RunList.{meant, has_spot, run_at, held_at, AreApart, IsWhole, AreRuns, with_run}
+use Rattle.fl_ranges.specs.Inside.RunChains.{goes_before, insert_run}
+use Rattle.fl_ranges.specs.Inside.RunPlan.{insert_some}
 use Rattle.fl_ranges.proofs.Markings.{spots_total, exact_spots}
 use Rattle.fl_ranges.proofs.RunLists.{apart-moved, run_at-moved, each-moved, each_weaker}
 use Rattle.fl_ranges.proofs.Counting.{get-runs}

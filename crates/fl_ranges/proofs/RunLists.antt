@@ -7,7 +7,7 @@ use Rattle.std.specs.Ordering.{eq_by_cmp}
 use Rattle.fl_ranges.specs.declared.lock.Key.{Key}
 use Rattle.fl_ranges.specs.declared.run.Run.{Run}
 use Rattle.fl_ranges.specs.Marking.{key_cmp, Spot, mark_at}
-use Rattle.fl_ranges.specs.RunList.{meant, has_spot, run_at, held_at, AreApart, overlaps}
+use Rattle.fl_ranges.specs.Inside.RunList.{meant, has_spot, run_at, held_at, AreApart, overlaps}
 use Rattle.fl_ranges.proofs.Spots.{same_key, key_itself, within, is_within}
 
 -- ---- tests, as facts

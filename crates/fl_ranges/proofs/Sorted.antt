@@ -1,7 +1,9 @@
 -- Chains in order: what an early stop of a walk leaves out, and that changes keep the order.
-use Rattle.std.proofs.Common.{◌≡◌, ℕ, zero, suc, ◌+◌, ◌<◌, ◌≤◌, Bool, true, false, cond, not, ◌&&◌, ◌||◌, ◌==◌, nat_le, Option, Some, None, List, [], ◌∷◌, ◌++◌, length, take, drop, slice_get, refl, ap, sym, ◌∙◌, subst, arith}
+use Rattle.std.proofs.Common.{◌≡◌, ℕ, zero, suc, ◌+◌, ◌<◌, ◌≤◌, Bool, true, false, cond, not, ◌&&◌, ◌||◌, ◌==◌, nat_le, Option, Some, None, is_some, MatchOption, Bor, List, [], ◌∷◌, ◌++◌, length, take, drop, slice_get, refl, ap, sym, ◌∙◌, subst, arith}
 use Rattle.std.proofs.lemmas.Bool.Decides.{nat_tests}
 use Rattle.std.proofs.lemmas.Cmp.{on_total, then_total}
+use Rattle.std.specs.Bool.{then_some}
+use Rattle.std.specs.Option.{option_copied}
 use Rattle.std.specs.List.{find, filter, list_any, remove, AllByRecursion}
 use Rattle.std.specs.declared.cmp.Ordering.{Ordering}
 use Rattle.std.specs.declared.cmp.Ordering.TheVariants.{Less, Equal, Greater}
@@ -12,10 +14,10 @@ use Rattle.fl_ranges.specs.declared.lock.Kind.{Kind}
 use Rattle.fl_ranges.specs.declared.run.Run.{Run}
 use Rattle.fl_ranges.specs.Marking.{class_number}
 use Rattle.fl_ranges.specs.Conflict.{excludes}
-use Rattle.fl_ranges.specs.RunList.{has_spot, overlaps, run_excludes}
-use Rattle.fl_ranges.specs.RunChains.{place_cmp, run_cmp, goes_before, insert_run, is_past, IsSorted}
-use Rattle.fl_ranges.specs.RunPlan.{insert_some}
-use Rattle.fl_ranges.proofs.RunLists.{at_spot, over, each_filter, each_weaker}
+use Rattle.fl_ranges.specs.Inside.RunList.{has_spot, overlaps, run_excludes}
+use Rattle.fl_ranges.specs.Inside.RunChains.{place_cmp, run_cmp, goes_before, insert_run, is_past, IsSorted}
+use Rattle.fl_ranges.specs.Inside.RunPlan.{insert_some}
+use Rattle.fl_ranges.proofs.RunLists.{at_spot, over, keep, each_filter, each_weaker}
 use Rattle.fl_ranges.proofs.Rearranged.{each-insert_some}
 use Rattle.fl_ranges.proofs.Walks.{drop_here}
 
@@ -103,10 +105,6 @@ find_none : (t : Run → Bool) (rs : List Run) → AllByRecursion (λ r. t r ≡
 find_none t [] each = refl
 find_none t (r ∷ rs) each = ap (λ b. cond b (Some r) (find t rs)) each.0 ∙ find_none t rs each.1
 
-any_none : (t : Run → Bool) (rs : List Run) → AllByRecursion (λ r. t r ≡ false) rs → list_any t rs ≡ false
-any_none t [] each = refl
-any_none t (r ∷ rs) each = ap (λ b. b || list_any t rs) each.0 ∙ any_none t rs each.1
-
 count_none : (t : Run → Bool) (rs : List Run) → AllByRecursion (λ r. t r ≡ false) rs → length (filter t rs) ≡ 0
 count_none t [] each = refl
 count_none t (r ∷ rs) each = ap (λ b. length (cond b (r ∷ filter t rs) (filter t rs))) each.0 ∙ count_none t rs each.1
@@ -125,17 +123,53 @@ module _ (t : Run → Bool) (key : Key) (byte : ℕ) (fails : (x : Run) → is_p
   no_more : AllByRecursion (λ x. t x ≡ false) (drop i xs)
   no_more = each_weaker (λ x. is_past key byte x ≡ true) (λ x. t x ≡ false) fails (drop i xs) (past_rest key byte xs i r sorted found past)
 
-  pub find_stop : find t xs ≡ find t (drop i xs) → None ≡ find t xs
-  find_stop so_far = sym (so_far ∙ find_none t (drop i xs) no_more)
-
-  pub any_stop : list_any t xs ≡ list_any t (drop i xs) → false ≡ list_any t xs
-  any_stop so_far = sym (so_far ∙ any_none t (drop i xs) no_more)
-
   pub count_stop : (n : ℕ) → n + length (filter t (drop i xs)) ≡ length (filter t xs) → n ≡ length (filter t xs)
   count_stop n so_far = let none = count_none t (drop i xs) no_more in omega (arith, so_far, none)
 
   pub kept_stop : take i xs ++ filter (λ r. not (t r)) (drop i xs) ≡ xs
   kept_stop = ap (λ (l : List Run). take i xs ++ l) (kept_rest t (drop i xs) no_more) ∙ all_of i xs
+
+-- the first run of those past the last byte and those that pass the test
+module _ (t : Run → Bool) (key : Key) (byte : ℕ) (fails : (x : Run) → is_past key byte x ≡ true → t x ≡ false) where
+  pub find_first : (xs : List Run) → IsSorted xs → keep t (find (λ r. is_past key byte r || t r) xs) ≡ find t xs
+  find_first [] sorted = refl
+  find_first (x ∷ xs) sorted = go (is_past key byte x) refl (t x) refl (find_first xs sorted.1)
+    where
+      go : (b : Bool) → is_past key byte x ≡ b → (c : Bool) → t x ≡ c → keep t (find (λ r. is_past key byte r || t r) xs) ≡ find t xs → keep t (cond (is_past key byte x || t x) (Some x) (find (λ r. is_past key byte r || t r) xs)) ≡ find t (x ∷ xs)
+      go true past c is rest =
+          ap (λ b. keep t (cond (b || t x) (Some x) (find (λ r. is_past key byte r || t r) xs))) past
+          ∙ ap (λ b. cond b (Some x) None) (fails x past)
+          ∙ sym (find_none t (x ∷ xs) (no_more t key byte fails (x ∷ xs) 0 x sorted refl past))
+      go false past true is rest = (λ i. keep t (cond (past i || is i) (Some x) (find (λ r. is_past key byte r || t r) xs))) ∙ ap (λ b. cond b (Some x) None) is ∙ ap (λ b. cond b (Some x) (find t xs)) (sym is)
+      go false past false is rest = (λ i. keep t (cond (past i || is i) (Some x) (find (λ r. is_past key byte r || t r) xs))) ∙ rest ∙ ap (λ b. cond b (Some x) (find t xs)) (sym is)
+
+any_find : (t : Run → Bool) (xs : List Run) → is_some (find t xs) ≡ list_any t xs
+any_find t [] = refl
+any_find t (x ∷ xs) = go (t x) (any_find t xs)
+  where
+    go : (b : Bool) → is_some (find t xs) ≡ list_any t xs → is_some (cond b (Some x) (find t xs)) ≡ (b || list_any t xs)
+    go true rest = refl
+    go false rest = rest
+
+-- the same, from what calls answer of the run that was found
+pub filtered : (t : Run → Bool) (P : Run → Bool → Type 0) (o r : Option Run) → MatchOption o (r ≡ None) (λ x. (b : Bool) × P x b × (r ≡ then_some b x)) → ((x : Run) (b : Bool) → P x b → b ≡ t x) → r ≡ keep t o
+filtered t P None r is answers = is
+filtered t P (Some x) r is answers = is.2 ∙ kept is.0 ∙ ap (λ b. cond b (Some x) None) (answers x is.0 is.1)
+  where
+    kept : (b : Bool) → then_some b x ≡ cond b (Some x) None
+    kept true = refl
+    kept false = refl
+
+pub answered : (t : Run → Bool) (P : Bor Run → Type 0) (o : Option (Bor Run)) (r : Bool) → MatchOption o (r ≡ false) P → ((x : Bor Run) → P x → r ≡ t x.now) → (xs : List Run) → keep t (option_copied o) ≡ find t xs → r ≡ list_any t xs
+answered t P o r is answers xs found = some o is ∙ ap is_some found ∙ any_find t xs
+  where
+    held : (b : Bool) (x : Run) → b ≡ is_some (cond b (Some x) None)
+    held true x = refl
+    held false x = refl
+
+    some : (o : Option (Bor Run)) → MatchOption o (r ≡ false) P → r ≡ is_some (keep t (option_copied o))
+    some None is = is
+    some (Some x) is = answers x is ∙ held (t x.now) x.now
 
 -- ---- changes keep the order
 

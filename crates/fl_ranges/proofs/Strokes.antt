@@ -9,7 +9,7 @@ use Rattle.fl_ranges.specs.declared.lock.Mark.{Mark}
 use Rattle.fl_ranges.specs.declared.run.Run.{Run}
 use Rattle.fl_ranges.specs.Marking.{key_cmp, Spot, Stroke, covers, stroked, marking_of}
 use Rattle.fl_ranges.specs.Runs.{is_same_mark, runs}
-use Rattle.fl_ranges.specs.RunList.{meant, has_spot, run_at, held_at, IsWhole, AreRuns, with_run, cut, new_run, joined_start, joined_end, changed, after_stroke}
+use Rattle.fl_ranges.specs.Inside.RunList.{meant, has_spot, run_at, held_at, IsWhole, AreRuns, with_run, cut, new_run, joined_start, joined_end, changed, after_stroke}
 use Rattle.fl_ranges.proofs.Markings.{spots_total, exact_spots, get-stroked}
 use Rattle.fl_ranges.proofs.Starts.{same_mark, mark_itself}
 use Rattle.fl_ranges.proofs.Spots.{same_key, within, is_within}

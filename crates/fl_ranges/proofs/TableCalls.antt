@@ -13,10 +13,10 @@ use Rattle.fl_ranges.specs.declared.plan.Plan.{Plan}
 use Rattle.fl_ranges.specs.Marking.{Spot, Marking, stroked, marking_of}
 use Rattle.fl_ranges.specs.Runs.{runs, without_node}
 use Rattle.fl_ranges.specs.LockTable.{LockTable}
-use Rattle.fl_ranges.specs.RunList.{meant, has_spot, run_at, held_at, overlaps, IsWhole, AreRuns, left_over, part_before, part_after}
+use Rattle.fl_ranges.specs.Inside.RunList.{meant, has_spot, run_at, held_at, overlaps, IsWhole, AreRuns, left_over, part_before, part_after}
 use Rattle.fl_ranges.specs.Placing.{home}
-use Rattle.fl_ranges.specs.RunChains.{all_runs, IsSorted, IsTable}
-use Rattle.fl_ranges.specs.RunPlan.{plan_of, pieces, insert_some}
+use Rattle.fl_ranges.specs.Inside.RunChains.{all_runs, IsSorted, IsTable}
+use Rattle.fl_ranges.specs.Inside.RunPlan.{plan_of, pieces, insert_some}
 use Rattle.fl_ranges.proofs.Markings.{spots_total, exact_spots, get-kept_nodes}
 use Rattle.fl_ranges.proofs.RunLists.{at_spot, run_has, each_at, each_filter, each_weaker, keep, run_at-filter, apart-filter}
 use Rattle.fl_ranges.proofs.Counting.{get-runs, runs_length}

@@ -8,10 +8,10 @@ use Rattle.fl_ranges.specs.declared.lock.Mark.{Mark}
 use Rattle.fl_ranges.specs.declared.run.Run.{Run}
 use Rattle.fl_ranges.specs.Marking.{stroked, marking_of}
 use Rattle.fl_ranges.specs.Runs.{runs}
-use Rattle.fl_ranges.specs.RunList.{meant, has_spot, run_at, overlaps, left_over, with_run, part_before, part_after, new_run, reach_start, reach_end, joined_start, joined_end, changed, after_stroke}
+use Rattle.fl_ranges.specs.Inside.RunList.{meant, has_spot, run_at, overlaps, left_over, with_run, part_before, part_after, new_run, reach_start, reach_end, joined_start, joined_end, changed, after_stroke}
 use Rattle.fl_ranges.specs.Placing.{home}
-use Rattle.fl_ranges.specs.RunChains.{all_runs, IsSorted, IsTable}
-use Rattle.fl_ranges.specs.RunPlan.{plan_on, plan_of, pieces, count_run, insert_some, carried_out}
+use Rattle.fl_ranges.specs.Inside.RunChains.{all_runs, IsSorted, IsTable}
+use Rattle.fl_ranges.specs.Inside.RunPlan.{plan_on, plan_of, pieces, count_run, insert_some, carried_out}
 use Rattle.fl_ranges.proofs.RunLists.{each_filter, each_weaker}
 use Rattle.fl_ranges.proofs.Cuts.{before_key, after_key}
 use Rattle.fl_ranges.proofs.Strokes.{new_is, runs_stroked, marking_stroked, count_stroked}

@@ -1,13 +1,13 @@
 -- Walks along the items of a chain.
 use Rattle.std.proofs.Common.{◌≡◌, ◌≢◌, ℕ, zero, suc, ◌+◌, ◌<◌, ◌≤◌, ◌-◌, Bool, true, false, cond, not, ◌||◌, ◌==◌, List, [], ◌∷◌, ◌++◌, length, take, drop, Some, None, slice_get, refl, sym, ◌∙◌, ap, add-one, arith}
-use Rattle.std.specs.List.{find, filter, list_any, insert, remove}
+use Rattle.std.specs.List.{filter, insert, remove, position_or_len}
 use Rattle.std.proofs.lemmas.Bool.Decides.{nat_tests}
 use Rattle.std.proofs.lemmas.Option.{none-some, slice_get_within}
 use Rattle.fl_arena.specs.Chains.{Chains, items, entries}
 use Rattle.fl_arena.specs.Cursors.{cursor_at}
 use Rattle.fl_arena.specs.declared.cursors.Cursor.{Cursor}
 use Rattle.fl_ranges.specs.declared.run.Run.{Run}
-use Rattle.fl_ranges.specs.RunChains.{goes_before, insert_run}
+use Rattle.fl_ranges.specs.Inside.RunChains.{goes_before, insert_run}
 
 module _ {A : Type 0} where
   from_here : (xs : List A) (i : ℕ) (x : A) → slice_get xs i ≡ Some x → drop i xs ≡ x ∷ drop (suc i) xs
@@ -55,34 +55,17 @@ module _ {A : Type 0} where
     kept_all (x ∷ xs) zero none = absurd (none-some x (sym none))
     kept_all (x ∷ xs) (suc i) none = ap (λ (l : List A). x ∷ l) (kept_all xs i none)
 
-module _ (x : Run) where
-  place_more : (xs : List Run) (i : ℕ) (y : Run) → slice_get xs i ≡ Some y → goes_before x y ≡ false → take i xs ++ insert_run x (drop i xs) ≡ take (suc i) xs ++ insert_run x (drop (suc i) xs)
-  place_more [] i y found later = absurd (none-some y found)
-  place_more (z ∷ xs) zero y found later =
-      let same : z ≡ y = cc in
-      let own : goes_before x z ≡ false = ap (goes_before x) same ∙ later in
-      ap (λ b. cond b (x ∷ z ∷ xs) (z ∷ insert_run x xs)) own
-  place_more (z ∷ xs) (suc i) y found later = ap (λ (l : List Run). z ∷ l) (place_more xs i y found later)
+one_more : (n : ℕ) → suc n ≡ 1 + n
+one_more n = omega arith
 
-  -- past a run that the new one doesn't stand before
-  pub place_on : (xs : List Run) (i : ℕ) (y : Run) → slice_get xs i ≡ Some y → goes_before x y ≡ false → take i xs ++ insert_run x (drop i xs) ≡ take (i + 1) xs ++ insert_run x (drop (i + 1) xs)
-  place_on xs i y found later = rw add-one (place_more xs i y found later)
-
-  -- at a run that it stands before
-  pub place_here : (xs : List Run) (i : ℕ) (y : Run) → slice_get xs i ≡ Some y → goes_before x y ≡ true → take i xs ++ insert_run x (drop i xs) ≡ insert xs i x
-  place_here [] i y found first = absurd (none-some y found)
-  place_here (z ∷ xs) zero y found first =
-      let same : z ≡ y = cc in
-      let own : goes_before x z ≡ true = ap (goes_before x) same ∙ first in
-      ap (λ b. cond b (x ∷ z ∷ xs) (z ∷ insert_run x xs)) own
-  place_here (z ∷ xs) (suc i) y found first = ap (λ (l : List Run). z ∷ l) (place_here xs i y found first)
-
-  -- at the end
-  pub place_end : (xs : List Run) (i : ℕ) → slice_get xs i ≡ None → take i xs ++ insert_run x (drop i xs) ≡ insert xs i x
-  place_end [] zero none = refl
-  place_end [] (suc i) none = refl
-  place_end (z ∷ xs) zero none = absurd (none-some z (sym none))
-  place_end (z ∷ xs) (suc i) none = ap (λ (l : List Run). z ∷ l) (place_end xs i none)
+-- a run's place is before the first that it stands before
+pub insert_first : (x : Run) (xs : List Run) → insert_run x xs ≡ insert xs (position_or_len (goes_before x) xs) x
+insert_first x [] = refl
+insert_first x (y ∷ ys) = go (goes_before x y) (insert_first x ys)
+  where
+    go : (b : Bool) → insert_run x ys ≡ insert ys (position_or_len (goes_before x) ys) x → cond b (x ∷ y ∷ ys) (y ∷ insert_run x ys) ≡ insert (y ∷ ys) (cond (not b) (1 + position_or_len (goes_before x) ys) 0) x
+    go true rest = refl
+    go false rest = ap (λ (l : List Run). y ∷ l) rest ∙ ap (λ (i : ℕ). insert (y ∷ ys) i x) (one_more (position_or_len (goes_before x) ys))
 
 -- ---- a node's runs
 
@@ -151,24 +134,6 @@ out_at a b c cursor next x at found removed others moved =
 -- ---- what is known so far
 
 module _ {A : Type 0} (t : A → Bool) (xs : List A) (i : ℕ) where
-  pub find_found : (x : A) → find t xs ≡ find t (drop i xs) → slice_get xs i ≡ Some x → t x ≡ true → Some x ≡ find t xs
-  find_found x so_far found is = sym (so_far ∙ ap (find t) (drop_here xs i x found) ∙ ap (λ b. cond b (Some x) (find t (drop (i + 1) xs))) is)
-
-  pub find_on : (j : ℕ) (x : A) → find t xs ≡ find t (drop i xs) → slice_get xs i ≡ Some x → t x ≡ false → j ≡ i + 1 → find t xs ≡ find t (drop j xs)
-  find_on j x so_far found is next = so_far ∙ ap (find t) (drop_here xs i x found) ∙ ap (λ b. cond b (Some x) (find t (drop (i + 1) xs))) is ∙ ap (λ (k : ℕ). find t (drop k xs)) (sym next)
-
-  pub find_end : find t xs ≡ find t (drop i xs) → slice_get xs i ≡ None → None ≡ find t xs
-  find_end so_far none = sym (so_far ∙ ap (find t) (drop_end xs i none))
-
-  pub any_found : (x : A) → list_any t xs ≡ list_any t (drop i xs) → slice_get xs i ≡ Some x → t x ≡ true → true ≡ list_any t xs
-  any_found x so_far found is = sym (so_far ∙ ap (list_any t) (drop_here xs i x found) ∙ ap (λ b. b || list_any t (drop (i + 1) xs)) is)
-
-  pub any_on : (j : ℕ) (x : A) → list_any t xs ≡ list_any t (drop i xs) → slice_get xs i ≡ Some x → t x ≡ false → j ≡ i + 1 → list_any t xs ≡ list_any t (drop j xs)
-  any_on j x so_far found is next = so_far ∙ ap (list_any t) (drop_here xs i x found) ∙ ap (λ b. b || list_any t (drop (i + 1) xs)) is ∙ ap (λ (k : ℕ). list_any t (drop k xs)) (sym next)
-
-  pub any_end : list_any t xs ≡ list_any t (drop i xs) → slice_get xs i ≡ None → false ≡ list_any t xs
-  any_end so_far none = sym (so_far ∙ ap (list_any t) (drop_end xs i none))
-
   pub count_yes : (j n : ℕ) (x : A) → n + length (filter t (drop i xs)) ≡ length (filter t xs) → slice_get xs i ≡ Some x → t x ≡ true → j ≡ i + 1 → n + 1 + length (filter t (drop j xs)) ≡ length (filter t xs)
   count_yes j n x so_far found is next =
       let here : length (filter t (drop i xs)) ≡ suc (length (filter t (drop (i + 1) xs))) =

@@ -30,7 +30,8 @@ pub record IsRow (m : Marking) (key : Key) (mark : Mark) (byte start end : ℕ) 
   pub first : (b : ℕ) → b + 1 ≡ start → get m (key, b) ≢ Some mark
   pub last : end < 9223372036854775807 → get m (key, end + 1) ≢ Some mark
 
--- The lock that is named: at the least byte of the range at which another owner's mark excludes the lock asked for, that of
+-- The lock that is named: at the least byte of the range at which another owner's mark excludes the lock asked for,
+-- that of
 -- the least such owner, on the longest row of bytes around that byte at which this owner has this mark.
 pub record IsBlocker (m : Marking) (key : Key) (start end : ℕ) (kind : Kind) (held : Held) : Type 0 where
   pub byte : ℕ
@@ -44,7 +45,8 @@ pub record IsBlocker (m : Marking) (key : Key) (start end : ℕ) (kind : Kind) (
 -- the first of so many bytes, from one on, at which a mark excludes the lock, and the least such owner's mark there
 unfoldable pub first_excluder : Marking → Key → Kind → ℕ → ℕ → Option (Spot × Mark)
 first_excluder m key kind byte zero = None
-first_excluder m key kind byte (suc more) = option_or (find (excludes_lock key byte byte kind) (entries m)) (first_excluder m key kind (byte + 1) more)
+first_excluder m key kind byte (suc more) =
+    option_or (find (excludes_lock key byte byte kind) (entries m)) (first_excluder m key kind (byte + 1) more)
 
 -- the first byte of the row that ends at a byte
 unfoldable pub row_start : Marking → Key → Mark → ℕ → ℕ
@@ -54,7 +56,8 @@ row_start m key mark (suc byte) = if is_mark mark (get m (key, byte)) then row_s
 -- the last byte of the row that begins at a byte, of at most so many bytes more
 unfoldable pub row_end : Marking → Key → Mark → ℕ → ℕ → ℕ
 row_end m key mark byte zero = byte
-row_end m key mark byte (suc more) = if is_mark mark (get m (key, byte + 1)) then row_end m key mark (byte + 1) more else byte
+row_end m key mark byte (suc more) =
+    if is_mark mark (get m (key, byte + 1)) then row_end m key mark (byte + 1) more else byte
 
 -- the lock on the longest row around a marked spot
 abbrev pub lock_around : Marking → (Spot × Mark) → Held

@@ -13,4 +13,8 @@ marking_code = code (coded× (key.the_row).coded coded_ℕ) (mark.the_row).coded
 
 -- a table of locks, as its two parts
 abbrev pub lock_table_code : Coded LockTable
-lock_table_code = code_by (ℕ × Marking) (coded× coded_ℕ marking_code) (λ t. (t.limit, t.marking)) (λ p. record { limit = p.0; marking = p.1 }) (λ _. refl)
+lock_table_code =
+    code_by (ℕ × Marking) (coded× coded_ℕ marking_code) (λ t. (t.limit, t.marking)) (λ p. record {
+      limit = p.0;
+      marking = p.1;
+    }) (λ _. refl)

@@ -20,13 +20,15 @@ are_rivals a b = (class_number a.class == class_number b.class) && ((a.node == b
 
 -- a marked spot excludes a lock of this kind, by this key, on the bytes from start to end
 abbrev pub excludes_lock : Key → ℕ → ℕ → Kind → (Spot × Mark) → Bool
-excludes_lock key start end kind e = are_rivals key e.0.0 && ((nat_le start e.0.1 && nat_le e.0.1 end) && excludes kind e.1.kind)
+excludes_lock key start end kind e =
+    are_rivals key e.0.0 && ((nat_le start e.0.1 && nat_le e.0.1 end) && excludes kind e.1.kind)
 
 -- some marked spot excludes it
 abbrev pub conflicts : Marking → Key → ℕ → ℕ → Kind → Bool
 conflicts m key start end kind = list_any (excludes_lock key start end kind) (entries m)
 
--- the same in words: another owner has a mark of the class on the node, at a byte of the range, and one of the two kinds is write
+-- the same in words: another owner has a mark of the class on the node, at a byte of the range, and one of the two
+-- kinds is write
 pub record IsConflict (m : Marking) (key : Key) (start end : ℕ) (kind : Kind) : Type 0 where
   pub rival : Key
   pub byte : ℕ
@@ -41,4 +43,6 @@ pub record IsConflict (m : Marking) (key : Key) (start end : ℕ) (kind : Kind) 
 
 -- no byte of a node has marks of one class of two owners, one of them write
 abbrev pub IsLawful : Marking → Type 0
-IsLawful m = (a b : Key) (byte : ℕ) (x y : Mark) → get m (a, byte) ≡ Some x → get m (b, byte) ≡ Some y → are_rivals a b ≡ true → excludes x.kind y.kind ≡ false
+IsLawful m =
+    (a b : Key) (byte : ℕ) (x y : Mark) → get m (a, byte) ≡ Some x → get m (b, byte) ≡ Some y → are_rivals a b ≡ true
+    → excludes x.kind y.kind ≡ false

@@ -1,11 +1,8 @@
 pub mod Marking
 pub mod Blocker
-pub mod Nearest
 pub mod Conflict
 pub mod Codes
 pub mod Runs
-pub mod RunList
-pub mod RunChains
-pub mod RunPlan
 pub mod LockTable
 pub mod Placing
+pub mod Inside

@@ -7,6 +7,7 @@ use Rattle.fl_ranges.specs.declared.lock.Class.{Class}
 use Rattle.fl_ranges.specs.declared.lock.Class.TheVariants.{Record, Flock}
 use Rattle.fl_ranges.specs.declared.lock.Key.{Key}
 use Rattle.fl_ranges.specs.declared.lock.Mark.{Mark}
+use Rattle.fl_ranges.specs.declared.lock.Range.{Range}
 
 -- record locks stand before whole-file locks
 abbrev pub class_number : Class → ℕ
@@ -15,7 +16,8 @@ class_number Flock = 1
 
 -- keys by class, then node, then owner
 abbrev pub key_cmp : Key → Key → Ordering
-key_cmp a b = ordering_then (nat_cmp (class_number a.class) (class_number b.class)) (ordering_then (nat_cmp a.node b.node) (nat_cmp a.owner b.owner))
+key_cmp a b =
+    ordering_then (nat_cmp (class_number a.class) (class_number b.class)) (ordering_then (nat_cmp a.node b.node) (nat_cmp a.owner b.owner))
 
 -- a byte of a key
 abbrev pub Spot : Type 0
@@ -35,6 +37,10 @@ pub record Stroke : Type 0 where
   pub start : ℕ
   pub end : ℕ
   pub mark : Option Mark
+
+-- the change of a key's locks on a range of bytes
+abbrev pub stroke_on : Key → Range → Option Mark → Stroke
+stroke_on key range mark = record { key = key; start = range.start; end = range.end; mark = mark }
 
 -- one spot gets the mark, or loses its own
 abbrev pub mark_spot : Spot → Option Mark → Marking → Marking

@@ -1,8 +1,8 @@
 //! The lock that F_GETLK names, found among the runs.
 ghost use Rattle.std.specs.Prelude.{◌≡◌, ◌<◌, length, None, option_map};
 ghost use Rattle.fl_arena.specs.Chains.{items};
-ghost use Rattle.fl_ranges.specs.Nearest.{is_nearer, nearest_with, nearest_from, last_start, lock_of};
-ghost use Rattle.fl_ranges.specs.RunChains.{IsSorted};
+ghost use Rattle.fl_ranges.specs.Inside.Nearest.{is_nearer, nearest_with, nearest_from, last_start, lock_of};
+ghost use Rattle.fl_ranges.specs.Inside.RunChains.{IsSorted};
 
 use crate::chain::{home, is_past};
 use crate::held::Held;
@@ -78,11 +78,11 @@ fn nearest(runs: &Arena<Run>, chain: usize, key: &Key, range: &Range, kind: Kind
 {
     let mut best = None;
     let mut cursor = runs.cursor(chain);
-    while let Some(run) = runs.get(&cursor) {
-        if is_past(&run, key, last_start(range, best)) {
+    while let Some(run) = runs.item(&cursor) {
+        if is_past(run, key, last_start(range, best)) {
             break;
         }
-        best = nearest_with(key, range, kind, best, run);
+        best = nearest_with(key, range, kind, best, *run);
         runs.step(&mut cursor);
     }
     best

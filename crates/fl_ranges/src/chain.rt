@@ -2,9 +2,9 @@
 ghost use Rattle.std.specs.Prelude.{◌≡◌, ◌≢◌, ◌%◌, ◌<◌, ◌≤◌, ◌==◌, ℕ, length, not};
 ghost use Rattle.std.specs.List.{filter, list_any};
 ghost use Rattle.fl_arena.specs.Chains.{entries, items, HasSizeOf};
-ghost use Rattle.fl_ranges.specs.RunList.{run_at, overlaps, left_over, run_excludes};
+ghost use Rattle.fl_ranges.specs.Inside.RunList.{run_at, overlaps, left_over, run_excludes};
 ghost use Rattle.fl_ranges.specs.Placing.{home};
-ghost use Rattle.fl_ranges.specs.RunChains.{all_runs, insert_run, goes_before, is_past, IsSorted};
+ghost use Rattle.fl_ranges.specs.Inside.RunChains.{all_runs, insert_run, goes_before, is_past, IsSorted};
 
 use crate::lock::{Key, Kind};
 use crate::run::{Run, excludes, has_spot, overlaps};
@@ -39,17 +39,10 @@ pub(crate) fn run_at(runs: &Arena<Run>, key: &Key, byte: u64) -> Option<Run>
     requires sorted { IsSorted (items runs.now (home key.now.node)) }
     ensures { result ≡ run_at (items runs.now (home key.now.node)) (key.now, byte) }
 {
-    let mut cursor = runs.cursor(home(key.node));
-    while let Some(run) = runs.get(&cursor) {
-        if is_past(&run, key, byte) {
-            break;
-        }
-        if has_spot(&run, key, byte) {
-            return Some(run);
-        }
-        runs.step(&mut cursor);
-    }
-    None
+    let cursor = runs.first_where(home(key.node), |run| {
+        is_past(run, key, byte) || has_spot(run, key, byte)
+    });
+    runs.get(&cursor).filter(|run| has_spot(run, key, byte))
 }
 
 // How many runs have a byte of the key from start to end.
@@ -61,12 +54,12 @@ pub(crate) fn count_over(runs: &Arena<Run>, key: &Key, start: u64, end: u64) -> 
 {
     let mut cursor = runs.cursor(home(key.node));
     let mut count = 0;
-    while let Some(run) = runs.get(&cursor) {
-        if is_past(&run, key, end) {
+    while let Some(run) = runs.item(&cursor) {
+        if is_past(run, key, end) {
             break;
         }
         runs.step(&mut cursor);
-        if overlaps(&run, key, start, end) {
+        if overlaps(run, key, start, end) {
             count += 1;
         }
     }
@@ -79,33 +72,28 @@ pub(crate) fn some_excludes(runs: &Arena<Run>, key: &Key, start: u64, end: u64, 
     requires sorted { IsSorted (items runs.now (home key.now.node)) }
     ensures { result ≡ list_any (run_excludes key.now start end kind) (items runs.now (home key.now.node)) }
 {
-    let mut cursor = runs.cursor(home(key.node));
-    while let Some(run) = runs.get(&cursor) {
-        if is_past(&run, key, end) {
-            break;
-        }
-        if excludes(&run, key, start, end, kind) {
-            return true;
-        }
-        runs.step(&mut cursor);
-    }
-    false
+    let cursor = runs.first_where(home(key.node), |run| {
+        is_past(run, key, end) || excludes(run, key, start, end, kind)
+    });
+    runs.item(&cursor)
+        .is_some_and(|run| excludes(run, key, start, end, kind))
 }
 
 // Takes out each run that has a byte of the key from start to end.
 pub(crate) fn remove_over(runs: &mut Arena<Run>, key: &Key, start: u64, end: u64)
     requires chains { length runs.old.chains ≡ 256 }
     requires sorted { IsSorted (items runs.old (home key.now.node)) }
-    ensures items { items runs.new (home key.now.node) ≡ left_over key.now start end (items runs.old (home key.now.node)) }
+    ensures items { items runs.new (home key.now.node)
+        ≡ left_over key.now start end (items runs.old (home key.now.node)) }
     ensures others { (c : ℕ) → c ≢ home key.now.node → entries runs.new c ≡ entries runs.old c }
     ensures size { HasSizeOf runs.old runs.new }
 {
     let mut cursor = runs.cursor(home(key.node));
-    while let Some(run) = runs.get(&cursor) {
-        if is_past(&run, key, end) {
+    while let Some(run) = runs.item(&cursor) {
+        if is_past(run, key, end) {
             break;
         }
-        if overlaps(&run, key, start, end) {
+        if overlaps(run, key, start, end) {
             runs.remove(&mut cursor);
         } else {
             runs.step(&mut cursor);
@@ -122,7 +110,7 @@ pub(crate) fn remove_node(runs: &mut Arena<Run>, node: u64)
     ensures size { HasSizeOf runs.old runs.new }
 {
     let mut cursor = runs.cursor(home(node));
-    while let Some(run) = runs.get(&cursor) {
+    while let Some(run) = runs.item(&cursor) {
         if run.key.node > node {
             break;
         }
@@ -152,17 +140,12 @@ fn goes_before(a: &Run, b: &Run) -> bool
 pub(crate) fn add(runs: &mut Arena<Run>, run: &Run)
     requires chains { length runs.old.chains ≡ 256 }
     requires room { length (all_runs runs.old) < runs.old.slots }
-    ensures items { items runs.new (home run.now.key.node) ≡ insert_run run.now (items runs.old (home run.now.key.node)) }
+    ensures items { items runs.new (home run.now.key.node)
+        ≡ insert_run run.now (items runs.old (home run.now.key.node)) }
     ensures others { (c : ℕ) → c ≢ home run.now.key.node → entries runs.new c ≡ entries runs.old c }
     ensures size { HasSizeOf runs.old runs.new }
 {
-    let mut cursor = runs.cursor(home(run.key.node));
-    while let Some(here) = runs.get(&cursor) {
-        if goes_before(run, &here) {
-            break;
-        }
-        runs.step(&mut cursor);
-    }
+    let mut cursor = runs.first_where(home(run.key.node), |here| goes_before(run, here));
     let Ok(()) = runs.insert(&mut cursor, *run) else {
         unreachable!()
     };

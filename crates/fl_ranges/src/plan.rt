@@ -2,10 +2,10 @@
 ghost use Rattle.std.specs.Prelude.{◌≡◌, ◌≢◌, ◌+◌, ◌<◌, ◌≤◌, ℕ, length, IsSome, IfSome};
 ghost use Rattle.std.specs.List.{filter};
 ghost use Rattle.fl_arena.specs.Chains.{entries, items, HasSizeOf};
-ghost use Rattle.fl_ranges.specs.RunList.{reach_start, reach_end, overlaps};
+ghost use Rattle.fl_ranges.specs.Inside.RunList.{reach_start, reach_end, overlaps};
 ghost use Rattle.fl_ranges.specs.Placing.{home};
-ghost use Rattle.fl_ranges.specs.RunChains.{all_runs, IsSorted};
-ghost use Rattle.fl_ranges.specs.RunPlan.{plan_of, count_run, pieces, insert_some, carried_out};
+ghost use Rattle.fl_ranges.specs.Inside.RunChains.{all_runs, IsSorted};
+ghost use Rattle.fl_ranges.specs.Inside.RunPlan.{plan_of, count_run, pieces, insert_some, carried_out};
 
 use crate::chain::{add, count_over, remove_over, run_at};
 use crate::lock::{Key, Mark};
@@ -109,9 +109,11 @@ pub(crate) fn carry_out(runs: &mut Arena<Run>, key: &Key, plan: &Plan)
     requires before { IfSome plan.now.before (λ r. r.key.node ≡ key.now.node) }
     requires new { IfSome plan.now.new (λ r. r.key.node ≡ key.now.node) }
     requires after { IfSome plan.now.after (λ r. r.key.node ≡ key.now.node) }
-    requires taken { plan.now.taken ≡ length (filter (overlaps key.now plan.now.start plan.now.end) (items runs.old (home key.now.node))) }
+    requires taken { plan.now.taken
+        ≡ length (filter (overlaps key.now plan.now.start plan.now.end) (items runs.old (home key.now.node))) }
     requires room { length (all_runs runs.old) + pieces plan.now ≤ runs.old.slots + plan.now.taken }
-    ensures items { items runs.new (home key.now.node) ≡ carried_out key.now plan.now (items runs.old (home key.now.node)) }
+    ensures items { items runs.new (home key.now.node)
+        ≡ carried_out key.now plan.now (items runs.old (home key.now.node)) }
     ensures others { (c : ℕ) → c ≢ home key.now.node → entries runs.new c ≡ entries runs.old c }
     ensures size { HasSizeOf runs.old runs.new }
 {

@@ -29,8 +29,8 @@ impl Model for Table {
     ghost use Rattle.fl_ranges.specs.Marking.{marking_of};
     ghost use Rattle.fl_ranges.specs.LockTable.{LockTable};
     ghost use Rattle.fl_ranges.specs.Codes.{lock_table_code};
-    ghost use Rattle.fl_ranges.specs.RunList.{meant};
-    ghost use Rattle.fl_ranges.specs.RunChains.{all_runs, IsTable};
+    ghost use Rattle.fl_ranges.specs.Inside.RunList.{meant};
+    ghost use Rattle.fl_ranges.specs.Inside.RunChains.{all_runs, IsTable};
 
     ghost Value = { LockTable };
 
@@ -42,7 +42,7 @@ impl Model for Table {
 }
 
 impl Table {
-    ghost use Rattle.fl_ranges.specs.Marking.{stroked};
+    ghost use Rattle.fl_ranges.specs.Marking.{stroke_on, stroked};
     ghost use Rattle.fl_ranges.specs.Conflict.{conflicts, IsLawful};
     ghost use Rattle.fl_ranges.specs.Runs.{runs, without_node};
     ghost use Rattle.fl_ranges.specs.Placing.{on_chain};
@@ -62,9 +62,9 @@ impl Table {
     /// The bytes of the range get the mark. A refusal changes nothing.
     pub fn put(&mut self, key: &Key, range: &Range, mark: Mark) -> Result<(), NoRoom>
         ensures full { IsErr result ↔
-            (self.old.limit < runs (stroked (record { key = key.now; start = range.now.start; end = range.now.end; mark = Some mark }) self.old.marking)) }
+            (self.old.limit < runs (stroked (stroke_on key.now range.now (Some mark)) self.old.marking)) }
         ensures ok { OnOk result
-            (self.new ≡ record self.old { marking = stroked (record { key = key.now; start = range.now.start; end = range.now.end; mark = Some mark }) self.old.marking }) }
+            (self.new ≡ record self.old { marking = stroked (stroke_on key.now range.now (Some mark)) self.old.marking }) }
         ensures err { OnErr result (self.new ≡ self.old) }
         ensures lawful { conflicts self.old.marking key.now range.now.start range.now.end mark.kind ≡ false →
             IsLawful self.old.marking → IsLawful self.new.marking }
@@ -76,9 +76,9 @@ impl Table {
     /// may be refused. A refusal changes nothing.
     pub fn erase(&mut self, key: &Key, range: &Range) -> Result<(), NoRoom>
         ensures full { IsErr result ↔
-            (self.old.limit < runs (stroked (record { key = key.now; start = range.now.start; end = range.now.end; mark = None }) self.old.marking)) }
+            (self.old.limit < runs (stroked (stroke_on key.now range.now None) self.old.marking)) }
         ensures ok { OnOk result
-            (self.new ≡ record self.old { marking = stroked (record { key = key.now; start = range.now.start; end = range.now.end; mark = None }) self.old.marking }) }
+            (self.new ≡ record self.old { marking = stroked (stroke_on key.now range.now None) self.old.marking }) }
         ensures err { OnErr result (self.new ≡ self.old) }
         ensures lawful { IsLawful self.old.marking → IsLawful self.new.marking }
     {
@@ -88,9 +88,9 @@ impl Table {
     // The bytes of the range get the mark, or lose theirs.
     fn stroke(&mut self, key: &Key, range: &Range, mark: Option<Mark>) -> Result<(), NoRoom>
         ensures full { IsErr result ↔
-            (self.old.limit < runs (stroked (record { key = key.now; start = range.now.start; end = range.now.end; mark = mark }) self.old.marking)) }
+            (self.old.limit < runs (stroked (stroke_on key.now range.now mark) self.old.marking)) }
         ensures ok { OnOk result
-            (self.new ≡ record self.old { marking = stroked (record { key = key.now; start = range.now.start; end = range.now.end; mark = mark }) self.old.marking }) }
+            (self.new ≡ record self.old { marking = stroked (stroke_on key.now range.now mark) self.old.marking }) }
         ensures err { OnErr result (self.new ≡ self.old) }
     {
         let free = self.runs.free();
@@ -104,7 +104,9 @@ impl Table {
 
     /// All bytes of the key lose their marks.
     pub fn erase_owner(&mut self, key: &Key)
-        ensures erased { self.new ≡ record self.old { marking = stroked (record { key = key.now; start = 0; end = LAST_BYTE; mark = None }) self.old.marking } }
+        ensures erased { self.new ≡ record self.old {
+          marking = stroked (record { key = key.now; start = 0; end = LAST_BYTE; mark = None }) self.old.marking;
+        } }
         ensures lawful { IsLawful self.old.marking → IsLawful self.new.marking }
     {
         remove_over(&mut self.runs, key, 0, LAST_BYTE);
@@ -129,7 +131,8 @@ impl Table {
     /// of its node's number modulo 256. This walks along its chain.
     pub fn slot_place(&self, slot: usize) -> Place
         requires { slot < self.now.limit }
-        ensures on { (chain index : ℕ) → result ≡ Place.On chain index → index < runs (on_chain chain self.now.marking) }
+        ensures on { (chain index : ℕ) → result ≡ Place.On chain index
+            → index < runs (on_chain chain self.now.marking) }
         ensures free { result ≡ Place.Free → runs self.now.marking < self.now.limit }
     {
         self.runs.place(slot)

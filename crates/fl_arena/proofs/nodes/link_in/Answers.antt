@@ -1,5 +1,5 @@
 use Rattle.std.proofs.Common.{Some, arith, ◌≡◌, ap, ◌∙◌, length}
-use Rattle.fl_arena.specs.Links.{with_next, with_previous}
+use Rattle.fl_arena.specs.Inside.Links.{with_next, with_previous}
 use Rattle.fl_arena.proofs.LinkLemmas.{length-alter_link}
 use Rattle.fl_arena.proofs.NodeLemmas.{IsWithin-same}
 use Rattle.fl_arena.proofs.nodes.link_in.Goals as goal

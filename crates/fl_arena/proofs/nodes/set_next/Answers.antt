@@ -1,5 +1,5 @@
 use Rattle.std.proofs.Common.{refl}
-use Rattle.fl_arena.specs.Links.{with_next}
+use Rattle.fl_arena.specs.Inside.Links.{with_next}
 use Rattle.fl_arena.specs.declared.nodes.Node.TheVariants.{Free, Taken}
 use Rattle.fl_arena.proofs.NodeLemmas.{alter_link-read, alter_link_kept}
 use Rattle.fl_arena.proofs.nodes.set_next.Goals as goal

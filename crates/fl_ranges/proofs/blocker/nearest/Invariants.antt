@@ -1,7 +1,7 @@
 use Rattle.std.proofs.Common.{◌≡◌, ◌-◌, ◌≤◌, None, length, drop}
 use Rattle.fl_arena.specs.Chains.{items}
 use Rattle.fl_arena.specs.Cursors.{cursor_at}
-use Rattle.fl_ranges.specs.Nearest.{nearest_from}
+use Rattle.fl_ranges.specs.Inside.Nearest.{nearest_from}
 use Rattle.fl_ranges.proofs.blocker.nearest.Given as goal
 
 abbrev pub invariant-loop-run : goal.invariant-loop-run

@@ -1,6 +1,6 @@
 use Rattle.std.proofs.Common.{◌≡◌, ◌+◌, ◌-◌, ◌≤◌, length, drop}
 use Rattle.std.specs.List.{filter}
-use Rattle.fl_ranges.specs.RunList.{overlaps}
+use Rattle.fl_ranges.specs.Inside.RunList.{overlaps}
 use Rattle.fl_arena.specs.Chains.{items}
 use Rattle.fl_arena.specs.Cursors.{cursor_at}
 use Rattle.fl_ranges.specs.Placing.{home}

@@ -1,8 +1,9 @@
 use Rattle.std.proofs.Common.{subst, ◌≡◌, ℕ, ◌++◌, ◌==◌, not, take, drop, Some, None, slice_get, refl, sym, ap, ◌∙◌}
+use Rattle.std.specs.Option.{option_copied}
 use Rattle.fl_arena.specs.Chains.{items}
 use Rattle.fl_ranges.specs.declared.run.Run.{Run}
 use Rattle.fl_ranges.specs.Placing.{home}
-use Rattle.fl_ranges.specs.RunChains.{IsSorted}
+use Rattle.fl_ranges.specs.Inside.RunChains.{IsSorted}
 use Rattle.std.specs.List.{filter}
 use Rattle.fl_ranges.proofs.Sorted.{node_stop, sorted_remove}
 use Rattle.fl_ranges.proofs.Walks.{on_node, off_node, on_at, out_at, kept_on, kept_out, kept_all}
@@ -14,8 +15,8 @@ loop-run-smaller-then-run-node-2 c =
     let xs = items c.loop-run.runs (home c.args.node) in
     let inv = c.loop-run.invariant in
     let got = c.in-Some.ensures in
-    let found : slice_get xs i ≡ Some c.in-Some.run' = sym (got.at_index (home c.args.node) i inv.at) in
-    let out = out_at c.loop-run.runs c.remove.new.self (home c.args.node) c.loop-run.cursor c.remove.new.cursor c.in-Some.run' inv.at found c.remove.ensures.items c.remove.ensures.others c.remove.ensures.cursor in
+    let found : slice_get xs i ≡ Some c.in-Some.run'.now = sym (got.at_index (home c.args.node) i inv.at) in
+    let out = out_at c.loop-run.runs c.remove.new.self (home c.args.node) c.loop-run.cursor c.remove.new.cursor c.in-Some.run'.now inv.at found c.remove.ensures.items c.remove.ensures.others c.remove.ensures.cursor in
     out.smaller
 
 pub loop-run-preserved-then-run-node-2 : goal.loop-run-preserved-then-run-node-2
@@ -24,14 +25,14 @@ loop-run-preserved-then-run-node-2 c =
     let xs = items c.loop-run.runs (home c.args.node) in
     let inv = c.loop-run.invariant in
     let got = c.in-Some.ensures in
-    let found : slice_get xs i ≡ Some c.in-Some.run' = sym (got.at_index (home c.args.node) i inv.at) in
-    let out = out_at c.loop-run.runs c.remove.new.self (home c.args.node) c.loop-run.cursor c.remove.new.cursor c.in-Some.run' inv.at found c.remove.ensures.items c.remove.ensures.others c.remove.ensures.cursor in
+    let found : slice_get xs i ≡ Some c.in-Some.run'.now = sym (got.at_index (home c.args.node) i inv.at) in
+    let out = out_at c.loop-run.runs c.remove.new.self (home c.args.node) c.loop-run.cursor c.remove.new.cursor c.in-Some.run'.now inv.at found c.remove.ensures.items c.remove.ensures.others c.remove.ensures.cursor in
     record {
       at = out.at;
       within = out.within;
       left =
           inv.left
-          ∙ kept_out (λ (r : Run). not (r.key.node == c.args.node)) xs i c.in-Some.run' found (on_node _ _ c.if-run-node-2.true)
+          ∙ kept_out (λ (r : Run). not (r.key.node == c.args.node)) xs i c.in-Some.run'.now found (on_node _ _ c.if-run-node-2.true)
           ∙ (λ j. take (sym out.index j) (sym out.items_are j) ++ filter (λ (r : Run). not (r.key.node == c.args.node)) (drop (sym out.index j) (sym out.items_are j)));
       sorted = subst IsSorted (sym out.items_are) (sorted_remove i xs inv.sorted);
       others = λ d apart. out.others d apart ∙ inv.others d apart;
@@ -44,8 +45,8 @@ loop-run-smaller c =
     let xs = items c.loop-run.runs (home c.args.node) in
     let inv = c.loop-run.invariant in
     let got = c.in-Some.ensures in
-    let found : slice_get xs i ≡ Some c.in-Some.run' = sym (got.at_index (home c.args.node) i inv.at) in
-    let step = on_at c.loop-run.runs (home c.args.node) c.loop-run.cursor c.step.new.cursor c.in-Some.run' found (c.step.ensures.at_index _ _ (got.some.0 refl) inv.at) in
+    let found : slice_get xs i ≡ Some c.in-Some.run'.now = sym (got.at_index (home c.args.node) i inv.at) in
+    let step = on_at c.loop-run.runs (home c.args.node) c.loop-run.cursor c.step.new.cursor c.in-Some.run'.now found (c.step.ensures.at_index _ _ (got.some.0 refl) inv.at) in
     step.smaller
 
 pub loop-run-preserved : goal.loop-run-preserved
@@ -54,12 +55,12 @@ loop-run-preserved c =
     let xs = items c.loop-run.runs (home c.args.node) in
     let inv = c.loop-run.invariant in
     let got = c.in-Some.ensures in
-    let found : slice_get xs i ≡ Some c.in-Some.run' = sym (got.at_index (home c.args.node) i inv.at) in
-    let step = on_at c.loop-run.runs (home c.args.node) c.loop-run.cursor c.step.new.cursor c.in-Some.run' found (c.step.ensures.at_index _ _ (got.some.0 refl) inv.at) in
+    let found : slice_get xs i ≡ Some c.in-Some.run'.now = sym (got.at_index (home c.args.node) i inv.at) in
+    let step = on_at c.loop-run.runs (home c.args.node) c.loop-run.cursor c.step.new.cursor c.in-Some.run'.now found (c.step.ensures.at_index _ _ (got.some.0 refl) inv.at) in
     record {
       at = step.at;
       within = step.within;
-      left = inv.left ∙ kept_on (λ (r : Run). not (r.key.node == c.args.node)) xs i c.in-Some.run' found (off_node _ _ c.if-run-node-2.false) ∙ ap (λ (j : ℕ). take j xs ++ filter (λ (r : Run). not (r.key.node == c.args.node)) (drop j xs)) (sym step.index);
+      left = inv.left ∙ kept_on (λ (r : Run). not (r.key.node == c.args.node)) xs i c.in-Some.run'.now found (off_node _ _ c.if-run-node-2.false) ∙ ap (λ (j : ℕ). take j xs ++ filter (λ (r : Run). not (r.key.node == c.args.node)) (drop j xs)) (sym step.index);
       sorted = inv.sorted;
       others = inv.others;
       size = inv.size;
@@ -71,13 +72,13 @@ returns-then-run-node-clause-items c =
     let xs = items c.loop-run.runs (home c.args.node) in
     let inv = c.loop-run.invariant in
     let got = c.in-Some.ensures in
-    let found : slice_get xs i ≡ Some c.in-Some.run' = sym (got.at_index (home c.args.node) i inv.at) in
-    sym (inv.left ∙ node_stop c.args.node xs i c.in-Some.run' inv.sorted found c.if-run-node.true)
+    let found : slice_get xs i ≡ Some c.in-Some.run'.now = sym (got.at_index (home c.args.node) i inv.at) in
+    sym (inv.left ∙ node_stop c.args.node xs i c.in-Some.run'.now inv.sorted found c.if-run-node.true)
 
 pub returns-in_default-clause-items : goal.returns-in_default-clause-items
 returns-in_default-clause-items c =
     let i = c.loop-run.cursor.index in
     let xs = items c.loop-run.runs (home c.args.node) in
     let inv = c.loop-run.invariant in
-    let none : slice_get xs i ≡ None = sym (c.get.ensures.at_index (home c.args.node) i inv.at) ∙ c.in_default.is in
+    let none : slice_get xs i ≡ None = sym (c.item.ensures.at_index (home c.args.node) i inv.at) ∙ ap option_copied c.in_default.is in
     sym (inv.left ∙ kept_all (λ (r : Run). not (r.key.node == c.args.node)) xs i none)

@@ -3,7 +3,7 @@ use Rattle.std.specs.List.{filter}
 use Rattle.fl_arena.specs.Chains.{entries, items, HasSizeOf}
 use Rattle.fl_arena.specs.Cursors.{cursor_at}
 use Rattle.fl_ranges.specs.Placing.{home}
-use Rattle.fl_ranges.specs.RunChains.{IsSorted}
+use Rattle.fl_ranges.specs.Inside.RunChains.{IsSorted}
 use Rattle.fl_ranges.proofs.chain.remove_node.Given as goal
 
 abbrev pub invariant-loop-run : goal.invariant-loop-run

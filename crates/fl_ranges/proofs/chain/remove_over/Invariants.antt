@@ -1,9 +1,9 @@
 use Rattle.std.proofs.Common.{◌≡◌, ◌≢◌, ℕ, ◌-◌, ◌≤◌, ◌++◌, length, take, drop}
-use Rattle.fl_ranges.specs.RunList.{left_over}
+use Rattle.fl_ranges.specs.Inside.RunList.{left_over}
 use Rattle.fl_arena.specs.Chains.{entries, items, HasSizeOf}
 use Rattle.fl_arena.specs.Cursors.{cursor_at}
 use Rattle.fl_ranges.specs.Placing.{home}
-use Rattle.fl_ranges.specs.RunChains.{IsSorted}
+use Rattle.fl_ranges.specs.Inside.RunChains.{IsSorted}
 use Rattle.fl_ranges.proofs.chain.remove_over.Given as goal
 
 abbrev pub invariant-loop-run : goal.invariant-loop-run

@@ -1,7 +1,7 @@
 use Rattle.std.proofs.Common.{◌≡◌, ◌+◌, length, ap, ◌∙◌, arith}
 use Rattle.fl_arena.specs.Chains.{items}
 use Rattle.fl_ranges.specs.Placing.{home}
-use Rattle.fl_ranges.specs.RunPlan.{count_run}
+use Rattle.fl_ranges.specs.Inside.RunPlan.{count_run}
 use Rattle.fl_ranges.proofs.ChainLists.{home_less, swapped_length}
 use Rattle.fl_ranges.proofs.Rearranged.{length-insert_run}
 use Rattle.fl_ranges.proofs.plan.add_some.Goals as goal

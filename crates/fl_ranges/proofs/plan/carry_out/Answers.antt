@@ -1,5 +1,5 @@
 use Rattle.std.proofs.Common.{◌≡◌, ◌+◌, length, arith}
-use Rattle.fl_ranges.specs.RunChains.{all_runs}
+use Rattle.fl_ranges.specs.Inside.RunChains.{all_runs}
 use Rattle.fl_ranges.proofs.ChainLists.{fewer_runs}
 use Rattle.fl_ranges.proofs.plan.carry_out.Goals as goal
 use Rattle.fl_ranges.proofs.plan.carry_out.Goals.{After-remove_over}

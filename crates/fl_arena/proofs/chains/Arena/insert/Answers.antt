@@ -3,7 +3,7 @@ use Rattle.std.specs.List.{insert}
 use Rattle.std.proofs.lemmas.Option.{slice_get_within}
 use Rattle.fl_arena.specs.Chains.{entries, items, with_entries}
 use Rattle.fl_arena.specs.Cursors.{cursor_at, index_of}
-use Rattle.fl_arena.specs.Links.{Spells, link_before}
+use Rattle.fl_arena.specs.Inside.Links.{Spells, link_before}
 use Rattle.fl_arena.proofs.ChainLaws.{HasSizeOf-with, items-insert, entries-with_other, inserted_at}
 use Rattle.fl_arena.proofs.CursorLemmas.{is_taken, slot_there, linked_within, before_within}
 use Rattle.fl_arena.proofs.InsertLemmas.{unused_slot}

@@ -3,8 +3,8 @@ use Rattle.fl_arena.specs.Chains.{Chains}
 use Rattle.fl_ranges.specs.declared.run.Run.{Run}
 use Rattle.fl_ranges.specs.Marking.{marking_of}
 use Rattle.fl_ranges.specs.Conflict.{IsLawful}
-use Rattle.fl_ranges.specs.RunList.{meant}
-use Rattle.fl_ranges.specs.RunChains.{all_runs}
+use Rattle.fl_ranges.specs.Inside.RunList.{meant}
+use Rattle.fl_ranges.specs.Inside.RunChains.{all_runs}
 use Rattle.fl_ranges.proofs.Lawful.{lawful_empty}
 use Rattle.fl_ranges.proofs.TableCalls.{new_table}
 use Rattle.fl_ranges.proofs.table.Table.new.Goals as goal

@@ -4,9 +4,9 @@ use Rattle.fl_ranges.specs.declared.lock.Key.{Key}
 use Rattle.fl_ranges.specs.declared.run.Run.{Run}
 use Rattle.fl_ranges.specs.declared.plan.Plan.{Plan}
 use Rattle.fl_ranges.specs.Marking.{stroked}
-use Rattle.fl_ranges.specs.RunList.{reach_start, reach_end}
+use Rattle.fl_ranges.specs.Inside.RunList.{reach_start, reach_end}
 use Rattle.fl_ranges.specs.Placing.{home}
-use Rattle.fl_ranges.specs.RunPlan.{carried_out}
+use Rattle.fl_ranges.specs.Inside.RunPlan.{carried_out}
 use Rattle.fl_ranges.proofs.Cuts.{before_key, after_key}
 use Rattle.fl_ranges.proofs.ChainLists.{count_all}
 use Rattle.fl_ranges.proofs.TableLemmas.{table_stroked}

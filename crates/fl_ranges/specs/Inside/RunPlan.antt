@@ -1,12 +1,12 @@
--- What a stroke does to the runs of a chain. No public clause cites this module.
+-- What a stroke does to the runs of a chain.
 use Rattle.std.specs.Prelude.{ℕ, ◌+◌, Option, Some, None, List, length}
 use Rattle.std.specs.List.{filter}
 use Rattle.fl_ranges.specs.declared.lock.Key.{Key}
 use Rattle.fl_ranges.specs.declared.lock.Mark.{Mark}
 use Rattle.fl_ranges.specs.declared.run.Run.{Run}
 use Rattle.fl_ranges.specs.declared.plan.Plan.{Plan}
-use Rattle.fl_ranges.specs.RunList.{run_at, overlaps, left_over, part_before, part_after, new_run, reach_start, reach_end}
-use Rattle.fl_ranges.specs.RunChains.{insert_run}
+use Rattle.fl_ranges.specs.Inside.RunList.{run_at, overlaps, left_over, part_before, part_after, new_run, reach_start, reach_end}
+use Rattle.fl_ranges.specs.Inside.RunChains.{insert_run}
 
 -- what is taken out and put in where the bytes from start to end change
 abbrev pub plan_on : Key → ℕ → ℕ → Option Mark → List Run → Plan

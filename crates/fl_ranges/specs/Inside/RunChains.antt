@@ -1,4 +1,4 @@
--- How the runs stand in the chains of an arena. No public clause cites this module.
+-- How the runs stand in the chains of an arena.
 use Rattle.std.specs.Prelude.{◌≡◌, ℕ, ◌≤◌, Bool, false, List, [], ◌∷◌, map, length, if◌then◌else◌}
 use Rattle.std.specs.List.{flat_map, AllByRecursion}
 use Rattle.std.specs.Ordering.{nat_cmp, ordering_then, is_lt}
@@ -8,7 +8,7 @@ use Rattle.fl_ranges.specs.declared.lock.Key.{Key}
 use Rattle.fl_ranges.specs.declared.run.Run.{Run}
 use Rattle.fl_ranges.specs.Marking.{class_number}
 use Rattle.fl_ranges.specs.Placing.{home}
-use Rattle.fl_ranges.specs.RunList.{AreRuns}
+use Rattle.fl_ranges.specs.Inside.RunList.{AreRuns}
 
 -- all runs, chain after chain
 abbrev pub all_runs : Chains Run → List Run
@@ -16,7 +16,8 @@ all_runs a = flat_map (λ es. map (λ e. e.item) es) a.chains
 
 -- runs by node, then class, then start
 abbrev pub place_cmp : Run → Run → Ordering
-place_cmp a b = ordering_then (ordering_then (nat_cmp a.key.node b.key.node) (nat_cmp (class_number a.key.class) (class_number b.key.class))) (nat_cmp a.start b.start)
+place_cmp a b =
+    ordering_then (ordering_then (nat_cmp a.key.node b.key.node) (nat_cmp (class_number a.key.class) (class_number b.key.class))) (nat_cmp a.start b.start)
 
 -- and then by owner
 abbrev pub run_cmp : Run → Run → Ordering
@@ -33,7 +34,8 @@ insert_run r (x ∷ xs) = if goes_before r x then r ∷ x ∷ xs else x ∷ inse
 
 -- the run stands past a byte of the key
 abbrev pub is_past : Key → ℕ → Run → Bool
-is_past key byte r = is_lt (ordering_then (ordering_then (nat_cmp key.node r.key.node) (nat_cmp (class_number key.class) (class_number r.key.class))) (nat_cmp byte r.start))
+is_past key byte r =
+    is_lt (ordering_then (ordering_then (nat_cmp key.node r.key.node) (nat_cmp (class_number key.class) (class_number r.key.class))) (nat_cmp byte r.start))
 
 -- no run stands before an earlier one
 abbrev pub IsSorted : List Run → Type 0

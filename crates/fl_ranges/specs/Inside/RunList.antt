@@ -1,4 +1,4 @@
--- How locks are kept: as runs, each a row of bytes of one key with one mark. No public clause cites this module.
+-- How locks are kept: as runs, each a row of bytes of one key with one mark.
 use Rattle.std.specs.Prelude.{◌≡◌, ◌≢◌, ℕ, ◌+◌, ◌-◌, ◌≤◌, Bool, true, not, ◌&&◌, nat_lt, nat_le, Option, Some, None, List, [], ◌∷◌, if◌then◌else◌}
 use Rattle.std.specs.List.{find, filter, AllByRecursion}
 use Rattle.std.specs.Option.{option_map}
@@ -105,4 +105,5 @@ after_stroke key start end mark rs = changed key (reach_start key start mark rs)
 
 -- a run excludes a lock of this kind, by this key, on the bytes from start to end
 abbrev pub run_excludes : Key → ℕ → ℕ → Kind → Run → Bool
-run_excludes key start end kind r = are_rivals key r.key && ((nat_le r.start end && nat_le start r.end) && excludes kind r.mark.kind)
+run_excludes key start end kind r =
+    are_rivals key r.key && ((nat_le r.start end && nat_le start r.end) && excludes kind r.mark.kind)

@@ -1,4 +1,4 @@
--- How the links inside the slots spell the chains and the free list. No public clause cites this module.
+-- How the links inside the slots spell the chains and the free list.
 use Rattle.std.specs.Prelude.{◌≡◌, ℕ, zero, suc, ◌+◌, ◌-◌, ◌≤◌, ◌<◌, ◌==◌, Bool, true, false, List, [], ◌∷◌, map, length, count_by, Option, Some, None, is_some, slice_get, MatchOption, if◌then◌else◌}
 use Rattle.std.specs.Bool.{⊤}
 use Rattle.std.specs.Option.{option_map}
@@ -86,7 +86,8 @@ module _ {T : Type 0} where
     pub first : ends.first ≡ link_at es 0
     pub last : ends.last ≡ link_before es (length es)
     pub len : ends.len ≡ length es
-    pub linked : (i : ℕ) (e : Entry T) → slice_get es i ≡ Some e → slice_get nodes e.slot ≡ Some (Taken (member_of c es i e))
+    pub linked : (i : ℕ) (e : Entry T) → slice_get es i ≡ Some e → slice_get nodes e.slot
+        ≡ Some (Taken (member_of c es i e))
 
   -- the node holds no item
   abbrev pub is_free : Node T → Bool

@@ -1,0 +1,5 @@
+-- How a table of locks is kept. No public clause cites these modules.
+pub mod RunList
+pub mod RunChains
+pub mod RunPlan
+pub mod Nearest
