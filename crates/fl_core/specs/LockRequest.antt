@@ -5,7 +5,6 @@ use Rattle.fl_ranges.specs.declared.lock.Class.TheVariants.{Record, Flock}
 use Rattle.fl_ranges.specs.declared.lock.Kind.TheVariants.{Read, Write}
 use Rattle.fl_ranges.specs.declared.lock.Key.{Key}
 use Rattle.fl_ranges.specs.declared.lock.Mark.{Mark}
-use Rattle.fl_ranges.specs.declared.lock.Range.{Range}
 use Rattle.fl_ranges.specs.Marking.{Stroke}
 
 -- bit 0 of the flags asks for a lock of the whole file (FUSE_LK_FLOCK)
@@ -33,7 +32,3 @@ mark_of ask =
 -- the stroke of a lock request that is granted
 abbrev pub stroke_of : ℕ → LockAsk → Stroke
 stroke_of node ask = record { key = key_of node ask; start = start_of ask; end = end_of ask; mark = mark_of ask }
-
--- the bytes of a range of the key get the mark, or lose theirs
-abbrev pub stroke_on : Key → Range → Option Mark → Stroke
-stroke_on key range mark = record { key = key; start = range.start; end = range.end; mark = mark }

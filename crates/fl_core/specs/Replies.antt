@@ -22,7 +22,7 @@ use Rattle.fl_ranges.specs.Conflict.{conflicts}
 use Rattle.fl_ranges.specs.Runs.{runs}
 use Rattle.fl_ranges.specs.Blocker.{blocker}
 use Rattle.fl_dir.specs.Directory.{Listing}
-use Rattle.fl_dir.specs.Replies.{create_reply}
+use Rattle.fl_dir.specs.Replies.{create_reply, unless_error}
 use Rattle.fl_core.specs.LockRequest.{is_flock, key_of, mark_of, stroke_of}
 use Rattle.fl_core.specs.State.{State, Snapshot, snapshot_of}
 
@@ -51,11 +51,6 @@ abbrev pub ask_error : Listing → ℕ → LockAsk → Option Errno
 ask_error d node ask =
     if not (is_open (get d.files ask.fh) node) then Some EBADF
     else (if is_malformed ask then Some EINVAL else None)
-
--- that error, or else this answer
-abbrev pub unless_error : Option Errno → Result Answer Errno → Result Answer Errno
-unless_error None reply = reply
-unless_error (Some e) reply = Err e
 
 -- what a SETLK is answered
 abbrev pub setlk_reply : Listing → Marking → ℕ → LockAsk → Result Answer Errno

@@ -1,9 +1,9 @@
 ghost use Rattle.std.specs.Prelude.{◌≡◌, ◌≤◌, ◌↔◌, true, false, length, Some, None};
 ghost use Rattle.std.specs.Prelude.{IfErr, IfOk, IfSome, OnOk, OnErr, IsNone};
-ghost use Rattle.fl_ranges.specs.Marking.{stroked};
+ghost use Rattle.fl_ranges.specs.Marking.{stroke_on, stroked};
 ghost use Rattle.fl_ranges.specs.Conflict.{conflicts, IsLawful};
 ghost use Rattle.fl_ranges.specs.Change.{after_changes};
-ghost use Rattle.fl_core.specs.LockRequest.{is_flock, key_of, start_of, end_of, mark_of, stroke_on};
+ghost use Rattle.fl_core.specs.LockRequest.{is_flock, key_of, start_of, end_of, mark_of};
 ghost use Rattle.fl_core.specs.State.{State, opening, snapshot_of};
 ghost use Rattle.fl_core.specs.Effects.{locked, answered, replied, recorded, made};
 ghost use Rattle.fl_core.specs.Replies.{ask_error, is_malformed, type_of, lock_answer};

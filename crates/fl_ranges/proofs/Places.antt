@@ -1,5 +1,5 @@
 -- The places of the slots.
-use Rattle.std.proofs.Common.{◌≡◌, ◌≢◌, ◌↔◌, ℕ, ◌+◌, ◌-◌, ◌<◌, Bool, true, false, cond, ◌==◌, Some, List, [], ◌∷◌, ◌++◌, map, length, refl, ap, sym, ◌∙◌, subst, inl, inr, arith}
+use Rattle.std.proofs.Common.{◌≡◌, ℕ, ◌<◌, Bool, true, false, cond, ◌==◌, Some, List, [], ◌∷◌, ◌++◌, map, length, refl, ap, sym, ◌∙◌, subst, inl, inr, arith}
 use Rattle.std.proofs.lemmas.Bool.{cases_lt, false_from_ne_true}
 use Rattle.std.proofs.lemmas.Bool.Decides.{nat_tests}
 use Rattle.std.proofs.lemmas.List.{append-nil, get_or_past, length-map}
@@ -7,7 +7,7 @@ use Rattle.std.proofs.lemmas.List.Elements.{filter-append}
 use Rattle.std.proofs.lemmas.Option.{none-some, slice_get_past}
 use Rattle.std.specs.List.{filter, slice_get, AllByRecursion}
 use Rattle.std.specs.Option.{option_map}
-use Rattle.fl_arena.specs.Chains.{Entry, Chains, entries, items, slot_at, item_count, free_count}
+use Rattle.fl_arena.specs.Chains.{Entry, Chains, entries, items, slot_at, free_count}
 use Rattle.fl_ranges.specs.declared.run.Run.{Run}
 use Rattle.fl_ranges.specs.Runs.{runs}
 use Rattle.fl_ranges.specs.LockTable.{LockTable}

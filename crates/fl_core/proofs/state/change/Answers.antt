@@ -1,9 +1,8 @@
 use Rattle.std.proofs.Common.{◌≡◌, ◌∙◌, sym, ap, false, cond, Err, Option, Some}
 use Rattle.fl_wire.specs.declared.errno.Errno.TheVariants.{EAGAIN}
 use Rattle.fl_ranges.specs.declared.lock.Mark.{Mark}
-use Rattle.fl_ranges.specs.Marking.{Marking, Stroke}
+use Rattle.fl_ranges.specs.Marking.{Marking, Stroke, stroke_on}
 use Rattle.fl_ranges.specs.Conflict.{conflicts}
-use Rattle.fl_core.specs.LockRequest.{stroke_on}
 use Rattle.fl_core.specs.Replies.{room_reply, set_reply}
 use Rattle.fl_core.proofs.state.change.Goals as goal
 
