@@ -1,14 +1,7 @@
 -- A text that no reader of a kind takes is the text of nothing of that kind.
-use Rattle.std.proofs.Common.{◌≡◌, ℕ, List, ◌++◌, ◌∷◌, codes, Some, Result, Ok, Err, refl, sym, lit<}
-use Rattle.std.proofs.lemmas.Option.{same_Some}
+use Rattle.std.proofs.Common.{◌≡◌, ℕ, List, ◌++◌, ◌∷◌, codes, Result, Ok, Err, refl, lit<}
 use Rattle.std.specs.Str.Iter.{LacksByte}
-use Rattle.fl_wire.specs.Kind.{word_for, IsFoundBy}
-use Rattle.fl_wire.specs.Order.{kind_of}
 use Rattle.fl_wire.specs.declared.errno.Errno.{Errno}
-use Rattle.fl_wire.specs.declared.kind.Kind.{Kind}
-use Rattle.fl_wire.specs.declared.kind.Kind.TheVariants as kind
-use Rattle.fl_wire.specs.declared.order.Op.{Op}
-use Rattle.fl_wire.specs.declared.order.Op.TheVariants.{Create, Getlk, Setlk}
 use Rattle.fl_wire.specs.declared.told.Answer.{Answer}
 use Rattle.fl_wire.specs.declared.told.Answer.TheVariants.{Done, Entry, Attr, Open, Made, Lock}
 use Rattle.fl_wire.specs.Errno.{number_of}
@@ -17,7 +10,6 @@ use Rattle.fl_book.specs.Text.{attr_text, made_text, lock_text, result_text, ask
 use Rattle.fl_book.specs.declared.history.Line.{Line}
 use Rattle.fl_book.specs.declared.history.Line.TheVariants.{Asked, Told}
 use Rattle.fl_book.proofs.Letters.{IsWord, literal, lacks_low}
-use Rattle.fl_book.proofs.ReadBack.{kind_word}
 
 -- a word of visible characters has no space
 pub no_space : (word : List ℕ) → IsWord word → LacksByte 32 word

@@ -1,4 +1,4 @@
-use Rattle.std.proofs.Common.{◌≡◌, ◌≤◌, true, length, refl, arith, rules}
+use Rattle.std.proofs.Common.{◌≤◌, length, refl, arith}
 use Rattle.std.proofs.lemmas.Grind.{common_steps}
 use Rattle.fl_book.specs.Text.{LineFits}
 use Rattle.fl_book.proofs.Places.{fits_more, fits_all}
