@@ -143,7 +143,8 @@ pub(crate) fn link_in<T: Copy>(nodes: &mut Vec<Node<T>>, slot: u16, member: Memb
     requires before { IsWithin nodes.old.items member.previous }
     requires after { IsWithin nodes.old.items member.next }
     ensures { nodes.new.items
-        ≡ slice_set (relinked nodes.old.items member.previous member.next (Some slot) (Some slot)) slot (Node.Taken member) }
+        ≡ slice_set (relinked nodes.old.items member.previous member.next (Some slot) (Some slot)) slot
+        (Node.Taken member) }
 {
     set_next(nodes, member.previous, Some(slot));
     set_previous(nodes, member.next, Some(slot));
@@ -162,7 +163,8 @@ pub(crate) fn link_out<T: Copy>(
     requires before { IsWithin nodes.old.items member.previous }
     requires after { IsWithin nodes.old.items member.next }
     ensures { nodes.new.items
-        ≡ slice_set (relinked nodes.old.items member.previous member.next member.previous member.next) slot (Node.Free spare) }
+        ≡ slice_set (relinked nodes.old.items member.previous member.next member.previous member.next) slot
+        (Node.Free spare) }
 {
     set_next(nodes, member.previous, member.next);
     set_previous(nodes, member.next, member.previous);

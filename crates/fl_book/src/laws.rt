@@ -23,7 +23,8 @@ pub fn own_reply_comes_first()
 
 /// Two histories that can be read back never have one text.
 pub fn no_text_is_that_of_two_histories()
-    ensures { (lines others : List Record) → Fits lines → Fits others → text_of lines ≡ text_of others → lines ≡ others }
+    ensures { (lines others : List Record) → Fits lines → Fits others →
+        text_of lines ≡ text_of others → lines ≡ others }
 {}
 
 /// A text breaks at one line at most, and none that is the text of a history that can be read back breaks at all.

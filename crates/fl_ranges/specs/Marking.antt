@@ -17,7 +17,8 @@ class_number Flock = 1
 -- keys by class, then node, then owner
 abbrev pub key_cmp : Key → Key → Ordering
 key_cmp a b =
-    ordering_then (nat_cmp (class_number a.class) (class_number b.class)) (ordering_then (nat_cmp a.node b.node) (nat_cmp a.owner b.owner))
+    ordering_then (nat_cmp (class_number a.class) (class_number b.class))
+    (ordering_then (nat_cmp a.node b.node) (nat_cmp a.owner b.owner))
 
 -- a byte of a key
 abbrev pub Spot : Type 0

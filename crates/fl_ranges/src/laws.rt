@@ -28,8 +28,8 @@ pub fn conflict_is_another_owners_mark()
 /// A list of spots without doubles that holds exactly those where a run starts has as many spots as there
 /// are runs.
 pub fn runs_are_counted_by_their_starts()
-    ensures { (m : Marking) (starts : List Spot) → IsDistinct (eq_by_cmp spot_cmp) starts → ((spot : Spot) → Contains starts spot ↔ IsStart m spot) →
-        length starts ≡ runs m }
+    ensures { (m : Marking) (starts : List Spot) → IsDistinct (eq_by_cmp spot_cmp) starts →
+        ((spot : Spot) → Contains starts spot ↔ IsStart m spot) → length starts ≡ runs m }
 {}
 
 /// Without a node, the spots of that node have no mark, and every other has what it had.
@@ -41,8 +41,8 @@ pub fn no_mark_is_left_on_the_node()
 /// The lock that is named for a request is that of the least owner that excludes it at the least byte at which
 /// one does, on the longest row of bytes around that byte; none is named exactly where there is no conflict.
 pub fn blocker_is_the_first_lock_that_excludes()
-    ensures named { (m : Marking) (key : Holder) (start end : ℕ) (kind : Sharing) (held : Lock) → end ≤ 9223372036854775807 →
-        (blocker m key start end kind ≡ Some held) ↔ IsBlocker m key start end kind held }
+    ensures named { (m : Marking) (key : Holder) (start end : ℕ) (kind : Sharing) (held : Lock) →
+        end ≤ 9223372036854775807 → (blocker m key start end kind ≡ Some held) ↔ IsBlocker m key start end kind held }
     ensures none { (m : Marking) (key : Holder) (start end : ℕ) (kind : Sharing) →
         (blocker m key start end kind ≡ None) ↔ (conflicts m key start end kind ≡ false) }
 {}

@@ -64,7 +64,8 @@ impl Table {
         ensures full { IsErr result ↔
             (self.old.limit < runs (stroked (stroke_on key.now range.now (Some mark)) self.old.marking)) }
         ensures ok { OnOk result
-            (self.new ≡ record self.old { marking = stroked (stroke_on key.now range.now (Some mark)) self.old.marking }) }
+            (self.new
+            ≡ record self.old { marking = stroked (stroke_on key.now range.now (Some mark)) self.old.marking }) }
         ensures err { OnErr result (self.new ≡ self.old) }
         ensures lawful { conflicts self.old.marking key.now range.now.start range.now.end mark.kind ≡ false →
             IsLawful self.old.marking → IsLawful self.new.marking }

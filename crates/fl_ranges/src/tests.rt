@@ -1,6 +1,7 @@
 //! The table against a plain grid of bytes, and the edges of its room.
 ghost use Rattle.std.specs.Prelude.{◌≡◌, ◌<◌, ◌≤◌, ℕ};
 
+use crate::laws;
 use crate::lock::{Class, Key, Kind, LAST_BYTE, Mark, Range};
 use crate::table::{NoRoom, Table};
 use fl_arena::Place;
@@ -289,4 +290,14 @@ fn the_last_byte_is_a_byte_like_any(rt: HostRuntime) -> Result<(), Fail> {
     table.erase_owner(&key(0));
     assert_eq!(rt; table.runs(), 0);
     Ok(())
+}
+
+#[test]
+fn laws_hold() {
+    laws::last_stroke_counts();
+    laws::last_change_counts();
+    laws::conflict_is_another_owners_mark();
+    laws::runs_are_counted_by_their_starts();
+    laws::no_mark_is_left_on_the_node();
+    laws::blocker_is_the_first_lock_that_excludes();
 }

@@ -32,7 +32,8 @@ pub fn bytes_on<R: Read, W: Write, F: Write>(
     ensures cut { result ≡ Status.Faulted Fault.Cut
         → IsPrinted (R.remaining input.old) (W.contents output.old) (W.contents output.new) (Some SessionFault.Cut) }
     ensures bad_length { (n : ℕ) → result ≡ Status.Faulted (Fault.BadLength n)
-        → IsPrinted (R.remaining input.old) (W.contents output.old) (W.contents output.new) (Some (SessionFault.BadLength n)) }
+        → IsPrinted (R.remaining input.old) (W.contents output.old) (W.contents output.new)
+        (Some (SessionFault.BadLength n)) }
 
     // A bad line is told, and nothing else is.
     ensures bad { (n : ℕ) → result ≡ Status.Faulted (Fault.BadLine n)

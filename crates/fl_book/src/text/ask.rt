@@ -53,7 +53,8 @@ fn read_body(shape: Shape, text: &str) -> Option<Body>
     ensures shape { IfSome result (λ body. body_shape body ≡ shape) }
     ensures fits { IfSome result FitsBody }
     ensures spelled { IfSome result (λ body. text.now ≡ fields_text body) }
-    ensures only { (body : Body) → body_shape body ≡ shape → FitsBody body → text.now ≡ fields_text body → IsSome result }
+    ensures only { (body : Body) → body_shape body ≡ shape → FitsBody body → text.now ≡ fields_text body →
+        IsSome result }
 {
     match shape {
         Shape::Lock => Some(Body::Lock(read_lock_ask(text)?)),

@@ -17,7 +17,9 @@ all_runs a = flat_map (λ es. map (λ e. e.item) es) a.chains
 -- runs by node, then class, then start
 abbrev pub place_cmp : Run → Run → Ordering
 place_cmp a b =
-    ordering_then (ordering_then (nat_cmp a.key.node b.key.node) (nat_cmp (class_number a.key.class) (class_number b.key.class))) (nat_cmp a.start b.start)
+    ordering_then
+    (ordering_then (nat_cmp a.key.node b.key.node) (nat_cmp (class_number a.key.class) (class_number b.key.class)))
+    (nat_cmp a.start b.start)
 
 -- and then by owner
 abbrev pub run_cmp : Run → Run → Ordering
@@ -35,7 +37,9 @@ insert_run r (x ∷ xs) = if goes_before r x then r ∷ x ∷ xs else x ∷ inse
 -- the run stands past a byte of the key
 abbrev pub is_past : Key → ℕ → Run → Bool
 is_past key byte r =
-    is_lt (ordering_then (ordering_then (nat_cmp key.node r.key.node) (nat_cmp (class_number key.class) (class_number r.key.class))) (nat_cmp byte r.start))
+    is_lt (ordering_then
+    (ordering_then (nat_cmp key.node r.key.node) (nat_cmp (class_number key.class) (class_number r.key.class)))
+    (nat_cmp byte r.start))
 
 -- no run stands before an earlier one
 abbrev pub IsSorted : List Run → Type 0

@@ -68,7 +68,8 @@ left_over key start end rs = filter (λ r. not (overlaps key start end r)) rs
 -- the runs once the key has lost the bytes from start to end
 abbrev pub cut : Key → ℕ → ℕ → List Run → List Run
 cut key start end rs =
-    with_run (part_before start (run_at rs (key, start))) (with_run (part_after end (run_at rs (key, end))) (left_over key start end rs))
+    with_run (part_before start (run_at rs (key, start)))
+    (with_run (part_after end (run_at rs (key, end))) (left_over key start end rs))
 
 -- a new run, where there is a mark to set
 abbrev pub new_run : Key → ℕ → ℕ → Option Mark → Option Run

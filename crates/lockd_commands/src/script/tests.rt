@@ -1,7 +1,6 @@
 use super::traces::*;
 use super::*;
-use std::io;
-use std::io::ErrorKind;
+use crate::streams::doubles::Breaking;
 use std::process::Abort;
 use std::test::Fail;
 
@@ -214,38 +213,6 @@ fn long_names(rt: HostRuntime) -> Result<(), Fail> {
         longer.as_bytes(),
         "bad line 1\n",
     )
-}
-
-// A reader and a writer that move one byte at a time, and fail once there is no more room.
-#[derive(Drop)]
-struct Breaking {
-    left: usize,
-}
-
-impl Read for Breaking {
-    fn read(&mut self, buf: &mut [u8]) -> io::Result<usize> {
-        let room = buf.first_mut().filter(|_| self.left > 0);
-        let Some(byte) = room else {
-            return Err(io::Error::from(ErrorKind::Other));
-        };
-        *byte = b'\n';
-        self.left -= 1;
-        Ok(1)
-    }
-}
-
-impl Write for Breaking {
-    fn write(&mut self, buf: &[u8]) -> io::Result<usize> {
-        if self.left == 0 || buf.is_empty() {
-            return Err(io::Error::from(ErrorKind::Other));
-        }
-        self.left -= 1;
-        Ok(1)
-    }
-
-    fn flush(&mut self) -> io::Result<()> {
-        Ok(())
-    }
 }
 
 #[test]
