@@ -1,4 +1,5 @@
 use crate::{Body, Errno, Kind, LockAsk, Name, Op, Refusal, Shape};
+use std::process::Abort;
 use std::test::Fail;
 
 // A write lock of bytes 0 to 9.
@@ -12,32 +13,38 @@ const ASK: LockAsk = LockAsk {
     flags: 0,
 };
 
+// CREATE of a new file, readable by all.
+fn creation(name: Name) -> Body {
+    Body::Create {
+        excl: true,
+        mode: 0o644,
+        name,
+    }
+}
+
+fn are_parts(rt: &impl Abort, op: &Op, kind: Kind, body: Body) {
+    let (own_kind, own_body) = op.parts();
+    assert_eq!(rt; own_kind, kind);
+    assert_eq!(rt; own_body, body);
+    assert_eq!(rt; Op::of(kind, body), Some(*op));
+}
+
 #[test]
 fn orders_and_their_parts(rt: HostRuntime) -> Result<(), Fail> {
     let name = Name::new(b"a").ok_or("a name")?;
-    let (excl, mode) = (true, 0o644);
-    let create = Body::Create { excl, mode, name };
-    let lock = Body::Lock(ASK);
-    let orders = [
-        (Op::Create { excl, mode, name }, Kind::Create, create),
-        (Op::Getlk(ASK), Kind::Getlk, lock),
-        (Op::Setlk(ASK), Kind::Setlk, lock),
-    ];
-    for (op, kind, body) in orders {
-        let (own_kind, own_body) = op.parts();
-        assert_eq!(rt; own_kind, kind);
-        assert_eq!(rt; own_body, body);
-        assert_eq!(rt; Op::of(kind, body), Some(op));
+    let create = Op::Create {
+        excl: true,
+        mode: 0o644,
+        name,
+    };
+    are_parts(&rt, &create, Kind::Create, creation(name));
+    are_parts(&rt, &Op::Getlk(ASK), Kind::Getlk, Body::Lock(ASK));
+    are_parts(&rt, &Op::Setlk(ASK), Kind::Setlk, Body::Lock(ASK));
+    for kind in [Kind::Create, Kind::Init] {
+        assert_eq!(rt; Op::of(kind, Body::Lock(ASK)), None);
     }
-    let none = [
-        (Kind::Create, lock),
-        (Kind::Getlk, create),
-        (Kind::Setlk, create),
-        (Kind::Init, lock),
-        (Kind::Forget, create),
-    ];
-    for (kind, body) in none {
-        assert_eq!(rt; Op::of(kind, body), None);
+    for kind in [Kind::Getlk, Kind::Setlk, Kind::Forget] {
+        assert_eq!(rt; Op::of(kind, creation(name)), None);
     }
     Ok(())
 }
