@@ -1,5 +1,5 @@
 -- Entries in the order of their numbers, as a list and as a finite map.
-use Rattle.std.proofs.Common.{◌≡◌, ◌≢◌, ℕ, zero, suc, ◌+◌, ◌<◌, Bool, true, false, cond, not, ◌==◌, ◌&&◌, T, Option, Some, None, IfSome, option_map, slice_get, slice_set, List, [], ◌∷◌, ◌++◌, length, refl, ap, sym, ◌∙◌, subst, arith}
+use Rattle.std.proofs.Common.{◌≡◌, ℕ, zero, suc, ◌+◌, ◌<◌, Bool, true, false, cond, not, ◌==◌, ◌&&◌, T, Option, Some, None, IfSome, option_map, slice_get, slice_set, List, [], ◌∷◌, ◌++◌, length, refl, ap, sym, ◌∙◌, subst, arith}
 use Rattle.std.proofs.lemmas.Bool.Decides.{nat_tests}
 use Rattle.std.proofs.lemmas.Option.{none-some}
 use Rattle.std.specs.List.{find, remove}
@@ -46,9 +46,6 @@ keys_equal a b e = grind (arith, nat_tests)
 
 pub same_number : (a b : ℕ) → a ≡ b → (a == b) ≡ true
 same_number a b e = grind (arith, nat_tests)
-
-pub other_number : (a b : ℕ) → a ≢ b → (a == b) ≡ false
-other_number a b e = grind (arith, nat_tests)
 
 module _ {X : Type 0} where
   -- the numbers of the rest of a list are above that of its first entry

@@ -1,3 +1,2 @@
-pub mod Walks
 pub mod Entries
 pub mod Chained

@@ -15,14 +15,7 @@ fn seek<T: Copy>(chain: &Arena<(u64, T)>, number: u64) -> Cursor
     ensures at { result ≡ cursor_at chain.now 0 result.index }
     ensures found { slice_get (items chain.now 0) result.index ≡ find (λ e. e.0 == number) (items chain.now 0) }
 {
-    let mut cursor = chain.cursor(0);
-    while let Some(here) = chain.get(&cursor) {
-        if here.0 == number {
-            return cursor;
-        }
-        chain.step(&mut cursor);
-    }
-    cursor
+    chain.first_where(0, |here| here.0 == number)
 }
 
 // What stands under a number.

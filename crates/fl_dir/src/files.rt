@@ -59,12 +59,6 @@ fn any_on(files: &Arena<(u64, u64)>, node: u64) -> bool
     requires { length files.now.chains ≡ 1 }
     ensures { result ≡ list_any (λ e. e.1 == node) (items files.now 0) }
 {
-    let mut cursor = files.cursor(0);
-    while let Some(here) = files.get(&cursor) {
-        if here.1 == node {
-            return true;
-        }
-        files.step(&mut cursor);
-    }
-    false
+    let cursor = files.first_where(0, |here| here.1 == node);
+    files.item(&cursor).is_some()
 }

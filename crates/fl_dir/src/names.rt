@@ -33,12 +33,6 @@ pub(crate) fn entry_named(nodes: &Arena<(u64, Node)>, name: &Name) -> Option<(u6
     requires { length nodes.now.chains ≡ 1 }
     ensures { result ≡ find (λ e. is_named e.1.name name.now) (items nodes.now 0) }
 {
-    let mut cursor = nodes.cursor(0);
-    while let Some(here) = nodes.get(&cursor) {
-        if is_named(&here.1, name) {
-            return Some(here);
-        }
-        nodes.step(&mut cursor);
-    }
-    None
+    let cursor = nodes.first_where(0, |here| is_named(&here.1, name));
+    nodes.get(&cursor)
 }

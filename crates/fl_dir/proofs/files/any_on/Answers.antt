@@ -1,45 +1,25 @@
-use Rattle.std.proofs.Common.{◌≡◌, ◌==◌, ℕ, Some, None, slice_get, refl, sym, ◌∙◌}
+use Rattle.std.proofs.Common.{rules, ◌≡◌, ◌==◌, ◌||◌, ◌∙◌, ℕ, Bool, true, false, cond, Option, Some, None, is_some, Bor, List, [], ◌∷◌, refl, ap}
+use Rattle.std.specs.Option.{option_copied}
+use Rattle.std.specs.List.{find, list_any}
 use Rattle.fl_arena.specs.Chains.{items}
-use Rattle.fl_dir.proofs.Entries.{same_number, other_number}
-use Rattle.fl_dir.proofs.Walks.{on_at, any_here, any_past, any_end}
 use Rattle.fl_dir.proofs.files.any_on.Goals as goal
 
-pub returns-then-here-node : goal.returns-then-here-node
-returns-then-here-node c =
-    let i = c.loop-here.cursor.index in
-    let xs = items c.args.files.now 0 in
-    let inv = c.loop-here.invariant in
-    let found : slice_get xs i ≡ Some c.in-Some.here = sym (c.in-Some.ensures.at_index 0 i inv.at) in
-    any_here (λ (e : ℕ × ℕ). e.1 == c.args.node) xs i c.in-Some.here inv.rest found (same_number _ _ c.if-here-node.true)
+module _ {A : Type 0} where
+  some_copied : (o : Option (Bor A)) → is_some o ≡ is_some (option_copied o)
+  some_copied None = refl
+  some_copied (Some x) = refl
 
-pub loop-here-smaller : goal.loop-here-smaller
-loop-here-smaller c =
-    let i = c.loop-here.cursor.index in
-    let xs = items c.args.files.now 0 in
-    let inv = c.loop-here.invariant in
-    let got = c.in-Some.ensures in
-    let found : slice_get xs i ≡ Some c.in-Some.here = sym (got.at_index 0 i inv.at) in
-    let step = on_at c.args.files.now c.loop-here.cursor c.step.new.cursor c.in-Some.here found (c.step.ensures.at_index 0 i (got.some.0 refl) inv.at) in
-    step.smaller
-
-pub loop-here-preserved : goal.loop-here-preserved
-loop-here-preserved c =
-    let i = c.loop-here.cursor.index in
-    let xs = items c.args.files.now 0 in
-    let inv = c.loop-here.invariant in
-    let got = c.in-Some.ensures in
-    let found : slice_get xs i ≡ Some c.in-Some.here = sym (got.at_index 0 i inv.at) in
-    let step = on_at c.args.files.now c.loop-here.cursor c.step.new.cursor c.in-Some.here found (c.step.ensures.at_index 0 i (got.some.0 refl) inv.at) in
-    record {
-      at = step.at;
-      within = step.within;
-      rest = any_past (λ (e : ℕ × ℕ). e.1 == c.args.node) xs i c.step.new.cursor.index c.in-Some.here inv.rest found (other_number _ _ c.if-here-node.false) step.index;
-    }
+  -- one is found if any passes
+  any_found : (t : A → Bool) (xs : List A) → is_some (find t xs) ≡ list_any t xs
+  any_found t [] = refl
+  any_found t (x ∷ xs) = go (t x) (any_found t xs)
+    where
+      go : (b : Bool) → is_some (find t xs) ≡ list_any t xs → is_some (cond b (Some x) (find t xs)) ≡ (b || list_any t xs)
+      go true later = refl
+      go false later = later
 
 pub returns : goal.returns
 returns c =
-    let i = c.loop-here.cursor.index in
-    let xs = items c.args.files.now 0 in
-    let inv = c.loop-here.invariant in
-    let none : slice_get xs i ≡ None = sym (c.get.ensures.at_index 0 i inv.at) ∙ c.in_default.is in
-    any_end (λ (e : ℕ × ℕ). e.1 == c.args.node) xs i inv.rest none
+    let test = λ (e : ℕ × ℕ). e.1 == c.args.node in
+    let found = c.first_where-cursor.ensures.found test (λ a r k. search rules) in
+    c.is_some.ensures ∙ some_copied c.item.result ∙ ap is_some (c.item.ensures.item ∙ found) ∙ any_found test (items c.args.files.now 0)
