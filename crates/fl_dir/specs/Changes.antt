@@ -80,7 +80,7 @@ unlinked d (Some found) = swept found.0 (record d { nodes = insert d.nodes found
 
 -- the directory after an UNLINK of the name, by its recorded answer
 abbrev pub after_unlink : Listing → List ℕ → Result Answer Errno → Listing
-after_unlink d name (Ok done) = unlinked d (linked d name)
+after_unlink d name (Ok _) = unlinked d (linked d name)
 after_unlink d name (Err e) = d
 
 -- the directory after a FORGET of so many lookups of the node
@@ -89,5 +89,5 @@ after_forget d node n = swept node (record d { nodes = changed_at d.nodes node (
 
 -- the directory after an fh of the node was closed, by its recorded answer
 abbrev pub after_close : {X : Type 0} → Listing → ℕ → ℕ → Result X Errno → Listing
-after_close d node fh (Ok done) = swept node (record d { files = remove d.files fh })
+after_close d node fh (Ok _) = swept node (record d { files = remove d.files fh })
 after_close d node fh (Err e) = d
