@@ -2,5 +2,4 @@ pub mod Appending
 pub mod Finding
 pub mod Messages
 pub mod Numbers
-pub mod Refusing
 pub mod Replies

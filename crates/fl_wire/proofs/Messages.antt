@@ -1,5 +1,5 @@
 -- The message of an order says that order.
-use Rattle.std.proofs.Common.{◌≡◌, ◌<◌, ◌^◌, ◌+◌, ◌-◌, ℕ, zero, suc, ◌==◌, ◌||◌, Bool, true, false, not, nat_lt, if◌then◌else◌, List, [], ◌∷◌, ◌++◌, length, sum, take, drop, slice_index_or, Contains, Some, Result, Ok, refl, sym, ap, ◌∙◌, arith, lit<, bit_and, append_assoc, append-nil, length-append}
+use Rattle.std.proofs.Common.{◌≡◌, ◌<◌, ◌^◌, ◌+◌, ◌-◌, ℕ, zero, suc, ◌==◌, ◌||◌, Bool, true, false, not, nat_lt, if◌then◌else◌, List, [], ◌∷◌, ◌++◌, length, sum, take, drop, slice_index, slice_index_or, Contains, Some, Result, Ok, refl, sym, ap, ◌∙◌, arith, lit<, bit_and, append_assoc, append-nil, length-append}
 use Rattle.std.proofs.Math.Dec.{eqb-suc-zero}
 use Rattle.std.proofs.Math.Nat.{mod-eq_of_lt}
 use Rattle.std.proofs.Math.Seq.{drop-append_seam, get_or-append_seam, take-append_seam}
@@ -7,27 +7,28 @@ use Rattle.std.proofs.lemmas.Bool.{le-ltb}
 use Rattle.std.proofs.lemmas.Bool.Decides.{Decides-eqb}
 use Rattle.std.proofs.lemmas.List.Sums.{sum_by-cons}
 use Rattle.std.proofs.lemmas.Nat.{and_mask}
-use Rattle.std.proofs.lemmas.Option.{none-some, same_Some}
+use Rattle.std.specs.Option.{ok_or}
 use Rattle.std.specs.List.{list_any}
 use Rattle.byteorder.specs.Endian.{little_bytes, little_number}
 use Rattle.byteorder.specs.Numbers.{length-bytes_low_first, little_number-reads_back}
 use Rattle.fl_wire.proofs.Finding.{opcode_finds}
-use Rattle.fl_wire.specs.Body.{name_bytes, name_in, by_fields, by_fields_and_name}
-use Rattle.fl_wire.specs.Form.{Form, Refused, OfLock, OfCreate, made}
-use Rattle.fl_wire.specs.Kind.{form_for, kind_of_opcode, opcode_for}
-use Rattle.fl_wire.specs.Layout.{number_at, values_at, field, laid_out, in_header, create_in, lk_in, opcode_of, unique_of}
-use Rattle.fl_wire.specs.Message.{lock_values, create_values, body_bytes, request, message_of, ReadsBack}
+use Rattle.fl_wire.specs.Body.{body_shape, name_bytes, name_in, by_fields, by_fields_and_name}
+use Rattle.fl_wire.specs.Kind.{kind_of_opcode, opcode_for, shape_for}
+use Rattle.fl_wire.specs.Layout.{number_at, values_at, field, laid_out, in_header, create_in, flush_in, forget_in, getattr_in, lk_in, open_in, release_in, opcode_of, unique_of}
+use Rattle.fl_wire.specs.Message.{lock_values, create_values, release_values, body_bytes, request, message_of, ReadsBack}
 use Rattle.fl_wire.specs.Name.{IsName}
 use Rattle.fl_wire.specs.Order.{body_of, kind_of, op_of}
 use Rattle.fl_wire.specs.Sayable.{FitsLock, FitsBody, IsSayable}
-use Rattle.fl_wire.specs.Says.{said, asked, asked_by, order_of, lock_of, create_of}
+use Rattle.fl_wire.specs.Says.{said, asked, asked_by, asked_with, body_in, order_of, lock_of, create_of, release_of}
 use Rattle.fl_wire.specs.declared.body.Body.{Body}
-use Rattle.fl_wire.specs.declared.body.Body.TheVariants.{Lock, Create}
+use Rattle.fl_wire.specs.declared.body.Body.TheVariants as body
+use Rattle.fl_wire.specs.declared.errno.Errno.TheVariants.{ENOSYS}
 use Rattle.fl_wire.specs.declared.kind.Kind.{Kind}
 use Rattle.fl_wire.specs.declared.order.Order.{Order}
 use Rattle.fl_wire.specs.declared.order.LockAsk.{LockAsk}
 use Rattle.fl_wire.specs.declared.order.Op.{Op}
 use Rattle.fl_wire.specs.declared.reading.Refusal.{Refusal}
+use Rattle.fl_wire.specs.declared.reading.Refusal.TheVariants.{Answer}
 
 -- what stands in the fields of a header
 record Heads (bytes : List ℕ) (opcode unique node uid gid pid : ℕ) : Type 0 where
@@ -91,7 +92,7 @@ order_again bytes opcode u n i g p op h e =
     ap (λ o. order_of bytes (asked (kind_of_opcode o) bytes)) h.opcode_is ∙ ap (order_of bytes) e ∙ parts
 
 -- what fields alone ask for is read back
-fields_again : {T : Type 0} (o u n i g p : ℕ) (widths values : List ℕ) (asks : List ℕ → T) → FitAll widths values → by_fields widths asks (request o u n i g p (laid_out widths values)) ≡ Ok (asks values)
+fields_again : (o u n i g p : ℕ) (widths values : List ℕ) (asks : List ℕ → Body) → FitAll widths values → by_fields widths asks (request o u n i g p (laid_out widths values)) ≡ Ok (asks values)
 unfolding request
 fields_again o u n i g p widths values asks fit =
     let body : List ℕ = laid_out widths values in
@@ -119,7 +120,7 @@ name_again name h =
     rw (long, last, text, clean, short) refl
 
 -- what fields and a name ask for is read back
-named_again : {T : Type 0} (o u n i g p : ℕ) (widths values name : List ℕ) (asks : List ℕ → List ℕ → T) → FitAll widths values → IsName name → by_fields_and_name widths asks (request o u n i g p (laid_out widths values ++ name_bytes name)) ≡ Ok (asks values name)
+named_again : (o u n i g p : ℕ) (widths values name : List ℕ) (asks : List ℕ → List ℕ → Body) → FitAll widths values → IsName name → by_fields_and_name widths asks (request o u n i g p (laid_out widths values ++ name_bytes name)) ≡ Ok (asks values name)
 unfolding request
 named_again o u n i g p widths values name asks fit is =
     let fields : List ℕ = laid_out widths values in
@@ -148,23 +149,40 @@ mode_again mode small = and_mask mode 9 ∙ mod-eq_of_lt small
 lock_fits : (a : LockAsk) → FitsLock a → FitAll lk_in (lock_values a)
 lock_fits a h = (h.fh, (h.owner, (h.start, (h.end, (h.kind, (h.pid, (h.flags, (lit< tt, tt))))))))
 
--- the order that is made of a body is read back where the body was laid out
-body_asked : (o u n i g p : ℕ) (form : Form) (body : Body) (op : Op) → made form body ≡ Some op → FitsBody body → asked_by form (request o u n i g p (body_bytes body)) ≡ Ok op
-body_asked o u n i g p (Refused refusal) body op e h = absurd (none-some op e)
-body_asked o u n i g p (OfLock f) (Lock a) op e h =
-    fields_again o u n i g p lk_in (lock_values a) (λ values. f (lock_of values)) (lock_fits a h) ∙ ap Ok (same_Some (f a) op e)
-body_asked o u n i g p (OfLock f) (Create excl mode name) op e h = absurd (none-some op e)
-body_asked o u n i g p (OfCreate f) (Lock a) op e h = absurd (none-some op e)
-body_asked o u n i g p (OfCreate f) (Create excl mode name) op e h =
+release_flags_again : (unlocks : Bool) → not (bit_and (if unlocks then 2 else 0) 2 == 0) ≡ unlocks
+release_flags_again true = refl
+release_flags_again false = refl
+
+release_flags_fit : (unlocks : Bool) → (if unlocks then 2 else 0) < 2 ^ 32
+release_flags_fit true = lit< tt
+release_flags_fit false = lit< tt
+
+-- a body is read back where it was laid out
+body_again : (o u n i g p : ℕ) (body : Body) → FitsBody body → body_in (body_shape body) (request o u n i g p (body_bytes body)) ≡ Ok body
+body_again o u n i g p (body.Lock a) h =
+    fields_again o u n i g p lk_in (lock_values a) (λ values. body.Lock (lock_of values)) (lock_fits a h)
+body_again o u n i g p (body.Create excl mode name) h =
     let fit : FitAll create_in (create_values excl mode) = (flags_fit excl, (omega (arith, h.0), (lit< tt, (lit< tt, tt)))) in
     let flags = flags_again excl in
     let permissions = mode_again mode h.0 in
-    let parts : create_of f (create_values excl mode) name ≡ f excl mode name = λ k. f (flags k) (permissions k) name in
-    named_again o u n i g p create_in (create_values excl mode) name (create_of f) fit h.1 ∙ ap Ok (parts ∙ same_Some (f excl mode name) op e)
+    named_again o u n i g p create_in (create_values excl mode) name create_of fit h.1 ∙ (λ k. Ok (body.Create (flags k) (permissions k) name))
+body_again o u n i g p (body.Name name) h = named_again o u n i g p [] [] name (λ values name. body.Name name) tt h
+body_again o u n i g p (body.Number x) h = fields_again o u n i g p forget_in (x ∷ []) (λ values. body.Number (slice_index values 0)) (h, tt)
+body_again o u n i g p (body.Flush fh owner) h =
+    fields_again o u n i g p flush_in (fh ∷ 0 ∷ 0 ∷ owner ∷ []) (λ values. body.Flush (slice_index values 0) (slice_index values 3)) (h.0, (lit< tt, (lit< tt, (h.1, tt))))
+body_again o u n i g p (body.Release fh unlocks owner) h =
+    let flags = release_flags_again unlocks in
+    fields_again o u n i g p release_in (release_values fh unlocks owner) release_of (h.0, (lit< tt, (release_flags_fit unlocks, (h.1, tt)))) ∙ (λ k. Ok (body.Release fh (flags k) owner))
+body_again o u n i g p body.Getattr h = fields_again o u n i g p getattr_in (0 ∷ 0 ∷ 0 ∷ []) (λ values. body.Getattr) (lit< tt, (lit< tt, (lit< tt, tt)))
+body_again o u n i g p body.Open h = fields_again o u n i g p open_in (0 ∷ 0 ∷ []) (λ values. body.Open) (lit< tt, (lit< tt, tt))
 
 -- an order is made of its parts
 parts_made : (op : Op) → op_of (kind_of op) (body_of op) ≡ Some op
 parts_made op = grind arith
+
+-- its kind has the shape of its body
+shape_made : (op : Op) → shape_for (kind_of op) ≡ Ok (body_shape (body_of op))
+shape_made op = grind arith
 
 opcode_fits : (kind : Kind) → opcode_for kind < 2 ^ 32
 opcode_fits kind = grind arith
@@ -177,7 +195,10 @@ said_again order h =
     let bytes : List ℕ = message_of order in
     order_again bytes o order.unique order.node order.uid order.gid order.pid order.op
     (heads o order.unique order.node order.uid order.gid order.pid (body_bytes (body_of order.op)) (opcode_fits kind) h.unique h.node h.uid h.gid h.pid)
-    (ap (λ k. asked k bytes) (opcode_finds kind) ∙ body_asked o order.unique order.node order.uid order.gid order.pid (form_for kind) (body_of order.op) order.op (parts_made order.op) h.op)
+    (ap (λ k. asked k bytes) (opcode_finds kind)
+    ∙ ap (λ s. asked_by kind s bytes) (shape_made order.op)
+    ∙ ap (asked_with kind) (body_again o order.unique order.node order.uid order.gid order.pid (body_of order.op) h.op)
+    ∙ ap (λ made. ok_or made (Answer ENOSYS)) (parts_made order.op))
 
 pub reads_back : (bytes : List ℕ) (result : Result Order Refusal) → result ≡ said bytes → ReadsBack bytes result
 reads_back bytes result e order fits same = e ∙ ap said same ∙ said_again order fits

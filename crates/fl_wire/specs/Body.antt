@@ -3,10 +3,23 @@ use Rattle.std.specs.Prelude.{ℕ, ◌+◌, ◌-◌, ◌==◌, not, nat_lt, if�
 use Rattle.std.specs.List.{list_any}
 use Rattle.std.specs.Result.{result_map_both}
 use Rattle.fl_wire.specs.Layout.{values_at}
+use Rattle.fl_wire.specs.declared.body.Body.{Body}
+use Rattle.fl_wire.specs.declared.body.Body.TheVariants as body
+use Rattle.fl_wire.specs.declared.body.Shape.{Shape}
+use Rattle.fl_wire.specs.declared.body.Shape.TheVariants as shape
 use Rattle.fl_wire.specs.declared.errno.Errno.{Errno}
 use Rattle.fl_wire.specs.declared.errno.Errno.TheVariants.{EINVAL, ENAMETOOLONG}
-use Rattle.fl_wire.specs.declared.reading.Refusal.{Refusal}
-use Rattle.fl_wire.specs.declared.reading.Refusal.TheVariants.{Answer}
+
+-- the shape of a body
+abbrev pub body_shape : Body → Shape
+body_shape (body.Lock ask) = shape.Lock
+body_shape (body.Create excl mode name) = shape.Create
+body_shape (body.Name name) = shape.Name
+body_shape (body.Number n) = shape.Number
+body_shape (body.Flush fh owner) = shape.Flush
+body_shape (body.Release fh unlocks owner) = shape.Release
+body_shape body.Getattr = shape.Getattr
+body_shape body.Open = shape.Open
 
 -- a name, and the zero byte that ends it
 abbrev pub name_bytes : List ℕ → List ℕ
@@ -22,17 +35,17 @@ name_in bytes =
     else Ok text
 
 -- the name behind fields of this many bytes, where a byte is there
-abbrev pub name_behind : ℕ → List ℕ → Result (List ℕ) Refusal
+abbrev pub name_behind : ℕ → List ℕ → Result (List ℕ) Errno
 name_behind fields message =
     let bytes = drop (40 + fields) message in
-    if length bytes == 0 then Err (Answer EINVAL) else result_map_both (λ name. name) Answer (name_in bytes)
+    if length bytes == 0 then Err EINVAL else name_in bytes
 
--- what the values of these fields ask for, in a message with nothing behind them
-abbrev pub by_fields : {T : Type 0} → List ℕ → (List ℕ → T) → List ℕ → Result T Refusal
-by_fields widths asked message =
-    if length message == 40 + sum widths then Ok (asked (values_at widths 40 message)) else Err (Answer EINVAL)
+-- what the values of these fields say, in a message with nothing behind them
+abbrev pub by_fields : List ℕ → (List ℕ → Body) → List ℕ → Result Body Errno
+by_fields widths said message =
+    if length message == 40 + sum widths then Ok (said (values_at widths 40 message)) else Err EINVAL
 
--- what the values of these fields and the name behind them ask for
-abbrev pub by_fields_and_name : {T : Type 0} → List ℕ → (List ℕ → List ℕ → T) → List ℕ → Result T Refusal
-by_fields_and_name widths asked message =
-    result_map_both (asked (values_at widths 40 message)) (λ refusal. refusal) (name_behind (sum widths) message)
+-- what the values of these fields and the name behind them say
+abbrev pub by_fields_and_name : List ℕ → (List ℕ → List ℕ → Body) → List ℕ → Result Body Errno
+by_fields_and_name widths said message =
+    result_map_both (said (values_at widths 40 message)) (λ e. e) (name_behind (sum widths) message)

@@ -1,39 +1,49 @@
 -- The kinds of message that are told apart, with their numbers (`enum fuse_opcode` of Linux `fuse.h`), their words in
--- the text of a trace, and what their messages ask.
-use Rattle.std.specs.Prelude.{◌≡◌, ◌↔◌, ℕ, ◌==◌, Option, Some, List, [], ◌∷◌, Result, codes}
+-- the text of a trace, and the shapes of their bodies.
+use Rattle.std.specs.Prelude.{◌≡◌, ◌↔◌, ℕ, ◌==◌, Bool, true, false, Option, Some, List, [], ◌∷◌, Result, Ok, Err, codes}
+use Rattle.std.specs.Prelude.{if◌then◌else◌}
 use Rattle.std.specs.List.{find}
 use Rattle.std.specs.Str.{bytes_eq}
-use Rattle.fl_wire.specs.Form.{Form, Refused, OfLock, OfCreate, shape_of}
 use Rattle.fl_wire.specs.declared.body.Shape.{Shape}
+use Rattle.fl_wire.specs.declared.body.Shape.TheVariants as shape
+use Rattle.fl_wire.specs.declared.errno.Errno.{Errno}
 use Rattle.fl_wire.specs.declared.errno.Errno.TheVariants.{EPROTO}
 use Rattle.fl_wire.specs.declared.kind.Kind.{Kind}
-use Rattle.fl_wire.specs.declared.kind.Kind.TheVariants.{Forget, Init, Getlk, Setlk, Create, Destroy, BatchForget}
-use Rattle.fl_wire.specs.declared.order.Op.TheVariants as op
+use Rattle.fl_wire.specs.declared.kind.Kind.TheVariants.{Lookup, Forget, Getattr, Unlink, Open, Release, Flush, Init}
+use Rattle.fl_wire.specs.declared.kind.Kind.TheVariants.{Getlk, Setlk, Create, Destroy, BatchForget}
 use Rattle.fl_wire.specs.declared.reading.Refusal.{Refusal}
 use Rattle.fl_wire.specs.declared.reading.Refusal.TheVariants.{Answer, Silent, Destroy as Ends}
 
 -- each kind once
 abbrev pub all_kinds : List Kind
-all_kinds = Forget ∷ Init ∷ Getlk ∷ Setlk ∷ Create ∷ Destroy ∷ BatchForget ∷ []
+all_kinds =
+    Lookup ∷ Forget ∷ Getattr ∷ Unlink ∷ Open ∷ Release ∷ Flush ∷ Init ∷ Getlk ∷ Setlk ∷ Create ∷ Destroy ∷ BatchForget ∷ []
 
--- the number in a message's header, the word in a trace's line, and what such a message asks
+-- the number in a message's header, the word in a trace's line, and the shape of the body; where its messages are no
+-- orders, how they are refused
 pub record Row : Type 0 where
   pub opcode : ℕ
   pub word : List ℕ
-  pub form : Form
+  pub shape : Result Shape Refusal
 
-abbrev pub row : ℕ → List ℕ → Form → Row
-row opcode word form = record { opcode = opcode; word = word; form = form }
+abbrev pub row : ℕ → List ℕ → Result Shape Refusal → Row
+row opcode word shape = record { opcode = opcode; word = word; shape = shape }
 
 -- what is known of a kind
 abbrev pub row_for : Kind → Row
-row_for Forget = row 2 (codes "forget") (Refused Silent)
-row_for Init = row 26 (codes "init") (Refused (Answer EPROTO))
-row_for Getlk = row 31 (codes "getlk") (OfLock op.Getlk)
-row_for Setlk = row 32 (codes "setlk") (OfLock op.Setlk)
-row_for Create = row 35 (codes "create") (OfCreate op.Create)
-row_for Destroy = row 38 (codes "destroy") (Refused Ends)
-row_for BatchForget = row 42 (codes "batch_forget") (Refused Silent)
+row_for Lookup = row 1 (codes "lookup") (Ok shape.Name)
+row_for Forget = row 2 (codes "forget") (Ok shape.Number)
+row_for Getattr = row 3 (codes "getattr") (Ok shape.Getattr)
+row_for Unlink = row 10 (codes "unlink") (Ok shape.Name)
+row_for Open = row 14 (codes "open") (Ok shape.Open)
+row_for Release = row 18 (codes "release") (Ok shape.Release)
+row_for Flush = row 25 (codes "flush") (Ok shape.Flush)
+row_for Init = row 26 (codes "init") (Err (Answer EPROTO))
+row_for Getlk = row 31 (codes "getlk") (Ok shape.Lock)
+row_for Setlk = row 32 (codes "setlk") (Ok shape.Lock)
+row_for Create = row 35 (codes "create") (Ok shape.Create)
+row_for Destroy = row 38 (codes "destroy") (Err Ends)
+row_for BatchForget = row 42 (codes "batch_forget") (Err Silent)
 
 -- the number that a message's header has
 abbrev pub opcode_for : Kind → ℕ
@@ -43,13 +53,19 @@ opcode_for kind = (row_for kind).opcode
 abbrev pub word_for : Kind → List ℕ
 word_for kind = (row_for kind).word
 
--- what a message asks
-abbrev pub form_for : Kind → Form
-form_for kind = (row_for kind).form
-
 -- the shape of a body; where a message is no order, how it is refused
 abbrev pub shape_for : Kind → Result Shape Refusal
-shape_for kind = shape_of (form_for kind)
+shape_for kind = (row_for kind).shape
+
+-- a kernel waits for no reply to a message of this kind
+abbrev pub is_silent : Kind → Bool
+is_silent Forget = true
+is_silent BatchForget = true
+is_silent _ = false
+
+-- how a message is refused that has this fault
+abbrev pub refusal_for : Kind → Errno → Refusal
+refusal_for kind e = if is_silent kind then Silent else Answer e
 
 -- the kind that has this number
 abbrev pub kind_of_opcode : ℕ → Option Kind

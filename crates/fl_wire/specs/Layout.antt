@@ -38,6 +38,26 @@ opcode_of bytes = field in_header 1 0 bytes
 abbrev pub unique_of : List ℕ → ℕ
 unique_of bytes = field in_header 2 0 bytes
 
+-- struct fuse_forget_in: nlookup
+abbrev pub forget_in : List ℕ
+forget_in = 8 ∷ []
+
+-- struct fuse_getattr_in: getattr_flags, dummy, fh
+abbrev pub getattr_in : List ℕ
+getattr_in = 4 ∷ 4 ∷ 8 ∷ []
+
+-- struct fuse_open_in: flags, unused
+abbrev pub open_in : List ℕ
+open_in = 4 ∷ 4 ∷ []
+
+-- struct fuse_release_in: fh, flags, release_flags, lock_owner
+abbrev pub release_in : List ℕ
+release_in = 8 ∷ 4 ∷ 4 ∷ 8 ∷ []
+
+-- struct fuse_flush_in: fh, unused, padding, lock_owner
+abbrev pub flush_in : List ℕ
+flush_in = 8 ∷ 4 ∷ 4 ∷ 8 ∷ []
+
 -- struct fuse_create_in: flags, mode, umask, padding
 abbrev pub create_in : List ℕ
 create_in = 4 ∷ 4 ∷ 4 ∷ 4 ∷ []

@@ -2,7 +2,6 @@ pub mod Append
 pub mod Body
 pub mod Cut
 pub mod Errno
-pub mod Form
 pub mod Frame
 pub mod Init
 pub mod Kind

@@ -27,6 +27,12 @@ pub record FitsLock (ask : LockAsk) : Type 0 where
 abbrev pub FitsBody : Body → Type 0
 FitsBody (body.Lock ask) = FitsLock ask
 FitsBody (body.Create excl mode name) = (mode < 512) × IsName name
+FitsBody (body.Name name) = IsName name
+FitsBody (body.Number n) = n < 2 ^ 64
+FitsBody (body.Flush fh owner) = (fh < 2 ^ 64) × (owner < 2 ^ 64)
+FitsBody (body.Release fh unlocks owner) = (fh < 2 ^ 64) × (owner < 2 ^ 64)
+FitsBody body.Getattr = Unit {0}
+FitsBody body.Open = Unit {0}
 
 -- so does what is asked
 abbrev pub FitsOp : Op → Type 0

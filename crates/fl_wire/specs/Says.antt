@@ -1,13 +1,16 @@
 -- What a message says as an order, and how one that says none is refused.
-use Rattle.std.specs.Prelude.{ℕ, ◌==◌, not, bit_and, Bool, List, slice_index, Option, None, Some, Result, Ok, Err}
+use Rattle.std.specs.Prelude.{ℕ, ◌==◌, not, bit_and, Bool, List, [], slice_index, Option, None, Some, Result, Ok, Err}
+use Rattle.std.specs.Option.{ok_or}
 use Rattle.fl_wire.specs.Body.{by_fields, by_fields_and_name}
-use Rattle.fl_wire.specs.Form.{Form, Refused, OfLock, OfCreate}
-use Rattle.fl_wire.specs.Kind.{form_for, kind_of_opcode}
-use Rattle.fl_wire.specs.Layout.{field, in_header, create_in, lk_in, opcode_of, unique_of}
+use Rattle.fl_wire.specs.Kind.{kind_of_opcode, refusal_for, shape_for}
+use Rattle.fl_wire.specs.Layout.{field, in_header, create_in, flush_in, forget_in, getattr_in, lk_in, open_in, release_in}
+use Rattle.fl_wire.specs.Layout.{opcode_of, unique_of}
+use Rattle.fl_wire.specs.Order.{op_of}
 use Rattle.fl_wire.specs.declared.body.Body.{Body}
-use Rattle.fl_wire.specs.declared.body.Body.TheVariants.{Lock, Create}
+use Rattle.fl_wire.specs.declared.body.Body.TheVariants as body
 use Rattle.fl_wire.specs.declared.body.Shape.{Shape}
-use Rattle.fl_wire.specs.declared.body.Shape.TheVariants.{Lock as LockShape, Create as CreateShape}
+use Rattle.fl_wire.specs.declared.body.Shape.TheVariants as shape
+use Rattle.fl_wire.specs.declared.errno.Errno.{Errno}
 use Rattle.fl_wire.specs.declared.errno.Errno.TheVariants.{ENOSYS}
 use Rattle.fl_wire.specs.declared.kind.Kind.{Kind}
 use Rattle.fl_wire.specs.declared.order.Order.{Order}
@@ -28,35 +31,45 @@ lock_of values = record {
   flags = slice_index values 6;
 }
 
--- what is made of the fields of a CREATE and a name: `O_EXCL` is octal 200 of the flags, and of the mode the
--- permissions are kept
-abbrev pub create_of : {T : Type 0} → (Bool → ℕ → List ℕ → T) → List ℕ → List ℕ → T
-create_of made values name =
-    made (not (bit_and (slice_index values 0) 128 == 0)) (bit_and (slice_index values 1) 511) name
+-- the body of a CREATE with these fields and name: `O_EXCL` is octal 200 of the flags, and of the mode the permissions
+-- are kept
+abbrev pub create_of : List ℕ → List ℕ → Body
+create_of values name =
+    body.Create (not (bit_and (slice_index values 0) 128 == 0)) (bit_and (slice_index values 1) 511) name
 
--- what is made of the body of a lock request: a header, then `struct fuse_lk_in`
-abbrev pub lock_body : {T : Type 0} → (LockAsk → T) → List ℕ → Result T Refusal
-lock_body made bytes = by_fields lk_in (λ values. made (lock_of values)) bytes
+-- the body of a RELEASE with these fields: bit 1 of its release flags (`FUSE_RELEASE_FLOCK_UNLOCK`) drops the whole-file
+-- lock
+abbrev pub release_of : List ℕ → Body
+release_of values =
+    body.Release (slice_index values 0) (not (bit_and (slice_index values 2) 2 == 0)) (slice_index values 3)
 
--- what is made of the body of a CREATE: a header, `struct fuse_create_in`, then a name
-abbrev pub create_body : {T : Type 0} → (Bool → ℕ → List ℕ → T) → List ℕ → Result T Refusal
-create_body made bytes = by_fields_and_name create_in (create_of made) bytes
+-- the body of this shape
+abbrev pub body_in : Shape → List ℕ → Result Body Errno
+body_in shape.Lock bytes = by_fields lk_in (λ values. body.Lock (lock_of values)) bytes
+body_in shape.Create bytes = by_fields_and_name create_in create_of bytes
+body_in shape.Name bytes = by_fields_and_name [] (λ values name. body.Name name) bytes
+body_in shape.Number bytes = by_fields forget_in (λ values. body.Number (slice_index values 0)) bytes
+body_in shape.Flush bytes =
+    by_fields flush_in (λ values. body.Flush (slice_index values 0) (slice_index values 3)) bytes
+body_in shape.Release bytes = by_fields release_in release_of bytes
+body_in shape.Getattr bytes = by_fields getattr_in (λ values. body.Getattr) bytes
+body_in shape.Open bytes = by_fields open_in (λ values. body.Open) bytes
 
--- what a message of this form asks
-abbrev pub asked_by : Form → List ℕ → Result Op Refusal
-asked_by (Refused refusal) bytes = Err refusal
-asked_by (OfLock op) bytes = lock_body op bytes
-asked_by (OfCreate op) bytes = create_body op bytes
+-- what a message of this kind asks, by its body or the body's fault. A kind has an order of each body of its shape, so the
+-- error for none never comes.
+abbrev pub asked_with : Kind → Result Body Errno → Result Op Refusal
+asked_with kind (Ok said) = ok_or (op_of kind said) (Answer ENOSYS)
+asked_with kind (Err e) = Err (refusal_for kind e)
+
+-- what a message of this kind asks, where its bodies have this shape
+abbrev pub asked_by : Kind → Result Shape Refusal → List ℕ → Result Op Refusal
+asked_by kind (Ok shape) bytes = asked_with kind (body_in shape bytes)
+asked_by kind (Err refusal) bytes = Err refusal
 
 -- what a message of this kind asks
 abbrev pub asked : Option Kind → List ℕ → Result Op Refusal
 asked None bytes = Err (Answer ENOSYS)
-asked (Some kind) bytes = asked_by (form_for kind) bytes
-
--- the body of this shape
-abbrev pub body_in : Shape → List ℕ → Result Body Refusal
-body_in LockShape bytes = lock_body Lock bytes
-body_in CreateShape bytes = create_body Create bytes
+asked (Some kind) bytes = asked_by kind (shape_for kind) bytes
 
 -- the order whose operation this is
 abbrev pub order_of : List ℕ → Result Op Refusal → Result Order Refusal

@@ -9,6 +9,18 @@ pub enum Body {
     Lock(LockAsk),
     /// The fields of a CREATE that are read, and a name (`struct fuse_create_in`).
     Create { excl: bool, mode: u32, name: Name },
+    /// A name alone.
+    Name(Name),
+    /// One number (`struct fuse_forget_in`).
+    Number(u64),
+    /// The fields of a FLUSH that are read (`struct fuse_flush_in`).
+    Flush { fh: u64, owner: u64 },
+    /// The fields of a RELEASE that are read (`struct fuse_release_in`).
+    Release { fh: u64, drop: bool, owner: u64 },
+    /// Fields that aren't read (`struct fuse_getattr_in`).
+    Getattr,
+    /// Fields that aren't read (`struct fuse_open_in`).
+    Open,
 }
 
 /// The layouts of bodies, one for each variant of [`Body`].
@@ -16,4 +28,10 @@ pub enum Body {
 pub enum Shape {
     Lock,
     Create,
+    Name,
+    Number,
+    Flush,
+    Release,
+    Getattr,
+    Open,
 }

@@ -7,8 +7,20 @@ use crate::reading::Refusal;
 /// The kinds of message that are told apart, with the numbers of `enum fuse_opcode` (Linux `fuse.h`).
 #[derive(Clone, Copy, Debug, PartialEq, Eq)]
 pub enum Kind {
-    /// The kernel forgets a node. No reply is owed.
+    /// Tells the node of a name.
+    Lookup = 1,
+    /// The kernel forgets lookups of a node. No reply is owed.
     Forget = 2,
+    /// Tells a node's attributes.
+    Getattr = 3,
+    /// Takes a name away.
+    Unlink = 10,
+    /// Opens a node.
+    Open = 14,
+    /// Closes an open file.
+    Release = 18,
+    /// A descriptor of an open file was closed.
+    Flush = 25,
     /// Opens a session.
     Init = 26,
     /// Tells a lock that excludes the one asked for.
@@ -24,8 +36,14 @@ pub enum Kind {
 }
 
 // Each kind once.
-const ALL: [Kind; 7] = [
+const ALL: [Kind; 13] = [
+    Kind::Lookup,
     Kind::Forget,
+    Kind::Getattr,
+    Kind::Unlink,
+    Kind::Open,
+    Kind::Release,
+    Kind::Flush,
     Kind::Init,
     Kind::Getlk,
     Kind::Setlk,
@@ -35,7 +53,8 @@ const ALL: [Kind; 7] = [
 ];
 
 impl Kind {
-    ghost use Rattle.fl_wire.specs.Kind.{opcode_for, word_for, shape_for, kind_of_opcode, kind_of_word, IsFoundBy};
+    ghost use Rattle.fl_wire.specs.Kind.{opcode_for, word_for, shape_for, is_silent, refusal_for};
+    ghost use Rattle.fl_wire.specs.Kind.{kind_of_opcode, kind_of_word, IsFoundBy};
 
     /// Its number in a message's header.
     pub fn opcode(self) -> u32
@@ -58,7 +77,13 @@ impl Kind {
         ensures shape { result.1 ≡ shape_for self }
     {
         match self {
-            Kind::Forget => ("forget", Err(Refusal::Silent)),
+            Kind::Lookup => ("lookup", Ok(Shape::Name)),
+            Kind::Forget => ("forget", Ok(Shape::Number)),
+            Kind::Getattr => ("getattr", Ok(Shape::Getattr)),
+            Kind::Unlink => ("unlink", Ok(Shape::Name)),
+            Kind::Open => ("open", Ok(Shape::Open)),
+            Kind::Release => ("release", Ok(Shape::Release)),
+            Kind::Flush => ("flush", Ok(Shape::Flush)),
             Kind::Init => ("init", Err(Refusal::Answer(Errno::EPROTO))),
             Kind::Getlk => ("getlk", Ok(Shape::Lock)),
             Kind::Setlk => ("setlk", Ok(Shape::Lock)),
@@ -80,6 +105,24 @@ impl Kind {
         ensures { result ≡ shape_for self }
     {
         self.row().1
+    }
+
+    /// Whether a kernel waits for no reply to its messages.
+    pub fn is_silent(self) -> bool
+        ensures { result ≡ is_silent self }
+    {
+        matches!(self, Kind::Forget | Kind::BatchForget)
+    }
+
+    // How its message is refused that has this fault.
+    pub(crate) fn refusal(self, e: Errno) -> Refusal
+        ensures { result ≡ refusal_for self e }
+    {
+        if self.is_silent() {
+            Refusal::Silent
+        } else {
+            Refusal::Answer(e)
+        }
     }
 
     /// The kind of this word; none where no kind has it.

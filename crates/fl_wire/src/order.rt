@@ -22,17 +22,32 @@ pub struct Order {
 }
 
 impl Order {
-    /// Whether it changes nothing whatever it is answered: GETLK.
+    /// Whether it changes nothing whatever it is answered: GETLK and GETATTR.
     pub fn only_reads(&self) -> bool
         ensures { result ≡ only_reads self.now.op }
     {
-        matches!(self.op, Op::Getlk(_))
+        matches!(self.op, Op::Getlk(_) | Op::Getattr)
     }
 }
 
 /// What is asked.
 #[derive(Clone, Copy, Debug, PartialEq, Eq)]
 pub enum Op {
+    /// Tells the node of this name, and counts one more lookup of it (FUSE_LOOKUP).
+    Lookup(Name),
+    /// So many lookups of the node are forgotten (FUSE_FORGET). It has no reply.
+    Forget(u64),
+    /// Tells the node's attributes (FUSE_GETATTR).
+    Getattr,
+    /// Takes the name away (FUSE_UNLINK).
+    Unlink(Name),
+    /// Opens the node (FUSE_OPEN).
+    Open,
+    /// Closes an open file (FUSE_RELEASE). With `drop` the owner's whole-file lock goes
+    /// (`FUSE_RELEASE_FLOCK_UNLOCK`).
+    Release { fh: u64, drop: bool, owner: u64 },
+    /// The owner closed a descriptor of the file: its record locks on the file go (FUSE_FLUSH; POSIX.1-2017 `fcntl`).
+    Flush { fh: u64, owner: u64 },
     /// Makes the file of this name where there is none, and opens it (FUSE_CREATE). With `excl` it is
     /// an error if there is one (`O_EXCL` of POSIX.1-2017 `open`).
     Create { excl: bool, mode: u32, name: Name },
@@ -43,7 +58,7 @@ pub enum Op {
 }
 
 impl Op {
-    ghost use Rattle.fl_wire.specs.Form.{body_shape};
+    ghost use Rattle.fl_wire.specs.Body.{body_shape};
     ghost use Rattle.fl_wire.specs.Kind.{shape_for};
     ghost use Rattle.fl_wire.specs.Order.{kind_of, op_of, parts_of};
 
@@ -52,6 +67,13 @@ impl Op {
         ensures { result ≡ parts_of self.now }
     {
         match *self {
+            Op::Lookup(name) => (Kind::Lookup, Body::Name(name)),
+            Op::Forget(n) => (Kind::Forget, Body::Number(n)),
+            Op::Getattr => (Kind::Getattr, Body::Getattr),
+            Op::Unlink(name) => (Kind::Unlink, Body::Name(name)),
+            Op::Open => (Kind::Open, Body::Open),
+            Op::Release { fh, drop, owner } => (Kind::Release, Body::Release { fh, drop, owner }),
+            Op::Flush { fh, owner } => (Kind::Flush, Body::Flush { fh, owner }),
             Op::Create { excl, mode, name } => (Kind::Create, Body::Create { excl, mode, name }),
             Op::Getlk(ask) => (Kind::Getlk, Body::Lock(ask)),
             Op::Setlk(ask) => (Kind::Setlk, Body::Lock(ask)),
@@ -65,6 +87,17 @@ impl Op {
         ensures shaped { IsSome result ↔ (shape_for kind ≡ Ok (body_shape body)) }
     {
         match (kind, body) {
+            (Kind::Lookup, Body::Name(name)) => Some(Op::Lookup(name)),
+            (Kind::Forget, Body::Number(n)) => Some(Op::Forget(n)),
+            (Kind::Getattr, Body::Getattr) => Some(Op::Getattr),
+            (Kind::Unlink, Body::Name(name)) => Some(Op::Unlink(name)),
+            (Kind::Open, Body::Open) => Some(Op::Open),
+            (Kind::Release, Body::Release { fh, drop, owner }) => Some(Op::Release {
+                fh,
+                drop,
+                owner,
+            }),
+            (Kind::Flush, Body::Flush { fh, owner }) => Some(Op::Flush { fh, owner }),
             (Kind::Create, Body::Create { excl, mode, name }) => Some(Op::Create {
                 excl,
                 mode,

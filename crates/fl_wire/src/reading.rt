@@ -1,11 +1,11 @@
-ghost use Rattle.std.specs.Prelude.{◌≡◌, ◌+◌, ◌<◌, ◌≤◌, length, IfOk, OnOk};
+ghost use Rattle.std.specs.Prelude.{◌≡◌, ◌+◌, ◌<◌, ◌≤◌, ◌==◌, length, IfOk, OnOk, Ok, Err};
+ghost use Rattle.std.specs.Prelude.{if◌then◌else◌};
 ghost use Rattle.fl_wire.specs.Body.{name_behind, name_in};
-ghost use Rattle.fl_wire.specs.Kind.{form_for};
+ghost use Rattle.fl_wire.specs.Kind.{shape_for};
 ghost use Rattle.fl_wire.specs.Message.{ReadsBack};
 ghost use Rattle.fl_wire.specs.Name.{IsName};
 ghost use Rattle.fl_wire.specs.Sayable.{FitsBody, FitsOp, IsSayable};
-ghost use Rattle.fl_wire.specs.Says.{asked_by, body_in, create_body, lock_body, said};
-ghost use Rattle.fl_wire.specs.declared.body.Body.TheVariants as body;
+ghost use Rattle.fl_wire.specs.Says.{asked_by, body_in, said};
 
 use crate::body::{Body, Shape};
 use crate::errno::Errno;
@@ -20,6 +20,9 @@ const O_EXCL: u32 = 0o200;
 
 const PERMISSIONS: u32 = 0o777;
 
+// `FUSE_RELEASE_FLOCK_UNLOCK` of the release flags.
+const RELEASE_FLOCK_UNLOCK: u32 = 0b10;
+
 /// Why a message is no order.
 #[derive(Clone, Copy, Debug, PartialEq, Eq)]
 pub enum Refusal {
@@ -33,7 +36,7 @@ pub enum Refusal {
 
 /// The order that a message says, or how it is refused: EPROTO for an INIT, ENOSYS for a kind that isn't
 /// served, EINVAL for a body of another length than its kind's or a name that no zero byte ends, and
-/// ENAMETOOLONG for a name of more than 255 bytes.
+/// ENAMETOOLONG for a name of more than 255 bytes. A FORGET or BATCH_FORGET has no reply, so it is refused silently.
 pub fn read_order(frame: &Frame) -> Result<Order, Refusal>
     ensures said { result ≡ said frame.now }
     ensures sayable { IfOk result IsSayable }
@@ -62,31 +65,37 @@ fn order_in(frame: &Frame) -> Result<Order, Refusal>
 
 // What a message of this kind asks.
 fn op_in(kind: Kind, message: &[u8]) -> Result<Op, Refusal>
-    ensures value { result ≡ asked_by (form_for kind) message.now }
+    ensures value { result ≡ asked_by kind (shape_for kind) message.now }
     ensures fits { IfOk result FitsOp }
 {
-    let body = body_in(kind.shape()?, message)?;
-    Ok(Op::of(kind, body).unwrap())
+    let body = body_in(kind.shape()?, message).map_err(|e| kind.refusal(e))?;
+    Op::of(kind, body).ok_or(Refusal::Answer(Errno::ENOSYS))
 }
 
 // The body of this shape.
-fn body_in(shape: Shape, message: &[u8]) -> Result<Body, Refusal>
+fn body_in(shape: Shape, message: &[u8]) -> Result<Body, Errno>
     ensures value { result ≡ body_in shape message.now }
     ensures fits { IfOk result FitsBody }
 {
     match shape {
         Shape::Lock => lock_body(message),
         Shape::Create => create_body(message),
+        Shape::Name => Ok(Body::Name(name_behind(message, 0)?)),
+        Shape::Number => number_body(message),
+        Shape::Flush => flush_body(message),
+        Shape::Release => release_body(message),
+        Shape::Getattr => unread_body(message, 16, Body::Getattr),
+        Shape::Open => unread_body(message, 8, Body::Open),
     }
 }
 
 // A lock request.
-fn lock_body(message: &[u8]) -> Result<Body, Refusal>
-    ensures value { result ≡ lock_body body.Lock message.now }
+fn lock_body(message: &[u8]) -> Result<Body, Errno>
+    ensures value { result ≡ body_in Shape.Lock message.now }
     ensures fits { IfOk result FitsBody }
 {
     if message.len() != 88 {
-        return Err(Refusal::Answer(Errno::EINVAL));
+        return Err(Errno::EINVAL);
     }
     Ok(Body::Lock(LockAsk {
         fh: u64_at(message, 40),
@@ -100,8 +109,8 @@ fn lock_body(message: &[u8]) -> Result<Body, Refusal>
 }
 
 // The body of a CREATE.
-fn create_body(message: &[u8]) -> Result<Body, Refusal>
-    ensures value { result ≡ create_body body.Create message.now }
+fn create_body(message: &[u8]) -> Result<Body, Errno>
+    ensures value { result ≡ body_in Shape.Create message.now }
     ensures fits { IfOk result FitsBody }
 {
     let name = name_behind(message, 16)?;
@@ -112,17 +121,68 @@ fn create_body(message: &[u8]) -> Result<Body, Refusal>
     })
 }
 
+// One number.
+fn number_body(message: &[u8]) -> Result<Body, Errno>
+    ensures value { result ≡ body_in Shape.Number message.now }
+    ensures fits { IfOk result FitsBody }
+{
+    if message.len() != 48 {
+        return Err(Errno::EINVAL);
+    }
+    Ok(Body::Number(u64_at(message, 40)))
+}
+
+// The body of a FLUSH.
+fn flush_body(message: &[u8]) -> Result<Body, Errno>
+    ensures value { result ≡ body_in Shape.Flush message.now }
+    ensures fits { IfOk result FitsBody }
+{
+    if message.len() != 64 {
+        return Err(Errno::EINVAL);
+    }
+    Ok(Body::Flush {
+        fh: u64_at(message, 40),
+        owner: u64_at(message, 56),
+    })
+}
+
+// The body of a RELEASE.
+fn release_body(message: &[u8]) -> Result<Body, Errno>
+    ensures value { result ≡ body_in Shape.Release message.now }
+    ensures fits { IfOk result FitsBody }
+{
+    if message.len() != 64 {
+        return Err(Errno::EINVAL);
+    }
+    Ok(Body::Release {
+        fh: u64_at(message, 40),
+        drop: u32_at(message, 52) & RELEASE_FLOCK_UNLOCK != 0,
+        owner: u64_at(message, 56),
+    })
+}
+
+// A body of which only the length is looked at.
+fn unread_body(message: &[u8], len: usize, body: Body) -> Result<Body, Errno>
+    requires { len ≤ 16 }
+    ensures { result ≡ if length message.now == 40 + len then Ok body else Err Errno.EINVAL }
+{
+    if message.len() != 40 + len {
+        return Err(Errno::EINVAL);
+    }
+    Ok(body)
+}
+
 // The name behind fields of this many bytes.
-fn name_behind(message: &[u8], fields: usize) -> Result<Name, Refusal>
+fn name_behind(message: &[u8], fields: usize) -> Result<Name, Errno>
     requires { fields ≤ 16 }
     ensures value { result ≡ name_behind fields message.now }
     ensures long { OnOk result (40 + fields < length message.now) }
     ensures name { IfOk result IsName }
 {
     if message.len() <= 40 + fields {
-        return Err(Refusal::Answer(Errno::EINVAL));
+        return Err(Errno::EINVAL);
     }
-    name_in(&message[40 + fields..]).map_err(Refusal::Answer)
+    name_in(&message[40 + fields..])
 }
 
 // The name that these bytes spell, a zero byte at its end.
