@@ -2,6 +2,7 @@
 #![tactic(auto)]
 
 pub mod laws;
+mod locking;
 mod state;
 mod tolds;
 

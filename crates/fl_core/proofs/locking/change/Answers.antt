@@ -4,7 +4,7 @@ use Rattle.fl_ranges.specs.declared.lock.Mark.{Mark}
 use Rattle.fl_ranges.specs.Marking.{Marking, Stroke, stroke_on}
 use Rattle.fl_ranges.specs.Conflict.{conflicts}
 use Rattle.fl_core.specs.Replies.{room_reply, set_reply}
-use Rattle.fl_core.proofs.state.change.Goals as goal
+use Rattle.fl_core.proofs.locking.change.Goals as goal
 
 -- where nothing conflicts, the room decides
 in_clear : (m : Marking) (s : Stroke) (mark : Mark) → conflicts m s.key s.start s.end mark.kind ≡ false → set_reply m s (Some mark) ≡ room_reply m s

@@ -1,0 +1,182 @@
+//! Lock requests: the tests that they meet, and the locks that they set or tell.
+
+ghost use Rattle.std.specs.Prelude.{◌≡◌, ◌↔◌, true, false, Some, None};
+ghost use Rattle.std.specs.Prelude.{IfErr, IfOk, IfSome, OnOk, OnErr, IsNone};
+ghost use Rattle.fl_ranges.specs.Marking.{stroke_on, stroked};
+ghost use Rattle.fl_ranges.specs.Conflict.{conflicts, IsLawful};
+ghost use Rattle.fl_ranges.specs.Change.{after_changes};
+ghost use Rattle.fl_core.specs.LockRequest.{is_flock, key_of, start_of, end_of, mark_of};
+ghost use Rattle.fl_core.specs.Effects.{locked};
+ghost use Rattle.fl_core.specs.Replies.{ask_error, is_malformed, type_of, lock_answer};
+ghost use Rattle.fl_core.specs.Replies.{room_reply, set_reply, setlk_reply, getlk_reply};
+
+use fl_dir::Dir;
+use fl_ranges::{Class, Held, Key, Kind, LAST_BYTE, Mark, Range, Table};
+use fl_wire::{Answer, Errno, LockAsk};
+
+// The lock types of Linux `fcntl.h`.
+const READ: u32 = 0;
+
+const WRITE: u32 = 1;
+
+const UNLOCK: u32 = 2;
+
+/// The most runs of locked bytes, over all files and both classes.
+pub(crate) const MOST_RUNS: u32 = 4096;
+
+// FUSE_SETLK: sets or takes away a lock where its tests pass.
+pub(crate) fn set_lock(directory: &Dir, locks: &mut Table, node: u64, ask: &LockAsk) -> Result<Answer, Errno>
+    requires { locks.old.limit ≡ MOST_RUNS }
+    ensures reply { result ≡ setlk_reply directory.now locks.old.marking node ask.now }
+    ensures changed { locks.new.marking ≡ after_changes (locked node ask.now result) locks.old.marking }
+    ensures lawful { IsLawful locks.old.marking → IsLawful locks.new.marking }
+    ensures limit { locks.new.limit ≡ MOST_RUNS }
+{
+    let range = asked_range(directory, node, ask)?;
+    change(locks, &key_of(node, ask), &range, mark_of(ask))
+}
+
+// The bytes of the range get the mark, or lose theirs: where no lock that is held excludes it, and where there is
+// room for the runs afterwards.
+fn change(locks: &mut Table, key: &Key, range: &Range, mark: Option<Mark>) -> Result<Answer, Errno>
+    requires { locks.old.limit ≡ MOST_RUNS }
+    ensures reply { result ≡ set_reply locks.old.marking (stroke_on key.now range.now mark) mark }
+    ensures granted { OnOk result (locks.new.marking ≡ stroked (stroke_on key.now range.now mark) locks.old.marking) }
+    ensures refused { OnErr result (locks.new.marking ≡ locks.old.marking) }
+    ensures lawful { IsLawful locks.old.marking → IsLawful locks.new.marking }
+    ensures limit { locks.new.limit ≡ MOST_RUNS }
+{
+    match mark {
+        Some(own) if locks.clashes(key, range, own.kind) => Err(Errno::EAGAIN),
+        Some(_) => store(locks, key, range, mark),
+        None => store(locks, key, range, mark),
+    }
+}
+
+// The same for locks that nothing excludes.
+fn store(locks: &mut Table, key: &Key, range: &Range, mark: Option<Mark>) -> Result<Answer, Errno>
+    requires limit { locks.old.limit ≡ MOST_RUNS }
+    requires clear { IfSome mark
+        (λ own. conflicts locks.old.marking key.now range.now.start range.now.end own.kind ≡ false) }
+    ensures reply { result ≡ room_reply locks.old.marking (stroke_on key.now range.now mark) }
+    ensures granted { OnOk result (locks.new.marking ≡ stroked (stroke_on key.now range.now mark) locks.old.marking) }
+    ensures refused { OnErr result (locks.new.marking ≡ locks.old.marking) }
+    ensures lawful { IsLawful locks.old.marking → IsLawful locks.new.marking }
+    ensures limit { locks.new.limit ≡ MOST_RUNS }
+{
+    let stored = match mark {
+        Some(mark) => locks.put(key, range, mark),
+        None => locks.erase(key, range),
+    };
+    match stored {
+        Ok(()) => Ok(Answer::Done),
+        Err(_) => Err(Errno::ENOLCK),
+    }
+}
+
+// FUSE_GETLK: tells the lock that keeps the one asked for from being set.
+pub(crate) fn test_lock(directory: &Dir, locks: &Table, node: u64, ask: &LockAsk) -> Result<Answer, Errno>
+    ensures { result ≡ getlk_reply directory.now locks.now.marking node ask.now }
+{
+    let range = asked_range(directory, node, ask)?;
+    let key = key_of(node, ask);
+    if key.class == Class::Flock {
+        return Err(Errno::EINVAL);
+    }
+    let Some(mark) = mark_of(ask) else {
+        return Err(Errno::EINVAL);
+    };
+    Ok(lock_answer(ask, locks.blocker(&key, &range, mark.kind)))
+}
+
+// What a GETLK is told where this lock excludes it, or none.
+fn lock_answer(ask: &LockAsk, held: Option<Held>) -> Answer
+    ensures { result ≡ lock_answer ask.now held }
+{
+    match held {
+        None => Answer::Lock {
+            start: ask.start,
+            end: ask.end,
+            kind: UNLOCK,
+            pid: ask.pid,
+        },
+        Some(held) => Answer::Lock {
+            start: held.start,
+            end: held.end,
+            kind: type_of(held.mark.kind),
+            pid: held.mark.pid,
+        },
+    }
+}
+
+fn type_of(kind: Kind) -> u32
+    ensures { result ≡ type_of kind }
+{
+    match kind {
+        Kind::Read => READ,
+        Kind::Write => WRITE,
+    }
+}
+
+// The range of a lock request, by the tests that it meets whatever locks are held.
+fn asked_range(directory: &Dir, node: u64, ask: &LockAsk) -> Result<Range, Errno>
+    ensures error { IfErr result (λ e. ask_error directory.now node ask.now ≡ Some e) }
+    ensures passed { OnOk result (ask_error directory.now node ask.now ≡ None) }
+    ensures range { IfOk result (λ range. (range.start ≡ start_of ask.now) × (range.end ≡ end_of ask.now)) }
+{
+    if directory.node_of(ask.fh) != Some(node) {
+        return Err(Errno::EBADF);
+    }
+    range_of(ask).ok_or(Errno::EINVAL)
+}
+
+// The range of a lock request; none where the request is malformed.
+fn range_of(ask: &LockAsk) -> Option<Range>
+    ensures malformed { IsNone result ↔ (is_malformed ask.now ≡ true) }
+    ensures range { IfSome result (λ range. (range.start ≡ start_of ask.now) × (range.end ≡ end_of ask.now)) }
+{
+    if ask.flags > 1 || ask.kind > UNLOCK {
+        return None;
+    }
+    if is_flock(ask) {
+        return Some(Range::whole());
+    }
+    if ask.start > ask.end || ask.end > LAST_BYTE {
+        return None;
+    }
+    Some(Range {
+        start: ask.start,
+        end: ask.end,
+    })
+}
+
+fn key_of(node: u64, ask: &LockAsk) -> Key
+    ensures { result ≡ key_of node ask.now }
+{
+    Key {
+        class: if is_flock(ask) {
+            Class::Flock
+        } else {
+            Class::Record
+        },
+        node,
+        owner: ask.owner,
+    }
+}
+
+fn mark_of(ask: &LockAsk) -> Option<Mark>
+    ensures { result ≡ mark_of ask.now }
+{
+    let kind = match ask.kind {
+        READ => Kind::Read,
+        WRITE => Kind::Write,
+        _ => return None,
+    };
+    Some(Mark { kind, pid: ask.pid })
+}
+
+fn is_flock(ask: &LockAsk) -> bool
+    ensures { result ≡ is_flock ask.now }
+{
+    ask.flags & 1 == 1
+}
