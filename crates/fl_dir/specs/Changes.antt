@@ -8,7 +8,7 @@ use Rattle.fl_wire.specs.declared.told.Answer.TheVariants.{Entry, Open, Made}
 use Rattle.fl_wire.specs.declared.told.Attr.{Attr}
 use Rattle.fl_dir.specs.declared.node.Node.{Node}
 use Rattle.fl_dir.specs.Directory.{Listing, linked, made_node}
-use Rattle.fl_dir.specs.OpenFiles.{lives}
+use Rattle.fl_dir.specs.OpenFiles.{lives, without_file}
 
 -- the nodes with this one at a number
 abbrev pub set_at : FinMap nat_cmp Node → ℕ → Option Node → FinMap nat_cmp Node
@@ -89,5 +89,5 @@ after_forget d node n = swept node (record d { nodes = changed_at d.nodes node (
 
 -- the directory after an fh of the node was closed, by its recorded answer
 abbrev pub after_close : {X : Type 0} → Listing → ℕ → ℕ → Result X Errno → Listing
-after_close d node fh (Ok _) = swept node (record d { files = remove d.files fh })
+after_close d node fh (Ok _) = swept node (without_file d fh)
 after_close d node fh (Err e) = d

@@ -1,7 +1,7 @@
 -- Open files: the numbers (fh) under which nodes are open, and what keeps a node alive (Linux `fuse.h`).
 use Rattle.std.specs.Prelude.{ℕ, ◌-◌, ◌^◌, Bool, false, not, ◌||◌, ◌==◌, nat_le, Option, Some, None, is_some}
 use Rattle.std.specs.List.{list_any}
-use Rattle.std.specs.FinMap.{get, len, entries}
+use Rattle.std.specs.FinMap.{get, len, entries, remove}
 use Rattle.fl_dir.specs.declared.node.Node.{Node}
 use Rattle.fl_dir.specs.Directory.{Listing}
 
@@ -17,6 +17,10 @@ is_on (Some own) node = own == node
 -- the fh is open, and on this node
 abbrev pub is_open_on : Listing → ℕ → ℕ → Bool
 is_open_on d fh node = is_on (get d.files fh) node
+
+-- the directory with this fh closed
+abbrev pub without_file : Listing → ℕ → Listing
+without_file d fh = record d { files = remove d.files fh }
 
 -- some fh is open on the node
 abbrev pub has_open_file : Listing → ℕ → Bool
