@@ -1,5 +1,5 @@
 -- What a recorded order changes with its recorded replies: read off these and all but the locks, and nothing is tested.
-use Rattle.std.specs.Prelude.{ℕ, ◌==◌, Option, Some, None, option_map, Result, Ok, Err, List, [], ◌∷◌, ◌++◌}
+use Rattle.std.specs.Prelude.{ℕ, ◌==◌, Bool, true, false, Option, Some, None, option_map, Result, Ok, Err, List, [], ◌∷◌, ◌++◌}
 use Rattle.std.specs.Prelude.{if◌then◌else◌}
 use Rattle.std.specs.List.{fold}
 use Rattle.fl_wire.specs.declared.errno.Errno.{Errno}
@@ -7,10 +7,15 @@ use Rattle.fl_wire.specs.declared.told.Answer.{Answer}
 use Rattle.fl_wire.specs.declared.told.Told.{Told}
 use Rattle.fl_wire.specs.declared.order.Order.{Order}
 use Rattle.fl_wire.specs.declared.order.Op.{Op}
+use Rattle.fl_wire.specs.declared.order.Op.TheVariants.{Lookup, Forget, Getattr, Unlink, Open, Release, Flush}
 use Rattle.fl_wire.specs.declared.order.Op.TheVariants.{Create, Getlk, Setlk}
 use Rattle.fl_wire.specs.declared.order.LockAsk.{LockAsk}
-use Rattle.fl_ranges.specs.Change.{Change, struck, after_changes}
-use Rattle.fl_dir.specs.Changes.{after_create}
+use Rattle.fl_ranges.specs.declared.lock.Class.{Class}
+use Rattle.fl_ranges.specs.declared.lock.Class.TheVariants.{Record, Flock}
+use Rattle.fl_ranges.specs.Change.{Change, struck, cleared, after_changes}
+use Rattle.fl_dir.specs.Changes.{after_lookup, after_create, after_open, after_unlink, after_forget, after_close}
+use Rattle.fl_dir.specs.Directory.{Listing}
+use Rattle.fl_dir.specs.OpenFiles.{has_open_file, without_file}
 use Rattle.fl_core.specs.LockRequest.{stroke_of}
 use Rattle.fl_core.specs.State.{Request, View, State, Snapshot}
 
@@ -28,16 +33,62 @@ abbrev pub locked : ℕ → LockAsk → Result Answer Errno → List Change
 locked node ask (Ok answer) = struck (stroke_of node ask) ∷ []
 locked node ask (Err e) = []
 
+-- all locks of the owner on the node go, of this class
+abbrev pub unlocked : Class → ℕ → ℕ → Change
+unlocked class node owner =
+    struck (record { key = record { class = class; node = node; owner = owner }; start = 0; end = 9223372036854775807; mark = None })
+
+-- FLUSH with this reply: the owner's record locks on the node go, through whichever fh they were set (POSIX.1-2017
+-- `fcntl`: all locks of a process on a file go when it closes any descriptor of the file)
+abbrev pub flushed : ℕ → ℕ → Result Answer Errno → List Change
+flushed node owner (Ok answer) = unlocked Record node owner ∷ []
+flushed node owner (Err e) = []
+
+-- RELEASE that drops the whole-file lock of the owner, or not
+abbrev pub dropped : Bool → ℕ → ℕ → List Change
+dropped false node owner = []
+dropped true node owner = unlocked Flock node owner ∷ []
+
+-- where no fh is left open on the node, all its locks go
+abbrev pub cleared_on : Listing → ℕ → List Change
+cleared_on d node = if has_open_file d node then [] else cleared node ∷ []
+
+-- RELEASE with this reply: the whole-file lock of the owner, if it is dropped; then the fh; then the locks of a node
+-- that isn't open any more
+abbrev pub released : ℕ → ℕ → Bool → ℕ → Result Answer Errno → View → Effect
+released node fh unlocks owner (Ok answer) v = record {
+  view = record v { directory = after_close v.directory node fh (Ok answer) };
+  changes = cleared_on (without_file v.directory fh) node ++ dropped unlocks node owner;
+}
+released node fh unlocks owner (Err e) v = leaving v
+
+-- only the directory changes
+abbrev pub with_directory : View → Listing → Effect
+with_directory v d = leaving (record v { directory = d })
+
 -- an order with this reply of its own; an error changes nothing
 abbrev pub answered : Order → Op → Result Answer Errno → View → Effect
+answered order (Lookup name) reply v = with_directory v (after_lookup v.directory reply)
+answered order (Forget n) reply v = leaving v
+answered order Getattr reply v = leaving v
+answered order (Unlink name) reply v = with_directory v (after_unlink v.directory name reply)
+answered order Open reply v = with_directory v (after_open v.directory order.node reply)
+answered order (Release fh unlocks owner) reply v = released order.node fh unlocks owner reply v
+answered order (Flush fh owner) reply v = record { view = v; changes = flushed order.node owner reply }
 answered order (Create excl mode name) reply v =
-    leaving (record v { directory = after_create v.directory order.uid order.gid mode name reply })
+    with_directory v (after_create v.directory order.uid order.gid mode name reply)
 answered order (Getlk ask) reply v = leaving v
 answered order (Setlk ask) reply v = record { view = v; changes = locked order.node ask reply }
 
 -- an order with no reply of its own
-abbrev pub unanswered : Order → View → Effect
-unanswered order v = leaving v
+abbrev pub unanswered : Order → Op → View → Effect
+unanswered order (Forget n) v = with_directory v (after_forget v.directory order.node n)
+unanswered order _ v = leaving v
+
+-- an order with its own reply, if it has one
+abbrev pub at_once : Order → Option (Result Answer Errno) → View → Effect
+at_once order None v = unanswered order order.op v
+at_once order (Some reply) v = answered order order.op reply v
 
 -- the parked request of a unique, and the others
 abbrev pub taken_out : ℕ → List Request → Option (Request × List Request)
@@ -63,11 +114,11 @@ followed_by f e = record { view = (f e.view).view; changes = (f e.view).changes 
 abbrev pub told_first : Order → Told → View → Effect
 told_first order told v =
     if told.unique == order.unique then answered order order.op told.result v
-    else followed_by (later told) (unanswered order v)
+    else followed_by (later told) (unanswered order order.op v)
 
 -- an order with all replies that it gives
 abbrev pub replied : Order → List Told → View → Effect
-replied order [] v = unanswered order v
+replied order [] v = unanswered order order.op v
 replied order (told ∷ tolds) v = fold (λ e t. followed_by (later t) e) (told_first order told v) tolds
 
 -- the state after an effect

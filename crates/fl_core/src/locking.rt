@@ -1,12 +1,12 @@
 //! Lock requests: the tests that they meet, and the locks that they set or tell.
 
-ghost use Rattle.std.specs.Prelude.{◌≡◌, ◌↔◌, true, false, Some, None};
+ghost use Rattle.std.specs.Prelude.{◌≡◌, ◌↔◌, true, false, Some, None, [], ◌∷◌, ◌++◌, if◌then◌else◌};
 ghost use Rattle.std.specs.Prelude.{IfErr, IfOk, IfSome, OnOk, OnErr, IsNone};
 ghost use Rattle.fl_ranges.specs.Marking.{stroke_on, stroked};
 ghost use Rattle.fl_ranges.specs.Conflict.{conflicts, IsLawful};
-ghost use Rattle.fl_ranges.specs.Change.{after_changes};
+ghost use Rattle.fl_ranges.specs.Change.{cleared, after_change, after_changes};
 ghost use Rattle.fl_core.specs.LockRequest.{is_flock, key_of, start_of, end_of, mark_of};
-ghost use Rattle.fl_core.specs.Effects.{locked};
+ghost use Rattle.fl_core.specs.Effects.{dropped, locked, unlocked};
 ghost use Rattle.fl_core.specs.Replies.{ask_error, is_malformed, type_of, lock_answer};
 ghost use Rattle.fl_core.specs.Replies.{room_reply, set_reply, setlk_reply, getlk_reply};
 
@@ -34,6 +34,30 @@ pub(crate) fn set_lock(directory: &Dir, locks: &mut Table, node: u64, ask: &Lock
 {
     let range = asked_range(directory, node, ask)?;
     change(locks, &key_of(node, ask), &range, mark_of(ask))
+}
+
+/// All locks of the owner on the node go, of this class.
+pub(crate) fn unlock(locks: &mut Table, class: Class, node: u64, owner: u64)
+    ensures marking { locks.new.marking ≡ after_change (unlocked class node owner) locks.old.marking }
+    ensures lawful { IsLawful locks.old.marking → IsLawful locks.new.marking }
+    ensures limit { locks.new.limit ≡ locks.old.limit }
+{
+    locks.erase_owner(&Key { class, node, owner });
+}
+
+/// The owner's whole-file lock on the node goes with `drop`, and where this was the node's last fh all its locks go.
+pub(crate) fn release_locks(locks: &mut Table, node: u64, drop: bool, owner: u64, last: bool)
+    ensures marking { locks.new.marking
+        ≡ after_changes ((if last then cleared node ∷ [] else []) ++ dropped drop node owner) locks.old.marking }
+    ensures lawful { IsLawful locks.old.marking → IsLawful locks.new.marking }
+    ensures limit { locks.new.limit ≡ locks.old.limit }
+{
+    if drop {
+        unlock(locks, Class::Flock, node, owner);
+    }
+    if last {
+        locks.erase_node(node);
+    }
 }
 
 // The bytes of the range get the mark, or lose theirs: where no lock that is held excludes it, and where there is
