@@ -25,7 +25,12 @@ const UNLOCK: u32 = 2;
 pub(crate) const MOST_RUNS: u32 = 4096;
 
 // FUSE_SETLK: sets or takes away a lock where its tests pass.
-pub(crate) fn set_lock(directory: &Dir, locks: &mut Table, node: u64, ask: &LockAsk) -> Result<Answer, Errno>
+pub(crate) fn set_lock(
+    directory: &Dir,
+    locks: &mut Table,
+    node: u64,
+    ask: &LockAsk,
+) -> Result<Answer, Errno>
     requires { locks.old.limit ≡ MOST_RUNS }
     ensures reply { result ≡ setlk_reply directory.now locks.old.marking node ask.now }
     ensures changed { locks.new.marking ≡ after_changes (locked node ask.now result) locks.old.marking }
@@ -99,7 +104,12 @@ fn store(locks: &mut Table, key: &Key, range: &Range, mark: Option<Mark>) -> Res
 }
 
 // FUSE_GETLK: tells the lock that keeps the one asked for from being set.
-pub(crate) fn test_lock(directory: &Dir, locks: &Table, node: u64, ask: &LockAsk) -> Result<Answer, Errno>
+pub(crate) fn test_lock(
+    directory: &Dir,
+    locks: &Table,
+    node: u64,
+    ask: &LockAsk,
+) -> Result<Answer, Errno>
     ensures { result ≡ getlk_reply directory.now locks.now.marking node ask.now }
 {
     let range = asked_range(directory, node, ask)?;

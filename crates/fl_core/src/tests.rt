@@ -1,10 +1,80 @@
+//! Orders through a core, as tables of orders and replies.
+
+mod answers;
+mod errors;
+mod limits;
+mod lives;
+mod locks;
+mod plain;
+mod random;
+
 use super::*;
-use fl_wire::{Answer, Attr, Errno, LockAsk, Name, Op, Order, Told};
+use fl_wire::{Answer, Attr, Errno, LockAsk, Name, Op, Order};
+use std::alloc::Global;
+use std::process::Abort;
 use std::test::Fail;
 
-fn order(unique: u64, node: u64, op: Op) -> Order {
+const READ: u32 = 0;
+
+const WRITE: u32 = 1;
+
+const UNLOCK: u32 = 2;
+
+// What an order is answered, or that it has no reply.
+type Reply = Option<Result<Answer, Errno>>;
+
+// An order on a node, and its reply.
+type Case = (u64, Op, Reply);
+
+const DONE: Reply = Some(Ok(Answer::Done));
+
+const SILENT: Reply = None;
+
+const fn refused(error: Errno) -> Reply {
+    Some(Err(error))
+}
+
+const fn told(answer: Answer) -> Reply {
+    Some(Ok(answer))
+}
+
+// A core, and the place of its replies.
+#[derive(Drop)]
+struct Server {
+    core: Core,
+    tolds: Tolds,
+}
+
+impl Server {
+    fn new(alloc: Global) -> Result<Server, Fail> {
+        Ok(Server {
+            core: Core::new(alloc)?,
+            tolds: Tolds::new(alloc)?,
+        })
+    }
+
+    // The one reply of an order, which bears its unique, or none.
+    fn ask(&mut self, rt: &impl Abort, order: &Order) -> Reply {
+        self.core.step(order, &mut self.tolds);
+        let told = self.tolds.as_slice().first()?;
+        assert_eq!(rt; self.tolds.as_slice().len(), 1);
+        assert_eq!(rt; told.unique, order.unique);
+        Some(told.result)
+    }
+
+    // Each order is answered as its row says.
+    fn check(&mut self, rt: &impl Abort, cases: &[Case]) {
+        for (index, (node, op, reply)) in cases.iter().enumerate() {
+            let told = self.ask(rt, &order(*node, *op));
+            assert_eq!(rt; told, *reply, "order {index}");
+        }
+    }
+}
+
+// An order of user 5 and group 6.
+fn order(node: u64, op: Op) -> Order {
     Order {
-        unique,
+        unique: 1000 + node % 1000,
         node,
         uid: 5,
         gid: 6,
@@ -13,56 +83,80 @@ fn order(unique: u64, node: u64, op: Op) -> Order {
     }
 }
 
-// A record lock of process 11 through fh 1.
-fn lock(owner: u64, start: u64, end: u64, kind: u32) -> LockAsk {
+fn name(bytes: &[u8]) -> Result<Name, Fail> {
+    Ok(Name::new(bytes).ok_or("no name")?)
+}
+
+fn create(excl: bool, name: Name) -> Op {
+    Op::Create {
+        excl,
+        mode: 0o644,
+        name,
+    }
+}
+
+// A record lock request. Each owner's process has the owner's number.
+fn ask(fh: u64, owner: u32, start: u64, end: u64, kind: u32) -> LockAsk {
     LockAsk {
-        fh: 1,
-        owner,
+        fh,
+        owner: u64::from(owner),
         start,
         end,
         kind,
-        pid: 11,
+        pid: owner,
         flags: 0,
     }
 }
 
-#[test]
-fn a_file_is_made_and_locked(rt: HostRuntime) -> Result<(), Fail> {
-    let name = Name::new(b"a").ok_or("a name")?;
-    let create = Op::Create {
-        excl: true,
-        mode: 420,
-        name,
-    };
-    let made = Attr {
-        node: 2,
-        mode: 33188,
-        nlink: 1,
+fn lock(fh: u64, owner: u32, start: u64, end: u64, kind: u32) -> Op {
+    Op::Setlk(ask(fh, owner, start, end, kind))
+}
+
+fn flock(fh: u64, owner: u32, kind: u32) -> Op {
+    Op::Setlk(LockAsk {
+        flags: 1,
+        ..ask(fh, owner, 0, 0, kind)
+    })
+}
+
+// Whether a write lock could be set there.
+fn test(fh: u64, owner: u32, start: u64, end: u64) -> Op {
+    Op::Getlk(ask(fh, owner, start, end, WRITE))
+}
+
+// A lock record of the process of this owner.
+fn held(owner: u32, start: u64, end: u64, kind: u32) -> Reply {
+    told(Answer::Lock {
+        start,
+        end,
+        kind,
+        pid: owner,
+    })
+}
+
+fn flush(fh: u64, owner: u64) -> Op {
+    Op::Flush { fh, owner }
+}
+
+fn release(fh: u64, drop: bool, owner: u64) -> Op {
+    Op::Release { fh, drop, owner }
+}
+
+// What is told of a file of `create`.
+fn file(node: u64, nlink: u32) -> Attr {
+    Attr {
+        node,
+        mode: 0o100644,
+        nlink,
         uid: 5,
         gid: 6,
-    };
-    let held = Answer::Lock {
-        start: 0,
-        end: 9,
-        kind: 1,
-        pid: 11,
-    };
-    let steps = [
-        (order(1, 1, create), Ok(Answer::Made(made, 1))),
-        (order(2, 2, Op::Setlk(lock(7, 0, 9, 1))), Ok(Answer::Done)),
-        (order(3, 2, Op::Setlk(lock(8, 9, 9, 0))), Err(Errno::EAGAIN)),
-        (order(4, 2, Op::Getlk(lock(8, 5, 20, 0))), Ok(held)),
-    ];
-    laws::effects_are_shown_alike();
-    let mut core = Core::new(rt.alloc())?;
-    let mut tolds = Tolds::new(rt.alloc())?;
-    for (order, result) in steps {
-        core.step(&order, &mut tolds);
-        let told = Told {
-            unique: order.unique,
-            result,
-        };
-        assert_eq!(rt; tolds.as_slice(), [told].as_slice());
     }
-    Ok(())
+}
+
+fn made(node: u64, fh: u64) -> Reply {
+    told(Answer::Made(file(node, 1), fh))
+}
+
+fn attr(node: u64, nlink: u32) -> Reply {
+    told(Answer::Attr(file(node, nlink)))
 }

@@ -1,0 +1,145 @@
+//! Each error of each order, and the first of two where both apply.
+
+use super::*;
+
+#[test]
+fn names_are_refused_by_the_first_test(rt: HostRuntime) -> Result<(), Fail> {
+    let a = name(b"a")?;
+    let free = name(b"b")?;
+    let empty = name(b"")?;
+    let mut server = Server::new(rt.alloc())?;
+    server.check(
+        &rt,
+        &[
+            (1, create(true, a), made(2, 1)),
+            (3, Op::Lookup(a), refused(Errno::ENOENT)),
+            (0, Op::Lookup(a), refused(Errno::ENOENT)),
+            (2, Op::Lookup(a), refused(Errno::ENOTDIR)),
+            (2, Op::Lookup(free), refused(Errno::ENOTDIR)),
+            (1, Op::Lookup(free), refused(Errno::ENOENT)),
+            (1, Op::Lookup(empty), refused(Errno::ENOENT)),
+            (3, Op::Unlink(a), refused(Errno::ENOENT)),
+            (2, Op::Unlink(a), refused(Errno::ENOTDIR)),
+            (2, Op::Unlink(free), refused(Errno::ENOTDIR)),
+            (1, Op::Unlink(free), refused(Errno::ENOENT)),
+            (1, Op::Unlink(empty), refused(Errno::ENOENT)),
+            (3, create(false, free), refused(Errno::ENOENT)),
+            (3, create(false, empty), refused(Errno::ENOENT)),
+            (3, create(true, a), refused(Errno::ENOENT)),
+            (2, create(false, free), refused(Errno::ENOTDIR)),
+            (2, create(false, empty), refused(Errno::ENOTDIR)),
+            (2, create(true, a), refused(Errno::ENOTDIR)),
+            (1, create(true, a), refused(Errno::EEXIST)),
+            (1, create(false, a), made(2, 2)),
+            (1, create(true, free), made(3, 3)),
+        ],
+    );
+    for reserved in [b"".as_slice(), b".", b"..", b"/", b"a/b"] {
+        let reserved = name(reserved)?;
+        server.check(
+            &rt,
+            &[
+                (1, create(false, reserved), refused(Errno::EINVAL)),
+                (1, create(true, reserved), refused(Errno::EINVAL)),
+                (4, create(true, reserved), refused(Errno::ENOENT)),
+                (2, create(true, reserved), refused(Errno::ENOTDIR)),
+            ],
+        );
+    }
+    server.check(&rt, &[(1, create(true, name(b"...")?), made(4, 4))]);
+    Ok(())
+}
+
+#[test]
+fn nodes_and_files_are_refused_by_the_first_test(rt: HostRuntime) -> Result<(), Fail> {
+    let mut server = Server::new(rt.alloc())?;
+    server.check(
+        &rt,
+        &[
+            (1, create(true, name(b"a")?), made(2, 1)),
+            (1, create(true, name(b"b")?), made(3, 2)),
+            (4, Op::Getattr, refused(Errno::ENOENT)),
+            (0, Op::Getattr, refused(Errno::ENOENT)),
+            (4, Op::Open, refused(Errno::ENOENT)),
+            (0, Op::Open, refused(Errno::ENOENT)),
+            (1, Op::Open, refused(Errno::EISDIR)),
+            (4, Op::Forget(1), SILENT),
+            (1, Op::Forget(1), SILENT),
+            (2, Op::Forget(1), SILENT),
+            (2, Op::Forget(1), SILENT),
+        ],
+    );
+    let wrong = [(2, 2), (3, 1), (1, 1), (4, 1), (2, 0), (2, 3), (4, 3)];
+    for (node, fh) in wrong {
+        server.check(
+            &rt,
+            &[
+                (node, flush(fh, 7), refused(Errno::EBADF)),
+                (node, release(fh, false, 7), refused(Errno::EBADF)),
+                (node, release(fh, true, 7), refused(Errno::EBADF)),
+            ],
+        );
+    }
+    server.check(
+        &rt,
+        &[
+            (2, release(1, false, 7), DONE),
+            (2, flush(1, 7), refused(Errno::EBADF)),
+            (2, release(1, true, 7), refused(Errno::EBADF)),
+            (3, flush(2, 7), DONE),
+            (3, release(2, true, 7), DONE),
+        ],
+    );
+    Ok(())
+}
+
+// A lock request that no fh lets through.
+fn malformed(kind: u32, flags: u32) -> LockAsk {
+    LockAsk {
+        flags,
+        ..ask(1, 7, 5, 9, kind)
+    }
+}
+
+const TOO_FAR: u64 = 9_223_372_036_854_775_808;
+
+#[test]
+fn malformed_lock_requests_are_refused_after_the_fh(rt: HostRuntime) -> Result<(), Fail> {
+    let mut server = Server::new(rt.alloc())?;
+    server.check(&rt, &[(1, create(true, name(b"a")?), made(2, 1))]);
+    let both = [
+        malformed(READ, 2),
+        malformed(READ, 3),
+        malformed(3, 0),
+        malformed(3, 1),
+        ask(1, 7, 5, 4, READ),
+        ask(1, 7, 0, TOO_FAR, READ),
+    ];
+    for asked in both {
+        let closed = LockAsk { fh: 9, ..asked };
+        server.check(
+            &rt,
+            &[
+                (2, Op::Setlk(asked), refused(Errno::EINVAL)),
+                (2, Op::Getlk(asked), refused(Errno::EINVAL)),
+                (2, Op::Setlk(closed), refused(Errno::EBADF)),
+                (2, Op::Getlk(closed), refused(Errno::EBADF)),
+                (1, Op::Setlk(asked), refused(Errno::EBADF)),
+                (1, Op::Getlk(asked), refused(Errno::EBADF)),
+            ],
+        );
+    }
+    for asked in [malformed(UNLOCK, 0), malformed(READ, 1)] {
+        let closed = LockAsk { fh: 9, ..asked };
+        server.check(
+            &rt,
+            &[
+                (2, Op::Getlk(asked), refused(Errno::EINVAL)),
+                (2, Op::Getlk(closed), refused(Errno::EBADF)),
+                (3, Op::Getlk(asked), refused(Errno::EBADF)),
+                (2, Op::Setlk(asked), DONE),
+            ],
+        );
+    }
+    Ok(())
+}

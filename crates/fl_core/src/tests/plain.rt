@@ -1,0 +1,212 @@
+//! A plain directory, which keeps all files that ever were and finds out anew which of them live. It has no limits.
+
+use super::*;
+
+#[derive(Clone, Copy)]
+struct File {
+    name: Option<Name>,
+    lookups: u64,
+    mode: u32,
+    uid: u32,
+    gid: u32,
+}
+
+// The files by their numbers from 2 on, and the nodes of the fhs by their numbers from 1 on, none once it is closed.
+#[derive(Drop)]
+pub(super) struct Plain {
+    files: Vec<File>,
+    opened: Vec<Option<u64>>,
+}
+
+fn number(index: usize, first: u64) -> u64 {
+    first.wrapping_add(index as u64)
+}
+
+fn index(number: u64, first: u64) -> usize {
+    number.wrapping_sub(first) as usize
+}
+
+impl Plain {
+    pub(super) fn new(alloc: Global) -> Plain {
+        Plain {
+            files: Vec::new(alloc),
+            opened: Vec::new(alloc),
+        }
+    }
+
+    pub(super) fn next_node(&self) -> u64 {
+        number(self.files.len(), 2)
+    }
+
+    pub(super) fn next_fh(&self) -> u64 {
+        number(self.opened.len(), 1)
+    }
+
+    // The reply of an order, with its change made.
+    pub(super) fn reply(&mut self, order: &Order) -> Result<Reply, Fail> {
+        let node = order.node;
+        Ok(Some(match &order.op {
+            Op::Lookup(name) => self.lookup(node, name),
+            Op::Create { excl, mode, name } => self.create(order, *excl, *mode, name)?,
+            Op::Getattr => self.attr(node).map(Answer::Attr),
+            Op::Unlink(name) => self.unlink(node, name),
+            Op::Open => self.open(node)?,
+            Op::Flush { fh, .. } => self.test_file(node, *fh),
+            Op::Release { fh, .. } => self.release(node, *fh),
+            Op::Forget(n) => {
+                self.forget(node, *n);
+                return Ok(None);
+            }
+            _ => return Err(Fail::from("no order of a directory")),
+        }))
+    }
+
+    fn lookup(&mut self, node: u64, name: &Name) -> Result<Answer, Errno> {
+        self.test_directory(node)?;
+        let found = self.linked(name).ok_or(Errno::ENOENT)?;
+        self.count_up(found);
+        Ok(Answer::Entry(self.attr(found)?))
+    }
+
+    fn create(
+        &mut self,
+        order: &Order,
+        excl: bool,
+        mode: u32,
+        name: &Name,
+    ) -> Result<Result<Answer, Errno>, Fail> {
+        if let Err(error) = self.test_create(order.node, excl, name) {
+            return Ok(Err(error));
+        }
+        let node = match self.linked(name) {
+            None => self.add(order, mode, name)?,
+            Some(found) => {
+                self.count_up(found);
+                found
+            }
+        };
+        let fh = self.next_fh();
+        self.opened.push(Some(node))?;
+        Ok(self.attr(node).map(|attr| Answer::Made(attr, fh)))
+    }
+
+    fn test_create(&self, node: u64, excl: bool, name: &Name) -> Result<(), Errno> {
+        self.test_directory(node)?;
+        let bytes = name.as_bytes();
+        if bytes == b"".as_slice() || bytes == b"..".as_slice() {
+            return Err(Errno::EINVAL);
+        }
+        if excl && self.linked(name).is_some() {
+            return Err(Errno::EEXIST);
+        }
+        Ok(())
+    }
+
+    // A new file, under the next number.
+    fn add(&mut self, order: &Order, mode: u32, name: &Name) -> Result<u64, Fail> {
+        let node = self.next_node();
+        self.files.push(File {
+            name: Some(*name),
+            lookups: 1,
+            mode: 0o100000 | (mode & 0o777),
+            uid: order.uid,
+            gid: order.gid,
+        })?;
+        Ok(node)
+    }
+
+    fn unlink(&mut self, node: u64, name: &Name) -> Result<Answer, Errno> {
+        self.test_directory(node)?;
+        let found = self.linked(name).ok_or(Errno::ENOENT)?;
+        if let Some(file) = self.files.get_mut(index(found, 2)) {
+            file.name = None;
+        }
+        Ok(Answer::Done)
+    }
+
+    fn open(&mut self, node: u64) -> Result<Result<Answer, Errno>, Fail> {
+        if let Err(error) = self.attr(node) {
+            return Ok(Err(error));
+        }
+        if node == 1 {
+            return Ok(Err(Errno::EISDIR));
+        }
+        let fh = self.next_fh();
+        self.opened.push(Some(node))?;
+        Ok(Ok(Answer::Open(fh)))
+    }
+
+    fn release(&mut self, node: u64, fh: u64) -> Result<Answer, Errno> {
+        let answer = self.test_file(node, fh)?;
+        if let Some(opened) = self.opened.get_mut(index(fh, 1)) {
+            *opened = None;
+        }
+        Ok(answer)
+    }
+
+    fn forget(&mut self, node: u64, n: u64) {
+        if let Some(file) = self.files.get_mut(index(node, 2)) {
+            file.lookups = file.lookups.saturating_sub(n);
+        }
+    }
+
+    fn count_up(&mut self, node: u64) {
+        if let Some(file) = self.files.get_mut(index(node, 2)) {
+            file.lookups = file.lookups.wrapping_add(1);
+        }
+    }
+
+    // The node on which an fh is open.
+    pub(super) fn node_of(&self, fh: u64) -> Option<u64> {
+        *self.opened.get(index(fh, 1))?
+    }
+
+    fn test_file(&self, node: u64, fh: u64) -> Result<Answer, Errno> {
+        if self.node_of(fh) == Some(node) {
+            return Ok(Answer::Done);
+        }
+        Err(Errno::EBADF)
+    }
+
+    fn test_directory(&self, node: u64) -> Result<(), Errno> {
+        self.attr(node)?;
+        if node == 1 {
+            return Ok(());
+        }
+        Err(Errno::ENOTDIR)
+    }
+
+    // The node that is linked under the name.
+    fn linked(&self, name: &Name) -> Option<u64> {
+        for (index, file) in self.files.iter().enumerate() {
+            if file.name == Some(*name) {
+                return Some(number(index, 2));
+            }
+        }
+        None
+    }
+
+    // The attributes of a node that lives.
+    fn attr(&self, node: u64) -> Result<Attr, Errno> {
+        if node == 1 {
+            return Ok(Attr {
+                node,
+                mode: 0o40755,
+                nlink: 2,
+                uid: 0,
+                gid: 0,
+            });
+        }
+        let file = self.files.get(index(node, 2)).ok_or(Errno::ENOENT)?;
+        if file.name.is_none() && file.lookups == 0 && !self.opened.contains(&Some(node)) {
+            return Err(Errno::ENOENT);
+        }
+        Ok(Attr {
+            node,
+            mode: file.mode,
+            nlink: u32::from(file.name.is_some()),
+            uid: file.uid,
+            gid: file.gid,
+        })
+    }
+}

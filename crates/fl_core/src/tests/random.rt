@@ -1,0 +1,139 @@
+//! Random orders on names, nodes and open files, beside a plain directory.
+ghost use Rattle.std.specs.Prelude.{◌<◌};
+
+use super::plain::Plain;
+use super::*;
+
+// Numbers that only look random, from a seed.
+#[derive(Drop)]
+struct Numbers {
+    state: u64,
+}
+
+impl Numbers {
+    // The next one, below a bound.
+    fn below(&mut self, bound: u64) -> u64
+        requires { 0 < bound }
+        ensures { result < bound }
+    {
+        self.state = self
+            .state
+            .wrapping_mul(6_364_136_223_846_793_005)
+            .wrapping_add(1_442_695_040_888_963_407);
+        self.state / 4_294_967_296 % bound
+    }
+
+    // One of the last nine that were given before this one, or this one.
+    fn near(&mut self, next: u64) -> u64 {
+        next.saturating_sub(self.below(10))
+    }
+}
+
+type Names = [Name; 4];
+
+fn names() -> Result<Names, Fail> {
+    Ok([name(b"a")?, name(b"b")?, name(b"")?, name(b"..")?])
+}
+
+// What is asked of names in a node.
+fn random_name_op(numbers: &mut Numbers, names: &Names) -> Op {
+    let name = names[numbers.below(4) as usize];
+    match numbers.below(7) {
+        0 | 1 => Op::Lookup(name),
+        2 | 3 => Op::Unlink(name),
+        _ => Op::Create {
+            excl: numbers.below(3) == 0,
+            mode: numbers.below(65_536) as u32,
+            name,
+        },
+    }
+}
+
+// What is asked of a node.
+fn random_node_op(numbers: &mut Numbers) -> Op {
+    match numbers.below(6) {
+        0 => Op::Getattr,
+        1 | 2 => Op::Open,
+        _ => Op::Forget(numbers.below(4)),
+    }
+}
+
+// What is asked of an fh.
+fn random_file_op(numbers: &mut Numbers, fh: u64) -> Op {
+    let owner = numbers.below(2);
+    match numbers.below(3) {
+        0 => Op::Flush { fh, owner },
+        _ => Op::Release {
+            fh,
+            drop: numbers.below(2) == 0,
+            owner,
+        },
+    }
+}
+
+fn random_order(numbers: &mut Numbers, names: &Names, plain: &Plain) -> Order {
+    let fh = numbers.near(plain.next_fh());
+    let mut node = numbers.near(plain.next_node());
+    let often = numbers.below(8) != 0;
+    let op = match numbers.below(3) {
+        0 => {
+            if often {
+                node = 1;
+            }
+            random_name_op(numbers, names)
+        }
+        1 => random_node_op(numbers),
+        _ => {
+            if often {
+                node = plain.node_of(fh).unwrap_or(node);
+            }
+            random_file_op(numbers, fh)
+        }
+    };
+    Order {
+        unique: numbers.below(1000),
+        node,
+        uid: numbers.below(3) as u32,
+        gid: numbers.below(3) as u32,
+        pid: 0,
+        op,
+    }
+}
+
+// Every number that was given and the next one, as a node and as an fh.
+fn compare_all(rt: &impl Abort, server: &mut Server, plain: &mut Plain) -> Result<(), Fail> {
+    for node in 0..plain.next_node().saturating_add(1) {
+        compare(rt, server, plain, &order(node, Op::Getattr))?;
+        for fh in 0..plain.next_fh().saturating_add(1) {
+            compare(rt, server, plain, &order(node, flush(fh, 0)))?;
+        }
+    }
+    Ok(())
+}
+
+fn compare(
+    rt: &impl Abort,
+    server: &mut Server,
+    plain: &mut Plain,
+    order: &Order,
+) -> Result<(), Fail> {
+    let wanted = plain.reply(order)?;
+    assert_eq!(rt; server.ask(rt, order), wanted);
+    Ok(())
+}
+
+#[test]
+fn answers_as_a_plain_directory_does(rt: HostRuntime) -> Result<(), Fail> {
+    let names = names()?;
+    for seed in 0..10 {
+        let mut numbers = Numbers { state: seed };
+        let mut server = Server::new(rt.alloc())?;
+        let mut plain = Plain::new(rt.alloc());
+        for _ in 0..500 {
+            let order = random_order(&mut numbers, &names, &plain);
+            compare(&rt, &mut server, &mut plain, &order)?;
+        }
+        compare_all(&rt, &mut server, &mut plain)?;
+    }
+    Ok(())
+}
