@@ -1,5 +1,5 @@
 -- What a message says as an order, and how one that says none is refused.
-use Rattle.std.specs.Prelude.{ℕ, ◌==◌, not, bit_and, Bool, List, [], slice_index, Option, None, Some, Result, Ok, Err}
+use Rattle.std.specs.Prelude.{ℕ, ◌==◌, not, bit_and, List, [], slice_index, Option, None, Some, Result, Ok, Err}
 use Rattle.std.specs.Option.{ok_or}
 use Rattle.fl_wire.specs.Body.{by_fields, by_fields_and_name}
 use Rattle.fl_wire.specs.Kind.{kind_of_opcode, refusal_for, shape_for}
