@@ -1,5 +1,5 @@
 -- A line is found again in its text: its words are what stands between spaces, and each field is read off its word.
-use Rattle.std.proofs.Common.{◌≡◌, ℕ, ◌<◌, ◌^◌, ◌==◌, Bool, true, false, if◌then◌else◌, Option, None, Some, List, [], ◌∷◌, ◌++◌, get_or, drop, codes, Result, Ok, Err, refl, sym, ap, ◌∙◌, arith, lit<}
+use Rattle.std.proofs.Common.{◌≡◌, ℕ, ◌<◌, ◌^◌, ◌==◌, Bool, true, false, if◌then◌else◌, Option, None, Some, List, [], ◌∷◌, ◌++◌, get_or, drop, codes, Result, Ok, Err, refl, sym, ap, ◌∙◌, arith, lit<, append-nil}
 use Rattle.std.proofs.Math.Dec.{eqb}
 use Rattle.std.proofs.lemmas.Fmt.{digits_value-decimal}
 use Rattle.std.proofs.lemmas.List.Splits.{slice_split_at, slice_split_none}
@@ -12,7 +12,7 @@ use Rattle.std.specs.Str.Parse.{digits_value}
 use Rattle.hex.specs.Hex.{IsBytes, decode_of}
 use Rattle.hex.proofs.HexLemmas.{decode_of-encode_lower}
 use Rattle.fl_wire.specs.Errno.{number_of}
-use Rattle.fl_wire.specs.Form.{body_shape}
+use Rattle.fl_wire.specs.Body.{body_shape}
 use Rattle.fl_wire.specs.Kind.{word_for, shape_for, kind_of_word}
 use Rattle.fl_wire.specs.Order.{kind_of, body_of, op_of}
 use Rattle.fl_wire.specs.Sayable.{FitsBody, FitsOp, FitsLock, FitsResult, FitsAttr}
@@ -32,7 +32,7 @@ use Rattle.fl_wire.specs.declared.order.Order.{Order}
 use Rattle.fl_wire.specs.declared.told.Answer.{Answer}
 use Rattle.fl_wire.specs.declared.told.Answer.TheVariants.{Done, Entry, Attr, Open, Made, Lock}
 use Rattle.fl_wire.specs.declared.told.Attr.{Attr as Attributes}
-use Rattle.fl_book.specs.Text.{spaced, flag_text, name_text, fields_text, result_text, line_text, LineFits}
+use Rattle.fl_book.specs.Text.{spaced, flag_text, name_text, fields_text, behind, result_text, line_text, LineFits}
 use Rattle.fl_book.specs.declared.history.Line.{Line}
 use Rattle.fl_book.specs.declared.history.Line.TheVariants.{Asked, Told}
 use Rattle.fl_book.proofs.Letters.{IsWord, AreWords, AreLetters, literal, decimal_word, name_word, no_low, spaced_letters}
@@ -46,6 +46,12 @@ lock_ask_words a = decimal a.fh ∷ decimal a.owner ∷ decimal a.start ∷ deci
 abbrev pub field_words : Body → List (List ℕ)
 field_words (body.Lock ask) = lock_ask_words ask
 field_words (body.Create excl mode name) = flag_text excl ∷ decimal mode ∷ name_text name ∷ []
+field_words (body.Name name) = name_text name ∷ []
+field_words (body.Number n) = decimal n ∷ []
+field_words (body.Flush fh owner) = decimal fh ∷ decimal owner ∷ []
+field_words (body.Release fh unlocks owner) = decimal fh ∷ flag_text unlocks ∷ decimal owner ∷ []
+field_words body.Getattr = []
+field_words body.Open = []
 
 abbrev pub attr_words : Attributes → List (List ℕ) → List (List ℕ)
 attr_words a more = decimal a.node ∷ decimal a.mode ∷ decimal a.nlink ∷ decimal a.uid ∷ decimal a.gid ∷ more
@@ -66,9 +72,15 @@ abbrev pub line_words : Line → List (List ℕ)
 line_words (Asked worker order) = codes "ask" ∷ decimal worker ∷ order_words order
 line_words (Told told) = codes "tell" ∷ decimal told.unique ∷ result_words told.result
 
-body_spaced : (word : List ℕ) (b : Body) → spaced (word ∷ field_words b) ≡ word ++ 32 ∷ fields_text b
+body_spaced : (word : List ℕ) (b : Body) → spaced (word ∷ field_words b) ≡ word ++ behind (fields_text b)
 body_spaced word (body.Lock ask) = refl
 body_spaced word (body.Create excl mode name) = refl
+body_spaced word (body.Name name) = refl
+body_spaced word (body.Number n) = refl
+body_spaced word (body.Flush fh owner) = refl
+body_spaced word (body.Release fh unlocks owner) = refl
+body_spaced word body.Getattr = sym (append-nil word)
+body_spaced word body.Open = sym (append-nil word)
 
 result_spaced : (word : List ℕ) (told : Result Answer Errno) → spaced (word ∷ result_words told) ≡ word ++ 32 ∷ result_text told
 result_spaced word (Ok Done) = refl
@@ -114,7 +126,13 @@ flag_word true = literal (codes "1") refl
 flag_word false = literal (codes "0") refl
 
 pub kind_word : (k : Kind) → IsWord (word_for k)
+kind_word kind.Lookup = literal (word_for kind.Lookup) refl
 kind_word kind.Forget = literal (word_for kind.Forget) refl
+kind_word kind.Getattr = literal (word_for kind.Getattr) refl
+kind_word kind.Unlink = literal (word_for kind.Unlink) refl
+kind_word kind.Open = literal (word_for kind.Open) refl
+kind_word kind.Release = literal (word_for kind.Release) refl
+kind_word kind.Flush = literal (word_for kind.Flush) refl
 kind_word kind.Init = literal (word_for kind.Init) refl
 kind_word kind.Getlk = literal (word_for kind.Getlk) refl
 kind_word kind.Setlk = literal (word_for kind.Setlk) refl
@@ -125,6 +143,12 @@ kind_word kind.BatchForget = literal (word_for kind.BatchForget) refl
 fields_are : (b : Body) → FitsBody b → AreWords (field_words b)
 fields_are (body.Lock ask) f = lock_ask_are ask f
 fields_are (body.Create excl mode name) f = let few = f.0 in (flag_word excl, (decimal_word mode (omega arith), (name_word name f.1.are_bytes, tt)))
+fields_are (body.Name name) f = (name_word name f.are_bytes, tt)
+fields_are (body.Number n) f = (decimal_word n f, tt)
+fields_are (body.Flush fh owner) f = (decimal_word fh f.0, (decimal_word owner f.1, tt))
+fields_are (body.Release fh unlocks owner) f = (decimal_word fh f.0, (flag_word unlocks, (decimal_word owner f.1, tt)))
+fields_are body.Getattr f = tt
+fields_are body.Open f = tt
 
 attr_are : (a : Attributes) (more : List (List ℕ)) → FitsAttr a → AreWords more → AreWords (attr_words a more)
 attr_are a more f are = (decimal_word a.node f.node, (u32_word a.mode f.mode, (u32_word a.nlink f.nlink, (u32_word a.uid f.uid, (u32_word a.gid f.gid, are)))))
@@ -197,6 +221,12 @@ lock_ask_of ws = record { fh = number_at ws 0; owner = number_at ws 1; start = n
 
 abbrev pub body_of_words : Result Shape Refusal → List (List ℕ) → Body
 body_of_words (Ok shape.Create) ws = body.Create (bytes_eq (word_at ws 0) (codes "1")) (number_at ws 1) (name_of (word_at ws 2))
+body_of_words (Ok shape.Name) ws = body.Name (name_of (word_at ws 0))
+body_of_words (Ok shape.Number) ws = body.Number (number_at ws 0)
+body_of_words (Ok shape.Flush) ws = body.Flush (number_at ws 0) (number_at ws 1)
+body_of_words (Ok shape.Release) ws = body.Release (number_at ws 0) (bytes_eq (word_at ws 1) (codes "1")) (number_at ws 2)
+body_of_words (Ok shape.Getattr) ws = body.Getattr
+body_of_words (Ok shape.Open) ws = body.Open
 body_of_words _ ws = body.Lock (lock_ask_of ws)
 
 abbrev pub op_of_words : Option Kind → List (List ℕ) → Option Op
@@ -261,6 +291,12 @@ name_back (b ∷ name) bytes = ap (λ r. result_unwrap_or r []) (decode_of-encod
 body_back : (b : Body) → FitsBody b → body_of_words (Ok (body_shape b)) (field_words b) ≡ b
 body_back (body.Lock ask) f = λ i. body.Lock (lock_ask_back ask f i)
 body_back (body.Create excl mode name) f = let few = f.0 in λ i. body.Create (flag_back excl i) (value mode (omega arith) i) (name_back name f.1.are_bytes i)
+body_back (body.Name name) f = λ i. body.Name (name_back name f.are_bytes i)
+body_back (body.Number n) f = λ i. body.Number (value n f i)
+body_back (body.Flush fh owner) f = λ i. body.Flush (value fh f.0 i) (value owner f.1 i)
+body_back (body.Release fh unlocks owner) f = λ i. body.Release (value fh f.0 i) (flag_back unlocks i) (value owner f.1 i)
+body_back body.Getattr f = refl
+body_back body.Open f = refl
 
 kind_found : (k : Kind) → kind_of_word (word_for k) ≡ Some k
 kind_found k = grind arith

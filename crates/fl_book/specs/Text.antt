@@ -1,5 +1,6 @@
 -- The text of a history: a line of text for each of its lines, and which histories can be read back.
-use Rattle.std.specs.Prelude.{◌≡◌, ℕ, ◌+◌, ◌≤◌, ◌<◌, Bool, if◌then◌else◌, List, [], ◌∷◌, ◌++◌, length, All, Result, Ok, Err, codes}
+use Rattle.std.specs.Prelude.{◌≡◌, ℕ, ◌+◌, ◌≤◌, ◌<◌, Bool, if◌then◌else◌, List, [], ◌∷◌, ◌++◌, length, All, codes}
+use Rattle.std.specs.Prelude.{Option, Some, None, Result, Ok, Err}
 use Rattle.std.specs.List.{flat_map, join_with_byte}
 use Rattle.std.specs.Fmt.{decimal}
 use Rattle.hex.specs.Hex.{encode_lower}
@@ -8,13 +9,13 @@ use Rattle.fl_wire.specs.Kind.{word_for}
 use Rattle.fl_wire.specs.Order.{kind_of, body_of}
 use Rattle.fl_wire.specs.Sayable.{IsSayable, FitsTold}
 use Rattle.fl_wire.specs.declared.body.Body.{Body}
-use Rattle.fl_wire.specs.declared.body.Body.TheVariants.{Lock, Create}
+use Rattle.fl_wire.specs.declared.body.Body.TheVariants as body
 use Rattle.fl_wire.specs.declared.errno.Errno.{Errno}
 use Rattle.fl_wire.specs.declared.order.LockAsk.{LockAsk}
 use Rattle.fl_wire.specs.declared.order.Op.{Op}
 use Rattle.fl_wire.specs.declared.order.Order.{Order}
 use Rattle.fl_wire.specs.declared.told.Answer.{Answer}
-use Rattle.fl_wire.specs.declared.told.Answer.TheVariants.{Done, Entry, Attr, Open, Made, Lock as LockTold}
+use Rattle.fl_wire.specs.declared.told.Answer.TheVariants.{Done, Entry, Attr, Open, Made, Lock}
 use Rattle.fl_wire.specs.declared.told.Attr.{Attr as Attributes}
 use Rattle.fl_wire.specs.declared.told.Told.{Told as Reply}
 use Rattle.fl_book.specs.declared.history.Line.{Line}
@@ -39,14 +40,25 @@ lock_ask_text a =
     spaced (decimal a.fh ∷ decimal a.owner ∷ decimal a.start ∷ decimal a.end ∷
     decimal a.kind ∷ decimal a.pid ∷ decimal a.flags ∷ [])
 
--- the fields of a body
-abbrev pub fields_text : Body → List ℕ
-fields_text (Lock ask) = lock_ask_text ask
-fields_text (Create excl mode name) = spaced (flag_text excl ∷ decimal mode ∷ name_text name ∷ [])
+-- the fields of a body, where it has any
+abbrev pub fields_text : Body → Option (List ℕ)
+fields_text (body.Lock ask) = Some (lock_ask_text ask)
+fields_text (body.Create excl mode name) = Some (spaced (flag_text excl ∷ decimal mode ∷ name_text name ∷ []))
+fields_text (body.Name name) = Some (name_text name)
+fields_text (body.Number n) = Some (decimal n)
+fields_text (body.Flush fh owner) = Some (spaced (decimal fh ∷ decimal owner ∷ []))
+fields_text (body.Release fh unlocks owner) = Some (spaced (decimal fh ∷ flag_text unlocks ∷ decimal owner ∷ []))
+fields_text body.Getattr = None
+fields_text body.Open = None
+
+-- what stands behind a word: a space and the fields, or nothing where there are none
+abbrev pub behind : Option (List ℕ) → List ℕ
+behind None = []
+behind (Some fields) = 32 ∷ fields
 
 -- what is asked: the word of its kind, and the fields of its body
 abbrev pub op_text : Op → List ℕ
-op_text op = spaced (word_for (kind_of op) ∷ fields_text (body_of op) ∷ [])
+op_text op = word_for (kind_of op) ++ behind (fields_text (body_of op))
 
 -- an order
 abbrev pub order_text : Order → List ℕ
@@ -77,7 +89,7 @@ answer_text (Entry a) = spaced (codes "entry" ∷ attr_text a ∷ [])
 answer_text (Attr a) = spaced (codes "attr" ∷ attr_text a ∷ [])
 answer_text (Open fh) = spaced (codes "open" ∷ decimal fh ∷ [])
 answer_text (Made a fh) = spaced (codes "made" ∷ made_text a fh ∷ [])
-answer_text (LockTold start end kind pid) = spaced (codes "lock" ∷ lock_text start end kind pid ∷ [])
+answer_text (Lock start end kind pid) = spaced (codes "lock" ∷ lock_text start end kind pid ∷ [])
 
 -- an answer, or the number of an error
 abbrev pub result_text : Result Answer Errno → List ℕ

@@ -1,5 +1,6 @@
 ghost use Rattle.std.specs.Prelude.{◌≡◌, ◌++◌, ◌∷◌, [], ◌↔◌, IsTrue, IfOk, OnOk, string_bytes};
-ghost use Rattle.fl_book.specs.Text.{flag_text, name_text, lock_ask_text, fields_text, op_text, attr_text, answer_text, result_text, line_text, text_of, LineFits, Fits};
+ghost use Rattle.fl_book.specs.Text.{flag_text, name_text, lock_ask_text, fields_text, behind, op_text};
+ghost use Rattle.fl_book.specs.Text.{attr_text, answer_text, result_text, line_text, text_of, LineFits, Fits};
 ghost use Rattle.fl_book.specs.declared.history.Line.TheVariants.{Asked, Told as Reply};
 ghost use Rattle.fl_wire.specs.Sayable.{FitsBody, FitsTold, IsSayable};
 
@@ -59,8 +60,8 @@ fn body_fits(body: Body) -> bool
     ensures { IsTrue result ↔ FitsBody body }
 {
     match body {
-        Body::Lock(_) => true,
         Body::Create { mode, .. } => mode <= 0o777,
+        _ => true,
     }
 }
 
@@ -95,21 +96,34 @@ fn push_op(alloc: Global, text: &mut String, op: &Op) -> Result<(), NoMemory>
 {
     let (kind, body) = op.parts();
     let word = kind.word();
-    write!(text, "{word} ")?;
+    text.push_str(word)?;
     push_fields(alloc, text, &body)
 }
 
+// The fields with the space in front of them, where there are any.
 fn push_fields(alloc: Global, text: &mut String, body: &Body) -> Result<(), NoMemory>
-    ensures { OnOk result (string_bytes text.new ≡ string_bytes text.old ++ fields_text body.now) }
+    ensures { OnOk result (string_bytes text.new ≡ string_bytes text.old ++ behind (fields_text body.now)) }
 {
     match body {
+        Body::Lock(ask) => push_lock_ask(text, ask)?,
         Body::Create { excl, mode, name } => {
             let excl = flag_text(*excl);
-            write!(text, "{excl} {mode} ")?;
-            push_name(alloc, text, name)
+            write!(text, " {excl} {mode} ")?;
+            push_name(alloc, text, name)?;
         }
-        Body::Lock(ask) => push_lock_ask(text, ask),
+        Body::Name(name) => {
+            text.push(' ')?;
+            push_name(alloc, text, name)?;
+        }
+        Body::Number(n) => write!(text, " {n}")?,
+        Body::Flush { fh, owner } => write!(text, " {fh} {owner}")?,
+        Body::Release { fh, drop, owner } => {
+            let drop = flag_text(*drop);
+            write!(text, " {fh} {drop} {owner}")?;
+        }
+        Body::Getattr | Body::Open => (),
     }
+    Ok(())
 }
 
 fn flag_text(flag: bool) -> &'static str
@@ -130,8 +144,9 @@ fn push_name(alloc: Global, text: &mut String, name: &Name) -> Result<(), NoMemo
     Ok(())
 }
 
+// What a lock request asks for, with a space in front.
 fn push_lock_ask(text: &mut String, ask: &LockAsk) -> Result<(), NoMemory>
-    ensures { OnOk result (string_bytes text.new ≡ string_bytes text.old ++ lock_ask_text ask.now) }
+    ensures { OnOk result (string_bytes text.new ≡ string_bytes text.old ++ 32 ∷ lock_ask_text ask.now) }
 {
     let LockAsk {
         fh,
@@ -142,7 +157,7 @@ fn push_lock_ask(text: &mut String, ask: &LockAsk) -> Result<(), NoMemory>
         pid,
         flags,
     } = ask;
-    write!(text, "{fh} {owner} {start} {end} {kind} {pid} {flags}")?;
+    write!(text, " {fh} {owner} {start} {end} {kind} {pid} {flags}")?;
     Ok(())
 }
 

@@ -1,12 +1,13 @@
 //! The words of a trace line: each reader takes the one spelling that the text of a history has.
 
-ghost use Rattle.std.specs.Prelude.{◌≡◌, ◌==◌, ℕ, ◌^◌, ◌<◌, Bool, List, length, ◌++◌, ◌∷◌, ◌↔◌, IfSome, IsSome, IsSomeAnd, IsTrue};
+ghost use Rattle.std.specs.Prelude.{◌≡◌, ◌==◌, ℕ, ◌^◌, ◌<◌, Bool, List, Option, length, ◌++◌, ◌∷◌, ◌↔◌, IfSome, IsSome, IsSomeAnd, IsTrue};
 ghost use Rattle.std.specs.Fmt.{decimal};
 ghost use Rattle.std.specs.List.{position};
+ghost use Rattle.std.specs.Option.{option_copied};
 ghost use Rattle.std.specs.Str.Iter.{LacksByte};
 ghost use Rattle.hex.specs.Hex.{encode_lower};
 ghost use Rattle.fl_wire.specs.Name.{IsName};
-ghost use Rattle.fl_book.specs.Text.{flag_text, name_text};
+ghost use Rattle.fl_book.specs.Text.{flag_text, name_text, behind};
 ghost use Rattle.fl_book.specs.Words.{IsPlain};
 
 use fl_wire::Name;
@@ -53,6 +54,18 @@ pub(super) fn split_word(text: &str) -> Option<(&str, &str)>
         IsSomeAnd result (λ parts. (parts.0.now ≡ word) × (parts.1.now ≡ rest)) }
 {
     text.split_once(' ')
+}
+
+/// The first word of a text, and where a space ends it the text after the space.
+pub(super) fn first_word(text: &str) -> (&str, Option<&str>)
+    ensures parts { text.now ≡ result.0.now ++ behind (option_copied result.1) }
+    ensures only { (word : List ℕ) (fields : Option (List ℕ)) → LacksByte 32 word → text.now ≡ word ++ behind fields →
+        (result.0.now ≡ word) × (option_copied result.1 ≡ fields) }
+{
+    match split_word(text) {
+        Some((word, rest)) => (word, Some(rest)),
+        None => (text, None),
+    }
 }
 
 /// A number's word, and the text after the space behind it.
