@@ -1,6 +1,7 @@
 pub mod Histories
 pub mod WordLemmas
 pub mod Letters
+pub mod LineWords
 pub mod ReadBack
 pub mod OneText
 pub mod FirstWords

@@ -54,8 +54,8 @@ fn read_body(shape: Shape, fields: Option<&str>) -> Option<Body>
     ensures shape { IfSome result (λ body. body_shape body ≡ shape) }
     ensures fits { IfSome result FitsBody }
     ensures spelled { IfSome result (λ body. option_copied fields.entry ≡ fields_text body) }
-    ensures only { (body : Body) → body_shape body ≡ shape → FitsBody body → option_copied fields.entry ≡ fields_text body →
-        IsSome result }
+    ensures only { (body : Body) → body_shape body ≡ shape → FitsBody body →
+        option_copied fields.entry ≡ fields_text body → IsSome result }
 {
     match (shape, fields) {
         (Shape::Lock, Some(text)) => Some(Body::Lock(read_lock_ask(text)?)),

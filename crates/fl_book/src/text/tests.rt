@@ -1,3 +1,5 @@
+mod bad_lines;
+
 use super::*;
 use crate::history::{History, Line};
 use crate::laws;
@@ -55,6 +57,10 @@ fn create(name: Name, mode: u32) -> Op {
     }
 }
 
+fn release(fh: u64, drop: bool, owner: u64) -> Op {
+    Op::Release { fh, drop, owner }
+}
+
 fn told(answer: Result<Answer, Errno>) -> Line {
     Line::Told(Told {
         unique: 9,
@@ -87,6 +93,58 @@ fn orders_there_and_back(rt: HostRuntime) -> Result<(), Fail> {
             "ask 15 1 2 3 4 5 create 1 511 -\n",
         ),
         (
+            asked(0, Op::Lookup(name)),
+            "ask 0 1 2 3 4 5 lookup 61ff\n",
+        ),
+        (
+            asked(0, Op::Lookup(empty)),
+            "ask 0 1 2 3 4 5 lookup -\n",
+        ),
+        (
+            asked(0, Op::Forget(0)),
+            "ask 0 1 2 3 4 5 forget 0\n",
+        ),
+        (
+            asked(0, Op::Forget(u64::MAX)),
+            "ask 0 1 2 3 4 5 forget 18446744073709551615\n",
+        ),
+        (
+            asked(0, Op::Getattr),
+            "ask 0 1 2 3 4 5 getattr\n",
+        ),
+        (
+            asked(0, Op::Unlink(name)),
+            "ask 0 1 2 3 4 5 unlink 61ff\n",
+        ),
+        (
+            asked(0, Op::Unlink(empty)),
+            "ask 0 1 2 3 4 5 unlink -\n",
+        ),
+        (
+            asked(0, Op::Open),
+            "ask 0 1 2 3 4 5 open\n",
+        ),
+        (
+            asked(0, release(1, false, 7)),
+            "ask 0 1 2 3 4 5 release 1 0 7\n",
+        ),
+        (
+            asked(0, release(7, true, 1)),
+            "ask 0 1 2 3 4 5 release 7 1 1\n",
+        ),
+        (
+            asked(0, release(u64::MAX, true, u64::MAX)),
+            "ask 0 1 2 3 4 5 release 18446744073709551615 1 18446744073709551615\n",
+        ),
+        (
+            asked(0, Op::Flush { fh: 1, owner: 7 }),
+            "ask 0 1 2 3 4 5 flush 1 7\n",
+        ),
+        (
+            asked(0, Op::Flush { fh: 0, owner: u64::MAX }),
+            "ask 0 1 2 3 4 5 flush 0 18446744073709551615\n",
+        ),
+        (
             asked(0, Op::Getlk(ASK)),
             "ask 0 1 2 3 4 5 getlk 1 7 0 9 1 11 0\n",
         ),
@@ -104,6 +162,24 @@ fn orders_there_and_back(rt: HostRuntime) -> Result<(), Fail> {
         there_and_back(&rt, line, text)?;
     }
     Ok(())
+}
+
+// A LOOKUP's name of so many bytes.
+fn lookup_text(rt: &(impl Abort + AllocGlobal), bytes: usize) -> Result<String, Fail> {
+    let mut text = String::new(rt.alloc());
+    text.push_str("ask 0 1 2 3 4 5 lookup ")?;
+    for _ in 0..bytes {
+        text.push_str("61")?;
+    }
+    text.push('\n')?;
+    Ok(text)
+}
+
+#[test]
+fn the_longest_name_there_and_back(rt: HostRuntime) -> Result<(), Fail> {
+    let name = Name::new(&[b'a'; 255]).ok_or("a name")?;
+    let text = lookup_text(&rt, 255)?;
+    there_and_back(&rt, asked(0, Op::Lookup(name)), text.as_str())
 }
 
 #[test]
@@ -164,79 +240,6 @@ fn what_can_be_read_back(rt: HostRuntime) -> Result<(), Fail> {
         let history = History::new([line].to_vec(rt.alloc())?);
         assert_eq!(rt; has_text(&history), can, "{worker} {mode}");
     }
-    Ok(())
-}
-
-#[test]
-fn bad_lines(rt: HostRuntime) -> Result<(), Fail> {
-    let lines = [
-        "",
-        " ",
-        "ok",
-        "tell",
-        "tell 1",
-        "tell 1 ",
-        "tell 01 ok",
-        "tell +1 ok",
-        "tell -1 ok",
-        "tell  1 ok",
-        " tell 1 ok",
-        "tell 1 ok ",
-        "tell 1 ok\r",
-        "tell\t1 ok",
-        "Tell 1 ok",
-        "tell 1 OK",
-        "tell 1 done",
-        "tell 1 ok 1",
-        "tell 18446744073709551616 ok",
-        "tell 1 entry 2 33188 1 0",
-        "tell 1 entry 2 33188 1 0 0 0",
-        "tell 1 entry 2 4294967296 1 0 0",
-        "tell 1 entry 18446744073709551616 33188 1 0 0",
-        "tell 1 attr 2 33188 1 0 00",
-        "tell 1 attr 2 33188 1 0 ",
-        "tell 1 open",
-        "tell 1 open -1",
-        "tell 1 open 18446744073709551616",
-        "tell 1 made 2 33188 1 0 0",
-        "tell 1 made 2 33188 1 0 0 1 1",
-        "tell 1 made 2 33188 1 0 4294967296 1",
-        "tell 1 lock 0 9 1",
-        "tell 1 lock 0 9 1 4294967296",
-        "tell 1 lock 0 9 1 11 0",
-        "tell 1 err",
-        "tell 1 err 0",
-        "tell 1 err 1",
-        "tell 1 err -11",
-        "tell 1 err 011",
-        "tell 1 err 72",
-        "tell 1 err 4294967298",
-        "tell 1 err 11 ",
-        "ask 16 1 1 0 0 0 create 0 420 61",
-        "ask 0 1 1 0 0 0 create 0 512 61",
-        "ask 0 1 1 0 0 0 create 0 420 6A",
-        "ask 0 1 1 0 0 0 create 0 420 616",
-        "ask 0 1 1 0 0 0 create 0 420 00",
-        "ask 0 1 1 0 0 0 create 0 420 ",
-        "ask 0 1 1 0 0 0 init 0 420 61",
-        "tell 1 \u{e9}",
-    ];
-    let good = "tell 1 ok\n";
-    for line in lines {
-        let first = format!(in rt.alloc(); "{line}\n{good}")?;
-        refuses(&rt, first.as_bytes(), 1)?;
-        let third = format!(in rt.alloc(); "{good}{good}{line}\n{good}\n")?;
-        refuses(&rt, third.as_bytes(), 3)?;
-    }
-    refuses(&rt, b"tell 1 ok", 1)?;
-    refuses(&rt, b"tell 1 ok\ntell 2 ok\ntell 3 o", 3)?;
-    refuses(&rt, b"tell 1 ok\n\xff\n", 2)
-}
-
-// The trace breaks at this line.
-fn refuses(rt: &(impl Abort + AllocGlobal), trace: &[u8], line: usize) -> Result<(), Fail> {
-    let fault = read_trace(rt.alloc(), trace).err().ok_or("a bad line")?;
-    assert_eq!(rt; fault, TraceFault::BadLine(line));
     Ok(())
 }
 

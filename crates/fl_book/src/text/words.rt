@@ -1,6 +1,7 @@
 //! The words of a trace line: each reader takes the one spelling that the text of a history has.
 
-ghost use Rattle.std.specs.Prelude.{◌≡◌, ◌==◌, ℕ, ◌^◌, ◌<◌, Bool, List, Option, length, ◌++◌, ◌∷◌, ◌↔◌, IfSome, IsSome, IsSomeAnd, IsTrue};
+ghost use Rattle.std.specs.Prelude.{◌≡◌, ◌==◌, ◌↔◌, ℕ, ◌^◌, ◌<◌, Bool, List, Option, length, ◌++◌, ◌∷◌};
+ghost use Rattle.std.specs.Prelude.{IfSome, IsSome, IsSomeAnd, IsTrue};
 ghost use Rattle.std.specs.Fmt.{decimal};
 ghost use Rattle.std.specs.List.{position};
 ghost use Rattle.std.specs.Option.{option_copied};
