@@ -61,6 +61,10 @@ fn release(fh: u64, drop: bool, owner: u64) -> Op {
     Op::Release { fh, drop, owner }
 }
 
+fn flush(fh: u64, owner: u64) -> Op {
+    Op::Flush { fh, owner }
+}
+
 fn told(answer: Result<Answer, Errno>) -> Line {
     Line::Told(Told {
         unique: 9,
@@ -92,38 +96,17 @@ fn orders_there_and_back(rt: HostRuntime) -> Result<(), Fail> {
             asked(15, create(empty, 511)),
             "ask 15 1 2 3 4 5 create 1 511 -\n",
         ),
-        (
-            asked(0, Op::Lookup(name)),
-            "ask 0 1 2 3 4 5 lookup 61ff\n",
-        ),
-        (
-            asked(0, Op::Lookup(empty)),
-            "ask 0 1 2 3 4 5 lookup -\n",
-        ),
-        (
-            asked(0, Op::Forget(0)),
-            "ask 0 1 2 3 4 5 forget 0\n",
-        ),
+        (asked(0, Op::Lookup(name)), "ask 0 1 2 3 4 5 lookup 61ff\n"),
+        (asked(0, Op::Lookup(empty)), "ask 0 1 2 3 4 5 lookup -\n"),
+        (asked(0, Op::Forget(0)), "ask 0 1 2 3 4 5 forget 0\n"),
         (
             asked(0, Op::Forget(u64::MAX)),
             "ask 0 1 2 3 4 5 forget 18446744073709551615\n",
         ),
-        (
-            asked(0, Op::Getattr),
-            "ask 0 1 2 3 4 5 getattr\n",
-        ),
-        (
-            asked(0, Op::Unlink(name)),
-            "ask 0 1 2 3 4 5 unlink 61ff\n",
-        ),
-        (
-            asked(0, Op::Unlink(empty)),
-            "ask 0 1 2 3 4 5 unlink -\n",
-        ),
-        (
-            asked(0, Op::Open),
-            "ask 0 1 2 3 4 5 open\n",
-        ),
+        (asked(0, Op::Getattr), "ask 0 1 2 3 4 5 getattr\n"),
+        (asked(0, Op::Unlink(name)), "ask 0 1 2 3 4 5 unlink 61ff\n"),
+        (asked(0, Op::Unlink(empty)), "ask 0 1 2 3 4 5 unlink -\n"),
+        (asked(0, Op::Open), "ask 0 1 2 3 4 5 open\n"),
         (
             asked(0, release(1, false, 7)),
             "ask 0 1 2 3 4 5 release 1 0 7\n",
@@ -136,12 +119,9 @@ fn orders_there_and_back(rt: HostRuntime) -> Result<(), Fail> {
             asked(0, release(u64::MAX, true, u64::MAX)),
             "ask 0 1 2 3 4 5 release 18446744073709551615 1 18446744073709551615\n",
         ),
+        (asked(0, flush(1, 7)), "ask 0 1 2 3 4 5 flush 1 7\n"),
         (
-            asked(0, Op::Flush { fh: 1, owner: 7 }),
-            "ask 0 1 2 3 4 5 flush 1 7\n",
-        ),
-        (
-            asked(0, Op::Flush { fh: 0, owner: u64::MAX }),
+            asked(0, flush(0, u64::MAX)),
             "ask 0 1 2 3 4 5 flush 0 18446744073709551615\n",
         ),
         (
