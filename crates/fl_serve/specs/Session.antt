@@ -1,15 +1,18 @@
 -- A session: its messages, what is answered to them, and the lines that they give (Linux `fuse.h`, protocol 7.31).
-use Rattle.std.specs.Prelude.{ℕ, Bool, true, false, List, [], ◌∷◌, ◌++◌, map, fold, Option, Some, Result, Ok, Err, if◌then◌else◌}
+use Rattle.std.specs.Prelude.{ℕ, Bool, true, false, List, [], ◌∷◌, ◌++◌, map, fold, Option, None, Some, Result, Ok, Err}
+use Rattle.std.specs.Prelude.{if◌then◌else◌}
 use Rattle.fl_wire.specs.Init.{init_step, init_spelling}
-use Rattle.fl_wire.specs.Kind.{kind_of_opcode}
+use Rattle.fl_wire.specs.Kind.{is_silent, kind_of_opcode}
 use Rattle.fl_wire.specs.Layout.{opcode_of, unique_of}
+use Rattle.fl_wire.specs.Order.{kind_of}
 use Rattle.fl_wire.specs.Says.{said}
 use Rattle.fl_wire.specs.Spell.{reply_bytes, spelling_of}
+use Rattle.fl_wire.specs.declared.errno.Errno.{Errno}
 use Rattle.fl_wire.specs.declared.errno.Errno.TheVariants.{ENOMEM, EPROTO}
 use Rattle.fl_wire.specs.declared.init.InitStep.{InitStep}
 use Rattle.fl_wire.specs.declared.init.InitStep.TheVariants.{Refused, Again, Agreed}
 use Rattle.fl_wire.specs.declared.kind.Kind.{Kind}
-use Rattle.fl_wire.specs.declared.kind.Kind.TheVariants.{Forget, Init, BatchForget}
+use Rattle.fl_wire.specs.declared.kind.Kind.TheVariants.{Init}
 use Rattle.fl_wire.specs.declared.order.Order.{Order}
 use Rattle.fl_wire.specs.declared.reading.Refusal.{Refusal}
 use Rattle.fl_wire.specs.declared.reading.Refusal.TheVariants.{Answer, Silent, Destroy}
@@ -52,21 +55,24 @@ is_agreed (Agreed max_readahead flags) = true
 abbrev pub greeted : Session → ℕ → InitStep → Session
 greeted s unique step = record s { agreed = is_agreed step; replies = s.replies ++ init_spelling unique step ∷ [] }
 
--- Before an INIT is agreed any other message is EPROTO, but FORGET and BATCH_FORGET, which are dropped.
+-- a message of this kind gets this error, or nothing where no reply is owed to it
+abbrev pub with_error : Session → Kind → ℕ → Errno → Session
+with_error s kind unique e = if is_silent kind then s else replied s (reply_bytes unique (Err e))
+
+-- Before an INIT is agreed any other message is EPROTO, or dropped where no reply is owed to it.
 abbrev pub before_init : Session → Option Kind → List ℕ → Session
 before_init s (Some Init) message = greeted s (unique_of message) (init_step message)
-before_init s (Some Forget) message = s
-before_init s (Some BatchForget) message = s
-before_init s _ message = replied s (reply_bytes (unique_of message) (Err EPROTO))
+before_init s (Some kind) message = with_error s kind (unique_of message) EPROTO
+before_init s None message = replied s (reply_bytes (unique_of message) (Err EPROTO))
 
 -- an order that worker 0 handed in, with the replies that it gets
 abbrev pub with_step : Session → Order → List Told → Session
 with_step s order tolds =
     record s { replies = s.replies ++ map spelling_of tolds; lines = s.lines ++ step_lines 0 order tolds }
 
--- an order that was refused for want of memory
+-- An order that was refused for want of memory is ENOMEM, or lost where no reply is owed to it.
 abbrev pub with_refusal : Session → Order → Session
-with_refusal s order = record s { replies = s.replies ++ reply_bytes order.unique (Err ENOMEM) ∷ []; refused = true }
+with_refusal s order = record (with_error s (kind_of order.op) order.unique ENOMEM) { refused = true }
 
 -- An order gets the replies of the lock directory, or is refused for want of memory. A message that is no order gets
 -- its error or nothing, and after the reply to a DESTROY nothing comes.

@@ -148,4 +148,6 @@ fn first(fault: Option<Fault>, broken: bool) -> Option<Fault>
 }
 
 #[cfg(test)]
+mod silent_tests;
+#[cfg(test)]
 mod tests;

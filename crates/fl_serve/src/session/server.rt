@@ -1,8 +1,8 @@
 //! What a session does with each message, apart from reading and writing.
 
 ghost use Rattle.std.specs.Prelude.{◌≡◌, ℕ, List, false, ◌++◌};
-ghost use Rattle.std.specs.Prelude.{IfOk};
-ghost use Rattle.fl_wire.specs.Kind.{kind_of_opcode};
+ghost use Rattle.std.specs.Prelude.{IfOk, if◌then◌else◌};
+ghost use Rattle.fl_wire.specs.Kind.{is_silent, kind_of_opcode};
 ghost use Rattle.fl_wire.specs.Layout.{opcode_of, unique_of};
 ghost use Rattle.fl_wire.specs.Says.{said};
 ghost use Rattle.fl_serve.specs.Session.{before_init};
@@ -24,7 +24,7 @@ pub(crate) enum Owed {
     Init(u64, InitStep),
     /// One reply.
     One(Told),
-    /// The replies of an order, which the server holds.
+    /// The replies of an order, none or several, which the server holds.
     Replies,
 }
 
@@ -86,8 +86,8 @@ impl Server {
                 self.agreed = matches!(step, InitStep::Agreed { .. });
                 Owed::Init(frame.unique(), step)
             }
-            Some(Kind::Forget | Kind::BatchForget) => Owed::Nothing,
-            _ => error_reply(frame.unique(), Errno::EPROTO),
+            Some(kind) => refusal(kind, frame.unique(), Errno::EPROTO),
+            None => error_reply(frame.unique(), Errno::EPROTO),
         }
     }
 
@@ -117,9 +117,21 @@ impl Server {
             Ok(()) => Owed::Replies,
             Err(NoMemory) => {
                 self.refused = true;
-                error_reply(order.unique, Errno::ENOMEM)
+                refusal(order.op.kind(), order.unique, Errno::ENOMEM)
             }
         }
+    }
+}
+
+// A reply that is an error, or nothing where no reply is owed to a message of this kind.
+fn refusal(kind: Kind, unique: u64, e: Errno) -> Owed
+    ensures { result ≡
+        if is_silent kind then Owed.Nothing else Owed.One (record { unique = unique; result = Err e }) }
+{
+    if kind.is_silent() {
+        Owed::Nothing
+    } else {
+        error_reply(unique, e)
     }
 }
 

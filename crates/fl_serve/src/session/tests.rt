@@ -9,14 +9,14 @@ use std::test::Fail;
 // some fields of one struct.
 
 // INIT at 7.31.
-const INIT: [u8; 56] = [
+pub(super) const INIT: [u8; 56] = [
     0x38, 0, 0, 0, 26, 0, 0, 0, 1, 0, 0, 0, 0, 0, 0, 0, //
     0, 0, 0, 0, 0, 0, 0, 0, 0, 0, 0, 0, 0, 0, 0, 0, 0, 0, 0, 0, 0, 0, 0, 0, //
     7, 0, 0, 0, 31, 0, 0, 0, 0, 0, 0, 0, 0, 0, 0, 0,
 ];
 
 // What is agreed.
-const AGREED: [u8; 80] = [
+pub(super) const AGREED: [u8; 80] = [
     0x50, 0, 0, 0, 0, 0, 0, 0, 1, 0, 0, 0, 0, 0, 0, 0, //
     7, 0, 0, 0, 31, 0, 0, 0, 0, 0, 0, 0, 0, 0, 0, 0, //
     16, 0, 12, 0, 0, 0x10, 0, 0, 1, 0, 0, 0, //
@@ -25,14 +25,14 @@ const AGREED: [u8; 80] = [
 ];
 
 // CREATE of `a` in the root.
-const CREATE: [u8; 58] = [
+pub(super) const CREATE: [u8; 58] = [
     0x3a, 0, 0, 0, 35, 0, 0, 0, 2, 0, 0, 0, 0, 0, 0, 0, //
     1, 0, 0, 0, 0, 0, 0, 0, 0, 0, 0, 0, 0, 0, 0, 0, 0, 0, 0, 0, 0, 0, 0, 0, //
     0, 0, 0, 0, 0xa4, 0x81, 0, 0, 0, 0, 0, 0, 0, 0, 0, 0, b'a', 0,
 ];
 
 // The file that is made.
-const MADE: [u8; 160] = [
+pub(super) const MADE: [u8; 160] = [
     0xa0, 0, 0, 0, 0, 0, 0, 0, 2, 0, 0, 0, 0, 0, 0, 0, //
     2, 0, 0, 0, 0, 0, 0, 0, //
     0, 0, 0, 0, 0, 0, 0, 0, 0, 0, 0, 0, 0, 0, 0, 0, //
@@ -47,7 +47,7 @@ const MADE: [u8; 160] = [
 ];
 
 // A write lock of bytes 0 to 9 by owner 7, and a read lock of byte 9 by owner 8.
-const WRITE_LOCK: [u8; 88] = [
+pub(super) const WRITE_LOCK: [u8; 88] = [
     0x58, 0, 0, 0, 32, 0, 0, 0, 3, 0, 0, 0, 0, 0, 0, 0, //
     2, 0, 0, 0, 0, 0, 0, 0, 0, 0, 0, 0, 0, 0, 0, 0, 0, 0, 0, 0, 0, 0, 0, 0, //
     1, 0, 0, 0, 0, 0, 0, 0, 7, 0, 0, 0, 0, 0, 0, 0, //
@@ -64,7 +64,7 @@ const READ_LOCK: [u8; 88] = [
 ];
 
 // Done, and EAGAIN.
-const LOCKED: [u8; 16] = [0x10, 0, 0, 0, 0, 0, 0, 0, 3, 0, 0, 0, 0, 0, 0, 0];
+pub(super) const LOCKED: [u8; 16] = [0x10, 0, 0, 0, 0, 0, 0, 0, 3, 0, 0, 0, 0, 0, 0, 0];
 
 const NOT_LOCKED: [u8; 16] = [
     0x10, 0, 0, 0, 0xf5, 0xff, 0xff, 0xff, 4, 0, 0, 0, 0, 0, 0, 0,
