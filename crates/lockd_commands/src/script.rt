@@ -120,6 +120,8 @@ fn take_all(alloc: Global, asks: &[Ask]) -> Result<History, Fault>
 }
 
 #[cfg(test)]
+mod file_tests;
+#[cfg(test)]
 mod tests;
 #[cfg(test)]
 mod traces;

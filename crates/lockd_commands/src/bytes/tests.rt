@@ -90,6 +90,32 @@ const UNKNOWN: &str = "\
 const UNKNOWN_REPLY: &str = "\
 10000000daffffff0900000000000000\n";
 
+// READ, which a lock directory doesn't know, without a body; SETLK with a body of 47 bytes.
+const REFUSED: &str = "\
+280000000f0000000200000000000000020000000000000000000000000000000000000000000000\n\
+57000000200000000300000000000000020000000000000000000000000000000000000000000000\
+00000000000000000000000000000000000000000000000000000000000000000000000000000000\
+00000000000000\n";
+
+// LOOKUP in the root of a name of 256 bytes, which follows with its zero byte.
+const LONG_LOOKUP: &str = "\
+29010000010000000400000000000000010000000000000000000000000000000000000000000000";
+
+// FORGET without a body; a second INIT; DESTROY.
+const REFUSED_AFTER: &str = "\
+28000000020000000500000000000000020000000000000000000000000000000000000000000000\n\
+380000001a0000000600000000000000000000000000000000000000000000000000000000000000\
+070000001f0000000000000000000000\n\
+28000000260000000700000000000000000000000000000000000000000000000000000000000000\n";
+
+// ENOSYS, EINVAL, ENAMETOOLONG; nothing for the FORGET; EPROTO; done.
+const REFUSED_REPLIES: &str = "\
+10000000daffffff0200000000000000\n\
+10000000eaffffff0300000000000000\n\
+10000000dcffffff0400000000000000\n\
+10000000b9ffffff0600000000000000\n\
+10000000000000000700000000000000\n";
+
 // What Linux 5.4 sends for `open("app.lock", O_RDWR | O_CREAT | O_EXCL, 0644)` and then `fcntl` with `F_SETLK`, first
 // `F_WRLCK` on the first ten bytes and then `F_UNLCK` on them, by process 4242 of user and group 1000, umask 022.
 // Offsets are those in the message.
@@ -180,6 +206,22 @@ fn a_message_before_init(rt: HostRuntime) -> Result<(), Fail> {
     gives(
         &rt,
         "LOOKUP, then INIT",
+        text.as_str(),
+        printed.as_str(),
+        "",
+    )
+}
+
+#[test]
+fn refused_messages(rt: HostRuntime) -> Result<(), Fail> {
+    let name = "61".repeat(rt.alloc(), 256)?;
+    let text = format!(in rt.alloc();
+        "{INIT}{REFUSED}{LONG_LOOKUP}{name}00\n{REFUSED_AFTER}"
+    )?;
+    let printed = format!(in rt.alloc(); "{INIT_REPLY}{REFUSED_REPLIES}")?;
+    gives(
+        &rt,
+        "messages that are refused",
         text.as_str(),
         printed.as_str(),
         "",

@@ -5,10 +5,14 @@ use std::process::Abort;
 use std::test::Fail;
 
 // The script that each other one goes on from.
-const MADE: &str = "ask 0 1 1 0 0 0 create 0 420 61\ntell 1 made 2 33188 1 0 0 1\n";
+pub(super) const MADE: &str = "ask 0 1 1 0 0 0 create 0 420 61\ntell 1 made 2 33188 1 0 0 1\n";
 
 // A script is the ask lines of the trace that is wanted for it.
-fn answers(rt: &(impl Abort + AllocGlobal), what: &str, trace: &str) -> Result<(), Fail> {
+pub(super) fn answers(
+    rt: &(impl Abort + AllocGlobal),
+    what: &str,
+    trace: &str,
+) -> Result<(), Fail> {
     let mut script = String::new(rt.alloc());
     for line in trace.lines().filter(|line| line.starts_with("ask ")) {
         script.push_str(line)?;
@@ -173,10 +177,21 @@ fn bad_lines(rt: HostRuntime) -> Result<(), Fail> {
             "ask 0 1 1 0 0 0 create 2 420 61",
         ),
         ("an unknown order", "ask 0 1 1 0 0 0 mkdir 0 420 61"),
+        ("a message that is no order", "ask 0 1 1 0 0 0 destroy"),
+        (
+            "an order that isn't taken",
+            "ask 0 2 2 0 0 0 setlkw 1 7 0 9 1 11 0",
+        ),
         ("an order in upper case", "ask 0 1 1 0 0 0 CREATE 0 420 61"),
         ("an unknown word", "asks 0 1 1 0 0 0 create 0 420 61"),
         ("a field too few", "ask 0 2 2 0 0 0 setlk 1 7 0 9 1 11"),
         ("a field too many", "ask 0 2 2 0 0 0 setlk 1 7 0 9 1 11 0 0"),
+        ("a field of a getattr", "ask 0 2 2 0 0 0 getattr 1"),
+        ("a drop that is no 0 or 1", "ask 0 2 2 0 0 0 release 1 2 7"),
+        (
+            "a forget past 2^64 - 1",
+            "ask 0 2 2 0 0 0 forget 18446744073709551616",
+        ),
         ("no order", "ask 0 1 1 0 0 0"),
         ("an empty line", ""),
         ("a reply", "tell 1 ok"),
