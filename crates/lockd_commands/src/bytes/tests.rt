@@ -215,9 +215,7 @@ fn a_message_before_init(rt: HostRuntime) -> Result<(), Fail> {
 #[test]
 fn refused_messages(rt: HostRuntime) -> Result<(), Fail> {
     let name = "61".repeat(rt.alloc(), 256)?;
-    let text = format!(in rt.alloc();
-        "{INIT}{REFUSED}{LONG_LOOKUP}{name}00\n{REFUSED_AFTER}"
-    )?;
+    let text = format!(in rt.alloc(); "{INIT}{REFUSED}{LONG_LOOKUP}{name}00\n{REFUSED_AFTER}")?;
     let printed = format!(in rt.alloc(); "{INIT_REPLY}{REFUSED_REPLIES}")?;
     gives(
         &rt,

@@ -126,7 +126,10 @@ tell 12 attr 2 33188 1 0 0
 #[test]
 fn names_and_nodes(rt: HostRuntime) -> Result<(), Fail> {
     let traces = [
-        ("a file lives while it is open", A_FILE_LIVES_WHILE_IT_IS_OPEN),
+        (
+            "a file lives while it is open",
+            A_FILE_LIVES_WHILE_IT_IS_OPEN,
+        ),
         (
             "orders that find no name, node or open file",
             ORDERS_THAT_FIND_NOTHING,
