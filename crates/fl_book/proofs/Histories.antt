@@ -57,19 +57,19 @@ pub read_own : (lines : List Line) (worker : ℕ) (order : Order) (told : Told) 
 read_own lines worker order told tolds own =
     read_asked lines worker order (told ∷ tolds)
     ∙ read_later tolds (recorded (told_first order told) (state_after lines))
-    ∙ ap (λ b. all_later tolds (recorded (λ v. cond b (answered order order.op told.result v) (followed_by (later told) (unanswered order v))) (state_after lines)))
+    ∙ ap (λ b. all_later tolds (recorded (λ v. cond b (answered order order.op told.result v) (followed_by (later told) (unanswered order order.op v))) (state_after lines)))
     (same_number told.unique order.unique own)
 
 -- one more step without a reply of its own
 pub read_none : (lines : List Line) (worker : ℕ) (order : Order) (tolds : List Told) → AllOthers order.unique tolds
-    → state_after (lines ++ step_lines worker order tolds) ≡ all_later tolds (recorded (unanswered order) (state_after lines))
+    → state_after (lines ++ step_lines worker order tolds) ≡ all_later tolds (recorded (unanswered order order.op) (state_after lines))
 read_none lines worker order [] others = read_asked lines worker order []
 read_none lines worker order (told ∷ tolds) others =
     read_asked lines worker order (told ∷ tolds)
     ∙ read_later tolds (recorded (told_first order told) (state_after lines))
-    ∙ ap (λ b. all_later tolds (recorded (λ v. cond b (answered order order.op told.result v) (followed_by (later told) (unanswered order v))) (state_after lines)))
+    ∙ ap (λ b. all_later tolds (recorded (λ v. cond b (answered order order.op told.result v) (followed_by (later told) (unanswered order order.op v))) (state_after lines)))
     (other_number told.unique order.unique others.0)
-    ∙ ap (all_later tolds) (sym (recorded_twice (unanswered order) (later told) (state_after lines)))
+    ∙ ap (all_later tolds) (sym (recorded_twice (unanswered order order.op) (later told) (state_after lines)))
 
 -- ---- what a desk keeps
 

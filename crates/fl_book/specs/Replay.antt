@@ -20,7 +20,7 @@ unread = record { state = opening; waiting = None }
 -- no reply of its own comes to the order that was asked last
 abbrev pub committed : Option Order → State → State
 committed None s = s
-committed (Some order) s = recorded (unanswered order) s
+committed (Some order) s = recorded (unanswered order order.op) s
 
 -- A reply directly after an order of its unique is its own. Any other answers the parked request of its unique.
 abbrev pub read_reply : Option Order → Told → State → State

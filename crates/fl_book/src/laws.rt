@@ -18,7 +18,7 @@ pub fn own_reply_comes_first()
     ensures none { (lines : List Record) (worker : ℕ) (order : Request) (tolds : List Reply) →
         AllOthers order.unique tolds →
         state_after (lines ++ step_lines worker order tolds) ≡
-        all_later tolds (recorded (unanswered order) (state_after lines)) }
+        all_later tolds (recorded (unanswered order order.op) (state_after lines)) }
 {}
 
 /// Two histories that can be read back never have one text.
