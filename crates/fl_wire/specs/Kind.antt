@@ -17,7 +17,8 @@ use Rattle.fl_wire.specs.declared.reading.Refusal.TheVariants.{Answer, Silent, D
 -- each kind once
 abbrev pub all_kinds : List Kind
 all_kinds =
-    Lookup ∷ Forget ∷ Getattr ∷ Unlink ∷ Open ∷ Release ∷ Flush ∷ Init ∷ Getlk ∷ Setlk ∷ Create ∷ Destroy ∷ BatchForget ∷ []
+    Lookup ∷ Forget ∷ Getattr ∷ Unlink ∷ Open ∷ Release ∷ Flush ∷
+    Init ∷ Getlk ∷ Setlk ∷ Create ∷ Destroy ∷ BatchForget ∷ []
 
 -- the number in a message's header, the word in a trace's line, and the shape of the body; where its messages are no
 -- orders, how they are refused

@@ -37,8 +37,8 @@ abbrev pub create_of : List ℕ → List ℕ → Body
 create_of values name =
     body.Create (not (bit_and (slice_index values 0) 128 == 0)) (bit_and (slice_index values 1) 511) name
 
--- the body of a RELEASE with these fields: bit 1 of its release flags (`FUSE_RELEASE_FLOCK_UNLOCK`) drops the whole-file
--- lock
+-- the body of a RELEASE with these fields: bit 1 of its release flags (`FUSE_RELEASE_FLOCK_UNLOCK`) drops the
+-- whole-file lock
 abbrev pub release_of : List ℕ → Body
 release_of values =
     body.Release (slice_index values 0) (not (bit_and (slice_index values 2) 2 == 0)) (slice_index values 3)
@@ -55,8 +55,8 @@ body_in shape.Release bytes = by_fields release_in release_of bytes
 body_in shape.Getattr bytes = by_fields getattr_in (λ values. body.Getattr) bytes
 body_in shape.Open bytes = by_fields open_in (λ values. body.Open) bytes
 
--- what a message of this kind asks, by its body or the body's fault. A kind has an order of each body of its shape, so the
--- error for none never comes.
+-- what a message of this kind asks, by its body or the body's fault. A kind has an order of each body of its shape, so
+-- the error for none never comes.
 abbrev pub asked_with : Kind → Result Body Errno → Result Op Refusal
 asked_with kind (Ok said) = ok_or (op_of kind said) (Answer ENOSYS)
 asked_with kind (Err e) = Err (refusal_for kind e)
