@@ -12,7 +12,6 @@ use super::*;
 use fl_wire::{Answer, Attr, Errno, LockAsk, Name, Op, Order};
 use std::alloc::Global;
 use std::process::Abort;
-use std::test::Fail;
 
 const READ: u32 = 0;
 
@@ -30,11 +29,25 @@ const DONE: Reply = Some(Ok(Answer::Done));
 
 const SILENT: Reply = None;
 
-const fn refused(error: Errno) -> Reply {
-    Some(Err(error))
-}
+const ENOENT: Reply = Some(Err(Errno::ENOENT));
 
-const fn told(answer: Answer) -> Reply {
+const ENOTDIR: Reply = Some(Err(Errno::ENOTDIR));
+
+const EBADF: Reply = Some(Err(Errno::EBADF));
+
+const EINVAL: Reply = Some(Err(Errno::EINVAL));
+
+const EEXIST: Reply = Some(Err(Errno::EEXIST));
+
+const EISDIR: Reply = Some(Err(Errno::EISDIR));
+
+const ENFILE: Reply = Some(Err(Errno::ENFILE));
+
+const ENOSPC: Reply = Some(Err(Errno::ENOSPC));
+
+const EAGAIN: Reply = Some(Err(Errno::EAGAIN));
+
+fn told(answer: Answer) -> Reply {
     Some(Ok(answer))
 }
 
@@ -46,11 +59,11 @@ struct Server {
 }
 
 impl Server {
-    fn new(alloc: Global) -> Result<Server, Fail> {
-        Ok(Server {
-            core: Core::new(alloc)?,
-            tolds: Tolds::new(alloc)?,
-        })
+    fn new(rt: &impl Abort, alloc: Global) -> Server {
+        Server {
+            core: Core::new(alloc).expect(rt, "no memory"),
+            tolds: Tolds::new(alloc).expect(rt, "no memory"),
+        }
     }
 
     // The one reply of an order, which bears its unique, or none.
@@ -83,8 +96,8 @@ fn order(node: u64, op: Op) -> Order {
     }
 }
 
-fn name(bytes: &[u8]) -> Result<Name, Fail> {
-    Ok(Name::new(bytes).ok_or("no name")?)
+fn name(rt: &impl Abort, bytes: &[u8]) -> Name {
+    Name::new(bytes).expect(rt, "no name")
 }
 
 fn create(excl: bool, name: Name) -> Op {

@@ -3,8 +3,8 @@
 use super::*;
 
 #[test]
-fn orders_that_only_read_are_answered_as_by_a_step(rt: HostRuntime) -> Result<(), Fail> {
-    let a = name(b"a")?;
+fn orders_that_only_read_are_answered_as_by_a_step(rt: HostRuntime) {
+    let a = name(&rt, b"a");
     let root = Attr {
         node: 1,
         mode: 0o40755,
@@ -12,20 +12,20 @@ fn orders_that_only_read_are_answered_as_by_a_step(rt: HostRuntime) -> Result<()
         uid: 0,
         gid: 0,
     };
-    let mut server = Server::new(rt.alloc())?;
+    let mut server = Server::new(&rt, rt.alloc());
     let cases = [
-        (2, Op::Getattr, refused(Errno::ENOENT)),
+        (2, Op::Getattr, ENOENT),
         (1, Op::Getattr, told(Answer::Attr(root))),
-        (2, test(1, 8, 0, 99), refused(Errno::EBADF)),
+        (2, test(1, 8, 0, 99), EBADF),
         (1, create(true, a), made(2, 1)),
         (2, Op::Getattr, attr(2, 1)),
         (2, test(1, 8, 0, 99), held(8, 0, 99, UNLOCK)),
         (2, lock(1, 7, 0, 9, WRITE), DONE),
-        (2, lock(1, 8, 0, 9, WRITE), refused(Errno::EAGAIN)),
+        (2, lock(1, 8, 0, 9, WRITE), EAGAIN),
         (2, test(1, 8, 0, 99), held(7, 0, 9, WRITE)),
         (2, test(1, 7, 0, 99), held(7, 0, 99, UNLOCK)),
-        (2, test(1, 8, 9, 4), refused(Errno::EINVAL)),
-        (3, test(1, 8, 0, 99), refused(Errno::EBADF)),
+        (2, test(1, 8, 9, 4), EINVAL),
+        (3, test(1, 8, 0, 99), EBADF),
         (1, Op::Lookup(a), told(Answer::Entry(file(2, 1)))),
         (2, Op::Open, told(Answer::Open(2))),
         (2, flush(2, 7), DONE),
@@ -37,7 +37,7 @@ fn orders_that_only_read_are_answered_as_by_a_step(rt: HostRuntime) -> Result<()
         (2, Op::Forget(1), SILENT),
         (2, Op::Getattr, attr(2, 0)),
         (2, Op::Forget(1), SILENT),
-        (2, Op::Getattr, refused(Errno::ENOENT)),
+        (2, Op::Getattr, ENOENT),
     ];
     for (index, (node, op, reply)) in cases.iter().enumerate() {
         let order = order(*node, *op);
@@ -49,5 +49,4 @@ fn orders_that_only_read_are_answered_as_by_a_step(rt: HostRuntime) -> Result<()
         assert_eq!(rt; server.ask(&rt, &order), *reply, "order {index}");
         assert_eq!(rt; server.core.answer(&order), wanted, "after order {index}");
     }
-    Ok(())
 }

@@ -3,66 +3,65 @@
 use super::*;
 
 #[test]
-fn names_are_refused_by_the_first_test(rt: HostRuntime) -> Result<(), Fail> {
-    let a = name(b"a")?;
-    let free = name(b"b")?;
-    let empty = name(b"")?;
-    let mut server = Server::new(rt.alloc())?;
+fn names_are_refused_by_the_first_test(rt: HostRuntime) {
+    let a = name(&rt, b"a");
+    let free = name(&rt, b"b");
+    let empty = name(&rt, b"");
+    let mut server = Server::new(&rt, rt.alloc());
     server.check(
         &rt,
         &[
             (1, create(true, a), made(2, 1)),
-            (3, Op::Lookup(a), refused(Errno::ENOENT)),
-            (0, Op::Lookup(a), refused(Errno::ENOENT)),
-            (2, Op::Lookup(a), refused(Errno::ENOTDIR)),
-            (2, Op::Lookup(free), refused(Errno::ENOTDIR)),
-            (1, Op::Lookup(free), refused(Errno::ENOENT)),
-            (1, Op::Lookup(empty), refused(Errno::ENOENT)),
-            (3, Op::Unlink(a), refused(Errno::ENOENT)),
-            (2, Op::Unlink(a), refused(Errno::ENOTDIR)),
-            (2, Op::Unlink(free), refused(Errno::ENOTDIR)),
-            (1, Op::Unlink(free), refused(Errno::ENOENT)),
-            (1, Op::Unlink(empty), refused(Errno::ENOENT)),
-            (3, create(false, free), refused(Errno::ENOENT)),
-            (3, create(false, empty), refused(Errno::ENOENT)),
-            (3, create(true, a), refused(Errno::ENOENT)),
-            (2, create(false, free), refused(Errno::ENOTDIR)),
-            (2, create(false, empty), refused(Errno::ENOTDIR)),
-            (2, create(true, a), refused(Errno::ENOTDIR)),
-            (1, create(true, a), refused(Errno::EEXIST)),
+            (3, Op::Lookup(a), ENOENT),
+            (0, Op::Lookup(a), ENOENT),
+            (2, Op::Lookup(a), ENOTDIR),
+            (2, Op::Lookup(free), ENOTDIR),
+            (1, Op::Lookup(free), ENOENT),
+            (1, Op::Lookup(empty), ENOENT),
+            (3, Op::Unlink(a), ENOENT),
+            (2, Op::Unlink(a), ENOTDIR),
+            (2, Op::Unlink(free), ENOTDIR),
+            (1, Op::Unlink(free), ENOENT),
+            (1, Op::Unlink(empty), ENOENT),
+            (3, create(false, free), ENOENT),
+            (3, create(false, empty), ENOENT),
+            (3, create(true, a), ENOENT),
+            (2, create(false, free), ENOTDIR),
+            (2, create(false, empty), ENOTDIR),
+            (2, create(true, a), ENOTDIR),
+            (1, create(true, a), EEXIST),
             (1, create(false, a), made(2, 2)),
             (1, create(true, free), made(3, 3)),
         ],
     );
     for reserved in [b"".as_slice(), b".", b"..", b"/", b"a/b"] {
-        let reserved = name(reserved)?;
+        let reserved = name(&rt, reserved);
         server.check(
             &rt,
             &[
-                (1, create(false, reserved), refused(Errno::EINVAL)),
-                (1, create(true, reserved), refused(Errno::EINVAL)),
-                (4, create(true, reserved), refused(Errno::ENOENT)),
-                (2, create(true, reserved), refused(Errno::ENOTDIR)),
+                (1, create(false, reserved), EINVAL),
+                (1, create(true, reserved), EINVAL),
+                (4, create(true, reserved), ENOENT),
+                (2, create(true, reserved), ENOTDIR),
             ],
         );
     }
-    server.check(&rt, &[(1, create(true, name(b"...")?), made(4, 4))]);
-    Ok(())
+    server.check(&rt, &[(1, create(true, name(&rt, b"...")), made(4, 4))]);
 }
 
 #[test]
-fn nodes_and_files_are_refused_by_the_first_test(rt: HostRuntime) -> Result<(), Fail> {
-    let mut server = Server::new(rt.alloc())?;
+fn nodes_and_files_are_refused_by_the_first_test(rt: HostRuntime) {
+    let mut server = Server::new(&rt, rt.alloc());
     server.check(
         &rt,
         &[
-            (1, create(true, name(b"a")?), made(2, 1)),
-            (1, create(true, name(b"b")?), made(3, 2)),
-            (4, Op::Getattr, refused(Errno::ENOENT)),
-            (0, Op::Getattr, refused(Errno::ENOENT)),
-            (4, Op::Open, refused(Errno::ENOENT)),
-            (0, Op::Open, refused(Errno::ENOENT)),
-            (1, Op::Open, refused(Errno::EISDIR)),
+            (1, create(true, name(&rt, b"a")), made(2, 1)),
+            (1, create(true, name(&rt, b"b")), made(3, 2)),
+            (4, Op::Getattr, ENOENT),
+            (0, Op::Getattr, ENOENT),
+            (4, Op::Open, ENOENT),
+            (0, Op::Open, ENOENT),
+            (1, Op::Open, EISDIR),
             (4, Op::Forget(1), SILENT),
             (1, Op::Forget(1), SILENT),
             (2, Op::Forget(1), SILENT),
@@ -74,9 +73,9 @@ fn nodes_and_files_are_refused_by_the_first_test(rt: HostRuntime) -> Result<(), 
         server.check(
             &rt,
             &[
-                (node, flush(fh, 7), refused(Errno::EBADF)),
-                (node, release(fh, false, 7), refused(Errno::EBADF)),
-                (node, release(fh, true, 7), refused(Errno::EBADF)),
+                (node, flush(fh, 7), EBADF),
+                (node, release(fh, false, 7), EBADF),
+                (node, release(fh, true, 7), EBADF),
             ],
         );
     }
@@ -84,13 +83,12 @@ fn nodes_and_files_are_refused_by_the_first_test(rt: HostRuntime) -> Result<(), 
         &rt,
         &[
             (2, release(1, false, 7), DONE),
-            (2, flush(1, 7), refused(Errno::EBADF)),
-            (2, release(1, true, 7), refused(Errno::EBADF)),
+            (2, flush(1, 7), EBADF),
+            (2, release(1, true, 7), EBADF),
             (3, flush(2, 7), DONE),
             (3, release(2, true, 7), DONE),
         ],
     );
-    Ok(())
 }
 
 // A lock request that no fh lets through.
@@ -104,9 +102,9 @@ fn malformed(kind: u32, flags: u32) -> LockAsk {
 const TOO_FAR: u64 = 9_223_372_036_854_775_808;
 
 #[test]
-fn malformed_lock_requests_are_refused_after_the_fh(rt: HostRuntime) -> Result<(), Fail> {
-    let mut server = Server::new(rt.alloc())?;
-    server.check(&rt, &[(1, create(true, name(b"a")?), made(2, 1))]);
+fn malformed_lock_requests_are_refused_after_the_fh(rt: HostRuntime) {
+    let mut server = Server::new(&rt, rt.alloc());
+    server.check(&rt, &[(1, create(true, name(&rt, b"a")), made(2, 1))]);
     let both = [
         malformed(READ, 2),
         malformed(READ, 3),
@@ -120,12 +118,12 @@ fn malformed_lock_requests_are_refused_after_the_fh(rt: HostRuntime) -> Result<(
         server.check(
             &rt,
             &[
-                (2, Op::Setlk(asked), refused(Errno::EINVAL)),
-                (2, Op::Getlk(asked), refused(Errno::EINVAL)),
-                (2, Op::Setlk(closed), refused(Errno::EBADF)),
-                (2, Op::Getlk(closed), refused(Errno::EBADF)),
-                (1, Op::Setlk(asked), refused(Errno::EBADF)),
-                (1, Op::Getlk(asked), refused(Errno::EBADF)),
+                (2, Op::Setlk(asked), EINVAL),
+                (2, Op::Getlk(asked), EINVAL),
+                (2, Op::Setlk(closed), EBADF),
+                (2, Op::Getlk(closed), EBADF),
+                (1, Op::Setlk(asked), EBADF),
+                (1, Op::Getlk(asked), EBADF),
             ],
         );
     }
@@ -134,12 +132,11 @@ fn malformed_lock_requests_are_refused_after_the_fh(rt: HostRuntime) -> Result<(
         server.check(
             &rt,
             &[
-                (2, Op::Getlk(asked), refused(Errno::EINVAL)),
-                (2, Op::Getlk(closed), refused(Errno::EBADF)),
-                (3, Op::Getlk(asked), refused(Errno::EBADF)),
+                (2, Op::Getlk(asked), EINVAL),
+                (2, Op::Getlk(closed), EBADF),
+                (3, Op::Getlk(asked), EBADF),
                 (2, Op::Setlk(asked), DONE),
             ],
         );
     }
-    Ok(())
 }

@@ -12,8 +12,8 @@ fn ending(kind: u8, name: Name) -> Case {
 }
 
 #[test]
-fn a_node_goes_with_its_last_reason_to_live(rt: HostRuntime) -> Result<(), Fail> {
-    let a = name(b"a")?;
+fn a_node_goes_with_its_last_reason_to_live(rt: HostRuntime) {
+    let a = name(&rt, b"a");
     for (first, second, last) in [
         (0, 1, 2),
         (0, 2, 1),
@@ -24,7 +24,7 @@ fn a_node_goes_with_its_last_reason_to_live(rt: HostRuntime) -> Result<(), Fail>
     ] {
         let linked_once = u32::from(first != 0);
         let linked_twice = u32::from(first != 0 && second != 0);
-        let mut server = Server::new(rt.alloc())?;
+        let mut server = Server::new(&rt, rt.alloc());
         server.check(
             &rt,
             &[
@@ -34,29 +34,28 @@ fn a_node_goes_with_its_last_reason_to_live(rt: HostRuntime) -> Result<(), Fail>
                 ending(second, a),
                 (2, Op::Getattr, attr(2, linked_twice)),
                 ending(last, a),
-                (2, Op::Getattr, refused(Errno::ENOENT)),
-                (2, Op::Open, refused(Errno::ENOENT)),
-                (2, Op::Lookup(a), refused(Errno::ENOENT)),
-                (1, Op::Lookup(a), refused(Errno::ENOENT)),
-                (2, flush(1, 7), refused(Errno::EBADF)),
+                (2, Op::Getattr, ENOENT),
+                (2, Op::Open, ENOENT),
+                (2, Op::Lookup(a), ENOENT),
+                (1, Op::Lookup(a), ENOENT),
+                (2, flush(1, 7), EBADF),
                 (1, create(true, a), made(3, 2)),
-                (2, Op::Getattr, refused(Errno::ENOENT)),
+                (2, Op::Getattr, ENOENT),
             ],
         );
     }
-    Ok(())
 }
 
 #[test]
-fn a_name_is_free_while_its_old_node_lives(rt: HostRuntime) -> Result<(), Fail> {
-    let a = name(b"a")?;
-    let mut server = Server::new(rt.alloc())?;
+fn a_name_is_free_while_its_old_node_lives(rt: HostRuntime) {
+    let a = name(&rt, b"a");
+    let mut server = Server::new(&rt, rt.alloc());
     server.check(
         &rt,
         &[
             (1, create(false, a), made(2, 1)),
             (1, Op::Unlink(a), DONE),
-            (1, Op::Unlink(a), refused(Errno::ENOENT)),
+            (1, Op::Unlink(a), ENOENT),
             (1, create(false, a), made(3, 2)),
             (2, Op::Getattr, attr(2, 0)),
             (3, Op::Getattr, attr(3, 1)),
@@ -66,7 +65,7 @@ fn a_name_is_free_while_its_old_node_lives(rt: HostRuntime) -> Result<(), Fail> 
             (2, release(1, false, 0), DONE),
             (2, Op::Getattr, attr(2, 0)),
             (2, release(3, false, 0), DONE),
-            (2, Op::Getattr, refused(Errno::ENOENT)),
+            (2, Op::Getattr, ENOENT),
             (1, create(false, a), made(3, 4)),
             (1, Op::Unlink(a), DONE),
             (3, Op::Forget(2), SILENT),
@@ -75,18 +74,17 @@ fn a_name_is_free_while_its_old_node_lives(rt: HostRuntime) -> Result<(), Fail> 
             (3, release(4, false, 0), DONE),
             (3, Op::Getattr, attr(3, 0)),
             (3, release(2, false, 0), DONE),
-            (3, Op::Getattr, refused(Errno::ENOENT)),
+            (3, Op::Getattr, ENOENT),
             (1, create(false, a), made(4, 5)),
         ],
     );
-    Ok(())
 }
 
 #[test]
-fn lookups_are_counted_and_forgotten(rt: HostRuntime) -> Result<(), Fail> {
-    let a = name(b"a")?;
+fn lookups_are_counted_and_forgotten(rt: HostRuntime) {
+    let a = name(&rt, b"a");
     let seen = told(Answer::Entry(file(2, 1)));
-    let mut server = Server::new(rt.alloc())?;
+    let mut server = Server::new(&rt, rt.alloc());
     server.check(
         &rt,
         &[
@@ -103,15 +101,14 @@ fn lookups_are_counted_and_forgotten(rt: HostRuntime) -> Result<(), Fail> {
             (2, Op::Forget(0), SILENT),
             (2, Op::Getattr, attr(2, 0)),
             (2, Op::Forget(1), SILENT),
-            (2, Op::Getattr, refused(Errno::ENOENT)),
+            (2, Op::Getattr, ENOENT),
         ],
     );
-    Ok(())
 }
 
 #[test]
-fn a_linked_name_keeps_its_first_mode_and_owner(rt: HostRuntime) -> Result<(), Fail> {
-    let a = name(b"a")?;
+fn a_linked_name_keeps_its_first_mode_and_owner(rt: HostRuntime) {
+    let a = name(&rt, b"a");
     let first = Attr {
         node: 2,
         mode: 0o100777,
@@ -119,7 +116,7 @@ fn a_linked_name_keeps_its_first_mode_and_owner(rt: HostRuntime) -> Result<(), F
         uid: 8,
         gid: 9,
     };
-    let mut server = Server::new(rt.alloc())?;
+    let mut server = Server::new(&rt, rt.alloc());
     let wide = Op::Create {
         excl: true,
         mode: 0o107777,
@@ -139,5 +136,4 @@ fn a_linked_name_keeps_its_first_mode_and_owner(rt: HostRuntime) -> Result<(), F
             (2, Op::Getattr, told(Answer::Attr(first))),
         ],
     );
-    Ok(())
 }

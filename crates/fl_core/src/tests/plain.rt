@@ -42,23 +42,23 @@ impl Plain {
         number(self.opened.len(), 1)
     }
 
-    // The reply of an order, with its change made.
-    pub(super) fn reply(&mut self, order: &Order) -> Result<Reply, Fail> {
+    // The reply of an order, with its change made. It knows of no locks.
+    pub(super) fn reply(&mut self, rt: &impl Abort, order: &Order) -> Reply {
         let node = order.node;
-        Ok(Some(match &order.op {
+        Some(match &order.op {
             Op::Lookup(name) => self.lookup(node, name),
-            Op::Create { excl, mode, name } => self.create(order, *excl, *mode, name)?,
+            Op::Create { excl, mode, name } => self.create(rt, order, *excl, *mode, name),
             Op::Getattr => self.attr(node).map(Answer::Attr),
             Op::Unlink(name) => self.unlink(node, name),
-            Op::Open => self.open(node)?,
+            Op::Open => self.open(rt, node),
             Op::Flush { fh, .. } => self.test_file(node, *fh),
             Op::Release { fh, .. } => self.release(node, *fh),
             Op::Forget(n) => {
                 self.forget(node, *n);
-                return Ok(None);
+                return None;
             }
-            _ => return Err(Fail::from("no order of a directory")),
-        }))
+            Op::Getlk(_) | Op::Setlk(_) => return None,
+        })
     }
 
     fn lookup(&mut self, node: u64, name: &Name) -> Result<Answer, Errno> {
@@ -70,24 +70,22 @@ impl Plain {
 
     fn create(
         &mut self,
+        rt: &impl Abort,
         order: &Order,
         excl: bool,
         mode: u32,
         name: &Name,
-    ) -> Result<Result<Answer, Errno>, Fail> {
-        if let Err(error) = self.test_create(order.node, excl, name) {
-            return Ok(Err(error));
-        }
+    ) -> Result<Answer, Errno> {
+        self.test_create(order.node, excl, name)?;
         let node = match self.linked(name) {
-            None => self.add(order, mode, name)?,
+            None => self.add(rt, order, mode, name),
             Some(found) => {
                 self.count_up(found);
                 found
             }
         };
-        let fh = self.next_fh();
-        self.opened.push(Some(node))?;
-        Ok(self.attr(node).map(|attr| Answer::Made(attr, fh)))
+        let fh = self.open_file(rt, node);
+        Ok(Answer::Made(self.attr(node)?, fh))
     }
 
     fn test_create(&self, node: u64, excl: bool, name: &Name) -> Result<(), Errno> {
@@ -103,16 +101,24 @@ impl Plain {
     }
 
     // A new file, under the next number.
-    fn add(&mut self, order: &Order, mode: u32, name: &Name) -> Result<u64, Fail> {
+    fn add(&mut self, rt: &impl Abort, order: &Order, mode: u32, name: &Name) -> u64 {
         let node = self.next_node();
-        self.files.push(File {
+        let file = File {
             name: Some(*name),
             lookups: 1,
             mode: 0o100000 | (mode & 0o777),
             uid: order.uid,
             gid: order.gid,
-        })?;
-        Ok(node)
+        };
+        assert!(rt; self.files.push(file).is_ok());
+        node
+    }
+
+    // A new fh, under the next number.
+    fn open_file(&mut self, rt: &impl Abort, node: u64) -> u64 {
+        let fh = self.next_fh();
+        assert!(rt; self.opened.push(Some(node)).is_ok());
+        fh
     }
 
     fn unlink(&mut self, node: u64, name: &Name) -> Result<Answer, Errno> {
@@ -124,16 +130,12 @@ impl Plain {
         Ok(Answer::Done)
     }
 
-    fn open(&mut self, node: u64) -> Result<Result<Answer, Errno>, Fail> {
-        if let Err(error) = self.attr(node) {
-            return Ok(Err(error));
-        }
+    fn open(&mut self, rt: &impl Abort, node: u64) -> Result<Answer, Errno> {
+        self.attr(node)?;
         if node == 1 {
-            return Ok(Err(Errno::EISDIR));
+            return Err(Errno::EISDIR);
         }
-        let fh = self.next_fh();
-        self.opened.push(Some(node))?;
-        Ok(Ok(Answer::Open(fh)))
+        Ok(Answer::Open(self.open_file(rt, node)))
     }
 
     fn release(&mut self, node: u64, fh: u64) -> Result<Answer, Errno> {

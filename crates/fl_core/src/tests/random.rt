@@ -31,8 +31,13 @@ impl Numbers {
 
 type Names = [Name; 4];
 
-fn names() -> Result<Names, Fail> {
-    Ok([name(b"a")?, name(b"b")?, name(b"")?, name(b"..")?])
+fn names(rt: &impl Abort) -> Names {
+    [
+        name(rt, b"a"),
+        name(rt, b"b"),
+        name(rt, b""),
+        name(rt, b".."),
+    ]
 }
 
 // What is asked of names in a node.
@@ -101,39 +106,31 @@ fn random_order(numbers: &mut Numbers, names: &Names, plain: &Plain) -> Order {
 }
 
 // Every number that was given and the next one, as a node and as an fh.
-fn compare_all(rt: &impl Abort, server: &mut Server, plain: &mut Plain) -> Result<(), Fail> {
+fn compare_all(rt: &impl Abort, server: &mut Server, plain: &mut Plain) {
     for node in 0..plain.next_node().saturating_add(1) {
-        compare(rt, server, plain, &order(node, Op::Getattr))?;
+        compare(rt, server, plain, &order(node, Op::Getattr));
         for fh in 0..plain.next_fh().saturating_add(1) {
-            compare(rt, server, plain, &order(node, flush(fh, 0)))?;
+            compare(rt, server, plain, &order(node, flush(fh, 0)));
         }
     }
-    Ok(())
 }
 
-fn compare(
-    rt: &impl Abort,
-    server: &mut Server,
-    plain: &mut Plain,
-    order: &Order,
-) -> Result<(), Fail> {
-    let wanted = plain.reply(order)?;
+fn compare(rt: &impl Abort, server: &mut Server, plain: &mut Plain, order: &Order) {
+    let wanted = plain.reply(rt, order);
     assert_eq!(rt; server.ask(rt, order), wanted);
-    Ok(())
 }
 
 #[test]
-fn answers_as_a_plain_directory_does(rt: HostRuntime) -> Result<(), Fail> {
-    let names = names()?;
+fn answers_as_a_plain_directory_does(rt: HostRuntime) {
+    let names = names(&rt);
     for seed in 0..10 {
         let mut numbers = Numbers { state: seed };
-        let mut server = Server::new(rt.alloc())?;
+        let mut server = Server::new(&rt, rt.alloc());
         let mut plain = Plain::new(rt.alloc());
         for _ in 0..500 {
             let order = random_order(&mut numbers, &names, &plain);
-            compare(&rt, &mut server, &mut plain, &order)?;
+            compare(&rt, &mut server, &mut plain, &order);
         }
-        compare_all(&rt, &mut server, &mut plain)?;
+        compare_all(&rt, &mut server, &mut plain);
     }
-    Ok(())
 }
