@@ -28,7 +28,7 @@ def setlk(files):
     return micros(begun, f"2 0 0 0 setlk {files} 7 0 9 1 11 0")
 
 def lookup(names):
-    begun = [f"1 0 0 0 create 0 420 {i + 1:04x}".replace("00", "7e") for i in range(names)]
+    begun = [f"1 0 0 0 create 0 420 {str(1000 + i).encode().hex()}" for i in range(names)]
     return micros(begun, begun[-1].replace("create 0 420", "lookup"))
 
 def compare(what, few, many):
