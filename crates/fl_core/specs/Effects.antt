@@ -35,8 +35,12 @@ locked node ask (Err e) = []
 
 -- all locks of the owner on the node go, of this class
 abbrev pub unlocked : Class → ℕ → ℕ → Change
-unlocked class node owner =
-    struck (record { key = record { class = class; node = node; owner = owner }; start = 0; end = 9223372036854775807; mark = None })
+unlocked class node owner = struck (record {
+  key = record { class = class; node = node; owner = owner };
+  start = 0;
+  end = 9223372036854775807;
+  mark = None;
+})
 
 -- FLUSH with this reply: the owner's record locks on the node go, through whichever fh they were set (POSIX.1-2017
 -- `fcntl`: all locks of a process on a file go when it closes any descriptor of the file)

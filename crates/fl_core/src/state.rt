@@ -125,8 +125,8 @@ impl Core {
         Ok(Answer::Done)
     }
 
-    // FUSE_RELEASE: the fh is closed, with `drop` the owner's whole-file lock goes, and with the last fh all locks of the
-    // node.
+    // FUSE_RELEASE: the fh is closed, with `drop` the owner's whole-file lock goes, and with the last fh all locks of
+    // the node.
     fn release(&mut self, node: u64, fh: u64, drop: bool, owner: u64) -> Result<Answer, Errno>
         ensures reply { result ≡ file_reply self.old.view.directory node fh }
         ensures changed { self.new ≡ made (released node fh drop owner result) self.old }
