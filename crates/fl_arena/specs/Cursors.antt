@@ -43,5 +43,6 @@ module _ {T : Type 0} where
     pub in_range : slot < old.slots
     pub was_free : IsFree old slot
     pub chains : new
-        ≡ with_entries old from.chain (insert (entries old from.chain) (index_of old from) (record { slot = slot; item = item }))
+        ≡ with_entries old from.chain
+        (insert (entries old from.chain) (index_of old from) (record { slot = slot; item = item }))
     pub cursor : to ≡ record { chain = from.chain; index = index_of old from; slot = Some slot }
