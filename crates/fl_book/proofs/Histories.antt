@@ -9,8 +9,8 @@ use Rattle.fl_book.specs.declared.history.Line.{Line}
 use Rattle.fl_book.specs.declared.history.Line.TheVariants as line
 use Rattle.fl_ranges.specs.Conflict.{IsLawful}
 use Rattle.fl_core.specs.State.{View, State, Snapshot, snapshot_of}
-use Rattle.fl_core.specs.Effects.{Effect, answered, unanswered, later, followed_by, told_first, replied, recorded}
-use Rattle.fl_core.specs.Replies.{replies}
+use Rattle.fl_core.specs.Effects.{Effect, at_once, later, followed_by, told_first, replied, recorded}
+use Rattle.fl_core.specs.Step.{replies}
 use Rattle.fl_book.specs.Replay.{unread, read_line, state_at_end, state_after, all_later, AllOthers}
 use Rattle.fl_book.specs.Legal.{step, step_lines}
 use Rattle.fl_book.specs.Kept.{IsKept}
@@ -53,23 +53,23 @@ other_number m n other = grind (arith, nat_tests)
 
 -- one more step whose first reply is its own
 pub read_own : (lines : List Line) (worker : ℕ) (order : Order) (told : Told) (tolds : List Told) → told.unique ≡ order.unique
-    → state_after (lines ++ step_lines worker order (told ∷ tolds)) ≡ all_later tolds (recorded (answered order order.op told.result) (state_after lines))
+    → state_after (lines ++ step_lines worker order (told ∷ tolds)) ≡ all_later tolds (recorded (at_once order (Some told.result)) (state_after lines))
 read_own lines worker order told tolds own =
     read_asked lines worker order (told ∷ tolds)
     ∙ read_later tolds (recorded (told_first order told) (state_after lines))
-    ∙ ap (λ b. all_later tolds (recorded (λ v. cond b (answered order order.op told.result v) (followed_by (later told) (unanswered order order.op v))) (state_after lines)))
+    ∙ ap (λ b. all_later tolds (recorded (λ v. cond b (at_once order (Some told.result) v) (followed_by (later told) (at_once order None v))) (state_after lines)))
     (same_number told.unique order.unique own)
 
 -- one more step without a reply of its own
 pub read_none : (lines : List Line) (worker : ℕ) (order : Order) (tolds : List Told) → AllOthers order.unique tolds
-    → state_after (lines ++ step_lines worker order tolds) ≡ all_later tolds (recorded (unanswered order order.op) (state_after lines))
+    → state_after (lines ++ step_lines worker order tolds) ≡ all_later tolds (recorded (at_once order None) (state_after lines))
 read_none lines worker order [] others = read_asked lines worker order []
 read_none lines worker order (told ∷ tolds) others =
     read_asked lines worker order (told ∷ tolds)
     ∙ read_later tolds (recorded (told_first order told) (state_after lines))
-    ∙ ap (λ b. all_later tolds (recorded (λ v. cond b (answered order order.op told.result v) (followed_by (later told) (unanswered order order.op v))) (state_after lines)))
+    ∙ ap (λ b. all_later tolds (recorded (λ v. cond b (at_once order (Some told.result) v) (followed_by (later told) (at_once order None v))) (state_after lines)))
     (other_number told.unique order.unique others.0)
-    ∙ ap (all_later tolds) (sym (recorded_twice (unanswered order order.op) (later told) (state_after lines)))
+    ∙ ap (all_later tolds) (sym (recorded_twice (at_once order None) (later told) (state_after lines)))
 
 -- ---- what a desk keeps
 

@@ -5,7 +5,7 @@ use Rattle.fl_wire.specs.declared.order.Order.{Order}
 use Rattle.fl_book.specs.declared.history.Line.{Line}
 use Rattle.fl_book.specs.declared.history.Line.TheVariants as line
 use Rattle.fl_book.specs.Replay.{state_after}
-use Rattle.fl_core.specs.Replies.{first_replies}
+use Rattle.fl_core.specs.Step.{replies_in}
 
 -- an order and its replies, as lines
 abbrev pub step_lines : ℕ → Order → List Told → List Line
@@ -15,4 +15,4 @@ step_lines worker order replies = line.Asked worker order ∷ map (λ told. line
 pub data IsLegal : List Line → Type 0 where
   nothing : IsLegal []
   step : (before : List Line) (worker : ℕ) (order : Order) {lines : List Line} → IsLegal before
-      → lines ≡ before ++ step_lines worker order (first_replies (state_after before) order) → IsLegal lines
+      → lines ≡ before ++ step_lines worker order (replies_in (state_after before) order) → IsLegal lines

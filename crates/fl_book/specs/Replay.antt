@@ -4,7 +4,7 @@ use Rattle.std.specs.List.{fold, AllByRecursion}
 use Rattle.fl_wire.specs.declared.order.Order.{Order}
 use Rattle.fl_wire.specs.declared.told.Told.{Told}
 use Rattle.fl_core.specs.State.{State, opening}
-use Rattle.fl_core.specs.Effects.{unanswered, later, told_first, recorded}
+use Rattle.fl_core.specs.Effects.{at_once, later, told_first, recorded}
 use Rattle.fl_book.specs.declared.history.Line.{Line}
 use Rattle.fl_book.specs.declared.history.Line.TheVariants as line
 
@@ -20,7 +20,7 @@ unread = record { state = opening; waiting = None }
 -- no reply of its own comes to the order that was asked last
 abbrev pub committed : Option Order → State → State
 committed None s = s
-committed (Some order) s = recorded (unanswered order order.op) s
+committed (Some order) s = recorded (at_once order None) s
 
 -- A reply directly after an order of its unique is its own. Any other answers the parked request of its unique.
 abbrev pub read_reply : Option Order → Told → State → State

@@ -1,6 +1,6 @@
 ghost use Rattle.std.specs.Prelude.{◌≡◌, ◌≤◌, ◌+◌, ◌++◌, length, IfOk, IsOk, OnOk, OnErr, vec_len, vec_capacity};
 ghost use Rattle.fl_book.specs.Replay.{state_after};
-ghost use Rattle.fl_core.specs.Replies.{first_replies};
+ghost use Rattle.fl_core.specs.Step.{replies_in};
 ghost use Rattle.fl_book.specs.Legal.{IsLegal, step_lines};
 ghost use Rattle.fl_book.specs.Kept.{IsKept, opening_book};
 
@@ -50,7 +50,7 @@ impl Desk {
     /// Takes an order of a worker: records it, answers it, and hands out the replies that it records.
     /// A refusal changes nothing, and doesn't come where there is room for `MOST_LINES` lines more.
     pub fn take(&mut self, worker: u32, order: &Order, tolds: &mut Tolds) -> Result<(), NoMemory>
-        ensures replies { OnOk result (tolds.new ≡ first_replies (state_after self.old.lines) order.now) }
+        ensures replies { OnOk result (tolds.new ≡ replies_in (state_after self.old.lines) order.now) }
         ensures lines { OnOk result (self.new.lines ≡ self.old.lines ++ step_lines worker order.now tolds.new) }
         ensures refused { OnErr result
             ((self.new.lines ≡ self.old.lines) × (self.new.present ≡ self.old.present) × (tolds.new ≡ tolds.old)) }

@@ -1,9 +1,9 @@
 //! Laws of the definitions, in the words of their subject. Each is the contract of an empty function.
 
-ghost use Rattle.std.specs.Prelude.{◌≡◌, ℕ, List, ◌∷◌, ◌++◌};
+ghost use Rattle.std.specs.Prelude.{◌≡◌, ℕ, Some, None, List, ◌∷◌, ◌++◌};
 ghost use Rattle.fl_wire.specs.declared.told.Told.{Told as Reply};
 ghost use Rattle.fl_wire.specs.declared.order.Order.{Order as Request};
-ghost use Rattle.fl_core.specs.Effects.{answered, unanswered, recorded};
+ghost use Rattle.fl_core.specs.Effects.{at_once, recorded};
 ghost use Rattle.fl_book.specs.declared.history.Line.{Line as Record};
 ghost use Rattle.fl_book.specs.Legal.{step_lines};
 ghost use Rattle.fl_book.specs.Replay.{state_after, all_later, AllOthers};
@@ -14,11 +14,11 @@ pub fn own_reply_comes_first()
     ensures own { (lines : List Record) (worker : ℕ) (order : Request) (told : Reply) (tolds : List Reply) →
         told.unique ≡ order.unique →
         state_after (lines ++ step_lines worker order (told ∷ tolds)) ≡
-        all_later tolds (recorded (answered order order.op told.result) (state_after lines)) }
+        all_later tolds (recorded (at_once order (Some told.result)) (state_after lines)) }
     ensures none { (lines : List Record) (worker : ℕ) (order : Request) (tolds : List Reply) →
         AllOthers order.unique tolds →
         state_after (lines ++ step_lines worker order tolds) ≡
-        all_later tolds (recorded (unanswered order order.op) (state_after lines)) }
+        all_later tolds (recorded (at_once order None) (state_after lines)) }
 {}
 
 /// Two histories that can be read back never have one text.

@@ -1,7 +1,8 @@
 -- Effects on a state, and on what contracts see of it.
-use Rattle.std.proofs.Common.{◌≡◌, ℕ, true, cond, ◌==◌, Option, Some, None, Result, List, [], ◌∷◌, ◌++◌, refl, sym, ap, ◌∙◌, arith}
+use Rattle.std.proofs.Common.{◌≡◌, ◌≢◌, ℕ, true, false, cond, ◌==◌, Option, Some, None, Result, List, [], ◌∷◌, ◌++◌, refl, sym, ap, ◌∙◌, arith}
 use Rattle.std.proofs.lemmas.Bool.Decides.{nat_tests}
 use Rattle.std.specs.FinMap.{empty}
+use Rattle.std.specs.List.{fold, AllByRecursion}
 use Rattle.fl_wire.specs.declared.errno.Errno.{Errno}
 use Rattle.fl_wire.specs.declared.told.Answer.{Answer}
 use Rattle.fl_wire.specs.declared.told.Told.{Told}
@@ -9,9 +10,8 @@ use Rattle.fl_wire.specs.declared.order.Order.{Order}
 use Rattle.fl_ranges.specs.Marking.{Marking}
 use Rattle.fl_ranges.specs.Change.{Change, after_change, after_changes}
 use Rattle.fl_core.specs.State.{View, State, Snapshot, snapshot_of}
-use Rattle.fl_core.specs.Replies.{own_replies, replies}
-use Rattle.fl_core.specs.Step.{next}
-use Rattle.fl_core.specs.Effects.{Effect, answered, unanswered, at_once, later, followed_by, replied, recorded, made}
+use Rattle.fl_core.specs.Replies.{own_replies}
+use Rattle.fl_core.specs.Effects.{Effect, at_once, later, followed_by, told_first, replied, recorded, made}
 
 after_changes-append : (later earlier : List Change) (m : Marking) → after_changes (later ++ earlier) m ≡ after_changes later (after_changes earlier m)
 after_changes-append [] earlier m = refl
@@ -21,18 +21,46 @@ after_changes-append (c ∷ later) earlier m = ap (after_change c) (after_change
 pub shown_recorded : (f : View → Effect) (s : State) → snapshot_of (recorded f s) ≡ made f (snapshot_of s)
 shown_recorded f s = ap (λ (m : Marking). record { view = (f s.view).view; marking = m }) (after_changes-append (f s.view).changes s.changes empty)
 
--- what goes the same way as a step
-pub is_recorded : (order : Order) (old new : Snapshot) (tolds : List Told) → tolds ≡ replies old order → new ≡ next old order
+-- what is read off its replies alone goes the same way in each state that shows what was there
+pub is_recorded : (order : Order) (old new : Snapshot) (tolds : List Told) → new ≡ made (replied order tolds) old
     → (s : State) → snapshot_of s ≡ old → snapshot_of (recorded (replied order tolds) s) ≡ new
-is_recorded order old new tolds tolds_are next_is s stands = shown_recorded (replied order tolds) s ∙ (λ i. made (replied order (tolds_are i)) (stands i)) ∙ sym next_is
+is_recorded order old new tolds new_is s stands = shown_recorded (replied order tolds) s ∙ ap (made (replied order tolds)) stands ∙ sym new_is
+
+-- later replies, one after another
+abbrev pub made_all : List Told → Snapshot → Snapshot
+made_all tolds p = fold (λ p told. made (later told) p) p tolds
+
+pub made_all-append : (xs ys : List Told) (p : Snapshot) → made_all (xs ++ ys) p ≡ made_all ys (made_all xs p)
+made_all-append [] ys p = refl
+made_all-append (x ∷ xs) ys p = made_all-append xs ys (made (later x) p)
+
+made_twice : (f g : View → Effect) (p : Snapshot) → made (λ v. followed_by f (g v)) p ≡ made f (made g p)
+made_twice f g p =
+    ap (λ (m : Marking). record { view = (f (g p.view).view).view; marking = m }) (after_changes-append (f (g p.view).view).changes (g p.view).changes p.marking)
+
+made_fold : (tolds : List Told) (g : View → Effect) (p : Snapshot) → made (λ v. fold (λ e t. followed_by (later t) e) (g v) tolds) p ≡ made_all tolds (made g p)
+made_fold [] g p = refl
+made_fold (t ∷ tolds) g p = made_fold tolds (λ v. followed_by (later t) (g v)) p ∙ ap (made_all tolds) (made_twice (later t) g p)
 
 same_number : (n : ℕ) → (n == n) ≡ true
 same_number n = grind (arith, nat_tests)
 
--- an order with the reply of its own, if it has one
-pub made_at_once : (order : Order) (own : Option (Result Answer Errno)) (p : Snapshot)
-    → made (replied order (own_replies order own)) p ≡ made (at_once order own) p
-made_at_once order None p = refl
-made_at_once order (Some reply) p =
+other_number : (m n : ℕ) → m ≢ n → (m == n) ≡ false
+other_number m n apart = grind (arith, nat_tests)
+
+-- none of the replies is of this unique
+abbrev pub AreOthers : ℕ → List Told → Type 0
+AreOthers unique tolds = AllByRecursion (λ (told : Told). told.unique ≢ unique) tolds
+
+-- an order's own reply, if it has one, and then each other reply
+pub made_replied : (order : Order) (own : Option (Result Answer Errno)) (tolds : List Told) (p : Snapshot) → (own ≡ None → AreOthers order.unique tolds)
+    → made (replied order (own_replies order own ++ tolds)) p ≡ made_all tolds (made (at_once order own) p)
+made_replied order (Some reply) tolds p others =
     let told : Told = record { unique = order.unique; result = reply } in
-    ap (λ b. made (λ v. cond b (answered order order.op reply v) (followed_by (later told) (unanswered order order.op v))) p) (same_number order.unique)
+    made_fold tolds (told_first order told) p
+    ∙ ap (λ b. made_all tolds (made (λ v. cond b (at_once order (Some reply) v) (followed_by (later told) (at_once order None v))) p)) (same_number order.unique)
+made_replied order None [] p others = refl
+made_replied order None (told ∷ tolds) p others =
+    made_fold tolds (told_first order told) p
+    ∙ ap (λ b. made_all tolds (made (λ v. cond b (at_once order (Some told.result) v) (followed_by (later told) (at_once order None v))) p)) (other_number told.unique order.unique (others refl).0)
+    ∙ ap (made_all tolds) (made_twice (later told) (at_once order None) p)

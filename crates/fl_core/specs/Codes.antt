@@ -1,24 +1,18 @@
 -- How snapshots are told apart by proofs: as pairs and lists.
-use Rattle.std.specs.Prelude.{ℕ, List, refl}
-use Rattle.std.specs.Coded.{Coded, code_by, coded×, coded_ℕ, coded_list}
-use Rattle.fl_wire.specs.declared.order.LockAsk.{LockAsk}
-use Rattle.fl_wire.specs.contracts.order.LockAsk as ask
+use Rattle.std.specs.Prelude.{List, refl}
+use Rattle.std.specs.Coded.{Coded, code_by, coded×, coded_list}
 use Rattle.fl_ranges.specs.Marking.{Marking}
 use Rattle.fl_ranges.specs.Codes.{marking_code}
 use Rattle.fl_dir.specs.Directory.{Listing}
 use Rattle.fl_dir.specs.Codes.{listing_code}
-use Rattle.fl_core.specs.State.{Request, View, Snapshot}
-
--- a parked request, as its three parts
-abbrev pub request_code : Coded Request
-request_code =
-    code_by (ℕ × (ℕ × LockAsk)) (coded× coded_ℕ (coded× coded_ℕ (ask.the_row).coded))
-    (λ r. (r.unique, (r.node, r.ask))) (λ t. record { unique = t.0; node = t.1.0; ask = t.1.1 }) (λ _. refl)
+use Rattle.fl_core.specs.State.{View, Snapshot}
+use Rattle.fl_core.specs.contracts.parked.Request as request
+use Rattle.fl_core.specs.declared.parked.Request.{Request}
 
 -- all but the locks, as its two parts
 abbrev pub view_code : Coded View
 view_code =
-    code_by (Listing × List Request) (coded× listing_code (coded_list request_code))
+    code_by (Listing × List Request) (coded× listing_code (coded_list (request.the_row).coded))
     (λ v. (v.directory, v.parked)) (λ t. record { directory = t.0; parked = t.1 }) (λ _. refl)
 
 -- a snapshot, as its two parts

@@ -1,5 +1,5 @@
 -- What a recorded order changes with its recorded replies: read off these and all but the locks, and nothing is tested.
-use Rattle.std.specs.Prelude.{ℕ, ◌==◌, Bool, true, false, Option, Some, None, option_map, Result, Ok, Err, List, [], ◌∷◌, ◌++◌}
+use Rattle.std.specs.Prelude.{ℕ, ◌==◌, Bool, true, false, Option, Some, None, Result, Ok, Err, List, [], ◌∷◌, ◌++◌}
 use Rattle.std.specs.Prelude.{if◌then◌else◌}
 use Rattle.std.specs.List.{fold}
 use Rattle.fl_wire.specs.declared.errno.Errno.{Errno}
@@ -8,7 +8,7 @@ use Rattle.fl_wire.specs.declared.told.Told.{Told}
 use Rattle.fl_wire.specs.declared.order.Order.{Order}
 use Rattle.fl_wire.specs.declared.order.Op.{Op}
 use Rattle.fl_wire.specs.declared.order.Op.TheVariants.{Lookup, Forget, Getattr, Unlink, Open, Release, Flush}
-use Rattle.fl_wire.specs.declared.order.Op.TheVariants.{Create, Getlk, Setlk}
+use Rattle.fl_wire.specs.declared.order.Op.TheVariants.{Create, Getlk, Setlk, Setlkw, Interrupt}
 use Rattle.fl_wire.specs.declared.order.LockAsk.{LockAsk}
 use Rattle.fl_ranges.specs.declared.lock.Class.{Class}
 use Rattle.fl_ranges.specs.declared.lock.Class.TheVariants.{Record, Flock}
@@ -17,7 +17,9 @@ use Rattle.fl_dir.specs.Changes.{after_lookup, after_create, after_open, after_u
 use Rattle.fl_dir.specs.Directory.{Listing}
 use Rattle.fl_dir.specs.OpenFiles.{has_open_file, without_file}
 use Rattle.fl_core.specs.LockRequest.{stroke_of}
-use Rattle.fl_core.specs.State.{Request, View, State, Snapshot}
+use Rattle.fl_core.specs.State.{View, State, Snapshot}
+use Rattle.fl_core.specs.Waiting.{is_parked, taken_out}
+use Rattle.fl_core.specs.declared.parked.Request.{Request}
 
 -- what is there afterwards but the locks, and the changes of locks with the last one first
 pub record Effect : Type 0 where
@@ -83,23 +85,24 @@ answered order (Create excl mode name) reply v =
     with_directory v (after_create v.directory order.uid order.gid mode name reply)
 answered order (Getlk ask) reply v = leaving v
 answered order (Setlk ask) reply v = record { view = v; changes = locked order.node ask reply }
+answered order (Setlkw ask) reply v = record { view = v; changes = locked order.node ask reply }
+answered order (Interrupt unique) reply v = leaving v
 
--- an order with no reply of its own
+-- an order with no reply of its own: lookups are forgotten, or a lock request waits, behind the others
 abbrev pub unanswered : Order → Op → View → Effect
 unanswered order (Forget n) v = with_directory v (after_forget v.directory order.node n)
+unanswered order (Setlkw ask) v =
+    leaving (record v { parked = v.parked ++ record { unique = order.unique; node = order.node; ask = ask } ∷ [] })
 unanswered order _ v = leaving v
 
 -- an order with its own reply, if it has one
-abbrev pub at_once : Order → Option (Result Answer Errno) → View → Effect
-at_once order None v = unanswered order order.op v
-at_once order (Some reply) v = answered order order.op reply v
+abbrev pub by_reply : Order → Option (Result Answer Errno) → View → Effect
+by_reply order None v = unanswered order order.op v
+by_reply order (Some reply) v = answered order order.op reply v
 
--- the parked request of a unique, and the others
-abbrev pub taken_out : ℕ → List Request → Option (Request × List Request)
-taken_out unique [] = None
-taken_out unique (r ∷ parked) =
-    if r.unique == unique then Some (r, parked)
-    else option_map (λ (p : Request × List Request). (p.0, r ∷ p.1)) (taken_out unique parked)
+-- an order with its own reply, if it has one now; where its unique is that of a request that waits, it changes nothing
+abbrev pub at_once : Order → Option (Result Answer Errno) → View → Effect
+at_once order own v = if is_parked order.unique v.parked then leaving v else by_reply order own v
 
 -- the reply of a parked request that was taken out, if there was one
 abbrev pub later_to : Option (Request × List Request) → Result Answer Errno → View → Effect
@@ -117,12 +120,12 @@ followed_by f e = record { view = (f e.view).view; changes = (f e.view).changes 
 -- an order and the reply directly after it, which is its own where it has its unique
 abbrev pub told_first : Order → Told → View → Effect
 told_first order told v =
-    if told.unique == order.unique then answered order order.op told.result v
-    else followed_by (later told) (unanswered order order.op v)
+    if told.unique == order.unique then at_once order (Some told.result) v
+    else followed_by (later told) (at_once order None v)
 
 -- an order with all replies that it gives
 abbrev pub replied : Order → List Told → View → Effect
-replied order [] v = unanswered order order.op v
+replied order [] v = at_once order None v
 replied order (told ∷ tolds) v = fold (λ e t. followed_by (later t) e) (told_first order told v) tolds
 
 -- the state after an effect

@@ -1,6 +1,9 @@
 pub mod Codes
 pub mod Effects
+pub mod Inside
 pub mod LockRequest
 pub mod Replies
+pub mod Settling
 pub mod State
 pub mod Step
+pub mod Waiting

@@ -1,16 +1,17 @@
 -- What an order is answered at once (POSIX.1-2017 `fcntl`, F_GETLK and F_SETLK; Linux `flock(2)`; the requests of Linux
 -- `fuse.h`).
-use Rattle.std.specs.Prelude.{ℕ, Bool, not, ◌||◌, ◌&&◌, nat_lt, Option, Some, None, Result, Ok, Err}
-use Rattle.std.specs.Prelude.{List, [], ◌∷◌, if◌then◌else◌}
+use Rattle.std.specs.Prelude.{ℕ, Bool, not, ◌||◌, ◌&&◌, ◌==◌, nat_le, nat_lt, Option, Some, None, Result, Ok, Err}
+use Rattle.std.specs.Prelude.{List, [], ◌∷◌, ◌++◌, length, map, if◌then◌else◌}
+use Rattle.std.specs.List.{filter}
 use Rattle.fl_wire.specs.declared.errno.Errno.{Errno}
-use Rattle.fl_wire.specs.declared.errno.Errno.TheVariants.{EBADF, EINVAL, EAGAIN, ENOLCK}
+use Rattle.fl_wire.specs.declared.errno.Errno.TheVariants.{EINTR, EBADF, EINVAL, EAGAIN, ENOLCK}
 use Rattle.fl_wire.specs.declared.told.Answer.{Answer}
 use Rattle.fl_wire.specs.declared.told.Answer.TheVariants.{Done, Lock}
 use Rattle.fl_wire.specs.declared.told.Told.{Told}
 use Rattle.fl_wire.specs.declared.order.Order.{Order}
 use Rattle.fl_wire.specs.declared.order.Op.{Op}
 use Rattle.fl_wire.specs.declared.order.Op.TheVariants.{Lookup, Forget, Getattr, Unlink, Open, Release, Flush}
-use Rattle.fl_wire.specs.declared.order.Op.TheVariants.{Create, Getlk, Setlk}
+use Rattle.fl_wire.specs.declared.order.Op.TheVariants.{Create, Getlk, Setlk, Setlkw, Interrupt}
 use Rattle.fl_wire.specs.declared.order.LockAsk.{LockAsk}
 use Rattle.fl_ranges.specs.declared.held.Held.{Held}
 use Rattle.fl_ranges.specs.declared.lock.Key.{Key}
@@ -18,14 +19,15 @@ use Rattle.fl_ranges.specs.declared.lock.Kind.{Kind}
 use Rattle.fl_ranges.specs.declared.lock.Kind.TheVariants.{Read, Write}
 use Rattle.fl_ranges.specs.declared.lock.Mark.{Mark}
 use Rattle.fl_ranges.specs.Marking.{Marking, Stroke, stroked}
-use Rattle.fl_ranges.specs.Conflict.{conflicts}
 use Rattle.fl_ranges.specs.Runs.{runs}
 use Rattle.fl_ranges.specs.Blocker.{blocker}
 use Rattle.fl_dir.specs.Directory.{Listing}
 use Rattle.fl_dir.specs.OpenFiles.{is_open_on}
 use Rattle.fl_dir.specs.Replies.{lookup_reply, create_reply, open_reply, getattr_reply, unlink_reply, unless_error}
 use Rattle.fl_core.specs.LockRequest.{is_flock, key_of, mark_of, stroke_of}
-use Rattle.fl_core.specs.State.{State, Snapshot, snapshot_of}
+use Rattle.fl_core.specs.State.{View, Snapshot}
+use Rattle.fl_core.specs.Waiting.{is_excluded, is_parked}
+use Rattle.fl_core.specs.declared.parked.Request.{Request}
 
 -- other flags than the whole-file bit, a type above 2, or a range of a record lock that is no range
 abbrev pub is_malformed : LockAsk → Bool
@@ -37,10 +39,9 @@ is_malformed ask =
 abbrev pub room_reply : Marking → Stroke → Result Answer Errno
 room_reply m s = if nat_lt 4096 (runs (stroked s m)) then Err ENOLCK else Ok Done
 
--- a lock is set where it conflicts with none that is held, and unlocking has no such test
+-- a lock is set where it conflicts with none that is held
 abbrev pub set_reply : Marking → Stroke → Option Mark → Result Answer Errno
-set_reply m s None = room_reply m s
-set_reply m s (Some mark) = if conflicts m s.key s.start s.end mark.kind then Err EAGAIN else room_reply m s
+set_reply m s mark = if is_excluded m s mark then Err EAGAIN else room_reply m s
 
 -- the first test that a lock request fails whatever locks are held, if there is one
 abbrev pub ask_error : Listing → ℕ → LockAsk → Option Errno
@@ -51,6 +52,22 @@ ask_error d node ask =
 -- what a SETLK is answered
 abbrev pub setlk_reply : Listing → Marking → ℕ → LockAsk → Result Answer Errno
 setlk_reply d m node ask = unless_error (ask_error d node ask) (set_reply m (stroke_of node ask) (mark_of ask))
+
+-- a request that conflicts has no reply yet, unless 256 requests wait already
+abbrev pub wait_reply : List Request → Option (Result Answer Errno)
+wait_reply parked = if nat_le 256 (length parked) then Some (Err ENOLCK) else None
+
+-- the error at once, or else the reply, if it comes at once
+abbrev pub at_once_unless : Option Errno → Option (Result Answer Errno) → Option (Result Answer Errno)
+at_once_unless None reply = reply
+at_once_unless (Some e) reply = Some (Err e)
+
+-- what a SETLKW is answered at once
+abbrev pub setlkw_reply : View → Marking → ℕ → LockAsk → Option (Result Answer Errno)
+setlkw_reply v m node ask =
+    let s = stroke_of node ask in
+    at_once_unless (ask_error v.directory node ask)
+    (if is_excluded m s (mark_of ask) then wait_reply v.parked else Some (room_reply m s))
 
 -- the type of a lock record: 0 is read and 1 is write
 abbrev pub type_of : Kind → ℕ
@@ -77,28 +94,62 @@ getlk_reply d m node ask =
 abbrev pub file_reply : Listing → ℕ → ℕ → Result Answer Errno
 file_reply d node fh = if is_open_on d fh node then Ok Done else Err EBADF
 
--- what an order is answered where these nodes, files and locks are there; FORGET has no reply
-abbrev pub reply_to : Listing → Marking → Order → Op → Option (Result Answer Errno)
-reply_to d m order (Lookup name) = Some (lookup_reply d order.node name)
-reply_to d m order (Forget n) = None
-reply_to d m order Getattr = Some (getattr_reply d order.node)
-reply_to d m order (Unlink name) = Some (unlink_reply d order.node name)
-reply_to d m order Open = Some (open_reply d order.node)
-reply_to d m order (Release fh unlocks owner) = Some (file_reply d order.node fh)
-reply_to d m order (Flush fh owner) = Some (file_reply d order.node fh)
-reply_to d m order (Create excl mode name) = Some (create_reply d order.node order.uid order.gid excl mode name)
-reply_to d m order (Getlk ask) = Some (getlk_reply d m order.node ask)
-reply_to d m order (Setlk ask) = Some (setlk_reply d m order.node ask)
+-- an INTERRUPT has no reply where it finds the request of the unique that it names
+abbrev pub interrupt_reply : List Request → ℕ → Option (Result Answer Errno)
+interrupt_reply parked unique = if is_parked unique parked then None else Some (Err EAGAIN)
 
--- the order's own reply, if it has one, as a list
+-- what an order is answered at once; FORGET has no reply
+abbrev pub reply_to : View → Marking → Order → Op → Option (Result Answer Errno)
+reply_to v m order (Lookup name) = Some (lookup_reply v.directory order.node name)
+reply_to v m order (Forget n) = None
+reply_to v m order Getattr = Some (getattr_reply v.directory order.node)
+reply_to v m order (Unlink name) = Some (unlink_reply v.directory order.node name)
+reply_to v m order Open = Some (open_reply v.directory order.node)
+reply_to v m order (Release fh unlocks owner) = Some (file_reply v.directory order.node fh)
+reply_to v m order (Flush fh owner) = Some (file_reply v.directory order.node fh)
+reply_to v m order (Create excl mode name) =
+    Some (create_reply v.directory order.node order.uid order.gid excl mode name)
+reply_to v m order (Getlk ask) = Some (getlk_reply v.directory m order.node ask)
+reply_to v m order (Setlk ask) = Some (setlk_reply v.directory m order.node ask)
+reply_to v m order (Setlkw ask) = setlkw_reply v m order.node ask
+reply_to v m order (Interrupt unique) = interrupt_reply v.parked unique
+
+-- what an order is answered whose unique is that of a request that waits
+abbrev pub taken_reply : Op → Option (Result Answer Errno)
+taken_reply (Forget n) = None
+taken_reply _ = Some (Err EINVAL)
+
+-- the order's own reply, if it has one now
+abbrev pub own_reply : View → Marking → Order → Option (Result Answer Errno)
+own_reply v m order =
+    if is_parked order.unique v.parked then taken_reply order.op else reply_to v m order order.op
+
+-- the same as a list
 abbrev pub own_replies : Order → Option (Result Answer Errno) → List Told
 own_replies order None = []
 own_replies order (Some result) = record { unique = order.unique; result = result } ∷ []
 
--- the replies that an order gives
-abbrev pub replies : Snapshot → Order → List Told
-replies p order = own_replies order (reply_to p.view.directory p.marking order order.op)
+-- a request that waits is told an error, and goes
+abbrev pub ended_with : Errno → Request → Told
+ended_with e r = record { unique = r.unique; result = Err e }
 
--- the same, in the state before it
-abbrev pub first_replies : State → Order → List Told
-first_replies s order = replies (snapshot_of s) order
+-- those that pass a test are, the oldest first
+abbrev pub ended_all : Errno → (Request → Bool) → List Request → List Told
+ended_all e test parked = map (ended_with e) (filter test parked)
+
+-- the replies to requests that an order ends by what it is answered itself: those that came through the fh that it closes,
+-- or the one that it names
+abbrev pub ended_by : List Request → Op → Option (Result Answer Errno) → List Told
+ended_by parked (Release fh unlocks owner) (Some (Ok answer)) = ended_all EBADF (λ r. r.ask.fh == fh) parked
+ended_by parked (Interrupt unique) None = ended_all EINTR (λ r. r.unique == unique) parked
+ended_by parked op own = []
+
+-- the same, but none where the order's unique is that of a request that waits
+abbrev pub ended : View → Order → Option (Result Answer Errno) → List Told
+ended v order own = if is_parked order.unique v.parked then [] else ended_by v.parked order.op own
+
+-- the replies that an order gives before any lock that came free is given to a request that waits
+abbrev pub first_told : Snapshot → Order → List Told
+first_told p order =
+    let own = own_reply p.view p.marking order in
+    own_replies order own ++ ended p.view order own

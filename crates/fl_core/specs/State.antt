@@ -1,15 +1,9 @@
 -- The state of the lock directory, as recorded lines give it, and what contracts see of it.
-use Rattle.std.specs.Prelude.{ℕ, List, []}
-use Rattle.fl_wire.specs.declared.order.LockAsk.{LockAsk}
+use Rattle.std.specs.Prelude.{List, []}
 use Rattle.fl_ranges.specs.Marking.{Marking}
 use Rattle.fl_ranges.specs.Change.{Change, marking_after}
 use Rattle.fl_dir.specs.Directory.{Listing, opening_listing}
-
--- a parked request: the unique of the order that waits for a lock, and what it asks on which node
-pub record Request : Type 0 where
-  pub unique : ℕ
-  pub node : ℕ
-  pub ask : LockAsk
+use Rattle.fl_core.specs.declared.parked.Request.{Request}
 
 -- all but the locks: the directory, and the parked requests in the order of asking
 pub record View : Type 0 where

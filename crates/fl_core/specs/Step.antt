@@ -1,9 +1,32 @@
--- What is there after an order.
+-- All replies that an order gives, and what is there after it.
+use Rattle.std.specs.Prelude.{List, ◌++◌}
 use Rattle.fl_wire.specs.declared.order.Order.{Order}
-use Rattle.fl_core.specs.State.{Snapshot}
+use Rattle.fl_wire.specs.declared.told.Told.{Told}
 use Rattle.fl_core.specs.Effects.{replied, made}
-use Rattle.fl_core.specs.Replies.{replies}
+use Rattle.fl_core.specs.Replies.{first_told}
+use Rattle.fl_core.specs.Settling.{Present, Settled, present, settled}
+use Rattle.fl_core.specs.State.{State, Snapshot, snapshot_of}
 
--- what the order changes with the replies that it gives
+-- what the order changes with its first replies
+abbrev pub after_first : Snapshot → Order → Snapshot
+after_first p order = made (replied order (first_told p order)) p
+
+-- the requests that wait are settled
+abbrev pub settling : Snapshot → Settled
+settling p = settled (present p.marking p.view.parked)
+
+-- the replies that an order gives: its first ones, and those that settling gives
+abbrev pub replies : Snapshot → Order → List Told
+replies p order = first_told p order ++ (settling (after_first p order)).tolds
+
+-- the same, in the state before it
+abbrev pub replies_in : State → Order → List Told
+replies_in s order = replies (snapshot_of s) order
+
+-- the locks and the requests that wait are these
+abbrev pub with_present : Present → Snapshot → Snapshot
+with_present s p = record { view = record p.view { parked = s.parked }; marking = s.marking }
+
+-- what is there after an order
 abbrev pub next : Snapshot → Order → Snapshot
-next p order = made (replied order (replies p order)) p
+next p order = let first = after_first p order in with_present (settling first).present first

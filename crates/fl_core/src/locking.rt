@@ -3,13 +3,16 @@
 ghost use Rattle.std.specs.Prelude.{◌≡◌, ◌↔◌, true, false, Some, None, [], ◌∷◌, ◌++◌, if◌then◌else◌};
 ghost use Rattle.std.specs.Prelude.{IfErr, IfOk, IfSome, OnOk, OnErr, IsNone};
 ghost use Rattle.fl_ranges.specs.Marking.{stroke_on, stroked};
-ghost use Rattle.fl_ranges.specs.Conflict.{conflicts, IsLawful};
+ghost use Rattle.fl_ranges.specs.Conflict.{IsLawful, SameElsewhere, SameOffNode};
 ghost use Rattle.fl_ranges.specs.Change.{cleared, after_change, after_changes};
 ghost use Rattle.fl_core.specs.LockRequest.{is_flock, key_of, start_of, end_of, mark_of};
 ghost use Rattle.fl_core.specs.Effects.{dropped, locked, unlocked};
 ghost use Rattle.fl_core.specs.Replies.{ask_error, is_malformed, type_of, lock_answer};
-ghost use Rattle.fl_core.specs.Replies.{room_reply, set_reply, setlk_reply, getlk_reply};
+ghost use Rattle.fl_core.specs.Replies.{room_reply, set_reply, setlk_reply, setlkw_reply, getlk_reply};
+ghost use Rattle.fl_core.specs.Inside.Touched.{WaitsNow};
+ghost use Rattle.fl_core.specs.Waiting.{is_excluded};
 
+use crate::parked::{Parked, Request};
 use fl_dir::Dir;
 use fl_ranges::{Class, Held, Key, Kind, LAST_BYTE, Mark, Range, Table};
 use fl_wire::{Answer, Errno, LockAsk};
@@ -35,6 +38,7 @@ pub(crate) fn set_lock(
     ensures reply { result ≡ setlk_reply directory.now locks.old.marking node ask.now }
     ensures changed { locks.new.marking ≡ after_changes (locked node ask.now result) locks.old.marking }
     ensures lawful { IsLawful locks.old.marking → IsLawful locks.new.marking }
+    ensures elsewhere { SameElsewhere (key_of node ask.now) locks.old.marking locks.new.marking }
     ensures limit { locks.new.limit ≡ MOST_RUNS }
 {
     let range = asked_range(directory, node, ask)?;
@@ -45,6 +49,8 @@ pub(crate) fn set_lock(
 pub(crate) fn unlock(locks: &mut Table, class: Class, node: u64, owner: u64)
     ensures marking { locks.new.marking ≡ after_change (unlocked class node owner) locks.old.marking }
     ensures lawful { IsLawful locks.old.marking → IsLawful locks.new.marking }
+    ensures elsewhere { SameElsewhere (record { class = class; node = node; owner = owner })
+        locks.old.marking locks.new.marking }
     ensures limit { locks.new.limit ≡ locks.old.limit }
 {
     locks.erase_owner(&Key { class, node, owner });
@@ -55,6 +61,7 @@ pub(crate) fn release_locks(locks: &mut Table, node: u64, drop: bool, owner: u64
     ensures marking { locks.new.marking
         ≡ after_changes ((if last then cleared node ∷ [] else []) ++ dropped drop node owner) locks.old.marking }
     ensures lawful { IsLawful locks.old.marking → IsLawful locks.new.marking }
+    ensures elsewhere { SameOffNode node locks.old.marking locks.new.marking }
     ensures limit { locks.new.limit ≡ locks.old.limit }
 {
     if drop {
@@ -65,6 +72,46 @@ pub(crate) fn release_locks(locks: &mut Table, node: u64, drop: bool, owner: u64
     }
 }
 
+/// FUSE_SETLKW: the same, but a request that conflicts waits, and has no reply yet.
+pub(crate) fn set_or_wait(
+    directory: &Dir,
+    locks: &mut Table,
+    parked: &mut Parked,
+    unique: u64,
+    node: u64,
+    ask: &LockAsk,
+) -> Option<Result<Answer, Errno>>
+    requires { locks.old.limit ≡ MOST_RUNS }
+    ensures reply { result ≡ setlkw_reply (record { directory = directory.now; parked = parked.old })
+        locks.old.marking node ask.now }
+    ensures told { IfSome result (λ reply.
+        (locks.new.marking ≡ after_changes (locked node ask.now reply) locks.old.marking) × (parked.new ≡ parked.old)) }
+    ensures waits { IsNone result → WaitsNow locks.old.marking locks.new.marking parked.old parked.new
+        (record { unique = unique; node = node; ask = ask.now }) }
+    ensures lawful { IsLawful locks.old.marking → IsLawful locks.new.marking }
+    ensures elsewhere { SameElsewhere (key_of node ask.now) locks.old.marking locks.new.marking }
+    ensures limit { locks.new.limit ≡ MOST_RUNS }
+{
+    let range = match asked_range(directory, node, ask) {
+        Ok(range) => range,
+        Err(e) => return Some(Err(e)),
+    };
+    let key = key_of(node, ask);
+    let mark = mark_of(ask);
+    if !is_excluded(locks, &key, &range, mark) {
+        return Some(store(locks, &key, &range, mark));
+    }
+    if parked.is_full() {
+        return Some(Err(Errno::ENOLCK));
+    }
+    parked.push(Request {
+        unique,
+        node,
+        ask: *ask,
+    });
+    None
+}
+
 // The bytes of the range get the mark, or lose theirs: where no lock that is held excludes it, and where there is
 // room for the runs afterwards.
 fn change(locks: &mut Table, key: &Key, range: &Range, mark: Option<Mark>) -> Result<Answer, Errno>
@@ -73,24 +120,34 @@ fn change(locks: &mut Table, key: &Key, range: &Range, mark: Option<Mark>) -> Re
     ensures granted { OnOk result (locks.new.marking ≡ stroked (stroke_on key.now range.now mark) locks.old.marking) }
     ensures refused { OnErr result (locks.new.marking ≡ locks.old.marking) }
     ensures lawful { IsLawful locks.old.marking → IsLawful locks.new.marking }
+    ensures elsewhere { SameElsewhere key.now locks.old.marking locks.new.marking }
     ensures limit { locks.new.limit ≡ MOST_RUNS }
 {
+    if is_excluded(locks, key, range, mark) {
+        return Err(Errno::EAGAIN);
+    }
+    store(locks, key, range, mark)
+}
+
+/// Whether a lock that is held keeps this one from being set.
+pub(crate) fn is_excluded(locks: &Table, key: &Key, range: &Range, mark: Option<Mark>) -> bool
+    ensures { result ≡ is_excluded locks.now.marking (stroke_on key.now range.now mark) mark }
+{
     match mark {
-        Some(own) if locks.clashes(key, range, own.kind) => Err(Errno::EAGAIN),
-        Some(_) => store(locks, key, range, mark),
-        None => store(locks, key, range, mark),
+        Some(own) => locks.clashes(key, range, own.kind),
+        None => false,
     }
 }
 
-// The same for locks that nothing excludes.
-fn store(locks: &mut Table, key: &Key, range: &Range, mark: Option<Mark>) -> Result<Answer, Errno>
+/// The same for locks that nothing excludes.
+pub(crate) fn store(locks: &mut Table, key: &Key, range: &Range, mark: Option<Mark>) -> Result<Answer, Errno>
     requires limit { locks.old.limit ≡ MOST_RUNS }
-    requires clear { IfSome mark
-        (λ own. conflicts locks.old.marking key.now range.now.start range.now.end own.kind ≡ false) }
+    requires clear { is_excluded locks.old.marking (stroke_on key.now range.now mark) mark ≡ false }
     ensures reply { result ≡ room_reply locks.old.marking (stroke_on key.now range.now mark) }
     ensures granted { OnOk result (locks.new.marking ≡ stroked (stroke_on key.now range.now mark) locks.old.marking) }
     ensures refused { OnErr result (locks.new.marking ≡ locks.old.marking) }
     ensures lawful { IsLawful locks.old.marking → IsLawful locks.new.marking }
+    ensures elsewhere { SameElsewhere key.now locks.old.marking locks.new.marking }
     ensures limit { locks.new.limit ≡ MOST_RUNS }
 {
     let stored = match mark {
@@ -165,7 +222,7 @@ fn asked_range(directory: &Dir, node: u64, ask: &LockAsk) -> Result<Range, Errno
 }
 
 // The range of a lock request; none where the request is malformed.
-fn range_of(ask: &LockAsk) -> Option<Range>
+pub(crate) fn range_of(ask: &LockAsk) -> Option<Range>
     ensures malformed { IsNone result ↔ (is_malformed ask.now ≡ true) }
     ensures range { IfSome result (λ range. (range.start ≡ start_of ask.now) × (range.end ≡ end_of ask.now)) }
 {
@@ -184,7 +241,7 @@ fn range_of(ask: &LockAsk) -> Option<Range>
     })
 }
 
-fn key_of(node: u64, ask: &LockAsk) -> Key
+pub(crate) fn key_of(node: u64, ask: &LockAsk) -> Key
     ensures { result ≡ key_of node ask.now }
 {
     Key {
@@ -198,7 +255,7 @@ fn key_of(node: u64, ask: &LockAsk) -> Key
     }
 }
 
-fn mark_of(ask: &LockAsk) -> Option<Mark>
+pub(crate) fn mark_of(ask: &LockAsk) -> Option<Mark>
     ensures { result ≡ mark_of ask.now }
 {
     let kind = match ask.kind {

@@ -1,40 +1,38 @@
-ghost use Rattle.std.specs.Prelude.{◌≡◌, ◌≤◌, ◌↔◌, true, length, IfOk, IsSome};
-ghost use Rattle.fl_ranges.specs.Change.{after_changes};
+ghost use Rattle.std.specs.Prelude.{◌≡◌, ◌≤◌, ◌↔◌, [], true, length, IfOk, IsSome};
 ghost use Rattle.fl_ranges.specs.Conflict.{IsLawful};
 ghost use Rattle.fl_wire.specs.Order.{only_reads};
 ghost use Rattle.fl_core.specs.State.{State, opening, snapshot_of};
-ghost use Rattle.fl_core.specs.Effects.{at_once, flushed, released, replied, recorded, made};
-ghost use Rattle.fl_core.specs.Replies.{file_reply, reply_to, own_replies, replies};
-ghost use Rattle.fl_core.specs.Step.{next};
+ghost use Rattle.fl_core.specs.Effects.{replied, recorded};
+ghost use Rattle.fl_core.specs.Replies.{own_replies, taken_reply};
+ghost use Rattle.fl_core.specs.Step.{next, replies};
+ghost use Rattle.fl_core.specs.Waiting.{AllWait};
 
-use crate::locking::{MOST_RUNS, release_locks, set_lock, test_lock, unlock};
+use crate::parts::Parts;
+use crate::settling::touched_by;
 use crate::tolds::{MOST_TOLDS, Tolds};
-use fl_dir::Dir;
-use fl_ranges::{Class, Table};
 use fl_wire::{Answer, Errno, NoMemory, Op, Order, Told};
 use std::alloc::Global;
 use std::marker::Model;
 
-/// The directory and the locks. Contracts see them as a `Snapshot`; no request is parked.
+/// The directory, the locks, and the requests that wait. Contracts see them as a `Snapshot`. Each request that waits
+/// conflicts with a lock that is held.
 #[derive(Drop)]
 pub struct Core {
-    directory: Dir,
-    locks: Table,
+    parts: Parts,
 }
 
 impl Model for Core {
-    ghost use Rattle.std.specs.Prelude.{◌≡◌, []};
     ghost use Rattle.fl_core.specs.State.{Snapshot};
     ghost use Rattle.fl_core.specs.Codes.{snapshot_code};
-    ghost use Rattle.fl_core.specs.declared.locking.TheConstants.{MOST_RUNS};
+    ghost use Rattle.fl_core.specs.Waiting.{AllWait, AreApart};
 
     ghost Value = { Snapshot };
 
     ghost coded = { snapshot_code };
 
-    ghost view = { λ s. record { view = record { directory = s.directory; parked = [] }; marking = s.locks.marking } };
+    ghost view = { λ c. c.parts };
 
-    ghost invariant = { λ s. s.locks.limit ≡ MOST_RUNS };
+    ghost invariant = { λ c. AllWait c.parts.marking c.parts.view.parked × AreApart c.parts.view.parked };
 }
 
 impl Core {
@@ -44,12 +42,12 @@ impl Core {
         ensures lawful { IfOk result (λ s. IsLawful s.marking) }
     {
         Ok(Core {
-            directory: Dir::new(alloc)?,
-            locks: Table::new(alloc, MOST_RUNS)?,
+            parts: Parts::new(alloc)?,
         })
     }
 
-    /// Answers an order, and makes its change. It leaves the replies in `tolds`, in the place of those before.
+    /// Answers an order, makes its change, and answers requests that wait until each conflicts. It leaves the replies in
+    /// `tolds`, in the place of those before.
     pub fn step(&mut self, order: &Order, tolds: &mut Tolds)
         ensures replies { tolds.new ≡ replies self.old order.now }
         ensures few { length tolds.new ≤ MOST_TOLDS }
@@ -59,14 +57,17 @@ impl Core {
         ensures recorded { (s : State) → snapshot_of s ≡ self.old →
             snapshot_of (recorded (replied order.now tolds.new) s) ≡ self.new }
         ensures lawful { IsLawful self.old.marking → IsLawful self.new.marking }
+        ensures waiting { AllWait self.new.marking self.new.view.parked }
     {
         tolds.clear();
-        if let Some(result) = self.take(order) {
-            tolds.push(Told {
-                unique: order.unique,
-                result,
-            });
+        if self.parts.parked.has(order.unique) {
+            tell(order, &refusal(order), tolds);
+            return;
         }
+        let own = self.parts.take(order);
+        tell(order, &own, tolds);
+        self.parts.end(order, &own, tolds);
+        self.parts.settle(touched_by(order, &own), tolds);
     }
 
     /// What an order that only reads, GETLK or GETATTR, is answered; none for any other.
@@ -77,63 +78,33 @@ impl Core {
         ensures replies { IsSome result → replies self.now order.now ≡ own_replies order.now result }
         ensures unchanged { IsSome result → next self.now order.now ≡ self.now }
     {
-        match &order.op {
-            Op::Getattr => Some(self.directory.getattr(order.node)),
-            Op::Getlk(ask) => Some(test_lock(&self.directory, &self.locks, order.node, ask)),
-            _ => None,
+        let result = self.parts.read(order)?;
+        if self.parts.parked.has(order.unique) {
+            return Some(Err(Errno::EINVAL));
         }
+        Some(result)
     }
+}
 
-    // The order's own reply, if it has one, with its change made.
-    fn take(&mut self, order: &Order) -> Option<Result<Answer, Errno>>
-        ensures reply { result ≡ reply_to self.old.view.directory self.old.marking order.now order.now.op }
-        ensures changed { self.new ≡ made (at_once order.now result) self.old }
-        ensures lawful { IsLawful self.old.marking → IsLawful self.new.marking }
-    {
-        let node = order.node;
-        Some(match &order.op {
-            Op::Lookup(name) => self.directory.lookup(node, name),
-            Op::Forget(n) => {
-                self.directory.forget(node, *n);
-                return None;
-            }
-            Op::Getattr => self.directory.getattr(node),
-            Op::Unlink(name) => self.directory.unlink(node, name),
-            Op::Open => self.directory.open(node),
-            Op::Release { fh, drop, owner } => self.release(node, *fh, *drop, *owner),
-            Op::Flush { fh, owner } => self.flush(node, *fh, *owner),
-            Op::Create { excl, mode, name } => {
-                self.directory
-                    .create(node, order.uid, order.gid, *excl, *mode, name)
-            }
-            Op::Getlk(ask) => test_lock(&self.directory, &self.locks, node, ask),
-            Op::Setlk(ask) => set_lock(&self.directory, &mut self.locks, node, ask),
-        })
+// What an order is answered whose unique is that of a request that waits.
+fn refusal(order: &Order) -> Option<Result<Answer, Errno>>
+    ensures { result ≡ taken_reply order.now.op }
+{
+    match order.op {
+        Op::Forget(_) => None,
+        _ => Some(Err(Errno::EINVAL)),
     }
+}
 
-    // FUSE_FLUSH: the owner's record locks on the node go.
-    fn flush(&mut self, node: u64, fh: u64, owner: u64) -> Result<Answer, Errno>
-        ensures reply { result ≡ file_reply self.old.view.directory node fh }
-        ensures view { self.new.view ≡ self.old.view }
-        ensures marking { self.new.marking ≡ after_changes (flushed node owner result) self.old.marking }
-        ensures lawful { IsLawful self.old.marking → IsLawful self.new.marking }
-    {
-        if self.directory.node_of(fh) != Some(node) {
-            return Err(Errno::EBADF);
-        }
-        unlock(&mut self.locks, Class::Record, node, owner);
-        Ok(Answer::Done)
-    }
-
-    // FUSE_RELEASE: the fh is closed, with `drop` the owner's whole-file lock goes, and with the last fh all locks of
-    // the node.
-    fn release(&mut self, node: u64, fh: u64, drop: bool, owner: u64) -> Result<Answer, Errno>
-        ensures reply { result ≡ file_reply self.old.view.directory node fh }
-        ensures changed { self.new ≡ made (released node fh drop owner result) self.old }
-        ensures lawful { IsLawful self.old.marking → IsLawful self.new.marking }
-    {
-        let closed = self.directory.close(node, fh)?;
-        release_locks(&mut self.locks, node, drop, owner, closed.last);
-        Ok(Answer::Done)
+// Tells an order its own reply, if it has one.
+fn tell(order: &Order, own: &Option<Result<Answer, Errno>>, tolds: &mut Tolds)
+    requires { tolds.old ≡ [] }
+    ensures { tolds.new ≡ own_replies order.now own.now }
+{
+    if let Some(result) = own {
+        tolds.push(Told {
+            unique: order.unique,
+            result: *result,
+        });
     }
 }

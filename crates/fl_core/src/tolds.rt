@@ -4,8 +4,8 @@ use fl_wire::{NoMemory, Told};
 use std::alloc::Global;
 use std::marker::Model;
 
-/// The most replies that one order gives.
-pub const MOST_TOLDS: usize = 1;
+/// The most replies that one order gives: its own, and one to each request that waits.
+pub const MOST_TOLDS: usize = 257;
 
 /// The replies that one order gives, with room for all of them. Contracts see their list.
 #[derive(Drop)]

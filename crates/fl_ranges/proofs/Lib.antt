@@ -9,6 +9,7 @@ pub mod BlockersWalk
 pub mod Spots
 pub mod ConflictWords
 pub mod Lawful
+pub mod Elsewhere
 pub mod Changes
 pub mod Starts
 pub mod RunLists

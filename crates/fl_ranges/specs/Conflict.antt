@@ -46,3 +46,16 @@ abbrev pub IsLawful : Marking → Type 0
 IsLawful m =
     (a b : Key) (byte : ℕ) (x y : Mark) → get m (a, byte) ≡ Some x → get m (b, byte) ≡ Some y → are_rivals a b ≡ true
     → excludes x.kind y.kind ≡ false
+
+-- other classes and nodes than this key's have the same conflicts before and after: each request has one or has none
+abbrev pub SameElsewhere : Key → Marking → Marking → Type 0
+SameElsewhere key before after =
+    (other : Key) (start end : ℕ) (kind : Kind)
+    → ((class_number other.class == class_number key.class) && (other.node == key.node)) ≡ false
+    → conflicts after other start end kind ≡ conflicts before other start end kind
+
+-- other nodes have the same conflicts before and after
+abbrev pub SameOffNode : ℕ → Marking → Marking → Type 0
+SameOffNode node before after =
+    (other : Key) (start end : ℕ) (kind : Kind) → (other.node == node) ≡ false
+    → conflicts after other start end kind ≡ conflicts before other start end kind

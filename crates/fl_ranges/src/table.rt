@@ -43,7 +43,7 @@ impl Model for Table {
 
 impl Table {
     ghost use Rattle.fl_ranges.specs.Marking.{stroke_on, stroked};
-    ghost use Rattle.fl_ranges.specs.Conflict.{conflicts, IsLawful};
+    ghost use Rattle.fl_ranges.specs.Conflict.{conflicts, IsLawful, SameElsewhere, SameOffNode};
     ghost use Rattle.fl_ranges.specs.Runs.{runs, without_node};
     ghost use Rattle.fl_ranges.specs.Placing.{on_chain};
 
@@ -69,6 +69,8 @@ impl Table {
         ensures err { OnErr result (self.new ≡ self.old) }
         ensures lawful { conflicts self.old.marking key.now range.now.start range.now.end mark.kind ≡ false →
             IsLawful self.old.marking → IsLawful self.new.marking }
+        // A conflict depends on the marks of its class and node alone.
+        ensures elsewhere { SameElsewhere key.now self.old.marking self.new.marking }
     {
         self.stroke(key, range, Some(mark))
     }
@@ -82,6 +84,8 @@ impl Table {
             (self.new ≡ record self.old { marking = stroked (stroke_on key.now range.now None) self.old.marking }) }
         ensures err { OnErr result (self.new ≡ self.old) }
         ensures lawful { IsLawful self.old.marking → IsLawful self.new.marking }
+        // A conflict depends on the marks of its class and node alone.
+        ensures elsewhere { SameElsewhere key.now self.old.marking self.new.marking }
     {
         self.stroke(key, range, None)
     }
@@ -109,6 +113,8 @@ impl Table {
           marking = stroked (record { key = key.now; start = 0; end = LAST_BYTE; mark = None }) self.old.marking;
         } }
         ensures lawful { IsLawful self.old.marking → IsLawful self.new.marking }
+        // A conflict depends on the marks of its class and node alone.
+        ensures elsewhere { SameElsewhere key.now self.old.marking self.new.marking }
     {
         remove_over(&mut self.runs, key, 0, LAST_BYTE);
     }
@@ -117,6 +123,8 @@ impl Table {
     pub fn erase_node(&mut self, node: u64)
         ensures erased { self.new ≡ record self.old { marking = without_node node self.old.marking } }
         ensures lawful { IsLawful self.old.marking → IsLawful self.new.marking }
+        // A conflict depends on the marks of its node alone.
+        ensures elsewhere { SameOffNode node self.old.marking self.new.marking }
     {
         remove_node(&mut self.runs, node);
     }

@@ -8,18 +8,18 @@ use Rattle.fl_wire.specs.Order.{kind_of}
 use Rattle.fl_wire.specs.Says.{said}
 use Rattle.fl_wire.specs.Spell.{reply_bytes, spelling_of}
 use Rattle.fl_wire.specs.declared.errno.Errno.{Errno}
-use Rattle.fl_wire.specs.declared.errno.Errno.TheVariants.{ENOMEM, EPROTO}
+use Rattle.fl_wire.specs.declared.errno.Errno.TheVariants.{EAGAIN, ENOMEM, EPROTO}
 use Rattle.fl_wire.specs.declared.init.InitStep.{InitStep}
 use Rattle.fl_wire.specs.declared.init.InitStep.TheVariants.{Refused, Again, Agreed}
 use Rattle.fl_wire.specs.declared.kind.Kind.{Kind}
-use Rattle.fl_wire.specs.declared.kind.Kind.TheVariants.{Init}
+use Rattle.fl_wire.specs.declared.kind.Kind.TheVariants.{Init, Interrupt}
 use Rattle.fl_wire.specs.declared.order.Order.{Order}
 use Rattle.fl_wire.specs.declared.reading.Refusal.{Refusal}
 use Rattle.fl_wire.specs.declared.reading.Refusal.TheVariants.{Answer, Silent, Destroy}
 use Rattle.fl_wire.specs.declared.told.Answer.TheVariants.{Done}
 use Rattle.fl_wire.specs.declared.told.Told.{Told}
 use Rattle.fl_book.specs.Legal.{step_lines}
-use Rattle.fl_core.specs.Replies.{first_replies}
+use Rattle.fl_core.specs.Step.{replies_in}
 use Rattle.fl_book.specs.Replay.{state_after}
 use Rattle.fl_book.specs.declared.history.Line.{Line}
 
@@ -70,15 +70,21 @@ abbrev pub with_step : Session → Order → List Told → Session
 with_step s order tolds =
     record s { replies = s.replies ++ map spelling_of tolds; lines = s.lines ++ step_lines 0 order tolds }
 
--- An order that was refused for want of memory is ENOMEM, or lost where no reply is owed to it.
+-- the error of an order that was refused for want of memory: an INTERRUPT may come again
+abbrev pub without_memory : Kind → Errno
+without_memory Interrupt = EAGAIN
+without_memory _ = ENOMEM
+
+-- An order that was refused for want of memory gets its error, or is lost where no reply is owed to it.
 abbrev pub with_refusal : Session → Order → Session
-with_refusal s order = record (with_error s (kind_of order.op) order.unique ENOMEM) { refused = true }
+with_refusal s order =
+    record (with_error s (kind_of order.op) order.unique (without_memory (kind_of order.op))) { refused = true }
 
 -- An order gets the replies of the lock directory, or is refused for want of memory. A message that is no order gets
 -- its error or nothing, and after the reply to a DESTROY nothing comes.
 abbrev pub after_init : Session → Bool → ℕ → Result Order Refusal → Session
 after_init s refused unique (Ok order) =
-    if refused then with_refusal s order else with_step s order (first_replies (state_after s.lines) order)
+    if refused then with_refusal s order else with_step s order (replies_in (state_after s.lines) order)
 after_init s refused unique (Err (Answer e)) = replied s (reply_bytes unique (Err e))
 after_init s refused unique (Err Silent) = s
 after_init s refused unique (Err Destroy) = record (replied s (reply_bytes unique (Ok Done))) { over = true }

@@ -10,15 +10,15 @@ use Rattle.fl_wire.specs.declared.errno.Errno.{Errno}
 use Rattle.fl_wire.specs.declared.errno.Errno.TheVariants.{EPROTO}
 use Rattle.fl_wire.specs.declared.kind.Kind.{Kind}
 use Rattle.fl_wire.specs.declared.kind.Kind.TheVariants.{Lookup, Forget, Getattr, Unlink, Open, Release, Flush, Init}
-use Rattle.fl_wire.specs.declared.kind.Kind.TheVariants.{Getlk, Setlk, Create, Destroy, BatchForget}
+use Rattle.fl_wire.specs.declared.kind.Kind.TheVariants.{Getlk, Setlk, Setlkw, Create, Interrupt, Destroy, BatchForget}
 use Rattle.fl_wire.specs.declared.reading.Refusal.{Refusal}
 use Rattle.fl_wire.specs.declared.reading.Refusal.TheVariants.{Answer, Silent, Destroy as Ends}
 
 -- each kind once
 abbrev pub all_kinds : List Kind
 all_kinds =
-    Lookup ∷ Forget ∷ Getattr ∷ Unlink ∷ Open ∷ Release ∷ Flush ∷
-    Init ∷ Getlk ∷ Setlk ∷ Create ∷ Destroy ∷ BatchForget ∷ []
+    Lookup ∷ Forget ∷ Getattr ∷ Unlink ∷ Open ∷ Release ∷ Flush ∷ Init ∷ Getlk ∷ Setlk ∷ Setlkw ∷ Create ∷ Interrupt ∷ Destroy
+    ∷ BatchForget ∷ []
 
 -- the number in a message's header, the word in a trace's line, and the shape of the body; where its messages are no
 -- orders, how they are refused
@@ -42,7 +42,9 @@ row_for Flush = row 25 (codes "flush") (Ok shape.Flush)
 row_for Init = row 26 (codes "init") (Err (Answer EPROTO))
 row_for Getlk = row 31 (codes "getlk") (Ok shape.Lock)
 row_for Setlk = row 32 (codes "setlk") (Ok shape.Lock)
+row_for Setlkw = row 33 (codes "setlkw") (Ok shape.Lock)
 row_for Create = row 35 (codes "create") (Ok shape.Create)
+row_for Interrupt = row 36 (codes "interrupt") (Ok shape.Number)
 row_for Destroy = row 38 (codes "destroy") (Err Ends)
 row_for BatchForget = row 42 (codes "batch_forget") (Err Silent)
 

@@ -6,7 +6,7 @@ use Rattle.fl_wire.specs.declared.kind.Kind.{Kind}
 use Rattle.fl_wire.specs.declared.kind.Kind.TheVariants as kind
 use Rattle.fl_wire.specs.declared.order.Op.{Op}
 use Rattle.fl_wire.specs.declared.order.Op.TheVariants.{Lookup, Forget, Getattr, Unlink, Open, Release, Flush}
-use Rattle.fl_wire.specs.declared.order.Op.TheVariants.{Create, Getlk, Setlk}
+use Rattle.fl_wire.specs.declared.order.Op.TheVariants.{Create, Getlk, Setlk, Setlkw, Interrupt}
 
 -- the kind of its message, and the body
 abbrev pub parts_of : Op → Kind × Body
@@ -20,6 +20,8 @@ parts_of (Flush fh owner) = (kind.Flush, body.Flush fh owner)
 parts_of (Create excl mode name) = (kind.Create, body.Create excl mode name)
 parts_of (Getlk ask) = (kind.Getlk, body.Lock ask)
 parts_of (Setlk ask) = (kind.Setlk, body.Lock ask)
+parts_of (Setlkw ask) = (kind.Setlkw, body.Lock ask)
+parts_of (Interrupt unique) = (kind.Interrupt, body.Number unique)
 
 -- the kind of its message
 abbrev pub kind_of : Op → Kind
@@ -41,6 +43,8 @@ op_of kind.Flush (body.Flush fh owner) = Some (Flush fh owner)
 op_of kind.Create (body.Create excl mode name) = Some (Create excl mode name)
 op_of kind.Getlk (body.Lock ask) = Some (Getlk ask)
 op_of kind.Setlk (body.Lock ask) = Some (Setlk ask)
+op_of kind.Setlkw (body.Lock ask) = Some (Setlkw ask)
+op_of kind.Interrupt (body.Number unique) = Some (Interrupt unique)
 op_of _ _ = None
 
 -- it asks for what is there, and changes nothing whatever it is answered

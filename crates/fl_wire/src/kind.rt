@@ -27,8 +27,12 @@ pub enum Kind {
     Getlk = 31,
     /// Sets or takes away a lock, and doesn't wait.
     Setlk = 32,
+    /// Sets or takes away a lock, and waits until it can be set.
+    Setlkw = 33,
     /// Makes a file and opens it.
     Create = 35,
+    /// Ends the wait of another order.
+    Interrupt = 36,
     /// Ends a session.
     Destroy = 38,
     /// The kernel forgets several nodes. No reply is owed.
@@ -36,7 +40,7 @@ pub enum Kind {
 }
 
 // Each kind once.
-const ALL: [Kind; 13] = [
+const ALL: [Kind; 15] = [
     Kind::Lookup,
     Kind::Forget,
     Kind::Getattr,
@@ -47,7 +51,9 @@ const ALL: [Kind; 13] = [
     Kind::Init,
     Kind::Getlk,
     Kind::Setlk,
+    Kind::Setlkw,
     Kind::Create,
+    Kind::Interrupt,
     Kind::Destroy,
     Kind::BatchForget,
 ];
@@ -87,7 +93,9 @@ impl Kind {
             Kind::Init => ("init", Err(Refusal::Answer(Errno::EPROTO))),
             Kind::Getlk => ("getlk", Ok(Shape::Lock)),
             Kind::Setlk => ("setlk", Ok(Shape::Lock)),
+            Kind::Setlkw => ("setlkw", Ok(Shape::Lock)),
             Kind::Create => ("create", Ok(Shape::Create)),
+            Kind::Interrupt => ("interrupt", Ok(Shape::Number)),
             Kind::Destroy => ("destroy", Err(Refusal::Destroy)),
             Kind::BatchForget => ("batch_forget", Err(Refusal::Silent)),
         }

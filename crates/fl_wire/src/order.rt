@@ -55,6 +55,10 @@ pub enum Op {
     Getlk(LockAsk),
     /// Sets or takes away a lock, and doesn't wait (FUSE_SETLK).
     Setlk(LockAsk),
+    /// Sets or takes away a lock, and waits until it can be set (FUSE_SETLKW).
+    Setlkw(LockAsk),
+    /// Ends the wait of the order with this unique (FUSE_INTERRUPT).
+    Interrupt(u64),
 }
 
 impl Op {
@@ -77,6 +81,8 @@ impl Op {
             Op::Create { excl, mode, name } => (Kind::Create, Body::Create { excl, mode, name }),
             Op::Getlk(ask) => (Kind::Getlk, Body::Lock(ask)),
             Op::Setlk(ask) => (Kind::Setlk, Body::Lock(ask)),
+            Op::Setlkw(ask) => (Kind::Setlkw, Body::Lock(ask)),
+            Op::Interrupt(unique) => (Kind::Interrupt, Body::Number(unique)),
         }
     }
 
@@ -105,6 +111,8 @@ impl Op {
             }),
             (Kind::Getlk, Body::Lock(ask)) => Some(Op::Getlk(ask)),
             (Kind::Setlk, Body::Lock(ask)) => Some(Op::Setlk(ask)),
+            (Kind::Setlkw, Body::Lock(ask)) => Some(Op::Setlkw(ask)),
+            (Kind::Interrupt, Body::Number(unique)) => Some(Op::Interrupt(unique)),
             _ => None,
         }
     }

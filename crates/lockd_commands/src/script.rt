@@ -125,3 +125,5 @@ mod file_tests;
 mod tests;
 #[cfg(test)]
 mod traces;
+#[cfg(test)]
+mod waiting_tests;

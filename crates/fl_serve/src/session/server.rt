@@ -5,7 +5,7 @@ ghost use Rattle.std.specs.Prelude.{IfOk, if◌then◌else◌};
 ghost use Rattle.fl_wire.specs.Kind.{is_silent, kind_of_opcode};
 ghost use Rattle.fl_wire.specs.Layout.{opcode_of, unique_of};
 ghost use Rattle.fl_wire.specs.Says.{said};
-ghost use Rattle.fl_serve.specs.Session.{before_init};
+ghost use Rattle.fl_serve.specs.Session.{before_init, without_memory};
 ghost use Rattle.fl_serve.specs.Inside.Serving.{bytes_of, session_with, IsFresh, IsMet, IsMetAs};
 
 use fl_book::{Desk, History};
@@ -117,9 +117,27 @@ impl Server {
             Ok(()) => Owed::Replies,
             Err(NoMemory) => {
                 self.refused = true;
-                refusal(order.op.kind(), order.unique, Errno::ENOMEM)
+                lost(order.op.kind(), order.unique)
             }
         }
+    }
+}
+
+// What an order of this kind is answered that is refused for want of memory.
+fn lost(kind: Kind, unique: u64) -> Owed
+    ensures { result ≡ if is_silent kind then Owed.Nothing
+        else Owed.One (record { unique = unique; result = Err (without_memory kind) }) }
+{
+    refusal(kind, unique, without_memory(kind))
+}
+
+// The error of an order that is refused for want of memory: an INTERRUPT may come again.
+fn without_memory(kind: Kind) -> Errno
+    ensures { result ≡ without_memory kind }
+{
+    match kind {
+        Kind::Interrupt => Errno::EAGAIN,
+        _ => Errno::ENOMEM,
     }
 }
 

@@ -62,8 +62,8 @@ fn before_and_after_an_init(rt: HostRuntime) -> Result<(), Fail> {
         ("LOOKUP", &LOOKUP, &TOO_EARLY, &NO_ENTRY),
         ("LOOKUP without a body", &bare(1), &TOO_EARLY, &INVALID),
         ("READ", &bare(15), &TOO_EARLY, &NOT_SERVED),
-        ("SETLKW", &bare(33), &TOO_EARLY, &NOT_SERVED),
-        ("INTERRUPT", &bare(36), &TOO_EARLY, &NOT_SERVED),
+        ("SETLKW without a body", &bare(33), &TOO_EARLY, &INVALID),
+        ("INTERRUPT without a body", &bare(36), &TOO_EARLY, &INVALID),
     ];
     for (what, message, before, after) in messages {
         let mut stream = Vec::new(rt.alloc());

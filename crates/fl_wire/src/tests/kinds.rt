@@ -17,7 +17,9 @@ fn kinds_by_opcodes_and_words(rt: HostRuntime) {
         (Kind::Init, 26, "init", false),
         (Kind::Getlk, 31, "getlk", false),
         (Kind::Setlk, 32, "setlk", false),
+        (Kind::Setlkw, 33, "setlkw", false),
         (Kind::Create, 35, "create", false),
+        (Kind::Interrupt, 36, "interrupt", false),
         (Kind::Destroy, 38, "destroy", false),
         (Kind::BatchForget, 42, "batch_forget", true),
     ];

@@ -180,7 +180,7 @@ fn bad_lines(rt: HostRuntime) -> Result<(), Fail> {
         ("a message that is no order", "ask 0 1 1 0 0 0 destroy"),
         (
             "an order that isn't taken",
-            "ask 0 2 2 0 0 0 setlkw 1 7 0 9 1 11 0",
+            "ask 0 2 2 0 0 0 setlkw 1 7 0 9 1 11",
         ),
         ("an order in upper case", "ask 0 1 1 0 0 0 CREATE 0 420 61"),
         ("an unknown word", "asks 0 1 1 0 0 0 create 0 420 61"),

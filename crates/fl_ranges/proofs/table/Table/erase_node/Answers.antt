@@ -1,5 +1,6 @@
 use Rattle.fl_ranges.specs.Runs.{without_node}
 use Rattle.fl_ranges.proofs.Lawful.{lawful_without, lawful_with}
+use Rattle.fl_ranges.proofs.Elsewhere.{off_node_with}
 use Rattle.fl_ranges.proofs.TableCalls.{seen, node_erased}
 use Rattle.fl_ranges.proofs.table.Table.erase_node.Goals as goal
 
@@ -14,3 +15,6 @@ returns-clause-erased c =
 pub returns-clause-lawful : goal.returns-clause-lawful
 returns-clause-lawful c = λ lawful.
     lawful_with c.args.self.now _ (without_node c.args.node c.args.self.now.marking) (returns-clause-erased c) (lawful_without c.args.self.now.marking c.args.node lawful)
+
+pub returns-clause-elsewhere : goal.returns-clause-elsewhere
+returns-clause-elsewhere c = off_node_with c.args.node c.args.self.now _ (returns-clause-erased c)

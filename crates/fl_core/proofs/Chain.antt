@@ -1,0 +1,33 @@
+-- The one chain of an arena.
+use Rattle.std.proofs.Common.{◌≡◌, ℕ, ◌+◌, ◌==◌, Bool, true, false, cond, ◌||◌, Option, Some, None, is_some, Bor, List, [], ◌∷◌, length, sum_by, slice_index_or, refl, sym, ap, ◌∙◌, arith}
+use Rattle.std.proofs.lemmas.Bool.Decides.{nat_tests}
+use Rattle.std.proofs.lemmas.List.{length-map}
+use Rattle.std.specs.List.{find, list_any}
+use Rattle.std.specs.Option.{option_copied}
+use Rattle.fl_arena.specs.Chains.{Chains, Entry, entries, items, item_count}
+
+module _ {T : Type 0} where
+  counted : (cs : List (List (Entry T))) → length cs ≡ 1 → sum_by length cs ≡ length (slice_index_or cs 0 [])
+  counted [] one = absurd (omega arith)
+  counted (c ∷ []) one = omega arith
+  counted (c ∷ d ∷ cs) one = absurd (omega arith)
+
+  pub all_counted : (a : Chains T) → length a.chains ≡ 1 → item_count a ≡ length (items a 0)
+  all_counted a one = counted a.chains one ∙ sym (length-map (entries a 0) (λ (e : Entry T). e.item))
+
+  pub some_copied : (o : Option (Bor T)) → is_some o ≡ is_some (option_copied o)
+  some_copied None = refl
+  some_copied (Some x) = refl
+
+  -- one is found if any passes
+  pub any_found : (t : T → Bool) (xs : List T) → is_some (find t xs) ≡ list_any t xs
+  any_found t [] = refl
+  any_found t (x ∷ xs) = go (t x) (any_found t xs)
+    where
+      go : (b : Bool) → is_some (find t xs) ≡ list_any t xs → is_some (cond b (Some x) (find t xs)) ≡ (b || list_any t xs)
+      go true later = refl
+      go false later = later
+
+-- none is free where all are taken
+pub full : (taken free : ℕ) → taken + free ≡ 256 → (free == 0) ≡ (taken == 256)
+full taken free e = grind (arith, nat_tests)

@@ -1,0 +1,16 @@
+use Rattle.std.proofs.Common.{◌≡◌, ◌≤◌, ◌+◌, ◌++◌, not, length}
+use Rattle.std.specs.List.{filter}
+use Rattle.fl_core.specs.Inside.Parts.{error_of, picks}
+use Rattle.fl_core.specs.Replies.{ended_all}
+use Rattle.fl_core.proofs.ending.end_all.Given as goal
+
+-- what was told and is left to tell is the whole
+abbrev pub invariant-loop-request : goal.invariant-loop-request
+invariant-loop-request l = record {
+  tolds : l.tolds ++ ended_all (error_of l.ending) (picks l.ending) l.parked ≡ l.initial.tolds ++ ended_all (error_of l.ending) (picks l.ending) l.initial.parked;
+  parked : filter (λ r. not (picks l.ending r)) l.parked ≡ filter (λ r. not (picks l.ending r)) l.initial.parked;
+  room : length l.tolds + length l.parked ≤ 257;
+}
+
+abbrev pub decreases-loop-request : goal.decreases-loop-request
+decreases-loop-request l = length l.parked

@@ -1,0 +1,99 @@
+use Rattle.std.proofs.Common.{◌≡◌, ◌∙◌, Option, Some, sym, subst, ap}
+use Rattle.fl_wire.specs.declared.order.Op.{Op}
+use Rattle.fl_wire.specs.declared.order.Op.TheVariants.{Flush}
+use Rattle.fl_ranges.specs.Conflict.{IsLawful}
+use Rattle.fl_core.specs.Inside.Touched.{touched_by, OthersWait}
+use Rattle.fl_core.specs.Replies.{reply_to, setlk_reply, setlkw_reply}
+use Rattle.fl_core.specs.State.{Snapshot, View}
+use Rattle.fl_core.specs.Waiting.{AllWait}
+use Rattle.fl_core.proofs.Waits.{others_kept, others_set, others_flushed, others_released, others_parked, formed_parked}
+use Rattle.fl_core.proofs.parts.Parts.take.Goals as goal
+
+-- a snapshot whose requests all wait
+abbrev Waits : Snapshot → Type 0
+Waits p = AllWait p.marking p.view.parked
+
+pub returns-in-Lookup-clause-others : goal.returns-in-Lookup-clause-others
+returns-in-Lookup-clause-others c all = others_kept _ _ _ (subst Waits (sym c.self.view_is) all)
+
+pub returns-in-Getattr-clause-others : goal.returns-in-Getattr-clause-others
+returns-in-Getattr-clause-others c all = others_kept _ _ _ all
+
+pub returns-in-Unlink-clause-others : goal.returns-in-Unlink-clause-others
+returns-in-Unlink-clause-others c all = others_kept _ _ _ (subst Waits (sym c.self-in-Unlink.view_is) all)
+
+pub returns-in-Open-clause-others : goal.returns-in-Open-clause-others
+returns-in-Open-clause-others c all = others_kept _ _ _ (subst Waits (sym c.self-in-Open.view_is) all)
+
+pub returns-in-Create-clause-others : goal.returns-in-Create-clause-others
+returns-in-Create-clause-others c all = others_kept _ _ _ (subst Waits (sym c.self-in-Create.view_is) all)
+
+pub returns-in-Getlk-clause-others : goal.returns-in-Getlk-clause-others
+returns-in-Getlk-clause-others c all = others_kept _ _ _ all
+
+pub returns-in-Interrupt-clause-others : goal.returns-in-Interrupt-clause-others
+returns-in-Interrupt-clause-others c all = others_kept _ _ _ all
+
+pub returns-in-Interrupt-2-clause-others : goal.returns-in-Interrupt-2-clause-others
+returns-in-Interrupt-2-clause-others c all = others_kept _ _ _ all
+
+pub returns-in-Release-clause-others : goal.returns-in-Release-clause-others
+returns-in-Release-clause-others c all =
+    let r = c.in-Release in
+    let p = c.args.self.now in
+    let q = c.release.new.self in
+    subst (λ (op : Op). OthersWait (touched_by c.args.order.now.node op (Some c.release.result)) q.marking q.view.parked) (sym r.is)
+    (others_released c.args.order.now.node r.fh r.drop r.owner c.release.result p q c.release.ensures.changed c.release.ensures.elsewhere all)
+
+pub returns-in-Flush-clause-others : goal.returns-in-Flush-clause-others
+returns-in-Flush-clause-others c all =
+    let f = c.in-Flush in
+    let p = c.args.self.now in
+    let q = c.flush.new.self in
+    subst (λ (op : Op). OthersWait (touched_by c.args.order.now.node op (Some c.flush.result)) q.marking q.view.parked) (sym f.is)
+    (subst (λ xs. OthersWait (touched_by c.args.order.now.node (Flush f.fh f.owner) (Some c.flush.result)) q.marking xs) (sym (ap (λ (v : View). v.parked) c.flush.ensures.view))
+    (others_flushed c.args.order.now.node f.fh f.owner c.flush.result p.marking q.marking p.view.parked c.flush.ensures.marking c.flush.ensures.elsewhere all))
+
+pub returns-in-Setlk-clause-reply : goal.returns-in-Setlk-clause-reply
+returns-in-Setlk-clause-reply c =
+    let order = c.args.order.now in
+    let now = c.args.self.now in
+    ap Some c.set_lock.ensures.reply ∙ ap (λ (p : Snapshot). Some (setlk_reply p.view.directory p.marking order.node c.in-Setlk.ask)) c.self-in-Setlk.view_is
+    ∙ sym (ap (reply_to now.view now.marking order) c.in-Setlk.is)
+
+pub returns-in-Setlk-clause-lawful : goal.returns-in-Setlk-clause-lawful
+returns-in-Setlk-clause-lawful c lawful = c.set_lock.ensures.lawful (subst (λ (p : Snapshot). IsLawful p.marking) (sym c.self-in-Setlk.view_is) lawful)
+
+pub returns-in-Setlk-clause-others : goal.returns-in-Setlk-clause-others
+returns-in-Setlk-clause-others c all =
+    let order = c.args.order.now in
+    subst (λ (op : Op). OthersWait (touched_by order.node op (Some c.set_lock.result)) c.set_lock.new.locks.marking c.self-in-Setlk.inside.parked) (sym c.in-Setlk.is)
+    (others_set order.node c.in-Setlk.ask c.set_lock.result c.self-in-Setlk.inside.locks.marking c.set_lock.new.locks.marking c.self-in-Setlk.inside.parked c.set_lock.ensures.changed c.set_lock.ensures.elsewhere (subst Waits (sym c.self-in-Setlk.view_is) all))
+
+pub returns-in-Setlkw-clause-reply : goal.returns-in-Setlkw-clause-reply
+returns-in-Setlkw-clause-reply c =
+    let order = c.args.order.now in
+    let now = c.args.self.now in
+    c.set_or_wait.ensures.reply ∙ ap (λ (p : Snapshot). setlkw_reply p.view p.marking order.node c.in-Setlkw.ask) c.self-in-Setlkw.view_is
+    ∙ sym (ap (reply_to now.view now.marking order) c.in-Setlkw.is)
+
+pub returns-in-Setlkw-clause-lawful : goal.returns-in-Setlkw-clause-lawful
+returns-in-Setlkw-clause-lawful c lawful = c.set_or_wait.ensures.lawful (subst (λ (p : Snapshot). IsLawful p.marking) (sym c.self-in-Setlkw.view_is) lawful)
+
+pub returns-in-Setlkw-clause-others : goal.returns-in-Setlkw-clause-others
+returns-in-Setlkw-clause-others c all =
+    let order = c.args.order.now in
+    let inside = c.self-in-Setlkw.inside in
+    let set = c.set_or_wait in
+    subst (λ (op : Op). OthersWait (touched_by order.node op set.result) set.new.locks.marking set.new.parked) (sym c.in-Setlkw.is)
+    (others_parked order.node c.in-Setlkw.ask order.unique inside.locks.marking set.new.locks.marking inside.parked set.new.parked set.result set.ensures.told set.ensures.waits set.ensures.elsewhere (subst Waits (sym c.self-in-Setlkw.view_is) all))
+
+pub invariant_of-self-in-Setlkw : goal.invariant_of-self-in-Setlkw
+invariant_of-self-in-Setlkw c =
+    let order = c.args.order.now in
+    let inside = c.self-in-Setlkw.inside in
+    let set = c.set_or_wait in
+    (set.ensures.limit, formed_parked order.node c.in-Setlkw.ask order.unique inside.locks.marking set.new.locks.marking inside.parked set.new.parked set.result set.ensures.told set.ensures.waits c.self-in-Setlkw.invariant.1)
+
+pub returns-in-Create-clause-lawful : goal.returns-in-Create-clause-lawful
+returns-in-Create-clause-lawful c lawful = subst (λ (p : Snapshot). IsLawful p.marking) (sym c.self-in-Create.view_is) lawful

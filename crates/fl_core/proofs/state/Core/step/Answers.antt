@@ -1,0 +1,143 @@
+use Rattle.std.proofs.Common.{◌≡◌, ◌++◌, ◌+◌, ◌≤◌, ◌∙◌, true, false, None, length, sym, subst, ap, arith}
+use Rattle.fl_core.specs.Effects.{by_reply, replied, made}
+use Rattle.fl_core.specs.Inside.Touched.{touched_by, OthersWait}
+use Rattle.fl_core.specs.Replies.{own_replies, ended_by, reply_to}
+use Rattle.fl_core.specs.Settling.{present}
+use Rattle.fl_core.specs.State.{Snapshot}
+use Rattle.fl_core.specs.Step.{settling, replies, next}
+use Rattle.fl_core.specs.declared.state.Core.TheInside.{Inside}
+use Rattle.fl_core.specs.Waiting.{is_parked, AllWait, AreApart}
+use Rattle.fl_core.proofs.Effects.{is_recorded}
+use Rattle.fl_core.proofs.Settlings.{nothing_left}
+use Rattle.fl_core.proofs.Steps as steps
+use Rattle.fl_core.proofs.Waits.{nothing_touched}
+use Rattle.fl_core.proofs.state.Core.step.Goals as goal
+
+-- ---- the order's unique is that of a request that waits
+
+pub returns-then-has-clause-replies : goal.returns-then-has-clause-replies
+returns-then-has-clause-replies c =
+    let order = c.args.order.now in
+    let p : Snapshot = c.args.self.now in
+    let taken : is_parked order.unique p.view.parked ≡ true = ap (λ (t : Snapshot). is_parked order.unique t.view.parked) (sym c.self.view_is) ∙ ap (λ (i : Inside). is_parked order.unique i.parts.view.parked) (sym c.self-inside.view_is) ∙ sym c.has.ensures.found ∙ c.if-has.true in
+    let waiting : AllWait p.marking p.view.parked = subst (λ (t : Snapshot). AllWait t.marking t.view.parked) c.self.view_is c.self.invariant.0 in
+    c.tell.ensures ∙ ap (own_replies order) c.refusal.ensures ∙ sym (steps.refused_replies order p taken waiting)
+
+pub returns-then-has-clause-next : goal.returns-then-has-clause-next
+returns-then-has-clause-next c =
+    let order = c.args.order.now in
+    let p : Snapshot = c.args.self.now in
+    let taken : is_parked order.unique p.view.parked ≡ true = ap (λ (t : Snapshot). is_parked order.unique t.view.parked) (sym c.self.view_is) ∙ ap (λ (i : Inside). is_parked order.unique i.parts.view.parked) (sym c.self-inside.view_is) ∙ sym c.has.ensures.found ∙ c.if-has.true in
+    let waiting : AllWait p.marking p.view.parked = subst (λ (t : Snapshot). AllWait t.marking t.view.parked) c.self.view_is c.self.invariant.0 in
+    sym (steps.refused_next order p taken waiting)
+
+-- ---- it isn't
+
+pub end-requires : goal.end-requires
+end-requires c =
+    let order = c.args.order.now in
+    let p : Snapshot = c.args.self.now in
+    let own = c.take-own.result in
+    let s : Snapshot = c.take-own.new.self in
+    let s_is : s ≡ made (by_reply order own) p = c.take-own.ensures.changed ∙ ap (made (by_reply order own)) c.self.view_is in
+    let few : length p.view.parked ≤ 256 = subst (λ (t : Snapshot). length t.view.parked ≤ 256) c.self.view_is (subst (λ (i : Inside). length i.parts.view.parked ≤ 256) c.self-inside.view_is c.has.ensures.few) in
+    omega (arith, steps.room_left order own p few, ap length c.tell-2.ensures, ap (λ (t : Snapshot). length t.view.parked) s_is)
+
+pub settle-requires-clause-others : goal.settle-requires-clause-others
+settle-requires-clause-others c =
+    let order = c.args.order.now in
+    let p : Snapshot = c.args.self.now in
+    let own = c.take-own.result in
+    let s : Snapshot = c.take-own.new.self in
+    let q : Snapshot = c.end.new.self in
+    let others_s = c.take-own.ensures.others c.self.invariant.0 in
+    let others_q : OthersWait (touched_by order.node order.op own) q.marking q.view.parked =
+    subst (λ (t : Snapshot). OthersWait (touched_by order.node order.op own) t.marking t.view.parked) (sym c.end.ensures.parked) (steps.others_left_by (touched_by order.node order.op own) s.marking s.view.parked order.op own others_s) in
+    subst (λ t. OthersWait t q.marking q.view.parked) (sym c.touched_by.ensures) others_q
+
+pub returns-clause-replies : goal.returns-clause-replies
+returns-clause-replies c =
+    let order = c.args.order.now in
+    let p : Snapshot = c.args.self.now in
+    let own = c.take-own.result in
+    let s : Snapshot = c.take-own.new.self in
+    let fresh : is_parked order.unique p.view.parked ≡ false = ap (λ (t : Snapshot). is_parked order.unique t.view.parked) (sym c.self.view_is) ∙ ap (λ (i : Inside). is_parked order.unique i.parts.view.parked) (sym c.self-inside.view_is) ∙ sym c.has.ensures.found ∙ c.if-has.false in
+    let s_is : s ≡ made (by_reply order own) p = c.take-own.ensures.changed ∙ ap (made (by_reply order own)) c.self.view_is in
+    let q : Snapshot = c.end.new.self in
+    let others_s = c.take-own.ensures.others c.self.invariant.0 in
+    let others_q : OthersWait (touched_by order.node order.op own) q.marking q.view.parked =
+    subst (λ (t : Snapshot). OthersWait (touched_by order.node order.op own) t.marking t.view.parked) (sym c.end.ensures.parked) (steps.others_left_by (touched_by order.node order.op own) s.marking s.view.parked order.op own others_s) in
+    let own_is : own ≡ reply_to p.view p.marking order order.op = c.take-own.ensures.reply ∙ ap (λ (t : Snapshot). reply_to t.view t.marking order order.op) c.self.view_is in
+    let apart_p : AreApart p.view.parked = subst (λ (t : Snapshot). AreApart t.view.parked) c.self.view_is c.self.invariant.1 in
+    let apart_s : AreApart s.view.parked = subst (λ (t : Snapshot). AreApart t.view.parked) (sym s_is) (steps.apart_after order own p fresh apart_p) in
+    let apart_q : AreApart q.view.parked = subst (λ (t : Snapshot). AreApart t.view.parked) (sym c.end.ensures.parked) (steps.apart_left_by s.view.parked order.op own apart_s) in
+    let waiting : own ≡ None → AllWait q.marking q.view.parked =
+    λ none. nothing_touched q.marking q.view.parked (subst (λ t. OthersWait t q.marking q.view.parked) (ap (touched_by order.node order.op) none ∙ steps.untouched order.node order.op) others_q) in
+    c.settle.ensures.tolds ∙ ap (λ xs. xs ++ (settling q).tolds) (c.end.ensures.tolds ∙ ap (λ xs. xs ++ ended_by s.view.parked order.op own) c.tell-2.ensures)
+    ∙ sym (steps.replies_are order p fresh own own_is s q s_is c.end.ensures.parked apart_s apart_q waiting)
+
+pub returns-clause-next : goal.returns-clause-next
+returns-clause-next c =
+    let order = c.args.order.now in
+    let p : Snapshot = c.args.self.now in
+    let own = c.take-own.result in
+    let s : Snapshot = c.take-own.new.self in
+    let fresh : is_parked order.unique p.view.parked ≡ false = ap (λ (t : Snapshot). is_parked order.unique t.view.parked) (sym c.self.view_is) ∙ ap (λ (i : Inside). is_parked order.unique i.parts.view.parked) (sym c.self-inside.view_is) ∙ sym c.has.ensures.found ∙ c.if-has.false in
+    let s_is : s ≡ made (by_reply order own) p = c.take-own.ensures.changed ∙ ap (made (by_reply order own)) c.self.view_is in
+    let q : Snapshot = c.end.new.self in
+    let others_s = c.take-own.ensures.others c.self.invariant.0 in
+    let others_q : OthersWait (touched_by order.node order.op own) q.marking q.view.parked =
+    subst (λ (t : Snapshot). OthersWait (touched_by order.node order.op own) t.marking t.view.parked) (sym c.end.ensures.parked) (steps.others_left_by (touched_by order.node order.op own) s.marking s.view.parked order.op own others_s) in
+    let own_is : own ≡ reply_to p.view p.marking order order.op = c.take-own.ensures.reply ∙ ap (λ (t : Snapshot). reply_to t.view t.marking order order.op) c.self.view_is in
+    let apart_p : AreApart p.view.parked = subst (λ (t : Snapshot). AreApart t.view.parked) c.self.view_is c.self.invariant.1 in
+    let apart_s : AreApart s.view.parked = subst (λ (t : Snapshot). AreApart t.view.parked) (sym s_is) (steps.apart_after order own p fresh apart_p) in
+    let apart_q : AreApart q.view.parked = subst (λ (t : Snapshot). AreApart t.view.parked) (sym c.end.ensures.parked) (steps.apart_left_by s.view.parked order.op own apart_s) in
+    let waiting : own ≡ None → AllWait q.marking q.view.parked =
+    λ none. nothing_touched q.marking q.view.parked (subst (λ t. OthersWait t q.marking q.view.parked) (ap (touched_by order.node order.op) none ∙ steps.untouched order.node order.op) others_q) in
+    c.settle.ensures.present ∙ sym (steps.next_is order p fresh own own_is s q s_is c.end.ensures.parked apart_s apart_q waiting)
+
+pub returns-clause-recorded : goal.returns-clause-recorded
+returns-clause-recorded c =
+    let order = c.args.order.now in
+    let p : Snapshot = c.args.self.now in
+    let own = c.take-own.result in
+    let s : Snapshot = c.take-own.new.self in
+    let fresh : is_parked order.unique p.view.parked ≡ false = ap (λ (t : Snapshot). is_parked order.unique t.view.parked) (sym c.self.view_is) ∙ ap (λ (i : Inside). is_parked order.unique i.parts.view.parked) (sym c.self-inside.view_is) ∙ sym c.has.ensures.found ∙ c.if-has.false in
+    let s_is : s ≡ made (by_reply order own) p = c.take-own.ensures.changed ∙ ap (made (by_reply order own)) c.self.view_is in
+    let q : Snapshot = c.end.new.self in
+    let others_s = c.take-own.ensures.others c.self.invariant.0 in
+    let others_q : OthersWait (touched_by order.node order.op own) q.marking q.view.parked =
+    subst (λ (t : Snapshot). OthersWait (touched_by order.node order.op own) t.marking t.view.parked) (sym c.end.ensures.parked) (steps.others_left_by (touched_by order.node order.op own) s.marking s.view.parked order.op own others_s) in
+    let own_is : own ≡ reply_to p.view p.marking order order.op = c.take-own.ensures.reply ∙ ap (λ (t : Snapshot). reply_to t.view t.marking order order.op) c.self.view_is in
+    let apart_p : AreApart p.view.parked = subst (λ (t : Snapshot). AreApart t.view.parked) c.self.view_is c.self.invariant.1 in
+    let apart_s : AreApart s.view.parked = subst (λ (t : Snapshot). AreApart t.view.parked) (sym s_is) (steps.apart_after order own p fresh apart_p) in
+    let apart_q : AreApart q.view.parked = subst (λ (t : Snapshot). AreApart t.view.parked) (sym c.end.ensures.parked) (steps.apart_left_by s.view.parked order.op own apart_s) in
+    let waiting : own ≡ None → AllWait q.marking q.view.parked =
+    λ none. nothing_touched q.marking q.view.parked (subst (λ t. OthersWait t q.marking q.view.parked) (ap (touched_by order.node order.op) none ∙ steps.untouched order.node order.op) others_q) in
+    let read : made (replied order (replies p order)) p ≡ next p order = steps.step_read order p fresh own own_is s q s_is c.end.ensures.parked apart_s apart_q waiting in
+    is_recorded order p c.settle.new.self c.settle.new.tolds (returns-clause-next c ∙ sym read ∙ ap (λ xs. made (replied order xs) p) (sym (returns-clause-replies c)))
+
+pub invariant_of-self : goal.invariant_of-self
+invariant_of-self c =
+    let order = c.args.order.now in
+    let p : Snapshot = c.args.self.now in
+    let own = c.take-own.result in
+    let s : Snapshot = c.take-own.new.self in
+    let fresh : is_parked order.unique p.view.parked ≡ false = ap (λ (t : Snapshot). is_parked order.unique t.view.parked) (sym c.self.view_is) ∙ ap (λ (i : Inside). is_parked order.unique i.parts.view.parked) (sym c.self-inside.view_is) ∙ sym c.has.ensures.found ∙ c.if-has.false in
+    let s_is : s ≡ made (by_reply order own) p = c.take-own.ensures.changed ∙ ap (made (by_reply order own)) c.self.view_is in
+    let q : Snapshot = c.end.new.self in
+    let others_s = c.take-own.ensures.others c.self.invariant.0 in
+    let others_q : OthersWait (touched_by order.node order.op own) q.marking q.view.parked =
+    subst (λ (t : Snapshot). OthersWait (touched_by order.node order.op own) t.marking t.view.parked) (sym c.end.ensures.parked) (steps.others_left_by (touched_by order.node order.op own) s.marking s.view.parked order.op own others_s) in
+    let own_is : own ≡ reply_to p.view p.marking order order.op = c.take-own.ensures.reply ∙ ap (λ (t : Snapshot). reply_to t.view t.marking order order.op) c.self.view_is in
+    let apart_p : AreApart p.view.parked = subst (λ (t : Snapshot). AreApart t.view.parked) c.self.view_is c.self.invariant.1 in
+    let apart_s : AreApart s.view.parked = subst (λ (t : Snapshot). AreApart t.view.parked) (sym s_is) (steps.apart_after order own p fresh apart_p) in
+    let apart_q : AreApart q.view.parked = subst (λ (t : Snapshot). AreApart t.view.parked) (sym c.end.ensures.parked) (steps.apart_left_by s.view.parked order.op own apart_s) in
+    let waiting : own ≡ None → AllWait q.marking q.view.parked =
+    λ none. nothing_touched q.marking q.view.parked (subst (λ t. OthersWait t q.marking q.view.parked) (ap (touched_by order.node order.op) none ∙ steps.untouched order.node order.op) others_q) in
+    (subst (λ (t : Snapshot). AllWait t.marking t.view.parked) (sym c.settle.ensures.present) (nothing_left (present q.marking q.view.parked)), c.settle.ensures.apart apart_q)
+
+pub returns-clause-waiting : goal.returns-clause-waiting
+returns-clause-waiting c =
+    let q : Snapshot = c.end.new.self in
+    subst (λ (t : Snapshot). AllWait t.marking t.view.parked) (sym c.settle.ensures.present) (nothing_left (present q.marking q.view.parked))

@@ -1,0 +1,45 @@
+-- Which requests an order may have set free: those on a node, of one class or of both.
+use Rattle.std.specs.Prelude.{◌≡◌, ℕ, ◌==◌, ◌&&◌, Bool, true, false, Option, Some, None, Result, Ok, List, [], ◌∷◌, ◌++◌}
+use Rattle.std.specs.List.{AllByRecursion}
+use Rattle.fl_wire.specs.declared.errno.Errno.{Errno}
+use Rattle.fl_wire.specs.declared.told.Answer.{Answer}
+use Rattle.fl_wire.specs.declared.order.Op.{Op}
+use Rattle.fl_wire.specs.declared.order.Op.TheVariants.{Release, Flush, Setlk, Setlkw}
+use Rattle.fl_ranges.specs.declared.lock.Class.{Class}
+use Rattle.fl_ranges.specs.declared.lock.Class.TheVariants.{Record}
+use Rattle.fl_ranges.specs.Marking.{Marking, class_number}
+use Rattle.fl_core.specs.LockRequest.{key_of}
+use Rattle.fl_core.specs.Replies.{is_malformed}
+use Rattle.fl_core.specs.Waiting.{waits}
+use Rattle.fl_core.specs.declared.parked.Request.{Request}
+use Rattle.fl_core.specs.declared.settling.Touched.{Touched}
+use Rattle.fl_core.specs.declared.settling.Touched.TheVariants.{Nothing, OfClass, OfNode}
+
+-- locks of this class and node may have gone
+abbrev pub concerns : Touched → ℕ → Class → Bool
+concerns Nothing of class = false
+concerns (OfClass node own) of class = (class_number class == class_number own) && (of == node)
+concerns (OfNode node) of class = of == node
+
+-- those that the request waits for may
+abbrev pub concerns_request : Touched → Request → Bool
+concerns_request t r = concerns t r.node (key_of r.node r.ask).class
+
+-- each other request waits
+abbrev pub OthersWait : Touched → Marking → List Request → Type 0
+OthersWait t m parked = AllByRecursion (λ (r : Request). concerns_request t r ≡ false → waits m r ≡ true) parked
+
+-- a request conflicts, and waits now behind the others
+pub record WaitsNow (before after : Marking) (parked parked_after : List Request) (r : Request) : Type 0 where
+  pub locks : after ≡ before
+  pub last : parked_after ≡ parked ++ r ∷ []
+  pub waits : waits before r ≡ true
+  pub formed : is_malformed r.ask ≡ false
+
+-- what an order touches that is answered so
+abbrev pub touched_by : ℕ → Op → Option (Result Answer Errno) → Touched
+touched_by node (Setlk ask) (Some (Ok answer)) = OfClass node (key_of node ask).class
+touched_by node (Setlkw ask) (Some (Ok answer)) = OfClass node (key_of node ask).class
+touched_by node (Flush fh owner) (Some (Ok answer)) = OfClass node Record
+touched_by node (Release fh unlocks owner) (Some (Ok answer)) = OfNode node
+touched_by node op own = Nothing

@@ -1,0 +1,71 @@
+-- Which requests that wait are answered once locks have changed.
+use Rattle.std.specs.Prelude.{◌≡◌, ℕ, zero, suc, false, not, Option, Some, None, Result, List, [], ◌∷◌, ◌++◌, length}
+use Rattle.fl_wire.specs.declared.errno.Errno.{Errno}
+use Rattle.fl_wire.specs.declared.told.Answer.{Answer}
+use Rattle.fl_wire.specs.declared.told.Told.{Told}
+use Rattle.fl_ranges.specs.Change.{after_changes}
+use Rattle.fl_ranges.specs.Marking.{Marking}
+use Rattle.fl_core.specs.Effects.{locked}
+use Rattle.fl_core.specs.LockRequest.{stroke_of}
+use Rattle.fl_core.specs.Replies.{room_reply}
+use Rattle.fl_core.specs.Waiting.{waits, taken_first, AllWait}
+use Rattle.fl_core.specs.declared.parked.Request.{Request}
+
+-- the locks, and the requests that wait in the order of asking
+pub record Present : Type 0 where
+  pub marking : Marking
+  pub parked : List Request
+
+abbrev pub present : Marking → List Request → Present
+present marking parked = record { marking = marking; parked = parked }
+
+-- a request that doesn't wait any more: its lock is set where there is room
+abbrev pub grant_reply : Marking → Request → Result Answer Errno
+grant_reply m r = room_reply m (stroke_of r.node r.ask)
+
+-- what it is told
+abbrev pub granted_told : Marking → Request → Told
+granted_told m r = record { unique = r.unique; result = grant_reply m r }
+
+-- the locks afterwards
+abbrev pub marking_granted : Marking → Request → Marking
+marking_granted m r = after_changes (locked r.node r.ask (grant_reply m r)) m
+
+-- the oldest request that conflicts with nothing, and the others
+abbrev pub oldest_free : Marking → List Request → Option (Request × List Request)
+oldest_free m parked = taken_first (λ r. not (waits m r)) parked
+
+-- what settling leaves, and the replies that it gives
+pub record Settled : Type 0 where
+  pub present : Present
+  pub tolds : List Told
+
+-- one reply more, before the others
+abbrev pub with_told : Told → Settled → Settled
+with_told told s = record s { tolds = told ∷ s.tolds }
+
+-- the request that is found is answered first, and what is left to do comes after
+abbrev pub answered_first : Marking → List Request → ((Request × List Request) → Settled) → Option (Request × List Request)
+    → Settled
+answered_first m parked rest None = record { present = present m parked; tolds = [] }
+answered_first m parked rest (Some p) = with_told (granted_told m p.0) (rest p)
+
+-- at most so many requests are answered, each time the oldest that conflicts with nothing
+unfoldable pub settled_within : ℕ → Marking → List Request → Settled
+settled_within zero m parked = record { present = present m parked; tolds = [] }
+settled_within (suc n) m parked =
+    answered_first m parked (λ p. settled_within n (marking_granted m p.0) p.1) (oldest_free m parked)
+
+-- all that can be answered are
+abbrev pub settled : Present → Settled
+settled s = settled_within (length s.parked) s.marking s.parked
+
+-- The same in words: nothing is told where every request waits. Else the oldest that doesn't is taken out, its lock is set
+-- where there is room, and it is told; and so on.
+pub data IsSettled : Present → List Told → Present → Type 0 where
+  done : {m : Marking} {parked : List Request} → AllWait m parked
+      → IsSettled (present m parked) [] (present m parked)
+  one : {m : Marking} {parked : List Request} {tolds : List Told} {after : Present} (older : List Request)
+      (r : Request) (younger : List Request) → parked ≡ older ++ r ∷ younger → AllWait m older → waits m r ≡ false
+      → IsSettled (present (marking_granted m r) (older ++ younger)) tolds after
+      → IsSettled (present m parked) (granted_told m r ∷ tolds) after

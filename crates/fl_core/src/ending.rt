@@ -1,0 +1,52 @@
+//! Requests that wait, and are ended by another order.
+
+ghost use Rattle.std.specs.Prelude.{◌≡◌, ◌≤◌, ◌+◌, ◌++◌, not, length};
+ghost use Rattle.std.specs.List.{filter};
+ghost use Rattle.fl_core.specs.Inside.Parts.{error_of, picks};
+ghost use Rattle.fl_core.specs.Replies.{ended_all};
+
+use crate::parked::{Parked, Request};
+use crate::tolds::{MOST_TOLDS, Tolds};
+use fl_wire::{Errno, Told};
+
+/// Which requests are ended.
+#[derive(Clone, Copy)]
+pub(crate) enum Ending {
+    /// Those that came through this fh, which is closed.
+    Through(u64),
+    /// The one of this unique, which is interrupted.
+    Named(u64),
+}
+
+/// Takes out these requests, the oldest first, and tells each.
+pub(crate) fn end_all(parked: &mut Parked, ending: Ending, tolds: &mut Tolds)
+    requires { length tolds.old + length parked.old ≤ MOST_TOLDS }
+    ensures tolds { tolds.new ≡ tolds.old ++ ended_all (error_of ending) (picks ending) parked.old }
+    ensures parked { parked.new ≡ filter (λ r. not (picks ending r)) parked.old }
+    ensures few { length tolds.new + length parked.new ≤ MOST_TOLDS }
+{
+    while let Some(request) = parked.take_first(|request| picks(ending, request)) {
+        tolds.push(Told {
+            unique: request.unique,
+            result: Err(error_of(ending)),
+        });
+    }
+}
+
+fn picks(ending: Ending, request: &Request) -> bool
+    ensures { result ≡ picks ending request.now }
+{
+    match ending {
+        Ending::Through(fh) => request.ask.fh == fh,
+        Ending::Named(unique) => request.unique == unique,
+    }
+}
+
+fn error_of(ending: Ending) -> Errno
+    ensures { result ≡ error_of ending }
+{
+    match ending {
+        Ending::Through(_) => Errno::EBADF,
+        Ending::Named(_) => Errno::EINTR,
+    }
+}

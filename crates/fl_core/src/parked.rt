@@ -1,0 +1,100 @@
+//! Lock requests that wait, in the order of asking.
+
+ghost use Rattle.std.specs.Prelude.{◌≡◌, ◌==◌, ◌↔◌, ◌≤◌, ◌<◌, ◌++◌, ◌∷◌, [], Bool, None, Some, IfOk, MatchOption, length};
+ghost use Rattle.fl_arena.specs.Cursors.{Tests};
+ghost use Rattle.fl_core.specs.Waiting.{is_parked, taken_first};
+ghost use Rattle.fl_core.specs.declared.parked.Request.{Request as Waiter};
+
+use fl_arena::{Arena, Cursor};
+use fl_wire::{LockAsk, NoMemory};
+use std::alloc::Global;
+use std::marker::Model;
+
+/// The most requests that wait at once.
+pub(crate) const MOST_PARKED: usize = 256;
+
+/// A lock request that waits: the unique of its order, and what it asks on which node.
+#[derive(Clone, Copy, Debug, PartialEq, Eq)]
+pub struct Request {
+    pub unique: u64,
+    pub node: u64,
+    pub ask: LockAsk,
+}
+
+/// Requests that wait, the oldest first. Contracts see their list.
+#[derive(Drop)]
+pub(crate) struct Parked {
+    requests: Arena<Request>,
+}
+
+impl Model for Parked {
+    ghost use Rattle.std.specs.Prelude.{◌≡◌, List, length};
+    ghost use Rattle.fl_arena.specs.Chains.{items};
+    ghost use Rattle.fl_core.specs.declared.parked.Request.{Request};
+
+    ghost Value = { List Request };
+
+    ghost view = { λ p. items p.requests 0 };
+
+    ghost invariant = { λ p. (length p.requests.chains ≡ 1) × (p.requests.slots ≡ 256) };
+}
+
+impl Parked {
+    /// No request waits.
+    pub(crate) fn new(alloc: Global) -> Result<Parked, NoMemory>
+        ensures { IfOk result (λ parked. parked ≡ []) }
+    {
+        Ok(Parked {
+            requests: Arena::new(alloc, 1, MOST_PARKED)?,
+        })
+    }
+
+    /// Whether no more can wait.
+    pub(crate) fn is_full(&self) -> bool
+        ensures few { length self.now ≤ MOST_PARKED }
+        ensures full { result ≡ (length self.now == MOST_PARKED) }
+    {
+        self.requests.free() == 0
+    }
+
+    /// Whether a request of this unique waits.
+    pub(crate) fn has(&self, unique: u64) -> bool
+        ensures found { result ≡ is_parked unique self.now }
+        ensures few { length self.now ≤ MOST_PARKED }
+    {
+        if self.requests.free() == MOST_PARKED {
+            return false;
+        }
+        let cursor = self.requests.first_where(0, |waiter| waiter.unique == unique);
+        self.requests.item(&cursor).is_some()
+    }
+
+    /// A request more, after the others.
+    pub(crate) fn push(&mut self, request: Request)
+        requires { length self.old < MOST_PARKED }
+        ensures { self.new ≡ self.old ++ request ∷ [] }
+    {
+        let mut end = Cursor {
+            chain: 0,
+            index: 0,
+            slot: None,
+        };
+        let Ok(()) = self.requests.insert(&mut end, request) else {
+            unreachable!()
+        };
+    }
+
+    /// Takes out the oldest request that passes the test.
+    pub(crate) fn take_first<F: Fn(&Request) -> bool>(&mut self, test: F) -> Option<Request>
+        requires { F.IsAlwaysCallable test }
+        ensures { (p : Waiter → Bool) → Tests F.Fn p test → MatchOption result
+            ((taken_first p self.old ≡ None) × (self.new ≡ self.old))
+            (λ taken. taken_first p self.old ≡ Some (taken, self.new)) }
+    {
+        let mut cursor = self.requests.first_where(0, test);
+        if self.requests.item(&cursor).is_none() {
+            return None;
+        }
+        Some(self.requests.remove(&mut cursor))
+    }
+}

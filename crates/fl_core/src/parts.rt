@@ -1,0 +1,180 @@
+//! What a core consists of, and what an order changes in it before requests that wait are settled.
+
+ghost use Rattle.std.specs.Prelude.{◌≡◌, ◌≤◌, ◌↔◌, ◌+◌, ◌++◌, true, false, length, IfOk, IsSome};
+ghost use Rattle.std.specs.List.{AllByRecursion};
+ghost use Rattle.fl_ranges.specs.Change.{after_changes};
+ghost use Rattle.fl_ranges.specs.Conflict.{IsLawful, SameElsewhere, SameOffNode};
+ghost use Rattle.fl_ranges.specs.declared.lock.Class.TheVariants.{Record};
+ghost use Rattle.fl_wire.specs.Order.{only_reads};
+ghost use Rattle.fl_core.specs.Effects.{by_reply, flushed, released, made};
+ghost use Rattle.fl_core.specs.Inside.Parts.{AreFormed, left_by, with_parked};
+ghost use Rattle.fl_core.specs.Inside.Touched.{touched_by, OthersWait};
+ghost use Rattle.fl_core.specs.Replies.{ended_by, file_reply, reply_to};
+ghost use Rattle.fl_core.specs.State.{opening, snapshot_of};
+ghost use Rattle.fl_core.specs.Step.{settling, with_present};
+ghost use Rattle.fl_core.specs.Waiting.{is_parked, AllWait, AreApart};
+
+use crate::ending::{Ending, end_all};
+use crate::locking::{MOST_RUNS, release_locks, set_lock, set_or_wait, test_lock, unlock};
+use crate::parked::Parked;
+use crate::settling::{Touched, settle};
+use crate::tolds::{MOST_TOLDS, Tolds};
+use fl_dir::Dir;
+use fl_ranges::{Class, Table};
+use fl_wire::{Answer, Errno, NoMemory, Op, Order};
+use std::alloc::Global;
+use std::marker::Model;
+
+/// The directory, the locks, and the requests that wait. Contracts see them as a `Snapshot`.
+#[derive(Drop)]
+pub(crate) struct Parts {
+    pub directory: Dir,
+    pub locks: Table,
+    pub parked: Parked,
+}
+
+impl Model for Parts {
+    ghost use Rattle.std.specs.Prelude.{◌≡◌};
+    ghost use Rattle.fl_core.specs.State.{Snapshot};
+    ghost use Rattle.fl_core.specs.Codes.{snapshot_code};
+    ghost use Rattle.fl_core.specs.Inside.Parts.{AreFormed};
+    ghost use Rattle.fl_core.specs.declared.locking.TheConstants.{MOST_RUNS};
+
+    ghost Value = { Snapshot };
+
+    ghost coded = { snapshot_code };
+
+    ghost view = { λ p.
+        record { view = record { directory = p.directory; parked = p.parked }; marking = p.locks.marking } };
+
+    ghost invariant = { λ p. (p.locks.limit ≡ MOST_RUNS) × AreFormed p.parked };
+}
+
+impl Parts {
+    /// No files, no locks, and no request waits.
+    pub(crate) fn new(alloc: Global) -> Result<Parts, NoMemory>
+        ensures opening { IfOk result (λ p. p ≡ snapshot_of opening) }
+        ensures lawful { IfOk result (λ p. IsLawful p.marking) }
+    {
+        Ok(Parts {
+            directory: Dir::new(alloc)?,
+            locks: Table::new(alloc, MOST_RUNS)?,
+            parked: Parked::new(alloc)?,
+        })
+    }
+
+    /// What an order is answered that only reads; none for any other.
+    pub(crate) fn read(&self, order: &Order) -> Option<Result<Answer, Errno>>
+        ensures reads { IsSome result ↔ (only_reads order.now.op ≡ true) }
+        ensures reply { IsSome result → result ≡ reply_to self.now.view self.now.marking order.now order.now.op }
+    {
+        match &order.op {
+            Op::Getattr => Some(self.directory.getattr(order.node)),
+            Op::Getlk(ask) => Some(test_lock(&self.directory, &self.locks, order.node, ask)),
+            _ => None,
+        }
+    }
+
+    /// The order's own reply, if it has one now, with its change made.
+    pub(crate) fn take(&mut self, order: &Order) -> Option<Result<Answer, Errno>>
+        requires { is_parked order.now.unique self.old.view.parked ≡ false }
+        ensures reply { result ≡ reply_to self.old.view self.old.marking order.now order.now.op }
+        ensures changed { self.new ≡ made (by_reply order.now result) self.old }
+        ensures lawful { IsLawful self.old.marking → IsLawful self.new.marking }
+
+        // Only requests that wait for locks which the order touched can be free now.
+        ensures others { AllWait self.old.marking self.old.view.parked →
+            OthersWait (touched_by order.now.node order.now.op result) self.new.marking self.new.view.parked }
+    {
+        let node = order.node;
+        Some(match &order.op {
+            Op::Lookup(name) => self.directory.lookup(node, name),
+            Op::Forget(n) => {
+                self.directory.forget(node, *n);
+                return None;
+            }
+            Op::Getattr => self.directory.getattr(node),
+            Op::Unlink(name) => self.directory.unlink(node, name),
+            Op::Open => self.directory.open(node),
+            Op::Release { fh, drop, owner } => self.release(node, *fh, *drop, *owner),
+            Op::Flush { fh, owner } => self.flush(node, *fh, *owner),
+            Op::Create { excl, mode, name } => {
+                self.directory
+                    .create(node, order.uid, order.gid, *excl, *mode, name)
+            }
+            Op::Getlk(ask) => test_lock(&self.directory, &self.locks, node, ask),
+            Op::Setlk(ask) => set_lock(&self.directory, &mut self.locks, node, ask),
+            Op::Setlkw(ask) => {
+                return set_or_wait(
+                    &self.directory,
+                    &mut self.locks,
+                    &mut self.parked,
+                    order.unique,
+                    node,
+                    ask,
+                );
+            }
+            Op::Interrupt(unique) if self.parked.has(*unique) => return None,
+            Op::Interrupt(_) => Err(Errno::EAGAIN),
+        })
+    }
+
+    /// Ends the requests that wait which the order ends, by what it was answered itself, and tells them.
+    pub(crate) fn end(&mut self, order: &Order, own: &Option<Result<Answer, Errno>>, tolds: &mut Tolds)
+        requires { length tolds.old + length self.old.view.parked ≤ MOST_TOLDS }
+        ensures tolds { tolds.new ≡ tolds.old ++ ended_by self.old.view.parked order.now.op own.now }
+        ensures parked { self.new ≡ with_parked (left_by self.old.view.parked order.now.op own.now) self.old }
+        ensures few { length tolds.new + length self.new.view.parked ≤ MOST_TOLDS }
+    {
+        match (&order.op, own) {
+            (Op::Release { fh, .. }, Some(Ok(_))) => {
+                end_all(&mut self.parked, Ending::Through(*fh), tolds);
+            }
+            (Op::Interrupt(unique), None) => {
+                end_all(&mut self.parked, Ending::Named(*unique), tolds);
+            }
+            _ => {}
+        }
+    }
+
+    /// Answers requests that wait until each conflicts, where an order touched these locks.
+    pub(crate) fn settle(&mut self, touched: Touched, tolds: &mut Tolds)
+        requires others { OthersWait touched self.old.marking self.old.view.parked }
+        requires room { length tolds.old + length self.old.view.parked ≤ MOST_TOLDS }
+        ensures tolds { tolds.new ≡ tolds.old ++ (settling self.old).tolds }
+        ensures present { self.new ≡ with_present (settling self.old).present self.old }
+        ensures few { length tolds.new ≤ MOST_TOLDS }
+        ensures lawful { IsLawful self.old.marking → IsLawful self.new.marking }
+        ensures apart { AreApart self.old.view.parked → AreApart self.new.view.parked }
+    {
+        settle(&mut self.locks, &mut self.parked, touched, tolds);
+    }
+
+    // FUSE_FLUSH: the owner's record locks on the node go.
+    fn flush(&mut self, node: u64, fh: u64, owner: u64) -> Result<Answer, Errno>
+        ensures reply { result ≡ file_reply self.old.view.directory node fh }
+        ensures view { self.new.view ≡ self.old.view }
+        ensures marking { self.new.marking ≡ after_changes (flushed node owner result) self.old.marking }
+        ensures lawful { IsLawful self.old.marking → IsLawful self.new.marking }
+        ensures elsewhere { SameElsewhere (record { class = Record; node = node; owner = owner }) self.old.marking self.new.marking }
+    {
+        if self.directory.node_of(fh) != Some(node) {
+            return Err(Errno::EBADF);
+        }
+        unlock(&mut self.locks, Class::Record, node, owner);
+        Ok(Answer::Done)
+    }
+
+    // FUSE_RELEASE: the fh is closed, with `drop` the owner's whole-file lock goes, and with the last fh all locks of
+    // the node.
+    fn release(&mut self, node: u64, fh: u64, drop: bool, owner: u64) -> Result<Answer, Errno>
+        ensures reply { result ≡ file_reply self.old.view.directory node fh }
+        ensures changed { self.new ≡ made (released node fh drop owner result) self.old }
+        ensures lawful { IsLawful self.old.marking → IsLawful self.new.marking }
+        ensures elsewhere { SameOffNode node self.old.marking self.new.marking }
+    {
+        let closed = self.directory.close(node, fh)?;
+        release_locks(&mut self.locks, node, drop, owner, closed.last);
+        Ok(Answer::Done)
+    }
+}

@@ -1,0 +1,119 @@
+//! Requests that wait, answered once locks have changed.
+
+ghost use Rattle.std.specs.Prelude.{◌≡◌, ◌≤◌, ◌+◌, ◌++◌, ◌&&◌, not, false, None, Some, MatchOption, length};
+ghost use Rattle.fl_ranges.specs.Conflict.{IsLawful, SameElsewhere};
+ghost use Rattle.fl_core.specs.LockRequest.{key_of};
+ghost use Rattle.fl_core.specs.Inside.Parts.{AreFormed};
+ghost use Rattle.fl_core.specs.Inside.Touched.{concerns_request, touched_by, OthersWait};
+ghost use Rattle.fl_core.specs.Replies.{is_malformed};
+ghost use Rattle.fl_core.specs.Settling.{granted_told, marking_granted, oldest_free, present, settled};
+ghost use Rattle.fl_core.specs.Waiting.{waits, AreApart};
+
+use crate::locking::{MOST_RUNS, is_excluded, key_of, mark_of, range_of, store};
+use crate::parked::{Parked, Request};
+use crate::tolds::{MOST_TOLDS, Tolds};
+use fl_ranges::{Class, Table};
+use fl_wire::{Answer, Errno, Op, Order, Told};
+
+/// Which locks may have gone, so that requests that wait for them may be free.
+#[derive(Clone, Copy)]
+pub(crate) enum Touched {
+    Nothing,
+    /// Locks of one class on a node.
+    OfClass(u64, Class),
+    /// Locks of both classes on a node.
+    OfNode(u64),
+}
+
+/// What an order touches that is answered so.
+pub(crate) fn touched_by(order: &Order, own: &Option<Result<Answer, Errno>>) -> Touched
+    ensures { result ≡ touched_by order.now.node order.now.op own.now }
+{
+    let Some(Ok(_)) = own else {
+        return Touched::Nothing;
+    };
+    match &order.op {
+        Op::Setlk(ask) | Op::Setlkw(ask) => {
+            Touched::OfClass(order.node, key_of(order.node, ask).class)
+        }
+        Op::Flush { .. } => Touched::OfClass(order.node, Class::Record),
+        Op::Release { .. } => Touched::OfNode(order.node),
+        _ => Touched::Nothing,
+    }
+}
+
+/// Answers requests, each time the oldest that conflicts with nothing, until each conflicts. It tests those alone whose
+/// locks were touched.
+pub(crate) fn settle(locks: &mut Table, parked: &mut Parked, touched: Touched, tolds: &mut Tolds)
+    requires limit { locks.old.limit ≡ MOST_RUNS }
+    requires formed { AreFormed parked.old }
+    requires others { OthersWait touched locks.old.marking parked.old }
+    requires room { length tolds.old + length parked.old ≤ MOST_TOLDS }
+    ensures tolds { tolds.new ≡ tolds.old ++ (settled (present locks.old.marking parked.old)).tolds }
+    ensures present { present locks.new.marking parked.new
+        ≡ (settled (present locks.old.marking parked.old)).present }
+    ensures few { length tolds.new + length parked.new ≤ MOST_TOLDS }
+    ensures apart { AreApart parked.old → AreApart parked.new }
+    ensures still_formed { AreFormed parked.new }
+    ensures lawful { IsLawful locks.old.marking → IsLawful locks.new.marking }
+    ensures limit { locks.new.limit ≡ MOST_RUNS }
+{
+    while let Some(request) = take_free(locks, parked, touched) {
+        tolds.push(grant(locks, &request));
+    }
+}
+
+// Takes out the oldest request that conflicts with nothing.
+fn take_free(locks: &Table, parked: &mut Parked, touched: Touched) -> Option<Request>
+    requires formed { AreFormed parked.old }
+    requires others { OthersWait touched locks.now.marking parked.old }
+    ensures { MatchOption result
+        ((oldest_free locks.now.marking parked.old ≡ None) × (parked.new ≡ parked.old))
+        (λ taken. oldest_free locks.now.marking parked.old ≡ Some (taken, parked.new)) }
+{
+    parked.take_first(|request| concerns(touched, request) && !waits(locks, request))
+}
+
+// The request's lock is set where there is room.
+fn grant(locks: &mut Table, request: &Request) -> Told
+    requires limit { locks.old.limit ≡ MOST_RUNS }
+    requires formed { is_malformed request.now.ask ≡ false }
+    requires free { waits locks.old.marking request.now ≡ false }
+    ensures told { result ≡ granted_told locks.old.marking request.now }
+    ensures marking { locks.new.marking ≡ marking_granted locks.old.marking request.now }
+    ensures elsewhere { SameElsewhere (key_of request.now.node request.now.ask) locks.old.marking locks.new.marking }
+    ensures lawful { IsLawful locks.old.marking → IsLawful locks.new.marking }
+    ensures limit { locks.new.limit ≡ MOST_RUNS }
+{
+    let Some(range) = range_of(&request.ask) else {
+        unreachable!()
+    };
+    let key = key_of(request.node, &request.ask);
+    Told {
+        unique: request.unique,
+        result: store(locks, &key, &range, mark_of(&request.ask)),
+    }
+}
+
+fn concerns(touched: Touched, request: &Request) -> bool
+    ensures { result ≡ concerns_request touched request.now }
+{
+    match touched {
+        Touched::Nothing => false,
+        Touched::OfClass(node, class) => {
+            key_of(node, &request.ask).class == class && request.node == node
+        }
+        Touched::OfNode(node) => request.node == node,
+    }
+}
+
+// Whether a request that is no malformed one conflicts with a lock that is held.
+fn waits(locks: &Table, request: &Request) -> bool
+    ensures { result ≡ (not (is_malformed request.now.ask) && waits locks.now.marking request.now) }
+{
+    let Some(range) = range_of(&request.ask) else {
+        return false;
+    };
+    let key = key_of(request.node, &request.ask);
+    is_excluded(locks, &key, &range, mark_of(&request.ask))
+}
