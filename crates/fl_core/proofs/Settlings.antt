@@ -117,6 +117,14 @@ settling_told s after tolds = (
   λ e. subst (λ t. IsSettled s t after) (sym e.0) (subst (λ (a : Present). IsSettled s (settled s).tolds a) (sym e.1) (is_settled s)),
 )
 
+-- nothing is told exactly where every request waits
+waits_where_silent : {s after : Present} {tolds : List Told} → IsSettled s tolds after → tolds ≡ [] → AllWait s.marking s.parked
+waits_where_silent (done all) e = all
+waits_where_silent (one older r younger stands all free rest) e = absurd (cc e)
+
+pub nothing_told : (s : Present) → ((settled s).tolds ≡ []) ↔ AllWait s.marking s.parked
+nothing_told s = (waits_where_silent (is_settled s), λ all. ap (λ (t : Settled). t.tolds) (settled_none s.marking s.parked all))
+
 -- afterwards every request waits
 left_wait : {s after : Present} {tolds : List Told} → IsSettled s tolds after → AllWait after.marking after.parked
 left_wait (done all) = all

@@ -1,5 +1,6 @@
 pub mod Codes
 pub mod Effects
+pub mod First
 pub mod Inside
 pub mod LockRequest
 pub mod Replies

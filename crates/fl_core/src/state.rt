@@ -5,7 +5,7 @@ ghost use Rattle.fl_core.specs.State.{State, opening, snapshot_of};
 ghost use Rattle.fl_core.specs.Effects.{replied, recorded};
 ghost use Rattle.fl_core.specs.Replies.{own_replies, taken_reply};
 ghost use Rattle.fl_core.specs.Step.{next, replies};
-ghost use Rattle.fl_core.specs.Waiting.{AllWait};
+ghost use Rattle.fl_core.specs.Waiting.{AllWait, AreApart};
 
 use crate::parts::Parts;
 use crate::settling::touched_by;
@@ -58,6 +58,7 @@ impl Core {
             snapshot_of (recorded (replied order.now tolds.new) s) ≡ self.new }
         ensures lawful { IsLawful self.old.marking → IsLawful self.new.marking }
         ensures waiting { AllWait self.new.marking self.new.view.parked }
+        ensures apart { AreApart self.new.view.parked }
     {
         tolds.clear();
         if self.parts.parked.has(order.unique) {

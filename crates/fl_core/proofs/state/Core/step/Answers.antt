@@ -141,3 +141,6 @@ pub returns-clause-waiting : goal.returns-clause-waiting
 returns-clause-waiting c =
     let q : Snapshot = c.end.new.self in
     subst (λ (t : Snapshot). AllWait t.marking t.view.parked) (sym c.settle.ensures.present) (nothing_left (present q.marking q.view.parked))
+
+pub returns-clause-apart : goal.returns-clause-apart
+returns-clause-apart c = (invariant_of-self c).1

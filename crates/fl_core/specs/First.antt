@@ -1,0 +1,88 @@
+-- The replies that an order gives before any lock that came free is given to a request that waits, in words: a case for
+-- each thing that can befall an order (POSIX.1-2017 `fcntl`, F_SETLKW; Linux `fuse.h`, FUSE_SETLKW and FUSE_INTERRUPT).
+use Rattle.std.specs.Prelude.{◌≡◌, ◌≢◌, ◌==◌, ◌≤◌, ◌<◌, ℕ, Bool, true, false, Some, None, Result, Ok, Err, List, [], ◌∷◌, ◌++◌}
+use Rattle.std.specs.Prelude.{length}
+use Rattle.std.specs.List.{AllByRecursion}
+use Rattle.fl_wire.specs.declared.errno.Errno.{Errno}
+use Rattle.fl_wire.specs.declared.errno.Errno.TheVariants.{EINTR, EBADF, EINVAL, EAGAIN, ENOLCK}
+use Rattle.fl_wire.specs.declared.told.Answer.{Answer}
+use Rattle.fl_wire.specs.declared.told.Answer.TheVariants.{Done}
+use Rattle.fl_wire.specs.declared.told.Told.{Told}
+use Rattle.fl_wire.specs.declared.order.LockAsk.{LockAsk}
+use Rattle.fl_wire.specs.declared.order.Op.{Op}
+use Rattle.fl_wire.specs.declared.order.Op.TheVariants.{Forget, Release, Setlkw, Interrupt}
+use Rattle.fl_wire.specs.declared.order.Order.{Order}
+use Rattle.fl_dir.specs.OpenFiles.{is_open_on}
+use Rattle.fl_core.specs.Replies.{ask_error, reply_to, own_replies, ended_with, ended_all}
+use Rattle.fl_core.specs.Settling.{grant_reply}
+use Rattle.fl_core.specs.State.{Snapshot}
+use Rattle.fl_core.specs.Waiting.{waits}
+use Rattle.fl_core.specs.declared.parked.Request.{Request}
+
+-- this request is among those that wait, and has this unique
+pub record IsWaiter (unique : ℕ) (parked : List Request) (r : Request) : Type 0 where
+  pub older : List Request
+  pub younger : List Request
+  pub stands : parked ≡ older ++ r ∷ younger
+  pub named : r.unique ≡ unique
+
+-- no request that waits has this unique
+abbrev pub IsNew : ℕ → List Request → Type 0
+IsNew unique parked = AllByRecursion (λ (r : Request). r.unique ≢ unique) parked
+
+-- an order that never waits, and ends no request that does
+abbrev pub is_alone : Op → Bool
+is_alone (Release fh unlocks owner) = false
+is_alone (Setlkw ask) = false
+is_alone (Interrupt unique) = false
+is_alone _ = true
+
+-- the order's own reply
+abbrev pub own : Order → Result Answer Errno → Told
+own order result = record { unique = order.unique; result = result }
+
+-- the request that a SETLKW is while it waits
+abbrev pub request_of : Order → LockAsk → Request
+request_of order ask = record { unique = order.unique; node = order.node; ask = ask }
+
+-- what an order gives whose unique is none of a request that waits
+pub data IsAnswered (p : Snapshot) (order : Order) : Op → List Told → Type 0 where
+  alone : (op : Op) → is_alone op ≡ true
+      → IsAnswered p order op (own_replies order (reply_to p.view p.marking order op))
+
+  -- RELEASE: of an fh that isn't open on the node; or of one that is, and then each request that came through it is
+  -- told EBADF, the oldest first
+  not_open : (fh : ℕ) (unlocks : Bool) (owner : ℕ) → is_open_on p.view.directory fh order.node ≡ false
+      → IsAnswered p order (Release fh unlocks owner) (own order (Err EBADF) ∷ [])
+  closes : (fh : ℕ) (unlocks : Bool) (owner : ℕ) → is_open_on p.view.directory fh order.node ≡ true
+      → IsAnswered p order (Release fh unlocks owner)
+        (own order (Ok Done) ∷ ended_all EBADF (λ r. r.ask.fh == fh) p.view.parked)
+
+  -- INTERRUPT: of a request that waits, which alone is told; or of none
+  interrupts : (unique : ℕ) (r : Request) → IsWaiter unique p.view.parked r
+      → IsAnswered p order (Interrupt unique) (ended_with EINTR r ∷ [])
+  interrupts_none : (unique : ℕ) → IsNew unique p.view.parked
+      → IsAnswered p order (Interrupt unique) (own order (Err EAGAIN) ∷ [])
+
+  -- SETLKW: of a request that fails a test whatever locks are held; that conflicts with nothing; that conflicts, when
+  -- 256 requests wait already; that conflicts, and waits from now on
+  fails : (ask : LockAsk) (e : Errno) → ask_error p.view.directory order.node ask ≡ Some e
+      → IsAnswered p order (Setlkw ask) (own order (Err e) ∷ [])
+  is_free : (ask : LockAsk) → ask_error p.view.directory order.node ask ≡ None
+      → waits p.marking (request_of order ask) ≡ false
+      → IsAnswered p order (Setlkw ask) (own order (grant_reply p.marking (request_of order ask)) ∷ [])
+  is_one_too_many : (ask : LockAsk) → ask_error p.view.directory order.node ask ≡ None
+      → waits p.marking (request_of order ask) ≡ true → 256 ≤ length p.view.parked
+      → IsAnswered p order (Setlkw ask) (own order (Err ENOLCK) ∷ [])
+  waits_now : (ask : LockAsk) → ask_error p.view.directory order.node ask ≡ None
+      → waits p.marking (request_of order ask) ≡ true → length p.view.parked < 256
+      → IsAnswered p order (Setlkw ask) []
+
+-- what any order gives: where a request waits that has its unique, a FORGET gives nothing, and any other EINVAL
+pub data IsFirst (p : Snapshot) (order : Order) : List Told → Type 0 where
+  forget_of_a_waiter : (n : ℕ) (r : Request) → order.op ≡ Forget n → IsWaiter order.unique p.view.parked r
+      → IsFirst p order []
+  as_a_waiter : (r : Request) → ((n : ℕ) → order.op ≢ Forget n) → IsWaiter order.unique p.view.parked r
+      → IsFirst p order (own order (Err EINVAL) ∷ [])
+  as_no_waiter : (tolds : List Told) → IsNew order.unique p.view.parked → IsAnswered p order order.op tolds
+      → IsFirst p order tolds
