@@ -1,0 +1,107 @@
+#!/bin/sh
+# Times orders where 256 lock requests wait on one file, against the same orders where none waits, in processor time of
+# `lockd`: unlocks that free none of them, of bytes that nobody waits for and of the other class; one unlock that frees
+# all of them, so that it gives 257 replies; and a SETLK on another file, by text and by messages. Each time is the
+# difference of two runs that differ in these orders alone: 20,000 of them, or the one unlock that frees. The runs take
+# turns, and the least time of each counts. Prints microseconds an order and the ratios.
+#
+# What dominates: each order walks all requests that wait twice, once for its own unique and once for those that it may
+# have set free; that is nearly all that waiting elsewhere adds, and more than the rest of a short order. An unlock of
+# the same file and class also tests each for a conflict. The unlock that frees 256 spends its time setting their locks,
+# so it stands beside 256 SETLKs that set the same locks with nothing in the way.
+set -eu
+. "$(dirname "$0")/../tools/built_lockd.sh"
+python3 - "$program" "$work" <<'END'
+import os, struct, subprocess, sys
+
+PROGRAM, WORK = sys.argv[1:]
+WAITERS, ORDERS = 256, 20_000
+READ, WRITE, UNLOCK = 0, 1, 2
+
+# An order is a node and what is asked there. The first open file of a node has its number less one.
+def lock(node, owner, start, end, kind, word="setlk", flags=0):
+    return node, (word, node - 1, owner, start, end, kind, 11, flags)
+
+def line(unique, node, asked):
+    words = " ".join(str(word) for word in asked)
+    return f"ask 0 {unique} {node} 0 0 0 {words}"
+
+def message(unique, node, asked):
+    if asked[0] == "create":
+        opcode, body = 35, struct.pack("<IIII", 0, 0o644, 0, 0) + bytes.fromhex(asked[3]) + b"\0"
+    else:
+        opcode, body = {"setlk": 32, "setlkw": 33}[asked[0]], struct.pack("<QQQQIIII", *asked[1:], 0)
+    return (struct.pack("<IIQQIIII", 40 + len(body), opcode, unique, node, 0, 0, 0, 0) + body).hex()
+
+def stored(name, command, orders):
+    hello = (struct.pack("<IIQQIIII", 56, 26, 0, 0, 0, 0, 0, 0) + struct.pack("<IIII", 7, 31, 0, 0)).hex()
+    spell, lines = (line, []) if command == "script" else (message, [hello])
+    lines += [spell(i + 1, *order) for i, order in enumerate(orders)]
+    path = f"{WORK}/{name}"
+    with open(path, "w") as out:
+        out.write("\n".join(lines) + "\n")
+    return command, path
+
+def micros(command, path):
+    with open(path) as given, open(f"{WORK}/told", "w") as told:
+        running = subprocess.Popen([PROGRAM, command], stdin=given, stdout=told)
+        _, status, used = os.wait4(running.pid, 0)
+    running.returncode = status
+    assert status == 0
+    return (used.ru_utime + used.ru_stime) * 1e6
+
+# The least time of each run, in microseconds.
+def least(runs, times):
+    best = {name: float("inf") for name in runs}
+    for _ in range(times):
+        for name, run in runs.items():
+            best[name] = min(best[name], micros(*run))
+    return best
+
+def told_by(command, path):
+    with open(path) as given:
+        return subprocess.run([PROGRAM, command], stdin=given, capture_output=True, check=True, text=True).stdout
+
+FILES = [(1, ("create", 0, 420, "61")), (1, ("create", 0, 420, "62"))]
+HELD = FILES + [lock(2, 7, 0, 99, WRITE)]
+GIVEN_BACK = [lock(2, 7, 0, 99, UNLOCK)]
+
+# A lock request of each of 256 owners, all of one byte.
+def asks(word):
+    return [lock(2, 1000 + i, 0, 0, READ, word) for i in range(WAITERS)]
+
+def compare(what, none, many):
+    print(f"{what}: {none:.2f} us with none waiting, {many:.2f} us with {WAITERS}, ratio {many / none:.1f}")
+
+# Orders that free none, one after another; the time of one where none waits.
+def repeated(what, order, command="script"):
+    runs = {}
+    for begun, waiting in ("none", []), ("many", asks("setlkw")):
+        runs[begun] = stored(begun, command, HELD + waiting)
+        runs[begun + " on"] = stored(begun + "_on", command, HELD + waiting + [order] * ORDERS)
+        done = told_by(*runs[begun + " on"]).count(" ok\n" if command == "script" else "\n10000000" + "0" * 8)
+        assert done == 1 + ORDERS
+    best = least(runs, 15)
+    none, many = ((best[begun + " on"] - best[begun]) / ORDERS for begun in ("none", "many"))
+    compare(what, none, many)
+    return none
+
+def frees_all(what, none):
+    runs = {
+        "waiting": stored("waiting", "script", HELD + asks("setlkw")),
+        "freed": stored("freed", "script", HELD + asks("setlkw") + GIVEN_BACK),
+        "files": stored("files", "script", FILES),
+        "set": stored("set", "script", FILES + asks("setlk")),
+    }
+    assert told_by(*runs["freed"]).count(" ok\n") - told_by(*runs["waiting"]).count(" ok\n") == 1 + WAITERS
+    best = least(runs, 150)
+    unlock, each = best["freed"] - best["waiting"], best["set"] - best["files"]
+    compare(what, none, unlock)
+    print(f"{WAITERS} SETLKs of the same locks: {each:.0f} us, ratio of the unlock to these {unlock / each:.2f}")
+
+none = repeated("unlock that frees none, same class", lock(2, 7, 200, 299, UNLOCK))
+repeated("unlock that frees none, other class", lock(2, 7, 0, 0, UNLOCK, flags=1))
+frees_all("unlock that frees all", none)
+repeated("SETLK on another file, text", lock(3, 7, 0, 9, WRITE))
+repeated("SETLK on another file, messages", lock(3, 7, 0, 9, WRITE), "bytes")
+END
