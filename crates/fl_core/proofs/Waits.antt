@@ -44,6 +44,11 @@ pub nothing_touched : (m : Marking) (parked : List Request) → OthersWait Nothi
 nothing_touched m [] all = tt
 nothing_touched m (r ∷ parked) all = (all.0 refl, nothing_touched m parked all.1)
 
+-- all wait where no lock was touched that one of them waits for
+pub none_concerned : (t : Touched) (m : Marking) (parked : List Request) → AllByRecursion (λ (r : Request). concerns_request t r ≡ false) parked → OthersWait t m parked → AllWait m parked
+none_concerned t m [] none all = tt
+none_concerned t m (r ∷ parked) none all = (all.0 none.0, none_concerned t m parked none.1 all.1)
+
 pub off_class : (key : Key) (m n : Marking) → SameElsewhere key m n → (r : Request) → concerns_request (OfClass key.node key.class) r ≡ false → waits n r ≡ waits m r
 off_class key m n elsewhere r apart =
     let s = stroke_of r.node r.ask in

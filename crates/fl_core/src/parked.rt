@@ -1,6 +1,7 @@
 //! Lock requests that wait, in the order of asking.
 
-ghost use Rattle.std.specs.Prelude.{◌≡◌, ◌==◌, ◌↔◌, ◌≤◌, ◌<◌, ◌++◌, ◌∷◌, [], Bool, None, Some, IfOk, MatchOption, length};
+ghost use Rattle.std.specs.Prelude.{◌≡◌, ◌==◌, ◌↔◌, ◌≤◌, ◌<◌, ◌%◌, ◌++◌, ◌∷◌, [], Bool, false, None, Some, IfOk, MatchOption, length};
+ghost use Rattle.std.specs.List.{AllByRecursion};
 ghost use Rattle.fl_arena.specs.Cursors.{Tests};
 ghost use Rattle.fl_core.specs.Waiting.{is_parked, taken_first};
 ghost use Rattle.fl_core.specs.declared.parked.Request.{Request as Waiter};
@@ -12,6 +13,8 @@ use std::marker::Model;
 
 /// The most requests that wait at once.
 pub(crate) const MOST_PARKED: usize = 256;
+
+const BUCKETS: usize = 256;
 
 /// A lock request that waits: the unique of its order, and what it asks on which node.
 #[derive(Clone, Copy, Debug, PartialEq, Eq)]
@@ -25,18 +28,26 @@ pub struct Request {
 #[derive(Drop)]
 pub(crate) struct Parked {
     requests: Arena<Request>,
+
+    // No request that waits has a greater unique. Those of a kernel rise, so that a new one is past all.
+    greatest: u64,
+
+    // How many wait on the nodes whose number has this remainder modulo 256.
+    on_nodes: [u16; BUCKETS],
 }
 
 impl Model for Parked {
     ghost use Rattle.std.specs.Prelude.{◌≡◌, List, length};
     ghost use Rattle.fl_arena.specs.Chains.{items};
     ghost use Rattle.fl_core.specs.declared.parked.Request.{Request};
+    ghost use Rattle.fl_core.specs.Inside.Counts.{AreUpTo, AreCounted};
 
     ghost Value = { List Request };
 
     ghost view = { λ p. items p.requests 0 };
 
-    ghost invariant = { λ p. (length p.requests.chains ≡ 1) × (p.requests.slots ≡ 256) };
+    ghost invariant = { λ p. (length p.requests.chains ≡ 1) × (p.requests.slots ≡ 256)
+        × AreUpTo p.greatest (items p.requests 0) × AreCounted p.on_nodes (items p.requests 0) };
 }
 
 impl Parked {
@@ -46,6 +57,8 @@ impl Parked {
     {
         Ok(Parked {
             requests: Arena::new(alloc, 1, MOST_PARKED)?,
+            greatest: 0,
+            on_nodes: [0; BUCKETS],
         })
     }
 
@@ -65,8 +78,18 @@ impl Parked {
         if self.requests.free() == MOST_PARKED {
             return false;
         }
+        if unique > self.greatest {
+            return false;
+        }
         let cursor = self.requests.first_where(0, |waiter| waiter.unique == unique);
         self.requests.item(&cursor).is_some()
+    }
+
+    /// Whether a request on this node may wait; where none may, none does.
+    pub(crate) fn may_be_on(&self, node: u64) -> bool
+        ensures { result ≡ false → AllByRecursion (λ (r : Waiter). (r.node == node) ≡ false) self.now }
+    {
+        self.on_nodes[bucket(node)] != 0
     }
 
     /// A request more, after the others.
@@ -74,6 +97,8 @@ impl Parked {
         requires { length self.old < MOST_PARKED }
         ensures { self.new ≡ self.old ++ request ∷ [] }
     {
+        self.greatest = self.greatest.max(request.unique);
+        self.on_nodes[bucket(request.node)] += 1;
         let mut end = Cursor {
             chain: 0,
             index: 0,
@@ -95,6 +120,15 @@ impl Parked {
         if self.requests.item(&cursor).is_none() {
             return None;
         }
-        Some(self.requests.remove(&mut cursor))
+        let request = self.requests.remove(&mut cursor);
+        self.on_nodes[bucket(request.node)] -= 1;
+        Some(request)
     }
+}
+
+fn bucket(node: u64) -> usize
+    ensures is { result ≡ node % 256 }
+    ensures below { result < BUCKETS }
+{
+    (node % 256) as usize
 }

@@ -1,6 +1,7 @@
 //! Requests that wait, answered once locks have changed.
 
 ghost use Rattle.std.specs.Prelude.{◌≡◌, ◌≤◌, ◌+◌, ◌++◌, ◌&&◌, not, false, None, Some, MatchOption, length};
+ghost use Rattle.std.specs.List.{AllByRecursion};
 ghost use Rattle.fl_ranges.specs.Conflict.{IsLawful, SameElsewhere};
 ghost use Rattle.fl_core.specs.LockRequest.{key_of};
 ghost use Rattle.fl_core.specs.Inside.Parts.{AreFormed};
@@ -8,6 +9,7 @@ ghost use Rattle.fl_core.specs.Inside.Touched.{concerns_request, touched_by, Oth
 ghost use Rattle.fl_core.specs.Replies.{is_malformed};
 ghost use Rattle.fl_core.specs.Settling.{granted_told, marking_granted, oldest_free, present, settled};
 ghost use Rattle.fl_core.specs.Waiting.{waits, AreApart};
+ghost use Rattle.fl_core.specs.declared.parked.Request.{Request as Waiter};
 
 use crate::locking::{MOST_RUNS, is_excluded, key_of, mark_of, range_of, store};
 use crate::parked::{Parked, Request};
@@ -58,8 +60,21 @@ pub(crate) fn settle(locks: &mut Table, parked: &mut Parked, touched: Touched, t
     ensures lawful { IsLawful locks.old.marking → IsLawful locks.new.marking }
     ensures limit { locks.new.limit ≡ MOST_RUNS }
 {
+    if !may_concern(touched, parked) {
+        return;
+    }
     while let Some(request) = take_free(locks, parked, touched) {
         tolds.push(grant(locks, &request));
+    }
+}
+
+// Whether locks were touched that a request waits for; where this says no, it is so.
+fn may_concern(touched: Touched, parked: &Parked) -> bool
+    ensures { result ≡ false → AllByRecursion (λ (r : Waiter). concerns_request touched r ≡ false) parked.now }
+{
+    match touched {
+        Touched::Nothing => false,
+        Touched::OfClass(node, _) | Touched::OfNode(node) => parked.may_be_on(node),
     }
 }
 

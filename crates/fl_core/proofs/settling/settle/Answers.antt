@@ -1,12 +1,12 @@
-use Rattle.std.proofs.Common.{◌≡◌, ◌∙◌, true, false, ap, sym, length, not, arith}
+use Rattle.std.proofs.Common.{◌≡◌, ◌∙◌, ◌++◌, append-nil, true, false, ap, refl, sym, length, not, arith}
 use Rattle.fl_core.specs.Inside.Touched.{concerns_request}
 use Rattle.fl_core.specs.Replies.{is_malformed}
-use Rattle.fl_core.specs.Settling.{granted_told, present}
+use Rattle.fl_core.specs.Settling.{Settled, granted_told, present}
 use Rattle.fl_core.specs.Waiting.{waits}
 use Rattle.fl_core.specs.declared.parked.Request.{Request}
-use Rattle.fl_core.proofs.Settlings.{is_oldest, one_shorter, settling_goes_on, settling_ends}
+use Rattle.fl_core.proofs.Settlings.{is_oldest, one_shorter, settled_none, settling_goes_on, settling_ends}
 use Rattle.fl_core.proofs.Taken.{all_left, apart_left, one_longer}
-use Rattle.fl_core.proofs.Waits.{others_granted}
+use Rattle.fl_core.proofs.Waits.{none_concerned, others_granted}
 use Rattle.fl_core.proofs.settling.settle.Goals as goal
 
 pub grant-requires-clause-formed : goal.grant-requires-clause-formed
@@ -44,3 +44,17 @@ returns-clause-tolds c = (settling_ends _ _ _ c.loop-request.locks.marking c.loo
 pub returns-clause-present : goal.returns-clause-present
 returns-clause-present c =
     ap (λ ps. present c.loop-request.locks.marking ps) c.in_default.ensures.1 ∙ (settling_ends _ _ _ c.loop-request.locks.marking c.loop-request.parked c.loop-request.invariant.so_far c.in_default.ensures.0).1
+
+pub returns-then-not-may_concern-clause-tolds : goal.returns-then-not-may_concern-clause-tolds
+returns-then-not-may_concern-clause-tolds c =
+    let m = c.args.locks.now.marking in
+    let parked = c.args.parked.now in
+    let all = none_concerned c.args.touched m parked (c.if-not-may_concern.ensures refl) c.requires.others in
+    sym (append-nil c.args.tolds.now) ∙ ap (λ (s : Settled). c.args.tolds.now ++ s.tolds) (sym (settled_none m parked all))
+
+pub returns-then-not-may_concern-clause-present : goal.returns-then-not-may_concern-clause-present
+returns-then-not-may_concern-clause-present c =
+    let m = c.args.locks.now.marking in
+    let parked = c.args.parked.now in
+    let all = none_concerned c.args.touched m parked (c.if-not-may_concern.ensures refl) c.requires.others in
+    ap (λ (s : Settled). s.present) (sym (settled_none m parked all))

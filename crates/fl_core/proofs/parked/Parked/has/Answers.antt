@@ -1,9 +1,10 @@
-use Rattle.std.proofs.Common.{rules, ◌≡◌, ℕ, ◌==◌, ◌∙◌, false, List, [], ◌∷◌, is_some, length, refl, ap, arith}
+use Rattle.std.proofs.Common.{rules, ◌≡◌, ℕ, ◌==◌, ◌∙◌, false, List, [], ◌∷◌, is_some, length, refl, sym, ap, arith}
 use Rattle.std.specs.List.{list_any}
 use Rattle.fl_arena.specs.Chains.{items}
 use Rattle.fl_core.specs.Waiting.{is_parked}
 use Rattle.fl_core.specs.declared.parked.Request.{Request}
 use Rattle.fl_core.proofs.Chain.{all_counted, some_copied, any_found}
+use Rattle.fl_core.proofs.Counts.{none_past}
 use Rattle.fl_core.proofs.parked.Parked.has.Goals as goal
 
 pub returns-clause-found : goal.returns-clause-found
@@ -24,3 +25,9 @@ returns-then-free-eq-MOST_PARKED-clause-found c = nothing c.args.self.now c.args
 
 pub returns-then-free-eq-MOST_PARKED-clause-few : goal.returns-then-free-eq-MOST_PARKED-clause-few
 returns-then-free-eq-MOST_PARKED-clause-few c = omega (arith, all_counted c.self.inside.requests c.self.invariant.0, c.free.ensures.total, c.self.invariant.1, ap length c.self.view_is)
+
+pub returns-then-unique-self-clause-found : goal.returns-then-unique-self-clause-found
+returns-then-unique-self-clause-found c = sym (ap (is_parked c.args.unique) (sym c.self.view_is) ∙ none_past c.args.unique c.self.inside.greatest (items c.self.inside.requests 0) c.self.invariant.2 c.if-unique-self.true)
+
+pub returns-then-unique-self-clause-few : goal.returns-then-unique-self-clause-few
+returns-then-unique-self-clause-few c = omega (arith, all_counted c.self.inside.requests c.self.invariant.0, c.free.ensures.total, c.self.invariant.1, ap length c.self.view_is)
