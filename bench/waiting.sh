@@ -5,10 +5,10 @@
 # difference of two runs that differ in these orders alone: 20,000 of them, or the one unlock that frees. The runs take
 # turns, and the least time of each counts. Prints microseconds an order and the ratios.
 #
-# What dominates: each order walks all requests that wait twice, once for its own unique and once for those that it may
-# have set free; that is nearly all that waiting elsewhere adds, and more than the rest of a short order. An unlock of
-# the same file and class also tests each for a conflict. The unlock that frees 256 spends its time setting their locks,
-# so it stands beside 256 SETLKs that set the same locks with nothing in the way.
+# What dominates: an unlock on the same file walks along all requests that wait, and tests those of its class for a
+# conflict. An order on another file walks along none, since its unique is greater than theirs and no request waits on
+# its node. The unlock that frees 256 spends its time setting their locks, so it stands beside 256 SETLKs that set the
+# same locks with nothing in the way.
 set -eu
 . "$(dirname "$0")/../tools/built_lockd.sh"
 python3 - "$program" "$work" <<'END'
