@@ -1,4 +1,4 @@
-use super::messages::{FLUSH, FORGET, GETATTR, LOOKUP, OPEN, RELEASE, UNLINK};
+use super::messages::{FLUSH, FORGET, GETATTR, INTERRUPT, LOOKUP, OPEN, RELEASE, SETLKW, UNLINK};
 use super::{CREATE, GETLK, SETLK, whole};
 use crate::{Errno, Kind, Refusal, read_order};
 use std::test::Fail;
@@ -41,6 +41,8 @@ fn faults_of_kinds(rt: HostRuntime) {
         (Kind::Lookup, Refusal::Answer(Errno::EINVAL)),
         (Kind::Forget, Refusal::Silent),
         (Kind::BatchForget, Refusal::Silent),
+        (Kind::Setlkw, Refusal::Answer(Errno::EINVAL)),
+        (Kind::Interrupt, Refusal::Answer(Errno::EINVAL)),
     ];
     for (kind, refusal) in refusals {
         assert_eq!(rt; kind.refusal(Errno::EINVAL), refusal);
@@ -60,6 +62,8 @@ fn kinds_of_orders(rt: HostRuntime) -> Result<(), Fail> {
         (CREATE.as_slice(), Kind::Create, false),
         (GETLK.as_slice(), Kind::Getlk, true),
         (SETLK.as_slice(), Kind::Setlk, false),
+        (SETLKW.as_slice(), Kind::Setlkw, false),
+        (INTERRUPT.as_slice(), Kind::Interrupt, false),
     ];
     for (bytes, kind, only_reads) in orders {
         let order = read_order(&whole(&rt, bytes)).ok().ok_or("an order")?;

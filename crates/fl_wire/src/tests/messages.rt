@@ -1,5 +1,5 @@
 use super::{message, whole};
-use crate::{Errno, Name, Op, Order, Refusal, read_order};
+use crate::{Errno, LockAsk, Name, Op, Order, Refusal, read_order};
 use std::test::Fail;
 
 // The messages below are laid out by hand from `fuse.h` (protocol 7.31): len, opcode, unique, nodeid, then
@@ -72,6 +72,29 @@ pub(super) const FLUSH: [u8; 64] = [
     7, 0, 0, 0, 0, 0, 0, 0,
 ];
 
+// SETLKW (`struct fuse_lk_in`): fh 261, owner 7, start 4, end 9, type 1, process 11, lk_flags 1, padding. The
+// header's padding isn't read either.
+pub(super) const SETLKW: [u8; 88] = [
+    0x58, 0, 0, 0, 33, 0, 0, 0, //
+    5, 0, 0, 0, 0, 0, 0, 0, //
+    2, 0, 0, 0, 0, 0, 0, 0, //
+    0xe8, 3, 0, 0, 100, 0, 0, 0, 21, 0, 0, 0, 3, 0, 0, 0, //
+    5, 1, 0, 0, 0, 0, 0, 0, //
+    7, 0, 0, 0, 0, 0, 0, 0, //
+    4, 0, 0, 0, 0, 0, 0, 0, //
+    9, 0, 0, 0, 0, 0, 0, 0, //
+    1, 0, 0, 0, 11, 0, 0, 0, 1, 0, 0, 0, 2, 0, 0, 0,
+];
+
+// INTERRUPT (`struct fuse_interrupt_in`) of the unique 0x0807060504030201.
+pub(super) const INTERRUPT: [u8; 48] = [
+    0x30, 0, 0, 0, 36, 0, 0, 0, //
+    5, 0, 0, 0, 0, 0, 0, 0, //
+    2, 0, 0, 0, 0, 0, 0, 0, //
+    0xe8, 3, 0, 0, 100, 0, 0, 0, 21, 0, 0, 0, 3, 0, 0, 0, //
+    1, 2, 3, 4, 5, 6, 7, 8,
+];
+
 // GETLK, SETLK and CREATE stand beside their replies.
 #[test]
 fn messages_and_their_orders(rt: HostRuntime) -> Result<(), Fail> {
@@ -82,6 +105,16 @@ fn messages_and_their_orders(rt: HostRuntime) -> Result<(), Fail> {
         owner: 7,
     };
     let flush = Op::Flush { fh: 261, owner: 7 };
+    let setlkw = Op::Setlkw(LockAsk {
+        fh: 261,
+        owner: 7,
+        start: 4,
+        end: 9,
+        kind: 1,
+        pid: 11,
+        flags: 1,
+    });
+    let interrupt = Op::Interrupt(0x0807_0605_0403_0201);
     let orders = [
         (LOOKUP.as_slice(), 1, Op::Lookup(name)),
         (FORGET.as_slice(), 2, Op::Forget(3)),
@@ -90,6 +123,8 @@ fn messages_and_their_orders(rt: HostRuntime) -> Result<(), Fail> {
         (OPEN.as_slice(), 2, Op::Open),
         (RELEASE.as_slice(), 2, release),
         (FLUSH.as_slice(), 2, flush),
+        (SETLKW.as_slice(), 2, setlkw),
+        (INTERRUPT.as_slice(), 2, interrupt),
     ];
     for (bytes, node, op) in orders {
         let order = Order {
@@ -146,6 +181,8 @@ fn bodies_of_another_length(rt: HostRuntime) -> Result<(), Fail> {
         (25, 24, Refusal::Answer(Errno::EINVAL)),
         (31, 48, Refusal::Answer(Errno::EINVAL)),
         (32, 48, Refusal::Answer(Errno::EINVAL)),
+        (33, 48, Refusal::Answer(Errno::EINVAL)),
+        (36, 8, Refusal::Answer(Errno::EINVAL)),
     ];
     for (opcode, len, refusal) in lengths {
         let order = message(alloc, opcode, &zeros[..len])?;

@@ -53,6 +53,8 @@ fn orders_and_their_parts(rt: HostRuntime) -> Result<(), Fail> {
         (create, Kind::Create, creation(name)),
         (Op::Getlk(ASK), Kind::Getlk, Body::Lock(ASK)),
         (Op::Setlk(ASK), Kind::Setlk, Body::Lock(ASK)),
+        (Op::Setlkw(ASK), Kind::Setlkw, Body::Lock(ASK)),
+        (Op::Interrupt(3), Kind::Interrupt, Body::Number(3)),
     ];
     for (op, kind, body) in orders {
         let (own_kind, own_body) = op.parts();
@@ -79,6 +81,8 @@ fn parts_of_no_order(rt: HostRuntime) -> Result<(), Fail> {
         (Kind::Open, Body::Getattr),
         (Kind::Getattr, Body::Open),
         (Kind::Destroy, Body::Open),
+        (Kind::Setlkw, Body::Number(3)),
+        (Kind::Interrupt, Body::Lock(ASK)),
     ];
     for (kind, body) in parts {
         assert_eq!(rt; Op::of(kind, body), None);
@@ -98,6 +102,8 @@ fn shapes_of_kinds(rt: HostRuntime) {
         (Kind::Flush, Ok(Shape::Flush)),
         (Kind::Getlk, Ok(Shape::Lock)),
         (Kind::Setlk, Ok(Shape::Lock)),
+        (Kind::Setlkw, Ok(Shape::Lock)),
+        (Kind::Interrupt, Ok(Shape::Number)),
         (Kind::Create, Ok(Shape::Create)),
         (Kind::BatchForget, Err(Refusal::Silent)),
         (Kind::Init, Err(Refusal::Answer(Errno::EPROTO))),
