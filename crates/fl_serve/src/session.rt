@@ -151,3 +151,5 @@ fn first(fault: Option<Fault>, broken: bool) -> Option<Fault>
 mod silent_tests;
 #[cfg(test)]
 mod tests;
+#[cfg(test)]
+mod waiting_tests;

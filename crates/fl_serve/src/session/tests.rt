@@ -83,12 +83,12 @@ tell 4 err 11
 ";
 
 // DESTROY, and its reply.
-const DESTROY: [u8; 40] = [
+pub(super) const DESTROY: [u8; 40] = [
     0x28, 0, 0, 0, 38, 0, 0, 0, 5, 0, 0, 0, 0, 0, 0, 0, //
     0, 0, 0, 0, 0, 0, 0, 0, 0, 0, 0, 0, 0, 0, 0, 0, 0, 0, 0, 0, 0, 0, 0, 0,
 ];
 
-const DESTROYED: [u8; 16] = [0x10, 0, 0, 0, 0, 0, 0, 0, 5, 0, 0, 0, 0, 0, 0, 0];
+pub(super) const DESTROYED: [u8; 16] = [0x10, 0, 0, 0, 0, 0, 0, 0, 5, 0, 0, 0, 0, 0, 0, 0];
 
 // The four messages, one after another.
 fn stream(alloc: Global) -> Result<Vec<u8>, AllocError> {
