@@ -137,6 +137,20 @@ fn orders_there_and_back(rt: HostRuntime) -> Result<(), Fail> {
             "ask 0 1 2 3 4 5 setlk 18446744073709551615 18446744073709551615 18446744073709551615 \
              18446744073709551615 4294967295 4294967295 4294967295\n",
         ),
+        (
+            asked(0, Op::Setlkw(ASK)),
+            "ask 0 1 2 3 4 5 setlkw 1 7 0 9 1 11 0\n",
+        ),
+        (
+            asked(0, Op::Setlkw(GREATEST)),
+            "ask 0 1 2 3 4 5 setlkw 18446744073709551615 18446744073709551615 18446744073709551615 \
+             18446744073709551615 4294967295 4294967295 4294967295\n",
+        ),
+        (asked(0, Op::Interrupt(0)), "ask 0 1 2 3 4 5 interrupt 0\n"),
+        (
+            asked(0, Op::Interrupt(u64::MAX)),
+            "ask 0 1 2 3 4 5 interrupt 18446744073709551615\n",
+        ),
     ];
     for (line, text) in lines {
         there_and_back(&rt, line, text)?;
