@@ -1,8 +1,9 @@
 #!/bin/sh
-# Runs `lockd script` and `lockd bytes` on a stored example each, once for each of its allocations, and refuses that
-# one. Each run must end with status 2, `no memory` on standard error and nothing on standard output, or else print
-# all that it prints otherwise. A session may answer an order ENOMEM in place of that, and then goes on. Wants a C
-# compiler and the GNU C library.
+# Runs `lockd script` and `lockd bytes` on stored examples, once for each of their allocations, and refuses that one.
+# Each run must end with status 2, `no memory` on standard error and nothing on standard output, or else print all that
+# it prints otherwise. A session may refuse an order in place of that. It then answers ENOMEM, or EAGAIN where the order
+# is an INTERRUPT, or nothing where it is a FORGET, and goes on as if the order had never come. Wants a C compiler and
+# the GNU C library.
 set -eu
 . "$(dirname "$0")/../tools/built_lockd.sh"
 cat > "$work/refuse.c" <<'C'
@@ -46,36 +47,109 @@ void *realloc(void *old, size_t size)
 C
 cc -shared -fPIC -O1 -fno-builtin -o "$work/refuse.so" "$work/refuse.c"
 
-# Refuses each allocation of one command on one input.
+# What the program prints in a session, of which each line on standard input is a message.
+session() {
+    "$program" bytes
+}
+
+# The reply to a message that is an order, where it is refused: its length, EAGAIN or ENOMEM, and its unique.
+refusal() {
+    unique=$(printf %s "$1" | cut -c 17-32)
+    case $(printf %s "$1" | cut -c 9-16) in
+        02000000) ;;
+        24000000) echo "10000000f5ffffff$unique" ;;
+        *) echo "10000000f4ffffff$unique" ;;
+    esac
+}
+
+# What is printed where the order in one line of a session is refused: what the lines before it give, its refusal, and
+# what else they and the lines behind it give.
+with_refusal() {
+    input=$1
+    line=$2
+    head -n $((line - 1)) "$input" | session > "$work/before"
+    sed "${line}d" "$input" | session > "$work/without"
+    cat "$work/before"
+    refusal "$(sed -n "${line}p" "$input")"
+    tail -n +$(($(wc -l < "$work/before") + 1)) "$work/without"
+}
+
+# Refuses each allocation of one command on one input. The orders in the lines that are named behind are those that may
+# be refused, and each of them has to be once.
 refuse_each() {
     command=$1
     input=$2
+    what=$3
+    shift 3
     ASKED="$work/asked" LD_PRELOAD="$work/refuse.so" "$program" "$command" < "$input" > "$work/wanted"
     count=$(cat "$work/asked")
-    lines=$(wc -l < "$work/wanted")
+    for line in "$@"; do
+        with_refusal "$input" "$line" > "$work/refused.$line"
+    done
     failed=0
     no_memory=0
-    refused=0
+    refused=
     number=1
     while [ "$number" -le "$count" ]; do
         status=0
-        REFUSE=$number LD_PRELOAD="$work/refuse.so" "$program" "$command" < "$input" > "$work/out" 2> "$work/err" || status=$?
+        REFUSE=$number LD_PRELOAD="$work/refuse.so" "$program" "$command" < "$input" > "$work/out" 2> "$work/err" ||
+            status=$?
         if [ "$status" -eq 2 ] && [ "$(cat "$work/err")" = "no memory" ] && [ ! -s "$work/out" ]; then
             no_memory=$((no_memory + 1))
-        elif [ "$command" = bytes ] && [ "$status" -eq 0 ] && grep -q '^10000000f4ffffff' "$work/out" &&
-            [ "$(wc -l < "$work/out")" -eq "$lines" ]; then
-            refused=$((refused + 1))
-        elif [ "$status" -ne 0 ] || ! cmp -s "$work/out" "$work/wanted"; then
-            echo "$command, allocation $number refused: status $status, $(cat "$work/err")"
+        elif [ "$status" -ne 0 ] || [ -s "$work/err" ]; then
+            echo "$what, allocation $number refused: status $status, $(cat "$work/err")"
             failed=$((failed + 1))
+        elif ! cmp -s "$work/out" "$work/wanted"; then
+            found=
+            for line in "$@"; do
+                if cmp -s "$work/out" "$work/refused.$line"; then
+                    found=$line
+                fi
+            done
+            if [ -z "$found" ]; then
+                echo "$what, allocation $number refused: other replies"
+                failed=$((failed + 1))
+            fi
+            refused="$refused $found"
         fi
         number=$((number + 1))
     done
-    echo "$command: $count allocations refused in turn: $no_memory ended with no memory," \
-        "$refused answered an order ENOMEM, $failed wrongly"
+    echo "$what: $count allocations refused in turn: $no_memory ended with no memory," \
+        "$(echo $refused | wc -w) refused an order, $failed wrongly"
     [ "$failed" -eq 0 ]
+    [ "$(echo $refused)" = "$*" ]
 }
 
-refuse_each script crates/lockd/stdin
+# FORGET of a node that isn't there.
+forget_nothing=3000000002000000ff000000000000006300000000000000000000000000000000000000000000000100000000000000
+
+# The number of lines of a history at which it grows for the third time. It has room for 258 lines after its first order
+# and for 516 after its second, and each order wants room for 258.
+full=259
+
+# The same session with the history full when the order in one line of it comes: as many FORGETs that do nothing stand
+# in front of it. The first line is an INIT, which is no line of the history.
+filled() {
+    input=$1
+    line=$2
+    taken=$((line - 3 + $(head -n $((line - 1)) "$input" | session | wc -l)))
+    head -n $((line - 1)) "$input"
+    while [ "$taken" -lt "$full" ]; do
+        echo "$forget_nothing"
+        taken=$((taken + 1))
+    done
+    tail -n +"$line" "$input"
+}
+
+refuse_each script crates/lockd/stdin "script"
 cmp "$work/wanted" crates/lockd/stdout
-refuse_each bytes examples/two_locks.hex
+refuse_each bytes examples/two_locks.hex "bytes, two locks" 2 3
+waiting=examples/waiting.hex
+refuse_each bytes "$waiting" "bytes, waiting" 2 3
+line=4
+while [ "$line" -le "$(wc -l < "$waiting")" ]; do
+    filled "$waiting" "$line" > "$work/filled"
+    moved=$((line + $(wc -l < "$work/filled") - $(wc -l < "$waiting")))
+    refuse_each bytes "$work/filled" "bytes, waiting, no room at line $line" 2 3 "$moved"
+    line=$((line + 1))
+done

@@ -102,3 +102,5 @@ fn print_session(alloc: Global, stream: &[u8]) -> Result<Printed, Fault>
 mod getlk_tests;
 #[cfg(test)]
 mod tests;
+#[cfg(test)]
+mod waiting_tests;

@@ -106,13 +106,34 @@ tell 4 err 9
 #[test]
 fn requests_that_wait(rt: HostRuntime) -> Result<(), Fail> {
     let traces = [
-        ("the oldest waiter is served first", WAITERS_ARE_SERVED_OLDEST_FIRST),
-        ("a grant that turns a write lock into a read lock frees another waiter", A_GRANT_FREES_ANOTHER_WAITER),
-        ("a whole-file lock stays until its conversion is granted", A_WHOLE_FILE_LOCK_IS_CONVERTED),
-        ("an interrupt ends a wait, and is told where there is none", AN_INTERRUPT_ENDS_A_WAIT),
-        ("an order with a waiter's unique is refused", A_WAITERS_UNIQUE_IS_TAKEN),
-        ("a file with a waiter on another is unlinked and forgotten", A_FILE_WITH_A_WAITER_IS_UNLINKED),
-        ("a release ends the waits of its fh", RELEASE_ENDS_THE_WAITS_OF_ITS_FH),
+        (
+            "the oldest waiter is served first",
+            WAITERS_ARE_SERVED_OLDEST_FIRST,
+        ),
+        (
+            "a grant that turns a write lock into a read lock frees another waiter",
+            A_GRANT_FREES_ANOTHER_WAITER,
+        ),
+        (
+            "a whole-file lock stays until its conversion is granted",
+            A_WHOLE_FILE_LOCK_IS_CONVERTED,
+        ),
+        (
+            "an interrupt ends a wait, and is told where there is none",
+            AN_INTERRUPT_ENDS_A_WAIT,
+        ),
+        (
+            "an order with a waiter's unique is refused",
+            A_WAITERS_UNIQUE_IS_TAKEN,
+        ),
+        (
+            "a file with a waiter on another is unlinked and forgotten",
+            A_FILE_WITH_A_WAITER_IS_UNLINKED,
+        ),
+        (
+            "a release ends the waits of its fh",
+            RELEASE_ENDS_THE_WAITS_OF_ITS_FH,
+        ),
     ];
     for (what, rest) in traces {
         let trace = format!(in rt.alloc(); "{MADE}{rest}")?;
