@@ -146,10 +146,10 @@ cmp "$work/wanted" crates/lockd/stdout
 refuse_each bytes examples/two_locks.hex "bytes, two locks" 2 3
 waiting=examples/waiting.hex
 refuse_each bytes "$waiting" "bytes, waiting" 2 3
-line=4
-while [ "$line" -le "$(wc -l < "$waiting")" ]; do
-    filled "$waiting" "$line" > "$work/filled"
-    moved=$((line + $(wc -l < "$work/filled") - $(wc -l < "$waiting")))
-    refuse_each bytes "$work/filled" "bytes, waiting, no room at line $line" 2 3 "$moved"
-    line=$((line + 1))
+order=4
+while [ "$order" -le "$(wc -l < "$waiting")" ]; do
+    filled "$waiting" "$order" > "$work/filled"
+    moved=$((order + $(wc -l < "$work/filled") - $(wc -l < "$waiting")))
+    refuse_each bytes "$work/filled" "bytes, waiting, no room at line $order" 2 3 "$moved"
+    order=$((order + 1))
 done
