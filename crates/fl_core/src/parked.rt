@@ -27,7 +27,7 @@ pub struct Request {
 /// Requests that wait, the oldest first. Contracts see their list.
 #[derive(Drop)]
 pub(crate) struct Parked {
-    requests: Arena<Request>,
+    pub(crate) requests: Arena<Request>,
 
     // No request that waits has a greater unique. Those of a kernel rise, so that a new one is past all.
     greatest: u64,

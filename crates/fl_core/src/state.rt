@@ -18,7 +18,7 @@ use std::marker::Model;
 /// conflicts with a lock that is held.
 #[derive(Drop)]
 pub struct Core {
-    parts: Parts,
+    pub(crate) parts: Parts,
 }
 
 impl Model for Core {

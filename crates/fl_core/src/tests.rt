@@ -5,11 +5,17 @@ mod errors;
 mod limits;
 mod lives;
 mod locks;
+mod numbers;
+mod parking;
 mod plain;
+mod plain_locks;
 mod random;
+mod room;
+mod waiting;
+mod waiting_random;
 
 use super::*;
-use fl_wire::{Answer, Attr, Errno, LockAsk, Name, Op, Order};
+use fl_wire::{Answer, Attr, Errno, LockAsk, Name, Op, Order, Told};
 use std::alloc::Global;
 use std::process::Abort;
 
@@ -24,6 +30,9 @@ type Reply = Option<Result<Answer, Errno>>;
 
 // An order on a node, and its reply.
 type Case = (u64, Op, Reply);
+
+// The unique of an order, its node, the order, and all replies that it gives.
+type Row<'a> = (u64, u64, Op, &'a [Told]);
 
 const DONE: Reply = Some(Ok(Answer::Done));
 
@@ -82,6 +91,42 @@ impl Server {
             assert_eq!(rt; told, *reply, "order {index}");
         }
     }
+
+    // Each order gives the replies of its row, in their order.
+    fn see(&mut self, rt: &impl Abort, rows: &[Row]) {
+        for (unique, node, op, tolds) in rows {
+            let order = Order {
+                unique: *unique,
+                ..order(*node, *op)
+            };
+            self.core.step(&order, &mut self.tolds);
+            assert_eq!(rt; self.tolds.as_slice(), *tolds, "order {unique}");
+        }
+    }
+}
+
+// The order or request of this unique is told that it is done.
+fn ok(unique: u64) -> Told {
+    Told {
+        unique,
+        result: Ok(Answer::Done),
+    }
+}
+
+// The same for an error.
+fn err(unique: u64, errno: Errno) -> Told {
+    Told {
+        unique,
+        result: Err(errno),
+    }
+}
+
+// The same for a reply of `Case`.
+fn with(unique: u64, reply: Reply) -> Told {
+    Told {
+        unique,
+        result: reply.unwrap_or(Err(Errno::EPROTO)),
+    }
 }
 
 // An order of user 5 and group 6.
@@ -127,6 +172,19 @@ fn lock(fh: u64, owner: u32, start: u64, end: u64, kind: u32) -> Op {
 
 fn flock(fh: u64, owner: u32, kind: u32) -> Op {
     Op::Setlk(LockAsk {
+        flags: 1,
+        ..ask(fh, owner, 0, 0, kind)
+    })
+}
+
+// A record lock request that can wait.
+fn wait(fh: u64, owner: u32, start: u64, end: u64, kind: u32) -> Op {
+    Op::Setlkw(ask(fh, owner, start, end, kind))
+}
+
+// A whole-file lock request that can wait.
+fn flock_wait(fh: u64, owner: u32, kind: u32) -> Op {
+    Op::Setlkw(LockAsk {
         flags: 1,
         ..ask(fh, owner, 0, 0, kind)
     })

@@ -119,10 +119,13 @@ fn malformed_lock_requests_are_refused_after_the_fh(rt: HostRuntime) {
             &rt,
             &[
                 (2, Op::Setlk(asked), EINVAL),
+                (2, Op::Setlkw(asked), EINVAL),
                 (2, Op::Getlk(asked), EINVAL),
                 (2, Op::Setlk(closed), EBADF),
+                (2, Op::Setlkw(closed), EBADF),
                 (2, Op::Getlk(closed), EBADF),
                 (1, Op::Setlk(asked), EBADF),
+                (1, Op::Setlkw(asked), EBADF),
                 (1, Op::Getlk(asked), EBADF),
             ],
         );
@@ -136,6 +139,7 @@ fn malformed_lock_requests_are_refused_after_the_fh(rt: HostRuntime) {
                 (2, Op::Getlk(closed), EBADF),
                 (3, Op::Getlk(asked), EBADF),
                 (2, Op::Setlk(asked), DONE),
+                (2, Op::Setlkw(asked), DONE),
             ],
         );
     }

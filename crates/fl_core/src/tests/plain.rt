@@ -42,7 +42,7 @@ impl Plain {
         number(self.opened.len(), 1)
     }
 
-    // The reply of an order, with its change made. It knows of no locks.
+    // The reply of an order, with its change made. It knows of no locks, and answers no order about them.
     pub(super) fn reply(&mut self, rt: &impl Abort, order: &Order) -> Reply {
         let node = order.node;
         Some(match &order.op {
@@ -57,7 +57,7 @@ impl Plain {
                 self.forget(node, *n);
                 return None;
             }
-            Op::Getlk(_) | Op::Setlk(_) => return None,
+            Op::Getlk(_) | Op::Setlk(_) | Op::Setlkw(_) | Op::Interrupt(_) => return None,
         })
     }
 
@@ -161,6 +161,28 @@ impl Plain {
     // The node on which an fh is open.
     pub(super) fn node_of(&self, fh: u64) -> Option<u64> {
         *self.opened.get(index(fh, 1))?
+    }
+
+    // How many fhs are open on a node.
+    pub(super) fn open_on(&self, node: u64) -> usize {
+        self.opened
+            .iter()
+            .filter(|opened| **opened == Some(node))
+            .count()
+    }
+
+    // Of the fhs that are open the one of this place, and its node.
+    pub(super) fn open_at(&self, place: u64) -> Option<(u64, u64)> {
+        let mut place = place;
+        for (index, opened) in self.opened.iter().enumerate() {
+            if let Some(node) = opened {
+                if place == 0 {
+                    return Some((number(index, 1), *node));
+                }
+                place -= 1;
+            }
+        }
+        None
     }
 
     fn test_file(&self, node: u64, fh: u64) -> Result<Answer, Errno> {

@@ -1,0 +1,353 @@
+//! A plain program of locks and of waiting: marks in a grid of bytes, and requests that wait in a list. It has no limits.
+
+use super::plain::Plain;
+use super::*;
+
+// Bytes are told apart below this one, which stands for all from itself to the last.
+const REST: u64 = 10;
+
+pub(super) const LAST: u64 = 9_223_372_036_854_775_807;
+
+// Owners are below this.
+pub(super) const OWNERS: u64 = 4;
+
+// Two classes, two files, the owners, and the bytes.
+const PLACES: usize = 2 * 2 * 4 * 11;
+
+#[derive(Clone, Copy, PartialEq, Eq)]
+struct Mark {
+    kind: u32,
+    pid: u32,
+}
+
+// How often things happened.
+#[derive(Clone, Copy)]
+pub(super) struct Counts {
+    pub(super) parked: u64,
+    pub(super) granted: u64,
+    // Those that are older than the one that was granted just before, and so were freed by it.
+    pub(super) freed_by_grants: u64,
+    pub(super) closed: u64,
+    pub(super) interrupted: u64,
+    pub(super) refused: u64,
+}
+
+#[derive(Drop)]
+pub(super) struct PlainLocks {
+    pub(super) directory: Plain,
+    marks: [Option<Mark>; PLACES],
+    pub(super) parked: Vec<Request>,
+    pub(super) tolds: Vec<Told>,
+    pub(super) counts: Counts,
+}
+
+// Where the mark of an owner on a byte stands, of the request's class and node.
+fn place_of(request: &Request, owner: u64, byte: u64) -> usize {
+    let class = u64::from(request.ask.flags % 2);
+    let file = class * 2 + request.node % 2;
+    ((file * 4 + owner % 4) * 11 + byte % 11) as usize
+}
+
+// The first and the last byte of a request.
+fn bytes_of(ask: &LockAsk) -> (u64, u64) {
+    if ask.flags == 1 {
+        return (0, REST);
+    }
+    (ask.start.min(REST), ask.end.min(REST))
+}
+
+// Whether another owner's mark keeps a lock of this kind from being set.
+fn excludes(mark: Option<Mark>, kind: u32) -> bool {
+    match mark {
+        Some(mark) if mark.kind == WRITE => kind == READ || kind == WRITE,
+        Some(_) => kind == WRITE,
+        None => false,
+    }
+}
+
+// A request that takes away all of the owner's locks of a class on a node.
+fn unlock_all(node: u64, owner: u64, flags: u32) -> Request {
+    Request {
+        unique: 0,
+        node,
+        ask: LockAsk {
+            fh: 0,
+            owner,
+            start: 0,
+            end: LAST,
+            kind: UNLOCK,
+            pid: 0,
+            flags,
+        },
+    }
+}
+
+impl PlainLocks {
+    pub(super) fn new(alloc: Global) -> PlainLocks {
+        PlainLocks {
+            directory: Plain::new(alloc),
+            marks: [None; PLACES],
+            parked: Vec::new(alloc),
+            tolds: Vec::new(alloc),
+            counts: Counts {
+                parked: 0,
+                granted: 0,
+                freed_by_grants: 0,
+                closed: 0,
+                interrupted: 0,
+                refused: 0,
+            },
+        }
+    }
+
+    // Carries out an order. Its replies are the ones in `tolds` afterwards.
+    pub(super) fn take(&mut self, rt: &impl Abort, order: &Order) {
+        self.tolds.clear();
+        if self.is_parked(order.unique) {
+            self.refuse(rt, order);
+            return;
+        }
+        match order.op {
+            Op::Getlk(ask) => self.test(rt, &request_of(order, &ask)),
+            Op::Setlk(ask) => self.lock(rt, &request_of(order, &ask), false),
+            Op::Setlkw(ask) => self.lock(rt, &request_of(order, &ask), true),
+            Op::Interrupt(unique) => self.interrupt(rt, order, unique),
+            _ => self.take_other(rt, order),
+        }
+        self.settle(rt);
+    }
+
+    fn tell(&mut self, rt: &impl Abort, unique: u64, reply: Result<Answer, Errno>) {
+        let told = Told {
+            unique,
+            result: reply,
+        };
+        assert!(rt; self.tolds.push(told).is_ok());
+    }
+
+    fn is_parked(&self, unique: u64) -> bool {
+        self.parked.iter().any(|request| request.unique == unique)
+    }
+
+    // An order that bears the unique of a request that waits.
+    fn refuse(&mut self, rt: &impl Abort, order: &Order) {
+        self.counts.refused = self.counts.refused.saturating_add(1);
+        if !matches!(order.op, Op::Forget(_)) {
+            self.tell(rt, order.unique, Err(Errno::EINVAL));
+        }
+    }
+
+    // The first test that a lock request fails.
+    fn error_of(&self, request: &Request) -> Option<Errno> {
+        let ask = &request.ask;
+        if self.directory.node_of(ask.fh) != Some(request.node) {
+            return Some(Errno::EBADF);
+        }
+        if ask.flags > 1 || ask.kind > 2 {
+            return Some(Errno::EINVAL);
+        }
+        if ask.flags == 0 && (ask.start > ask.end || ask.end > LAST) {
+            return Some(Errno::EINVAL);
+        }
+        None
+    }
+
+    fn mark(&self, request: &Request, owner: u64, byte: u64) -> Option<Mark> {
+        *self.marks.get(place_of(request, owner, byte))?
+    }
+
+    // The least byte on which another owner's mark excludes the request, and there the least such owner.
+    fn excluder(&self, request: &Request) -> Option<(u64, u64)> {
+        let (first, last) = bytes_of(&request.ask);
+        for byte in first..last + 1 {
+            for owner in 0..OWNERS {
+                let mark = self.mark(request, owner, byte);
+                if owner != request.ask.owner && excludes(mark, request.ask.kind) {
+                    return Some((byte, owner));
+                }
+            }
+        }
+        None
+    }
+
+    fn is_excluded(&self, request: &Request) -> bool {
+        self.excluder(request).is_some()
+    }
+
+    // Sets a lock, or takes it away.
+    fn set(&mut self, request: &Request) {
+        let ask = &request.ask;
+        let mark = match ask.kind {
+            UNLOCK => None,
+            kind => Some(Mark { kind, pid: ask.pid }),
+        };
+        let (first, last) = bytes_of(ask);
+        for byte in first..last + 1 {
+            if let Some(place) = self.marks.get_mut(place_of(request, ask.owner, byte)) {
+                *place = mark;
+            }
+        }
+    }
+
+    // SETLK, or SETLKW where it may wait.
+    fn lock(&mut self, rt: &impl Abort, request: &Request, may_wait: bool) {
+        let unique = request.unique;
+        if let Some(errno) = self.error_of(request) {
+            self.tell(rt, unique, Err(errno));
+        } else if !self.is_excluded(request) {
+            self.set(request);
+            self.tell(rt, unique, Ok(Answer::Done));
+        } else if !may_wait {
+            self.tell(rt, unique, Err(Errno::EAGAIN));
+        } else {
+            self.counts.parked = self.counts.parked.saturating_add(1);
+            assert!(rt; self.parked.push(*request).is_ok());
+        }
+    }
+
+    // GETLK.
+    fn test(&mut self, rt: &impl Abort, request: &Request) {
+        let result = if let Some(errno) = self.error_of(request) {
+            Err(errno)
+        } else if request.ask.flags == 1 || request.ask.kind == UNLOCK {
+            Err(Errno::EINVAL)
+        } else {
+            Ok(self.lock_answer(request))
+        };
+        self.tell(rt, request.unique, result);
+    }
+
+    fn lock_answer(&self, request: &Request) -> Answer {
+        let found = self.excluder(request);
+        let Some((byte, owner)) = found else {
+            return Answer::Lock {
+                start: request.ask.start,
+                end: request.ask.end,
+                kind: UNLOCK,
+                pid: request.ask.pid,
+            };
+        };
+        let (start, end) = self.run_round(request, owner, byte);
+        let mark = self.mark(request, owner, byte);
+        Answer::Lock {
+            start,
+            end,
+            kind: mark.map_or(UNLOCK, |mark| mark.kind),
+            pid: mark.map_or(0, |mark| mark.pid),
+        }
+    }
+
+    // The first and the last of the neighbouring bytes on which the owner has the same mark as on this one.
+    fn run_round(&self, request: &Request, owner: u64, byte: u64) -> (u64, u64) {
+        let mark = self.mark(request, owner, byte);
+        let mut start = 0;
+        for before in 0..byte {
+            if self.mark(request, owner, before) != mark {
+                start = before + 1;
+            }
+        }
+        let mut end = byte;
+        for after in byte..REST + 1 {
+            if self.mark(request, owner, after) != mark {
+                return (start, end);
+            }
+            end = after;
+        }
+        (start, LAST)
+    }
+
+    // Takes out the request and tells it an error.
+    fn end(&mut self, rt: &impl Abort, unique: u64, errno: Errno) {
+        self.parked.retain(|request| request.unique != unique);
+        self.tell(rt, unique, Err(errno));
+    }
+
+    fn interrupt(&mut self, rt: &impl Abort, order: &Order, unique: u64) {
+        if !self.is_parked(unique) {
+            self.tell(rt, order.unique, Err(Errno::EAGAIN));
+            return;
+        }
+        self.counts.interrupted = self.counts.interrupted.saturating_add(1);
+        self.end(rt, unique, Errno::EINTR);
+    }
+
+    // An order that the directory answers.
+    fn take_other(&mut self, rt: &impl Abort, order: &Order) {
+        let Some(result) = self.directory.reply(rt, order) else {
+            return;
+        };
+        self.tell(rt, order.unique, result);
+        match order.op {
+            Op::Flush { owner, .. } if result.is_ok() => {
+                self.set(&unlock_all(order.node, owner, 0));
+            }
+            Op::Release { fh, drop, owner } if result.is_ok() => {
+                if drop {
+                    self.set(&unlock_all(order.node, owner, 1));
+                }
+                self.close(rt, order.node, fh);
+            }
+            _ => {}
+        }
+    }
+
+    // What goes with an fh that was closed.
+    fn close(&mut self, rt: &impl Abort, node: u64, fh: u64) {
+        for _ in 0..self.parked.len() {
+            if let Some(unique) = self.first_through(fh) {
+                self.counts.closed = self.counts.closed.saturating_add(1);
+                self.end(rt, unique, Errno::EBADF);
+            }
+        }
+        if self.directory.open_on(node) == 0 {
+            for owner in 0..OWNERS {
+                self.set(&unlock_all(node, owner, 0));
+                self.set(&unlock_all(node, owner, 1));
+            }
+        }
+    }
+
+    fn first_through(&self, fh: u64) -> Option<u64> {
+        for request in self.parked.iter() {
+            if request.ask.fh == fh {
+                return Some(request.unique);
+            }
+        }
+        None
+    }
+
+    // Grants the oldest request that nothing excludes, and begins again, until each is excluded.
+    fn settle(&mut self, rt: &impl Abort) {
+        let mut last = 0;
+        for _ in 0..self.parked.len() {
+            let Some((place, request)) = self.first_free() else {
+                return;
+            };
+            self.parked.retain(|other| other.unique != request.unique);
+            self.set(&request);
+            self.tell(rt, request.unique, Ok(Answer::Done));
+            self.counts.granted = self.counts.granted.saturating_add(1);
+            if place < last {
+                self.counts.freed_by_grants = self.counts.freed_by_grants.saturating_add(1);
+            }
+            last = place;
+        }
+    }
+
+    fn first_free(&self) -> Option<(usize, Request)> {
+        for (place, request) in self.parked.iter().enumerate() {
+            if !self.is_excluded(request) {
+                return Some((place, *request));
+            }
+        }
+        None
+    }
+}
+
+fn request_of(order: &Order, ask: &LockAsk) -> Request {
+    Request {
+        unique: order.unique,
+        node: order.node,
+        ask: *ask,
+    }
+}

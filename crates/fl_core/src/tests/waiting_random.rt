@@ -1,0 +1,191 @@
+//! Random orders on locks, many of which wait, beside a plain program of locks.
+
+use super::numbers::Numbers;
+use super::plain_locks::{Counts, LAST, OWNERS, PlainLocks};
+use super::*;
+
+// The requests that wait in the core are these, the oldest first.
+fn check_parked(rt: &impl Abort, core: &Core, wanted: &[Request]) {
+    let requests = &core.parts.parked.requests;
+    assert_eq!(rt; wanted.len().saturating_add(requests.free()), 256);
+    for (place, request) in wanted.iter().enumerate() {
+        let found = requests.first_where(0, |waiting| *waiting == *request);
+        assert_eq!(rt; found.index, place);
+    }
+}
+
+// The order gives the replies of the plain program, and leaves the same requests waiting.
+fn compare(rt: &impl Abort, server: &mut Server, plain: &mut PlainLocks, order: &Order) {
+    plain.take(rt, order);
+    server.core.step(order, &mut server.tolds);
+    let unique = order.unique;
+    assert_eq!(rt;
+        server.tolds.as_slice(),
+        plain.tolds.as_slice(),
+        "order {unique}"
+    );
+    check_parked(rt, &server.core, &plain.parked);
+}
+
+fn random_kind(numbers: &mut Numbers) -> u32 {
+    match numbers.below(5) {
+        0 | 1 => READ,
+        _ => WRITE,
+    }
+}
+
+// Few bytes, or those from one on.
+fn random_ask(numbers: &mut Numbers, fh: u64, kind: u32) -> LockAsk {
+    let owner = numbers.below(OWNERS);
+    let start = numbers.below(10);
+    let end = match numbers.below(6) {
+        0 => LAST,
+        _ => start + numbers.below(4),
+    };
+    LockAsk {
+        fh,
+        owner,
+        start,
+        end: if end == LAST { LAST } else { end.min(9) },
+        kind,
+        pid: numbers.below(2) as u32,
+        flags: u32::from(numbers.below(4) == 0),
+    }
+}
+
+// The same, but seldom one that is refused as malformed.
+fn random_lock(numbers: &mut Numbers, fh: u64) -> LockAsk {
+    let kind = random_kind(numbers);
+    let asked = random_ask(numbers, fh, kind);
+    match numbers.below(100) {
+        0 => LockAsk { flags: 2, ..asked },
+        1 => LockAsk { kind: 3, ..asked },
+        2 => LockAsk {
+            end: LAST + 1,
+            ..asked
+        },
+        3 => LockAsk {
+            start: 5,
+            end: 4,
+            ..asked
+        },
+        _ => asked,
+    }
+}
+
+fn random_unlock(numbers: &mut Numbers, fh: u64) -> Op {
+    let asked = random_ask(numbers, fh, UNLOCK);
+    match numbers.below(2) {
+        0 => Op::Setlk(asked),
+        _ => Op::Setlkw(asked),
+    }
+}
+
+// The unique of a request that waits, or else another.
+fn random_unique(numbers: &mut Numbers, plain: &PlainLocks, other: u64) -> u64 {
+    let place = numbers.below(64) as usize;
+    match plain.parked.get(place) {
+        Some(request) => request.unique,
+        None => other,
+    }
+}
+
+// An OPEN of one of the two files, if fewer than three fhs are open on it.
+fn random_open(numbers: &mut Numbers, plain: &PlainLocks) -> (u64, Op) {
+    let node = 2 + numbers.below(2);
+    if plain.directory.open_on(node) < 3 {
+        return (node, Op::Open);
+    }
+    (node, Op::Forget(1))
+}
+
+// What is asked of an fh other than to lock or unlock.
+fn random_file_op(numbers: &mut Numbers, plain: &PlainLocks, fh: u64) -> Op {
+    let owner = numbers.below(OWNERS);
+    match numbers.below(13) {
+        0..=2 => flush(fh, owner),
+        3 => release(fh, numbers.below(2) == 0, owner),
+        4..=8 => Op::Interrupt(random_unique(numbers, plain, 7)),
+        9 => Op::Getattr,
+        _ => Op::Getlk(random_lock(numbers, fh)),
+    }
+}
+
+fn random_op(numbers: &mut Numbers, plain: &PlainLocks) -> (u64, Op) {
+    let (fh, node) = plain.directory.open_at(numbers.below(6)).unwrap_or((1, 2));
+    let op = match numbers.below(100) {
+        0..=3 => return random_open(numbers, plain),
+        4..=17 => random_file_op(numbers, plain, fh),
+        18..=22 => Op::Setlk(random_lock(numbers, fh)),
+        23..=49 => random_unlock(numbers, fh),
+        _ => Op::Setlkw(random_lock(numbers, fh)),
+    };
+    (node, op)
+}
+
+// The order of a turn bears a unique of its own, but seldom that of a request that waits.
+fn random_order(numbers: &mut Numbers, plain: &PlainLocks, turn: u64) -> Order {
+    let (node, op) = random_op(numbers, plain);
+    let unique = match numbers.below(40) {
+        0 => random_unique(numbers, plain, turn),
+        _ => turn,
+    };
+    Order {
+        unique,
+        ..order(node, op)
+    }
+}
+
+// Two files, and so many orders. It gives what the plain program counted, and the most that waited.
+fn run(rt: &impl Abort, alloc: Global, seed: u64, turns: u64) -> (Counts, usize) {
+    let mut numbers = Numbers { state: seed };
+    let mut server = Server::new(rt, alloc);
+    let mut plain = PlainLocks::new(alloc);
+    let mut most = 0;
+    for letter in [b"a", b"b"] {
+        let made = order(1, create(true, name(rt, letter)));
+        compare(rt, &mut server, &mut plain, &made);
+    }
+    for turn in 0..turns {
+        let order = random_order(&mut numbers, &plain, turn);
+        compare(rt, &mut server, &mut plain, &order);
+        most = plain.parked.len().max(most);
+    }
+    (plain.counts, most)
+}
+
+// Each of these seeds brings about each thing often.
+fn run_all(rt: &impl Abort, alloc: Global, first: u64, end: u64) {
+    for seed in first..end {
+        let (counts, most) = run(rt, alloc, seed, 3000);
+        assert!(rt; most > 48, "{most} waited at once");
+        assert!(rt; counts.parked > 600, "{} waited", counts.parked);
+        assert!(rt; counts.granted > 300, "{} were granted", counts.granted);
+        assert!(rt;
+            counts.freed_by_grants > 8,
+            "{} grants freed others",
+            counts.freed_by_grants
+        );
+        assert!(rt; counts.closed > 80, "{} were closed", counts.closed);
+        assert!(rt;
+            counts.interrupted > 60,
+            "{} were interrupted",
+            counts.interrupted
+        );
+        assert!(rt;
+            counts.refused > 30,
+            "{} uniques were refused",
+            counts.refused
+        );
+    }
+}
+
+#[test]
+fn waits_as_a_plain_program_does(rt: HostRuntime) {
+    run_all(&rt, rt.alloc(), 0, 4);
+}
+
+#[test]
+fn waits_as_a_plain_program_does_by_other_numbers(rt: HostRuntime) {
+    run_all(&rt, rt.alloc(), 4, 8);
+}
