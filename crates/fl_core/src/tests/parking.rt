@@ -60,22 +60,33 @@ fn a_forget_with_the_unique_of_a_waiting_request_does_nothing(rt: HostRuntime) {
     );
 }
 
+// An order about node 2.
+fn asked(unique: u64, op: Op) -> Order {
+    Order {
+        unique,
+        ..order(2, op)
+    }
+}
+
 #[test]
 fn orders_that_only_read_are_answered_so_beside_waiting_requests(rt: HostRuntime) {
     let mut server = with_waiter(&rt, rt.alloc());
-    let asked = |unique, op| Order {
-        unique,
-        ..order(2, op)
-    };
-    let tested = test(1, 9, 0, 0);
-    let core = &server.core;
-    assert_eq!(rt; core.answer(&asked(3, Op::Getattr)), EINVAL);
-    assert_eq!(rt; core.answer(&asked(3, tested)), EINVAL);
-    assert_eq!(rt; core.answer(&asked(3, Op::Open)), None);
-    assert_eq!(rt; core.answer(&asked(4, Op::Getattr)), attr(2, 1));
-    assert_eq!(rt; core.answer(&asked(4, tested)), held(7, 0, 0, WRITE));
+    let before = [
+        (asked(3, Op::Getattr), EINVAL),
+        (asked(3, test(1, 9, 0, 0)), EINVAL),
+        (asked(3, Op::Open), None),
+        (asked(4, Op::Getattr), attr(2, 1)),
+        (asked(4, test(1, 9, 0, 0)), held(7, 0, 0, WRITE)),
+    ];
+    for (order, reply) in before {
+        assert_eq!(rt; server.core.answer(&order), reply);
+    }
     server.see(&rt, &[(4, 2, lock(1, 7, 0, 0, UNLOCK), &[ok(4), ok(3)])]);
-    let core = &server.core;
-    assert_eq!(rt; core.answer(&asked(3, Op::Getattr)), attr(2, 1));
-    assert_eq!(rt; core.answer(&asked(3, tested)), held(8, 0, 0, WRITE));
+    let after = [
+        (asked(3, Op::Getattr), attr(2, 1)),
+        (asked(3, test(1, 9, 0, 0)), held(8, 0, 0, WRITE)),
+    ];
+    for (order, reply) in after {
+        assert_eq!(rt; server.core.answer(&order), reply);
+    }
 }

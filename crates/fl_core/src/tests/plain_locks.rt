@@ -48,12 +48,12 @@ fn place_of(request: &Request, owner: u64, byte: u64) -> usize {
     ((file * 4 + owner % 4) * 11 + byte % 11) as usize
 }
 
-// The first and the last byte of a request.
+// The first byte of a request, and the one after its last.
 fn bytes_of(ask: &LockAsk) -> (u64, u64) {
     if ask.flags == 1 {
-        return (0, REST);
+        return (0, REST + 1);
     }
-    (ask.start.min(REST), ask.end.min(REST))
+    (ask.start.min(REST), ask.end.min(REST) + 1)
 }
 
 // Whether another owner's mark keeps a lock of this kind from being set.
@@ -158,8 +158,8 @@ impl PlainLocks {
 
     // The least byte on which another owner's mark excludes the request, and there the least such owner.
     fn excluder(&self, request: &Request) -> Option<(u64, u64)> {
-        let (first, last) = bytes_of(&request.ask);
-        for byte in first..last + 1 {
+        let (first, end) = bytes_of(&request.ask);
+        for byte in first..end {
             for owner in 0..OWNERS {
                 let mark = self.mark(request, owner, byte);
                 if owner != request.ask.owner && excludes(mark, request.ask.kind) {
@@ -181,8 +181,8 @@ impl PlainLocks {
             UNLOCK => None,
             kind => Some(Mark { kind, pid: ask.pid }),
         };
-        let (first, last) = bytes_of(ask);
-        for byte in first..last + 1 {
+        let (first, end) = bytes_of(ask);
+        for byte in first..end {
             if let Some(place) = self.marks.get_mut(place_of(request, ask.owner, byte)) {
                 *place = mark;
             }
