@@ -101,6 +101,40 @@ fn malformed(kind: u32, flags: u32) -> LockAsk {
 
 const TOO_FAR: u64 = 9_223_372_036_854_775_808;
 
+// This request is malformed in each of the three orders.
+fn check_refused(rt: &impl Abort, server: &mut Server, asked: LockAsk) {
+    let closed = LockAsk { fh: 9, ..asked };
+    server.check(
+        rt,
+        &[
+            (2, Op::Setlk(asked), EINVAL),
+            (2, Op::Setlkw(asked), EINVAL),
+            (2, Op::Getlk(asked), EINVAL),
+            (2, Op::Setlk(closed), EBADF),
+            (2, Op::Setlkw(closed), EBADF),
+            (2, Op::Getlk(closed), EBADF),
+            (1, Op::Setlk(asked), EBADF),
+            (1, Op::Setlkw(asked), EBADF),
+            (1, Op::Getlk(asked), EBADF),
+        ],
+    );
+}
+
+// This request is malformed in a GETLK alone.
+fn check_not_tested(rt: &impl Abort, server: &mut Server, asked: LockAsk) {
+    let closed = LockAsk { fh: 9, ..asked };
+    server.check(
+        rt,
+        &[
+            (2, Op::Getlk(asked), EINVAL),
+            (2, Op::Getlk(closed), EBADF),
+            (3, Op::Getlk(asked), EBADF),
+            (2, Op::Setlk(asked), DONE),
+            (2, Op::Setlkw(asked), DONE),
+        ],
+    );
+}
+
 #[test]
 fn malformed_lock_requests_are_refused_after_the_fh(rt: HostRuntime) {
     let mut server = Server::new(&rt, rt.alloc());
@@ -114,33 +148,9 @@ fn malformed_lock_requests_are_refused_after_the_fh(rt: HostRuntime) {
         ask(1, 7, 0, TOO_FAR, READ),
     ];
     for asked in both {
-        let closed = LockAsk { fh: 9, ..asked };
-        server.check(
-            &rt,
-            &[
-                (2, Op::Setlk(asked), EINVAL),
-                (2, Op::Setlkw(asked), EINVAL),
-                (2, Op::Getlk(asked), EINVAL),
-                (2, Op::Setlk(closed), EBADF),
-                (2, Op::Setlkw(closed), EBADF),
-                (2, Op::Getlk(closed), EBADF),
-                (1, Op::Setlk(asked), EBADF),
-                (1, Op::Setlkw(asked), EBADF),
-                (1, Op::Getlk(asked), EBADF),
-            ],
-        );
+        check_refused(&rt, &mut server, asked);
     }
     for asked in [malformed(UNLOCK, 0), malformed(READ, 1)] {
-        let closed = LockAsk { fh: 9, ..asked };
-        server.check(
-            &rt,
-            &[
-                (2, Op::Getlk(asked), EINVAL),
-                (2, Op::Getlk(closed), EBADF),
-                (3, Op::Getlk(asked), EBADF),
-                (2, Op::Setlk(asked), DONE),
-                (2, Op::Setlkw(asked), DONE),
-            ],
-        );
+        check_not_tested(&rt, &mut server, asked);
     }
 }

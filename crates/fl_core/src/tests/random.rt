@@ -95,17 +95,22 @@ fn compare(rt: &impl Abort, server: &mut Server, plain: &mut Plain, order: &Orde
     assert_eq!(rt; server.ask(rt, order), wanted);
 }
 
+// As many orders as one seed gives.
+fn run(rt: &impl Abort, alloc: Global, names: &Names, seed: u64) {
+    let mut numbers = Numbers { state: seed };
+    let mut server = Server::new(rt, alloc);
+    let mut plain = Plain::new(alloc);
+    for _ in 0..500 {
+        let order = random_order(&mut numbers, names, &plain);
+        compare(rt, &mut server, &mut plain, &order);
+    }
+    compare_all(rt, &mut server, &mut plain);
+}
+
 #[test]
 fn answers_as_a_plain_directory_does(rt: HostRuntime) {
     let names = names(&rt);
     for seed in 0..10 {
-        let mut numbers = Numbers { state: seed };
-        let mut server = Server::new(&rt, rt.alloc());
-        let mut plain = Plain::new(rt.alloc());
-        for _ in 0..500 {
-            let order = random_order(&mut numbers, &names, &plain);
-            compare(&rt, &mut server, &mut plain, &order);
-        }
-        compare_all(&rt, &mut server, &mut plain);
+        run(&rt, rt.alloc(), &names, seed);
     }
 }

@@ -24,42 +24,29 @@ fn park(rt: &impl Abort, server: &mut Server, many: u32) {
     }
 }
 
-// The order of unique 5 is done, and then the requests of these uniques.
-fn done(rt: &impl Abort, alloc: Global, uniques: &[u64]) -> Vec<Told> {
-    let mut tolds = Vec::new(alloc);
-    assert!(rt; tolds.push(ok(5)).is_ok());
-    for unique in uniques {
-        assert!(rt; tolds.push(ok(*unique)).is_ok());
-    }
-    tolds
-}
-
-// The uniques of `park`, from the first to before the end.
-fn uniques(rt: &impl Abort, alloc: Global, first: u64, end: u64) -> Vec<u64> {
-    let mut uniques = Vec::new(alloc);
+// The uniques from the first to before the end are told that they are done.
+fn add_done(rt: &impl Abort, tolds: &mut Vec<Told>, first: u64, end: u64) {
     for unique in first..end {
-        assert!(rt; uniques.push(unique).is_ok());
+        assert!(rt; tolds.push(ok(unique)).is_ok());
     }
-    uniques
 }
 
 #[test]
 fn one_unlock_frees_256_requests_in_their_order(rt: HostRuntime) {
     let mut server = locked(&rt, rt.alloc());
     park(&rt, &mut server, 256);
-    let uniques = uniques(&rt, rt.alloc(), 1000, 1256);
-    let tolds = done(&rt, rt.alloc(), &uniques);
+    let mut tolds = Vec::new(rt.alloc());
+    add_done(&rt, &mut tolds, 5, 6);
+    add_done(&rt, &mut tolds, 1000, 1256);
     assert_eq!(rt; tolds.len(), 257);
     server.see(&rt, &[(5, 2, lock(1, 7, 0, 0, UNLOCK), &tolds)]);
     server.see(&rt, &[(6, 2, lock(1, 7, 0, 0, UNLOCK), &[ok(6)])]);
 }
 
-#[test]
-fn one_request_more_than_256_is_refused(rt: HostRuntime) {
-    let mut server = locked(&rt, rt.alloc());
-    park(&rt, &mut server, 256);
+// With 256 requests that wait, one more is refused until another is interrupted.
+fn check_full(rt: &impl Abort, server: &mut Server) {
     server.see(
-        &rt,
+        rt,
         &[
             (2, 2, wait(1, 8, 0, 0, READ), &[err(2, Errno::ENOLCK)]),
             (2, 2, wait(9, 8, 0, 0, READ), &[err(2, Errno::EBADF)]),
@@ -72,10 +59,18 @@ fn one_request_more_than_256_is_refused(rt: HostRuntime) {
             (2, 2, wait(1, 9, 0, 0, READ), &[err(2, Errno::ENOLCK)]),
         ],
     );
-    let mut freed = uniques(&rt, rt.alloc(), 1000, 1256);
-    freed.retain(|unique| *unique != 1002);
-    assert!(rt; freed.push(4).is_ok());
-    let tolds = done(&rt, rt.alloc(), &freed);
+}
+
+#[test]
+fn one_request_more_than_256_is_refused(rt: HostRuntime) {
+    let mut server = locked(&rt, rt.alloc());
+    park(&rt, &mut server, 256);
+    check_full(&rt, &mut server);
+    let mut tolds = Vec::new(rt.alloc());
+    add_done(&rt, &mut tolds, 5, 6);
+    add_done(&rt, &mut tolds, 1000, 1002);
+    add_done(&rt, &mut tolds, 1003, 1256);
+    add_done(&rt, &mut tolds, 4, 5);
     assert_eq!(rt; tolds.len(), 257);
     server.see(&rt, &[(5, 2, lock(1, 7, 0, 0, UNLOCK), &tolds)]);
 }

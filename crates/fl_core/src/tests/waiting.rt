@@ -181,23 +181,23 @@ fn release_ends_those_of_its_fh_before_it_frees_any(rt: HostRuntime) {
 #[test]
 fn the_last_release_ends_all_requests_of_the_node(rt: HostRuntime) {
     let mut server = opened(&rt, rt.alloc());
+    let closed = [ok(7), err(5, Errno::EBADF), err(6, Errno::EBADF)];
     server.see(
         &rt,
         &[
+            (1, 1, create(true, name(&rt, b"b")), &[with(1, made(3, 3))]),
             (2, 2, release(2, false, 7), &[ok(2)]),
             (3, 2, lock(1, 7, 0, 0, WRITE), &[ok(3)]),
             (4, 2, flock(1, 7, WRITE), &[ok(4)]),
             (5, 2, flock_wait(1, 8, WRITE), &[]),
             (6, 2, wait(1, 8, 0, 0, WRITE), &[]),
-            (
-                7,
-                2,
-                release(1, false, 8),
-                &[ok(7), err(5, Errno::EBADF), err(6, Errno::EBADF)],
-            ),
-            (8, 2, Op::Open, &[with(8, told(Answer::Open(3)))]),
-            (9, 2, wait(3, 9, 0, 0, WRITE), &[ok(9)]),
-            (10, 2, flock_wait(3, 9, WRITE), &[ok(10)]),
+            (11, 3, lock(3, 7, 0, 0, WRITE), &[ok(11)]),
+            (12, 3, wait(3, 8, 0, 0, WRITE), &[]),
+            (7, 2, release(1, false, 8), &closed),
+            (8, 2, Op::Open, &[with(8, told(Answer::Open(4)))]),
+            (9, 2, wait(4, 9, 0, 0, WRITE), &[ok(9)]),
+            (10, 2, flock_wait(4, 9, WRITE), &[ok(10)]),
+            (13, 3, lock(3, 7, 0, 0, UNLOCK), &[ok(13), ok(12)]),
         ],
     );
 }
