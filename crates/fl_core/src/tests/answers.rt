@@ -2,6 +2,26 @@
 
 use super::*;
 
+// An order is answered without a step exactly where it only reads, before the step as after it.
+fn check_case(rt: &impl Abort, server: &mut Server, index: usize, case: &Case) {
+    let (node, op, reply) = case;
+    let order = order(*node, *op);
+    let wanted = match op {
+        Op::Getattr | Op::Getlk(_) => *reply,
+        _ => None,
+    };
+    assert_eq!(rt; server.core.answer(&order), wanted, "before order {index}");
+    assert_eq!(rt; server.ask(rt, &order), *reply, "order {index}");
+    assert_eq!(rt; server.core.answer(&order), wanted, "after order {index}");
+}
+
+fn check_cases(rt: &impl Abort, alloc: Global, cases: &[Case]) {
+    let mut server = Server::new(rt, alloc);
+    for (index, case) in cases.iter().enumerate() {
+        check_case(rt, &mut server, index, case);
+    }
+}
+
 #[test]
 fn orders_that_only_read_are_answered_as_by_a_step(rt: HostRuntime) {
     let a = name(&rt, b"a");
@@ -12,7 +32,6 @@ fn orders_that_only_read_are_answered_as_by_a_step(rt: HostRuntime) {
         uid: 0,
         gid: 0,
     };
-    let mut server = Server::new(&rt, rt.alloc());
     let cases = [
         (2, Op::Getattr, ENOENT),
         (1, Op::Getattr, told(Answer::Attr(root))),
@@ -39,14 +58,5 @@ fn orders_that_only_read_are_answered_as_by_a_step(rt: HostRuntime) {
         (2, Op::Forget(1), SILENT),
         (2, Op::Getattr, ENOENT),
     ];
-    for (index, (node, op, reply)) in cases.iter().enumerate() {
-        let order = order(*node, *op);
-        let wanted = match op {
-            Op::Getattr | Op::Getlk(_) => *reply,
-            _ => None,
-        };
-        assert_eq!(rt; server.core.answer(&order), wanted, "before order {index}");
-        assert_eq!(rt; server.ask(&rt, &order), *reply, "order {index}");
-        assert_eq!(rt; server.core.answer(&order), wanted, "after order {index}");
-    }
+    check_cases(&rt, rt.alloc(), &cases);
 }

@@ -2,6 +2,19 @@
 
 use super::*;
 
+// No file is made under this name, whatever else is tested.
+fn check_reserved(rt: &impl Abort, server: &mut Server, reserved: Name) {
+    server.check(
+        rt,
+        &[
+            (1, create(false, reserved), EINVAL),
+            (1, create(true, reserved), EINVAL),
+            (4, create(true, reserved), ENOENT),
+            (2, create(true, reserved), ENOTDIR),
+        ],
+    );
+}
+
 #[test]
 fn names_are_refused_by_the_first_test(rt: HostRuntime) {
     let a = name(&rt, b"a");
@@ -35,18 +48,21 @@ fn names_are_refused_by_the_first_test(rt: HostRuntime) {
         ],
     );
     for reserved in [b"".as_slice(), b".", b"..", b"/", b"a/b"] {
-        let reserved = name(&rt, reserved);
-        server.check(
-            &rt,
-            &[
-                (1, create(false, reserved), EINVAL),
-                (1, create(true, reserved), EINVAL),
-                (4, create(true, reserved), ENOENT),
-                (2, create(true, reserved), ENOTDIR),
-            ],
-        );
+        check_reserved(&rt, &mut server, name(&rt, reserved));
     }
     server.check(&rt, &[(1, create(true, name(&rt, b"...")), made(4, 4))]);
+}
+
+// The fh isn't open on this node.
+fn check_not_open(rt: &impl Abort, server: &mut Server, node: u64, fh: u64) {
+    server.check(
+        rt,
+        &[
+            (node, flush(fh, 7), EBADF),
+            (node, release(fh, false, 7), EBADF),
+            (node, release(fh, true, 7), EBADF),
+        ],
+    );
 }
 
 #[test]
@@ -70,14 +86,7 @@ fn nodes_and_files_are_refused_by_the_first_test(rt: HostRuntime) {
     );
     let wrong = [(2, 2), (3, 1), (1, 1), (4, 1), (2, 0), (2, 3), (4, 3)];
     for (node, fh) in wrong {
-        server.check(
-            &rt,
-            &[
-                (node, flush(fh, 7), EBADF),
-                (node, release(fh, false, 7), EBADF),
-                (node, release(fh, true, 7), EBADF),
-            ],
-        );
+        check_not_open(&rt, &mut server, node, fh);
     }
     server.check(
         &rt,

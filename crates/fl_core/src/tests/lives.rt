@@ -11,9 +11,33 @@ fn ending(kind: u8, name: Name) -> Case {
     }
 }
 
+// Of the three reasons to live, these are taken away in this order.
+fn check_endings(rt: &impl Abort, server: &mut Server, first: u8, second: u8, last: u8) {
+    let a = name(rt, b"a");
+    let linked_once = u32::from(first != 0);
+    let linked_twice = u32::from(first != 0 && second != 0);
+    server.check(
+        rt,
+        &[
+            (1, create(true, a), made(2, 1)),
+            ending(first, a),
+            (2, Op::Getattr, attr(2, linked_once)),
+            ending(second, a),
+            (2, Op::Getattr, attr(2, linked_twice)),
+            ending(last, a),
+            (2, Op::Getattr, ENOENT),
+            (2, Op::Open, ENOENT),
+            (2, Op::Lookup(a), ENOENT),
+            (1, Op::Lookup(a), ENOENT),
+            (2, flush(1, 7), EBADF),
+            (1, create(true, a), made(3, 2)),
+            (2, Op::Getattr, ENOENT),
+        ],
+    );
+}
+
 #[test]
 fn a_node_goes_with_its_last_reason_to_live(rt: HostRuntime) {
-    let a = name(&rt, b"a");
     for (first, second, last) in [
         (0, 1, 2),
         (0, 2, 1),
@@ -22,36 +46,22 @@ fn a_node_goes_with_its_last_reason_to_live(rt: HostRuntime) {
         (2, 0, 1),
         (2, 1, 0),
     ] {
-        let linked_once = u32::from(first != 0);
-        let linked_twice = u32::from(first != 0 && second != 0);
         let mut server = Server::new(&rt, rt.alloc());
-        server.check(
-            &rt,
-            &[
-                (1, create(true, a), made(2, 1)),
-                ending(first, a),
-                (2, Op::Getattr, attr(2, linked_once)),
-                ending(second, a),
-                (2, Op::Getattr, attr(2, linked_twice)),
-                ending(last, a),
-                (2, Op::Getattr, ENOENT),
-                (2, Op::Open, ENOENT),
-                (2, Op::Lookup(a), ENOENT),
-                (1, Op::Lookup(a), ENOENT),
-                (2, flush(1, 7), EBADF),
-                (1, create(true, a), made(3, 2)),
-                (2, Op::Getattr, ENOENT),
-            ],
-        );
+        check_endings(&rt, &mut server, first, second, last);
     }
+}
+
+// Each order is answered as its row says, from the start.
+fn check(rt: &impl Abort, alloc: Global, cases: &[Case]) {
+    Server::new(rt, alloc).check(rt, cases);
 }
 
 #[test]
 fn a_name_is_free_while_its_old_node_lives(rt: HostRuntime) {
     let a = name(&rt, b"a");
-    let mut server = Server::new(&rt, rt.alloc());
-    server.check(
+    check(
         &rt,
+        rt.alloc(),
         &[
             (1, create(false, a), made(2, 1)),
             (1, Op::Unlink(a), DONE),
@@ -84,9 +94,9 @@ fn a_name_is_free_while_its_old_node_lives(rt: HostRuntime) {
 fn lookups_are_counted_and_forgotten(rt: HostRuntime) {
     let a = name(&rt, b"a");
     let seen = told(Answer::Entry(file(2, 1)));
-    let mut server = Server::new(&rt, rt.alloc());
-    server.check(
+    check(
         &rt,
+        rt.alloc(),
         &[
             (1, create(true, a), made(2, 1)),
             (2, release(1, false, 0), DONE),
