@@ -1,5 +1,5 @@
 -- The one chain of an arena.
-use Rattle.std.proofs.Common.{◌≡◌, ℕ, ◌+◌, ◌==◌, Bool, true, false, cond, ◌||◌, Option, Some, None, is_some, Bor, List, [], ◌∷◌, length, sum_by, slice_index_or, refl, sym, ap, ◌∙◌, arith}
+use Rattle.std.proofs.Common.{◌≡◌, ℕ, ◌+◌, ◌==◌, Bool, true, false, cond, ◌||◌, Option, Some, None, is_some, Bor, List, [], ◌∷◌, length, sum_by, slice_index_or, refl, sym, ◌∙◌, arith}
 use Rattle.std.proofs.lemmas.Bool.Decides.{nat_tests}
 use Rattle.std.proofs.lemmas.List.{length-map}
 use Rattle.std.specs.List.{find, list_any}

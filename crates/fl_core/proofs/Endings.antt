@@ -1,6 +1,5 @@
 -- Requests that are ended, one after another.
-use Rattle.std.proofs.Common.{◌≡◌, Bool, not, Option, Some, None, List, [], ◌∷◌, ◌++◌, append_assoc, append-nil, map, refl, sym, ap, ◌∙◌}
-use Rattle.std.specs.List.{filter}
+use Rattle.std.proofs.Common.{◌≡◌, Bool, Some, None, List, [], ◌∷◌, ◌++◌, append_assoc, append-nil, map, sym, ap, ◌∙◌}
 use Rattle.fl_wire.specs.declared.errno.Errno.{Errno}
 use Rattle.fl_wire.specs.declared.told.Told.{Told}
 use Rattle.fl_core.specs.Replies.{ended_with, ended_all}

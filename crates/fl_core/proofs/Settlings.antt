@@ -1,5 +1,5 @@
 -- Settling as a function, and in words.
-use Rattle.std.proofs.Common.{◌≡◌, ◌↔◌, ℕ, zero, suc, Bool, true, false, cond, not, Option, Some, None, option_map, List, [], ◌∷◌, ◌++◌, append_assoc, append-nil, length, refl, sym, ap, ◌∙◌, subst, arith}
+use Rattle.std.proofs.Common.{◌≡◌, ◌↔◌, ℕ, zero, suc, Bool, true, false, cond, not, Option, Some, None, List, [], ◌∷◌, ◌++◌, append_assoc, append-nil, length, refl, sym, ap, ◌∙◌, subst, arith}
 use Rattle.fl_wire.specs.declared.told.Told.{Told}
 use Rattle.fl_ranges.specs.Marking.{Marking}
 use Rattle.fl_core.specs.declared.parked.Request.{Request}

@@ -1,7 +1,7 @@
 -- The oldest request that passes a test, and the others.
-use Rattle.std.proofs.Common.{◌≡◌, ◌≢◌, ℕ, zero, suc, ◌==◌, ◌+◌, ◌||◌, Bool, true, false, not, cond, Option, Some, None, option_map, List, [], ◌∷◌, ◌++◌, length, refl, sym, ap, ◌∙◌, subst, arith, remove}
+use Rattle.std.proofs.Common.{◌≡◌, ◌≢◌, ℕ, suc, ◌==◌, ◌+◌, ◌||◌, Bool, true, false, not, cond, Option, Some, None, option_map, List, [], ◌∷◌, ◌++◌, length, refl, sym, ap, ◌∙◌, subst, arith, remove}
 use Rattle.std.proofs.lemmas.Bool.Decides.{nat_tests}
-use Rattle.std.specs.List.{filter, find, list_any, position_or_len, AllByRecursion}
+use Rattle.std.specs.List.{filter, find, position_or_len, AllByRecursion}
 use Rattle.fl_core.specs.declared.parked.Request.{Request}
 use Rattle.fl_core.specs.Waiting.{is_parked, taken_first, taken_out, AreApart}
 

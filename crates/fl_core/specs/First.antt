@@ -49,21 +49,18 @@ request_of order ask = record { unique = order.unique; node = order.node; ask = 
 pub data IsAnswered (p : Snapshot) (order : Order) : Op → List Told → Type 0 where
   alone : (op : Op) → is_alone op ≡ true
       → IsAnswered p order op (own_replies order (reply_to p.view p.marking order op))
-
   -- RELEASE: of an fh that isn't open on the node; or of one that is, and then each request that came through it is
   -- told EBADF, the oldest first
   not_open : (fh : ℕ) (unlocks : Bool) (owner : ℕ) → is_open_on p.view.directory fh order.node ≡ false
       → IsAnswered p order (Release fh unlocks owner) (own order (Err EBADF) ∷ [])
   closes : (fh : ℕ) (unlocks : Bool) (owner : ℕ) → is_open_on p.view.directory fh order.node ≡ true
       → IsAnswered p order (Release fh unlocks owner)
-        (own order (Ok Done) ∷ ended_all EBADF (λ r. r.ask.fh == fh) p.view.parked)
-
+      (own order (Ok Done) ∷ ended_all EBADF (λ r. r.ask.fh == fh) p.view.parked)
   -- INTERRUPT: of a request that waits, which alone is told; or of none
   interrupts : (unique : ℕ) (r : Request) → IsWaiter unique p.view.parked r
       → IsAnswered p order (Interrupt unique) (ended_with EINTR r ∷ [])
   interrupts_none : (unique : ℕ) → IsNew unique p.view.parked
       → IsAnswered p order (Interrupt unique) (own order (Err EAGAIN) ∷ [])
-
   -- SETLKW: of a request that fails a test whatever locks are held; that conflicts with nothing; that conflicts, when
   -- 256 requests wait already; that conflicts, and waits from now on
   fails : (ask : LockAsk) (e : Errno) → ask_error p.view.directory order.node ask ≡ Some e

@@ -140,7 +140,12 @@ pub(crate) fn is_excluded(locks: &Table, key: &Key, range: &Range, mark: Option<
 }
 
 /// The same for locks that nothing excludes.
-pub(crate) fn store(locks: &mut Table, key: &Key, range: &Range, mark: Option<Mark>) -> Result<Answer, Errno>
+pub(crate) fn store(
+    locks: &mut Table,
+    key: &Key,
+    range: &Range,
+    mark: Option<Mark>,
+) -> Result<Answer, Errno>
     requires limit { locks.old.limit ≡ MOST_RUNS }
     requires clear { is_excluded locks.old.marking (stroke_on key.now range.now mark) mark ≡ false }
     ensures reply { result ≡ room_reply locks.old.marking (stroke_on key.now range.now mark) }

@@ -81,7 +81,9 @@ impl Parked {
         if unique > self.greatest {
             return false;
         }
-        let cursor = self.requests.first_where(0, |waiter| waiter.unique == unique);
+        let cursor = self
+            .requests
+            .first_where(0, |waiter| waiter.unique == unique);
         self.requests.item(&cursor).is_some()
     }
 

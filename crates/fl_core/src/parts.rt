@@ -120,7 +120,12 @@ impl Parts {
     }
 
     /// Ends the requests that wait which the order ends, by what it was answered itself, and tells them.
-    pub(crate) fn end(&mut self, order: &Order, own: &Option<Result<Answer, Errno>>, tolds: &mut Tolds)
+    pub(crate) fn end(
+        &mut self,
+        order: &Order,
+        own: &Option<Result<Answer, Errno>>,
+        tolds: &mut Tolds,
+    )
         requires { length tolds.old + length self.old.view.parked ≤ MOST_TOLDS }
         ensures tolds { tolds.new ≡ tolds.old ++ ended_by self.old.view.parked order.now.op own.now }
         ensures parked { self.new ≡ with_parked (left_by self.old.view.parked order.now.op own.now) self.old }

@@ -1,5 +1,5 @@
 -- What a core's parts are between the changes of one order.
-use Rattle.std.specs.Prelude.{◌≡◌, ℕ, ◌==◌, Bool, false, not, Option, Some, None, Result, Ok, List}
+use Rattle.std.specs.Prelude.{◌≡◌, ◌==◌, Bool, false, not, Option, Some, None, Result, Ok, List}
 use Rattle.std.specs.List.{filter, AllByRecursion}
 use Rattle.fl_wire.specs.declared.errno.Errno.{Errno}
 use Rattle.fl_wire.specs.declared.errno.Errno.TheVariants.{EINTR, EBADF}

@@ -1,4 +1,4 @@
-use Rattle.std.proofs.Common.{◌≡◌, ◌∙◌, None, sym, ap}
+use Rattle.std.proofs.Common.{◌∙◌, sym, ap}
 use Rattle.fl_dir.specs.Replies.{unless_error}
 use Rattle.fl_core.specs.LockRequest.{mark_of, stroke_of}
 use Rattle.fl_core.specs.Replies.{set_reply}

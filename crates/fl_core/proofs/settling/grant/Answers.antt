@@ -1,8 +1,7 @@
-use Rattle.std.proofs.Common.{◌≡◌, ◌∙◌, Some, ap}
+use Rattle.std.proofs.Common.{◌∙◌, ap}
 use Rattle.fl_ranges.specs.Change.{after_changes}
 use Rattle.fl_core.specs.Effects.{locked}
 use Rattle.fl_core.specs.Replies.{room_reply}
-use Rattle.fl_core.specs.Settling.{grant_reply}
 use Rattle.fl_core.proofs.Requests.{asked_stroke, set_marking}
 use Rattle.fl_core.proofs.settling.grant.Goals as goal
 

@@ -1,7 +1,7 @@
 use Rattle.std.proofs.Common.{◌≡◌, ◌∙◌, ◌++◌, append-nil, true, false, ap, refl, sym, length, not, arith}
 use Rattle.fl_core.specs.Inside.Touched.{concerns_request}
 use Rattle.fl_core.specs.Replies.{is_malformed}
-use Rattle.fl_core.specs.Settling.{Settled, granted_told, present}
+use Rattle.fl_core.specs.Settling.{Settled, present}
 use Rattle.fl_core.specs.Waiting.{waits}
 use Rattle.fl_core.specs.declared.parked.Request.{Request}
 use Rattle.fl_core.proofs.Settlings.{is_oldest, one_shorter, settled_none, settling_goes_on, settling_ends}

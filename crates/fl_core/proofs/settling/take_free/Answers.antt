@@ -2,8 +2,7 @@ use Rattle.std.proofs.Common.{◌≡◌, rules, ◌∙◌, ◌&&◌, not, Option
 use Rattle.std.specs.Option.{MatchOption}
 use Rattle.fl_core.specs.Inside.Touched.{concerns_request}
 use Rattle.fl_core.specs.Replies.{is_malformed}
-use Rattle.fl_core.specs.Settling.{oldest_free}
-use Rattle.fl_core.specs.Waiting.{waits, taken_first}
+use Rattle.fl_core.specs.Waiting.{waits}
 use Rattle.fl_core.specs.declared.parked.Request.{Request}
 use Rattle.fl_core.proofs.Waits.{free_found}
 use Rattle.fl_core.proofs.settling.take_free.Goals as goal

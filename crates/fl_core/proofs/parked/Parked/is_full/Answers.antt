@@ -1,4 +1,4 @@
-use Rattle.std.proofs.Common.{◌==◌, length, ap, ◌∙◌, arith}
+use Rattle.std.proofs.Common.{length, ap, arith}
 use Rattle.fl_core.proofs.Chain.{all_counted, full}
 use Rattle.fl_core.proofs.parked.Parked.is_full.Goals as goal
 

@@ -1,4 +1,4 @@
-use Rattle.std.proofs.Common.{◌≡◌, ◌∙◌, ◌≤◌, List, [], ◌∷◌, ◌++◌, length, max, insert, sym, ap, subst, arith}
+use Rattle.std.proofs.Common.{◌≡◌, ◌∙◌, [], ◌∷◌, ◌++◌, length, insert, sym, ap, subst, arith}
 use Rattle.std.proofs.lemmas.List.{length-map}
 use Rattle.std.proofs.lemmas.List.Edits.{insert_end}
 use Rattle.fl_arena.specs.Chains.{Entry, entries, items}
@@ -18,11 +18,10 @@ invariant_of-self c =
     let old = items a 0 in
     let r = c.args.request in
     let new : items c.insert.new.self 0 ≡ old ++ r ∷ [] =
-    c.in-Ok.ensures.items ∙ ap (λ n. insert old n r) (sym (length-map (entries a 0) (λ (e : Entry Request). e.item))) ∙ insert_end old r in
-    (
+    c.in-Ok.ensures.items ∙ ap (λ n. insert old n r) (sym (length-map (entries a 0) (λ (e : Entry Request). e.item))) ∙ insert_end old r in (
       c.in-Ok.ensures.size.chains ∙ c.self.invariant.0,
       c.in-Ok.ensures.size.slots ∙ c.self.invariant.1,
       subst (AreUpTo c.max-self-inside.result) (sym new)
-      (up_to_more c.self.inside.greatest c.max-self-inside.result old r c.self.invariant.2 (omega (arith, c.max-self-inside.ensures)) (omega (arith, c.max-self-inside.ensures))),
+          (up_to_more c.self.inside.greatest c.max-self-inside.result old r c.self.invariant.2 (omega (arith, c.max-self-inside.ensures)) (omega (arith, c.max-self-inside.ensures))),
       subst (AreCounted _) (sym new) (counted_more c.self.inside.on_nodes old r c.bucket.result c.self.told c.self.invariant.3 c.bucket.ensures.is c.bucket.ensures.below),
     )

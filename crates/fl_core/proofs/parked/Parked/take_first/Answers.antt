@@ -1,4 +1,4 @@
-use Rattle.std.proofs.Common.{◌≡◌, ◌∙◌, ◌<◌, ℕ, zero, suc, Bool, true, false, not, Option, Some, None, is_some, option_map, slice_get, get_or, List, [], ◌∷◌, length, remove, refl, ap, sym, subst, arith}
+use Rattle.std.proofs.Common.{◌≡◌, ◌∙◌, ◌<◌, ℕ, zero, suc, false, Option, Some, None, is_some, option_map, slice_get, get_or, List, [], ◌∷◌, length, remove, refl, ap, sym, subst, arith}
 use Rattle.std.proofs.lemmas.List.Folds.{find_at}
 use Rattle.std.proofs.lemmas.Option.{none-some}
 use Rattle.std.specs.List.{find, position_or_len}
@@ -18,8 +18,7 @@ none_found (Some r) e = absurd (cc e)
 
 pub returns-then-is_none : goal.returns-then-is_none
 returns-then-is_none g c = λ p tests.
-    let none = none_found (find p (items c.self.inside.requests 0)) (ap is_some (sym (c.item.ensures.item ∙ c.first_where-cursor.ensures.found p tests)) ∙ sym (some_copied c.item.result) ∙ c.if-is_none.ensures) in
-    (
+    let none = none_found (find p (items c.self.inside.requests 0)) (ap is_some (sym (c.item.ensures.item ∙ c.first_where-cursor.ensures.found p tests)) ∙ sym (some_copied c.item.result) ∙ c.if-is_none.ensures) in (
       ap (taken_first p) (sym c.self.view_is) ∙ taken_found p (items c.self.inside.requests 0) ∙ ap (option_map (λ r. (r, remove (items c.self.inside.requests 0) (position_or_len p (items c.self.inside.requests 0))))) none,
       refl,
     )
@@ -60,8 +59,7 @@ invariant_of-self g c =
     let at : slice_get (items a 0) i ≡ Some r = ap (λ k. slice_get (items a k) i) (sym chain) ∙ c.remove-request.ensures.value in
     let there = stood (items a 0) i r at in
     let left : items c.remove-request.new.self 0 ≡ remove (items a 0) i =
-    ap (items c.remove-request.new.self) (sym chain) ∙ c.remove-request.ensures.items ∙ ap (λ k. remove (items a k) i) chain in
-    (
+    ap (items c.remove-request.new.self) (sym chain) ∙ c.remove-request.ensures.items ∙ ap (λ k. remove (items a k) i) chain in (
       c.remove-request.ensures.size.chains ∙ c.self.invariant.0,
       c.remove-request.ensures.size.slots ∙ c.self.invariant.1,
       subst (AreUpTo c.self.inside.greatest) (sym left) (up_to_removed c.self.inside.greatest (items a 0) i c.self.invariant.2),

@@ -1,4 +1,4 @@
-use Rattle.std.proofs.Common.{◌≡◌, ◌∙◌, Option, Some, sym, subst, ap}
+use Rattle.std.proofs.Common.{◌∙◌, Some, sym, subst, ap}
 use Rattle.fl_wire.specs.declared.order.Op.{Op}
 use Rattle.fl_wire.specs.declared.order.Op.TheVariants.{Flush}
 use Rattle.fl_ranges.specs.Conflict.{IsLawful}

@@ -1,4 +1,4 @@
-use Rattle.std.proofs.Common.{◌≡◌, ◌∙◌, true, false, cond, Some, Err, refl, sym, subst, ap}
+use Rattle.std.proofs.Common.{◌≡◌, ◌∙◌, true, false, cond, refl, sym, subst, ap}
 use Rattle.fl_wire.specs.Order.{only_reads}
 use Rattle.fl_core.specs.Replies.{own_replies, reply_to, taken_reply}
 use Rattle.fl_core.specs.State.{Snapshot}

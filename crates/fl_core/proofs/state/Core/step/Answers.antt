@@ -1,4 +1,4 @@
-use Rattle.std.proofs.Common.{◌≡◌, ◌++◌, ◌+◌, ◌≤◌, ◌∙◌, true, false, None, length, sym, subst, ap, arith}
+use Rattle.std.proofs.Common.{◌≡◌, ◌++◌, ◌≤◌, ◌∙◌, true, false, None, length, sym, subst, ap, arith}
 use Rattle.fl_core.specs.Effects.{by_reply, replied, made}
 use Rattle.fl_core.specs.Inside.Touched.{touched_by, OthersWait}
 use Rattle.fl_core.specs.Replies.{own_replies, ended_by, reply_to}
