@@ -16,13 +16,25 @@ fn with_waiter(rt: &impl Abort, alloc: Global) -> Server {
     server
 }
 
+// The orders give the replies of their rows after that.
+fn see(rt: &impl Abort, alloc: Global, rows: &[Row]) {
+    with_waiter(rt, alloc).see(rt, rows);
+}
+
+// Orders that only read are answered so.
+fn check_answers(rt: &impl Abort, core: &Core, cases: &[(Order, Reply)]) {
+    for (order, reply) in cases {
+        assert_eq!(rt; core.answer(order), *reply);
+    }
+}
+
 #[test]
 fn an_order_with_the_unique_of_a_waiting_request_is_refused(rt: HostRuntime) {
     let a = name(&rt, b"a");
-    let mut server = with_waiter(&rt, rt.alloc());
     let refused = &[err(3, Errno::EINVAL)];
-    server.see(
+    see(
         &rt,
+        rt.alloc(),
         &[
             (3, 1, Op::Lookup(a), refused),
             (3, 2, Op::Getattr, refused),
@@ -46,9 +58,9 @@ fn an_order_with_the_unique_of_a_waiting_request_is_refused(rt: HostRuntime) {
 
 #[test]
 fn a_forget_with_the_unique_of_a_waiting_request_does_nothing(rt: HostRuntime) {
-    let mut server = with_waiter(&rt, rt.alloc());
-    server.see(
+    see(
         &rt,
+        rt.alloc(),
         &[
             (3, 2, Op::Forget(1), &[]),
             (4, 1, Op::Unlink(name(&rt, b"a")), &[ok(4)]),
@@ -68,25 +80,25 @@ fn asked(unique: u64, op: Op) -> Order {
     }
 }
 
-#[test]
-fn orders_that_only_read_are_answered_so_beside_waiting_requests(rt: HostRuntime) {
-    let mut server = with_waiter(&rt, rt.alloc());
-    let before = [
+// What they are answered while the request waits, and then once it is granted.
+fn check_reads(rt: &impl Abort, server: &mut Server) {
+    let waiting = [
         (asked(3, Op::Getattr), EINVAL),
         (asked(3, test(1, 9, 0, 0)), EINVAL),
         (asked(3, Op::Open), None),
         (asked(4, Op::Getattr), attr(2, 1)),
         (asked(4, test(1, 9, 0, 0)), held(7, 0, 0, WRITE)),
     ];
-    for (order, reply) in before {
-        assert_eq!(rt; server.core.answer(&order), reply);
-    }
-    server.see(&rt, &[(4, 2, lock(1, 7, 0, 0, UNLOCK), &[ok(4), ok(3)])]);
-    let after = [
+    check_answers(rt, &server.core, &waiting);
+    server.see(rt, &[(4, 2, lock(1, 7, 0, 0, UNLOCK), &[ok(4), ok(3)])]);
+    let granted = [
         (asked(3, Op::Getattr), attr(2, 1)),
         (asked(3, test(1, 9, 0, 0)), held(8, 0, 0, WRITE)),
     ];
-    for (order, reply) in after {
-        assert_eq!(rt; server.core.answer(&order), reply);
-    }
+    check_answers(rt, &server.core, &granted);
+}
+
+#[test]
+fn orders_that_only_read_are_answered_so_beside_waiting_requests(rt: HostRuntime) {
+    check_reads(&rt, &mut with_waiter(&rt, rt.alloc()));
 }

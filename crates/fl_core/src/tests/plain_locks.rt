@@ -1,4 +1,5 @@
-//! A plain program of locks and of waiting: marks in a grid of bytes, and requests that wait in a list. It has no limits.
+//! A plain program of locks and of waiting: marks stand in a grid of bytes, and requests that wait in a list. It has no
+//! limits.
 
 use super::plain::Plain;
 use super::*;

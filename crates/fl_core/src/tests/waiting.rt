@@ -2,8 +2,8 @@
 
 use super::*;
 
-// A server with one file, node 2, open as fh 1 and 2.
-fn opened(rt: &impl Abort, alloc: Global) -> Server {
+// The orders give the replies of their rows where node 2 is open as fh 1 and 2.
+fn see(rt: &impl Abort, alloc: Global, rows: &[Row]) {
     let mut server = Server::new(rt, alloc);
     server.check(
         rt,
@@ -12,14 +12,14 @@ fn opened(rt: &impl Abort, alloc: Global) -> Server {
             (2, Op::Open, told(Answer::Open(2))),
         ],
     );
-    server
+    server.see(rt, rows);
 }
 
 #[test]
 fn unlocking_frees_the_oldest_and_the_second_still_waits(rt: HostRuntime) {
-    let mut server = opened(&rt, rt.alloc());
-    server.see(
+    see(
         &rt,
+        rt.alloc(),
         &[
             (2, 2, lock(1, 7, 0, 0, WRITE), &[ok(2)]),
             (3, 2, wait(1, 8, 0, 0, WRITE), &[]),
@@ -34,9 +34,9 @@ fn unlocking_frees_the_oldest_and_the_second_still_waits(rt: HostRuntime) {
 
 #[test]
 fn all_that_are_free_are_told_the_oldest_first(rt: HostRuntime) {
-    let mut server = opened(&rt, rt.alloc());
-    server.see(
+    see(
         &rt,
+        rt.alloc(),
         &[
             (2, 2, lock(1, 7, 0, 9, WRITE), &[ok(2)]),
             (9, 2, wait(1, 8, 0, 9, READ), &[]),
@@ -52,9 +52,9 @@ fn all_that_are_free_are_told_the_oldest_first(rt: HostRuntime) {
 
 #[test]
 fn a_new_request_passes_those_that_wait(rt: HostRuntime) {
-    let mut server = opened(&rt, rt.alloc());
-    server.see(
+    see(
         &rt,
+        rt.alloc(),
         &[
             (2, 2, lock(1, 7, 0, 0, READ), &[ok(2)]),
             (3, 2, wait(1, 8, 0, 9, WRITE), &[]),
@@ -70,9 +70,9 @@ fn a_new_request_passes_those_that_wait(rt: HostRuntime) {
 
 #[test]
 fn a_grant_that_turns_write_into_read_frees_an_older_request(rt: HostRuntime) {
-    let mut server = opened(&rt, rt.alloc());
-    server.see(
+    see(
         &rt,
+        rt.alloc(),
         &[
             (2, 2, lock(1, 7, 0, 0, WRITE), &[ok(2)]),
             (3, 2, lock(1, 8, 1, 1, WRITE), &[ok(3)]),
@@ -86,9 +86,9 @@ fn a_grant_that_turns_write_into_read_frees_an_older_request(rt: HostRuntime) {
 
 #[test]
 fn a_lock_that_turns_write_into_read_frees_requests_at_once(rt: HostRuntime) {
-    let mut server = opened(&rt, rt.alloc());
-    server.see(
+    see(
         &rt,
+        rt.alloc(),
         &[
             (2, 2, lock(1, 7, 0, 9, WRITE), &[ok(2)]),
             (3, 2, flock(1, 7, WRITE), &[ok(3)]),
@@ -104,9 +104,9 @@ fn a_lock_that_turns_write_into_read_frees_requests_at_once(rt: HostRuntime) {
 
 #[test]
 fn each_class_and_each_file_waits_for_itself(rt: HostRuntime) {
-    let mut server = opened(&rt, rt.alloc());
-    server.see(
+    see(
         &rt,
+        rt.alloc(),
         &[
             (2, 1, create(true, name(&rt, b"b")), &[with(2, made(3, 3))]),
             (3, 2, lock(1, 7, 0, 9, WRITE), &[ok(3)]),
@@ -124,9 +124,9 @@ fn each_class_and_each_file_waits_for_itself(rt: HostRuntime) {
 
 #[test]
 fn flush_frees_requests_and_ends_none(rt: HostRuntime) {
-    let mut server = opened(&rt, rt.alloc());
-    server.see(
+    see(
         &rt,
+        rt.alloc(),
         &[
             (2, 2, lock(1, 7, 0, 9, WRITE), &[ok(2)]),
             (3, 2, lock(2, 8, 20, 29, WRITE), &[ok(3)]),
@@ -146,9 +146,9 @@ fn flush_frees_requests_and_ends_none(rt: HostRuntime) {
 
 #[test]
 fn release_ends_those_of_its_fh_before_it_frees_any(rt: HostRuntime) {
-    let mut server = opened(&rt, rt.alloc());
-    server.see(
+    see(
         &rt,
+        rt.alloc(),
         &[
             (2, 2, lock(1, 7, 0, 9, WRITE), &[ok(2)]),
             (3, 2, flock(2, 7, WRITE), &[ok(3)]),
@@ -180,10 +180,10 @@ fn release_ends_those_of_its_fh_before_it_frees_any(rt: HostRuntime) {
 
 #[test]
 fn the_last_release_ends_all_requests_of_the_node(rt: HostRuntime) {
-    let mut server = opened(&rt, rt.alloc());
     let closed = [ok(7), err(5, Errno::EBADF), err(6, Errno::EBADF)];
-    server.see(
+    see(
         &rt,
+        rt.alloc(),
         &[
             (1, 1, create(true, name(&rt, b"b")), &[with(1, made(3, 3))]),
             (2, 2, release(2, false, 7), &[ok(2)]),
@@ -204,9 +204,9 @@ fn the_last_release_ends_all_requests_of_the_node(rt: HostRuntime) {
 
 #[test]
 fn an_interrupt_ends_the_request_that_it_names(rt: HostRuntime) {
-    let mut server = opened(&rt, rt.alloc());
-    server.see(
+    see(
         &rt,
+        rt.alloc(),
         &[
             (2, 2, Op::Interrupt(99), &[err(2, Errno::EAGAIN)]),
             (3, 2, lock(1, 7, 0, 0, WRITE), &[ok(3)]),
@@ -225,9 +225,9 @@ fn an_interrupt_ends_the_request_that_it_names(rt: HostRuntime) {
 
 #[test]
 fn unlocking_never_waits(rt: HostRuntime) {
-    let mut server = opened(&rt, rt.alloc());
-    server.see(
+    see(
         &rt,
+        rt.alloc(),
         &[
             (2, 2, lock(1, 7, 0, 9, WRITE), &[ok(2)]),
             (3, 2, flock(1, 7, WRITE), &[ok(3)]),
@@ -251,9 +251,9 @@ fn reversed(kind: u32) -> Op {
 
 #[test]
 fn a_whole_file_lock_waits_whatever_its_range(rt: HostRuntime) {
-    let mut server = opened(&rt, rt.alloc());
-    server.see(
+    see(
         &rt,
+        rt.alloc(),
         &[
             (2, 2, reversed(WRITE), &[ok(2)]),
             (3, 2, reversed(UNLOCK), &[ok(3)]),
@@ -267,9 +267,9 @@ fn a_whole_file_lock_waits_whatever_its_range(rt: HostRuntime) {
 
 #[test]
 fn a_whole_file_lock_stays_until_its_change_is_granted(rt: HostRuntime) {
-    let mut server = opened(&rt, rt.alloc());
-    server.see(
+    see(
         &rt,
+        rt.alloc(),
         &[
             (3, 2, flock(1, 7, READ), &[ok(3)]),
             (4, 2, flock(2, 8, READ), &[ok(4)]),
@@ -286,10 +286,10 @@ fn a_whole_file_lock_stays_until_its_change_is_granted(rt: HostRuntime) {
 
 #[test]
 fn a_record_lock_stays_until_its_change_is_granted(rt: HostRuntime) {
-    let mut server = opened(&rt, rt.alloc());
     let read = held(7, 0, 9, READ);
-    server.see(
+    see(
         &rt,
+        rt.alloc(),
         &[
             (2, 2, lock(1, 7, 0, 9, READ), &[ok(2)]),
             (3, 2, lock(2, 8, 5, 5, READ), &[ok(3)]),
