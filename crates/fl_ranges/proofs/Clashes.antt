@@ -3,13 +3,14 @@ use Rattle.std.proofs.Common.{◌≡◌, ℕ, ◌≤◌, Bool, true, false, cond
 use Rattle.std.proofs.lemmas.Bool.Decides.{nat_tests}
 use Rattle.std.specs.List.{list_any, find, AllByRecursion}
 use Rattle.std.specs.Cmp.{both_ways}
+use Rattle.std.specs.FinMap.{entries}
 use Rattle.fl_arena.specs.Chains.{Chains, items}
 use Rattle.fl_ranges.specs.declared.lock.Kind.{Kind}
 use Rattle.fl_ranges.specs.declared.lock.Key.{Key}
 use Rattle.fl_ranges.specs.declared.lock.Mark.{Mark}
 use Rattle.fl_ranges.specs.declared.run.Run.{Run}
 use Rattle.fl_ranges.specs.Marking.{class_number, Spot, marking_of}
-use Rattle.fl_ranges.specs.Conflict.{are_rivals, excludes, excludes_lock, conflicts}
+use Rattle.fl_ranges.specs.Conflict.{are_rivals, excludes, excludes_lock}
 use Rattle.fl_ranges.specs.Inside.RunList.{meant, has_spot, run_at, AreApart, run_excludes}
 use Rattle.fl_ranges.specs.Placing.{home}
 use Rattle.fl_ranges.specs.Inside.RunChains.{all_runs, IsTable}
@@ -86,33 +87,52 @@ any_of_found t u (x ∷ rs) r found is = go (λ h. any_of_found t u rs r h is) (
     go rest true h = let same : x ≡ r = cc h in or_first _ _ (ap t same ∙ is)
     go rest false h = or_later _ _ (rest h)
 
-module _ (key : Key) (start end : ℕ) (kind : Kind) where
-  run_shows : (rs : List Run) (r : Run) (byte : ℕ) → run_at rs (r.key, byte) ≡ Some r → are_rivals key r.key ≡ true → excludes kind r.mark.kind ≡ true → start ≤ byte → byte ≤ end → conflicts (marking_of (map meant rs)) key start end kind ≡ true
-  run_shows rs r byte found rivals kinds from upto =
-      entry_passes spots_total exact_spots (excludes_lock key start end kind) (marking_of (map meant rs)) (r.key, byte) r.mark
+-- a test of the owner, and the test for a conflict
+both_pass : (a b : Bool) → a ≡ true → b ≡ true → (a && b) ≡ true
+both_pass a b e f = λ i. e i && f i
+
+first_passes : (a b : Bool) → (a && b) ≡ true → a ≡ true
+first_passes true b e = refl
+first_passes false b e = absurd (cc e)
+
+second_passes : (a b : Bool) → (a && b) ≡ true → b ≡ true
+second_passes true b e = e
+second_passes false b e = absurd (cc e)
+
+-- Conflicts with the owners that pass a test; each does for those with any owner.
+module _ (by : ℕ → Bool) (key : Key) (start end : ℕ) (kind : Kind) where
+  abbrev spot_excludes : (Spot × Mark) → Bool
+  spot_excludes e = by e.0.0.owner && excludes_lock key start end kind e
+
+  abbrev excludes_so : Run → Bool
+  excludes_so r = by r.key.owner && run_excludes key start end kind r
+
+  run_shows : (rs : List Run) (r : Run) (byte : ℕ) → run_at rs (r.key, byte) ≡ Some r → by r.key.owner ≡ true → are_rivals key r.key ≡ true → excludes kind r.mark.kind ≡ true → start ≤ byte → byte ≤ end → list_any spot_excludes (entries (marking_of (map meant rs))) ≡ true
+  run_shows rs r byte found own rivals kinds from upto =
+      entry_passes spots_total exact_spots spot_excludes (marking_of (map meant rs)) (r.key, byte) r.mark
       (get-runs rs (r.key, byte) ∙ held_of rs (r.key, byte) r found)
-      (all_pass (are_rivals key r.key) (excludes kind r.mark.kind) start end byte byte rivals kinds from upto)
+      (both_pass _ _ own (all_pass (are_rivals key r.key) (excludes kind r.mark.kind) start end byte byte rivals kinds from upto))
 
   -- runs that are apart show a conflict exactly where their marking has one
-  pub runs_conflict : (rs : List Run) → start ≤ end → AreApart rs → list_any (run_excludes key start end kind) rs ≡ conflicts (marking_of (map meant rs)) key start end kind
+  pub runs_conflict : (rs : List Run) → start ≤ end → AreApart rs → list_any excludes_so rs ≡ list_any spot_excludes (entries (marking_of (map meant rs)))
   runs_conflict rs range apart = both_ways _ _
       (λ any.
-      let p = some_passing (λ r. (r.start ≤ r.end) × ((q : Spot) → has_spot q r ≡ true → run_at rs q ≡ Some r)) (run_excludes key start end kind) rs
+      let p = some_passing (λ r. (r.start ≤ r.end) × ((q : Spot) → has_spot q r ≡ true → run_at rs q ≡ Some r)) excludes_so rs
       (each_both (λ r. r.start ≤ r.end) (λ r. (q : Spot) → has_spot q r ≡ true → run_at rs q ≡ Some r) rs (each_ordered rs apart) (each_found rs apart)) any in
-      let w = passes (are_rivals key p.run.key) (excludes kind p.run.mark.kind) p.run.start p.run.end start end p.test in
+      let w = passes (are_rivals key p.run.key) (excludes kind p.run.mark.kind) p.run.start p.run.end start end (second_passes (by p.run.key.owner) _ p.test) in
       let b = shared p.run.start p.run.end start end p.own.0 range w.begins w.ends in
-      run_shows rs p.run b.byte (p.own.1 (p.run.key, b.byte) (spot_of p.run (p.run.key, b.byte) refl b.after_from b.before_to)) w.rivals w.kinds b.after_start b.before_end)
+      run_shows rs p.run b.byte (p.own.1 (p.run.key, b.byte) (spot_of p.run (p.run.key, b.byte) refl b.after_from b.before_to)) (first_passes (by p.run.key.owner) _ p.test) w.rivals w.kinds b.after_start b.before_end)
       (λ any.
-      let e = any_entry spots_total (excludes_lock key start end kind) (marking_of (map meant rs)) any in
+      let e = any_entry spots_total spot_excludes (marking_of (map meant rs)) any in
       let h = held_by rs e.0 e.1 (sym (get-runs rs e.0) ∙ e.2) in
       let at = at_spot h.run e.0 (run_has rs e.0 h.run h.found) in
-      let t = passes (are_rivals key e.0.0) (excludes kind e.1.kind) start end e.0.1 e.0.1 e.3 in
-      any_of_found (run_excludes key start end kind) (has_spot e.0) rs h.run h.found
-      (all_pass (are_rivals key h.run.key) (excludes kind h.run.mark.kind) h.run.start h.run.end start end
+      let t = passes (are_rivals key e.0.0) (excludes kind e.1.kind) start end e.0.1 e.0.1 (second_passes (by e.0.0.owner) _ e.3) in
+      any_of_found excludes_so (has_spot e.0) rs h.run h.found
+      (both_pass _ _ (ap (λ (k : Key). by k.owner) at.key ∙ first_passes (by e.0.0.owner) _ e.3) (all_pass (are_rivals key h.run.key) (excludes kind h.run.mark.kind) h.run.start h.run.end start end
       (ap (are_rivals key) at.key ∙ t.rivals)
       (ap (λ (m : Mark). excludes kind m.kind) h.mark_is ∙ t.kinds)
       (omega (arith, at.from, t.ends))
-      (omega (arith, at.upto, t.begins))))
+      (omega (arith, at.upto, t.begins)))))
 
   rival_node : (c n o : Bool) → (c && (n && o)) ≡ true → n ≡ true
   rival_node true true o e = refl
@@ -126,17 +146,17 @@ module _ (key : Key) (start end : ℕ) (kind : Kind) where
   only_false true f = absurd (f refl)
   only_false false f = refl
 
-  no_clash : (rs : List Run) → AllByRecursion (IsAway (home key.node)) rs → AllByRecursion (λ r. run_excludes key start end kind r ≡ false) rs
-  no_clash rs each = each_weaker (IsAway (home key.node)) (λ r. run_excludes key start end kind r ≡ false) (λ r far. only_false _ (λ is.
-      let w = passes (are_rivals key r.key) (excludes kind r.mark.kind) r.start r.end start end is in
+  no_clash : (rs : List Run) → AllByRecursion (IsAway (home key.node)) rs → AllByRecursion (λ r. excludes_so r ≡ false) rs
+  no_clash rs each = each_weaker (IsAway (home key.node)) (λ r. excludes_so r ≡ false) (λ r far. only_false _ (λ is.
+      let w = passes (are_rivals key r.key) (excludes kind r.mark.kind) r.start r.end start end (second_passes (by r.key.owner) _ is) in
       far (ap home (sym (same_number key.node r.key.node (rival_node (class_number key.class == class_number r.key.class) (key.node == r.key.node) (not (key.owner == r.key.owner)) w.rivals)))))) rs each
 
   -- and so does the chain of the node
-  pub table_conflict : (a : Chains Run) (limit : ℕ) (t : IsTable a limit) → start ≤ end → list_any (run_excludes key start end kind) (items a (home key.node)) ≡ conflicts (marking_of (map meant (all_runs a))) key start end kind
+  pub table_conflict : (a : Chains Run) (limit : ℕ) (t : IsTable a limit) → start ≤ end → list_any excludes_so (items a (home key.node)) ≡ list_any spot_excludes (entries (marking_of (map meant (all_runs a))))
   table_conflict a limit t range =
       let good = t.runs in
-      sym (ap (list_any (run_excludes key start end kind)) (all_around a (home key.node) (within a limit t key))
-      ∙ any_among (run_excludes key start end kind) (before_chain a (home key.node)) (items a (home key.node)) (after_chain a (home key.node))
+      sym (ap (list_any excludes_so) (all_around a (home key.node) (within a limit t key))
+      ∙ any_among excludes_so (before_chain a (home key.node)) (items a (home key.node)) (after_chain a (home key.node))
       (no_clash (before_chain a (home key.node)) (away_before a (home key.node) t.at_home))
       (no_clash (after_chain a (home key.node)) (away_after a (home key.node) t.at_home)))
       ∙ runs_conflict (all_runs a) range good.apart

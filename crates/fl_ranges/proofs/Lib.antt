@@ -22,5 +22,7 @@ pub mod Rearranged
 pub mod TableLemmas
 pub mod TableCalls
 pub mod Clashes
+pub mod OwnerConflicts
+pub mod OwnersWalk
 pub mod Places
 pub mod Sorted

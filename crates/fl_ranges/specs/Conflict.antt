@@ -1,5 +1,5 @@
 -- Which locks exclude each other (POSIX.1-2017 `fcntl`; Linux `flock(2)`).
-use Rattle.std.specs.Prelude.{◌≡◌, ◌≢◌, ℕ, ◌≤◌, Bool, true, false, not, ◌&&◌, ◌==◌, nat_le, Some}
+use Rattle.std.specs.Prelude.{◌≡◌, ◌≢◌, ℕ, ◌≤◌, ◌<◌, Bool, true, false, not, ◌&&◌, ◌==◌, nat_le, Option, Some, None}
 use Rattle.std.specs.List.{list_any}
 use Rattle.std.specs.FinMap.{entries, get}
 use Rattle.fl_ranges.specs.declared.lock.Kind.{Kind}
@@ -40,6 +40,34 @@ pub record IsConflict (m : Marking) (key : Key) (start end : ℕ) (kind : Kind) 
   pub from : start ≤ byte
   pub upto : byte ≤ end
   pub write : excludes kind mark.kind ≡ true
+
+-- a marked spot of this owner excludes it
+abbrev pub excludes_by : Key → ℕ → ℕ → Kind → ℕ → (Spot × Mark) → Bool
+excludes_by key start end kind owner e = (e.0.0.owner == owner) && excludes_lock key start end kind e
+
+-- some marked spot of this owner does
+abbrev pub owner_conflicts : Marking → Key → ℕ → ℕ → Kind → ℕ → Bool
+owner_conflicts m key start end kind owner = list_any (excludes_by key start end kind owner) (entries m)
+
+-- the same in words: one of the conflicts is with a mark of this owner
+pub record IsOwnerConflict (m : Marking) (key : Key) (start end : ℕ) (kind : Kind) (owner : ℕ) : Type 0 where
+  pub conflict : IsConflict m key start end kind
+  pub of : conflict.rival.owner ≡ owner
+
+-- an owner is greater than the one that is given; each is where none is
+abbrev pub IsAfter : Option ℕ → ℕ → Type 0
+IsAfter None owner = Unit {0}
+IsAfter (Some given) owner = given < owner
+
+-- there is one, and it isn't greater than this owner
+abbrev pub IsAtMost : Option ℕ → ℕ → Type 0
+IsAtMost None owner = ⊥
+IsAtMost (Some told) owner = told ≤ owner
+
+-- the least owner that conflicts, of those greater than the one that is given; none where no such owner does
+pub record IsLeastAfter (m : Marking) (key : Key) (start end : ℕ) (kind : Kind) (after told : Option ℕ) : Type 0 where
+  pub itself : (owner : ℕ) → told ≡ Some owner → IsAfter after owner × (owner_conflicts m key start end kind owner ≡ true)
+  pub least : (owner : ℕ) → IsAfter after owner → owner_conflicts m key start end kind owner ≡ true → IsAtMost told owner
 
 -- no byte of a node has marks of one class of two owners, one of them write
 abbrev pub IsLawful : Marking → Type 0

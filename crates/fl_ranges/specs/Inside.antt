@@ -3,3 +3,4 @@ pub mod RunList
 pub mod RunChains
 pub mod RunPlan
 pub mod Nearest
+pub mod Owners

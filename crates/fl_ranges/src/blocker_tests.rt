@@ -8,7 +8,7 @@ use std::process::Abort;
 use std::test::Fail;
 
 // A record lock of an owner, all on one node.
-fn key(owner: u64) -> Key {
+pub(super) fn key(owner: u64) -> Key {
     Key {
         class: Class::Record,
         node: 7,
@@ -16,19 +16,19 @@ fn key(owner: u64) -> Key {
     }
 }
 
-fn range(start: u64, end: u64) -> Range
+pub(super) fn range(start: u64, end: u64) -> Range
     requires ordered { start ≤ end }
     requires in_range { end ≤ LAST_BYTE }
 {
     Range { start, end }
 }
 
-const READ: Mark = Mark {
+pub(super) const READ: Mark = Mark {
     kind: Kind::Read,
     pid: 1,
 };
 
-const WRITE: Mark = Mark {
+pub(super) const WRITE: Mark = Mark {
     kind: Kind::Write,
     pid: 1,
 };
@@ -132,12 +132,12 @@ fn names_no_lock_of_another_class_or_node(rt: HostRuntime) -> Result<(), Fail> {
     Ok(())
 }
 
-const OWNERS: usize = 4;
+pub(super) const OWNERS: usize = 4;
 
-const BYTES: usize = 12;
+pub(super) const BYTES: usize = 12;
 
 // The marks of each owner on a row of bytes.
-type Marks = [[Option<Mark>; BYTES]; OWNERS];
+pub(super) type Marks = [[Option<Mark>; BYTES]; OWNERS];
 
 // The first of the owner's bytes from which all up to this one have the same mark.
 fn row_start(marks: &[Option<Mark>; BYTES], byte: usize) -> usize
@@ -230,8 +230,8 @@ fn compare(
 
 // Numbers that only look random, from a seed.
 #[derive(Drop)]
-struct Numbers {
-    state: u64,
+pub(super) struct Numbers {
+    pub(super) state: u64,
 }
 
 impl Numbers {
@@ -259,7 +259,7 @@ impl Numbers {
 }
 
 // One stroke on the table and on the marks.
-fn random_stroke(
+pub(super) fn random_stroke(
     rt: &impl Abort,
     table: &mut Table,
     marks: &mut Marks,

@@ -8,7 +8,7 @@ ghost use Rattle.fl_ranges.specs.declared.lock.Key.{Key as Holder};
 ghost use Rattle.fl_ranges.specs.declared.lock.Kind.{Kind as Sharing};
 ghost use Rattle.fl_ranges.specs.declared.held.Held.{Held as Lock};
 ghost use Rattle.fl_ranges.specs.Marking.{Spot, spot_cmp, Marking, Stroke, marking_of, mark_at};
-ghost use Rattle.fl_ranges.specs.Conflict.{conflicts, IsConflict};
+ghost use Rattle.fl_ranges.specs.Conflict.{conflicts, owner_conflicts, IsConflict, IsOwnerConflict};
 ghost use Rattle.fl_ranges.specs.Runs.{runs, IsStart, without_node};
 ghost use Rattle.fl_ranges.specs.Change.{Change, marking_after, last_said};
 ghost use Rattle.fl_ranges.specs.Blocker.{blocker, IsBlocker};
@@ -23,6 +23,14 @@ pub fn last_stroke_counts()
 pub fn conflict_is_another_owners_mark()
     ensures { (m : Marking) (key : Holder) (start end : ℕ) (kind : Sharing) →
         (conflicts m key start end kind ≡ true) ↔ IsConflict m key start end kind }
+{}
+
+/// An owner conflicts with a request exactly where one of its marks does; the request's own owner never.
+pub fn owner_conflict_is_a_conflict_with_the_owner()
+    ensures words { (m : Marking) (key : Holder) (start end : ℕ) (kind : Sharing) (owner : ℕ) →
+        (owner_conflicts m key start end kind owner ≡ true) ↔ IsOwnerConflict m key start end kind owner }
+    ensures own { (m : Marking) (key : Holder) (start end : ℕ) (kind : Sharing) →
+        owner_conflicts m key start end kind key.owner ≡ false }
 {}
 
 /// A list of spots without doubles that holds exactly those where a run starts has as many spots as there

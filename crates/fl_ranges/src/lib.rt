@@ -8,6 +8,9 @@ mod chain;
 mod held;
 pub mod laws;
 mod lock;
+mod owners;
+#[cfg(test)]
+mod owners_tests;
 mod plan;
 mod run;
 mod table;
