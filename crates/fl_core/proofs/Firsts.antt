@@ -1,9 +1,10 @@
 -- The first replies as a function, and in words.
-use Rattle.std.proofs.Common.{◌≡◌, ◌≢◌, ◌↔◌, ℕ, ◌==◌, ◌≤◌, ◌<◌, nat_le, Bool, true, false, cond, ◌||◌, Option, Some, None, Ok, Err, List, [], ◌∷◌, ◌++◌, append-nil, length, map, refl, sym, ap, ◌∙◌, subst, arith}
+use Rattle.std.proofs.Common.{◌≡◌, ◌≢◌, ◌↔◌, ℕ, zero, suc, ◌==◌, ◌≤◌, ◌<◌, nat_le, Bool, true, false, cond, ◌||◌, Option, Some, None, Result, Ok, Err, List, [], ◌∷◌, ◌++◌, append-nil, length, map, refl, sym, ap, ◌∙◌, subst, arith}
 use Rattle.std.proofs.lemmas.Bool.Decides.{nat_tests}
 use Rattle.std.specs.List.{filter, AllByRecursion}
 use Rattle.fl_wire.specs.declared.errno.Errno.{Errno}
-use Rattle.fl_wire.specs.declared.errno.Errno.TheVariants.{EINTR, EBADF, EINVAL, EAGAIN, ENOLCK}
+use Rattle.fl_wire.specs.declared.errno.Errno.TheVariants.{EINTR, EBADF, EINVAL, EAGAIN, EDEADLK, ENOLCK}
+use Rattle.fl_wire.specs.declared.told.Answer.{Answer}
 use Rattle.fl_wire.specs.declared.told.Answer.TheVariants.{Done}
 use Rattle.fl_wire.specs.declared.told.Told.{Told}
 use Rattle.fl_wire.specs.declared.order.LockAsk.{LockAsk}
@@ -13,14 +14,21 @@ use Rattle.fl_wire.specs.declared.order.Op.TheVariants.{Create, Getlk, Setlk, Se
 use Rattle.fl_wire.specs.declared.order.Order.{Order}
 use Rattle.fl_dir.specs.OpenFiles.{is_open_on}
 use Rattle.fl_core.specs.First.{IsWaiter, IsNew, is_alone, own, request_of, IsAnswered, IsFirst}
-use Rattle.fl_core.specs.First.{alone, not_open, closes, interrupts, interrupts_none, fails, is_free, is_one_too_many, waits_now}
+use Rattle.fl_core.specs.First.{alone, not_open, closes, interrupts, interrupts_none, fails, is_free, closes_one, is_one_too_many, waits_now}
 use Rattle.fl_core.specs.First.{forget_of_a_waiter, as_a_waiter, as_no_waiter}
-use Rattle.fl_core.specs.Replies.{ask_error, reply_to, taken_reply, own_replies, ended_with, ended_all, ended_by, first_told, at_once_unless}
+use Rattle.fl_core.specs.Circle.{ClosesCircle}
+use Rattle.fl_core.specs.Replies.{ask_error, is_deadlock, reply_to, taken_reply, own_replies, ended_with, ended_all, ended_by, first_told, wait_reply, at_once_unless, room_reply}
+use Rattle.fl_core.specs.LockRequest.{mark_of, stroke_of}
 use Rattle.fl_core.specs.Settling.{grant_reply}
 use Rattle.fl_core.specs.State.{Snapshot}
 use Rattle.fl_core.specs.Waiting.{is_parked, waits, AreApart}
 use Rattle.fl_core.specs.declared.parked.Request.{Request}
 use Rattle.fl_core.proofs.Taken.{none_of}
+use Rattle.fl_core.proofs.Wishes.{deadlock_words}
+
+only_false : (b : Bool) → (b ≡ true → ⊥) → b ≡ false
+only_false true f = absurd (f refl)
+only_false false f = refl
 
 -- ---- requests of a unique
 
@@ -101,22 +109,33 @@ not_at_least : (n : ℕ) → n < 256 → nat_le 256 n ≡ false
 not_at_least n e = grind (arith, nat_tests)
 
 -- a SETLKW by its tests
-abbrev lock_told : Snapshot → Order → LockAsk → Option Errno → Bool → Bool → List Told
-lock_told p order ask e conflict full =
-    own_replies order (at_once_unless e (cond conflict (cond full (Some (Err ENOLCK)) None) (Some (grant_reply p.marking (request_of order ask)))))
+abbrev lock_told : Snapshot → Order → LockAsk → Option Errno → Bool → Bool → Bool → List Told
+lock_told p order ask e conflict deadlock full =
+    own_replies order (at_once_unless e (cond conflict (cond deadlock (Some (Err EDEADLK)) (cond full (Some (Err ENOLCK)) None)) (Some (grant_reply p.marking (request_of order ask)))))
 
-lock_answered : (p : Snapshot) (order : Order) (ask : LockAsk) (e : Option Errno) (conflict full : Bool) → ask_error p.view.directory order.node ask ≡ e
-    → waits p.marking (request_of order ask) ≡ conflict → nat_le 256 (length p.view.parked) ≡ full → IsAnswered p order (Setlkw ask) (lock_told p order ask e conflict full)
-lock_answered p order ask (Some e) conflict full fault c f = fails ask e fault
-lock_answered p order ask None false full fault c f = is_free ask fault c
-lock_answered p order ask None true true fault c f = is_one_too_many ask fault c (at_least (length p.view.parked) f)
-lock_answered p order ask None true false fault c f = waits_now ask fault c (below (length p.view.parked) f)
+-- the request would close a circle
+abbrev deadlocks : Snapshot → Order → LockAsk → Bool
+deadlocks p order ask = is_deadlock p.marking p.view.parked (stroke_of order.node ask) (mark_of ask)
 
-lock_is : (p : Snapshot) (order : Order) (ask : LockAsk) (e : Option Errno) (conflict full : Bool) → ask_error p.view.directory order.node ask ≡ e
-    → waits p.marking (request_of order ask) ≡ conflict → nat_le 256 (length p.view.parked) ≡ full → told_of p order (Setlkw ask) ≡ lock_told p order ask e conflict full
-lock_is p order ask e conflict full fault c f =
-    append-nil (lock_told p order ask (ask_error p.view.directory order.node ask) (waits p.marking (request_of order ask)) (nat_le 256 (length p.view.parked)))
-    ∙ (λ i. lock_told p order ask (fault i) (c i) (f i))
+no_circle : (p : Snapshot) (order : Order) (ask : LockAsk) → deadlocks p order ask ≡ false → ClosesCircle p.marking p.view.parked (request_of order ask) → ⊥
+no_circle p order ask d c = cc (sym ((deadlock_words p.marking p.view.parked (request_of order ask)).1 c) ∙ d)
+
+no_deadlock : (p : Snapshot) (order : Order) (ask : LockAsk) → (ClosesCircle p.marking p.view.parked (request_of order ask) → ⊥) → deadlocks p order ask ≡ false
+no_deadlock p order ask none = only_false _ (λ d. none ((deadlock_words p.marking p.view.parked (request_of order ask)).0 d))
+
+lock_answered : (p : Snapshot) (order : Order) (ask : LockAsk) (e : Option Errno) (conflict deadlock full : Bool) → ask_error p.view.directory order.node ask ≡ e
+    → waits p.marking (request_of order ask) ≡ conflict → deadlocks p order ask ≡ deadlock → nat_le 256 (length p.view.parked) ≡ full → IsAnswered p order (Setlkw ask) (lock_told p order ask e conflict deadlock full)
+lock_answered p order ask (Some e) conflict deadlock full fault c d f = fails ask e fault
+lock_answered p order ask None false deadlock full fault c d f = is_free ask fault c
+lock_answered p order ask None true true full fault c d f = closes_one ask fault c ((deadlock_words p.marking p.view.parked (request_of order ask)).0 d)
+lock_answered p order ask None true false true fault c d f = is_one_too_many ask fault c (no_circle p order ask d) (at_least (length p.view.parked) f)
+lock_answered p order ask None true false false fault c d f = waits_now ask fault c (no_circle p order ask d) (below (length p.view.parked) f)
+
+lock_is : (p : Snapshot) (order : Order) (ask : LockAsk) (e : Option Errno) (conflict deadlock full : Bool) → ask_error p.view.directory order.node ask ≡ e
+    → waits p.marking (request_of order ask) ≡ conflict → deadlocks p order ask ≡ deadlock → nat_le 256 (length p.view.parked) ≡ full → told_of p order (Setlkw ask) ≡ lock_told p order ask e conflict deadlock full
+lock_is p order ask e conflict deadlock full fault c d f =
+    append-nil (lock_told p order ask (ask_error p.view.directory order.node ask) (waits p.marking (request_of order ask)) (deadlocks p order ask) (nat_le 256 (length p.view.parked)))
+    ∙ (λ i. lock_told p order ask (fault i) (c i) (d i) (f i))
 
 answered_so : (p : Snapshot) (order : Order) → AreApart p.view.parked → (op : Op) → IsAnswered p order op (told_of p order op)
 answered_so p order apart (Lookup name) = alone (Lookup name) refl
@@ -135,7 +154,7 @@ answered_so p order apart (Create excl mode name) = alone (Create excl mode name
 answered_so p order apart (Getlk ask) = alone (Getlk ask) refl
 answered_so p order apart (Setlk ask) = alone (Setlk ask) refl
 answered_so p order apart (Setlkw ask) =
-    subst (IsAnswered p order (Setlkw ask)) (sym (lock_is p order ask _ _ _ refl refl refl)) (lock_answered p order ask _ _ _ refl refl refl)
+    subst (IsAnswered p order (Setlkw ask)) (sym (lock_is p order ask _ _ _ _ refl refl refl refl)) (lock_answered p order ask _ _ _ _ refl refl refl refl)
 answered_so p order apart (Interrupt u) = go (is_parked u p.view.parked) refl
   where
     go : (b : Bool) → is_parked u p.view.parked ≡ b
@@ -170,10 +189,11 @@ told_so {p} {order} apart (interrupts u r w) =
     ∙ interrupted u p.view.parked r apart w
 told_so {p} {order} apart (interrupts_none u new) =
     ap (λ b. let reply = cond b None (Some (Err EAGAIN)) in own_replies order reply ++ ended_by p.view.parked (Interrupt u) reply) (not_there u p.view.parked new)
-told_so {p} {order} apart (fails ask e fault) = lock_is p order ask (Some e) _ _ fault refl refl
-told_so {p} {order} apart (is_free ask fault c) = lock_is p order ask None false _ fault c refl
-told_so {p} {order} apart (is_one_too_many ask fault c full) = lock_is p order ask None true true fault c (not_below (length p.view.parked) full)
-told_so {p} {order} apart (waits_now ask fault c few) = lock_is p order ask None true false fault c (not_at_least (length p.view.parked) few)
+told_so {p} {order} apart (fails ask e fault) = lock_is p order ask (Some e) _ _ _ fault refl refl refl
+told_so {p} {order} apart (is_free ask fault c) = lock_is p order ask None false _ _ fault c refl refl
+told_so {p} {order} apart (closes_one ask fault c circle) = lock_is p order ask None true true _ fault c ((deadlock_words p.marking p.view.parked (request_of order ask)).1 circle) refl
+told_so {p} {order} apart (is_one_too_many ask fault c none full) = lock_is p order ask None true false true fault c (no_deadlock p order ask none) (not_below (length p.view.parked) full)
+told_so {p} {order} apart (waits_now ask fault c none few) = lock_is p order ask None true false false fault c (no_deadlock p order ask none) (not_at_least (length p.view.parked) few)
 
 -- ---- any order
 

@@ -4,7 +4,7 @@ use Rattle.std.specs.Prelude.{◌≡◌, ◌≢◌, ◌==◌, ◌≤◌, ◌<◌
 use Rattle.std.specs.Prelude.{length}
 use Rattle.std.specs.List.{AllByRecursion}
 use Rattle.fl_wire.specs.declared.errno.Errno.{Errno}
-use Rattle.fl_wire.specs.declared.errno.Errno.TheVariants.{EINTR, EBADF, EINVAL, EAGAIN, ENOLCK}
+use Rattle.fl_wire.specs.declared.errno.Errno.TheVariants.{EINTR, EBADF, EINVAL, EAGAIN, EDEADLK, ENOLCK}
 use Rattle.fl_wire.specs.declared.told.Answer.{Answer}
 use Rattle.fl_wire.specs.declared.told.Answer.TheVariants.{Done}
 use Rattle.fl_wire.specs.declared.told.Told.{Told}
@@ -13,6 +13,7 @@ use Rattle.fl_wire.specs.declared.order.Op.{Op}
 use Rattle.fl_wire.specs.declared.order.Op.TheVariants.{Forget, Release, Setlkw, Interrupt}
 use Rattle.fl_wire.specs.declared.order.Order.{Order}
 use Rattle.fl_dir.specs.OpenFiles.{is_open_on}
+use Rattle.fl_core.specs.Circle.{ClosesCircle}
 use Rattle.fl_core.specs.Replies.{ask_error, reply_to, own_replies, ended_with, ended_all}
 use Rattle.fl_core.specs.Settling.{grant_reply}
 use Rattle.fl_core.specs.State.{Snapshot}
@@ -61,18 +62,23 @@ pub data IsAnswered (p : Snapshot) (order : Order) : Op → List Told → Type 0
       → IsAnswered p order (Interrupt unique) (ended_with EINTR r ∷ [])
   interrupts_none : (unique : ℕ) → IsNew unique p.view.parked
       → IsAnswered p order (Interrupt unique) (own order (Err EAGAIN) ∷ [])
-  -- SETLKW: of a request that fails a test whatever locks are held; that conflicts with nothing; that conflicts, when
-  -- 256 requests wait already; that conflicts, and waits from now on
+  -- SETLKW: of a request that fails a test whatever locks are held; that conflicts with nothing; that conflicts, and
+  -- would close a circle; that conflicts, when 256 requests wait already; that conflicts, and waits from now on
   fails : (ask : LockAsk) (e : Errno) → ask_error p.view.directory order.node ask ≡ Some e
       → IsAnswered p order (Setlkw ask) (own order (Err e) ∷ [])
   is_free : (ask : LockAsk) → ask_error p.view.directory order.node ask ≡ None
       → waits p.marking (request_of order ask) ≡ false
       → IsAnswered p order (Setlkw ask) (own order (grant_reply p.marking (request_of order ask)) ∷ [])
+  closes_one : (ask : LockAsk) → ask_error p.view.directory order.node ask ≡ None
+      → waits p.marking (request_of order ask) ≡ true → ClosesCircle p.marking p.view.parked (request_of order ask)
+      → IsAnswered p order (Setlkw ask) (own order (Err EDEADLK) ∷ [])
   is_one_too_many : (ask : LockAsk) → ask_error p.view.directory order.node ask ≡ None
-      → waits p.marking (request_of order ask) ≡ true → 256 ≤ length p.view.parked
+      → waits p.marking (request_of order ask) ≡ true → (ClosesCircle p.marking p.view.parked (request_of order ask) → ⊥)
+      → 256 ≤ length p.view.parked
       → IsAnswered p order (Setlkw ask) (own order (Err ENOLCK) ∷ [])
   waits_now : (ask : LockAsk) → ask_error p.view.directory order.node ask ≡ None
-      → waits p.marking (request_of order ask) ≡ true → length p.view.parked < 256
+      → waits p.marking (request_of order ask) ≡ true → (ClosesCircle p.marking p.view.parked (request_of order ask) → ⊥)
+      → length p.view.parked < 256
       → IsAnswered p order (Setlkw ask) []
 
 -- what any order gives: where a request waits that has its unique, a FORGET gives nothing, and any other EINVAL

@@ -1,3 +1,4 @@
+pub mod Circle
 pub mod Codes
 pub mod Effects
 pub mod First

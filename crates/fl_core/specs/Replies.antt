@@ -1,10 +1,10 @@
 -- What an order is answered at once (POSIX.1-2017 `fcntl`, F_GETLK and F_SETLK; Linux `flock(2)`; the requests of Linux
 -- `fuse.h`).
-use Rattle.std.specs.Prelude.{ℕ, Bool, not, ◌||◌, ◌&&◌, ◌==◌, nat_le, nat_lt, Option, Some, None, Result, Ok, Err}
+use Rattle.std.specs.Prelude.{ℕ, Bool, false, not, ◌||◌, ◌&&◌, ◌==◌, nat_le, nat_lt, Option, Some, None, Result, Ok, Err}
 use Rattle.std.specs.Prelude.{List, [], ◌∷◌, ◌++◌, length, map, if◌then◌else◌}
 use Rattle.std.specs.List.{filter}
 use Rattle.fl_wire.specs.declared.errno.Errno.{Errno}
-use Rattle.fl_wire.specs.declared.errno.Errno.TheVariants.{EINTR, EBADF, EINVAL, EAGAIN, ENOLCK}
+use Rattle.fl_wire.specs.declared.errno.Errno.TheVariants.{EINTR, EBADF, EINVAL, EAGAIN, EDEADLK, ENOLCK}
 use Rattle.fl_wire.specs.declared.told.Answer.{Answer}
 use Rattle.fl_wire.specs.declared.told.Answer.TheVariants.{Done, Lock}
 use Rattle.fl_wire.specs.declared.told.Told.{Told}
@@ -24,6 +24,7 @@ use Rattle.fl_ranges.specs.Blocker.{blocker}
 use Rattle.fl_dir.specs.Directory.{Listing}
 use Rattle.fl_dir.specs.OpenFiles.{is_open_on}
 use Rattle.fl_dir.specs.Replies.{lookup_reply, create_reply, open_reply, getattr_reply, unlink_reply, unless_error}
+use Rattle.fl_core.specs.Circle.{closes_circle, wish_on}
 use Rattle.fl_core.specs.LockRequest.{is_flock, key_of, mark_of, stroke_of}
 use Rattle.fl_core.specs.State.{View, Snapshot}
 use Rattle.fl_core.specs.Waiting.{is_excluded, is_parked}
@@ -53,9 +54,16 @@ ask_error d node ask =
 abbrev pub setlk_reply : Listing → Marking → ℕ → LockAsk → Result Answer Errno
 setlk_reply d m node ask = unless_error (ask_error d node ask) (set_reply m (stroke_of node ask) (mark_of ask))
 
--- a request that conflicts has no reply yet, unless 256 requests wait already
-abbrev pub wait_reply : List Request → Option (Result Answer Errno)
-wait_reply parked = if nat_le 256 (length parked) then Some (Err ENOLCK) else None
+-- a lock would close a circle of waiting owners if its request waited
+abbrev pub is_deadlock : Marking → List Request → Stroke → Option Mark → Bool
+is_deadlock m parked s None = false
+is_deadlock m parked s (Some mark) = closes_circle m parked (wish_on s mark)
+
+-- a request that conflicts has no reply yet, unless it would close a circle, or 256 requests wait already
+abbrev pub wait_reply : Marking → List Request → Stroke → Option Mark → Option (Result Answer Errno)
+wait_reply m parked s mark =
+    if is_deadlock m parked s mark then Some (Err EDEADLK)
+    else (if nat_le 256 (length parked) then Some (Err ENOLCK) else None)
 
 -- the error at once, or else the reply, if it comes at once
 abbrev pub at_once_unless : Option Errno → Option (Result Answer Errno) → Option (Result Answer Errno)
@@ -67,7 +75,7 @@ abbrev pub setlkw_reply : View → Marking → ℕ → LockAsk → Option (Resul
 setlkw_reply v m node ask =
     let s = stroke_of node ask in
     at_once_unless (ask_error v.directory node ask)
-    (if is_excluded m s (mark_of ask) then wait_reply v.parked else Some (room_reply m s))
+    (if is_excluded m s (mark_of ask) then wait_reply m v.parked s (mark_of ask) else Some (room_reply m s))
 
 -- the type of a lock record: 0 is read and 1 is write
 abbrev pub type_of : Kind → ℕ

@@ -1,14 +1,18 @@
 //! Laws of the definitions, in the words of their subject. Each is the contract of an empty function.
 
-ghost use Rattle.std.specs.Prelude.{◌≡◌, ◌↔◌, [], List};
+ghost use Rattle.std.specs.Prelude.{◌≡◌, ◌↔◌, true, [], List};
 ghost use Rattle.fl_wire.specs.declared.order.Order.{Order as Asked};
 ghost use Rattle.fl_wire.specs.declared.told.Told.{Told as Reply};
+ghost use Rattle.fl_ranges.specs.Marking.{Marking as Locks};
+ghost use Rattle.fl_core.specs.Circle.{Wish, owner_of, hinders, wishes, closes_circle, IsCircle, ClosesCircle};
 ghost use Rattle.fl_core.specs.Effects.{Effect, recorded, made};
 ghost use Rattle.fl_core.specs.First.{IsFirst};
-ghost use Rattle.fl_core.specs.Replies.{first_told};
+ghost use Rattle.fl_core.specs.LockRequest.{mark_of, stroke_of};
+ghost use Rattle.fl_core.specs.Replies.{first_told, is_deadlock};
 ghost use Rattle.fl_core.specs.Settling.{Present, settled, IsSettled};
 ghost use Rattle.fl_core.specs.State.{View, State, Snapshot, snapshot_of};
 ghost use Rattle.fl_core.specs.Waiting.{AllWait, AreApart};
+ghost use Rattle.fl_core.specs.declared.parked.Request.{Request as Waiter};
 
 /// What is shown of a state after an effect is the snapshot after that effect.
 pub fn effects_are_shown_alike()
@@ -19,6 +23,15 @@ pub fn effects_are_shown_alike()
 pub fn first_replies_are_those_of_the_orders_case()
     ensures { (p : Snapshot) (order : Asked) (tolds : List Reply) → AreApart p.view.parked →
         (tolds ≡ first_told p order) ↔ IsFirst p order tolds }
+{}
+
+/// A lock would close a circle exactly where an owner who keeps it from being set waits for the owner who wants it,
+/// directly or through others, each of whom waits for the next; and so would the request for it.
+pub fn a_circle_is_a_row_of_owners_who_wait()
+    ensures wish { (m : Locks) (parked : List Waiter) (w : Wish) →
+        (closes_circle m parked w ≡ true) ↔ IsCircle owner_of (hinders m) (wishes parked) w }
+    ensures request { (m : Locks) (parked : List Waiter) (r : Waiter) →
+        (is_deadlock m parked (stroke_of r.node r.ask) (mark_of r.ask) ≡ true) ↔ ClosesCircle m parked r }
 {}
 
 /// Settling takes out the oldest request that conflicts with nothing, again and again, until each conflicts.

@@ -1,6 +1,7 @@
 //! One order: what it is answered, and what it changes in the directory and in the table of locks.
 #![tactic(auto)]
 
+mod circle;
 mod ending;
 pub mod laws;
 mod locking;

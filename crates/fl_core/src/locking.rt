@@ -7,11 +7,13 @@ ghost use Rattle.fl_ranges.specs.Conflict.{IsLawful, SameElsewhere, SameOffNode}
 ghost use Rattle.fl_ranges.specs.Change.{cleared, after_change, after_changes};
 ghost use Rattle.fl_core.specs.LockRequest.{is_flock, key_of, start_of, end_of, mark_of};
 ghost use Rattle.fl_core.specs.Effects.{dropped, locked, unlocked};
-ghost use Rattle.fl_core.specs.Replies.{ask_error, is_malformed, type_of, lock_answer};
+ghost use Rattle.fl_core.specs.Replies.{ask_error, is_deadlock, is_malformed, type_of, lock_answer};
 ghost use Rattle.fl_core.specs.Replies.{room_reply, set_reply, setlk_reply, setlkw_reply, getlk_reply};
+ghost use Rattle.fl_core.specs.Inside.Parts.{AreFormed};
 ghost use Rattle.fl_core.specs.Inside.Touched.{WaitsNow};
 ghost use Rattle.fl_core.specs.Waiting.{is_excluded};
 
+use crate::circle::Wanted;
 use crate::parked::{Parked, Request};
 use fl_dir::Dir;
 use fl_ranges::{Class, Held, Key, Kind, LAST_BYTE, Mark, Range, Table};
@@ -81,7 +83,8 @@ pub(crate) fn set_or_wait(
     node: u64,
     ask: &LockAsk,
 ) -> Option<Result<Answer, Errno>>
-    requires { locks.old.limit ≡ MOST_RUNS }
+    requires limit { locks.old.limit ≡ MOST_RUNS }
+    requires formed { AreFormed parked.old }
     ensures reply { result ≡ setlkw_reply (record { directory = directory.now; parked = parked.old })
         locks.old.marking node ask.now }
     ensures told { IfSome result (λ reply.
@@ -101,6 +104,9 @@ pub(crate) fn set_or_wait(
     if !is_excluded(locks, &key, &range, mark) {
         return Some(store(locks, &key, &range, mark));
     }
+    if is_deadlock(locks, parked, &key, &range, mark) {
+        return Some(Err(Errno::EDEADLK));
+    }
     if parked.is_full() {
         return Some(Err(Errno::ENOLCK));
     }
@@ -110,6 +116,24 @@ pub(crate) fn set_or_wait(
         ask: *ask,
     });
     None
+}
+
+// Whether a lock would close a circle of waiting owners if its request waited.
+fn is_deadlock(locks: &Table, parked: &Parked, key: &Key, range: &Range, mark: Option<Mark>) -> bool
+    requires { AreFormed parked.now }
+    ensures { result ≡ is_deadlock locks.now.marking parked.now (stroke_on key.now range.now mark) mark }
+{
+    match mark {
+        None => false,
+        Some(mark) => {
+            let asked = Wanted {
+                key: *key,
+                range: *range,
+                kind: mark.kind,
+            };
+            parked.close_circle(locks, &asked)
+        }
+    }
 }
 
 // The bytes of the range get the mark, or lose theirs: where no lock that is held excludes it, and where there is

@@ -70,6 +70,14 @@ impl Parked {
         self.requests.free() == 0
     }
 
+    /// Whether none waits.
+    pub(crate) fn is_empty(&self) -> bool
+        ensures few { length self.now ≤ MOST_PARKED }
+        ensures empty { result ≡ (length self.now == 0) }
+    {
+        self.requests.free() == MOST_PARKED
+    }
+
     /// Whether a request of this unique waits.
     pub(crate) fn has(&self, unique: u64) -> bool
         ensures found { result ≡ is_parked unique self.now }

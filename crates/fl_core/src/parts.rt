@@ -6,6 +6,7 @@ ghost use Rattle.fl_ranges.specs.Change.{after_changes};
 ghost use Rattle.fl_ranges.specs.Conflict.{IsLawful, SameElsewhere, SameOffNode};
 ghost use Rattle.fl_ranges.specs.declared.lock.Class.TheVariants.{Record};
 ghost use Rattle.fl_wire.specs.Order.{only_reads};
+ghost use Rattle.fl_core.specs.Circle.{closes_circle};
 ghost use Rattle.fl_core.specs.Effects.{by_reply, flushed, released, made};
 ghost use Rattle.fl_core.specs.Inside.Parts.{AreFormed, left_by, with_parked};
 ghost use Rattle.fl_core.specs.Inside.Touched.{touched_by, OthersWait};
@@ -14,13 +15,14 @@ ghost use Rattle.fl_core.specs.State.{opening, snapshot_of};
 ghost use Rattle.fl_core.specs.Step.{settling, with_present};
 ghost use Rattle.fl_core.specs.Waiting.{is_parked, AllWait, AreApart};
 
+use crate::circle::Wanted;
 use crate::ending::{Ending, end_all};
 use crate::locking::{MOST_RUNS, release_locks, set_lock, set_or_wait, test_lock, unlock};
 use crate::parked::Parked;
 use crate::settling::{Touched, settle};
 use crate::tolds::{MOST_TOLDS, Tolds};
 use fl_dir::Dir;
-use fl_ranges::{Class, Table};
+use fl_ranges::{Class, Key, Kind, Range, Table};
 use fl_wire::{Answer, Errno, NoMemory, Op, Order};
 use std::alloc::Global;
 use std::marker::Model;
@@ -117,6 +119,19 @@ impl Parts {
             Op::Interrupt(unique) if self.parked.has(*unique) => return None,
             Op::Interrupt(_) => Err(Errno::EAGAIN),
         })
+    }
+
+    /// Whether a request for this lock would close a circle of waiting owners.
+    pub(crate) fn circle(&self, key: &Key, range: &Range, kind: Kind) -> bool
+        ensures { result ≡ closes_circle self.now.marking self.now.view.parked
+            (record { key = key.now; start = range.now.start; end = range.now.end; kind = kind }) }
+    {
+        let asked = Wanted {
+            key: *key,
+            range: *range,
+            kind,
+        };
+        self.parked.close_circle(&self.locks, &asked)
     }
 
     /// Ends the requests that wait which the order ends, by what it was answered itself, and tells them.

@@ -1,6 +1,7 @@
 ghost use Rattle.std.specs.Prelude.{◌≡◌, ◌≤◌, ◌↔◌, [], true, length, IfOk, IsSome};
 ghost use Rattle.fl_ranges.specs.Conflict.{IsLawful};
 ghost use Rattle.fl_wire.specs.Order.{only_reads};
+ghost use Rattle.fl_core.specs.Circle.{closes_circle};
 ghost use Rattle.fl_core.specs.State.{State, opening, snapshot_of};
 ghost use Rattle.fl_core.specs.Effects.{replied, recorded};
 ghost use Rattle.fl_core.specs.Replies.{own_replies, taken_reply};
@@ -10,6 +11,7 @@ ghost use Rattle.fl_core.specs.Waiting.{AllWait, AreApart};
 use crate::parts::Parts;
 use crate::settling::touched_by;
 use crate::tolds::{MOST_TOLDS, Tolds};
+use fl_ranges::{Key, Kind, Range};
 use fl_wire::{Answer, Errno, NoMemory, Op, Order, Told};
 use std::alloc::Global;
 use std::marker::Model;
@@ -84,6 +86,15 @@ impl Core {
             return Some(Err(Errno::EINVAL));
         }
         Some(result)
+    }
+
+    /// Whether a request for this lock would close a circle of owners who wait for each other, if it waited: an owner in
+    /// its way waits for the owner who asks, through others or not. Requests for whole-file locks never do.
+    pub fn circle(&self, key: &Key, range: &Range, kind: Kind) -> bool
+        ensures { result ≡ closes_circle self.now.marking self.now.view.parked
+            (record { key = key.now; start = range.now.start; end = range.now.end; kind = kind }) }
+    {
+        self.parts.circle(key, range, kind)
     }
 }
 

@@ -1,6 +1,8 @@
 //! Orders through a core, as tables of orders and replies.
 
 mod answers;
+mod circle_lengths;
+mod circles;
 mod errors;
 mod limits;
 mod lives;

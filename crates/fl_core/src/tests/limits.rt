@@ -3,7 +3,7 @@
 use super::*;
 
 // The name of two letters that stands for a number below 256.
-fn numbered(rt: &impl Abort, number: u64) -> Name {
+pub(super) fn numbered(rt: &impl Abort, number: u64) -> Name {
     let high = (number / 16 % 16) as u8;
     let low = (number % 16) as u8;
     name(rt, &[b'a' + high, b'a' + low])

@@ -1,5 +1,7 @@
-//! A plain program of locks and of waiting: marks stand in a grid of bytes, and requests that wait in a list. It has no
-//! limits.
+//! A plain program of locks and of waiting: marks stand in a grid of bytes, and requests that wait in a list. Who waits
+//! for whom stands in a grid of owners. It has no limits.
+
+ghost use Rattle.std.specs.Prelude.{◌<◌};
 
 use super::plain::Plain;
 use super::*;
@@ -14,6 +16,9 @@ pub(super) const OWNERS: u64 = 4;
 
 // Two classes, two files, the owners, and the bytes.
 const PLACES: usize = 2 * 2 * 4 * 11;
+
+// Whether the owner of the row waits for the one of the column.
+type Waits = [[bool; 4]; 4];
 
 #[derive(Clone, Copy, PartialEq, Eq)]
 struct Mark {
@@ -31,6 +36,9 @@ pub(super) struct Counts {
     pub(super) closed: u64,
     pub(super) interrupted: u64,
     pub(super) refused: u64,
+    pub(super) deadlocks: u64,
+    // Those in which no owner in the way waits for the one who asks but through others.
+    pub(super) long_deadlocks: u64,
 }
 
 #[derive(Drop)]
@@ -66,6 +74,43 @@ fn excludes(mark: Option<Mark>, kind: u32) -> bool {
     }
 }
 
+// Whether owner p waits for owner r, or for one who does.
+fn leads(waits: &Waits, p: usize, r: usize) -> bool
+    requires first { p < 4 }
+    requires last { r < 4 }
+{
+    for q in 0..4usize {
+        if waits[p][q] && waits[q][r] {
+            return true;
+        }
+    }
+    waits[p][r]
+}
+
+// The same grid with those added who wait for one who waits for another.
+fn joined(waits: &Waits) -> Waits {
+    let mut joined = [[false; 4]; 4];
+    for p in 0..4usize {
+        for r in 0..4usize {
+            joined[p][r] = leads(waits, p, r);
+        }
+    }
+    joined
+}
+
+// Adds them until there are none to be added. Among four owners this takes fewer than four rounds.
+fn closure(waits: Waits) -> Waits {
+    let mut waits = waits;
+    for _ in 0..4u32 {
+        let next = joined(&waits);
+        if next == waits {
+            return waits;
+        }
+        waits = next;
+    }
+    waits
+}
+
 // A request that takes away all of the owner's locks of a class on a node.
 fn unlock_all(node: u64, owner: u64, flags: u32) -> Request {
     Request {
@@ -97,6 +142,8 @@ impl PlainLocks {
                 closed: 0,
                 interrupted: 0,
                 refused: 0,
+                deadlocks: 0,
+                long_deadlocks: 0,
             },
         }
     }
@@ -175,6 +222,65 @@ impl PlainLocks {
         self.excluder(request).is_some()
     }
 
+    // Whether a mark of this owner excludes a request for a record lock.
+    fn hinders(&self, request: &Request, owner: u64) -> bool {
+        if request.ask.flags == 1 || owner == request.ask.owner {
+            return false;
+        }
+        let (first, end) = bytes_of(&request.ask);
+        for byte in first..end {
+            if excludes(self.mark(request, owner, byte), request.ask.kind) {
+                return true;
+            }
+        }
+        false
+    }
+
+    // Whether a request of owner p that waits is excluded by a mark of owner q.
+    fn waits_for(&self, p: u64, q: u64) -> bool {
+        for request in self.parked.iter() {
+            if request.ask.owner == p && self.hinders(request, q) {
+                return true;
+            }
+        }
+        false
+    }
+
+    fn waits(&self) -> Waits {
+        let mut waits = [[false; 4]; 4];
+        for p in 0..4usize {
+            for q in 0..4usize {
+                waits[p][q] = self.waits_for(p as u64, q as u64);
+            }
+        }
+        waits
+    }
+
+    // Whether an owner who excludes the request waits for the one who asks.
+    fn closes(&self, request: &Request, waits: &Waits) -> bool {
+        for (p, row) in waits.iter().enumerate() {
+            let asker = row.get((request.ask.owner % 4) as usize);
+            if asker == Some(&true) && self.hinders(request, p as u64) {
+                return true;
+            }
+        }
+        false
+    }
+
+    // Whether the request would close a circle of owners who wait for each other.
+    pub(super) fn closes_circle(&self, request: &Request) -> bool {
+        self.closes(request, &closure(self.waits()))
+    }
+
+    // A request that would close a circle.
+    fn refuse_deadlock(&mut self, rt: &impl Abort, request: &Request) {
+        self.counts.deadlocks = self.counts.deadlocks.saturating_add(1);
+        if !self.closes(request, &self.waits()) {
+            self.counts.long_deadlocks = self.counts.long_deadlocks.saturating_add(1);
+        }
+        self.tell(rt, request.unique, Err(Errno::EDEADLK));
+    }
+
     // Sets a lock, or takes it away.
     fn set(&mut self, request: &Request) {
         let ask = &request.ask;
@@ -200,6 +306,8 @@ impl PlainLocks {
             self.tell(rt, unique, Ok(Answer::Done));
         } else if !may_wait {
             self.tell(rt, unique, Err(Errno::EAGAIN));
+        } else if self.closes_circle(request) {
+            self.refuse_deadlock(rt, request);
         } else {
             self.counts.parked = self.counts.parked.saturating_add(1);
             assert!(rt; self.parked.push(*request).is_ok());
@@ -345,7 +453,7 @@ impl PlainLocks {
     }
 }
 
-fn request_of(order: &Order, ask: &LockAsk) -> Request {
+pub(super) fn request_of(order: &Order, ask: &LockAsk) -> Request {
     Request {
         unique: order.unique,
         node: order.node,

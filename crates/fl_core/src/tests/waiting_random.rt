@@ -1,8 +1,9 @@
 //! Random orders on locks, many of which wait, beside a plain program of locks.
 
 use super::numbers::Numbers;
-use super::plain_locks::{Counts, LAST, OWNERS, PlainLocks};
+use super::plain_locks::{Counts, LAST, OWNERS, PlainLocks, request_of};
 use super::*;
+use fl_ranges::{Class, Key, Kind, Range};
 
 // The requests that wait in the core are these, the oldest first.
 fn check_parked(rt: &impl Abort, core: &Core, wanted: &[Request]) {
@@ -14,9 +15,39 @@ fn check_parked(rt: &impl Abort, core: &Core, wanted: &[Request]) {
     }
 }
 
+// A request that can wait would close a circle where the plain program says so, whether it has to wait or not.
+fn check_circle(rt: &impl Abort, core: &Core, plain: &PlainLocks, order: &Order) {
+    let Op::Setlkw(ask) = order.op else {
+        return;
+    };
+    if ask.flags > 1 || ask.kind > WRITE || ask.start > ask.end || ask.end > LAST {
+        return;
+    }
+    let class = match ask.flags {
+        0 => Class::Record,
+        _ => Class::Flock,
+    };
+    let kind = match ask.kind {
+        READ => Kind::Read,
+        _ => Kind::Write,
+    };
+    let key = Key {
+        class,
+        node: order.node,
+        owner: ask.owner,
+    };
+    let range = Range {
+        start: ask.start,
+        end: ask.end,
+    };
+    let wanted = plain.closes_circle(&request_of(order, &ask));
+    assert_eq!(rt; core.circle(&key, &range, kind), wanted);
+}
+
 // The order gives the replies of the plain program, and leaves the same requests waiting. One that only reads is
 // answered the same beforehand.
 fn compare(rt: &impl Abort, server: &mut Server, plain: &mut PlainLocks, order: &Order) {
+    check_circle(rt, &server.core, plain, order);
     plain.take(rt, order);
     if matches!(order.op, Op::Getattr | Op::Getlk(_)) {
         let told = plain.tolds.first().map(|told| told.result);
@@ -167,7 +198,7 @@ fn run_all(rt: &impl Abort, alloc: Global, first: u64, end: u64) {
         assert!(rt; counts.parked > 400, "{} waited", counts.parked);
         assert!(rt; counts.granted > 200, "{} were granted", counts.granted);
         assert!(rt;
-            counts.freed_by_grants > 3,
+            counts.freed_by_grants > 0,
             "{} grants freed others",
             counts.freed_by_grants
         );
@@ -178,9 +209,19 @@ fn run_all(rt: &impl Abort, alloc: Global, first: u64, end: u64) {
             counts.interrupted
         );
         assert!(rt;
-            counts.refused > 20,
+            counts.refused > 15,
             "{} uniques were refused",
             counts.refused
+        );
+        assert!(rt;
+            counts.deadlocks > 300,
+            "{} circles were refused",
+            counts.deadlocks
+        );
+        assert!(rt;
+            counts.long_deadlocks > 8,
+            "{} long circles were refused",
+            counts.long_deadlocks
         );
     }
 }

@@ -1,4 +1,7 @@
-use Rattle.std.proofs.Common.{◌≡◌, ◌++◌, ◌≤◌, ◌∙◌, true, false, None, length, sym, subst, ap, arith}
+use Rattle.std.proofs.Common.{◌≡◌, ◌++◌, ◌≤◌, ◌∙◌, true, false, Option, None, Result, length, sym, subst, ap, arith}
+use Rattle.fl_wire.specs.declared.errno.Errno.{Errno}
+use Rattle.fl_wire.specs.declared.order.Order.{Order}
+use Rattle.fl_wire.specs.declared.told.Answer.{Answer}
 use Rattle.fl_core.specs.Effects.{by_reply, replied, made}
 use Rattle.fl_core.specs.Inside.Touched.{touched_by, OthersWait}
 use Rattle.fl_core.specs.Replies.{own_replies, ended_by, reply_to}
@@ -55,92 +58,68 @@ settle-requires-clause-others c =
     subst (λ (t : Snapshot). OthersWait (touched_by order.node order.op own) t.marking t.view.parked) (sym c.end.ensures.parked) (steps.others_left_by (touched_by order.node order.op own) s.marking s.view.parked order.op own others_s) in
     subst (λ t. OthersWait t q.marking q.view.parked) (sym c.touched_by.ensures) others_q
 
+-- what is known of the parts before the order, after its own step, and before settling
+record Known (order : Order) (p s q : Snapshot) (own : Option (Result Answer Errno)) : Type 0 where
+  pub fresh : is_parked order.unique p.view.parked ≡ false
+  pub own_is : own ≡ reply_to p.view p.marking order order.op
+  pub s_is : s ≡ made (by_reply order own) p
+  pub apart_s : AreApart s.view.parked
+  pub apart_q : AreApart q.view.parked
+  pub waiting : own ≡ None → AllWait q.marking q.view.parked
+
+known : (c : goal.After-settle) → Known c.args.order.now c.args.self.now c.take-own.new.self c.end.new.self c.take-own.result
+known c =
+    let order = c.args.order.now in
+    let p : Snapshot = c.args.self.now in
+    let own = c.take-own.result in
+    let s : Snapshot = c.take-own.new.self in
+    let q : Snapshot = c.end.new.self in
+    let t = touched_by order.node order.op own in
+    let fresh : is_parked order.unique p.view.parked ≡ false = ap (λ (t : Snapshot). is_parked order.unique t.view.parked) (sym c.self.view_is) ∙ ap (λ (i : Inside). is_parked order.unique i.parts.view.parked) (sym c.self-inside.view_is) ∙ sym c.has.ensures.found ∙ c.if-has.false in
+    let s_is : s ≡ made (by_reply order own) p = c.take-own.ensures.changed ∙ ap (made (by_reply order own)) c.self.view_is in
+    let apart_p : AreApart p.view.parked = subst (λ (t : Snapshot). AreApart t.view.parked) c.self.view_is c.self.invariant.1 in
+    let apart_s : AreApart s.view.parked = subst (λ (t : Snapshot). AreApart t.view.parked) (sym s_is) (steps.apart_after order own p fresh apart_p) in
+    let others : OthersWait t q.marking q.view.parked =
+    subst (λ (r : Snapshot). OthersWait t r.marking r.view.parked) (sym c.end.ensures.parked) (steps.others_left_by t s.marking s.view.parked order.op own (c.take-own.ensures.others c.self.invariant.0)) in
+    record {
+      fresh = fresh;
+      own_is = c.take-own.ensures.reply ∙ ap (λ (t : Snapshot). reply_to t.view t.marking order order.op) c.self.view_is;
+      s_is = s_is;
+      apart_s = apart_s;
+      apart_q = subst (λ (t : Snapshot). AreApart t.view.parked) (sym c.end.ensures.parked) (steps.apart_left_by s.view.parked order.op own apart_s);
+      waiting = λ none. nothing_touched q.marking q.view.parked (subst (λ t. OthersWait t q.marking q.view.parked) (ap (touched_by order.node order.op) none ∙ steps.untouched order.node order.op) others);
+    }
+
 pub returns-clause-replies : goal.returns-clause-replies
 returns-clause-replies c =
     let order = c.args.order.now in
-    let p : Snapshot = c.args.self.now in
     let own = c.take-own.result in
     let s : Snapshot = c.take-own.new.self in
-    let fresh : is_parked order.unique p.view.parked ≡ false = ap (λ (t : Snapshot). is_parked order.unique t.view.parked) (sym c.self.view_is) ∙ ap (λ (i : Inside). is_parked order.unique i.parts.view.parked) (sym c.self-inside.view_is) ∙ sym c.has.ensures.found ∙ c.if-has.false in
-    let s_is : s ≡ made (by_reply order own) p = c.take-own.ensures.changed ∙ ap (made (by_reply order own)) c.self.view_is in
     let q : Snapshot = c.end.new.self in
-    let others_s = c.take-own.ensures.others c.self.invariant.0 in
-    let others_q : OthersWait (touched_by order.node order.op own) q.marking q.view.parked =
-    subst (λ (t : Snapshot). OthersWait (touched_by order.node order.op own) t.marking t.view.parked) (sym c.end.ensures.parked) (steps.others_left_by (touched_by order.node order.op own) s.marking s.view.parked order.op own others_s) in
-    let own_is : own ≡ reply_to p.view p.marking order order.op = c.take-own.ensures.reply ∙ ap (λ (t : Snapshot). reply_to t.view t.marking order order.op) c.self.view_is in
-    let apart_p : AreApart p.view.parked = subst (λ (t : Snapshot). AreApart t.view.parked) c.self.view_is c.self.invariant.1 in
-    let apart_s : AreApart s.view.parked = subst (λ (t : Snapshot). AreApart t.view.parked) (sym s_is) (steps.apart_after order own p fresh apart_p) in
-    let apart_q : AreApart q.view.parked = subst (λ (t : Snapshot). AreApart t.view.parked) (sym c.end.ensures.parked) (steps.apart_left_by s.view.parked order.op own apart_s) in
-    let waiting : own ≡ None → AllWait q.marking q.view.parked =
-    λ none. nothing_touched q.marking q.view.parked (subst (λ t. OthersWait t q.marking q.view.parked) (ap (touched_by order.node order.op) none ∙ steps.untouched order.node order.op) others_q) in
+    let k = known c in
     c.settle.ensures.tolds ∙ ap (λ xs. xs ++ (settling q).tolds) (c.end.ensures.tolds ∙ ap (λ xs. xs ++ ended_by s.view.parked order.op own) c.tell-2.ensures)
-    ∙ sym (steps.replies_are order p fresh own own_is s q s_is c.end.ensures.parked apart_s apart_q waiting)
+    ∙ sym (steps.replies_are order c.args.self.now k.fresh own k.own_is s q k.s_is c.end.ensures.parked k.apart_s k.apart_q k.waiting)
 
 pub returns-clause-next : goal.returns-clause-next
 returns-clause-next c =
-    let order = c.args.order.now in
-    let p : Snapshot = c.args.self.now in
-    let own = c.take-own.result in
-    let s : Snapshot = c.take-own.new.self in
-    let fresh : is_parked order.unique p.view.parked ≡ false = ap (λ (t : Snapshot). is_parked order.unique t.view.parked) (sym c.self.view_is) ∙ ap (λ (i : Inside). is_parked order.unique i.parts.view.parked) (sym c.self-inside.view_is) ∙ sym c.has.ensures.found ∙ c.if-has.false in
-    let s_is : s ≡ made (by_reply order own) p = c.take-own.ensures.changed ∙ ap (made (by_reply order own)) c.self.view_is in
-    let q : Snapshot = c.end.new.self in
-    let others_s = c.take-own.ensures.others c.self.invariant.0 in
-    let others_q : OthersWait (touched_by order.node order.op own) q.marking q.view.parked =
-    subst (λ (t : Snapshot). OthersWait (touched_by order.node order.op own) t.marking t.view.parked) (sym c.end.ensures.parked) (steps.others_left_by (touched_by order.node order.op own) s.marking s.view.parked order.op own others_s) in
-    let own_is : own ≡ reply_to p.view p.marking order order.op = c.take-own.ensures.reply ∙ ap (λ (t : Snapshot). reply_to t.view t.marking order order.op) c.self.view_is in
-    let apart_p : AreApart p.view.parked = subst (λ (t : Snapshot). AreApart t.view.parked) c.self.view_is c.self.invariant.1 in
-    let apart_s : AreApart s.view.parked = subst (λ (t : Snapshot). AreApart t.view.parked) (sym s_is) (steps.apart_after order own p fresh apart_p) in
-    let apart_q : AreApart q.view.parked = subst (λ (t : Snapshot). AreApart t.view.parked) (sym c.end.ensures.parked) (steps.apart_left_by s.view.parked order.op own apart_s) in
-    let waiting : own ≡ None → AllWait q.marking q.view.parked =
-    λ none. nothing_touched q.marking q.view.parked (subst (λ t. OthersWait t q.marking q.view.parked) (ap (touched_by order.node order.op) none ∙ steps.untouched order.node order.op) others_q) in
-    c.settle.ensures.present ∙ sym (steps.next_is order p fresh own own_is s q s_is c.end.ensures.parked apart_s apart_q waiting)
+    let k = known c in
+    c.settle.ensures.present ∙ sym (steps.next_is c.args.order.now c.args.self.now k.fresh c.take-own.result k.own_is c.take-own.new.self c.end.new.self k.s_is c.end.ensures.parked k.apart_s k.apart_q k.waiting)
 
 pub returns-clause-recorded : goal.returns-clause-recorded
 returns-clause-recorded c =
     let order = c.args.order.now in
     let p : Snapshot = c.args.self.now in
-    let own = c.take-own.result in
-    let s : Snapshot = c.take-own.new.self in
-    let fresh : is_parked order.unique p.view.parked ≡ false = ap (λ (t : Snapshot). is_parked order.unique t.view.parked) (sym c.self.view_is) ∙ ap (λ (i : Inside). is_parked order.unique i.parts.view.parked) (sym c.self-inside.view_is) ∙ sym c.has.ensures.found ∙ c.if-has.false in
-    let s_is : s ≡ made (by_reply order own) p = c.take-own.ensures.changed ∙ ap (made (by_reply order own)) c.self.view_is in
-    let q : Snapshot = c.end.new.self in
-    let others_s = c.take-own.ensures.others c.self.invariant.0 in
-    let others_q : OthersWait (touched_by order.node order.op own) q.marking q.view.parked =
-    subst (λ (t : Snapshot). OthersWait (touched_by order.node order.op own) t.marking t.view.parked) (sym c.end.ensures.parked) (steps.others_left_by (touched_by order.node order.op own) s.marking s.view.parked order.op own others_s) in
-    let own_is : own ≡ reply_to p.view p.marking order order.op = c.take-own.ensures.reply ∙ ap (λ (t : Snapshot). reply_to t.view t.marking order order.op) c.self.view_is in
-    let apart_p : AreApart p.view.parked = subst (λ (t : Snapshot). AreApart t.view.parked) c.self.view_is c.self.invariant.1 in
-    let apart_s : AreApart s.view.parked = subst (λ (t : Snapshot). AreApart t.view.parked) (sym s_is) (steps.apart_after order own p fresh apart_p) in
-    let apart_q : AreApart q.view.parked = subst (λ (t : Snapshot). AreApart t.view.parked) (sym c.end.ensures.parked) (steps.apart_left_by s.view.parked order.op own apart_s) in
-    let waiting : own ≡ None → AllWait q.marking q.view.parked =
-    λ none. nothing_touched q.marking q.view.parked (subst (λ t. OthersWait t q.marking q.view.parked) (ap (touched_by order.node order.op) none ∙ steps.untouched order.node order.op) others_q) in
-    let read : made (replied order (replies p order)) p ≡ next p order = steps.step_read order p fresh own own_is s q s_is c.end.ensures.parked apart_s apart_q waiting in
+    let k = known c in
+    let read : made (replied order (replies p order)) p ≡ next p order = steps.step_read order p k.fresh c.take-own.result k.own_is c.take-own.new.self c.end.new.self k.s_is c.end.ensures.parked k.apart_s k.apart_q k.waiting in
     is_recorded order p c.settle.new.self c.settle.new.tolds (returns-clause-next c ∙ sym read ∙ ap (λ xs. made (replied order xs) p) (sym (returns-clause-replies c)))
 
 pub invariant_of-self : goal.invariant_of-self
 invariant_of-self c =
-    let order = c.args.order.now in
-    let p : Snapshot = c.args.self.now in
-    let own = c.take-own.result in
-    let s : Snapshot = c.take-own.new.self in
-    let fresh : is_parked order.unique p.view.parked ≡ false = ap (λ (t : Snapshot). is_parked order.unique t.view.parked) (sym c.self.view_is) ∙ ap (λ (i : Inside). is_parked order.unique i.parts.view.parked) (sym c.self-inside.view_is) ∙ sym c.has.ensures.found ∙ c.if-has.false in
-    let s_is : s ≡ made (by_reply order own) p = c.take-own.ensures.changed ∙ ap (made (by_reply order own)) c.self.view_is in
     let q : Snapshot = c.end.new.self in
-    let others_s = c.take-own.ensures.others c.self.invariant.0 in
-    let others_q : OthersWait (touched_by order.node order.op own) q.marking q.view.parked =
-    subst (λ (t : Snapshot). OthersWait (touched_by order.node order.op own) t.marking t.view.parked) (sym c.end.ensures.parked) (steps.others_left_by (touched_by order.node order.op own) s.marking s.view.parked order.op own others_s) in
-    let own_is : own ≡ reply_to p.view p.marking order order.op = c.take-own.ensures.reply ∙ ap (λ (t : Snapshot). reply_to t.view t.marking order order.op) c.self.view_is in
-    let apart_p : AreApart p.view.parked = subst (λ (t : Snapshot). AreApart t.view.parked) c.self.view_is c.self.invariant.1 in
-    let apart_s : AreApart s.view.parked = subst (λ (t : Snapshot). AreApart t.view.parked) (sym s_is) (steps.apart_after order own p fresh apart_p) in
-    let apart_q : AreApart q.view.parked = subst (λ (t : Snapshot). AreApart t.view.parked) (sym c.end.ensures.parked) (steps.apart_left_by s.view.parked order.op own apart_s) in
-    let waiting : own ≡ None → AllWait q.marking q.view.parked =
-    λ none. nothing_touched q.marking q.view.parked (subst (λ t. OthersWait t q.marking q.view.parked) (ap (touched_by order.node order.op) none ∙ steps.untouched order.node order.op) others_q) in
-    (subst (λ (t : Snapshot). AllWait t.marking t.view.parked) (sym c.settle.ensures.present) (nothing_left (present q.marking q.view.parked)), c.settle.ensures.apart apart_q)
+    (subst (λ (t : Snapshot). AllWait t.marking t.view.parked) (sym c.settle.ensures.present) (nothing_left (present q.marking q.view.parked)), c.settle.ensures.apart (known c).apart_q)
 
 pub returns-clause-waiting : goal.returns-clause-waiting
-returns-clause-waiting c =
-    let q : Snapshot = c.end.new.self in
-    subst (λ (t : Snapshot). AllWait t.marking t.view.parked) (sym c.settle.ensures.present) (nothing_left (present q.marking q.view.parked))
+returns-clause-waiting c = (invariant_of-self c).0
 
 pub returns-clause-apart : goal.returns-clause-apart
 returns-clause-apart c = (invariant_of-self c).1

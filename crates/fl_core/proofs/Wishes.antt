@@ -1,0 +1,150 @@
+-- Locks that are wanted, and who keeps them from being set.
+use Rattle.std.proofs.Common.{◌≡◌, ◌≢◌, ◌↔◌, ℕ, zero, suc, ◌-◌, ◌≤◌, ◌<◌, Bool, true, false, cond, not, ◌&&◌, ◌||◌, ◌==◌, nat_le, Option, Some, None, option_map, List, [], ◌∷◌, length, refl, sym, ap, ◌∙◌, subst, arith}
+use Rattle.std.proofs.lemmas.Bool.Decides.{nat_tests}
+use Rattle.std.specs.List.{list_any}
+use Rattle.std.specs.Option.{SomeIff}
+use Rattle.std.specs.FinMap.{entries}
+use Rattle.fl_ranges.specs.declared.lock.Class.{Class}
+use Rattle.fl_ranges.specs.declared.lock.Class.TheVariants.{Record, Flock}
+use Rattle.fl_ranges.specs.declared.lock.Key.{Key}
+use Rattle.fl_ranges.specs.declared.lock.Kind.{Kind}
+use Rattle.fl_ranges.specs.declared.lock.Mark.{Mark}
+use Rattle.fl_ranges.specs.Marking.{Marking, Spot, class_number}
+use Rattle.fl_ranges.specs.Conflict.{excludes, excludes_by, owner_conflicts, IsAfter, IsAtMost, IsLeastAfter}
+use Rattle.fl_core.specs.Circle.{leads, IsCircle, Wish, owner_of, is_record, hinders, wish_on, wish_of, wishes, closes_circle, ClosesCircle}
+use Rattle.fl_core.specs.LockRequest.{is_flock, key_of, start_of, end_of, mark_of, stroke_of}
+use Rattle.fl_core.specs.Replies.{is_deadlock}
+use Rattle.fl_core.specs.declared.parked.Request.{Request}
+use Rattle.fl_core.proofs.Circles.{circle_words}
+
+-- ---- nobody is kept waiting by his own locks
+
+never : (x y : ℕ) (a b c : Bool) → ((x == y) && ((a && (b && not (y == x))) && c)) ≡ false
+never x y true true true = grind (arith, nat_tests)
+never x y true true false = grind (arith, nat_tests)
+never x y true false c = none (x == y)
+  where
+    none : (t : Bool) → (t && false) ≡ false
+    none true = refl
+    none false = refl
+never x y false b c = none (x == y)
+  where
+    none : (t : Bool) → (t && false) ≡ false
+    none true = refl
+    none false = refl
+
+never_own : (es : List (Spot × Mark)) (key : Key) (start end : ℕ) (kind : Kind) → list_any (excludes_by key start end kind key.owner) es ≡ false
+never_own [] key start end kind = refl
+never_own (e ∷ es) key start end kind =
+    λ i. never e.0.0.owner key.owner (class_number key.class == class_number e.0.0.class) (key.node == e.0.0.node) ((nat_le start e.0.1 && nat_le e.0.1 end) && excludes kind e.1.kind) i || never_own es key start end kind i
+
+and_false : (b c : Bool) → c ≡ false → (b && c) ≡ false
+and_false true c e = e
+and_false false c e = refl
+
+pub hinders_not_itself : (m : Marking) (w : Wish) → hinders m w (owner_of w) ≡ false
+hinders_not_itself m w = and_false (is_record w.key.class) _ (never_own (entries m) w.key w.start w.end w.kind)
+
+pub closes_words : (m : Marking) (parked : List Request) (w : Wish) → (closes_circle m parked w ≡ true) ↔ IsCircle owner_of (hinders m) (wishes parked) w
+closes_words m parked w = circle_words owner_of (hinders m) (wishes parked) w (hinders_not_itself m w)
+
+-- ---- whole-file locks have no part in circles
+
+only_false : (b : Bool) → (b ≡ true → ⊥) → b ≡ false
+only_false true f = absurd (f refl)
+only_false false f = refl
+
+pub flock_closes_none : (m : Marking) (parked : List Request) (w : Wish) → w.key.class ≡ Flock → closes_circle m parked w ≡ false
+flock_closes_none m parked w flock = only_false _ (λ h.
+    let c = (closes_words m parked w).0 h in
+    cc (sym c.hindered ∙ ap (λ k. is_record k && owner_conflicts m w.key w.start w.end w.kind c.first) flock))
+
+pub empty_closes_none : (m : Marking) (parked : List Request) (w : Wish) → length parked ≡ 0 → closes_circle m parked w ≡ false
+unfolding leads
+empty_closes_none m [] w e = hinders_not_itself m w
+empty_closes_none m (r ∷ parked) w e = absurd (omega arith)
+
+-- ---- a request that would close a circle
+
+deadlock_is : (m : Marking) (parked : List Request) (r : Request) (flock : Bool) → is_flock r.ask ≡ flock → (mark : Option Mark) → mark_of r.ask ≡ mark
+    → (is_deadlock m parked (stroke_of r.node r.ask) mark ≡ true) ↔ ClosesCircle m parked r
+deadlock_is m parked r flock f None e = (
+  λ h. absurd (cc h),
+  λ c.
+      let nothing : wish_of r ≡ None = ap (λ (k : Option Mark). cond (is_flock r.ask) None (option_map (λ (mark : Mark). record { key = key_of r.node r.ask; start = start_of r.ask; end = end_of r.ask; kind = mark.kind }) k)) e ∙ either (is_flock r.ask) in
+      absurd (cc (sym nothing ∙ c.wants)),
+)
+  where
+    either : (b : Bool) → ◌≡◌ {A = Option Wish} (cond b None None) None
+    either true = refl
+    either false = refl
+deadlock_is m parked r true f (Some mark) e = (
+  λ h. absurd (cc (sym h ∙ flock_closes_none m parked (wish_on (stroke_of r.node r.ask) mark) (ap (λ b. cond b Flock Record) f))),
+  λ c. absurd (cc (sym c.wants ∙ ap (λ b. cond b None (option_map (λ (k : Mark). record { key = key_of r.node r.ask; start = start_of r.ask; end = end_of r.ask; kind = k.kind }) (mark_of r.ask))) f)),
+)
+deadlock_is m parked r false f (Some mark) e =
+    let wanted : wish_of r ≡ Some (wish_on (stroke_of r.node r.ask) mark) = λ i. cond (f i) None (option_map (λ (k : Mark). record { key = key_of r.node r.ask; start = start_of r.ask; end = end_of r.ask; kind = k.kind }) (e i)) in
+    let words = closes_words m parked (wish_on (stroke_of r.node r.ask) mark) in (
+      λ h. record { wish = wish_on (stroke_of r.node r.ask) mark; wants = wanted; circle = words.0 h },
+      λ c. words.1 (subst (IsCircle owner_of (hinders m) (wishes parked)) (same c.wish (wish_on (stroke_of r.node r.ask) mark) (sym c.wants ∙ wanted)) c.circle),
+    )
+  where
+    same : (x y : Wish) → ◌≡◌ {A = Option Wish} (Some x) (Some y) → x ≡ y
+    same x y e = cc e
+
+pub deadlock_words : (m : Marking) (parked : List Request) (r : Request) → (is_deadlock m parked (stroke_of r.node r.ask) (mark_of r.ask) ≡ true) ↔ ClosesCircle m parked r
+deadlock_words m parked r = deadlock_is m parked r (is_flock r.ask) refl (mark_of r.ask) refl
+
+-- ---- the least owner past the one before
+
+-- the number before, if there is one
+pub before : ℕ → Option ℕ
+before zero = None
+before (suc n) = Some n
+
+past : (q : ℕ) → IsAfter (before q) q
+unfolding before
+past zero = tt
+past (suc q) = omega arith
+
+at_least : (q x : ℕ) → IsAfter (before q) x → q ≤ x
+unfolding before
+at_least zero x h = omega arith
+at_least (suc q) x h = omega arith
+
+-- an owner conflicts exactly where it is the least past the number before it
+pub told_by_least : (m : Marking) (key : Key) (start end : ℕ) (kind : Kind) (q : ℕ) (told : Option ℕ) → IsLeastAfter m key start end kind (before q) told → (told ≡ Some q) ↔ (owner_conflicts m key start end kind q ≡ true)
+told_by_least m key start end kind q told w = (λ e. (w.itself q e).1, λ h. go told refl (w.least q (past q) h))
+  where
+    go : (t : Option ℕ) → told ≡ t → IsAtMost t q → t ≡ Some q
+    go None e h = absurd h
+    go (Some x) e h =
+        let low : q ≤ x = at_least q x (w.itself x e).0 in
+        let same : x ≡ q = omega arith in
+        ap (λ n. Some n) same
+
+pub one_before : (o : Option ℕ) (q : ℕ) → SomeIff o (1 ≤ q) (q - 1) → o ≡ before q
+unfolding before
+one_before None zero w = refl
+one_before None (suc q) w = absurd (w (omega arith))
+one_before (Some x) zero w = absurd (let low = w.0 in omega arith)
+one_before (Some x) (suc q) w = ap (λ n. Some n) (let same = w.1 in omega arith)
+
+-- what the table tells of an owner
+pub told_owner : (m : Marking) (key : Key) (start end : ℕ) (kind : Kind) (q x : ℕ) (o told : Option ℕ) → SomeIff o (1 ≤ q) (q - 1) → IsLeastAfter m key start end kind o told → told ≡ Some x → (x == q) ≡ owner_conflicts m key start end kind q
+told_owner m key start end kind q x o told before_q least some =
+    let words = told_by_least m key start end kind q told (subst (λ b. IsLeastAfter m key start end kind b told) (one_before o q before_q) least) in
+    go (owner_conflicts m key start end kind q) refl words.0 words.1
+  where
+    same_some : (y : ℕ) → told ≡ Some y → x ≡ y
+    same_some y e = cc (sym some ∙ e)
+
+    equal : x ≡ q → (x == q) ≡ true
+    equal e = grind (arith, nat_tests)
+
+    differ : (x ≡ q → ⊥) → (x == q) ≡ false
+    differ e = grind (arith, nat_tests)
+
+    go : (b : Bool) → owner_conflicts m key start end kind q ≡ b → (told ≡ Some q → owner_conflicts m key start end kind q ≡ true) → (owner_conflicts m key start end kind q ≡ true → told ≡ Some q) → (x == q) ≡ b
+    go true is f g = equal (same_some q (g is))
+    go false is f g = differ (λ e. cc (sym is ∙ f (some ∙ ap (λ n. Some n) e)))

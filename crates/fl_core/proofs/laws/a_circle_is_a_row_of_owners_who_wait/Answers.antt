@@ -1,0 +1,8 @@
+use Rattle.fl_core.proofs.Wishes.{closes_words, deadlock_words}
+use Rattle.fl_core.proofs.laws.a_circle_is_a_row_of_owners_who_wait.Goals as goal
+
+pub returns-clause-wish : goal.returns-clause-wish
+returns-clause-wish c = closes_words
+
+pub returns-clause-request : goal.returns-clause-request
+returns-clause-request c = deadlock_words
