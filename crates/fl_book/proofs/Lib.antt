@@ -8,3 +8,4 @@ pub mod FirstWords
 pub mod Reading
 pub mod Newlines
 pub mod Places
+pub mod Verdicts

@@ -4,3 +4,4 @@ pub mod Kept
 pub mod BookCode
 pub mod Text
 pub mod Words
+pub mod Verdicts

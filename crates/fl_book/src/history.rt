@@ -48,6 +48,13 @@ impl History {
         self.lines.is_empty()
     }
 
+    /// Its lines.
+    pub fn as_slice(&self) -> &[Line]
+        ensures { result.now ≡ self.now }
+    {
+        &self.lines
+    }
+
     /// The line at this place, from 0.
     pub fn line(&self, at: usize) -> Line
         requires { at < length self.now }

@@ -4,11 +4,13 @@
 
 mod desk;
 mod history;
+mod judge;
 pub mod laws;
 mod text;
 
 pub use desk::{Desk, MOST_LINES};
 pub use history::{History, Line};
+pub use judge::{Verdict, check};
 pub use text::{TraceFault, first_line, has_text, print_trace, read_trace};
 
 #[cfg(test)]

@@ -1,0 +1,82 @@
+//! The judge of a history: whether it is one of one thread.
+
+ghost use Rattle.std.specs.Prelude.{◌≡◌, ◌≢◌, ◌↔◌, ◌≤◌, ◌<◌, true, Some, IfOk, length, map, take};
+ghost use Rattle.std.specs.List.{slice_get};
+ghost use Rattle.fl_wire.specs.declared.told.Told.{Told as Reply};
+ghost use Rattle.fl_book.specs.declared.history.Line.TheVariants as line;
+ghost use Rattle.fl_book.specs.Verdicts.{IsVerdict};
+
+use crate::history::{History, Line};
+use fl_core::{Core, Tolds};
+use fl_wire::{NoMemory, Told};
+use std::alloc::Global;
+
+/// What a judge says of a history.
+#[derive(Clone, Copy, Debug, PartialEq, Eq)]
+pub enum Verdict {
+    /// It is one of one thread: each order is answered, at once or later, as the sequential directory answers then.
+    Legal,
+    /// It isn't. The lines before this one, counted from 1, are a beginning of a legal history, and no more are. Where
+    /// only replies are missing at its end, this is the line after its last.
+    Differs(usize),
+}
+
+/// Judges a history: takes its orders anew, one after another, and compares the replies. It goes through the lines once,
+/// and takes memory for one directory and one list of replies.
+pub fn check(alloc: Global, history: &History) -> Result<Verdict, NoMemory>
+    ensures { IfOk result (λ verdict. IsVerdict history.now verdict) }
+{
+    let mut core = Core::new(alloc)?;
+    let mut tolds = Tolds::new(alloc)?;
+    let lines = history.as_slice();
+    let mut at = 0;
+    while at < lines.len() {
+        let Line::Asked { worker: _, order } = &lines[at] else {
+            return Ok(Verdict::Differs(at + 1));
+        };
+        core.step(order, &mut tolds);
+        let replies = tolds.as_slice();
+        let told = told_alike(&lines[at + 1..], replies);
+        if told < replies.len() {
+            return Ok(Verdict::Differs(at + told + 2));
+        }
+        at += told + 1;
+    }
+    Ok(Verdict::Legal)
+}
+
+// How many of the replies the lines begin with.
+fn told_alike(lines: &[Line], tolds: &[Told]) -> usize
+    ensures upto { result ≤ length tolds.now }
+    ensures there { result ≤ length lines.now }
+    ensures alike { take result lines.now ≡ map (λ told. line.Told told) (take result tolds.now) }
+    ensures no_more { (told : Reply) → slice_get tolds.now result ≡ Some told →
+        slice_get lines.now result ≢ Some (line.Told told) }
+{
+    for i in 0..tolds.len() {
+        if !is_reply(lines, i, &tolds[i]) {
+            return i;
+        }
+    }
+    tolds.len()
+}
+
+// Whether this reply stands at a place.
+fn is_reply(lines: &[Line], at: usize, told: &Told) -> bool
+    ensures { (result ≡ true) ↔ (slice_get lines.now at ≡ Some (line.Told told.now)) }
+{
+    match lines.get(at) {
+        Some(entry) => is_told(entry, told),
+        None => false,
+    }
+}
+
+// Whether a line is this reply.
+fn is_told(entry: &Line, told: &Told) -> bool
+    ensures { (result ≡ true) ↔ (entry.now ≡ line.Told told.now) }
+{
+    match entry {
+        Line::Told(other) => *other == *told,
+        Line::Asked { .. } => false,
+    }
+}
