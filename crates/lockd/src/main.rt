@@ -5,7 +5,7 @@
 mod refusal;
 
 use clap::{Command, Error};
-use lockd_commands::{Status, bytes_on, script_on};
+use lockd_commands::{Status, bytes_on, check_on, script_on};
 use refusal::Refusal;
 use std::alloc::Global;
 use std::process::ExitCode;
@@ -16,6 +16,7 @@ use std::{env, io};
 enum Asked {
     Script,
     Bytes,
+    Check,
 }
 
 fn main(rt: HostRuntime) -> ExitCode {
@@ -35,6 +36,7 @@ fn run(rt: &HostRuntime, asked: Asked) -> Status {
     match asked {
         Asked::Script => script_on(rt.alloc(), &mut input, &mut output, &mut faults),
         Asked::Bytes => bytes_on(rt.alloc(), &mut input, &mut output, &mut faults),
+        Asked::Check => check_on(rt.alloc(), &mut input, &mut output, &mut faults),
     }
 }
 
@@ -45,6 +47,7 @@ fn read_command_line(rt: &HostRuntime) -> Result<Asked, Refusal> {
     let matches = command(alloc)?.try_get_matches_from(words.as_slice())?;
     match matches.subcommand_name() {
         Some("bytes") => Ok(Asked::Bytes),
+        Some("check") => Ok(Asked::Check),
         _ => Ok(Asked::Script),
     }
 }
@@ -56,10 +59,13 @@ fn command<'a>(alloc: Global) -> Result<Command<'a>, Error> {
     let bytes = Command::new(alloc, "bytes").about(
         "Serves the messages on standard input, lines of hex, and prints each reply as one",
     );
+    let check = Command::new(alloc, "check")
+        .about("Judges the trace on standard input and prints legal, or differs and a line's number");
     let lockd = Command::new(alloc, "lockd")
         .about("Keeps the locks of a directory of lock files")
         .after_help("Without a command it is script.")
         .subcommand(script)?
-        .subcommand(bytes)?;
+        .subcommand(bytes)?
+        .subcommand(check)?;
     Ok(lockd)
 }

@@ -1,4 +1,5 @@
 pub mod Bytes
+pub mod Check
 pub mod Hex
 pub mod Script
 pub mod Status

@@ -1,9 +1,10 @@
 -- The exit status of a command.
 use Rattle.std.specs.Prelude.{ℕ}
 use Rattle.lockd_commands.specs.declared.status.Status.{Status}
-use Rattle.lockd_commands.specs.declared.status.Status.TheVariants.{Good, Faulted}
+use Rattle.lockd_commands.specs.declared.status.Status.TheVariants.{Good, Different, Faulted}
 
--- 0 is good, and 2 is a fault
+-- 0 is good, 1 a trace that differs, and 2 a fault
 abbrev pub exit_code_of : Status → ℕ
 exit_code_of Good = 0
+exit_code_of Different = 1
 exit_code_of (Faulted fault) = 2

@@ -1,5 +1,6 @@
 ghost use Rattle.std.specs.Prelude.{◌≡◌};
 
+use fl_book::TraceFault;
 use fl_wire::NoMemory;
 use std::alloc::{AllocError, AllocFailed};
 use thiserror::Error;
@@ -44,6 +45,19 @@ impl<T: Drop> From<AllocFailed<T>> for Fault {
 
     fn from(_e: AllocFailed<T>) -> Fault {
         Fault::NoMemory
+    }
+}
+
+impl From<TraceFault> for Fault {
+    ghost use Rattle.lockd_commands.specs.Check.{trace_fault};
+
+    ghost from_gives = { λ told fault. fault ≡ trace_fault told };
+
+    fn from(told: TraceFault) -> Fault {
+        match told {
+            TraceFault::BadLine(n) => Fault::BadLine(n),
+            TraceFault::NoMemory => Fault::NoMemory,
+        }
     }
 }
 

@@ -2,12 +2,14 @@
 #![tactic(auto)]
 
 mod bytes;
+mod check;
 mod fault;
 mod script;
 mod status;
 mod streams;
 
 pub use bytes::bytes_on;
+pub use check::check_on;
 pub use fault::Fault;
 pub use script::script_on;
 pub use status::Status;

@@ -103,6 +103,46 @@ tell 5 ok
 tell 4 err 9
 ";
 
+const TWO_OWNERS_WAIT_FOR_EACH_OTHER: &str = "\
+ask 0 2 1 0 0 0 create 0 420 62
+tell 2 made 3 33188 1 0 0 2
+ask 0 3 2 0 0 0 setlk 1 7 0 0 1 11 0
+tell 3 ok
+ask 0 4 3 0 0 0 setlk 2 8 0 0 1 12 0
+tell 4 ok
+ask 0 5 3 0 0 0 setlkw 2 7 0 0 1 11 0
+ask 0 6 2 0 0 0 setlkw 1 8 0 0 1 12 0
+tell 6 err 35
+";
+
+const ONE_OF_TWO_BLOCKERS_LEADS_BACK: &str = "\
+ask 0 2 2 0 0 0 setlk 1 7 0 0 0 11 0
+tell 2 ok
+ask 0 3 2 0 0 0 setlk 1 8 0 0 0 12 0
+tell 3 ok
+ask 0 4 2 0 0 0 setlk 1 9 1 1 1 13 0
+tell 4 ok
+ask 0 5 2 0 0 0 setlk 1 10 2 2 1 14 0
+tell 5 ok
+ask 0 6 2 0 0 0 setlkw 1 8 2 2 1 12 0
+ask 0 7 2 0 0 0 setlkw 1 10 1 1 1 14 0
+ask 0 8 2 0 0 0 setlkw 1 9 0 0 1 13 0
+tell 8 err 35
+";
+
+const ONE_OF_TWO_REQUESTS_LEADS_BACK: &str = "\
+ask 0 2 2 0 0 0 setlk 1 7 0 0 1 11 0
+tell 2 ok
+ask 0 3 2 0 0 0 setlk 1 8 1 1 1 12 0
+tell 3 ok
+ask 0 4 2 0 0 0 setlk 1 9 5 5 1 13 0
+tell 4 ok
+ask 0 5 2 0 0 0 setlkw 1 7 5 5 1 11 0
+ask 0 6 2 0 0 0 setlkw 1 7 1 1 1 11 0
+ask 0 7 2 0 0 0 setlkw 1 8 0 0 1 12 0
+tell 7 err 35
+";
+
 #[test]
 fn requests_that_wait(rt: HostRuntime) -> Result<(), Fail> {
     let traces = [
@@ -133,6 +173,18 @@ fn requests_that_wait(rt: HostRuntime) -> Result<(), Fail> {
         (
             "a release ends the waits of its fh",
             RELEASE_ENDS_THE_WAITS_OF_ITS_FH,
+        ),
+        (
+            "two owners don't both wait for each other",
+            TWO_OWNERS_WAIT_FOR_EACH_OTHER,
+        ),
+        (
+            "a circle goes through the second of two owners in the way",
+            ONE_OF_TWO_BLOCKERS_LEADS_BACK,
+        ),
+        (
+            "a circle goes through the second of an owner's two requests",
+            ONE_OF_TWO_REQUESTS_LEADS_BACK,
         ),
     ];
     for (what, rest) in traces {

@@ -1,0 +1,77 @@
+ghost use Rattle.std.specs.Prelude.{◌≡◌, ◌≢◌, ℕ, string_bytes, IfSome, IfOk, OnOk, IfErr};
+ghost use Rattle.std.specs.Io.KnownBytes.{Keeps};
+ghost use Rattle.fl_book.specs.Text.{text_of, BreaksAt, LineFits, Fits};
+ghost use Rattle.fl_book.specs.Verdicts.{IsVerdict};
+ghost use Rattle.fl_book.specs.declared.judge.Verdict.TheVariants as said;
+ghost use Rattle.lockd_commands.specs.Check.{verdict_text, IsJudged};
+ghost use Rattle.lockd_commands.specs.declared.fault.Fault.{Fault};
+
+use crate::fault::Fault;
+use crate::status::Status;
+use crate::streams::{read_all, write_all};
+use fl_book::{Verdict, check, read_trace};
+use std::alloc::Global;
+use std::io::{Read, Write};
+
+/// `lockd check`: reads a trace, and writes `legal`, or `differs N` where it isn't: the lines before line N, and no more,
+/// are a beginning of a legal trace. All input is read and checked before any output. A fault is told as one line on
+/// `faults`.
+pub fn check_on<R: Read, W: Write, F: Write>(
+    alloc: Global,
+    input: &mut R,
+    output: &mut W,
+    faults: &mut F,
+) -> Status
+    ensures legal { result ≡ Status.Good →
+        IsJudged (R.remaining input.old) (W.contents output.old) (W.contents output.new) said.Legal }
+    ensures differs { result ≡ Status.Different →
+        (n : ℕ) × IsJudged (R.remaining input.old) (W.contents output.old) (W.contents output.new) (said.Differs n) }
+
+    // The first n - 1 lines of the input are lines of a trace, and the next is none.
+    ensures bad { (n : ℕ) → result ≡ Status.Faulted (Fault.BadLine n) →
+        IfSome (R.remaining input.old) (λ trace. BreaksAt LineFits trace n) }
+
+    // Only a write that fails leaves anything on the output.
+    ensures kept { (fault : Fault) → result ≡ Status.Faulted fault → fault ≢ Fault.Write →
+        Keeps (W.contents output.old) (W.contents output.new) }
+    ensures quiet { result ≡ Status.Good → Keeps (F.contents faults.old) (F.contents faults.new) }
+{
+    match judge(alloc, input, output) {
+        Ok(Verdict::Legal) => Status::Good,
+        Ok(Verdict::Differs(_)) => Status::Different,
+        Err(fault) => {
+            let _ = writeln!(faults, "{fault}");
+            Status::Faulted(fault)
+        }
+    }
+}
+
+fn judge<R: Read, W: Write>(alloc: Global, input: &mut R, output: &mut W) -> Result<Verdict, Fault>
+    ensures judged { IfOk result
+        (IsJudged (R.remaining input.old) (W.contents output.old) (W.contents output.new)) }
+    ensures bad { IfErr result (λ fault. (n : ℕ) → fault ≡ Fault.BadLine n →
+        IfSome (R.remaining input.old) (λ trace. BreaksAt LineFits trace n)) }
+    ensures kept { IfErr result (λ fault. fault ≢ Fault.Write → Keeps (W.contents output.old) (W.contents output.new)) }
+{
+    let text = read_all(alloc, input)?;
+    let history = read_trace(alloc, &text)?;
+    let verdict = check(alloc, &history)?;
+    let line = verdict_text(alloc, verdict)?;
+    write_all(output, line.as_bytes())?;
+    Ok(verdict)
+}
+
+fn verdict_text(alloc: Global, verdict: Verdict) -> Result<String, Fault>
+    ensures text { IfOk result (λ text. string_bytes text ≡ verdict_text verdict) }
+    ensures error { IfErr result (λ fault. fault ≡ Fault.NoMemory) }
+{
+    let mut text = String::new(alloc);
+    match verdict {
+        Verdict::Legal => writeln!(text, "legal")?,
+        Verdict::Differs(n) => writeln!(text, "differs {n}")?,
+    }
+    Ok(text)
+}
+
+#[cfg(test)]
+mod tests;
