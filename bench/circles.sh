@@ -1,0 +1,92 @@
+#!/bin/sh
+# Times a SETLKW that parks, with the INTERRUPT that ends it, where 255 lock requests wait in a row, each for a lock of the
+# next one's owner, against the same two orders where none waits, in processor time of `lockd`. The SETLKW waits for the
+# first of the row, and the last waits for an owner who doesn't wait, so the search goes along the whole row and finds no
+# circle. With 3,840 runs of other owners the row stands on one file, where one owner has these runs; on one file, where
+# each is another owner's and in the way of every request; and on 255 files. Each time is the difference of two runs that
+# differ in these orders alone. The runs take turns, and the least time of each counts. Prints milliseconds and the ratios.
+#
+# What dominates: for each request that is visited, the table is asked of each owner that isn't reached yet, about 32,900
+# times in all. Each time it walks along all runs of the file that start before the end of what is wanted. With none waiting
+# the same walk is made once, and where each run is in the way it ends at the first.
+set -eu
+. "$(dirname "$0")/../tools/built_lockd.sh"
+python3 - "$program" "$work" <<'END'
+import os, subprocess, sys
+
+PROGRAM, WORK = sys.argv[1:]
+ROW, RUNS, FILES = 255, 3_840, 255
+READ, WRITE = 0, 1
+FEW, OFTEN = 2, 20_000
+ASKER = 9_999
+
+# The row's bytes begin here, behind those of the other runs.
+BEHIND = 2 * RUNS
+
+# An order is a node and what is asked there. The first open file of a node has its number less one.
+def lock(node, owner, start, end, kind, word):
+    return node, (word, node - 1, owner, start, end, kind, 11, 0)
+
+def stored(name, orders):
+    path = f"{WORK}/{name}"
+    with open(path, "w") as out:
+        for unique, (node, asked) in enumerate(orders, 1):
+            out.write(f"ask 0 {unique} {node} 0 0 0 {' '.join(str(word) for word in asked)}\n")
+    return path
+
+def millis(path):
+    with open(path) as given, open(f"{WORK}/told", "w") as told:
+        running = subprocess.Popen([PROGRAM, "script"], stdin=given, stdout=told)
+        _, status, used = os.wait4(running.pid, 0)
+    running.returncode = status
+    assert status == 0
+    return (used.ru_utime + used.ru_stime) * 1e3
+
+def told_by(path):
+    with open(path) as given:
+        return subprocess.run([PROGRAM, "script"], stdin=given, capture_output=True, check=True, text=True).stdout
+
+# The least time of each run, in milliseconds.
+def least(runs, times):
+    best = {name: float("inf") for name in runs}
+    for _ in range(times):
+        for name, path in runs.items():
+            best[name] = min(best[name], millis(path))
+    return best
+
+# The owner of this place in the row, from 0, holds a byte.
+def holds(files, place):
+    return lock(2 + place % files, place, BEHIND + 2 * place, BEHIND + 2 * place, READ, "setlk")
+
+# Somebody waits for it.
+def wants(files, owner, place):
+    return lock(2 + place % files, owner, BEHIND + 2 * place, BEHIND + 2 * place, WRITE, "setlkw")
+
+# A SETLKW that waits for the first of the row until it is interrupted, and again.
+def asked(files, before, times):
+    orders = list(before)
+    for _ in range(times):
+        orders += [wants(files, ASKER, 0), (1, ("interrupt", len(orders) + 1))]
+    return orders
+
+def compare(what, files, others):
+    made = [(1, ("create", 0, 420, f"{i:03}".encode().hex())) for i in range(files)]
+    none = made + others + [holds(files, place) for place in range(ROW + 1)]
+    row = none + [wants(files, place, place + 1) for place in range(ROW)]
+    runs = {
+        "none": stored("none", none),
+        "none_on": stored("none_on", asked(files, none, OFTEN)),
+        "row": stored("row", row),
+        "row_on": stored("row_on", asked(files, row, FEW)),
+    }
+    assert told_by(runs["row"]).count("\ntell") == len(none)
+    assert told_by(runs["none_on"]).count(" err 4\n") == OFTEN
+    assert told_by(runs["row_on"]).count(" err 4\n") == FEW
+    best = least(runs, 3)
+    alone, behind = (best["none_on"] - best["none"]) / OFTEN, (best["row_on"] - best["row"]) / FEW
+    print(f"{what}: {alone:.4f} ms with none waiting, {behind:.2f} ms with {ROW}, ratio {behind / alone:.0f}")
+
+compare("one file, runs of one owner", 1, [lock(2, 5_000, 2 * i, 2 * i, READ, "setlk") for i in range(RUNS)])
+compare("one file, each owner in the way", 1, [lock(2, 10_000 + i, 0, 2**63 - 1, READ, "setlk") for i in range(RUNS)])
+compare(f"{FILES} files", FILES, [lock(2 + i % FILES, 5_000, 2 * i, 2 * i, READ, "setlk") for i in range(RUNS)])
+END
