@@ -109,8 +109,8 @@ begins before worker order j legal =
     record {
       rest = told_lines (drop j r);
       legal = step before worker order legal (
-      append_assoc before (line.Asked worker order ∷ told_lines (take j r)) (told_lines (drop j r))
-      ∙ ap (λ l. before ++ line.Asked worker order ∷ l) (sym (map-append (λ told. line.Told told) (take j r) (drop j r)) ∙ ap told_lines (take-append-drop j r)));
+          append_assoc before (line.Asked worker order ∷ told_lines (take j r)) (told_lines (drop j r))
+          ∙ ap (λ l. before ++ line.Asked worker order ∷ l) (sym (map-append (λ told. line.Told told) (take j r) (drop j r)) ∙ ap told_lines (take-append-drop j r)));
     }
 
 -- one more at a place, where there is one

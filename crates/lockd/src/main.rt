@@ -59,8 +59,9 @@ fn command<'a>(alloc: Global) -> Result<Command<'a>, Error> {
     let bytes = Command::new(alloc, "bytes").about(
         "Serves the messages on standard input, lines of hex, and prints each reply as one",
     );
-    let check = Command::new(alloc, "check")
-        .about("Judges the trace on standard input and prints legal, or differs and a line's number");
+    let check = Command::new(alloc, "check").about(
+        "Judges the trace on standard input and prints legal, or differs and a line's number",
+    );
     let lockd = Command::new(alloc, "lockd")
         .about("Keeps the locks of a directory of lock files")
         .after_help("Without a command it is script.")
