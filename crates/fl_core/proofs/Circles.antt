@@ -1,7 +1,7 @@
 -- The test for a circle, and a circle in words.
-use Rattle.std.proofs.Common.{◌≡◌, ◌↔◌, ℕ, zero, suc, ◌<◌, Bool, true, false, ◌&&◌, ◌||◌, ◌⊎◌, inl, inr, ⊎_elim, List, [], ◌∷◌, ◌++◌, length, map, get_or, refl, sym, ap, ◌∙◌, subst, arith}
+use Rattle.std.proofs.Common.{◌≡◌, ◌↔◌, ℕ, zero, suc, ◌<◌, Bool, true, false, ◌&&◌, ◌||◌, ◌⊎◌, inl, inr, ⊎_elim, List, [], ◌∷◌, ◌++◌, length, map, get_or, refl, sym, subst, arith}
 use Rattle.std.specs.List.{Contains}
-use Rattle.fl_core.specs.Circle.{leads, AreInRow, IsCircle, Waits}
+use Rattle.fl_core.specs.Circle.{leads, AreInRow, IsCircle}
 
 -- ---- a way without the first request, or by it
 

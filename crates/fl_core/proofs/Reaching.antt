@@ -1,7 +1,7 @@
 -- One pass over the requests that wait: the places of all owners are reached who pass a test.
-use Rattle.std.proofs.Common.{◌≡◌, ◌≢◌, ℕ, ◌+◌, ◌<◌, ◌≤◌, Bool, true, false, ◌||◌, List, length, get_or, slice_index_or, set, length-set, get_or-set_same, get_or-set_other, inl, inr, ◌⊎◌, refl, sym, ap, ◌∙◌, arith}
+use Rattle.std.proofs.Common.{◌≡◌, ◌≢◌, ℕ, ◌+◌, ◌<◌, ◌≤◌, Bool, ◌||◌, List, length, slice_index_or, set, get_or-set_same, get_or-set_other, inl, inr, ◌⊎◌, sym, ap, ◌∙◌, arith}
 use Rattle.std.proofs.lemmas.Bool.{cases_eq}
-use Rattle.fl_core.specs.Inside.Searching.{is_set, owner_at, AreReached, IsByOwner}
+use Rattle.fl_core.specs.Inside.Searching.{is_set, owner_at}
 use Rattle.fl_core.specs.declared.circle.Wanted.{Wanted}
 
 -- places before this one are done, and the others are as they were

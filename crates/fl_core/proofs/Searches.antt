@@ -1,9 +1,8 @@
 -- The search for a circle: what is reached and visited so far.
-use Rattle.std.proofs.Common.{◌≡◌, ◌≢◌, ℕ, zero, suc, ◌<◌, ◌≤◌, ◌+◌, Bool, true, false, cond, ◌||◌, List, [], ◌∷◌, length, sum_by, get_or, set, length-set, get_or-set_other, replicate, inl, inr, ◌⊎◌, ⊎_elim, refl, sym, ap, ◌∙◌, subst, arith}
+use Rattle.std.proofs.Common.{◌≡◌, ◌≢◌, ℕ, zero, suc, ◌<◌, ◌≤◌, Bool, true, false, cond, ◌||◌, List, [], ◌∷◌, length, sum_by, get_or, set, length-set, get_or-set_other, replicate, inl, inr, ◌⊎◌, ⊎_elim, refl, sym, ap, ◌∙◌, subst, arith}
 use Rattle.std.proofs.lemmas.Bool.{cases_eq}
 use Rattle.std.proofs.lemmas.List.{get_or-replicate, length-replicate}
 use Rattle.std.proofs.lemmas.List.Sums.{sum_by-set}
-use Rattle.std.specs.List.{Contains}
 use Rattle.fl_core.specs.Circle.{leads, Waits, AreInRow, IsCircle}
 use Rattle.fl_core.specs.Inside.Searching.{is_set, owner_at, AreReached, IsByOwner}
 use Rattle.fl_core.specs.declared.circle.Wanted.{Wanted}

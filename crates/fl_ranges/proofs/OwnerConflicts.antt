@@ -1,5 +1,5 @@
 -- Conflicts with one owner, and the least owner that conflicts.
-use Rattle.std.proofs.Common.{◌≡◌, ◌≢◌, ◌↔◌, ℕ, ◌≤◌, ◌<◌, Bool, true, false, cond, not, ◌&&◌, ◌||◌, ◌==◌, nat_le, nat_lt, Option, Some, None, inl, inr, ◌⊎◌, List, [], ◌∷◌, map, refl, ap, sym, ◌∙◌, subst, arith}
+use Rattle.std.proofs.Common.{◌≡◌, ◌↔◌, ℕ, ◌≤◌, Bool, true, false, cond, ◌&&◌, ◌||◌, ◌==◌, Option, Some, None, inl, inr, ◌⊎◌, List, [], ◌∷◌, map, refl, ap, sym, ◌∙◌, subst, arith}
 use Rattle.std.proofs.lemmas.Bool.Decides.{nat_tests}
 use Rattle.std.specs.List.{list_any}
 use Rattle.fl_arena.specs.Chains.{Chains, items}
@@ -7,7 +7,7 @@ use Rattle.fl_ranges.specs.declared.lock.Key.{Key}
 use Rattle.fl_ranges.specs.declared.lock.Kind.{Kind}
 use Rattle.fl_ranges.specs.declared.run.Run.{Run}
 use Rattle.fl_ranges.specs.Marking.{class_number, Marking, marking_of}
-use Rattle.fl_ranges.specs.Conflict.{excludes, excludes_lock, excludes_by, owner_conflicts, IsConflict, IsOwnerConflict, IsAfter, IsAtMost, IsLeastAfter}
+use Rattle.fl_ranges.specs.Conflict.{excludes, excludes_by, owner_conflicts, IsOwnerConflict, IsAfter, IsAtMost, IsLeastAfter}
 use Rattle.fl_ranges.specs.Placing.{home}
 use Rattle.fl_ranges.specs.Inside.RunList.{meant, run_excludes}
 use Rattle.fl_ranges.specs.Inside.RunChains.{all_runs, IsTable}

@@ -1,10 +1,9 @@
 -- The least owner that excludes a lock, on a walk along the runs of a chain.
-use Rattle.std.proofs.Common.{◌≡◌, ℕ, ◌+◌, Bool, true, false, cond, ◌&&◌, Option, Some, None, List, [], ◌∷◌, drop, slice_get, refl, ap, ◌∙◌}
+use Rattle.std.proofs.Common.{◌≡◌, ℕ, ◌+◌, true, cond, ◌&&◌, Option, Some, None, List, [], ◌∷◌, drop, slice_get, refl, ap, ◌∙◌}
 use Rattle.std.specs.List.{AllByRecursion}
 use Rattle.fl_ranges.specs.declared.lock.Key.{Key}
 use Rattle.fl_ranges.specs.declared.lock.Kind.{Kind}
 use Rattle.fl_ranges.specs.declared.run.Run.{Run}
-use Rattle.fl_ranges.specs.Inside.RunList.{run_excludes}
 use Rattle.fl_ranges.specs.Inside.RunChains.{is_past, IsSorted}
 use Rattle.fl_ranges.specs.Inside.Owners.{is_after, is_less, least_with, least_from}
 use Rattle.fl_ranges.proofs.Walks.{drop_here, drop_end}

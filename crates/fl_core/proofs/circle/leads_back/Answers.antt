@@ -1,4 +1,4 @@
-use Rattle.std.proofs.Common.{◌≡◌, ◌∙◌, ◌<◌, ℕ, length, sym, ap, arith}
+use Rattle.std.proofs.Common.{◌∙◌, ℕ, sym, arith}
 use Rattle.fl_core.specs.Circle.{owner_of, hinders}
 use Rattle.fl_core.specs.Inside.Searching.{meant}
 use Rattle.fl_core.specs.declared.circle.Wanted.{Wanted}
