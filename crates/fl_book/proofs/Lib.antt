@@ -9,3 +9,4 @@ pub mod Reading
 pub mod Newlines
 pub mod Places
 pub mod Verdicts
+pub mod Boards

@@ -1,5 +1,5 @@
 -- Which histories are those of one thread: each order is answered as the sequential lock directory answers then.
-use Rattle.std.specs.Prelude.{◌≡◌, ℕ, List, [], ◌∷◌, ◌++◌, map}
+use Rattle.std.specs.Prelude.{◌≡◌, ℕ, Bool, true, false, List, [], ◌∷◌, ◌++◌, map, count_by}
 use Rattle.fl_wire.specs.declared.told.Told.{Told}
 use Rattle.fl_wire.specs.declared.order.Order.{Order}
 use Rattle.fl_book.specs.declared.history.Line.{Line}
@@ -16,3 +16,12 @@ pub data IsLegal : List Line → Type 0 where
   nothing : IsLegal []
   step : (before : List Line) (worker : ℕ) (order : Order) {lines : List Line} → IsLegal before
       → lines ≡ before ++ step_lines worker order (replies_in (state_after before) order) → IsLegal lines
+
+-- the line asks
+abbrev pub is_asked : Line → Bool
+is_asked (line.Asked worker order) = true
+is_asked (line.Told told) = false
+
+-- how many orders the lines ask
+abbrev pub orders_asked : List Line → ℕ
+orders_asked lines = count_by is_asked lines

@@ -5,3 +5,4 @@ pub mod BookCode
 pub mod Text
 pub mod Words
 pub mod Verdicts
+pub mod Seats

@@ -1,5 +1,5 @@
 -- What a judge says of a history.
-use Rattle.std.specs.Prelude.{◌≡◌, ℕ, ◌+◌, ◌-◌, ◌≤◌, List, ◌++◌, length, take}
+use Rattle.std.specs.Prelude.{ℕ, ◌+◌, ◌-◌, ◌≤◌, List, ◌++◌, length, take}
 use Rattle.fl_book.specs.Legal.{IsLegal}
 use Rattle.fl_book.specs.declared.judge.Verdict.{Verdict}
 use Rattle.fl_book.specs.declared.judge.Verdict.TheVariants.{Legal, Differs}

@@ -2,12 +2,14 @@
 //! and the history's text.
 #![tactic(auto)]
 
+mod board;
 mod desk;
 mod history;
 mod judge;
 pub mod laws;
 mod text;
 
+pub use board::{Board, BoardName, CloseFault, HandFault, OpenFault, Seat};
 pub use desk::{Desk, MOST_LINES};
 pub use history::{History, Line};
 pub use judge::{Verdict, check};

@@ -1,10 +1,9 @@
-use Rattle.std.proofs.Common.{◌≡◌, ◌∙◌, ◌+◌, ◌≤◌, ◌<◌, ℕ, List, length, take, drop, refl, sym, ap, subst, arith}
+use Rattle.std.proofs.Common.{◌≡◌, ◌∙◌, ◌+◌, ◌≤◌, List, length, take, drop, refl, sym, ap, subst, arith}
 use Rattle.std.proofs.lemmas.List.{length-drop}
-use Rattle.fl_wire.specs.declared.told.Told.{Told}
-use Rattle.fl_core.specs.State.{Snapshot, snapshot_of}
+use Rattle.fl_core.specs.State.{Snapshot}
 use Rattle.fl_core.specs.Step.{replies, replies_in}
 use Rattle.fl_book.specs.declared.history.Line.{Line}
-use Rattle.fl_book.specs.Legal.{IsLegal, nothing}
+use Rattle.fl_book.specs.Legal.{nothing}
 use Rattle.fl_book.specs.Replay.{state_after}
 use Rattle.fl_book.specs.Verdicts.{DiffersAt}
 use Rattle.fl_book.proofs.Histories.{taken_kept}
