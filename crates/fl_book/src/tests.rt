@@ -1,3 +1,8 @@
+mod changes;
+mod judged;
+mod numbers;
+mod traces;
+
 use super::*;
 use fl_core::Tolds;
 use fl_wire::{Answer, Attr, Errno, LockAsk, Name, Op, Order, Told};
