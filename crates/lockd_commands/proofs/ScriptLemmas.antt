@@ -7,7 +7,8 @@ use Rattle.fl_wire.specs.declared.told.Told.{Told as Reply}
 use Rattle.fl_book.specs.Text.{line_text, text_of, LineFits, Fits, BreaksAt}
 use Rattle.fl_book.specs.declared.history.Line.{Line}
 use Rattle.fl_book.specs.declared.history.Line.TheVariants.{Told}
-use Rattle.lockd_commands.specs.Script.{is_asked, line_of, IsAskLine}
+use Rattle.fl_book.specs.Legal.{is_asked}
+use Rattle.lockd_commands.specs.Script.{line_of, IsAskLine}
 use Rattle.lockd_commands.specs.declared.script.Ask.{Ask}
 
 -- ask lines can be read back

@@ -1,18 +1,13 @@
 -- Scripts: ask lines, taken at a desk in their order.
-use Rattle.std.specs.Prelude.{◌≡◌, ℕ, Bool, true, false, List, filter, Option, IfSome}
+use Rattle.std.specs.Prelude.{◌≡◌, ℕ, true, List, filter, Option, IfSome}
 use Rattle.std.specs.Io.KnownBytes.{Appends}
-use Rattle.fl_book.specs.Legal.{IsLegal}
+use Rattle.fl_book.specs.Legal.{IsLegal, is_asked}
 use Rattle.fl_book.specs.Text.{text_of, LineFits, Fits, BreaksAt}
 use Rattle.fl_book.specs.declared.history.Line.{Line}
-use Rattle.fl_book.specs.declared.history.Line.TheVariants.{Asked, Told}
+use Rattle.fl_book.specs.declared.history.Line.TheVariants.{Asked}
 use Rattle.lockd_commands.specs.declared.fault.Fault.{Fault}
 use Rattle.lockd_commands.specs.declared.script.Ask.{Ask}
 use Rattle.lockd_commands.specs.declared.fault.Fault.TheVariants.{BadLine, NoMemory, Read, Write, Cut, BadLength}
-
--- the line asks
-abbrev pub is_asked : Line → Bool
-is_asked (Asked worker order) = true
-is_asked (Told told) = false
 
 -- an ask line that can be read back
 abbrev pub IsAskLine : Line → Type 0

@@ -1,8 +1,8 @@
 ghost use Rattle.std.specs.Prelude.{◌≡◌, ◌≢◌, ℕ, ◌++◌, ◌∷◌, List, map, filter, string_bytes, All, IfSome, IsNone, IfOk, OnOk, IfErr};
 ghost use Rattle.std.specs.Io.KnownBytes.{Keeps, Appends};
-ghost use Rattle.fl_book.specs.Legal.{IsLegal};
+ghost use Rattle.fl_book.specs.Legal.{IsLegal, is_asked};
 ghost use Rattle.fl_book.specs.Text.{line_text, text_of, BreaksAt};
-ghost use Rattle.lockd_commands.specs.Script.{line_of, is_asked, IsAskLine, IsTraceOf, FaultSays, IsAnswered};
+ghost use Rattle.lockd_commands.specs.Script.{line_of, IsAskLine, IsTraceOf, FaultSays, IsAnswered};
 ghost use Rattle.fl_book.specs.declared.history.Line.{Line as Entry};
 ghost use Rattle.lockd_commands.specs.declared.fault.Fault.{Fault};
 
@@ -119,6 +119,8 @@ fn take_all(alloc: Global, asks: &[Ask]) -> Result<History, Fault>
     Ok(desk.into_history())
 }
 
+#[cfg(test)]
+mod boards;
 #[cfg(test)]
 mod file_tests;
 #[cfg(test)]

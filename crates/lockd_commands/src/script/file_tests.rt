@@ -123,42 +123,46 @@ ask 0 12 2 0 0 0 getattr
 tell 12 attr 2 33188 1 0 0
 ";
 
+// Whole scripts.
+pub(super) const NAMES_AND_NODES: [(&str, &str); 3] = [
+    (
+        "a file lives while it is open",
+        A_FILE_LIVES_WHILE_IT_IS_OPEN,
+    ),
+    (
+        "orders that find no name, node or open file",
+        ORDERS_THAT_FIND_NOTHING,
+    ),
+    ("the root is never forgotten", THE_ROOT_IS_NEVER_FORGOTTEN),
+];
+
 #[test]
 fn names_and_nodes(rt: HostRuntime) -> Result<(), Fail> {
-    let traces = [
-        (
-            "a file lives while it is open",
-            A_FILE_LIVES_WHILE_IT_IS_OPEN,
-        ),
-        (
-            "orders that find no name, node or open file",
-            ORDERS_THAT_FIND_NOTHING,
-        ),
-        ("the root is never forgotten", THE_ROOT_IS_NEVER_FORGOTTEN),
-    ];
-    for (what, trace) in traces {
+    for (what, trace) in NAMES_AND_NODES {
         answers(&rt, what, trace)?;
     }
     Ok(())
 }
 
+// Each goes on from a script that makes one file.
+pub(super) const OPEN_FILES_AND_LOCKS: [(&str, &str); 3] = [
+    (
+        "flush drops record locks of every fh, and no whole-file lock",
+        FLUSH_DROPS_RECORD_LOCKS_OF_EVERY_FH,
+    ),
+    (
+        "unlink leaves an open file and its locks",
+        UNLINK_LEAVES_AN_OPEN_FILE_AND_ITS_LOCKS,
+    ),
+    (
+        "the last release drops all locks, and forgetting leaves a name",
+        THE_LAST_RELEASE_DROPS_ALL_LOCKS,
+    ),
+];
+
 #[test]
 fn open_files_and_locks(rt: HostRuntime) -> Result<(), Fail> {
-    let traces = [
-        (
-            "flush drops record locks of every fh, and no whole-file lock",
-            FLUSH_DROPS_RECORD_LOCKS_OF_EVERY_FH,
-        ),
-        (
-            "unlink leaves an open file and its locks",
-            UNLINK_LEAVES_AN_OPEN_FILE_AND_ITS_LOCKS,
-        ),
-        (
-            "the last release drops all locks, and forgetting leaves a name",
-            THE_LAST_RELEASE_DROPS_ALL_LOCKS,
-        ),
-    ];
-    for (what, rest) in traces {
+    for (what, rest) in OPEN_FILES_AND_LOCKS {
         let trace = format!(in rt.alloc(); "{MADE}{rest}")?;
         answers(&rt, what, trace.as_str())?;
     }

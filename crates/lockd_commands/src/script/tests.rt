@@ -7,17 +7,23 @@ use std::test::Fail;
 // The script that each other one goes on from.
 pub(super) const MADE: &str = "ask 0 1 1 0 0 0 create 0 420 61\ntell 1 made 2 33188 1 0 0 1\n";
 
+// The ask lines of a trace.
+pub(super) fn asks_of(alloc: Global, trace: &str) -> Result<String, Fail> {
+    let mut script = String::new(alloc);
+    for line in trace.lines().filter(|line| line.starts_with("ask ")) {
+        script.push_str(line)?;
+        script.push('\n')?;
+    }
+    Ok(script)
+}
+
 // A script is the ask lines of the trace that is wanted for it.
 pub(super) fn answers(
     rt: &(impl Abort + AllocGlobal),
     what: &str,
     trace: &str,
 ) -> Result<(), Fail> {
-    let mut script = String::new(rt.alloc());
-    for line in trace.lines().filter(|line| line.starts_with("ask ")) {
-        script.push_str(line)?;
-        script.push('\n')?;
-    }
+    let script = asks_of(rt.alloc(), trace)?;
     let mut output = Vec::new(rt.alloc());
     let mut faults = Vec::new(rt.alloc());
     let mut input = script.as_bytes();
@@ -45,30 +51,32 @@ fn refuses(
     Ok(())
 }
 
+// Each goes on from a script that makes one file.
+pub(super) const LOCKS_AND_FILES: [(&str, &str); 12] = [
+    ("a read lock under another's write lock", READ_UNDER_WRITE),
+    ("a read lock beside another's write lock", READ_BESIDE_WRITE),
+    ("unlocking cuts a lock in two", UNLOCK_IN_THE_MIDDLE),
+    ("record locks of two owners", RECORD_LOCKS),
+    ("whole-file locks of two owners", WHOLE_FILE_LOCKS),
+    (
+        "a lock is named whole, on either side of a hole",
+        NAMED_LOCKS,
+    ),
+    ("touching locks of one mark are one lock", TOUCHING_LOCKS),
+    ("locks of two processes stay two", TWO_PROCESSES),
+    ("the least byte's least owner is named", LEAST_OWNER),
+    ("lock requests that make no sense", BAD_LOCK_REQUESTS),
+    (
+        "files that aren't made, by the first error that applies",
+        REFUSED_FILES,
+    ),
+    ("files that are made, or were there", MADE_FILES),
+];
+
 #[test]
 fn locks_and_files(rt: HostRuntime) -> Result<(), Fail> {
-    let traces = [
-        ("a read lock under another's write lock", READ_UNDER_WRITE),
-        ("a read lock beside another's write lock", READ_BESIDE_WRITE),
-        ("unlocking cuts a lock in two", UNLOCK_IN_THE_MIDDLE),
-        ("record locks of two owners", RECORD_LOCKS),
-        ("whole-file locks of two owners", WHOLE_FILE_LOCKS),
-        (
-            "a lock is named whole, on either side of a hole",
-            NAMED_LOCKS,
-        ),
-        ("touching locks of one mark are one lock", TOUCHING_LOCKS),
-        ("locks of two processes stay two", TWO_PROCESSES),
-        ("the least byte's least owner is named", LEAST_OWNER),
-        ("lock requests that make no sense", BAD_LOCK_REQUESTS),
-        (
-            "files that aren't made, by the first error that applies",
-            REFUSED_FILES,
-        ),
-        ("files that are made, or were there", MADE_FILES),
-    ];
     answers(&rt, "an empty script", "")?;
-    for (what, rest) in traces {
+    for (what, rest) in LOCKS_AND_FILES {
         let trace = format!(in rt.alloc(); "{MADE}{rest}")?;
         answers(&rt, what, trace.as_str())?;
     }

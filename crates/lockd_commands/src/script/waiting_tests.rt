@@ -143,51 +143,53 @@ ask 0 7 2 0 0 0 setlkw 1 8 0 0 1 12 0
 tell 7 err 35
 ";
 
+// Each goes on from a script that makes one file.
+pub(super) const REQUESTS_THAT_WAIT: [(&str, &str); 10] = [
+    (
+        "the oldest waiter is served first",
+        WAITERS_ARE_SERVED_OLDEST_FIRST,
+    ),
+    (
+        "a grant that turns a write lock into a read lock frees another waiter",
+        A_GRANT_FREES_ANOTHER_WAITER,
+    ),
+    (
+        "a whole-file lock stays until its conversion is granted",
+        A_WHOLE_FILE_LOCK_IS_CONVERTED,
+    ),
+    (
+        "an interrupt ends a wait, and is told where there is none",
+        AN_INTERRUPT_ENDS_A_WAIT,
+    ),
+    (
+        "an order with a waiter's unique is refused",
+        A_WAITERS_UNIQUE_IS_TAKEN,
+    ),
+    (
+        "a file with a waiter on another is unlinked and forgotten",
+        A_FILE_WITH_A_WAITER_IS_UNLINKED,
+    ),
+    (
+        "a release ends the waits of its fh",
+        RELEASE_ENDS_THE_WAITS_OF_ITS_FH,
+    ),
+    (
+        "two owners don't both wait for each other",
+        TWO_OWNERS_WAIT_FOR_EACH_OTHER,
+    ),
+    (
+        "a circle goes through the second of two owners in the way",
+        ONE_OF_TWO_BLOCKERS_LEADS_BACK,
+    ),
+    (
+        "a circle goes through the second of an owner's two requests",
+        ONE_OF_TWO_REQUESTS_LEADS_BACK,
+    ),
+];
+
 #[test]
 fn requests_that_wait(rt: HostRuntime) -> Result<(), Fail> {
-    let traces = [
-        (
-            "the oldest waiter is served first",
-            WAITERS_ARE_SERVED_OLDEST_FIRST,
-        ),
-        (
-            "a grant that turns a write lock into a read lock frees another waiter",
-            A_GRANT_FREES_ANOTHER_WAITER,
-        ),
-        (
-            "a whole-file lock stays until its conversion is granted",
-            A_WHOLE_FILE_LOCK_IS_CONVERTED,
-        ),
-        (
-            "an interrupt ends a wait, and is told where there is none",
-            AN_INTERRUPT_ENDS_A_WAIT,
-        ),
-        (
-            "an order with a waiter's unique is refused",
-            A_WAITERS_UNIQUE_IS_TAKEN,
-        ),
-        (
-            "a file with a waiter on another is unlinked and forgotten",
-            A_FILE_WITH_A_WAITER_IS_UNLINKED,
-        ),
-        (
-            "a release ends the waits of its fh",
-            RELEASE_ENDS_THE_WAITS_OF_ITS_FH,
-        ),
-        (
-            "two owners don't both wait for each other",
-            TWO_OWNERS_WAIT_FOR_EACH_OTHER,
-        ),
-        (
-            "a circle goes through the second of two owners in the way",
-            ONE_OF_TWO_BLOCKERS_LEADS_BACK,
-        ),
-        (
-            "a circle goes through the second of an owner's two requests",
-            ONE_OF_TWO_REQUESTS_LEADS_BACK,
-        ),
-    ];
-    for (what, rest) in traces {
+    for (what, rest) in REQUESTS_THAT_WAIT {
         let trace = format!(in rt.alloc(); "{MADE}{rest}")?;
         answers(&rt, what, trace.as_str())?;
     }

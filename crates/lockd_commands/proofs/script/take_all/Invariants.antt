@@ -1,5 +1,6 @@
 use Rattle.std.proofs.Common.{◌≡◌, take, map, filter}
-use Rattle.lockd_commands.specs.Script.{is_asked, line_of}
+use Rattle.fl_book.specs.Legal.{is_asked}
+use Rattle.lockd_commands.specs.Script.{line_of}
 use Rattle.lockd_commands.proofs.script.take_all.Given as goal
 
 -- the desk was asked what is asked so far
