@@ -3,3 +3,4 @@ pub mod SendLemmas
 pub mod ServedLemmas
 pub mod SessionLemmas
 pub mod WriteLemmas
+pub mod SharedLemmas

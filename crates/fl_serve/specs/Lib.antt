@@ -1,4 +1,5 @@
 pub mod Inside
 pub mod Outbox
 pub mod Served
+pub mod Shared
 pub mod Session

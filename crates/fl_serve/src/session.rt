@@ -5,9 +5,9 @@ ghost use Rattle.fl_serve.specs.Inside.Serving.{IsFresh};
 ghost use Rattle.fl_serve.specs.Inside.Turns.{first_fault, HasEnded};
 
 mod answering;
-mod mail;
+pub(crate) mod mail;
 mod reading;
-mod server;
+pub(crate) mod server;
 
 use crate::outbox::Outbox;
 use crate::session::mail::{Mail, ReplyBuffer};

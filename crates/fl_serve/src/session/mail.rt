@@ -79,6 +79,7 @@ impl<W: Write> Mail<'_, W> {
     /// Sends what is owed, each reply by itself.
     pub(crate) fn send(&mut self, owed: &Owed, tolds: &[Told])
         ensures same { self.new.out.writer.ghost_name ≡ self.old.out.writer.ghost_name }
+        ensures same_reply { self.new.reply.ghost_name ≡ self.old.reply.ghost_name }
         ensures sent { Sends (W.contents self.old.out.writer.now) (W.contents self.new.out.writer.now)
             self.old.out.broken self.new.out.broken (bytes_of owed.now tolds.now) }
     {
@@ -92,6 +93,7 @@ impl<W: Write> Mail<'_, W> {
 
     fn send_init(&mut self, unique: u64, step: &InitStep)
         ensures same { self.new.out.writer.ghost_name ≡ self.old.out.writer.ghost_name }
+        ensures same_reply { self.new.reply.ghost_name ≡ self.old.reply.ghost_name }
         ensures sent { Sends (W.contents self.old.out.writer.now) (W.contents self.new.out.writer.now)
             self.old.out.broken self.new.out.broken (init_spelling unique step.now ∷ []) }
     {
@@ -101,6 +103,7 @@ impl<W: Write> Mail<'_, W> {
 
     fn send_one(&mut self, told: &Told)
         ensures same { self.new.out.writer.ghost_name ≡ self.old.out.writer.ghost_name }
+        ensures same_reply { self.new.reply.ghost_name ≡ self.old.reply.ghost_name }
         ensures sent { Sends (W.contents self.old.out.writer.now) (W.contents self.new.out.writer.now)
             self.old.out.broken self.new.out.broken (spelling_of told.now ∷ []) }
     {
@@ -110,6 +113,7 @@ impl<W: Write> Mail<'_, W> {
 
     fn send_all(&mut self, tolds: &[Told])
         ensures same { self.new.out.writer.ghost_name ≡ self.old.out.writer.ghost_name }
+        ensures same_reply { self.new.reply.ghost_name ≡ self.old.reply.ghost_name }
         ensures sent { Sends (W.contents self.old.out.writer.now) (W.contents self.new.out.writer.now)
             self.old.out.broken self.new.out.broken (map spelling_of tolds.now) }
     {

@@ -124,7 +124,7 @@ impl Server {
 }
 
 // What an order of this kind is answered that is refused for want of memory.
-fn lost(kind: Kind, unique: u64) -> Owed
+pub(crate) fn lost(kind: Kind, unique: u64) -> Owed
     ensures { result ≡ if is_silent kind then Owed.Nothing
         else Owed.One (record { unique = unique; result = Err (without_memory kind) }) }
 {

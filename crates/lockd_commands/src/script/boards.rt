@@ -4,9 +4,11 @@ ghost use Rattle.std.specs.Prelude.{◌≡◌};
 
 use super::file_tests::{NAMES_AND_NODES, OPEN_FILES_AND_LOCKS};
 use super::read_asks;
-use super::tests::{LOCKS_AND_FILES, MADE, asks_of};
+use super::tests::{
+    LOCKS_AND_FILES, MADE, all_files_open, asks_of, full_directory, longest_name, no_room_for_locks,
+};
 use super::waiting_tests::REQUESTS_THAT_WAIT;
-use fl_book::{Board, BoardName, print_trace};
+use fl_book::{Board, BoardName, History, Verdict, check, print_trace};
 use fl_core::Tolds;
 use std::alloc::Global;
 use std::marker::Brand;
@@ -30,13 +32,13 @@ fn spread(alloc: Global, trace: &str) -> Result<String, Fail> {
     Ok(spread)
 }
 
-// The trace of a board at which the orders of a script are handed in, each at its worker's seat.
-fn trace_of_a_board<L: BoardName, R: Wait>(
+// The history of a board at which the orders of a script are handed in, each at its worker's seat.
+fn history_of_a_board<L: BoardName, R: Wait>(
     rt: &R,
     alloc: Global,
     blank: Blank,
     script: String,
-) -> Result<String, Fail>
+) -> Result<History, Fail>
     requires named { (blank.name ≡ L.name) × (blank.parts ≡ L.parts) }
     requires parts { (16 ≡ L.parts) × (L.workers ≡ L.parts) }
 {
@@ -49,13 +51,21 @@ fn trace_of_a_board<L: BoardName, R: Wait>(
             .ok()
             .ok_or("memory")?;
     }
-    let history = board.close(seats).ok().ok_or("all seats")?;
-    Ok(print_trace(alloc, &history)?)
+    board
+        .close(seats)
+        .ok()
+        .ok_or("all seats")
+        .map_err(Fail::from)
 }
 
 // All traces that are wanted of scripts.
 fn wanted_traces(alloc: Global) -> Result<Vec<String>, Fail> {
     let mut traces = Vec::new(alloc);
+    traces.push(String::new(alloc))?;
+    traces.push(full_directory(alloc)?)?;
+    traces.push(all_files_open(alloc)?)?;
+    traces.push(no_room_for_locks(alloc)?)?;
+    traces.push(longest_name(alloc)?)?;
     for (_, trace) in NAMES_AND_NODES {
         traces.push(format!(in alloc; "{trace}")?)?;
     }
@@ -71,15 +81,16 @@ fn wanted_traces(alloc: Global) -> Result<Vec<String>, Fail> {
     Ok(traces)
 }
 
-// A board answers as a desk does, whoever asks.
+// A board answers as a desk does, whoever asks, and the judge finds it legal.
 #[test]
 fn worked_scripts_at_a_board(rt: HostRuntime) -> Result<(), Fail> {
     let alloc = rt.alloc();
     for trace in wanted_traces(alloc)? {
         let wanted = spread(alloc, &trace)?;
         let script = asks_of(alloc, &wanted)?;
-        let given = trace_of_a_board::<Brand, _>(&rt, alloc, Blank::new(16), script)?;
-        assert_eq!(rt; given.as_str(), wanted.as_str());
+        let history = history_of_a_board::<Brand, _>(&rt, alloc, Blank::new(16), script)?;
+        assert_eq!(rt; print_trace(alloc, &history)?.as_str(), wanted.as_str());
+        assert_eq!(rt; check(alloc, &history)?, Verdict::Legal);
     }
     Ok(())
 }

@@ -84,9 +84,8 @@ fn locks_and_files(rt: HostRuntime) -> Result<(), Fail> {
 }
 
 // 256 files fill the directory, and 1,024 opens its open files; the first test that fails gives the error.
-#[test]
-fn a_full_directory(rt: HostRuntime) -> Result<(), Fail> {
-    let mut trace = String::new(rt.alloc());
+pub(super) fn full_directory(alloc: Global) -> Result<String, Fail> {
+    let mut trace = String::new(alloc);
     for i in 1..257u32 {
         let (a, b, c) = (i / 100, i / 10 % 10, i % 10);
         let node = i + 1;
@@ -100,29 +99,24 @@ fn a_full_directory(rt: HostRuntime) -> Result<(), Fail> {
         write!(trace, "tell {unique} made 2 33188 1 0 0 {fh}\n")?;
     }
     trace.push_str(ALL_FULL)?;
-    answers(
-        &rt,
-        "no more nodes, then no more open files",
-        trace.as_str(),
-    )
+    Ok(trace)
 }
 
-#[test]
-fn no_more_open_files(rt: HostRuntime) -> Result<(), Fail> {
-    let mut trace = String::new(rt.alloc());
+// A free name, and no more open files.
+pub(super) fn all_files_open(alloc: Global) -> Result<String, Fail> {
+    let mut trace = String::new(alloc);
     for fh in 1..1025u32 {
         write!(trace, "ask 0 {fh} 1 0 0 0 create 0 420 61\n")?;
         write!(trace, "tell {fh} made 2 33188 1 0 0 {fh}\n")?;
     }
     trace.push_str("ask 0 1025 1 0 0 0 create 0 420 62\ntell 1025 err 23\n")?;
-    answers(&rt, "a free name, and no more open files", trace.as_str())
+    Ok(trace)
 }
 
 // 4,096 runs are all that there is room for: a lock that would make one more is refused, and so is an unlock that
 // would cut one in two; a lock over all of them is set.
-#[test]
-fn no_more_room_for_locks(rt: HostRuntime) -> Result<(), Fail> {
-    let mut trace = String::new(rt.alloc());
+pub(super) fn no_room_for_locks(alloc: Global) -> Result<String, Fail> {
+    let mut trace = String::new(alloc);
     trace.push_str(MADE)?;
     for i in 0..4096u32 {
         let (unique, start, end) = (i + 2, 4 * i, 4 * i + 2);
@@ -133,7 +127,26 @@ fn no_more_room_for_locks(rt: HostRuntime) -> Result<(), Fail> {
         write!(trace, "tell {unique} ok\n")?;
     }
     trace.push_str(NO_ROOM)?;
-    answers(&rt, "4,096 runs", trace.as_str())
+    Ok(trace)
+}
+
+// A name of 255 bytes.
+pub(super) fn longest_name(alloc: Global) -> Result<String, Fail> {
+    let name = "61".repeat(alloc, 255)?;
+    Ok(format!(in alloc; "ask 0 1 1 0 0 0 create 0 420 {name}\ntell 1 made 2 33188 1 0 0 1\n")?)
+}
+
+#[test]
+fn limits(rt: HostRuntime) -> Result<(), Fail> {
+    let alloc = rt.alloc();
+    answers(
+        &rt,
+        "no more nodes, then no more open files",
+        full_directory(alloc)?.as_str(),
+    )?;
+    answers(&rt, "no more open files", all_files_open(alloc)?.as_str())?;
+    answers(&rt, "4,096 runs", no_room_for_locks(alloc)?.as_str())?;
+    answers(&rt, "a name of 255 bytes", longest_name(alloc)?.as_str())
 }
 
 #[test]
@@ -223,13 +236,9 @@ fn bad_lines(rt: HostRuntime) -> Result<(), Fail> {
 }
 
 #[test]
-fn long_names(rt: HostRuntime) -> Result<(), Fail> {
-    let name = "61".repeat(rt.alloc(), 255)?;
-    let longest = format!(in rt.alloc();
-        "ask 0 1 1 0 0 0 create 0 420 {name}\ntell 1 made 2 33188 1 0 0 1\n"
-    )?;
-    answers(&rt, "a name of 255 bytes", longest.as_str())?;
-    let longer = format!(in rt.alloc(); "ask 0 1 1 0 0 0 create 0 420 {name}61\n")?;
+fn a_longer_name(rt: HostRuntime) -> Result<(), Fail> {
+    let name = "61".repeat(rt.alloc(), 256)?;
+    let longer = format!(in rt.alloc(); "ask 0 1 1 0 0 0 create 0 420 {name}\n")?;
     refuses(
         &rt,
         "a name of 256 bytes",

@@ -6,6 +6,7 @@ use Rattle.fl_serve.proofs.session.mail.Mail.send_all.Given as goal
 -- the replies so far are sent
 abbrev pub invariant-loop-told : goal.invariant-loop-told
 invariant-loop-told g l = (l.self.out.writer.ghost_name ≡ l.initial.self.out.writer.ghost_name)
+    × (l.self.reply.ghost_name ≡ l.initial.self.reply.ghost_name)
     × Sends (g.W.Write.contents l.initial.self.out.writer.now)
     (g.W.Write.contents l.self.out.writer.now) l.initial.self.out.broken l.self.out.broken
     (map spelling_of (take l.told-index l.tolds))

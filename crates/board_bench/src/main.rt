@@ -1,0 +1,186 @@
+//! Lock requests handed in at a board from as many threads as the first argument says, or at a desk without a lock where
+//! it is 0; the second says how many. `bench/board.sh` times it.
+#![tactic(auto)]
+
+ghost use Rattle.std.specs.Prelude.{◌≡◌, ◌<◌, ◌≤◌};
+
+use anyhow::anyhow;
+use fl_book::{Board, BoardName, Desk, Seat};
+use fl_core::Tolds;
+use fl_wire::{LockAsk, Name, Op, Order};
+use std::alloc::Global;
+use std::marker::Brand;
+use std::sync::Wait;
+use std::sync::ledger::Blank;
+use std::thread::{JoinHandle, Scope, Threads};
+use std::{env, thread};
+
+fn order(unique: u64, node: u64, op: Op) -> Order {
+    Order {
+        unique,
+        node,
+        uid: 0,
+        gid: 0,
+        pid: 0,
+        op,
+    }
+}
+
+// Makes a file, with one open file.
+fn create() -> anyhow::Result<Order> {
+    let name = Name::new(b"a").ok_or(anyhow!("a name"))?;
+    Ok(order(
+        1,
+        1,
+        Op::Create {
+            excl: false,
+            mode: 420,
+            name,
+        },
+    ))
+}
+
+// A worker's own byte, locked and unlocked in turn.
+fn lock(worker: u32, place: u64) -> Order {
+    let owner = u64::from(worker);
+    let ask = LockAsk {
+        fh: 1,
+        owner,
+        start: owner,
+        end: owner,
+        kind: if place % 2 == 0 { 1 } else { 2 },
+        pid: 11,
+        flags: 0,
+    };
+    order(place.saturating_add(2), 2, Op::Setlk(ask))
+}
+
+fn at_a_desk(alloc: Global, orders: u64) -> anyhow::Result<usize> {
+    let mut desk = Desk::new(alloc)?;
+    let mut tolds = Tolds::new(alloc)?;
+    desk.take(0, &create()?, &mut tolds)?;
+    for place in 0..orders {
+        desk.take(0, &lock(0, place), &mut tolds)?;
+    }
+    Ok(desk.into_history().len())
+}
+
+// What the threads share: the board, and how many orders each of them hands in.
+#[derive(Drop)]
+struct Crew<'a, L: BoardName, R> {
+    rt: &'a R,
+    alloc: Global,
+    board: Board<L>,
+    orders: u64,
+}
+
+// Hands in the orders of the seat's worker, up to one that is refused.
+fn work<L: BoardName, R: Wait>(crew: &Crew<'_, L, R>, seat: Seat<L>) -> Seat<L> {
+    let mut seat = seat;
+    let Ok(mut tolds) = Tolds::new(crew.alloc) else {
+        return seat;
+    };
+    for place in 0..crew.orders {
+        let order = lock(seat.worker(), place);
+        if crew
+            .board
+            .hand_in(crew.rt, &mut seat, &order, &mut tolds)
+            .is_err()
+        {
+            break;
+        }
+    }
+    seat
+}
+
+fn start<'s, 'a: 's, E, L: BoardName + Send + Sync, R: Threads + Wait + Sync>(
+    scope: &Scope<'s, E>,
+    crew: &'s Crew<'a, L, R>,
+    seat: Seat<L>,
+) -> Option<JoinHandle<Seat<L>>> {
+    scope.spawn(move || work(crew, seat)).ok()
+}
+
+fn run<'s, 'a: 's, E, L: BoardName + Send + Sync, R: Threads + Wait + Sync>(
+    scope: &Scope<'s, E>,
+    crew: &'s Crew<'a, L, R>,
+    seats: Vec<Seat<L>>,
+) -> Option<Vec<Seat<L>>> {
+    let mut threads = Vec::new(crew.alloc);
+    for seat in seats {
+        threads.push(start(scope, crew, seat)?).ok()?;
+    }
+    let mut back = Vec::new(crew.alloc);
+    for thread in threads {
+        back.push(thread.join(crew.rt)).ok()?;
+    }
+    Some(back)
+}
+
+fn scoped<L: BoardName + Send + Sync, R: Threads + Wait + Sync>(
+    crew: &Crew<'_, L, R>,
+    seats: Vec<Seat<L>>,
+) -> Option<Vec<Seat<L>>> {
+    thread::scope(
+        thread::scope_env(),
+        crew.rt,
+        |scope| run(scope, crew, seats),
+    )
+}
+
+fn at_a_board<L: BoardName + Send + Sync, R: Threads + Wait + Sync>(
+    rt: &R,
+    alloc: Global,
+    blank: Blank,
+    workers: u32,
+    orders: u64,
+) -> anyhow::Result<usize>
+    requires named { (blank.name ≡ L.name) × (blank.parts ≡ L.parts) }
+    requires parts { (workers ≡ L.parts) × (L.workers ≡ L.parts) }
+    requires workers { (0 < workers) × (workers ≤ 16) }
+{
+    let (board, mut seats) = Board::<L>::new(alloc, blank, workers)
+        .ok()
+        .ok_or(anyhow!("a board"))?;
+    let mut tolds = Tolds::new(alloc)?;
+    let first = seats.get_mut(0).ok_or(anyhow!("a seat"))?;
+    board
+        .hand_in(rt, first, &create()?, &mut tolds)
+        .ok()
+        .ok_or(anyhow!("memory"))?;
+    let crew = Crew {
+        rt,
+        alloc,
+        board,
+        orders: orders / u64::from(workers),
+    };
+    let back = scoped(&crew, seats).ok_or(anyhow!("threads"))?;
+    let Crew {
+        rt: _,
+        alloc: _,
+        board,
+        orders: _,
+    } = crew;
+    let history = board.close(back).ok().ok_or(anyhow!("all seats"))?;
+    Ok(history.len())
+}
+
+fn main(rt: HostRuntime) -> anyhow::Result<()> {
+    let alloc = rt.alloc();
+    let words: Vec<String> = env::args(&rt)?.collect(alloc)?;
+    let workers = words.get(1).map_or(Ok(2), |word| word.parse::<u32>())?;
+    let orders = words.get(2).map_or(Ok(1000), |word| word.parse::<u64>())?;
+    let lines = match workers {
+        0 => at_a_desk(alloc, orders)?,
+        1..=16 => at_a_board::<Brand, _>(
+            &rt,
+            alloc,
+            Blank::new(u64::from(workers)),
+            workers,
+            orders,
+        )?,
+        _ => return Err(anyhow!("0 to 16 workers")),
+    };
+    println!(rt; "{lines} lines")?;
+    Ok(())
+}

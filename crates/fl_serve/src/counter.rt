@@ -1,0 +1,63 @@
+//! What a worker needs: a counter at which it hands orders in, and a gate that is told of them.
+
+ghost use Rattle.std.specs.Prelude.{◌≡◌, ℕ, ◌+◌, OnOk, OnErr};
+
+use fl_book::{Board, BoardName, HandFault, Seat};
+use fl_core::Tolds;
+use fl_wire::Order;
+use std::sync::Wait;
+
+/// Where workers hand in orders, each at its seat.
+pub trait Counter {
+    /// A worker's place.
+    type Seat;
+
+    /// How many orders were taken through a seat.
+    ghost count: { Self.Seat → ℕ };
+
+    /// Takes an order, and hands out its replies. A refusal hands out nothing.
+    fn hand_in<R: Wait>(
+        &self,
+        rt: &R,
+        seat: &mut Self::Seat,
+        order: &Order,
+        tolds: &mut Tolds,
+    ) -> Result<(), HandFault>
+        ensures taken { OnOk result (count seat.new ≡ count seat.old + 1) }
+        ensures refused { OnErr result ((count seat.new ≡ count seat.old) × (tolds.new ≡ tolds.old)) };
+}
+
+impl<L: BoardName> Counter for Board<L> {
+    type Seat = Seat<L>;
+
+    ghost count = { λ seat. seat.count };
+
+    fn hand_in<R: Wait>(
+        &self,
+        rt: &R,
+        seat: &mut Seat<L>,
+        order: &Order,
+        tolds: &mut Tolds,
+    ) -> Result<(), HandFault> {
+        Board::hand_in(self, rt, seat, order, tolds)
+    }
+}
+
+/// Told of each order that a worker took: before it is handed in, and behind each reply that went out.
+pub trait Gate {
+    /// An order of this unique is about to be handed in.
+    fn pass(&self, unique: u64);
+
+    /// A reply of this unique was sent.
+    fn sent(&self, unique: u64);
+}
+
+/// A gate that is always open.
+#[derive(Clone, Copy, Debug)]
+pub struct Open;
+
+impl Gate for Open {
+    fn pass(&self, _unique: u64) {}
+
+    fn sent(&self, _unique: u64) {}
+}

@@ -1,0 +1,83 @@
+//! What a worker of a session does.
+
+ghost use Rattle.std.specs.Prelude.{◌≤◌};
+
+use crate::counter::{Counter, Gate};
+use crate::intake::Intake;
+use crate::session::server::{Owed, lost};
+use crate::shared::{Shared, WriterName};
+use fl_core::Tolds;
+use fl_wire::Told;
+use std::io::Write;
+use std::sync::{Mutex, Wait};
+
+/// What a worker gives back.
+#[derive(Drop)]
+pub struct Worked<S> {
+    /// Its seat.
+    pub seat: S,
+    /// Some order was refused for want of memory.
+    pub refused: bool,
+}
+
+/// Takes orders until the intake is closed and empty. It hands each in at its seat, and sends all replies that it is handed
+/// out; of an order that is refused, the reply that says so, if one is owed.
+pub fn worker_loop<R: Wait, C: Counter, G: Gate, W: Write, N: WriterName>(
+    rt: &R,
+    counter: &C,
+    gate: &G,
+    intake: &Intake,
+    shared: &Mutex<Shared<'_, W, N>>,
+    seat: C::Seat,
+    tolds: Tolds,
+) -> Worked<C::Seat>
+    ensures { C.count seat ≤ C.count result.seat }
+{
+    let mut seat = seat;
+    let mut tolds = tolds;
+    let mut refused = false;
+    for _ in rt.forever() {
+        let Some(job) = intake.take(rt) else {
+            break;
+        };
+        gate.pass(job.unique);
+        let owed = match counter.hand_in(rt, &mut seat, &job, &mut tolds) {
+            Ok(()) => Owed::Replies,
+            Err(_) => {
+                refused = true;
+                lost(job.op.kind(), job.unique)
+            }
+        };
+        send(rt, shared, &owed, tolds.as_slice());
+        tell(gate, &owed, tolds.as_slice());
+    }
+    Worked { seat, refused }
+}
+
+// Sends what is owed, with nothing of another worker's between.
+fn send<R: Wait, W: Write, N: WriterName>(
+    rt: &R,
+    shared: &Mutex<Shared<'_, W, N>>,
+    owed: &Owed,
+    tolds: &[Told],
+) {
+    let mut shared = shared.lock(rt);
+    shared.send(owed, tolds);
+}
+
+// Tells the gate of each reply.
+fn tell<G: Gate>(gate: &G, owed: &Owed, tolds: &[Told]) {
+    match owed {
+        Owed::Nothing => {}
+        Owed::Init(unique, _) => gate.sent(*unique),
+        Owed::One(told) => gate.sent(told.unique),
+        Owed::Replies => {
+            for told in tolds {
+                gate.sent(told.unique);
+            }
+        }
+    }
+}
+
+#[cfg(test)]
+mod tests;
