@@ -9,14 +9,14 @@ use Rattle.fl_serve.specs.declared.session.Fault.TheVariants.{Cut, BadLength, Re
 use Rattle.fl_serve.specs.declared.session.server.Server.{Server}
 
 -- where the reader ended, and the session with it
-is_complete : (s : Session) (server : Server) (rest : List ℕ) (left : Option (List ℕ)) → server.over ≡ s.over
+is_complete : (s : Session) (server : Server) (rest : List ℕ) (left : Option (List ℕ)) → server.talk.over ≡ s.over
     → IsEnding None server rest left → IsComplete s rest left
 is_complete s server rest left same (inl over) = inl (sym same ∙ over)
 is_complete s server rest left same (inr ended) = inr ended
 
 -- how a session ended, its writer's part too
 ends_by : (fault : Option Fault) (broken : Bool) (left : Option (List ℕ)) (server : Server) (rest : List ℕ)
-    (came : List Came) → server.over ≡ (session_of came).over → IsEnding fault server rest left
+    (came : List Came) → server.talk.over ≡ (session_of came).over → IsEnding fault server rest left
     → EndsBy (first_fault fault broken) broken came rest left
 ends_by None true left server rest came same ending = (refl, is_complete (session_of came) server rest left same ending)
 ends_by None false left server rest came same ending = (

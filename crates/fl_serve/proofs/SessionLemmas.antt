@@ -78,7 +78,7 @@ cut_more read came c rest rest_now cut message parts =
 -- a message is answered
 under_way_more : (left left_now start held held_now : Option (List ℕ)) (broken broken_now : Bool) (old new : Server)
     (message rest rest_now : List ℕ)
-    → old.over ≡ false → IsMessage message → message ++ rest_now ≡ rest
+    → old.talk.over ≡ false → IsMessage message → message ++ rest_now ≡ rest
     → IsAnswered old new held held_now broken broken_now message
     → IsUnderWay left left_now start held broken old rest
     → IsUnderWay left left_now start held_now broken_now new rest_now
@@ -108,7 +108,7 @@ under_way_more left left_now start held held_now broken broken_now old new messa
 -- one message more is answered
 pub Answers-more : (first old new : Server) (a b c : Option (List ℕ)) (x y z : Bool) (message bytes : List ℕ) (at : ℕ)
     → at ≤ length bytes
-    → Answers first old a b x y bytes (drop at bytes) → old.over ≡ false → IsMessage message
+    → Answers first old a b x y bytes (drop at bytes) → old.talk.over ≡ false → IsMessage message
     → first_step (take (length bytes - at) (drop at bytes)) ≡ Whole message
     → IsAnswered old new b c y z message → (at + length message ≤ length bytes) × Answers first new a c x z bytes
     (drop (at + length message) bytes)

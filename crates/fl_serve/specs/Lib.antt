@@ -1,5 +1,6 @@
 pub mod Inside
 pub mod Outbox
+pub mod Serve
 pub mod Served
 pub mod Shared
 pub mod Session

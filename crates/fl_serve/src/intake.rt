@@ -109,6 +109,17 @@ impl Intake {
         job
     }
 
+    /// Takes the oldest job, if there is one.
+    pub fn take_now<R: Wait>(&self, rt: &R) -> Option<Job> {
+        let mut queue = self.queue.lock(rt);
+        let job = queue.pop();
+        drop(queue);
+        if job.is_some() {
+            self.left.notify_one();
+        }
+        job
+    }
+
     /// No more jobs may come. Those inside are still taken.
     pub fn close<R: Wait>(&self, rt: &R) {
         let mut queue = self.queue.lock(rt);

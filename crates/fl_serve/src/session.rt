@@ -4,9 +4,9 @@ ghost use Rattle.fl_serve.specs.Served.{IsServed};
 ghost use Rattle.fl_serve.specs.Inside.Serving.{IsFresh};
 ghost use Rattle.fl_serve.specs.Inside.Turns.{first_fault, HasEnded};
 
-mod answering;
+pub(crate) mod answering;
 pub(crate) mod mail;
-mod reading;
+pub(crate) mod reading;
 pub(crate) mod server;
 
 use crate::outbox::Outbox;
@@ -20,7 +20,7 @@ use std::io::{Read, Write};
 use thiserror::Error;
 
 // The most bytes of a message.
-const MESSAGE_BYTES: usize = 8192;
+pub(crate) const MESSAGE_BYTES: usize = 8192;
 
 /// Why a session ended before its stream did. Its text is the line on standard error.
 #[derive(Clone, Copy, Debug, PartialEq, Eq, Error)]
@@ -138,7 +138,7 @@ fn memory(alloc: Global) -> Result<(Vec<u8>, Server, ReplyBuffer), NoMemory>
 }
 
 // The reader's fault before the writer's.
-fn first(fault: Option<Fault>, broken: bool) -> Option<Fault>
+pub(crate) fn first(fault: Option<Fault>, broken: bool) -> Option<Fault>
     ensures { result ≡ first_fault fault broken }
 {
     match fault {

@@ -1,12 +1,13 @@
 //! The replies of a session whose workers share one writer.
 
-ghost use Rattle.std.specs.Prelude.{◌≡◌, false};
-ghost use Rattle.fl_serve.specs.Inside.Sending.{Sends};
+ghost use Rattle.std.specs.Prelude.{◌≡◌, [], false};
+ghost use Rattle.fl_serve.specs.Inside.Collecting.{Collects};
 ghost use Rattle.fl_serve.specs.Inside.Serving.{bytes_of};
 ghost use Rattle.fl_serve.specs.Shared.{HasSent};
 
+use crate::batch::Batch;
 use crate::outbox::Outbox;
-use crate::session::mail::{Mail, ReplyBuffer};
+use crate::session::mail::ReplyBuffer;
 use crate::session::server::Owed;
 use fl_wire::Told;
 use std::io::Write;
@@ -30,74 +31,71 @@ impl WriterName for Brand {
     ghost start = { None };
 }
 
-/// Replies on their way to a writer that is lent, which lie under the lock of a session's workers. Contracts see what the
-/// writer holds, and whether a write failed.
+/// Replies on their way to a writer that is lent, which lie under the lock of a session's workers. They are collected,
+/// and go out together. Contracts see what the writer holds, the bytes that are collected, and whether a write failed.
 #[derive(Drop)]
 pub struct Shared<'a, W: Write, N: WriterName> {
-    reply: ReplyBuffer,
-    out: Outbox<&'a mut W>,
+    batch: Batch<'a, W>,
     of: PhantomData<N>,
 }
 
 impl<'a, W: Write, N: WriterName> Model for Shared<'a, W, N> {
-    ghost use Rattle.std.specs.Prelude.{◌≡◌, Bool, Option, List, ℕ};
-    ghost use Rattle.fl_serve.specs.Shared.{HasSent};
+    ghost use Rattle.std.specs.Prelude.{◌≡◌};
+    ghost use Rattle.fl_serve.specs.Shared.{Outgoing, HasSent};
 
-    ghost Value = { Option (List ℕ) × Bool };
+    ghost Value = { Outgoing };
 
-    ghost view = { λ s. (W.contents s.out.writer.now, s.out.broken) };
+    ghost view = { λ s. record { held = W.contents s.batch.out.writer.now; waiting = s.batch.replies; broken = s.batch.out.broken } };
 
-    ghost invariant = { λ s. (s.out.writer.ghost_name ≡ N.name)
-        × HasSent N.start (W.contents s.out.writer.now) s.out.broken };
+    ghost invariant = { λ s. (s.batch.out.writer.ghost_name ≡ N.name)
+        × HasSent N.start (W.contents s.batch.out.writer.now) s.batch.replies s.batch.out.broken };
 }
 
 impl<'a, W: Write, N: WriterName> Shared<'a, W, N> {
     /// Nothing was sent yet.
     #[tactic(auto, using(crate::proofs::SharedLemmas::starts))]
-    pub(crate) fn new(reply: ReplyBuffer, writer: &'a mut W) -> Shared<'a, W, N>
+    pub(crate) fn new(replies: ReplyBuffer, writer: &'a mut W) -> Shared<'a, W, N>
+        requires empty { replies ≡ [] }
         requires start { W.contents writer.old ≡ N.start }
         requires named { writer.ghost_name ≡ N.name }
-        ensures { result ≡ (N.start, false) }
+        ensures { result ≡ record { held = N.start; waiting = []; broken = false } }
     {
         let out = Outbox {
             writer,
             broken: false,
         };
         Shared {
-            reply,
-            out,
+            batch: Batch { replies, out },
             of: PhantomData,
         }
     }
 
-    /// Sends what is owed, each reply by itself.
-    #[tactic(auto, using(crate::proofs::SharedLemmas::sends))]
-    pub(crate) fn send(&mut self, owed: &Owed, tolds: &[Told])
-        ensures { Sends self.old.0 self.new.0 self.old.1 self.new.1 (bytes_of owed.now tolds.now) }
+    /// Collects what is owed, to be sent by the next flush or before.
+    #[tactic(auto, using(crate::proofs::SharedLemmas::collects))]
+    pub(crate) fn collect(&mut self, owed: &Owed, tolds: &[Told])
+        ensures { Collects self.old.held self.new.held self.old.waiting self.new.waiting
+            self.old.broken self.new.broken (bytes_of owed.now tolds.now) }
     {
-        let broken = self.out.broken;
-        let out = Outbox {
-            writer: &mut *self.out.writer,
-            broken,
-        };
-        let mut mail = Mail {
-            reply: &mut self.reply,
-            out,
-        };
-        mail.send(owed, tolds);
-        self.out.broken = mail.out.broken;
+        self.batch.collect(owed, tolds);
     }
 
-    /// Gives the writer back, and says whether a write failed.
-    pub fn into_writer(self) -> (&'a mut W, bool)
-        ensures same { result.0.ghost_name ≡ N.name }
-        ensures sent { HasSent N.start (W.contents result.0.now) result.1 }
+    /// Sends what is collected.
+    #[tactic(auto, using(crate::proofs::SharedLemmas::flushes))]
+    pub(crate) fn flush(&mut self)
+        ensures none { self.new.waiting ≡ [] }
+        ensures sent { Collects self.old.held self.new.held self.old.waiting self.new.waiting
+            self.old.broken self.new.broken [] }
     {
-        let Shared {
-            reply: _,
-            out,
-            of: _,
-        } = self;
+        self.batch.flush();
+    }
+
+    /// Gives the writer back, and says whether a write failed. What is collected and wasn't sent is lost.
+    pub(crate) fn into_writer(self) -> (&'a mut W, bool)
+        ensures same { result.0.ghost_name ≡ N.name }
+        ensures sent { HasSent N.start (W.contents result.0.now) self.entry.waiting result.1 }
+    {
+        let Shared { batch, of: _ } = self;
+        let Batch { replies: _, out } = batch;
         let Outbox { writer, broken } = out;
         (writer, broken)
     }

@@ -3,11 +3,12 @@
 ghost use Rattle.std.specs.Prelude.{◌≤◌};
 
 use crate::counter::{Counter, Gate};
-use crate::intake::Intake;
+use crate::intake::{Intake, Job};
 use crate::session::server::{Owed, lost};
 use crate::shared::{Shared, WriterName};
 use fl_core::Tolds;
 use fl_wire::Told;
+use std::hint::spin_loop;
 use std::io::Write;
 use std::sync::{Mutex, Wait};
 
@@ -20,8 +21,9 @@ pub struct Worked<S> {
     pub refused: bool,
 }
 
-/// Takes orders until the intake is closed and empty. It hands each in at its seat, and sends all replies that it is handed
-/// out; of an order that is refused, the reply that says so, if one is owed.
+/// Takes orders until the intake is closed and empty. It hands each in at its seat, and gives all replies that it is handed
+/// out to be sent; of an order that is refused, the reply that says so, if one is owed. Before it waits for an order it
+/// sends what is collected.
 pub fn worker_loop<R: Wait, C: Counter, G: Gate, W: Write, N: WriterName>(
     rt: &R,
     counter: &C,
@@ -37,7 +39,7 @@ pub fn worker_loop<R: Wait, C: Counter, G: Gate, W: Write, N: WriterName>(
     let mut tolds = tolds;
     let mut refused = false;
     for _ in rt.forever() {
-        let Some(job) = intake.take(rt) else {
+        let Some(job) = next_job(rt, intake, shared) else {
             break;
         };
         gate.pass(job.unique);
@@ -48,21 +50,50 @@ pub fn worker_loop<R: Wait, C: Counter, G: Gate, W: Write, N: WriterName>(
                 lost(job.op.kind(), job.unique)
             }
         };
-        send(rt, shared, &owed, tolds.as_slice());
+        collect(rt, shared, &owed, tolds.as_slice());
         tell(gate, &owed, tolds.as_slice());
     }
     Worked { seat, refused }
 }
 
-// Sends what is owed, with nothing of another worker's between.
-fn send<R: Wait, W: Write, N: WriterName>(
+// How often a worker looks again for an order before it sleeps.
+const LOOKS: u32 = 64;
+
+// The next order. Where none is there, what is collected is sent first, and a worker sleeps only after it has looked
+// again for a while.
+fn next_job<R: Wait, W: Write, N: WriterName>(
+    rt: &R,
+    intake: &Intake,
+    shared: &Mutex<Shared<'_, W, N>>,
+) -> Option<Job> {
+    if let Some(job) = intake.take_now(rt) {
+        return Some(job);
+    }
+    flush(rt, shared);
+    for _ in 0..LOOKS {
+        spin_loop();
+        if let Some(job) = intake.take_now(rt) {
+            return Some(job);
+        }
+    }
+    intake.take(rt)
+}
+
+// Collects what is owed, with nothing of another worker's between.
+fn collect<R: Wait, W: Write, N: WriterName>(
     rt: &R,
     shared: &Mutex<Shared<'_, W, N>>,
     owed: &Owed,
     tolds: &[Told],
 ) {
     let mut shared = shared.lock(rt);
-    shared.send(owed, tolds);
+    shared.collect(owed, tolds);
+}
+
+// Sends what is collected.
+pub(crate) fn flush<R: Wait, W: Write, N: WriterName>(rt: &R, shared: &Mutex<Shared<'_, W, N>>) {
+    let mut shared = shared.lock(rt);
+    shared.flush();
 }
 
 // Tells the gate of each reply.

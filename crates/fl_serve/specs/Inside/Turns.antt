@@ -18,11 +18,11 @@ pub record IsWaiting (left left_now held held_now : Option (List ℕ)) (broken :
 
 -- how the reader's part of a session ended, after this rest and with these bytes left
 abbrev pub IsEnding : Option Fault → Server → List ℕ → Option (List ℕ) → Type 0
-IsEnding None server rest left = (server.over ≡ true) ⊎ ((rest ≡ []) × IsAtEnd left)
+IsEnding None server rest left = (server.talk.over ≡ true) ⊎ ((rest ≡ []) × IsAtEnd left)
 IsEnding (Some Cut) server rest left =
-    (server.over ≡ false) × (0 < length rest) × (first_step rest ≡ step.More) × IsAtEnd left
-IsEnding (Some (BadLength n)) server rest left = (server.over ≡ false) × (first_step rest ≡ step.Bad n)
-IsEnding (Some Read) server rest left = (server.over ≡ false) × (first_step rest ≡ step.More)
+    (server.talk.over ≡ false) × (0 < length rest) × (first_step rest ≡ step.More) × IsAtEnd left
+IsEnding (Some (BadLength n)) server rest left = (server.talk.over ≡ false) × (first_step rest ≡ step.Bad n)
+IsEnding (Some Read) server rest left = (server.talk.over ≡ false) × (first_step rest ≡ step.More)
 IsEnding (Some Write) server rest left = ⊥
 IsEnding (Some NoMemory) server rest left = ⊥
 
@@ -44,7 +44,7 @@ HasTurned (End fault) left left_now held held_now broken server buffer =
 
 -- where more has to come, the session isn't over
 abbrev pub Fits : Turn → Server → List ℕ → Type 0
-Fits (More filled) server buffer = (filled ≤ length buffer) × (server.over ≡ false)
+Fits (More filled) server buffer = (filled ≤ length buffer) × (server.talk.over ≡ false)
 Fits (End fault) server buffer = Unit {0}
 
 -- the fault that is told, where some write failed or none did

@@ -38,6 +38,6 @@ pub record Answers (old new : Server) (held held_now : Option (List ℕ)) (broke
 
 -- what stands after the messages that were answered
 abbrev pub IsStop : Stop → Server → List ℕ → Type 0
-IsStop More server rest = (server.over ≡ false) × (first_step rest ≡ step.More)
-IsStop (Bad n) server rest = (server.over ≡ false) × (first_step rest ≡ step.Bad n)
-IsStop Over server rest = server.over ≡ true
+IsStop More server rest = (server.talk.over ≡ false) × (first_step rest ≡ step.More)
+IsStop (Bad n) server rest = (server.talk.over ≡ false) × (first_step rest ≡ step.Bad n)
+IsStop Over server rest = server.talk.over ≡ true

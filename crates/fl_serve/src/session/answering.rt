@@ -26,7 +26,7 @@ pub(crate) fn answer_all<W: Write>(
     mail: &mut Mail<'_, W>,
     bytes: &[u8],
 ) -> (usize, Stop)
-    requires { server.old.over ≡ false }
+    requires { server.old.talk.over ≡ false }
     ensures same { mail.new.out.writer.ghost_name ≡ mail.old.out.writer.ghost_name }
     ensures within { result.0 ≤ length bytes.now }
     ensures answered { Answers server.old server.new
@@ -35,7 +35,7 @@ pub(crate) fn answer_all<W: Write>(
     ensures stop { IsStop result.1 server.new (drop result.0 bytes.now) }
 {
     let mut at = 0;
-    while !server.over {
+    while !server.talk.over {
         match next_frame(&bytes[at..]) {
             Step::More => return (at, Stop::More),
             Step::Bad(len) => return (at, Stop::Bad(len)),
@@ -50,7 +50,7 @@ pub(crate) fn answer_all<W: Write>(
 
 // Answers one message of a session that isn't over.
 fn answer<W: Write>(server: &mut Server, mail: &mut Mail<'_, W>, frame: &Frame)
-    requires { server.old.over ≡ false }
+    requires { server.old.talk.over ≡ false }
     ensures same { mail.new.out.writer.ghost_name ≡ mail.old.out.writer.ghost_name }
     ensures answered { IsAnswered server.old server.new
         (W.contents mail.old.out.writer.now) (W.contents mail.new.out.writer.now)

@@ -1,6 +1,6 @@
 //! How the replies of a session go out.
 
-ghost use Rattle.std.specs.Prelude.{◌≡◌, [], ◌∷◌, IfOk, map};
+ghost use Rattle.std.specs.Prelude.{◌≡◌, ◌≤◌, ◌++◌, [], ◌∷◌, true, false, IfOk, IsTrue, ◌↔◌, map};
 ghost use Rattle.fl_wire.specs.Init.{init_spelling};
 ghost use Rattle.fl_wire.specs.Spell.{spelling_of, IsReply};
 ghost use Rattle.fl_serve.specs.Inside.Serving.{bytes_of};
@@ -16,7 +16,7 @@ use std::marker::Model;
 // The most bytes of a reply.
 const REPLY_BYTES: usize = 160;
 
-/// Where one reply after another is laid out. Contracts see the bytes of the last one.
+/// Where replies are laid out, each by itself or one behind the other. Contracts see the bytes that lie there.
 #[derive(Drop)]
 pub(crate) struct ReplyBuffer {
     bytes: Vec<u8>,
@@ -33,17 +33,52 @@ impl Model for ReplyBuffer {
 }
 
 impl ReplyBuffer {
-    /// No reply yet.
+    /// Room for one reply, and none there yet.
     pub(crate) fn new(alloc: Global) -> Result<ReplyBuffer, NoMemory>
         ensures { IfOk result (λ made. made ≡ []) }
     {
+        ReplyBuffer::with_bytes(alloc, REPLY_BYTES)
+    }
+
+    /// Room for this many bytes, at least those of one reply, and no reply there yet.
+    pub(crate) fn with_bytes(alloc: Global, bytes: usize) -> Result<ReplyBuffer, NoMemory>
+        requires { 160 ≤ bytes }
+        ensures { IfOk result (λ made. made ≡ []) }
+    {
         Ok(ReplyBuffer {
-            bytes: Vec::with_capacity(alloc, REPLY_BYTES)?,
+            bytes: Vec::with_capacity(alloc, bytes)?,
         })
     }
 
-    // Lays out a reply.
-    fn lay_out(&mut self, told: &Told)
+    /// Lays out a reply behind the others, where there is room for any reply, and says whether it did.
+    pub(crate) fn append(&mut self, told: &Told) -> bool
+        ensures done { result ≡ true → self.new ≡ self.old ++ spelling_of told.now }
+        ensures full { result ≡ false → self.new ≡ self.old }
+        ensures reply { result ≡ true → IsReply (spelling_of told.now) }
+    {
+        if self.bytes.capacity() - self.bytes.len() < REPLY_BYTES {
+            return false;
+        }
+        write_told(told, &mut self.bytes).unwrap();
+        true
+    }
+
+    /// Takes all replies away.
+    pub(crate) fn clear(&mut self)
+        ensures { self.new ≡ [] }
+    {
+        self.bytes.clear();
+    }
+
+    /// Whether no reply lies there.
+    pub(crate) fn is_empty(&self) -> bool
+        ensures { IsTrue result ↔ (self.now ≡ []) }
+    {
+        self.bytes.is_empty()
+    }
+
+    /// Lays out a reply by itself.
+    pub(crate) fn lay_out(&mut self, told: &Told)
         ensures bytes { self.new ≡ spelling_of told.now }
         ensures reply { IsReply (spelling_of told.now) }
     {
@@ -51,8 +86,8 @@ impl ReplyBuffer {
         write_told(told, &mut self.bytes).unwrap();
     }
 
-    // Lays out the reply to an INIT.
-    fn lay_out_init(&mut self, unique: u64, step: &InitStep)
+    /// Lays out the reply to an INIT by itself.
+    pub(crate) fn lay_out_init(&mut self, unique: u64, step: &InitStep)
         ensures bytes { self.new ≡ init_spelling unique step.now }
         ensures reply { IsReply (init_spelling unique step.now) }
     {
@@ -60,8 +95,8 @@ impl ReplyBuffer {
         write_init(unique, step, &mut self.bytes).unwrap();
     }
 
-    // The bytes of the last reply.
-    fn as_slice(&self) -> &[u8]
+    /// The bytes that lie there.
+    pub(crate) fn as_slice(&self) -> &[u8]
         ensures { result.now ≡ self.now }
     {
         &self.bytes

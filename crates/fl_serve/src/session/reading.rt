@@ -57,7 +57,7 @@ fn read_once<R: Read, W: Write>(
 ) -> Turn
     requires size { length buffer.old ≡ 8192 }
     requires within { filled ≤ length buffer.old }
-    requires live { server.old.over ≡ false }
+    requires live { server.old.talk.over ≡ false }
     ensures same { mail.new.out.writer.ghost_name ≡ mail.old.out.writer.ghost_name }
     ensures fits { Fits result server.new buffer.new }
     ensures turned { (left start : Option (List ℕ))
@@ -74,8 +74,8 @@ fn read_once<R: Read, W: Write>(
     }
 }
 
-// Reads behind the bytes that fill the front of the buffer.
-fn read_behind<R: Read>(r: &mut R, buffer: &mut [u8], filled: usize) -> io::Result<usize>
+/// Reads behind the bytes that fill the front of the buffer.
+pub(crate) fn read_behind<R: Read>(r: &mut R, buffer: &mut [u8], filled: usize) -> io::Result<usize>
     requires { filled ≤ length buffer.old }
     ensures front { take filled buffer.new ≡ take filled buffer.old }
     ensures within { IfOk result (λ n. filled + n ≤ length buffer.new) }
@@ -96,7 +96,7 @@ fn answer_read<W: Write>(
 ) -> Turn
     requires size { length buffer.old ≡ 8192 }
     requires within { filled ≤ length buffer.old }
-    requires live { server.old.over ≡ false }
+    requires live { server.old.talk.over ≡ false }
     ensures same { mail.new.out.writer.ghost_name ≡ mail.old.out.writer.ghost_name }
     ensures fits { Fits result server.new buffer.new }
     ensures turned { (left left_now start : Option (List ℕ))
@@ -116,8 +116,8 @@ fn answer_read<W: Write>(
     }
 }
 
-// Moves the bytes from `at` to `filled` to the front.
-fn move_front(buffer: &mut [u8], at: usize, filled: usize)
+/// Moves the bytes from `at` to `filled` to the front.
+pub(crate) fn move_front(buffer: &mut [u8], at: usize, filled: usize)
     requires order { at ≤ filled }
     requires within { filled ≤ length buffer.old }
     ensures { take (filled - at) buffer.new ≡ drop at (take filled buffer.old) }

@@ -1,12 +1,11 @@
 //! What a session does with each message, apart from reading and writing.
 
-ghost use Rattle.std.specs.Prelude.{◌≡◌, ℕ, List, false, ◌++◌};
-ghost use Rattle.std.specs.Prelude.{IfOk, if◌then◌else◌};
+ghost use Rattle.std.specs.Prelude.{◌≡◌, ℕ, List, false, IfOk, if◌then◌else◌};
 ghost use Rattle.fl_wire.specs.Kind.{is_silent, kind_of_opcode};
 ghost use Rattle.fl_wire.specs.Layout.{opcode_of, unique_of};
 ghost use Rattle.fl_wire.specs.Says.{said};
-ghost use Rattle.fl_serve.specs.Session.{before_init, without_memory};
-ghost use Rattle.fl_serve.specs.Inside.Serving.{bytes_of, session_with, IsFresh, IsMet, IsMetAs};
+ghost use Rattle.fl_serve.specs.Session.{Session, before_init, without_memory};
+ghost use Rattle.fl_serve.specs.Inside.Serving.{answered, bytes_of, standing, IsFresh, IsHeard, IsHeardAs, IsMet, IsMetAs};
 
 use fl_book::{Desk, History};
 use fl_core::Tolds;
@@ -28,15 +27,88 @@ pub(crate) enum Owed {
     Replies,
 }
 
+/// What a message comes to.
+#[derive(Clone, Copy, Debug)]
+pub(crate) enum Met {
+    /// An order, which the lock directory answers.
+    Order(Order),
+    /// An answer of the session itself.
+    Owed(Owed),
+}
+
+/// How far a session is.
+#[derive(Clone, Copy, Debug)]
+pub(crate) struct Talk {
+    /// An INIT was agreed.
+    pub agreed: bool,
+    /// A DESTROY ended the session.
+    pub over: bool,
+}
+
+impl Talk {
+    /// No message came yet.
+    pub(crate) fn new() -> Talk
+        ensures { (result.agreed ≡ false) × (result.over ≡ false) }
+    {
+        Talk {
+            agreed: false,
+            over: false,
+        }
+    }
+
+    /// What a message of a session that isn't over comes to.
+    pub(crate) fn meet(&mut self, frame: &Frame) -> Met
+        requires { self.old.over ≡ false }
+        ensures { IsHeard result self.old self.new frame.now }
+    {
+        if self.agreed {
+            self.meet_after_init(frame)
+        } else {
+            Met::Owed(self.meet_before_init(frame))
+        }
+    }
+
+    // The answer of the session before an INIT is agreed.
+    fn meet_before_init(&mut self, frame: &Frame) -> Owed
+        ensures { (s : Session) (tolds : List Told) → standing (answered s (bytes_of result tolds)) self.new
+            ≡ before_init (standing s self.old) (kind_of_opcode (opcode_of frame.now)) frame.now }
+    {
+        match Kind::of_opcode(frame.opcode()) {
+            Some(Kind::Init) => {
+                let step = read_init(frame);
+                self.agreed = matches!(step, InitStep::Agreed { .. });
+                Owed::Init(frame.unique(), step)
+            }
+            Some(kind) => refusal(kind, frame.unique(), Errno::EPROTO),
+            None => error_reply(frame.unique(), Errno::EPROTO),
+        }
+    }
+
+    // What a message comes to after an INIT is agreed.
+    fn meet_after_init(&mut self, frame: &Frame) -> Met
+        ensures { IsHeardAs result self.old self.new (unique_of frame.now) (said frame.now) }
+    {
+        match read_order(frame) {
+            Ok(order) => Met::Order(order),
+            Err(Refusal::Answer(e)) => Met::Owed(error_reply(frame.unique(), e)),
+            Err(Refusal::Silent) => Met::Owed(Owed::Nothing),
+            Err(Refusal::Destroy) => {
+                self.over = true;
+                Met::Owed(Owed::One(Told {
+                    unique: frame.unique(),
+                    result: Ok(Answer::Done),
+                }))
+            }
+        }
+    }
+}
+
 /// The lock directory of a session, and how far the session is.
 #[derive(Drop)]
 pub(crate) struct Server {
     pub desk: Desk,
     pub tolds: Tolds,
-    /// An INIT was agreed.
-    pub agreed: bool,
-    /// A DESTROY ended the session.
-    pub over: bool,
+    pub talk: Talk,
     /// Some order was refused for want of memory.
     pub refused: bool,
 }
@@ -49,8 +121,7 @@ impl Server {
         Ok(Server {
             desk: Desk::new(alloc)?,
             tolds: Tolds::new(alloc)?,
-            agreed: false,
-            over: false,
+            talk: Talk::new(),
             refused: false,
         })
     }
@@ -65,47 +136,12 @@ impl Server {
 
     /// What a message of a session that isn't over is answered.
     pub(crate) fn meet(&mut self, frame: &Frame) -> Owed
-        requires { self.old.over ≡ false }
+        requires { self.old.talk.over ≡ false }
         ensures { IsMet self.old self.new (bytes_of result self.new.tolds) frame.now }
     {
-        if self.agreed {
-            self.meet_after_init(frame)
-        } else {
-            self.meet_before_init(frame)
-        }
-    }
-
-    // The same, before an INIT is agreed.
-    fn meet_before_init(&mut self, frame: &Frame) -> Owed
-        ensures { (replies : List (List ℕ)) → session_with self.new (replies ++ bytes_of result self.new.tolds)
-            ≡ before_init (session_with self.old replies) (kind_of_opcode (opcode_of frame.now)) frame.now }
-    {
-        match Kind::of_opcode(frame.opcode()) {
-            Some(Kind::Init) => {
-                let step = read_init(frame);
-                self.agreed = matches!(step, InitStep::Agreed { .. });
-                Owed::Init(frame.unique(), step)
-            }
-            Some(kind) => refusal(kind, frame.unique(), Errno::EPROTO),
-            None => error_reply(frame.unique(), Errno::EPROTO),
-        }
-    }
-
-    // The same, after an INIT is agreed.
-    fn meet_after_init(&mut self, frame: &Frame) -> Owed
-        ensures { IsMetAs self.old self.new (bytes_of result self.new.tolds) (unique_of frame.now) (said frame.now) }
-    {
-        match read_order(frame) {
-            Ok(order) => self.take(&order),
-            Err(Refusal::Answer(e)) => error_reply(frame.unique(), e),
-            Err(Refusal::Silent) => Owed::Nothing,
-            Err(Refusal::Destroy) => {
-                self.over = true;
-                Owed::One(Told {
-                    unique: frame.unique(),
-                    result: Ok(Answer::Done),
-                })
-            }
+        match self.talk.meet(frame) {
+            Met::Order(order) => self.take(&order),
+            Met::Owed(owed) => owed,
         }
     }
 

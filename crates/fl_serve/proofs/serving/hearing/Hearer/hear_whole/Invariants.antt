@@ -1,0 +1,9 @@
+use Rattle.std.proofs.Common.{◌≤◌, ◌-◌, length}
+use Rattle.fl_serve.proofs.serving.hearing.Hearer.hear_whole.Given as goal
+
+-- the messages before this place were heard
+abbrev pub invariant-loop-self : goal.invariant-loop-self
+invariant-loop-self g l = l.at ≤ length l.bytes
+
+abbrev pub decreases-loop-self : goal.decreases-loop-self
+decreases-loop-self g l = length l.bytes - l.at

@@ -1,0 +1,10 @@
+use Rattle.fl_serve.proofs.serving.serve_on_stack.Given as goal
+
+abbrev pub ghosts-serve_at-L-BoardName : goal.ghosts-serve_at-L-BoardName
+ghosts-serve_at-L-BoardName g a = record { workers = a.blank.parts }
+
+abbrev pub ghosts-serve_at-L-Ledger : goal.ghosts-serve_at-L-Ledger
+ghosts-serve_at-L-Ledger g a = record { name = a.blank.name; parts = a.blank.parts }
+
+abbrev pub ghosts-serve_at-N-WriterName : goal.ghosts-serve_at-N-WriterName
+ghosts-serve_at-N-WriterName g a = record { name = a.w.ghost_name; start = g.W.Write.contents a.w.now }

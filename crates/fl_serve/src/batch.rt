@@ -1,0 +1,80 @@
+//! Replies that are collected, and go out together.
+
+ghost use Rattle.std.specs.Prelude.{◌≡◌, [], ◌∷◌, map};
+ghost use Rattle.fl_wire.specs.Init.{init_spelling};
+ghost use Rattle.fl_wire.specs.Spell.{spelling_of};
+ghost use Rattle.fl_serve.specs.Inside.Collecting.{Collects};
+ghost use Rattle.fl_serve.specs.Inside.Serving.{bytes_of};
+
+use crate::outbox::Outbox;
+use crate::session::mail::ReplyBuffer;
+use crate::session::server::Owed;
+use fl_wire::{InitStep, Told};
+use std::io::Write;
+
+/// Replies that are collected, and the outbox that sends them together.
+#[derive(Drop)]
+pub(crate) struct Batch<'a, W> {
+    pub replies: ReplyBuffer,
+    pub out: Outbox<&'a mut W>,
+}
+
+impl<W: Write> Batch<'_, W> {
+    /// Collects what is owed. Where there is no more room, what was collected before goes out.
+    pub(crate) fn collect(&mut self, owed: &Owed, tolds: &[Told])
+        ensures same { self.new.out.writer.ghost_name ≡ self.old.out.writer.ghost_name }
+        ensures collected { Collects (W.contents self.old.out.writer.now) (W.contents self.new.out.writer.now)
+            self.old.replies self.new.replies self.old.out.broken self.new.out.broken (bytes_of owed.now tolds.now) }
+    {
+        match owed {
+            Owed::Nothing => {}
+            Owed::Init(unique, step) => self.collect_init(*unique, step),
+            Owed::One(told) => self.collect_one(told),
+            Owed::Replies => self.collect_all(tolds),
+        }
+    }
+
+    fn collect_init(&mut self, unique: u64, step: &InitStep)
+        ensures same { self.new.out.writer.ghost_name ≡ self.old.out.writer.ghost_name }
+        ensures collected { Collects (W.contents self.old.out.writer.now) (W.contents self.new.out.writer.now)
+            self.old.replies self.new.replies self.old.out.broken self.new.out.broken
+            (init_spelling unique step.now ∷ []) }
+    {
+        self.flush();
+        self.replies.lay_out_init(unique, step);
+    }
+
+    fn collect_one(&mut self, told: &Told)
+        ensures same { self.new.out.writer.ghost_name ≡ self.old.out.writer.ghost_name }
+        ensures collected { Collects (W.contents self.old.out.writer.now) (W.contents self.new.out.writer.now)
+            self.old.replies self.new.replies self.old.out.broken self.new.out.broken (spelling_of told.now ∷ []) }
+    {
+        if !self.replies.append(told) {
+            self.flush();
+            self.replies.lay_out(told);
+        }
+    }
+
+    fn collect_all(&mut self, tolds: &[Told])
+        ensures same { self.new.out.writer.ghost_name ≡ self.old.out.writer.ghost_name }
+        ensures collected { Collects (W.contents self.old.out.writer.now) (W.contents self.new.out.writer.now)
+            self.old.replies self.new.replies self.old.out.broken self.new.out.broken (map spelling_of tolds.now) }
+    {
+        for told in tolds {
+            self.collect_one(told);
+        }
+    }
+
+    /// Sends what is collected.
+    pub(crate) fn flush(&mut self)
+        ensures same { self.new.out.writer.ghost_name ≡ self.old.out.writer.ghost_name }
+        ensures none { self.new.replies ≡ [] }
+        ensures sent { Collects (W.contents self.old.out.writer.now) (W.contents self.new.out.writer.now)
+            self.old.replies self.new.replies self.old.out.broken self.new.out.broken [] }
+    {
+        if !self.replies.is_empty() {
+            self.out.post(self.replies.as_slice());
+            self.replies.clear();
+        }
+    }
+}

@@ -1,0 +1,234 @@
+//! A whole session of the FUSE protocol with workers, over any reader and any writer.
+
+ghost use Rattle.std.specs.Prelude.{◌≡◌, ◌≤◌, ◌<◌, [], Some, length, vec_len, vec_capacity, IfOk};
+ghost use Rattle.std.specs.Io.KnownBytes.{Keeps};
+ghost use Rattle.fl_book.specs.Legal.{IsLegal};
+ghost use Rattle.fl_serve.specs.Serve.{AreSentBy};
+ghost use Rattle.fl_serve.specs.Shared.{HasSent};
+
+mod crew;
+mod hearing;
+
+use crate::counter::Gate;
+use crate::intake::Intake;
+use crate::serving::crew::{Back, Crew, Thread, run};
+use crate::session::mail::ReplyBuffer;
+use crate::session::server::Owed;
+use crate::session::{Done, Fault, MESSAGE_BYTES, first};
+use crate::shared::{Shared, WriterName};
+use fl_book::{Board, BoardName, History, Seat};
+use fl_core::Tolds;
+use fl_wire::NoMemory;
+use std::alloc::Global;
+use std::io::{Read, Write};
+use std::marker::Brand;
+use std::sync::ledger::Blank;
+use std::sync::{Mutex, Wait};
+use std::thread::Threads;
+
+// Bytes of a worker's stack.
+const STACK_BYTES: usize = 2 << 20;
+
+// The most bytes of replies that go out together.
+const BATCH_BYTES: usize = 16384;
+
+/// Serves a whole session with 1 to 16 workers. The reader, which is the caller's thread, answers what is no order; each
+/// order goes to a worker, which hands it in at one board and sends all its replies, each whole. Replies that are ready go
+/// out together. All memory but that of the history is made, and all workers are started, before the first read. At the
+/// stream's end, at a fault of the reader and at a DESTROY the orders that were read are finished, and only then is a
+/// DESTROY answered. After a write that failed it goes on, and writes no more; the reader's fault is told before the
+/// writer's. The gate is told of each order and reply.
+pub fn serve<R: Threads + Wait + Sync, I: Read, W: Write + Send + Drop, G: Gate + Sync>(
+    rt: &R,
+    alloc: Global,
+    r: &mut I,
+    w: &mut W,
+    workers: u32,
+    gate: &G,
+) -> Done
+    requires workers { (0 < workers) × (workers ≤ 16) }
+    ensures legal { IsLegal result.history }
+    ensures sent { AreSentBy result.fault (W.contents w.old) (W.contents w.new) }
+    ensures nothing { result.fault ≡ Some Fault.NoMemory
+        → (result.history ≡ []) × Keeps (I.remaining r.old) (I.remaining r.new) }
+{
+    serve_on_stack(rt, alloc, r, w, workers, gate, STACK_BYTES)
+}
+
+// The same, with this many bytes for each worker's stack.
+fn serve_on_stack<R: Threads + Wait + Sync, I: Read, W: Write + Send + Drop, G: Gate + Sync>(
+    rt: &R,
+    alloc: Global,
+    r: &mut I,
+    w: &mut W,
+    workers: u32,
+    gate: &G,
+    stack: usize,
+) -> Done
+    requires workers { (0 < workers) × (workers ≤ 16) }
+    ensures legal { IsLegal result.history }
+    ensures sent { AreSentBy result.fault (W.contents w.old) (W.contents w.new) }
+    ensures nothing { result.fault ≡ Some Fault.NoMemory
+        → (result.history ≡ []) × Keeps (I.remaining r.old) (I.remaining r.new) }
+{
+    let blank = Blank::new(u64::from(workers));
+    let staff = Staff { workers, stack };
+    let (done, w) = serve_at::<Brand, Brand, R, I, W, G>(rt, alloc, blank, r, w, gate, staff);
+    // No effect at run time: the proof reads here what the writer holds.
+    let _ = &*w;
+    done
+}
+
+// How many workers there are, and how many bytes each one's stack has.
+#[derive(Clone, Copy)]
+struct Staff {
+    workers: u32,
+    stack: usize,
+}
+
+// The same at a board of this name, and with a writer of that name.
+fn serve_at<
+    'w,
+    L: BoardName + Send + Sync,
+    N: WriterName + Send + Sync,
+    R: Threads + Wait + Sync,
+    I: Read,
+    W: Write + Send + Drop,
+    G: Gate + Sync,
+>(
+    rt: &R,
+    alloc: Global,
+    blank: Blank,
+    r: &mut I,
+    w: &'w mut W,
+    gate: &G,
+    staff: Staff,
+) -> (Done, &'w mut W)
+    requires named { (blank.name ≡ L.name) × (blank.parts ≡ L.parts) }
+    requires parts { (staff.workers ≡ L.parts) × (L.workers ≡ L.parts) }
+    requires workers { (0 < staff.workers) × (staff.workers ≤ 16) }
+    requires start { W.contents w.old ≡ N.start }
+    requires writer { w.ghost_name ≡ N.name }
+    ensures writer { result.1.ghost_name ≡ w.entry.ghost_name }
+    ensures legal { IsLegal result.0.history }
+    ensures sent { AreSentBy result.0.fault (W.contents w.old) (W.contents result.1.now) }
+    ensures nothing { result.0.fault ≡ Some Fault.NoMemory
+        → (result.0.history ≡ []) × Keeps (I.remaining r.old) (I.remaining r.new) }
+{
+    let Ok(rooms) = Rooms::<L>::new(alloc, blank, staff.workers) else {
+        return (no_memory(alloc), w);
+    };
+    let Rooms {
+        board,
+        seats,
+        tolds,
+        intake,
+        buffer,
+        replies,
+        threads,
+        places,
+    } = rooms;
+    let crew = Crew {
+        rt,
+        gate,
+        stack: staff.stack,
+        board,
+        intake,
+        shared: Mutex::new(Shared::<'w, W, N>::new(replies, w)),
+    };
+    let (back, heard) = run(&crew, r, buffer, seats, tolds, threads, places);
+    let Crew { board, shared, .. } = crew;
+    let (w, broken) = said_goodbye(shared.into_inner(), &heard.goodbye);
+    if heard.fault == Some(Fault::NoMemory) {
+        return (no_memory(alloc), w);
+    }
+    let Back { seats, refused } = back;
+    let Ok(history) = board.close(seats) else {
+        unreachable!()
+    };
+    let done = Done {
+        history,
+        fault: first(heard.fault, broken),
+        refused,
+    };
+    (done, w)
+}
+
+// Sends what is owed last, and gives the writer back.
+fn said_goodbye<'w, W: Write, N: WriterName>(
+    shared: Shared<'w, W, N>,
+    goodbye: &Owed,
+) -> (&'w mut W, bool)
+    ensures same { result.0.ghost_name ≡ N.name }
+    ensures sent { HasSent N.start (W.contents result.0.now) [] result.1 }
+{
+    let mut shared = shared;
+    shared.collect(goodbye, &[]);
+    shared.flush();
+    shared.into_writer()
+}
+
+// A session that has no memory.
+#[tactic(auto, using(crate::proofs::ServingLemmas::nothing_legal))]
+fn no_memory(alloc: Global) -> Done
+    ensures history { result.history ≡ [] }
+    ensures legal { IsLegal result.history }
+    ensures fault { result.fault ≡ Some Fault.NoMemory }
+{
+    Done {
+        history: History::new(Vec::new(alloc)),
+        fault: Some(Fault::NoMemory),
+        refused: false,
+    }
+}
+
+// All that a session has before its first read.
+struct Rooms<L: BoardName> {
+    board: Board<L>,
+    seats: Vec<Seat<L>>,
+    // For each worker.
+    tolds: Vec<Tolds>,
+    intake: Intake,
+    // For a message.
+    buffer: Vec<u8>,
+    replies: ReplyBuffer,
+    // Room for each worker's thread, and for each seat that comes back.
+    threads: Vec<Thread<L>>,
+    places: Vec<Seat<L>>,
+}
+
+impl<L: BoardName> Rooms<L> {
+    #[tactic(auto, using(crate::proofs::ServingLemmas::as_many))]
+    fn new(alloc: Global, blank: Blank, workers: u32) -> Result<Rooms<L>, NoMemory>
+        requires named { (blank.name ≡ L.name) × (blank.parts ≡ L.parts) }
+        requires parts { (workers ≡ L.parts) × (L.workers ≡ L.parts) }
+        requires workers { (0 < workers) × (workers ≤ 16) }
+        ensures seats { IfOk result (λ rooms. length rooms.seats.items ≡ L.workers) }
+        ensures room { IfOk result (λ rooms. length rooms.seats.items ≤ vec_capacity rooms.places) }
+        ensures size { IfOk result (λ rooms. vec_len rooms.buffer ≡ 8192) }
+        ensures none { IfOk result (λ rooms. (rooms.threads.items ≡ []) × (rooms.places.items ≡ []) × (rooms.replies ≡ [])) }
+    {
+        let mut tolds = Vec::with_capacity(alloc, workers as usize)?;
+        for _ in 0..workers {
+            tolds.push(Tolds::new(alloc)?)?;
+        }
+        let intake = Intake::new(alloc)?;
+        let buffer = vec![in alloc; 0; MESSAGE_BYTES]?;
+        let replies = ReplyBuffer::with_bytes(alloc, BATCH_BYTES)?;
+        let threads = Vec::with_capacity(alloc, workers as usize)?;
+        let places = Vec::with_capacity(alloc, workers as usize)?;
+        let Ok((board, seats)) = Board::<L>::new(alloc, blank, workers) else {
+            return Err(NoMemory);
+        };
+        Ok(Rooms {
+            board,
+            seats,
+            tolds,
+            intake,
+            buffer,
+            replies,
+            threads,
+            places,
+        })
+    }
+}

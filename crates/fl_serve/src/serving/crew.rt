@@ -1,0 +1,194 @@
+//! The workers of a session, from start to join.
+
+ghost use Rattle.std.specs.Prelude.{◌≡◌, ◌≢◌, ◌+◌, ◌≤◌, [], true, Some, length, vec_len, vec_capacity};
+ghost use Rattle.std.specs.Io.KnownBytes.{Keeps};
+
+use crate::counter::Gate;
+use crate::intake::Intake;
+use crate::serving::hearing::{Heard, Hearer};
+use crate::session::Fault;
+use crate::session::server::Owed;
+use crate::shared::{Shared, WriterName};
+use crate::worker::{Worked, worker_loop};
+use fl_book::{Board, BoardName, Seat};
+use fl_core::Tolds;
+use std::io::{Read, Write};
+use std::sync::{Mutex, Wait};
+use std::thread::{Builder, JoinHandle, Scope, Threads};
+use std::{io, thread};
+
+/// What the reader and the workers of a session share.
+#[derive(Drop)]
+pub(crate) struct Crew<'a, 'w, L: BoardName, N: WriterName, R, W: Write, G> {
+    pub rt: &'a R,
+    pub gate: &'a G,
+    /// Bytes of a worker's stack.
+    pub stack: usize,
+    pub board: Board<L>,
+    pub intake: Intake,
+    pub shared: Mutex<Shared<'w, W, N>>,
+}
+
+/// A worker that was started.
+pub(crate) type Thread<L> = JoinHandle<Worked<Seat<L>>>;
+
+/// What the workers gave back.
+#[derive(Drop)]
+pub(crate) struct Back<L: BoardName> {
+    pub seats: Vec<Seat<L>>,
+    /// Some order was refused for want of memory.
+    pub refused: bool,
+}
+
+/// Runs a session: starts a worker at each seat, reads until the session ends, closes the intake, and joins the workers.
+/// Where a worker can't be started nothing is read.
+pub(crate) fn run<
+    L: BoardName + Send + Sync,
+    N: WriterName + Send + Sync,
+    R: Threads + Wait + Sync,
+    I: Read,
+    W: Write + Send + Drop,
+    G: Gate + Sync,
+>(
+    crew: &Crew<'_, '_, L, N, R, W, G>,
+    r: &mut I,
+    buffer: Vec<u8>,
+    seats: Vec<Seat<L>>,
+    tolds: Vec<Tolds>,
+    threads: Vec<Thread<L>>,
+    places: Vec<Seat<L>>,
+) -> (Back<L>, Heard)
+    requires size { vec_len buffer ≡ 8192 }
+    requires room { length seats.items ≤ vec_capacity places }
+    requires none { (threads.items ≡ []) × (places.items ≡ []) }
+    ensures all { result.1.fault ≢ Some Fault.NoMemory → length result.0.seats.items ≡ length seats.items }
+    ensures fault { result.1.fault ≢ Some Fault.Write }
+    ensures unread { result.1.fault ≡ Some Fault.NoMemory → Keeps (I.remaining r.old) (I.remaining r.new) }
+{
+    let rt = crew.rt;
+    let (back, heard, r) = thread::scope(
+        thread::scope_env(),
+        rt,
+        move |scope| -> (Back<L>, Heard, &mut I)
+            requires size { vec_len buffer ≡ 8192 }
+            requires room { length seats.items ≤ vec_capacity places }
+            requires none { (threads.items ≡ []) × (places.items ≡ []) }
+            ensures all { result.1.fault ≢ Some Fault.NoMemory → length result.0.seats.items ≡ length seats.items }
+            ensures same { result.2.ghost_name ≡ r.entry.ghost_name }
+            ensures fault { result.1.fault ≢ Some Fault.Write }
+            ensures unread { result.1.fault ≡ Some Fault.NoMemory
+                → Keeps (I.remaining r.entry.now) (I.remaining result.2.now) }
+        {
+            let mut buffer = buffer;
+            let mut threads = threads;
+            let heard = if start_all(scope, crew, seats, tolds, &mut threads) {
+                Hearer::new(rt, &crew.intake, &crew.shared).hear_all(r, &mut buffer)
+            } else {
+                Heard {
+                    fault: Some(Fault::NoMemory),
+                    goodbye: Owed::Nothing,
+                }
+            };
+            crew.intake.close(rt);
+            (joined(rt, threads, places), heard, r)
+        },
+    );
+    // No effect at run time: the proof reads here what the reader has left.
+    let _ = &*r;
+    (back, heard)
+}
+
+// Starts a worker at each seat, and says whether all were started.
+fn start_all<
+    's,
+    'a: 's,
+    'w: 's,
+    E,
+    L: BoardName + Send + Sync,
+    N: WriterName + Send + Sync,
+    R: Threads + Wait + Sync,
+    W: Write + Send + Drop,
+    G: Gate + Sync,
+>(
+    scope: &Scope<'s, E>,
+    crew: &'s Crew<'a, 'w, L, N, R, W, G>,
+    seats: Vec<Seat<L>>,
+    tolds: Vec<Tolds>,
+    threads: &mut Vec<Thread<L>>,
+) -> bool
+    ensures most { length threads.new.items ≤ length threads.old.items + length seats.items }
+    ensures all { result ≡ true → length threads.new.items ≡ length threads.old.items + length seats.items }
+{
+    let mut tolds = tolds;
+    for seat in seats {
+        let Some(tolds) = tolds.pop() else {
+            return false;
+        };
+        let Ok(thread) = start(scope, crew, seat, tolds) else {
+            return false;
+        };
+        if threads.push(thread).is_err() {
+            return false;
+        }
+    }
+    true
+}
+
+// Starts a worker.
+fn start<
+    's,
+    'a: 's,
+    'w: 's,
+    E,
+    L: BoardName + Send + Sync,
+    N: WriterName + Send + Sync,
+    R: Threads + Wait + Sync,
+    W: Write + Send + Drop,
+    G: Gate + Sync,
+>(
+    scope: &Scope<'s, E>,
+    crew: &'s Crew<'a, 'w, L, N, R, W, G>,
+    seat: Seat<L>,
+    tolds: Tolds,
+) -> io::Result<Thread<L>> {
+    let builder = Builder::new().stack_size(crew.stack);
+    Ok(builder.spawn_scoped(scope, move || work(crew, seat, tolds))?)
+}
+
+// What a worker does.
+fn work<L: BoardName, N: WriterName, R: Wait, W: Write, G: Gate>(
+    crew: &Crew<'_, '_, L, N, R, W, G>,
+    seat: Seat<L>,
+    tolds: Tolds,
+) -> Worked<Seat<L>> {
+    worker_loop(
+        crew.rt,
+        &crew.board,
+        crew.gate,
+        &crew.intake,
+        &crew.shared,
+        seat,
+        tolds,
+    )
+}
+
+// Joins all workers, and puts their seats where there is room for them.
+fn joined<L: BoardName, R: Threads>(
+    rt: &R,
+    threads: Vec<Thread<L>>,
+    places: Vec<Seat<L>>,
+) -> Back<L>
+    requires { length places.items + length threads.items ≤ vec_capacity places }
+    ensures { length result.seats.items ≡ length places.items + length threads.items }
+{
+    let mut back = Back {
+        seats: places,
+        refused: false,
+    };
+    for thread in threads {
+        let Worked { seat, refused } = thread.join(rt);
+        back.seats.push_reserved(seat);
+        back.refused |= refused;
+    }
+    back
+}
