@@ -1,4 +1,5 @@
 pub mod BatchLemmas
+pub mod HearingLemmas
 pub mod MeetLemmas
 pub mod ReadLemmas
 pub mod SendLemmas

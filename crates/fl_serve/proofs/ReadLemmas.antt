@@ -8,7 +8,8 @@ use Rattle.fl_wire.specs.Spell.{IsReply}
 use lib.Seq.{paste}
 use Rattle.std.proofs.KnownBytes.{Consumes-nil, Consumes-trans, Consumes-kept, Appends-nil}
 use Rattle.std.specs.Io.KnownBytes.{Consumes, Keeps}
-use Rattle.fl_serve.specs.Served.{AreSent}
+use Rattle.fl_serve.specs.Served.{AreSent, IsRead}
+use Rattle.fl_serve.specs.Session.{Came}
 use Rattle.fl_serve.specs.Inside.Serving.{IsFresh}
 use Rattle.fl_serve.specs.Inside.UnderWay.{IsUnderWay, Answers, IsStop}
 use Rattle.fl_serve.specs.Inside.Turns.{IsWaiting, HasEnded}
@@ -30,8 +31,40 @@ moved buffer new at filled order within e =
     ∙ sym (drop-take at n buffer) ∙ ap (λ k. drop at (take k buffer)) upto
 
 -- the rest of the bytes that were read is at most all of them
-rest_bounded : (buffer : List ℕ) (at filled : ℕ) → length buffer ≡ 8192 → length (drop at (take filled buffer)) ≤ 8192
+pub rest_bounded : (buffer : List ℕ) (at filled : ℕ) → length buffer ≡ 8192 → length (drop at (take filled buffer)) ≤ 8192
 rest_bounded buffer at filled long = omega (arith, long, length-drop at (take filled buffer), length-take filled buffer)
+
+-- more bytes are read
+pub read_more : (left a b : Option (List ℕ)) (came : List Came) (rest bytes : List ℕ) → IsRead left a came rest
+    → Consumes a b bytes → IsRead left b came (rest ++ bytes)
+read_more left a b came rest bytes before more = record {
+  read = before.read ++ bytes;
+  consumed = Consumes-trans left a b before.read bytes before.consumed more;
+  cut = record {
+    parts = ap (λ xs. xs ++ bytes) before.cut.parts ∙ append_assoc _ rest bytes;
+    whole = before.cut.whole;
+  };
+  live = before.live;
+}
+
+-- a read fails
+pub read_kept : (left a b : Option (List ℕ)) (came : List Came) (rest : List ℕ) → IsRead left a came rest
+    → Keeps a b → IsRead left b came rest
+read_kept left a b came rest before kept = record {
+  read = before.read;
+  consumed = Consumes-kept left a b before.read before.consumed kept;
+  cut = before.cut;
+  live = before.live;
+}
+
+-- nothing is read yet
+pub read_nothing : (left : Option (List ℕ)) → IsRead left left [] []
+read_nothing left = record {
+  read = [];
+  consumed = Consumes-nil left;
+  cut = record { parts = refl; whole = All-nil IsMessage };
+  live = λ front last e. let none = ap length e in absurd (omega (arith, none, length-append front (last ∷ [])));
+}
 
 -- a read of these bytes
 way_read : (left a b held held_now : Option (List ℕ)) (broken : Bool) (server : Server) (rest bytes : List ℕ)
@@ -39,13 +72,7 @@ way_read : (left a b held held_now : Option (List ℕ)) (broken : Bool) (server 
     → Consumes a b bytes → IsUnderWay left b held held_now broken server (rest ++ bytes)
 way_read left a b held held_now broken server rest bytes way read = record {
   came = way.came;
-  read = way.read ++ bytes;
-  consumed = Consumes-trans left a b way.read bytes way.consumed read;
-  cut = record {
-    parts = ap (λ xs. xs ++ bytes) way.cut.parts ∙ append_assoc _ rest bytes;
-    whole = way.cut.whole;
-  };
-  live = way.live;
+  is_read = read_more left a b way.came rest bytes way.is_read read;
   stands = way.stands;
   sending = way.sending;
 }
@@ -56,13 +83,15 @@ way_kept : (left a b held held_now : Option (List ℕ)) (broken : Bool) (server 
     → Keeps a b → IsUnderWay left b held held_now broken server rest
 way_kept left a b held held_now broken server rest way kept = record {
   came = way.came;
-  read = way.read;
-  consumed = Consumes-kept left a b way.read way.consumed kept;
-  cut = way.cut;
-  live = way.live;
+  is_read = read_kept left a b way.came rest way.is_read kept;
   stands = way.stands;
   sending = way.sending;
 }
+
+-- what fills the front of the buffer after a read behind it
+pub read_behind : (buffer new : List ℕ) (filled n : ℕ) → take filled new ≡ take filled buffer
+    → take (filled + n) new ≡ take filled buffer ++ take n (drop filled new)
+read_behind buffer new filled n front = take-add filled n new ∙ ap (λ xs. xs ++ take n (drop filled new)) front
 
 -- a read behind the bytes that fill the front of the buffer
 pub way_read_in : (left a b held held_now : Option (List ℕ)) (broken : Bool) (server : Server) (buffer new : List ℕ)
@@ -71,10 +100,8 @@ pub way_read_in : (left a b held held_now : Option (List ℕ)) (broken : Bool) (
     → Consumes a b (take n (drop filled new))
     → IsUnderWay left b held held_now broken server (take (filled + n) new)
 way_read_in left a b held held_now broken server buffer new filled n way front read =
-    let whole : take (filled + n) new ≡ take filled buffer ++ take n (drop filled new) = take-add filled n new
-    ∙ ap (λ xs. xs ++ take n (drop filled new)) front in
     let P : List ℕ → Type 0 = IsUnderWay left b held held_now broken server in
-    subst P (sym whole) (way_read left a b held held_now broken server (take filled buffer)
+    subst P (sym (read_behind buffer new filled n front)) (way_read left a b held held_now broken server (take filled buffer)
     (take n (drop filled new)) way read)
 
 -- nothing was read yet
@@ -85,10 +112,7 @@ waiting_first left held broken server buffer fresh whole = record {
   more = refl;
   way = record {
     came = [];
-    read = [];
-    consumed = Consumes-nil left;
-    cut = record { parts = refl; whole = All-nil IsMessage };
-    live = λ front last e. let none = ap length e in absurd (omega (arith, none, length-append front (last ∷ [])));
+    is_read = read_nothing left;
     stands = rw (fresh.agreed, fresh.over, fresh.refused, fresh.lines) refl;
     sending = record {
       sent = [];
@@ -103,11 +127,11 @@ waiting_first left held broken server buffer fresh whole = record {
 pub ended_bad : (old new : Server) (held held_now : Option (List ℕ)) (broken broken_now : Bool) (buffer : List ℕ)
     (at filled : ℕ) (stop : Stop) (n : ℕ) → length buffer ≡ 8192
     → Answers old new held held_now broken broken_now (take filled buffer) (drop at (take filled buffer))
-    → IsStop stop new (drop at (take filled buffer)) → stop ≡ Bad n
+    → IsStop stop new.talk (drop at (take filled buffer)) → stop ≡ Bad n
     → (left left_now start : Option (List ℕ)) → IsUnderWay left left_now start held broken old (take filled buffer)
     → HasEnded left left_now start held_now broken_now new (Some (BadLength n))
 ended_bad old new held held_now broken broken_now buffer at filled stop n long answers stops e left left_now start way =
-    let P : Stop → Type 0 = λ s. IsStop s new (drop at (take filled buffer)) in
+    let P : Stop → Type 0 = λ s. IsStop s new.talk (drop at (take filled buffer)) in
     record {
       rest = drop at (take filled buffer);
       bounded = rest_bounded buffer at filled long;
@@ -119,11 +143,11 @@ ended_bad old new held held_now broken broken_now buffer at filled stop n long a
 pub ended_over : (old new : Server) (held held_now : Option (List ℕ)) (broken broken_now : Bool) (buffer : List ℕ)
     (at filled : ℕ) (stop : Stop) → length buffer ≡ 8192
     → Answers old new held held_now broken broken_now (take filled buffer) (drop at (take filled buffer))
-    → IsStop stop new (drop at (take filled buffer)) → stop ≡ Over
+    → IsStop stop new.talk (drop at (take filled buffer)) → stop ≡ Over
     → (left left_now start : Option (List ℕ)) → IsUnderWay left left_now start held broken old (take filled buffer)
     → HasEnded left left_now start held_now broken_now new None
 ended_over old new held held_now broken broken_now buffer at filled stop long answers stops e left left_now start way =
-    let P : Stop → Type 0 = λ s. IsStop s new (drop at (take filled buffer)) in
+    let P : Stop → Type 0 = λ s. IsStop s new.talk (drop at (take filled buffer)) in
     record {
       rest = drop at (take filled buffer);
       bounded = rest_bounded buffer at filled long;

@@ -7,28 +7,29 @@ use Rattle.fl_serve.specs.declared.session.Done.{Done}
 use Rattle.fl_serve.specs.declared.session.Fault.{Fault}
 use Rattle.fl_serve.specs.declared.session.Fault.TheVariants.{Cut, BadLength, Read, Write, NoMemory}
 use Rattle.fl_serve.specs.declared.session.server.Server.{Server}
+use Rattle.fl_serve.specs.declared.session.server.Talk.{Talk}
 
 -- where the reader ended, and the session with it
-is_complete : (s : Session) (server : Server) (rest : List ℕ) (left : Option (List ℕ)) → server.talk.over ≡ s.over
-    → IsEnding None server rest left → IsComplete s rest left
-is_complete s server rest left same (inl over) = inl (sym same ∙ over)
-is_complete s server rest left same (inr ended) = inr ended
+is_complete : (s : Session) (talk : Talk) (rest : List ℕ) (left : Option (List ℕ)) → talk.over ≡ s.over
+    → IsEnding None talk rest left → IsComplete s rest left
+is_complete s talk rest left same (inl over) = inl (sym same ∙ over)
+is_complete s talk rest left same (inr ended) = inr ended
 
 -- how a session ended, its writer's part too
-ends_by : (fault : Option Fault) (broken : Bool) (left : Option (List ℕ)) (server : Server) (rest : List ℕ)
-    (came : List Came) → server.talk.over ≡ (session_of came).over → IsEnding fault server rest left
+pub ends_by : (fault : Option Fault) (broken : Bool) (left : Option (List ℕ)) (talk : Talk) (rest : List ℕ)
+    (came : List Came) → talk.over ≡ (session_of came).over → IsEnding fault talk rest left
     → EndsBy (first_fault fault broken) broken came rest left
-ends_by None true left server rest came same ending = (refl, is_complete (session_of came) server rest left same ending)
-ends_by None false left server rest came same ending = (
+ends_by None true left talk rest came same ending = (refl, is_complete (session_of came) talk rest left same ending)
+ends_by None false left talk rest came same ending = (
   refl,
   is_complete
-      (session_of came) server rest left same ending,
+      (session_of came) talk rest left same ending,
 )
-ends_by (Some Cut) broken left server rest came same ending = (sym same ∙ ending.0, ending.1, ending.2, ending.3)
-ends_by (Some (BadLength n)) broken left server rest came same ending = (sym same ∙ ending.0, ending.1)
-ends_by (Some Read) broken left server rest came same ending = (sym same ∙ ending.0, ending.1)
-ends_by (Some Write) broken left server rest came same ending = absurd ending
-ends_by (Some NoMemory) broken left server rest came same ending = absurd ending
+ends_by (Some Cut) broken left talk rest came same ending = (sym same ∙ ending.0, ending.1, ending.2, ending.3)
+ends_by (Some (BadLength n)) broken left talk rest came same ending = (sym same ∙ ending.0, ending.1)
+ends_by (Some Read) broken left talk rest came same ending = (sym same ∙ ending.0, ending.1)
+ends_by (Some Write) broken left talk rest came same ending = absurd ending
+ends_by (Some NoMemory) broken left talk rest came same ending = absurd ending
 
 -- a session that ended is served
 pub served : (left left_now held held_now : Option (List ℕ)) (broken : Bool) (server : Server) (fault : Option Fault)
@@ -39,18 +40,15 @@ served left left_now held held_now broken server fault done ended history told r
     let way = ended.way in
     record {
       came = way.came;
-      read = way.read;
       rest = ended.rest;
       sent = way.sending.sent;
-      consumed = way.consumed;
-      cut = way.cut;
+      is_read = way.is_read;
       bounded = ended.bounded;
-      live = way.live;
       history = history ∙ ap (λ s. s.lines) way.stands;
       refused = refused ∙ ap (λ s. s.refused) way.stands;
       framed = way.sending.framed;
       written = way.sending.written;
       are_sent = way.sending.are_sent;
-      ending = rw told (ends_by fault broken left_now server ended.rest way.came
+      ending = rw told (ends_by fault broken left_now server.talk ended.rest way.came
           (ap (λ s. s.over) way.stands) ended.ending);
     }

@@ -13,6 +13,7 @@ use Rattle.fl_wire.specs.declared.cut.Step.TheVariants.{Whole, More, Bad}
 use Rattle.fl_serve.proofs.SendLemmas.{concat_one}
 use Rattle.fl_serve.specs.Inside.Sending.{IsSending}
 use Rattle.fl_serve.specs.Inside.Serving.{session_with}
+use Rattle.fl_serve.specs.Served.{IsRead}
 use Rattle.fl_serve.specs.Session.{Came, session_of, with_message, opening_session}
 use Rattle.fl_serve.specs.Inside.UnderWay.{IsUnderWay, IsAnswered, Answers}
 use Rattle.fl_serve.specs.declared.session.server.Server.{Server}
@@ -25,7 +26,7 @@ snoc_front xs ys x y e =
     sym (take_at xs (x ∷ []) (length xs) refl) ∙ ap (take (length xs)) e ∙ take_at ys (y ∷ []) (length xs) (sym long)
 
 -- one message more
-session_of_more : (came : List Came) (c : Came) → session_of (came ++ c ∷ []) ≡ with_message (session_of came) c
+pub session_of_more : (came : List Came) (c : Came) → session_of (came ++ c ∷ []) ≡ with_message (session_of came) c
 session_of_more came c = fold-append with_message opening_session came (c ∷ [])
 
 -- a beginning and what follows it
@@ -75,6 +76,17 @@ cut_more read came c rest rest_now cut message parts =
       whole = All-push IsMessage messages c.message cut.whole message;
     })
 
+-- a message more is met
+pub read_next : (left left_now : Option (List ℕ)) (came : List Came) (c : Came) (rest rest_now : List ℕ)
+    → (session_of came).over ≡ false → IsMessage c.message → c.message ++ rest_now ≡ rest
+    → IsRead left left_now came rest → IsRead left left_now (came ++ c ∷ []) rest_now
+read_next left left_now came c rest rest_now over whole parts before = record {
+  read = before.read;
+  consumed = before.consumed;
+  cut = cut_more before.read came c rest rest_now before.cut whole parts;
+  live = λ front last e. ap (λ front. (session_of front).over) (sym (snoc_front came front c last e)) ∙ over;
+}
+
 -- a message is answered
 under_way_more : (left left_now start held held_now : Option (List ℕ)) (broken broken_now : Bool) (old new : Server)
     (message rest rest_now : List ℕ)
@@ -97,13 +109,25 @@ under_way_more left left_now start held held_now broken broken_now old new messa
     let P : List (List ℕ) → Type 0 = IsSending start held_now broken_now in
     record {
       came = came ++ c ∷ [];
-      read = before.read;
-      consumed = before.consumed;
-      cut = cut_more before.read came c rest rest_now before.cut whole parts;
-      live = λ front last e. ap (λ front. (session_of front).over) (sym (snoc_front came front c last e)) ∙ over;
+      is_read = read_next left left_now came c rest rest_now over whole parts before.is_read;
       stands = ap (session_with new) (sym gets) ∙ next;
       sending = subst P gets sent;
     }
+
+-- what stands after one message more of these bytes
+pub rest_more : (message bytes : List ℕ) (at : ℕ) → at ≤ length bytes
+    → first_step (take (length bytes - at) (drop at bytes)) ≡ Whole message
+    → (at + length message ≤ length bytes) × (message ++ drop (at + length message) bytes ≡ drop at bytes)
+rest_more message bytes at within step =
+    let rest = drop at bytes in
+    let all : take (length bytes - at) rest ≡ rest = take_all (length bytes - at) rest
+    (omega (arith, length-drop at bytes)) in
+    let parts : message ++ drop (length message) rest ≡ rest = whole_front rest message (ap first_step (sym all) ∙ step) in
+    let next : drop (length message) rest ≡ drop (at + length message) bytes = drop-drop (length message) at bytes in
+    let long = ap length parts in (
+      omega (arith, long, length-append message (drop (length message) rest), length-drop at bytes),
+      ap (λ rest. message ++ rest) (sym next) ∙ parts,
+    )
 
 -- one message more is answered
 pub Answers-more : (first old new : Server) (a b c : Option (List ℕ)) (x y z : Bool) (message bytes : List ℕ) (at : ℕ)
@@ -113,17 +137,10 @@ pub Answers-more : (first old new : Server) (a b c : Option (List ℕ)) (x y z :
     → IsAnswered old new b c y z message → (at + length message ≤ length bytes) × Answers first new a c x z bytes
     (drop (at + length message) bytes)
 Answers-more first old new a b c x y z message bytes at within before live whole step answered =
-    let rest = drop at bytes in
-    let all : take (length bytes - at) rest ≡ rest = take_all (length bytes - at) rest
-    (omega (arith, length-drop at bytes)) in
-    let stands : first_step rest ≡ Whole message = ap first_step (sym all) ∙ step in
-    let parts : message ++ drop (length message) rest ≡ rest = whole_front rest message stands in
-    let next : drop (length message) rest ≡ drop (at + length message) bytes = drop-drop (length message) at bytes in
-    let long = ap length parts in (
-      omega (arith, length-append message (drop (length message) rest), length-drop at bytes),
+    let rest = rest_more message bytes at within step in (
+      rest.0,
       record {
-        onward = λ left left_now start way. let P : List ℕ → Type 0 = IsUnderWay left left_now start c z new in
-            subst P next (under_way_more left left_now start b c y z old new message rest
-            (drop (length message) rest) live whole parts answered (before.onward left left_now start way));
+        onward = λ left left_now start way. under_way_more left left_now start b c y z old new message (drop at bytes)
+            (drop (at + length message) bytes) live whole rest.1 answered (before.onward left left_now start way);
       },
     )

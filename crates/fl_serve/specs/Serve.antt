@@ -1,12 +1,17 @@
 -- What a session with workers did.
-use Rattle.std.specs.Prelude.{ℕ, Bool, true, false, List, [], Option, Some, None}
+use Rattle.std.specs.Prelude.{ℕ, ◌≤◌, Bool, List, [], length, Option}
+use Rattle.fl_serve.specs.Served.{EndsBy, IsRead}
+use Rattle.fl_serve.specs.Session.{Came}
 use Rattle.fl_serve.specs.Shared.{HasSent}
-use Rattle.fl_serve.specs.declared.session.Fault.{Fault}
-use Rattle.fl_serve.specs.declared.session.Fault.TheVariants.{Cut, BadLength, Read, Write, NoMemory}
+use Rattle.fl_serve.specs.declared.session.Done.{Done}
 
--- Whole replies were written behind what the writer held; where a write failed, a beginning of them. A fault of the
--- reader is told before that of the writer, and hides it.
-abbrev pub AreSentBy : Option Fault → Option (List ℕ) → Option (List ℕ) → Type 0
-AreSentBy None held held_now = HasSent held held_now [] false
-AreSentBy (Some Write) held held_now = HasSent held held_now [] true
-AreSentBy (Some fault) held held_now = (broken : Bool) × HasSent held held_now [] broken
+-- What was read is whole messages and a rest of at most 8192 bytes, and no message came after one that ended the
+-- session. Whole replies were written behind what the writer held; where a write failed (`broken`), a beginning of them.
+pub record IsServedBy (left left_now held held_now : Option (List ℕ)) (done : Done) : Type 0 where
+  pub came : List Came
+  pub rest : List ℕ
+  pub broken : Bool
+  pub is_read : IsRead left left_now came rest
+  pub bounded : length rest ≤ 8192
+  pub sent : HasSent held held_now [] broken
+  pub ending : EndsBy done.fault broken came rest left_now

@@ -38,18 +38,22 @@ EndsBy (Some (BadLength n)) broken came rest left = ((session_of came).over ≡ 
 EndsBy (Some Read) broken came rest left = ((session_of came).over ≡ false) × (first_step rest ≡ More)
 EndsBy (Some NoMemory) broken came rest left = (came ≡ []) × (rest ≡ [])
 
--- What was read is whole messages and a rest of at most 8192 bytes, and no message came after one that ended the
--- session. The history is the lines of the session of these messages, and its replies were written, each of which says
--- its own length: all of them, but where a write failed (`broken`) a beginning.
-pub record IsServed (left left_now held held_now : Option (List ℕ)) (broken : Bool) (done : Done) : Type 0 where
-  pub came : List Came
+-- What was read is these messages and a rest, and no message came after one that ended the session.
+pub record IsRead (left left_now : Option (List ℕ)) (came : List Came) (rest : List ℕ) : Type 0 where
   pub read : List ℕ
-  pub rest : List ℕ
-  pub sent : List ℕ
   pub consumed : Consumes left left_now read
   pub cut : IsCut read (map (λ c. c.message) came) rest
-  pub bounded : length rest ≤ 8192
   pub live : (front : List Came) (last : Came) → came ≡ front ++ last ∷ [] → (session_of front).over ≡ false
+
+-- What was read is whole messages and a rest of at most 8192 bytes. The history is the lines of the session of these
+-- messages, and its replies were written, each of which says its own length: all of them, but where a write failed
+-- (`broken`) a beginning.
+pub record IsServed (left left_now held held_now : Option (List ℕ)) (broken : Bool) (done : Done) : Type 0 where
+  pub came : List Came
+  pub rest : List ℕ
+  pub sent : List ℕ
+  pub is_read : IsRead left left_now came rest
+  pub bounded : length rest ≤ 8192
   pub history : done.history ≡ (session_of came).lines
   pub refused : done.refused ≡ (session_of came).refused
   pub framed : All IsReply (session_of came).replies

@@ -3,7 +3,7 @@
 ghost use Rattle.std.specs.Prelude.{◌≡◌, ◌≤◌, ◌<◌, [], Some, length, vec_len, vec_capacity, IfOk};
 ghost use Rattle.std.specs.Io.KnownBytes.{Keeps};
 ghost use Rattle.fl_book.specs.Legal.{IsLegal};
-ghost use Rattle.fl_serve.specs.Serve.{AreSentBy};
+ghost use Rattle.fl_serve.specs.Serve.{IsServedBy};
 ghost use Rattle.fl_serve.specs.Shared.{HasSent};
 
 mod crew;
@@ -48,7 +48,7 @@ pub fn serve<R: Threads + Wait + Sync, I: Read, W: Write + Send + Drop, G: Gate 
 ) -> Done
     requires workers { (0 < workers) × (workers ≤ 16) }
     ensures legal { IsLegal result.history }
-    ensures sent { AreSentBy result.fault (W.contents w.old) (W.contents w.new) }
+    ensures served { IsServedBy (I.remaining r.old) (I.remaining r.new) (W.contents w.old) (W.contents w.new) result }
     ensures nothing { result.fault ≡ Some Fault.NoMemory
         → (result.history ≡ []) × Keeps (I.remaining r.old) (I.remaining r.new) }
 {
@@ -67,7 +67,7 @@ fn serve_on_stack<R: Threads + Wait + Sync, I: Read, W: Write + Send + Drop, G: 
 ) -> Done
     requires workers { (0 < workers) × (workers ≤ 16) }
     ensures legal { IsLegal result.history }
-    ensures sent { AreSentBy result.fault (W.contents w.old) (W.contents w.new) }
+    ensures served { IsServedBy (I.remaining r.old) (I.remaining r.new) (W.contents w.old) (W.contents w.new) result }
     ensures nothing { result.fault ≡ Some Fault.NoMemory
         → (result.history ≡ []) × Keeps (I.remaining r.old) (I.remaining r.new) }
 {
@@ -111,7 +111,8 @@ fn serve_at<
     requires writer { w.ghost_name ≡ N.name }
     ensures writer { result.1.ghost_name ≡ w.entry.ghost_name }
     ensures legal { IsLegal result.0.history }
-    ensures sent { AreSentBy result.0.fault (W.contents w.old) (W.contents result.1.now) }
+    ensures served { IsServedBy (I.remaining r.old) (I.remaining r.new) (W.contents w.old) (W.contents result.1.now)
+        result.0 }
     ensures nothing { result.0.fault ≡ Some Fault.NoMemory
         → (result.0.history ≡ []) × Keeps (I.remaining r.old) (I.remaining r.new) }
 {

@@ -9,6 +9,7 @@ use Rattle.fl_serve.specs.declared.session.Fault.TheVariants.{Cut, BadLength, Re
 use Rattle.fl_serve.specs.declared.session.reading.Turn.{Turn}
 use Rattle.fl_serve.specs.declared.session.reading.Turn.TheVariants.{More, End}
 use Rattle.fl_serve.specs.declared.session.server.Server.{Server}
+use Rattle.fl_serve.specs.declared.session.server.Talk.{Talk}
 
 -- the front of the buffer is a beginning of a message, and nothing is left to answer
 pub record IsWaiting (left left_now held held_now : Option (List ℕ)) (broken : Bool) (server : Server)
@@ -17,14 +18,14 @@ pub record IsWaiting (left left_now held held_now : Option (List ℕ)) (broken :
   pub way : IsUnderWay left left_now held held_now broken server (take filled buffer)
 
 -- how the reader's part of a session ended, after this rest and with these bytes left
-abbrev pub IsEnding : Option Fault → Server → List ℕ → Option (List ℕ) → Type 0
-IsEnding None server rest left = (server.talk.over ≡ true) ⊎ ((rest ≡ []) × IsAtEnd left)
-IsEnding (Some Cut) server rest left =
-    (server.talk.over ≡ false) × (0 < length rest) × (first_step rest ≡ step.More) × IsAtEnd left
-IsEnding (Some (BadLength n)) server rest left = (server.talk.over ≡ false) × (first_step rest ≡ step.Bad n)
-IsEnding (Some Read) server rest left = (server.talk.over ≡ false) × (first_step rest ≡ step.More)
-IsEnding (Some Write) server rest left = ⊥
-IsEnding (Some NoMemory) server rest left = ⊥
+abbrev pub IsEnding : Option Fault → Talk → List ℕ → Option (List ℕ) → Type 0
+IsEnding None talk rest left = (talk.over ≡ true) ⊎ ((rest ≡ []) × IsAtEnd left)
+IsEnding (Some Cut) talk rest left =
+    (talk.over ≡ false) × (0 < length rest) × (first_step rest ≡ step.More) × IsAtEnd left
+IsEnding (Some (BadLength n)) talk rest left = (talk.over ≡ false) × (first_step rest ≡ step.Bad n)
+IsEnding (Some Read) talk rest left = (talk.over ≡ false) × (first_step rest ≡ step.More)
+IsEnding (Some Write) talk rest left = ⊥
+IsEnding (Some NoMemory) talk rest left = ⊥
 
 -- the session ended, with this fault of its reader
 pub record HasEnded (left left_now held held_now : Option (List ℕ)) (broken : Bool) (server : Server)
@@ -32,7 +33,7 @@ pub record HasEnded (left left_now held held_now : Option (List ℕ)) (broken : 
   pub rest : List ℕ
   pub bounded : length rest ≤ 8192
   pub way : IsUnderWay left left_now held held_now broken server rest
-  pub ending : IsEnding fault server rest left_now
+  pub ending : IsEnding fault server.talk rest left_now
 
 -- the session waits for more, or it ended
 abbrev pub HasTurned : Turn → Option (List ℕ) → Option (List ℕ) → Option (List ℕ) → Option (List ℕ) → Bool → Server

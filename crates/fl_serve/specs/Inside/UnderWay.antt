@@ -10,16 +10,15 @@ use Rattle.fl_serve.specs.Session.{Came, session_of}
 use Rattle.fl_serve.specs.declared.session.answering.Stop.{Stop}
 use Rattle.fl_serve.specs.declared.session.answering.Stop.TheVariants.{More, Bad, Over}
 use Rattle.fl_serve.specs.declared.session.server.Server.{Server}
+use Rattle.fl_serve.specs.declared.session.server.Talk.{Talk}
+use Rattle.fl_serve.specs.Served.{IsRead}
 
 -- What was read is whole messages and a rest, the server stands where the session of these messages stands, and what
 -- was written is a beginning of its replies.
 pub record IsUnderWay (left left_now held held_now : Option (List ℕ)) (broken : Bool) (server : Server)
     (rest : List ℕ) : Type 0 where
   pub came : List Came
-  pub read : List ℕ
-  pub consumed : Consumes left left_now read
-  pub cut : IsCut read (map (λ c. c.message) came) rest
-  pub live : (front : List Came) (last : Came) → came ≡ front ++ last ∷ [] → (session_of front).over ≡ false
+  pub is_read : IsRead left left_now came rest
   pub stands : session_with server (session_of came).replies ≡ session_of came
   pub sending : IsSending held held_now broken (session_of came).replies
 
@@ -36,8 +35,8 @@ pub record Answers (old new : Server) (held held_now : Option (List ℕ)) (broke
   pub onward : (left left_now start : Option (List ℕ)) → IsUnderWay left left_now start held broken old rest
       → IsUnderWay left left_now start held_now broken_now new rest_now
 
--- what stands after the messages that were answered
-abbrev pub IsStop : Stop → Server → List ℕ → Type 0
-IsStop More server rest = (server.talk.over ≡ false) × (first_step rest ≡ step.More)
-IsStop (Bad n) server rest = (server.talk.over ≡ false) × (first_step rest ≡ step.Bad n)
-IsStop Over server rest = server.talk.over ≡ true
+-- what stands after the messages that were met
+abbrev pub IsStop : Stop → Talk → List ℕ → Type 0
+IsStop More talk rest = (talk.over ≡ false) × (first_step rest ≡ step.More)
+IsStop (Bad n) talk rest = (talk.over ≡ false) × (first_step rest ≡ step.Bad n)
+IsStop Over talk rest = talk.over ≡ true

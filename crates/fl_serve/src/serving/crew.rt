@@ -2,6 +2,8 @@
 
 ghost use Rattle.std.specs.Prelude.{◌≡◌, ◌≢◌, ◌+◌, ◌≤◌, [], true, Some, length, vec_len, vec_capacity};
 ghost use Rattle.std.specs.Io.KnownBytes.{Keeps};
+ghost use Rattle.fl_serve.specs.Inside.Hearing.{HasHeard};
+ghost use Rattle.fl_serve.specs.declared.session.server.Talk.{Talk as HowFar};
 
 use crate::counter::Gate;
 use crate::intake::Intake;
@@ -62,7 +64,8 @@ pub(crate) fn run<
     requires room { length seats.items ≤ vec_capacity places }
     requires none { (threads.items ≡ []) × (places.items ≡ []) }
     ensures all { result.1.fault ≢ Some Fault.NoMemory → length result.0.seats.items ≡ length seats.items }
-    ensures fault { result.1.fault ≢ Some Fault.Write }
+    ensures heard { result.1.fault ≢ Some Fault.NoMemory
+        → (talk : HowFar) × HasHeard (I.remaining r.old) (I.remaining r.new) talk result.1.fault }
     ensures unread { result.1.fault ≡ Some Fault.NoMemory → Keeps (I.remaining r.old) (I.remaining r.new) }
 {
     let rt = crew.rt;
@@ -75,7 +78,8 @@ pub(crate) fn run<
             requires none { (threads.items ≡ []) × (places.items ≡ []) }
             ensures all { result.1.fault ≢ Some Fault.NoMemory → length result.0.seats.items ≡ length seats.items }
             ensures same { result.2.ghost_name ≡ r.entry.ghost_name }
-            ensures fault { result.1.fault ≢ Some Fault.Write }
+            ensures heard { result.1.fault ≢ Some Fault.NoMemory
+                → (talk : HowFar) × HasHeard (I.remaining r.entry.now) (I.remaining result.2.now) talk result.1.fault }
             ensures unread { result.1.fault ≡ Some Fault.NoMemory
                 → Keeps (I.remaining r.entry.now) (I.remaining result.2.now) }
         {

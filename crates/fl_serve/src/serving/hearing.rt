@@ -1,7 +1,9 @@
 //! How the reader of a session with workers reads its stream.
 
-ghost use Rattle.std.specs.Prelude.{◌≡◌, ◌≤◌, false, length};
-ghost use Rattle.fl_serve.specs.Inside.Hearing.{IsReadersFault, IsHeardTurn};
+ghost use Rattle.std.specs.Prelude.{◌≡◌, ◌≢◌, ℕ, List, Option, Some, ◌≤◌, false, take, drop, length};
+ghost use Rattle.fl_serve.specs.Inside.Hearing.{GoesOn, HasHeard, Hears, HearsMore, HearsOn, IsHearing, IsLive};
+ghost use Rattle.fl_serve.specs.Inside.UnderWay.{IsStop};
+ghost use Rattle.fl_serve.specs.declared.session.server.Talk.{Talk as HowFar};
 
 use crate::intake::Intake;
 use crate::session::Fault;
@@ -40,7 +42,7 @@ impl<'r, 'a, 'w, R: Wait, W: Write, N: WriterName> Hearer<'r, 'a, 'w, R, W, N> {
         intake: &'a Intake,
         shared: &'a Mutex<Shared<'w, W, N>>,
     ) -> Hearer<'r, 'a, 'w, R, W, N>
-        ensures { result.talk.over ≡ false }
+        ensures { (result.talk.agreed ≡ false) × (result.talk.over ≡ false) }
     {
         Hearer {
             rt,
@@ -54,8 +56,9 @@ impl<'r, 'a, 'w, R: Wait, W: Write, N: WriterName> Hearer<'r, 'a, 'w, R, W, N> {
     /// Reads until the session ends: orders go to the intake, and other messages are answered at once.
     pub(crate) fn hear_all<I: Read>(self, r: &mut I, buffer: &mut [u8]) -> Heard
         requires size { length buffer.old ≡ 8192 }
-        requires live { self.talk.over ≡ false }
-        ensures { IsReadersFault result.fault }
+        requires fresh { (self.talk.agreed ≡ false) × (self.talk.over ≡ false) }
+        ensures heard { (talk : HowFar) × HasHeard (I.remaining r.old) (I.remaining r.new) talk result.fault }
+        ensures memory { result.fault ≢ Some Fault.NoMemory }
     {
         let mut hearer = self;
         let mut filled = 0;
@@ -81,7 +84,9 @@ impl<'r, 'a, 'w, R: Wait, W: Write, N: WriterName> Hearer<'r, 'a, 'w, R, W, N> {
         requires size { length buffer.old ≡ 8192 }
         requires within { filled ≤ length buffer.old }
         requires live { self.old.talk.over ≡ false }
-        ensures { IsHeardTurn result self.new.talk buffer.new }
+        ensures live { IsLive result self.new.talk buffer.new }
+        ensures on { (left : Option (List ℕ)) → HearsMore left (I.remaining r.old) self.old.talk buffer.old filled
+            → HearsOn result left (I.remaining r.new) self.new.talk buffer.new }
     {
         match read_behind(r, buffer, filled) {
             Ok(0) if filled == 0 => Turn::End(None),
@@ -96,7 +101,10 @@ impl<'r, 'a, 'w, R: Wait, W: Write, N: WriterName> Hearer<'r, 'a, 'w, R, W, N> {
         requires size { length buffer.old ≡ 8192 }
         requires within { filled ≤ length buffer.old }
         requires live { self.old.talk.over ≡ false }
-        ensures { IsHeardTurn result self.new.talk buffer.new }
+        ensures live { IsLive result self.new.talk buffer.new }
+        ensures on { (left left_now : Option (List ℕ))
+            → IsHearing left left_now self.old.talk (take filled buffer.old)
+            → HearsOn result left left_now self.new.talk buffer.new }
     {
         let (at, stop) = self.hear_whole(&buffer[..filled]);
         match stop {
@@ -114,7 +122,8 @@ impl<'r, 'a, 'w, R: Wait, W: Write, N: WriterName> Hearer<'r, 'a, 'w, R, W, N> {
     fn hear_whole(&mut self, bytes: &[u8]) -> (usize, Stop)
         requires { self.old.talk.over ≡ false }
         ensures within { result.0 ≤ length bytes.now }
-        ensures live { result.1 ≡ Stop.More → self.new.talk.over ≡ false }
+        ensures heard { GoesOn self.old.talk self.new.talk bytes.now (drop result.0 bytes.now) }
+        ensures stop { IsStop result.1 self.new.talk (drop result.0 bytes.now) }
     {
         let mut at = 0;
         while !self.talk.over {
@@ -131,8 +140,10 @@ impl<'r, 'a, 'w, R: Wait, W: Write, N: WriterName> Hearer<'r, 'a, 'w, R, W, N> {
     }
 
     // Hears one message of a session that isn't over.
+    #[tactic(auto, using(crate::proofs::HearingLemmas::hears))]
     fn hear(&mut self, frame: &Frame)
         requires { self.old.talk.over ≡ false }
+        ensures { Hears self.old.talk self.new.talk frame.now }
     {
         match self.talk.meet(frame) {
             Met::Order(order) => {

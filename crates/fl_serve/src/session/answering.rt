@@ -32,7 +32,7 @@ pub(crate) fn answer_all<W: Write>(
     ensures answered { Answers server.old server.new
         (W.contents mail.old.out.writer.now) (W.contents mail.new.out.writer.now)
         mail.old.out.broken mail.new.out.broken bytes.now (drop result.0 bytes.now) }
-    ensures stop { IsStop result.1 server.new (drop result.0 bytes.now) }
+    ensures stop { IsStop result.1 server.new.talk (drop result.0 bytes.now) }
 {
     let mut at = 0;
     while !server.talk.over {
