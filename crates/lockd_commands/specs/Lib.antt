@@ -2,4 +2,5 @@ pub mod Bytes
 pub mod Check
 pub mod Hex
 pub mod Script
+pub mod Serve
 pub mod Status

@@ -14,6 +14,9 @@ pub enum Fault {
     /// Want of memory.
     #[error("no memory")]
     NoMemory,
+    /// No connection came at the socket's path: it can't be bound, or accepting failed.
+    #[error("cannot listen")]
+    Listen,
     /// The input can't be read.
     #[error("read failed")]
     Read,

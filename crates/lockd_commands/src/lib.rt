@@ -5,6 +5,7 @@ mod bytes;
 mod check;
 mod fault;
 mod script;
+mod serve;
 mod status;
 mod streams;
 
@@ -12,4 +13,5 @@ pub use bytes::bytes_on;
 pub use check::check_on;
 pub use fault::Fault;
 pub use script::script_on;
+pub use serve::serve_on;
 pub use status::Status;

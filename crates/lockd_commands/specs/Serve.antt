@@ -1,0 +1,22 @@
+-- What came of a session over a socket.
+pub mod Inside
+use Rattle.std.specs.Prelude.{◌≡◌, ℕ, List, Option, ⊤}
+use Rattle.std.specs.Io.KnownBytes.{Appends}
+use Rattle.fl_book.specs.Legal.{IsLegal}
+use Rattle.fl_book.specs.Text.{text_of}
+use Rattle.fl_book.specs.declared.history.Line.{Line}
+use Rattle.lockd_commands.specs.declared.fault.Fault.{Fault}
+use Rattle.lockd_commands.specs.declared.fault.Fault.TheVariants.{Cut, BadLength, Read}
+
+-- the trace of a legal history was written
+pub record IsTraced (old new : Option (List ℕ)) : Type 0 where
+  pub lines : List Line
+  pub legal : IsLegal lines
+  pub written : Appends old new (text_of lines)
+
+-- a fault of a session that was served: the stream's, or of reading it
+abbrev pub IsOfSession : Fault → Type 0
+IsOfSession Cut = ⊤
+IsOfSession (BadLength n) = ⊤
+IsOfSession Read = ⊤
+IsOfSession fault = ⊥
