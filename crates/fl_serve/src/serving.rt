@@ -232,3 +232,6 @@ impl<L: BoardName> Rooms<L> {
         })
     }
 }
+
+#[cfg(test)]
+mod tests;
