@@ -1,5 +1,5 @@
-//! Messages that are laid out from their fields, replies that are read whole, and a client over a socket. The layouts are
-//! those of `fuse.h` (protocol 7.31).
+//! Messages that are laid out from their fields, replies that are read whole, and a client over a socket. The layouts
+//! are those of `fuse.h` (protocol 7.31).
 
 use std::alloc::{AllocError, Global};
 use std::io;
