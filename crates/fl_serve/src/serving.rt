@@ -233,3 +233,6 @@ impl<L: BoardName> Rooms<L> {
         })
     }
 }
+
+#[cfg(test)]
+mod tests;

@@ -1,0 +1,41 @@
+//! Sessions with workers, over memory and over sockets.
+
+mod ends;
+mod failures;
+mod idle;
+mod memory;
+mod million;
+mod sockets;
+mod talker;
+mod waiting;
+
+use crate::counter::Gate;
+use crate::serving::serve;
+use crate::session::Done;
+use fl_book::{History, Verdict, check};
+use fl_wire::NoMemory;
+use std::alloc::Global;
+use std::io::{Read, Write};
+use std::sync::Wait;
+use std::thread::Threads;
+
+// Serves with this many workers, of which there are 1 to 16.
+fn served<R: Threads + Wait + Sync, I: Read, W: Write + Send + Drop, G: Gate + Sync>(
+    rt: &R,
+    alloc: Global,
+    r: &mut I,
+    w: &mut W,
+    workers: u32,
+    gate: &G,
+) -> Done {
+    let workers = if workers == 0 || workers > 16 {
+        1
+    } else {
+        workers
+    };
+    serve(rt, alloc, r, w, workers, gate)
+}
+
+fn is_legal(alloc: Global, history: &History) -> Result<bool, NoMemory> {
+    Ok(check(alloc, history)? == Verdict::Legal)
+}
