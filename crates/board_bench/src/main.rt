@@ -27,17 +27,13 @@ fn order(unique: u64, node: u64, op: Op) -> Order {
 }
 
 // Makes a file, with one open file.
-fn create() -> anyhow::Result<Order> {
-    let name = Name::new(b"a").ok_or(anyhow!("a name"))?;
-    Ok(order(
-        1,
-        1,
-        Op::Create {
-            excl: false,
-            mode: 420,
-            name,
-        },
-    ))
+fn create() -> Order {
+    let op = Op::Create {
+        excl: false,
+        mode: 420,
+        name: Name::new(b"a").unwrap(),
+    };
+    order(1, 1, op)
 }
 
 // A worker's own byte, locked and unlocked in turn.
@@ -55,10 +51,10 @@ fn lock(worker: u32, place: u64) -> Order {
     order(place.saturating_add(2), 2, Op::Setlk(ask))
 }
 
-fn at_a_desk(alloc: Global, orders: u64) -> anyhow::Result<usize> {
+fn at_a_desk(alloc: Global, first: &Order, orders: u64) -> anyhow::Result<usize> {
     let mut desk = Desk::new(alloc)?;
     let mut tolds = Tolds::new(alloc)?;
-    desk.take(0, &create()?, &mut tolds)?;
+    desk.take(0, first, &mut tolds)?;
     for place in 0..orders {
         desk.take(0, &lock(0, place), &mut tolds)?;
     }
@@ -133,6 +129,7 @@ fn at_a_board<L: BoardName + Send + Sync, R: Threads + Wait + Sync>(
     alloc: Global,
     blank: Blank,
     workers: u32,
+    first: &Order,
     orders: u64,
 ) -> anyhow::Result<usize>
     requires named { (blank.name ≡ L.name) × (blank.parts ≡ L.parts) }
@@ -143,9 +140,9 @@ fn at_a_board<L: BoardName + Send + Sync, R: Threads + Wait + Sync>(
         .ok()
         .ok_or(anyhow!("a board"))?;
     let mut tolds = Tolds::new(alloc)?;
-    let first = seats.get_mut(0).ok_or(anyhow!("a seat"))?;
+    let seat = seats.get_mut(0).ok_or(anyhow!("a seat"))?;
     board
-        .hand_in(rt, first, &create()?, &mut tolds)
+        .hand_in(rt, seat, first, &mut tolds)
         .ok()
         .ok_or(anyhow!("memory"))?;
     let crew = Crew {
@@ -170,13 +167,15 @@ fn main(rt: HostRuntime) -> anyhow::Result<()> {
     let words: Vec<String> = env::args(&rt)?.collect(alloc)?;
     let workers = words.get(1).map_or(Ok(2), |word| word.parse::<u32>())?;
     let orders = words.get(2).map_or(Ok(1000), |word| word.parse::<u64>())?;
+    let first = create();
     let lines = match workers {
-        0 => at_a_desk(alloc, orders)?,
+        0 => at_a_desk(alloc, &first, orders)?,
         1..=16 => at_a_board::<Brand, _>(
             &rt,
             alloc,
             Blank::new(u64::from(workers)),
             workers,
+            &first,
             orders,
         )?,
         _ => return Err(anyhow!("0 to 16 workers")),

@@ -99,3 +99,6 @@ fn remove_socket<R: Files>(rt: &R, path: &Path) {
         let _ = fs::remove_file(rt, path);
     }
 }
+
+#[cfg(test)]
+mod tests;

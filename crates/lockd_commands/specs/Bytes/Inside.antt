@@ -19,6 +19,8 @@ TextSays text command.Read = ⊥
 TextSays text command.Write = ⊥
 TextSays text command.Cut = ⊥
 TextSays text (command.BadLength n) = ⊥
+TextSays text command.Connect = ⊥
+TextSays text command.BadReply = ⊥
 
 -- these bytes are whole replies, one after another
 pub record AreReplies (bytes : List ℕ) : Type 0 where
@@ -36,6 +38,8 @@ Did left old new (Err command.NoMemory) = Keeps old new
 Did left old new (Err command.Listen) = ⊥
 Did left old new (Err command.Read) = Keeps old new
 Did left old new (Err command.Write) = IfSome left (λ text. IsOk (hex_stream text))
+Did left old new (Err command.Connect) = ⊥
+Did left old new (Err command.BadReply) = ⊥
 
 -- a fault of a stream, and not of what reads or writes it
 abbrev pub IsOfStream : SessionFault → Type 0

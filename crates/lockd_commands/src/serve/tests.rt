@@ -1,6 +1,6 @@
 use super::*;
-use crate::{check_on, drive_on};
 use crate::bytes::tests::{INIT, INIT_REPLY, TWO_LOCKS, TWO_LOCKS_REPLIES};
+use crate::{check_on, drive_on};
 use std::os::unix::net::UnixListener;
 use std::path::PathBuf;
 use std::test::Fail;
@@ -35,14 +35,7 @@ fn start<'s, 'a: 's, E, R: Threads + Wait + Net + Files + Sync>(
 fn serves<R: Threads + Wait + Net + Files + Sync>(ends: &Ends<'_, R>) -> Came {
     let mut output = Vec::new(ends.alloc);
     let mut faults = Vec::new(ends.alloc);
-    let status = serve_on(
-        ends.rt,
-        ends.alloc,
-        ends.path,
-        4,
-        &mut output,
-        &mut faults,
-    );
+    let status = serve_on(ends.rt, ends.alloc, ends.path, 4, &mut output, &mut faults);
     Came {
         status,
         output,
@@ -128,7 +121,10 @@ fn both_ends_of_a_session(rt: HostRuntime) -> Result<(), Fail> {
     assert_eq!(rt; client.output.len(), printed.len());
     assert_eq!(rt; server.status, Status::Good);
     assert!(rt; server.faults.is_empty());
-    assert_eq!(rt; verdict(&rt, &server.output).as_slice(), b"legal\n".as_slice());
+    assert_eq!(rt;
+        verdict(&rt, &server.output).as_slice(),
+        b"legal\n".as_slice()
+    );
     let lines = server.output.iter().filter(|byte| **byte == b'\n').count();
     assert_eq!(rt; lines, 6);
     // The socket's file is gone.
