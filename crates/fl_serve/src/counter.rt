@@ -43,12 +43,12 @@ impl<L: BoardName> Counter for Board<L> {
     }
 }
 
-/// Told of each order that a worker took: before it is handed in, and behind each reply that went out.
+/// Told of each order that a worker took: before it is handed in, and behind each reply of it that was given out to be sent.
 pub trait Gate {
     /// An order of this unique is about to be handed in.
     fn pass(&self, unique: u64);
 
-    /// A reply of this unique was sent.
+    /// A reply of this unique was given out to be sent.
     fn sent(&self, unique: u64);
 }
 

@@ -100,7 +100,7 @@ fn command<'a>(alloc: Global) -> Result<Command<'a>, Error> {
     );
     let workers = Arg::new(alloc, "workers")
         .long("workers")
-        .value_name("N")?
+        .value_name("N")
         .help("How many workers take orders, 1 to 16")
         .default_value("4")
         .action(ArgAction::Set)

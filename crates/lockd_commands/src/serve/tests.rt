@@ -25,6 +25,14 @@ struct Ends<'a, R> {
     path: &'a Path,
 }
 
+fn ends_at<'a>(rt: &'a HostRuntime, path: &'a Path) -> Ends<'a, HostRuntime> {
+    Ends {
+        rt,
+        alloc: rt.alloc(),
+        path,
+    }
+}
+
 fn start<'s, 'a: 's, E, R: Threads + Wait + Net + Files + Sync>(
     scope: &Scope<'s, E>,
     ends: &'s Ends<'a, R>,
@@ -109,11 +117,7 @@ fn verdict(rt: &HostRuntime, trace: &[u8]) -> Vec<u8> {
 #[test]
 fn both_ends_of_a_session(rt: HostRuntime) -> Result<(), Fail> {
     let path = path_of(&rt, "both")?;
-    let ends = Ends {
-        rt: &rt,
-        alloc: rt.alloc(),
-        path: path.as_path(),
-    };
+    let ends = ends_at(&rt, path.as_path());
     let text = format!(in rt.alloc(); "{INIT}recv 1\n{TWO_LOCKS}recv 3\n")?;
     let (server, client) = both(&ends, text.as_str()).ok_or("a thread")?;
     assert_eq!(rt; client.status, Status::Good);
@@ -135,11 +139,7 @@ fn both_ends_of_a_session(rt: HostRuntime) -> Result<(), Fail> {
 #[test]
 fn a_client_that_sends_a_bad_length(rt: HostRuntime) -> Result<(), Fail> {
     let path = path_of(&rt, "length")?;
-    let ends = Ends {
-        rt: &rt,
-        alloc: rt.alloc(),
-        path: path.as_path(),
-    };
+    let ends = ends_at(&rt, path.as_path());
     let text = format!(in rt.alloc(); "{INIT}recv 1\n27000000\n")?;
     let (server, client) = both(&ends, text.as_str()).ok_or("a thread")?;
     assert_eq!(rt; client.status, Status::Good);
@@ -153,11 +153,7 @@ fn a_client_that_sends_a_bad_length(rt: HostRuntime) -> Result<(), Fail> {
 #[test]
 fn a_path_that_is_taken(rt: HostRuntime) -> Result<(), Fail> {
     let path = path_of(&rt, "taken")?;
-    let ends = Ends {
-        rt: &rt,
-        alloc: rt.alloc(),
-        path: path.as_path(),
-    };
+    let ends = ends_at(&rt, path.as_path());
     let listener = UnixListener::bind(&rt, path.as_path())?;
     let came = serves(&ends);
     drop(listener);
@@ -165,11 +161,7 @@ fn a_path_that_is_taken(rt: HostRuntime) -> Result<(), Fail> {
     assert_eq!(rt; came.faults.as_slice(), b"cannot listen\n".as_slice());
     assert!(rt; came.output.is_empty());
     fs::remove_file(&rt, path.as_path())?;
-    let ends = Ends {
-        rt: &rt,
-        alloc: rt.alloc(),
-        path: Path::new("/nowhere/at/all"),
-    };
-    assert_eq!(rt; serves(&ends).status, Status::Faulted(Fault::Listen));
+    let nowhere = ends_at(&rt, Path::new("/nowhere/at/all"));
+    assert_eq!(rt; serves(&nowhere).status, Status::Faulted(Fault::Listen));
     Ok(())
 }
