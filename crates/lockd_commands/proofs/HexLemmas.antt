@@ -73,7 +73,7 @@ has_line_more c text false same more =
     let is : with_first c (lines_of text) ≡ with_first c (more.line ∷ more.lines) = ap (with_first c) more.is in
     record { line = c ∷ more.line; lines = more.lines; is = rw same is }
 
-has_line : (text : List ℕ) → HasLine text
+pub has_line : (text : List ℕ) → HasLine text
 has_line [] = record { line = []; lines = []; is = refl }
 has_line (c ∷ text) = has_line_more c text (c == 10) refl (has_line text)
 

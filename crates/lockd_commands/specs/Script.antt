@@ -7,7 +7,7 @@ use Rattle.fl_book.specs.declared.history.Line.{Line}
 use Rattle.fl_book.specs.declared.history.Line.TheVariants.{Asked}
 use Rattle.lockd_commands.specs.declared.fault.Fault.{Fault}
 use Rattle.lockd_commands.specs.declared.script.Ask.{Ask}
-use Rattle.lockd_commands.specs.declared.fault.Fault.TheVariants.{BadLine, NoMemory, Read, Write, Cut, BadLength}
+use Rattle.lockd_commands.specs.declared.fault.Fault.TheVariants.{BadLine, NoMemory, Read, Write, Cut, BadLength, Connect, BadReply}
 
 -- an ask line that can be read back
 abbrev pub IsAskLine : Line → Type 0
@@ -33,6 +33,8 @@ FaultSays script Read = ⊥
 FaultSays script Write = ⊥
 FaultSays script Cut = ⊥
 FaultSays script (BadLength n) = ⊥
+FaultSays script Connect = ⊥
+FaultSays script BadReply = ⊥
 
 -- a script was read, and its trace was written
 pub record IsAnswered (left old new : Option (List ℕ)) : Type 0 where

@@ -15,8 +15,8 @@ use replies::print_replies;
 use std::alloc::Global;
 use std::io::{Read, Write};
 
-mod hex_text;
-mod replies;
+pub(crate) mod hex_text;
+pub(crate) mod replies;
 
 /// `lockd bytes`: reads lines of hex, serves a session over the bytes that they spell, and writes each reply as a
 /// line of lower case hex. All input is read and checked, and the whole session is over, before any output. A fault
@@ -101,6 +101,6 @@ fn print_session(alloc: Global, stream: &[u8]) -> Result<Printed, Fault>
 #[cfg(test)]
 mod getlk_tests;
 #[cfg(test)]
-mod tests;
+pub(crate) mod tests;
 #[cfg(test)]
 mod waiting_tests;

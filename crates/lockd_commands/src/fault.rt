@@ -26,6 +26,12 @@ pub enum Fault {
     /// A message says this length, which none has: it is outside 40 to 8192 bytes.
     #[error("bad length {0}")]
     BadLength(u32),
+    /// There is no connection to a server at the path.
+    #[error("cannot connect")]
+    Connect,
+    /// A reply says a length that none has, outside 16 to 8192 bytes.
+    #[error("bad reply")]
+    BadReply,
 }
 
 impl From<NoMemory> for Fault {

@@ -3,6 +3,7 @@
 
 mod bytes;
 mod check;
+mod drive;
 mod fault;
 mod script;
 mod status;
@@ -10,6 +11,7 @@ mod streams;
 
 pub use bytes::bytes_on;
 pub use check::check_on;
+pub use drive::drive_on;
 pub use fault::Fault;
 pub use script::script_on;
 pub use status::Status;

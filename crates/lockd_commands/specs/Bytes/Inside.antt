@@ -18,6 +18,8 @@ TextSays text command.Read = ⊥
 TextSays text command.Write = ⊥
 TextSays text command.Cut = ⊥
 TextSays text (command.BadLength n) = ⊥
+TextSays text command.Connect = ⊥
+TextSays text command.BadReply = ⊥
 
 -- these bytes are whole replies, one after another
 pub record AreReplies (bytes : List ℕ) : Type 0 where
@@ -34,6 +36,8 @@ Did left old new (Err (command.BadLine n)) = IfSome left (λ text. hex_stream te
 Did left old new (Err command.NoMemory) = Keeps old new
 Did left old new (Err command.Read) = Keeps old new
 Did left old new (Err command.Write) = IfSome left (λ text. IsOk (hex_stream text))
+Did left old new (Err command.Connect) = ⊥
+Did left old new (Err command.BadReply) = ⊥
 
 -- a fault of a stream, and not of what reads or writes it
 abbrev pub IsOfStream : SessionFault → Type 0

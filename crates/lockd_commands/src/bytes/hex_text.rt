@@ -30,8 +30,8 @@ pub(crate) fn read_stream(alloc: Global, text: &[u8]) -> Result<Vec<u8>, Fault>
     Ok(stream)
 }
 
-// The first line of a text without its newline, and the text after it; none where there is no newline.
-fn first_line(text: &[u8]) -> Option<(&[u8], &[u8])>
+/// The first line of a text without its newline, and the text after it; none where there is no newline.
+pub(crate) fn first_line(text: &[u8]) -> Option<(&[u8], &[u8])>
     ensures first { IfSome result (λ parts. lines_of text.now ≡ parts.0.now ∷ lines_of parts.1.now) }
     ensures shorter { IfSome result (λ parts. length parts.1.now < length text.now) }
     ensures none { result ≡ None → lines_of text.now ≡ text.now ∷ [] }
@@ -48,8 +48,8 @@ fn first_newline(text: &[u8]) -> Option<usize>
     text.iter().position(|byte| *byte == b'\n')
 }
 
-// The bytes of the line of this number.
-fn read_line(alloc: Global, line: &[u8], number: usize) -> Result<Vec<u8>, Fault>
+/// The bytes of the line of this number.
+pub(crate) fn read_line(alloc: Global, line: &[u8], number: usize) -> Result<Vec<u8>, Fault>
     ensures spelled { IfOk result (λ bytes. decode_of line.now ≡ Ok bytes.items) }
     ensures error { IfErr result (λ fault. (fault ≡ NoMemory)
         ⊎ ((fault ≡ BadLine number) × IsErr (decode_of line.now))) }

@@ -41,8 +41,8 @@ fn first_reply(replies: &[u8]) -> (&[u8], &[u8])
     (&replies[..len], &replies[len..])
 }
 
-// Appends a reply as a line of hex.
-fn push_line(alloc: Global, lines: &mut Vec<u8>, reply: &[u8]) -> Result<(), Fault>
+/// Appends a reply as a line of hex.
+pub(crate) fn push_line(alloc: Global, lines: &mut Vec<u8>, reply: &[u8]) -> Result<(), Fault>
     ensures line { OnOk result (lines.new.items ≡ lines.old.items ++ (encode_lower reply.now ++ 10 ∷ [])) }
     ensures error { IfErr result (λ fault. fault ≡ NoMemory) }
 {
