@@ -28,7 +28,7 @@ mod steps;
 pub fn drive_on<N: Net, R: Read, W: Write, F: Write>(
     net: &N,
     alloc: Global,
-    path: &Path,
+    path: Path<'_>,
     input: &mut R,
     output: &mut W,
     faults: &mut F,
@@ -66,7 +66,7 @@ pub fn drive_on<N: Net, R: Read, W: Write, F: Write>(
 fn drive<N: Net, R: Read, W: Write>(
     net: &N,
     alloc: Global,
-    path: &Path,
+    path: Path<'_>,
     input: &mut R,
     output: &mut W,
 ) -> Result<(), Fault>
@@ -82,7 +82,7 @@ fn drive<N: Net, R: Read, W: Write>(
 }
 
 // A connection to the socket at this path.
-fn connect<N: Net>(net: &N, path: &Path) -> Result<UnixStream, Fault>
+fn connect<N: Net>(net: &N, path: Path<'_>) -> Result<UnixStream, Fault>
     ensures error { IfErr result (λ fault. fault ≡ Fault.Connect) }
 {
     UnixStream::connect(net, path).map_err(|_| Fault::Connect)

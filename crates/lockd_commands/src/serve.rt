@@ -27,7 +27,7 @@ use std::thread::Threads;
 pub fn serve_on<R: Threads + Wait + Net + Files + Sync, W: Write, F: Write>(
     rt: &R,
     alloc: Global,
-    path: &Path,
+    path: Path<'_>,
     workers: u32,
     output: &mut W,
     faults: &mut F,
@@ -53,7 +53,7 @@ pub fn serve_on<R: Threads + Wait + Net + Files + Sync, W: Write, F: Write>(
 fn serve_and_print<R: Threads + Wait + Net + Files + Sync, W: Write>(
     rt: &R,
     alloc: Global,
-    path: &Path,
+    path: Path<'_>,
     workers: u32,
     output: &mut W,
 ) -> Result<(), Fault>
@@ -83,7 +83,7 @@ fn print_done<W: Write>(alloc: Global, done: &Done, output: &mut W) -> Result<()
 }
 
 // The first connection at a path, whose file is then taken away.
-fn connection<R: Net + Files>(rt: &R, path: &Path) -> Result<UnixStream, Fault>
+fn connection<R: Net + Files>(rt: &R, path: Path<'_>) -> Result<UnixStream, Fault>
     ensures { IfErr result (λ fault. fault ≡ Fault.Listen) }
 {
     let listener = UnixListener::bind(rt, path).map_err(|_| Fault::Listen)?;
@@ -94,7 +94,7 @@ fn connection<R: Net + Files>(rt: &R, path: &Path) -> Result<UnixStream, Fault>
 }
 
 // Takes the file of a socket away, and no other file.
-fn remove_socket<R: Files>(rt: &R, path: &Path) {
+fn remove_socket<R: Files>(rt: &R, path: Path<'_>) {
     if fs::symlink_metadata(rt, path).is_ok_and(|found| found.file_type().is_socket()) {
         let _ = fs::remove_file(rt, path);
     }

@@ -149,9 +149,9 @@ fn path_of(rt: &HostRuntime, name: &str) -> Result<PathBuf, Fail> {
 
 // What the command does at a path, and all that it comes to.
 fn gives(
-    rt: &HostRuntime,
+    rt: &(impl Abort + AllocGlobal + Net),
     what: &str,
-    path: &Path,
+    path: Path<'_>,
     text: &str,
     printed: &str,
     told: &str,

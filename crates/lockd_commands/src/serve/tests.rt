@@ -22,10 +22,10 @@ struct Came {
 struct Ends<'a, R> {
     rt: &'a R,
     alloc: Global,
-    path: &'a Path,
+    path: Path<'a>,
 }
 
-fn ends_at<'a>(rt: &'a HostRuntime, path: &'a Path) -> Ends<'a, HostRuntime> {
+fn ends_at<'a>(rt: &'a HostRuntime, path: Path<'a>) -> Ends<'a, HostRuntime> {
     Ends {
         rt,
         alloc: rt.alloc(),
