@@ -19,6 +19,7 @@ struct Came {
 }
 
 // What the two ends of a session have.
+#[derive(Drop)]
 struct Ends<'a, R> {
     rt: &'a R,
     alloc: Global,
