@@ -36,6 +36,7 @@ did_not_begin left old text command.Read read bad = absurd bad
 did_not_begin left old text command.Write read bad = absurd bad
 did_not_begin left old text command.Cut read bad = absurd bad
 did_not_begin left old text (command.BadLength n) read bad = absurd bad
+did_not_begin left old text command.Listen read bad = absurd bad
 did_not_begin left old text command.Connect read bad = absurd bad
 did_not_begin left old text command.BadReply read bad = absurd bad
 
@@ -115,6 +116,8 @@ did_stop input old new left left_now held held_now text lines command.Write read
 did_stop input old new left left_now held held_now text lines (command.BadLine n) read said stop =
     absurd (stop (λ e. absurd (cc e))).why
 did_stop input old new left left_now held held_now text lines (command.BadLength n) read said stop =
+    absurd (stop (λ e. absurd (cc e))).why
+did_stop input old new left left_now held held_now text lines command.Listen read said stop =
     absurd (stop (λ e. absurd (cc e))).why
 did_stop input old new left left_now held held_now text lines command.Connect read said stop =
     absurd (stop (λ e. absurd (cc e))).why
