@@ -8,8 +8,12 @@ use clap::{Arg, ArgAction, ArgMatches, Command, Error};
 use lockd_commands::{Status, bytes_on, check_on, drive_on, script_on, serve_on};
 use refusal::Refusal;
 use std::alloc::Global;
+use std::fs::Files;
+use std::net::Net;
 use std::path::Path;
 use std::process::ExitCode;
+use std::sync::Wait;
+use std::thread::Threads;
 use std::{env, io};
 
 // The most workers of a server.
@@ -29,7 +33,7 @@ enum Asked {
 
 fn main(rt: HostRuntime) -> ExitCode {
     match read_command_line(&rt) {
-        Ok(asked) => ExitCode::from(run(&rt, &asked).exit_code()),
+        Ok(asked) => ExitCode::from(run(&rt, &rt, &asked).exit_code()),
         Err(refusal) => {
             let _ = rt.eprint(refusal);
             ExitCode::from(2)
@@ -37,7 +41,12 @@ fn main(rt: HostRuntime) -> ExitCode {
     }
 }
 
-fn run(rt: &HostRuntime, asked: &Asked) -> Status {
+// `threads` is the runtime too: only `main` has the right to start threads and to wait.
+fn run<T: Threads + Wait + Net + Files + Sync>(
+    rt: &HostRuntime,
+    threads: &T,
+    asked: &Asked,
+) -> Status {
     let alloc = rt.alloc();
     let mut input = rt.reader();
     let mut output = io::writer(rt);
@@ -49,7 +58,7 @@ fn run(rt: &HostRuntime, asked: &Asked) -> Status {
         Asked::Serve(socket, workers) => {
             let path = Path::new(socket.as_str());
             let workers = (*workers).clamp(1, MOST_WORKERS);
-            serve_on(rt, alloc, path, workers, &mut output, &mut faults)
+            serve_on(threads, alloc, path, workers, &mut output, &mut faults)
         }
         Asked::Drive(socket) => {
             let path = Path::new(socket.as_str());
