@@ -1,168 +1,93 @@
 use super::*;
+use crate::bytes::hex_text::read_stream;
 use crate::bytes::tests::{INIT, INIT_REPLY, TWO_LOCKS, TWO_LOCKS_REPLIES};
-use crate::{check_on, drive_on};
-use std::os::unix::net::UnixListener;
+use crate::check_on;
+use std::io::Read;
+use std::net::Shutdown;
 use std::path::PathBuf;
 use std::test::Fail;
-use std::thread::{JoinHandle, Scope, yield_now};
 use std::{env, process, thread};
 
-// How often a client tries to connect.
-const TRIES: u32 = 10_000_000;
-
-// What a command came to.
+// What a session over a socket came to.
 #[derive(Drop)]
 struct Came {
-    status: Status,
-    output: Vec<u8>,
-    faults: Vec<u8>,
+    replies: Vec<u8>,
+    trace: Vec<u8>,
+    ended: Result<(), Fault>,
 }
 
-// What the two ends of a session have.
-#[derive(Drop)]
-struct Ends<'a, R> {
-    rt: &'a R,
-    alloc: Global,
-    path: Path<'a>,
+// Sends these bytes, closes its side, and gives all that comes back.
+fn client(alloc: Global, stream: &UnixStream, bytes: &[u8]) -> Option<Vec<u8>> {
+    let mut near = stream;
+    near.write_all(bytes).ok()?;
+    stream.shutdown(Shutdown::Write).ok()?;
+    let mut replies = Vec::new(alloc);
+    near.read_to_end(&mut replies).ok()?;
+    Some(replies)
 }
 
-fn ends_at<'a>(rt: &'a HostRuntime, path: Path<'a>) -> Ends<'a, HostRuntime> {
-    Ends {
-        rt,
-        alloc: rt.alloc(),
-        path,
-    }
-}
-
-fn start<'s, 'a: 's, E, R: Threads + Wait + Net + Files + Sync>(
-    scope: &Scope<'s, E>,
-    ends: &'s Ends<'a, R>,
-) -> Option<JoinHandle<Came>> {
-    scope.spawn(move || serves(ends)).ok()
-}
-
-fn serves<R: Threads + Wait + Net + Files + Sync>(ends: &Ends<'_, R>) -> Came {
-    let mut output = Vec::new(ends.alloc);
-    let mut faults = Vec::new(ends.alloc);
-    let status = serve_on(ends.rt, ends.alloc, ends.path, 4, &mut output, &mut faults);
-    Came {
-        status,
-        output,
-        faults,
-    }
-}
-
-// Drives the server once it is there.
-fn drives<R: Net>(ends: &Ends<'_, R>, text: &str) -> Came {
-    let mut output = Vec::new(ends.alloc);
-    for _ in 0..TRIES {
-        let mut faults = Vec::new(ends.alloc);
-        let mut input = text.as_bytes();
-        let status = drive_on(
-            ends.rt,
-            ends.alloc,
-            ends.path,
-            &mut input,
-            &mut output,
-            &mut faults,
-        );
-        if status != Status::Faulted(Fault::Connect) {
-            return Came {
-                status,
-                output,
-                faults,
-            };
-        }
-        yield_now();
-    }
-    Came {
-        status: Status::Faulted(Fault::Connect),
-        output,
-        faults: Vec::new(ends.alloc),
-    }
-}
-
-fn run<'s, 'a: 's, E, R: Threads + Wait + Net + Files + Sync>(
-    scope: &Scope<'s, E>,
-    ends: &'s Ends<'a, R>,
-    text: &str,
-) -> Option<(Came, Came)> {
-    let server = start(scope, ends)?;
-    let client = drives(ends, text);
-    Some((server.join(ends.rt), client))
-}
-
-// What both ends of a session come to, where the client drives with this text.
-fn both<R: Threads + Wait + Net + Files + Sync>(
-    ends: &Ends<'_, R>,
-    text: &str,
-) -> Option<(Came, Came)> {
-    thread::scope(thread::scope_env(), ends.rt, |scope| run(scope, ends, text))
-}
-
-// A path of its own for each test.
-fn path_of(rt: &HostRuntime, name: &str) -> Result<PathBuf, Fail> {
-    let name = format!(in rt.alloc(); "lockd-{name}-{}", process::id(rt.process()))?;
-    Ok(env::temp_dir(rt)?.join(rt.alloc(), name.as_str())?)
+// Serves a client that sends the bytes of these lines of hex, with one worker, and prints what came of it.
+fn session<R: Threads + Wait + Net + Sync>(rt: &R, alloc: Global, text: &str) -> Option<Came> {
+    let bytes = read_stream(alloc, text.as_bytes()).ok()?;
+    let (near, far) = UnixStream::pair(rt).ok()?;
+    let client = thread::spawn(rt, move || client(alloc, &near, &bytes)).ok()?;
+    let done = fl_serve::serve(rt, alloc, &mut &far, &mut &far, 1, &Open);
+    drop(far);
+    let mut trace = Vec::new(alloc);
+    let ended = print_done(alloc, &done, &mut trace);
+    let replies = client.join(rt)?;
+    Some(Came {
+        replies,
+        trace,
+        ended,
+    })
 }
 
 // What `check` says of a trace.
-fn verdict(rt: &HostRuntime, trace: &[u8]) -> Vec<u8> {
+fn verdict(alloc: Global, trace: &[u8]) -> Vec<u8> {
     let mut input = trace;
-    let mut output = Vec::new(rt.alloc());
-    let mut faults = Vec::new(rt.alloc());
-    check_on(rt.alloc(), &mut input, &mut output, &mut faults);
+    let mut output = Vec::new(alloc);
+    let mut faults = Vec::new(alloc);
+    check_on(alloc, &mut input, &mut output, &mut faults);
     output
 }
 
 #[test]
-fn both_ends_of_a_session(rt: HostRuntime) -> Result<(), Fail> {
-    let path = path_of(&rt, "both")?;
-    let ends = ends_at(&rt, path.as_path());
-    let text = format!(in rt.alloc(); "{INIT}recv 1\n{TWO_LOCKS}recv 3\n")?;
-    let (server, client) = both(&ends, text.as_str()).ok_or("a thread")?;
-    assert_eq!(rt; client.status, Status::Good);
-    let printed = format!(in rt.alloc(); "{INIT_REPLY}{TWO_LOCKS_REPLIES}")?;
-    assert_eq!(rt; client.output.len(), printed.len());
-    assert_eq!(rt; server.status, Status::Good);
-    assert!(rt; server.faults.is_empty());
-    assert_eq!(rt;
-        verdict(&rt, &server.output).as_slice(),
-        b"legal\n".as_slice()
-    );
-    let lines = server.output.iter().filter(|byte| **byte == b'\n').count();
-    assert_eq!(rt; lines, 6);
-    // The socket's file is gone.
-    assert!(rt; fs::symlink_metadata(&rt, path.as_path()).is_err());
+fn sessions_over_a_socket(rt: HostRuntime) -> Result<(), Fail> {
+    let alloc = rt.alloc();
+    let ends = [
+        ("", Ok(())),
+        ("27000000\n", Err(Fault::BadLength(39))),
+        ("38000000\n", Err(Fault::Cut)),
+    ];
+    let lines = format!(in alloc; "{INIT_REPLY}{TWO_LOCKS_REPLIES}")?;
+    let replies = read_stream(alloc, lines.as_bytes()).ok().ok_or("hex")?;
+    for (behind, ended) in ends {
+        let text = format!(in alloc; "{INIT}{TWO_LOCKS}{behind}")?;
+        let came = session(&rt, alloc, text.as_str()).ok_or("a thread and a socket")?;
+        assert_eq!(rt; came.replies, replies);
+        assert_eq!(rt; came.ended, ended);
+        assert_eq!(rt; came.trace.iter().filter(|byte| **byte == b'\n').count(), 6);
+        assert_eq!(rt; str::from_utf8(&verdict(alloc, &came.trace))?, "legal\n");
+    }
     Ok(())
 }
 
+// A path at which there is something already, which stays, and one that can't be.
 #[test]
-fn a_client_that_sends_a_bad_length(rt: HostRuntime) -> Result<(), Fail> {
-    let path = path_of(&rt, "length")?;
-    let ends = ends_at(&rt, path.as_path());
-    let text = format!(in rt.alloc(); "{INIT}recv 1\n27000000\n")?;
-    let (server, client) = both(&ends, text.as_str()).ok_or("a thread")?;
-    assert_eq!(rt; client.status, Status::Good);
-    assert_eq!(rt; server.status, Status::Faulted(Fault::BadLength(39)));
-    assert_eq!(rt; server.faults.as_slice(), b"bad length 39\n".as_slice());
-    assert!(rt; server.output.is_empty());
-    Ok(())
-}
-
-// A path at which there is something already, which stays.
-#[test]
-fn a_path_that_is_taken(rt: HostRuntime) -> Result<(), Fail> {
-    let path = path_of(&rt, "taken")?;
-    let ends = ends_at(&rt, path.as_path());
-    let listener = UnixListener::bind(&rt, path.as_path())?;
-    let came = serves(&ends);
+fn paths_that_cannot_be_bound(rt: HostRuntime) -> Result<(), Fail> {
+    let alloc = rt.alloc();
+    let name = format!(in alloc; "lockd-taken-{}", process::id(rt.process()))?;
+    let taken: PathBuf = env::temp_dir(&rt)?.join(alloc, name.as_str())?;
+    let listener = UnixListener::bind(&rt, taken.as_path())?;
+    for path in [taken.as_path(), Path::new("/nowhere/at/all")] {
+        let mut output = Vec::new(alloc);
+        let mut faults = Vec::new(alloc);
+        let status = serve_on(&rt, alloc, path, 4, &mut output, &mut faults);
+        assert_eq!(rt; status, Status::Faulted(Fault::Listen));
+        assert_eq!(rt; str::from_utf8(&faults)?, "cannot listen\n");
+        assert!(rt; output.is_empty());
+    }
     drop(listener);
-    assert_eq!(rt; came.status, Status::Faulted(Fault::Listen));
-    assert_eq!(rt; came.faults.as_slice(), b"cannot listen\n".as_slice());
-    assert!(rt; came.output.is_empty());
-    fs::remove_file(&rt, path.as_path())?;
-    let nowhere = ends_at(&rt, Path::new("/nowhere/at/all"));
-    assert_eq!(rt; serves(&nowhere).status, Status::Faulted(Fault::Listen));
-    Ok(())
+    Ok(fs::remove_file(&rt, taken.as_path())?)
 }
