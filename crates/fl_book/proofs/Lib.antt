@@ -10,3 +10,5 @@ pub mod Newlines
 pub mod Places
 pub mod Verdicts
 pub mod Boards
+pub mod Packing
+pub mod Opening

@@ -174,6 +174,18 @@ whole lines n legal = record { rest = drop n lines; legal = subst IsLegal (sym (
 abbrev Wrong : List Line → ℕ → Type 0
 Wrong lines n = IsBeginning (take n lines) → ⊥
 
+pub get_dropped : {A : Type 0} (xs : List A) (from i : ℕ) → slice_get (drop from xs) i ≡ slice_get xs (from + i)
+get_dropped [] zero i = refl
+get_dropped [] (suc from) i = refl
+get_dropped (x ∷ xs) zero i = ap (slice_get (x ∷ xs)) (from_zero i)
+  where
+    from_zero : (i : ℕ) → i ≡ 0 + i
+    from_zero i = omega arith
+get_dropped (x ∷ xs) (suc from) i = get_dropped xs from i ∙ ap (slice_get (x ∷ xs)) (one_on from i)
+  where
+    one_on : (k i : ℕ) → suc (k + i) ≡ suc k + i
+    one_on k i = omega arith
+
 -- ---- in the words of a walk
 
 -- a reply stands where an order is due

@@ -6,3 +6,4 @@ pub mod Text
 pub mod Words
 pub mod Verdicts
 pub mod Seats
+pub mod Inside

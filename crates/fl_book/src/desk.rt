@@ -1,10 +1,11 @@
-ghost use Rattle.std.specs.Prelude.{◌≡◌, ◌≤◌, ◌+◌, ◌++◌, length, IfOk, IsOk, OnOk, OnErr, vec_len, vec_capacity};
+ghost use Rattle.std.specs.Prelude.{◌≡◌, ◌≤◌, ◌+◌, ◌++◌, length, IfOk, IsOk, OnOk, OnErr};
 ghost use Rattle.fl_book.specs.Replay.{state_after};
 ghost use Rattle.fl_core.specs.Step.{replies_in};
 ghost use Rattle.fl_book.specs.Legal.{IsLegal, step_lines};
 ghost use Rattle.fl_book.specs.Kept.{IsKept, opening_book};
 
-use crate::history::{History, Line};
+use crate::history::History;
+use crate::lines::Lines;
 use fl_core::{Core, MOST_TOLDS, Tolds};
 use fl_wire::{NoMemory, Order, Told};
 use std::alloc::Global;
@@ -17,12 +18,11 @@ pub const MOST_LINES: usize = 1 + MOST_TOLDS;
 /// lines, what is there now, and for how many more lines memory is there.
 #[derive(Drop)]
 pub struct Desk {
-    lines: Vec<Line>,
+    lines: Lines,
     present: Core,
 }
 
 impl Model for Desk {
-    ghost use Rattle.std.specs.Prelude.{◌-◌, length, vec_capacity};
     ghost use Rattle.fl_book.specs.Kept.{Book, IsKept};
     ghost use Rattle.fl_book.specs.BookCode.{book_code};
 
@@ -30,8 +30,7 @@ impl Model for Desk {
 
     ghost coded = { book_code };
 
-    ghost view = { λ d.
-        record { lines = d.lines.items; present = d.present; room = vec_capacity d.lines - length d.lines.items } };
+    ghost view = { λ d. record { lines = d.lines.items; present = d.present; room = d.lines.room } };
 
     ghost invariant = { λ d. IsKept d.lines.items d.present };
 }
@@ -42,7 +41,7 @@ impl Desk {
         ensures { IfOk result (λ desk. desk ≡ opening_book) }
     {
         Ok(Desk {
-            lines: Vec::new(alloc),
+            lines: Lines::new(alloc),
             present: Core::new(alloc)?,
         })
     }
@@ -57,7 +56,7 @@ impl Desk {
         ensures succeeds { MOST_LINES ≤ self.old.room → IsOk result }
         ensures kept { IsKept self.new.lines self.new.present }
     {
-        self.lines.try_reserve(MOST_LINES)?;
+        self.lines.reserve(MOST_LINES)?;
         self.present.step(order, tolds);
         append(&mut self.lines, worker, order, tolds.as_slice());
         Ok(())
@@ -69,20 +68,17 @@ impl Desk {
         ensures legal { IsLegal result }
     {
         let Desk { lines, present: _ } = self;
-        History::new(lines)
+        History::of(lines)
     }
 }
 
 // Adds an order and its replies to the lines.
-fn append(lines: &mut Vec<Line>, worker: u32, order: &Order, tolds: &[Told])
-    requires { vec_len lines.old + 1 + length tolds.now ≤ vec_capacity lines.old }
+fn append(lines: &mut Lines, worker: u32, order: &Order, tolds: &[Told])
+    requires { 1 + length tolds.now ≤ lines.old.room }
     ensures { lines.new.items ≡ lines.old.items ++ step_lines worker order.now tolds.now }
 {
-    lines.push_reserved(Line::Asked {
-        worker,
-        order: *order,
-    });
+    lines.push_asked(worker, order);
     for told in tolds {
-        lines.push_reserved(Line::Told(*told));
+        lines.push_told(told);
     }
 }

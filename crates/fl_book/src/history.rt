@@ -1,7 +1,9 @@
-ghost use Rattle.std.specs.Prelude.{◌≡◌, ◌<◌, ◌↔◌, [], Some, IsTrue, length};
+ghost use Rattle.std.specs.Prelude.{◌≡◌, ◌<◌, ◌^◌, ◌↔◌, ◌++◌, ◌∷◌, [], Some, IsTrue, OnOk, OnErr, length};
 ghost use Rattle.std.specs.List.{slice_get};
 
-use fl_wire::{Order, Told};
+use crate::lines::Lines;
+use fl_wire::{NoMemory, Order, Told};
+use std::alloc::Global;
 use std::marker::Model;
 
 /// One line of a history: an order that a worker handed in, or a reply.
@@ -14,7 +16,7 @@ pub enum Line {
 /// Lines in the order of time. Contracts see it as their list.
 #[derive(Debug, Drop)]
 pub struct History {
-    lines: Vec<Line>,
+    lines: Lines,
 }
 
 impl Model for History {
@@ -27,16 +29,39 @@ impl Model for History {
 }
 
 impl History {
+    /// The history of no lines.
+    pub fn new(alloc: Global) -> History
+        ensures { result ≡ [] }
+    {
+        History {
+            lines: Lines::new(alloc),
+        }
+    }
+
     /// The history of these lines.
-    pub fn new(lines: Vec<Line>) -> History
+    pub(crate) fn of(lines: Lines) -> History
         ensures { result ≡ lines.items }
     {
         History { lines }
     }
 
+    /// One line more, after the others. A refusal changes nothing.
+    pub fn push(&mut self, line: &Line) -> Result<(), NoMemory>
+        ensures pushed { OnOk result (self.new ≡ self.old ++ line.now ∷ []) }
+        ensures refused { OnErr result (self.new ≡ self.old) }
+    {
+        self.lines.reserve(1)?;
+        match line {
+            Line::Asked { worker, order } => self.lines.push_asked(*worker, order),
+            Line::Told(told) => self.lines.push_told(told),
+        }
+        Ok(())
+    }
+
     /// How many lines it has.
     pub fn len(&self) -> usize
-        ensures { result ≡ length self.now }
+        ensures len { result ≡ length self.now }
+        ensures few { result < 2 ^ 63 }
     {
         self.lines.len()
     }
@@ -45,14 +70,7 @@ impl History {
     pub fn is_empty(&self) -> bool
         ensures { IsTrue result ↔ (self.now ≡ []) }
     {
-        self.lines.is_empty()
-    }
-
-    /// Its lines.
-    pub fn as_slice(&self) -> &[Line]
-        ensures { result.now ≡ self.now }
-    {
-        &self.lines
+        self.len() == 0
     }
 
     /// The line at this place, from 0.
@@ -60,6 +78,6 @@ impl History {
         requires { at < length self.now }
         ensures { slice_get self.now at ≡ Some result }
     {
-        self.lines[at]
+        self.lines.get(at)
     }
 }

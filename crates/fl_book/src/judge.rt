@@ -1,6 +1,6 @@
 //! The judge of a history: whether it is one of one thread.
 
-ghost use Rattle.std.specs.Prelude.{◌≡◌, ◌≢◌, ◌↔◌, ◌≤◌, ◌<◌, true, Some, IfOk, length, map, take};
+ghost use Rattle.std.specs.Prelude.{◌≡◌, ◌≢◌, ◌↔◌, ◌≤◌, ◌<◌, ◌^◌, true, Some, IfOk, length, map, take, drop};
 ghost use Rattle.std.specs.List.{slice_get};
 ghost use Rattle.fl_wire.specs.declared.told.Told.{Told as Reply};
 ghost use Rattle.fl_book.specs.declared.history.Line.TheVariants as line;
@@ -28,15 +28,14 @@ pub fn check(alloc: Global, history: &History) -> Result<Verdict, NoMemory>
 {
     let mut core = Core::new(alloc)?;
     let mut tolds = Tolds::new(alloc)?;
-    let lines = history.as_slice();
     let mut at = 0;
-    while at < lines.len() {
-        let Line::Asked { worker: _, order } = &lines[at] else {
+    while at < history.len() {
+        let Line::Asked { worker: _, order } = history.line(at) else {
             return Ok(Verdict::Differs(at + 1));
         };
-        core.step(order, &mut tolds);
+        core.step(&order, &mut tolds);
         let replies = tolds.as_slice();
-        let told = told_alike(&lines[at + 1..], replies);
+        let told = told_alike(history, at + 1, replies);
         if told < replies.len() {
             return Ok(Verdict::Differs(at + told + 2));
         }
@@ -45,16 +44,18 @@ pub fn check(alloc: Global, history: &History) -> Result<Verdict, NoMemory>
     Ok(Verdict::Legal)
 }
 
-// How many of the replies the lines begin with.
-fn told_alike(lines: &[Line], tolds: &[Told]) -> usize
+// How many of the replies the lines from a place on begin with.
+fn told_alike(history: &History, from: usize, tolds: &[Told]) -> usize
+    requires few { length history.now < 2 ^ 63 }
+    requires from { from ≤ length history.now }
     ensures upto { result ≤ length tolds.now }
-    ensures there { result ≤ length lines.now }
-    ensures alike { take result lines.now ≡ map (λ told. line.Told told) (take result tolds.now) }
+    ensures there { result ≤ length (drop from history.now) }
+    ensures alike { take result (drop from history.now) ≡ map (λ told. line.Told told) (take result tolds.now) }
     ensures no_more { (told : Reply) → slice_get tolds.now result ≡ Some told →
-        slice_get lines.now result ≢ Some (line.Told told) }
+        slice_get (drop from history.now) result ≢ Some (line.Told told) }
 {
     for i in 0..tolds.len() {
-        if !is_reply(lines, i, &tolds[i]) {
+        if !is_reply(history, from + i, &tolds[i]) {
             return i;
         }
     }
@@ -62,13 +63,10 @@ fn told_alike(lines: &[Line], tolds: &[Told]) -> usize
 }
 
 // Whether this reply stands at a place.
-fn is_reply(lines: &[Line], at: usize, told: &Told) -> bool
-    ensures { (result ≡ true) ↔ (slice_get lines.now at ≡ Some (line.Told told.now)) }
+fn is_reply(history: &History, at: usize, told: &Told) -> bool
+    ensures { (result ≡ true) ↔ (slice_get history.now at ≡ Some (line.Told told.now)) }
 {
-    match lines.get(at) {
-        Some(entry) => is_told(entry, told),
-        None => false,
-    }
+    at < history.len() && is_told(&history.line(at), told)
 }
 
 // Whether a line is this reply.

@@ -3,10 +3,13 @@
 #![tactic(auto)]
 
 mod board;
+mod chunks;
 mod desk;
 mod history;
 mod judge;
 pub mod laws;
+mod lines;
+mod records;
 mod text;
 
 pub use board::{Board, BoardName, CloseFault, HandFault, OpenFault, Seat};

@@ -177,7 +177,7 @@ fn no_memory(alloc: Global) -> Done
     ensures fault { result.fault ≡ Some Fault.NoMemory }
 {
     Done {
-        history: History::new(Vec::new(alloc)),
+        history: History::new(alloc),
         fault: Some(Fault::NoMemory),
         refused: false,
     }

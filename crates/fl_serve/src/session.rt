@@ -81,7 +81,7 @@ pub fn run_session<R: Read, W: Write>(alloc: Global, r: &mut R, w: &mut W) -> En
 {
     let Ok((mut buffer, server, reply)) = memory(alloc) else {
         let done = Done {
-            history: History::new(Vec::new(alloc)),
+            history: History::new(alloc),
             fault: Some(Fault::NoMemory),
             refused: false,
         };

@@ -214,18 +214,16 @@ fn has_all(
 ) -> Result<(), Fail> {
     assert_eq!(rt; check(rt.alloc(), history)?, Verdict::Legal);
     let mut places = [0u64; 16];
-    let mut lines = history.as_slice().iter();
-    assert_eq!(rt;
-        lines.next(),
-        Some(&Line::Asked {
-            worker: 0,
-            order: create()?
-        })
-    );
-    for line in lines {
-        if let Line::Asked { worker, order } = line {
-            let place = places.get_mut(*worker as usize).ok_or("a worker")?;
-            assert_eq!(rt; *order, made(orders, *worker, *place));
+    assert!(rt; !history.is_empty());
+    let first = Line::Asked {
+        worker: 0,
+        order: create()?,
+    };
+    assert_eq!(rt; history.line(0), first);
+    for at in 1..history.len() {
+        if let Line::Asked { worker, order } = history.line(at) {
+            let place = places.get_mut(worker as usize).ok_or("a worker")?;
+            assert_eq!(rt; order, made(orders, worker, *place));
             *place = place.saturating_add(1);
         }
     }
@@ -238,8 +236,13 @@ fn has_all(
 
 // How many replies of this result there are.
 fn count(history: &History, wanted: Result<Answer, Errno>) -> usize {
-    let is_one = |line: &&Line| matches!(line, Line::Told(told) if told.result == wanted);
-    history.as_slice().iter().filter(is_one).count()
+    let mut count = 0usize;
+    for at in 0..history.len() {
+        if matches!(history.line(at), Line::Told(told) if told.result == wanted) {
+            count = count.saturating_add(1);
+        }
+    }
+    count
 }
 
 #[test]

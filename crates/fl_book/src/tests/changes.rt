@@ -390,9 +390,9 @@ pub(super) fn changed(
     change: Change,
     numbers: &mut Numbers,
 ) -> Result<History, NoMemory> {
-    let lines = history.as_slice().to_vec(alloc)?;
+    let lines = lines_of(alloc, history)?;
     let mut changed = Lines { lines };
     let from = numbers.below(100) as usize;
     changed.change_from(alloc, from, change, numbers)?;
-    Ok(History::new(changed.lines))
+    history_of(alloc, &changed.lines)
 }

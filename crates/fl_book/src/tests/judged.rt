@@ -12,9 +12,9 @@ use std::process::Abort;
 fn with_these_orders(alloc: Global, history: &History) -> Result<History, NoMemory> {
     let mut desk = Desk::new(alloc)?;
     let mut tolds = Tolds::new(alloc)?;
-    for line in history.as_slice() {
-        if let Line::Asked { worker, order } = line {
-            desk.take(*worker, order, &mut tolds)?;
+    for at in 0..history.len() {
+        if let Line::Asked { worker, order } = history.line(at) {
+            desk.take(worker, &order, &mut tolds)?;
         }
     }
     Ok(desk.into_history())
@@ -32,17 +32,20 @@ fn with_these_orders(alloc: Global, history: &History) -> Result<History, NoMemo
 //   the same.
 // - Where it ends there, the other has a reply there too: it has no more orders, and none is owed a reply.
 fn verdict_beside(history: &History, legal: &History) -> Verdict {
-    let lines = history.as_slice();
-    let legal = legal.as_slice();
-    for (at, line) in lines.iter().enumerate() {
-        if legal.get(at) != Some(line) {
+    for at in 0..history.len() {
+        if at >= legal.len() || legal.line(at) != history.line(at) {
             return Verdict::Differs(at.saturating_add(1));
         }
     }
-    if lines.len() < legal.len() {
-        return Verdict::Differs(lines.len().saturating_add(1));
+    if history.len() < legal.len() {
+        return Verdict::Differs(history.len().saturating_add(1));
     }
     Verdict::Legal
+}
+
+// Whether two histories have the same lines.
+fn alike(one: &History, other: &History) -> bool {
+    one.len() == other.len() && verdict_beside(one, other) == Verdict::Legal
 }
 
 // How often each change was made, and how often a history differed then.
@@ -77,7 +80,7 @@ impl Tally {
     ) -> Result<(), NoMemory> {
         for (at, (change, effect)) in CHANGES.iter().enumerate() {
             let other = changed(alloc, history, *change, numbers)?;
-            if other.as_slice() == history.as_slice() {
+            if alike(&other, history) {
                 continue;
             }
             let legal = with_these_orders(alloc, &other)?;
@@ -113,7 +116,7 @@ impl Tally {
 
 // What is said of these lines.
 fn verdict_of(alloc: Global, lines: &[Line]) -> Result<Verdict, NoMemory> {
-    check(alloc, &History::new(lines.to_vec(alloc)?))
+    check(alloc, &history_of(alloc, lines)?)
 }
 
 #[test]

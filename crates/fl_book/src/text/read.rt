@@ -10,7 +10,8 @@ use crate::history::{History, Line};
 use crate::text::ask::read_order;
 use crate::text::tell::read_told;
 use crate::text::words::{split_line, split_word, u32_word};
-use std::alloc::{AllocFailed, Global};
+use fl_wire::NoMemory;
+use std::alloc::Global;
 
 /// Why a text is not read.
 #[derive(Clone, Copy, Debug, PartialEq, Eq)]
@@ -21,12 +22,12 @@ pub enum TraceFault {
     NoMemory,
 }
 
-impl<T: Drop> From<AllocFailed<T>> for TraceFault {
+impl From<NoMemory> for TraceFault {
     ghost use Rattle.fl_book.specs.declared.text.read.TraceFault.TheVariants.{NoMemory};
 
     ghost from_gives = { λ _ fault. fault ≡ NoMemory };
 
-    fn from(_e: AllocFailed<T>) -> TraceFault {
+    fn from(_e: NoMemory) -> TraceFault {
         TraceFault::NoMemory
     }
 }
@@ -39,16 +40,16 @@ pub fn read_trace(alloc: Global, text: &[u8]) -> Result<History, TraceFault>
         (result ≡ Ok lines) ⊎ (result ≡ Err TraceFault.NoMemory) }
     ensures bad { (n : ℕ) → result ≡ Err (TraceFault.BadLine n) → BreaksAt LineFits text.now n }
 {
-    let mut lines = Vec::new(alloc);
+    let mut history = History::new(alloc);
     let mut rest = text;
     while !rest.is_empty() {
         let Some((line, after)) = first_line(rest) else {
-            return Err(TraceFault::BadLine(lines.len() + 1));
+            return Err(TraceFault::BadLine(history.len() + 1));
         };
-        lines.push(line)?;
+        history.push(&line)?;
         rest = after;
     }
-    Ok(History::new(lines))
+    Ok(history)
 }
 
 /// The first line of a text, and the text after its newline; none where no line that can be read back begins

@@ -1,8 +1,9 @@
 mod bad_lines;
 
 use super::*;
-use crate::history::{History, Line};
+use crate::history::Line;
 use crate::laws;
+use crate::tests::history_of;
 use fl_wire::{Answer, Attr, Errno, LockAsk, Name, Op, Order, Told};
 use std::process::Abort;
 use std::test::Fail;
@@ -74,7 +75,7 @@ fn told(answer: Result<Answer, Errno>) -> Line {
 
 // A line is printed as this text, and the text is read as the line.
 fn there_and_back(rt: &(impl Abort + AllocGlobal), line: Line, text: &str) -> Result<(), Fail> {
-    let history = History::new([line].to_vec(rt.alloc())?);
+    let history = history_of(rt.alloc(), &[line])?;
     assert!(rt; has_text(&history), "{text}");
     assert_eq!(rt; print_trace(rt.alloc(), &history)?.as_str(), text);
     let read = read_trace(rt.alloc(), text.as_bytes()).ok().ok_or("read")?;
@@ -231,7 +232,7 @@ fn what_can_be_read_back(rt: HostRuntime) -> Result<(), Fail> {
     let name = Name::new(b"a").ok_or("a name")?;
     for (worker, mode, can) in [(15, 511, true), (16, 511, false), (15, 512, false)] {
         let line = asked(worker, create(name, mode));
-        let history = History::new([line].to_vec(rt.alloc())?);
+        let history = history_of(rt.alloc(), &[line])?;
         assert_eq!(rt; has_text(&history), can, "{worker} {mode}");
     }
     Ok(())

@@ -12,7 +12,7 @@ mod waiting;
 use crate::counter::Gate;
 use crate::serving::serve;
 use crate::session::Done;
-use fl_book::{History, Verdict, check};
+use fl_book::{History, Line, Verdict, check};
 use fl_wire::NoMemory;
 use std::alloc::Global;
 use std::io::{Read, Write};
@@ -38,4 +38,15 @@ fn served<R: Threads + Wait + Sync, I: Read, W: Write + Send + Drop, G: Gate + S
 
 fn is_legal(alloc: Global, history: &History) -> Result<bool, NoMemory> {
     Ok(check(alloc, history)? == Verdict::Legal)
+}
+
+// How many orders a history has.
+fn asked_in(history: &History) -> usize {
+    let mut asked = 0;
+    for at in 0..history.len() {
+        if matches!(history.line(at), Line::Asked { .. }) {
+            asked += 1;
+        }
+    }
+    asked
 }

@@ -1,4 +1,4 @@
-use Rattle.std.proofs.Common.{◌≡◌, ◌≤◌, ◌+◌, ◌++◌, length, take, vec_len, vec_capacity}
+use Rattle.std.proofs.Common.{◌≡◌, ◌≤◌, ◌+◌, ◌++◌, length, take}
 use Rattle.fl_book.specs.Legal.{step_lines}
 use Rattle.fl_book.proofs.desk.append.Given as goal
 
@@ -6,5 +6,5 @@ use Rattle.fl_book.proofs.desk.append.Given as goal
 abbrev pub invariant-loop-told : goal.invariant-loop-told
 invariant-loop-told l = record {
   lines : l.lines.items ≡ l.fn.lines.items ++ step_lines l.worker l.order (take l.told-index l.tolds);
-  room : vec_len l.lines + length l.tolds ≤ vec_capacity l.lines + l.told-index;
+  room : length l.tolds ≤ l.lines.room + l.told-index;
 }

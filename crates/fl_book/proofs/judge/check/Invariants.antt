@@ -4,9 +4,9 @@ use Rattle.fl_book.proofs.judge.check.Given as goal
 
 abbrev pub invariant-loop-at : goal.invariant-loop-at
 invariant-loop-at l = record {
-  within : l.at ≤ length l.lines;
-  kept : IsKept (take l.at l.lines) l.core;
+  within : l.at ≤ length l.history;
+  kept : IsKept (take l.at l.history) l.core;
 }
 
 abbrev pub decreases-loop-at : goal.decreases-loop-at
-decreases-loop-at l = length l.lines - l.at
+decreases-loop-at l = length l.history - l.at

@@ -96,7 +96,10 @@ fn one_worker_sends_the_same_bytes(rt: HostRuntime) -> Result<(), Fail> {
     let wanted = run_one(rt.alloc(), &mut input, &mut alone);
     assert_eq!(&rt; out, alone);
     assert_eq!(&rt; done.fault, None);
-    assert_eq!(&rt; done.history.as_slice(), wanted.history.as_slice());
+    assert_eq!(&rt; done.history.len(), wanted.history.len());
+    for at in 0..done.history.len().min(wanted.history.len()) {
+        assert_eq!(&rt; done.history.line(at), wanted.history.line(at));
+    }
     Ok(())
 }
 

@@ -1,9 +1,8 @@
 //! A long session of mixed orders over a socket.
 
 use super::talker::{GETLK, Lock, Messages, READ, SETLK, SETLKW, UNLOCK, WRITE, read_reply};
-use super::{is_legal, served};
+use super::{asked_in, is_legal, served};
 use crate::counter::Open;
-use fl_book::Line;
 use std::alloc::{AllocError, Global};
 use std::io::{BufRead, BufReader, Write};
 use std::net::Shutdown;
@@ -124,10 +123,6 @@ fn count_replies(alloc: Global, stream: UnixStream) -> io::Result<Counted> {
     Ok(counted)
 }
 
-fn is_ask(line: &Line) -> bool {
-    matches!(line, Line::Asked { .. })
-}
-
 #[test]
 fn a_million_orders(rt: HostRuntime) -> Result<(), Fail> {
     let alloc = rt.alloc();
@@ -141,11 +136,13 @@ fn a_million_orders(rt: HostRuntime) -> Result<(), Fail> {
     let counted = reader.join(&rt)?;
     assert_eq!(&rt; done.fault, None);
     assert_eq!(&rt; counted.wrong(), 0);
-    let lines = done.history.as_slice();
-    let asked = lines.iter().filter(|line| is_ask(line)).count();
+    let asked = asked_in(&done.history);
     assert_eq!(&rt; asked, 1_000_001);
     // The INIT's reply is no line.
-    assert_eq!(&rt; counted.all, (lines.len() - asked + 1) as u64);
+    assert_eq!(&rt;
+        counted.all,
+        (done.history.len().saturating_sub(asked) + 1) as u64
+    );
     assert!(&rt; is_legal(alloc, &done.history)?);
     Ok(())
 }

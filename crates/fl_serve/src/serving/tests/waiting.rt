@@ -1,9 +1,8 @@
 //! A client whose requests wait when it goes.
 
 use super::talker::{SETLK, SETLKW, Talker, WRITE, byte_lock};
-use super::{is_legal, served};
+use super::{asked_in, is_legal, served};
 use crate::counter::Open;
-use fl_book::Line;
 use std::alloc::Global;
 use std::os::unix::net::UnixStream;
 use std::test::Fail;
@@ -27,10 +26,6 @@ fn ask_and_go(alloc: Global, stream: UnixStream) -> io::Result<usize> {
     Ok(talker.rest()?.len())
 }
 
-fn is_ask(line: &Line) -> bool {
-    matches!(line, Line::Asked { .. })
-}
-
 #[test]
 fn requests_that_wait_have_no_reply(rt: HostRuntime) -> Result<(), Fail> {
     let alloc = rt.alloc();
@@ -42,13 +37,7 @@ fn requests_that_wait_have_no_reply(rt: HostRuntime) -> Result<(), Fail> {
         assert_eq!(&rt; client.join(&rt)?, 0, "{workers} workers");
         assert_eq!(&rt; done.fault, None, "{workers} workers");
         assert!(&rt; is_legal(alloc, &done.history)?, "{workers} workers");
-        let asked = done
-            .history
-            .as_slice()
-            .iter()
-            .filter(|line| is_ask(line))
-            .count();
-        assert_eq!(&rt; asked, 202, "{workers} workers");
+        assert_eq!(&rt; asked_in(&done.history), 202, "{workers} workers");
         assert_eq!(&rt; done.history.len(), 204, "{workers} workers");
     }
     Ok(())

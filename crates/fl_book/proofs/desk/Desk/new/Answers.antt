@@ -6,7 +6,7 @@ use Rattle.fl_book.proofs.desk.Desk.new.Goals as goal
 
 pub invariant_of-result : goal.invariant_of-result
 invariant_of-result c = record {
-  legal = subst IsLegal (sym c.new.ensures.items) nothing;
-  stands = c.in_ok-new.ensures.opening ∙ ap (λ l. snapshot_of (state_after l)) (sym c.new.ensures.items);
+  legal = subst IsLegal (sym (ap (λ s. s.items) c.new.ensures)) nothing;
+  stands = c.in_ok-new.ensures.opening ∙ ap (λ l. snapshot_of (state_after l)) (sym (ap (λ s. s.items) c.new.ensures));
   lawful = c.in_ok-new.ensures.lawful;
 }

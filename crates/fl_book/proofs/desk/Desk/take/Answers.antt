@@ -4,11 +4,11 @@ use Rattle.fl_book.proofs.desk.Desk.take.Goals as goal
 pub invariant_of-self-2 : goal.invariant_of-self-2
 invariant_of-self-2 c =
     let step = c.step.ensures in
-    taken_kept c.self.inside.lines.items _ _ _ _ c.args.worker c.args.order.now c.step.new.tolds _ c.self.invariant c.try_reserve.ensures.items
+    taken_kept c.self.inside.lines.items _ _ _ _ c.args.worker c.args.order.now c.step.new.tolds _ c.self.invariant c.reserve.ensures.items
     step.replies step.recorded step.lawful c.as_slice.ensures c.append.ensures
 
 pub returns-clause-kept : goal.returns-clause-kept
 returns-clause-kept c =
     let step = c.step.ensures in
-    taken_kept c.self.inside.lines.items _ _ _ _ c.args.worker c.args.order.now c.step.new.tolds _ c.self.invariant c.try_reserve.ensures.items
+    taken_kept c.self.inside.lines.items _ _ _ _ c.args.worker c.args.order.now c.step.new.tolds _ c.self.invariant c.reserve.ensures.items
     step.replies step.recorded step.lawful c.as_slice.ensures c.append.ensures
