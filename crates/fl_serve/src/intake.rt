@@ -6,10 +6,16 @@ ghost use Rattle.std.specs.VecDeque.{deque_len, deque_capacity};
 use fl_wire::{NoMemory, Op, Order};
 use std::alloc::Global;
 use std::collections::VecDeque;
-use std::sync::{Condvar, Mutex, Wait};
+use std::hint::spin_loop;
+use std::sync::atomic::{AtomicBool, AtomicUsize, Ordering};
+use std::sync::{Condvar, Mutex, MutexGuard, Wait};
 
 /// The most orders that wait for a worker.
 pub const MOST_JOBS: usize = 64;
+
+// How often `look` looks: some 70 microseconds. It lets no other thread run meanwhile, since where processors are short it
+// would get its own back only after milliseconds.
+const LOOKS: u32 = 10_000;
 
 /// What a worker is to do: hand in this order.
 pub type Job = Order;
@@ -28,6 +34,11 @@ pub struct Intake {
     came: Condvar,
     // Told when a job left, or the intake was closed.
     left: Condvar,
+    // How many jobs are inside, for a look without the lock.
+    inside: AtomicUsize,
+    // A worker looks. Who puts a job needn't wake another one then: the one that looks takes the lock next, and whoever
+    // leaves jobs behind wakes another.
+    looking: AtomicBool,
 }
 
 // What lies under the lock: the jobs, for which there is room, and whether no more may come.
@@ -77,6 +88,8 @@ impl Intake {
             queue: Mutex::new(Queue::new(alloc)?),
             came: Condvar::new(),
             left: Condvar::new(),
+            inside: AtomicUsize::new(0),
+            looking: AtomicBool::new(false),
         })
     }
 
@@ -92,32 +105,59 @@ impl Intake {
             return Err(Closed { job });
         }
         queue.push(&job);
+        self.inside.store(queue.jobs.len(), Ordering::SeqCst);
         drop(queue);
-        self.came.notify_one();
+        if !self.looking.load(Ordering::SeqCst) {
+            self.came.notify_one();
+        }
         Ok(())
     }
 
     /// Takes the oldest job, and waits while there is none. Once the intake is closed and empty there comes none.
     pub fn take<R: Wait>(&self, rt: &R) -> Option<Job> {
         let queue = self.queue.lock(rt);
-        let mut queue = self.came.wait_while(rt, queue, |queue| {
-            !queue.closed && queue.jobs.is_empty()
-        });
+        self.take_out(
+            self.came.wait_while(rt, queue, |queue| {
+                !queue.closed && queue.jobs.is_empty()
+            }),
+        )
+    }
+
+    /// Takes the oldest job, if there is one. It doesn't sleep, save for the lock.
+    pub fn take_now<R: Wait>(&self, rt: &R) -> Option<Job> {
+        if self.inside.load(Ordering::SeqCst) == 0 {
+            return None;
+        }
+        self.take_out(self.queue.lock(rt))
+    }
+
+    // Takes the oldest job, and tells who waits for room, and who waits for a job where one is left.
+    fn take_out(&self, queue: MutexGuard<'_, Queue>) -> Option<Job> {
+        let mut queue = queue;
         let job = queue.pop();
+        let inside = queue.jobs.len();
+        self.inside.store(inside, Ordering::SeqCst);
         drop(queue);
         self.left.notify_one();
+        if inside > 0 {
+            self.came.notify_one();
+        }
         job
     }
 
-    /// Takes the oldest job, if there is one.
-    pub fn take_now<R: Wait>(&self, rt: &R) -> Option<Job> {
-        let mut queue = self.queue.lock(rt);
-        let job = queue.pop();
-        drop(queue);
-        if job.is_some() {
-            self.left.notify_one();
+    /// Looks for a job for a short while, where no other worker does. It neither takes the lock nor sleeps. Whoever has
+    /// looked has to call `take` next.
+    pub fn look(&self) {
+        if self.looking.swap(true, Ordering::SeqCst) {
+            return;
         }
-        job
+        for _ in 0..LOOKS {
+            if self.inside.load(Ordering::SeqCst) > 0 {
+                break;
+            }
+            spin_loop();
+        }
+        self.looking.store(false, Ordering::SeqCst);
     }
 
     /// No more jobs may come. Those inside are still taken.

@@ -8,7 +8,6 @@ use crate::session::server::{Owed, lost};
 use crate::shared::{Shared, WriterName};
 use fl_core::Tolds;
 use fl_wire::Told;
-use std::hint::spin_loop;
 use std::io::Write;
 use std::sync::{Mutex, Wait};
 
@@ -56,11 +55,7 @@ pub fn worker_loop<R: Wait, C: Counter, G: Gate, W: Write, N: WriterName>(
     Worked { seat, refused }
 }
 
-// How often a worker looks again for an order before it sleeps.
-const LOOKS: u32 = 64;
-
-// The next order. Where none is there, what is collected is sent first, and a worker sleeps only after it has looked
-// again for a while.
+// The next order. Where none is there, what is collected is sent first, and a worker looks for a while before it sleeps.
 fn next_job<R: Wait, W: Write, N: WriterName>(
     rt: &R,
     intake: &Intake,
@@ -70,12 +65,7 @@ fn next_job<R: Wait, W: Write, N: WriterName>(
         return Some(job);
     }
     flush(rt, shared);
-    for _ in 0..LOOKS {
-        spin_loop();
-        if let Some(job) = intake.take_now(rt) {
-            return Some(job);
-        }
-    }
+    intake.look();
     intake.take(rt)
 }
 
