@@ -1,5 +1,5 @@
 //! The arena.
-ghost use Rattle.std.specs.Prelude.{◌≡◌, ◌≢◌, ◌↔◌, ◌+◌, ◌<◌, ◌≤◌, ◌^◌, ℕ, Bool, [], length, replicate, insert, remove, slice_get, slice_set, Some, IsSome, IsNone, IsErr, OnOk, OnErr, IfOk, IfSome};
+ghost use Rattle.std.specs.Prelude.{◌≡◌, ◌≢◌, ◌↔◌, ◌+◌, ◌<◌, ◌≤◌, ◌^◌, ℕ, Bool, [], length, drop, replicate, insert, remove, slice_get, slice_set, Some, IsSome, IsNone, IsErr, OnOk, OnErr, IfOk, IfSome};
 ghost use Rattle.std.specs.Option.{option_copied};
 ghost use Rattle.std.specs.List.{find, position_or_len};
 ghost use Rattle.fl_arena.specs.Chains.{entries, items, slot_at, item_count, free_count, unlinked_count, HasSizeOf};
@@ -90,7 +90,23 @@ impl<T: Copy> Arena<T> {
             ≡ cursor_at self.now chain (position_or_len p (items self.now chain)) }
         ensures found { (p : T → Bool) → Tests F.Fn p test → item_of self.now result ≡ find p (items self.now chain) }
     {
-        let mut cursor = self.cursor(chain);
+        self.next_where(self.cursor(chain), test)
+    }
+
+    /// The cursor at the first item that passes the test, of those at a cursor and behind it, or at the end
+    /// of its chain.
+    pub fn next_where<F: Fn(&T) -> bool>(&self, from: Cursor, test: F) -> Cursor
+        requires at { from ≡ cursor_at self.now from.chain from.index }
+        requires callable { F.IsAlwaysCallable test }
+        ensures chain { result.chain ≡ from.chain }
+        ensures in_place { IsInPlace self.now result }
+        ensures first { (p : T → Bool) → Tests F.Fn p test → result
+            ≡ cursor_at self.now from.chain
+            (from.index + position_or_len p (drop from.index (items self.now from.chain))) }
+        ensures found { (p : T → Bool) → Tests F.Fn p test → item_of self.now result
+            ≡ find p (drop from.index (items self.now from.chain)) }
+    {
+        let mut cursor = from;
         while let Some(item) = self.item(&cursor) {
             if test(item) {
                 break;

@@ -26,3 +26,4 @@ pub mod OwnerConflicts
 pub mod OwnersWalk
 pub mod Places
 pub mod Sorted
+pub mod Behind

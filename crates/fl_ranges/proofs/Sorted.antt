@@ -63,7 +63,7 @@ past_not key byte x past node class le =
 same_number : (a b : ℕ) → (a == b) ≡ true → a ≡ b
 same_number a b e = grind (arith, nat_tests)
 
-only_false : (b : Bool) → (b ≡ true → ⊥) → b ≡ false
+pub only_false : (b : Bool) → (b ≡ true → ⊥) → b ≡ false
 only_false true f = absurd (f refl)
 only_false false f = refl
 
@@ -89,7 +89,7 @@ past_clash key start end kind x past = only_false _ (λ is.
 
 -- ---- from a run on that is past a byte
 
-sorted_rest : (i : ℕ) (xs : List Run) → IsSorted xs → IsSorted (drop i xs)
+pub sorted_rest : (i : ℕ) (xs : List Run) → IsSorted xs → IsSorted (drop i xs)
 sorted_rest zero xs sorted = sorted
 sorted_rest (suc i) [] sorted = tt
 sorted_rest (suc i) (x ∷ xs) sorted = sorted_rest i xs sorted.1

@@ -4,11 +4,11 @@ ghost use Rattle.std.specs.List.{filter, list_any};
 ghost use Rattle.fl_arena.specs.Chains.{entries, items, HasSizeOf};
 ghost use Rattle.fl_ranges.specs.Inside.RunList.{run_at, overlaps, left_over, run_excludes};
 ghost use Rattle.fl_ranges.specs.Placing.{home};
-ghost use Rattle.fl_ranges.specs.Inside.RunChains.{all_runs, insert_run, goes_before, is_past, IsSorted};
+ghost use Rattle.fl_ranges.specs.Inside.RunChains.{all_runs, insert_run, goes_before, is_past, reaches, IsBehind, IsSorted};
 
 use crate::lock::{Key, Kind};
-use crate::run::{Run, excludes, has_spot, overlaps};
-use fl_arena::Arena;
+use crate::run::{Run, excludes, has_spot, overlaps, reaches};
+use fl_arena::{Arena, Cursor};
 
 // How many chains there are.
 pub(crate) const CHAINS: usize = 256;
@@ -33,26 +33,36 @@ pub(crate) fn is_past(run: &Run, key: &Key, byte: u64) -> bool
         .is_lt()
 }
 
+// A cursor before which no run reaches a byte of the key. Walks for this byte and later ones may begin there.
+pub(crate) fn seek(runs: &Arena<Run>, key: &Key, byte: u64) -> Cursor
+    requires { length runs.now.chains ≡ 256 }
+    ensures { IsBehind runs.now key.now byte result }
+{
+    runs.first_where(home(key.node), |run| {
+        is_past(run, key, byte) || reaches(run, key, byte)
+    })
+}
+
 // The run that has this byte of the key.
-pub(crate) fn run_at(runs: &Arena<Run>, key: &Key, byte: u64) -> Option<Run>
-    requires chains { length runs.now.chains ≡ 256 }
+pub(crate) fn run_at(runs: &Arena<Run>, key: &Key, byte: u64, from: Cursor) -> Option<Run>
     requires sorted { IsSorted (items runs.now (home key.now.node)) }
+    requires from { IsBehind runs.now key.now byte from }
     ensures { result ≡ run_at (items runs.now (home key.now.node)) (key.now, byte) }
 {
-    let cursor = runs.first_where(home(key.node), |run| {
+    let cursor = runs.next_where(from, |run| {
         is_past(run, key, byte) || has_spot(run, key, byte)
     });
     runs.get(&cursor).filter(|run| has_spot(run, key, byte))
 }
 
 // How many runs have a byte of the key from start to end.
-pub(crate) fn count_over(runs: &Arena<Run>, key: &Key, start: u64, end: u64) -> usize
-    requires chains { length runs.now.chains ≡ 256 }
+pub(crate) fn count_over(runs: &Arena<Run>, key: &Key, start: u64, end: u64, from: Cursor) -> usize
     requires sorted { IsSorted (items runs.now (home key.now.node)) }
     requires few { length (items runs.now (home key.now.node)) ≤ 65536 }
+    requires from { IsBehind runs.now key.now start from }
     ensures { result ≡ length (filter (overlaps key.now start end) (items runs.now (home key.now.node))) }
 {
-    let mut cursor = runs.cursor(home(key.node));
+    let mut cursor = from;
     let mut count = 0;
     while let Some(run) = runs.item(&cursor) {
         if is_past(run, key, end) {
@@ -80,15 +90,15 @@ pub(crate) fn some_excludes(runs: &Arena<Run>, key: &Key, start: u64, end: u64, 
 }
 
 // Takes out each run that has a byte of the key from start to end.
-pub(crate) fn remove_over(runs: &mut Arena<Run>, key: &Key, start: u64, end: u64)
-    requires chains { length runs.old.chains ≡ 256 }
+pub(crate) fn remove_over(runs: &mut Arena<Run>, key: &Key, start: u64, end: u64, from: Cursor)
     requires sorted { IsSorted (items runs.old (home key.now.node)) }
+    requires from { IsBehind runs.old key.now start from }
     ensures items { items runs.new (home key.now.node)
         ≡ left_over key.now start end (items runs.old (home key.now.node)) }
     ensures others { (c : ℕ) → c ≢ home key.now.node → entries runs.new c ≡ entries runs.old c }
     ensures size { HasSizeOf runs.old runs.new }
 {
-    let mut cursor = runs.cursor(home(key.node));
+    let mut cursor = from;
     while let Some(run) = runs.item(&cursor) {
         if is_past(run, key, end) {
             break;

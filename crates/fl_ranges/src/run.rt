@@ -1,6 +1,7 @@
 //! One run of bytes, and what is done with runs one by one.
 ghost use Rattle.std.specs.Prelude.{◌≡◌, ◌==◌, ◌≤◌, ◌<◌};
 ghost use Rattle.fl_ranges.specs.Inside.RunList.{has_spot, overlaps, part_before, part_after, new_run, joined_start, joined_end, run_excludes};
+ghost use Rattle.fl_ranges.specs.Inside.RunChains.{reaches};
 ghost use Rattle.fl_ranges.specs.Runs.{is_same_mark};
 
 use crate::lock::{Key, Kind, Mark};
@@ -26,6 +27,13 @@ pub(crate) fn overlaps(run: &Run, key: &Key, start: u64, end: u64) -> bool
     ensures { result ≡ overlaps key.now start end run.now }
 {
     run.key == *key && run.start <= end && start <= run.end
+}
+
+// Whether the run is of the key, and ends at the byte or past it.
+pub(crate) fn reaches(run: &Run, key: &Key, byte: u64) -> bool
+    ensures { result ≡ reaches key.now byte run.now }
+{
+    run.key == *key && byte <= run.end
 }
 
 fn is_same_mark(a: &Mark, b: &Mark) -> bool

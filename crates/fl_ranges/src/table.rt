@@ -2,7 +2,7 @@
 ghost use Rattle.std.specs.Prelude.{◌≡◌, ◌≤◌, ◌<◌, ◌↔◌, ℕ, false, Option, Some, None, IfOk, IsErr, OnOk, OnErr};
 ghost use Rattle.std.specs.FinMap as map;
 
-use crate::chain::{CHAINS, remove_node, remove_over, some_excludes};
+use crate::chain::{CHAINS, remove_node, remove_over, seek, some_excludes};
 use crate::lock::{Key, Kind, LAST_BYTE, Mark, Range};
 use crate::plan::{carry_out, pieces, plan_of};
 use crate::run::Run;
@@ -99,11 +99,11 @@ impl Table {
         ensures err { OnErr result (self.new ≡ self.old) }
     {
         let free = self.runs.free();
-        let plan = plan_of(&self.runs, key, range.start, range.end, mark);
+        let (plan, from) = plan_of(&self.runs, key, range.start, range.end, mark);
         if free + plan.taken < pieces(&plan) {
             return Err(NoRoom);
         }
-        carry_out(&mut self.runs, key, &plan);
+        carry_out(&mut self.runs, key, &plan, from);
         Ok(())
     }
 
@@ -116,7 +116,8 @@ impl Table {
         // A conflict depends on the marks of its class and node alone.
         ensures elsewhere { SameElsewhere key.now self.old.marking self.new.marking }
     {
-        remove_over(&mut self.runs, key, 0, LAST_BYTE);
+        let from = seek(&self.runs, key, 0);
+        remove_over(&mut self.runs, key, 0, LAST_BYTE, from);
     }
 
     /// All bytes of the node lose their marks, of both classes and all owners.

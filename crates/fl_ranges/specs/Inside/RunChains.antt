@@ -1,12 +1,14 @@
 -- How the runs stand in the chains of an arena.
-use Rattle.std.specs.Prelude.{◌≡◌, ℕ, ◌≤◌, Bool, false, List, [], ◌∷◌, map, length, if◌then◌else◌}
+use Rattle.std.specs.Prelude.{◌≡◌, ℕ, ◌≤◌, Bool, false, ◌&&◌, nat_le, List, [], ◌∷◌, map, length, take, if◌then◌else◌}
 use Rattle.std.specs.List.{flat_map, AllByRecursion}
-use Rattle.std.specs.Ordering.{nat_cmp, ordering_then, is_lt}
+use Rattle.std.specs.Ordering.{nat_cmp, ordering_then, is_lt, eq_by_cmp}
 use Rattle.std.specs.declared.cmp.Ordering.{Ordering}
 use Rattle.fl_arena.specs.Chains.{Chains, items}
+use Rattle.fl_arena.specs.Cursors.{cursor_at}
+use Rattle.fl_arena.specs.declared.cursors.Cursor.{Cursor}
 use Rattle.fl_ranges.specs.declared.lock.Key.{Key}
 use Rattle.fl_ranges.specs.declared.run.Run.{Run}
-use Rattle.fl_ranges.specs.Marking.{class_number}
+use Rattle.fl_ranges.specs.Marking.{class_number, key_cmp}
 use Rattle.fl_ranges.specs.Placing.{home}
 use Rattle.fl_ranges.specs.Inside.RunList.{AreRuns}
 
@@ -40,6 +42,16 @@ is_past key byte r =
     is_lt (ordering_then
     (ordering_then (nat_cmp key.node r.key.node) (nat_cmp (class_number key.class) (class_number r.key.class)))
     (nat_cmp byte r.start))
+
+-- the run is of the key, and ends at the byte or past it
+abbrev pub reaches : Key → ℕ → Run → Bool
+reaches key byte r = eq_by_cmp key_cmp r.key key && nat_le byte r.end
+
+-- the cursor is on the key's chain, and no run before it reaches the byte
+pub record IsBehind (a : Chains Run) (key : Key) (byte : ℕ) (cursor : Cursor) : Type 0 where
+  pub at : cursor ≡ cursor_at a (home key.node) cursor.index
+  pub within : cursor.index ≤ length (items a (home key.node))
+  pub before : AllByRecursion (λ r. reaches key byte r ≡ false) (take cursor.index (items a (home key.node)))
 
 -- no run stands before an earlier one
 abbrev pub IsSorted : List Run → Type 0

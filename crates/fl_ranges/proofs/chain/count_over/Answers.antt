@@ -5,7 +5,16 @@ use Rattle.fl_ranges.specs.Placing.{home}
 use Rattle.fl_ranges.specs.Inside.RunList.{overlaps}
 use Rattle.fl_ranges.proofs.Sorted.{past_overlap, count_stop}
 use Rattle.fl_ranges.proofs.Walks.{on_at, count_yes, count_no, count_end}
+use Rattle.fl_ranges.proofs.Behind.{count_from}
 use Rattle.fl_ranges.proofs.chain.count_over.Goals as goal
+
+pub loop-run-init : goal.loop-run-init
+loop-run-init c = record {
+  at = c.requires.from.at;
+  within = c.requires.from.within;
+  few = omega arith;
+  rest = count_from c.args.runs.now c.args.key.now c.args.start c.args.from c.requires.from c.args.end;
+}
 
 pub overflow_add-count : goal.overflow_add-count
 overflow_add-count c =

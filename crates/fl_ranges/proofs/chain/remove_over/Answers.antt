@@ -8,7 +8,18 @@ use Rattle.std.specs.List.{filter}
 use Rattle.fl_ranges.specs.Inside.RunList.{overlaps}
 use Rattle.fl_ranges.proofs.Sorted.{past_overlap, kept_stop, sorted_remove}
 use Rattle.fl_ranges.proofs.Walks.{on_at, out_at, kept_on, kept_out, kept_all}
+use Rattle.fl_ranges.proofs.Behind.{left_from}
 use Rattle.fl_ranges.proofs.chain.remove_over.Goals as goal
+
+pub loop-run-init : goal.loop-run-init
+loop-run-init c = record {
+  at = c.requires.from.at;
+  within = c.requires.from.within;
+  left = left_from c.args.runs.now c.args.key.now c.args.start c.args.from c.requires.from c.args.end;
+  sorted = c.requires.sorted;
+  others = λ d apart. refl;
+  size = record { chains = refl; slots = refl };
+}
 
 pub loop-run-smaller-then-overlaps : goal.loop-run-smaller-then-overlaps
 loop-run-smaller-then-overlaps c =

@@ -1,36 +1,20 @@
-use Rattle.std.proofs.Common.{◌≡◌, Some, slice_get, refl, sym, ap, ◌∙◌}
-use Rattle.std.specs.List.{position_or_len}
-use Rattle.std.specs.Option.{option_copied}
+use Rattle.std.proofs.Common.{◌≡◌, ℕ, ◌+◌, drop, ap, ◌∙◌, arith}
+use Rattle.std.specs.List.{find, position_or_len}
 use Rattle.fl_arena.specs.Chains.{items}
 use Rattle.fl_arena.specs.Cursors.{cursor_at}
 use Rattle.fl_arena.specs.declared.cursors.Cursor.{Cursor}
-use Rattle.fl_arena.proofs.FirstLemmas.{first_more, first_here, first_none, found_first}
 use Rattle.fl_arena.proofs.chains.Arena.first_where.Goals as goal
-use Rattle.fl_arena.proofs.chains.Arena.first_where.Goals.{in-Some+then-test, in_default}
 
-pub loop-item-preserved : goal.loop-item-preserved
-loop-item-preserved g c =
-    let i = c.loop-item.cursor.index in
-    let here = c.loop-item.invariant.at in
-    let found : slice_get (items c.args.self.now c.args.chain) i ≡ Some c.in-Some.item.now = sym (c.in-Some.ensures.at_index c.args.chain i here) in
-    let on = c.step.ensures.at_index c.args.chain i (c.in-Some.ensures.some.0 refl) here in
-    let index = ap (λ (k : Cursor). k.index) on in
-    record {
-      at = on ∙ ap (cursor_at c.args.self.now c.args.chain) (sym index);
-      first = λ p tests. rw index (first_more p (items c.args.self.now c.args.chain) i (c.loop-item.invariant.first p tests) c.in-Some.item.now found (sym (tests (c.in-Some.item, tt) c.test.result c.test.ensures) ∙ c.if-test.false));
-    }
+none_before : (n : ℕ) → 0 + n ≡ n
+none_before n = omega arith
 
 pub returns-clause-first : goal.returns-clause-first
 returns-clause-first g c p tests =
-    let i = c.loop-item.cursor.index in
-    let here = c.loop-item.invariant.at in
-    let so_far = c.loop-item.invariant.first p tests in
-    let first : i ≡ position_or_len p (items c.args.self.now c.args.chain) =
-    elim c.match-item.branch [
-      | in-Some+then-test w ↦ first_here p (items c.args.self.now c.args.chain) i so_far w.in-Some.item.now (sym (w.in-Some.ensures.at_index c.args.chain i here)) (sym (tests (w.in-Some.item, tt) w.test.result w.test.ensures) ∙ w.if-test.true)
-      | in_default w ↦ first_none p (items c.args.self.now c.args.chain) i so_far (sym (c.item.ensures.at_index c.args.chain i here) ∙ ap option_copied w.in_default.is)
-    ] in
-    here ∙ ap (cursor_at c.args.self.now c.args.chain) first
+    c.next_where.ensures.first p tests
+    ∙ ap (λ (k : Cursor). cursor_at c.args.self.now k.chain (k.index + position_or_len p (drop k.index (items c.args.self.now k.chain)))) c.cursor.ensures.first
+    ∙ ap (cursor_at c.args.self.now c.args.chain) (none_before (position_or_len p (items c.args.self.now c.args.chain)))
 
 pub returns-clause-found : goal.returns-clause-found
-returns-clause-found g c p tests = found_first c.args.self.now c.args.chain p c.loop-item.cursor (returns-clause-first g c p tests)
+returns-clause-found g c p tests =
+    c.next_where.ensures.found p tests
+    ∙ ap (λ (k : Cursor). find p (drop k.index (items c.args.self.now k.chain))) c.cursor.ensures.first
