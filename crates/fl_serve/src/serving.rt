@@ -29,8 +29,9 @@ use std::thread::Threads;
 // Bytes of a worker's stack.
 const STACK_BYTES: usize = 2 << 20;
 
-// The most bytes of replies that go out together.
-const BATCH_BYTES: usize = 16384;
+// The most bytes of replies that go out together: those of some 32 locks. Fewer would cost more writes, and more would keep
+// a client waiting that has its next orders ready by then.
+const BATCH_BYTES: usize = 672;
 
 /// Serves a whole session with 1 to 16 workers. The reader, which is the caller's thread, answers what is no order; each
 /// order goes to a worker, which hands it in at one board and sends all its replies, each whole. Replies that are ready go
