@@ -1,5 +1,6 @@
 //! Sessions with workers, over memory and over sockets.
 
+mod bursts;
 mod ends;
 mod failures;
 mod idle;

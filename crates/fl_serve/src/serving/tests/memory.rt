@@ -6,7 +6,7 @@ use crate::counter::{Gate, Open};
 use crate::session::run_one;
 use fl_book::print_trace;
 use std::alloc::{AllocError, Global};
-use std::sync::atomic::{AtomicBool, AtomicU32, Ordering};
+use std::sync::atomic::{AtomicBool, Ordering};
 use std::test::Fail;
 use std::thread::yield_now;
 
@@ -190,57 +190,5 @@ fn two_workers_run_at_once(rt: HostRuntime) -> Result<(), Fail> {
     assert!(&rt; trace.as_str().contains("tell 2 made 3 33188 1 0 0 2"));
     assert!(&rt; trace.as_str().contains("tell 3 made 2 33188 1 0 0 1"));
     assert_eq!(&rt; out.len(), 400);
-    Ok(())
-}
-
-// Holds each order until so many have come.
-#[derive(Drop)]
-struct Meeting {
-    wanted: u32,
-    come: AtomicU32,
-    given_up: AtomicBool,
-}
-
-impl Gate for Meeting {
-    fn pass(&self, _unique: u64) {
-        self.come.fetch_add(1, Ordering::SeqCst);
-        for _ in 0..10_000_000 {
-            if self.come.load(Ordering::SeqCst) >= self.wanted {
-                return;
-            }
-            yield_now();
-        }
-        self.given_up.store(true, Ordering::SeqCst);
-    }
-
-    fn sent(&self, _unique: u64) {}
-}
-
-// As many orders as workers come at once, and each has to find a worker of its own, whoever looks or sleeps then.
-#[test]
-fn no_order_waits_for_a_worker_while_another_sleeps(rt: HostRuntime) -> Result<(), Fail> {
-    for workers in [2, 4, 16] {
-        let mut messages = Messages::with_init(rt.alloc())?;
-        for unique in 2..2 + u64::from(workers) {
-            messages.getattr(unique, 1)?;
-        }
-        for _ in 0..20 {
-            let gate = Meeting {
-                wanted: workers,
-                come: AtomicU32::new(0),
-                given_up: AtomicBool::new(false),
-            };
-            let mut out = Vec::new(rt.alloc());
-            let mut input = messages.bytes.as_slice();
-            let done = served(&rt, rt.alloc(), &mut input, &mut out, workers, &gate);
-            assert_eq!(&rt; done.fault, None, "{workers} workers");
-            assert!(&rt; !gate.given_up.load(Ordering::SeqCst), "{workers} workers");
-            assert_eq!(&rt;
-                done.history.len(),
-                2 * workers as usize,
-                "{workers} workers"
-            );
-        }
-    }
     Ok(())
 }

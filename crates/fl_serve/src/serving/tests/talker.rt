@@ -236,9 +236,14 @@ impl Talker {
         self.stream.write_all(&messages.bytes)
     }
 
+    /// The next reply.
+    pub(super) fn reply(&mut self) -> io::Result<Reply> {
+        read_reply(&mut self.replies)
+    }
+
     /// The next reply, which has to be of this unique and without error.
     pub(super) fn granted(&mut self, unique: u64) -> io::Result<Reply> {
-        let reply = read_reply(&mut self.replies)?;
+        let reply = self.reply()?;
         if reply.unique == unique && reply.errno == 0 {
             Ok(reply)
         } else {
