@@ -10,6 +10,8 @@ cat > "$work/refuse.c" <<'C'
 #include <stddef.h>
 #include <stdio.h>
 #include <stdlib.h>
+#include <sys/syscall.h>
+#include <unistd.h>
 
 void *__libc_malloc(size_t size);
 void *__libc_realloc(void *old, size_t size);
@@ -24,7 +26,8 @@ __attribute__((constructor)) static void begin(void)
     asked = 0;
 }
 
-__attribute__((destructor)) static void end(void)
+// A program with threads ends by this call, and runs no destructors.
+void _exit(int status)
 {
     const char *path = getenv("ASKED");
     unsigned long count = asked;
@@ -33,6 +36,8 @@ __attribute__((destructor)) static void end(void)
         fprintf(file, "%lu\n", count);
         fclose(file);
     }
+    syscall(SYS_exit_group, status);
+    __builtin_unreachable();
 }
 
 void *malloc(size_t size)
@@ -74,8 +79,12 @@ with_refusal() {
     tail -n +$(($(wc -l < "$work/before") + 1)) "$work/without"
 }
 
+# How many allocations are refused, the last ones. A session of thousands of lines has that many before them, one to read
+# each line.
+most=160
+
 # Refuses each allocation of one command on one input. The orders in the lines that are named behind are those that may
-# be refused, and each of them has to be once.
+# be refused, and each of them has to be.
 refuse_each() {
     command=$1
     input=$2
@@ -89,7 +98,7 @@ refuse_each() {
     failed=0
     no_memory=0
     refused=
-    number=1
+    number=$((count > most ? count - most + 1 : 1))
     while [ "$number" -le "$count" ]; do
         status=0
         REFUSE=$number LD_PRELOAD="$work/refuse.so" "$program" "$command" < "$input" > "$work/out" 2> "$work/err" ||
@@ -114,18 +123,18 @@ refuse_each() {
         fi
         number=$((number + 1))
     done
-    echo "$what: $count allocations refused in turn: $no_memory ended with no memory," \
+    echo "$what: the last $((count > most ? most : count)) allocations refused in turn: $no_memory ended with no memory," \
         "$(echo $refused | wc -w) refused an order, $failed wrongly"
     [ "$failed" -eq 0 ]
-    [ "$(echo $refused)" = "$*" ]
+    [ "$(printf '%s\n' $refused | sort -nu | tr '\n' ' ')" = "$* " ]
 }
 
 # FORGET of a node that isn't there.
 forget_nothing=3000000002000000ff000000000000006300000000000000000000000000000000000000000000000100000000000000
 
-# The number of lines of a history at which it grows for the third time. It has room for 258 lines after its first order
-# and for 516 after its second, and each order wants room for 258.
-full=259
+# The number of lines of a history at which it grows again. Its first order makes room for 4,096 lines, and each order wants
+# room for 258.
+full=3839
 
 # The same session with the history full when the order in one line of it comes: as many FORGETs that do nothing stand
 # in front of it. The first line is an INIT, which is no line of the history.
@@ -143,13 +152,16 @@ filled() {
 
 refuse_each script crates/lockd/stdin "script"
 cmp "$work/wanted" crates/lockd/stdout
-refuse_each bytes examples/two_locks.hex "bytes, two locks" 2 3
+refuse_each bytes examples/two_locks.hex "bytes, two locks" 2
 waiting=examples/waiting.hex
-refuse_each bytes "$waiting" "bytes, waiting" 2 3
+refuse_each bytes "$waiting" "bytes, waiting" 2
 order=4
 while [ "$order" -le "$(wc -l < "$waiting")" ]; do
     filled "$waiting" "$order" > "$work/filled"
     moved=$((order + $(wc -l < "$work/filled") - $(wc -l < "$waiting")))
-    refuse_each bytes "$work/filled" "bytes, waiting, no room at line $order" 2 3 "$moved"
+    # Orders are kept apart from lines, so there is room for as many more as there were replies before, but the INIT's.
+    replies=$(($(head -n $((order - 1)) "$waiting" | session | wc -l) - 1))
+    later=$((moved + replies <= $(wc -l < "$work/filled") ? moved + replies : 0))
+    refuse_each bytes "$work/filled" "bytes, waiting, no room at line $order" 2 "$moved" ${later#0}
     order=$((order + 1))
 done
