@@ -1,3 +1,5 @@
+//! Why no command is run.
+
 use clap::error::ErrorKind;
 use std::alloc::AllocError;
 use std::io;
@@ -5,7 +7,7 @@ use thiserror::Error;
 
 /// Why no command was run: its text goes to standard error, also where help was asked for.
 #[derive(Debug, Drop, Error)]
-pub(crate) enum Refusal {
+pub enum Refusal {
     #[error("no memory\n")]
     NoMemory,
     #[error("the command line can't be read: {0}\n")]

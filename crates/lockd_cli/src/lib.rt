@@ -1,0 +1,8 @@
+//! The command line of `lockd`: which command its words ask for, or why none is run.
+#![tactic(auto)]
+
+mod options;
+mod refusal;
+
+pub use options::{Asked, read_words};
+pub use refusal::Refusal;
