@@ -6,8 +6,8 @@ use Rattle.std.proofs.lemmas.List.Sums.{sum_by-append, sum_by-cons}
 use Rattle.std.specs.List.{range_with_len}
 use Rattle.fl_wire.specs.declared.order.Order.{Order}
 use Rattle.fl_wire.specs.declared.told.Told.{Told}
-use Rattle.fl_book.specs.declared.history.Line.{Line}
-use Rattle.fl_book.specs.declared.history.Line.TheVariants as line
+use Rattle.fl_history.specs.declared.history.Line.{Line}
+use Rattle.fl_history.specs.declared.history.Line.TheVariants as line
 use Rattle.fl_book.specs.Legal.{is_asked, orders_asked, step_lines}
 
 -- replies ask nothing

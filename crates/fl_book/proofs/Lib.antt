@@ -1,14 +1,3 @@
 pub mod Histories
-pub mod WordLemmas
-pub mod Letters
-pub mod LineWords
-pub mod ReadBack
-pub mod OneText
-pub mod FirstWords
-pub mod Reading
-pub mod Newlines
-pub mod Places
 pub mod Verdicts
 pub mod Boards
-pub mod Packing
-pub mod Opening

@@ -6,8 +6,8 @@ use Rattle.std.proofs.lemmas.List.{append_cancel_left, length-append, map-append
 use Rattle.fl_wire.specs.declared.told.Told.{Told}
 use Rattle.fl_wire.specs.declared.order.Order.{Order}
 use Rattle.fl_core.specs.Step.{replies_in}
-use Rattle.fl_book.specs.declared.history.Line.{Line}
-use Rattle.fl_book.specs.declared.history.Line.TheVariants as line
+use Rattle.fl_history.specs.declared.history.Line.{Line}
+use Rattle.fl_history.specs.declared.history.Line.TheVariants as line
 use Rattle.fl_book.specs.Legal.{IsLegal, nothing, step, step_lines}
 use Rattle.fl_book.specs.Replay.{state_after}
 use Rattle.fl_book.specs.Verdicts.{IsBeginning, DiffersAt}

@@ -1,8 +1,8 @@
 -- How books are told apart by proofs.
 use Rattle.std.specs.Prelude.{ℕ, List, refl}
 use Rattle.std.specs.Coded.{Coded, code_by, coded×, coded_ℕ, coded_list}
-use Rattle.fl_book.specs.declared.history.Line.{Line}
-use Rattle.fl_book.specs.contracts.history.Line.{the_row}
+use Rattle.fl_history.specs.declared.history.Line.{Line}
+use Rattle.fl_history.specs.contracts.history.Line.{the_row}
 use Rattle.fl_core.specs.State.{Snapshot}
 use Rattle.fl_core.specs.Codes.{snapshot_code}
 use Rattle.fl_book.specs.Kept.{Book}

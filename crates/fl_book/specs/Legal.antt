@@ -2,8 +2,8 @@
 use Rattle.std.specs.Prelude.{◌≡◌, ℕ, Bool, true, false, List, [], ◌∷◌, ◌++◌, map, count_by}
 use Rattle.fl_wire.specs.declared.told.Told.{Told}
 use Rattle.fl_wire.specs.declared.order.Order.{Order}
-use Rattle.fl_book.specs.declared.history.Line.{Line}
-use Rattle.fl_book.specs.declared.history.Line.TheVariants as line
+use Rattle.fl_history.specs.declared.history.Line.{Line}
+use Rattle.fl_history.specs.declared.history.Line.TheVariants as line
 use Rattle.fl_book.specs.Replay.{state_after}
 use Rattle.fl_core.specs.Step.{replies_in}
 

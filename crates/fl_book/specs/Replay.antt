@@ -5,8 +5,8 @@ use Rattle.fl_wire.specs.declared.order.Order.{Order}
 use Rattle.fl_wire.specs.declared.told.Told.{Told}
 use Rattle.fl_core.specs.State.{State, opening}
 use Rattle.fl_core.specs.Effects.{at_once, later, told_first, recorded}
-use Rattle.fl_book.specs.declared.history.Line.{Line}
-use Rattle.fl_book.specs.declared.history.Line.TheVariants as line
+use Rattle.fl_history.specs.declared.history.Line.{Line}
+use Rattle.fl_history.specs.declared.history.Line.TheVariants as line
 
 -- lines that are read one after another: the state, and the order that was asked last, if it has no reply yet
 pub record Reading : Type 0 where

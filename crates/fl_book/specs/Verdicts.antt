@@ -3,7 +3,7 @@ use Rattle.std.specs.Prelude.{ℕ, ◌+◌, ◌-◌, ◌≤◌, List, ◌++◌, 
 use Rattle.fl_book.specs.Legal.{IsLegal}
 use Rattle.fl_book.specs.declared.judge.Verdict.{Verdict}
 use Rattle.fl_book.specs.declared.judge.Verdict.TheVariants.{Legal, Differs}
-use Rattle.fl_book.specs.declared.history.Line.{Line}
+use Rattle.fl_history.specs.declared.history.Line.{Line}
 
 -- some legal history begins with these lines
 pub record IsBeginning (lines : List Line) : Type 0 where

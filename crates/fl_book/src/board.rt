@@ -3,11 +3,11 @@
 ghost use Rattle.std.specs.Prelude.{◌≡◌, ℕ, ◌+◌, ◌<◌, ◌≤◌, ◌++◌, List, All, IfOk, IfErr, IfSome, IsSome, IsErr, OnOk, OnErr, ◌↔◌, length, map, sum_by};
 ghost use Rattle.std.specs.List.{range_with_len};
 ghost use Rattle.fl_book.specs.Legal.{IsLegal, step_lines, orders_asked};
-ghost use Rattle.fl_book.specs.declared.history.Line.{Line as Entry};
+ghost use Rattle.fl_history.specs.declared.history.Line.{Line as Entry};
 
 use crate::desk::Desk;
-use crate::history::History;
 use fl_core::Tolds;
+use fl_history::History;
 use fl_wire::{NoMemory, Order};
 use std::alloc::{AllocError, Global};
 use std::marker::{Brand, Model};

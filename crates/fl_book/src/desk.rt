@@ -4,9 +4,8 @@ ghost use Rattle.fl_core.specs.Step.{replies_in};
 ghost use Rattle.fl_book.specs.Legal.{IsLegal, step_lines};
 ghost use Rattle.fl_book.specs.Kept.{IsKept, opening_book};
 
-use crate::history::History;
-use crate::lines::Lines;
 use fl_core::{Core, MOST_TOLDS, Tolds};
+use fl_history::{History, Lines};
 use fl_wire::{NoMemory, Order, Told};
 use std::alloc::Global;
 use std::marker::Model;

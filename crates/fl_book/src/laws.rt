@@ -4,10 +4,9 @@ ghost use Rattle.std.specs.Prelude.{◌≡◌, ℕ, Some, None, List, ◌∷◌,
 ghost use Rattle.fl_wire.specs.declared.told.Told.{Told as Reply};
 ghost use Rattle.fl_wire.specs.declared.order.Order.{Order as Request};
 ghost use Rattle.fl_core.specs.Effects.{at_once, recorded};
-ghost use Rattle.fl_book.specs.declared.history.Line.{Line as Record};
+ghost use Rattle.fl_history.specs.declared.history.Line.{Line as Record};
 ghost use Rattle.fl_book.specs.Legal.{step_lines};
 ghost use Rattle.fl_book.specs.Replay.{state_after, all_later, AllOthers};
-ghost use Rattle.fl_book.specs.Text.{text_of, LineFits, Fits, BreaksAt};
 
 /// The lines of an order and its replies are read as its own reply, or as none, and then as each other reply.
 pub fn own_reply_comes_first()
@@ -19,16 +18,4 @@ pub fn own_reply_comes_first()
         AllOthers order.unique tolds →
         state_after (lines ++ step_lines worker order tolds) ≡
         all_later tolds (recorded (at_once order None) (state_after lines)) }
-{}
-
-/// Two histories that can be read back never have one text.
-pub fn no_text_is_that_of_two_histories()
-    ensures { (lines others : List Record) → Fits lines → Fits others →
-        text_of lines ≡ text_of others → lines ≡ others }
-{}
-
-/// A text breaks at one line at most, and none that is the text of a history that can be read back breaks at all.
-pub fn a_text_breaks_at_one_line_at_most()
-    ensures once { (text : List ℕ) (m n : ℕ) → BreaksAt LineFits text m → BreaksAt LineFits text n → m ≡ n }
-    ensures never { (lines : List Record) (n : ℕ) → Fits lines → BreaksAt LineFits (text_of lines) n → ⊥ }
 {}

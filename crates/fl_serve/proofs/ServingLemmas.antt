@@ -5,7 +5,7 @@ use Rattle.std.proofs.lemmas.List.FromFn.{length-range_with_len}
 use Rattle.std.specs.List.{range_with_len}
 use Rattle.fl_book.specs.Legal.{IsLegal, nothing}
 use Rattle.fl_book.specs.Seats.{Place}
-use Rattle.fl_book.specs.declared.history.Line.{Line}
+use Rattle.fl_history.specs.declared.history.Line.{Line}
 use Rattle.fl_serve.proofs.ReadLemmas.{read_kept, read_nothing}
 use Rattle.fl_serve.proofs.ServedLemmas.{ends_by}
 use Rattle.fl_serve.specs.Inside.Hearing.{HasHeard}

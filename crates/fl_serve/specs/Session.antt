@@ -21,7 +21,7 @@ use Rattle.fl_wire.specs.declared.told.Told.{Told}
 use Rattle.fl_book.specs.Legal.{step_lines}
 use Rattle.fl_core.specs.Step.{replies_in}
 use Rattle.fl_book.specs.Replay.{state_after}
-use Rattle.fl_book.specs.declared.history.Line.{Line}
+use Rattle.fl_history.specs.declared.history.Line.{Line}
 
 -- a message that came, and whether its order was refused for want of memory
 pub record Came : Type 0 where

@@ -2,13 +2,13 @@
 use Rattle.std.specs.Prelude.{◌≡◌, ℕ, List, [], ◌∷◌, ◌++◌, codes, Option, IfSome}
 use Rattle.std.specs.Fmt.{decimal}
 use Rattle.std.specs.Io.KnownBytes.{Appends}
-use Rattle.fl_book.specs.Text.{text_of, Fits}
+use Rattle.fl_trace.specs.Text.{text_of, Fits}
 use Rattle.fl_book.specs.Verdicts.{IsVerdict}
-use Rattle.fl_book.specs.declared.history.Line.{Line}
+use Rattle.fl_history.specs.declared.history.Line.{Line}
 use Rattle.fl_book.specs.declared.judge.Verdict.{Verdict}
 use Rattle.fl_book.specs.declared.judge.Verdict.TheVariants.{Legal, Differs}
-use Rattle.fl_book.specs.declared.text.read.TraceFault.{TraceFault}
-use Rattle.fl_book.specs.declared.text.read.TraceFault.TheVariants as trace
+use Rattle.fl_trace.specs.declared.read.TraceFault.{TraceFault}
+use Rattle.fl_trace.specs.declared.read.TraceFault.TheVariants as trace
 use Rattle.lockd_commands.specs.declared.fault.Fault.{Fault}
 use Rattle.lockd_commands.specs.declared.fault.Fault.TheVariants as command
 

@@ -2,9 +2,9 @@
 use Rattle.std.specs.Prelude.{◌≡◌, ℕ, true, List, filter, Option, IfSome}
 use Rattle.std.specs.Io.KnownBytes.{Appends}
 use Rattle.fl_book.specs.Legal.{IsLegal, is_asked}
-use Rattle.fl_book.specs.Text.{text_of, LineFits, Fits, BreaksAt}
-use Rattle.fl_book.specs.declared.history.Line.{Line}
-use Rattle.fl_book.specs.declared.history.Line.TheVariants.{Asked}
+use Rattle.fl_trace.specs.Text.{text_of, LineFits, Fits, BreaksAt}
+use Rattle.fl_history.specs.declared.history.Line.{Line}
+use Rattle.fl_history.specs.declared.history.Line.TheVariants.{Asked}
 use Rattle.lockd_commands.specs.declared.fault.Fault.{Fault}
 use Rattle.lockd_commands.specs.declared.script.Ask.{Ask}
 use Rattle.lockd_commands.specs.declared.fault.Fault.TheVariants.{BadLine, NoMemory, Listen, Read, Write, Cut, BadLength, Connect, BadReply}

@@ -1,9 +1,9 @@
 ghost use Rattle.std.specs.Prelude.{◌≡◌, ◌≢◌, ℕ, ◌++◌, ◌∷◌, List, map, filter, string_bytes, All, IfSome, IsNone, IfOk, OnOk, IfErr};
 ghost use Rattle.std.specs.Io.KnownBytes.{Keeps, Appends};
 ghost use Rattle.fl_book.specs.Legal.{IsLegal, is_asked};
-ghost use Rattle.fl_book.specs.Text.{line_text, text_of, BreaksAt};
+ghost use Rattle.fl_trace.specs.Text.{line_text, text_of, BreaksAt};
 ghost use Rattle.lockd_commands.specs.Script.{line_of, IsAskLine, IsTraceOf, FaultSays, IsAnswered};
-ghost use Rattle.fl_book.specs.declared.history.Line.{Line as Entry};
+ghost use Rattle.fl_history.specs.declared.history.Line.{Line as Entry};
 ghost use Rattle.lockd_commands.specs.declared.fault.Fault.{Fault};
 
 use crate::fault::Fault;

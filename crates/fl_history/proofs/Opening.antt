@@ -1,0 +1,199 @@
+-- What is kept of lines leads back to them, and goes on to do so when more is kept.
+use Rattle.std.proofs.Common.{◌≡◌, ℕ, ◌+◌, ◌<◌, ◌≤◌, zero, suc, Option, Some, List, [], ◌∷◌, ◌++◌, length, take, drop, refl, ap, sym, ◌∙◌, subst, arith, length-append}
+use Rattle.std.proofs.lemmas.List.{append-nil, map-append, take-append-le, drop-append-le, length-drop}
+use Rattle.std.proofs.lemmas.Option.{slice_get-map}
+use Rattle.std.specs.List.{slice_get, AllByRecursion}
+use Rattle.std.specs.Option.{option_map}
+use Rattle.fl_wire.specs.Name.{IsName}
+use Rattle.fl_wire.specs.declared.order.Op.{Op}
+use Rattle.fl_wire.specs.declared.order.Op.TheVariants as op
+use Rattle.fl_wire.specs.declared.order.Order.{Order}
+use Rattle.fl_history.specs.declared.history.Line.{Line}
+use Rattle.fl_history.specs.declared.history.Line.TheVariants as line
+use Rattle.fl_history.specs.declared.records.Span.{Span}
+use Rattle.fl_history.specs.declared.records.ShortOp.{ShortOp}
+use Rattle.fl_history.specs.declared.records.ShortOp.TheVariants as short
+use Rattle.fl_history.specs.declared.records.Ask.{Ask}
+use Rattle.fl_history.specs.declared.records.Answered.{Answered}
+use Rattle.fl_history.specs.declared.records.Record.{Record}
+use Rattle.fl_history.specs.declared.records.Record.TheVariants as record_of
+use Rattle.fl_history.specs.Inside.Records.{name_in, short_op, ask_of, bytes_at, opened_op, asked_line, answered_line, line_or_none, opened, opened_all, Begins, IsNamed, NamesAreThere, IsThere, AreKept}
+
+-- ---- lists with more behind them
+
+abbrev pub begins_itself : {A : Type 0} (xs : List A) → Begins xs xs
+begins_itself xs = record { rest = []; is = sym (append-nil xs) }
+
+begins_length : {A : Type 0} (xs ys : List A) → Begins xs ys → length xs ≤ length ys
+begins_length xs ys b = subst (λ l. length xs ≤ length l) (sym b.is) (omega (arith, length-append xs b.rest))
+
+get_left : {A : Type 0} (xs ys : List A) (i : ℕ) → i < length xs → slice_get (xs ++ ys) i ≡ slice_get xs i
+get_left [] ys i l = absurd (omega arith)
+get_left (x ∷ xs) ys zero l = refl
+get_left (x ∷ xs) ys (suc i) l = get_left xs ys i (omega arith)
+
+all_more : {A : Type 0} (P : A → Type 0) (xs ys : List A) → AllByRecursion P xs → AllByRecursion P ys → AllByRecursion P (xs ++ ys)
+all_more P [] ys a b = b
+all_more P (x ∷ xs) ys a b = (a.0, all_more P xs ys a.1 b)
+
+all_as : {A : Type 0} (P Q : A → Type 0) (xs : List A) → ((x : A) → P x → Q x) → AllByRecursion P xs → AllByRecursion Q xs
+all_as P Q [] f a = a
+all_as P Q (x ∷ xs) f a = (f x a.0, all_as P Q xs f a.1)
+
+pub all_at : {A : Type 0} (P : A → Type 0) (xs : List A) (i : ℕ) (x : A) → AllByRecursion P xs → slice_get xs i ≡ Some x → P x
+all_at P [] i x a e = cc e
+all_at P (y ∷ xs) zero x a e = subst P (same y x e) a.0
+  where
+    same : {A : Type 0} (y x : A) → ◌≡◌ {A = Option A} (Some y) (Some x) → y ≡ x
+    same y x e = cc e
+all_at P (y ∷ xs) (suc i) x a e = all_at P xs i x a.1 e
+
+-- ---- one order, there and back
+
+pub op_back : (names : List ℕ) (span : Span) (o : Op) → bytes_at names span ≡ name_in o → opened_op names (short_op span o) ≡ o
+op_back names span (op.Lookup name) e = ap (λ n. op.Lookup n) e
+op_back names span (op.Forget n) e = refl
+op_back names span op.Getattr e = refl
+op_back names span (op.Unlink name) e = ap (λ n. op.Unlink n) e
+op_back names span op.Open e = refl
+op_back names span (op.Release fh unlocks owner) e = refl
+op_back names span (op.Flush fh owner) e = refl
+op_back names span (op.Create excl mode name) e = ap (λ n. op.Create excl mode n) e
+op_back names span (op.Getlk ask) e = refl
+op_back names span (op.Setlk ask) e = refl
+op_back names span (op.Setlkw ask) e = refl
+op_back names span (op.Interrupt unique) e = refl
+
+pub asked_back : (names : List ℕ) (span : Span) (worker : ℕ) (o : Order) → bytes_at names span ≡ name_in o.op → asked_line names (ask_of worker o span) ≡ line.Asked worker o
+asked_back names span worker o e = ap (λ p. line.Asked worker (record o { op = p })) (op_back names span o.op e)
+
+pub named_short : (names : List ℕ) (span : Span) (o : Op) → IsNamed names span → NamesAreThere names (short_op span o)
+named_short names span (op.Lookup name) n = n
+named_short names span (op.Forget m) n = tt
+named_short names span op.Getattr n = tt
+named_short names span (op.Unlink name) n = n
+named_short names span op.Open n = tt
+named_short names span (op.Release fh unlocks owner) n = tt
+named_short names span (op.Flush fh owner) n = tt
+named_short names span (op.Create excl mode name) n = n
+named_short names span (op.Getlk ask) n = tt
+named_short names span (op.Setlk ask) n = tt
+named_short names span (op.Setlkw ask) n = tt
+named_short names span (op.Interrupt unique) n = tt
+
+-- ---- names with more names behind them
+
+bytes_stay : (names more : List ℕ) (span : Span) → span.start + span.len ≤ length names → bytes_at (names ++ more) span ≡ bytes_at names span
+bytes_stay names more span within =
+    ap (take span.len) (drop-append-le span.start names more (omega arith))
+    ∙ take-append-le span.len (drop span.start names) more (omega (arith, length-drop span.start names))
+
+named_stay : (names more : List ℕ) (span : Span) → IsNamed names span → IsNamed (names ++ more) span
+named_stay names more span n = record {
+  within = omega (arith, n.within, length-append names more);
+  name = subst IsName (sym (bytes_stay names more span n.within)) n.name;
+}
+
+op_stays : (names more : List ℕ) (o : ShortOp) → NamesAreThere names o → (opened_op (names ++ more) o ≡ opened_op names o) × NamesAreThere (names ++ more) o
+op_stays names more (short.Lookup span) n = (ap (λ b. op.Lookup b) (bytes_stay names more span n.within), named_stay names more span n)
+op_stays names more (short.Forget m) n = (refl, tt)
+op_stays names more short.Getattr n = (refl, tt)
+op_stays names more (short.Unlink span) n = (ap (λ b. op.Unlink b) (bytes_stay names more span n.within), named_stay names more span n)
+op_stays names more short.Open n = (refl, tt)
+op_stays names more (short.Release fh unlocks owner) n = (refl, tt)
+op_stays names more (short.Flush fh owner) n = (refl, tt)
+op_stays names more (short.Create excl mode span) n = (ap (λ b. op.Create excl mode b) (bytes_stay names more span n.within), named_stay names more span n)
+op_stays names more (short.Lock what kind pid flags fh owner start end) n = (refl, tt)
+op_stays names more (short.Interrupt unique) n = (refl, tt)
+
+-- ---- more of everything
+
+ask_stays : (names more : List ℕ) (asks : List Ask) (at : ℕ) → AllByRecursion (λ (a : Ask). NamesAreThere names a.op) asks
+    → line_or_none (asked_line (names ++ more)) (slice_get asks at) ≡ line_or_none (asked_line names) (slice_get asks at)
+ask_stays names more [] at n = refl
+ask_stays names more (a ∷ asks) zero n =
+    ap (λ p. line.Asked a.worker (record { unique = a.unique; node = a.node; uid = a.uid; gid = a.gid; pid = a.pid; op = p })) (op_stays names more a.op n.0).0
+ask_stays names more (a ∷ asks) (suc at) n = ask_stays names more asks at n.1
+
+module _ (asks : List Ask) (answers : List Answered) (names : List ℕ) (asks′ : List Ask) (answers′ : List Answered) (names′ : List ℕ)
+    (a : Begins asks asks′) (t : Begins answers answers′) (n : Begins names names′) where
+  opened_stays : (r : Record) → IsThere (length asks) (length answers) r → AllByRecursion (λ (a : Ask). NamesAreThere names a.op) asks
+      → opened asks′ answers′ names′ r ≡ opened asks answers names r
+  opened_stays (record_of.Asked at) there named =
+      (λ i. line_or_none (asked_line (n.is i)) (slice_get (a.is i) at))
+      ∙ ap (λ o. line_or_none (asked_line (names ++ n.rest)) o) (get_left asks a.rest at there)
+      ∙ ask_stays names n.rest asks at named
+  opened_stays (record_of.Answered at) there named =
+      ap (λ l. line_or_none answered_line (slice_get l at)) t.is ∙ ap (line_or_none answered_line) (get_left answers t.rest at there)
+  opened_stays (record_of.Done unique) there named = refl
+  opened_stays (record_of.Failed error unique) there named = refl
+
+  lines_stay : (records : List Record) → AreKept records asks answers names → opened_all asks′ answers′ names′ records ≡ opened_all asks answers names records
+  lines_stay [] k = refl
+  lines_stay (r ∷ records) k =
+      (λ i. opened_stays r k.there.0 k.named i ∷ lines_stay records (record { there = k.there.1; named = k.named }) i)
+
+  -- one line more
+  pub one_line : (records : List Record) (r : Record) (l : Line) → AreKept records asks answers names → opened asks′ answers′ names′ r ≡ l
+      → opened_all asks′ answers′ names′ (records ++ r ∷ []) ≡ opened_all asks answers names records ++ l ∷ []
+  one_line records r l k e =
+      map-append (opened asks′ answers′ names′) records (r ∷ []) ∙ (λ i. lines_stay records k i ++ e i ∷ [])
+
+  there_still : (r : Record) → IsThere (length asks) (length answers) r → IsThere (length asks′) (length answers′) r
+  there_still (record_of.Asked at) h = omega (arith, h, begins_length asks asks′ a)
+  there_still (record_of.Answered at) h = omega (arith, h, begins_length answers answers′ t)
+  there_still (record_of.Done unique) h = tt
+  there_still (record_of.Failed error unique) h = tt
+
+  -- what is kept goes on to lead to what is there
+  pub kept_still : (records : List Record) (r : Record) → AreKept records asks answers names → IsThere (length asks′) (length answers′) r
+      → AllByRecursion (λ (a : Ask). NamesAreThere names′ a.op) a.rest → AreKept (records ++ r ∷ []) asks′ answers′ names′
+  kept_still records r k there more = record {
+    there = all_more (IsThere (length asks′) (length answers′)) records (r ∷ [])
+        (all_as (IsThere (length asks) (length answers)) (IsThere (length asks′) (length answers′)) records there_still k.there) (there, tt);
+    named = subst (AllByRecursion (λ (a : Ask). NamesAreThere names′ a.op)) (sym a.is)
+        (all_more (λ (a : Ask). NamesAreThere names′ a.op) asks a.rest
+        (all_as (λ (a : Ask). NamesAreThere names a.op) (λ (a : Ask). NamesAreThere names′ a.op) asks
+        (λ x h. subst (λ ns. NamesAreThere ns x.op) (sym n.is) (op_stays names n.rest x.op h).1) k.named) more);
+  }
+
+-- ---- in the words of the calls
+
+pub asked_kept : (records records′ : List Record) (asks asks′ : List Ask) (answers : List Answered) (names names′ : List ℕ) (worker : ℕ) (o : Order) (span : Span) (new : Ask) → AreKept records asks answers names
+    → names′ ≡ names ++ name_in o.op → IsNamed names′ span → bytes_at names′ span ≡ name_in o.op → new ≡ ask_of worker o span → asks′ ≡ asks ++ new ∷ [] → records′ ≡ records ++ record_of.Asked (length asks) ∷ []
+    → AreKept records′ asks′ answers names′ × (opened_all asks′ answers names′ records′ ≡ opened_all asks answers names records ++ line.Asked worker o ∷ [])
+asked_kept records records′ asks asks′ answers names names′ worker o span new k more named there is joins last =
+    let a : Begins asks asks′ = record { rest = new ∷ []; is = joins } in
+    let n : Begins names names′ = record { rest = name_in o.op; is = more } in
+    let t = begins_itself answers in
+    let inside : length asks < length asks′ = subst (λ l. length asks < length l) (sym joins) (omega (arith, length-append asks (new ∷ []))) in
+    let names_new : NamesAreThere names′ new.op = subst (λ (x : Ask). NamesAreThere names′ x.op) (sym is) (named_short names′ span o.op named) in
+    let found : line_or_none (asked_line names′) (slice_get asks′ (length asks)) ≡ line.Asked worker o =
+    ap (λ l. line_or_none (asked_line names′) (slice_get l (length asks))) joins ∙ ap (line_or_none (asked_line names′)) (get_last asks new) ∙ ap (asked_line names′) is ∙ asked_back names′ span worker o there in
+    subst (λ rs. AreKept rs asks′ answers names′ × (opened_all asks′ answers names′ rs ≡ opened_all asks answers names records ++ line.Asked worker o ∷ [])) (sym last) (
+      kept_still asks answers names asks′ answers names′ a t n records (record_of.Asked (length asks)) k inside (names_new, tt),
+      one_line asks answers names asks′ answers names′ a t n records (record_of.Asked (length asks)) (line.Asked worker o) k found,
+    )
+  where
+    get_last : {A : Type 0} (xs : List A) (x : A) → slice_get (xs ++ x ∷ []) (length xs) ≡ Some x
+    get_last [] x = refl
+    get_last (y ∷ xs) x = get_last xs x
+
+pub told_kept : (records records′ : List Record) (asks : List Ask) (answers answers′ : List Answered) (names : List ℕ) (r : Record) (l : Line) → AreKept records asks answers names
+    → Begins answers answers′ → IsThere (length asks) (length answers′) r → opened asks answers′ names r ≡ l → records′ ≡ records ++ r ∷ []
+    → AreKept records′ asks answers′ names × (opened_all asks answers′ names records′ ≡ opened_all asks answers names records ++ l ∷ [])
+told_kept records records′ asks answers answers′ names r l k t there is last =
+    let a = begins_itself asks in
+    let n = begins_itself names in
+    subst (λ rs. AreKept rs asks answers′ names × (opened_all asks answers′ names rs ≡ opened_all asks answers names records ++ l ∷ [])) (sym last)
+    (kept_still asks answers names asks answers′ names a t n records r k there tt, one_line asks answers names asks answers′ names a t n records r l k is)
+
+pub line_at : (asks : List Ask) (answers : List Answered) (names : List ℕ) (records : List Record) (i : ℕ) (r : Record) → slice_get records i ≡ Some r
+    → slice_get (opened_all asks answers names records) i ≡ Some (opened asks answers names r)
+line_at asks answers names records i r e = slice_get-map (opened asks answers names) records i ∙ ap (option_map (opened asks answers names)) e
+
+pub there_at : (asks : List Ask) (answers : List Answered) (names : List ℕ) (records : List Record) (i : ℕ) (r : Record) → AreKept records asks answers names → slice_get records i ≡ Some r → IsThere (length asks) (length answers) r
+there_at asks answers names records i r k e = all_at (IsThere (length asks) (length answers)) records i r k.there e
+
+pub named_at : (asks : List Ask) (answers : List Answered) (names : List ℕ) (records : List Record) (i : ℕ) (a : Ask) → AreKept records asks answers names → slice_get asks i ≡ Some a → NamesAreThere names a.op
+named_at asks answers names records i a k e = all_at (λ (a : Ask). NamesAreThere names a.op) asks i a k.named e

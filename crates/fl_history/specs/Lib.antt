@@ -1,0 +1,2 @@
+pub mod Stock
+pub mod Inside

@@ -1,0 +1,247 @@
+//! Lines, kept in few bytes.
+
+ghost use Rattle.std.specs.Prelude.{◌≡◌, ℕ, ◌+◌, ◌*◌, ◌<◌, ◌≤◌, ◌^◌, List, ◌++◌, ◌∷◌, [], length, Some, IsOk, OnOk};
+ghost use Rattle.std.specs.List.{slice_get};
+ghost use Rattle.fl_wire.specs.Name.{IsName};
+ghost use Rattle.fl_history.specs.Inside.Records.{bytes_at, opened, opened_op, asked_line, Begins, IsNamed, IsThere, NamesAreThere};
+ghost use Rattle.fl_history.specs.declared.records.Ask.{Ask as Kept};
+ghost use Rattle.fl_history.specs.declared.history.Line.TheVariants.{Asked, Told as Reply};
+
+use crate::chunks::ChunkedVec;
+use crate::history::Line;
+use crate::records::{Answered, Ask, Record, ShortOp, Span, lock_op, name_in};
+use fl_wire::{Answer, LockAsk, Name, Op, Order, Told};
+use std::alloc::{AllocError, Global};
+use std::marker::Model;
+
+// The most bytes of a name.
+const MOST_BYTES: usize = 255;
+
+/// Lines in the order of time. Contracts see their list, and for how many more memory is there.
+#[derive(Debug, Drop)]
+pub struct Lines {
+    records: ChunkedVec<Record>,
+    asks: ChunkedVec<Ask>,
+    answers: ChunkedVec<Answered>,
+    // The bytes of all names, one after another.
+    names: ChunkedVec<u8>,
+    room: usize,
+}
+
+impl Model for Lines {
+    ghost use Rattle.fl_history.specs.Stock.{Stock};
+    ghost use Rattle.fl_history.specs.declared.history.Line.{Line};
+
+    ghost Value = { Stock Line };
+
+    ghost use Rattle.fl_history.specs.Inside.Records.{opened_all, AreKept, HaveRoom};
+
+    ghost view = { λ l.
+        record { items = opened_all l.asks.items l.answers.items l.names.items l.records.items; room = l.room } };
+
+    ghost invariant = { λ l. AreKept l.records.items l.asks.items l.answers.items l.names.items
+        × HaveRoom l.room l.records.room l.asks.room l.answers.room l.names.room };
+}
+
+impl Lines {
+    /// No lines, and no memory for any.
+    pub fn new(alloc: Global) -> Lines
+        ensures { result ≡ record { items = []; room = 0 } }
+    {
+        Lines {
+            records: ChunkedVec::new(alloc),
+            asks: ChunkedVec::new(alloc),
+            answers: ChunkedVec::new(alloc),
+            names: ChunkedVec::new(alloc),
+            room: 0,
+        }
+    }
+
+    /// How many lines there are.
+    pub fn len(&self) -> usize
+        ensures len { result ≡ length self.now.items }
+        ensures few { result < 2 ^ 63 }
+    {
+        self.records.len()
+    }
+
+    /// The line at this place, from 0.
+    pub fn get(&self, at: usize) -> Line
+        requires { at < length self.now.items }
+        ensures { slice_get self.now.items at ≡ Some result }
+    {
+        match self.records.get(at) {
+            Record::Asked(at) => asked(&self.asks.get(at), &self.names),
+            Record::Answered(at) => {
+                let Answered { unique, answer } = self.answers.get(at);
+                Line::Told(Told {
+                    unique,
+                    result: Ok(answer),
+                })
+            }
+            Record::Done(unique) => Line::Told(Told {
+                unique,
+                result: Ok(Answer::Done),
+            }),
+            Record::Failed(error, unique) => Line::Told(Told {
+                unique,
+                result: Err(error),
+            }),
+        }
+    }
+
+    /// Makes room for so many lines more, whatever they are. A refusal changes nothing, and doesn't come where there is
+    /// room.
+    pub fn reserve(&mut self, count: usize) -> Result<(), AllocError>
+        requires { count ≤ 2 ^ 32 }
+        ensures items { self.new.items ≡ self.old.items }
+        ensures room { OnOk result (count ≤ self.new.room) }
+        ensures succeeds { count ≤ self.old.room → IsOk result }
+    {
+        if self.room < count {
+            self.records.reserve(count)?;
+            self.asks.reserve(count)?;
+            self.answers.reserve(count)?;
+            self.names.reserve(count * MOST_BYTES)?;
+            self.room = count;
+        }
+        Ok(())
+    }
+
+    /// An order more.
+    pub fn push_asked(&mut self, worker: u32, order: &Order)
+        requires { 0 < self.old.room }
+        ensures items { self.new.items ≡ self.old.items ++ Asked worker order.now ∷ [] }
+        ensures room { self.new.room + 1 ≡ self.old.room }
+    {
+        let name = push_name(&mut self.names, name_in(&order.op));
+        let at = self.asks.len();
+        self.asks.push(Ask::new(worker, order, name));
+        self.records.push(Record::Asked(at));
+        self.room -= 1;
+    }
+
+    /// A reply more.
+    pub fn push_told(&mut self, told: &Told)
+        requires { 0 < self.old.room }
+        ensures items { self.new.items ≡ self.old.items ++ Reply told.now ∷ [] }
+        ensures room { self.new.room + 1 ≡ self.old.room }
+    {
+        let record = keep_told(&mut self.answers, told);
+        self.records.push(record);
+        self.room -= 1;
+    }
+}
+
+// The record of a reply, whose answer joins the others where it tells more than that it is done.
+fn keep_told(answers: &mut ChunkedVec<Answered>, told: &Told) -> Record
+    requires { 0 < answers.old.room }
+    ensures answers { Begins answers.old.items answers.new.items }
+    ensures room { answers.old.room ≤ answers.new.room + 1 }
+    ensures there { (asks : ℕ) → IsThere asks (length answers.new.items) result }
+    ensures opened { (asks : List Kept) (names : List ℕ) →
+        opened asks answers.new.items names result ≡ Reply told.now }
+{
+    let unique = told.unique;
+    match told.result {
+        Ok(Answer::Done) => Record::Done(unique),
+        Err(error) => Record::Failed(error, unique),
+        Ok(answer) => {
+            let at = answers.len();
+            answers.push(Answered { unique, answer });
+            Record::Answered(at)
+        }
+    }
+}
+
+// Puts the bytes of a name behind those of all others.
+fn push_name(names: &mut ChunkedVec<u8>, name: &[u8]) -> Span
+    requires room { length name.now ≤ names.old.room }
+    requires name { IsName name.now }
+    ensures names { names.new.items ≡ names.old.items ++ name.now }
+    ensures room { names.new.room + length name.now ≡ names.old.room }
+    ensures named { IsNamed names.new.items result }
+    ensures there { bytes_at names.new.items result ≡ name.now }
+{
+    let span = Span {
+        len: name.len() as u8,
+        start: names.len(),
+    };
+    names.extend_from_slice(name);
+    span
+}
+
+// The name at a place.
+fn name_at(names: &ChunkedVec<u8>, span: Span) -> Name
+    requires { IsNamed names.now.items span }
+    ensures { result ≡ bytes_at names.now.items span }
+{
+    let len = usize::from(span.len);
+    let mut bytes = [0; MOST_BYTES];
+    names.copy_from(span.start, &mut bytes[..len]);
+    let Some(name) = Name::new(&bytes[..len]) else {
+        unreachable!()
+    };
+    name
+}
+
+// The line of an order.
+fn asked(ask: &Ask, names: &ChunkedVec<u8>) -> Line
+    requires { NamesAreThere names.now.items ask.now.op }
+    ensures { result ≡ asked_line names.now.items ask.now }
+{
+    Line::Asked {
+        worker: ask.worker,
+        order: Order {
+            unique: ask.unique,
+            node: ask.node,
+            uid: ask.uid,
+            gid: ask.gid,
+            pid: ask.pid,
+            op: opened_op(&ask.op, names),
+        },
+    }
+}
+
+// What was asked.
+fn opened_op(op: &ShortOp, names: &ChunkedVec<u8>) -> Op
+    requires { NamesAreThere names.now.items op.now }
+    ensures { result ≡ opened_op names.now.items op.now }
+{
+    match *op {
+        ShortOp::Lookup(span) => Op::Lookup(name_at(names, span)),
+        ShortOp::Forget(n) => Op::Forget(n),
+        ShortOp::Getattr => Op::Getattr,
+        ShortOp::Unlink(span) => Op::Unlink(name_at(names, span)),
+        ShortOp::Open => Op::Open,
+        ShortOp::Release { fh, drop, owner } => Op::Release { fh, drop, owner },
+        ShortOp::Flush { fh, owner } => Op::Flush { fh, owner },
+        ShortOp::Create { excl, mode, name } => Op::Create {
+            excl,
+            mode,
+            name: name_at(names, name),
+        },
+        ShortOp::Lock {
+            what,
+            kind,
+            pid,
+            flags,
+            fh,
+            owner,
+            start,
+            end,
+        } => lock_op(
+            what,
+            LockAsk {
+                fh,
+                owner,
+                start,
+                end,
+                kind,
+                pid,
+                flags,
+            },
+        ),
+        ShortOp::Interrupt(unique) => Op::Interrupt(unique),
+    }
+}

@@ -1,0 +1,95 @@
+-- The bytes of a trace: words of visible ASCII characters, with spaces between them.
+use Rattle.std.proofs.Common.{◌≡◌, ℕ, suc, ◌<◌, ◌≤◌, ◌^◌, ◌/◌, ◌%◌, inl, inr, Bool, true, false, ◌&&◌, List, [], ◌∷◌, length, get_or, All, slice_index, refl, arith, lit≤, lit<}
+use Rattle.std.proofs.Math.Dec.{leb, eqb}
+use Rattle.std.proofs.lemmas.Bool.{and_parts, leb-true, cases_lt, ne_eqb}
+use Rattle.std.proofs.lemmas.List.{get_or_default, get_or_past}
+use Rattle.std.proofs.lemmas.List.Elements.{All-cons, All-nil, All-append}
+use Rattle.std.proofs.lemmas.Str.{IsUtf8-from_ascii}
+use Rattle.std.specs.Fmt.{decimal}
+use Rattle.std.specs.Str.{IsUtf8}
+use Rattle.std.specs.Str.Iter.{LacksByte}
+use Rattle.hex.specs.Hex.{IsBytes, encode_lower, encode_with, lower_digits}
+use Rattle.fl_trace.specs.Text.{spaced, name_text}
+use Rattle.fl_trace.proofs.WordLemmas.{decimal_lacks}
+
+-- a byte that is ASCII, and at least this
+abbrev pub IsLetter : ℕ → ℕ → Type 0
+IsLetter low b = (low ≤ b) × (b < 128)
+
+abbrev pub AreLetters : ℕ → List ℕ → Type 0
+AreLetters low bs = All (IsLetter low) bs
+
+-- visible characters alone, so no space and no newline
+abbrev pub IsWord : List ℕ → Type 0
+IsWord word = AreLetters 33 word
+
+abbrev pub AreWords : List (List ℕ) → Type 0
+AreWords [] = Unit {0}
+AreWords (word ∷ words) = IsWord word × AreWords words
+
+-- a test for literals, which computes
+abbrev pub all_letters : ℕ → List ℕ → Bool
+all_letters low [] = true
+all_letters low (b ∷ bs) = (leb low b && leb b 127) && all_letters low bs
+
+pub tested : (low : ℕ) (bs : List ℕ) → all_letters low bs ≡ true → AreLetters low bs
+tested low [] t = All-nil (IsLetter low)
+tested low (b ∷ bs) t =
+    let both = and_parts (leb low b && leb b 127) (all_letters low bs) t in
+    let own = and_parts (leb low b) (leb b 127) both.0 in
+    let least = leb-true low b own.0 in
+    let most = leb-true b 127 own.1 in
+    All-cons (IsLetter low) b bs (least, omega arith) (tested low bs both.1)
+
+pub literal : (word : List ℕ) → all_letters 33 word ≡ true → IsWord word
+literal word t = tested 33 word t
+
+pub decimal_word : (n : ℕ) → n < 2 ^ 64 → IsWord (decimal n)
+decimal_word n small k d below =
+    let b : ℕ = get_or (decimal n) k 0 in
+    let absent : ((48 ≤ b) × (b ≤ 57) → ⊥) → ⊥ = λ out. decimal_lacks n b small out k below refl in
+    rw (get_or_default (decimal n) k d 0 below) (within b absent)
+  where
+    within : (b : ℕ) → (((48 ≤ b) × (b ≤ 57) → ⊥) → ⊥) → IsLetter 33 b
+    within b absent = elim (cases_lt b 48) [
+      | inl low ↦ absurd (absent (λ w. let l = w.0 in omega arith))
+      | inr least ↦ elim (cases_lt 57 b) [ inl high ↦ absurd (absent (λ w. let l = w.1 in omega arith)) | inr most ↦ (omega arith, omega arith) ]
+    ]
+
+-- a digit of the table at a place that it has
+digit_letter : (d : ℕ) → d < 16 → IsLetter 33 (slice_index lower_digits d)
+digit_letter d below = literal lower_digits refl d 0 below
+
+pub hex_word : (name : List ℕ) → IsBytes name → IsWord (encode_lower name)
+unfolding encode_with
+hex_word [] bytes = All-nil (IsLetter 33)
+hex_word (b ∷ name) bytes =
+    let small = bytes 0 in
+    let rest = hex_word name (λ i. bytes (suc i)) in
+    All-cons (IsLetter 33) (slice_index lower_digits (b / 16)) (slice_index lower_digits (b % 16) ∷ encode_lower name) (digit_letter (b / 16) (omega arith))
+    (All-cons (IsLetter 33) (slice_index lower_digits (b % 16)) (encode_lower name) (digit_letter (b % 16) (omega arith)) rest)
+
+pub name_word : (name : List ℕ) → IsBytes name → IsWord (name_text name)
+name_word [] bytes = literal (45 ∷ []) refl
+name_word (b ∷ name) bytes = hex_word (b ∷ name) bytes
+
+-- a byte below the least letter is not there
+pub lacks_low : (low c : ℕ) (bs : List ℕ) → AreLetters low bs → c < low → LacksByte c bs
+lacks_low low c bs letters below k at e = let l = (letters k 0 at).0 in omega arith
+
+pub no_low : (low c : ℕ) (bs : List ℕ) → AreLetters low bs → c < low → All (λ b. eqb b c ≡ false) bs
+no_low low c bs letters below k d at = let l = (letters k d at).0 in ne_eqb (get_or bs k d) c (λ e. omega arith)
+
+more_letters : (bs : List ℕ) → IsWord bs → AreLetters 32 bs
+more_letters bs word k d at = let l = word k d at in (omega arith, l.1)
+
+-- words with spaces between them have no newline, and are ASCII
+pub spaced_letters : (words : List (List ℕ)) → AreWords words → AreLetters 32 (spaced words)
+spaced_letters [] words = All-nil (IsLetter 32)
+spaced_letters (word ∷ []) words = more_letters word words.0
+spaced_letters (word ∷ next ∷ rest) words =
+    All-append (IsLetter 32) word (32 ∷ spaced (next ∷ rest)) (more_letters word words.0)
+    (All-cons (IsLetter 32) 32 (spaced (next ∷ rest)) (lit≤ tt, lit< tt) (spaced_letters (next ∷ rest) words.1))
+
+pub letters_utf8 : (low : ℕ) (bs : List ℕ) → AreLetters low bs → IsUtf8 bs
+letters_utf8 low bs letters = IsUtf8-from_ascii bs (λ i. elim (cases_lt i (length bs)) [ inl at ↦ (letters i 0 at).1 | inr past ↦ rw (get_or_past bs i 0 past) (lit< tt) ])

@@ -1,0 +1,9 @@
+pub mod WordLemmas
+pub mod Letters
+pub mod LineWords
+pub mod ReadBack
+pub mod OneText
+pub mod FirstWords
+pub mod Reading
+pub mod Newlines
+pub mod Places

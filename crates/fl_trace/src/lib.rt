@@ -1,0 +1,12 @@
+//! The text of a history, both ways.
+#![tactic(auto)]
+
+mod ask;
+pub mod laws;
+mod print;
+mod read;
+mod tell;
+mod words;
+
+pub use print::{has_text, print_trace};
+pub use read::{TraceFault, first_line, read_trace};

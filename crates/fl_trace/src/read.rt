@@ -1,0 +1,93 @@
+//! Lines and histories, read from their text.
+
+ghost use Rattle.std.specs.Prelude.{◌≡◌, ◌⊎◌, ℕ, ◌<◌, ◌++◌, ◌∷◌, List, length, Ok, Err, IfOk, IfSome, IsSome, IsSomeAnd, codes};
+ghost use Rattle.fl_trace.specs.Text.{asked_text, line_text, text_of, LineFits, Fits, BreaksAt};
+ghost use Rattle.fl_history.specs.declared.history.Line.{Line as Entry};
+ghost use Rattle.fl_history.specs.declared.history.Line.TheVariants.{Asked};
+ghost use Rattle.fl_wire.specs.declared.order.Order.{Order as Asking};
+
+use fl_history::{History, Line};
+use crate::ask::read_order;
+use crate::tell::read_told;
+use crate::words::{split_line, split_word, u32_word};
+use fl_wire::NoMemory;
+use std::alloc::Global;
+
+/// Why a text is not read.
+#[derive(Clone, Copy, Debug, PartialEq, Eq)]
+pub enum TraceFault {
+    /// This line, from 1, is the first that is no spelling of a line.
+    BadLine(usize),
+    /// Want of memory.
+    NoMemory,
+}
+
+impl From<NoMemory> for TraceFault {
+    ghost use Rattle.fl_trace.specs.declared.read.TraceFault.TheVariants.{NoMemory};
+
+    ghost from_gives = { λ _ fault. fault ≡ NoMemory };
+
+    fn from(_e: NoMemory) -> TraceFault {
+        TraceFault::NoMemory
+    }
+}
+
+/// The history of a text, as `docs/TRACE.md` says. A bad line is told only where memory for the lines before
+/// it was there.
+pub fn read_trace(alloc: Global, text: &[u8]) -> Result<History, TraceFault>
+    ensures read { IfOk result (λ history. Fits history × (text.now ≡ text_of history)) }
+    ensures only { (lines : List Entry) → Fits lines → text.now ≡ text_of lines →
+        (result ≡ Ok lines) ⊎ (result ≡ Err TraceFault.NoMemory) }
+    ensures bad { (n : ℕ) → result ≡ Err (TraceFault.BadLine n) → BreaksAt LineFits text.now n }
+{
+    let mut history = History::new(alloc);
+    let mut rest = text;
+    while !rest.is_empty() {
+        let Some((line, after)) = first_line(rest) else {
+            return Err(TraceFault::BadLine(history.len() + 1));
+        };
+        history.push(&line)?;
+        rest = after;
+    }
+    Ok(history)
+}
+
+/// The first line of a text, and the text after its newline; none where no line that can be read back begins
+/// the text.
+pub fn first_line(text: &[u8]) -> Option<(Line, &[u8])>
+    ensures fits { IfSome result (λ read. LineFits read.0) }
+    ensures spelled { IfSome result (λ read. text.now ≡ line_text read.0 ++ 10 ∷ read.1.now) }
+    ensures only { (line : Entry) (after : List ℕ) → LineFits line → text.now ≡ line_text line ++ 10 ∷ after →
+        IsSomeAnd result (λ read. (read.0 ≡ line) × (read.1.now ≡ after)) }
+{
+    let (line, rest) = split_line(text)?;
+    let line = read_line(str::from_utf8(line).ok()?)?;
+    Some((line, rest))
+}
+
+fn read_line(text: &str) -> Option<Line>
+    ensures fits { IfSome result LineFits }
+    ensures spelled { IfSome result (λ line. text.now ≡ line_text line) }
+    ensures only { (line : Entry) → LineFits line → text.now ≡ line_text line → IsSome result }
+{
+    let (word, rest) = split_word(text)?;
+    match word {
+        "ask" => read_asked(rest),
+        "tell" => Some(Line::Told(read_told(rest)?)),
+        _ => None,
+    }
+}
+
+fn read_asked(text: &str) -> Option<Line>
+    ensures fits { IfSome result LineFits }
+    ensures spelled { IfSome result (λ line. line_text line ≡ codes "ask " ++ text.now) }
+    ensures only { (worker : ℕ) (order : Asking) → LineFits (Asked worker order) →
+        text.now ≡ asked_text worker order → IsSome result }
+{
+    let (worker, rest) = u32_word(text)?;
+    if worker > 15 {
+        return None;
+    }
+    let order = read_order(rest)?;
+    Some(Line::Asked { worker, order })
+}
