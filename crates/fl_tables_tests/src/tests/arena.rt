@@ -2,10 +2,9 @@
 ghost use Rattle.std.specs.Prelude.{◌≡◌, ◌≢◌, ◌↔◌, ◌+◌, ◌<◌, ◌≤◌, ◌^◌, ℕ, length, IsErr, OnOk, OnErr, IfOk, IfSome};
 ghost use Rattle.fl_arena.specs.Chains.{entries, items, free_count, HasSizeOf};
 ghost use Rattle.fl_arena.specs.Cursors.{cursor_at};
-ghost use Rattle.fl_arena.specs.Inside.Sorted.{insert_sorted};
+ghost use Rattle.fl_tables_tests.specs.Sorted.{insert_sorted};
 
-use crate::chains::Arena;
-use crate::cursors::{Cursor, Full, Place};
+use fl_arena::{Arena, Cursor, Full, Place};
 use std::process::Abort;
 use std::test::Fail;
 

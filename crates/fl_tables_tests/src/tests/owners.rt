@@ -2,9 +2,8 @@
 //! byte.
 ghost use Rattle.std.specs.Prelude.{◌≤◌, ◌<◌, ◌+◌};
 
-use crate::blocker_tests::{BYTES, Marks, Numbers, OWNERS, READ, WRITE, key, random_stroke, range};
-use crate::lock::{Class, Key, Kind, LAST_BYTE, Range};
-use crate::table::Table;
+use super::blocker::{BYTES, Marks, Numbers, OWNERS, READ, WRITE, key, random_stroke, range};
+use fl_ranges::{Class, Key, Kind, LAST_BYTE, Range, Table};
 use std::process::Abort;
 use std::test::Fail;
 

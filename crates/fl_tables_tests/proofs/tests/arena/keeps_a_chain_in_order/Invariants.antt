@@ -1,6 +1,6 @@
 use Rattle.std.proofs.Common.{◌≡◌, length}
 use Rattle.fl_arena.specs.Cursors.{cursor_at}
-use Rattle.fl_arena.proofs.tests.keeps_a_chain_in_order.Given as goal
+use Rattle.fl_tables_tests.proofs.tests.arena.keeps_a_chain_in_order.Given as goal
 
 abbrev pub invariant-loop-item : goal.invariant-loop-item
 invariant-loop-item g l = length l.arena.chains ≡ 2

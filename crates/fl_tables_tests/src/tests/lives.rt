@@ -1,7 +1,7 @@
 //! When nodes live and go, and that their room comes back.
 
-use super::{Call, check, file, name};
-use crate::dir::{Closed, Dir, ROOT};
+use super::dir::{Call, check, file, name};
+use fl_dir::{Closed, Dir, ROOT};
 use fl_wire::{Answer, Attr, Errno, Name};
 use std::process::Abort;
 use std::test::Fail;

@@ -1,10 +1,7 @@
 //! The table against a plain grid of bytes, and the edges of its room.
 ghost use Rattle.std.specs.Prelude.{◌≡◌, ◌<◌, ◌≤◌, ℕ};
 
-use crate::laws;
-use crate::lock::{Class, Key, Kind, LAST_BYTE, Mark, Range};
-use crate::table::{NoRoom, Table};
-use fl_arena::Place;
+use fl_ranges::{Class, Key, Kind, LAST_BYTE, Mark, NoRoom, Place, Range, Table, laws};
 use std::alloc::Global;
 use std::process::Abort;
 use std::test::Fail;

@@ -1,9 +1,7 @@
 //! The lock that F_GETLK names, where it is known, and against marks that are kept byte by byte.
 ghost use Rattle.std.specs.Prelude.{◌≡◌, ◌≤◌, ◌<◌, ◌+◌, length};
 
-use crate::held::Held;
-use crate::lock::{Class, Key, Kind, LAST_BYTE, Mark, Range};
-use crate::table::Table;
+use fl_ranges::{Class, Held, Key, Kind, LAST_BYTE, Mark, Range, Table};
 use std::process::Abort;
 use std::test::Fail;
 
