@@ -17,6 +17,3 @@ pub use desk::{Desk, MOST_LINES};
 pub use history::{History, Line};
 pub use judge::{Verdict, check};
 pub use text::{TraceFault, first_line, has_text, print_trace, read_trace};
-
-#[cfg(test)]
-mod tests;

@@ -9,5 +9,3 @@ mod words;
 pub use print::{has_text, print_trace};
 pub use read::{TraceFault, first_line, read_trace};
 
-#[cfg(test)]
-mod tests;

@@ -1,10 +1,15 @@
+//! A board, and workers in threads of their own.
+
 ghost use Rattle.std.specs.Prelude.{◌≡◌, ◌<◌, ◌≤◌};
 
-use super::*;
-use crate::history::Line;
-use crate::judge::{Verdict, check};
-use fl_wire::{Answer, Errno, LockAsk, Name, Op};
+use fl_book::{Board, BoardName, CloseFault, History, Line, Seat, Verdict, check};
+use fl_core::Tolds;
+use fl_wire::{Answer, Errno, LockAsk, Name, Op, Order};
+use std::alloc::{AllocError, Global};
+use std::marker::Brand;
 use std::process::Abort;
+use std::sync::Wait;
+use std::sync::ledger::Blank;
 use std::test::Fail;
 use std::thread;
 use std::thread::{JoinHandle, Scope, Threads};

@@ -1,9 +1,7 @@
-mod bad_lines;
+//! The text of histories, there and back.
 
-use super::*;
-use crate::history::Line;
-use crate::laws;
-use crate::tests::history_of;
+use super::desk::history_of;
+use fl_book::{Line, first_line, has_text, laws, print_trace, read_trace};
 use fl_wire::{Answer, Attr, Errno, LockAsk, Name, Op, Order, Told};
 use std::process::Abort;
 use std::test::Fail;
@@ -160,7 +158,7 @@ fn orders_there_and_back(rt: HostRuntime) -> Result<(), Fail> {
 }
 
 // A LOOKUP's name of so many bytes.
-fn lookup_text(rt: &(impl Abort + AllocGlobal), bytes: usize) -> Result<String, Fail> {
+pub(super) fn lookup_text(rt: &(impl Abort + AllocGlobal), bytes: usize) -> Result<String, Fail> {
     let mut text = String::new(rt.alloc());
     text.push_str("ask 0 1 2 3 4 5 lookup ")?;
     for _ in 0..bytes {

@@ -1,4 +1,9 @@
-use super::*;
+//! Lines that are no spelling.
+
+use super::text::lookup_text;
+use fl_book::{TraceFault, read_trace};
+use std::process::Abort;
+use std::test::Fail;
 
 #[test]
 fn bad_replies(rt: HostRuntime) -> Result<(), Fail> {

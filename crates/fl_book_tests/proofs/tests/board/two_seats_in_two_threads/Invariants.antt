@@ -1,4 +1,4 @@
-use Rattle.fl_book.proofs.board.tests.two_seats_in_two_threads.Given as goal
+use Rattle.fl_book_tests.proofs.tests.board.two_seats_in_two_threads.Given as goal
 
 abbrev pub ghosts-history_of-L-BoardName : goal.ghosts-history_of-L-BoardName
 ghosts-history_of-L-BoardName g a = record { workers = a.blank.parts }

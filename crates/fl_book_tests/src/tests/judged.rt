@@ -1,12 +1,15 @@
 //! The judge beside another way to judge: random histories, and changes of them.
 
 use super::changes::{CHANGES, Effect, changed};
+use super::desk::{history_of, lines_of, order};
 use super::numbers::Numbers;
 use super::traces::{Seen, random_history};
-use super::*;
-use fl_wire::NoMemory;
+use fl_book::{Desk, History, Line, Verdict, check};
+use fl_core::Tolds;
+use fl_wire::{Answer, Attr, Errno, LockAsk, Name, NoMemory, Op, Order, Told};
 use std::alloc::Global;
 use std::process::Abort;
+use std::test::Fail;
 
 // The one legal history that has the orders of another, in their order.
 fn with_these_orders(alloc: Global, history: &History) -> Result<History, NoMemory> {

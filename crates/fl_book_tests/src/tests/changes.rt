@@ -1,9 +1,12 @@
 //! Changes of a history.
 
+use super::desk::{history_of, lines_of, order};
 use super::numbers::Numbers;
-use super::*;
-use fl_wire::NoMemory;
+use fl_book::{Desk, History, Line, Verdict, check};
+use fl_core::Tolds;
+use fl_wire::{Answer, Attr, Errno, LockAsk, Name, NoMemory, Op, Order, Told};
 use std::alloc::Global;
+use std::test::Fail;
 
 #[derive(Clone, Copy, PartialEq, Eq)]
 pub(super) enum Change {

@@ -1,4 +1,4 @@
-use Rattle.fl_book.proofs.board.tests.mixed_orders_of_any_number_of_seats.Given as goal
+use Rattle.fl_book_tests.proofs.tests.board.mixed_orders_of_any_number_of_seats.Given as goal
 
 abbrev pub ghosts-history_of-L-BoardName : goal.ghosts-history_of-L-BoardName
 ghosts-history_of-L-BoardName g a = record { workers = a.blank.parts }

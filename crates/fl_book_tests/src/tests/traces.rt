@@ -1,10 +1,13 @@
 //! Histories of random orders of all kinds, many of which wait for locks.
 
+use super::desk::{history_of, lines_of, order};
 use super::numbers::Numbers;
-use super::*;
-use fl_wire::NoMemory;
+use fl_book::{Desk, History, Line, Verdict, check};
+use fl_core::Tolds;
+use fl_wire::{Answer, Attr, Errno, LockAsk, Name, NoMemory, Op, Order, Told};
 use std::alloc::Global;
 use std::process::Abort;
+use std::test::Fail;
 
 // The last byte that a lock can have.
 const LAST: u64 = 9_223_372_036_854_775_807;

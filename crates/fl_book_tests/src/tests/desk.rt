@@ -1,16 +1,13 @@
-mod changes;
-mod judged;
-mod numbers;
-mod traces;
+//! Histories, and the desk that keeps one.
 
-use super::*;
+use fl_book::{Desk, History, Line, laws};
 use fl_core::Tolds;
 use fl_wire::{Answer, Attr, Errno, LockAsk, Name, NoMemory, Op, Order, Told};
 use std::alloc::Global;
 use std::test::Fail;
 
 /// The history of these lines.
-pub(crate) fn history_of(alloc: Global, lines: &[Line]) -> Result<History, NoMemory> {
+pub(super) fn history_of(alloc: Global, lines: &[Line]) -> Result<History, NoMemory> {
     let mut history = History::new(alloc);
     for line in lines {
         history.push(line)?;
@@ -19,7 +16,7 @@ pub(crate) fn history_of(alloc: Global, lines: &[Line]) -> Result<History, NoMem
 }
 
 /// The lines of a history.
-pub(crate) fn lines_of(alloc: Global, history: &History) -> Result<Vec<Line>, NoMemory> {
+pub(super) fn lines_of(alloc: Global, history: &History) -> Result<Vec<Line>, NoMemory> {
     let mut lines = Vec::new(alloc);
     for at in 0..history.len() {
         match history.line(at) {
@@ -36,7 +33,7 @@ pub(crate) fn lines_of(alloc: Global, history: &History) -> Result<Vec<Line>, No
     Ok(lines)
 }
 
-fn order(unique: u64, node: u64, op: Op) -> Order {
+pub(super) fn order(unique: u64, node: u64, op: Op) -> Order {
     Order {
         unique,
         node,
