@@ -1,98 +1,76 @@
-//! The calls of a directory, as tables of calls and answers.
+//! Which error a directory answers where several tests of a call would fail.
 
+use super::directory::{is_made, is_not_open, is_refused, made, name};
 use fl_dir::Dir;
-use fl_wire::{Answer, Attr, Errno, Name};
+use fl_wire::Errno;
+use std::alloc::Global;
 use std::process::Abort;
 use std::test::Fail;
 
-// One call. Files are made with mode octal 644 by user 5 and group 6.
-#[derive(Clone, Copy)]
-pub(super) enum Call {
-    Lookup(u64, Name),
-    Create(u64, bool, Name),
-    Open(u64),
-    Getattr(u64),
-    Unlink(u64, Name),
-    Forget(u64, u64),
-    Close(u64, u64),
-}
-
-pub(super) type Case = (Call, Result<Answer, Errno>);
-
-fn run(dir: &mut Dir, call: &Call) -> Result<Answer, Errno> {
-    match call {
-        Call::Lookup(node, name) => dir.lookup(*node, name),
-        Call::Create(node, excl, name) => dir.create(*node, 5, 6, *excl, 0o644, name),
-        Call::Open(node) => dir.open(*node),
-        Call::Getattr(node) => dir.getattr(*node),
-        Call::Unlink(node, name) => dir.unlink(*node, name),
-        Call::Forget(node, n) => {
-            dir.forget(*node, *n);
-            Ok(Answer::Done)
-        }
-        Call::Close(node, fh) => dir.close(*node, *fh).map(|_| Answer::Done),
-    }
-}
-
-pub(super) fn check(rt: &impl Abort, dir: &mut Dir, cases: &[Case]) {
-    for (index, (call, wanted)) in cases.iter().enumerate() {
-        assert_eq!(rt; run(dir, call), *wanted, "call {index}");
-    }
-}
-
-pub(super) fn name(bytes: &[u8]) -> Result<Name, Fail> {
-    Ok(Name::new(bytes).ok_or("no name")?)
-}
-
-// What is told of a file of `run`.
-pub(super) fn file(node: u64, nlink: u32) -> Attr {
-    Attr {
-        node,
-        mode: 0o100644,
-        nlink,
-        uid: 5,
-        gid: 6,
-    }
+// A directory with the file `a`, node 2, which is open under fh 1.
+fn with_one_file(rt: &impl Abort, alloc: Global) -> Result<Dir, Fail> {
+    let mut dir = Dir::new(alloc)?;
+    is_made(rt, &made(&mut dir, &name(b"a")?), 2, 1);
+    Ok(dir)
 }
 
 #[test]
-fn answers_each_error_by_the_first_test(rt: HostRuntime) -> Result<(), Fail> {
-    let mut dir = Dir::new(rt.alloc())?;
+fn a_lookup_is_refused_by_its_first_test(rt: HostRuntime) -> Result<(), Fail> {
+    let mut dir = with_one_file(&rt, rt.alloc())?;
     let a = name(b"a")?;
     let free = name(b"b")?;
-    let empty = name(b"")?;
-    check(
-        &rt,
-        &mut dir,
-        &[
-            (Call::Create(1, true, a), Ok(Answer::Made(file(2, 1), 1))),
-            (Call::Lookup(3, a), Err(Errno::ENOENT)),
-            (Call::Lookup(2, a), Err(Errno::ENOTDIR)),
-            (Call::Lookup(2, free), Err(Errno::ENOTDIR)),
-            (Call::Lookup(1, free), Err(Errno::ENOENT)),
-            (Call::Lookup(1, empty), Err(Errno::ENOENT)),
-            (Call::Create(3, true, a), Err(Errno::ENOENT)),
-            (Call::Create(3, false, empty), Err(Errno::ENOENT)),
-            (Call::Create(2, true, a), Err(Errno::ENOTDIR)),
-            (Call::Create(2, false, empty), Err(Errno::ENOTDIR)),
-            (Call::Create(1, true, a), Err(Errno::EEXIST)),
-            (Call::Getattr(3), Err(Errno::ENOENT)),
-            (Call::Unlink(3, a), Err(Errno::ENOENT)),
-            (Call::Unlink(2, a), Err(Errno::ENOTDIR)),
-            (Call::Unlink(1, free), Err(Errno::ENOENT)),
-            (Call::Open(3), Err(Errno::ENOENT)),
-            (Call::Open(1), Err(Errno::EISDIR)),
-            (Call::Close(2, 2), Err(Errno::EBADF)),
-            (Call::Close(1, 1), Err(Errno::EBADF)),
-        ],
-    );
+    is_refused(&rt, &dir.lookup(3, &a), Errno::ENOENT);
+    is_refused(&rt, &dir.lookup(2, &a), Errno::ENOTDIR);
+    is_refused(&rt, &dir.lookup(2, &free), Errno::ENOTDIR);
+    is_refused(&rt, &dir.lookup(1, &free), Errno::ENOENT);
+    is_refused(&rt, &dir.lookup(1, &name(b"")?), Errno::ENOENT);
+    Ok(())
+}
+
+// A CREATE in a node by user 5 and group 6.
+fn refuses_create(
+    rt: &impl Abort,
+    dir: &mut Dir,
+    node: u64,
+    excl: bool,
+    bytes: &[u8],
+    error: Errno,
+) -> Result<(), Fail> {
+    let told = dir.create(node, 5, 6, excl, 0o644, &name(bytes)?);
+    is_refused(rt, &told, error);
+    Ok(())
+}
+
+#[test]
+fn a_create_is_refused_by_its_first_test(rt: HostRuntime) -> Result<(), Fail> {
+    let mut dir = with_one_file(&rt, rt.alloc())?;
+    refuses_create(&rt, &mut dir, 3, true, b"a", Errno::ENOENT)?;
+    refuses_create(&rt, &mut dir, 3, false, b"", Errno::ENOENT)?;
+    refuses_create(&rt, &mut dir, 2, true, b"a", Errno::ENOTDIR)?;
+    refuses_create(&rt, &mut dir, 2, false, b"", Errno::ENOTDIR)?;
+    refuses_create(&rt, &mut dir, 1, true, b"a", Errno::EEXIST)
+}
+
+#[test]
+fn no_file_has_a_reserved_name(rt: HostRuntime) -> Result<(), Fail> {
+    let mut dir = with_one_file(&rt, rt.alloc())?;
     for reserved in [b"".as_slice(), b".", b"..", b"/", b"a/"] {
-        let reserved = name(reserved)?;
-        check(
-            &rt,
-            &mut dir,
-            &[(Call::Create(1, false, reserved), Err(Errno::EINVAL))],
-        );
+        refuses_create(&rt, &mut dir, 1, false, reserved, Errno::EINVAL)?;
     }
+    Ok(())
+}
+
+#[test]
+fn other_calls_are_refused_by_their_first_tests(rt: HostRuntime) -> Result<(), Fail> {
+    let mut dir = with_one_file(&rt, rt.alloc())?;
+    let a = name(b"a")?;
+    is_refused(&rt, &dir.getattr(3), Errno::ENOENT);
+    is_refused(&rt, &dir.unlink(3, &a), Errno::ENOENT);
+    is_refused(&rt, &dir.unlink(2, &a), Errno::ENOTDIR);
+    is_refused(&rt, &dir.unlink(1, &name(b"b")?), Errno::ENOENT);
+    is_refused(&rt, &dir.open(3), Errno::ENOENT);
+    is_refused(&rt, &dir.open(1), Errno::EISDIR);
+    is_not_open(&rt, &dir.close(2, 2));
+    is_not_open(&rt, &dir.close(1, 1));
     Ok(())
 }
