@@ -12,6 +12,5 @@ mod SetLemmas
 mod NodeLemmas
 mod CursorLemmas
 mod CallLemmas
-mod SortedLemmas
 mod CountLemmas
 mod FirstLemmas

@@ -1,3 +1,2 @@
--- How an arena is kept, and what its tests keep in it. No public clause cites these modules.
+-- How an arena is kept. No public clause cites this module.
 pub mod Links
-pub mod Sorted

@@ -7,8 +7,6 @@
 mod chains;
 mod cursors;
 mod nodes;
-#[cfg(test)]
-mod tests;
 
 pub use chains::Arena;
 pub use cursors::{Cursor, Full, Place};

@@ -228,6 +228,3 @@ fn merged<L: BoardName>(seats: Vec<Seat<L>>) -> Option<Share<L>>
     }
     Some(all)
 }
-
-#[cfg(test)]
-mod tests;

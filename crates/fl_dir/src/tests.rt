@@ -1,6 +1,4 @@
-//! The calls of a directory, as tables of calls and answers.
-
-mod lives;
+//! The calls of a directory whose numbers have come to their ends, where no caller can bring them soon.
 
 use crate::dir::Dir;
 use crate::node::Node;
@@ -11,56 +9,6 @@ use std::process::Abort;
 use std::test::Fail;
 
 const LAST_NUMBER: u64 = u64::MAX;
-
-// One call. Files are made with mode octal 644 by user 5 and group 6.
-#[derive(Clone, Copy)]
-enum Call {
-    Lookup(u64, Name),
-    Create(u64, bool, Name),
-    Open(u64),
-    Getattr(u64),
-    Unlink(u64, Name),
-    Forget(u64, u64),
-    Close(u64, u64),
-}
-
-type Case = (Call, Result<Answer, Errno>);
-
-fn run(dir: &mut Dir, call: &Call) -> Result<Answer, Errno> {
-    match call {
-        Call::Lookup(node, name) => dir.lookup(*node, name),
-        Call::Create(node, excl, name) => dir.create(*node, 5, 6, *excl, 0o644, name),
-        Call::Open(node) => dir.open(*node),
-        Call::Getattr(node) => dir.getattr(*node),
-        Call::Unlink(node, name) => dir.unlink(*node, name),
-        Call::Forget(node, n) => {
-            dir.forget(*node, *n);
-            Ok(Answer::Done)
-        }
-        Call::Close(node, fh) => dir.close(*node, *fh).map(|_| Answer::Done),
-    }
-}
-
-fn check(rt: &impl Abort, dir: &mut Dir, cases: &[Case]) {
-    for (index, (call, wanted)) in cases.iter().enumerate() {
-        assert_eq!(rt; run(dir, call), *wanted, "call {index}");
-    }
-}
-
-fn name(bytes: &[u8]) -> Result<Name, Fail> {
-    Ok(Name::new(bytes).ok_or("no name")?)
-}
-
-// What is told of a file of `run`.
-fn file(node: u64, nlink: u32) -> Attr {
-    Attr {
-        node,
-        mode: 0o100644,
-        nlink,
-        uid: 5,
-        gid: 6,
-    }
-}
 
 // An empty directory that goes on with these numbers.
 fn directory_at(alloc: Global, next_node: u64, next_fh: u64) -> Result<Dir, NoMemory> {
@@ -90,112 +38,105 @@ fn open_all(dir: &mut Dir, node: u64) {
     }
 }
 
+fn name(bytes: &[u8]) -> Result<Name, Fail> {
+    Ok(Name::new(bytes).ok_or("no name")?)
+}
+
+// A new file.
+fn made(dir: &mut Dir, name: &Name) -> Result<Answer, Errno> {
+    dir.create(1, 5, 6, true, 0o644, name)
+}
+
+// A new file, or the one of this name.
+fn opened(dir: &mut Dir, name: &Name) -> Result<Answer, Errno> {
+    dir.create(1, 5, 6, false, 0o644, name)
+}
+
+// What is told of a file that was made so.
+fn file(node: u64) -> Attr {
+    Attr {
+        node,
+        mode: 0o100644,
+        nlink: 1,
+        uid: 5,
+        gid: 6,
+    }
+}
+
+fn is(rt: &impl Abort, told: &Result<Answer, Errno>, wanted: &Result<Answer, Errno>) {
+    assert_eq!(rt; *told, *wanted);
+}
+
+fn is_refused(rt: &impl Abort, told: &Result<Answer, Errno>, error: Errno) {
+    is(rt, told, &Err(error));
+}
+
+fn is_made(rt: &impl Abort, told: &Result<Answer, Errno>, node: u64, fh: u64) {
+    is(rt, told, &Ok(Answer::Made(file(node), fh)));
+}
+
+fn is_found(rt: &impl Abort, told: &Result<Answer, Errno>, node: u64) {
+    is(rt, told, &Ok(Answer::Entry(file(node))));
+}
+
 #[test]
-fn answers_each_error_by_the_first_test(rt: HostRuntime) -> Result<(), Fail> {
+fn lookups_are_counted_to_their_last_count(rt: HostRuntime) -> Result<(), Fail> {
     let mut dir = Dir::new(rt.alloc())?;
     let a = name(b"a")?;
-    let free = name(b"b")?;
-    let empty = name(b"")?;
-    check(
-        &rt,
-        &mut dir,
-        &[
-            (Call::Create(1, true, a), Ok(Answer::Made(file(2, 1), 1))),
-            (Call::Lookup(3, a), Err(Errno::ENOENT)),
-            (Call::Lookup(2, a), Err(Errno::ENOTDIR)),
-            (Call::Lookup(2, free), Err(Errno::ENOTDIR)),
-            (Call::Lookup(1, free), Err(Errno::ENOENT)),
-            (Call::Lookup(1, empty), Err(Errno::ENOENT)),
-            (Call::Create(3, true, a), Err(Errno::ENOENT)),
-            (Call::Create(3, false, empty), Err(Errno::ENOENT)),
-            (Call::Create(2, true, a), Err(Errno::ENOTDIR)),
-            (Call::Create(2, false, empty), Err(Errno::ENOTDIR)),
-            (Call::Create(1, true, a), Err(Errno::EEXIST)),
-            (Call::Getattr(3), Err(Errno::ENOENT)),
-            (Call::Unlink(3, a), Err(Errno::ENOENT)),
-            (Call::Unlink(2, a), Err(Errno::ENOTDIR)),
-            (Call::Unlink(1, free), Err(Errno::ENOENT)),
-            (Call::Open(3), Err(Errno::ENOENT)),
-            (Call::Open(1), Err(Errno::EISDIR)),
-            (Call::Close(2, 2), Err(Errno::EBADF)),
-            (Call::Close(1, 1), Err(Errno::EBADF)),
-        ],
-    );
-    for reserved in [b"".as_slice(), b".", b"..", b"/", b"a/"] {
-        let reserved = name(reserved)?;
-        check(
-            &rt,
-            &mut dir,
-            &[(Call::Create(1, false, reserved), Err(Errno::EINVAL))],
-        );
-    }
+    is_made(&rt, &made(&mut dir, &a), 2, 1);
     fill_lookups(&mut dir, 2);
-    check(
-        &rt,
-        &mut dir,
-        &[
-            (Call::Lookup(1, a), Err(Errno::ENFILE)),
-            (Call::Create(1, true, a), Err(Errno::EEXIST)),
-            (Call::Create(1, false, a), Err(Errno::ENFILE)),
-            (Call::Open(2), Ok(Answer::Open(2))),
-            (Call::Forget(2, 1), Ok(Answer::Done)),
-            (Call::Lookup(1, a), Ok(Answer::Entry(file(2, 1)))),
-        ],
-    );
+    is_refused(&rt, &dir.lookup(1, &a), Errno::ENFILE);
+    is_refused(&rt, &made(&mut dir, &a), Errno::EEXIST);
+    is_refused(&rt, &opened(&mut dir, &a), Errno::ENFILE);
+    is(&rt, &dir.open(2), &Ok(Answer::Open(2)));
+    dir.forget(2, 1);
+    is_found(&rt, &dir.lookup(1, &a), 2);
+    Ok(())
+}
+
+// A directory whose one file has the last number that a node may have.
+fn with_the_last_node(rt: &impl Abort, alloc: Global) -> Result<Dir, Fail> {
+    let mut dir = directory_at(alloc, LAST_NUMBER - 1, 1)?;
+    is_made(rt, &made(&mut dir, &name(b"a")?), LAST_NUMBER - 1, 1);
+    Ok(dir)
+}
+
+#[test]
+fn nodes_are_numbered_to_the_last_number(rt: HostRuntime) -> Result<(), Fail> {
+    let mut dir = with_the_last_node(&rt, rt.alloc())?;
+    is_refused(&rt, &made(&mut dir, &name(b"b")?), Errno::ENOSPC);
+    is_refused(&rt, &made(&mut dir, &name(b".")?), Errno::EINVAL);
+    is_made(&rt, &opened(&mut dir, &name(b"a")?), LAST_NUMBER - 1, 2);
     Ok(())
 }
 
 #[test]
-fn refuses_past_its_limits(rt: HostRuntime) -> Result<(), Fail> {
-    let a = name(b"a")?;
-    let free = name(b"b")?;
-    let dot = name(b".")?;
-    let mut dir = directory_at(rt.alloc(), LAST_NUMBER - 1, 1)?;
+fn nodes_and_open_files_are_both_used_up(rt: HostRuntime) -> Result<(), Fail> {
+    let mut dir = with_the_last_node(&rt, rt.alloc())?;
     let only = LAST_NUMBER - 1;
-    check(
-        &rt,
-        &mut dir,
-        &[
-            (Call::Create(1, true, a), Ok(Answer::Made(file(only, 1), 1))),
-            (Call::Create(1, true, free), Err(Errno::ENOSPC)),
-            (Call::Create(1, true, dot), Err(Errno::EINVAL)),
-            (
-                Call::Create(1, false, a),
-                Ok(Answer::Made(file(only, 1), 2)),
-            ),
-        ],
-    );
+    let a = name(b"a")?;
     open_all(&mut dir, only);
-    check(
-        &rt,
-        &mut dir,
-        &[
-            (Call::Open(only), Err(Errno::ENFILE)),
-            (Call::Open(2), Err(Errno::ENOENT)),
-            (Call::Open(1), Err(Errno::EISDIR)),
-            (Call::Create(1, false, a), Err(Errno::ENFILE)),
-            (Call::Create(1, true, a), Err(Errno::EEXIST)),
-            (Call::Create(1, true, free), Err(Errno::ENOSPC)),
-            (Call::Create(1, true, dot), Err(Errno::EINVAL)),
-            (Call::Create(only, true, a), Err(Errno::ENOTDIR)),
-            (Call::Lookup(1, a), Ok(Answer::Entry(file(only, 1)))),
-        ],
-    );
+    is_refused(&rt, &dir.open(only), Errno::ENFILE);
+    is_refused(&rt, &dir.open(2), Errno::ENOENT);
+    is_refused(&rt, &dir.open(1), Errno::EISDIR);
+    is_refused(&rt, &opened(&mut dir, &a), Errno::ENFILE);
+    is_refused(&rt, &made(&mut dir, &a), Errno::EEXIST);
+    is_refused(&rt, &made(&mut dir, &name(b"b")?), Errno::ENOSPC);
+    is_refused(&rt, &made(&mut dir, &name(b".")?), Errno::EINVAL);
+    is_refused(&rt, &dir.create(only, 5, 6, true, 0o644, &a), Errno::ENOTDIR);
+    is_found(&rt, &dir.lookup(1, &a), only);
+    Ok(())
+}
+
+#[test]
+fn open_files_are_numbered_to_the_last_number(rt: HostRuntime) -> Result<(), Fail> {
     let mut dir = directory_at(rt.alloc(), 2, LAST_NUMBER - 1)?;
-    check(
-        &rt,
-        &mut dir,
-        &[
-            (
-                Call::Create(1, true, a),
-                Ok(Answer::Made(file(2, 1), LAST_NUMBER - 1)),
-            ),
-            (Call::Create(1, true, free), Err(Errno::ENFILE)),
-            (Call::Create(1, false, a), Err(Errno::ENFILE)),
-            (Call::Open(2), Err(Errno::ENFILE)),
-            (Call::Close(2, LAST_NUMBER - 1), Ok(Answer::Done)),
-            (Call::Open(2), Err(Errno::ENFILE)),
-        ],
-    );
+    let a = name(b"a")?;
+    is_made(&rt, &made(&mut dir, &a), 2, LAST_NUMBER - 1);
+    is_refused(&rt, &made(&mut dir, &name(b"b")?), Errno::ENFILE);
+    is_refused(&rt, &opened(&mut dir, &a), Errno::ENFILE);
+    is_refused(&rt, &dir.open(2), Errno::ENFILE);
+    assert!(rt; dir.close(2, LAST_NUMBER - 1).is_ok());
+    is_refused(&rt, &dir.open(2), Errno::ENFILE);
     Ok(())
 }

@@ -2,20 +2,14 @@
 #![tactic(auto)]
 
 mod blocker;
-#[cfg(test)]
-mod blocker_tests;
 mod chain;
 mod held;
 pub mod laws;
 mod lock;
 mod owners;
-#[cfg(test)]
-mod owners_tests;
 mod plan;
 mod run;
 mod table;
-#[cfg(test)]
-mod tests;
 
 pub use fl_arena::Place;
 pub use held::Held;

@@ -1,0 +1,180 @@
+//! The judge beside another way to judge: random histories, and changes of them.
+
+use super::changes::{CHANGES, Effect, changed};
+use super::desk::{history_of, lines_of, order};
+use super::numbers::Numbers;
+use super::traces::{Seen, random_history};
+use fl_book::{Desk, History, Line, Verdict, check};
+use fl_core::Tolds;
+use fl_wire::{Answer, Attr, Errno, LockAsk, Name, NoMemory, Op, Order, Told};
+use std::alloc::Global;
+use std::process::Abort;
+use std::test::Fail;
+
+// The one legal history that has the orders of another, in their order.
+fn with_these_orders(alloc: Global, history: &History) -> Result<History, NoMemory> {
+    let mut desk = Desk::new(alloc)?;
+    let mut tolds = Tolds::new(alloc)?;
+    for at in 0..history.len() {
+        if let Line::Asked { worker, order } = history.line(at) {
+            desk.take(worker, &order, &mut tolds)?;
+        }
+    }
+    Ok(desk.into_history())
+}
+
+// What has to be said of a history, beside the legal one with the same orders: that it is legal where the two are
+// equal, and else that it differs at the first line that they don't have in common. It may be the line after the last
+// of either.
+//
+// For a legal history is determined by its orders: it has each with its replies behind it, and they depend on nothing
+// but the lines before. So what both have up to that line is a beginning of a legal history. With one line more it is
+// none:
+// - Where the legal one has a reply there, an order before is owed it, in every legal history that begins so.
+// - Where it has an order there, no order before is owed a reply, and the other has a reply there: its next order is
+//   the same.
+// - Where it ends there, the other has a reply there too: it has no more orders, and none is owed a reply.
+fn verdict_beside(history: &History, legal: &History) -> Verdict {
+    for at in 0..history.len() {
+        if at >= legal.len() || legal.line(at) != history.line(at) {
+            return Verdict::Differs(at.saturating_add(1));
+        }
+    }
+    if history.len() < legal.len() {
+        return Verdict::Differs(history.len().saturating_add(1));
+    }
+    Verdict::Legal
+}
+
+// Whether two histories have the same lines.
+fn alike(one: &History, other: &History) -> bool {
+    one.len() == other.len() && verdict_beside(one, other) == Verdict::Legal
+}
+
+// How often each change was made, and how often a history differed then.
+#[derive(Drop)]
+struct Tally {
+    made: [u64; 28],
+    differed: [u64; 28],
+    seen: Seen,
+}
+
+impl Tally {
+    fn count(&mut self, at: usize, verdict: Verdict) {
+        if let Some(made) = self.made.get_mut(at) {
+            *made = made.wrapping_add(1);
+        }
+        if verdict == Verdict::Legal {
+            return;
+        }
+        if let Some(differed) = self.differed.get_mut(at) {
+            *differed = differed.wrapping_add(1);
+        }
+    }
+
+    // Each change of a legal history is judged as it is beside the legal history of its orders. If the orders are the
+    // same as before, that is the one that was changed.
+    fn change(
+        &mut self,
+        rt: &impl Abort,
+        alloc: Global,
+        history: &History,
+        numbers: &mut Numbers,
+    ) -> Result<(), NoMemory> {
+        for (at, (change, effect)) in CHANGES.iter().enumerate() {
+            let other = changed(alloc, history, *change, numbers)?;
+            if alike(&other, history) {
+                continue;
+            }
+            let legal = with_these_orders(alloc, &other)?;
+            let wanted = verdict_beside(&other, &legal);
+            assert_eq!(rt; check(alloc, &other)?, wanted, "change {at}");
+            if *effect == Effect::Differs {
+                assert_eq!(rt; verdict_beside(&other, history), wanted, "change {at}");
+            }
+            self.count(at, wanted);
+        }
+        Ok(())
+    }
+
+    // Each change was made often. One that keeps the orders always made the history differ, one of a worker never did,
+    // and the others did often, and left it legal at least as often as is said of them.
+    fn assert_often(&self, rt: &impl Abort) {
+        for (at, (_, effect)) in CHANGES.iter().enumerate() {
+            let made = self.made.get(at).copied().unwrap_or(0);
+            let differed = self.differed.get(at).copied().unwrap_or(0);
+            assert!(rt; made >= 100, "change {at} was made {made} times");
+            match *effect {
+                Effect::Differs => assert_eq!(rt; differed, made, "change {at}"),
+                Effect::Legal => assert_eq!(rt; differed, 0, "change {at}"),
+                Effect::Either(least) => {
+                    assert!(rt; differed >= 40, "change {at} differed {differed} times");
+                    let legal = made.saturating_sub(differed);
+                    assert!(rt; legal >= least, "change {at} was legal {legal} times");
+                }
+            }
+        }
+    }
+}
+
+// What is said of these lines.
+fn verdict_of(alloc: Global, lines: &[Line]) -> Result<Verdict, NoMemory> {
+    check(alloc, &history_of(alloc, lines)?)
+}
+
+#[test]
+fn a_reply_that_nobody_is_owed_and_one_that_is_missing(rt: HostRuntime) -> Result<(), Fail> {
+    let getattr = Line::Asked {
+        worker: 0,
+        order: order(1, 2, Op::Getattr),
+    };
+    let forget = Line::Asked {
+        worker: 0,
+        order: order(1, 2, Op::Forget(1)),
+    };
+    let refused = Line::Told(Told {
+        unique: 1,
+        result: Err(Errno::ENOENT),
+    });
+    let alloc = rt.alloc();
+    assert_eq!(rt; verdict_of(alloc, &[])?, Verdict::Legal);
+    assert_eq!(rt; verdict_of(alloc, &[forget])?, Verdict::Legal);
+    assert_eq!(rt; verdict_of(alloc, &[getattr, refused])?, Verdict::Legal);
+    assert_eq!(rt; verdict_of(alloc, &[refused])?, Verdict::Differs(1));
+    assert_eq!(rt;
+        verdict_of(alloc, &[refused, getattr])?,
+        Verdict::Differs(1)
+    );
+    assert_eq!(rt; verdict_of(alloc, &[getattr])?, Verdict::Differs(2));
+    assert_eq!(rt; verdict_of(alloc, &[forget, refused])?, Verdict::Differs(2));
+    assert_eq!(rt;
+        verdict_of(alloc, &[getattr, refused, refused])?,
+        Verdict::Differs(3)
+    );
+    Ok(())
+}
+
+// The changes of 300 random histories are all judged right.
+#[test]
+fn check_says_what_the_history_of_the_same_orders_says(rt: HostRuntime) -> Result<(), Fail> {
+    let alloc = rt.alloc();
+    let names = [
+        Name::new(b"a").ok_or("a name")?,
+        Name::new(b"b").ok_or("a name")?,
+    ];
+    let mut numbers = Numbers { state: 1 };
+    let mut tally = Tally {
+        made: [0; 28],
+        differed: [0; 28],
+        seen: Seen::none(),
+    };
+    for seed in 0..300 {
+        let (history, seen) = random_history(alloc, names, seed)?;
+        assert_eq!(rt; check(alloc, &history)?, Verdict::Legal, "seed {seed}");
+        tally.seen.add(seen);
+        tally.change(&rt, alloc, &history, &mut numbers)?;
+    }
+    tally.assert_often(&rt);
+    tally.seen.assert_often(&rt);
+    Ok(())
+}

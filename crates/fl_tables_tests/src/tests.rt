@@ -1,0 +1,18 @@
+//! Tests of the tables, by what is public of them.
+
+mod arena;
+mod blocker;
+mod dir;
+mod directory;
+mod lives;
+mod owners;
+mod ranges;
+mod rooms;
+
+use std::fmt::Debug;
+use std::process::Abort;
+
+// What was told is what is wanted.
+fn same<T: Debug + PartialEq>(rt: &impl Abort, told: &T, wanted: &T) {
+    assert_eq!(rt; *told, *wanted);
+}

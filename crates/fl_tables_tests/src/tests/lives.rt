@@ -1,0 +1,164 @@
+//! When nodes live and go, and that their room comes back.
+
+use super::directory::{
+    file, is, is_closed, is_done, is_found, is_gone, is_made, is_not_open, is_open, is_refused,
+    lives, made, name,
+};
+use fl_dir::{Closed, Dir, ROOT};
+use fl_wire::{Answer, Attr, Errno, Name};
+use std::process::Abort;
+use std::test::Fail;
+
+// What keeps a node alive.
+#[derive(Clone, Copy, PartialEq, Eq)]
+enum Reason {
+    Name,
+    Lookup,
+    Open,
+}
+
+// Takes the name, the lookup or the open fh of a first file away.
+fn take_away(rt: &impl Abort, dir: &mut Dir, name: &Name, reason: Reason) {
+    match reason {
+        Reason::Name => is_done(rt, &dir.unlink(1, name)),
+        Reason::Lookup => dir.forget(2, 1),
+        Reason::Open => assert!(rt; dir.close(2, 1).is_ok()),
+    }
+}
+
+// Makes a file, and takes its reasons to live away, the last one last.
+fn lives_until(
+    rt: &impl Abort,
+    dir: &mut Dir,
+    name: &Name,
+    first: Reason,
+    second: Reason,
+    last: Reason,
+) {
+    let names = u32::from(first != Reason::Name);
+    is_made(rt, &made(dir, name), 2, 1);
+    take_away(rt, dir, name, first);
+    lives(rt, dir, 2, names);
+    take_away(rt, dir, name, second);
+    lives(rt, dir, 2, u32::from(last == Reason::Name));
+    take_away(rt, dir, name, last);
+    is_gone(rt, dir, 2);
+}
+
+// The room of a first file is free, and its numbers are not given again.
+fn is_forgotten(rt: &impl Abort, dir: &mut Dir, name: &Name) {
+    is_refused(rt, &dir.open(2), Errno::ENOENT);
+    is_refused(rt, &dir.lookup(1, name), Errno::ENOENT);
+    is_made(rt, &made(dir, name), 3, 2);
+}
+
+#[test]
+fn a_node_goes_with_its_last_reason_to_live(rt: HostRuntime) -> Result<(), Fail> {
+    let a = name(b"a")?;
+    for (first, second, last) in [
+        (Reason::Name, Reason::Lookup, Reason::Open),
+        (Reason::Name, Reason::Open, Reason::Lookup),
+        (Reason::Lookup, Reason::Name, Reason::Open),
+        (Reason::Lookup, Reason::Open, Reason::Name),
+        (Reason::Open, Reason::Name, Reason::Lookup),
+        (Reason::Open, Reason::Lookup, Reason::Name),
+    ] {
+        let mut dir = Dir::new(rt.alloc())?;
+        lives_until(&rt, &mut dir, &a, first, second, last);
+        is_forgotten(&rt, &mut dir, &a);
+    }
+    Ok(())
+}
+
+// The file `a`, node 2, is open under fh 1 and has no name any more; then comes another `a`, node 3, under fh 2.
+fn named_again(rt: &impl Abort, dir: &mut Dir, a: &Name) {
+    is_made(rt, &made(dir, a), 2, 1);
+    is_done(rt, &dir.unlink(1, a));
+    is_refused(rt, &dir.lookup(1, a), Errno::ENOENT);
+    is_made(rt, &made(dir, a), 3, 2);
+    lives(rt, dir, 2, 0);
+}
+
+#[test]
+fn a_name_is_free_while_its_old_node_lives(rt: HostRuntime) -> Result<(), Fail> {
+    let a = name(b"a")?;
+    let mut dir = Dir::new(rt.alloc())?;
+    named_again(&rt, &mut dir, &a);
+    is_open(&rt, &dir.open(2), 3);
+    is_found(&rt, &dir.lookup(1, &a), 3);
+    dir.forget(2, 7);
+    lives(&rt, &dir, 2, 0);
+    Ok(())
+}
+
+#[test]
+fn a_node_goes_with_its_last_open_file(rt: HostRuntime) -> Result<(), Fail> {
+    let mut dir = Dir::new(rt.alloc())?;
+    named_again(&rt, &mut dir, &name(b"a")?);
+    is_open(&rt, &dir.open(2), 3);
+    dir.forget(2, 7);
+    assert_eq!(rt; dir.node_of(1), Some(2));
+    is_closed(&rt, &dir.close(2, 1), 2, false);
+    is_not_open(&rt, &dir.close(2, 1));
+    assert_eq!(rt; dir.node_of(1), None);
+    is_closed(&rt, &dir.close(2, 3), 2, true);
+    is_gone(&rt, &dir, 2);
+    assert_eq!(rt; dir.node_of(2), Some(3));
+    Ok(())
+}
+
+#[test]
+fn lookups_are_counted_and_forgotten(rt: HostRuntime) -> Result<(), Fail> {
+    let a = name(b"a")?;
+    let mut dir = Dir::new(rt.alloc())?;
+    is_made(&rt, &made(&mut dir, &a), 2, 1);
+    is_closed(&rt, &dir.close(2, 1), 2, true);
+    dir.forget(2, 2);
+    is_found(&rt, &dir.lookup(1, &a), 2);
+    is_found(&rt, &dir.lookup(1, &a), 2);
+    is_done(&rt, &dir.unlink(1, &a));
+    dir.forget(2, 1);
+    lives(&rt, &dir, 2, 0);
+    dir.forget(2, 0);
+    lives(&rt, &dir, 2, 0);
+    dir.forget(2, 1);
+    is_gone(&rt, &dir, 2);
+    Ok(())
+}
+
+#[test]
+fn the_root_is_not_forgotten(rt: HostRuntime) -> Result<(), Fail> {
+    let mut dir = Dir::new(rt.alloc())?;
+    let root = Attr {
+        node: ROOT,
+        mode: 0o40755,
+        nlink: 2,
+        uid: 0,
+        gid: 0,
+    };
+    is_made(&rt, &made(&mut dir, &name(b"a")?), 2, 1);
+    dir.forget(1, 9);
+    dir.forget(3, 9);
+    is(&rt, &dir.getattr(1), &Ok(Answer::Attr(root)));
+    lives(&rt, &dir, 2, 1);
+    Ok(())
+}
+
+#[test]
+fn a_linked_name_keeps_its_first_mode_and_owner(rt: HostRuntime) -> Result<(), Fail> {
+    let a = name(b"a")?;
+    let mut dir = Dir::new(rt.alloc())?;
+    let first = Attr {
+        node: 2,
+        mode: 0o100777,
+        nlink: 1,
+        uid: 8,
+        gid: 9,
+    };
+    let made = dir.create(1, 8, 9, true, 0o107777, &a);
+    is(&rt, &made, &Ok(Answer::Made(first, 1)));
+    let reopened = dir.create(1, 5, 6, false, 0o600, &a);
+    is(&rt, &reopened, &Ok(Answer::Made(first, 2)));
+    is(&rt, &dir.getattr(2), &Ok(Answer::Attr(first)));
+    Ok(())
+}
