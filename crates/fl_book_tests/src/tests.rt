@@ -5,6 +5,16 @@ mod board;
 mod changes;
 mod desk;
 mod judged;
+mod lines;
 mod numbers;
+mod random;
 mod text;
 mod traces;
+
+use std::fmt::Debug;
+use std::process::Abort;
+
+// What was told is what is wanted.
+fn same<T: Debug + PartialEq>(rt: &impl Abort, told: &T, wanted: &T) {
+    assert_eq!(rt; *told, *wanted);
+}

@@ -4,10 +4,15 @@ mod arena;
 mod blocker;
 mod dir;
 mod directory;
+mod grid;
+mod lists;
 mod lives;
+mod locks;
+mod numbers;
 mod owners;
 mod ranges;
 mod rooms;
+mod strokes;
 
 use std::fmt::Debug;
 use std::process::Abort;

@@ -1,12 +1,10 @@
 //! Changes of a history.
 
-use super::desk::{history_of, lines_of, order};
+use super::lines::{history_of, lines_of};
 use super::numbers::Numbers;
-use fl_book::{Desk, History, Line, Verdict, check};
-use fl_core::Tolds;
-use fl_wire::{Answer, Attr, Errno, LockAsk, Name, NoMemory, Op, Order, Told};
+use fl_book::{History, Line};
+use fl_wire::{Answer, Attr, Errno, LockAsk, NoMemory, Op, Order, Told};
 use std::alloc::Global;
-use std::test::Fail;
 
 #[derive(Clone, Copy, PartialEq, Eq)]
 pub(super) enum Change {

@@ -1,161 +1,117 @@
-//! Histories, and the desk that keeps one.
+//! The desk, against a stored trace, and a history of many lines.
 
-use fl_book::{Desk, History, Line, laws};
+use super::lines::order;
+use super::same;
+use super::traces::{LOCKS, read};
+use fl_book::{Desk, History, Line, laws, print_trace};
 use fl_core::Tolds;
-use fl_wire::{Answer, Attr, Errno, LockAsk, Name, NoMemory, Op, Order, Told};
+use fl_wire::{Answer, Attr, Errno, LockAsk, Name, Op, Told};
 use std::alloc::Global;
+use std::process::Abort;
 use std::test::Fail;
 
-/// The history of these lines.
-pub(super) fn history_of(alloc: Global, lines: &[Line]) -> Result<History, NoMemory> {
-    let mut history = History::new(alloc);
-    for line in lines {
-        history.push(line)?;
+// The replies stand behind a line of a trace.
+fn stand_behind(rt: &impl Abort, trace: &History, at: usize, tolds: &[Told]) {
+    let mut at = at;
+    for told in tolds {
+        at = at.saturating_add(1);
+        assert!(rt; at < trace.len());
+        same(rt, &trace.line(at), &Line::Told(*told));
     }
-    Ok(history)
 }
 
-/// The lines of a history.
-pub(super) fn lines_of(alloc: Global, history: &History) -> Result<Vec<Line>, NoMemory> {
-    let mut lines = Vec::new(alloc);
-    for at in 0..history.len() {
-        match history.line(at) {
-            Line::Asked { worker, order } => {
-                let op = order.op;
-                lines.push(Line::Asked {
-                    worker,
-                    order: Order { op, ..order },
-                })?;
-            }
-            Line::Told(told) => lines.push(Line::Told(told))?,
+// A new desk is asked what a trace asks, and tells what the trace tells. It gives the desk's history.
+fn asked_again(rt: &impl Abort, alloc: Global, trace: &History) -> Result<History, Fail> {
+    let mut desk = Desk::new(alloc)?;
+    let mut tolds = Tolds::new(alloc)?;
+    for at in 0..trace.len() {
+        if let Line::Asked { worker, order } = trace.line(at) {
+            desk.take(worker, &order, &mut tolds)?;
+            stand_behind(rt, trace, at, tolds.as_slice());
         }
     }
-    Ok(lines)
-}
-
-pub(super) fn order(unique: u64, node: u64, op: Op) -> Order {
-    Order {
-        unique,
-        node,
-        uid: 0,
-        gid: 0,
-        pid: 0,
-        op,
-    }
-}
-
-// A record lock of owner 7 or 8 through fh 1.
-fn lock(owner: u64, start: u64, end: u64, kind: u32) -> Op {
-    Op::Setlk(LockAsk {
-        fh: 1,
-        owner,
-        start,
-        end,
-        kind,
-        pid: 11,
-        flags: 0,
-    })
+    Ok(desk.into_history())
 }
 
 #[test]
 fn a_desk_answers_and_records(rt: HostRuntime) -> Result<(), Fail> {
-    let made = Attr {
-        node: 2,
-        mode: 33188,
-        nlink: 1,
-        uid: 0,
-        gid: 0,
-    };
-    let name = Name::new(b"a").ok_or("a name")?;
-    let create = Op::Create {
-        excl: false,
-        mode: 420,
-        name,
-    };
-    let steps = [
-        (order(1, 1, create), Ok(Answer::Made(made, 1))),
-        (order(2, 2, lock(7, 0, 9, 1)), Ok(Answer::Done)),
-        (order(3, 2, lock(8, 9, 9, 0)), Err(Errno::EAGAIN)),
-        (order(4, 2, lock(7, 5, 9, 2)), Ok(Answer::Done)),
-        (order(5, 2, lock(8, 9, 9, 0)), Ok(Answer::Done)),
-    ];
     laws::own_reply_comes_first();
-    let mut desk = Desk::new(rt.alloc())?;
-    let mut tolds = Tolds::new(rt.alloc())?;
-    for (order, result) in steps {
-        desk.take(3, &order, &mut tolds)?;
-        let told = Told {
-            unique: order.unique,
-            result,
-        };
-        assert_eq!(rt; tolds.as_slice(), [told].as_slice());
-    }
-    let history = desk.into_history();
-    assert_eq!(rt; history.len(), 10);
-    let asked = Line::Asked {
-        worker: 3,
-        order: order(2, 2, lock(7, 0, 9, 1)),
-    };
-    let told = Line::Told(Told {
-        unique: 2,
-        result: Ok(Answer::Done),
-    });
-    assert_eq!(rt; history.line(2), asked);
-    assert_eq!(rt; history.line(3), told);
+    let trace = read(&rt, LOCKS, 10)?;
+    let history = asked_again(&rt, rt.alloc(), &trace)?;
+    same(&rt, &history.len(), &10);
+    let text = print_trace(rt.alloc(), &history)?;
+    assert_eq!(rt; text.as_str(), LOCKS);
     Ok(())
 }
 
 // What another place doesn't ask, with names of any length.
 fn op_for(place: u64) -> Result<Op, Fail> {
+    if place % 2 == 1 {
+        return Ok(lock_for(place));
+    }
     let letters = [b'a' + (place % 26) as u8; 255];
     let name = Name::new(&letters[..(place % 256) as usize]).ok_or("a name")?;
-    Ok(if place % 2 == 0 {
-        Op::Unlink(name)
-    } else {
-        lock(u64::MAX - place, place, u64::MAX, 1)
+    Ok(Op::Unlink(name))
+}
+
+fn lock_for(place: u64) -> Op {
+    Op::Setlk(LockAsk {
+        fh: 1,
+        owner: u64::MAX - place,
+        start: place,
+        end: u64::MAX,
+        kind: 1,
+        pid: 11,
+        flags: 0,
     })
 }
 
-// An answer or an error that another place doesn't have.
-fn told_for(place: u64) -> Told {
-    let attr = Attr {
+fn asked_for(place: u64) -> Result<Line, Fail> {
+    Ok(Line::Asked {
+        worker: 15,
+        order: order(place, u64::MAX, op_for(place)?),
+    })
+}
+
+fn attr_for(place: u64) -> Attr {
+    Attr {
         node: place,
         mode: u32::MAX,
         nlink: 1,
         uid: 2,
         gid: 3,
-    };
-    Told {
-        unique: u64::MAX - place,
-        result: match place % 3 {
-            0 => Ok(Answer::Made(attr, place)),
-            1 => Ok(Answer::Done),
-            _ => Err(Errno::EDEADLK),
-        },
     }
+}
+
+// An answer or an error that another place doesn't have.
+fn told_for(place: u64) -> Line {
+    let result = match place % 3 {
+        0 => Ok(Answer::Made(attr_for(place), place)),
+        1 => Ok(Answer::Done),
+        _ => Err(Errno::EDEADLK),
+    };
+    Line::Told(Told {
+        unique: u64::MAX - place,
+        result,
+    })
 }
 
 #[test]
 fn a_history_of_many_chunks_gives_each_line_back(rt: HostRuntime) -> Result<(), Fail> {
     let mut history = History::new(rt.alloc());
     for place in 0..10_000 {
-        let op = op_for(place)?;
-        let order = order(place, u64::MAX, op);
-        history.push(&Line::Asked { worker: 15, order })?;
-        history.push(&Line::Told(told_for(place)))?;
+        history.push(&asked_for(place)?)?;
+        history.push(&told_for(place))?;
     }
-    assert_eq!(rt; history.len(), 20_000);
+    same(&rt, &history.len(), &20_000);
     for at in 0..history.len() {
         let place = at as u64 / 2;
-        let op = op_for(place)?;
-        let order = order(place, u64::MAX, op);
-        let asked = Line::Asked { worker: 15, order };
         let wanted = if at % 2 == 0 {
-            asked
+            asked_for(place)?
         } else {
-            Line::Told(told_for(place))
+            told_for(place)
         };
-        assert_eq!(rt; history.line(at), wanted, "line {at}");
+        same(&rt, &history.line(at), &wanted);
     }
     Ok(())
 }

@@ -1,12 +1,12 @@
 //! The judge beside another way to judge: random histories, and changes of them.
 
 use super::changes::{CHANGES, Effect, changed};
-use super::desk::{history_of, lines_of, order};
 use super::numbers::Numbers;
-use super::traces::{Seen, random_history};
+use super::random::{Seen, random_history};
+use super::same;
 use fl_book::{Desk, History, Line, Verdict, check};
 use fl_core::Tolds;
-use fl_wire::{Answer, Attr, Errno, LockAsk, Name, NoMemory, Op, Order, Told};
+use fl_wire::{Name, NoMemory};
 use std::alloc::Global;
 use std::process::Abort;
 use std::test::Fail;
@@ -115,43 +115,6 @@ impl Tally {
             }
         }
     }
-}
-
-// What is said of these lines.
-fn verdict_of(alloc: Global, lines: &[Line]) -> Result<Verdict, NoMemory> {
-    check(alloc, &history_of(alloc, lines)?)
-}
-
-#[test]
-fn a_reply_that_nobody_is_owed_and_one_that_is_missing(rt: HostRuntime) -> Result<(), Fail> {
-    let getattr = Line::Asked {
-        worker: 0,
-        order: order(1, 2, Op::Getattr),
-    };
-    let forget = Line::Asked {
-        worker: 0,
-        order: order(1, 2, Op::Forget(1)),
-    };
-    let refused = Line::Told(Told {
-        unique: 1,
-        result: Err(Errno::ENOENT),
-    });
-    let alloc = rt.alloc();
-    assert_eq!(rt; verdict_of(alloc, &[])?, Verdict::Legal);
-    assert_eq!(rt; verdict_of(alloc, &[forget])?, Verdict::Legal);
-    assert_eq!(rt; verdict_of(alloc, &[getattr, refused])?, Verdict::Legal);
-    assert_eq!(rt; verdict_of(alloc, &[refused])?, Verdict::Differs(1));
-    assert_eq!(rt;
-        verdict_of(alloc, &[refused, getattr])?,
-        Verdict::Differs(1)
-    );
-    assert_eq!(rt; verdict_of(alloc, &[getattr])?, Verdict::Differs(2));
-    assert_eq!(rt; verdict_of(alloc, &[forget, refused])?, Verdict::Differs(2));
-    assert_eq!(rt;
-        verdict_of(alloc, &[getattr, refused, refused])?,
-        Verdict::Differs(3)
-    );
-    Ok(())
 }
 
 // The changes of 300 random histories are all judged right.

@@ -1,39 +1,12 @@
 //! The text of histories, there and back.
 
-use super::desk::history_of;
+use super::lines::history_of;
+use super::same;
 use fl_book::{Line, first_line, has_text, print_trace, read_trace};
 use fl_trace::laws;
 use fl_wire::{Answer, Attr, Errno, LockAsk, Name, Op, Order, Told};
 use std::process::Abort;
 use std::test::Fail;
-
-const ATTR: Attr = Attr {
-    node: 2,
-    mode: 33188,
-    nlink: 1,
-    uid: 3,
-    gid: 4,
-};
-
-const ASK: LockAsk = LockAsk {
-    fh: 1,
-    owner: 7,
-    start: 0,
-    end: 9,
-    kind: 1,
-    pid: 11,
-    flags: 0,
-};
-
-const GREATEST: LockAsk = LockAsk {
-    fh: u64::MAX,
-    owner: u64::MAX,
-    start: u64::MAX,
-    end: u64::MAX,
-    kind: u32::MAX,
-    pid: u32::MAX,
-    flags: u32::MAX,
-};
 
 fn asked(worker: u32, op: Op) -> Line {
     Line::Asked {
@@ -49,6 +22,44 @@ fn asked(worker: u32, op: Op) -> Line {
     }
 }
 
+fn told(answer: Result<Answer, Errno>) -> Line {
+    Line::Told(Told {
+        unique: 9,
+        result: answer,
+    })
+}
+
+fn name(bytes: &[u8]) -> Result<Name, Fail> {
+    Ok(Name::new(bytes).ok_or("a name")?)
+}
+
+// A line is printed as this text, and the text is read as the line.
+fn there_and_back(rt: &(impl Abort + AllocGlobal), line: &Line, text: &str) -> Result<(), Fail> {
+    let history = history_of(rt.alloc(), &[*line])?;
+    assert!(rt; has_text(&history), "{text}");
+    assert_eq!(rt; print_trace(rt.alloc(), &history)?.as_str(), text);
+    let read = read_trace(rt.alloc(), text.as_bytes()).ok().ok_or("read")?;
+    assert_eq!(rt; read.len(), 1, "{text}");
+    same(rt, &read.line(0), line);
+    Ok(())
+}
+
+// What worker 0 asks is printed and read as these words.
+fn asks(rt: &(impl Abort + AllocGlobal), op: Op, words: &str) -> Result<(), Fail> {
+    let text = format!(in rt.alloc(); "ask 0 1 2 3 4 5 {words}\n")?;
+    there_and_back(rt, &asked(0, op), text.as_str())
+}
+
+// What is told is printed and read as these words.
+fn tells(
+    rt: &(impl Abort + AllocGlobal),
+    answer: Result<Answer, Errno>,
+    words: &str,
+) -> Result<(), Fail> {
+    let text = format!(in rt.alloc(); "tell 9 {words}\n")?;
+    there_and_back(rt, &told(answer), text.as_str())
+}
+
 fn create(name: Name, mode: u32) -> Op {
     Op::Create {
         excl: true,
@@ -57,105 +68,107 @@ fn create(name: Name, mode: u32) -> Op {
     }
 }
 
+#[test]
+fn creates_there_and_back(rt: HostRuntime) -> Result<(), Fail> {
+    asks(&rt, create(name(b"a\xff")?, 420), "create 1 420 61ff")?;
+    let last = asked(15, create(name(b"")?, 511));
+    there_and_back(&rt, &last, "ask 15 1 2 3 4 5 create 1 511 -\n")
+}
+
+#[test]
+fn names_there_and_back(rt: HostRuntime) -> Result<(), Fail> {
+    let full = name(b"a\xff")?;
+    let empty = name(b"")?;
+    asks(&rt, Op::Lookup(full), "lookup 61ff")?;
+    asks(&rt, Op::Lookup(empty), "lookup -")?;
+    asks(&rt, Op::Unlink(full), "unlink 61ff")?;
+    asks(&rt, Op::Unlink(empty), "unlink -")
+}
+
+#[test]
+fn orders_of_a_node_there_and_back(rt: HostRuntime) -> Result<(), Fail> {
+    asks(&rt, Op::Forget(0), "forget 0")?;
+    asks(&rt, Op::Forget(u64::MAX), "forget 18446744073709551615")?;
+    asks(&rt, Op::Getattr, "getattr")?;
+    asks(&rt, Op::Open, "open")
+}
+
 fn release(fh: u64, drop: bool, owner: u64) -> Op {
     Op::Release { fh, drop, owner }
+}
+
+#[test]
+fn releases_there_and_back(rt: HostRuntime) -> Result<(), Fail> {
+    asks(&rt, release(1, false, 7), "release 1 0 7")?;
+    asks(&rt, release(7, true, 1), "release 7 1 1")?;
+    asks(
+        &rt,
+        release(u64::MAX, true, u64::MAX),
+        "release 18446744073709551615 1 18446744073709551615",
+    )
 }
 
 fn flush(fh: u64, owner: u64) -> Op {
     Op::Flush { fh, owner }
 }
 
-fn told(answer: Result<Answer, Errno>) -> Line {
-    Line::Told(Told {
-        unique: 9,
-        result: answer,
-    })
+#[test]
+fn flushes_there_and_back(rt: HostRuntime) -> Result<(), Fail> {
+    asks(&rt, flush(1, 7), "flush 1 7")?;
+    asks(&rt, flush(0, u64::MAX), "flush 0 18446744073709551615")
 }
 
-// A line is printed as this text, and the text is read as the line.
-fn there_and_back(rt: &(impl Abort + AllocGlobal), line: Line, text: &str) -> Result<(), Fail> {
-    let history = history_of(rt.alloc(), &[line])?;
-    assert!(rt; has_text(&history), "{text}");
-    assert_eq!(rt; print_trace(rt.alloc(), &history)?.as_str(), text);
-    let read = read_trace(rt.alloc(), text.as_bytes()).ok().ok_or("read")?;
-    assert_eq!(rt; read.len(), 1, "{text}");
-    assert_eq!(rt; read.line(0), line, "{text}");
-    Ok(())
+const ASK: LockAsk = LockAsk {
+    fh: 1,
+    owner: 7,
+    start: 0,
+    end: 9,
+    kind: 1,
+    pid: 11,
+    flags: 0,
+};
+
+#[test]
+fn locks_there_and_back(rt: HostRuntime) -> Result<(), Fail> {
+    asks(&rt, Op::Getlk(ASK), "getlk 1 7 0 9 1 11 0")?;
+    asks(&rt, Op::Setlk(ASK), "setlk 1 7 0 9 1 11 0")?;
+    asks(&rt, Op::Setlkw(ASK), "setlkw 1 7 0 9 1 11 0")
+}
+
+const GREATEST: LockAsk = LockAsk {
+    fh: u64::MAX,
+    owner: u64::MAX,
+    start: u64::MAX,
+    end: u64::MAX,
+    kind: u32::MAX,
+    pid: u32::MAX,
+    flags: u32::MAX,
+};
+
+#[test]
+fn the_greatest_locks_there_and_back(rt: HostRuntime) -> Result<(), Fail> {
+    asks(
+        &rt,
+        Op::Setlk(GREATEST),
+        "setlk 18446744073709551615 18446744073709551615 18446744073709551615 \
+         18446744073709551615 4294967295 4294967295 4294967295",
+    )?;
+    asks(
+        &rt,
+        Op::Setlkw(GREATEST),
+        "setlkw 18446744073709551615 18446744073709551615 18446744073709551615 \
+         18446744073709551615 4294967295 4294967295 4294967295",
+    )
 }
 
 #[test]
-fn orders_there_and_back(rt: HostRuntime) -> Result<(), Fail> {
-    let name = Name::new(b"a\xff").ok_or("a name")?;
-    let empty = Name::new(b"").ok_or("a name")?;
-    let lines = [
-        (
-            asked(0, create(name, 420)),
-            "ask 0 1 2 3 4 5 create 1 420 61ff\n",
-        ),
-        (
-            asked(15, create(empty, 511)),
-            "ask 15 1 2 3 4 5 create 1 511 -\n",
-        ),
-        (asked(0, Op::Lookup(name)), "ask 0 1 2 3 4 5 lookup 61ff\n"),
-        (asked(0, Op::Lookup(empty)), "ask 0 1 2 3 4 5 lookup -\n"),
-        (asked(0, Op::Forget(0)), "ask 0 1 2 3 4 5 forget 0\n"),
-        (
-            asked(0, Op::Forget(u64::MAX)),
-            "ask 0 1 2 3 4 5 forget 18446744073709551615\n",
-        ),
-        (asked(0, Op::Getattr), "ask 0 1 2 3 4 5 getattr\n"),
-        (asked(0, Op::Unlink(name)), "ask 0 1 2 3 4 5 unlink 61ff\n"),
-        (asked(0, Op::Unlink(empty)), "ask 0 1 2 3 4 5 unlink -\n"),
-        (asked(0, Op::Open), "ask 0 1 2 3 4 5 open\n"),
-        (
-            asked(0, release(1, false, 7)),
-            "ask 0 1 2 3 4 5 release 1 0 7\n",
-        ),
-        (
-            asked(0, release(7, true, 1)),
-            "ask 0 1 2 3 4 5 release 7 1 1\n",
-        ),
-        (
-            asked(0, release(u64::MAX, true, u64::MAX)),
-            "ask 0 1 2 3 4 5 release 18446744073709551615 1 18446744073709551615\n",
-        ),
-        (asked(0, flush(1, 7)), "ask 0 1 2 3 4 5 flush 1 7\n"),
-        (
-            asked(0, flush(0, u64::MAX)),
-            "ask 0 1 2 3 4 5 flush 0 18446744073709551615\n",
-        ),
-        (
-            asked(0, Op::Getlk(ASK)),
-            "ask 0 1 2 3 4 5 getlk 1 7 0 9 1 11 0\n",
-        ),
-        (
-            asked(0, Op::Setlk(ASK)),
-            "ask 0 1 2 3 4 5 setlk 1 7 0 9 1 11 0\n",
-        ),
-        (
-            asked(0, Op::Setlk(GREATEST)),
-            "ask 0 1 2 3 4 5 setlk 18446744073709551615 18446744073709551615 18446744073709551615 \
-             18446744073709551615 4294967295 4294967295 4294967295\n",
-        ),
-        (
-            asked(0, Op::Setlkw(ASK)),
-            "ask 0 1 2 3 4 5 setlkw 1 7 0 9 1 11 0\n",
-        ),
-        (
-            asked(0, Op::Setlkw(GREATEST)),
-            "ask 0 1 2 3 4 5 setlkw 18446744073709551615 18446744073709551615 18446744073709551615 \
-             18446744073709551615 4294967295 4294967295 4294967295\n",
-        ),
-        (asked(0, Op::Interrupt(0)), "ask 0 1 2 3 4 5 interrupt 0\n"),
-        (
-            asked(0, Op::Interrupt(u64::MAX)),
-            "ask 0 1 2 3 4 5 interrupt 18446744073709551615\n",
-        ),
-    ];
-    for (line, text) in lines {
-        there_and_back(&rt, line, text)?;
-    }
-    Ok(())
+fn interrupts_there_and_back(rt: HostRuntime) -> Result<(), Fail> {
+    asks(&rt, Op::Interrupt(0), "interrupt 0")?;
+    asks(
+        &rt,
+        Op::Interrupt(u64::MAX),
+        "interrupt 18446744073709551615",
+    )
 }
 
 // A LOOKUP's name of so many bytes.
@@ -171,10 +184,18 @@ pub(super) fn lookup_text(rt: &(impl Abort + AllocGlobal), bytes: usize) -> Resu
 
 #[test]
 fn the_longest_name_there_and_back(rt: HostRuntime) -> Result<(), Fail> {
-    let name = Name::new(&[b'a'; 255]).ok_or("a name")?;
+    let line = asked(0, Op::Lookup(name(&[b'a'; 255])?));
     let text = lookup_text(&rt, 255)?;
-    there_and_back(&rt, asked(0, Op::Lookup(name)), text.as_str())
+    there_and_back(&rt, &line, text.as_str())
 }
+
+const ATTR: Attr = Attr {
+    node: 2,
+    mode: 33188,
+    nlink: 1,
+    uid: 3,
+    gid: 4,
+};
 
 #[test]
 fn answers_there_and_back(rt: HostRuntime) -> Result<(), Fail> {
@@ -184,18 +205,12 @@ fn answers_there_and_back(rt: HostRuntime) -> Result<(), Fail> {
         kind: 1,
         pid: u32::MAX,
     };
-    let answers = [
-        (Answer::Done, "tell 9 ok\n"),
-        (Answer::Entry(ATTR), "tell 9 entry 2 33188 1 3 4\n"),
-        (Answer::Attr(ATTR), "tell 9 attr 2 33188 1 3 4\n"),
-        (Answer::Open(7), "tell 9 open 7\n"),
-        (Answer::Made(ATTR, 7), "tell 9 made 2 33188 1 3 4 7\n"),
-        (lock, "tell 9 lock 0 18446744073709551615 1 4294967295\n"),
-    ];
-    for (answer, text) in answers {
-        there_and_back(&rt, told(Ok(answer)), text)?;
-    }
-    Ok(())
+    tells(&rt, Ok(Answer::Done), "ok")?;
+    tells(&rt, Ok(Answer::Entry(ATTR)), "entry 2 33188 1 3 4")?;
+    tells(&rt, Ok(Answer::Attr(ATTR)), "attr 2 33188 1 3 4")?;
+    tells(&rt, Ok(Answer::Open(7)), "open 7")?;
+    tells(&rt, Ok(Answer::Made(ATTR, 7)), "made 2 33188 1 3 4 7")?;
+    tells(&rt, Ok(lock), "lock 0 18446744073709551615 1 4294967295")
 }
 
 // The numbers of Linux.
@@ -220,21 +235,30 @@ fn errors_there_and_back(rt: HostRuntime) -> Result<(), Fail> {
         (Errno::EPROTO, 71),
     ];
     for (error, number) in errors {
-        let text = format!(in rt.alloc(); "tell 9 err {number}\n")?;
-        there_and_back(&rt, told(Err(error)), text.as_str())?;
+        let words = format!(in rt.alloc(); "err {number}")?;
+        tells(&rt, Err(error), words.as_str())?;
     }
+    Ok(())
+}
+
+// Whether the creation of a file can be read back.
+fn can_be_read(
+    rt: &(impl Abort + AllocGlobal),
+    worker: u32,
+    mode: u32,
+    can: bool,
+) -> Result<(), Fail> {
+    let line = asked(worker, create(name(b"a")?, mode));
+    let history = history_of(rt.alloc(), &[line])?;
+    same(rt, &has_text(&history), &can);
     Ok(())
 }
 
 #[test]
 fn what_can_be_read_back(rt: HostRuntime) -> Result<(), Fail> {
-    let name = Name::new(b"a").ok_or("a name")?;
-    for (worker, mode, can) in [(15, 511, true), (16, 511, false), (15, 512, false)] {
-        let line = asked(worker, create(name, mode));
-        let history = history_of(rt.alloc(), &[line])?;
-        assert_eq!(rt; has_text(&history), can, "{worker} {mode}");
-    }
-    Ok(())
+    can_be_read(&rt, 15, 511, true)?;
+    can_be_read(&rt, 16, 511, false)?;
+    can_be_read(&rt, 15, 512, false)
 }
 
 #[test]
@@ -247,10 +271,8 @@ fn no_lines(rt: HostRuntime) -> Result<(), Fail> {
 
 #[test]
 fn a_line_at_a_time(rt: HostRuntime) -> Result<(), Fail> {
-    let Some((line, rest)) = first_line(b"tell 9 ok\ntell") else {
-        return Err(Fail::from("a line"));
-    };
-    assert_eq!(rt; line, told(Ok(Answer::Done)));
+    let (line, rest) = first_line(b"tell 9 ok\ntell").ok_or("a line")?;
+    same(&rt, &line, &told(Ok(Answer::Done)));
     assert_eq!(rt; rest, b"tell".as_slice());
     assert!(rt; first_line(rest).is_none());
     Ok(())
@@ -264,7 +286,7 @@ fn a_trace_of_ten_thousand_lines(rt: HostRuntime) -> Result<(), Fail> {
         write!(text, "tell {i} ok\n")?;
     }
     let read = read_trace(rt.alloc(), text.as_bytes()).ok().ok_or("read")?;
-    assert_eq!(rt; read.len(), 10_000);
+    same(&rt, &read.len(), &10_000);
     assert_eq!(rt; print_trace(rt.alloc(), &read)?.as_str(), text.as_str());
     Ok(())
 }

@@ -4,6 +4,7 @@ use super::directory::{
     file, is, is_closed, is_done, is_found, is_gone, is_made, is_not_open, is_open, is_refused,
     lives, made, name,
 };
+use super::same;
 use fl_dir::{Closed, Dir, ROOT};
 use fl_wire::{Answer, Attr, Errno, Name};
 use std::process::Abort;
@@ -22,7 +23,7 @@ fn take_away(rt: &impl Abort, dir: &mut Dir, name: &Name, reason: Reason) {
     match reason {
         Reason::Name => is_done(rt, &dir.unlink(1, name)),
         Reason::Lookup => dir.forget(2, 1),
-        Reason::Open => assert!(rt; dir.close(2, 1).is_ok()),
+        Reason::Open => same(rt, &dir.close(2, 1).is_ok(), &true),
     }
 }
 
@@ -97,13 +98,13 @@ fn a_node_goes_with_its_last_open_file(rt: HostRuntime) -> Result<(), Fail> {
     named_again(&rt, &mut dir, &name(b"a")?);
     is_open(&rt, &dir.open(2), 3);
     dir.forget(2, 7);
-    assert_eq!(rt; dir.node_of(1), Some(2));
+    same(&rt, &dir.node_of(1), &Some(2));
     is_closed(&rt, &dir.close(2, 1), 2, false);
     is_not_open(&rt, &dir.close(2, 1));
-    assert_eq!(rt; dir.node_of(1), None);
+    same(&rt, &dir.node_of(1), &None);
     is_closed(&rt, &dir.close(2, 3), 2, true);
     is_gone(&rt, &dir, 2);
-    assert_eq!(rt; dir.node_of(2), Some(3));
+    same(&rt, &dir.node_of(2), &Some(3));
     Ok(())
 }
 

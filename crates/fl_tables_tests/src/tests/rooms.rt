@@ -43,10 +43,10 @@ fn clear_nodes(rt: &impl Abort, dir: &mut Dir, first: u64) -> Result<(), Fail> {
 #[test]
 fn room_for_nodes_comes_back(rt: HostRuntime) -> Result<(), Fail> {
     let mut dir = Dir::new(rt.alloc())?;
-    for first in [2, 258] {
-        fill_nodes(&rt, &mut dir, first)?;
-        clear_nodes(&rt, &mut dir, first)?;
-    }
+    fill_nodes(&rt, &mut dir, 2)?;
+    clear_nodes(&rt, &mut dir, 2)?;
+    fill_nodes(&rt, &mut dir, 258)?;
+    clear_nodes(&rt, &mut dir, 258)?;
     is_made(&rt, &made(&mut dir, &name(b"more")?), 514, 513);
     Ok(())
 }

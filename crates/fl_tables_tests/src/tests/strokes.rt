@@ -1,0 +1,92 @@
+//! Many random changes of a lock table, against a plain grid of bytes.
+
+use super::grid::{BYTES, Grid, LAST_ROW, ROWS, count_runs, paint, row_excludes};
+use super::locks::{elsewhere, key, whole_file};
+use super::numbers::Numbers;
+use super::same;
+use fl_ranges::{Key, Kind, Table};
+use std::alloc::Global;
+use std::process::Abort;
+use std::test::Fail;
+
+// Two owners of one node, the other class, and another node whose runs stand in the same chain.
+fn keys() -> [Key; ROWS] {
+    [key(1), key(2), whole_file(1), elsewhere(1)]
+}
+
+// Whether another of the two owners has a mark there that excludes the kind.
+fn is_excluded(grid: &Grid, row: usize, start: usize, end: usize, kind: Kind) -> bool {
+    match row {
+        0 => row_excludes(&grid.rows[1], start, end, kind),
+        1 => row_excludes(&grid.rows[0], start, end, kind),
+        _ => false,
+    }
+}
+
+// All bytes of node 7 lose their marks.
+fn erase_node(table: &mut Table, grid: &mut Grid) {
+    table.erase_node(7);
+    for row in 0..3 {
+        paint(&mut grid.rows, row, 0, 15, None);
+    }
+}
+
+// All bytes of a key lose their marks.
+fn erase_owner(table: &mut Table, grid: &mut Grid, row: usize) {
+    if let Some(key) = grid.keys.get(row) {
+        table.erase_owner(key);
+    }
+    paint(&mut grid.rows, row, 0, 15, None);
+}
+
+fn random_step(rt: &impl Abort, table: &mut Table, grid: &mut Grid, numbers: &mut Numbers) {
+    match numbers.below(40) {
+        0 => erase_node(table, grid),
+        1 => erase_owner(table, grid, numbers.below(4) as usize),
+        _ => grid.random_stroke(rt, table, numbers),
+    }
+}
+
+// The table answers as the grid does, to each range of a key from a byte on.
+fn compare_row(rt: &impl Abort, table: &Table, grid: &Grid, row: usize, key: &Key, start: usize) {
+    for end in start..BYTES {
+        let range = grid.range(rt, start, end);
+        for kind in [Kind::Read, Kind::Write] {
+            let told = table.clashes(key, &range, kind);
+            same(rt, &told, &is_excluded(grid, row, start, end, kind));
+        }
+    }
+}
+
+fn compare(rt: &impl Abort, table: &Table, grid: &Grid) {
+    same(rt, &table.runs(), &count_runs(&grid.rows));
+    for (row, key) in grid.keys.iter().enumerate() {
+        for start in 0..BYTES {
+            compare_row(rt, table, grid, row, key, start);
+        }
+    }
+}
+
+// Many changes of bytes from one on, in a table with room for eight runs.
+fn follow(rt: &impl Abort, alloc: Global, first: u64, seed: u64) -> Result<(), Fail> {
+    let mut table = Table::new(alloc, 8)?;
+    let mut grid = Grid::new(keys(), first, 8);
+    let mut numbers = Numbers { state: seed };
+    for step in 0..1500 {
+        random_step(rt, &mut table, &mut grid, &mut numbers);
+        if step % 5 == 0 {
+            compare(rt, &table, &grid);
+        }
+    }
+    Ok(())
+}
+
+#[test]
+fn answers_as_a_grid_does_from_byte_0(rt: HostRuntime) -> Result<(), Fail> {
+    follow(&rt, rt.alloc(), 0, 2026)
+}
+
+#[test]
+fn answers_as_a_grid_does_up_to_the_last_byte(rt: HostRuntime) -> Result<(), Fail> {
+    follow(&rt, rt.alloc(), LAST_ROW, 731)
+}
