@@ -1,13 +1,16 @@
-//! Orders through a core, as tables of orders and replies.
+//! Orders through a core. A table of orders and their replies is a trace, as `docs/TRACE.md` says.
 
 mod answers;
 mod circle_lengths;
 mod circles;
+mod circles_cut;
+mod circles_told;
 mod errors;
 mod limits;
 mod lives;
 mod locks;
 mod numbers;
+mod orders;
 mod parking;
 mod plain;
 mod plain_locks;
@@ -16,53 +19,41 @@ mod room;
 mod waiting;
 mod waiting_random;
 
-use super::*;
-use fl_wire::{Answer, Attr, Errno, LockAsk, Name, Op, Order, Told};
+use fl_book::{History, Line, Verdict, check, read_trace};
+use fl_core::{Core, Tolds};
+use fl_wire::{Answer, Errno, NoMemory, Order, Told};
 use std::alloc::Global;
 use std::process::Abort;
 
-const READ: u32 = 0;
+// What an order is answered.
+type Reply = Result<Answer, Errno>;
 
-const WRITE: u32 = 1;
-
-const UNLOCK: u32 = 2;
-
-// What an order is answered, or that it has no reply.
-type Reply = Option<Result<Answer, Errno>>;
-
-// An order on a node, and its reply.
-type Case = (u64, Op, Reply);
-
-// The unique of an order, its node, the order, and all replies that it gives.
-type Row<'a> = (u64, u64, Op, &'a [Told]);
-
-const DONE: Reply = Some(Ok(Answer::Done));
-
-const SILENT: Reply = None;
-
-const ENOENT: Reply = Some(Err(Errno::ENOENT));
-
-const ENOTDIR: Reply = Some(Err(Errno::ENOTDIR));
-
-const EBADF: Reply = Some(Err(Errno::EBADF));
-
-const EINVAL: Reply = Some(Err(Errno::EINVAL));
-
-const EEXIST: Reply = Some(Err(Errno::EEXIST));
-
-const EISDIR: Reply = Some(Err(Errno::EISDIR));
-
-const ENFILE: Reply = Some(Err(Errno::ENFILE));
-
-const ENOSPC: Reply = Some(Err(Errno::ENOSPC));
-
-const EAGAIN: Reply = Some(Err(Errno::EAGAIN));
-
-fn told(answer: Answer) -> Reply {
-    Some(Ok(answer))
+// The history whose text is these pieces, one behind the other.
+fn history_of(rt: &impl Abort, alloc: Global, pieces: &[&str]) -> History {
+    let mut text = Vec::new(alloc);
+    for piece in pieces {
+        assert!(rt; text.extend_from_slice(piece.as_bytes()).is_ok());
+    }
+    read_trace(alloc, &text).expect(rt, "no trace")
 }
 
-// A core, and the place of its replies.
+// The pieces are a legal history of so many lines, whose orders are answered without a step where they only read.
+fn is_legal(rt: &impl Abort, alloc: Global, lines: usize, pieces: &[&str]) {
+    let history = history_of(rt, alloc, pieces);
+    assert_eq!(rt; history.len(), lines);
+    assert_legal(rt, &check(alloc, &history));
+    follow(rt, alloc, &history);
+}
+
+fn assert_legal(rt: &impl Abort, verdict: &Result<Verdict, NoMemory>) {
+    assert_eq!(rt; *verdict, Ok(Verdict::Legal));
+}
+
+fn follow(rt: &impl Abort, alloc: Global, history: &History) {
+    Server::new(rt, alloc).follow(rt, history);
+}
+
+// A core, and the replies to its last order.
 #[derive(Drop)]
 struct Server {
     core: Core,
@@ -77,159 +68,82 @@ impl Server {
         }
     }
 
-    // The one reply of an order, which bears its unique, or none.
-    fn ask(&mut self, rt: &impl Abort, order: &Order) -> Reply {
+    // Takes an order. If it only reads, it is answered the same without a step, before it as after it. If not, it isn't.
+    fn take(&mut self, rt: &impl Abort, order: &Order) {
+        let before = self.core.answer(order);
         self.core.step(order, &mut self.tolds);
-        let told = self.tolds.as_slice().first()?;
-        assert_eq!(rt; self.tolds.as_slice().len(), 1);
-        assert_eq!(rt; told.unique, order.unique);
-        Some(told.result)
-    }
-
-    // Each order is answered as its row says.
-    fn check(&mut self, rt: &impl Abort, cases: &[Case]) {
-        for (index, (node, op, reply)) in cases.iter().enumerate() {
-            let told = self.ask(rt, &order(*node, *op));
-            assert_eq!(rt; told, *reply, "order {index}");
+        let after = self.core.answer(order);
+        if order.only_reads() {
+            assert_eq!(rt; self.tolds.as_slice().len(), 1);
+            let own = self.tolds.as_slice().first().map(|told| told.result);
+            assert_answer(rt, &before, &own);
+            assert_answer(rt, &after, &own);
+        } else {
+            assert!(rt; before.is_none() && after.is_none());
         }
     }
 
-    // Each order gives the replies of its row, in their order.
-    fn see(&mut self, rt: &impl Abort, rows: &[Row]) {
-        for (unique, node, op, tolds) in rows {
-            let order = Order {
-                unique: *unique,
-                ..order(*node, *op)
-            };
-            self.core.step(&order, &mut self.tolds);
-            assert_eq!(rt; self.tolds.as_slice(), *tolds, "order {unique}");
+    // The order gives these replies.
+    fn tells(&mut self, rt: &impl Abort, order: &Order, tolds: &[Told]) {
+        self.take(rt, order);
+        assert_tolds(rt, order.unique, self.tolds.as_slice(), tolds);
+    }
+
+    // The order gives one reply, its own.
+    fn gives(&mut self, rt: &impl Abort, order: &Order, reply: Reply) {
+        let unique = order.unique;
+        self.tells(
+            rt,
+            order,
+            &[Told {
+                unique,
+                result: reply,
+            }],
+        );
+    }
+
+    // The order gives no reply.
+    fn is_silent(&mut self, rt: &impl Abort, order: &Order) {
+        self.tells(rt, order, &[]);
+    }
+
+    // Each order of the text gives the replies behind it.
+    fn goes_on(&mut self, rt: &impl Abort, alloc: Global, text: &str) {
+        self.follow(rt, &history_of(rt, alloc, &[text]));
+    }
+
+    // Each order of the history gives the replies behind it.
+    fn follow(&mut self, rt: &impl Abort, history: &History) {
+        let mut seen = self.tolds.as_slice().len();
+        for at in 0..history.len() {
+            match history.line(at) {
+                Line::Asked { worker: _, order } => {
+                    assert_eq!(rt;
+                        self.tolds.as_slice().len(),
+                        seen,
+                        "replies before line {at}"
+                    );
+                    self.take(rt, &order);
+                    seen = 0;
+                }
+                Line::Told(told) => {
+                    assert_told(rt, self.tolds.as_slice().get(seen), &told);
+                    seen = seen.saturating_add(1);
+                }
+            }
         }
+        assert_eq!(rt; self.tolds.as_slice().len(), seen);
     }
 }
 
-// The order or request of this unique is told that it is done.
-fn ok(unique: u64) -> Told {
-    Told {
-        unique,
-        result: Ok(Answer::Done),
-    }
+fn assert_answer(rt: &impl Abort, found: &Option<Reply>, wanted: &Option<Reply>) {
+    assert_eq!(rt; *found, *wanted);
 }
 
-// The same for an error.
-fn err(unique: u64, errno: Errno) -> Told {
-    Told {
-        unique,
-        result: Err(errno),
-    }
+fn assert_told(rt: &impl Abort, found: Option<&Told>, wanted: &Told) {
+    assert_eq!(rt; found, Some(wanted));
 }
 
-// The same for a reply of `Case`.
-fn with(unique: u64, reply: Reply) -> Told {
-    Told {
-        unique,
-        result: reply.unwrap_or(Err(Errno::EPROTO)),
-    }
-}
-
-// An order of user 5 and group 6.
-fn order(node: u64, op: Op) -> Order {
-    Order {
-        unique: 1000 + node % 1000,
-        node,
-        uid: 5,
-        gid: 6,
-        pid: 0,
-        op,
-    }
-}
-
-fn name(rt: &impl Abort, bytes: &[u8]) -> Name {
-    Name::new(bytes).expect(rt, "no name")
-}
-
-fn create(excl: bool, name: Name) -> Op {
-    Op::Create {
-        excl,
-        mode: 0o644,
-        name,
-    }
-}
-
-// A record lock request. Each owner's process has the owner's number.
-fn ask(fh: u64, owner: u32, start: u64, end: u64, kind: u32) -> LockAsk {
-    LockAsk {
-        fh,
-        owner: u64::from(owner),
-        start,
-        end,
-        kind,
-        pid: owner,
-        flags: 0,
-    }
-}
-
-fn lock(fh: u64, owner: u32, start: u64, end: u64, kind: u32) -> Op {
-    Op::Setlk(ask(fh, owner, start, end, kind))
-}
-
-fn flock(fh: u64, owner: u32, kind: u32) -> Op {
-    Op::Setlk(LockAsk {
-        flags: 1,
-        ..ask(fh, owner, 0, 0, kind)
-    })
-}
-
-// A record lock request that can wait.
-fn wait(fh: u64, owner: u32, start: u64, end: u64, kind: u32) -> Op {
-    Op::Setlkw(ask(fh, owner, start, end, kind))
-}
-
-// A whole-file lock request that can wait.
-fn flock_wait(fh: u64, owner: u32, kind: u32) -> Op {
-    Op::Setlkw(LockAsk {
-        flags: 1,
-        ..ask(fh, owner, 0, 0, kind)
-    })
-}
-
-// Whether a write lock could be set there.
-fn test(fh: u64, owner: u32, start: u64, end: u64) -> Op {
-    Op::Getlk(ask(fh, owner, start, end, WRITE))
-}
-
-// A lock record of the process of this owner.
-fn held(owner: u32, start: u64, end: u64, kind: u32) -> Reply {
-    told(Answer::Lock {
-        start,
-        end,
-        kind,
-        pid: owner,
-    })
-}
-
-fn flush(fh: u64, owner: u64) -> Op {
-    Op::Flush { fh, owner }
-}
-
-fn release(fh: u64, drop: bool, owner: u64) -> Op {
-    Op::Release { fh, drop, owner }
-}
-
-// What is told of a file of `create`.
-fn file(node: u64, nlink: u32) -> Attr {
-    Attr {
-        node,
-        mode: 0o100644,
-        nlink,
-        uid: 5,
-        gid: 6,
-    }
-}
-
-fn made(node: u64, fh: u64) -> Reply {
-    told(Answer::Made(file(node, 1), fh))
-}
-
-fn attr(node: u64, nlink: u32) -> Reply {
-    told(Answer::Attr(file(node, nlink)))
+fn assert_tolds(rt: &impl Abort, unique: u64, found: &[Told], wanted: &[Told]) {
+    assert_eq!(rt; found, wanted, "order {unique}");
 }

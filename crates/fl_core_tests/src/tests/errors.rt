@@ -1,165 +1,346 @@
 //! Each error of each order, and the first of two where both apply.
 
-use super::*;
-
-// No file is made under this name, whatever else is tested.
-fn check_reserved(rt: &impl Abort, server: &mut Server, reserved: Name) {
-    server.check(
-        rt,
-        &[
-            (1, create(false, reserved), EINVAL),
-            (1, create(true, reserved), EINVAL),
-            (4, create(true, reserved), ENOENT),
-            (2, create(true, reserved), ENOTDIR),
-        ],
-    );
-}
+use super::is_legal;
 
 #[test]
 fn names_are_refused_by_the_first_test(rt: HostRuntime) {
-    let a = name(&rt, b"a");
-    let free = name(&rt, b"b");
-    let empty = name(&rt, b"");
-    let mut server = Server::new(&rt, rt.alloc());
-    server.check(
-        &rt,
-        &[
-            (1, create(true, a), made(2, 1)),
-            (3, Op::Lookup(a), ENOENT),
-            (0, Op::Lookup(a), ENOENT),
-            (2, Op::Lookup(a), ENOTDIR),
-            (2, Op::Lookup(free), ENOTDIR),
-            (1, Op::Lookup(free), ENOENT),
-            (1, Op::Lookup(empty), ENOENT),
-            (3, Op::Unlink(a), ENOENT),
-            (2, Op::Unlink(a), ENOTDIR),
-            (2, Op::Unlink(free), ENOTDIR),
-            (1, Op::Unlink(free), ENOENT),
-            (1, Op::Unlink(empty), ENOENT),
-            (3, create(false, free), ENOENT),
-            (3, create(false, empty), ENOENT),
-            (3, create(true, a), ENOENT),
-            (2, create(false, free), ENOTDIR),
-            (2, create(false, empty), ENOTDIR),
-            (2, create(true, a), ENOTDIR),
-            (1, create(true, a), EEXIST),
-            (1, create(false, a), made(2, 2)),
-            (1, create(true, free), made(3, 3)),
-        ],
-    );
-    for reserved in [b"".as_slice(), b".", b"..", b"/", b"a/b"] {
-        check_reserved(&rt, &mut server, name(&rt, reserved));
-    }
-    server.check(&rt, &[(1, create(true, name(&rt, b"...")), made(4, 4))]);
+    let orders = "\
+ask 0 1001 1 5 6 0 create 1 420 61
+tell 1001 made 2 33188 1 5 6 1
+ask 0 1003 3 5 6 0 lookup 61
+tell 1003 err 2
+ask 0 1000 0 5 6 0 lookup 61
+tell 1000 err 2
+ask 0 1002 2 5 6 0 lookup 61
+tell 1002 err 20
+ask 0 1002 2 5 6 0 lookup 62
+tell 1002 err 20
+ask 0 1001 1 5 6 0 lookup 62
+tell 1001 err 2
+ask 0 1001 1 5 6 0 lookup -
+tell 1001 err 2
+ask 0 1003 3 5 6 0 unlink 61
+tell 1003 err 2
+ask 0 1002 2 5 6 0 unlink 61
+tell 1002 err 20
+ask 0 1002 2 5 6 0 unlink 62
+tell 1002 err 20
+ask 0 1001 1 5 6 0 unlink 62
+tell 1001 err 2
+ask 0 1001 1 5 6 0 unlink -
+tell 1001 err 2
+ask 0 1003 3 5 6 0 create 0 420 62
+tell 1003 err 2
+ask 0 1003 3 5 6 0 create 0 420 -
+tell 1003 err 2
+ask 0 1003 3 5 6 0 create 1 420 61
+tell 1003 err 2
+ask 0 1002 2 5 6 0 create 0 420 62
+tell 1002 err 20
+ask 0 1002 2 5 6 0 create 0 420 -
+tell 1002 err 20
+ask 0 1002 2 5 6 0 create 1 420 61
+tell 1002 err 20
+ask 0 1001 1 5 6 0 create 1 420 61
+tell 1001 err 17
+ask 0 1001 1 5 6 0 create 0 420 61
+tell 1001 made 2 33188 1 5 6 2
+ask 0 1001 1 5 6 0 create 1 420 62
+tell 1001 made 3 33188 1 5 6 3
+";
+    is_legal(&rt, rt.alloc(), 42, &[orders]);
 }
 
-// The fh isn't open on this node.
-fn check_not_open(rt: &impl Abort, server: &mut Server, node: u64, fh: u64) {
-    server.check(
-        rt,
-        &[
-            (node, flush(fh, 7), EBADF),
-            (node, release(fh, false, 7), EBADF),
-            (node, release(fh, true, 7), EBADF),
-        ],
-    );
+#[test]
+fn reserved_names_are_refused_before_other_tests(rt: HostRuntime) {
+    let orders = "\
+ask 0 1001 1 5 6 0 create 1 420 61
+tell 1001 made 2 33188 1 5 6 1
+ask 0 1001 1 5 6 0 create 0 420 61
+tell 1001 made 2 33188 1 5 6 2
+ask 0 1001 1 5 6 0 create 1 420 62
+tell 1001 made 3 33188 1 5 6 3
+ask 0 1001 1 5 6 0 create 0 420 -
+tell 1001 err 22
+ask 0 1001 1 5 6 0 create 1 420 -
+tell 1001 err 22
+ask 0 1004 4 5 6 0 create 1 420 -
+tell 1004 err 2
+ask 0 1002 2 5 6 0 create 1 420 -
+tell 1002 err 20
+ask 0 1001 1 5 6 0 create 0 420 2e
+tell 1001 err 22
+ask 0 1001 1 5 6 0 create 1 420 2e
+tell 1001 err 22
+ask 0 1004 4 5 6 0 create 1 420 2e
+tell 1004 err 2
+ask 0 1002 2 5 6 0 create 1 420 2e
+tell 1002 err 20
+ask 0 1001 1 5 6 0 create 0 420 2e2e
+tell 1001 err 22
+ask 0 1001 1 5 6 0 create 1 420 2e2e
+tell 1001 err 22
+ask 0 1004 4 5 6 0 create 1 420 2e2e
+tell 1004 err 2
+ask 0 1002 2 5 6 0 create 1 420 2e2e
+tell 1002 err 20
+ask 0 1001 1 5 6 0 create 0 420 2f
+tell 1001 err 22
+ask 0 1001 1 5 6 0 create 1 420 2f
+tell 1001 err 22
+ask 0 1004 4 5 6 0 create 1 420 2f
+tell 1004 err 2
+ask 0 1002 2 5 6 0 create 1 420 2f
+tell 1002 err 20
+ask 0 1001 1 5 6 0 create 0 420 612f62
+tell 1001 err 22
+ask 0 1001 1 5 6 0 create 1 420 612f62
+tell 1001 err 22
+ask 0 1004 4 5 6 0 create 1 420 612f62
+tell 1004 err 2
+ask 0 1002 2 5 6 0 create 1 420 612f62
+tell 1002 err 20
+ask 0 1001 1 5 6 0 create 1 420 2e2e2e
+tell 1001 made 4 33188 1 5 6 4
+";
+    is_legal(&rt, rt.alloc(), 48, &[orders]);
 }
 
 #[test]
 fn nodes_and_files_are_refused_by_the_first_test(rt: HostRuntime) {
-    let mut server = Server::new(&rt, rt.alloc());
-    server.check(
-        &rt,
-        &[
-            (1, create(true, name(&rt, b"a")), made(2, 1)),
-            (1, create(true, name(&rt, b"b")), made(3, 2)),
-            (4, Op::Getattr, ENOENT),
-            (0, Op::Getattr, ENOENT),
-            (4, Op::Open, ENOENT),
-            (0, Op::Open, ENOENT),
-            (1, Op::Open, EISDIR),
-            (4, Op::Forget(1), SILENT),
-            (1, Op::Forget(1), SILENT),
-            (2, Op::Forget(1), SILENT),
-            (2, Op::Forget(1), SILENT),
-        ],
-    );
-    let wrong = [(2, 2), (3, 1), (1, 1), (4, 1), (2, 0), (2, 3), (4, 3)];
-    for (node, fh) in wrong {
-        check_not_open(&rt, &mut server, node, fh);
-    }
-    server.check(
-        &rt,
-        &[
-            (2, release(1, false, 7), DONE),
-            (2, flush(1, 7), EBADF),
-            (2, release(1, true, 7), EBADF),
-            (3, flush(2, 7), DONE),
-            (3, release(2, true, 7), DONE),
-        ],
-    );
+    let orders = "\
+ask 0 1001 1 5 6 0 create 1 420 61
+tell 1001 made 2 33188 1 5 6 1
+ask 0 1001 1 5 6 0 create 1 420 62
+tell 1001 made 3 33188 1 5 6 2
+ask 0 1004 4 5 6 0 getattr
+tell 1004 err 2
+ask 0 1000 0 5 6 0 getattr
+tell 1000 err 2
+ask 0 1004 4 5 6 0 open
+tell 1004 err 2
+ask 0 1000 0 5 6 0 open
+tell 1000 err 2
+ask 0 1001 1 5 6 0 open
+tell 1001 err 21
+ask 0 1004 4 5 6 0 forget 1
+ask 0 1001 1 5 6 0 forget 1
+ask 0 1002 2 5 6 0 forget 1
+ask 0 1002 2 5 6 0 forget 1
+ask 0 1002 2 5 6 0 flush 2 7
+tell 1002 err 9
+ask 0 1002 2 5 6 0 release 2 0 7
+tell 1002 err 9
+ask 0 1002 2 5 6 0 release 2 1 7
+tell 1002 err 9
+ask 0 1003 3 5 6 0 flush 1 7
+tell 1003 err 9
+ask 0 1003 3 5 6 0 release 1 0 7
+tell 1003 err 9
+ask 0 1003 3 5 6 0 release 1 1 7
+tell 1003 err 9
+ask 0 1001 1 5 6 0 flush 1 7
+tell 1001 err 9
+ask 0 1001 1 5 6 0 release 1 0 7
+tell 1001 err 9
+ask 0 1001 1 5 6 0 release 1 1 7
+tell 1001 err 9
+ask 0 1004 4 5 6 0 flush 1 7
+tell 1004 err 9
+ask 0 1004 4 5 6 0 release 1 0 7
+tell 1004 err 9
+ask 0 1004 4 5 6 0 release 1 1 7
+tell 1004 err 9
+ask 0 1002 2 5 6 0 flush 0 7
+tell 1002 err 9
+ask 0 1002 2 5 6 0 release 0 0 7
+tell 1002 err 9
+ask 0 1002 2 5 6 0 release 0 1 7
+tell 1002 err 9
+ask 0 1002 2 5 6 0 flush 3 7
+tell 1002 err 9
+ask 0 1002 2 5 6 0 release 3 0 7
+tell 1002 err 9
+ask 0 1002 2 5 6 0 release 3 1 7
+tell 1002 err 9
+ask 0 1004 4 5 6 0 flush 3 7
+tell 1004 err 9
+ask 0 1004 4 5 6 0 release 3 0 7
+tell 1004 err 9
+ask 0 1004 4 5 6 0 release 3 1 7
+tell 1004 err 9
+ask 0 1002 2 5 6 0 release 1 0 7
+tell 1002 ok
+ask 0 1002 2 5 6 0 flush 1 7
+tell 1002 err 9
+ask 0 1002 2 5 6 0 release 1 1 7
+tell 1002 err 9
+ask 0 1003 3 5 6 0 flush 2 7
+tell 1003 ok
+ask 0 1003 3 5 6 0 release 2 1 7
+tell 1003 ok
+";
+    is_legal(&rt, rt.alloc(), 70, &[orders]);
 }
 
-// A lock request that no fh lets through.
-fn malformed(kind: u32, flags: u32) -> LockAsk {
-    LockAsk {
-        flags,
-        ..ask(1, 7, 5, 9, kind)
-    }
-}
+// Node 2 is open as fh 1.
+const ONE_FILE: &str = "\
+ask 0 1001 1 5 6 0 create 1 420 61
+tell 1001 made 2 33188 1 5 6 1
+";
 
-const TOO_FAR: u64 = 9_223_372_036_854_775_808;
-
-// This request is malformed in each of the three orders.
-fn check_refused(rt: &impl Abort, server: &mut Server, asked: LockAsk) {
-    let closed = LockAsk { fh: 9, ..asked };
-    server.check(
-        rt,
-        &[
-            (2, Op::Setlk(asked), EINVAL),
-            (2, Op::Setlkw(asked), EINVAL),
-            (2, Op::Getlk(asked), EINVAL),
-            (2, Op::Setlk(closed), EBADF),
-            (2, Op::Setlkw(closed), EBADF),
-            (2, Op::Getlk(closed), EBADF),
-            (1, Op::Setlk(asked), EBADF),
-            (1, Op::Setlkw(asked), EBADF),
-            (1, Op::Getlk(asked), EBADF),
-        ],
-    );
-}
-
-// This request is malformed in a GETLK alone.
-fn check_not_tested(rt: &impl Abort, server: &mut Server, asked: LockAsk) {
-    let closed = LockAsk { fh: 9, ..asked };
-    server.check(
-        rt,
-        &[
-            (2, Op::Getlk(asked), EINVAL),
-            (2, Op::Getlk(closed), EBADF),
-            (3, Op::Getlk(asked), EBADF),
-            (2, Op::Setlk(asked), DONE),
-            (2, Op::Setlkw(asked), DONE),
-        ],
-    );
+#[test]
+fn unknown_lock_flags_are_refused_after_the_fh(rt: HostRuntime) {
+    let orders = "\
+ask 0 1002 2 5 6 0 setlk 1 7 5 9 0 7 2
+tell 1002 err 22
+ask 0 1002 2 5 6 0 setlkw 1 7 5 9 0 7 2
+tell 1002 err 22
+ask 0 1002 2 5 6 0 getlk 1 7 5 9 0 7 2
+tell 1002 err 22
+ask 0 1002 2 5 6 0 setlk 9 7 5 9 0 7 2
+tell 1002 err 9
+ask 0 1002 2 5 6 0 setlkw 9 7 5 9 0 7 2
+tell 1002 err 9
+ask 0 1002 2 5 6 0 getlk 9 7 5 9 0 7 2
+tell 1002 err 9
+ask 0 1001 1 5 6 0 setlk 1 7 5 9 0 7 2
+tell 1001 err 9
+ask 0 1001 1 5 6 0 setlkw 1 7 5 9 0 7 2
+tell 1001 err 9
+ask 0 1001 1 5 6 0 getlk 1 7 5 9 0 7 2
+tell 1001 err 9
+ask 0 1002 2 5 6 0 setlk 1 7 5 9 0 7 3
+tell 1002 err 22
+ask 0 1002 2 5 6 0 setlkw 1 7 5 9 0 7 3
+tell 1002 err 22
+ask 0 1002 2 5 6 0 getlk 1 7 5 9 0 7 3
+tell 1002 err 22
+ask 0 1002 2 5 6 0 setlk 9 7 5 9 0 7 3
+tell 1002 err 9
+ask 0 1002 2 5 6 0 setlkw 9 7 5 9 0 7 3
+tell 1002 err 9
+ask 0 1002 2 5 6 0 getlk 9 7 5 9 0 7 3
+tell 1002 err 9
+ask 0 1001 1 5 6 0 setlk 1 7 5 9 0 7 3
+tell 1001 err 9
+ask 0 1001 1 5 6 0 setlkw 1 7 5 9 0 7 3
+tell 1001 err 9
+ask 0 1001 1 5 6 0 getlk 1 7 5 9 0 7 3
+tell 1001 err 9
+";
+    is_legal(&rt, rt.alloc(), 38, &[ONE_FILE, orders]);
 }
 
 #[test]
-fn malformed_lock_requests_are_refused_after_the_fh(rt: HostRuntime) {
-    let mut server = Server::new(&rt, rt.alloc());
-    server.check(&rt, &[(1, create(true, name(&rt, b"a")), made(2, 1))]);
-    let both = [
-        malformed(READ, 2),
-        malformed(READ, 3),
-        malformed(3, 0),
-        malformed(3, 1),
-        ask(1, 7, 5, 4, READ),
-        ask(1, 7, 0, TOO_FAR, READ),
-    ];
-    for asked in both {
-        check_refused(&rt, &mut server, asked);
-    }
-    for asked in [malformed(UNLOCK, 0), malformed(READ, 1)] {
-        check_not_tested(&rt, &mut server, asked);
-    }
+fn unknown_lock_types_are_refused_after_the_fh(rt: HostRuntime) {
+    let orders = "\
+ask 0 1002 2 5 6 0 setlk 1 7 5 9 3 7 0
+tell 1002 err 22
+ask 0 1002 2 5 6 0 setlkw 1 7 5 9 3 7 0
+tell 1002 err 22
+ask 0 1002 2 5 6 0 getlk 1 7 5 9 3 7 0
+tell 1002 err 22
+ask 0 1002 2 5 6 0 setlk 9 7 5 9 3 7 0
+tell 1002 err 9
+ask 0 1002 2 5 6 0 setlkw 9 7 5 9 3 7 0
+tell 1002 err 9
+ask 0 1002 2 5 6 0 getlk 9 7 5 9 3 7 0
+tell 1002 err 9
+ask 0 1001 1 5 6 0 setlk 1 7 5 9 3 7 0
+tell 1001 err 9
+ask 0 1001 1 5 6 0 setlkw 1 7 5 9 3 7 0
+tell 1001 err 9
+ask 0 1001 1 5 6 0 getlk 1 7 5 9 3 7 0
+tell 1001 err 9
+ask 0 1002 2 5 6 0 setlk 1 7 5 9 3 7 1
+tell 1002 err 22
+ask 0 1002 2 5 6 0 setlkw 1 7 5 9 3 7 1
+tell 1002 err 22
+ask 0 1002 2 5 6 0 getlk 1 7 5 9 3 7 1
+tell 1002 err 22
+ask 0 1002 2 5 6 0 setlk 9 7 5 9 3 7 1
+tell 1002 err 9
+ask 0 1002 2 5 6 0 setlkw 9 7 5 9 3 7 1
+tell 1002 err 9
+ask 0 1002 2 5 6 0 getlk 9 7 5 9 3 7 1
+tell 1002 err 9
+ask 0 1001 1 5 6 0 setlk 1 7 5 9 3 7 1
+tell 1001 err 9
+ask 0 1001 1 5 6 0 setlkw 1 7 5 9 3 7 1
+tell 1001 err 9
+ask 0 1001 1 5 6 0 getlk 1 7 5 9 3 7 1
+tell 1001 err 9
+";
+    is_legal(&rt, rt.alloc(), 38, &[ONE_FILE, orders]);
+}
+
+#[test]
+fn ranges_that_end_before_their_start_or_too_far_are_refused_after_the_fh(rt: HostRuntime) {
+    let orders = "\
+ask 0 1002 2 5 6 0 setlk 1 7 5 4 0 7 0
+tell 1002 err 22
+ask 0 1002 2 5 6 0 setlkw 1 7 5 4 0 7 0
+tell 1002 err 22
+ask 0 1002 2 5 6 0 getlk 1 7 5 4 0 7 0
+tell 1002 err 22
+ask 0 1002 2 5 6 0 setlk 9 7 5 4 0 7 0
+tell 1002 err 9
+ask 0 1002 2 5 6 0 setlkw 9 7 5 4 0 7 0
+tell 1002 err 9
+ask 0 1002 2 5 6 0 getlk 9 7 5 4 0 7 0
+tell 1002 err 9
+ask 0 1001 1 5 6 0 setlk 1 7 5 4 0 7 0
+tell 1001 err 9
+ask 0 1001 1 5 6 0 setlkw 1 7 5 4 0 7 0
+tell 1001 err 9
+ask 0 1001 1 5 6 0 getlk 1 7 5 4 0 7 0
+tell 1001 err 9
+ask 0 1002 2 5 6 0 setlk 1 7 0 9223372036854775808 0 7 0
+tell 1002 err 22
+ask 0 1002 2 5 6 0 setlkw 1 7 0 9223372036854775808 0 7 0
+tell 1002 err 22
+ask 0 1002 2 5 6 0 getlk 1 7 0 9223372036854775808 0 7 0
+tell 1002 err 22
+ask 0 1002 2 5 6 0 setlk 9 7 0 9223372036854775808 0 7 0
+tell 1002 err 9
+ask 0 1002 2 5 6 0 setlkw 9 7 0 9223372036854775808 0 7 0
+tell 1002 err 9
+ask 0 1002 2 5 6 0 getlk 9 7 0 9223372036854775808 0 7 0
+tell 1002 err 9
+ask 0 1001 1 5 6 0 setlk 1 7 0 9223372036854775808 0 7 0
+tell 1001 err 9
+ask 0 1001 1 5 6 0 setlkw 1 7 0 9223372036854775808 0 7 0
+tell 1001 err 9
+ask 0 1001 1 5 6 0 getlk 1 7 0 9223372036854775808 0 7 0
+tell 1001 err 9
+";
+    is_legal(&rt, rt.alloc(), 38, &[ONE_FILE, orders]);
+}
+
+#[test]
+fn no_unlock_and_no_whole_file_lock_is_tested(rt: HostRuntime) {
+    let orders = "\
+ask 0 1002 2 5 6 0 getlk 1 7 5 9 2 7 0
+tell 1002 err 22
+ask 0 1002 2 5 6 0 getlk 9 7 5 9 2 7 0
+tell 1002 err 9
+ask 0 1003 3 5 6 0 getlk 1 7 5 9 2 7 0
+tell 1003 err 9
+ask 0 1002 2 5 6 0 setlk 1 7 5 9 2 7 0
+tell 1002 ok
+ask 0 1002 2 5 6 0 setlkw 1 7 5 9 2 7 0
+tell 1002 ok
+ask 0 1002 2 5 6 0 getlk 1 7 5 9 0 7 1
+tell 1002 err 22
+ask 0 1002 2 5 6 0 getlk 9 7 5 9 0 7 1
+tell 1002 err 9
+ask 0 1003 3 5 6 0 getlk 1 7 5 9 0 7 1
+tell 1003 err 9
+ask 0 1002 2 5 6 0 setlk 1 7 5 9 0 7 1
+tell 1002 ok
+ask 0 1002 2 5 6 0 setlkw 1 7 5 9 0 7 1
+tell 1002 ok
+";
+    is_legal(&rt, rt.alloc(), 22, &[ONE_FILE, orders]);
 }

@@ -1,125 +1,308 @@
 //! When a node goes, and that its numbers aren't given again.
 
-use super::*;
+use super::orders::{name, order};
+use super::{Server, is_legal};
+use fl_wire::{Answer, Attr, Op, Order};
+use std::process::Abort;
 
-// What takes a reason to live from the first file.
-fn ending(kind: u8, name: Name) -> Case {
-    match kind {
-        0 => (1, Op::Unlink(name), DONE),
-        1 => (2, Op::Forget(1), SILENT),
-        _ => (2, release(1, false, 0), DONE),
-    }
-}
-
-// Of the three reasons to live, these are taken away in this order.
-fn check_endings(rt: &impl Abort, server: &mut Server, first: u8, second: u8, last: u8) {
-    let a = name(rt, b"a");
-    let linked_once = u32::from(first != 0);
-    let linked_twice = u32::from(first != 0 && second != 0);
-    server.check(
-        rt,
-        &[
-            (1, create(true, a), made(2, 1)),
-            ending(first, a),
-            (2, Op::Getattr, attr(2, linked_once)),
-            ending(second, a),
-            (2, Op::Getattr, attr(2, linked_twice)),
-            ending(last, a),
-            (2, Op::Getattr, ENOENT),
-            (2, Op::Open, ENOENT),
-            (2, Op::Lookup(a), ENOENT),
-            (1, Op::Lookup(a), ENOENT),
-            (2, flush(1, 7), EBADF),
-            (1, create(true, a), made(3, 2)),
-            (2, Op::Getattr, ENOENT),
-        ],
-    );
+#[test]
+fn a_node_goes_with_its_name_then_its_lookup_then_its_open_file(rt: HostRuntime) {
+    let orders = "\
+ask 0 1001 1 5 6 0 create 1 420 61
+tell 1001 made 2 33188 1 5 6 1
+ask 0 1001 1 5 6 0 unlink 61
+tell 1001 ok
+ask 0 1002 2 5 6 0 getattr
+tell 1002 attr 2 33188 0 5 6
+ask 0 1002 2 5 6 0 forget 1
+ask 0 1002 2 5 6 0 getattr
+tell 1002 attr 2 33188 0 5 6
+ask 0 1002 2 5 6 0 release 1 0 0
+tell 1002 ok
+ask 0 1002 2 5 6 0 getattr
+tell 1002 err 2
+ask 0 1002 2 5 6 0 open
+tell 1002 err 2
+ask 0 1002 2 5 6 0 lookup 61
+tell 1002 err 2
+ask 0 1001 1 5 6 0 lookup 61
+tell 1001 err 2
+ask 0 1002 2 5 6 0 flush 1 7
+tell 1002 err 9
+ask 0 1001 1 5 6 0 create 1 420 61
+tell 1001 made 3 33188 1 5 6 2
+ask 0 1002 2 5 6 0 getattr
+tell 1002 err 2
+";
+    is_legal(&rt, rt.alloc(), 25, &[orders]);
 }
 
 #[test]
-fn a_node_goes_with_its_last_reason_to_live(rt: HostRuntime) {
-    for (first, second, last) in [
-        (0, 1, 2),
-        (0, 2, 1),
-        (1, 0, 2),
-        (1, 2, 0),
-        (2, 0, 1),
-        (2, 1, 0),
-    ] {
-        let mut server = Server::new(&rt, rt.alloc());
-        check_endings(&rt, &mut server, first, second, last);
-    }
+fn a_node_goes_with_its_name_then_its_open_file_then_its_lookup(rt: HostRuntime) {
+    let orders = "\
+ask 0 1001 1 5 6 0 create 1 420 61
+tell 1001 made 2 33188 1 5 6 1
+ask 0 1001 1 5 6 0 unlink 61
+tell 1001 ok
+ask 0 1002 2 5 6 0 getattr
+tell 1002 attr 2 33188 0 5 6
+ask 0 1002 2 5 6 0 release 1 0 0
+tell 1002 ok
+ask 0 1002 2 5 6 0 getattr
+tell 1002 attr 2 33188 0 5 6
+ask 0 1002 2 5 6 0 forget 1
+ask 0 1002 2 5 6 0 getattr
+tell 1002 err 2
+ask 0 1002 2 5 6 0 open
+tell 1002 err 2
+ask 0 1002 2 5 6 0 lookup 61
+tell 1002 err 2
+ask 0 1001 1 5 6 0 lookup 61
+tell 1001 err 2
+ask 0 1002 2 5 6 0 flush 1 7
+tell 1002 err 9
+ask 0 1001 1 5 6 0 create 1 420 61
+tell 1001 made 3 33188 1 5 6 2
+ask 0 1002 2 5 6 0 getattr
+tell 1002 err 2
+";
+    is_legal(&rt, rt.alloc(), 25, &[orders]);
 }
 
-// Each order is answered as its row says, from the start.
-fn check(rt: &impl Abort, alloc: Global, cases: &[Case]) {
-    Server::new(rt, alloc).check(rt, cases);
+#[test]
+fn a_node_goes_with_its_lookup_then_its_name_then_its_open_file(rt: HostRuntime) {
+    let orders = "\
+ask 0 1001 1 5 6 0 create 1 420 61
+tell 1001 made 2 33188 1 5 6 1
+ask 0 1002 2 5 6 0 forget 1
+ask 0 1002 2 5 6 0 getattr
+tell 1002 attr 2 33188 1 5 6
+ask 0 1001 1 5 6 0 unlink 61
+tell 1001 ok
+ask 0 1002 2 5 6 0 getattr
+tell 1002 attr 2 33188 0 5 6
+ask 0 1002 2 5 6 0 release 1 0 0
+tell 1002 ok
+ask 0 1002 2 5 6 0 getattr
+tell 1002 err 2
+ask 0 1002 2 5 6 0 open
+tell 1002 err 2
+ask 0 1002 2 5 6 0 lookup 61
+tell 1002 err 2
+ask 0 1001 1 5 6 0 lookup 61
+tell 1001 err 2
+ask 0 1002 2 5 6 0 flush 1 7
+tell 1002 err 9
+ask 0 1001 1 5 6 0 create 1 420 61
+tell 1001 made 3 33188 1 5 6 2
+ask 0 1002 2 5 6 0 getattr
+tell 1002 err 2
+";
+    is_legal(&rt, rt.alloc(), 25, &[orders]);
+}
+
+#[test]
+fn a_node_goes_with_its_lookup_then_its_open_file_then_its_name(rt: HostRuntime) {
+    let orders = "\
+ask 0 1001 1 5 6 0 create 1 420 61
+tell 1001 made 2 33188 1 5 6 1
+ask 0 1002 2 5 6 0 forget 1
+ask 0 1002 2 5 6 0 getattr
+tell 1002 attr 2 33188 1 5 6
+ask 0 1002 2 5 6 0 release 1 0 0
+tell 1002 ok
+ask 0 1002 2 5 6 0 getattr
+tell 1002 attr 2 33188 1 5 6
+ask 0 1001 1 5 6 0 unlink 61
+tell 1001 ok
+ask 0 1002 2 5 6 0 getattr
+tell 1002 err 2
+ask 0 1002 2 5 6 0 open
+tell 1002 err 2
+ask 0 1002 2 5 6 0 lookup 61
+tell 1002 err 2
+ask 0 1001 1 5 6 0 lookup 61
+tell 1001 err 2
+ask 0 1002 2 5 6 0 flush 1 7
+tell 1002 err 9
+ask 0 1001 1 5 6 0 create 1 420 61
+tell 1001 made 3 33188 1 5 6 2
+ask 0 1002 2 5 6 0 getattr
+tell 1002 err 2
+";
+    is_legal(&rt, rt.alloc(), 25, &[orders]);
+}
+
+#[test]
+fn a_node_goes_with_its_open_file_then_its_name_then_its_lookup(rt: HostRuntime) {
+    let orders = "\
+ask 0 1001 1 5 6 0 create 1 420 61
+tell 1001 made 2 33188 1 5 6 1
+ask 0 1002 2 5 6 0 release 1 0 0
+tell 1002 ok
+ask 0 1002 2 5 6 0 getattr
+tell 1002 attr 2 33188 1 5 6
+ask 0 1001 1 5 6 0 unlink 61
+tell 1001 ok
+ask 0 1002 2 5 6 0 getattr
+tell 1002 attr 2 33188 0 5 6
+ask 0 1002 2 5 6 0 forget 1
+ask 0 1002 2 5 6 0 getattr
+tell 1002 err 2
+ask 0 1002 2 5 6 0 open
+tell 1002 err 2
+ask 0 1002 2 5 6 0 lookup 61
+tell 1002 err 2
+ask 0 1001 1 5 6 0 lookup 61
+tell 1001 err 2
+ask 0 1002 2 5 6 0 flush 1 7
+tell 1002 err 9
+ask 0 1001 1 5 6 0 create 1 420 61
+tell 1001 made 3 33188 1 5 6 2
+ask 0 1002 2 5 6 0 getattr
+tell 1002 err 2
+";
+    is_legal(&rt, rt.alloc(), 25, &[orders]);
+}
+
+#[test]
+fn a_node_goes_with_its_open_file_then_its_lookup_then_its_name(rt: HostRuntime) {
+    let orders = "\
+ask 0 1001 1 5 6 0 create 1 420 61
+tell 1001 made 2 33188 1 5 6 1
+ask 0 1002 2 5 6 0 release 1 0 0
+tell 1002 ok
+ask 0 1002 2 5 6 0 getattr
+tell 1002 attr 2 33188 1 5 6
+ask 0 1002 2 5 6 0 forget 1
+ask 0 1002 2 5 6 0 getattr
+tell 1002 attr 2 33188 1 5 6
+ask 0 1001 1 5 6 0 unlink 61
+tell 1001 ok
+ask 0 1002 2 5 6 0 getattr
+tell 1002 err 2
+ask 0 1002 2 5 6 0 open
+tell 1002 err 2
+ask 0 1002 2 5 6 0 lookup 61
+tell 1002 err 2
+ask 0 1001 1 5 6 0 lookup 61
+tell 1001 err 2
+ask 0 1002 2 5 6 0 flush 1 7
+tell 1002 err 9
+ask 0 1001 1 5 6 0 create 1 420 61
+tell 1001 made 3 33188 1 5 6 2
+ask 0 1002 2 5 6 0 getattr
+tell 1002 err 2
+";
+    is_legal(&rt, rt.alloc(), 25, &[orders]);
 }
 
 #[test]
 fn a_name_is_free_while_its_old_node_lives(rt: HostRuntime) {
-    let a = name(&rt, b"a");
-    check(
-        &rt,
-        rt.alloc(),
-        &[
-            (1, create(false, a), made(2, 1)),
-            (1, Op::Unlink(a), DONE),
-            (1, Op::Unlink(a), ENOENT),
-            (1, create(false, a), made(3, 2)),
-            (2, Op::Getattr, attr(2, 0)),
-            (3, Op::Getattr, attr(3, 1)),
-            (1, Op::Lookup(a), told(Answer::Entry(file(3, 1)))),
-            (2, Op::Open, told(Answer::Open(3))),
-            (2, Op::Forget(1), SILENT),
-            (2, release(1, false, 0), DONE),
-            (2, Op::Getattr, attr(2, 0)),
-            (2, release(3, false, 0), DONE),
-            (2, Op::Getattr, ENOENT),
-            (1, create(false, a), made(3, 4)),
-            (1, Op::Unlink(a), DONE),
-            (3, Op::Forget(2), SILENT),
-            (3, Op::Getattr, attr(3, 0)),
-            (3, Op::Forget(1), SILENT),
-            (3, release(4, false, 0), DONE),
-            (3, Op::Getattr, attr(3, 0)),
-            (3, release(2, false, 0), DONE),
-            (3, Op::Getattr, ENOENT),
-            (1, create(false, a), made(4, 5)),
-        ],
-    );
+    let orders = "\
+ask 0 1001 1 5 6 0 create 0 420 61
+tell 1001 made 2 33188 1 5 6 1
+ask 0 1001 1 5 6 0 unlink 61
+tell 1001 ok
+ask 0 1001 1 5 6 0 unlink 61
+tell 1001 err 2
+ask 0 1001 1 5 6 0 create 0 420 61
+tell 1001 made 3 33188 1 5 6 2
+ask 0 1002 2 5 6 0 getattr
+tell 1002 attr 2 33188 0 5 6
+ask 0 1003 3 5 6 0 getattr
+tell 1003 attr 3 33188 1 5 6
+ask 0 1001 1 5 6 0 lookup 61
+tell 1001 entry 3 33188 1 5 6
+ask 0 1002 2 5 6 0 open
+tell 1002 open 3
+ask 0 1002 2 5 6 0 forget 1
+ask 0 1002 2 5 6 0 release 1 0 0
+tell 1002 ok
+ask 0 1002 2 5 6 0 getattr
+tell 1002 attr 2 33188 0 5 6
+ask 0 1002 2 5 6 0 release 3 0 0
+tell 1002 ok
+ask 0 1002 2 5 6 0 getattr
+tell 1002 err 2
+ask 0 1001 1 5 6 0 create 0 420 61
+tell 1001 made 3 33188 1 5 6 4
+ask 0 1001 1 5 6 0 unlink 61
+tell 1001 ok
+ask 0 1003 3 5 6 0 forget 2
+ask 0 1003 3 5 6 0 getattr
+tell 1003 attr 3 33188 0 5 6
+ask 0 1003 3 5 6 0 forget 1
+ask 0 1003 3 5 6 0 release 4 0 0
+tell 1003 ok
+ask 0 1003 3 5 6 0 getattr
+tell 1003 attr 3 33188 0 5 6
+ask 0 1003 3 5 6 0 release 2 0 0
+tell 1003 ok
+ask 0 1003 3 5 6 0 getattr
+tell 1003 err 2
+ask 0 1001 1 5 6 0 create 0 420 61
+tell 1001 made 4 33188 1 5 6 5
+";
+    is_legal(&rt, rt.alloc(), 43, &[orders]);
 }
 
 #[test]
 fn lookups_are_counted_and_forgotten(rt: HostRuntime) {
-    let a = name(&rt, b"a");
-    let seen = told(Answer::Entry(file(2, 1)));
-    check(
-        &rt,
-        rt.alloc(),
-        &[
-            (1, create(true, a), made(2, 1)),
-            (2, release(1, false, 0), DONE),
-            (2, Op::Forget(5), SILENT),
-            (2, Op::Getattr, attr(2, 1)),
-            (1, Op::Lookup(a), seen),
-            (1, Op::Lookup(a), seen),
-            (1, Op::Lookup(a), seen),
-            (2, Op::Getattr, attr(2, 1)),
-            (1, Op::Unlink(a), DONE),
-            (2, Op::Forget(2), SILENT),
-            (2, Op::Forget(0), SILENT),
-            (2, Op::Getattr, attr(2, 0)),
-            (2, Op::Forget(1), SILENT),
-            (2, Op::Getattr, ENOENT),
-        ],
-    );
+    let orders = "\
+ask 0 1001 1 5 6 0 create 1 420 61
+tell 1001 made 2 33188 1 5 6 1
+ask 0 1002 2 5 6 0 release 1 0 0
+tell 1002 ok
+ask 0 1002 2 5 6 0 forget 5
+ask 0 1002 2 5 6 0 getattr
+tell 1002 attr 2 33188 1 5 6
+ask 0 1001 1 5 6 0 lookup 61
+tell 1001 entry 2 33188 1 5 6
+ask 0 1001 1 5 6 0 lookup 61
+tell 1001 entry 2 33188 1 5 6
+ask 0 1001 1 5 6 0 lookup 61
+tell 1001 entry 2 33188 1 5 6
+ask 0 1002 2 5 6 0 getattr
+tell 1002 attr 2 33188 1 5 6
+ask 0 1001 1 5 6 0 unlink 61
+tell 1001 ok
+ask 0 1002 2 5 6 0 forget 2
+ask 0 1002 2 5 6 0 forget 0
+ask 0 1002 2 5 6 0 getattr
+tell 1002 attr 2 33188 0 5 6
+ask 0 1002 2 5 6 0 forget 1
+ask 0 1002 2 5 6 0 getattr
+tell 1002 err 2
+";
+    is_legal(&rt, rt.alloc(), 24, &[orders]);
+}
+
+// A file of user 8 and group 9. Of this mode the text of an order has the permissions alone.
+fn create_by_another(rt: &impl Abort) -> Order {
+    let create = Op::Create {
+        excl: true,
+        mode: 0o107777,
+        name: name(rt, b"a"),
+    };
+    Order {
+        uid: 8,
+        gid: 9,
+        ..order(1, 1, create)
+    }
 }
 
 #[test]
 fn a_linked_name_keeps_its_first_mode_and_owner(rt: HostRuntime) {
-    let a = name(&rt, b"a");
-    let first = Attr {
+    let orders = "\
+ask 0 1001 1 5 6 0 create 0 420 61
+tell 1001 made 2 33279 1 8 9 2
+ask 0 1001 1 5 6 0 lookup 61
+tell 1001 entry 2 33279 1 8 9
+ask 0 1002 2 5 6 0 getattr
+tell 1002 attr 2 33279 1 8 9
+";
+    let attr = Attr {
         node: 2,
         mode: 0o100777,
         nlink: 1,
@@ -127,23 +310,6 @@ fn a_linked_name_keeps_its_first_mode_and_owner(rt: HostRuntime) {
         gid: 9,
     };
     let mut server = Server::new(&rt, rt.alloc());
-    let wide = Op::Create {
-        excl: true,
-        mode: 0o107777,
-        name: a,
-    };
-    let by_another = Order {
-        uid: 8,
-        gid: 9,
-        ..order(1, wide)
-    };
-    assert_eq!(rt; server.ask(&rt, &by_another), told(Answer::Made(first, 1)));
-    server.check(
-        &rt,
-        &[
-            (1, create(false, a), told(Answer::Made(first, 2))),
-            (1, Op::Lookup(a), told(Answer::Entry(first))),
-            (2, Op::Getattr, told(Answer::Attr(first))),
-        ],
-    );
+    server.gives(&rt, &create_by_another(&rt), Ok(Answer::Made(attr, 1)));
+    server.goes_on(&rt, rt.alloc(), orders);
 }

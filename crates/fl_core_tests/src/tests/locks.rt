@@ -1,203 +1,478 @@
 //! Which locks go with an open file.
 
-use super::*;
-use crate::laws;
+use super::is_legal;
+use fl_core::laws;
 
 // Two files, of which node 2 is open as fh 1 and 2 and node 3 as fh 3, with locks of owners 7 and 8.
-fn locked(rt: &impl Abort, server: &mut Server) {
-    server.check(
-        rt,
-        &[
-            (1, create(true, name(rt, b"a")), made(2, 1)),
-            (2, Op::Open, told(Answer::Open(2))),
-            (1, create(true, name(rt, b"b")), made(3, 3)),
-            (2, lock(1, 7, 0, 9, WRITE), DONE),
-            (2, lock(2, 7, 20, 29, READ), DONE),
-            (2, lock(1, 8, 40, 49, WRITE), DONE),
-            (2, flock(1, 7, READ), DONE),
-            (2, flock(2, 8, READ), DONE),
-            (3, lock(3, 7, 0, 9, WRITE), DONE),
-            (3, flock(3, 7, WRITE), DONE),
-        ],
-    );
-}
+const LOCKED: &str = "\
+ask 0 1001 1 5 6 0 create 1 420 61
+tell 1001 made 2 33188 1 5 6 1
+ask 0 1002 2 5 6 0 open
+tell 1002 open 2
+ask 0 1001 1 5 6 0 create 1 420 62
+tell 1001 made 3 33188 1 5 6 3
+ask 0 1002 2 5 6 0 setlk 1 7 0 9 1 7 0
+tell 1002 ok
+ask 0 1002 2 5 6 0 setlk 2 7 20 29 0 7 0
+tell 1002 ok
+ask 0 1002 2 5 6 0 setlk 1 8 40 49 1 8 0
+tell 1002 ok
+ask 0 1002 2 5 6 0 setlk 1 7 0 0 0 7 1
+tell 1002 ok
+ask 0 1002 2 5 6 0 setlk 2 8 0 0 0 8 1
+tell 1002 ok
+ask 0 1003 3 5 6 0 setlk 3 7 0 9 1 7 0
+tell 1003 ok
+ask 0 1003 3 5 6 0 setlk 3 7 0 0 1 7 1
+tell 1003 ok
+";
 
-// The record locks of node 2 are there, asked for through this fh.
-fn check_record_locks(rt: &impl Abort, server: &mut Server, fh: u64) {
-    server.check(
-        rt,
-        &[
-            (2, test(fh, 9, 0, 99), held(7, 0, 9, WRITE)),
-            (2, test(fh, 9, 10, 99), held(7, 20, 29, READ)),
-            (2, test(fh, 9, 30, 99), held(8, 40, 49, WRITE)),
-            (2, test(fh, 9, 50, 99), held(9, 50, 99, UNLOCK)),
-        ],
-    );
-}
+// The record locks of node 2 are there, asked for through fh 1.
+const RECORD_LOCKS_BY_1: &str = "\
+ask 0 1002 2 5 6 0 getlk 1 9 0 99 1 9 0
+tell 1002 lock 0 9 1 7
+ask 0 1002 2 5 6 0 getlk 1 9 10 99 1 9 0
+tell 1002 lock 20 29 0 7
+ask 0 1002 2 5 6 0 getlk 1 9 30 99 1 9 0
+tell 1002 lock 40 49 1 8
+ask 0 1002 2 5 6 0 getlk 1 9 50 99 1 9 0
+tell 1002 lock 50 99 2 9
+";
 
-// So are the locks of node 3.
-fn check_other_node(rt: &impl Abort, server: &mut Server) {
-    server.check(
-        rt,
-        &[
-            (3, test(3, 9, 0, 99), held(7, 0, 9, WRITE)),
-            (3, flock(3, 9, READ), EAGAIN),
-        ],
-    );
-}
+// The record locks of node 2 are there, asked for through fh 2.
+const RECORD_LOCKS_BY_2: &str = "\
+ask 0 1002 2 5 6 0 getlk 2 9 0 99 1 9 0
+tell 1002 lock 0 9 1 7
+ask 0 1002 2 5 6 0 getlk 2 9 10 99 1 9 0
+tell 1002 lock 20 29 0 7
+ask 0 1002 2 5 6 0 getlk 2 9 30 99 1 9 0
+tell 1002 lock 40 49 1 8
+ask 0 1002 2 5 6 0 getlk 2 9 50 99 1 9 0
+tell 1002 lock 50 99 2 9
+";
 
-// Owners 7 and 8 have read locks of the whole of node 2: neither can get a write lock beside the other.
-fn check_flocks(rt: &impl Abort, server: &mut Server, fh: u64) {
-    server.check(
-        rt,
-        &[
-            (2, flock(fh, 7, WRITE), EAGAIN),
-            (2, flock(fh, 8, WRITE), EAGAIN),
-        ],
-    );
-}
+// Owners 7 and 8 have read locks of the whole of node 2: neither can get a write lock beside the other through fh 1.
+const FLOCKS_BY_1: &str = "\
+ask 0 1002 2 5 6 0 setlk 1 7 0 0 1 7 1
+tell 1002 err 11
+ask 0 1002 2 5 6 0 setlk 1 8 0 0 1 8 1
+tell 1002 err 11
+";
+
+// Owners 7 and 8 have read locks of the whole of node 2: neither can get a write lock beside the other through fh 2.
+const FLOCKS_BY_2: &str = "\
+ask 0 1002 2 5 6 0 setlk 2 7 0 0 1 7 1
+tell 1002 err 11
+ask 0 1002 2 5 6 0 setlk 2 8 0 0 1 8 1
+tell 1002 err 11
+";
+
+// The locks of node 3 are there.
+const OTHER_NODE: &str = "\
+ask 0 1003 3 5 6 0 getlk 3 9 0 99 1 9 0
+tell 1003 lock 0 9 1 7
+ask 0 1003 3 5 6 0 setlk 3 9 0 0 0 9 1
+tell 1003 err 11
+";
 
 #[test]
 fn a_file_is_made_and_locked(rt: HostRuntime) {
     laws::effects_are_shown_alike();
-    let mut server = Server::new(&rt, rt.alloc());
-    locked(&rt, &mut server);
-    check_record_locks(&rt, &mut server, 1);
-    check_record_locks(&rt, &mut server, 2);
-    check_flocks(&rt, &mut server, 1);
-    check_other_node(&rt, &mut server);
-    server.check(
+    let orders = "\
+ask 0 1002 2 5 6 0 setlk 1 8 9 9 0 8 0
+tell 1002 err 11
+ask 0 1002 2 5 6 0 setlk 1 8 29 30 0 8 0
+tell 1002 ok
+";
+    is_legal(
         &rt,
+        rt.alloc(),
+        48,
         &[
-            (2, lock(1, 8, 9, 9, READ), EAGAIN),
-            (2, lock(1, 8, 29, 30, READ), DONE),
+            LOCKED,
+            RECORD_LOCKS_BY_1,
+            RECORD_LOCKS_BY_2,
+            FLOCKS_BY_1,
+            OTHER_NODE,
+            orders,
         ],
     );
 }
 
 #[test]
-fn flush_takes_the_owners_record_locks_on_the_node(rt: HostRuntime) {
-    for fh in [1, 2] {
-        let mut server = Server::new(&rt, rt.alloc());
-        locked(&rt, &mut server);
-        server.check(
-            &rt,
-            &[
-                (2, flush(fh, 7), DONE),
-                (2, test(1, 9, 0, 99), held(8, 40, 49, WRITE)),
-                (2, test(1, 9, 0, 39), held(9, 0, 39, UNLOCK)),
-            ],
-        );
-        check_flocks(&rt, &mut server, 1);
-        check_other_node(&rt, &mut server);
-        server.check(
-            &rt,
-            &[
-                (2, flush(fh, 9), DONE),
-                (2, test(1, 9, 0, 99), held(8, 40, 49, WRITE)),
-                (2, flush(fh, 8), DONE),
-                (2, test(1, 9, 0, 99), held(9, 0, 99, UNLOCK)),
-                (2, flush(fh, 8), DONE),
-            ],
-        );
-        check_flocks(&rt, &mut server, 2);
-        check_other_node(&rt, &mut server);
-    }
+fn flush_by_the_first_fh_takes_the_owners_record_locks_on_the_node(rt: HostRuntime) {
+    let orders = "\
+ask 0 1002 2 5 6 0 flush 1 7
+tell 1002 ok
+ask 0 1002 2 5 6 0 getlk 1 9 0 99 1 9 0
+tell 1002 lock 40 49 1 8
+ask 0 1002 2 5 6 0 getlk 1 9 0 39 1 9 0
+tell 1002 lock 0 39 2 9
+";
+    let others = "\
+ask 0 1002 2 5 6 0 flush 1 9
+tell 1002 ok
+ask 0 1002 2 5 6 0 getlk 1 9 0 99 1 9 0
+tell 1002 lock 40 49 1 8
+ask 0 1002 2 5 6 0 flush 1 8
+tell 1002 ok
+ask 0 1002 2 5 6 0 getlk 1 9 0 99 1 9 0
+tell 1002 lock 0 99 2 9
+ask 0 1002 2 5 6 0 flush 1 8
+tell 1002 ok
+";
+    is_legal(
+        &rt,
+        rt.alloc(),
+        52,
+        &[
+            LOCKED,
+            orders,
+            FLOCKS_BY_1,
+            OTHER_NODE,
+            others,
+            FLOCKS_BY_2,
+            OTHER_NODE,
+        ],
+    );
 }
 
 #[test]
-fn release_with_drop_takes_the_owners_whole_file_lock(rt: HostRuntime) {
-    for (closed, left) in [(1, 2), (2, 1)] {
-        let mut server = Server::new(&rt, rt.alloc());
-        locked(&rt, &mut server);
-        server.check(&rt, &[(2, release(closed, true, 7), DONE)]);
-        check_record_locks(&rt, &mut server, left);
-        check_other_node(&rt, &mut server);
-        server.check(
-            &rt,
-            &[
-                (2, flock(left, 7, WRITE), EAGAIN),
-                (2, flock(left, 8, WRITE), DONE),
-                (2, flock(left, 7, READ), EAGAIN),
-            ],
-        );
-    }
+fn flush_by_the_second_fh_takes_the_owners_record_locks_on_the_node(rt: HostRuntime) {
+    let orders = "\
+ask 0 1002 2 5 6 0 flush 2 7
+tell 1002 ok
+ask 0 1002 2 5 6 0 getlk 1 9 0 99 1 9 0
+tell 1002 lock 40 49 1 8
+ask 0 1002 2 5 6 0 getlk 1 9 0 39 1 9 0
+tell 1002 lock 0 39 2 9
+";
+    let others = "\
+ask 0 1002 2 5 6 0 flush 2 9
+tell 1002 ok
+ask 0 1002 2 5 6 0 getlk 1 9 0 99 1 9 0
+tell 1002 lock 40 49 1 8
+ask 0 1002 2 5 6 0 flush 2 8
+tell 1002 ok
+ask 0 1002 2 5 6 0 getlk 1 9 0 99 1 9 0
+tell 1002 lock 0 99 2 9
+ask 0 1002 2 5 6 0 flush 2 8
+tell 1002 ok
+";
+    is_legal(
+        &rt,
+        rt.alloc(),
+        52,
+        &[
+            LOCKED,
+            orders,
+            FLOCKS_BY_1,
+            OTHER_NODE,
+            others,
+            FLOCKS_BY_2,
+            OTHER_NODE,
+        ],
+    );
 }
 
 #[test]
-fn release_of_one_of_two_fhs_keeps_all_other_locks(rt: HostRuntime) {
-    for (closed, left, drop, owner) in [
-        (1, 2, false, 7),
-        (2, 1, false, 7),
-        (1, 2, true, 9),
-        (1, 2, false, 0),
-    ] {
-        let mut server = Server::new(&rt, rt.alloc());
-        locked(&rt, &mut server);
-        server.check(&rt, &[(2, release(closed, drop, owner), DONE)]);
-        check_record_locks(&rt, &mut server, left);
-        check_flocks(&rt, &mut server, left);
-        check_other_node(&rt, &mut server);
-    }
+fn release_of_the_first_fh_with_drop_takes_the_owners_whole_file_lock(rt: HostRuntime) {
+    let orders = "\
+ask 0 1002 2 5 6 0 release 1 1 7
+tell 1002 ok
+";
+    let others = "\
+ask 0 1002 2 5 6 0 setlk 2 7 0 0 1 7 1
+tell 1002 err 11
+ask 0 1002 2 5 6 0 setlk 2 8 0 0 1 8 1
+tell 1002 ok
+ask 0 1002 2 5 6 0 setlk 2 7 0 0 0 7 1
+tell 1002 err 11
+";
+    is_legal(
+        &rt,
+        rt.alloc(),
+        40,
+        &[LOCKED, orders, RECORD_LOCKS_BY_2, OTHER_NODE, others],
+    );
+}
+
+#[test]
+fn release_of_the_second_fh_with_drop_takes_the_owners_whole_file_lock(rt: HostRuntime) {
+    let orders = "\
+ask 0 1002 2 5 6 0 release 2 1 7
+tell 1002 ok
+";
+    let others = "\
+ask 0 1002 2 5 6 0 setlk 1 7 0 0 1 7 1
+tell 1002 err 11
+ask 0 1002 2 5 6 0 setlk 1 8 0 0 1 8 1
+tell 1002 ok
+ask 0 1002 2 5 6 0 setlk 1 7 0 0 0 7 1
+tell 1002 err 11
+";
+    is_legal(
+        &rt,
+        rt.alloc(),
+        40,
+        &[LOCKED, orders, RECORD_LOCKS_BY_1, OTHER_NODE, others],
+    );
+}
+
+#[test]
+fn release_of_the_first_of_two_fhs_keeps_all_locks(rt: HostRuntime) {
+    let orders = "\
+ask 0 1002 2 5 6 0 release 1 0 7
+tell 1002 ok
+";
+    is_legal(
+        &rt,
+        rt.alloc(),
+        38,
+        &[LOCKED, orders, RECORD_LOCKS_BY_2, FLOCKS_BY_2, OTHER_NODE],
+    );
+}
+
+#[test]
+fn release_of_the_second_of_two_fhs_keeps_all_locks(rt: HostRuntime) {
+    let orders = "\
+ask 0 1002 2 5 6 0 release 2 0 7
+tell 1002 ok
+";
+    is_legal(
+        &rt,
+        rt.alloc(),
+        38,
+        &[LOCKED, orders, RECORD_LOCKS_BY_1, FLOCKS_BY_1, OTHER_NODE],
+    );
+}
+
+#[test]
+fn release_with_drop_by_an_owner_without_locks_keeps_all_locks(rt: HostRuntime) {
+    let orders = "\
+ask 0 1002 2 5 6 0 release 1 1 9
+tell 1002 ok
+";
+    is_legal(
+        &rt,
+        rt.alloc(),
+        38,
+        &[LOCKED, orders, RECORD_LOCKS_BY_2, FLOCKS_BY_2, OTHER_NODE],
+    );
+}
+
+#[test]
+fn release_by_owner_0_keeps_all_locks(rt: HostRuntime) {
+    let orders = "\
+ask 0 1002 2 5 6 0 release 1 0 0
+tell 1002 ok
+";
+    is_legal(
+        &rt,
+        rt.alloc(),
+        38,
+        &[LOCKED, orders, RECORD_LOCKS_BY_2, FLOCKS_BY_2, OTHER_NODE],
+    );
 }
 
 #[test]
 fn the_last_release_takes_all_locks_of_the_node(rt: HostRuntime) {
-    for (drop, owner) in [(false, 7), (true, 7), (true, 9), (false, 0)] {
-        let mut server = Server::new(&rt, rt.alloc());
-        locked(&rt, &mut server);
-        server.check(
-            &rt,
-            &[
-                (2, release(2, false, 0), DONE),
-                (2, release(1, drop, owner), DONE),
-                (2, lock(1, 9, 0, 9, READ), EBADF),
-                (2, Op::Open, told(Answer::Open(4))),
-                (2, test(4, 9, 0, 99), held(9, 0, 99, UNLOCK)),
-                (2, flock(4, 9, WRITE), DONE),
-            ],
-        );
-        check_other_node(&rt, &mut server);
-    }
+    let orders = "\
+ask 0 1002 2 5 6 0 release 2 0 0
+tell 1002 ok
+ask 0 1002 2 5 6 0 release 1 0 7
+tell 1002 ok
+ask 0 1002 2 5 6 0 setlk 1 9 0 9 0 9 0
+tell 1002 err 9
+ask 0 1002 2 5 6 0 open
+tell 1002 open 4
+ask 0 1002 2 5 6 0 getlk 4 9 0 99 1 9 0
+tell 1002 lock 0 99 2 9
+ask 0 1002 2 5 6 0 setlk 4 9 0 0 1 9 1
+tell 1002 ok
+";
+    is_legal(&rt, rt.alloc(), 36, &[LOCKED, orders, OTHER_NODE]);
+}
+
+#[test]
+fn the_last_release_with_drop_takes_all_locks_of_the_node(rt: HostRuntime) {
+    let orders = "\
+ask 0 1002 2 5 6 0 release 2 0 0
+tell 1002 ok
+ask 0 1002 2 5 6 0 release 1 1 7
+tell 1002 ok
+ask 0 1002 2 5 6 0 setlk 1 9 0 9 0 9 0
+tell 1002 err 9
+ask 0 1002 2 5 6 0 open
+tell 1002 open 4
+ask 0 1002 2 5 6 0 getlk 4 9 0 99 1 9 0
+tell 1002 lock 0 99 2 9
+ask 0 1002 2 5 6 0 setlk 4 9 0 0 1 9 1
+tell 1002 ok
+";
+    is_legal(&rt, rt.alloc(), 36, &[LOCKED, orders, OTHER_NODE]);
+}
+
+#[test]
+fn the_last_release_with_drop_by_an_owner_without_locks_takes_all_locks_of_the_node(
+    rt: HostRuntime,
+) {
+    let orders = "\
+ask 0 1002 2 5 6 0 release 2 0 0
+tell 1002 ok
+ask 0 1002 2 5 6 0 release 1 1 9
+tell 1002 ok
+ask 0 1002 2 5 6 0 setlk 1 9 0 9 0 9 0
+tell 1002 err 9
+ask 0 1002 2 5 6 0 open
+tell 1002 open 4
+ask 0 1002 2 5 6 0 getlk 4 9 0 99 1 9 0
+tell 1002 lock 0 99 2 9
+ask 0 1002 2 5 6 0 setlk 4 9 0 0 1 9 1
+tell 1002 ok
+";
+    is_legal(&rt, rt.alloc(), 36, &[LOCKED, orders, OTHER_NODE]);
+}
+
+#[test]
+fn the_last_release_by_owner_0_takes_all_locks_of_the_node(rt: HostRuntime) {
+    let orders = "\
+ask 0 1002 2 5 6 0 release 2 0 0
+tell 1002 ok
+ask 0 1002 2 5 6 0 release 1 0 0
+tell 1002 ok
+ask 0 1002 2 5 6 0 setlk 1 9 0 9 0 9 0
+tell 1002 err 9
+ask 0 1002 2 5 6 0 open
+tell 1002 open 4
+ask 0 1002 2 5 6 0 getlk 4 9 0 99 1 9 0
+tell 1002 lock 0 99 2 9
+ask 0 1002 2 5 6 0 setlk 4 9 0 0 1 9 1
+tell 1002 ok
+";
+    is_legal(&rt, rt.alloc(), 36, &[LOCKED, orders, OTHER_NODE]);
 }
 
 #[test]
 fn what_is_refused_changes_no_lock(rt: HostRuntime) {
-    let mut server = Server::new(&rt, rt.alloc());
-    locked(&rt, &mut server);
-    for (node, fh) in [(2, 3), (3, 1), (3, 2), (2, 9), (2, 0), (1, 1), (9, 1)] {
-        for owner in [7, 8] {
-            server.check(
-                &rt,
-                &[
-                    (node, flush(fh, owner), EBADF),
-                    (node, release(fh, true, owner), EBADF),
-                    (node, release(fh, false, owner), EBADF),
-                ],
-            );
-        }
-    }
-    check_record_locks(&rt, &mut server, 1);
-    check_record_locks(&rt, &mut server, 2);
-    check_flocks(&rt, &mut server, 2);
-    check_other_node(&rt, &mut server);
+    let orders = "\
+ask 0 1002 2 5 6 0 flush 3 7
+tell 1002 err 9
+ask 0 1002 2 5 6 0 release 3 1 7
+tell 1002 err 9
+ask 0 1002 2 5 6 0 release 3 0 7
+tell 1002 err 9
+ask 0 1002 2 5 6 0 flush 3 8
+tell 1002 err 9
+ask 0 1002 2 5 6 0 release 3 1 8
+tell 1002 err 9
+ask 0 1002 2 5 6 0 release 3 0 8
+tell 1002 err 9
+ask 0 1003 3 5 6 0 flush 1 7
+tell 1003 err 9
+ask 0 1003 3 5 6 0 release 1 1 7
+tell 1003 err 9
+ask 0 1003 3 5 6 0 release 1 0 7
+tell 1003 err 9
+ask 0 1003 3 5 6 0 flush 1 8
+tell 1003 err 9
+ask 0 1003 3 5 6 0 release 1 1 8
+tell 1003 err 9
+ask 0 1003 3 5 6 0 release 1 0 8
+tell 1003 err 9
+ask 0 1003 3 5 6 0 flush 2 7
+tell 1003 err 9
+ask 0 1003 3 5 6 0 release 2 1 7
+tell 1003 err 9
+ask 0 1003 3 5 6 0 release 2 0 7
+tell 1003 err 9
+ask 0 1003 3 5 6 0 flush 2 8
+tell 1003 err 9
+ask 0 1003 3 5 6 0 release 2 1 8
+tell 1003 err 9
+ask 0 1003 3 5 6 0 release 2 0 8
+tell 1003 err 9
+ask 0 1002 2 5 6 0 flush 9 7
+tell 1002 err 9
+ask 0 1002 2 5 6 0 release 9 1 7
+tell 1002 err 9
+ask 0 1002 2 5 6 0 release 9 0 7
+tell 1002 err 9
+ask 0 1002 2 5 6 0 flush 9 8
+tell 1002 err 9
+ask 0 1002 2 5 6 0 release 9 1 8
+tell 1002 err 9
+ask 0 1002 2 5 6 0 release 9 0 8
+tell 1002 err 9
+ask 0 1002 2 5 6 0 flush 0 7
+tell 1002 err 9
+ask 0 1002 2 5 6 0 release 0 1 7
+tell 1002 err 9
+ask 0 1002 2 5 6 0 release 0 0 7
+tell 1002 err 9
+ask 0 1002 2 5 6 0 flush 0 8
+tell 1002 err 9
+ask 0 1002 2 5 6 0 release 0 1 8
+tell 1002 err 9
+ask 0 1002 2 5 6 0 release 0 0 8
+tell 1002 err 9
+ask 0 1001 1 5 6 0 flush 1 7
+tell 1001 err 9
+ask 0 1001 1 5 6 0 release 1 1 7
+tell 1001 err 9
+ask 0 1001 1 5 6 0 release 1 0 7
+tell 1001 err 9
+ask 0 1001 1 5 6 0 flush 1 8
+tell 1001 err 9
+ask 0 1001 1 5 6 0 release 1 1 8
+tell 1001 err 9
+ask 0 1001 1 5 6 0 release 1 0 8
+tell 1001 err 9
+ask 0 1009 9 5 6 0 flush 1 7
+tell 1009 err 9
+ask 0 1009 9 5 6 0 release 1 1 7
+tell 1009 err 9
+ask 0 1009 9 5 6 0 release 1 0 7
+tell 1009 err 9
+ask 0 1009 9 5 6 0 flush 1 8
+tell 1009 err 9
+ask 0 1009 9 5 6 0 release 1 1 8
+tell 1009 err 9
+ask 0 1009 9 5 6 0 release 1 0 8
+tell 1009 err 9
+";
+    is_legal(
+        &rt,
+        rt.alloc(),
+        128,
+        &[
+            LOCKED,
+            orders,
+            RECORD_LOCKS_BY_1,
+            RECORD_LOCKS_BY_2,
+            FLOCKS_BY_2,
+            OTHER_NODE,
+        ],
+    );
 }
 
 #[test]
 fn names_and_lookups_change_no_lock(rt: HostRuntime) {
-    let mut server = Server::new(&rt, rt.alloc());
-    locked(&rt, &mut server);
-    server.check(
+    let orders = "\
+ask 0 1001 1 5 6 0 unlink 61
+tell 1001 ok
+ask 0 1002 2 5 6 0 forget 1
+ask 0 1001 1 5 6 0 create 1 420 61
+tell 1001 made 4 33188 1 5 6 4
+ask 0 1004 4 5 6 0 getlk 4 9 0 99 1 9 0
+tell 1004 lock 0 99 2 9
+ask 0 1004 4 5 6 0 setlk 4 9 0 0 1 9 1
+tell 1004 ok
+";
+    is_legal(
         &rt,
-        &[
-            (1, Op::Unlink(name(&rt, b"a")), DONE),
-            (2, Op::Forget(1), SILENT),
-            (1, create(true, name(&rt, b"a")), made(4, 4)),
-            (4, test(4, 9, 0, 99), held(9, 0, 99, UNLOCK)),
-            (4, flock(4, 9, WRITE), DONE),
-        ],
+        rt.alloc(),
+        45,
+        &[LOCKED, orders, RECORD_LOCKS_BY_1, FLOCKS_BY_1, OTHER_NODE],
     );
-    check_record_locks(&rt, &mut server, 1);
-    check_flocks(&rt, &mut server, 1);
-    check_other_node(&rt, &mut server);
 }
