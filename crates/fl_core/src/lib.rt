@@ -14,6 +14,3 @@ mod tolds;
 pub use parked::Request;
 pub use state::Core;
 pub use tolds::{MOST_TOLDS, Tolds};
-
-#[cfg(test)]
-mod tests;

@@ -1,17 +1,31 @@
 //! Random orders on locks, many of which wait, beside a plain program of locks.
 
+use super::Server;
 use super::numbers::Numbers;
+use super::orders::{READ, UNLOCK, WRITE, create, name, order, release};
 use super::plain_locks::{Counts, LAST, OWNERS, PlainLocks, request_of};
-use super::*;
+use fl_core::Core;
 use fl_ranges::{Class, Key, Kind, Range};
+use fl_wire::{Errno, LockAsk, Op, Order};
+use std::alloc::Global;
+use std::process::Abort;
 
-// The requests that wait in the core are these, the oldest first.
-fn check_parked(rt: &impl Abort, core: &Core, wanted: &[Request]) {
-    let requests = &core.parts.parked.requests;
-    assert_eq!(rt; wanted.len().saturating_add(requests.free()), 256);
-    for (place, request) in wanted.iter().enumerate() {
-        let found = requests.first_where(0, |waiting| *waiting == *request);
-        assert_eq!(rt; found.index, place);
+// A request of this unique waits in the core where it does in the plain program. No order is answered that bears its
+// unique.
+fn check_unique(rt: &impl Abort, core: &Core, plain: &PlainLocks, unique: u64) {
+    let reply = core.answer(&order(unique, 1, Op::Getattr));
+    let waits = reply == Some(Err(Errno::EINVAL));
+    assert_eq!(rt; waits, plain.is_parked(unique), "unique {unique}");
+}
+
+// After an order: of the requests that it is about, and of those that wait in the plain program.
+fn check_parked(rt: &impl Abort, core: &Core, plain: &PlainLocks, unique: u64) {
+    check_unique(rt, core, plain, unique);
+    for told in plain.tolds.iter() {
+        check_unique(rt, core, plain, told.unique);
+    }
+    for request in plain.parked.iter() {
+        check_unique(rt, core, plain, request.unique);
     }
 }
 
@@ -44,23 +58,12 @@ fn check_circle(rt: &impl Abort, core: &Core, plain: &PlainLocks, order: &Order)
     assert_eq!(rt; core.circle(&key, &range, kind), wanted);
 }
 
-// The order gives the replies of the plain program, and leaves the same requests waiting. One that only reads is
-// answered the same beforehand.
+// The order gives the replies of the plain program, and leaves the same requests waiting.
 fn compare(rt: &impl Abort, server: &mut Server, plain: &mut PlainLocks, order: &Order) {
     check_circle(rt, &server.core, plain, order);
     plain.take(rt, order);
-    if matches!(order.op, Op::Getattr | Op::Getlk(_)) {
-        let told = plain.tolds.first().map(|told| told.result);
-        assert_eq!(rt; server.core.answer(order), told);
-    }
-    server.core.step(order, &mut server.tolds);
-    let unique = order.unique;
-    assert_eq!(rt;
-        server.tolds.as_slice(),
-        plain.tolds.as_slice(),
-        "order {unique}"
-    );
-    check_parked(rt, &server.core, &plain.parked);
+    server.tells(rt, order, &plain.tolds);
+    check_parked(rt, &server.core, plain, order.unique);
 }
 
 fn random_kind(numbers: &mut Numbers) -> u32 {
@@ -139,7 +142,7 @@ fn random_open(numbers: &mut Numbers, plain: &PlainLocks) -> (u64, Op) {
 fn random_file_op(numbers: &mut Numbers, plain: &PlainLocks, fh: u64) -> Op {
     let owner = numbers.below(OWNERS);
     match numbers.below(13) {
-        0..=2 => flush(fh, owner),
+        0..=2 => Op::Flush { fh, owner },
         3 => release(fh, numbers.below(2) == 0, owner),
         4..=8 => Op::Interrupt(random_unique(numbers, plain, 7)),
         9 => Op::Getattr,
@@ -166,10 +169,7 @@ fn random_order(numbers: &mut Numbers, plain: &PlainLocks, turn: u64) -> Order {
         0 => random_unique(numbers, plain, turn),
         _ => turn,
     };
-    Order {
-        unique,
-        ..order(node, op)
-    }
+    order(unique, node, op)
 }
 
 // Two files, and so many orders. It gives what the plain program counted, and the most that waited.
@@ -179,15 +179,30 @@ fn run(rt: &impl Abort, alloc: Global, seed: u64, turns: u64) -> (Counts, usize)
     let mut plain = PlainLocks::new(alloc);
     let mut most = 0;
     for letter in [b"a", b"b"] {
-        let made = order(1, create(true, name(rt, letter)));
-        compare(rt, &mut server, &mut plain, &made);
+        compare(rt, &mut server, &mut plain, &create(true, name(rt, letter)));
     }
     for turn in 0..turns {
         let order = random_order(&mut numbers, &plain, turn);
         compare(rt, &mut server, &mut plain, &order);
         most = plain.parked.len().max(most);
     }
+    close_all(rt, &mut server, &mut plain);
     (plain.counts, most)
+}
+
+// Closes what is open, which ends the requests that wait, the oldest first.
+fn close_all(rt: &impl Abort, server: &mut Server, plain: &mut PlainLocks) {
+    for fh in 1..plain.directory.next_fh() {
+        if let Some(node) = plain.directory.node_of(fh) {
+            compare(
+                rt,
+                server,
+                plain,
+                &order(u64::MAX, node, release(fh, false, 0)),
+            );
+        }
+    }
+    assert!(rt; plain.parked.is_empty());
 }
 
 // Each of these seeds brings about each thing often.

@@ -1,6 +1,9 @@
 //! A plain directory, which keeps all files that ever were and finds out anew which of them live. It has no limits.
 
-use super::*;
+use super::Reply;
+use fl_wire::{Answer, Attr, Errno, Name, Op, Order};
+use std::alloc::Global;
+use std::process::Abort;
 
 #[derive(Clone, Copy)]
 struct File {
@@ -43,7 +46,7 @@ impl Plain {
     }
 
     // The reply of an order, with its change made. It knows of no locks, and answers no order about them.
-    pub(super) fn reply(&mut self, rt: &impl Abort, order: &Order) -> Reply {
+    pub(super) fn reply(&mut self, rt: &impl Abort, order: &Order) -> Option<Reply> {
         let node = order.node;
         Some(match &order.op {
             Op::Lookup(name) => self.lookup(node, name),

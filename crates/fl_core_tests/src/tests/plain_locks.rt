@@ -3,8 +3,13 @@
 
 ghost use Rattle.std.specs.Prelude.{◌<◌};
 
+use super::Reply;
+use super::orders::{READ, UNLOCK, WRITE};
 use super::plain::Plain;
-use super::*;
+use fl_core::Request;
+use fl_wire::{Answer, Errno, LockAsk, Op, Order, Told};
+use std::alloc::Global;
+use std::process::Abort;
 
 // Bytes are told apart below this one, which stands for all from itself to the last.
 const REST: u64 = 10;
@@ -165,7 +170,7 @@ impl PlainLocks {
         self.settle(rt);
     }
 
-    fn tell(&mut self, rt: &impl Abort, unique: u64, reply: Result<Answer, Errno>) {
+    fn tell(&mut self, rt: &impl Abort, unique: u64, reply: Reply) {
         let told = Told {
             unique,
             result: reply,
@@ -173,7 +178,7 @@ impl PlainLocks {
         assert!(rt; self.tolds.push(told).is_ok());
     }
 
-    fn is_parked(&self, unique: u64) -> bool {
+    pub(super) fn is_parked(&self, unique: u64) -> bool {
         self.parked.iter().any(|request| request.unique == unique)
     }
 

@@ -1,0 +1,149 @@
+//! Orders through a core. A table of orders and their replies is a trace, as `docs/TRACE.md` says.
+
+mod answers;
+mod circle_lengths;
+mod circles;
+mod circles_cut;
+mod circles_told;
+mod errors;
+mod limits;
+mod lives;
+mod locks;
+mod numbers;
+mod orders;
+mod parking;
+mod plain;
+mod plain_locks;
+mod random;
+mod room;
+mod waiting;
+mod waiting_random;
+
+use fl_book::{History, Line, Verdict, check, read_trace};
+use fl_core::{Core, Tolds};
+use fl_wire::{Answer, Errno, NoMemory, Order, Told};
+use std::alloc::Global;
+use std::process::Abort;
+
+// What an order is answered.
+type Reply = Result<Answer, Errno>;
+
+// The history whose text is these pieces, one behind the other.
+fn history_of(rt: &impl Abort, alloc: Global, pieces: &[&str]) -> History {
+    let mut text = Vec::new(alloc);
+    for piece in pieces {
+        assert!(rt; text.extend_from_slice(piece.as_bytes()).is_ok());
+    }
+    read_trace(alloc, &text).expect(rt, "no trace")
+}
+
+// The pieces are a legal history of so many lines, whose orders are answered without a step where they only read.
+fn is_legal(rt: &impl Abort, alloc: Global, lines: usize, pieces: &[&str]) {
+    let history = history_of(rt, alloc, pieces);
+    assert_eq!(rt; history.len(), lines);
+    assert_legal(rt, &check(alloc, &history));
+    follow(rt, alloc, &history);
+}
+
+fn assert_legal(rt: &impl Abort, verdict: &Result<Verdict, NoMemory>) {
+    assert_eq!(rt; *verdict, Ok(Verdict::Legal));
+}
+
+fn follow(rt: &impl Abort, alloc: Global, history: &History) {
+    Server::new(rt, alloc).follow(rt, history);
+}
+
+// A core, and the replies to its last order.
+#[derive(Drop)]
+struct Server {
+    core: Core,
+    tolds: Tolds,
+}
+
+impl Server {
+    fn new(rt: &impl Abort, alloc: Global) -> Server {
+        Server {
+            core: Core::new(alloc).expect(rt, "no memory"),
+            tolds: Tolds::new(alloc).expect(rt, "no memory"),
+        }
+    }
+
+    // Takes an order. If it only reads, it is answered the same without a step, before it as after it. If not, it isn't.
+    fn take(&mut self, rt: &impl Abort, order: &Order) {
+        let before = self.core.answer(order);
+        self.core.step(order, &mut self.tolds);
+        let after = self.core.answer(order);
+        if order.only_reads() {
+            assert_eq!(rt; self.tolds.as_slice().len(), 1);
+            let own = self.tolds.as_slice().first().map(|told| told.result);
+            assert_answer(rt, &before, &own);
+            assert_answer(rt, &after, &own);
+        } else {
+            assert!(rt; before.is_none() && after.is_none());
+        }
+    }
+
+    // The order gives these replies.
+    fn tells(&mut self, rt: &impl Abort, order: &Order, tolds: &[Told]) {
+        self.take(rt, order);
+        assert_tolds(rt, order.unique, self.tolds.as_slice(), tolds);
+    }
+
+    // The order gives one reply, its own.
+    fn gives(&mut self, rt: &impl Abort, order: &Order, reply: Reply) {
+        let unique = order.unique;
+        self.tells(
+            rt,
+            order,
+            &[Told {
+                unique,
+                result: reply,
+            }],
+        );
+    }
+
+    // The order gives no reply.
+    fn is_silent(&mut self, rt: &impl Abort, order: &Order) {
+        self.tells(rt, order, &[]);
+    }
+
+    // Each order of the text gives the replies behind it.
+    fn goes_on(&mut self, rt: &impl Abort, alloc: Global, text: &str) {
+        self.follow(rt, &history_of(rt, alloc, &[text]));
+    }
+
+    // Each order of the history gives the replies behind it.
+    fn follow(&mut self, rt: &impl Abort, history: &History) {
+        let mut seen = self.tolds.as_slice().len();
+        for at in 0..history.len() {
+            match history.line(at) {
+                Line::Asked { worker: _, order } => {
+                    assert_eq!(rt;
+                        self.tolds.as_slice().len(),
+                        seen,
+                        "replies before line {at}"
+                    );
+                    self.take(rt, &order);
+                    seen = 0;
+                }
+                Line::Told(told) => {
+                    assert_told(rt, self.tolds.as_slice().get(seen), &told);
+                    seen = seen.saturating_add(1);
+                }
+            }
+        }
+        assert_eq!(rt; self.tolds.as_slice().len(), seen);
+    }
+}
+
+fn assert_answer(rt: &impl Abort, found: &Option<Reply>, wanted: &Option<Reply>) {
+    assert_eq!(rt; *found, *wanted);
+}
+
+fn assert_told(rt: &impl Abort, found: Option<&Told>, wanted: &Told) {
+    assert_eq!(rt; found, Some(wanted));
+}
+
+fn assert_tolds(rt: &impl Abort, unique: u64, found: &[Told], wanted: &[Told]) {
+    assert_eq!(rt; found, wanted, "order {unique}");
+}

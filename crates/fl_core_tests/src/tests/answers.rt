@@ -1,0 +1,56 @@
+//! What is answered without a change.
+
+use super::is_legal;
+
+#[test]
+fn orders_that_only_read_are_answered_as_by_a_step(rt: HostRuntime) {
+    let orders = "\
+ask 0 1002 2 5 6 0 getattr
+tell 1002 err 2
+ask 0 1001 1 5 6 0 getattr
+tell 1001 attr 1 16877 2 0 0
+ask 0 1002 2 5 6 0 getlk 1 8 0 99 1 8 0
+tell 1002 err 9
+ask 0 1001 1 5 6 0 create 1 420 61
+tell 1001 made 2 33188 1 5 6 1
+ask 0 1002 2 5 6 0 getattr
+tell 1002 attr 2 33188 1 5 6
+ask 0 1002 2 5 6 0 getlk 1 8 0 99 1 8 0
+tell 1002 lock 0 99 2 8
+ask 0 1002 2 5 6 0 setlk 1 7 0 9 1 7 0
+tell 1002 ok
+ask 0 1002 2 5 6 0 setlk 1 8 0 9 1 8 0
+tell 1002 err 11
+ask 0 1002 2 5 6 0 getlk 1 8 0 99 1 8 0
+tell 1002 lock 0 9 1 7
+ask 0 1002 2 5 6 0 getlk 1 7 0 99 1 7 0
+tell 1002 lock 0 99 2 7
+ask 0 1002 2 5 6 0 getlk 1 8 9 4 1 8 0
+tell 1002 err 22
+ask 0 1003 3 5 6 0 getlk 1 8 0 99 1 8 0
+tell 1003 err 9
+ask 0 1001 1 5 6 0 lookup 61
+tell 1001 entry 2 33188 1 5 6
+ask 0 1002 2 5 6 0 open
+tell 1002 open 2
+ask 0 1002 2 5 6 0 flush 2 7
+tell 1002 ok
+ask 0 1002 2 5 6 0 getlk 1 8 0 99 1 8 0
+tell 1002 lock 0 99 2 8
+ask 0 1001 1 5 6 0 unlink 61
+tell 1001 ok
+ask 0 1002 2 5 6 0 getattr
+tell 1002 attr 2 33188 0 5 6
+ask 0 1002 2 5 6 0 release 1 1 7
+tell 1002 ok
+ask 0 1002 2 5 6 0 release 2 1 7
+tell 1002 ok
+ask 0 1002 2 5 6 0 forget 1
+ask 0 1002 2 5 6 0 getattr
+tell 1002 attr 2 33188 0 5 6
+ask 0 1002 2 5 6 0 forget 1
+ask 0 1002 2 5 6 0 getattr
+tell 1002 err 2
+";
+    is_legal(&rt, rt.alloc(), 46, &[orders]);
+}

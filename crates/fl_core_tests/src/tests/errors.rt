@@ -1,0 +1,346 @@
+//! Each error of each order, and the first of two where both apply.
+
+use super::is_legal;
+
+#[test]
+fn names_are_refused_by_the_first_test(rt: HostRuntime) {
+    let orders = "\
+ask 0 1001 1 5 6 0 create 1 420 61
+tell 1001 made 2 33188 1 5 6 1
+ask 0 1003 3 5 6 0 lookup 61
+tell 1003 err 2
+ask 0 1000 0 5 6 0 lookup 61
+tell 1000 err 2
+ask 0 1002 2 5 6 0 lookup 61
+tell 1002 err 20
+ask 0 1002 2 5 6 0 lookup 62
+tell 1002 err 20
+ask 0 1001 1 5 6 0 lookup 62
+tell 1001 err 2
+ask 0 1001 1 5 6 0 lookup -
+tell 1001 err 2
+ask 0 1003 3 5 6 0 unlink 61
+tell 1003 err 2
+ask 0 1002 2 5 6 0 unlink 61
+tell 1002 err 20
+ask 0 1002 2 5 6 0 unlink 62
+tell 1002 err 20
+ask 0 1001 1 5 6 0 unlink 62
+tell 1001 err 2
+ask 0 1001 1 5 6 0 unlink -
+tell 1001 err 2
+ask 0 1003 3 5 6 0 create 0 420 62
+tell 1003 err 2
+ask 0 1003 3 5 6 0 create 0 420 -
+tell 1003 err 2
+ask 0 1003 3 5 6 0 create 1 420 61
+tell 1003 err 2
+ask 0 1002 2 5 6 0 create 0 420 62
+tell 1002 err 20
+ask 0 1002 2 5 6 0 create 0 420 -
+tell 1002 err 20
+ask 0 1002 2 5 6 0 create 1 420 61
+tell 1002 err 20
+ask 0 1001 1 5 6 0 create 1 420 61
+tell 1001 err 17
+ask 0 1001 1 5 6 0 create 0 420 61
+tell 1001 made 2 33188 1 5 6 2
+ask 0 1001 1 5 6 0 create 1 420 62
+tell 1001 made 3 33188 1 5 6 3
+";
+    is_legal(&rt, rt.alloc(), 42, &[orders]);
+}
+
+#[test]
+fn reserved_names_are_refused_before_other_tests(rt: HostRuntime) {
+    let orders = "\
+ask 0 1001 1 5 6 0 create 1 420 61
+tell 1001 made 2 33188 1 5 6 1
+ask 0 1001 1 5 6 0 create 0 420 61
+tell 1001 made 2 33188 1 5 6 2
+ask 0 1001 1 5 6 0 create 1 420 62
+tell 1001 made 3 33188 1 5 6 3
+ask 0 1001 1 5 6 0 create 0 420 -
+tell 1001 err 22
+ask 0 1001 1 5 6 0 create 1 420 -
+tell 1001 err 22
+ask 0 1004 4 5 6 0 create 1 420 -
+tell 1004 err 2
+ask 0 1002 2 5 6 0 create 1 420 -
+tell 1002 err 20
+ask 0 1001 1 5 6 0 create 0 420 2e
+tell 1001 err 22
+ask 0 1001 1 5 6 0 create 1 420 2e
+tell 1001 err 22
+ask 0 1004 4 5 6 0 create 1 420 2e
+tell 1004 err 2
+ask 0 1002 2 5 6 0 create 1 420 2e
+tell 1002 err 20
+ask 0 1001 1 5 6 0 create 0 420 2e2e
+tell 1001 err 22
+ask 0 1001 1 5 6 0 create 1 420 2e2e
+tell 1001 err 22
+ask 0 1004 4 5 6 0 create 1 420 2e2e
+tell 1004 err 2
+ask 0 1002 2 5 6 0 create 1 420 2e2e
+tell 1002 err 20
+ask 0 1001 1 5 6 0 create 0 420 2f
+tell 1001 err 22
+ask 0 1001 1 5 6 0 create 1 420 2f
+tell 1001 err 22
+ask 0 1004 4 5 6 0 create 1 420 2f
+tell 1004 err 2
+ask 0 1002 2 5 6 0 create 1 420 2f
+tell 1002 err 20
+ask 0 1001 1 5 6 0 create 0 420 612f62
+tell 1001 err 22
+ask 0 1001 1 5 6 0 create 1 420 612f62
+tell 1001 err 22
+ask 0 1004 4 5 6 0 create 1 420 612f62
+tell 1004 err 2
+ask 0 1002 2 5 6 0 create 1 420 612f62
+tell 1002 err 20
+ask 0 1001 1 5 6 0 create 1 420 2e2e2e
+tell 1001 made 4 33188 1 5 6 4
+";
+    is_legal(&rt, rt.alloc(), 48, &[orders]);
+}
+
+#[test]
+fn nodes_and_files_are_refused_by_the_first_test(rt: HostRuntime) {
+    let orders = "\
+ask 0 1001 1 5 6 0 create 1 420 61
+tell 1001 made 2 33188 1 5 6 1
+ask 0 1001 1 5 6 0 create 1 420 62
+tell 1001 made 3 33188 1 5 6 2
+ask 0 1004 4 5 6 0 getattr
+tell 1004 err 2
+ask 0 1000 0 5 6 0 getattr
+tell 1000 err 2
+ask 0 1004 4 5 6 0 open
+tell 1004 err 2
+ask 0 1000 0 5 6 0 open
+tell 1000 err 2
+ask 0 1001 1 5 6 0 open
+tell 1001 err 21
+ask 0 1004 4 5 6 0 forget 1
+ask 0 1001 1 5 6 0 forget 1
+ask 0 1002 2 5 6 0 forget 1
+ask 0 1002 2 5 6 0 forget 1
+ask 0 1002 2 5 6 0 flush 2 7
+tell 1002 err 9
+ask 0 1002 2 5 6 0 release 2 0 7
+tell 1002 err 9
+ask 0 1002 2 5 6 0 release 2 1 7
+tell 1002 err 9
+ask 0 1003 3 5 6 0 flush 1 7
+tell 1003 err 9
+ask 0 1003 3 5 6 0 release 1 0 7
+tell 1003 err 9
+ask 0 1003 3 5 6 0 release 1 1 7
+tell 1003 err 9
+ask 0 1001 1 5 6 0 flush 1 7
+tell 1001 err 9
+ask 0 1001 1 5 6 0 release 1 0 7
+tell 1001 err 9
+ask 0 1001 1 5 6 0 release 1 1 7
+tell 1001 err 9
+ask 0 1004 4 5 6 0 flush 1 7
+tell 1004 err 9
+ask 0 1004 4 5 6 0 release 1 0 7
+tell 1004 err 9
+ask 0 1004 4 5 6 0 release 1 1 7
+tell 1004 err 9
+ask 0 1002 2 5 6 0 flush 0 7
+tell 1002 err 9
+ask 0 1002 2 5 6 0 release 0 0 7
+tell 1002 err 9
+ask 0 1002 2 5 6 0 release 0 1 7
+tell 1002 err 9
+ask 0 1002 2 5 6 0 flush 3 7
+tell 1002 err 9
+ask 0 1002 2 5 6 0 release 3 0 7
+tell 1002 err 9
+ask 0 1002 2 5 6 0 release 3 1 7
+tell 1002 err 9
+ask 0 1004 4 5 6 0 flush 3 7
+tell 1004 err 9
+ask 0 1004 4 5 6 0 release 3 0 7
+tell 1004 err 9
+ask 0 1004 4 5 6 0 release 3 1 7
+tell 1004 err 9
+ask 0 1002 2 5 6 0 release 1 0 7
+tell 1002 ok
+ask 0 1002 2 5 6 0 flush 1 7
+tell 1002 err 9
+ask 0 1002 2 5 6 0 release 1 1 7
+tell 1002 err 9
+ask 0 1003 3 5 6 0 flush 2 7
+tell 1003 ok
+ask 0 1003 3 5 6 0 release 2 1 7
+tell 1003 ok
+";
+    is_legal(&rt, rt.alloc(), 70, &[orders]);
+}
+
+// Node 2 is open as fh 1.
+const ONE_FILE: &str = "\
+ask 0 1001 1 5 6 0 create 1 420 61
+tell 1001 made 2 33188 1 5 6 1
+";
+
+#[test]
+fn unknown_lock_flags_are_refused_after_the_fh(rt: HostRuntime) {
+    let orders = "\
+ask 0 1002 2 5 6 0 setlk 1 7 5 9 0 7 2
+tell 1002 err 22
+ask 0 1002 2 5 6 0 setlkw 1 7 5 9 0 7 2
+tell 1002 err 22
+ask 0 1002 2 5 6 0 getlk 1 7 5 9 0 7 2
+tell 1002 err 22
+ask 0 1002 2 5 6 0 setlk 9 7 5 9 0 7 2
+tell 1002 err 9
+ask 0 1002 2 5 6 0 setlkw 9 7 5 9 0 7 2
+tell 1002 err 9
+ask 0 1002 2 5 6 0 getlk 9 7 5 9 0 7 2
+tell 1002 err 9
+ask 0 1001 1 5 6 0 setlk 1 7 5 9 0 7 2
+tell 1001 err 9
+ask 0 1001 1 5 6 0 setlkw 1 7 5 9 0 7 2
+tell 1001 err 9
+ask 0 1001 1 5 6 0 getlk 1 7 5 9 0 7 2
+tell 1001 err 9
+ask 0 1002 2 5 6 0 setlk 1 7 5 9 0 7 3
+tell 1002 err 22
+ask 0 1002 2 5 6 0 setlkw 1 7 5 9 0 7 3
+tell 1002 err 22
+ask 0 1002 2 5 6 0 getlk 1 7 5 9 0 7 3
+tell 1002 err 22
+ask 0 1002 2 5 6 0 setlk 9 7 5 9 0 7 3
+tell 1002 err 9
+ask 0 1002 2 5 6 0 setlkw 9 7 5 9 0 7 3
+tell 1002 err 9
+ask 0 1002 2 5 6 0 getlk 9 7 5 9 0 7 3
+tell 1002 err 9
+ask 0 1001 1 5 6 0 setlk 1 7 5 9 0 7 3
+tell 1001 err 9
+ask 0 1001 1 5 6 0 setlkw 1 7 5 9 0 7 3
+tell 1001 err 9
+ask 0 1001 1 5 6 0 getlk 1 7 5 9 0 7 3
+tell 1001 err 9
+";
+    is_legal(&rt, rt.alloc(), 38, &[ONE_FILE, orders]);
+}
+
+#[test]
+fn unknown_lock_types_are_refused_after_the_fh(rt: HostRuntime) {
+    let orders = "\
+ask 0 1002 2 5 6 0 setlk 1 7 5 9 3 7 0
+tell 1002 err 22
+ask 0 1002 2 5 6 0 setlkw 1 7 5 9 3 7 0
+tell 1002 err 22
+ask 0 1002 2 5 6 0 getlk 1 7 5 9 3 7 0
+tell 1002 err 22
+ask 0 1002 2 5 6 0 setlk 9 7 5 9 3 7 0
+tell 1002 err 9
+ask 0 1002 2 5 6 0 setlkw 9 7 5 9 3 7 0
+tell 1002 err 9
+ask 0 1002 2 5 6 0 getlk 9 7 5 9 3 7 0
+tell 1002 err 9
+ask 0 1001 1 5 6 0 setlk 1 7 5 9 3 7 0
+tell 1001 err 9
+ask 0 1001 1 5 6 0 setlkw 1 7 5 9 3 7 0
+tell 1001 err 9
+ask 0 1001 1 5 6 0 getlk 1 7 5 9 3 7 0
+tell 1001 err 9
+ask 0 1002 2 5 6 0 setlk 1 7 5 9 3 7 1
+tell 1002 err 22
+ask 0 1002 2 5 6 0 setlkw 1 7 5 9 3 7 1
+tell 1002 err 22
+ask 0 1002 2 5 6 0 getlk 1 7 5 9 3 7 1
+tell 1002 err 22
+ask 0 1002 2 5 6 0 setlk 9 7 5 9 3 7 1
+tell 1002 err 9
+ask 0 1002 2 5 6 0 setlkw 9 7 5 9 3 7 1
+tell 1002 err 9
+ask 0 1002 2 5 6 0 getlk 9 7 5 9 3 7 1
+tell 1002 err 9
+ask 0 1001 1 5 6 0 setlk 1 7 5 9 3 7 1
+tell 1001 err 9
+ask 0 1001 1 5 6 0 setlkw 1 7 5 9 3 7 1
+tell 1001 err 9
+ask 0 1001 1 5 6 0 getlk 1 7 5 9 3 7 1
+tell 1001 err 9
+";
+    is_legal(&rt, rt.alloc(), 38, &[ONE_FILE, orders]);
+}
+
+#[test]
+fn ranges_that_end_before_their_start_or_too_far_are_refused_after_the_fh(rt: HostRuntime) {
+    let orders = "\
+ask 0 1002 2 5 6 0 setlk 1 7 5 4 0 7 0
+tell 1002 err 22
+ask 0 1002 2 5 6 0 setlkw 1 7 5 4 0 7 0
+tell 1002 err 22
+ask 0 1002 2 5 6 0 getlk 1 7 5 4 0 7 0
+tell 1002 err 22
+ask 0 1002 2 5 6 0 setlk 9 7 5 4 0 7 0
+tell 1002 err 9
+ask 0 1002 2 5 6 0 setlkw 9 7 5 4 0 7 0
+tell 1002 err 9
+ask 0 1002 2 5 6 0 getlk 9 7 5 4 0 7 0
+tell 1002 err 9
+ask 0 1001 1 5 6 0 setlk 1 7 5 4 0 7 0
+tell 1001 err 9
+ask 0 1001 1 5 6 0 setlkw 1 7 5 4 0 7 0
+tell 1001 err 9
+ask 0 1001 1 5 6 0 getlk 1 7 5 4 0 7 0
+tell 1001 err 9
+ask 0 1002 2 5 6 0 setlk 1 7 0 9223372036854775808 0 7 0
+tell 1002 err 22
+ask 0 1002 2 5 6 0 setlkw 1 7 0 9223372036854775808 0 7 0
+tell 1002 err 22
+ask 0 1002 2 5 6 0 getlk 1 7 0 9223372036854775808 0 7 0
+tell 1002 err 22
+ask 0 1002 2 5 6 0 setlk 9 7 0 9223372036854775808 0 7 0
+tell 1002 err 9
+ask 0 1002 2 5 6 0 setlkw 9 7 0 9223372036854775808 0 7 0
+tell 1002 err 9
+ask 0 1002 2 5 6 0 getlk 9 7 0 9223372036854775808 0 7 0
+tell 1002 err 9
+ask 0 1001 1 5 6 0 setlk 1 7 0 9223372036854775808 0 7 0
+tell 1001 err 9
+ask 0 1001 1 5 6 0 setlkw 1 7 0 9223372036854775808 0 7 0
+tell 1001 err 9
+ask 0 1001 1 5 6 0 getlk 1 7 0 9223372036854775808 0 7 0
+tell 1001 err 9
+";
+    is_legal(&rt, rt.alloc(), 38, &[ONE_FILE, orders]);
+}
+
+#[test]
+fn no_unlock_and_no_whole_file_lock_is_tested(rt: HostRuntime) {
+    let orders = "\
+ask 0 1002 2 5 6 0 getlk 1 7 5 9 2 7 0
+tell 1002 err 22
+ask 0 1002 2 5 6 0 getlk 9 7 5 9 2 7 0
+tell 1002 err 9
+ask 0 1003 3 5 6 0 getlk 1 7 5 9 2 7 0
+tell 1003 err 9
+ask 0 1002 2 5 6 0 setlk 1 7 5 9 2 7 0
+tell 1002 ok
+ask 0 1002 2 5 6 0 setlkw 1 7 5 9 2 7 0
+tell 1002 ok
+ask 0 1002 2 5 6 0 getlk 1 7 5 9 0 7 1
+tell 1002 err 22
+ask 0 1002 2 5 6 0 getlk 9 7 5 9 0 7 1
+tell 1002 err 9
+ask 0 1003 3 5 6 0 getlk 1 7 5 9 0 7 1
+tell 1003 err 9
+ask 0 1002 2 5 6 0 setlk 1 7 5 9 0 7 1
+tell 1002 ok
+ask 0 1002 2 5 6 0 setlkw 1 7 5 9 0 7 1
+tell 1002 ok
+";
+    is_legal(&rt, rt.alloc(), 22, &[ONE_FILE, orders]);
+}

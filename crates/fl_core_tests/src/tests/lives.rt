@@ -1,0 +1,315 @@
+//! When a node goes, and that its numbers aren't given again.
+
+use super::orders::{name, order};
+use super::{Server, is_legal};
+use fl_wire::{Answer, Attr, Op, Order};
+use std::process::Abort;
+
+#[test]
+fn a_node_goes_with_its_name_then_its_lookup_then_its_open_file(rt: HostRuntime) {
+    let orders = "\
+ask 0 1001 1 5 6 0 create 1 420 61
+tell 1001 made 2 33188 1 5 6 1
+ask 0 1001 1 5 6 0 unlink 61
+tell 1001 ok
+ask 0 1002 2 5 6 0 getattr
+tell 1002 attr 2 33188 0 5 6
+ask 0 1002 2 5 6 0 forget 1
+ask 0 1002 2 5 6 0 getattr
+tell 1002 attr 2 33188 0 5 6
+ask 0 1002 2 5 6 0 release 1 0 0
+tell 1002 ok
+ask 0 1002 2 5 6 0 getattr
+tell 1002 err 2
+ask 0 1002 2 5 6 0 open
+tell 1002 err 2
+ask 0 1002 2 5 6 0 lookup 61
+tell 1002 err 2
+ask 0 1001 1 5 6 0 lookup 61
+tell 1001 err 2
+ask 0 1002 2 5 6 0 flush 1 7
+tell 1002 err 9
+ask 0 1001 1 5 6 0 create 1 420 61
+tell 1001 made 3 33188 1 5 6 2
+ask 0 1002 2 5 6 0 getattr
+tell 1002 err 2
+";
+    is_legal(&rt, rt.alloc(), 25, &[orders]);
+}
+
+#[test]
+fn a_node_goes_with_its_name_then_its_open_file_then_its_lookup(rt: HostRuntime) {
+    let orders = "\
+ask 0 1001 1 5 6 0 create 1 420 61
+tell 1001 made 2 33188 1 5 6 1
+ask 0 1001 1 5 6 0 unlink 61
+tell 1001 ok
+ask 0 1002 2 5 6 0 getattr
+tell 1002 attr 2 33188 0 5 6
+ask 0 1002 2 5 6 0 release 1 0 0
+tell 1002 ok
+ask 0 1002 2 5 6 0 getattr
+tell 1002 attr 2 33188 0 5 6
+ask 0 1002 2 5 6 0 forget 1
+ask 0 1002 2 5 6 0 getattr
+tell 1002 err 2
+ask 0 1002 2 5 6 0 open
+tell 1002 err 2
+ask 0 1002 2 5 6 0 lookup 61
+tell 1002 err 2
+ask 0 1001 1 5 6 0 lookup 61
+tell 1001 err 2
+ask 0 1002 2 5 6 0 flush 1 7
+tell 1002 err 9
+ask 0 1001 1 5 6 0 create 1 420 61
+tell 1001 made 3 33188 1 5 6 2
+ask 0 1002 2 5 6 0 getattr
+tell 1002 err 2
+";
+    is_legal(&rt, rt.alloc(), 25, &[orders]);
+}
+
+#[test]
+fn a_node_goes_with_its_lookup_then_its_name_then_its_open_file(rt: HostRuntime) {
+    let orders = "\
+ask 0 1001 1 5 6 0 create 1 420 61
+tell 1001 made 2 33188 1 5 6 1
+ask 0 1002 2 5 6 0 forget 1
+ask 0 1002 2 5 6 0 getattr
+tell 1002 attr 2 33188 1 5 6
+ask 0 1001 1 5 6 0 unlink 61
+tell 1001 ok
+ask 0 1002 2 5 6 0 getattr
+tell 1002 attr 2 33188 0 5 6
+ask 0 1002 2 5 6 0 release 1 0 0
+tell 1002 ok
+ask 0 1002 2 5 6 0 getattr
+tell 1002 err 2
+ask 0 1002 2 5 6 0 open
+tell 1002 err 2
+ask 0 1002 2 5 6 0 lookup 61
+tell 1002 err 2
+ask 0 1001 1 5 6 0 lookup 61
+tell 1001 err 2
+ask 0 1002 2 5 6 0 flush 1 7
+tell 1002 err 9
+ask 0 1001 1 5 6 0 create 1 420 61
+tell 1001 made 3 33188 1 5 6 2
+ask 0 1002 2 5 6 0 getattr
+tell 1002 err 2
+";
+    is_legal(&rt, rt.alloc(), 25, &[orders]);
+}
+
+#[test]
+fn a_node_goes_with_its_lookup_then_its_open_file_then_its_name(rt: HostRuntime) {
+    let orders = "\
+ask 0 1001 1 5 6 0 create 1 420 61
+tell 1001 made 2 33188 1 5 6 1
+ask 0 1002 2 5 6 0 forget 1
+ask 0 1002 2 5 6 0 getattr
+tell 1002 attr 2 33188 1 5 6
+ask 0 1002 2 5 6 0 release 1 0 0
+tell 1002 ok
+ask 0 1002 2 5 6 0 getattr
+tell 1002 attr 2 33188 1 5 6
+ask 0 1001 1 5 6 0 unlink 61
+tell 1001 ok
+ask 0 1002 2 5 6 0 getattr
+tell 1002 err 2
+ask 0 1002 2 5 6 0 open
+tell 1002 err 2
+ask 0 1002 2 5 6 0 lookup 61
+tell 1002 err 2
+ask 0 1001 1 5 6 0 lookup 61
+tell 1001 err 2
+ask 0 1002 2 5 6 0 flush 1 7
+tell 1002 err 9
+ask 0 1001 1 5 6 0 create 1 420 61
+tell 1001 made 3 33188 1 5 6 2
+ask 0 1002 2 5 6 0 getattr
+tell 1002 err 2
+";
+    is_legal(&rt, rt.alloc(), 25, &[orders]);
+}
+
+#[test]
+fn a_node_goes_with_its_open_file_then_its_name_then_its_lookup(rt: HostRuntime) {
+    let orders = "\
+ask 0 1001 1 5 6 0 create 1 420 61
+tell 1001 made 2 33188 1 5 6 1
+ask 0 1002 2 5 6 0 release 1 0 0
+tell 1002 ok
+ask 0 1002 2 5 6 0 getattr
+tell 1002 attr 2 33188 1 5 6
+ask 0 1001 1 5 6 0 unlink 61
+tell 1001 ok
+ask 0 1002 2 5 6 0 getattr
+tell 1002 attr 2 33188 0 5 6
+ask 0 1002 2 5 6 0 forget 1
+ask 0 1002 2 5 6 0 getattr
+tell 1002 err 2
+ask 0 1002 2 5 6 0 open
+tell 1002 err 2
+ask 0 1002 2 5 6 0 lookup 61
+tell 1002 err 2
+ask 0 1001 1 5 6 0 lookup 61
+tell 1001 err 2
+ask 0 1002 2 5 6 0 flush 1 7
+tell 1002 err 9
+ask 0 1001 1 5 6 0 create 1 420 61
+tell 1001 made 3 33188 1 5 6 2
+ask 0 1002 2 5 6 0 getattr
+tell 1002 err 2
+";
+    is_legal(&rt, rt.alloc(), 25, &[orders]);
+}
+
+#[test]
+fn a_node_goes_with_its_open_file_then_its_lookup_then_its_name(rt: HostRuntime) {
+    let orders = "\
+ask 0 1001 1 5 6 0 create 1 420 61
+tell 1001 made 2 33188 1 5 6 1
+ask 0 1002 2 5 6 0 release 1 0 0
+tell 1002 ok
+ask 0 1002 2 5 6 0 getattr
+tell 1002 attr 2 33188 1 5 6
+ask 0 1002 2 5 6 0 forget 1
+ask 0 1002 2 5 6 0 getattr
+tell 1002 attr 2 33188 1 5 6
+ask 0 1001 1 5 6 0 unlink 61
+tell 1001 ok
+ask 0 1002 2 5 6 0 getattr
+tell 1002 err 2
+ask 0 1002 2 5 6 0 open
+tell 1002 err 2
+ask 0 1002 2 5 6 0 lookup 61
+tell 1002 err 2
+ask 0 1001 1 5 6 0 lookup 61
+tell 1001 err 2
+ask 0 1002 2 5 6 0 flush 1 7
+tell 1002 err 9
+ask 0 1001 1 5 6 0 create 1 420 61
+tell 1001 made 3 33188 1 5 6 2
+ask 0 1002 2 5 6 0 getattr
+tell 1002 err 2
+";
+    is_legal(&rt, rt.alloc(), 25, &[orders]);
+}
+
+#[test]
+fn a_name_is_free_while_its_old_node_lives(rt: HostRuntime) {
+    let orders = "\
+ask 0 1001 1 5 6 0 create 0 420 61
+tell 1001 made 2 33188 1 5 6 1
+ask 0 1001 1 5 6 0 unlink 61
+tell 1001 ok
+ask 0 1001 1 5 6 0 unlink 61
+tell 1001 err 2
+ask 0 1001 1 5 6 0 create 0 420 61
+tell 1001 made 3 33188 1 5 6 2
+ask 0 1002 2 5 6 0 getattr
+tell 1002 attr 2 33188 0 5 6
+ask 0 1003 3 5 6 0 getattr
+tell 1003 attr 3 33188 1 5 6
+ask 0 1001 1 5 6 0 lookup 61
+tell 1001 entry 3 33188 1 5 6
+ask 0 1002 2 5 6 0 open
+tell 1002 open 3
+ask 0 1002 2 5 6 0 forget 1
+ask 0 1002 2 5 6 0 release 1 0 0
+tell 1002 ok
+ask 0 1002 2 5 6 0 getattr
+tell 1002 attr 2 33188 0 5 6
+ask 0 1002 2 5 6 0 release 3 0 0
+tell 1002 ok
+ask 0 1002 2 5 6 0 getattr
+tell 1002 err 2
+ask 0 1001 1 5 6 0 create 0 420 61
+tell 1001 made 3 33188 1 5 6 4
+ask 0 1001 1 5 6 0 unlink 61
+tell 1001 ok
+ask 0 1003 3 5 6 0 forget 2
+ask 0 1003 3 5 6 0 getattr
+tell 1003 attr 3 33188 0 5 6
+ask 0 1003 3 5 6 0 forget 1
+ask 0 1003 3 5 6 0 release 4 0 0
+tell 1003 ok
+ask 0 1003 3 5 6 0 getattr
+tell 1003 attr 3 33188 0 5 6
+ask 0 1003 3 5 6 0 release 2 0 0
+tell 1003 ok
+ask 0 1003 3 5 6 0 getattr
+tell 1003 err 2
+ask 0 1001 1 5 6 0 create 0 420 61
+tell 1001 made 4 33188 1 5 6 5
+";
+    is_legal(&rt, rt.alloc(), 43, &[orders]);
+}
+
+#[test]
+fn lookups_are_counted_and_forgotten(rt: HostRuntime) {
+    let orders = "\
+ask 0 1001 1 5 6 0 create 1 420 61
+tell 1001 made 2 33188 1 5 6 1
+ask 0 1002 2 5 6 0 release 1 0 0
+tell 1002 ok
+ask 0 1002 2 5 6 0 forget 5
+ask 0 1002 2 5 6 0 getattr
+tell 1002 attr 2 33188 1 5 6
+ask 0 1001 1 5 6 0 lookup 61
+tell 1001 entry 2 33188 1 5 6
+ask 0 1001 1 5 6 0 lookup 61
+tell 1001 entry 2 33188 1 5 6
+ask 0 1001 1 5 6 0 lookup 61
+tell 1001 entry 2 33188 1 5 6
+ask 0 1002 2 5 6 0 getattr
+tell 1002 attr 2 33188 1 5 6
+ask 0 1001 1 5 6 0 unlink 61
+tell 1001 ok
+ask 0 1002 2 5 6 0 forget 2
+ask 0 1002 2 5 6 0 forget 0
+ask 0 1002 2 5 6 0 getattr
+tell 1002 attr 2 33188 0 5 6
+ask 0 1002 2 5 6 0 forget 1
+ask 0 1002 2 5 6 0 getattr
+tell 1002 err 2
+";
+    is_legal(&rt, rt.alloc(), 24, &[orders]);
+}
+
+// A file of user 8 and group 9. Of this mode the text of an order has the permissions alone.
+fn create_by_another(rt: &impl Abort) -> Order {
+    let create = Op::Create {
+        excl: true,
+        mode: 0o107777,
+        name: name(rt, b"a"),
+    };
+    Order {
+        uid: 8,
+        gid: 9,
+        ..order(1, 1, create)
+    }
+}
+
+#[test]
+fn a_linked_name_keeps_its_first_mode_and_owner(rt: HostRuntime) {
+    let orders = "\
+ask 0 1001 1 5 6 0 create 0 420 61
+tell 1001 made 2 33279 1 8 9 2
+ask 0 1001 1 5 6 0 lookup 61
+tell 1001 entry 2 33279 1 8 9
+ask 0 1002 2 5 6 0 getattr
+tell 1002 attr 2 33279 1 8 9
+";
+    let attr = Attr {
+        node: 2,
+        mode: 0o100777,
+        nlink: 1,
+        uid: 8,
+        gid: 9,
+    };
+    let mut server = Server::new(&rt, rt.alloc());
+    server.gives(&rt, &create_by_another(&rt), Ok(Answer::Made(attr, 1)));
+    server.goes_on(&rt, rt.alloc(), orders);
+}

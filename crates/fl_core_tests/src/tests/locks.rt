@@ -1,0 +1,478 @@
+//! Which locks go with an open file.
+
+use super::is_legal;
+use fl_core::laws;
+
+// Two files, of which node 2 is open as fh 1 and 2 and node 3 as fh 3, with locks of owners 7 and 8.
+const LOCKED: &str = "\
+ask 0 1001 1 5 6 0 create 1 420 61
+tell 1001 made 2 33188 1 5 6 1
+ask 0 1002 2 5 6 0 open
+tell 1002 open 2
+ask 0 1001 1 5 6 0 create 1 420 62
+tell 1001 made 3 33188 1 5 6 3
+ask 0 1002 2 5 6 0 setlk 1 7 0 9 1 7 0
+tell 1002 ok
+ask 0 1002 2 5 6 0 setlk 2 7 20 29 0 7 0
+tell 1002 ok
+ask 0 1002 2 5 6 0 setlk 1 8 40 49 1 8 0
+tell 1002 ok
+ask 0 1002 2 5 6 0 setlk 1 7 0 0 0 7 1
+tell 1002 ok
+ask 0 1002 2 5 6 0 setlk 2 8 0 0 0 8 1
+tell 1002 ok
+ask 0 1003 3 5 6 0 setlk 3 7 0 9 1 7 0
+tell 1003 ok
+ask 0 1003 3 5 6 0 setlk 3 7 0 0 1 7 1
+tell 1003 ok
+";
+
+// The record locks of node 2 are there, asked for through fh 1.
+const RECORD_LOCKS_BY_1: &str = "\
+ask 0 1002 2 5 6 0 getlk 1 9 0 99 1 9 0
+tell 1002 lock 0 9 1 7
+ask 0 1002 2 5 6 0 getlk 1 9 10 99 1 9 0
+tell 1002 lock 20 29 0 7
+ask 0 1002 2 5 6 0 getlk 1 9 30 99 1 9 0
+tell 1002 lock 40 49 1 8
+ask 0 1002 2 5 6 0 getlk 1 9 50 99 1 9 0
+tell 1002 lock 50 99 2 9
+";
+
+// The record locks of node 2 are there, asked for through fh 2.
+const RECORD_LOCKS_BY_2: &str = "\
+ask 0 1002 2 5 6 0 getlk 2 9 0 99 1 9 0
+tell 1002 lock 0 9 1 7
+ask 0 1002 2 5 6 0 getlk 2 9 10 99 1 9 0
+tell 1002 lock 20 29 0 7
+ask 0 1002 2 5 6 0 getlk 2 9 30 99 1 9 0
+tell 1002 lock 40 49 1 8
+ask 0 1002 2 5 6 0 getlk 2 9 50 99 1 9 0
+tell 1002 lock 50 99 2 9
+";
+
+// Owners 7 and 8 have read locks of the whole of node 2: neither can get a write lock beside the other through fh 1.
+const FLOCKS_BY_1: &str = "\
+ask 0 1002 2 5 6 0 setlk 1 7 0 0 1 7 1
+tell 1002 err 11
+ask 0 1002 2 5 6 0 setlk 1 8 0 0 1 8 1
+tell 1002 err 11
+";
+
+// Owners 7 and 8 have read locks of the whole of node 2: neither can get a write lock beside the other through fh 2.
+const FLOCKS_BY_2: &str = "\
+ask 0 1002 2 5 6 0 setlk 2 7 0 0 1 7 1
+tell 1002 err 11
+ask 0 1002 2 5 6 0 setlk 2 8 0 0 1 8 1
+tell 1002 err 11
+";
+
+// The locks of node 3 are there.
+const OTHER_NODE: &str = "\
+ask 0 1003 3 5 6 0 getlk 3 9 0 99 1 9 0
+tell 1003 lock 0 9 1 7
+ask 0 1003 3 5 6 0 setlk 3 9 0 0 0 9 1
+tell 1003 err 11
+";
+
+#[test]
+fn a_file_is_made_and_locked(rt: HostRuntime) {
+    laws::effects_are_shown_alike();
+    let orders = "\
+ask 0 1002 2 5 6 0 setlk 1 8 9 9 0 8 0
+tell 1002 err 11
+ask 0 1002 2 5 6 0 setlk 1 8 29 30 0 8 0
+tell 1002 ok
+";
+    is_legal(
+        &rt,
+        rt.alloc(),
+        48,
+        &[
+            LOCKED,
+            RECORD_LOCKS_BY_1,
+            RECORD_LOCKS_BY_2,
+            FLOCKS_BY_1,
+            OTHER_NODE,
+            orders,
+        ],
+    );
+}
+
+#[test]
+fn flush_by_the_first_fh_takes_the_owners_record_locks_on_the_node(rt: HostRuntime) {
+    let orders = "\
+ask 0 1002 2 5 6 0 flush 1 7
+tell 1002 ok
+ask 0 1002 2 5 6 0 getlk 1 9 0 99 1 9 0
+tell 1002 lock 40 49 1 8
+ask 0 1002 2 5 6 0 getlk 1 9 0 39 1 9 0
+tell 1002 lock 0 39 2 9
+";
+    let others = "\
+ask 0 1002 2 5 6 0 flush 1 9
+tell 1002 ok
+ask 0 1002 2 5 6 0 getlk 1 9 0 99 1 9 0
+tell 1002 lock 40 49 1 8
+ask 0 1002 2 5 6 0 flush 1 8
+tell 1002 ok
+ask 0 1002 2 5 6 0 getlk 1 9 0 99 1 9 0
+tell 1002 lock 0 99 2 9
+ask 0 1002 2 5 6 0 flush 1 8
+tell 1002 ok
+";
+    is_legal(
+        &rt,
+        rt.alloc(),
+        52,
+        &[
+            LOCKED,
+            orders,
+            FLOCKS_BY_1,
+            OTHER_NODE,
+            others,
+            FLOCKS_BY_2,
+            OTHER_NODE,
+        ],
+    );
+}
+
+#[test]
+fn flush_by_the_second_fh_takes_the_owners_record_locks_on_the_node(rt: HostRuntime) {
+    let orders = "\
+ask 0 1002 2 5 6 0 flush 2 7
+tell 1002 ok
+ask 0 1002 2 5 6 0 getlk 1 9 0 99 1 9 0
+tell 1002 lock 40 49 1 8
+ask 0 1002 2 5 6 0 getlk 1 9 0 39 1 9 0
+tell 1002 lock 0 39 2 9
+";
+    let others = "\
+ask 0 1002 2 5 6 0 flush 2 9
+tell 1002 ok
+ask 0 1002 2 5 6 0 getlk 1 9 0 99 1 9 0
+tell 1002 lock 40 49 1 8
+ask 0 1002 2 5 6 0 flush 2 8
+tell 1002 ok
+ask 0 1002 2 5 6 0 getlk 1 9 0 99 1 9 0
+tell 1002 lock 0 99 2 9
+ask 0 1002 2 5 6 0 flush 2 8
+tell 1002 ok
+";
+    is_legal(
+        &rt,
+        rt.alloc(),
+        52,
+        &[
+            LOCKED,
+            orders,
+            FLOCKS_BY_1,
+            OTHER_NODE,
+            others,
+            FLOCKS_BY_2,
+            OTHER_NODE,
+        ],
+    );
+}
+
+#[test]
+fn release_of_the_first_fh_with_drop_takes_the_owners_whole_file_lock(rt: HostRuntime) {
+    let orders = "\
+ask 0 1002 2 5 6 0 release 1 1 7
+tell 1002 ok
+";
+    let others = "\
+ask 0 1002 2 5 6 0 setlk 2 7 0 0 1 7 1
+tell 1002 err 11
+ask 0 1002 2 5 6 0 setlk 2 8 0 0 1 8 1
+tell 1002 ok
+ask 0 1002 2 5 6 0 setlk 2 7 0 0 0 7 1
+tell 1002 err 11
+";
+    is_legal(
+        &rt,
+        rt.alloc(),
+        40,
+        &[LOCKED, orders, RECORD_LOCKS_BY_2, OTHER_NODE, others],
+    );
+}
+
+#[test]
+fn release_of_the_second_fh_with_drop_takes_the_owners_whole_file_lock(rt: HostRuntime) {
+    let orders = "\
+ask 0 1002 2 5 6 0 release 2 1 7
+tell 1002 ok
+";
+    let others = "\
+ask 0 1002 2 5 6 0 setlk 1 7 0 0 1 7 1
+tell 1002 err 11
+ask 0 1002 2 5 6 0 setlk 1 8 0 0 1 8 1
+tell 1002 ok
+ask 0 1002 2 5 6 0 setlk 1 7 0 0 0 7 1
+tell 1002 err 11
+";
+    is_legal(
+        &rt,
+        rt.alloc(),
+        40,
+        &[LOCKED, orders, RECORD_LOCKS_BY_1, OTHER_NODE, others],
+    );
+}
+
+#[test]
+fn release_of_the_first_of_two_fhs_keeps_all_locks(rt: HostRuntime) {
+    let orders = "\
+ask 0 1002 2 5 6 0 release 1 0 7
+tell 1002 ok
+";
+    is_legal(
+        &rt,
+        rt.alloc(),
+        38,
+        &[LOCKED, orders, RECORD_LOCKS_BY_2, FLOCKS_BY_2, OTHER_NODE],
+    );
+}
+
+#[test]
+fn release_of_the_second_of_two_fhs_keeps_all_locks(rt: HostRuntime) {
+    let orders = "\
+ask 0 1002 2 5 6 0 release 2 0 7
+tell 1002 ok
+";
+    is_legal(
+        &rt,
+        rt.alloc(),
+        38,
+        &[LOCKED, orders, RECORD_LOCKS_BY_1, FLOCKS_BY_1, OTHER_NODE],
+    );
+}
+
+#[test]
+fn release_with_drop_by_an_owner_without_locks_keeps_all_locks(rt: HostRuntime) {
+    let orders = "\
+ask 0 1002 2 5 6 0 release 1 1 9
+tell 1002 ok
+";
+    is_legal(
+        &rt,
+        rt.alloc(),
+        38,
+        &[LOCKED, orders, RECORD_LOCKS_BY_2, FLOCKS_BY_2, OTHER_NODE],
+    );
+}
+
+#[test]
+fn release_by_owner_0_keeps_all_locks(rt: HostRuntime) {
+    let orders = "\
+ask 0 1002 2 5 6 0 release 1 0 0
+tell 1002 ok
+";
+    is_legal(
+        &rt,
+        rt.alloc(),
+        38,
+        &[LOCKED, orders, RECORD_LOCKS_BY_2, FLOCKS_BY_2, OTHER_NODE],
+    );
+}
+
+#[test]
+fn the_last_release_takes_all_locks_of_the_node(rt: HostRuntime) {
+    let orders = "\
+ask 0 1002 2 5 6 0 release 2 0 0
+tell 1002 ok
+ask 0 1002 2 5 6 0 release 1 0 7
+tell 1002 ok
+ask 0 1002 2 5 6 0 setlk 1 9 0 9 0 9 0
+tell 1002 err 9
+ask 0 1002 2 5 6 0 open
+tell 1002 open 4
+ask 0 1002 2 5 6 0 getlk 4 9 0 99 1 9 0
+tell 1002 lock 0 99 2 9
+ask 0 1002 2 5 6 0 setlk 4 9 0 0 1 9 1
+tell 1002 ok
+";
+    is_legal(&rt, rt.alloc(), 36, &[LOCKED, orders, OTHER_NODE]);
+}
+
+#[test]
+fn the_last_release_with_drop_takes_all_locks_of_the_node(rt: HostRuntime) {
+    let orders = "\
+ask 0 1002 2 5 6 0 release 2 0 0
+tell 1002 ok
+ask 0 1002 2 5 6 0 release 1 1 7
+tell 1002 ok
+ask 0 1002 2 5 6 0 setlk 1 9 0 9 0 9 0
+tell 1002 err 9
+ask 0 1002 2 5 6 0 open
+tell 1002 open 4
+ask 0 1002 2 5 6 0 getlk 4 9 0 99 1 9 0
+tell 1002 lock 0 99 2 9
+ask 0 1002 2 5 6 0 setlk 4 9 0 0 1 9 1
+tell 1002 ok
+";
+    is_legal(&rt, rt.alloc(), 36, &[LOCKED, orders, OTHER_NODE]);
+}
+
+#[test]
+fn the_last_release_with_drop_by_an_owner_without_locks_takes_all_locks_of_the_node(
+    rt: HostRuntime,
+) {
+    let orders = "\
+ask 0 1002 2 5 6 0 release 2 0 0
+tell 1002 ok
+ask 0 1002 2 5 6 0 release 1 1 9
+tell 1002 ok
+ask 0 1002 2 5 6 0 setlk 1 9 0 9 0 9 0
+tell 1002 err 9
+ask 0 1002 2 5 6 0 open
+tell 1002 open 4
+ask 0 1002 2 5 6 0 getlk 4 9 0 99 1 9 0
+tell 1002 lock 0 99 2 9
+ask 0 1002 2 5 6 0 setlk 4 9 0 0 1 9 1
+tell 1002 ok
+";
+    is_legal(&rt, rt.alloc(), 36, &[LOCKED, orders, OTHER_NODE]);
+}
+
+#[test]
+fn the_last_release_by_owner_0_takes_all_locks_of_the_node(rt: HostRuntime) {
+    let orders = "\
+ask 0 1002 2 5 6 0 release 2 0 0
+tell 1002 ok
+ask 0 1002 2 5 6 0 release 1 0 0
+tell 1002 ok
+ask 0 1002 2 5 6 0 setlk 1 9 0 9 0 9 0
+tell 1002 err 9
+ask 0 1002 2 5 6 0 open
+tell 1002 open 4
+ask 0 1002 2 5 6 0 getlk 4 9 0 99 1 9 0
+tell 1002 lock 0 99 2 9
+ask 0 1002 2 5 6 0 setlk 4 9 0 0 1 9 1
+tell 1002 ok
+";
+    is_legal(&rt, rt.alloc(), 36, &[LOCKED, orders, OTHER_NODE]);
+}
+
+#[test]
+fn what_is_refused_changes_no_lock(rt: HostRuntime) {
+    let orders = "\
+ask 0 1002 2 5 6 0 flush 3 7
+tell 1002 err 9
+ask 0 1002 2 5 6 0 release 3 1 7
+tell 1002 err 9
+ask 0 1002 2 5 6 0 release 3 0 7
+tell 1002 err 9
+ask 0 1002 2 5 6 0 flush 3 8
+tell 1002 err 9
+ask 0 1002 2 5 6 0 release 3 1 8
+tell 1002 err 9
+ask 0 1002 2 5 6 0 release 3 0 8
+tell 1002 err 9
+ask 0 1003 3 5 6 0 flush 1 7
+tell 1003 err 9
+ask 0 1003 3 5 6 0 release 1 1 7
+tell 1003 err 9
+ask 0 1003 3 5 6 0 release 1 0 7
+tell 1003 err 9
+ask 0 1003 3 5 6 0 flush 1 8
+tell 1003 err 9
+ask 0 1003 3 5 6 0 release 1 1 8
+tell 1003 err 9
+ask 0 1003 3 5 6 0 release 1 0 8
+tell 1003 err 9
+ask 0 1003 3 5 6 0 flush 2 7
+tell 1003 err 9
+ask 0 1003 3 5 6 0 release 2 1 7
+tell 1003 err 9
+ask 0 1003 3 5 6 0 release 2 0 7
+tell 1003 err 9
+ask 0 1003 3 5 6 0 flush 2 8
+tell 1003 err 9
+ask 0 1003 3 5 6 0 release 2 1 8
+tell 1003 err 9
+ask 0 1003 3 5 6 0 release 2 0 8
+tell 1003 err 9
+ask 0 1002 2 5 6 0 flush 9 7
+tell 1002 err 9
+ask 0 1002 2 5 6 0 release 9 1 7
+tell 1002 err 9
+ask 0 1002 2 5 6 0 release 9 0 7
+tell 1002 err 9
+ask 0 1002 2 5 6 0 flush 9 8
+tell 1002 err 9
+ask 0 1002 2 5 6 0 release 9 1 8
+tell 1002 err 9
+ask 0 1002 2 5 6 0 release 9 0 8
+tell 1002 err 9
+ask 0 1002 2 5 6 0 flush 0 7
+tell 1002 err 9
+ask 0 1002 2 5 6 0 release 0 1 7
+tell 1002 err 9
+ask 0 1002 2 5 6 0 release 0 0 7
+tell 1002 err 9
+ask 0 1002 2 5 6 0 flush 0 8
+tell 1002 err 9
+ask 0 1002 2 5 6 0 release 0 1 8
+tell 1002 err 9
+ask 0 1002 2 5 6 0 release 0 0 8
+tell 1002 err 9
+ask 0 1001 1 5 6 0 flush 1 7
+tell 1001 err 9
+ask 0 1001 1 5 6 0 release 1 1 7
+tell 1001 err 9
+ask 0 1001 1 5 6 0 release 1 0 7
+tell 1001 err 9
+ask 0 1001 1 5 6 0 flush 1 8
+tell 1001 err 9
+ask 0 1001 1 5 6 0 release 1 1 8
+tell 1001 err 9
+ask 0 1001 1 5 6 0 release 1 0 8
+tell 1001 err 9
+ask 0 1009 9 5 6 0 flush 1 7
+tell 1009 err 9
+ask 0 1009 9 5 6 0 release 1 1 7
+tell 1009 err 9
+ask 0 1009 9 5 6 0 release 1 0 7
+tell 1009 err 9
+ask 0 1009 9 5 6 0 flush 1 8
+tell 1009 err 9
+ask 0 1009 9 5 6 0 release 1 1 8
+tell 1009 err 9
+ask 0 1009 9 5 6 0 release 1 0 8
+tell 1009 err 9
+";
+    is_legal(
+        &rt,
+        rt.alloc(),
+        128,
+        &[
+            LOCKED,
+            orders,
+            RECORD_LOCKS_BY_1,
+            RECORD_LOCKS_BY_2,
+            FLOCKS_BY_2,
+            OTHER_NODE,
+        ],
+    );
+}
+
+#[test]
+fn names_and_lookups_change_no_lock(rt: HostRuntime) {
+    let orders = "\
+ask 0 1001 1 5 6 0 unlink 61
+tell 1001 ok
+ask 0 1002 2 5 6 0 forget 1
+ask 0 1001 1 5 6 0 create 1 420 61
+tell 1001 made 4 33188 1 5 6 4
+ask 0 1004 4 5 6 0 getlk 4 9 0 99 1 9 0
+tell 1004 lock 0 99 2 9
+ask 0 1004 4 5 6 0 setlk 4 9 0 0 1 9 1
+tell 1004 ok
+";
+    is_legal(
+        &rt,
+        rt.alloc(),
+        45,
+        &[LOCKED, orders, RECORD_LOCKS_BY_1, FLOCKS_BY_1, OTHER_NODE],
+    );
+}

@@ -1,0 +1,94 @@
+//! Orders that bear the unique of a request that waits.
+
+use super::is_legal;
+
+// Owner 7 has locked byte 0 of node 2, which is open as fh 1, and owner 8 waits for it with unique 3.
+const WITH_WAITER: &str = "\
+ask 0 1 1 5 6 0 create 1 420 61
+tell 1 made 2 33188 1 5 6 1
+ask 0 2 2 5 6 0 setlk 1 7 0 0 1 7 0
+tell 2 ok
+ask 0 3 2 5 6 0 setlkw 1 8 0 0 1 8 0
+";
+
+#[test]
+fn an_order_with_the_unique_of_a_waiting_request_is_refused(rt: HostRuntime) {
+    let orders = "\
+ask 0 3 1 5 6 0 lookup 61
+tell 3 err 22
+ask 0 3 2 5 6 0 getattr
+tell 3 err 22
+ask 0 3 1 5 6 0 unlink 61
+tell 3 err 22
+ask 0 3 2 5 6 0 open
+tell 3 err 22
+ask 0 3 2 5 6 0 release 1 1 7
+tell 3 err 22
+ask 0 3 2 5 6 0 flush 1 7
+tell 3 err 22
+ask 0 3 1 5 6 0 create 0 420 61
+tell 3 err 22
+ask 0 3 2 5 6 0 getlk 1 9 0 0 1 9 0
+tell 3 err 22
+ask 0 3 2 5 6 0 setlk 1 7 0 0 2 7 0
+tell 3 err 22
+ask 0 3 2 5 6 0 setlk 9 7 0 0 2 7 0
+tell 3 err 22
+ask 0 3 2 5 6 0 setlkw 1 9 0 0 0 9 0
+tell 3 err 22
+ask 0 3 2 5 6 0 interrupt 3
+tell 3 err 22
+ask 0 4 2 5 6 0 getlk 1 9 0 0 1 9 0
+tell 4 lock 0 0 1 7
+ask 0 5 2 5 6 0 setlk 1 7 0 0 2 7 0
+tell 5 ok
+tell 3 ok
+ask 0 3 2 5 6 0 getattr
+tell 3 attr 2 33188 1 5 6
+ask 0 6 2 5 6 0 open
+tell 6 open 2
+";
+    is_legal(&rt, rt.alloc(), 38, &[WITH_WAITER, orders]);
+}
+
+#[test]
+fn a_forget_with_the_unique_of_a_waiting_request_does_nothing(rt: HostRuntime) {
+    let orders = "\
+ask 0 3 2 5 6 0 forget 1
+ask 0 4 1 5 6 0 unlink 61
+tell 4 ok
+ask 0 5 2 5 6 0 release 1 0 7
+tell 5 ok
+tell 3 err 9
+ask 0 6 2 5 6 0 getattr
+tell 6 attr 2 33188 0 5 6
+ask 0 3 2 5 6 0 forget 1
+ask 0 7 2 5 6 0 getattr
+tell 7 err 2
+";
+    is_legal(&rt, rt.alloc(), 16, &[WITH_WAITER, orders]);
+}
+
+#[test]
+fn orders_that_only_read_are_answered_so_beside_waiting_requests(rt: HostRuntime) {
+    let orders = "\
+ask 0 3 2 5 6 0 getattr
+tell 3 err 22
+ask 0 3 2 5 6 0 getlk 1 9 0 0 1 9 0
+tell 3 err 22
+ask 0 3 2 5 6 0 open
+tell 3 err 22
+ask 0 4 2 5 6 0 getattr
+tell 4 attr 2 33188 1 5 6
+ask 0 4 2 5 6 0 getlk 1 9 0 0 1 9 0
+tell 4 lock 0 0 1 7
+ask 0 4 2 5 6 0 setlk 1 7 0 0 2 7 0
+tell 4 ok
+tell 3 ok
+ask 0 3 2 5 6 0 getattr
+tell 3 attr 2 33188 1 5 6
+ask 0 3 2 5 6 0 getlk 1 9 0 0 1 9 0
+tell 3 lock 0 0 1 8
+";
+    is_legal(&rt, rt.alloc(), 22, &[WITH_WAITER, orders]);
+}

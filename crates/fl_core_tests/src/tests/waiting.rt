@@ -1,0 +1,363 @@
+//! Lock requests that wait, and what frees them.
+
+use super::is_legal;
+
+// Node 2 is open as fh 1 and 2.
+const OPEN_TWICE: &str = "\
+ask 0 1001 1 5 6 0 create 1 420 61
+tell 1001 made 2 33188 1 5 6 1
+ask 0 1002 2 5 6 0 open
+tell 1002 open 2
+";
+
+#[test]
+fn unlocking_frees_the_oldest_and_the_second_still_waits(rt: HostRuntime) {
+    let orders = "\
+ask 0 2 2 5 6 0 setlk 1 7 0 0 1 7 0
+tell 2 ok
+ask 0 3 2 5 6 0 setlkw 1 8 0 0 1 8 0
+ask 0 4 2 5 6 0 setlkw 1 9 0 0 1 9 0
+ask 0 5 2 5 6 0 setlk 1 7 0 0 2 7 0
+tell 5 ok
+tell 3 ok
+ask 0 6 2 5 6 0 setlk 1 7 0 0 2 7 0
+tell 6 ok
+ask 0 7 2 5 6 0 setlk 1 8 0 0 2 8 0
+tell 7 ok
+tell 4 ok
+ask 0 8 2 5 6 0 setlk 1 9 0 0 2 9 0
+tell 8 ok
+";
+    is_legal(&rt, rt.alloc(), 18, &[OPEN_TWICE, orders]);
+}
+
+#[test]
+fn all_that_are_free_are_told_the_oldest_first(rt: HostRuntime) {
+    let orders = "\
+ask 0 2 2 5 6 0 setlk 1 7 0 9 1 7 0
+tell 2 ok
+ask 0 9 2 5 6 0 setlkw 1 8 0 9 0 8 0
+ask 0 3 2 5 6 0 setlkw 1 9 5 5 1 9 0
+ask 0 8 2 5 6 0 setlkw 2 9 2 3 0 9 0
+ask 0 4 2 5 6 0 setlkw 2 10 0 0 0 10 0
+ask 0 5 2 5 6 0 setlk 1 7 0 3 2 7 0
+tell 5 ok
+tell 8 ok
+tell 4 ok
+ask 0 6 2 5 6 0 setlk 1 7 0 9 2 7 0
+tell 6 ok
+tell 9 ok
+ask 0 7 2 5 6 0 flush 1 8
+tell 7 ok
+tell 3 ok
+";
+    is_legal(&rt, rt.alloc(), 20, &[OPEN_TWICE, orders]);
+}
+
+#[test]
+fn a_new_request_passes_those_that_wait(rt: HostRuntime) {
+    let orders = "\
+ask 0 2 2 5 6 0 setlk 1 7 0 0 0 7 0
+tell 2 ok
+ask 0 3 2 5 6 0 setlkw 1 8 0 9 1 8 0
+ask 0 4 2 5 6 0 setlkw 1 9 0 0 0 9 0
+tell 4 ok
+ask 0 5 2 5 6 0 setlkw 1 9 9 9 1 9 0
+tell 5 ok
+ask 0 6 2 5 6 0 setlk 1 10 8 8 1 10 0
+tell 6 ok
+ask 0 7 2 5 6 0 flush 1 7
+tell 7 ok
+ask 0 8 2 5 6 0 flush 1 9
+tell 8 ok
+ask 0 9 2 5 6 0 flush 1 10
+tell 9 ok
+tell 3 ok
+";
+    is_legal(&rt, rt.alloc(), 20, &[OPEN_TWICE, orders]);
+}
+
+#[test]
+fn a_grant_that_turns_write_into_read_frees_an_older_request(rt: HostRuntime) {
+    let orders = "\
+ask 0 2 2 5 6 0 setlk 1 7 0 0 1 7 0
+tell 2 ok
+ask 0 3 2 5 6 0 setlk 1 8 1 1 1 8 0
+tell 3 ok
+ask 0 4 2 5 6 0 setlkw 1 9 0 0 0 9 0
+ask 0 5 2 5 6 0 setlkw 1 7 0 1 0 7 0
+ask 0 6 2 5 6 0 setlk 1 8 1 1 2 8 0
+tell 6 ok
+tell 5 ok
+tell 4 ok
+ask 0 7 2 5 6 0 getlk 1 10 0 9 1 10 0
+tell 7 lock 0 1 0 7
+";
+    is_legal(&rt, rt.alloc(), 16, &[OPEN_TWICE, orders]);
+}
+
+#[test]
+fn a_lock_that_turns_write_into_read_frees_requests_at_once(rt: HostRuntime) {
+    let orders = "\
+ask 0 2 2 5 6 0 setlk 1 7 0 9 1 7 0
+tell 2 ok
+ask 0 3 2 5 6 0 setlk 1 7 0 0 1 7 1
+tell 3 ok
+ask 0 4 2 5 6 0 setlkw 1 8 0 0 0 8 0
+ask 0 5 2 5 6 0 setlkw 1 8 0 0 0 8 1
+ask 0 6 2 5 6 0 setlk 1 7 0 0 0 7 0
+tell 6 ok
+tell 4 ok
+ask 0 7 2 5 6 0 setlkw 1 8 1 1 0 8 0
+ask 0 8 2 5 6 0 setlkw 1 7 0 9 0 7 0
+tell 8 ok
+tell 7 ok
+ask 0 9 2 5 6 0 setlkw 2 7 0 0 0 7 1
+tell 9 ok
+tell 5 ok
+";
+    is_legal(&rt, rt.alloc(), 20, &[OPEN_TWICE, orders]);
+}
+
+#[test]
+fn each_class_and_each_file_waits_for_itself(rt: HostRuntime) {
+    let orders = "\
+ask 0 2 1 5 6 0 create 1 420 62
+tell 2 made 3 33188 1 5 6 3
+ask 0 3 2 5 6 0 setlk 1 7 0 9 1 7 0
+tell 3 ok
+ask 0 4 2 5 6 0 setlk 1 7 0 0 1 7 1
+tell 4 ok
+ask 0 5 3 5 6 0 setlk 3 7 0 9 1 7 0
+tell 5 ok
+ask 0 6 3 5 6 0 setlkw 3 8 0 0 1 8 0
+ask 0 7 2 5 6 0 setlkw 1 8 0 0 1 8 1
+ask 0 8 2 5 6 0 setlkw 1 8 0 0 1 8 0
+ask 0 9 2 5 6 0 flush 1 7
+tell 9 ok
+tell 8 ok
+ask 0 10 2 5 6 0 setlk 1 7 0 0 2 7 1
+tell 10 ok
+tell 7 ok
+ask 0 11 3 5 6 0 flush 3 7
+tell 11 ok
+tell 6 ok
+";
+    is_legal(&rt, rt.alloc(), 24, &[OPEN_TWICE, orders]);
+}
+
+#[test]
+fn flush_frees_requests_and_ends_none(rt: HostRuntime) {
+    let orders = "\
+ask 0 2 2 5 6 0 setlk 1 7 0 9 1 7 0
+tell 2 ok
+ask 0 3 2 5 6 0 setlk 2 8 20 29 1 8 0
+tell 3 ok
+ask 0 4 2 5 6 0 setlk 1 7 0 0 1 7 1
+tell 4 ok
+ask 0 5 2 5 6 0 setlkw 1 7 20 20 0 7 0
+ask 0 6 2 5 6 0 setlkw 1 9 0 0 0 9 1
+ask 0 7 2 5 6 0 setlkw 2 9 0 0 0 9 0
+ask 0 8 2 5 6 0 setlkw 1 9 5 29 0 9 0
+ask 0 9 2 5 6 0 setlkw 1 9 5 9 0 9 0
+ask 0 10 2 5 6 0 flush 2 7
+tell 10 ok
+tell 7 ok
+tell 9 ok
+ask 0 11 2 5 6 0 flush 9 8
+tell 11 err 9
+ask 0 12 2 5 6 0 flush 1 8
+tell 12 ok
+tell 5 ok
+tell 8 ok
+ask 0 13 2 5 6 0 release 1 0 7
+tell 13 ok
+tell 6 err 9
+";
+    is_legal(&rt, rt.alloc(), 28, &[OPEN_TWICE, orders]);
+}
+
+#[test]
+fn release_ends_those_of_its_fh_before_it_frees_any(rt: HostRuntime) {
+    let orders = "\
+ask 0 2 2 5 6 0 setlk 1 7 0 9 1 7 0
+tell 2 ok
+ask 0 3 2 5 6 0 setlk 2 7 0 0 1 7 1
+tell 3 ok
+ask 0 10 2 5 6 0 setlkw 1 10 0 0 0 10 1
+ask 0 9 2 5 6 0 setlkw 2 8 0 0 0 8 1
+ask 0 8 2 5 6 0 setlkw 2 8 0 0 0 8 0
+ask 0 7 2 5 6 0 setlkw 1 8 0 0 0 8 0
+ask 0 6 2 5 6 0 setlkw 2 9 0 0 0 9 1
+ask 0 5 2 5 6 0 setlkw 1 11 0 0 0 11 1
+ask 0 11 3 5 6 0 release 2 1 7
+tell 11 err 9
+ask 0 12 2 5 6 0 release 2 1 7
+tell 12 ok
+tell 9 err 9
+tell 8 err 9
+tell 6 err 9
+tell 10 ok
+tell 5 ok
+ask 0 13 2 5 6 0 flush 1 7
+tell 13 ok
+tell 7 ok
+ask 0 14 2 5 6 0 setlk 1 12 0 0 1 12 1
+tell 14 err 11
+";
+    is_legal(&rt, rt.alloc(), 28, &[OPEN_TWICE, orders]);
+}
+
+#[test]
+fn the_last_release_ends_all_requests_of_the_node(rt: HostRuntime) {
+    let orders = "\
+ask 0 1 1 5 6 0 create 1 420 62
+tell 1 made 3 33188 1 5 6 3
+ask 0 2 2 5 6 0 release 2 0 7
+tell 2 ok
+ask 0 3 2 5 6 0 setlk 1 7 0 0 1 7 0
+tell 3 ok
+ask 0 4 2 5 6 0 setlk 1 7 0 0 1 7 1
+tell 4 ok
+ask 0 5 2 5 6 0 setlkw 1 8 0 0 1 8 1
+ask 0 6 2 5 6 0 setlkw 1 8 0 0 1 8 0
+ask 0 11 3 5 6 0 setlk 3 7 0 0 1 7 0
+tell 11 ok
+ask 0 12 3 5 6 0 setlkw 3 8 0 0 1 8 0
+ask 0 7 2 5 6 0 release 1 0 8
+tell 7 ok
+tell 5 err 9
+tell 6 err 9
+ask 0 8 2 5 6 0 open
+tell 8 open 4
+ask 0 9 2 5 6 0 setlkw 4 9 0 0 1 9 0
+tell 9 ok
+ask 0 10 2 5 6 0 setlkw 4 9 0 0 1 9 1
+tell 10 ok
+ask 0 13 3 5 6 0 setlk 3 7 0 0 2 7 0
+tell 13 ok
+tell 12 ok
+";
+    is_legal(&rt, rt.alloc(), 30, &[OPEN_TWICE, orders]);
+}
+
+#[test]
+fn an_interrupt_ends_the_request_that_it_names(rt: HostRuntime) {
+    let orders = "\
+ask 0 2 2 5 6 0 interrupt 99
+tell 2 err 11
+ask 0 3 2 5 6 0 setlk 1 7 0 0 1 7 0
+tell 3 ok
+ask 0 4 2 5 6 0 setlkw 1 8 0 0 1 8 0
+ask 0 5 2 5 6 0 setlkw 1 8 0 0 0 8 0
+ask 0 6 2 5 6 0 setlkw 2 8 0 0 1 8 0
+ask 0 7 9 5 6 0 interrupt 5
+tell 5 err 4
+ask 0 8 2 5 6 0 interrupt 5
+tell 8 err 11
+ask 0 9 2 5 6 0 interrupt 3
+tell 9 err 11
+ask 0 10 2 5 6 0 interrupt 10
+tell 10 err 11
+ask 0 11 2 5 6 0 setlk 1 7 0 0 2 7 0
+tell 11 ok
+tell 4 ok
+tell 6 ok
+ask 0 12 2 5 6 0 interrupt 4
+tell 12 err 11
+";
+    is_legal(&rt, rt.alloc(), 25, &[OPEN_TWICE, orders]);
+}
+
+#[test]
+fn unlocking_never_waits(rt: HostRuntime) {
+    let orders = "\
+ask 0 2 2 5 6 0 setlk 1 7 0 9 1 7 0
+tell 2 ok
+ask 0 3 2 5 6 0 setlk 1 7 0 0 1 7 1
+tell 3 ok
+ask 0 4 2 5 6 0 setlkw 1 8 0 9 2 8 0
+tell 4 ok
+ask 0 5 2 5 6 0 setlkw 1 8 0 0 2 8 1
+tell 5 ok
+ask 0 6 2 5 6 0 setlkw 1 8 5 5 0 8 0
+ask 0 7 2 5 6 0 setlkw 1 8 0 0 0 8 1
+ask 0 8 2 5 6 0 setlkw 2 7 5 5 2 7 0
+tell 8 ok
+tell 6 ok
+ask 0 9 2 5 6 0 setlkw 2 7 0 0 2 7 1
+tell 9 ok
+tell 7 ok
+";
+    is_legal(&rt, rt.alloc(), 20, &[OPEN_TWICE, orders]);
+}
+
+#[test]
+fn a_whole_file_lock_waits_whatever_its_range(rt: HostRuntime) {
+    let orders = "\
+ask 0 2 2 5 6 0 setlkw 1 8 5 4 1 8 1
+tell 2 ok
+ask 0 3 2 5 6 0 setlkw 1 8 5 4 2 8 1
+tell 3 ok
+ask 0 4 2 5 6 0 setlk 1 7 0 0 1 7 1
+tell 4 ok
+ask 0 5 2 5 6 0 setlkw 1 8 5 4 0 8 1
+ask 0 6 2 5 6 0 setlk 1 7 0 0 2 7 1
+tell 6 ok
+tell 5 ok
+ask 0 7 2 5 6 0 setlk 1 7 0 0 1 7 1
+tell 7 err 11
+";
+    is_legal(&rt, rt.alloc(), 16, &[OPEN_TWICE, orders]);
+}
+
+#[test]
+fn a_whole_file_lock_stays_until_its_change_is_granted(rt: HostRuntime) {
+    let orders = "\
+ask 0 3 2 5 6 0 setlk 1 7 0 0 0 7 1
+tell 3 ok
+ask 0 4 2 5 6 0 setlk 2 8 0 0 0 8 1
+tell 4 ok
+ask 0 5 2 5 6 0 setlkw 1 7 0 0 1 7 1
+ask 0 6 2 5 6 0 setlkw 2 8 0 0 1 8 1
+ask 0 7 2 5 6 0 interrupt 5
+tell 5 err 4
+ask 0 8 2 5 6 0 setlk 2 8 0 0 1 8 1
+tell 8 err 11
+ask 0 9 2 5 6 0 setlk 2 9 0 0 1 9 1
+tell 9 err 11
+ask 0 10 2 5 6 0 setlk 1 7 0 0 2 7 1
+tell 10 ok
+tell 6 ok
+ask 0 11 2 5 6 0 setlk 2 9 0 0 0 9 1
+tell 11 err 11
+";
+    is_legal(&rt, rt.alloc(), 21, &[OPEN_TWICE, orders]);
+}
+
+#[test]
+fn a_record_lock_stays_until_its_change_is_granted(rt: HostRuntime) {
+    let orders = "\
+ask 0 2 2 5 6 0 setlk 1 7 0 9 0 7 0
+tell 2 ok
+ask 0 3 2 5 6 0 setlk 2 8 5 5 0 8 0
+tell 3 ok
+ask 0 4 2 5 6 0 setlk 1 7 0 9 1 7 0
+tell 4 err 11
+ask 0 5 2 5 6 0 getlk 1 9 0 9 1 9 0
+tell 5 lock 0 9 0 7
+ask 0 6 2 5 6 0 setlkw 1 7 0 9 1 7 0
+ask 0 7 2 5 6 0 getlk 1 9 0 9 1 9 0
+tell 7 lock 0 9 0 7
+ask 0 8 2 5 6 0 setlk 1 9 0 9 0 9 0
+tell 8 ok
+ask 0 9 2 5 6 0 flush 1 9
+tell 9 ok
+ask 0 10 2 5 6 0 flush 2 8
+tell 10 ok
+tell 6 ok
+ask 0 11 2 5 6 0 getlk 1 9 0 9 1 9 0
+tell 11 lock 0 9 1 7
+";
+    is_legal(&rt, rt.alloc(), 24, &[OPEN_TWICE, orders]);
+}
