@@ -123,7 +123,11 @@ fn nodes_and_open_files_are_both_used_up(rt: HostRuntime) -> Result<(), Fail> {
     is_refused(&rt, &made(&mut dir, &a), Errno::EEXIST);
     is_refused(&rt, &made(&mut dir, &name(b"b")?), Errno::ENOSPC);
     is_refused(&rt, &made(&mut dir, &name(b".")?), Errno::EINVAL);
-    is_refused(&rt, &dir.create(only, 5, 6, true, 0o644, &a), Errno::ENOTDIR);
+    is_refused(
+        &rt,
+        &dir.create(only, 5, 6, true, 0o644, &a),
+        Errno::ENOTDIR,
+    );
     is_found(&rt, &dir.lookup(1, &a), only);
     Ok(())
 }

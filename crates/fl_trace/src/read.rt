@@ -6,10 +6,10 @@ ghost use Rattle.fl_history.specs.declared.history.Line.{Line as Entry};
 ghost use Rattle.fl_history.specs.declared.history.Line.TheVariants.{Asked};
 ghost use Rattle.fl_wire.specs.declared.order.Order.{Order as Asking};
 
-use fl_history::{History, Line};
 use crate::ask::read_order;
 use crate::tell::read_told;
 use crate::words::{split_line, split_word, u32_word};
+use fl_history::{History, Line};
 use fl_wire::NoMemory;
 use std::alloc::Global;
 
