@@ -112,7 +112,7 @@ const CASES: &str = "\
 
 // What comes of a client at a server that sends these replies, and all bytes that the client sends.
 fn meet(
-    rt: &(impl Abort + Threads + Wait + Net + AllocGlobal),
+    rt: &(impl Abort + Threads + Wait + Net + Files + AllocGlobal),
     path: Path<'_>,
     replies: Vec<u8>,
     text: &[u8],
