@@ -3,8 +3,6 @@
 
 mod batch;
 mod counter;
-#[cfg(test)]
-mod doubles;
 mod intake;
 mod outbox;
 mod serving;

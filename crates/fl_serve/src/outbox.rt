@@ -78,6 +78,3 @@ fn send_on<W: Write>(writer: &mut W, broken: bool, reply: &[u8]) -> bool
     }
     false
 }
-
-#[cfg(test)]
-mod tests;

@@ -146,10 +146,3 @@ pub(crate) fn first(fault: Option<Fault>, broken: bool) -> Option<Fault>
         fault => fault,
     }
 }
-
-#[cfg(test)]
-mod silent_tests;
-#[cfg(test)]
-mod tests;
-#[cfg(test)]
-mod waiting_tests;

@@ -99,6 +99,3 @@ fn tell<G: Gate>(gate: &G, owed: &Owed, tolds: &[Told]) {
         }
     }
 }
-
-#[cfg(test)]
-mod tests;

@@ -97,10 +97,3 @@ fn print_session(alloc: Global, stream: &[u8]) -> Result<Printed, Fault>
         }
     }
 }
-
-#[cfg(test)]
-mod getlk_tests;
-#[cfg(test)]
-pub(crate) mod tests;
-#[cfg(test)]
-mod waiting_tests;

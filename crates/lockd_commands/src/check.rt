@@ -72,6 +72,3 @@ fn verdict_text(alloc: Global, verdict: Verdict) -> Result<String, Fault>
     }
     Ok(text)
 }
-
-#[cfg(test)]
-mod tests;

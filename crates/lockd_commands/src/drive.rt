@@ -87,6 +87,3 @@ fn connect<N: Net>(net: &N, path: Path<'_>) -> Result<UnixStream, Fault>
 {
     UnixStream::connect(net, path).map_err(|_| Fault::Connect)
 }
-
-#[cfg(test)]
-mod tests;

@@ -118,14 +118,3 @@ fn take_all(alloc: Global, asks: &[Ask]) -> Result<History, Fault>
     }
     Ok(desk.into_history())
 }
-
-#[cfg(test)]
-mod boards;
-#[cfg(test)]
-mod file_tests;
-#[cfg(test)]
-mod tests;
-#[cfg(test)]
-mod traces;
-#[cfg(test)]
-mod waiting_tests;

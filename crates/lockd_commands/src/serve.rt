@@ -99,6 +99,3 @@ fn remove_socket<R: Files>(rt: &R, path: Path<'_>) {
         let _ = fs::remove_file(rt, path);
     }
 }
-
-#[cfg(test)]
-mod tests;

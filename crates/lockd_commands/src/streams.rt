@@ -28,6 +28,3 @@ pub(crate) fn write_all<W: Write>(output: &mut W, text: &[u8]) -> Result<(), Fau
     output.write_all(text).map_err(|_| Fault::Write)?;
     output.flush().map_err(|_| Fault::Write)
 }
-
-#[cfg(test)]
-pub(crate) mod doubles;

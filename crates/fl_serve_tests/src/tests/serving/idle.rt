@@ -1,0 +1,47 @@
+//! A server that nobody asks.
+
+use super::served;
+use super::talker::Talker;
+use fl_serve::Open;
+use std::alloc::Global;
+use std::os::unix::net::UnixStream;
+use std::test::Fail;
+use std::time::{Clock, CpuClock, Duration};
+use std::{io, thread};
+
+// How much processor time the process uses in a second in which the client asks nothing.
+fn used_in_a_second<R: Clock + CpuClock>(
+    rt: &R,
+    alloc: Global,
+    stream: UnixStream,
+) -> io::Result<Duration> {
+    let mut talker = Talker::start(alloc, stream)?;
+    let mut message = talker.messages();
+    message.create(2, 0)?;
+    talker.ask(&message, 2)?;
+    thread::sleep(rt, Duration::from_millis(100));
+    let before = rt.process_cpu_time()?;
+    thread::sleep(rt, Duration::from_secs(1));
+    let after = rt.process_cpu_time()?;
+    talker.close()?;
+    Ok(after.saturating_sub(before))
+}
+
+// Each test runs in a process of its own.
+#[test]
+fn an_idle_server_uses_no_processor_time(rt: HostRuntime) -> Result<(), Fail> {
+    let alloc = rt.alloc();
+    for workers in [1, 16] {
+        let (near, far) = UnixStream::pair(&rt)?;
+        let client = thread::spawn(&rt, move || used_in_a_second(&rt, alloc, near))?;
+        let done = served(&rt, alloc, &mut &far, &mut &far, workers, &Open);
+        drop(far);
+        let used = client.join(&rt)?;
+        assert_eq!(&rt; done.fault, None, "{workers} workers");
+        assert!(&rt;
+            used < Duration::from_millis(20),
+            "{workers} workers: {used:?}"
+        );
+    }
+    Ok(())
+}

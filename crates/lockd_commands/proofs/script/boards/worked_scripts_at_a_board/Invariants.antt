@@ -1,7 +1,0 @@
-use Rattle.lockd_commands.proofs.script.boards.worked_scripts_at_a_board.Given as goal
-
-abbrev pub ghosts-history_of_a_board-L-BoardName : goal.ghosts-history_of_a_board-L-BoardName
-ghosts-history_of_a_board-L-BoardName g a = record { workers = a.blank.parts }
-
-abbrev pub ghosts-history_of_a_board-L-Ledger : goal.ghosts-history_of_a_board-L-Ledger
-ghosts-history_of_a_board-L-Ledger g a = record { name = a.blank.name; parts = a.blank.parts }

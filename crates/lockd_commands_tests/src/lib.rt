@@ -1,0 +1,5 @@
+//! Tests of the commands of `lockd`.
+#![tactic(auto)]
+
+#[cfg(test)]
+mod tests;

@@ -1,0 +1,149 @@
+//! What the commands of `lockd` read, what they write, and how they end.
+
+mod boards;
+mod bytes;
+mod check;
+mod drive;
+mod failing;
+mod scripts;
+mod serve;
+
+use fl_testing::{bytes_after, lines_after};
+use lockd_commands::{Status, bytes_on, check_on, script_on};
+use std::alloc::Global;
+use std::process::Abort;
+
+// A command that reads one text and writes another.
+#[derive(Clone, Copy)]
+enum Command {
+    Bytes,
+    Check,
+    Script,
+}
+
+// What a command wrote, and how it ended.
+#[derive(Drop)]
+struct Came {
+    printed: Vec<u8>,
+    told: Vec<u8>,
+    status: Status,
+}
+
+fn run(command: Command, alloc: Global, text: &[u8]) -> Came {
+    match command {
+        Command::Bytes => run_bytes(alloc, text),
+        Command::Check => run_check(alloc, text),
+        Command::Script => run_script(alloc, text),
+    }
+}
+
+fn run_bytes(alloc: Global, text: &[u8]) -> Came {
+    let mut input = text;
+    let mut printed = Vec::new(alloc);
+    let mut told = Vec::new(alloc);
+    let status = bytes_on(alloc, &mut input, &mut printed, &mut told);
+    Came {
+        printed,
+        told,
+        status,
+    }
+}
+
+fn run_check(alloc: Global, text: &[u8]) -> Came {
+    let mut input = text;
+    let mut printed = Vec::new(alloc);
+    let mut told = Vec::new(alloc);
+    let status = check_on(alloc, &mut input, &mut printed, &mut told);
+    Came {
+        printed,
+        told,
+        status,
+    }
+}
+
+fn run_script(alloc: Global, text: &[u8]) -> Came {
+    let mut input = text;
+    let mut printed = Vec::new(alloc);
+    let mut told = Vec::new(alloc);
+    let status = script_on(alloc, &mut input, &mut printed, &mut told);
+    Came {
+        printed,
+        told,
+        status,
+    }
+}
+
+// A command printed this, told that, and ended with 2 where something was told, and else with 0. The words are shown where
+// it didn't.
+fn is(rt: &impl Abort, what: &str, came: &Came, printed: &str, told: &str) {
+    wrote(rt, what, came, printed, told);
+    let code = if told.is_empty() { 0 } else { 2 };
+    assert_eq!(rt; came.status.exit_code(), code, "{what}");
+}
+
+fn wrote(rt: &impl Abort, what: &str, came: &Came, printed: &str, told: &str) {
+    assert_eq!(rt; str::from_utf8(&came.told).ok(), Some(told), "{what}");
+    assert_eq!(rt; str::from_utf8(&came.printed).ok(), Some(printed), "{what}");
+}
+
+// Runs each of the cases in a stored text, and says how many there are. A case begins with a line of `# ` and a title; the
+// lines that begin with `> ` are read, those with `< ` are printed, and one with `! ` is told as a fault. In front of them
+// comes what is read and printed before.
+fn run_cases(
+    rt: &impl Abort,
+    alloc: Global,
+    command: Command,
+    before: (&str, &str),
+    cases: &str,
+) -> usize {
+    let mut count = 0usize;
+    for case in cases.split('#').skip(1) {
+        run_case(rt, alloc, command, before, case);
+        count = count.saturating_add(1);
+    }
+    count
+}
+
+fn run_case(rt: &impl Abort, alloc: Global, command: Command, before: (&str, &str), case: &str) {
+    let text = marked(rt, alloc, before.0, case, "> ");
+    let printed = marked(rt, alloc, before.1, case, "< ");
+    let told = marked(rt, alloc, "", case, "! ");
+    let came = run(command, alloc, text.as_bytes());
+    is(rt, case, &came, &printed, &told);
+}
+
+// What comes before, and then the lines of a case that begin with a mark, without it.
+fn marked(rt: &impl Abort, alloc: Global, before: &str, case: &str, mark: &str) -> String {
+    let lines = lines_after(alloc, case, mark).expect(rt, "memory");
+    [before, &lines].concat(alloc).expect(rt, "memory")
+}
+
+// The bytes that lines of hex spell.
+fn spelled(rt: &impl Abort, alloc: Global, lines: &[&str]) -> Vec<u8> {
+    let text = lines.concat(alloc).expect(rt, "memory");
+    bytes_after(alloc, &text, "").expect(rt, "hex")
+}
+
+// Each row has words and a bad line, with `|` between them. Says how many rows there are.
+fn refuse_lines(rt: &impl Abort, alloc: Global, command: Command, good: &str, rows: &str) -> usize {
+    let mut count = 0usize;
+    for row in rows.split('\n') {
+        if let Some((what, line)) = row.split_once('|') {
+            refuse_line(rt, alloc, command, what, [good, line]);
+            count = count.saturating_add(1);
+        }
+    }
+    count
+}
+
+// The line is the first or the third of a text, whose others are good or come behind it, and no more than that is told.
+fn refuse_line(rt: &impl Abort, alloc: Global, command: Command, what: &str, lines: [&str; 2]) {
+    let [good, line] = lines;
+    let first = [line, "\n", good].concat(alloc).expect(rt, "memory");
+    let came = run(command, alloc, first.as_bytes());
+    is(rt, what, &came, "", "bad line 1\n");
+    let third = [good, good, line, "\nzz\n"].concat(alloc);
+    let third = third.expect(rt, "memory");
+    let came = run(command, alloc, third.as_bytes());
+    is(rt, what, &came, "", "bad line 3\n");
+}

@@ -1,0 +1,119 @@
+//! The worked scripts, handed in at the 16 seats of a board.
+
+ghost use Rattle.std.specs.Prelude.{◌≡◌};
+
+use super::scripts::files::{names_and_nodes, open_files_and_locks};
+use super::scripts::limits::{all_files_open, full_directory, longest_name, no_room_for_locks};
+use super::scripts::locks::locks_and_files;
+use super::scripts::waiting::requests_that_wait;
+use fl_book::{Board, BoardName, History, Line, Seat, Verdict, check, print_trace, read_trace};
+use fl_core::Tolds;
+use std::alloc::Global;
+use std::marker::Brand;
+use std::process::Abort;
+use std::sync::Wait;
+use std::sync::ledger::Blank;
+
+// The numbers of the workers who ask in turn.
+const WORKERS: [&str; 16] = [
+    "0", "1", "2", "3", "4", "5", "6", "7", "8", "9", "10", "11", "12", "13", "14", "15",
+];
+
+// A line of a trace, which this worker asks where it was worker 0 who asked.
+fn asked_by(rt: &impl Abort, alloc: Global, line: &str, worker: &str) -> String {
+    match line.strip_prefix("ask 0 ") {
+        Some(rest) => ["ask ", worker, " ", rest, "\n"].concat(alloc),
+        None => [line, "\n"].concat(alloc),
+    }
+    .expect(rt, "memory")
+}
+
+// The trace with each order asked by the next worker, who were all worker 0.
+fn spread(rt: &impl Abort, alloc: Global, trace: &str) -> String {
+    let mut spread = String::new(alloc);
+    let mut asked = 0usize;
+    for line in trace.lines() {
+        let line_of_worker = asked_by(rt, alloc, line, WORKERS[asked % 16]);
+        spread.push_str(&line_of_worker).expect(rt, "memory");
+        if line.starts_with("ask ") {
+            asked = asked.wrapping_add(1);
+        }
+    }
+    spread
+}
+
+// Hands in the orders of a history, each at its worker's seat.
+fn hand_in_all<L: BoardName, R: Abort + Wait>(
+    rt: &R,
+    board: &Board<L>,
+    seats: &mut [Seat<L>],
+    tolds: &mut Tolds,
+    wanted: &History,
+) {
+    for at in 0..wanted.len() {
+        if let Line::Asked { worker, order } = wanted.line(at) {
+            let seat = seats.get_mut(worker as usize).expect(rt, "a seat");
+            board.hand_in(rt, seat, &order, tolds).expect(rt, "memory");
+        }
+    }
+}
+
+// The history of a board at which the orders of a history are handed in.
+fn history_of_a_board<L: BoardName, R: Abort + Wait>(
+    rt: &R,
+    alloc: Global,
+    blank: Blank,
+    wanted: &History,
+) -> History
+    requires named { (blank.name ≡ L.name) × (blank.parts ≡ L.parts) }
+    requires parts { (16 ≡ L.parts) × (L.workers ≡ L.parts) }
+{
+    let mut tolds = Tolds::new(alloc).expect(rt, "memory");
+    let (board, mut seats) = Board::<L>::new(alloc, blank, 16).expect(rt, "memory");
+    hand_in_all(rt, &board, &mut seats, &mut tolds, wanted);
+    board.close(seats).ok().expect(rt, "all seats")
+}
+
+// A board answers as a desk does, whoever asks, and the judge finds it legal.
+fn board_answers<R: Abort + Wait>(rt: &R, alloc: Global, trace: &str) {
+    let wanted = spread(rt, alloc, trace);
+    let asked = read_trace(alloc, wanted.as_bytes()).expect(rt, "a trace");
+    let history = history_of_a_board::<Brand, _>(rt, alloc, Blank::new(16), &asked);
+    is_wanted(rt, alloc, &history, &wanted);
+}
+
+fn is_wanted(rt: &impl Abort, alloc: Global, history: &History, wanted: &str) {
+    let trace = print_trace(alloc, history).expect(rt, "memory");
+    assert_eq!(rt; trace.as_str(), wanted);
+    assert_eq!(rt; check(alloc, history), Ok(Verdict::Legal));
+}
+
+fn board_answers_all<R: Abort + Wait>(rt: &R, alloc: Global, traces: &str) -> usize {
+    let mut count = 0usize;
+    for case in traces.split('#') {
+        if let Some((_, trace)) = case.split_once('\n') {
+            board_answers(rt, alloc, trace);
+            count = count.saturating_add(1);
+        }
+    }
+    count
+}
+
+#[test]
+fn stored_scripts_at_a_board(rt: HostRuntime) {
+    let alloc = rt.alloc();
+    board_answers(&rt, alloc, "");
+    assert_eq!(rt; board_answers_all(&rt, alloc, locks_and_files()), 12);
+    assert_eq!(rt; board_answers_all(&rt, alloc, names_and_nodes()), 3);
+    assert_eq!(rt; board_answers_all(&rt, alloc, open_files_and_locks()), 3);
+    assert_eq!(rt; board_answers_all(&rt, alloc, requests_that_wait()), 10);
+}
+
+#[test]
+fn limits_at_a_board(rt: HostRuntime) {
+    let alloc = rt.alloc();
+    board_answers(&rt, alloc, &full_directory(&rt, alloc));
+    board_answers(&rt, alloc, &all_files_open(&rt, alloc));
+    board_answers(&rt, alloc, &no_room_for_locks(&rt, alloc));
+    board_answers(&rt, alloc, &longest_name(&rt, alloc));
+}

@@ -1,0 +1,54 @@
+//! Clients of `lockd drive`.
+
+mod lines;
+mod replies;
+mod servers;
+mod sessions;
+
+use super::Came;
+use fl_testing::Newlines;
+use lockd_commands::{Fault, Status, drive_on};
+use std::alloc::AllocGlobal;
+use std::net::Net;
+use std::path::{Path, PathBuf};
+use std::test::Fail;
+use std::{env, process};
+
+// A path of this process's own. Each test runs in a process of its own.
+fn own_path(rt: &HostRuntime) -> Result<PathBuf, Fail> {
+    let name = format!(in rt.alloc(); "lockd-drive-{}", process::id(rt.process()))?;
+    Ok(env::temp_dir(rt)?.join(rt.alloc(), name.as_str())?)
+}
+
+// What the command does at a path with the lines of a text.
+fn drive(rt: &(impl Net + AllocGlobal), path: Path<'_>, text: &[u8]) -> Came {
+    let mut input = text;
+    let mut printed = Vec::new(rt.alloc());
+    let mut told = Vec::new(rt.alloc());
+    let status = drive_on(rt, rt.alloc(), path, &mut input, &mut printed, &mut told);
+    Came {
+        printed,
+        told,
+        status,
+    }
+}
+
+#[test]
+fn an_input_that_fails(rt: HostRuntime) -> Result<(), Fail> {
+    let path = own_path(&rt)?;
+    let mut output: Vec<u8> = Vec::new(rt.alloc());
+    let mut told = Vec::new(rt.alloc());
+    let mut input = Newlines { left: 3 };
+    let status = drive_on(
+        &rt,
+        rt.alloc(),
+        path.as_path(),
+        &mut input,
+        &mut output,
+        &mut told,
+    );
+    assert_eq!(rt; status, Status::Faulted(Fault::Read));
+    assert_eq!(rt; told.as_slice(), b"read failed\n".as_slice());
+    assert!(rt; output.is_empty());
+    Ok(())
+}

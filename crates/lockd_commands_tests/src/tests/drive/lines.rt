@@ -1,0 +1,83 @@
+//! Clients that don't come to send anything: a line is bad, or nobody listens.
+
+use super::super::is;
+use super::{drive, own_path};
+use std::alloc::AllocGlobal;
+use std::fs;
+use std::net::Net;
+use std::os::unix::net::UnixListener;
+use std::path::Path;
+use std::process::Abort;
+use std::test::Fail;
+
+const BAD_LINES: &str = "
+recv 0
+recv 1001
+recv 01
+recv 4294967297
+recv
+recv\x20
+recv 1\x20
+recv  1
+recv +1
+recv -1
+recv 1x
+recv 1\r
+recv one
+recv \u{661}
+Recv 1
+ recv 1
+recv1
+0
+0g
+01 02
+0x01
+";
+
+// A text that isn't sent, since this is told of it.
+fn refuses(rt: &(impl Abort + Net + AllocGlobal), path: Path<'_>, text: &str, told: &str) {
+    is(rt, text, &drive(rt, path, text.as_bytes()), "", told);
+}
+
+// The line is the first or the third of a text, and no more than that is told.
+fn refuses_line(rt: &(impl Abort + Net + AllocGlobal), path: Path<'_>, line: &str) {
+    let first = [line, "\n0102\n"].concat(rt.alloc());
+    refuses(rt, path, &first.expect(rt, "memory"), "bad line 1\n");
+    let third = ["0102\nrecv 1000\n", line, "\nzz\n"].concat(rt.alloc());
+    refuses(rt, path, &third.expect(rt, "memory"), "bad line 3\n");
+}
+
+#[test]
+fn bad_lines(rt: HostRuntime) -> Result<(), Fail> {
+    let path = own_path(&rt)?;
+    let mut count = 0usize;
+    for line in BAD_LINES.split('\n') {
+        if !line.is_empty() {
+            refuses_line(&rt, path.as_path(), line);
+            count = count.saturating_add(1);
+        }
+    }
+    assert_eq!(rt; count, 21);
+    refuses(&rt, path.as_path(), "01", "bad line 1\n");
+    refuses(&rt, path.as_path(), "01\nrecv 1", "bad line 2\n");
+    Ok(())
+}
+
+#[test]
+fn nobody_listens(rt: HostRuntime) -> Result<(), Fail> {
+    let path = own_path(&rt)?;
+    refuses(&rt, path.as_path(), "0102\nrecv 1\n", "cannot connect\n");
+    refuses(&rt, path.as_path(), "", "cannot connect\n");
+    // No socket has a path of 200 bytes.
+    let long = "x".repeat(rt.alloc(), 200)?;
+    refuses(&rt, Path::new(long.as_str()), "", "cannot connect\n");
+    Ok(())
+}
+
+#[test]
+fn a_sockets_file_that_was_left_over(rt: HostRuntime) -> Result<(), Fail> {
+    let path = own_path(&rt)?;
+    drop(UnixListener::bind(&rt, path.as_path())?);
+    refuses(&rt, path.as_path(), "", "cannot connect\n");
+    Ok(fs::remove_file(&rt, path.as_path())?)
+}

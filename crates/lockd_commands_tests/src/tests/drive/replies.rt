@@ -1,0 +1,275 @@
+//! What a client sends and prints, against servers whose replies are these bytes.
+
+use super::super::{Came, is, marked, spelled};
+use super::servers::{answer, read_one_and_go, take_nothing};
+use super::{drive, own_path};
+use fl_testing::{Full, bytes_after};
+use lockd_commands::{Fault, Status, drive_on};
+use std::alloc::{AllocGlobal, Global};
+use std::fs::Files;
+use std::net::Net;
+use std::os::unix::net::UnixListener;
+use std::path::Path;
+use std::process::Abort;
+use std::sync::Wait;
+use std::test::Fail;
+use std::thread::Threads;
+use std::{fs, thread};
+
+// A case begins with a line of `# ` and a title. The lines that begin with `> ` are the client's, the bytes behind `= ` are
+// those that it sends, and those behind `+ ` the server's. The lines that begin with `< ` are printed, and one with `! ` is
+// told as a fault.
+const CASES: &str = "\
+# nothing, beside a reply that isn't waited for
++ 10000000f5ffffff0400000000000000
+# bytes of either case, an empty line, two replies at once, and one that isn't waited for
+> 0102
+> recv 1
+> aBFf
+>\x20
+> recv 2
+> 09
+= 0102abff09
++ 10000000f5ffffff0400000000000000
++ 110000000000000005000000000000007f
++ 10000000f5ffffff0400000000000000
++ 10000000f5ffffff0400000000000000
+< 10000000f5ffffff0400000000000000
+< 110000000000000005000000000000007f
+< 10000000f5ffffff0400000000000000
+# the stream ends, behind a whole reply, while two more are waited for
+> 07
+> recv 3
+> 08
+= 07
++ 10000000f5ffffff0400000000000000
+< 10000000f5ffffff0400000000000000
+! cut
+# three bytes of a length, behind a whole reply, while two more are waited for
+> 07
+> recv 3
+> 08
+= 07
++ 10000000f5ffffff0400000000000000
++ 100000
+< 10000000f5ffffff0400000000000000
+! cut
+# a length alone, behind a whole reply, while two more are waited for
+> 07
+> recv 3
+> 08
+= 07
++ 10000000f5ffffff0400000000000000
++ 10000000
+< 10000000f5ffffff0400000000000000
+! cut
+# a byte too few, behind a whole reply, while two more are waited for
+> 07
+> recv 3
+> 08
+= 07
++ 10000000f5ffffff0400000000000000
++ 10000000f5ffffff04000000000000
+< 10000000f5ffffff0400000000000000
+! cut
+# a length of zero, behind a whole reply, while two more are waited for
+> 07
+> recv 3
+> 08
+= 07
++ 10000000f5ffffff0400000000000000
++ 00000000
+< 10000000f5ffffff0400000000000000
+! bad reply
+# a length below a header's, behind a whole reply, while two more are waited for
+> 07
+> recv 3
+> 08
+= 07
++ 10000000f5ffffff0400000000000000
++ 0f000000
+< 10000000f5ffffff0400000000000000
+! bad reply
+# a length above 8192, behind a whole reply, while two more are waited for
+> 07
+> recv 3
+> 08
+= 07
++ 10000000f5ffffff0400000000000000
++ 01200000
+< 10000000f5ffffff0400000000000000
+! bad reply
+# a length past 2^31, behind a whole reply, while two more are waited for
+> 07
+> recv 3
+> 08
+= 07
++ 10000000f5ffffff0400000000000000
++ 100000ff
+< 10000000f5ffffff0400000000000000
+! bad reply
+";
+
+// What comes of a client at a server that sends these replies, and all bytes that the client sends.
+fn meet(
+    rt: &(impl Abort + Threads + Wait + Net + Files + AllocGlobal),
+    path: Path<'_>,
+    replies: Vec<u8>,
+    text: &[u8],
+) -> (Came, Vec<u8>) {
+    let alloc = rt.alloc();
+    let listener = UnixListener::bind(rt, path).expect(rt, "a socket");
+    let server = thread::spawn(rt, move || answer(alloc, &listener, &replies));
+    let server = server.ok().expect(rt, "a thread");
+    let came = drive(rt, path, text);
+    (came, server.join(rt))
+}
+
+fn run_case(
+    rt: &(impl Abort + Threads + Wait + Net + Files + AllocGlobal),
+    path: Path<'_>,
+    case: &str,
+) {
+    let alloc = rt.alloc();
+    let replies = bytes_of(rt, alloc, case, "+ ");
+    let text = marked(rt, alloc, "", case, "> ");
+    let (came, sent) = meet(rt, path, replies, text.as_bytes());
+    is_case(rt, alloc, case, &came, &sent);
+    fs::remove_file(rt, path).expect(rt, "a file");
+}
+
+// The bytes that the lines with a mark spell.
+fn bytes_of(rt: &impl Abort, alloc: Global, case: &str, mark: &str) -> Vec<u8> {
+    bytes_after(alloc, case, mark).expect(rt, "hex")
+}
+
+// What a client came to and sent is what stands in its case.
+fn is_case(rt: &impl Abort, alloc: Global, case: &str, came: &Came, sent: &[u8]) {
+    let printed = marked(rt, alloc, "", case, "< ");
+    let told = marked(rt, alloc, "", case, "! ");
+    is(rt, case, came, &printed, &told);
+    let wanted = bytes_of(rt, alloc, case, "= ");
+    assert_eq!(rt; sent, wanted.as_slice(), "{case}");
+}
+
+#[test]
+fn stored_replies(rt: HostRuntime) -> Result<(), Fail> {
+    let path = own_path(&rt)?;
+    let mut count = 0usize;
+    for case in CASES.split('#').skip(1) {
+        run_case(&rt, path.as_path(), case);
+        count = count.saturating_add(1);
+    }
+    assert_eq!(rt; count, 10);
+    Ok(())
+}
+
+const SHORT: &str = "10000000f5ffffff0400000000000000";
+
+// A client that only waits for replies prints these lines of them.
+fn prints(
+    rt: &(impl Abort + Threads + Wait + Net + Files + AllocGlobal),
+    path: Path<'_>,
+    text: &[u8],
+    lines: &str,
+) {
+    let replies = spelled(rt, rt.alloc(), &[lines]);
+    let (came, sent) = meet(rt, path, replies, text);
+    is(rt, "a client that waits", &came, lines, "");
+    assert!(rt; sent.is_empty());
+    fs::remove_file(rt, path).expect(rt, "a file");
+}
+
+// As many as one line can wait for, and one of 8192 bytes.
+#[test]
+fn many_replies_and_the_longest(rt: HostRuntime) -> Result<(), Fail> {
+    let path = own_path(&rt)?;
+    let line = [SHORT, "\n"].concat(rt.alloc())?;
+    let lines = line.repeat(rt.alloc(), 1000)?;
+    prints(&rt, path.as_path(), b"recv 1000\n", &lines);
+    let rest = "00".repeat(rt.alloc(), 8188)?;
+    let longest = ["00200000", &rest, "\n"].concat(rt.alloc())?;
+    prints(&rt, path.as_path(), b"recv 1\n", &longest);
+    Ok(())
+}
+
+// The client sends two bytes, of which the server reads one. It goes when so many bytes of the reply are sent.
+fn breaks_off(
+    rt: &(impl Abort + Threads + Wait + Net + Files + AllocGlobal),
+    path: Path<'_>,
+    left: usize,
+) {
+    let listener = UnixListener::bind(rt, path).expect(rt, "a socket");
+    let reply = b"\x10\0\0\0".get(..left).unwrap_or(&[]);
+    let server = thread::spawn(rt, move || read_one_and_go(&listener, reply));
+    let server = server.ok().expect(rt, "a thread");
+    let came = drive(rt, path, b"0102\nrecv 1\n");
+    is(rt, "a read that fails", &came, "", "read failed\n");
+    assert!(rt; server.join(rt));
+    fs::remove_file(rt, path).expect(rt, "a file");
+}
+
+#[test]
+fn a_read_of_a_reply_that_fails(rt: HostRuntime) -> Result<(), Fail> {
+    let path = own_path(&rt)?;
+    for left in [0, 1, 3] {
+        breaks_off(&rt, path.as_path(), left);
+    }
+    Ok(())
+}
+
+// The first reply comes when the server takes no more. The second isn't waited for.
+#[test]
+fn a_request_that_cannot_be_sent(rt: HostRuntime) -> Result<(), Fail> {
+    let path = own_path(&rt)?;
+    let listener = UnixListener::bind(&rt, path.as_path())?;
+    let replies = spelled(&rt, rt.alloc(), &[SHORT, SHORT]);
+    let server = thread::spawn(&rt, move || take_nothing(&listener, &replies));
+    let server = server.ok().expect(&rt, "a thread");
+    let came = drive(&rt, path.as_path(), b"recv 1\n0102\nrecv 1\n");
+    is(
+        &rt,
+        "a write that fails",
+        &came,
+        SHORT_LINE,
+        "write failed\n",
+    );
+    assert!(rt; server.join(&rt));
+    Ok(fs::remove_file(&rt, path.as_path())?)
+}
+
+const SHORT_LINE: &str = "10000000f5ffffff0400000000000000\n";
+
+// What is told where only so many bytes of a reply can be printed.
+fn drive_to_full(rt: &(impl Abort + Net + AllocGlobal), path: Path<'_>, left: usize) {
+    let mut told = Vec::new(rt.alloc());
+    let mut input = b"0102\nrecv 1\n".as_slice();
+    let mut output = Full { left };
+    let status = drive_on(rt, rt.alloc(), path, &mut input, &mut output, &mut told);
+    assert_eq!(rt; status, Status::Faulted(Fault::Write));
+    assert_eq!(rt; told.as_slice(), b"write failed\n".as_slice());
+}
+
+fn fills_the_output(
+    rt: &(impl Abort + Threads + Wait + Net + Files + AllocGlobal),
+    path: Path<'_>,
+    left: usize,
+) {
+    let alloc = rt.alloc();
+    let replies = spelled(rt, alloc, &[SHORT]);
+    let listener = UnixListener::bind(rt, path).expect(rt, "a socket");
+    let server = thread::spawn(rt, move || answer(alloc, &listener, &replies));
+    let server = server.ok().expect(rt, "a thread");
+    drive_to_full(rt, path, left);
+    assert_eq!(rt; server.join(rt).as_slice(), b"\x01\x02".as_slice());
+    fs::remove_file(rt, path).expect(rt, "a file");
+}
+
+#[test]
+fn a_reply_that_cannot_be_printed(rt: HostRuntime) -> Result<(), Fail> {
+    let path = own_path(&rt)?;
+    for left in [0, 1, 3] {
+        fills_the_output(&rt, path.as_path(), left);
+    }
+    Ok(())
+}

@@ -1,0 +1,132 @@
+//! Sessions that `lockd serve` serves at a path.
+
+use super::bytes::sessions::{init, init_reply, two_locks};
+use super::{Came, Command, is, marked, run, spelled};
+use lockd_commands::serve_on;
+use std::alloc::{AllocGlobal, Global};
+use std::fs::Files;
+use std::io::{Read, Write};
+use std::net::{Net, Shutdown};
+use std::os::unix::net::{UnixListener, UnixStream};
+use std::path::{Path, PathBuf};
+use std::process::Abort;
+use std::sync::Wait;
+use std::test::Fail;
+use std::thread::Threads;
+use std::time::{Clock, Duration};
+use std::{env, fs, process, thread};
+
+// A path of this process's own. Each test runs in a process of its own.
+fn own_path(rt: &HostRuntime) -> Result<PathBuf, Fail> {
+    let name = format!(in rt.alloc(); "lockd-serve-{}", process::id(rt.process()))?;
+    Ok(env::temp_dir(rt)?.join(rt.alloc(), name.as_str())?)
+}
+
+fn serve<R: Threads + Wait + Net + Files + AllocGlobal + Sync>(
+    rt: &R,
+    path: Path<'_>,
+    workers: u32,
+) -> Came {
+    let workers = if workers == 0 || workers > 16 {
+        1
+    } else {
+        workers
+    };
+    let mut printed = Vec::new(rt.alloc());
+    let mut told = Vec::new(rt.alloc());
+    let status = serve_on(rt, rt.alloc(), path, workers, &mut printed, &mut told);
+    Came {
+        printed,
+        told,
+        status,
+    }
+}
+
+// Connects once a server listens there, and gives up after some 20 seconds.
+fn connect<R: Net + Clock>(rt: &R, path: Path<'_>) -> Option<UnixStream> {
+    for _ in 0..20_000 {
+        if let Ok(stream) = UnixStream::connect(rt, path) {
+            return Some(stream);
+        }
+        thread::sleep(rt, Duration::from_millis(1));
+    }
+    None
+}
+
+// Sends these bytes, closes its side, and gives all that comes back.
+fn talk<R: Net + Clock>(rt: &R, alloc: Global, path: Path<'_>, bytes: &[u8]) -> Option<Vec<u8>> {
+    let stream = connect(rt, path)?;
+    let mut near = &stream;
+    near.write_all(bytes).ok()?;
+    stream.shutdown(Shutdown::Write).ok()?;
+    let mut replies = Vec::new(alloc);
+    near.read_to_end(&mut replies).ok()?;
+    Some(replies)
+}
+
+// What the client of the worked session with two locks sends, and bytes behind it.
+fn two_locks_and(rt: &impl Abort, alloc: Global, behind: &str) -> Vec<u8> {
+    let asked = marked(rt, alloc, init(), two_locks(), "> ");
+    spelled(rt, alloc, &[&asked, behind])
+}
+
+// The client got all replies of that session.
+fn has_replies(rt: &impl Abort, alloc: Global, replies: &[u8]) {
+    let lines = marked(rt, alloc, init_reply(), two_locks(), "< ");
+    let wanted = spelled(rt, alloc, &[&lines]);
+    assert_eq!(rt; replies, wanted.as_slice());
+}
+
+// Its trace has six lines, and is legal.
+fn has_trace(rt: &impl Abort, alloc: Global, trace: &[u8]) {
+    let mut lines = 0usize;
+    for byte in trace {
+        if *byte == b'\n' {
+            lines = lines.saturating_add(1);
+        }
+    }
+    assert_eq!(rt; lines, 6);
+    is(
+        rt,
+        "a trace",
+        &run(Command::Check, alloc, trace),
+        "legal\n",
+        "",
+    );
+}
+
+#[test]
+fn sessions_over_a_socket(rt: HostRuntime) -> Result<(), Fail> {
+    let alloc = rt.alloc();
+    let path = own_path(&rt)?;
+    let ends = [
+        ("", ""),
+        ("27000000\n", "bad length 39\n"),
+        ("38000000\n", "cut\n"),
+    ];
+    for (behind, told) in ends {
+        let bytes = two_locks_and(&rt, alloc, behind);
+        let there = own_path(&rt)?;
+        let client = thread::spawn(&rt, move || talk(&rt, alloc, there.as_path(), &bytes))?;
+        let came = serve(&rt, path.as_path(), 1);
+        let replies = client.join(&rt).ok_or("a connection")?;
+        has_replies(&rt, alloc, &replies);
+        has_trace(&rt, alloc, &came.printed);
+        assert_eq!(&rt; str::from_utf8(&came.told)?, told);
+        let code = if told.is_empty() { 0 } else { 2 };
+        assert_eq!(&rt; came.status.exit_code(), code);
+    }
+    Ok(())
+}
+
+// A path at which there is something already, which stays, and one that can't be.
+#[test]
+fn paths_that_cannot_be_bound(rt: HostRuntime) -> Result<(), Fail> {
+    let taken = own_path(&rt)?;
+    let listener = UnixListener::bind(&rt, taken.as_path())?;
+    for path in [taken.as_path(), Path::new("/nowhere/at/all")] {
+        is(&rt, "a path", &serve(&rt, path, 4), "", "cannot listen\n");
+    }
+    drop(listener);
+    Ok(fs::remove_file(&rt, taken.as_path())?)
+}
