@@ -14,8 +14,6 @@ mod name;
 mod no_memory;
 mod order;
 mod reading;
-#[cfg(test)]
-mod tests;
 mod told;
 mod writing;
 
