@@ -13,14 +13,17 @@ mod numbers;
 mod orders;
 mod parking;
 mod plain;
+mod plain_circles;
 mod plain_locks;
 mod random;
+mod releases;
 mod room;
 mod waiting;
 mod waiting_random;
 
 use fl_book::{History, Line, Verdict, check, read_trace};
 use fl_core::{Core, Tolds};
+use fl_ranges::{Class, Key, Kind, Range};
 use fl_wire::{Answer, Errno, NoMemory, Order, Told};
 use std::alloc::Global;
 use std::process::Abort;
@@ -68,7 +71,8 @@ impl Server {
         }
     }
 
-    // Takes an order. If it only reads, it is answered the same without a step, before it as after it. If not, it isn't.
+    // Takes an order. If it only reads, it is answered the same without a step, before it and after. If not, it isn't
+    // answered so.
     fn take(&mut self, rt: &impl Abort, order: &Order) {
         let before = self.core.answer(order);
         self.core.step(order, &mut self.tolds);
@@ -81,6 +85,12 @@ impl Server {
         } else {
             assert!(rt; before.is_none() && after.is_none());
         }
+    }
+
+    // Whether a request of the owner for byte 0 of the node would close a circle.
+    fn closes(&self, class: Class, owner: u64, node: u64, kind: Kind) -> bool {
+        let key = Key { class, node, owner };
+        self.core.circle(&key, &Range { start: 0, end: 0 }, kind)
     }
 
     // The order gives these replies.

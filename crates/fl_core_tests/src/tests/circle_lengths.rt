@@ -2,19 +2,19 @@
 
 use super::orders::{DONE, READ, WRITE, create, lock, made, numbered, order, wait};
 use super::{Reply, Server};
-use fl_ranges::{Class, Key, Kind, Range};
+use fl_ranges::{Class, Kind};
 use fl_wire::{Errno, Op, Order, Told};
 use std::alloc::Global;
 use std::process::Abort;
 
 // The file of a number, which the owner of the same number locks.
 fn node(number: u32) -> u64 {
-    2 + u64::from(number)
+    u64::from(number).wrapping_add(2)
 }
 
 // The fh of this file.
 fn fh(number: u32) -> u64 {
-    1 + u64::from(number)
+    u64::from(number).wrapping_add(1)
 }
 
 // So many files, each locked by its owner.
@@ -32,7 +32,7 @@ fn with_holders(rt: &impl Abort, alloc: Global, many: u32) -> Server {
 // The owner's request for another's file.
 fn request(owner: u32, other: u32) -> Order {
     let asked = wait(fh(other), owner, 0, WRITE);
-    order(10_000 + u64::from(owner), node(other), asked)
+    order(u64::from(owner).wrapping_add(10_000), node(other), asked)
 }
 
 const DEADLOCK: Reply = Err(Errno::EDEADLK);
@@ -124,24 +124,14 @@ tell 6 err 37
     server.goes_on(&rt, rt.alloc(), orders);
 }
 
-// Whether a request of the owner for another's file would close a circle.
-fn closes(server: &Server, class: Class, owner: u32, other: u32) -> bool {
-    let key = Key {
-        class,
-        node: node(other),
-        owner: u64::from(owner),
-    };
-    let range = Range { start: 0, end: 0 };
-    server.core.circle(&key, &range, Kind::Write)
-}
-
 // The owner of a row of 20 closes a circle with those before it.
 fn check_closes(rt: &impl Abort, server: &Server, owner: u32) {
     for other in 0..20u32 {
         let wanted = owner < 20 && other < owner;
-        let found = closes(server, Class::Record, owner, other);
+        let (asker, node) = (u64::from(owner), node(other));
+        let found = server.closes(Class::Record, asker, node, Kind::Write);
         assert_eq!(rt; found, wanted, "owner {owner} on the file of {other}");
-        assert!(rt; !closes(server, Class::Flock, owner, other));
+        assert!(rt; !server.closes(Class::Flock, asker, node, Kind::Write));
     }
 }
 

@@ -3,8 +3,8 @@
 use super::circles::WITH_FILES;
 use super::is_legal;
 
-// A grant closes a circle of owners 7 and 8, which nobody is told: 7 has a lock on node 2 and waits on node 3, and 8 the
-// other way round.
+// A grant closes a circle of owners 7 and 8, which nobody is told: 7 has a lock on node 2 and waits on node 3, and 8
+// the other way round.
 const WITH_CIRCLE: &str = "\
 ask 0 2 2 5 6 0 setlk 1 6 0 0 1 6 0
 tell 2 ok
@@ -50,8 +50,8 @@ tell 13 err 35
     is_legal(&rt, rt.alloc(), 28, &[WITH_FILES, WITH_CIRCLE, orders]);
 }
 
-// Owners 7, 8 and 9 have locked nodes 2, 3 and 4. 7 waits for 8 with unique 17, and 8 for 9 with unique 18 through fh 4.
-// A request of 9 for node 2, unique 19, would close the circle.
+// Owners 7, 8 and 9 have locked nodes 2, 3 and 4. 7 waits for 8 with unique 17, and 8 for 9 with unique 18 through
+// fh 4. A request of 9 for node 2, unique 19, would close the circle.
 pub(super) const WITH_THREE: &str = "\
 ask 0 2 2 5 6 0 setlk 1 7 0 0 1 7 0
 tell 2 ok

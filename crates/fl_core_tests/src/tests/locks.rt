@@ -4,7 +4,7 @@ use super::is_legal;
 use fl_core::laws;
 
 // Two files, of which node 2 is open as fh 1 and 2 and node 3 as fh 3, with locks of owners 7 and 8.
-const LOCKED: &str = "\
+pub(super) const LOCKED: &str = "\
 ask 0 1001 1 5 6 0 create 1 420 61
 tell 1001 made 2 33188 1 5 6 1
 ask 0 1002 2 5 6 0 open
@@ -28,7 +28,7 @@ tell 1003 ok
 ";
 
 // The record locks of node 2 are there, asked for through fh 1.
-const RECORD_LOCKS_BY_1: &str = "\
+pub(super) const RECORD_LOCKS_BY_1: &str = "\
 ask 0 1002 2 5 6 0 getlk 1 9 0 99 1 9 0
 tell 1002 lock 0 9 1 7
 ask 0 1002 2 5 6 0 getlk 1 9 10 99 1 9 0
@@ -40,7 +40,7 @@ tell 1002 lock 50 99 2 9
 ";
 
 // The record locks of node 2 are there, asked for through fh 2.
-const RECORD_LOCKS_BY_2: &str = "\
+pub(super) const RECORD_LOCKS_BY_2: &str = "\
 ask 0 1002 2 5 6 0 getlk 2 9 0 99 1 9 0
 tell 1002 lock 0 9 1 7
 ask 0 1002 2 5 6 0 getlk 2 9 10 99 1 9 0
@@ -52,7 +52,7 @@ tell 1002 lock 50 99 2 9
 ";
 
 // Owners 7 and 8 have read locks of the whole of node 2: neither can get a write lock beside the other through fh 1.
-const FLOCKS_BY_1: &str = "\
+pub(super) const FLOCKS_BY_1: &str = "\
 ask 0 1002 2 5 6 0 setlk 1 7 0 0 1 7 1
 tell 1002 err 11
 ask 0 1002 2 5 6 0 setlk 1 8 0 0 1 8 1
@@ -60,7 +60,7 @@ tell 1002 err 11
 ";
 
 // Owners 7 and 8 have read locks of the whole of node 2: neither can get a write lock beside the other through fh 2.
-const FLOCKS_BY_2: &str = "\
+pub(super) const FLOCKS_BY_2: &str = "\
 ask 0 1002 2 5 6 0 setlk 2 7 0 0 1 7 1
 tell 1002 err 11
 ask 0 1002 2 5 6 0 setlk 2 8 0 0 1 8 1
@@ -68,7 +68,7 @@ tell 1002 err 11
 ";
 
 // The locks of node 3 are there.
-const OTHER_NODE: &str = "\
+pub(super) const OTHER_NODE: &str = "\
 ask 0 1003 3 5 6 0 getlk 3 9 0 99 1 9 0
 tell 1003 lock 0 9 1 7
 ask 0 1003 3 5 6 0 setlk 3 9 0 0 0 9 1
@@ -173,184 +173,6 @@ tell 1002 ok
             OTHER_NODE,
         ],
     );
-}
-
-#[test]
-fn release_of_the_first_fh_with_drop_takes_the_owners_whole_file_lock(rt: HostRuntime) {
-    let orders = "\
-ask 0 1002 2 5 6 0 release 1 1 7
-tell 1002 ok
-";
-    let others = "\
-ask 0 1002 2 5 6 0 setlk 2 7 0 0 1 7 1
-tell 1002 err 11
-ask 0 1002 2 5 6 0 setlk 2 8 0 0 1 8 1
-tell 1002 ok
-ask 0 1002 2 5 6 0 setlk 2 7 0 0 0 7 1
-tell 1002 err 11
-";
-    is_legal(
-        &rt,
-        rt.alloc(),
-        40,
-        &[LOCKED, orders, RECORD_LOCKS_BY_2, OTHER_NODE, others],
-    );
-}
-
-#[test]
-fn release_of_the_second_fh_with_drop_takes_the_owners_whole_file_lock(rt: HostRuntime) {
-    let orders = "\
-ask 0 1002 2 5 6 0 release 2 1 7
-tell 1002 ok
-";
-    let others = "\
-ask 0 1002 2 5 6 0 setlk 1 7 0 0 1 7 1
-tell 1002 err 11
-ask 0 1002 2 5 6 0 setlk 1 8 0 0 1 8 1
-tell 1002 ok
-ask 0 1002 2 5 6 0 setlk 1 7 0 0 0 7 1
-tell 1002 err 11
-";
-    is_legal(
-        &rt,
-        rt.alloc(),
-        40,
-        &[LOCKED, orders, RECORD_LOCKS_BY_1, OTHER_NODE, others],
-    );
-}
-
-#[test]
-fn release_of_the_first_of_two_fhs_keeps_all_locks(rt: HostRuntime) {
-    let orders = "\
-ask 0 1002 2 5 6 0 release 1 0 7
-tell 1002 ok
-";
-    is_legal(
-        &rt,
-        rt.alloc(),
-        38,
-        &[LOCKED, orders, RECORD_LOCKS_BY_2, FLOCKS_BY_2, OTHER_NODE],
-    );
-}
-
-#[test]
-fn release_of_the_second_of_two_fhs_keeps_all_locks(rt: HostRuntime) {
-    let orders = "\
-ask 0 1002 2 5 6 0 release 2 0 7
-tell 1002 ok
-";
-    is_legal(
-        &rt,
-        rt.alloc(),
-        38,
-        &[LOCKED, orders, RECORD_LOCKS_BY_1, FLOCKS_BY_1, OTHER_NODE],
-    );
-}
-
-#[test]
-fn release_with_drop_by_an_owner_without_locks_keeps_all_locks(rt: HostRuntime) {
-    let orders = "\
-ask 0 1002 2 5 6 0 release 1 1 9
-tell 1002 ok
-";
-    is_legal(
-        &rt,
-        rt.alloc(),
-        38,
-        &[LOCKED, orders, RECORD_LOCKS_BY_2, FLOCKS_BY_2, OTHER_NODE],
-    );
-}
-
-#[test]
-fn release_by_owner_0_keeps_all_locks(rt: HostRuntime) {
-    let orders = "\
-ask 0 1002 2 5 6 0 release 1 0 0
-tell 1002 ok
-";
-    is_legal(
-        &rt,
-        rt.alloc(),
-        38,
-        &[LOCKED, orders, RECORD_LOCKS_BY_2, FLOCKS_BY_2, OTHER_NODE],
-    );
-}
-
-#[test]
-fn the_last_release_takes_all_locks_of_the_node(rt: HostRuntime) {
-    let orders = "\
-ask 0 1002 2 5 6 0 release 2 0 0
-tell 1002 ok
-ask 0 1002 2 5 6 0 release 1 0 7
-tell 1002 ok
-ask 0 1002 2 5 6 0 setlk 1 9 0 9 0 9 0
-tell 1002 err 9
-ask 0 1002 2 5 6 0 open
-tell 1002 open 4
-ask 0 1002 2 5 6 0 getlk 4 9 0 99 1 9 0
-tell 1002 lock 0 99 2 9
-ask 0 1002 2 5 6 0 setlk 4 9 0 0 1 9 1
-tell 1002 ok
-";
-    is_legal(&rt, rt.alloc(), 36, &[LOCKED, orders, OTHER_NODE]);
-}
-
-#[test]
-fn the_last_release_with_drop_takes_all_locks_of_the_node(rt: HostRuntime) {
-    let orders = "\
-ask 0 1002 2 5 6 0 release 2 0 0
-tell 1002 ok
-ask 0 1002 2 5 6 0 release 1 1 7
-tell 1002 ok
-ask 0 1002 2 5 6 0 setlk 1 9 0 9 0 9 0
-tell 1002 err 9
-ask 0 1002 2 5 6 0 open
-tell 1002 open 4
-ask 0 1002 2 5 6 0 getlk 4 9 0 99 1 9 0
-tell 1002 lock 0 99 2 9
-ask 0 1002 2 5 6 0 setlk 4 9 0 0 1 9 1
-tell 1002 ok
-";
-    is_legal(&rt, rt.alloc(), 36, &[LOCKED, orders, OTHER_NODE]);
-}
-
-#[test]
-fn the_last_release_with_drop_by_an_owner_without_locks_takes_all_locks_of_the_node(
-    rt: HostRuntime,
-) {
-    let orders = "\
-ask 0 1002 2 5 6 0 release 2 0 0
-tell 1002 ok
-ask 0 1002 2 5 6 0 release 1 1 9
-tell 1002 ok
-ask 0 1002 2 5 6 0 setlk 1 9 0 9 0 9 0
-tell 1002 err 9
-ask 0 1002 2 5 6 0 open
-tell 1002 open 4
-ask 0 1002 2 5 6 0 getlk 4 9 0 99 1 9 0
-tell 1002 lock 0 99 2 9
-ask 0 1002 2 5 6 0 setlk 4 9 0 0 1 9 1
-tell 1002 ok
-";
-    is_legal(&rt, rt.alloc(), 36, &[LOCKED, orders, OTHER_NODE]);
-}
-
-#[test]
-fn the_last_release_by_owner_0_takes_all_locks_of_the_node(rt: HostRuntime) {
-    let orders = "\
-ask 0 1002 2 5 6 0 release 2 0 0
-tell 1002 ok
-ask 0 1002 2 5 6 0 release 1 0 0
-tell 1002 ok
-ask 0 1002 2 5 6 0 setlk 1 9 0 9 0 9 0
-tell 1002 err 9
-ask 0 1002 2 5 6 0 open
-tell 1002 open 4
-ask 0 1002 2 5 6 0 getlk 4 9 0 99 1 9 0
-tell 1002 lock 0 99 2 9
-ask 0 1002 2 5 6 0 setlk 4 9 0 0 1 9 1
-tell 1002 ok
-";
-    is_legal(&rt, rt.alloc(), 36, &[LOCKED, orders, OTHER_NODE]);
 }
 
 #[test]

@@ -1,7 +1,5 @@
-//! A plain program of locks and of waiting: marks stand in a grid of bytes, and requests that wait in a list. Who waits
-//! for whom stands in a grid of owners. It has no limits.
-
-ghost use Rattle.std.specs.Prelude.{◌<◌};
+//! A plain program of locks and of waiting: marks stand in a grid of bytes, and requests that wait in a list. It has no
+//! limits.
 
 use super::Reply;
 use super::orders::{READ, UNLOCK, WRITE};
@@ -22,9 +20,6 @@ pub(super) const OWNERS: u64 = 4;
 // Two classes, two files, the owners, and the bytes.
 const PLACES: usize = 2 * 2 * 4 * 11;
 
-// Whether the owner of the row waits for the one of the column.
-type Waits = [[bool; 4]; 4];
-
 #[derive(Clone, Copy, PartialEq, Eq)]
 struct Mark {
     kind: u32,
@@ -35,6 +30,8 @@ struct Mark {
 #[derive(Clone, Copy)]
 pub(super) struct Counts {
     pub(super) parked: u64,
+    // The most that waited at once.
+    pub(super) most: usize,
     pub(super) granted: u64,
     // Those that are older than the one that was granted just before, and so were freed by it.
     pub(super) freed_by_grants: u64,
@@ -79,43 +76,6 @@ fn excludes(mark: Option<Mark>, kind: u32) -> bool {
     }
 }
 
-// Whether owner p waits for owner r, or for one who does.
-fn leads(waits: &Waits, p: usize, r: usize) -> bool
-    requires first { p < 4 }
-    requires last { r < 4 }
-{
-    for q in 0..4usize {
-        if waits[p][q] && waits[q][r] {
-            return true;
-        }
-    }
-    waits[p][r]
-}
-
-// The same grid with those added who wait for one who waits for another.
-fn joined(waits: &Waits) -> Waits {
-    let mut joined = [[false; 4]; 4];
-    for p in 0..4usize {
-        for r in 0..4usize {
-            joined[p][r] = leads(waits, p, r);
-        }
-    }
-    joined
-}
-
-// Adds them until there are none to be added. Among four owners this takes fewer than four rounds.
-fn closure(waits: Waits) -> Waits {
-    let mut waits = waits;
-    for _ in 0..4u32 {
-        let next = joined(&waits);
-        if next == waits {
-            return waits;
-        }
-        waits = next;
-    }
-    waits
-}
-
 // A request that takes away all of the owner's locks of a class on a node.
 fn unlock_all(node: u64, owner: u64, flags: u32) -> Request {
     Request {
@@ -142,6 +102,7 @@ impl PlainLocks {
             tolds: Vec::new(alloc),
             counts: Counts {
                 parked: 0,
+                most: 0,
                 granted: 0,
                 freed_by_grants: 0,
                 closed: 0,
@@ -228,7 +189,7 @@ impl PlainLocks {
     }
 
     // Whether a mark of this owner excludes a request for a record lock.
-    fn hinders(&self, request: &Request, owner: u64) -> bool {
+    pub(super) fn hinders(&self, request: &Request, owner: u64) -> bool {
         if request.ask.flags == 1 || owner == request.ask.owner {
             return false;
         }
@@ -239,42 +200,6 @@ impl PlainLocks {
             }
         }
         false
-    }
-
-    // Whether a request of owner p that waits is excluded by a mark of owner q.
-    fn waits_for(&self, p: u64, q: u64) -> bool {
-        for request in self.parked.iter() {
-            if request.ask.owner == p && self.hinders(request, q) {
-                return true;
-            }
-        }
-        false
-    }
-
-    fn waits(&self) -> Waits {
-        let mut waits = [[false; 4]; 4];
-        for p in 0..4usize {
-            for q in 0..4usize {
-                waits[p][q] = self.waits_for(p as u64, q as u64);
-            }
-        }
-        waits
-    }
-
-    // Whether an owner who excludes the request waits for the one who asks.
-    fn closes(&self, request: &Request, waits: &Waits) -> bool {
-        for (p, row) in waits.iter().enumerate() {
-            let asker = row.get((request.ask.owner % 4) as usize);
-            if asker == Some(&true) && self.hinders(request, p as u64) {
-                return true;
-            }
-        }
-        false
-    }
-
-    // Whether the request would close a circle of owners who wait for each other.
-    pub(super) fn closes_circle(&self, request: &Request) -> bool {
-        self.closes(request, &closure(self.waits()))
     }
 
     // A request that would close a circle.
@@ -301,6 +226,12 @@ impl PlainLocks {
         }
     }
 
+    fn park(&mut self, rt: &impl Abort, request: &Request) {
+        self.counts.parked = self.counts.parked.saturating_add(1);
+        assert!(rt; self.parked.push(*request).is_ok());
+        self.counts.most = self.counts.most.max(self.parked.len());
+    }
+
     // SETLK, or SETLKW where it may wait.
     fn lock(&mut self, rt: &impl Abort, request: &Request, may_wait: bool) {
         let unique = request.unique;
@@ -314,8 +245,7 @@ impl PlainLocks {
         } else if self.closes_circle(request) {
             self.refuse_deadlock(rt, request);
         } else {
-            self.counts.parked = self.counts.parked.saturating_add(1);
-            assert!(rt; self.parked.push(*request).is_ok());
+            self.park(rt, request);
         }
     }
 

@@ -19,17 +19,21 @@ fn names(rt: &impl Abort) -> Names {
     ]
 }
 
+fn random_create(numbers: &mut Numbers, name: Name) -> Op {
+    Op::Create {
+        excl: numbers.below(3) == 0,
+        mode: numbers.below(65_536) as u32,
+        name,
+    }
+}
+
 // What is asked of names in a node.
 fn random_name_op(numbers: &mut Numbers, names: &Names) -> Op {
     let name = names[numbers.below(4) as usize];
     match numbers.below(7) {
         0 | 1 => Op::Lookup(name),
         2 | 3 => Op::Unlink(name),
-        _ => Op::Create {
-            excl: numbers.below(3) == 0,
-            mode: numbers.below(65_536) as u32,
-            name,
-        },
+        _ => random_create(numbers, name),
     }
 }
 

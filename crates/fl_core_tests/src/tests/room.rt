@@ -1,21 +1,20 @@
 //! As many waiting requests as there is room for, and waiting for more locks than there is room for.
 
 use super::Server;
-use super::orders::{DONE, READ, UNLOCK, WRITE, create, lock, made, name, order, wait};
+use super::orders::{DONE, READ, UNLOCK, WRITE, create, lock, made, name, numbered, order, wait};
 use fl_wire::{Order, Told};
 use std::alloc::Global;
 use std::process::Abort;
 
-// One file, node 2, open as fh 1, whose byte 0 owner 7 has locked. Of the uniques from 1,000 on 256 requests wait, each of
-// its own owner, for a read lock of that byte.
+// One file, node 2, open as fh 1, whose byte 0 owner 7 has locked. 256 owners from number 1,000 on wait for a read lock
+// of that byte, each with the unique of its number.
 fn with_256(rt: &impl Abort, alloc: Global) -> Server {
     let mut server = Server::new(rt, alloc);
     server.gives(rt, &create(true, name(rt, b"a")), made(2, 1));
     server.gives(rt, &order(2, 2, lock(1, 7, 0, WRITE)), DONE);
-    for number in 0..256u32 {
-        let unique = 1000 + u64::from(number);
-        let asked = wait(1, 100 + number, 0, READ);
-        server.is_silent(rt, &order(unique, 2, asked));
+    for owner in 1000..1256u32 {
+        let asked = wait(1, owner, 0, READ);
+        server.is_silent(rt, &order(u64::from(owner), 2, asked));
     }
     server
 }
@@ -33,14 +32,22 @@ fn add_done(rt: &impl Abort, tolds: &mut Vec<Told>, first: u64, end: u64) {
     }
 }
 
+// Owner 7 gives its lock back, and the requests of the uniques in these bounds, 256 together, are granted in their
+// order.
+fn free(rt: &impl Abort, alloc: Global, server: &mut Server, freed: &[(u64, u64)]) {
+    let mut tolds = Vec::new(alloc);
+    add_done(rt, &mut tolds, 5, 6);
+    for (first, end) in freed {
+        add_done(rt, &mut tolds, *first, *end);
+    }
+    assert_eq!(rt; tolds.len(), 257);
+    server.tells(rt, &unlocked(5), &tolds);
+}
+
 #[test]
 fn one_unlock_frees_256_requests_in_their_order(rt: HostRuntime) {
     let mut server = with_256(&rt, rt.alloc());
-    let mut tolds = Vec::new(rt.alloc());
-    add_done(&rt, &mut tolds, 5, 6);
-    add_done(&rt, &mut tolds, 1000, 1256);
-    assert_eq!(&rt; tolds.len(), 257);
-    server.tells(&rt, &unlocked(5), &tolds);
+    free(&rt, rt.alloc(), &mut server, &[(1000, 1256)]);
     server.gives(&rt, &unlocked(6), DONE);
 }
 
@@ -68,19 +75,20 @@ tell 2 err 37
 ";
     let mut server = with_256(&rt, rt.alloc());
     server.goes_on(&rt, rt.alloc(), orders);
-    let mut tolds = Vec::new(rt.alloc());
-    add_done(&rt, &mut tolds, 5, 6);
-    add_done(&rt, &mut tolds, 1000, 1002);
-    add_done(&rt, &mut tolds, 1003, 1256);
-    add_done(&rt, &mut tolds, 4, 5);
-    assert_eq!(&rt; tolds.len(), 257);
-    server.tells(&rt, &unlocked(5), &tolds);
+    free(
+        &rt,
+        rt.alloc(),
+        &mut server,
+        &[(1000, 1002), (1003, 1256), (4, 5)],
+    );
 }
 
-// On the file of this number owner 7 has 273 runs.
+// Owner 7 gets 273 runs on a file.
 fn fill_file(rt: &impl Abort, server: &mut Server, node: u64, fh: u64) {
-    for run in 0..273u64 {
-        server.gives(rt, &order(1, node, lock(fh, 7, 2 * run, WRITE)), DONE);
+    let mut byte = 0u64;
+    for _ in 0..273u32 {
+        server.gives(rt, &order(1, node, lock(fh, 7, byte, WRITE)), DONE);
+        byte = byte.wrapping_add(2);
     }
 }
 
@@ -88,11 +96,9 @@ fn fill_file(rt: &impl Abort, server: &mut Server, node: u64, fh: u64) {
 fn with_runs(rt: &impl Abort, alloc: Global) -> Server {
     let mut server = Server::new(rt, alloc);
     server.gives(rt, &create(true, name(rt, b"a")), made(2, 1));
-    for number in 0..15u8 {
-        let node = 3 + u64::from(number);
-        let fh = 2 + u64::from(number);
-        let letter = name(rt, &[b'b' + number]);
-        server.gives(rt, &create(true, letter), made(node, fh));
+    for node in 3..18u64 {
+        let fh = node.wrapping_sub(1);
+        server.gives(rt, &create(true, numbered(rt, node)), made(node, fh));
         fill_file(rt, &mut server, node, fh);
     }
     server

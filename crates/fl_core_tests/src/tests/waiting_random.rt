@@ -14,7 +14,7 @@ use std::process::Abort;
 // unique.
 fn check_unique(rt: &impl Abort, core: &Core, plain: &PlainLocks, unique: u64) {
     let reply = core.answer(&order(unique, 1, Op::Getattr));
-    let waits = reply == Some(Err(Errno::EINVAL));
+    let waits = matches!(reply, Some(Err(Errno::EINVAL)));
     assert_eq!(rt; waits, plain.is_parked(unique), "unique {unique}");
 }
 
@@ -172,72 +172,71 @@ fn random_order(numbers: &mut Numbers, plain: &PlainLocks, turn: u64) -> Order {
     order(unique, node, op)
 }
 
-// Two files, and so many orders. It gives what the plain program counted, and the most that waited.
-fn run(rt: &impl Abort, alloc: Global, seed: u64, turns: u64) -> (Counts, usize) {
-    let mut numbers = Numbers { state: seed };
+// Two files, and so many orders. It gives what the plain program counted.
+fn run(rt: &impl Abort, alloc: Global, seed: u64, turns: u64) -> Counts {
     let mut server = Server::new(rt, alloc);
     let mut plain = PlainLocks::new(alloc);
-    let mut most = 0;
     for letter in [b"a", b"b"] {
         compare(rt, &mut server, &mut plain, &create(true, name(rt, letter)));
     }
-    for turn in 0..turns {
-        let order = random_order(&mut numbers, &plain, turn);
-        compare(rt, &mut server, &mut plain, &order);
-        most = plain.parked.len().max(most);
-    }
+    take_turns(rt, &mut server, &mut plain, seed, turns);
+    let counts = plain.counts;
     close_all(rt, &mut server, &mut plain);
-    (plain.counts, most)
+    counts
+}
+
+fn take_turns(rt: &impl Abort, server: &mut Server, plain: &mut PlainLocks, seed: u64, turns: u64) {
+    let mut numbers = Numbers { state: seed };
+    for turn in 0..turns {
+        let order = random_order(&mut numbers, plain, turn);
+        compare(rt, server, plain, &order);
+    }
 }
 
 // Closes what is open, which ends the requests that wait, the oldest first.
 fn close_all(rt: &impl Abort, server: &mut Server, plain: &mut PlainLocks) {
     for fh in 1..plain.directory.next_fh() {
         if let Some(node) = plain.directory.node_of(fh) {
-            compare(
-                rt,
-                server,
-                plain,
-                &order(u64::MAX, node, release(fh, false, 0)),
-            );
+            let closed = order(u64::MAX, node, release(fh, false, 0));
+            compare(rt, server, plain, &closed);
         }
     }
     assert!(rt; plain.parked.is_empty());
 }
 
+// Many waited, and were granted.
+fn check_waits(rt: &impl Abort, counts: &Counts) {
+    let (parked, granted) = (counts.parked, counts.granted);
+    let (most, freed) = (counts.most, counts.freed_by_grants);
+    assert!(rt; most > 30, "{most} waited at once");
+    assert!(rt; parked > 400, "{parked} waited");
+    assert!(rt; granted > 200, "{granted} were granted");
+    assert!(rt; freed > 0, "{freed} were freed by grants");
+}
+
+// Many were ended otherwise.
+fn check_ends(rt: &impl Abort, counts: &Counts) {
+    let (closed, interrupted) = (counts.closed, counts.interrupted);
+    assert!(rt; closed > 40, "{closed} were closed");
+    assert!(rt; interrupted > 40, "{interrupted} were interrupted");
+}
+
+// Many were refused.
+fn check_refusals(rt: &impl Abort, counts: &Counts) {
+    let (refused, deadlocks) = (counts.refused, counts.deadlocks);
+    let long = counts.long_deadlocks;
+    assert!(rt; refused > 15, "{refused} uniques were refused");
+    assert!(rt; deadlocks > 300, "{deadlocks} circles were refused");
+    assert!(rt; long > 8, "{long} long circles were refused");
+}
+
 // Each of these seeds brings about each thing often.
 fn run_all(rt: &impl Abort, alloc: Global, first: u64, end: u64) {
     for seed in first..end {
-        let (counts, most) = run(rt, alloc, seed, 3000);
-        assert!(rt; most > 30, "{most} waited at once");
-        assert!(rt; counts.parked > 400, "{} waited", counts.parked);
-        assert!(rt; counts.granted > 200, "{} were granted", counts.granted);
-        assert!(rt;
-            counts.freed_by_grants > 0,
-            "{} grants freed others",
-            counts.freed_by_grants
-        );
-        assert!(rt; counts.closed > 40, "{} were closed", counts.closed);
-        assert!(rt;
-            counts.interrupted > 40,
-            "{} were interrupted",
-            counts.interrupted
-        );
-        assert!(rt;
-            counts.refused > 15,
-            "{} uniques were refused",
-            counts.refused
-        );
-        assert!(rt;
-            counts.deadlocks > 300,
-            "{} circles were refused",
-            counts.deadlocks
-        );
-        assert!(rt;
-            counts.long_deadlocks > 8,
-            "{} long circles were refused",
-            counts.long_deadlocks
-        );
+        let counts = run(rt, alloc, seed, 3000);
+        check_waits(rt, &counts);
+        check_ends(rt, &counts);
+        check_refusals(rt, &counts);
     }
 }
 
