@@ -5,19 +5,23 @@ mod each_order;
 mod ends;
 mod failures;
 mod idle;
+mod late;
 mod memory;
+mod messages;
 mod million;
+mod piles;
 mod sockets;
 mod talker;
 mod waiting;
 
 use fl_book::{History, Line, Verdict, check};
-use fl_serve::{Done, Gate, serve};
-use fl_wire::NoMemory;
+use fl_serve::{Done, Fault, Gate, Open, serve};
 use std::alloc::Global;
 use std::io::{Read, Write};
+use std::process::Abort;
 use std::sync::Wait;
 use std::thread::Threads;
+use talker::sorted;
 
 // Serves with this many workers, of which there are 1 to 16.
 fn served<R: Threads + Wait + Sync, I: Read, W: Write + Send + Drop, G: Gate + Sync>(
@@ -36,17 +40,57 @@ fn served<R: Threads + Wait + Sync, I: Read, W: Write + Send + Drop, G: Gate + S
     serve(rt, alloc, r, w, workers, gate)
 }
 
-fn is_legal(alloc: Global, history: &History) -> Result<bool, NoMemory> {
-    Ok(check(alloc, history)? == Verdict::Legal)
+// What a session over memory came to, and all its replies.
+#[derive(Drop)]
+struct Came {
+    done: Done,
+    out: Vec<u8>,
 }
 
-// How many orders a history has.
-fn asked_in(history: &History) -> usize {
-    let mut asked = 0;
+// Serves these messages with this many workers.
+fn serve_bytes<R: Threads + Wait + Sync>(
+    rt: &R,
+    alloc: Global,
+    messages: &[u8],
+    workers: u32,
+) -> Came {
+    let mut input = messages;
+    let mut out = Vec::new(alloc);
+    let done = served(rt, alloc, &mut input, &mut out, workers, &Open);
+    Came { done, out }
+}
+
+// A session ended with this fault, after a legal history of so many lines.
+fn ended(
+    rt: &impl Abort,
+    alloc: Global,
+    done: &Done,
+    fault: Option<Fault>,
+    lines: usize,
+    workers: u32,
+) {
+    assert_eq!(rt; done.fault, fault, "{workers} workers");
+    assert_eq!(rt; done.history.len(), lines, "{workers} workers");
+    is_legal(rt, alloc, &done.history);
+}
+
+fn is_legal(rt: &impl Abort, alloc: Global, history: &History) {
+    assert_eq!(rt; check(alloc, history), Ok(Verdict::Legal));
+}
+
+// So many whole replies went out.
+fn replied(rt: &impl Abort, alloc: Global, out: &[u8], replies: usize, workers: u32) {
+    let found = sorted(rt, alloc, out).len();
+    assert_eq!(rt; found, replies, "{workers} workers");
+}
+
+// The uniques of the orders in a history, as they were asked.
+fn asked_in(rt: &impl Abort, alloc: Global, history: &History) -> Vec<u64> {
+    let mut uniques = Vec::new(alloc);
     for at in 0..history.len() {
-        if matches!(history.line(at), Line::Asked { .. }) {
-            asked += 1;
+        if let Line::Asked { worker: _, order } = history.line(at) {
+            uniques.push(order.unique).expect(rt, "memory");
         }
     }
-    asked
+    uniques
 }

@@ -8,22 +8,18 @@ use super::scripts::locks::locks_and_files;
 use super::scripts::waiting::requests_that_wait;
 use fl_book::{Board, BoardName, History, Line, Seat, Verdict, check, print_trace, read_trace};
 use fl_core::Tolds;
+use fl_wire::Order;
 use std::alloc::Global;
 use std::marker::Brand;
 use std::process::Abort;
 use std::sync::Wait;
 use std::sync::ledger::Blank;
 
-// The numbers of the workers who ask in turn.
-const WORKERS: [&str; 16] = [
-    "0", "1", "2", "3", "4", "5", "6", "7", "8", "9", "10", "11", "12", "13", "14", "15",
-];
-
 // A line of a trace, which this worker asks where it was worker 0 who asked.
-fn asked_by(rt: &impl Abort, alloc: Global, line: &str, worker: &str) -> String {
+fn asked_by(rt: &impl Abort, alloc: Global, line: &str, worker: usize) -> String {
     match line.strip_prefix("ask 0 ") {
-        Some(rest) => ["ask ", worker, " ", rest, "\n"].concat(alloc),
-        None => [line, "\n"].concat(alloc),
+        Some(rest) => format!(in alloc; "ask {worker} {rest}\n"),
+        None => format!(in alloc; "{line}\n"),
     }
     .expect(rt, "memory")
 }
@@ -31,18 +27,30 @@ fn asked_by(rt: &impl Abort, alloc: Global, line: &str, worker: &str) -> String 
 // The trace with each order asked by the next worker, who were all worker 0.
 fn spread(rt: &impl Abort, alloc: Global, trace: &str) -> String {
     let mut spread = String::new(alloc);
-    let mut asked = 0usize;
+    let mut worker = 0usize;
     for line in trace.lines() {
-        let line_of_worker = asked_by(rt, alloc, line, WORKERS[asked % 16]);
-        spread.push_str(&line_of_worker).expect(rt, "memory");
+        let asked = asked_by(rt, alloc, line, worker);
+        spread.push_str(&asked).expect(rt, "memory");
         if line.starts_with("ask ") {
-            asked = asked.wrapping_add(1);
+            worker = worker.wrapping_add(1) % 16;
         }
     }
     spread
 }
 
-// Hands in the orders of a history, each at its worker's seat.
+// Hands in an order at its worker's seat.
+fn hand_in<L: BoardName, R: Abort + Wait>(
+    rt: &R,
+    board: &Board<L>,
+    seat: &mut Seat<L>,
+    order: &Order,
+    tolds: &mut Tolds,
+) {
+    let handed = board.hand_in(rt, seat, order, tolds);
+    assert_eq!(rt; handed, Ok(()));
+}
+
+// Hands in the orders of a history.
 fn hand_in_all<L: BoardName, R: Abort + Wait>(
     rt: &R,
     board: &Board<L>,
@@ -53,7 +61,7 @@ fn hand_in_all<L: BoardName, R: Abort + Wait>(
     for at in 0..wanted.len() {
         if let Line::Asked { worker, order } = wanted.line(at) {
             let seat = seats.get_mut(worker as usize).expect(rt, "a seat");
-            board.hand_in(rt, seat, &order, tolds).expect(rt, "memory");
+            hand_in(rt, board, seat, &order, tolds);
         }
     }
 }

@@ -1,14 +1,16 @@
 //! Orders that come together, as many as there are workers, each of which has to find a worker of its own.
 
+use super::messages::Messages;
 use super::served;
 use super::talker::Talker;
-use fl_serve::Gate;
+use fl_serve::{Done, Gate};
 use std::alloc::Global;
 use std::os::unix::net::UnixStream;
+use std::process::Abort;
 use std::sync::atomic::{AtomicBool, AtomicU64, Ordering};
 use std::test::Fail;
+use std::thread;
 use std::thread::yield_now;
-use std::{io, thread};
 
 // Holds each order until all of its burst have come. Uniques begin at 2.
 #[derive(Drop)]
@@ -36,23 +38,36 @@ impl Gate for Meeting {
     fn sent(&self, _unique: u64) {}
 }
 
-// Sends 100 bursts, each as soon as all replies to the one before have come, so that a worker looks and others sleep.
-fn send_bursts(alloc: Global, stream: UnixStream, size: u32) -> io::Result<()> {
-    let mut talker = Talker::start(alloc, stream)?;
-    let mut burst = talker.messages();
-    let mut unique = 2u64;
-    for _ in 0..100 {
-        burst.bytes.clear();
-        for _ in 0..size {
-            burst.getattr(unique, 1)?;
-            unique = unique.saturating_add(1);
-        }
-        talker.send(&burst)?;
-        for _ in 0..size {
-            talker.reply()?;
-        }
+// Orders of so many uniques from one on.
+fn fill(rt: &impl Abort, burst: &mut Messages, from: u64, size: u32) {
+    burst.bytes.clear();
+    for at in 0..size {
+        let unique = from.saturating_add(u64::from(at));
+        burst.getattr(unique, 1).expect(rt, "memory");
     }
-    talker.close()
+}
+
+// Sends 100 bursts, each as soon as all replies to the one before have come, so that a worker looks and others sleep.
+fn send_bursts(rt: &impl Abort, alloc: Global, stream: UnixStream, size: u32) {
+    let mut talker = Talker::start(rt, alloc, stream);
+    let mut burst = talker.messages();
+    let mut from = 2u64;
+    for _ in 0..100 {
+        fill(rt, &mut burst, from, size);
+        talker.send(rt, &burst);
+        for _ in 0..size {
+            talker.reply(rt);
+        }
+        from = from.saturating_add(u64::from(size));
+    }
+    talker.close(rt);
+}
+
+fn has_met(rt: &impl Abort, done: &Done, gate: &Meeting, workers: u32) {
+    assert_eq!(rt; done.fault, None, "{workers} workers");
+    assert!(rt; !gate.given_up.load(Ordering::SeqCst), "{workers} workers");
+    let lines = (workers as usize).saturating_mul(200);
+    assert_eq!(rt; done.history.len(), lines, "{workers} workers");
 }
 
 #[test]
@@ -65,17 +80,11 @@ fn no_order_waits_for_a_worker_while_another_sleeps(rt: HostRuntime) -> Result<(
             given_up: AtomicBool::new(false),
         };
         let (near, far) = UnixStream::pair(&rt)?;
-        let client = thread::spawn(&rt, move || send_bursts(alloc, near, workers))?;
+        let client = thread::spawn(&rt, move || send_bursts(&rt, alloc, near, workers))?;
         let done = served(&rt, alloc, &mut &far, &mut &far, workers, &gate);
         drop(far);
-        client.join(&rt)?;
-        assert_eq!(&rt; done.fault, None, "{workers} workers");
-        assert!(&rt; !gate.given_up.load(Ordering::SeqCst), "{workers} workers");
-        assert_eq!(&rt;
-            done.history.len(),
-            200 * workers as usize,
-            "{workers} workers"
-        );
+        client.join(&rt);
+        has_met(&rt, &done, &gate, workers);
     }
     Ok(())
 }

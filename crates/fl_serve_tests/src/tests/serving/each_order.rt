@@ -1,11 +1,12 @@
 //! Orders that workers take from one row.
 
-use super::served;
-use super::talker::Messages;
-use fl_book::{History, Line};
-use fl_serve::Open;
+use super::messages::Messages;
+use super::{asked_in, serve_bytes};
 use std::alloc::{AllocError, Global};
+use std::process::Abort;
+use std::sync::Wait;
 use std::test::Fail;
+use std::thread::Threads;
 
 // INIT, and 1,000 orders of the uniques 2 to 1,001.
 fn thousand_orders(alloc: Global) -> Result<Messages, AllocError> {
@@ -16,28 +17,26 @@ fn thousand_orders(alloc: Global) -> Result<Messages, AllocError> {
     Ok(messages)
 }
 
-// The uniques of the orders in a history, from the least.
-fn uniques(alloc: Global, history: &History) -> Result<Vec<u64>, AllocError> {
-    let mut uniques = Vec::new(alloc);
-    for at in 0..history.len() {
-        if let Line::Asked { worker: _, order } = history.line(at) {
-            uniques.push(order.unique)?;
-        }
-    }
+fn are_handed_in_once<R: Abort + Threads + Wait + Sync>(
+    rt: &R,
+    alloc: Global,
+    messages: &Messages,
+    workers: u32,
+) {
+    let came = serve_bytes(rt, alloc, &messages.bytes, workers);
+    let mut uniques = asked_in(rt, alloc, &came.done.history);
     uniques.sort_unstable();
-    Ok(uniques)
+    assert_eq!(rt; uniques.len(), 1000, "{workers} workers");
+    for (at, unique) in uniques.iter().enumerate() {
+        assert_eq!(rt; *unique, (at as u64).wrapping_add(2), "{workers} workers");
+    }
 }
 
 #[test]
 fn each_order_is_handed_in_once(rt: HostRuntime) -> Result<(), Fail> {
     let messages = thousand_orders(rt.alloc())?;
     for workers in [1, 4, 16] {
-        let mut out = Vec::new(rt.alloc());
-        let mut input = messages.bytes.as_slice();
-        let done = served(&rt, rt.alloc(), &mut input, &mut out, workers, &Open);
-        let found = uniques(rt.alloc(), &done.history)?;
-        assert_eq!(&rt; found.len(), 1000, "{workers} workers");
-        assert!(&rt; found.iter().copied().eq(2..1002), "{workers} workers");
+        are_handed_in_once(&rt, rt.alloc(), &messages, workers);
     }
     Ok(())
 }

@@ -1,16 +1,15 @@
 //! How sessions with workers end: by the stream's end, by a fault of the reader, and by a DESTROY.
 
-use super::talker::{Messages, sorted};
-use super::{is_legal, served};
+use super::messages::Messages;
+use super::{ended, replied, serve_bytes, served};
 use crate::tests::MANY;
-use fl_serve::{Fault, Gate, Open};
-use fl_testing::Source;
+use fl_serve::{Fault, Open};
+use fl_testing::{Source, bytes_after};
 use std::alloc::{AllocError, Global};
-use std::io;
-use std::io::Read;
-use std::sync::atomic::{AtomicBool, Ordering};
+use std::process::Abort;
+use std::sync::Wait;
 use std::test::Fail;
-use std::thread::yield_now;
+use std::thread::Threads;
 
 // INIT, and 20 orders of the uniques 2 to 21.
 pub(super) fn twenty_orders(alloc: Global) -> Result<Messages, AllocError> {
@@ -21,155 +20,103 @@ pub(super) fn twenty_orders(alloc: Global) -> Result<Messages, AllocError> {
     Ok(messages)
 }
 
+// The same, and behind them the bytes that this spells in hex.
+pub(super) fn twenty_orders_and(rt: &impl Abort, alloc: Global, end: &str) -> Messages {
+    let mut messages = twenty_orders(alloc).expect(rt, "memory");
+    let end = bytes_after(alloc, end, "").expect(rt, "hex");
+    messages.bytes.extend_from_slice(&end).expect(rt, "memory");
+    messages
+}
+
 // The beginning of a message of 88 bytes.
-const CUT: [u8; 41] = [
-    88, 0, 0, 0, 32, 0, 0, 0, 22, 0, 0, 0, 0, 0, 0, 0, //
-    2, 0, 0, 0, 0, 0, 0, 0, 0, 0, 0, 0, 0, 0, 0, 0, 0, 0, 0, 0, 0, 0, 0, 0, 1,
-];
+const CUT: &str =
+    "5800000020000000160000000000000002000000000000000000000000000000000000000000000001";
 
 // The orders before are answered, whatever stands behind them.
-#[test]
-fn orders_before_a_readers_fault(rt: HostRuntime) -> Result<(), Fail> {
-    let ends: [(&[u8], Option<Fault>); 6] = [
-        (&[], None),
-        (&[40, 0, 0], Some(Fault::Cut)),
-        (&CUT, Some(Fault::Cut)),
-        (&[39, 0, 0, 0], Some(Fault::BadLength(39))),
-        (&[1, 0x20, 0, 0], Some(Fault::BadLength(8193))),
-        (&[0, 0, 0, 0], Some(Fault::BadLength(0))),
-    ];
-    for (end, fault) in ends {
-        for workers in [1, 4] {
-            let mut messages = twenty_orders(rt.alloc())?;
-            messages.bytes.extend_from_slice(end)?;
-            let mut out = Vec::new(rt.alloc());
-            let mut input = messages.bytes.as_slice();
-            let done = served(&rt, rt.alloc(), &mut input, &mut out, workers, &Open);
-            assert_eq!(&rt; done.fault, fault, "{workers} workers");
-            assert_eq!(&rt; done.history.len(), 40, "{fault:?}, {workers} workers");
-            assert!(&rt; is_legal(rt.alloc(), &done.history)?, "{fault:?}");
-            let replies = sorted(rt.alloc(), &out)?;
-            assert_eq!(&rt; replies.len(), 21, "{fault:?}, {workers} workers");
-        }
+fn end_with<R: Abort + Threads + Wait + Sync>(
+    rt: &R,
+    alloc: Global,
+    end: &str,
+    fault: Option<Fault>,
+) {
+    let messages = twenty_orders_and(rt, alloc, end);
+    for workers in [1, 4] {
+        let came = serve_bytes(rt, alloc, &messages.bytes, workers);
+        ended(rt, alloc, &came.done, fault, 40, workers);
+        replied(rt, alloc, &came.out, 21, workers);
     }
-    Ok(())
+}
+
+#[test]
+fn orders_before_a_readers_fault(rt: HostRuntime) {
+    end_with(&rt, rt.alloc(), "", None);
+    end_with(&rt, rt.alloc(), "280000", Some(Fault::Cut));
+    end_with(&rt, rt.alloc(), CUT, Some(Fault::Cut));
+    end_with(&rt, rt.alloc(), "27000000", Some(Fault::BadLength(39)));
+    end_with(&rt, rt.alloc(), "01200000", Some(Fault::BadLength(8193)));
+    end_with(&rt, rt.alloc(), "00000000", Some(Fault::BadLength(0)));
+}
+
+// An INIT and four orders are whole among the first 295 bytes.
+fn end_by_a_read<R: Abort + Threads + Wait + Sync>(
+    rt: &R,
+    alloc: Global,
+    messages: &[u8],
+    workers: u32,
+) {
+    let mut input = Source {
+        bytes: messages,
+        most: 59,
+        reads: 5,
+    };
+    let mut out = Vec::new(alloc);
+    let done = served(rt, alloc, &mut input, &mut out, workers, &Open);
+    ended(rt, alloc, &done, Some(Fault::Read), 8, workers);
+    replied(rt, alloc, &out, 5, workers);
 }
 
 #[test]
 fn orders_before_a_read_that_fails(rt: HostRuntime) -> Result<(), Fail> {
+    let messages = twenty_orders(rt.alloc())?;
     for workers in [1, 4] {
-        let messages = twenty_orders(rt.alloc())?;
-        let mut input = Source {
-            bytes: &messages.bytes,
-            most: 59,
-            reads: 5,
-        };
-        let mut out = Vec::new(rt.alloc());
-        let done = served(&rt, rt.alloc(), &mut input, &mut out, workers, &Open);
-        assert_eq!(&rt; done.fault, Some(Fault::Read), "{workers} workers");
-        // An INIT and four orders are whole among the first 295 bytes.
-        assert_eq!(&rt; done.history.len(), 8, "{workers} workers");
-        assert_eq!(&rt; sorted(rt.alloc(), &out)?.len(), 5, "{workers} workers");
-    }
-    Ok(())
-}
-
-// Orders behind the DESTROY, in the same read and in one that isn't made.
-#[test]
-fn destroy_is_answered_last(rt: HostRuntime) -> Result<(), Fail> {
-    for workers in [1, 4, 16] {
-        let mut messages = twenty_orders(rt.alloc())?;
-        messages.destroy(22)?;
-        messages.getattr(23, 1)?;
-        let most = messages.bytes.len();
-        messages.getattr(24, 1)?;
-        let mut input = Source {
-            bytes: &messages.bytes,
-            most: most,
-            reads: MANY,
-        };
-        let mut out = Vec::new(rt.alloc());
-        let done = served(&rt, rt.alloc(), &mut input, &mut out, workers, &Open);
-        assert_eq!(&rt; done.fault, None, "{workers} workers");
-        assert_eq!(&rt; input.reads, MANY - 1, "{workers} workers");
-        assert_eq!(&rt; input.bytes.len(), 56, "{workers} workers");
-        assert_eq!(&rt; done.history.len(), 40, "{workers} workers");
-        assert_eq!(&rt; sorted(rt.alloc(), &out)?.len(), 22, "{workers} workers");
-        assert!(&rt; out.ends_with(&DESTROYED), "{workers} workers");
+        end_by_a_read(&rt, rt.alloc(), &messages.bytes, workers);
     }
     Ok(())
 }
 
 // The reply to a DESTROY of the unique 22.
-const DESTROYED: [u8; 16] = [16, 0, 0, 0, 0, 0, 0, 0, 22, 0, 0, 0, 0, 0, 0, 0];
+pub(super) const DESTROYED: &[u8; 16] = b"\x10\0\0\0\0\0\0\0\x16\0\0\0\0\0\0\0";
 
-// Says when the last byte was read.
-#[derive(Drop)]
-struct Watched<'a, 'f> {
-    source: Source<'a>,
-    all_read: &'f AtomicBool,
+// Of these bytes, as many are read at first as come before the last message, which isn't read.
+fn end_by_a_destroy<R: Abort + Threads + Wait + Sync>(
+    rt: &R,
+    alloc: Global,
+    messages: &[u8],
+    workers: u32,
+) {
+    let mut input = Source {
+        bytes: messages,
+        most: messages.len().saturating_sub(56),
+        reads: MANY,
+    };
+    let mut out = Vec::new(alloc);
+    let done = served(rt, alloc, &mut input, &mut out, workers, &Open);
+    assert_eq!(rt; input.reads, MANY - 1, "{workers} workers");
+    assert_eq!(rt; input.bytes.len(), 56, "{workers} workers");
+    ended(rt, alloc, &done, None, 40, workers);
+    replied(rt, alloc, &out, 22, workers);
+    assert!(rt; out.ends_with(DESTROYED), "{workers} workers");
 }
 
-impl Read for Watched<'_, '_> {
-    fn read(&mut self, buf: &mut [u8]) -> io::Result<usize> {
-        let n = self.source.read(buf)?;
-        if self.source.bytes.is_empty() {
-            self.all_read.store(true, Ordering::SeqCst);
-        }
-        Ok(n)
-    }
-}
-
-// Holds each order until the last byte was read, and a while longer.
-#[derive(Drop)]
-struct Late<'f> {
-    all_read: &'f AtomicBool,
-    given_up: AtomicBool,
-}
-
-impl Gate for Late<'_> {
-    fn pass(&self, _unique: u64) {
-        for _ in 0..10_000_000 {
-            if self.all_read.load(Ordering::SeqCst) {
-                for _ in 0..1000 {
-                    yield_now();
-                }
-                return;
-            }
-            yield_now();
-        }
-        self.given_up.store(true, Ordering::SeqCst);
-    }
-
-    fn sent(&self, _unique: u64) {}
-}
-
+// Orders behind the DESTROY, in the same read and in one that isn't made.
 #[test]
-fn destroy_waits_for_orders_that_are_held_up(rt: HostRuntime) -> Result<(), Fail> {
+fn destroy_is_answered_last(rt: HostRuntime) -> Result<(), Fail> {
+    let mut messages = twenty_orders(rt.alloc())?;
+    messages.destroy(22)?;
+    messages.getattr(23, 1)?;
+    messages.getattr(24, 1)?;
     for workers in [1, 4, 16] {
-        let mut messages = twenty_orders(rt.alloc())?;
-        let most = messages.bytes.len();
-        messages.destroy(22)?;
-        let all_read = AtomicBool::new(false);
-        let gate = Late {
-            all_read: &all_read,
-            given_up: AtomicBool::new(false),
-        };
-        let mut input = Watched {
-            source: Source {
-                bytes: &messages.bytes,
-                most: most,
-                reads: MANY,
-            },
-            all_read: &all_read,
-        };
-        let mut out = Vec::new(rt.alloc());
-        let done = served(&rt, rt.alloc(), &mut input, &mut out, workers, &gate);
-        assert_eq!(&rt; done.fault, None, "{workers} workers");
-        assert!(&rt; !gate.given_up.load(Ordering::SeqCst), "{workers} workers");
-        assert_eq!(&rt; done.history.len(), 40, "{workers} workers");
-        assert_eq!(&rt; sorted(rt.alloc(), &out)?.len(), 22, "{workers} workers");
-        assert!(&rt; out.ends_with(&DESTROYED), "{workers} workers");
+        end_by_a_destroy(&rt, rt.alloc(), &messages.bytes, workers);
     }
     Ok(())
 }

@@ -5,26 +5,27 @@ use super::talker::Talker;
 use fl_serve::Open;
 use std::alloc::Global;
 use std::os::unix::net::UnixStream;
+use std::process::Abort;
 use std::test::Fail;
+use std::thread;
 use std::time::{Clock, CpuClock, Duration};
-use std::{io, thread};
 
 // How much processor time the process uses in a second in which the client asks nothing.
-fn used_in_a_second<R: Clock + CpuClock>(
+fn used_in_a_second<R: Abort + Clock + CpuClock>(
     rt: &R,
     alloc: Global,
     stream: UnixStream,
-) -> io::Result<Duration> {
-    let mut talker = Talker::start(alloc, stream)?;
+) -> Duration {
+    let mut talker = Talker::start(rt, alloc, stream);
     let mut message = talker.messages();
-    message.create(2, 0)?;
-    talker.ask(&message, 2)?;
+    message.create(2, 0).expect(rt, "memory");
+    talker.ask(rt, &message, 2);
     thread::sleep(rt, Duration::from_millis(100));
-    let before = rt.process_cpu_time()?;
+    let before = rt.process_cpu_time().expect(rt, "a clock");
     thread::sleep(rt, Duration::from_secs(1));
-    let after = rt.process_cpu_time()?;
-    talker.close()?;
-    Ok(after.saturating_sub(before))
+    let after = rt.process_cpu_time().expect(rt, "a clock");
+    talker.close(rt);
+    after.saturating_sub(before)
 }
 
 // Each test runs in a process of its own.
@@ -36,7 +37,7 @@ fn an_idle_server_uses_no_processor_time(rt: HostRuntime) -> Result<(), Fail> {
         let client = thread::spawn(&rt, move || used_in_a_second(&rt, alloc, near))?;
         let done = served(&rt, alloc, &mut &far, &mut &far, workers, &Open);
         drop(far);
-        let used = client.join(&rt)?;
+        let used = client.join(&rt);
         assert_eq!(&rt; done.fault, None, "{workers} workers");
         assert!(&rt;
             used < Duration::from_millis(20),

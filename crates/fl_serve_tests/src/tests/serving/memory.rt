@@ -1,13 +1,16 @@
 //! Sessions over memory.
 
-use super::talker::{GETLK, Lock, Messages, READ, SETLK, SETLKW, UNLOCK, WRITE, byte_lock, sorted};
-use super::{is_legal, served};
-use fl_book::print_trace;
-use fl_serve::{Gate, Open, run_one};
+use super::messages::{GETLK, Lock, Messages, READ, SETLK, SETLKW, UNLOCK, WRITE, byte_lock};
+use super::talker::{Reply, sorted};
+use super::{Came, ended, serve_bytes, served};
+use fl_book::{History, print_trace};
+use fl_serve::{Gate, run_one};
 use std::alloc::{AllocError, Global};
+use std::process::Abort;
+use std::sync::Wait;
 use std::sync::atomic::{AtomicBool, Ordering};
 use std::test::Fail;
-use std::thread::yield_now;
+use std::thread::{Threads, yield_now};
 
 // INIT, CREATE, a write lock of bytes 0 to 9 by owner 7, and a read lock of byte 9 by owner 8.
 fn four_messages(alloc: Global) -> Result<Messages, AllocError> {
@@ -28,22 +31,27 @@ fn four_messages(alloc: Global) -> Result<Messages, AllocError> {
 }
 
 // With several workers the locks may come before the CREATE.
+fn answers_once<R: Abort + Threads + Wait + Sync>(
+    rt: &R,
+    alloc: Global,
+    messages: &Messages,
+    workers: u32,
+) {
+    let came = serve_bytes(rt, alloc, &messages.bytes, workers);
+    ended(rt, alloc, &came.done, None, 6, workers);
+    assert!(rt; !came.done.refused, "{workers} workers");
+    let replies = sorted(rt, alloc, &came.out);
+    assert_eq!(rt; replies.len(), 4, "{workers} workers");
+    for (reply, unique) in replies.iter().zip([1, 2, 3, 4]) {
+        assert_eq!(rt; reply.0, unique, "{workers} workers");
+    }
+}
+
 #[test]
 fn each_order_is_answered_once(rt: HostRuntime) -> Result<(), Fail> {
+    let messages = four_messages(rt.alloc())?;
     for workers in [1, 2, 4, 16] {
-        let messages = four_messages(rt.alloc())?;
-        let mut out = Vec::new(rt.alloc());
-        let mut input = messages.bytes.as_slice();
-        let done = served(&rt, rt.alloc(), &mut input, &mut out, workers, &Open);
-        assert_eq!(&rt; done.fault, None, "{workers} workers");
-        assert!(&rt; !done.refused, "{workers} workers");
-        assert_eq!(&rt; done.history.len(), 6, "{workers} workers");
-        assert!(&rt; is_legal(rt.alloc(), &done.history)?, "{workers} workers");
-        let replies = sorted(rt.alloc(), &out)?;
-        assert_eq!(&rt; replies.len(), 4, "{workers} workers");
-        for ((unique, _), want) in replies.iter().zip([1, 2, 3, 4]) {
-            assert_eq!(&rt; *unique, want, "{workers} workers");
-        }
+        answers_once(&rt, rt.alloc(), &messages, workers);
     }
     Ok(())
 }
@@ -60,10 +68,8 @@ tell 4 err 11
 #[test]
 fn one_worker_takes_orders_as_they_came(rt: HostRuntime) -> Result<(), Fail> {
     let messages = four_messages(rt.alloc())?;
-    let mut out = Vec::new(rt.alloc());
-    let mut input = messages.bytes.as_slice();
-    let done = served(&rt, rt.alloc(), &mut input, &mut out, 1, &Open);
-    let trace = print_trace(rt.alloc(), &done.history)?;
+    let came = serve_bytes(&rt, rt.alloc(), &messages.bytes, 1);
+    let trace = print_trace(rt.alloc(), &came.done.history)?;
     assert_eq!(&rt; trace.as_str(), TRACE);
     Ok(())
 }
@@ -83,63 +89,96 @@ fn with_waiters(alloc: Global) -> Result<Messages, AllocError> {
     Ok(messages)
 }
 
+fn are_alike(rt: &impl Abort, found: &History, wanted: &History) {
+    assert_eq!(rt; found.len(), wanted.len());
+    for at in 0..found.len().min(wanted.len()) {
+        assert_eq!(rt; found.line(at), wanted.line(at));
+    }
+}
+
 // What one worker sends and records is what a session without workers sends and records.
 #[test]
 fn one_worker_sends_the_same_bytes(rt: HostRuntime) -> Result<(), Fail> {
     let messages = with_waiters(rt.alloc())?;
-    let mut out = Vec::new(rt.alloc());
-    let mut input = messages.bytes.as_slice();
-    let done = served(&rt, rt.alloc(), &mut input, &mut out, 1, &Open);
+    let Came { done, out } = serve_bytes(&rt, rt.alloc(), &messages.bytes, 1);
     let mut alone = Vec::new(rt.alloc());
     let mut input = messages.bytes.as_slice();
     let wanted = run_one(rt.alloc(), &mut input, &mut alone);
     assert_eq!(&rt; out, alone);
     assert_eq!(&rt; done.fault, None);
-    assert_eq!(&rt; done.history.len(), wanted.history.len());
-    for at in 0..done.history.len().min(wanted.history.len()) {
-        assert_eq!(&rt; done.history.line(at), wanted.history.line(at));
-    }
+    are_alike(&rt, &done.history, &wanted.history);
     Ok(())
 }
 
-// A message whose answer is the same whichever worker is first, and the number of its error.
-fn alike(messages: &mut Messages, unique: u64) -> Result<u32, AllocError> {
+// A lock of an open file that isn't there.
+const NO_FILE: Lock = Lock {
+    fh: 999,
+    owner: 7,
+    start: 0,
+    end: 0,
+    kind: READ,
+};
+
+// A message whose answer is the same whichever worker is first.
+fn alike(messages: &mut Messages, unique: u64) -> Result<(), AllocError> {
     match unique % 6 {
-        0 => messages.getattr(unique, 1).map(|()| 0),
-        1 => messages.lookup(unique, 1).map(|()| 2),
-        2 => messages
-            .lock(
-                SETLK,
-                unique,
-                2,
-                &Lock {
-                    fh: 999,
-                    ..byte_lock(7, READ)
-                },
-            )
-            .map(|()| 9),
-        3 => messages.interrupt(unique, 999).map(|()| 11),
-        4 => messages.create(unique, 0).map(|()| 0),
-        _ => messages.header(40, 15, unique, 1).map(|()| 38),
+        0 => messages.getattr(unique, 1),
+        1 => messages.lookup(unique, 1),
+        2 => messages.lock(SETLK, unique, 2, &NO_FILE),
+        3 => messages.interrupt(unique, 999),
+        4 => messages.create(unique, 0),
+        _ => messages.bare(15, unique, 1),
     }
+}
+
+// The number of its error: ENOENT, EBADF, EAGAIN and ENOSYS, or none.
+fn error_of(unique: u64) -> u32 {
+    match unique % 6 {
+        1 => 2,
+        2 => 9,
+        3 => 11,
+        5 => 38,
+        _ => 0,
+    }
+}
+
+fn six_hundred(alloc: Global) -> Result<Messages, AllocError> {
+    let mut messages = Messages::with_init(alloc)?;
+    for unique in 2..602 {
+        alike(&mut messages, unique)?;
+    }
+    Ok(messages)
+}
+
+// Their replies, and the INIT's before them.
+fn wanted_replies(alloc: Global) -> Result<Vec<Reply>, AllocError> {
+    let mut wanted = Vec::new(alloc);
+    wanted.push((1, 0))?;
+    for unique in 2..602 {
+        wanted.push((unique, error_of(unique)))?;
+    }
+    Ok(wanted)
+}
+
+fn are_answered<R: Abort + Threads + Wait + Sync>(
+    rt: &R,
+    alloc: Global,
+    messages: &Messages,
+    wanted: &[Reply],
+    workers: u32,
+) {
+    let came = serve_bytes(rt, alloc, &messages.bytes, workers);
+    ended(rt, alloc, &came.done, None, 1000, workers);
+    let found = sorted(rt, alloc, &came.out);
+    assert_eq!(rt; found.as_slice(), wanted, "{workers} workers");
 }
 
 #[test]
 fn answers_that_are_alike_for_all_workers(rt: HostRuntime) -> Result<(), Fail> {
-    let mut messages = Messages::with_init(rt.alloc())?;
-    let mut wanted = Vec::new(rt.alloc());
-    wanted.push((1, 0))?;
-    for unique in 2..602 {
-        wanted.push((unique, alike(&mut messages, unique)?))?;
-    }
+    let messages = six_hundred(rt.alloc())?;
+    let wanted = wanted_replies(rt.alloc())?;
     for workers in [1, 2, 4, 16] {
-        let mut out = Vec::new(rt.alloc());
-        let mut input = messages.bytes.as_slice();
-        let done = served(&rt, rt.alloc(), &mut input, &mut out, workers, &Open);
-        assert_eq!(&rt; done.fault, None, "{workers} workers");
-        assert_eq!(&rt; done.history.len(), 1000, "{workers} workers");
-        assert!(&rt; is_legal(rt.alloc(), &done.history)?, "{workers} workers");
-        assert_eq!(&rt; sorted(rt.alloc(), &out)?, wanted, "{workers} workers");
+        are_answered(&rt, rt.alloc(), &messages, &wanted, workers);
     }
     Ok(())
 }
@@ -171,6 +210,13 @@ impl Gate for Crossing {
     }
 }
 
+// The first order is taken last.
+fn has_crossed(rt: &impl Abort, alloc: Global, history: &History) {
+    let trace = print_trace(alloc, history).expect(rt, "memory");
+    assert!(rt; trace.as_str().contains("tell 2 made 3 33188 1 0 0 2"));
+    assert!(rt; trace.as_str().contains("tell 3 made 2 33188 1 0 0 1"));
+}
+
 #[test]
 fn two_workers_run_at_once(rt: HostRuntime) -> Result<(), Fail> {
     let mut messages = Messages::with_init(rt.alloc())?;
@@ -183,11 +229,9 @@ fn two_workers_run_at_once(rt: HostRuntime) -> Result<(), Fail> {
     let mut out = Vec::new(rt.alloc());
     let mut input = messages.bytes.as_slice();
     let done = served(&rt, rt.alloc(), &mut input, &mut out, 2, &gate);
-    assert_eq!(&rt; done.fault, None);
     assert!(&rt; !gate.given_up.load(Ordering::SeqCst));
-    let trace = print_trace(rt.alloc(), &done.history)?;
-    assert!(&rt; trace.as_str().contains("tell 2 made 3 33188 1 0 0 2"));
-    assert!(&rt; trace.as_str().contains("tell 3 made 2 33188 1 0 0 1"));
+    ended(&rt, rt.alloc(), &done, None, 4, 2);
+    has_crossed(&rt, rt.alloc(), &done.history);
     assert_eq!(&rt; out.len(), 400);
     Ok(())
 }

@@ -1,14 +1,17 @@
 //! A long session of mixed orders over a socket.
 
-use super::talker::{GETLK, Lock, Messages, READ, SETLK, SETLKW, UNLOCK, WRITE, read_reply};
+use super::messages::{GETLK, Lock, Messages, READ, SETLK, SETLKW, UNLOCK, WRITE};
+use super::talker::{MOST_BODY, read_reply};
 use super::{asked_in, is_legal, served};
+use fl_book::History;
 use fl_serve::Open;
 use std::alloc::{AllocError, Global};
 use std::io::{BufRead, BufReader, Write};
 use std::net::Shutdown;
 use std::os::unix::net::UnixStream;
+use std::process::Abort;
 use std::test::Fail;
-use std::{io, thread};
+use std::thread;
 
 // How many orders there are, and the unique of the first.
 const ORDERS: u64 = 1_000_000;
@@ -35,48 +38,65 @@ fn asked(unique: u64, kind: u32) -> Lock {
     }
 }
 
+// All 8 bytes, unlocked by the same owner.
+fn all_bytes(unique: u64) -> Lock {
+    Lock {
+        start: 0,
+        end: 7,
+        ..asked(unique, UNLOCK)
+    }
+}
+
 // Whether the order of a unique has exactly one reply. A request that waits may have none, and so may an INTERRUPT.
 fn has_a_reply(unique: u64) -> bool {
     (3..16).contains(&(roll(unique) % 16))
 }
 
+// SETLK, GETLK, LOOKUP or GETATTR, or another order, of the unique's own.
 fn put_order(messages: &mut Messages, unique: u64) -> Result<(), AllocError> {
     match roll(unique) % 16 {
-        0 => messages.lock(SETLKW, unique, 2, &asked(unique, WRITE)),
-        1 => messages.lock(SETLKW, unique, 2, &asked(unique, READ)),
-        2 => messages.interrupt(unique, unique.saturating_sub(roll(unique) / 1024 % 16)),
+        0..3 => put_waiting(messages, unique),
         3..7 => messages.lock(SETLK, unique, 2, &asked(unique, WRITE)),
         7..11 => messages.lock(SETLK, unique, 2, &asked(unique, UNLOCK)),
         11..13 => messages.lock(GETLK, unique, 2, &asked(unique, READ)),
         13 => messages.lookup(unique, roll(unique) / 16 % 2),
-        14 => messages.lock(
-            SETLK,
-            unique,
-            2,
-            &Lock {
-                start: 0,
-                end: 7,
-                ..asked(unique, UNLOCK)
-            },
-        ),
+        14 => messages.lock(SETLK, unique, 2, &all_bytes(unique)),
         _ => messages.getattr(unique, 2),
     }
 }
 
-// Sends INIT, CREATE and all orders, many together.
-fn send_all(alloc: Global, stream: UnixStream) -> io::Result<()> {
-    let mut out = &stream;
-    let mut messages = Messages::with_init(alloc)?;
-    messages.create(2, 0)?;
-    for unique in FIRST..FIRST + ORDERS {
-        put_order(&mut messages, unique)?;
-        if unique % TOGETHER == 0 {
-            out.write_all(&messages.bytes)?;
-            messages.bytes.clear();
+// SETLKW, or an INTERRUPT of one of the orders before.
+fn put_waiting(messages: &mut Messages, unique: u64) -> Result<(), AllocError> {
+    match roll(unique) % 16 {
+        0 => messages.lock(SETLKW, unique, 2, &asked(unique, WRITE)),
+        1 => messages.lock(SETLKW, unique, 2, &asked(unique, READ)),
+        _ => {
+            let other = unique.saturating_sub(roll(unique) / 1024 % 16);
+            messages.interrupt(unique, other)
         }
     }
-    out.write_all(&messages.bytes)?;
-    stream.shutdown(Shutdown::Write)
+}
+
+// So many orders from a unique on.
+fn put_orders(messages: &mut Messages, from: u64, orders: u64) -> Result<(), AllocError> {
+    for unique in from..from.saturating_add(orders) {
+        put_order(messages, unique)?;
+    }
+    Ok(())
+}
+
+// Sends INIT, CREATE and all orders, many together.
+fn send_all(rt: &impl Abort, alloc: Global, stream: UnixStream) {
+    let mut out = &stream;
+    let mut messages = Messages::with_init(alloc).expect(rt, "memory");
+    messages.create(2, 0).expect(rt, "memory");
+    for part in 0..ORDERS / TOGETHER {
+        let from = FIRST + part * TOGETHER;
+        put_orders(&mut messages, from, TOGETHER).expect(rt, "memory");
+        out.write_all(&messages.bytes).expect(rt, "a write");
+        messages.bytes.clear();
+    }
+    stream.shutdown(Shutdown::Write).expect(rt, "a socket");
 }
 
 // How many replies each unique has.
@@ -108,19 +128,34 @@ impl Counted {
 }
 
 // Counts replies up to the stream's end.
-fn count_replies(alloc: Global, stream: UnixStream) -> io::Result<Counted> {
+fn count_replies(rt: &impl Abort, alloc: Global, stream: UnixStream) -> Counted {
+    let of_unique = vec![in alloc; 0; (FIRST + ORDERS) as usize];
     let mut counted = Counted {
-        of_unique: vec![in alloc; 0; (FIRST + ORDERS) as usize]?,
+        of_unique: of_unique.expect(rt, "memory"),
         all: 0,
     };
-    let mut replies = BufReader::with_capacity(alloc, 65_536, stream)?;
+    let mut room = [0; MOST_BODY];
+    let replies = BufReader::with_capacity(alloc, 65_536, stream);
+    let mut replies = replies.expect(rt, "memory");
     for _ in 0..u64::MAX {
-        if replies.fill_buf()?.is_empty() {
+        if replies.fill_buf().expect(rt, "a read").is_empty() {
             break;
         }
-        counted.count(read_reply(&mut replies)?.unique);
+        let reply = read_reply(&mut replies, &mut room).expect(rt, "a reply");
+        counted.count(reply.0);
     }
-    Ok(counted)
+    counted
+}
+
+// The CREATE and all orders are in the history, and each line of it that isn't one of them is a reply. The INIT's reply is
+// no line.
+fn has_all(rt: &impl Abort, alloc: Global, history: &History, counted: &Counted) {
+    assert_eq!(rt; counted.wrong(), 0);
+    let asked = asked_in(rt, alloc, history).len();
+    assert_eq!(rt; asked, 1_000_001);
+    let told = history.len().saturating_sub(asked) as u64;
+    assert_eq!(rt; counted.all, told.saturating_add(1));
+    is_legal(rt, alloc, history);
 }
 
 #[test]
@@ -128,21 +163,13 @@ fn a_million_orders(rt: HostRuntime) -> Result<(), Fail> {
     let alloc = rt.alloc();
     let (near, far) = UnixStream::pair(&rt)?;
     let reads = near.try_clone()?;
-    let sender = thread::spawn(&rt, move || send_all(alloc, near))?;
-    let reader = thread::spawn(&rt, move || count_replies(alloc, reads))?;
+    let sender = thread::spawn(&rt, move || send_all(&rt, alloc, near))?;
+    let reader = thread::spawn(&rt, move || count_replies(&rt, alloc, reads))?;
     let done = served(&rt, alloc, &mut &far, &mut &far, 4, &Open);
     drop(far);
-    sender.join(&rt)?;
-    let counted = reader.join(&rt)?;
+    sender.join(&rt);
+    let counted = reader.join(&rt);
     assert_eq!(&rt; done.fault, None);
-    assert_eq!(&rt; counted.wrong(), 0);
-    let asked = asked_in(&done.history);
-    assert_eq!(&rt; asked, 1_000_001);
-    // The INIT's reply is no line.
-    assert_eq!(&rt;
-        counted.all,
-        (done.history.len().saturating_sub(asked) + 1) as u64
-    );
-    assert!(&rt; is_legal(alloc, &done.history)?);
+    has_all(&rt, alloc, &done.history, &counted);
     Ok(())
 }

@@ -1,0 +1,120 @@
+//! Messages that are laid out from their fields. The layouts are those of `fuse.h` (protocol 7.31).
+
+use std::alloc::{AllocError, Global};
+
+// Opcodes of messages about locks.
+pub(super) const GETLK: u32 = 31;
+
+pub(super) const SETLK: u32 = 32;
+
+pub(super) const SETLKW: u32 = 33;
+
+// Types of locks.
+pub(super) const READ: u32 = 0;
+
+pub(super) const WRITE: u32 = 1;
+
+pub(super) const UNLOCK: u32 = 2;
+
+/// What a message about a lock asks, of the bytes `start` to `end`.
+#[derive(Clone, Copy)]
+pub(super) struct Lock {
+    pub fh: u64,
+    pub owner: u64,
+    pub start: u64,
+    pub end: u64,
+    pub kind: u32,
+}
+
+/// A lock of byte 0 through the first fh.
+pub(super) fn byte_lock(owner: u64, kind: u32) -> Lock {
+    Lock {
+        fh: 1,
+        owner,
+        start: 0,
+        end: 0,
+        kind,
+    }
+}
+
+/// Messages, one behind the other.
+#[derive(Drop)]
+pub(super) struct Messages {
+    pub bytes: Vec<u8>,
+}
+
+// Two numbers of 4 bytes, the first of which stands first.
+fn pair(first: u32, second: u32) -> u64 {
+    u64::from(second) << 32 | u64::from(first)
+}
+
+impl Messages {
+    pub(super) fn new(alloc: Global) -> Messages {
+        Messages {
+            bytes: Vec::new(alloc),
+        }
+    }
+
+    /// An INIT at 7.31, of the unique 1.
+    pub(super) fn with_init(alloc: Global) -> Result<Messages, AllocError> {
+        let mut messages = Messages::new(alloc);
+        messages.longs(&[pair(56, 26), 1, 0, 0, 0, pair(7, 31), 0])?;
+        Ok(messages)
+    }
+
+    fn longs(&mut self, longs: &[u64]) -> Result<(), AllocError> {
+        for long in longs {
+            self.bytes.extend_from_slice(&long.to_le_bytes())?;
+        }
+        Ok(())
+    }
+
+    // A name of two letters for each number below 256.
+    fn name(&mut self, name: u64) -> Result<(), AllocError> {
+        let low = (name & 15) as u8;
+        let high = (name >> 4 & 15) as u8;
+        self.bytes.extend_from_slice(&[b'a' + high, b'a' + low, 0])
+    }
+
+    /// A message without a body. Its uid, gid, pid and padding are 0, as those of the messages below.
+    pub(super) fn bare(&mut self, opcode: u32, unique: u64, node: u64) -> Result<(), AllocError> {
+        self.longs(&[pair(40, opcode), unique, node, 0, 0])
+    }
+
+    /// LOOKUP in the root.
+    pub(super) fn lookup(&mut self, unique: u64, name: u64) -> Result<(), AllocError> {
+        self.longs(&[pair(43, 1), unique, 1, 0, 0])?;
+        self.name(name)
+    }
+
+    pub(super) fn getattr(&mut self, unique: u64, node: u64) -> Result<(), AllocError> {
+        self.longs(&[pair(56, 3), unique, node, 0, 0, 0, 0])
+    }
+
+    /// CREATE in the root.
+    pub(super) fn create(&mut self, unique: u64, name: u64) -> Result<(), AllocError> {
+        self.longs(&[pair(59, 35), unique, 1, 0, 0, pair(0, 0o100_644), 0])?;
+        self.name(name)
+    }
+
+    /// GETLK, SETLK or SETLKW, with the pid 11.
+    pub(super) fn lock(
+        &mut self,
+        opcode: u32,
+        unique: u64,
+        node: u64,
+        lock: &Lock,
+    ) -> Result<(), AllocError> {
+        self.longs(&[pair(88, opcode), unique, node, 0, 0, lock.fh, lock.owner])?;
+        self.longs(&[lock.start, lock.end, pair(lock.kind, 11), 0])
+    }
+
+    /// INTERRUPT of another unique.
+    pub(super) fn interrupt(&mut self, unique: u64, other: u64) -> Result<(), AllocError> {
+        self.longs(&[pair(48, 36), unique, 0, 0, 0, other])
+    }
+
+    pub(super) fn destroy(&mut self, unique: u64) -> Result<(), AllocError> {
+        self.bare(38, unique, 0)
+    }
+}
