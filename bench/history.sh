@@ -11,10 +11,11 @@ work=$(mktemp -d)
 trap 'rm -rf "$work"' EXIT
 build() {
     mkdir -p "$work/$2/crates/history_bench/src" "$work/$2/crates/history_bench/specs" "$work/$2/crates/history_bench/proofs"
-    for crate in fl_arena fl_ranges fl_dir fl_wire fl_core fl_book; do
+    # an older tree has the history and its text in fl_book
+    grep -E '^fl_(wire|arena|ranges|dir|core|history|trace|book)( [a-z_=A-Z0-9+]*)*:' "$1/crates.txt" > "$work/$2/crates.txt"
+    for crate in $(sed 's/[ :].*//' "$work/$2/crates.txt"); do
         cp -a "$1/crates/$crate" "$work/$2/crates/"
     done
-    grep -E '^fl_(wire|arena|ranges|dir|core|book)( [a-z_=A-Z0-9+]*)*:' "$1/crates.txt" > "$work/$2/crates.txt"
     echo 'history_bench: fl_book fl_core fl_wire anyhow' >> "$work/$2/crates.txt"
     cp "$top/bench/history_bench.rs" "$work/$2/crates/history_bench/src/main.rt"
     (cd "$work/$2/crates/history_bench" && rt run < /dev/null > /dev/null)
