@@ -54,3 +54,21 @@ tell 1002 err 2
 ";
     is_legal(&rt, rt.alloc(), 46, &[orders]);
 }
+
+// A lock is told whole, and not the bytes alone that were asked for (POSIX.1-2017 `fcntl`, F_GETLK).
+#[test]
+fn getlk_tells_a_lock_past_the_bytes_asked_for(rt: HostRuntime) {
+    let orders = "\
+ask 0 1 1 5 6 0 create 1 420 61
+tell 1 made 2 33188 1 5 6 1
+ask 0 2 2 5 6 0 setlk 1 7 2 8 1 7 0
+tell 2 ok
+ask 0 3 2 5 6 0 getlk 1 8 4 5 0 8 0
+tell 3 lock 2 8 1 7
+ask 0 4 2 5 6 0 getlk 1 8 0 2 1 8 0
+tell 4 lock 2 8 1 7
+ask 0 5 2 5 6 0 getlk 1 8 8 99 1 8 0
+tell 5 lock 2 8 1 7
+";
+    is_legal(&rt, rt.alloc(), 10, &[orders]);
+}

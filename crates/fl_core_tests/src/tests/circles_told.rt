@@ -1,46 +1,68 @@
 //! Circles that a request would close, told without an order.
 
-use super::Server;
 use super::circles::WITH_FILES;
 use super::circles_cut::WITH_THREE;
+use super::{Server, history_of};
 use fl_ranges::{Class, Kind};
+use std::alloc::Global;
 use std::process::Abort;
+
+// Whether a request of the owner for byte 0 of the node would close one, of either kind. None for the whole file would.
+fn check_closer(rt: &impl Abort, server: &Server, owner: u64, node: u64, wanted: bool) {
+    let write = server.closes(Class::Record, owner, node, Kind::Write);
+    let read = server.closes(Class::Record, owner, node, Kind::Read);
+    assert_eq!(rt; write, wanted, "owner {owner} on node {node}");
+    assert_eq!(rt; read, wanted, "owner {owner} on node {node}");
+    assert!(rt; !server.closes(Class::Flock, owner, node, Kind::Write));
+}
 
 // Of the owners from 6 to 10 those whose request would close one are these.
 fn check_closers(rt: &impl Abort, server: &Server, node: u64, closers: &[u64]) {
     for owner in 6..11u64 {
-        let wanted = closers.contains(&owner);
-        let write = server.closes(Class::Record, owner, node, Kind::Write);
-        let read = server.closes(Class::Record, owner, node, Kind::Read);
-        assert_eq!(rt; write, wanted, "owner {owner} on node {node}");
-        assert_eq!(rt; read, wanted, "owner {owner} on node {node}");
-        assert!(rt; !server.closes(Class::Flock, owner, node, Kind::Write));
+        check_closer(rt, server, owner, node, closers.contains(&owner));
     }
 }
 
-// The same for each of the nodes from 2 on, and for one that isn't there.
-fn check_all(rt: &impl Abort, server: &Server, second: &[u64], third: &[u64], fourth: &[u64]) {
-    check_closers(rt, server, 2, second);
-    check_closers(rt, server, 3, third);
-    check_closers(rt, server, 4, fourth);
-    check_closers(rt, server, 5, &[]);
+// After these orders the closers of nodes 2, 3 and 4 are these. Node 5 isn't there.
+fn check_all(
+    rt: &impl Abort,
+    alloc: Global,
+    orders: &str,
+    second: &[u64],
+    third: &[u64],
+    fourth: &[u64],
+) {
+    let mut server = Server::new(rt, alloc);
+    server.follow(
+        rt,
+        &history_of(rt, alloc, &[WITH_FILES, WITH_THREE, orders]),
+    );
+    check_closers(rt, &server, 2, second);
+    check_closers(rt, &server, 3, third);
+    check_closers(rt, &server, 4, fourth);
+    check_closers(rt, &server, 5, &[]);
 }
 
 #[test]
 fn circles_are_told_without_an_order(rt: HostRuntime) {
-    let cut = "\
+    check_all(&rt, rt.alloc(), "", &[8, 9], &[9], &[]);
+}
+
+#[test]
+fn a_circle_is_told_no_more_once_it_is_cut(rt: HostRuntime) {
+    let orders = "\
 ask 0 20 2 5 6 0 interrupt 17
 tell 17 err 4
 ";
-    let waits = "\
+    check_all(&rt, rt.alloc(), orders, &[], &[9], &[]);
+}
+
+#[test]
+fn a_request_that_waits_instead_closes_circles_of_others(rt: HostRuntime) {
+    let orders = "\
+ask 0 20 2 5 6 0 interrupt 17
+tell 17 err 4
 ask 0 21 2 5 6 0 setlkw 1 9 0 0 1 9 0
 ";
-    let mut server = Server::new(&rt, rt.alloc());
-    server.goes_on(&rt, rt.alloc(), WITH_FILES);
-    server.goes_on(&rt, rt.alloc(), WITH_THREE);
-    check_all(&rt, &server, &[8, 9], &[9], &[]);
-    server.goes_on(&rt, rt.alloc(), cut);
-    check_all(&rt, &server, &[], &[9], &[]);
-    server.goes_on(&rt, rt.alloc(), waits);
-    check_all(&rt, &server, &[], &[7, 9], &[7]);
+    check_all(&rt, rt.alloc(), orders, &[], &[7, 9], &[7]);
 }
