@@ -1,12 +1,11 @@
 //! Bodies of other lengths, and flags that are read or not.
 
-use super::messages::RELEASE;
 use super::{message, same, whole};
 use fl_wire::{Errno, Op, Refusal, read_order};
 use std::process::Abort;
 use std::test::Fail;
 
-// Whether a RELEASE with these flags and release_flags drops the owner's whole-file lock.
+// Whether a RELEASE of fh 261 by owner 7 with these flags and release_flags drops the owner's whole-file lock.
 fn drops(
     rt: &(impl Abort + AllocGlobal),
     flags: u32,
@@ -14,10 +13,10 @@ fn drops(
     drop: bool,
 ) -> Result<(), Fail> {
     let mut body = Vec::new(rt.alloc());
-    body.extend_from_slice(&RELEASE[40..48])?;
+    body.extend_from_slice(&[5, 1, 0, 0, 0, 0, 0, 0])?;
     body.extend_from_slice(&u32::to_le_bytes(flags))?;
     body.extend_from_slice(&u32::to_le_bytes(release_flags))?;
-    body.extend_from_slice(&RELEASE[56..])?;
+    body.extend_from_slice(&[7, 0, 0, 0, 0, 0, 0, 0])?;
     let bytes = message(rt.alloc(), 18, &body)?;
     let order = read_order(&whole(rt, &bytes)).ok().ok_or("an order")?;
     let op = Op::Release {

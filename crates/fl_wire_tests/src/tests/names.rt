@@ -27,7 +27,8 @@ fn name_asked(
     bytes: &[u8],
 ) -> Result<Name, Fail> {
     let op = asked(rt, opcode, fields, bytes)?.ok().ok_or("an order")?;
-    match op.parts().1 {
+    let (_, body) = op.parts();
+    match body {
         Body::Name(found) | Body::Create { name: found, .. } => Ok(found),
         _ => Err(Fail::from("no name")),
     }

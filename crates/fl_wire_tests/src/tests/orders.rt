@@ -39,7 +39,9 @@ fn name() -> Result<Name, Fail> {
 
 // The order has these parts, and they make the order.
 fn has_parts(rt: &impl Abort, op: Op, kind: Kind, body: Body) {
-    same(rt, &op.parts(), &(kind, body));
+    let (own_kind, own_body) = op.parts();
+    same(rt, &own_kind, &kind);
+    same(rt, &own_body, &body);
     same(rt, &Op::of(kind, body), &Some(op));
 }
 
