@@ -11,7 +11,10 @@ mod serve;
 use fl_testing::{bytes_after, lines_after};
 use lockd_commands::{Status, bytes_on, check_on, script_on};
 use std::alloc::Global;
+use std::path::PathBuf;
 use std::process::Abort;
+use std::test::Fail;
+use std::{env, process};
 
 // A command that reads one text and writes another.
 #[derive(Clone, Copy)]
@@ -119,31 +122,42 @@ fn marked(rt: &impl Abort, alloc: Global, before: &str, case: &str, mark: &str) 
 }
 
 // The bytes that lines of hex spell.
-fn spelled(rt: &impl Abort, alloc: Global, lines: &[&str]) -> Vec<u8> {
-    let text = lines.concat(alloc).expect(rt, "memory");
-    bytes_after(alloc, &text, "").expect(rt, "hex")
+fn spelled(rt: &impl Abort, alloc: Global, lines: &str) -> Vec<u8> {
+    bytes_after(alloc, lines, "").expect(rt, "hex")
 }
 
-// Each row has words and a bad line, with `|` between them. Says how many rows there are.
+// Each row has words and a bad line, with `|` between them. The line is the first or the third of a text, whose others are
+// good or come behind it. Says how many rows there are.
 fn refuse_lines(rt: &impl Abort, alloc: Global, command: Command, good: &str, rows: &str) -> usize {
     let mut count = 0usize;
     for row in rows.split('\n') {
         if let Some((what, line)) = row.split_once('|') {
-            refuse_line(rt, alloc, command, what, [good, line]);
+            let first = [line, "\n", good];
+            refuse(rt, alloc, command, what, &first, "bad line 1\n");
+            let third = [good, good, line, "\nzz\n"];
+            refuse(rt, alloc, command, what, &third, "bad line 3\n");
             count = count.saturating_add(1);
         }
     }
     count
 }
 
-// The line is the first or the third of a text, whose others are good or come behind it, and no more than that is told.
-fn refuse_line(rt: &impl Abort, alloc: Global, command: Command, what: &str, lines: [&str; 2]) {
-    let [good, line] = lines;
-    let first = [line, "\n", good].concat(alloc).expect(rt, "memory");
-    let came = run(command, alloc, first.as_bytes());
-    is(rt, what, &came, "", "bad line 1\n");
-    let third = [good, good, line, "\nzz\n"].concat(alloc);
-    let third = third.expect(rt, "memory");
-    let came = run(command, alloc, third.as_bytes());
-    is(rt, what, &came, "", "bad line 3\n");
+// A text of these parts, of which no more than this is told.
+fn refuse(
+    rt: &impl Abort,
+    alloc: Global,
+    command: Command,
+    what: &str,
+    parts: &[&str],
+    told: &str,
+) {
+    let text = parts.concat(alloc).expect(rt, "memory");
+    let came = run(command, alloc, text.as_bytes());
+    is(rt, what, &came, "", told);
+}
+
+// A path of this process's own. Each test runs in a process of its own.
+fn own_path(rt: &HostRuntime) -> Result<PathBuf, Fail> {
+    let name = format!(in rt.alloc(); "lockd-test-{}", process::id(rt.process()))?;
+    Ok(env::temp_dir(rt)?.join(rt.alloc(), name.as_str())?)
 }

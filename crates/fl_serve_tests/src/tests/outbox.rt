@@ -2,38 +2,42 @@
 
 use fl_serve::{Broken, Outbox};
 use fl_testing::Sink;
+use std::alloc::Global;
 use std::process::Abort;
 
-const REPLIES: [&[u8]; 4] = [
-    b"sixteen bytes ok",
-    b"and ten ok",
-    b"not all of this",
-    b"nor this",
-];
+type Out<'a> = Outbox<&'a mut Sink>;
 
-// What a writer holds that takes six pieces of at most 7 bytes, and then fails or takes nothing, once so many replies
-// were sent to it, of which two go out whole.
-fn holds(rt: &impl Abort, sink: &mut Sink, replies: usize, held: &[u8]) {
-    let mut outbox = Outbox::new(&mut *sink);
-    for (at, reply) in REPLIES.iter().take(replies).enumerate() {
-        let sent = if at < 2 { Ok(()) } else { Err(Broken) };
-        assert_eq!(rt; outbox.send(reply), sent, "{at}");
-    }
-    assert_eq!(rt; sink.held.as_slice(), held, "{replies} replies");
+fn sends(rt: &impl Abort, outbox: &mut Out<'_>, reply: &[u8], sent: Result<(), Broken>) {
+    assert_eq!(rt; outbox.send(reply), sent);
 }
 
-// Two replies go out whole. The third breaks after its first piece, and nothing of the fourth goes out.
+// A writer that takes six pieces of at most 7 bytes, and then fails or takes nothing: two replies go out whole.
+fn two_replies(rt: &impl Abort, alloc: Global, fails: bool) {
+    let mut sink = Sink::new(alloc, 7, 6, fails);
+    let mut outbox = Outbox::new(&mut sink);
+    sends(rt, &mut outbox, b"sixteen bytes ok", Ok(()));
+    sends(rt, &mut outbox, b"and ten ok", Ok(()));
+    let held = b"sixteen bytes okand ten ok".as_slice();
+    assert_eq!(rt; sink.held.as_slice(), held);
+}
+
+// The third breaks after its first piece, and nothing of the fourth goes out.
+fn four_replies(rt: &impl Abort, alloc: Global, fails: bool) {
+    let mut sink = Sink::new(alloc, 7, 6, fails);
+    let mut outbox = Outbox::new(&mut sink);
+    sends(rt, &mut outbox, b"sixteen bytes ok", Ok(()));
+    sends(rt, &mut outbox, b"and ten ok", Ok(()));
+    sends(rt, &mut outbox, b"not all of this", Err(Broken));
+    sends(rt, &mut outbox, b"nor this", Err(Broken));
+    let held = b"sixteen bytes okand ten oknot all".as_slice();
+    assert_eq!(rt; sink.held.as_slice(), held);
+}
+
 #[test]
 fn two_replies_and_a_broken_one(rt: HostRuntime) {
     for fails in [true, false] {
-        for (replies, held) in [
-            (2, b"sixteen bytes okand ten ok".as_slice()),
-            (3, b"sixteen bytes okand ten oknot all"),
-            (4, b"sixteen bytes okand ten oknot all"),
-        ] {
-            let mut sink = Sink::new(rt.alloc(), 7, 6, fails);
-            holds(&rt, &mut sink, replies, held);
-        }
+        two_replies(&rt, rt.alloc(), fails);
+        four_replies(&rt, rt.alloc(), fails);
     }
 }
 
@@ -42,8 +46,8 @@ fn two_replies_and_a_broken_one(rt: HostRuntime) {
 fn a_reply_of_no_bytes(rt: HostRuntime) {
     let mut sink = Sink::new(rt.alloc(), 7, 0, true);
     let mut outbox = Outbox::new(&mut sink);
-    assert_eq!(&rt; outbox.send(b""), Ok(()));
-    assert_eq!(&rt; outbox.send(b"a reply"), Err(Broken));
-    assert_eq!(&rt; outbox.send(b""), Err(Broken));
+    sends(&rt, &mut outbox, b"", Ok(()));
+    sends(&rt, &mut outbox, b"a reply", Err(Broken));
+    sends(&rt, &mut outbox, b"", Err(Broken));
     assert!(&rt; sink.held.is_empty());
 }

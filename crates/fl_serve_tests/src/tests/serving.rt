@@ -1,5 +1,7 @@
 //! Sessions with workers, over memory and over sockets.
 
+ghost use Rattle.std.specs.Prelude.{◌<◌, ◌≤◌};
+
 mod bursts;
 mod each_order;
 mod ends;
@@ -23,7 +25,18 @@ use std::sync::Wait;
 use std::thread::Threads;
 use talker::sorted;
 
-// Serves with this many workers, of which there are 1 to 16.
+// So many workers, of which there are 1 to 16.
+fn of_workers(workers: u32) -> u32
+    ensures { (0 < result) × (result ≤ 16) }
+{
+    if workers == 0 || workers > 16 {
+        1
+    } else {
+        workers
+    }
+}
+
+// Serves with this many workers.
 fn served<R: Threads + Wait + Sync, I: Read, W: Write + Send + Drop, G: Gate + Sync>(
     rt: &R,
     alloc: Global,
@@ -32,12 +45,7 @@ fn served<R: Threads + Wait + Sync, I: Read, W: Write + Send + Drop, G: Gate + S
     workers: u32,
     gate: &G,
 ) -> Done {
-    let workers = if workers == 0 || workers > 16 {
-        1
-    } else {
-        workers
-    };
-    serve(rt, alloc, r, w, workers, gate)
+    serve(rt, alloc, r, w, of_workers(workers), gate)
 }
 
 // What a session over memory came to, and all its replies.

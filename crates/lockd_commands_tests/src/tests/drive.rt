@@ -1,24 +1,18 @@
 //! Clients of `lockd drive`.
 
+mod cases;
 mod lines;
 mod replies;
 mod servers;
 mod sessions;
 
-use super::Came;
+use super::{Came, own_path};
 use fl_testing::Newlines;
 use lockd_commands::{Fault, Status, drive_on};
 use std::alloc::AllocGlobal;
 use std::net::Net;
-use std::path::{Path, PathBuf};
+use std::path::Path;
 use std::test::Fail;
-use std::{env, process};
-
-// A path of this process's own. Each test runs in a process of its own.
-fn own_path(rt: &HostRuntime) -> Result<PathBuf, Fail> {
-    let name = format!(in rt.alloc(); "lockd-drive-{}", process::id(rt.process()))?;
-    Ok(env::temp_dir(rt)?.join(rt.alloc(), name.as_str())?)
-}
 
 // What the command does at a path with the lines of a text.
 fn drive(rt: &(impl Net + AllocGlobal), path: Path<'_>, text: &[u8]) -> Came {

@@ -1,26 +1,20 @@
 //! Sessions that `lockd serve` serves at a path.
 
 use super::bytes::sessions::{init, init_reply, two_locks};
-use super::{Came, Command, is, marked, run, spelled};
+use super::{Came, Command, is, marked, own_path, run, spelled};
 use lockd_commands::serve_on;
 use std::alloc::{AllocGlobal, Global};
 use std::fs::Files;
 use std::io::{Read, Write};
 use std::net::{Net, Shutdown};
 use std::os::unix::net::{UnixListener, UnixStream};
-use std::path::{Path, PathBuf};
+use std::path::Path;
 use std::process::Abort;
 use std::sync::Wait;
 use std::test::Fail;
 use std::thread::Threads;
 use std::time::{Clock, Duration};
-use std::{env, fs, process, thread};
-
-// A path of this process's own. Each test runs in a process of its own.
-fn own_path(rt: &HostRuntime) -> Result<PathBuf, Fail> {
-    let name = format!(in rt.alloc(); "lockd-serve-{}", process::id(rt.process()))?;
-    Ok(env::temp_dir(rt)?.join(rt.alloc(), name.as_str())?)
-}
+use std::{fs, thread};
 
 fn serve<R: Threads + Wait + Net + Files + AllocGlobal + Sync>(
     rt: &R,
@@ -66,14 +60,15 @@ fn talk<R: Net + Clock>(rt: &R, alloc: Global, path: Path<'_>, bytes: &[u8]) -> 
 
 // What the client of the worked session with two locks sends, and bytes behind it.
 fn two_locks_and(rt: &impl Abort, alloc: Global, behind: &str) -> Vec<u8> {
-    let asked = marked(rt, alloc, init(), two_locks(), "> ");
-    spelled(rt, alloc, &[&asked, behind])
+    let mut text = marked(rt, alloc, init(), two_locks(), "> ");
+    text.push_str(behind).expect(rt, "memory");
+    spelled(rt, alloc, &text)
 }
 
 // The client got all replies of that session.
 fn has_replies(rt: &impl Abort, alloc: Global, replies: &[u8]) {
     let lines = marked(rt, alloc, init_reply(), two_locks(), "< ");
-    let wanted = spelled(rt, alloc, &[&lines]);
+    let wanted = spelled(rt, alloc, &lines);
     assert_eq!(rt; replies, wanted.as_slice());
 }
 

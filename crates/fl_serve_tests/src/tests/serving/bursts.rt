@@ -64,10 +64,10 @@ fn send_bursts(rt: &impl Abort, alloc: Global, stream: UnixStream, size: u32) {
 }
 
 fn has_met(rt: &impl Abort, done: &Done, gate: &Meeting, workers: u32) {
-    assert_eq!(rt; done.fault, None, "{workers} workers");
-    assert!(rt; !gate.given_up.load(Ordering::SeqCst), "{workers} workers");
+    assert!(rt; !gate.given_up.load(Ordering::SeqCst));
+    assert_eq!(rt; done.fault, None);
     let lines = (workers as usize).saturating_mul(200);
-    assert_eq!(rt; done.history.len(), lines, "{workers} workers");
+    assert_eq!(rt; done.history.len(), lines);
 }
 
 #[test]

@@ -60,7 +60,7 @@ impl Gate for Late<'_> {
 fn waits_for_all<R: Abort + Threads + Wait + Sync>(
     rt: &R,
     alloc: Global,
-    messages: &Messages,
+    messages: Messages,
     workers: u32,
 ) {
     let all_read = AtomicBool::new(false);
@@ -86,10 +86,10 @@ fn waits_for_all<R: Abort + Threads + Wait + Sync>(
 
 #[test]
 fn destroy_waits_for_orders_that_are_held_up(rt: HostRuntime) -> Result<(), Fail> {
-    let mut messages = twenty_orders(rt.alloc())?;
-    messages.destroy(22)?;
     for workers in [1, 4, 16] {
-        waits_for_all(&rt, rt.alloc(), &messages, workers);
+        let mut messages = twenty_orders(rt.alloc())?;
+        messages.destroy(22)?;
+        waits_for_all(&rt, rt.alloc(), messages, workers);
     }
     Ok(())
 }

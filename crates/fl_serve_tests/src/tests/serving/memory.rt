@@ -40,11 +40,16 @@ fn answers_once<R: Abort + Threads + Wait + Sync>(
     let came = serve_bytes(rt, alloc, &messages.bytes, workers);
     ended(rt, alloc, &came.done, None, 6, workers);
     assert!(rt; !came.done.refused, "{workers} workers");
-    let replies = sorted(rt, alloc, &came.out);
-    assert_eq!(rt; replies.len(), 4, "{workers} workers");
-    for (reply, unique) in replies.iter().zip([1, 2, 3, 4]) {
-        assert_eq!(rt; reply.0, unique, "{workers} workers");
+    are_one_to_four(rt, &sorted(rt, alloc, &came.out));
+}
+
+fn are_one_to_four(rt: &impl Abort, replies: &[Reply]) {
+    let mut unique = 0u64;
+    for reply in replies {
+        unique = unique.wrapping_add(1);
+        assert_eq!(rt; reply.0, unique);
     }
+    assert_eq!(rt; unique, 4);
 }
 
 #[test]
@@ -65,27 +70,41 @@ ask 0 4 2 0 0 0 setlk 1 8 9 9 0 11 0
 tell 4 err 11
 ";
 
+fn has_trace(rt: &impl Abort, alloc: Global, history: &History, wanted: &str) {
+    let trace = print_trace(alloc, history).expect(rt, "memory");
+    assert_eq!(rt; trace.as_str(), wanted);
+}
+
 #[test]
 fn one_worker_takes_orders_as_they_came(rt: HostRuntime) -> Result<(), Fail> {
     let messages = four_messages(rt.alloc())?;
     let came = serve_bytes(&rt, rt.alloc(), &messages.bytes, 1);
-    let trace = print_trace(rt.alloc(), &came.done.history)?;
-    assert_eq!(&rt; trace.as_str(), TRACE);
+    has_trace(&rt, rt.alloc(), &came.done.history, TRACE);
     Ok(())
+}
+
+// Ten requests that wait, of which the third is interrupted.
+fn wait(messages: &mut Messages) -> Result<(), AllocError> {
+    for unique in 5..15 {
+        messages.lock(SETLKW, unique, 2, &byte_lock(unique | 64, WRITE))?;
+    }
+    messages.interrupt(15, 7)?;
+    messages.interrupt(16, 99)
+}
+
+// Unlocks by which others are granted, and DESTROY.
+fn unlock(messages: &mut Messages) -> Result<(), AllocError> {
+    messages.lock(GETLK, 17, 2, &byte_lock(8, WRITE))?;
+    messages.lock(SETLK, 18, 2, &byte_lock(7, UNLOCK))?;
+    messages.lock(SETLK, 19, 2, &byte_lock(69, UNLOCK))?;
+    messages.destroy(20)
 }
 
 // INIT, CREATE, and requests that wait, are interrupted, and are granted.
 fn with_waiters(alloc: Global) -> Result<Messages, AllocError> {
     let mut messages = four_messages(alloc)?;
-    for unique in 5..15 {
-        messages.lock(SETLKW, unique, 2, &byte_lock(unique | 64, WRITE))?;
-    }
-    messages.interrupt(15, 7)?;
-    messages.interrupt(16, 99)?;
-    messages.lock(GETLK, 17, 2, &byte_lock(8, WRITE))?;
-    messages.lock(SETLK, 18, 2, &byte_lock(7, UNLOCK))?;
-    messages.lock(SETLK, 19, 2, &byte_lock(69, UNLOCK))?;
-    messages.destroy(20)?;
+    wait(&mut messages)?;
+    unlock(&mut messages)?;
     Ok(messages)
 }
 
@@ -217,11 +236,16 @@ fn has_crossed(rt: &impl Abort, alloc: Global, history: &History) {
     assert!(rt; trace.as_str().contains("tell 3 made 2 33188 1 0 0 1"));
 }
 
-#[test]
-fn two_workers_run_at_once(rt: HostRuntime) -> Result<(), Fail> {
-    let mut messages = Messages::with_init(rt.alloc())?;
+fn two_files(alloc: Global) -> Result<Messages, AllocError> {
+    let mut messages = Messages::with_init(alloc)?;
     messages.create(2, 0)?;
     messages.create(3, 1)?;
+    Ok(messages)
+}
+
+#[test]
+fn two_workers_run_at_once(rt: HostRuntime) -> Result<(), Fail> {
+    let messages = two_files(rt.alloc())?;
     let gate = Crossing {
         sent: AtomicBool::new(false),
         given_up: AtomicBool::new(false),

@@ -71,8 +71,8 @@ impl Messages {
 
     // A name of two letters for each number below 256.
     fn name(&mut self, name: u64) -> Result<(), AllocError> {
-        let low = (name & 15) as u8;
-        let high = (name >> 4 & 15) as u8;
+        let low = (name % 16) as u8;
+        let high = (name / 16 % 16) as u8;
         self.bytes.extend_from_slice(&[b'a' + high, b'a' + low, 0])
     }
 

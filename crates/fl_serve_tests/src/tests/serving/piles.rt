@@ -57,16 +57,15 @@ fn read_late<R: Abort + Clock>(
     let most = Some(Duration::from_secs(20));
     stream.set_read_timeout(most).expect(rt, "a socket");
     let mut reads = BufReader::new(alloc, stream).expect(rt, "memory");
-    let replies = read_replies(alloc, &mut reads).expect(rt, "whole replies");
-    (before, replies.len())
+    (before, read_replies(rt, alloc, &mut reads).len())
 }
 
 // Some orders went out before any reply was read, and not all; all have a reply.
-fn has_piled_up(rt: &impl Abort, done: &Done, before: u64, replies: usize, workers: u32) {
-    assert!(rt; 0 < before && before < MANY, "{workers} workers: {before}");
-    assert_eq!(rt; replies, 10_001, "{workers} workers");
-    assert_eq!(rt; done.fault, None, "{workers} workers");
-    assert_eq!(rt; done.history.len(), 20_000, "{workers} workers");
+fn has_piled_up(rt: &impl Abort, done: &Done, before: u64, replies: usize) {
+    assert!(rt; 0 < before && before < MANY, "{before}");
+    assert_eq!(rt; replies, 10_001);
+    assert_eq!(rt; done.fault, None);
+    assert_eq!(rt; done.history.len(), 20_000);
 }
 
 #[test]
@@ -74,16 +73,18 @@ fn replies_pile_up(rt: HostRuntime) -> Result<(), Fail> {
     let alloc = rt.alloc();
     for workers in [1, 4] {
         let (near, far) = UnixStream::pair(&rt)?;
-        let sent = Arc::new(alloc, AtomicU64::new(0))?;
-        let seen = Arc::try_clone(&sent)?;
-        let reads = near.try_clone()?;
-        let sender = thread::spawn(&rt, move || send_many(&rt, alloc, near, sent))?;
-        let reader = thread::spawn(&rt, move || read_late(&rt, alloc, reads, seen))?;
+        let sent = Arc::new(alloc, AtomicU64::new(0)).expect(&rt, "memory");
+        let seen = Arc::try_clone(&sent).expect(&rt, "memory");
+        let reads = near.try_clone().expect(&rt, "a socket");
+        let sender = thread::spawn(&rt, move || send_many(&rt, alloc, near, sent));
+        let reader = thread::spawn(&rt, move || read_late(&rt, alloc, reads, seen));
+        let sender = sender.ok().expect(&rt, "a thread");
+        let reader = reader.ok().expect(&rt, "a thread");
         let done = served(&rt, alloc, &mut &far, &mut &far, workers, &Open);
         drop(far);
         sender.join(&rt);
         let (before, replies) = reader.join(&rt);
-        has_piled_up(&rt, &done, before, replies, workers);
+        has_piled_up(&rt, &done, before, replies);
     }
     Ok(())
 }

@@ -3,7 +3,7 @@
 use super::messages::{GETLK, Lock, READ, SETLK, UNLOCK, WRITE, byte_lock};
 use super::talker::{Talker, long_at, word_at};
 use super::{ended, served};
-use fl_serve::Open;
+use fl_serve::{Done, Open};
 use std::alloc::Global;
 use std::os::unix::net::UnixStream;
 use std::process::Abort;
@@ -15,7 +15,8 @@ fn make(rt: &impl Abort, talker: &mut Talker, name: u64) -> (u64, u64) {
     let mut create = talker.messages();
     create.create(2, name).expect(rt, "memory");
     talker.ask(rt, &create, 2);
-    (long_at(&talker.body, 0), long_at(&talker.body, 128))
+    let made = talker.body.as_slice();
+    (long_at(made, 0), long_at(made, 128))
 }
 
 // Sets a write lock of bytes 0 to 9 by owner 7, and asks for a read lock of the same by owner 8.
@@ -81,6 +82,12 @@ fn one_at_a_time(rt: &impl Abort, alloc: Global, stream: UnixStream) -> usize {
     talker.rest(rt)
 }
 
+fn has_all_replies(rt: &impl Abort, done: &Done, behind: usize) {
+    assert_eq!(rt; behind, 0);
+    assert_eq!(rt; done.fault, None);
+    assert_eq!(rt; done.history.len(), 20_002);
+}
+
 #[test]
 fn no_reply_stays_behind(rt: HostRuntime) -> Result<(), Fail> {
     let alloc = rt.alloc();
@@ -89,9 +96,7 @@ fn no_reply_stays_behind(rt: HostRuntime) -> Result<(), Fail> {
         let client = thread::spawn(&rt, move || one_at_a_time(&rt, alloc, near))?;
         let done = served(&rt, alloc, &mut &far, &mut &far, workers, &Open);
         drop(far);
-        assert_eq!(&rt; client.join(&rt), 0, "{workers} workers");
-        assert_eq!(&rt; done.fault, None, "{workers} workers");
-        assert_eq!(&rt; done.history.len(), 20_002, "{workers} workers");
+        has_all_replies(&rt, &done, client.join(&rt));
     }
     Ok(())
 }

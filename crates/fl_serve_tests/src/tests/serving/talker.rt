@@ -42,23 +42,29 @@ pub(super) fn read_reply<R: Read>(r: &mut R, room: &mut [u8]) -> io::Result<Repl
     Ok((long_at(&head, 8), 0u32.wrapping_sub(word_at(&head, 4))))
 }
 
+// Whether the stream is at its end.
+fn is_at_end<R: BufRead>(rt: &impl Abort, r: &mut R) -> bool {
+    r.fill_buf().expect(rt, "a read").is_empty()
+}
+
 /// Reads whole replies up to the stream's end.
-pub(super) fn read_replies<R: BufRead>(alloc: Global, r: &mut R) -> io::Result<Vec<Reply>> {
+pub(super) fn read_replies<R: BufRead>(rt: &impl Abort, alloc: Global, r: &mut R) -> Vec<Reply> {
     let mut room = [0; MOST_BODY];
     let mut replies = Vec::new(alloc);
     for _ in 0..u64::MAX {
-        if r.fill_buf()?.is_empty() {
+        if is_at_end(rt, r) {
             break;
         }
-        replies.push(read_reply(r, &mut room)?)?;
+        let reply = read_reply(r, &mut room).expect(rt, "a reply");
+        replies.push(reply).expect(rt, "memory");
     }
-    Ok(replies)
+    replies
 }
 
 /// Whole replies, in the order of their uniques.
 pub(super) fn sorted(rt: &impl Abort, alloc: Global, bytes: &[u8]) -> Vec<Reply> {
     let mut rest = bytes;
-    let mut all = read_replies(alloc, &mut rest).expect(rt, "whole replies");
+    let mut all = read_replies(rt, alloc, &mut rest);
     all.sort_unstable();
     all
 }
@@ -123,8 +129,6 @@ impl Talker {
 
     /// How many replies come up to the stream's end.
     pub(super) fn rest(&mut self, rt: &impl Abort) -> usize {
-        read_replies(self.alloc, &mut self.replies)
-            .expect(rt, "whole replies")
-            .len()
+        read_replies(rt, self.alloc, &mut self.replies).len()
     }
 }

@@ -1,40 +1,33 @@
 //! The worked session, a few bytes at a time, cut off, and with reads and writes that fail.
 
 use super::super::MANY;
-use super::traced::TWO_LOCKS;
-use super::{spelled, wanted_trace};
-use fl_book::print_trace;
+use super::traced::two_locks;
+use super::{is_traced, spelled};
 use fl_serve::{Done, Fault, run_one, run_session};
 use fl_testing::{Sink, Source};
 use std::alloc::Global;
 use std::process::Abort;
-use std::test::Fail;
-
-// Where its messages end, and where their replies do.
-const ENDS: [(usize, usize); 5] = [(0, 0), (56, 80), (114, 240), (202, 256), (290, 272)];
 
 // Its messages.
-fn stream(alloc: Global) -> Result<Vec<u8>, Fail> {
-    spelled(alloc, "", TWO_LOCKS, "> ")
+fn stream(rt: &impl Abort, alloc: Global) -> Vec<u8> {
+    spelled(rt, alloc, "", two_locks(), "> ")
 }
 
 // Their replies.
-fn replies(alloc: Global) -> Result<Vec<u8>, Fail> {
-    spelled(alloc, "", TWO_LOCKS, "< ")
+fn replies(rt: &impl Abort, alloc: Global) -> Vec<u8> {
+    spelled(rt, alloc, "", two_locks(), "< ")
 }
 
 // It came to the trace that is wanted, and to this fault.
-fn is_whole(rt: &impl Abort, alloc: Global, done: &Done, fault: Option<Fault>) -> Result<(), Fail> {
+fn is_whole(rt: &impl Abort, alloc: Global, done: &Done, fault: Option<Fault>) {
     assert_eq!(rt; done.fault, fault);
     assert!(rt; !done.refused);
-    let trace = print_trace(alloc, &done.history)?;
-    assert_eq!(rt; trace, wanted_trace(alloc, TWO_LOCKS)?);
-    Ok(())
+    is_traced(rt, alloc, &done.history, two_locks());
 }
 
 #[test]
-fn a_byte_at_a_time(rt: HostRuntime) -> Result<(), Fail> {
-    let stream = stream(rt.alloc())?;
+fn a_byte_at_a_time(rt: HostRuntime) {
+    let stream = stream(&rt, rt.alloc());
     let mut input = Source {
         bytes: &stream,
         most: 1,
@@ -42,19 +35,19 @@ fn a_byte_at_a_time(rt: HostRuntime) -> Result<(), Fail> {
     };
     let mut output = Sink::new(rt.alloc(), 1, MANY, true);
     let done = run_one(rt.alloc(), &mut input, &mut output);
-    assert_eq!(&rt; output.held, replies(rt.alloc())?);
-    is_whole(&rt, rt.alloc(), &done, None)
+    is_sent(&rt, &output.held, &replies(&rt, rt.alloc()), 272);
+    is_whole(&rt, rt.alloc(), &done, None);
 }
 
 // Where the last whole message of so many bytes ends, and its reply.
 fn last_end(len: usize) -> (usize, usize) {
-    let mut last = (0, 0);
-    for (end, sent) in ENDS {
-        if end <= len {
-            last = (end, sent);
-        }
+    match len {
+        0..56 => (0, 0),
+        56..114 => (56, 80),
+        114..202 => (114, 240),
+        202..290 => (202, 256),
+        _ => (290, 272),
     }
-    last
 }
 
 // So many bytes of replies went out.
@@ -73,14 +66,13 @@ fn is_cut(rt: &impl Abort, alloc: Global, stream: &[u8], replies: &[u8], len: us
 }
 
 #[test]
-fn cut_after_each_byte(rt: HostRuntime) -> Result<(), Fail> {
-    let stream = stream(rt.alloc())?;
-    let replies = replies(rt.alloc())?;
-    assert_eq!(&rt; stream.len(), 290);
+fn cut_after_each_byte(rt: HostRuntime) {
+    let stream = stream(&rt, rt.alloc());
+    let replies = replies(&rt, rt.alloc());
+    assert_eq!(&rt; (stream.len(), replies.len()), (290, 272));
     for len in 0..=290 {
         is_cut(&rt, rt.alloc(), &stream, &replies, len);
     }
-    Ok(())
 }
 
 fn ends_by_a_read(rt: &impl Abort, alloc: Global, stream: &[u8], reads: usize) -> Vec<u8> {
@@ -95,98 +87,107 @@ fn ends_by_a_read(rt: &impl Abort, alloc: Global, stream: &[u8], reads: usize) -
     output
 }
 
-// Of 29 bytes each; beside the number of reads before the one that fails, how many bytes of replies are
-// sent by then.
-#[test]
-fn each_read_fails(rt: HostRuntime) -> Result<(), Fail> {
-    let stream = stream(rt.alloc())?;
-    let replies = replies(rt.alloc())?;
-    let sent = [0, 0, 80, 80, 240, 240, 240, 256, 256, 256, 272];
-    for (reads, sent) in sent.iter().enumerate() {
-        let output = ends_by_a_read(&rt, rt.alloc(), &stream, reads);
-        is_sent(&rt, &output, &replies, *sent);
+// How many bytes of replies are sent by the time that a read fails, behind so many reads of 29 bytes.
+fn sent_after(reads: usize) -> usize {
+    match reads {
+        0..2 => 0,
+        2..4 => 80,
+        4..7 => 240,
+        7..10 => 256,
+        _ => 272,
     }
-    Ok(())
+}
+
+#[test]
+fn each_read_fails(rt: HostRuntime) {
+    let stream = stream(&rt, rt.alloc());
+    let replies = replies(&rt, rt.alloc());
+    for reads in 0..11 {
+        let output = ends_by_a_read(&rt, rt.alloc(), &stream, reads);
+        is_sent(&rt, &output, &replies, sent_after(reads));
+    }
 }
 
 // The replies are written in 41 pieces of at most 7 bytes.
 #[test]
-fn each_write_fails_or_takes_nothing(rt: HostRuntime) -> Result<(), Fail> {
-    let stream = stream(rt.alloc())?;
-    let replies = replies(rt.alloc())?;
+fn each_write_fails_or_takes_nothing(rt: HostRuntime) {
+    let stream = stream(&rt, rt.alloc());
+    let replies = replies(&rt, rt.alloc());
     for writes in 0..41 {
-        for fails in [false, true] {
-            let mut output = Sink::new(rt.alloc(), 7, writes, fails);
-            ends_by_a_write(&rt, rt.alloc(), &stream, &mut output)?;
-            assert!(&rt; replies.starts_with(&output.held), "{writes} writes");
-            assert!(&rt; output.held.len() < replies.len(), "{writes} writes");
-        }
+        let mut fails = Sink::new(rt.alloc(), 7, writes, true);
+        ends_by_a_write(&rt, rt.alloc(), &stream, &mut fails);
+        is_a_part(&rt, &fails.held, &replies);
+        let mut takes_nothing = Sink::new(rt.alloc(), 7, writes, false);
+        ends_by_a_write(&rt, rt.alloc(), &stream, &mut takes_nothing);
+        is_a_part(&rt, &takes_nothing.held, &replies);
     }
-    Ok(())
+}
+
+// The first bytes of the replies went out, and not all.
+fn is_a_part(rt: &impl Abort, output: &[u8], replies: &[u8]) {
+    assert!(rt; replies.starts_with(output));
+    assert!(rt; output.len() < replies.len());
 }
 
 // After so many writes one fails or takes nothing.
-fn ends_by_a_write(
-    rt: &impl Abort,
-    alloc: Global,
-    stream: &[u8],
-    output: &mut Sink,
-) -> Result<(), Fail> {
+fn ends_by_a_write(rt: &impl Abort, alloc: Global, stream: &[u8], output: &mut Sink) {
     let mut input = stream;
     let done = run_one(alloc, &mut input, output);
-    is_whole(rt, alloc, &done, Some(Fault::Write))
+    is_whole(rt, alloc, &done, Some(Fault::Write));
 }
 
+const INIT: &str = "\
+> 380000001a0000000100000000000000000000000000000000000000000000000000000000000000\
+070000001f0000000000000000000000
+";
+
 // A further read is there to be made, and isn't: all bytes behind the end are left.
-fn ends_before(
-    rt: &impl Abort,
-    alloc: Global,
-    end: &str,
-    fault: Option<Fault>,
-) -> Result<(), Fail> {
-    let init = "> 380000001a0000000100000000000000000000000000000000000000000000000000000000000000\
-                070000001f0000000000000000000000\n";
-    let read = spelled(alloc, init, end, "> ")?;
-    let all = spelled(
-        alloc,
-        "",
-        &[init, end, "\n", TWO_LOCKS].concat(alloc)?,
-        "> ",
-    )?;
+fn ends_before(rt: &impl Abort, alloc: Global, end: &str, fault: Option<Fault>) {
+    let first = spelled(rt, alloc, INIT, end, "> ");
+    let mut bytes = spelled(rt, alloc, INIT, end, "> ");
+    let behind = stream(rt, alloc);
+    bytes.extend_from_slice(&behind).expect(rt, "memory");
     let mut input = Source {
-        bytes: &all,
-        most: read.len(),
+        bytes: &bytes,
+        most: first.len(),
         reads: MANY,
     };
-    let mut output = Vec::new(alloc);
+    let mut output: Vec<u8> = Vec::new(alloc);
     let done = run_one(alloc, &mut input, &mut output);
     assert_eq!(rt; done.fault, fault);
-    assert_eq!(rt; input.reads, MANY - 1, "{fault:?}");
-    assert_eq!(rt; Some(input.bytes), all.get(read.len()..), "{fault:?}");
-    Ok(())
+    is_left(rt, &input, &behind);
 }
+
+// One read was made, and these bytes are left.
+fn is_left(rt: &impl Abort, input: &Source<'_>, left: &[u8]) {
+    assert_eq!(rt; input.reads, MANY - 1);
+    assert_eq!(rt; input.bytes, left);
+}
+
+const DESTROY: &str =
+    "> 28000000260000000500000000000000000000000000000000000000000000000000000000000000";
 
 // Behind a DESTROY, and behind a length that no message has.
 #[test]
-fn nothing_is_read_behind_the_end(rt: HostRuntime) -> Result<(), Fail> {
-    let destroy =
-        "> 28000000260000000500000000000000000000000000000000000000000000000000000000000000";
-    ends_before(&rt, rt.alloc(), destroy, None)?;
-    ends_before(&rt, rt.alloc(), "> 27000000", Some(Fault::BadLength(39)))?;
-    ends_before(&rt, rt.alloc(), "> 01200000", Some(Fault::BadLength(8193)))
+fn nothing_is_read_behind_the_end(rt: HostRuntime) {
+    ends_before(&rt, rt.alloc(), DESTROY, None);
+    ends_before(&rt, rt.alloc(), "> 27000000", Some(Fault::BadLength(39)));
+    ends_before(&rt, rt.alloc(), "> 01200000", Some(Fault::BadLength(8193)));
 }
 
-// A stream that lacks its last byte, and a write that fails: the first is the fault, and the second is told beside it.
+// The stream lacks its last byte, and so many writes of at most 240 bytes succeed.
+fn is_cut_and_broken(rt: &impl Abort, alloc: Global, writes: usize, broken: bool) {
+    let stream = stream(rt, alloc);
+    let mut input = stream.get(..289).unwrap_or(&[]);
+    let mut output = Sink::new(alloc, 240, writes, true);
+    let ended = run_session(alloc, &mut input, &mut output);
+    assert_eq!(rt; ended.done.fault, Some(Fault::Cut));
+    assert_eq!(rt; ended.broken, broken);
+}
+
+// The first is the fault, and the second is told beside it.
 #[test]
-fn a_cut_stream_and_a_failed_write(rt: HostRuntime) -> Result<(), Fail> {
-    let stream = stream(rt.alloc())?;
-    let cut = stream.get(..289).unwrap_or(&[]);
-    for (writes, broken) in [(3, false), (2, true)] {
-        let mut input = cut;
-        let mut output = Sink::new(rt.alloc(), 240, writes, true);
-        let ended = run_session(rt.alloc(), &mut input, &mut output);
-        assert_eq!(&rt; ended.done.fault, Some(Fault::Cut), "{writes} writes");
-        assert_eq!(&rt; ended.broken, broken, "{writes} writes");
-    }
-    Ok(())
+fn a_cut_stream_and_a_failed_write(rt: HostRuntime) {
+    is_cut_and_broken(&rt, rt.alloc(), 3, false);
+    is_cut_and_broken(&rt, rt.alloc(), 2, true);
 }

@@ -1,9 +1,9 @@
 //! Sessions, their replies and their traces. The messages and replies are laid out by hand from `fuse.h` (protocol 7.31).
-//! A line that begins with `> ` is a message in hex, one with `< ` is a reply, and those of the trace begin with `ask` and
-//! `tell`.
+//! A line that begins with `> ` is a message in hex, one with `< ` is a reply, and one with `= ` is a line of the trace.
 
 /// The worked session.
-pub(super) const TWO_LOCKS: &str = "\
+pub(super) fn two_locks() -> &'static str {
+    "\
 # two locks
 INIT at 7.31; CREATE of `a` in the root; SETLK of a write lock of bytes 0 to 9 by owner 7; SETLK of a read lock of
 byte 9 by owner 8.
@@ -26,13 +26,14 @@ What is agreed; the file that is made; done; EAGAIN.
 01000000000000000000000000000000001000000000000001000000000000000000000000000000
 < 10000000000000000300000000000000
 < 10000000f5ffffff0400000000000000
-ask 0 2 1 0 0 0 create 0 420 61
-tell 2 made 2 33188 1 0 0 1
-ask 0 3 2 0 0 0 setlk 1 7 0 9 1 11 0
-tell 3 ok
-ask 0 4 2 0 0 0 setlk 1 8 9 9 0 12 0
-tell 4 err 11
-";
+= ask 0 2 1 0 0 0 create 0 420 61
+= tell 2 made 2 33188 1 0 0 1
+= ask 0 3 2 0 0 0 setlk 1 7 0 9 1 11 0
+= tell 3 ok
+= ask 0 4 2 0 0 0 setlk 1 8 9 9 0 12 0
+= tell 4 err 11
+"
+}
 
 /// What else a trace has, or hasn't.
 pub(super) const TRACED: &str = "\
@@ -70,11 +71,11 @@ The agreement; the file that is made; done.
 000000000000000000000000000000000000000000000000000000000000000000000000a4810000\
 01000000000000000000000000000000001000000000000001000000000000000000000000000000
 < 10000000000000000300000000000000
-ask 0 2 1 0 0 0 create 0 420 61
-tell 2 made 2 33188 1 0 0 1
-ask 0 9 2 0 0 0 forget 1
-ask 0 3 2 0 0 0 setlk 1 7 0 9 1 11 0
-tell 3 ok
+= ask 0 2 1 0 0 0 create 0 420 61
+= tell 2 made 2 33188 1 0 0 1
+= ask 0 9 2 0 0 0 forget 1
+= ask 0 3 2 0 0 0 setlk 1 7 0 9 1 11 0
+= tell 3 ok
 # an INTERRUPT is a line of the history, and has no reply of its own; the second request is unanswered at the end
 INIT; CREATE; SETLK of a write lock of bytes 0 to 9 by owner 7; SETLKW of a write lock of byte 9 by owner 8, with the
 unique 4, and of byte 0 by owner 9, with the unique 6. Both wait.
@@ -102,12 +103,12 @@ INTERRUPT of the unique 4, which is told EINTR.
 > 30000000240000000500000000000000000000000000000000000000000000000000000000000000\
 0400000000000000
 < 10000000fcffffff0400000000000000
-ask 0 2 1 0 0 0 create 0 420 61
-tell 2 made 2 33188 1 0 0 1
-ask 0 3 2 0 0 0 setlk 1 7 0 9 1 11 0
-tell 3 ok
-ask 0 4 2 0 0 0 setlkw 1 8 9 9 1 12 0
-ask 0 6 2 0 0 0 setlkw 1 9 0 0 1 13 0
-ask 0 5 0 0 0 0 interrupt 4
-tell 4 err 4
+= ask 0 2 1 0 0 0 create 0 420 61
+= tell 2 made 2 33188 1 0 0 1
+= ask 0 3 2 0 0 0 setlk 1 7 0 9 1 11 0
+= tell 3 ok
+= ask 0 4 2 0 0 0 setlkw 1 8 9 9 1 12 0
+= ask 0 6 2 0 0 0 setlkw 1 9 0 0 1 13 0
+= ask 0 5 0 0 0 0 interrupt 4
+= tell 4 err 4
 ";

@@ -1,7 +1,7 @@
 //! Clients that don't come to send anything: a line is bad, or nobody listens.
 
-use super::super::is;
-use super::{drive, own_path};
+use super::super::{is, own_path};
+use super::drive;
 use std::alloc::AllocGlobal;
 use std::fs;
 use std::net::Net;
@@ -39,12 +39,22 @@ fn refuses(rt: &(impl Abort + Net + AllocGlobal), path: Path<'_>, text: &str, to
     is(rt, text, &drive(rt, path, text.as_bytes()), "", told);
 }
 
+// The same of a text of these parts.
+fn refuses_parts(
+    rt: &(impl Abort + Net + AllocGlobal),
+    path: Path<'_>,
+    parts: &[&str],
+    told: &str,
+) {
+    let text = parts.concat(rt.alloc()).expect(rt, "memory");
+    refuses(rt, path, &text, told);
+}
+
 // The line is the first or the third of a text, and no more than that is told.
 fn refuses_line(rt: &(impl Abort + Net + AllocGlobal), path: Path<'_>, line: &str) {
-    let first = [line, "\n0102\n"].concat(rt.alloc());
-    refuses(rt, path, &first.expect(rt, "memory"), "bad line 1\n");
-    let third = ["0102\nrecv 1000\n", line, "\nzz\n"].concat(rt.alloc());
-    refuses(rt, path, &third.expect(rt, "memory"), "bad line 3\n");
+    refuses_parts(rt, path, &[line, "\n0102\n"], "bad line 1\n");
+    let third = ["0102\nrecv 1000\n", line, "\nzz\n"];
+    refuses_parts(rt, path, &third, "bad line 3\n");
 }
 
 #[test]

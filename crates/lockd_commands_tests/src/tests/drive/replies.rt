@@ -1,8 +1,9 @@
 //! What a client sends and prints, against servers whose replies are these bytes.
 
-use super::super::{Came, is, marked, spelled};
+use super::super::{Came, is, marked, own_path, spelled};
+use super::cases::stored_cases;
+use super::drive;
 use super::servers::{answer, read_one_and_go, take_nothing};
-use super::{drive, own_path};
 use fl_testing::{Full, bytes_after};
 use lockd_commands::{Fault, Status, drive_on};
 use std::alloc::{AllocGlobal, Global};
@@ -13,102 +14,20 @@ use std::path::Path;
 use std::process::Abort;
 use std::sync::Wait;
 use std::test::Fail;
-use std::thread::Threads;
+use std::thread::{JoinHandle, Threads};
 use std::{fs, thread};
 
-// A case begins with a line of `# ` and a title. The lines that begin with `> ` are the client's, the bytes behind `= ` are
-// those that it sends, and those behind `+ ` the server's. The lines that begin with `< ` are printed, and one with `! ` is
-// told as a fault.
-const CASES: &str = "\
-# nothing, beside a reply that isn't waited for
-+ 10000000f5ffffff0400000000000000
-# bytes of either case, an empty line, two replies at once, and one that isn't waited for
-> 0102
-> recv 1
-> aBFf
->\x20
-> recv 2
-> 09
-= 0102abff09
-+ 10000000f5ffffff0400000000000000
-+ 110000000000000005000000000000007f
-+ 10000000f5ffffff0400000000000000
-+ 10000000f5ffffff0400000000000000
-< 10000000f5ffffff0400000000000000
-< 110000000000000005000000000000007f
-< 10000000f5ffffff0400000000000000
-# the stream ends, behind a whole reply, while two more are waited for
-> 07
-> recv 3
-> 08
-= 07
-+ 10000000f5ffffff0400000000000000
-< 10000000f5ffffff0400000000000000
-! cut
-# three bytes of a length, behind a whole reply, while two more are waited for
-> 07
-> recv 3
-> 08
-= 07
-+ 10000000f5ffffff0400000000000000
-+ 100000
-< 10000000f5ffffff0400000000000000
-! cut
-# a length alone, behind a whole reply, while two more are waited for
-> 07
-> recv 3
-> 08
-= 07
-+ 10000000f5ffffff0400000000000000
-+ 10000000
-< 10000000f5ffffff0400000000000000
-! cut
-# a byte too few, behind a whole reply, while two more are waited for
-> 07
-> recv 3
-> 08
-= 07
-+ 10000000f5ffffff0400000000000000
-+ 10000000f5ffffff04000000000000
-< 10000000f5ffffff0400000000000000
-! cut
-# a length of zero, behind a whole reply, while two more are waited for
-> 07
-> recv 3
-> 08
-= 07
-+ 10000000f5ffffff0400000000000000
-+ 00000000
-< 10000000f5ffffff0400000000000000
-! bad reply
-# a length below a header's, behind a whole reply, while two more are waited for
-> 07
-> recv 3
-> 08
-= 07
-+ 10000000f5ffffff0400000000000000
-+ 0f000000
-< 10000000f5ffffff0400000000000000
-! bad reply
-# a length above 8192, behind a whole reply, while two more are waited for
-> 07
-> recv 3
-> 08
-= 07
-+ 10000000f5ffffff0400000000000000
-+ 01200000
-< 10000000f5ffffff0400000000000000
-! bad reply
-# a length past 2^31, behind a whole reply, while two more are waited for
-> 07
-> recv 3
-> 08
-= 07
-+ 10000000f5ffffff0400000000000000
-+ 100000ff
-< 10000000f5ffffff0400000000000000
-! bad reply
-";
+// Starts a server of one client that sends these replies.
+fn start(
+    rt: &(impl Abort + Threads + Net + Files + AllocGlobal),
+    path: Path<'_>,
+    replies: Vec<u8>,
+) -> JoinHandle<Vec<u8>> {
+    let alloc = rt.alloc();
+    let listener = UnixListener::bind(rt, path).expect(rt, "a socket");
+    let server = thread::spawn(rt, move || answer(alloc, &listener, &replies));
+    server.ok().expect(rt, "a thread")
+}
 
 // What comes of a client at a server that sends these replies, and all bytes that the client sends.
 fn meet(
@@ -117,10 +36,7 @@ fn meet(
     replies: Vec<u8>,
     text: &[u8],
 ) -> (Came, Vec<u8>) {
-    let alloc = rt.alloc();
-    let listener = UnixListener::bind(rt, path).expect(rt, "a socket");
-    let server = thread::spawn(rt, move || answer(alloc, &listener, &replies));
-    let server = server.ok().expect(rt, "a thread");
+    let server = start(rt, path, replies);
     let came = drive(rt, path, text);
     (came, server.join(rt))
 }
@@ -156,7 +72,7 @@ fn is_case(rt: &impl Abort, alloc: Global, case: &str, came: &Came, sent: &[u8])
 fn stored_replies(rt: HostRuntime) -> Result<(), Fail> {
     let path = own_path(&rt)?;
     let mut count = 0usize;
-    for case in CASES.split('#').skip(1) {
+    for case in stored_cases().split('#').skip(1) {
         run_case(&rt, path.as_path(), case);
         count = count.saturating_add(1);
     }
@@ -173,7 +89,7 @@ fn prints(
     text: &[u8],
     lines: &str,
 ) {
-    let replies = spelled(rt, rt.alloc(), &[lines]);
+    let replies = spelled(rt, rt.alloc(), lines);
     let (came, sent) = meet(rt, path, replies, text);
     is(rt, "a client that waits", &came, lines, "");
     assert!(rt; sent.is_empty());
@@ -205,7 +121,7 @@ fn breaks_off(
     let server = server.ok().expect(rt, "a thread");
     let came = drive(rt, path, b"0102\nrecv 1\n");
     is(rt, "a read that fails", &came, "", "read failed\n");
-    assert!(rt; server.join(rt));
+    server.join(rt);
     fs::remove_file(rt, path).expect(rt, "a file");
 }
 
@@ -223,7 +139,7 @@ fn a_read_of_a_reply_that_fails(rt: HostRuntime) -> Result<(), Fail> {
 fn a_request_that_cannot_be_sent(rt: HostRuntime) -> Result<(), Fail> {
     let path = own_path(&rt)?;
     let listener = UnixListener::bind(&rt, path.as_path())?;
-    let replies = spelled(&rt, rt.alloc(), &[SHORT, SHORT]);
+    let replies = spelled(&rt, rt.alloc(), TWO_REPLIES);
     let server = thread::spawn(&rt, move || take_nothing(&listener, &replies));
     let server = server.ok().expect(&rt, "a thread");
     let came = drive(&rt, path.as_path(), b"recv 1\n0102\nrecv 1\n");
@@ -234,11 +150,16 @@ fn a_request_that_cannot_be_sent(rt: HostRuntime) -> Result<(), Fail> {
         SHORT_LINE,
         "write failed\n",
     );
-    assert!(rt; server.join(&rt));
+    server.join(&rt);
     Ok(fs::remove_file(&rt, path.as_path())?)
 }
 
 const SHORT_LINE: &str = "10000000f5ffffff0400000000000000\n";
+
+const TWO_REPLIES: &str = "\
+10000000f5ffffff0400000000000000
+10000000f5ffffff0400000000000000
+";
 
 // What is told where only so many bytes of a reply can be printed.
 fn drive_to_full(rt: &(impl Abort + Net + AllocGlobal), path: Path<'_>, left: usize) {
@@ -255,11 +176,7 @@ fn fills_the_output(
     path: Path<'_>,
     left: usize,
 ) {
-    let alloc = rt.alloc();
-    let replies = spelled(rt, alloc, &[SHORT]);
-    let listener = UnixListener::bind(rt, path).expect(rt, "a socket");
-    let server = thread::spawn(rt, move || answer(alloc, &listener, &replies));
-    let server = server.ok().expect(rt, "a thread");
+    let server = start(rt, path, spelled(rt, rt.alloc(), SHORT));
     drive_to_full(rt, path, left);
     assert_eq!(rt; server.join(rt).as_slice(), b"\x01\x02".as_slice());
     fs::remove_file(rt, path).expect(rt, "a file");

@@ -19,20 +19,20 @@ pub(super) fn answer(alloc: Global, listener: &UnixListener, replies: &[u8]) -> 
 }
 
 /// Reads one byte, sends these, and goes. Where more than one byte came, the client's next read fails.
-pub(super) fn read_one_and_go(listener: &UnixListener, reply: &[u8]) -> bool {
-    let Ok((stream, _)) = listener.accept() else {
-        return false;
-    };
-    let mut near = &stream;
-    let mut byte = [0];
-    near.read_exact(&mut byte).is_ok() && near.write_all(reply).is_ok()
+pub(super) fn read_one_and_go(listener: &UnixListener, reply: &[u8]) {
+    if let Ok((stream, _)) = listener.accept() {
+        let mut near = &stream;
+        let mut byte = [0];
+        let _ = near.read_exact(&mut byte);
+        let _ = near.write_all(reply);
+    }
 }
 
 /// Takes no more bytes, and then sends these replies.
-pub(super) fn take_nothing(listener: &UnixListener, replies: &[u8]) -> bool {
-    let Ok((stream, _)) = listener.accept() else {
-        return false;
-    };
-    let mut near = &stream;
-    stream.shutdown(Shutdown::Read).is_ok() && near.write_all(replies).is_ok()
+pub(super) fn take_nothing(listener: &UnixListener, replies: &[u8]) {
+    if let Ok((stream, _)) = listener.accept() {
+        let mut near = &stream;
+        let _ = stream.shutdown(Shutdown::Read);
+        let _ = near.write_all(replies);
+    }
 }

@@ -1,13 +1,13 @@
 //! Clients whose server is a session.
 
 use super::super::bytes::sessions::{init, init_reply, two_locks};
-use super::super::{is, marked};
-use super::{drive, own_path};
+use super::super::{is, marked, own_path};
+use super::drive;
 use fl_serve::run_one;
 use std::alloc::{AllocGlobal, Global};
 use std::fs::Files;
 use std::net::Net;
-use std::os::unix::net::UnixListener;
+use std::os::unix::net::{UnixListener, UnixStream};
 use std::path::Path;
 use std::process::Abort;
 use std::sync::Wait;
@@ -15,10 +15,18 @@ use std::test::Fail;
 use std::thread::Threads;
 use std::{fs, thread};
 
-// Serves the first connection, and tells how many lines its history has.
+// Serves a connection, and tells how many lines its history has.
+fn lines_of_session(alloc: Global, stream: &UnixStream) -> usize {
+    let mut input = stream;
+    let mut output = stream;
+    let done = run_one(alloc, &mut input, &mut output);
+    done.history.len()
+}
+
+// Serves the first connection.
 fn serve_one(alloc: Global, listener: &UnixListener) -> usize {
     match listener.accept() {
-        Ok((stream, _)) => run_one(alloc, &mut &stream, &mut &stream).history.len(),
+        Ok((stream, _)) => lines_of_session(alloc, &stream),
         Err(_) => 0,
     }
 }
