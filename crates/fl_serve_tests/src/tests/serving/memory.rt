@@ -39,7 +39,7 @@ fn answers_once<R: Abort + Threads + Wait + Sync>(
 ) {
     let came = serve_bytes(rt, alloc, &messages.bytes, workers);
     ended(rt, alloc, &came.done, None, 6, workers);
-    assert!(rt; !came.done.refused, "{workers} workers");
+    assert!(rt; !came.done.refused);
     are_one_to_four(rt, &sorted(rt, alloc, &came.out));
 }
 
@@ -189,7 +189,7 @@ fn are_answered<R: Abort + Threads + Wait + Sync>(
     let came = serve_bytes(rt, alloc, &messages.bytes, workers);
     ended(rt, alloc, &came.done, None, 1000, workers);
     let found = sorted(rt, alloc, &came.out);
-    assert_eq!(rt; found.as_slice(), wanted, "{workers} workers");
+    assert_eq!(rt; found.as_slice(), wanted);
 }
 
 #[test]

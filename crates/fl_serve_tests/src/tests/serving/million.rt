@@ -1,12 +1,12 @@
 //! A long session of mixed orders over a socket.
 
 use super::messages::{GETLK, Lock, Messages, READ, SETLK, SETLKW, UNLOCK, WRITE};
-use super::talker::{MOST_BODY, read_reply};
+use super::talker::{MOST_BODY, next_reply};
 use super::{asked_in, is_legal, served};
 use fl_book::History;
 use fl_serve::Open;
 use std::alloc::{AllocError, Global};
-use std::io::{BufRead, BufReader, Write};
+use std::io::{BufReader, Write};
 use std::net::Shutdown;
 use std::os::unix::net::UnixStream;
 use std::process::Abort;
@@ -138,11 +138,10 @@ fn count_replies(rt: &impl Abort, alloc: Global, stream: UnixStream) -> Counted 
     let replies = BufReader::with_capacity(alloc, 65_536, stream);
     let mut replies = replies.expect(rt, "memory");
     for _ in 0..u64::MAX {
-        if replies.fill_buf().expect(rt, "a read").is_empty() {
-            break;
+        match next_reply(rt, &mut replies, &mut room) {
+            Some(reply) => counted.count(reply.0),
+            None => break,
         }
-        let reply = read_reply(&mut replies, &mut room).expect(rt, "a reply");
-        counted.count(reply.0);
     }
     counted
 }
