@@ -86,7 +86,7 @@ fn one_worker_takes_orders_as_they_came(rt: HostRuntime) -> Result<(), Fail> {
 // Ten requests that wait, of which the third is interrupted.
 fn wait(messages: &mut Messages) -> Result<(), AllocError> {
     for unique in 5..15 {
-        messages.lock(SETLKW, unique, 2, &byte_lock(unique | 64, WRITE))?;
+        messages.lock(SETLKW, unique, 2, &byte_lock(unique + 64, WRITE))?;
     }
     messages.interrupt(15, 7)?;
     messages.interrupt(16, 99)
