@@ -26,9 +26,9 @@ fn are_handed_in_once<R: Abort + Threads + Wait + Sync>(
     let came = serve_bytes(rt, alloc, &messages.bytes, workers);
     let mut uniques = asked_in(rt, alloc, &came.done.history);
     uniques.sort_unstable();
-    assert_eq!(rt; uniques.len(), 1000, "{workers} workers");
+    assert_eq!(rt; uniques.len(), 1000);
     for (at, unique) in uniques.iter().enumerate() {
-        assert_eq!(rt; *unique, (at as u64).wrapping_add(2), "{workers} workers");
+        assert_eq!(rt; *unique, (at as u64).wrapping_add(2));
     }
 }
 

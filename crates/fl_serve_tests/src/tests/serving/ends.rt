@@ -101,11 +101,11 @@ fn end_by_a_destroy<R: Abort + Threads + Wait + Sync>(
     };
     let mut out = Vec::new(alloc);
     let done = served(rt, alloc, &mut input, &mut out, workers, &Open);
-    assert_eq!(rt; input.reads, MANY - 1, "{workers} workers");
-    assert_eq!(rt; input.bytes.len(), 56, "{workers} workers");
+    assert_eq!(rt; input.reads, MANY - 1);
+    assert_eq!(rt; input.bytes.len(), 56);
     ended(rt, alloc, &done, None, 40, workers);
     replied(rt, alloc, &out, 22, workers);
-    assert!(rt; out.ends_with(DESTROYED), "{workers} workers");
+    assert!(rt; out.ends_with(DESTROYED));
 }
 
 // Orders behind the DESTROY, in the same read and in one that isn't made.

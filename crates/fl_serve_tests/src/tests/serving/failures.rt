@@ -24,7 +24,7 @@ fn sends_nothing<R: Abort + Threads + Wait + Sync>(
     let mut output = Sink::new(alloc, 16, 0, fails);
     let done = served(rt, alloc, &mut input, &mut output, workers, &Open);
     ended(rt, alloc, &done, Some(Fault::Write), 40, workers);
-    assert!(rt; output.held.is_empty(), "{workers} workers");
+    assert!(rt; output.held.is_empty());
 }
 
 #[test]
@@ -54,7 +54,7 @@ fn has_fault<R: Abort + Threads + Wait + Sync>(
     let mut output = Sink::new(alloc, 16, 3, true);
     let done = served(rt, alloc, &mut input, &mut output, 4, &Open);
     assert_eq!(rt; done.fault, Some(fault));
-    assert_eq!(rt; output.held.len(), 48, "{fault:?}");
+    assert_eq!(rt; output.held.len(), 48);
 }
 
 #[test]
@@ -77,11 +77,7 @@ fn stops_at<R: Abort + Threads + Wait + Sync>(
     let mut output = Hiccup::new(alloc, fails_at);
     let done = served(rt, alloc, &mut input, &mut output, workers, &Open);
     ended(rt, alloc, &done, Some(Fault::Write), 40, workers);
-    assert_eq!(rt;
-        output.writes,
-        fails_at.wrapping_add(1),
-        "{workers} workers"
-    );
+    assert_eq!(rt; output.writes, fails_at.wrapping_add(1));
     replied(rt, alloc, &output.held, fails_at, workers);
 }
 

@@ -78,10 +78,10 @@ fn waits_for_all<R: Abort + Threads + Wait + Sync>(
     };
     let mut out = Vec::new(alloc);
     let done = served(rt, alloc, &mut input, &mut out, workers, &gate);
-    assert!(rt; !gate.given_up.load(Ordering::SeqCst), "{workers} workers");
+    assert!(rt; !gate.given_up.load(Ordering::SeqCst));
     ended(rt, alloc, &done, None, 40, workers);
     replied(rt, alloc, &out, 22, workers);
-    assert!(rt; out.ends_with(DESTROYED), "{workers} workers");
+    assert!(rt; out.ends_with(DESTROYED));
 }
 
 #[test]

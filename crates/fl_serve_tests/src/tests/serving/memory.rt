@@ -39,7 +39,7 @@ fn answers_once<R: Abort + Threads + Wait + Sync>(
 ) {
     let came = serve_bytes(rt, alloc, &messages.bytes, workers);
     ended(rt, alloc, &came.done, None, 6, workers);
-    assert!(rt; !came.done.refused, "{workers} workers");
+    assert!(rt; !came.done.refused);
     are_one_to_four(rt, &sorted(rt, alloc, &came.out));
 }
 
@@ -86,7 +86,7 @@ fn one_worker_takes_orders_as_they_came(rt: HostRuntime) -> Result<(), Fail> {
 // Ten requests that wait, of which the third is interrupted.
 fn wait(messages: &mut Messages) -> Result<(), AllocError> {
     for unique in 5..15 {
-        messages.lock(SETLKW, unique, 2, &byte_lock(unique | 64, WRITE))?;
+        messages.lock(SETLKW, unique, 2, &byte_lock(unique + 64, WRITE))?;
     }
     messages.interrupt(15, 7)?;
     messages.interrupt(16, 99)
@@ -189,7 +189,7 @@ fn are_answered<R: Abort + Threads + Wait + Sync>(
     let came = serve_bytes(rt, alloc, &messages.bytes, workers);
     ended(rt, alloc, &came.done, None, 1000, workers);
     let found = sorted(rt, alloc, &came.out);
-    assert_eq!(rt; found.as_slice(), wanted, "{workers} workers");
+    assert_eq!(rt; found.as_slice(), wanted);
 }
 
 #[test]

@@ -69,11 +69,10 @@ impl Messages {
         Ok(())
     }
 
-    // A name of two letters for each number below 256.
+    // A name of two letters for each number below 256, and its zero byte.
     fn name(&mut self, name: u64) -> Result<(), AllocError> {
-        let low = (name % 16) as u8;
-        let high = (name / 16 % 16) as u8;
-        self.bytes.extend_from_slice(&[b'a' + high, b'a' + low, 0])
+        let letters = 0x6161 + name / 16 % 16 + name % 16 * 256;
+        self.bytes.extend_from_slice(&letters.to_le_bytes()[..3])
     }
 
     /// A message without a body. Its uid, gid, pid and padding are 0, as those of the messages below.

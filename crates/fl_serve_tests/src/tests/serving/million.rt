@@ -1,12 +1,11 @@
 //! A long session of mixed orders over a socket.
 
 use super::messages::{GETLK, Lock, Messages, READ, SETLK, SETLKW, UNLOCK, WRITE};
-use super::talker::{MOST_BODY, read_reply};
+use super::talker::{MOST_BODY, next_reply};
 use super::{asked_in, is_legal, served};
-use fl_book::History;
 use fl_serve::Open;
 use std::alloc::{AllocError, Global};
-use std::io::{BufRead, BufReader, Write};
+use std::io::{BufReader, Write};
 use std::net::Shutdown;
 use std::os::unix::net::UnixStream;
 use std::process::Abort;
@@ -138,23 +137,20 @@ fn count_replies(rt: &impl Abort, alloc: Global, stream: UnixStream) -> Counted 
     let replies = BufReader::with_capacity(alloc, 65_536, stream);
     let mut replies = replies.expect(rt, "memory");
     for _ in 0..u64::MAX {
-        if replies.fill_buf().expect(rt, "a read").is_empty() {
-            break;
+        match next_reply(rt, &mut replies, &mut room) {
+            Some(reply) => counted.count(reply.0),
+            None => break,
         }
-        let reply = read_reply(&mut replies, &mut room).expect(rt, "a reply");
-        counted.count(reply.0);
     }
     counted
 }
 
 // The CREATE and all orders are in the history, and each line of it that isn't one of them is a reply. The INIT's reply is
 // no line.
-fn has_all(rt: &impl Abort, alloc: Global, history: &History, counted: &Counted) {
+fn has_all(rt: &impl Abort, lines: usize, asked: usize, counted: &Counted) {
     assert_eq!(rt; counted.wrong(), 0);
-    let asked = asked_in(rt, alloc, history).len();
-    assert_eq!(rt; asked, 1_000_001);
-    let told = history.len().saturating_sub(asked);
-    assert_eq!(rt; counted.all, told.saturating_add(1));
+    assert_eq!(rt; asked as u64, ORDERS + 1);
+    assert_eq!(rt; counted.all, lines.saturating_sub(asked).saturating_add(1));
 }
 
 #[test]
@@ -169,7 +165,8 @@ fn a_million_orders(rt: HostRuntime) -> Result<(), Fail> {
     sender.join(&rt);
     let counted = reader.join(&rt);
     assert_eq!(&rt; done.fault, None);
-    has_all(&rt, alloc, &done.history, &counted);
+    let asked = asked_in(&rt, alloc, &done.history).len();
+    has_all(&rt, done.history.len(), asked, &counted);
     is_legal(&rt, alloc, &done.history);
     Ok(())
 }

@@ -2,8 +2,7 @@
 
 use super::messages::Messages;
 use std::alloc::Global;
-use std::io;
-use std::io::{BufRead, BufReader, ErrorKind, Read, Write};
+use std::io::{BufReader, Read, Write};
 use std::net::Shutdown;
 use std::os::unix::net::UnixStream;
 use std::process::Abort;
@@ -30,33 +29,34 @@ pub(super) fn long_at(bytes: &[u8], at: usize) -> u64 {
     high << 32 | low
 }
 
-/// Reads one whole reply, and its body to the front of a room.
-pub(super) fn read_reply<R: Read>(r: &mut R, room: &mut [u8]) -> io::Result<Reply> {
+/// Reads one whole reply, and its body to the front of a room; none at the stream's end.
+pub(super) fn next_reply<R: Read>(rt: &impl Abort, r: &mut R, room: &mut [u8]) -> Option<Reply> {
     let mut head = [0; 16];
-    r.read_exact(&mut head)?;
-    let len = (word_at(&head, 0) as usize).wrapping_sub(16);
-    let Some(body) = room.get_mut(..len) else {
-        return Err(io::Error::from(ErrorKind::InvalidData));
-    };
-    r.read_exact(body)?;
-    Ok((long_at(&head, 8), 0u32.wrapping_sub(word_at(&head, 4))))
+    let n = r.read(&mut head).expect(rt, "a read");
+    if n == 0 {
+        return None;
+    }
+    r.read_exact(&mut head[n..]).expect(rt, "a whole reply");
+    read_body(rt, r, word_at(&head, 0), room);
+    Some((long_at(&head, 8), 0u32.wrapping_sub(word_at(&head, 4))))
 }
 
-// Whether the stream is at its end.
-fn is_at_end<R: BufRead>(rt: &impl Abort, r: &mut R) -> bool {
-    r.fill_buf().expect(rt, "a read").is_empty()
+// Reads the body of a reply of this length to the front of a room.
+fn read_body<R: Read>(rt: &impl Abort, r: &mut R, len: u32, room: &mut [u8]) {
+    let body = room.get_mut(..(len as usize).wrapping_sub(16));
+    let body = body.expect(rt, "a short body");
+    r.read_exact(body).expect(rt, "a whole reply");
 }
 
 /// Reads whole replies up to the stream's end.
-pub(super) fn read_replies<R: BufRead>(rt: &impl Abort, alloc: Global, r: &mut R) -> Vec<Reply> {
+pub(super) fn read_replies<R: Read>(rt: &impl Abort, alloc: Global, r: &mut R) -> Vec<Reply> {
     let mut room = [0; MOST_BODY];
     let mut replies = Vec::new(alloc);
     for _ in 0..u64::MAX {
-        if is_at_end(rt, r) {
-            break;
+        match next_reply(rt, r, &mut room) {
+            Some(reply) => replies.push(reply).expect(rt, "memory"),
+            None => break,
         }
-        let reply = read_reply(r, &mut room).expect(rt, "a reply");
-        replies.push(reply).expect(rt, "memory");
     }
     replies
 }
@@ -107,7 +107,7 @@ impl Talker {
 
     /// The next reply.
     pub(super) fn reply(&mut self, rt: &impl Abort) -> Reply {
-        read_reply(&mut self.replies, &mut self.body).expect(rt, "a reply")
+        next_reply(rt, &mut self.replies, &mut self.body).expect(rt, "a reply")
     }
 
     /// The next reply has to be of this unique and without error.

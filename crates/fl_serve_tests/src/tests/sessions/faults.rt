@@ -61,7 +61,7 @@ fn is_cut(rt: &impl Abort, alloc: Global, stream: &[u8], replies: &[u8], len: us
     let done = run_one(alloc, &mut input, &mut output);
     let (end, sent) = last_end(len);
     let fault = if end == len { None } else { Some(Fault::Cut) };
-    assert_eq!(rt; done.fault, fault, "{len} bytes");
+    assert_eq!(rt; done.fault, fault);
     is_sent(rt, &output, replies, sent);
 }
 
@@ -83,7 +83,7 @@ fn ends_by_a_read(rt: &impl Abort, alloc: Global, stream: &[u8], reads: usize) -
     };
     let mut output = Vec::new(alloc);
     let done = run_one(alloc, &mut input, &mut output);
-    assert_eq!(rt; done.fault, Some(Fault::Read), "{reads} reads");
+    assert_eq!(rt; done.fault, Some(Fault::Read));
     output
 }
 
