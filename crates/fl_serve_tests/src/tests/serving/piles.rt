@@ -5,7 +5,7 @@ use super::served;
 use super::talker::read_replies;
 use fl_serve::{Done, Open};
 use std::alloc::Global;
-use std::io::{BufReader, Write};
+use std::io::Write;
 use std::net::Shutdown;
 use std::os::unix::net::UnixStream;
 use std::process::Abort;
@@ -18,18 +18,35 @@ use std::time::{Clock, Duration};
 // More than the buffers of the socket hold, of orders and of replies.
 const MANY: u64 = 10_000;
 
+// One of a client's threads: its stream, and how many orders went out.
+#[derive(Drop)]
+struct Side {
+    stream: UnixStream,
+    sent: Arc<AtomicU64>,
+}
+
+// The sides that send and read.
+fn sides(alloc: Global, stream: UnixStream) -> Result<(Side, Side), Fail> {
+    let sent = Arc::new(alloc, AtomicU64::new(0))?;
+    let reads = Side {
+        stream: stream.try_clone()?,
+        sent: Arc::try_clone(&sent)?,
+    };
+    Ok((Side { stream, sent }, reads))
+}
+
 // Sends INIT and 10,000 orders, and counts those that went out.
-fn send_many(rt: &impl Abort, alloc: Global, stream: UnixStream, sent: Arc<AtomicU64>) {
-    let mut out = &stream;
+fn send_many(rt: &impl Abort, alloc: Global, side: &Side) {
+    let mut out = &side.stream;
     let mut message = Messages::with_init(alloc).expect(rt, "memory");
     out.write_all(&message.bytes).expect(rt, "a write");
     for unique in 2..MANY + 2 {
         message.bytes.clear();
         message.getattr(unique, 1).expect(rt, "memory");
         out.write_all(&message.bytes).expect(rt, "a write");
-        sent.fetch_add(1, Ordering::SeqCst);
+        side.sent.fetch_add(1, Ordering::SeqCst);
     }
-    stream.shutdown(Shutdown::Write).expect(rt, "a socket");
+    side.stream.shutdown(Shutdown::Write).expect(rt, "a socket");
 }
 
 // Waits until no more went out for a while, and says how many orders did.
@@ -47,16 +64,11 @@ fn stands_still(clock: &impl Clock, sent: &AtomicU64) -> u64 {
 }
 
 // Reads only when the sender stands still, and says how many orders went out by then, and how many replies came.
-fn read_late<R: Abort + Clock>(
-    rt: &R,
-    alloc: Global,
-    stream: UnixStream,
-    sent: Arc<AtomicU64>,
-) -> (u64, usize) {
-    let before = stands_still(rt, &sent);
+fn read_late<R: Abort + Clock>(rt: &R, alloc: Global, side: &Side) -> (u64, usize) {
+    let before = stands_still(rt, &side.sent);
+    let mut reads = &side.stream;
     let most = Some(Duration::from_secs(20));
-    stream.set_read_timeout(most).expect(rt, "a socket");
-    let mut reads = BufReader::new(alloc, stream).expect(rt, "memory");
+    reads.set_read_timeout(most).expect(rt, "a socket");
     (before, read_replies(rt, alloc, &mut reads).len())
 }
 
@@ -73,13 +85,9 @@ fn replies_pile_up(rt: HostRuntime) -> Result<(), Fail> {
     let alloc = rt.alloc();
     for workers in [1, 4] {
         let (near, far) = UnixStream::pair(&rt)?;
-        let sent = Arc::new(alloc, AtomicU64::new(0)).expect(&rt, "memory");
-        let seen = Arc::try_clone(&sent).expect(&rt, "memory");
-        let reads = near.try_clone().expect(&rt, "a socket");
-        let sender = thread::spawn(&rt, move || send_many(&rt, alloc, near, sent));
-        let reader = thread::spawn(&rt, move || read_late(&rt, alloc, reads, seen));
-        let sender = sender.ok().expect(&rt, "a thread");
-        let reader = reader.ok().expect(&rt, "a thread");
+        let (writes, reads) = sides(alloc, near)?;
+        let sender = thread::spawn(&rt, move || send_many(&rt, alloc, &writes))?;
+        let reader = thread::spawn(&rt, move || read_late(&rt, alloc, &reads))?;
         let done = served(&rt, alloc, &mut &far, &mut &far, workers, &Open);
         drop(far);
         sender.join(&rt);

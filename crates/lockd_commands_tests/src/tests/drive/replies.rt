@@ -19,39 +19,38 @@ use std::{fs, thread};
 
 // Starts a server of one client that sends these replies.
 fn start(
-    rt: &(impl Abort + Threads + Net + Files + AllocGlobal),
+    rt: &(impl Threads + Net + Files + AllocGlobal),
     path: Path<'_>,
     replies: Vec<u8>,
-) -> JoinHandle<Vec<u8>> {
+) -> Result<JoinHandle<Vec<u8>>, Fail> {
     let alloc = rt.alloc();
-    let listener = UnixListener::bind(rt, path).expect(rt, "a socket");
-    let server = thread::spawn(rt, move || answer(alloc, &listener, &replies));
-    server.ok().expect(rt, "a thread")
+    let listener = UnixListener::bind(rt, path)?;
+    Ok(thread::spawn(rt, move || answer(alloc, &listener, &replies))?)
 }
 
 // What comes of a client at a server that sends these replies, and all bytes that the client sends.
 fn meet(
-    rt: &(impl Abort + Threads + Wait + Net + Files + AllocGlobal),
+    rt: &(impl Threads + Wait + Net + Files + AllocGlobal),
     path: Path<'_>,
     replies: Vec<u8>,
     text: &[u8],
-) -> (Came, Vec<u8>) {
-    let server = start(rt, path, replies);
+) -> Result<(Came, Vec<u8>), Fail> {
+    let server = start(rt, path, replies)?;
     let came = drive(rt, path, text);
-    (came, server.join(rt))
+    Ok((came, server.join(rt)))
 }
 
 fn run_case(
     rt: &(impl Abort + Threads + Wait + Net + Files + AllocGlobal),
     path: Path<'_>,
     case: &str,
-) {
+) -> Result<(), Fail> {
     let alloc = rt.alloc();
     let replies = bytes_of(rt, alloc, case, "+ ");
     let text = marked(rt, alloc, "", case, "> ");
-    let (came, sent) = meet(rt, path, replies, text.as_bytes());
+    let (came, sent) = meet(rt, path, replies, text.as_bytes())?;
     is_case(rt, alloc, case, &came, &sent);
-    fs::remove_file(rt, path).expect(rt, "a file");
+    Ok(fs::remove_file(rt, path)?)
 }
 
 // The bytes that the lines with a mark spell.
@@ -73,7 +72,7 @@ fn stored_replies(rt: HostRuntime) -> Result<(), Fail> {
     let path = own_path(&rt)?;
     let mut count = 0usize;
     for case in stored_cases().split('#').skip(1) {
-        run_case(&rt, path.as_path(), case);
+        run_case(&rt, path.as_path(), case)?;
         count = count.saturating_add(1);
     }
     assert_eq!(rt; count, 10);
@@ -88,12 +87,12 @@ fn prints(
     path: Path<'_>,
     text: &[u8],
     lines: &str,
-) {
+) -> Result<(), Fail> {
     let replies = spelled(rt, rt.alloc(), lines);
-    let (came, sent) = meet(rt, path, replies, text);
+    let (came, sent) = meet(rt, path, replies, text)?;
     is(rt, "a client that waits", &came, lines, "");
     assert!(rt; sent.is_empty());
-    fs::remove_file(rt, path).expect(rt, "a file");
+    Ok(fs::remove_file(rt, path)?)
 }
 
 // As many as one line can wait for, and one of 8192 bytes.
@@ -102,11 +101,10 @@ fn many_replies_and_the_longest(rt: HostRuntime) -> Result<(), Fail> {
     let path = own_path(&rt)?;
     let line = [SHORT, "\n"].concat(rt.alloc())?;
     let lines = line.repeat(rt.alloc(), 1000)?;
-    prints(&rt, path.as_path(), b"recv 1000\n", &lines);
+    prints(&rt, path.as_path(), b"recv 1000\n", &lines)?;
     let rest = "00".repeat(rt.alloc(), 8188)?;
     let longest = ["00200000", &rest, "\n"].concat(rt.alloc())?;
-    prints(&rt, path.as_path(), b"recv 1\n", &longest);
-    Ok(())
+    prints(&rt, path.as_path(), b"recv 1\n", &longest)
 }
 
 // The client sends two bytes, of which the server reads one. It goes when so many bytes of the reply are sent.
@@ -114,22 +112,21 @@ fn breaks_off(
     rt: &(impl Abort + Threads + Wait + Net + Files + AllocGlobal),
     path: Path<'_>,
     left: usize,
-) {
-    let listener = UnixListener::bind(rt, path).expect(rt, "a socket");
+) -> Result<(), Fail> {
+    let listener = UnixListener::bind(rt, path)?;
     let reply = b"\x10\0\0\0".get(..left).unwrap_or(&[]);
-    let server = thread::spawn(rt, move || read_one_and_go(&listener, reply));
-    let server = server.ok().expect(rt, "a thread");
+    let server = thread::spawn(rt, move || read_one_and_go(&listener, reply))?;
     let came = drive(rt, path, b"0102\nrecv 1\n");
     is(rt, "a read that fails", &came, "", "read failed\n");
     server.join(rt);
-    fs::remove_file(rt, path).expect(rt, "a file");
+    Ok(fs::remove_file(rt, path)?)
 }
 
 #[test]
 fn a_read_of_a_reply_that_fails(rt: HostRuntime) -> Result<(), Fail> {
     let path = own_path(&rt)?;
     for left in [0, 1, 3] {
-        breaks_off(&rt, path.as_path(), left);
+        breaks_off(&rt, path.as_path(), left)?;
     }
     Ok(())
 }
@@ -140,8 +137,7 @@ fn a_request_that_cannot_be_sent(rt: HostRuntime) -> Result<(), Fail> {
     let path = own_path(&rt)?;
     let listener = UnixListener::bind(&rt, path.as_path())?;
     let replies = spelled(&rt, rt.alloc(), TWO_REPLIES);
-    let server = thread::spawn(&rt, move || take_nothing(&listener, &replies));
-    let server = server.ok().expect(&rt, "a thread");
+    let server = thread::spawn(&rt, move || take_nothing(&listener, &replies))?;
     let came = drive(&rt, path.as_path(), b"recv 1\n0102\nrecv 1\n");
     is(
         &rt,
@@ -175,18 +171,18 @@ fn fills_the_output(
     rt: &(impl Abort + Threads + Wait + Net + Files + AllocGlobal),
     path: Path<'_>,
     left: usize,
-) {
-    let server = start(rt, path, spelled(rt, rt.alloc(), SHORT));
+) -> Result<(), Fail> {
+    let server = start(rt, path, spelled(rt, rt.alloc(), SHORT))?;
     drive_to_full(rt, path, left);
     assert_eq!(rt; server.join(rt).as_slice(), b"\x01\x02".as_slice());
-    fs::remove_file(rt, path).expect(rt, "a file");
+    Ok(fs::remove_file(rt, path)?)
 }
 
 #[test]
 fn a_reply_that_cannot_be_printed(rt: HostRuntime) -> Result<(), Fail> {
     let path = own_path(&rt)?;
     for left in [0, 1, 3] {
-        fills_the_output(&rt, path.as_path(), left);
+        fills_the_output(&rt, path.as_path(), left)?;
     }
     Ok(())
 }

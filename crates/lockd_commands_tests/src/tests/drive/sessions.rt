@@ -38,15 +38,14 @@ fn session(
     text: &str,
     wrote: (&str, &str),
     lines: usize,
-) {
+) -> Result<(), Fail> {
     let alloc = rt.alloc();
-    let listener = UnixListener::bind(rt, path).expect(rt, "a socket");
-    let server = thread::spawn(rt, move || serve_one(alloc, &listener));
-    let server = server.ok().expect(rt, "a thread");
+    let listener = UnixListener::bind(rt, path)?;
+    let server = thread::spawn(rt, move || serve_one(alloc, &listener))?;
     let came = drive(rt, path, text.as_bytes());
     is(rt, "a session", &came, wrote.0, wrote.1);
     assert_eq!(rt; server.join(rt), lines);
-    fs::remove_file(rt, path).expect(rt, "a file");
+    Ok(fs::remove_file(rt, path)?)
 }
 
 #[test]
@@ -55,8 +54,7 @@ fn a_session_over_a_socket(rt: HostRuntime) -> Result<(), Fail> {
     let asked = marked(&rt, rt.alloc(), "", two_locks(), "> ");
     let text = [init(), "recv 1\n", &asked, "recv 3\n"].concat(rt.alloc())?;
     let printed = marked(&rt, rt.alloc(), init_reply(), two_locks(), "< ");
-    session(&rt, path.as_path(), &text, (&printed, ""), 6);
-    Ok(())
+    session(&rt, path.as_path(), &text, (&printed, ""), 6)
 }
 
 // The client sends a bad length.
@@ -65,6 +63,5 @@ fn a_session_that_ends_early(rt: HostRuntime) -> Result<(), Fail> {
     let path = own_path(&rt)?;
     let text = [init(), "recv 1\n00000000\nrecv 1\n"].concat(rt.alloc())?;
     let wrote = (init_reply(), "cut\n");
-    session(&rt, path.as_path(), &text, wrote, 0);
-    Ok(())
+    session(&rt, path.as_path(), &text, wrote, 0)
 }
