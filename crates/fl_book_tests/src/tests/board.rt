@@ -2,6 +2,8 @@
 
 ghost use Rattle.std.specs.Prelude.{◌≡◌, ◌<◌, ◌≤◌};
 
+use super::lines::{is_line, order};
+use super::same;
 use fl_book::{Board, BoardName, CloseFault, History, Line, Seat, Verdict, check};
 use fl_core::Tolds;
 use fl_wire::{Answer, Errno, LockAsk, Name, Op, Order};
@@ -13,17 +15,6 @@ use std::sync::ledger::Blank;
 use std::test::Fail;
 use std::thread;
 use std::thread::{JoinHandle, Scope, Threads};
-
-fn order(unique: u64, node: u64, op: Op) -> Order {
-    Order {
-        unique,
-        node,
-        uid: 0,
-        gid: 0,
-        pid: 0,
-        op,
-    }
-}
 
 // Makes one file, with one open file.
 fn create() -> Result<Order, Fail> {
@@ -209,7 +200,26 @@ fn history_of<L: BoardName + Send + Sync, R: Threads + Wait + Sync>(
         .map_err(Fail::from)
 }
 
-// The history is legal. Its orders are the first one, and then each worker's, in the order in which it handed them in.
+// The history's orders are the first one, and then each worker's, in the order in which it handed them in. It gives
+// how many of its own each worker handed in.
+fn handed_in(rt: &impl Abort, history: &History, orders: Orders) -> Result<[u64; 16], Fail> {
+    let mut places = [0u64; 16];
+    let first = Line::Asked {
+        worker: 0,
+        order: create()?,
+    };
+    is_line(rt, history, 0, &first);
+    for at in 1..history.len() {
+        if let Line::Asked { worker, order } = history.line(at) {
+            let place = places.get_mut(worker as usize).ok_or("a worker")?;
+            same(rt, &order, &made(orders, worker, *place));
+            *place = place.saturating_add(1);
+        }
+    }
+    Ok(places)
+}
+
+// The history is legal. Each of so many workers handed in so many orders, and all of them are there.
 fn has_all(
     rt: &(impl Abort + AllocGlobal),
     history: &History,
@@ -217,21 +227,8 @@ fn has_all(
     orders: Orders,
     many: u64,
 ) -> Result<(), Fail> {
-    assert_eq!(rt; check(rt.alloc(), history)?, Verdict::Legal);
-    let mut places = [0u64; 16];
-    assert!(rt; !history.is_empty());
-    let first = Line::Asked {
-        worker: 0,
-        order: create()?,
-    };
-    assert_eq!(rt; history.line(0), first);
-    for at in 1..history.len() {
-        if let Line::Asked { worker, order } = history.line(at) {
-            let place = places.get_mut(worker as usize).ok_or("a worker")?;
-            assert_eq!(rt; order, made(orders, worker, *place));
-            *place = place.saturating_add(1);
-        }
-    }
+    same(rt, &check(rt.alloc(), history)?, &Verdict::Legal);
+    let places = handed_in(rt, history, orders)?;
     for (worker, place) in places.iter().enumerate() {
         let wanted = if worker < workers { many } else { 0 };
         assert_eq!(rt; *place, wanted, "of worker {worker}");
@@ -254,10 +251,10 @@ fn count(history: &History, wanted: Result<Answer, Errno>) -> usize {
 fn two_seats_in_two_threads(rt: HostRuntime) -> Result<(), Fail> {
     let history = history_of::<Brand, _>(&rt, rt.alloc(), Blank::new(2), 2, Orders::Locks, 100)?;
     has_all(&rt, &history, 2, Orders::Locks, 100)?;
-    assert_eq!(rt; history.len(), 402);
+    same(&rt, &history.len(), &402);
     // Each byte is locked by the one that comes first.
-    assert_eq!(rt; count(&history, Ok(Answer::Done)), 100);
-    assert_eq!(rt; count(&history, Err(Errno::EAGAIN)), 100);
+    same(&rt, &count(&history, Ok(Answer::Done)), &100);
+    same(&rt, &count(&history, Err(Errno::EAGAIN)), &100);
     Ok(())
 }
 
@@ -319,13 +316,13 @@ fn closed_late<L: BoardName, R: Wait>(rt: &R, alloc: Global, blank: Blank) -> Re
 #[test]
 fn a_board_goes_on_where_a_seat_is_missing(rt: HostRuntime) -> Result<(), Fail> {
     let history = closed_late::<Brand, _>(&rt, rt.alloc(), Blank::new(2))?;
-    assert_eq!(rt; check(rt.alloc(), &history)?, Verdict::Legal);
-    assert_eq!(rt; history.len(), 6);
+    same(&rt, &check(rt.alloc(), &history)?, &Verdict::Legal);
+    same(&rt, &history.len(), &6);
     // The second seat's lock is refused: the two seats have one directory.
     let last = Line::Told(fl_wire::Told {
         unique: 3,
         result: Err(Errno::EAGAIN),
     });
-    assert_eq!(rt; history.line(5), last);
+    is_line(&rt, &history, 5, &last);
     Ok(())
 }

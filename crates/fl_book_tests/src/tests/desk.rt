@@ -1,9 +1,9 @@
 //! The desk, against a stored trace, and a history of many lines.
 
-use super::lines::order;
+use super::lines::{is_line, order, take};
 use super::same;
-use super::traces::{LOCKS, read};
-use fl_book::{Desk, History, Line, laws, print_trace};
+use super::traces::{LOCKS, is_text, read};
+use fl_book::{Desk, History, Line, laws};
 use fl_core::Tolds;
 use fl_wire::{Answer, Attr, Errno, LockAsk, Name, Op, Told};
 use std::alloc::Global;
@@ -15,8 +15,7 @@ fn stand_behind(rt: &impl Abort, trace: &History, at: usize, tolds: &[Told]) {
     let mut at = at;
     for told in tolds {
         at = at.saturating_add(1);
-        assert!(rt; at < trace.len());
-        same(rt, &trace.line(at), &Line::Told(*told));
+        is_line(rt, trace, at, &Line::Told(*told));
     }
 }
 
@@ -25,8 +24,7 @@ fn asked_again(rt: &impl Abort, alloc: Global, trace: &History) -> Result<Histor
     let mut desk = Desk::new(alloc)?;
     let mut tolds = Tolds::new(alloc)?;
     for at in 0..trace.len() {
-        if let Line::Asked { worker, order } = trace.line(at) {
-            desk.take(worker, &order, &mut tolds)?;
+        if take(&mut desk, &trace.line(at), &mut tolds)? {
             stand_behind(rt, trace, at, tolds.as_slice());
         }
     }
@@ -39,9 +37,7 @@ fn a_desk_answers_and_records(rt: HostRuntime) -> Result<(), Fail> {
     let trace = read(&rt, LOCKS, 10)?;
     let history = asked_again(&rt, rt.alloc(), &trace)?;
     same(&rt, &history.len(), &10);
-    let text = print_trace(rt.alloc(), &history)?;
-    assert_eq!(rt; text.as_str(), LOCKS);
-    Ok(())
+    is_text(&rt, &history, LOCKS)
 }
 
 // What another place doesn't ask, with names of any length.
@@ -66,11 +62,11 @@ fn lock_for(place: u64) -> Op {
     })
 }
 
-fn asked_for(place: u64) -> Result<Line, Fail> {
-    Ok(Line::Asked {
+fn asked_for(place: u64, op: Op) -> Line {
+    Line::Asked {
         worker: 15,
-        order: order(place, u64::MAX, op_for(place)?),
-    })
+        order: order(place, u64::MAX, op),
+    }
 }
 
 fn attr_for(place: u64) -> Attr {
@@ -100,18 +96,20 @@ fn told_for(place: u64) -> Line {
 fn a_history_of_many_chunks_gives_each_line_back(rt: HostRuntime) -> Result<(), Fail> {
     let mut history = History::new(rt.alloc());
     for place in 0..10_000 {
-        history.push(&asked_for(place)?)?;
+        let op = op_for(place)?;
+        history.push(&asked_for(place, op))?;
         history.push(&told_for(place))?;
     }
     same(&rt, &history.len(), &20_000);
     for at in 0..history.len() {
         let place = at as u64 / 2;
+        let op = op_for(place)?;
         let wanted = if at % 2 == 0 {
-            asked_for(place)?
+            asked_for(place, op)
         } else {
             told_for(place)
         };
-        same(&rt, &history.line(at), &wanted);
+        is_line(&rt, &history, at, &wanted);
     }
     Ok(())
 }

@@ -1,9 +1,9 @@
 //! The judge beside another way to judge: random histories, and changes of them.
 
 use super::changes::{CHANGES, Effect, changed};
+use super::lines::take;
 use super::numbers::Numbers;
 use super::random::{Seen, random_history};
-use super::same;
 use fl_book::{Desk, History, Line, Verdict, check};
 use fl_core::Tolds;
 use fl_wire::{Name, NoMemory};
@@ -16,11 +16,18 @@ fn with_these_orders(alloc: Global, history: &History) -> Result<History, NoMemo
     let mut desk = Desk::new(alloc)?;
     let mut tolds = Tolds::new(alloc)?;
     for at in 0..history.len() {
-        if let Line::Asked { worker, order } = history.line(at) {
-            desk.take(worker, &order, &mut tolds)?;
-        }
+        take(&mut desk, &history.line(at), &mut tolds)?;
     }
     Ok(desk.into_history())
+}
+
+fn equal<T: PartialEq>(one: &T, other: &T) -> bool {
+    *one == *other
+}
+
+// Whether a history has this line at a place.
+fn has_line(history: &History, at: usize, line: &Line) -> bool {
+    at < history.len() && equal(&history.line(at), line)
 }
 
 // What has to be said of a history, beside the legal one with the same orders: that it is legal where the two are
@@ -36,7 +43,7 @@ fn with_these_orders(alloc: Global, history: &History) -> Result<History, NoMemo
 // - Where it ends there, the other has a reply there too: it has no more orders, and none is owed a reply.
 fn verdict_beside(history: &History, legal: &History) -> Verdict {
     for at in 0..history.len() {
-        if at >= legal.len() || legal.line(at) != history.line(at) {
+        if !has_line(legal, at, &history.line(at)) {
             return Verdict::Differs(at.saturating_add(1));
         }
     }

@@ -1,8 +1,11 @@
-//! Histories and their lines, as lists.
+//! Histories and their lines, and a desk that takes them.
 
-use fl_book::{History, Line};
+use super::same;
+use fl_book::{Desk, History, Line};
+use fl_core::Tolds;
 use fl_wire::{NoMemory, Op, Order};
 use std::alloc::Global;
+use std::process::Abort;
 
 // The history of these lines.
 pub(super) fn history_of(alloc: Global, lines: &[Line]) -> Result<History, NoMemory> {
@@ -13,13 +16,37 @@ pub(super) fn history_of(alloc: Global, lines: &[Line]) -> Result<History, NoMem
     Ok(history)
 }
 
-// The lines of a history.
+// The lines of a history. They are taken apart, since the check of loans has to meet the type `Op` here.
 pub(super) fn lines_of(alloc: Global, history: &History) -> Result<Vec<Line>, NoMemory> {
     let mut lines = Vec::new(alloc);
     for at in 0..history.len() {
-        lines.push(history.line(at))?;
+        match history.line(at) {
+            Line::Asked { worker, order } => {
+                let op = order.op;
+                lines.push(Line::Asked {
+                    worker,
+                    order: Order { op, ..order },
+                })?;
+            }
+            Line::Told(told) => lines.push(Line::Told(told))?,
+        }
     }
     Ok(lines)
+}
+
+// This is a history's line at a place, from 0.
+pub(super) fn is_line(rt: &impl Abort, history: &History, at: usize, line: &Line) {
+    assert!(rt; at < history.len());
+    same(rt, &history.line(at), line);
+}
+
+// A desk takes the order of a line, if it is one.
+pub(super) fn take(desk: &mut Desk, line: &Line, tolds: &mut Tolds) -> Result<bool, NoMemory> {
+    let Line::Asked { worker, order } = line else {
+        return Ok(false);
+    };
+    desk.take(*worker, order, tolds)?;
+    Ok(true)
 }
 
 // An order by the superuser.

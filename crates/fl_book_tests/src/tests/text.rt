@@ -1,10 +1,12 @@
 //! The text of histories, there and back.
 
-use super::lines::history_of;
+use super::lines::{history_of, is_line};
 use super::same;
-use fl_book::{Line, first_line, has_text, print_trace, read_trace};
+use super::traces::{is_text, read};
+use fl_book::{Line, first_line, has_text};
 use fl_trace::laws;
 use fl_wire::{Answer, Attr, Errno, LockAsk, Name, Op, Order, Told};
+use std::alloc::Global;
 use std::process::Abort;
 use std::test::Fail;
 
@@ -36,11 +38,9 @@ fn name(bytes: &[u8]) -> Result<Name, Fail> {
 // A line is printed as this text, and the text is read as the line.
 fn there_and_back(rt: &(impl Abort + AllocGlobal), line: &Line, text: &str) -> Result<(), Fail> {
     let history = history_of(rt.alloc(), &[*line])?;
-    assert!(rt; has_text(&history), "{text}");
-    assert_eq!(rt; print_trace(rt.alloc(), &history)?.as_str(), text);
-    let read = read_trace(rt.alloc(), text.as_bytes()).ok().ok_or("read")?;
-    assert_eq!(rt; read.len(), 1, "{text}");
-    same(rt, &read.line(0), line);
+    same(rt, &has_text(&history), &true);
+    is_text(rt, &history, text)?;
+    is_line(rt, &read(rt, text, 1)?, 0, line);
     Ok(())
 }
 
@@ -263,32 +263,37 @@ fn what_can_be_read_back(rt: HostRuntime) -> Result<(), Fail> {
 
 #[test]
 fn no_lines(rt: HostRuntime) -> Result<(), Fail> {
-    let read = read_trace(rt.alloc(), b"").ok().ok_or("read")?;
-    assert!(rt; read.is_empty());
-    assert_eq!(rt; print_trace(rt.alloc(), &read)?.as_str(), "");
-    Ok(())
+    let trace = read(&rt, "", 0)?;
+    same(&rt, &trace.is_empty(), &true);
+    is_text(&rt, &trace, "")
 }
 
 #[test]
 fn a_line_at_a_time(rt: HostRuntime) -> Result<(), Fail> {
-    let (line, rest) = first_line(b"tell 9 ok\ntell").ok_or("a line")?;
+    let Some((line, rest)) = first_line(b"tell 9 ok\ntell") else {
+        return Err(Fail::from("a line"));
+    };
     same(&rt, &line, &told(Ok(Answer::Done)));
     assert_eq!(rt; rest, b"tell".as_slice());
     assert!(rt; first_line(rest).is_none());
     Ok(())
 }
 
-#[test]
-fn a_trace_of_ten_thousand_lines(rt: HostRuntime) -> Result<(), Fail> {
-    let mut text = String::new(rt.alloc());
-    for i in 0..5_000u32 {
+// So many locks that are set at once, each with its reply.
+fn many_locks(alloc: Global, locks: u32) -> Result<String, Fail> {
+    let mut text = String::new(alloc);
+    for i in 0..locks {
         write!(text, "ask 0 {i} 2 0 0 0 setlk 1 7 {i} {i} 1 11 0\n")?;
         write!(text, "tell {i} ok\n")?;
     }
-    let read = read_trace(rt.alloc(), text.as_bytes()).ok().ok_or("read")?;
-    same(&rt, &read.len(), &10_000);
-    assert_eq!(rt; print_trace(rt.alloc(), &read)?.as_str(), text.as_str());
-    Ok(())
+    Ok(text)
+}
+
+#[test]
+fn a_trace_of_ten_thousand_lines(rt: HostRuntime) -> Result<(), Fail> {
+    let text = many_locks(rt.alloc(), 5_000)?;
+    let trace = read(&rt, text.as_str(), 10_000)?;
+    is_text(&rt, &trace, text.as_str())
 }
 
 #[test]

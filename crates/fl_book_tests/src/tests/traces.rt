@@ -1,7 +1,7 @@
 //! Stored traces: orders and the replies that are owed, one a line, and what is said of each.
 
 use super::same;
-use fl_book::{History, Verdict, check, read_trace};
+use fl_book::{History, Verdict, check, print_trace, read_trace};
 use std::process::Abort;
 use std::test::Fail;
 
@@ -30,6 +30,17 @@ pub(super) fn read(
         .ok_or("a trace")?;
     same(rt, &trace.len(), &lines);
     Ok(trace)
+}
+
+// A history is printed as this text.
+pub(super) fn is_text(
+    rt: &(impl Abort + AllocGlobal),
+    history: &History,
+    text: &str,
+) -> Result<(), Fail> {
+    let printed = print_trace(rt.alloc(), history)?;
+    assert_eq!(rt; printed.as_str(), text);
+    Ok(())
 }
 
 // So is a trace of so many lines judged.

@@ -5,7 +5,7 @@ use super::directory::{
     lives, made, name,
 };
 use super::same;
-use fl_dir::{Closed, Dir, ROOT};
+use fl_dir::{Dir, ROOT};
 use fl_wire::{Answer, Attr, Errno, Name};
 use std::process::Abort;
 use std::test::Fail;

@@ -5,7 +5,7 @@ use super::grid::{BYTES, Grid, LAST_ROW, ROWS, owners, row_excludes};
 use super::locks::{READ, WRITE, elsewhere, key, put, put_as, range, whole_file};
 use super::numbers::Numbers;
 use super::same;
-use fl_ranges::{Key, Kind, LAST_BYTE, Range, Table};
+use fl_ranges::{Key, Kind, LAST_BYTE, Table};
 use std::alloc::Global;
 use std::process::Abort;
 use std::test::Fail;
