@@ -5,3 +5,4 @@ program=crates/lockd/out/lockd
 (cd crates/lockd && rt run < stdin > /dev/null)
 work=$(mktemp -d)
 trap 'rm -rf "$work"' EXIT
+trap 'exit 1' INT TERM

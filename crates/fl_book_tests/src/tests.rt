@@ -6,7 +6,6 @@ mod changes;
 mod desk;
 mod judged;
 mod lines;
-mod numbers;
 mod random;
 mod text;
 mod traces;

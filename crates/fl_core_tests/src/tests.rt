@@ -9,7 +9,6 @@ mod errors;
 mod limits;
 mod lives;
 mod locks;
-mod numbers;
 mod orders;
 mod parking;
 mod plain;

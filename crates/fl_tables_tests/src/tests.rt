@@ -8,7 +8,6 @@ mod grid;
 mod lists;
 mod lives;
 mod locks;
-mod numbers;
 mod owners;
 mod ranges;
 mod rooms;

@@ -1,8 +1,8 @@
 //! Changes of a history.
 
 use super::lines::{history_of, lines_of};
-use super::numbers::Numbers;
 use fl_book::{History, Line};
+use fl_testing::Numbers;
 use fl_wire::{Answer, Attr, Errno, LockAsk, NoMemory, Op, Order, Told};
 use std::alloc::Global;
 

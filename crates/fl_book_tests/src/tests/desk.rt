@@ -10,13 +10,15 @@ use std::alloc::Global;
 use std::process::Abort;
 use std::test::Fail;
 
-// The replies stand behind a line of a trace.
+// The replies, and no others, stand behind a line of a trace.
 fn stand_behind(rt: &impl Abort, trace: &History, at: usize, tolds: &[Told]) {
     let mut at = at;
     for told in tolds {
         at = at.saturating_add(1);
         is_line(rt, trace, at, &Line::Told(*told));
     }
+    let next = at.saturating_add(1);
+    assert!(rt; next >= trace.len() || matches!(trace.line(next), Line::Asked { .. }));
 }
 
 // A new desk is asked what a trace asks, and tells what the trace tells. It gives the desk's history.

@@ -2,10 +2,10 @@
 
 use super::changes::{CHANGES, Effect, changed};
 use super::lines::take;
-use super::numbers::Numbers;
 use super::random::{Seen, random_history};
 use fl_book::{Desk, History, Line, Verdict, check};
 use fl_core::Tolds;
+use fl_testing::Numbers;
 use fl_wire::{Name, NoMemory};
 use std::alloc::Global;
 use std::process::Abort;

@@ -1,9 +1,9 @@
 //! Histories of random orders of all kinds, many of which wait for locks.
 
 use super::lines::order;
-use super::numbers::Numbers;
 use fl_book::{Desk, History};
 use fl_core::Tolds;
+use fl_testing::Numbers;
 use fl_wire::{Answer, Errno, LockAsk, Name, NoMemory, Op, Order, Told};
 use std::alloc::Global;
 use std::process::Abort;

@@ -1,9 +1,9 @@
 //! Random orders on names, nodes and open files, beside a plain directory.
 
 use super::Server;
-use super::numbers::Numbers;
 use super::orders::{name, order};
 use super::plain::Plain;
+use fl_testing::Numbers;
 use fl_wire::{Name, Op, Order};
 use std::alloc::Global;
 use std::process::Abort;
@@ -17,6 +17,11 @@ fn names(rt: &impl Abort) -> Names {
         name(rt, b""),
         name(rt, b".."),
     ]
+}
+
+// One of the last nine that were given before this one, or this one.
+fn near(numbers: &mut Numbers, next: u64) -> u64 {
+    next.saturating_sub(numbers.below(10))
 }
 
 fn random_create(numbers: &mut Numbers, name: Name) -> Op {
@@ -60,8 +65,8 @@ fn random_file_op(numbers: &mut Numbers, fh: u64) -> Op {
 }
 
 fn random_order(numbers: &mut Numbers, names: &Names, plain: &Plain) -> Order {
-    let fh = numbers.near(plain.next_fh());
-    let mut node = numbers.near(plain.next_node());
+    let fh = near(numbers, plain.next_fh());
+    let mut node = near(numbers, plain.next_node());
     let often = numbers.below(8) != 0;
     let op = match numbers.below(3) {
         0 => {

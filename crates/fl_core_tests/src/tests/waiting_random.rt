@@ -1,11 +1,11 @@
 //! Random orders on locks, many of which wait, beside a plain program of locks.
 
 use super::Server;
-use super::numbers::Numbers;
 use super::orders::{READ, UNLOCK, WRITE, create, name, order, release};
 use super::plain_locks::{Counts, LAST, OWNERS, PlainLocks, request_of};
 use fl_core::Core;
 use fl_ranges::{Class, Key, Kind, Range};
+use fl_testing::Numbers;
 use fl_wire::{Errno, LockAsk, Op, Order};
 use std::alloc::Global;
 use std::process::Abort;
@@ -180,6 +180,9 @@ fn run(rt: &impl Abort, alloc: Global, seed: u64, turns: u64) -> Counts {
         compare(rt, &mut server, &mut plain, &create(true, name(rt, letter)));
     }
     take_turns(rt, &mut server, &mut plain, seed, turns);
+    for unique in 0..turns {
+        check_unique(rt, &server.core, &plain, unique);
+    }
     let counts = plain.counts;
     close_all(rt, &mut server, &mut plain);
     counts

@@ -4,9 +4,9 @@ use super::grid::{BYTES, Grid, LAST_ROW, Row, excludes, owners};
 use super::locks::{
     OTHER_WRITE, READ, WRITE, elsewhere, erase, held, key, put, put_as, range, whole_file,
 };
-use super::numbers::Numbers;
 use super::same;
 use fl_ranges::{Held, Key, Kind, LAST_BYTE, Mark, Table};
+use fl_testing::Numbers;
 use std::alloc::Global;
 use std::process::Abort;
 use std::test::Fail;

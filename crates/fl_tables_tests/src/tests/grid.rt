@@ -1,9 +1,9 @@
 //! A plain grid of bytes, which says what a lock table has to hold.
 
-use super::locks::{OTHER_WRITE, READ, WRITE, key, range};
-use super::numbers::Numbers;
+use super::locks::{OTHER_READ, OTHER_WRITE, READ, WRITE, key, range};
 use super::same;
 use fl_ranges::{Key, Kind, LAST_BYTE, Mark, Range, Table};
+use fl_testing::Numbers;
 use std::process::Abort;
 
 pub(super) const ROWS: usize = 4;
@@ -92,10 +92,11 @@ impl Grid {
 }
 
 fn random_mark(numbers: &mut Numbers) -> Option<Mark> {
-    match numbers.below(6) {
+    match numbers.below(7) {
         0 | 1 => None,
         2 | 3 => Some(READ),
         4 => Some(WRITE),
+        5 => Some(OTHER_READ),
         _ => Some(OTHER_WRITE),
     }
 }

@@ -4,9 +4,9 @@ ghost use Rattle.fl_arena.specs.Chains.{HasSizeOf};
 ghost use Rattle.fl_arena.specs.Cursors.{IsInPlace};
 
 use super::arena::holds;
-use super::numbers::Numbers;
 use super::same;
 use fl_arena::{Arena, Cursor, Place};
+use fl_testing::Numbers;
 use std::process::Abort;
 use std::test::Fail;
 

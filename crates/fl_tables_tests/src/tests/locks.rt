@@ -10,6 +10,11 @@ pub(super) const READ: Mark = Mark {
     pid: 1,
 };
 
+pub(super) const OTHER_READ: Mark = Mark {
+    kind: Kind::Read,
+    pid: 2,
+};
+
 pub(super) const WRITE: Mark = Mark {
     kind: Kind::Write,
     pid: 1,

@@ -3,9 +3,9 @@
 
 use super::grid::{BYTES, Grid, LAST_ROW, ROWS, owners, row_excludes};
 use super::locks::{READ, WRITE, elsewhere, key, put, put_as, range, whole_file};
-use super::numbers::Numbers;
 use super::same;
 use fl_ranges::{Key, Kind, LAST_BYTE, Table};
+use fl_testing::Numbers;
 use std::alloc::Global;
 use std::process::Abort;
 use std::test::Fail;

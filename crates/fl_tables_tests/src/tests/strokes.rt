@@ -2,9 +2,9 @@
 
 use super::grid::{BYTES, Grid, LAST_ROW, ROWS, count_runs, paint, row_excludes};
 use super::locks::{elsewhere, key, whole_file};
-use super::numbers::Numbers;
 use super::same;
 use fl_ranges::{Key, Kind, Table};
+use fl_testing::Numbers;
 use std::alloc::Global;
 use std::process::Abort;
 use std::test::Fail;
