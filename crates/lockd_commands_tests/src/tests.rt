@@ -85,8 +85,12 @@ fn is(rt: &impl Abort, what: &str, came: &Came, printed: &str, told: &str) {
 }
 
 fn wrote(rt: &impl Abort, what: &str, came: &Came, printed: &str, told: &str) {
-    assert_eq!(rt; str::from_utf8(&came.told).ok(), Some(told), "{what}");
-    assert_eq!(rt; str::from_utf8(&came.printed).ok(), Some(printed), "{what}");
+    is_text(rt, what, &came.told, told);
+    is_text(rt, what, &came.printed, printed);
+}
+
+fn is_text(rt: &impl Abort, what: &str, found: &[u8], wanted: &str) {
+    assert_eq!(rt; str::from_utf8(found).ok(), Some(wanted), "{what}");
 }
 
 // Runs each of the cases in a stored text, and says how many there are. A case begins with a line of `# ` and a title; the

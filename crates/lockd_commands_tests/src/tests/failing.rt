@@ -8,7 +8,7 @@ use std::process::Abort;
 
 // A read or a write that failed is told, and after the first nothing is printed.
 fn failed(rt: &impl Abort, what: &str, status: Status, fault: Fault, told: &[u8], line: &[u8]) {
-    assert!(rt; status == Status::Faulted(fault), "{what}");
+    assert!(rt; status == Status::Faulted(fault));
     assert_eq!(rt; told, line, "{what}");
 }
 

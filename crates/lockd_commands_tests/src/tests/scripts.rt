@@ -16,12 +16,13 @@ use std::process::Abort;
 use waiting::requests_that_wait;
 
 // The ask lines of a trace.
-fn asks_of(rt: &impl Abort, alloc: Global, trace: &str) -> String {
-    let mut script = String::new(alloc);
+fn asks_of(rt: &impl Abort, alloc: Global, trace: &str) -> Vec<u8> {
+    let mut script = Vec::new(alloc);
     for line in trace.lines() {
         if line.starts_with("ask ") {
-            script.push_str(line).expect(rt, "memory");
-            script.push('\n').expect(rt, "memory");
+            let pushed = script.extend_from_slice(line.as_bytes());
+            pushed.expect(rt, "memory");
+            script.push(b'\n').expect(rt, "memory");
         }
     }
     script
@@ -30,7 +31,7 @@ fn asks_of(rt: &impl Abort, alloc: Global, trace: &str) -> String {
 // A script is the ask lines of the trace that is wanted for it.
 fn answers(rt: &impl Abort, alloc: Global, what: &str, trace: &str) {
     let script = asks_of(rt, alloc, trace);
-    let came = run(Command::Script, alloc, script.as_bytes());
+    let came = run(Command::Script, alloc, &script);
     is(rt, what, &came, trace, "");
 }
 

@@ -60,9 +60,11 @@ fn talk<R: Net + Clock>(rt: &R, alloc: Global, path: Path<'_>, bytes: &[u8]) -> 
 
 // What the client of the worked session with two locks sends, and bytes behind it.
 fn two_locks_and(rt: &impl Abort, alloc: Global, behind: &str) -> Vec<u8> {
-    let mut text = marked(rt, alloc, init(), two_locks(), "> ");
-    text.push_str(behind).expect(rt, "memory");
-    spelled(rt, alloc, &text)
+    let text = marked(rt, alloc, init(), two_locks(), "> ");
+    let mut bytes = spelled(rt, alloc, &text);
+    let behind = spelled(rt, alloc, behind);
+    bytes.extend_from_slice(&behind).expect(rt, "memory");
+    bytes
 }
 
 // The client got all replies of that session.
