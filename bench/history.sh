@@ -16,7 +16,7 @@ build() {
     for crate in $(sed 's/[ :].*//' "$work/$2/crates.txt"); do
         cp -a "$1/crates/$crate" "$work/$2/crates/"
     done
-    echo 'history_bench: fl_book fl_core fl_wire anyhow' >> "$work/$2/crates.txt"
+    echo 'history_bench: fl_book fl_core fl_order anyhow' >> "$work/$2/crates.txt"
     cp "$top/bench/history_bench.rs" "$work/$2/crates/history_bench/src/main.rt"
     (cd "$work/$2/crates/history_bench" && rt run < /dev/null > /dev/null)
 }

@@ -5,7 +5,7 @@
 use anyhow::anyhow;
 use fl_book::Desk;
 use fl_core::Tolds;
-use fl_wire::{LockAsk, Name, Op, Order};
+use fl_order::{LockAsk, Name, Op, Order};
 use std::alloc::Global;
 use std::env;
 use std::time::{Clock, Duration, Instant};

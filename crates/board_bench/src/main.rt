@@ -7,7 +7,7 @@ ghost use Rattle.std.specs.Prelude.{◌≡◌, ◌<◌, ◌≤◌};
 use anyhow::anyhow;
 use fl_book::{Board, BoardName, Desk, Seat};
 use fl_core::Tolds;
-use fl_wire::{LockAsk, Name, Op, Order};
+use fl_order::{LockAsk, Name, Op, Order};
 use std::alloc::Global;
 use std::marker::Brand;
 use std::sync::Wait;

@@ -3,17 +3,17 @@ use Rattle.std.proofs.Common.{◌≡◌, ◌≢◌, ℕ, true, false, cond, ◌=
 use Rattle.std.proofs.lemmas.Bool.Decides.{nat_tests}
 use Rattle.std.proofs.lemmas.List.Sums.{fold-append}
 use Rattle.std.specs.List.{fold}
-use Rattle.fl_wire.specs.declared.told.Told.{Told}
-use Rattle.fl_wire.specs.declared.order.Order.{Order}
-use Rattle.fl_history.specs.declared.history.Line.{Line}
-use Rattle.fl_history.specs.declared.history.Line.TheVariants as line
-use Rattle.fl_ranges.specs.Conflict.{IsLawful}
-use Rattle.fl_core.specs.State.{View, State, Snapshot, snapshot_of}
-use Rattle.fl_core.specs.Effects.{Effect, at_once, later, followed_by, told_first, replied, recorded}
-use Rattle.fl_core.specs.Step.{replies}
 use Rattle.fl_book.specs.Replay.{unread, read_line, state_at_end, state_after, all_later, AllOthers}
 use Rattle.fl_book.specs.Legal.{step, step_lines}
 use Rattle.fl_book.specs.Kept.{IsKept}
+use Rattle.fl_core.specs.State.{View, State, Snapshot, snapshot_of}
+use Rattle.fl_core.specs.Effects.{Effect, at_once, later, followed_by, told_first, replied, recorded}
+use Rattle.fl_core.specs.Step.{replies}
+use Rattle.fl_history.specs.declared.history.Line.{Line}
+use Rattle.fl_history.specs.declared.history.Line.TheVariants as line
+use Rattle.fl_order.specs.declared.told.Told.{Told}
+use Rattle.fl_order.specs.declared.order.Order.{Order}
+use Rattle.fl_ranges.specs.Conflict.{IsLawful}
 
 -- ---- how the lines of a step are read
 

@@ -1,11 +1,11 @@
 -- Which histories are those of one thread: each order is answered as the sequential lock directory answers then.
 use Rattle.std.specs.Prelude.{◌≡◌, ℕ, Bool, true, false, List, [], ◌∷◌, ◌++◌, map, count_by}
-use Rattle.fl_wire.specs.declared.told.Told.{Told}
-use Rattle.fl_wire.specs.declared.order.Order.{Order}
-use Rattle.fl_history.specs.declared.history.Line.{Line}
-use Rattle.fl_history.specs.declared.history.Line.TheVariants as line
 use Rattle.fl_book.specs.Replay.{state_after}
 use Rattle.fl_core.specs.Step.{replies_in}
+use Rattle.fl_history.specs.declared.history.Line.{Line}
+use Rattle.fl_history.specs.declared.history.Line.TheVariants as line
+use Rattle.fl_order.specs.declared.told.Told.{Told}
+use Rattle.fl_order.specs.declared.order.Order.{Order}
 
 -- an order and its replies, as lines
 abbrev pub step_lines : ℕ → Order → List Told → List Line

@@ -1,12 +1,12 @@
 -- The state that recorded lines alone give.
 use Rattle.std.specs.Prelude.{◌≢◌, ℕ, Option, Some, None, List}
 use Rattle.std.specs.List.{fold, AllByRecursion}
-use Rattle.fl_wire.specs.declared.order.Order.{Order}
-use Rattle.fl_wire.specs.declared.told.Told.{Told}
 use Rattle.fl_core.specs.State.{State, opening}
 use Rattle.fl_core.specs.Effects.{at_once, later, told_first, recorded}
 use Rattle.fl_history.specs.declared.history.Line.{Line}
 use Rattle.fl_history.specs.declared.history.Line.TheVariants as line
+use Rattle.fl_order.specs.declared.order.Order.{Order}
+use Rattle.fl_order.specs.declared.told.Told.{Told}
 
 -- lines that are read one after another: the state, and the order that was asked last, if it has no reply yet
 pub record Reading : Type 0 where

@@ -8,7 +8,7 @@ ghost use Rattle.fl_history.specs.declared.history.Line.{Line as Entry};
 use crate::desk::Desk;
 use fl_core::Tolds;
 use fl_history::History;
-use fl_wire::{NoMemory, Order};
+use fl_order::{NoMemory, Order};
 use std::alloc::{AllocError, Global};
 use std::marker::{Brand, Model};
 use std::sync::ledger::{Blank, Book, Ledger, Share};

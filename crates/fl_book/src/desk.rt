@@ -6,7 +6,7 @@ ghost use Rattle.fl_book.specs.Kept.{IsKept, opening_book};
 
 use fl_core::{Core, MOST_TOLDS, Tolds};
 use fl_history::{History, Lines};
-use fl_wire::{NoMemory, Order, Told};
+use fl_order::{NoMemory, Order, Told};
 use std::alloc::Global;
 use std::marker::Model;
 

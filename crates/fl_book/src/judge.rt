@@ -2,13 +2,13 @@
 
 ghost use Rattle.std.specs.Prelude.{◌≡◌, ◌≢◌, ◌↔◌, ◌≤◌, ◌<◌, ◌^◌, true, Some, IfOk, length, map, take, drop};
 ghost use Rattle.std.specs.List.{slice_get};
-ghost use Rattle.fl_wire.specs.declared.told.Told.{Told as Reply};
-ghost use Rattle.fl_history.specs.declared.history.Line.TheVariants as line;
 ghost use Rattle.fl_book.specs.Verdicts.{IsVerdict};
+ghost use Rattle.fl_history.specs.declared.history.Line.TheVariants as line;
+ghost use Rattle.fl_order.specs.declared.told.Told.{Told as Reply};
 
 use fl_core::{Core, Tolds};
 use fl_history::{History, Line};
-use fl_wire::{NoMemory, Told};
+use fl_order::{NoMemory, Told};
 use std::alloc::Global;
 
 /// What a judge says of a history.

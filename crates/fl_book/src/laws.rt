@@ -1,12 +1,12 @@
 //! Laws of the definitions, in the words of their subject. Each is the contract of an empty function.
 
 ghost use Rattle.std.specs.Prelude.{◌≡◌, ℕ, Some, None, List, ◌∷◌, ◌++◌};
-ghost use Rattle.fl_wire.specs.declared.told.Told.{Told as Reply};
-ghost use Rattle.fl_wire.specs.declared.order.Order.{Order as Request};
-ghost use Rattle.fl_core.specs.Effects.{at_once, recorded};
-ghost use Rattle.fl_history.specs.declared.history.Line.{Line as Record};
 ghost use Rattle.fl_book.specs.Legal.{step_lines};
 ghost use Rattle.fl_book.specs.Replay.{state_after, all_later, AllOthers};
+ghost use Rattle.fl_core.specs.Effects.{at_once, recorded};
+ghost use Rattle.fl_history.specs.declared.history.Line.{Line as Record};
+ghost use Rattle.fl_order.specs.declared.told.Told.{Told as Reply};
+ghost use Rattle.fl_order.specs.declared.order.Order.{Order as Request};
 
 /// The lines of an order and its replies are read as its own reply, or as none, and then as each other reply.
 pub fn own_reply_comes_first()

@@ -3,15 +3,15 @@ use Rattle.std.proofs.Common.{◌≡◌, ◌≢◌, ℕ, true, false, cond, ◌=
 use Rattle.std.proofs.lemmas.Bool.Decides.{nat_tests}
 use Rattle.std.specs.FinMap.{empty}
 use Rattle.std.specs.List.{fold, AllByRecursion}
-use Rattle.fl_wire.specs.declared.errno.Errno.{Errno}
-use Rattle.fl_wire.specs.declared.told.Answer.{Answer}
-use Rattle.fl_wire.specs.declared.told.Told.{Told}
-use Rattle.fl_wire.specs.declared.order.Order.{Order}
-use Rattle.fl_ranges.specs.Marking.{Marking}
-use Rattle.fl_ranges.specs.Change.{Change, after_change, after_changes}
 use Rattle.fl_core.specs.State.{View, State, Snapshot, snapshot_of}
 use Rattle.fl_core.specs.Replies.{own_replies}
 use Rattle.fl_core.specs.Effects.{Effect, at_once, later, followed_by, told_first, replied, recorded, made}
+use Rattle.fl_order.specs.declared.errno.Errno.{Errno}
+use Rattle.fl_order.specs.declared.told.Answer.{Answer}
+use Rattle.fl_order.specs.declared.told.Told.{Told}
+use Rattle.fl_order.specs.declared.order.Order.{Order}
+use Rattle.fl_ranges.specs.Marking.{Marking}
+use Rattle.fl_ranges.specs.Change.{Change, after_change, after_changes}
 
 after_changes-append : (later earlier : List Change) (m : Marking) → after_changes (later ++ earlier) m ≡ after_changes later (after_changes earlier m)
 after_changes-append [] earlier m = refl

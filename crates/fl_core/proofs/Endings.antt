@@ -1,11 +1,11 @@
 -- Requests that are ended, one after another.
 use Rattle.std.proofs.Common.{◌≡◌, Bool, Some, None, List, [], ◌∷◌, ◌++◌, append_assoc, append-nil, map, sym, ap, ◌∙◌}
-use Rattle.fl_wire.specs.declared.errno.Errno.{Errno}
-use Rattle.fl_wire.specs.declared.told.Told.{Told}
 use Rattle.fl_core.specs.Replies.{ended_with, ended_all}
 use Rattle.fl_core.specs.Waiting.{taken_first}
 use Rattle.fl_core.specs.declared.parked.Request.{Request}
 use Rattle.fl_core.proofs.Taken.{is_taken, none_taken}
+use Rattle.fl_order.specs.declared.errno.Errno.{Errno}
+use Rattle.fl_order.specs.declared.told.Told.{Told}
 
 -- what was told and is left to tell stays the whole
 pub ending_goes_on : (e : Errno) (test : Request → Bool) (given told more : List Told) (all now left : List Request) (r : Request) (reply : Told) → told ++ ended_all e test now ≡ given ++ ended_all e test all

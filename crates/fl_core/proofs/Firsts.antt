@@ -2,16 +2,6 @@
 use Rattle.std.proofs.Common.{◌≡◌, ◌≢◌, ◌↔◌, ℕ, ◌==◌, ◌≤◌, ◌<◌, nat_le, Bool, true, false, cond, ◌||◌, Option, Some, None, Ok, Err, List, [], ◌∷◌, ◌++◌, append-nil, length, map, refl, sym, ap, ◌∙◌, subst, arith}
 use Rattle.std.proofs.lemmas.Bool.Decides.{nat_tests}
 use Rattle.std.specs.List.{filter, AllByRecursion}
-use Rattle.fl_wire.specs.declared.errno.Errno.{Errno}
-use Rattle.fl_wire.specs.declared.errno.Errno.TheVariants.{EINTR, EBADF, EINVAL, EAGAIN, EDEADLK, ENOLCK}
-use Rattle.fl_wire.specs.declared.told.Answer.TheVariants.{Done}
-use Rattle.fl_wire.specs.declared.told.Told.{Told}
-use Rattle.fl_wire.specs.declared.order.LockAsk.{LockAsk}
-use Rattle.fl_wire.specs.declared.order.Op.{Op}
-use Rattle.fl_wire.specs.declared.order.Op.TheVariants.{Lookup, Forget, Getattr, Unlink, Open, Release, Flush}
-use Rattle.fl_wire.specs.declared.order.Op.TheVariants.{Create, Getlk, Setlk, Setlkw, Interrupt}
-use Rattle.fl_wire.specs.declared.order.Order.{Order}
-use Rattle.fl_dir.specs.OpenFiles.{is_open_on}
 use Rattle.fl_core.specs.First.{IsWaiter, IsNew, is_alone, own, request_of, IsAnswered, IsFirst}
 use Rattle.fl_core.specs.First.{alone, not_open, closes, interrupts, interrupts_none, fails, is_free, closes_one, is_one_too_many, waits_now}
 use Rattle.fl_core.specs.First.{forget_of_a_waiter, as_a_waiter, as_no_waiter}
@@ -24,6 +14,16 @@ use Rattle.fl_core.specs.Waiting.{is_parked, waits, AreApart}
 use Rattle.fl_core.specs.declared.parked.Request.{Request}
 use Rattle.fl_core.proofs.Taken.{none_of}
 use Rattle.fl_core.proofs.Wishes.{deadlock_words}
+use Rattle.fl_dir.specs.OpenFiles.{is_open_on}
+use Rattle.fl_order.specs.declared.errno.Errno.{Errno}
+use Rattle.fl_order.specs.declared.errno.Errno.TheVariants.{EINTR, EBADF, EINVAL, EAGAIN, EDEADLK, ENOLCK}
+use Rattle.fl_order.specs.declared.told.Answer.TheVariants.{Done}
+use Rattle.fl_order.specs.declared.told.Told.{Told}
+use Rattle.fl_order.specs.declared.order.LockAsk.{LockAsk}
+use Rattle.fl_order.specs.declared.order.Op.{Op}
+use Rattle.fl_order.specs.declared.order.Op.TheVariants.{Lookup, Forget, Getattr, Unlink, Open, Release, Flush}
+use Rattle.fl_order.specs.declared.order.Op.TheVariants.{Create, Getlk, Setlk, Setlkw, Interrupt}
+use Rattle.fl_order.specs.declared.order.Order.{Order}
 
 only_false : (b : Bool) → (b ≡ true → ⊥) → b ≡ false
 only_false true f = absurd (f refl)

@@ -1,8 +1,6 @@
 -- How later replies are read: those of settling, and those that end requests.
 use Rattle.std.proofs.Common.{◌≡◌, Bool, true, false, not, cond, Some, Err, List, [], ◌∷◌, ◌++◌, append_assoc, map, refl, sym, ap, ◌∙◌, subst}
 use Rattle.std.specs.List.{filter}
-use Rattle.fl_wire.specs.declared.errno.Errno.{Errno}
-use Rattle.fl_wire.specs.declared.told.Told.{Told}
 use Rattle.fl_core.specs.State.{Snapshot}
 use Rattle.fl_core.specs.Waiting.{taken_out, AreApart}
 use Rattle.fl_core.specs.Effects.{later_to, made}
@@ -14,6 +12,8 @@ use Rattle.fl_core.specs.declared.parked.Request.{Request}
 use Rattle.fl_core.proofs.Effects.{made_all}
 use Rattle.fl_core.proofs.Settlings.{is_settled}
 use Rattle.fl_core.proofs.Taken.{taken_there, apart_without}
+use Rattle.fl_order.specs.declared.errno.Errno.{Errno}
+use Rattle.fl_order.specs.declared.told.Told.{Told}
 
 -- the replies of settling leave what settling leaves
 read_settled : {s after : Present} {tolds : List Told} → IsSettled s tolds after → (p : Snapshot) → present p.marking p.view.parked ≡ s → AreApart s.parked → made_all tolds p ≡ with_present after p

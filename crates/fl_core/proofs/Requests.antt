@@ -1,19 +1,19 @@
 -- What a lock request asks for, and the range that was read off it.
 use Rattle.std.proofs.Common.{◌≡◌, ◌∙◌, ℕ, Option, Bool, cond, nat_le, Some, None, length, Result, Ok, Err, OnOk, OnErr, ap}
-use Rattle.fl_wire.specs.declared.errno.Errno.{Errno}
-use Rattle.fl_wire.specs.declared.errno.Errno.TheVariants.{EDEADLK, ENOLCK}
-use Rattle.fl_wire.specs.declared.told.Answer.{Answer}
-use Rattle.fl_ranges.specs.Change.{after_changes}
-use Rattle.fl_wire.specs.declared.order.LockAsk.{LockAsk}
-use Rattle.fl_ranges.specs.declared.lock.Key.{Key}
-use Rattle.fl_ranges.specs.declared.lock.Mark.{Mark}
-use Rattle.fl_ranges.specs.declared.lock.Range.{Range}
-use Rattle.fl_ranges.specs.Marking.{Marking, Stroke, stroke_on, stroked}
 use Rattle.fl_core.specs.Effects.{locked}
 use Rattle.fl_core.specs.Replies.{ask_error, at_once_unless, is_deadlock, room_reply, setlkw_reply}
 use Rattle.fl_core.specs.State.{View}
 use Rattle.fl_core.specs.Waiting.{is_excluded}
 use Rattle.fl_core.specs.LockRequest.{key_of, start_of, end_of, mark_of, stroke_of}
+use Rattle.fl_order.specs.declared.errno.Errno.{Errno}
+use Rattle.fl_order.specs.declared.errno.Errno.TheVariants.{EDEADLK, ENOLCK}
+use Rattle.fl_order.specs.declared.told.Answer.{Answer}
+use Rattle.fl_order.specs.declared.order.LockAsk.{LockAsk}
+use Rattle.fl_ranges.specs.Change.{after_changes}
+use Rattle.fl_ranges.specs.declared.lock.Key.{Key}
+use Rattle.fl_ranges.specs.declared.lock.Mark.{Mark}
+use Rattle.fl_ranges.specs.declared.lock.Range.{Range}
+use Rattle.fl_ranges.specs.Marking.{Marking, Stroke, stroke_on, stroked}
 
 pub asked_stroke : (node : ℕ) (ask : LockAsk) (key : Key) (range : Range) (mark : Option Mark) → key ≡ key_of node ask → (range.start ≡ start_of ask) × (range.end ≡ end_of ask) → mark ≡ mark_of ask → stroke_on key range mark ≡ stroke_of node ask
 asked_stroke node ask key range mark k at m = λ i. record { key = k i; start = at.0 i; end = at.1 i; mark = m i }

@@ -1,11 +1,11 @@
 -- Settling as a function, and in words.
 use Rattle.std.proofs.Common.{◌≡◌, ◌↔◌, ℕ, zero, suc, Bool, true, false, cond, not, Option, Some, None, List, [], ◌∷◌, ◌++◌, append_assoc, append-nil, length, refl, sym, ap, ◌∙◌, subst, arith}
-use Rattle.fl_wire.specs.declared.told.Told.{Told}
-use Rattle.fl_ranges.specs.Marking.{Marking}
 use Rattle.fl_core.specs.declared.parked.Request.{Request}
 use Rattle.fl_core.specs.Waiting.{waits, taken_first, AllWait}
 use Rattle.fl_core.specs.Settling.{Present, Settled, present, granted_told, marking_granted, oldest_free, with_told, answered_first, settled_within, settled, IsSettled, done, one}
 use Rattle.fl_core.proofs.Taken.{keep}
+use Rattle.fl_order.specs.declared.told.Told.{Told}
+use Rattle.fl_ranges.specs.Marking.{Marking}
 
 -- where the oldest request stands that doesn't wait
 pub record IsOldest (m : Marking) (parked : List Request) (r : Request) (others : List Request) : Type 0 where

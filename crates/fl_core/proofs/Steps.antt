@@ -1,17 +1,6 @@
 -- A whole step: its replies, and what they change.
 use Rattle.std.proofs.Common.{◌≡◌, ◌≢◌, ℕ, Bool, true, false, cond, Option, Some, None, Result, Ok, Err, List, [], ◌∷◌, ◌++◌, append_assoc, append-nil, map, length, suc, ◌+◌, ◌≤◌, refl, sym, ap, ◌∙◌, subst, arith}
 use Rattle.std.specs.List.{filter, AllByRecursion}
-use Rattle.fl_wire.specs.Order.{only_reads}
-use Rattle.fl_wire.specs.declared.errno.Errno.{Errno}
-use Rattle.fl_wire.specs.declared.errno.Errno.TheVariants.{EINTR, EBADF, EINVAL}
-use Rattle.fl_wire.specs.declared.order.Op.{Op}
-use Rattle.fl_wire.specs.declared.order.Op.TheVariants.{Lookup, Forget, Getattr, Unlink, Open, Release, Flush}
-use Rattle.fl_wire.specs.declared.order.Op.TheVariants.{Create, Getlk, Setlk, Setlkw, Interrupt}
-use Rattle.fl_wire.specs.declared.order.Order.{Order}
-use Rattle.fl_wire.specs.declared.told.Answer.{Answer}
-use Rattle.fl_wire.specs.declared.told.Told.{Told}
-use Rattle.fl_ranges.specs.Change.{after_changes}
-use Rattle.fl_ranges.specs.Marking.{Marking}
 use Rattle.fl_core.specs.Effects.{Effect, leaving, answered, unanswered, by_reply, at_once, replied, made}
 use Rattle.fl_core.specs.Inside.Parts.{left_by, with_parked}
 use Rattle.fl_core.specs.Inside.Touched.{concerns_request, touched_by, OthersWait}
@@ -27,6 +16,17 @@ use Rattle.fl_core.proofs.Effects.{made_all, made_all-append, made_replied, AreO
 use Rattle.fl_core.proofs.Readings.{settled_read, ended_read}
 use Rattle.fl_core.proofs.Settlings.{settled_none}
 use Rattle.fl_core.proofs.Taken.{all_passing, apart_more, apart_passing, none_of, one_longer}
+use Rattle.fl_order.specs.Order.{only_reads}
+use Rattle.fl_order.specs.declared.errno.Errno.{Errno}
+use Rattle.fl_order.specs.declared.errno.Errno.TheVariants.{EINTR, EBADF, EINVAL}
+use Rattle.fl_order.specs.declared.order.Op.{Op}
+use Rattle.fl_order.specs.declared.order.Op.TheVariants.{Lookup, Forget, Getattr, Unlink, Open, Release, Flush}
+use Rattle.fl_order.specs.declared.order.Op.TheVariants.{Create, Getlk, Setlk, Setlkw, Interrupt}
+use Rattle.fl_order.specs.declared.order.Order.{Order}
+use Rattle.fl_order.specs.declared.told.Answer.{Answer}
+use Rattle.fl_order.specs.declared.told.Told.{Told}
+use Rattle.fl_ranges.specs.Change.{after_changes}
+use Rattle.fl_ranges.specs.Marking.{Marking}
 
 -- requests that are ended have other uniques than an order whose unique is none of theirs
 ended_others : (u : ℕ) (e : Errno) (test : Request → Bool) (parked : List Request) → AllByRecursion (λ (r : Request). r.unique ≢ u) parked → AreOthers u (ended_all e test parked)

@@ -2,18 +2,6 @@
 use Rattle.std.proofs.Common.{◌≡◌, ℕ, ◌==◌, ◌&&◌, Bool, true, false, not, Option, Some, None, IfSome, IsNone, Result, Ok, Err, List, [], ◌∷◌, refl, sym, ap, ◌∙◌, subst, arith}
 use Rattle.std.proofs.lemmas.Bool.Decides.{nat_tests}
 use Rattle.std.specs.List.{AllByRecursion}
-use Rattle.fl_wire.specs.declared.errno.Errno.{Errno}
-use Rattle.fl_wire.specs.declared.order.LockAsk.{LockAsk}
-use Rattle.fl_wire.specs.declared.order.Op.TheVariants.{Release, Flush, Setlk, Setlkw}
-use Rattle.fl_wire.specs.declared.told.Answer.{Answer}
-use Rattle.fl_ranges.specs.declared.lock.Class.{Class}
-use Rattle.fl_ranges.specs.declared.lock.Class.TheVariants.{Record}
-use Rattle.fl_ranges.specs.declared.lock.Key.{Key}
-use Rattle.fl_ranges.specs.declared.lock.Kind.{Kind}
-use Rattle.fl_ranges.specs.declared.lock.Mark.{Mark}
-use Rattle.fl_ranges.specs.Change.{after_changes}
-use Rattle.fl_ranges.specs.Conflict.{conflicts, SameElsewhere, SameOffNode}
-use Rattle.fl_ranges.specs.Marking.{Marking, Stroke, class_number}
 use Rattle.fl_core.specs.Effects.{flushed, locked, made, released}
 use Rattle.fl_core.specs.Inside.Parts.{AreFormed}
 use Rattle.fl_core.specs.Inside.Touched.{concerns, concerns_request, touched_by, OthersWait, WaitsNow}
@@ -26,6 +14,18 @@ use Rattle.fl_core.specs.declared.parked.Request.{Request}
 use Rattle.fl_core.specs.declared.settling.Touched.{Touched}
 use Rattle.fl_core.specs.declared.settling.Touched.TheVariants.{Nothing, OfClass, OfNode}
 use Rattle.fl_core.proofs.Taken.{taken_alike, all_more}
+use Rattle.fl_order.specs.declared.errno.Errno.{Errno}
+use Rattle.fl_order.specs.declared.order.LockAsk.{LockAsk}
+use Rattle.fl_order.specs.declared.order.Op.TheVariants.{Release, Flush, Setlk, Setlkw}
+use Rattle.fl_order.specs.declared.told.Answer.{Answer}
+use Rattle.fl_ranges.specs.declared.lock.Class.{Class}
+use Rattle.fl_ranges.specs.declared.lock.Class.TheVariants.{Record}
+use Rattle.fl_ranges.specs.declared.lock.Key.{Key}
+use Rattle.fl_ranges.specs.declared.lock.Kind.{Kind}
+use Rattle.fl_ranges.specs.declared.lock.Mark.{Mark}
+use Rattle.fl_ranges.specs.Change.{after_changes}
+use Rattle.fl_ranges.specs.Conflict.{conflicts, SameElsewhere, SameOffNode}
+use Rattle.fl_ranges.specs.Marking.{Marking, Stroke, class_number}
 
 excluded_same : (m n : Marking) (s : Stroke) (mark : Option Mark) → ((kind : Kind) → conflicts n s.key s.start s.end kind ≡ conflicts m s.key s.start s.end kind) → is_excluded n s mark ≡ is_excluded m s mark
 excluded_same m n s None same = refl

@@ -2,24 +2,24 @@
 use Rattle.std.specs.Prelude.{ℕ, ◌==◌, Bool, true, false, Option, Some, None, Result, Ok, Err, List, [], ◌∷◌, ◌++◌}
 use Rattle.std.specs.Prelude.{if◌then◌else◌}
 use Rattle.std.specs.List.{fold}
-use Rattle.fl_wire.specs.declared.errno.Errno.{Errno}
-use Rattle.fl_wire.specs.declared.told.Answer.{Answer}
-use Rattle.fl_wire.specs.declared.told.Told.{Told}
-use Rattle.fl_wire.specs.declared.order.Order.{Order}
-use Rattle.fl_wire.specs.declared.order.Op.{Op}
-use Rattle.fl_wire.specs.declared.order.Op.TheVariants.{Lookup, Forget, Getattr, Unlink, Open, Release, Flush}
-use Rattle.fl_wire.specs.declared.order.Op.TheVariants.{Create, Getlk, Setlk, Setlkw, Interrupt}
-use Rattle.fl_wire.specs.declared.order.LockAsk.{LockAsk}
-use Rattle.fl_ranges.specs.declared.lock.Class.{Class}
-use Rattle.fl_ranges.specs.declared.lock.Class.TheVariants.{Record, Flock}
-use Rattle.fl_ranges.specs.Change.{Change, struck, cleared, after_changes}
-use Rattle.fl_dir.specs.Changes.{after_lookup, after_create, after_open, after_unlink, after_forget, after_close}
-use Rattle.fl_dir.specs.Directory.{Listing}
-use Rattle.fl_dir.specs.OpenFiles.{has_open_file, without_file}
 use Rattle.fl_core.specs.LockRequest.{stroke_of}
 use Rattle.fl_core.specs.State.{View, State, Snapshot}
 use Rattle.fl_core.specs.Waiting.{is_parked, taken_out}
 use Rattle.fl_core.specs.declared.parked.Request.{Request}
+use Rattle.fl_dir.specs.Changes.{after_lookup, after_create, after_open, after_unlink, after_forget, after_close}
+use Rattle.fl_dir.specs.Directory.{Listing}
+use Rattle.fl_dir.specs.OpenFiles.{has_open_file, without_file}
+use Rattle.fl_order.specs.declared.errno.Errno.{Errno}
+use Rattle.fl_order.specs.declared.told.Answer.{Answer}
+use Rattle.fl_order.specs.declared.told.Told.{Told}
+use Rattle.fl_order.specs.declared.order.Order.{Order}
+use Rattle.fl_order.specs.declared.order.Op.{Op}
+use Rattle.fl_order.specs.declared.order.Op.TheVariants.{Lookup, Forget, Getattr, Unlink, Open, Release, Flush}
+use Rattle.fl_order.specs.declared.order.Op.TheVariants.{Create, Getlk, Setlk, Setlkw, Interrupt}
+use Rattle.fl_order.specs.declared.order.LockAsk.{LockAsk}
+use Rattle.fl_ranges.specs.declared.lock.Class.{Class}
+use Rattle.fl_ranges.specs.declared.lock.Class.TheVariants.{Record, Flock}
+use Rattle.fl_ranges.specs.Change.{Change, struck, cleared, after_changes}
 
 -- what is there afterwards but the locks, and the changes of locks with the last one first
 pub record Effect : Type 0 where

@@ -3,22 +3,22 @@
 use Rattle.std.specs.Prelude.{◌≡◌, ◌≢◌, ◌==◌, ◌≤◌, ◌<◌, ℕ, Bool, true, false, Some, None, Result, Ok, Err, List, [], ◌∷◌, ◌++◌}
 use Rattle.std.specs.Prelude.{length}
 use Rattle.std.specs.List.{AllByRecursion}
-use Rattle.fl_wire.specs.declared.errno.Errno.{Errno}
-use Rattle.fl_wire.specs.declared.errno.Errno.TheVariants.{EINTR, EBADF, EINVAL, EAGAIN, EDEADLK, ENOLCK}
-use Rattle.fl_wire.specs.declared.told.Answer.{Answer}
-use Rattle.fl_wire.specs.declared.told.Answer.TheVariants.{Done}
-use Rattle.fl_wire.specs.declared.told.Told.{Told}
-use Rattle.fl_wire.specs.declared.order.LockAsk.{LockAsk}
-use Rattle.fl_wire.specs.declared.order.Op.{Op}
-use Rattle.fl_wire.specs.declared.order.Op.TheVariants.{Forget, Release, Setlkw, Interrupt}
-use Rattle.fl_wire.specs.declared.order.Order.{Order}
-use Rattle.fl_dir.specs.OpenFiles.{is_open_on}
 use Rattle.fl_core.specs.Circle.{ClosesCircle}
 use Rattle.fl_core.specs.Replies.{ask_error, reply_to, own_replies, ended_with, ended_all}
 use Rattle.fl_core.specs.Settling.{grant_reply}
 use Rattle.fl_core.specs.State.{Snapshot}
 use Rattle.fl_core.specs.Waiting.{waits}
 use Rattle.fl_core.specs.declared.parked.Request.{Request}
+use Rattle.fl_dir.specs.OpenFiles.{is_open_on}
+use Rattle.fl_order.specs.declared.errno.Errno.{Errno}
+use Rattle.fl_order.specs.declared.errno.Errno.TheVariants.{EINTR, EBADF, EINVAL, EAGAIN, EDEADLK, ENOLCK}
+use Rattle.fl_order.specs.declared.told.Answer.{Answer}
+use Rattle.fl_order.specs.declared.told.Answer.TheVariants.{Done}
+use Rattle.fl_order.specs.declared.told.Told.{Told}
+use Rattle.fl_order.specs.declared.order.LockAsk.{LockAsk}
+use Rattle.fl_order.specs.declared.order.Op.{Op}
+use Rattle.fl_order.specs.declared.order.Op.TheVariants.{Forget, Release, Setlkw, Interrupt}
+use Rattle.fl_order.specs.declared.order.Order.{Order}
 
 -- this request is among those that wait, and has this unique
 pub record IsWaiter (unique : ℕ) (parked : List Request) (r : Request) : Type 0 where

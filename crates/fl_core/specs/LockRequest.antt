@@ -1,6 +1,6 @@
 -- What a lock request asks for, of its raw numbers (`struct fuse_lk_in` of Linux `fuse.h`).
 use Rattle.std.specs.Prelude.{ℕ, Bool, ◌==◌, bit_and, Option, Some, None, if◌then◌else◌}
-use Rattle.fl_wire.specs.declared.order.LockAsk.{LockAsk}
+use Rattle.fl_order.specs.declared.order.LockAsk.{LockAsk}
 use Rattle.fl_ranges.specs.declared.lock.Class.TheVariants.{Record, Flock}
 use Rattle.fl_ranges.specs.declared.lock.Kind.TheVariants.{Read, Write}
 use Rattle.fl_ranges.specs.declared.lock.Key.{Key}

@@ -3,16 +3,24 @@
 use Rattle.std.specs.Prelude.{ℕ, Bool, false, not, ◌||◌, ◌&&◌, ◌==◌, nat_le, nat_lt, Option, Some, None, Result, Ok, Err}
 use Rattle.std.specs.Prelude.{List, [], ◌∷◌, ◌++◌, length, map, if◌then◌else◌}
 use Rattle.std.specs.List.{filter}
-use Rattle.fl_wire.specs.declared.errno.Errno.{Errno}
-use Rattle.fl_wire.specs.declared.errno.Errno.TheVariants.{EINTR, EBADF, EINVAL, EAGAIN, EDEADLK, ENOLCK}
-use Rattle.fl_wire.specs.declared.told.Answer.{Answer}
-use Rattle.fl_wire.specs.declared.told.Answer.TheVariants.{Done, Lock}
-use Rattle.fl_wire.specs.declared.told.Told.{Told}
-use Rattle.fl_wire.specs.declared.order.Order.{Order}
-use Rattle.fl_wire.specs.declared.order.Op.{Op}
-use Rattle.fl_wire.specs.declared.order.Op.TheVariants.{Lookup, Forget, Getattr, Unlink, Open, Release, Flush}
-use Rattle.fl_wire.specs.declared.order.Op.TheVariants.{Create, Getlk, Setlk, Setlkw, Interrupt}
-use Rattle.fl_wire.specs.declared.order.LockAsk.{LockAsk}
+use Rattle.fl_core.specs.Circle.{closes_circle, wish_on}
+use Rattle.fl_core.specs.LockRequest.{is_flock, key_of, mark_of, stroke_of}
+use Rattle.fl_core.specs.State.{View, Snapshot}
+use Rattle.fl_core.specs.Waiting.{is_excluded, is_parked}
+use Rattle.fl_core.specs.declared.parked.Request.{Request}
+use Rattle.fl_dir.specs.Directory.{Listing}
+use Rattle.fl_dir.specs.OpenFiles.{is_open_on}
+use Rattle.fl_dir.specs.Replies.{lookup_reply, create_reply, open_reply, getattr_reply, unlink_reply, unless_error}
+use Rattle.fl_order.specs.declared.errno.Errno.{Errno}
+use Rattle.fl_order.specs.declared.errno.Errno.TheVariants.{EINTR, EBADF, EINVAL, EAGAIN, EDEADLK, ENOLCK}
+use Rattle.fl_order.specs.declared.told.Answer.{Answer}
+use Rattle.fl_order.specs.declared.told.Answer.TheVariants.{Done, Lock}
+use Rattle.fl_order.specs.declared.told.Told.{Told}
+use Rattle.fl_order.specs.declared.order.Order.{Order}
+use Rattle.fl_order.specs.declared.order.Op.{Op}
+use Rattle.fl_order.specs.declared.order.Op.TheVariants.{Lookup, Forget, Getattr, Unlink, Open, Release, Flush}
+use Rattle.fl_order.specs.declared.order.Op.TheVariants.{Create, Getlk, Setlk, Setlkw, Interrupt}
+use Rattle.fl_order.specs.declared.order.LockAsk.{LockAsk}
 use Rattle.fl_ranges.specs.declared.held.Held.{Held}
 use Rattle.fl_ranges.specs.declared.lock.Key.{Key}
 use Rattle.fl_ranges.specs.declared.lock.Kind.{Kind}
@@ -21,14 +29,6 @@ use Rattle.fl_ranges.specs.declared.lock.Mark.{Mark}
 use Rattle.fl_ranges.specs.Marking.{Marking, Stroke, stroked}
 use Rattle.fl_ranges.specs.Runs.{runs}
 use Rattle.fl_ranges.specs.Blocker.{blocker}
-use Rattle.fl_dir.specs.Directory.{Listing}
-use Rattle.fl_dir.specs.OpenFiles.{is_open_on}
-use Rattle.fl_dir.specs.Replies.{lookup_reply, create_reply, open_reply, getattr_reply, unlink_reply, unless_error}
-use Rattle.fl_core.specs.Circle.{closes_circle, wish_on}
-use Rattle.fl_core.specs.LockRequest.{is_flock, key_of, mark_of, stroke_of}
-use Rattle.fl_core.specs.State.{View, Snapshot}
-use Rattle.fl_core.specs.Waiting.{is_excluded, is_parked}
-use Rattle.fl_core.specs.declared.parked.Request.{Request}
 
 -- other flags than the whole-file bit, a type above 2, or a range of a record lock that is no range
 abbrev pub is_malformed : LockAsk → Bool

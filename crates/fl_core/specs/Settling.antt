@@ -1,15 +1,15 @@
 -- Which requests that wait are answered once locks have changed.
 use Rattle.std.specs.Prelude.{◌≡◌, ℕ, zero, suc, false, not, Option, Some, None, Result, List, [], ◌∷◌, ◌++◌, length}
-use Rattle.fl_wire.specs.declared.errno.Errno.{Errno}
-use Rattle.fl_wire.specs.declared.told.Answer.{Answer}
-use Rattle.fl_wire.specs.declared.told.Told.{Told}
-use Rattle.fl_ranges.specs.Change.{after_changes}
-use Rattle.fl_ranges.specs.Marking.{Marking}
 use Rattle.fl_core.specs.Effects.{locked}
 use Rattle.fl_core.specs.LockRequest.{stroke_of}
 use Rattle.fl_core.specs.Replies.{room_reply}
 use Rattle.fl_core.specs.Waiting.{waits, taken_first, AllWait}
 use Rattle.fl_core.specs.declared.parked.Request.{Request}
+use Rattle.fl_order.specs.declared.errno.Errno.{Errno}
+use Rattle.fl_order.specs.declared.told.Answer.{Answer}
+use Rattle.fl_order.specs.declared.told.Told.{Told}
+use Rattle.fl_ranges.specs.Change.{after_changes}
+use Rattle.fl_ranges.specs.Marking.{Marking}
 
 -- the locks, and the requests that wait in the order of asking
 pub record Present : Type 0 where

@@ -1,11 +1,11 @@
 -- All replies that an order gives, and what is there after it.
 use Rattle.std.specs.Prelude.{List, ◌++◌}
-use Rattle.fl_wire.specs.declared.order.Order.{Order}
-use Rattle.fl_wire.specs.declared.told.Told.{Told}
 use Rattle.fl_core.specs.Effects.{replied, made}
 use Rattle.fl_core.specs.Replies.{first_told}
 use Rattle.fl_core.specs.Settling.{Present, Settled, present, settled}
 use Rattle.fl_core.specs.State.{State, Snapshot, snapshot_of}
+use Rattle.fl_order.specs.declared.order.Order.{Order}
+use Rattle.fl_order.specs.declared.told.Told.{Told}
 
 -- what the order changes with its first replies
 abbrev pub after_first : Snapshot → Order → Snapshot

@@ -7,7 +7,7 @@ ghost use Rattle.fl_core.specs.Replies.{ended_all};
 
 use crate::parked::{Parked, Request};
 use crate::tolds::{MOST_TOLDS, Tolds};
-use fl_wire::{Errno, Told};
+use fl_order::{Errno, Told};
 
 /// Which requests are ended.
 #[derive(Clone, Copy)]

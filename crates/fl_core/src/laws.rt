@@ -1,9 +1,6 @@
 //! Laws of the definitions, in the words of their subject. Each is the contract of an empty function.
 
 ghost use Rattle.std.specs.Prelude.{◌≡◌, ◌↔◌, true, [], List};
-ghost use Rattle.fl_wire.specs.declared.order.Order.{Order as Asked};
-ghost use Rattle.fl_wire.specs.declared.told.Told.{Told as Reply};
-ghost use Rattle.fl_ranges.specs.Marking.{Marking as Locks};
 ghost use Rattle.fl_core.specs.Circle.{Wish, owner_of, hinders, wishes, closes_circle, IsCircle, ClosesCircle};
 ghost use Rattle.fl_core.specs.Effects.{Effect, recorded, made};
 ghost use Rattle.fl_core.specs.First.{IsFirst};
@@ -13,6 +10,9 @@ ghost use Rattle.fl_core.specs.Settling.{Present, settled, IsSettled};
 ghost use Rattle.fl_core.specs.State.{View, State, Snapshot, snapshot_of};
 ghost use Rattle.fl_core.specs.Waiting.{AllWait, AreApart};
 ghost use Rattle.fl_core.specs.declared.parked.Request.{Request as Waiter};
+ghost use Rattle.fl_order.specs.declared.order.Order.{Order as Asked};
+ghost use Rattle.fl_order.specs.declared.told.Told.{Told as Reply};
+ghost use Rattle.fl_ranges.specs.Marking.{Marking as Locks};
 
 /// What is shown of a state after an effect is the snapshot after that effect.
 pub fn effects_are_shown_alike()

@@ -16,8 +16,8 @@ ghost use Rattle.fl_core.specs.Waiting.{is_excluded};
 use crate::circle::Wanted;
 use crate::parked::{Parked, Request};
 use fl_dir::Dir;
+use fl_order::{Answer, Errno, LockAsk};
 use fl_ranges::{Class, Held, Key, Kind, LAST_BYTE, Mark, Range, Table};
-use fl_wire::{Answer, Errno, LockAsk};
 
 // The lock types of Linux `fcntl.h`.
 const READ: u32 = 0;

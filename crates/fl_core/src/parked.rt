@@ -7,7 +7,7 @@ ghost use Rattle.fl_core.specs.Waiting.{is_parked, taken_first};
 ghost use Rattle.fl_core.specs.declared.parked.Request.{Request as Waiter};
 
 use fl_arena::{Arena, Cursor};
-use fl_wire::{LockAsk, NoMemory};
+use fl_order::{LockAsk, NoMemory};
 use std::alloc::Global;
 use std::marker::Model;
 

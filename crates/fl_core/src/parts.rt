@@ -2,10 +2,6 @@
 
 ghost use Rattle.std.specs.Prelude.{◌≡◌, ◌≤◌, ◌↔◌, ◌+◌, ◌++◌, true, false, length, IfOk, IsSome};
 ghost use Rattle.std.specs.List.{AllByRecursion};
-ghost use Rattle.fl_ranges.specs.Change.{after_changes};
-ghost use Rattle.fl_ranges.specs.Conflict.{IsLawful, SameElsewhere, SameOffNode};
-ghost use Rattle.fl_ranges.specs.declared.lock.Class.TheVariants.{Record};
-ghost use Rattle.fl_wire.specs.Order.{only_reads};
 ghost use Rattle.fl_core.specs.Circle.{closes_circle};
 ghost use Rattle.fl_core.specs.Effects.{by_reply, flushed, released, made};
 ghost use Rattle.fl_core.specs.Inside.Parts.{AreFormed, left_by, with_parked};
@@ -14,6 +10,10 @@ ghost use Rattle.fl_core.specs.Replies.{ended_by, file_reply, reply_to};
 ghost use Rattle.fl_core.specs.State.{opening, snapshot_of};
 ghost use Rattle.fl_core.specs.Step.{settling, with_present};
 ghost use Rattle.fl_core.specs.Waiting.{is_parked, AllWait, AreApart};
+ghost use Rattle.fl_order.specs.Order.{only_reads};
+ghost use Rattle.fl_ranges.specs.Change.{after_changes};
+ghost use Rattle.fl_ranges.specs.Conflict.{IsLawful, SameElsewhere, SameOffNode};
+ghost use Rattle.fl_ranges.specs.declared.lock.Class.TheVariants.{Record};
 
 use crate::circle::Wanted;
 use crate::ending::{Ending, end_all};
@@ -22,8 +22,8 @@ use crate::parked::Parked;
 use crate::settling::{Touched, settle};
 use crate::tolds::{MOST_TOLDS, Tolds};
 use fl_dir::Dir;
+use fl_order::{Answer, Errno, NoMemory, Op, Order};
 use fl_ranges::{Class, Key, Kind, Range, Table};
-use fl_wire::{Answer, Errno, NoMemory, Op, Order};
 use std::alloc::Global;
 use std::marker::Model;
 

@@ -14,8 +14,8 @@ ghost use Rattle.fl_core.specs.declared.parked.Request.{Request as Waiter};
 use crate::locking::{MOST_RUNS, is_excluded, key_of, mark_of, range_of, store};
 use crate::parked::{Parked, Request};
 use crate::tolds::{MOST_TOLDS, Tolds};
+use fl_order::{Answer, Errno, Op, Order, Told};
 use fl_ranges::{Class, Table};
-use fl_wire::{Answer, Errno, Op, Order, Told};
 
 /// Which locks may have gone, so that requests that wait for them may be free.
 #[derive(Clone, Copy)]

@@ -1,18 +1,18 @@
 ghost use Rattle.std.specs.Prelude.{◌≡◌, ◌≤◌, ◌↔◌, [], true, length, IfOk, IsSome};
-ghost use Rattle.fl_ranges.specs.Conflict.{IsLawful};
-ghost use Rattle.fl_wire.specs.Order.{only_reads};
 ghost use Rattle.fl_core.specs.Circle.{closes_circle};
 ghost use Rattle.fl_core.specs.State.{State, opening, snapshot_of};
 ghost use Rattle.fl_core.specs.Effects.{replied, recorded};
 ghost use Rattle.fl_core.specs.Replies.{own_replies, taken_reply};
 ghost use Rattle.fl_core.specs.Step.{next, replies};
 ghost use Rattle.fl_core.specs.Waiting.{AllWait, AreApart};
+ghost use Rattle.fl_order.specs.Order.{only_reads};
+ghost use Rattle.fl_ranges.specs.Conflict.{IsLawful};
 
 use crate::parts::Parts;
 use crate::settling::touched_by;
 use crate::tolds::{MOST_TOLDS, Tolds};
+use fl_order::{Answer, Errno, NoMemory, Op, Order, Told};
 use fl_ranges::{Key, Kind, Range};
-use fl_wire::{Answer, Errno, NoMemory, Op, Order, Told};
 use std::alloc::Global;
 use std::marker::Model;
 

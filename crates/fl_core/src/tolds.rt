@@ -1,6 +1,6 @@
 ghost use Rattle.std.specs.Prelude.{◌≡◌, ◌<◌, [], ◌∷◌, ◌++◌, length, IfOk};
 
-use fl_wire::{NoMemory, Told};
+use fl_order::{NoMemory, Told};
 use std::alloc::Global;
 use std::marker::Model;
 
@@ -15,8 +15,8 @@ pub struct Tolds {
 
 impl Model for Tolds {
     ghost use Rattle.std.specs.Prelude.{List, ◌≤◌, vec_capacity};
-    ghost use Rattle.fl_wire.specs.declared.told.Told.{Told};
     ghost use Rattle.fl_core.specs.declared.tolds.TheConstants.{MOST_TOLDS};
+    ghost use Rattle.fl_order.specs.declared.told.Told.{Told};
 
     ghost Value = { List Told };
 

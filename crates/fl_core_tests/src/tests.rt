@@ -22,8 +22,8 @@ mod waiting_random;
 
 use fl_book::{History, Line, Verdict, check, read_trace};
 use fl_core::{Core, Tolds};
+use fl_order::{Answer, Errno, NoMemory, Order, Told};
 use fl_ranges::{Class, Key, Kind, Range};
-use fl_wire::{Answer, Errno, NoMemory, Order, Told};
 use std::alloc::Global;
 use std::process::Abort;
 

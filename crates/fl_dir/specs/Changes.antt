@@ -2,13 +2,13 @@
 use Rattle.std.specs.Prelude.{ℕ, ◌+◌, ◌-◌, Option, Some, None, Result, Ok, Err, option_map, List, if◌then◌else◌}
 use Rattle.std.specs.Ordering.{nat_cmp}
 use Rattle.std.specs.FinMap.{FinMap, get, insert, remove, contains_key}
-use Rattle.fl_wire.specs.declared.errno.Errno.{Errno}
-use Rattle.fl_wire.specs.declared.told.Answer.{Answer}
-use Rattle.fl_wire.specs.declared.told.Answer.TheVariants.{Entry, Open, Made}
-use Rattle.fl_wire.specs.declared.told.Attr.{Attr}
 use Rattle.fl_dir.specs.declared.node.Node.{Node}
 use Rattle.fl_dir.specs.Directory.{Listing, linked, made_node}
 use Rattle.fl_dir.specs.OpenFiles.{lives, without_file}
+use Rattle.fl_order.specs.declared.errno.Errno.{Errno}
+use Rattle.fl_order.specs.declared.told.Answer.{Answer}
+use Rattle.fl_order.specs.declared.told.Answer.TheVariants.{Entry, Open, Made}
+use Rattle.fl_order.specs.declared.told.Attr.{Attr}
 
 -- the nodes with this one at a number
 abbrev pub set_at : FinMap nat_cmp Node → ℕ → Option Node → FinMap nat_cmp Node

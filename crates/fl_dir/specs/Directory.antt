@@ -4,8 +4,8 @@ use Rattle.std.specs.List.{list_any, find}
 use Rattle.std.specs.Ordering.{nat_cmp}
 use Rattle.std.specs.Str.{bytes_eq}
 use Rattle.std.specs.FinMap.{FinMap, empty, get, contains_key, len, entries}
-use Rattle.fl_wire.specs.declared.told.Attr.{Attr}
 use Rattle.fl_dir.specs.declared.node.Node.{Node}
+use Rattle.fl_order.specs.declared.told.Attr.{Attr}
 
 -- nodes and open files by their numbers, and the numbers that come next
 pub record Listing : Type 0 where

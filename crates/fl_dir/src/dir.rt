@@ -29,7 +29,7 @@ use crate::node::{
     Node, attributes, counted_down, counted_up, made_node, nameless, root_attributes,
 };
 use fl_arena::Arena;
-use fl_wire::{Answer, Errno, Name, NoMemory};
+use fl_order::{Answer, Errno, Name, NoMemory};
 use std::alloc::Global;
 use std::marker::Model;
 

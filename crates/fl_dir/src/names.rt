@@ -6,7 +6,7 @@ ghost use Rattle.fl_dir.specs.Directory.{is_named, is_reserved};
 
 use crate::node::Node;
 use fl_arena::Arena;
-use fl_wire::Name;
+use fl_order::Name;
 
 // No file can have this name.
 pub(crate) fn is_reserved(name: &Name) -> bool

@@ -4,7 +4,7 @@ ghost use Rattle.fl_dir.specs.Directory.{made_node, attributes, root_attributes}
 ghost use Rattle.fl_dir.specs.Changes.{counted_up, counted_down, nameless};
 
 use crate::dir::ROOT;
-use fl_wire::{Attr, Name};
+use fl_order::{Attr, Name};
 
 /// The file type of a regular file, `S_IFREG`.
 const REGULAR_FILE: u32 = 0o100000;

@@ -9,7 +9,7 @@ use crate::chain::{push, replace, take_out, value_at};
 use crate::dir::{Dir, ROOT};
 use crate::names::entry_named;
 use crate::node::Node;
-use fl_wire::Name;
+use fl_order::Name;
 
 impl Dir {
     // The node of a number other than the root's.

@@ -3,7 +3,7 @@
 use crate::dir::Dir;
 use crate::node::Node;
 use fl_arena::Arena;
-use fl_wire::{Answer, Attr, Errno, Name, NoMemory};
+use fl_order::{Answer, Attr, Errno, Name, NoMemory};
 use std::alloc::Global;
 use std::process::Abort;
 use std::test::Fail;

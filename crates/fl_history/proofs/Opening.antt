@@ -4,10 +4,6 @@ use Rattle.std.proofs.lemmas.List.{append-nil, map-append, take-append-le, drop-
 use Rattle.std.proofs.lemmas.Option.{slice_get-map}
 use Rattle.std.specs.List.{slice_get, AllByRecursion}
 use Rattle.std.specs.Option.{option_map}
-use Rattle.fl_wire.specs.Name.{IsName}
-use Rattle.fl_wire.specs.declared.order.Op.{Op}
-use Rattle.fl_wire.specs.declared.order.Op.TheVariants as op
-use Rattle.fl_wire.specs.declared.order.Order.{Order}
 use Rattle.fl_history.specs.declared.history.Line.{Line}
 use Rattle.fl_history.specs.declared.history.Line.TheVariants as line
 use Rattle.fl_history.specs.declared.records.Span.{Span}
@@ -18,6 +14,10 @@ use Rattle.fl_history.specs.declared.records.Answered.{Answered}
 use Rattle.fl_history.specs.declared.records.Record.{Record}
 use Rattle.fl_history.specs.declared.records.Record.TheVariants as record_of
 use Rattle.fl_history.specs.Inside.Records.{name_in, short_op, ask_of, bytes_at, opened_op, asked_line, answered_line, line_or_none, opened, opened_all, Begins, IsNamed, NamesAreThere, IsThere, AreKept}
+use Rattle.fl_order.specs.Name.{IsName}
+use Rattle.fl_order.specs.declared.order.Op.{Op}
+use Rattle.fl_order.specs.declared.order.Op.TheVariants as op
+use Rattle.fl_order.specs.declared.order.Order.{Order}
 
 -- ---- lists with more behind them
 

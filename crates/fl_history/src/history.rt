@@ -2,7 +2,7 @@ ghost use Rattle.std.specs.Prelude.{◌≡◌, ◌<◌, ◌^◌, ◌↔◌, ◌+
 ghost use Rattle.std.specs.List.{slice_get};
 
 use crate::lines::Lines;
-use fl_wire::{NoMemory, Order, Told};
+use fl_order::{NoMemory, Order, Told};
 use std::alloc::Global;
 use std::marker::Model;
 

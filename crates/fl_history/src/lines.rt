@@ -2,15 +2,15 @@
 
 ghost use Rattle.std.specs.Prelude.{◌≡◌, ℕ, ◌+◌, ◌*◌, ◌<◌, ◌≤◌, ◌^◌, List, ◌++◌, ◌∷◌, [], length, Some, IsOk, OnOk};
 ghost use Rattle.std.specs.List.{slice_get};
-ghost use Rattle.fl_wire.specs.Name.{IsName};
 ghost use Rattle.fl_history.specs.Inside.Records.{bytes_at, opened, opened_op, asked_line, Begins, IsNamed, IsThere, NamesAreThere};
 ghost use Rattle.fl_history.specs.declared.records.Ask.{Ask as Kept};
 ghost use Rattle.fl_history.specs.declared.history.Line.TheVariants.{Asked, Told as Reply};
+ghost use Rattle.fl_order.specs.Name.{IsName};
 
 use crate::chunks::ChunkedVec;
 use crate::history::Line;
 use crate::records::{Answered, Ask, Record, ShortOp, Span, lock_op, name_in};
-use fl_wire::{Answer, LockAsk, Name, Op, Order, Told};
+use fl_order::{Answer, LockAsk, Name, Op, Order, Told};
 use std::alloc::{AllocError, Global};
 use std::marker::Model;
 

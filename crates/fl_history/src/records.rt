@@ -1,10 +1,10 @@
 //! What is kept of a line: a small record, and the order or the answer that it leads to.
 
 ghost use Rattle.std.specs.Prelude.{◌≡◌};
-ghost use Rattle.fl_wire.specs.Name.{IsName};
 ghost use Rattle.fl_history.specs.Inside.Records.{name_in, short_lock, short_op, ask_of, lock_op};
+ghost use Rattle.fl_order.specs.Name.{IsName};
 
-use fl_wire::{Answer, Errno, LockAsk, Op, Order};
+use fl_order::{Answer, Errno, LockAsk, Op, Order};
 
 // So many bytes are kept of a line, and of the order or the answer that it leads to.
 const _: () = prove!(size_of::<Record>() == 16);

@@ -1,27 +1,27 @@
 -- A session: its messages, what is answered to them, and the lines that they give (Linux `fuse.h`, protocol 7.31).
 use Rattle.std.specs.Prelude.{ℕ, Bool, true, false, List, [], ◌∷◌, ◌++◌, map, fold, Option, None, Some, Result, Ok, Err}
 use Rattle.std.specs.Prelude.{if◌then◌else◌}
+use Rattle.fl_book.specs.Legal.{step_lines}
+use Rattle.fl_book.specs.Replay.{state_after}
+use Rattle.fl_core.specs.Step.{replies_in}
+use Rattle.fl_history.specs.declared.history.Line.{Line}
+use Rattle.fl_order.specs.Kind.{is_silent, kind_of_opcode}
+use Rattle.fl_order.specs.Order.{kind_of}
+use Rattle.fl_order.specs.declared.errno.Errno.{Errno}
+use Rattle.fl_order.specs.declared.errno.Errno.TheVariants.{EAGAIN, ENOMEM, EPROTO}
+use Rattle.fl_order.specs.declared.kind.Kind.{Kind}
+use Rattle.fl_order.specs.declared.kind.Kind.TheVariants.{Init, Interrupt}
+use Rattle.fl_order.specs.declared.order.Order.{Order}
+use Rattle.fl_order.specs.declared.refusal.Refusal.{Refusal}
+use Rattle.fl_order.specs.declared.refusal.Refusal.TheVariants.{Answer, Silent, Destroy}
+use Rattle.fl_order.specs.declared.told.Answer.TheVariants.{Done}
+use Rattle.fl_order.specs.declared.told.Told.{Told}
 use Rattle.fl_wire.specs.Init.{init_step, init_spelling}
-use Rattle.fl_wire.specs.Kind.{is_silent, kind_of_opcode}
 use Rattle.fl_wire.specs.Layout.{opcode_of, unique_of}
-use Rattle.fl_wire.specs.Order.{kind_of}
 use Rattle.fl_wire.specs.Says.{said}
 use Rattle.fl_wire.specs.Spell.{reply_bytes, spelling_of}
-use Rattle.fl_wire.specs.declared.errno.Errno.{Errno}
-use Rattle.fl_wire.specs.declared.errno.Errno.TheVariants.{EAGAIN, ENOMEM, EPROTO}
 use Rattle.fl_wire.specs.declared.init.InitStep.{InitStep}
 use Rattle.fl_wire.specs.declared.init.InitStep.TheVariants.{Refused, Again, Agreed}
-use Rattle.fl_wire.specs.declared.kind.Kind.{Kind}
-use Rattle.fl_wire.specs.declared.kind.Kind.TheVariants.{Init, Interrupt}
-use Rattle.fl_wire.specs.declared.order.Order.{Order}
-use Rattle.fl_wire.specs.declared.reading.Refusal.{Refusal}
-use Rattle.fl_wire.specs.declared.reading.Refusal.TheVariants.{Answer, Silent, Destroy}
-use Rattle.fl_wire.specs.declared.told.Answer.TheVariants.{Done}
-use Rattle.fl_wire.specs.declared.told.Told.{Told}
-use Rattle.fl_book.specs.Legal.{step_lines}
-use Rattle.fl_core.specs.Step.{replies_in}
-use Rattle.fl_book.specs.Replay.{state_after}
-use Rattle.fl_history.specs.declared.history.Line.{Line}
 
 -- a message that came, and whether its order was refused for want of memory
 pub record Came : Type 0 where

@@ -2,11 +2,11 @@
 use Rattle.std.specs.Prelude.{◌≡◌, ℕ, Bool, true, false, List, ◌++◌, All, Option}
 use Rattle.std.specs.List.{concat}
 use Rattle.std.specs.Io.KnownBytes.{Appends}
+use Rattle.fl_order.specs.declared.told.Told.{Told}
+use Rattle.fl_serve.specs.Served.{IsProperPrefix}
 use Rattle.fl_wire.specs.Init.{init_spelling}
 use Rattle.fl_wire.specs.Spell.{spelling_of, IsReply}
 use Rattle.fl_wire.specs.declared.init.InitStep.{InitStep}
-use Rattle.fl_wire.specs.declared.told.Told.{Told}
-use Rattle.fl_serve.specs.Served.{IsProperPrefix}
 
 -- these are the bytes of some reply, to an order or to an INIT
 pub data IsSpelling : List ℕ → Type 0 where

@@ -9,7 +9,8 @@ ghost use Rattle.fl_serve.specs.Inside.Serving.{bytes_of};
 use crate::outbox::Outbox;
 use crate::session::mail::ReplyBuffer;
 use crate::session::server::Owed;
-use fl_wire::{InitStep, Told};
+use fl_order::Told;
+use fl_wire::InitStep;
 use std::io::Write;
 
 /// Replies that are collected, and the outbox that sends them together.

@@ -4,7 +4,7 @@ ghost use Rattle.std.specs.Prelude.{◌≡◌, ℕ, ◌+◌, OnOk, OnErr};
 
 use fl_book::{Board, BoardName, HandFault, Seat};
 use fl_core::Tolds;
-use fl_wire::Order;
+use fl_order::Order;
 use std::sync::Wait;
 
 /// Where workers hand in orders, each at its seat.

@@ -3,7 +3,7 @@
 ghost use Rattle.std.specs.Prelude.{◌≡◌, ◌<◌, ◌≤◌, ◌++◌, ◌∷◌, ◌↔◌, [], false, IfErr, IfOk, IsSome, option_to_list};
 ghost use Rattle.std.specs.VecDeque.{deque_len, deque_capacity};
 
-use fl_wire::{NoMemory, Op, Order};
+use fl_order::{NoMemory, Op, Order};
 use std::alloc::Global;
 use std::collections::VecDeque;
 use std::hint::spin_loop;

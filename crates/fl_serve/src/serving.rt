@@ -18,7 +18,7 @@ use crate::session::{Done, Fault, MESSAGE_BYTES, first};
 use crate::shared::{Shared, WriterName};
 use fl_book::{Board, BoardName, History, Seat};
 use fl_core::Tolds;
-use fl_wire::NoMemory;
+use fl_order::NoMemory;
 use std::alloc::Global;
 use std::io::{Read, Write};
 use std::marker::Brand;

@@ -14,7 +14,7 @@ use crate::session::mail::{Mail, ReplyBuffer};
 use crate::session::reading::read_and_answer;
 use crate::session::server::Server;
 use fl_book::History;
-use fl_wire::NoMemory;
+use fl_order::NoMemory;
 use std::alloc::Global;
 use std::io::{Read, Write};
 use thiserror::Error;

@@ -9,7 +9,7 @@ use crate::batch::Batch;
 use crate::outbox::Outbox;
 use crate::session::mail::ReplyBuffer;
 use crate::session::server::Owed;
-use fl_wire::Told;
+use fl_order::Told;
 use std::io::Write;
 use std::marker::{Brand, Model, PhantomData};
 

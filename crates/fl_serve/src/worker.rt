@@ -7,7 +7,7 @@ use crate::intake::{Intake, Job};
 use crate::session::server::{Owed, lost};
 use crate::shared::{Shared, WriterName};
 use fl_core::Tolds;
-use fl_wire::Told;
+use fl_order::Told;
 use std::io::Write;
 use std::sync::{Mutex, Wait};
 

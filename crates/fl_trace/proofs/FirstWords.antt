@@ -1,10 +1,10 @@
 -- A text that no reader of a kind takes is the text of nothing of that kind.
 use Rattle.std.proofs.Common.{◌≡◌, ℕ, List, ◌++◌, ◌∷◌, codes, Result, Ok, Err, refl, lit<}
 use Rattle.std.specs.Str.Iter.{LacksByte}
-use Rattle.fl_wire.specs.declared.errno.Errno.{Errno}
-use Rattle.fl_wire.specs.declared.told.Answer.{Answer}
-use Rattle.fl_wire.specs.declared.told.Answer.TheVariants.{Done, Entry, Attr, Open, Made, Lock}
-use Rattle.fl_wire.specs.Errno.{number_of}
+use Rattle.fl_order.specs.declared.errno.Errno.{Errno}
+use Rattle.fl_order.specs.declared.told.Answer.{Answer}
+use Rattle.fl_order.specs.declared.told.Answer.TheVariants.{Done, Entry, Attr, Open, Made, Lock}
+use Rattle.fl_order.specs.Errno.{number_of}
 use Rattle.std.specs.Fmt.{decimal}
 use Rattle.fl_trace.specs.Text.{attr_text, made_text, lock_text, result_text, asked_text, told_text, line_text}
 use Rattle.fl_history.specs.declared.history.Line.{Line}

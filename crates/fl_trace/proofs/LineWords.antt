@@ -1,24 +1,24 @@
 -- The words of a line: the text of the line is these, with spaces between them.
 use Rattle.std.proofs.Common.{◌≡◌, ℕ, ◌<◌, ◌^◌, Bool, true, false, List, [], ◌∷◌, ◌++◌, codes, Result, Ok, Err, refl, sym, ap, arith, lit<, append-nil}
 use Rattle.std.specs.Fmt.{decimal}
-use Rattle.fl_wire.specs.Errno.{number_of}
-use Rattle.fl_wire.specs.Kind.{word_for}
-use Rattle.fl_wire.specs.Order.{kind_of, body_of}
-use Rattle.fl_wire.specs.Sayable.{FitsBody, FitsLock, FitsResult, FitsAttr}
-use Rattle.fl_wire.specs.declared.body.Body.{Body}
-use Rattle.fl_wire.specs.declared.body.Body.TheVariants as body
-use Rattle.fl_wire.specs.declared.errno.Errno.{Errno}
-use Rattle.fl_wire.specs.declared.errno.Errno.TheVariants.{ENOENT, EINTR, EBADF, EAGAIN, ENOMEM, EEXIST, ENOTDIR, EISDIR, EINVAL, ENFILE, ENOSPC, EDEADLK, ENAMETOOLONG, ENOLCK, ENOSYS, EPROTO}
-use Rattle.fl_wire.specs.declared.kind.Kind.{Kind}
-use Rattle.fl_wire.specs.declared.kind.Kind.TheVariants as kind
-use Rattle.fl_wire.specs.declared.order.LockAsk.{LockAsk}
-use Rattle.fl_wire.specs.declared.order.Order.{Order}
-use Rattle.fl_wire.specs.declared.told.Answer.{Answer}
-use Rattle.fl_wire.specs.declared.told.Answer.TheVariants.{Done, Entry, Attr, Open, Made, Lock}
-use Rattle.fl_wire.specs.declared.told.Attr.{Attr as Attributes}
-use Rattle.fl_trace.specs.Text.{spaced, flag_text, name_text, fields_text, behind, result_text, line_text, LineFits}
 use Rattle.fl_history.specs.declared.history.Line.{Line}
 use Rattle.fl_history.specs.declared.history.Line.TheVariants.{Asked, Told}
+use Rattle.fl_order.specs.Errno.{number_of}
+use Rattle.fl_order.specs.Kind.{word_for}
+use Rattle.fl_order.specs.Order.{kind_of, body_of}
+use Rattle.fl_order.specs.Sayable.{FitsBody, FitsLock, FitsResult, FitsAttr}
+use Rattle.fl_order.specs.declared.body.Body.{Body}
+use Rattle.fl_order.specs.declared.body.Body.TheVariants as body
+use Rattle.fl_order.specs.declared.errno.Errno.{Errno}
+use Rattle.fl_order.specs.declared.errno.Errno.TheVariants.{ENOENT, EINTR, EBADF, EAGAIN, ENOMEM, EEXIST, ENOTDIR, EISDIR, EINVAL, ENFILE, ENOSPC, EDEADLK, ENAMETOOLONG, ENOLCK, ENOSYS, EPROTO}
+use Rattle.fl_order.specs.declared.kind.Kind.{Kind}
+use Rattle.fl_order.specs.declared.kind.Kind.TheVariants as kind
+use Rattle.fl_order.specs.declared.order.LockAsk.{LockAsk}
+use Rattle.fl_order.specs.declared.order.Order.{Order}
+use Rattle.fl_order.specs.declared.told.Answer.{Answer}
+use Rattle.fl_order.specs.declared.told.Answer.TheVariants.{Done, Entry, Attr, Open, Made, Lock}
+use Rattle.fl_order.specs.declared.told.Attr.{Attr as Attributes}
+use Rattle.fl_trace.specs.Text.{spaced, flag_text, name_text, fields_text, behind, result_text, line_text, LineFits}
 use Rattle.fl_trace.proofs.Letters.{IsWord, AreWords, literal, decimal_word, name_word}
 
 -- ---- the words

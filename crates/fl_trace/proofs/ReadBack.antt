@@ -11,29 +11,29 @@ use Rattle.std.specs.Str.{bytes_eq}
 use Rattle.std.specs.Str.Parse.{digits_value}
 use Rattle.hex.specs.Hex.{IsBytes, decode_of}
 use Rattle.hex.proofs.HexLemmas.{decode_of-encode_lower}
-use Rattle.fl_wire.specs.Errno.{number_of}
-use Rattle.fl_wire.specs.Body.{body_shape}
-use Rattle.fl_wire.specs.Kind.{word_for, shape_for, kind_of_word}
-use Rattle.fl_wire.specs.Order.{kind_of, body_of, op_of}
-use Rattle.fl_wire.specs.Sayable.{FitsBody, FitsOp, FitsLock, FitsResult, FitsAttr}
-use Rattle.fl_wire.specs.declared.body.Body.{Body}
-use Rattle.fl_wire.specs.declared.body.Body.TheVariants as body
-use Rattle.fl_wire.specs.declared.body.Shape.{Shape}
-use Rattle.fl_wire.specs.declared.body.Shape.TheVariants as shape
-use Rattle.fl_wire.specs.declared.reading.Refusal.{Refusal}
-use Rattle.fl_wire.specs.declared.errno.Errno.{Errno}
-use Rattle.fl_wire.specs.declared.errno.Errno.TheVariants.{ENOENT, EINTR, EBADF, EAGAIN, ENOMEM, EEXIST, ENOTDIR, EISDIR, EINVAL, ENFILE, ENOSPC, EDEADLK, ENAMETOOLONG, ENOLCK, ENOSYS, EPROTO}
-use Rattle.fl_wire.specs.declared.kind.Kind.{Kind}
-use Rattle.fl_wire.specs.declared.order.LockAsk.{LockAsk}
-use Rattle.fl_wire.specs.declared.order.Op.{Op}
-use Rattle.fl_wire.specs.declared.order.Op.TheVariants.{Getlk}
-use Rattle.fl_wire.specs.declared.order.Order.{Order}
-use Rattle.fl_wire.specs.declared.told.Answer.{Answer}
-use Rattle.fl_wire.specs.declared.told.Answer.TheVariants.{Done, Entry, Attr, Open, Made, Lock}
-use Rattle.fl_wire.specs.declared.told.Attr.{Attr as Attributes}
-use Rattle.fl_trace.specs.Text.{spaced, flag_text, name_text, line_text, LineFits}
 use Rattle.fl_history.specs.declared.history.Line.{Line}
 use Rattle.fl_history.specs.declared.history.Line.TheVariants.{Asked, Told}
+use Rattle.fl_order.specs.Errno.{number_of}
+use Rattle.fl_order.specs.Body.{body_shape}
+use Rattle.fl_order.specs.Kind.{word_for, shape_for, kind_of_word}
+use Rattle.fl_order.specs.Order.{kind_of, body_of, op_of}
+use Rattle.fl_order.specs.Sayable.{FitsBody, FitsOp, FitsLock, FitsResult, FitsAttr}
+use Rattle.fl_order.specs.declared.body.Body.{Body}
+use Rattle.fl_order.specs.declared.body.Body.TheVariants as body
+use Rattle.fl_order.specs.declared.body.Shape.{Shape}
+use Rattle.fl_order.specs.declared.body.Shape.TheVariants as shape
+use Rattle.fl_order.specs.declared.refusal.Refusal.{Refusal}
+use Rattle.fl_order.specs.declared.errno.Errno.{Errno}
+use Rattle.fl_order.specs.declared.errno.Errno.TheVariants.{ENOENT, EINTR, EBADF, EAGAIN, ENOMEM, EEXIST, ENOTDIR, EISDIR, EINVAL, ENFILE, ENOSPC, EDEADLK, ENAMETOOLONG, ENOLCK, ENOSYS, EPROTO}
+use Rattle.fl_order.specs.declared.kind.Kind.{Kind}
+use Rattle.fl_order.specs.declared.order.LockAsk.{LockAsk}
+use Rattle.fl_order.specs.declared.order.Op.{Op}
+use Rattle.fl_order.specs.declared.order.Op.TheVariants.{Getlk}
+use Rattle.fl_order.specs.declared.order.Order.{Order}
+use Rattle.fl_order.specs.declared.told.Answer.{Answer}
+use Rattle.fl_order.specs.declared.told.Answer.TheVariants.{Done, Entry, Attr, Open, Made, Lock}
+use Rattle.fl_order.specs.declared.told.Attr.{Attr as Attributes}
+use Rattle.fl_trace.specs.Text.{spaced, flag_text, name_text, line_text, LineFits}
 use Rattle.fl_trace.proofs.Letters.{AreWords, AreLetters, no_low, spaced_letters}
 use Rattle.fl_trace.proofs.WordLemmas.{own}
 use Rattle.fl_trace.proofs.LineWords.{lock_ask_words, field_words, attr_words, result_words, order_words, line_words, line_spaced, small, number_small, line_are}

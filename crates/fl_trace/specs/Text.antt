@@ -4,22 +4,22 @@ use Rattle.std.specs.Prelude.{Option, Some, None, Result, Ok, Err}
 use Rattle.std.specs.List.{flat_map, join_with_byte}
 use Rattle.std.specs.Fmt.{decimal}
 use Rattle.hex.specs.Hex.{encode_lower}
-use Rattle.fl_wire.specs.Errno.{number_of}
-use Rattle.fl_wire.specs.Kind.{word_for}
-use Rattle.fl_wire.specs.Order.{kind_of, body_of}
-use Rattle.fl_wire.specs.Sayable.{IsSayable, FitsTold}
-use Rattle.fl_wire.specs.declared.body.Body.{Body}
-use Rattle.fl_wire.specs.declared.body.Body.TheVariants as body
-use Rattle.fl_wire.specs.declared.errno.Errno.{Errno}
-use Rattle.fl_wire.specs.declared.order.LockAsk.{LockAsk}
-use Rattle.fl_wire.specs.declared.order.Op.{Op}
-use Rattle.fl_wire.specs.declared.order.Order.{Order}
-use Rattle.fl_wire.specs.declared.told.Answer.{Answer}
-use Rattle.fl_wire.specs.declared.told.Answer.TheVariants.{Done, Entry, Attr, Open, Made, Lock}
-use Rattle.fl_wire.specs.declared.told.Attr.{Attr as Attributes}
-use Rattle.fl_wire.specs.declared.told.Told.{Told as Reply}
 use Rattle.fl_history.specs.declared.history.Line.{Line}
 use Rattle.fl_history.specs.declared.history.Line.TheVariants.{Asked, Told}
+use Rattle.fl_order.specs.Errno.{number_of}
+use Rattle.fl_order.specs.Kind.{word_for}
+use Rattle.fl_order.specs.Order.{kind_of, body_of}
+use Rattle.fl_order.specs.Sayable.{IsSayable, FitsTold}
+use Rattle.fl_order.specs.declared.body.Body.{Body}
+use Rattle.fl_order.specs.declared.body.Body.TheVariants as body
+use Rattle.fl_order.specs.declared.errno.Errno.{Errno}
+use Rattle.fl_order.specs.declared.order.LockAsk.{LockAsk}
+use Rattle.fl_order.specs.declared.order.Op.{Op}
+use Rattle.fl_order.specs.declared.order.Order.{Order}
+use Rattle.fl_order.specs.declared.told.Answer.{Answer}
+use Rattle.fl_order.specs.declared.told.Answer.TheVariants.{Done, Entry, Attr, Open, Made, Lock}
+use Rattle.fl_order.specs.declared.told.Attr.{Attr as Attributes}
+use Rattle.fl_order.specs.declared.told.Told.{Told as Reply}
 
 -- words with one space between them
 abbrev pub spaced : List (List ℕ) → List ℕ

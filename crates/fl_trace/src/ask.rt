@@ -2,17 +2,17 @@
 
 ghost use Rattle.std.specs.Prelude.{◌≡◌, ℕ, Some, IfSome, IsSome};
 ghost use Rattle.std.specs.Option.{option_copied};
+ghost use Rattle.fl_order.specs.Body.{body_shape};
+ghost use Rattle.fl_order.specs.Sayable.{FitsBody, FitsLock, FitsOp, IsSayable};
+ghost use Rattle.fl_order.specs.declared.body.Body.{Body};
+ghost use Rattle.fl_order.specs.declared.body.Shape.TheVariants.{Create, Flush, Release};
+ghost use Rattle.fl_order.specs.declared.order.Order.{Order};
+ghost use Rattle.fl_order.specs.declared.order.Op.{Op};
+ghost use Rattle.fl_order.specs.declared.order.LockAsk.{LockAsk};
 ghost use Rattle.fl_trace.specs.Text.{order_text, op_text, fields_text, lock_ask_text};
-ghost use Rattle.fl_wire.specs.Body.{body_shape};
-ghost use Rattle.fl_wire.specs.Sayable.{FitsBody, FitsLock, FitsOp, IsSayable};
-ghost use Rattle.fl_wire.specs.declared.body.Body.{Body};
-ghost use Rattle.fl_wire.specs.declared.body.Shape.TheVariants.{Create, Flush, Release};
-ghost use Rattle.fl_wire.specs.declared.order.Order.{Order};
-ghost use Rattle.fl_wire.specs.declared.order.Op.{Op};
-ghost use Rattle.fl_wire.specs.declared.order.LockAsk.{LockAsk};
 
 use crate::words::{first_word, flag_word, name, number, u32_number, u32_word, u64_word};
-use fl_wire::{Body, Kind, LockAsk, Op, Order, Shape};
+use fl_order::{Body, Kind, LockAsk, Op, Order, Shape};
 
 /// An order; none where it has any other spelling.
 pub(super) fn read_order(text: &str) -> Option<Order>

@@ -1,11 +1,11 @@
 ghost use Rattle.std.specs.Prelude.{◌≡◌, ◌++◌, ◌∷◌, [], ◌↔◌, IsTrue, IfOk, OnOk, string_bytes};
+ghost use Rattle.fl_history.specs.declared.history.Line.TheVariants.{Asked, Told as Reply};
+ghost use Rattle.fl_order.specs.Sayable.{FitsBody, FitsTold, IsSayable};
 ghost use Rattle.fl_trace.specs.Text.{flag_text, name_text, lock_ask_text, fields_text, behind, op_text};
 ghost use Rattle.fl_trace.specs.Text.{attr_text, answer_text, result_text, line_text, text_of, LineFits, Fits};
-ghost use Rattle.fl_history.specs.declared.history.Line.TheVariants.{Asked, Told as Reply};
-ghost use Rattle.fl_wire.specs.Sayable.{FitsBody, FitsTold, IsSayable};
 
 use fl_history::{History, Line};
-use fl_wire::{Answer, Attr, Body, Errno, LockAsk, Name, NoMemory, Op, Order, Told};
+use fl_order::{Answer, Attr, Body, Errno, LockAsk, Name, NoMemory, Op, Order, Told};
 use std::alloc::Global;
 
 /// The text of a history, as `docs/TRACE.md` says: a line of text for each of its lines. Want of memory

@@ -1,16 +1,16 @@
 //! Lines and histories, read from their text.
 
 ghost use Rattle.std.specs.Prelude.{◌≡◌, ◌⊎◌, ℕ, ◌<◌, ◌++◌, ◌∷◌, List, length, Ok, Err, IfOk, IfSome, IsSome, IsSomeAnd, codes};
-ghost use Rattle.fl_trace.specs.Text.{asked_text, line_text, text_of, LineFits, Fits, BreaksAt};
 ghost use Rattle.fl_history.specs.declared.history.Line.{Line as Entry};
 ghost use Rattle.fl_history.specs.declared.history.Line.TheVariants.{Asked};
-ghost use Rattle.fl_wire.specs.declared.order.Order.{Order as Asking};
+ghost use Rattle.fl_order.specs.declared.order.Order.{Order as Asking};
+ghost use Rattle.fl_trace.specs.Text.{asked_text, line_text, text_of, LineFits, Fits, BreaksAt};
 
 use crate::ask::read_order;
 use crate::tell::read_told;
 use crate::words::{split_line, split_word, u32_word};
 use fl_history::{History, Line};
-use fl_wire::NoMemory;
+use fl_order::NoMemory;
 use std::alloc::Global;
 
 /// Why a text is not read.

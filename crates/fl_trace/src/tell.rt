@@ -1,17 +1,17 @@
 //! Replies, read from the words of a `tell` line.
 
 ghost use Rattle.std.specs.Prelude.{◌≡◌, ◌++◌, ◌∷◌, ℕ, Result, IfSome, IsSome, codes};
+ghost use Rattle.fl_order.specs.Errno.{number_of};
+ghost use Rattle.fl_order.specs.Sayable.{FitsAttr, FitsAnswer, FitsResult, FitsTold};
+ghost use Rattle.fl_order.specs.declared.errno.Errno.{Errno as Fault};
+ghost use Rattle.fl_order.specs.declared.told.Answer.{Answer};
+ghost use Rattle.fl_order.specs.declared.told.Answer.TheVariants.{Made, Lock};
+ghost use Rattle.fl_order.specs.declared.told.Attr.{Attr as Attributes};
+ghost use Rattle.fl_order.specs.declared.told.Told.{Told as Reply};
 ghost use Rattle.fl_trace.specs.Text.{attr_text, made_text, lock_text, answer_text, result_text, told_text};
-ghost use Rattle.fl_wire.specs.Errno.{number_of};
-ghost use Rattle.fl_wire.specs.Sayable.{FitsAttr, FitsAnswer, FitsResult, FitsTold};
-ghost use Rattle.fl_wire.specs.declared.errno.Errno.{Errno as Fault};
-ghost use Rattle.fl_wire.specs.declared.told.Answer.{Answer};
-ghost use Rattle.fl_wire.specs.declared.told.Answer.TheVariants.{Made, Lock};
-ghost use Rattle.fl_wire.specs.declared.told.Attr.{Attr as Attributes};
-ghost use Rattle.fl_wire.specs.declared.told.Told.{Told as Reply};
 
 use crate::words::{number, split_word, u32_number, u32_word, u64_word};
-use fl_wire::{Answer, Attr, Errno, Told};
+use fl_order::{Answer, Attr, Errno, Told};
 
 // Each error once.
 const ERRORS: [Errno; 16] = [

@@ -7,11 +7,11 @@ ghost use Rattle.std.specs.List.{position};
 ghost use Rattle.std.specs.Option.{option_copied};
 ghost use Rattle.std.specs.Str.Iter.{LacksByte};
 ghost use Rattle.hex.specs.Hex.{encode_lower};
-ghost use Rattle.fl_wire.specs.Name.{IsName};
+ghost use Rattle.fl_order.specs.Name.{IsName};
 ghost use Rattle.fl_trace.specs.Text.{flag_text, name_text, behind};
 ghost use Rattle.fl_trace.specs.Words.{IsPlain};
 
-use fl_wire::Name;
+use fl_order::Name;
 
 /// The bytes before the first newline of a text, and those after it.
 pub(super) fn split_line(text: &[u8]) -> Option<(&[u8], &[u8])>

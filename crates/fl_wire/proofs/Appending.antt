@@ -1,8 +1,8 @@
 -- Bytes appended one piece after another.
 use Rattle.std.proofs.Common.{◌≡◌, ℕ, List, ◌++◌, length, refl, ap, ◌∙◌, append_assoc, length-append}
+use Rattle.fl_order.specs.declared.told.Attr.{Attr}
 use Rattle.fl_wire.specs.Append.{Appends}
 use Rattle.fl_wire.specs.Spell.{attr_bytes, entry_bytes, open_bytes, lock_bytes}
-use Rattle.fl_wire.specs.declared.told.Attr.{Attr}
 
 -- one piece and then another
 pub appended : {old a mid b new : List ℕ} → Appends old a mid → Appends mid b new → Appends old (a ++ b) new

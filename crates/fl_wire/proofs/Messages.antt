@@ -11,24 +11,24 @@ use Rattle.std.specs.Option.{ok_or}
 use Rattle.std.specs.List.{list_any}
 use Rattle.byteorder.specs.Endian.{little_bytes, little_number}
 use Rattle.byteorder.specs.Numbers.{length-bytes_low_first, little_number-reads_back}
-use Rattle.fl_wire.proofs.Finding.{opcode_finds}
-use Rattle.fl_wire.specs.Body.{body_shape, name_bytes, name_in, by_fields, by_fields_and_name}
-use Rattle.fl_wire.specs.Kind.{kind_of_opcode, opcode_for, shape_for}
+use Rattle.fl_order.specs.Body.{body_shape}
+use Rattle.fl_order.specs.Kind.{kind_of_opcode, opcode_for, shape_for}
+use Rattle.fl_order.specs.Name.{IsName}
+use Rattle.fl_order.specs.Order.{body_of, kind_of, op_of}
+use Rattle.fl_order.specs.Sayable.{FitsLock, FitsBody, IsSayable}
+use Rattle.fl_order.specs.declared.body.Body.{Body}
+use Rattle.fl_order.specs.declared.body.Body.TheVariants as body
+use Rattle.fl_order.specs.declared.errno.Errno.TheVariants.{ENOSYS}
+use Rattle.fl_order.specs.declared.kind.Kind.{Kind}
+use Rattle.fl_order.specs.declared.order.Order.{Order}
+use Rattle.fl_order.specs.declared.order.LockAsk.{LockAsk}
+use Rattle.fl_order.specs.declared.order.Op.{Op}
+use Rattle.fl_order.specs.declared.refusal.Refusal.{Refusal}
+use Rattle.fl_order.specs.declared.refusal.Refusal.TheVariants.{Answer}
+use Rattle.fl_wire.specs.Body.{name_bytes, name_in, by_fields, by_fields_and_name}
 use Rattle.fl_wire.specs.Layout.{number_at, values_at, field, laid_out, in_header, create_in, flush_in, forget_in, getattr_in, lk_in, open_in, release_in, opcode_of, unique_of}
 use Rattle.fl_wire.specs.Message.{lock_values, create_values, release_values, body_bytes, request, message_of, ReadsBack}
-use Rattle.fl_wire.specs.Name.{IsName}
-use Rattle.fl_wire.specs.Order.{body_of, kind_of, op_of}
-use Rattle.fl_wire.specs.Sayable.{FitsLock, FitsBody, IsSayable}
 use Rattle.fl_wire.specs.Says.{said, asked, asked_by, asked_with, body_in, order_of, lock_of, create_of, release_of}
-use Rattle.fl_wire.specs.declared.body.Body.{Body}
-use Rattle.fl_wire.specs.declared.body.Body.TheVariants as body
-use Rattle.fl_wire.specs.declared.errno.Errno.TheVariants.{ENOSYS}
-use Rattle.fl_wire.specs.declared.kind.Kind.{Kind}
-use Rattle.fl_wire.specs.declared.order.Order.{Order}
-use Rattle.fl_wire.specs.declared.order.LockAsk.{LockAsk}
-use Rattle.fl_wire.specs.declared.order.Op.{Op}
-use Rattle.fl_wire.specs.declared.reading.Refusal.{Refusal}
-use Rattle.fl_wire.specs.declared.reading.Refusal.TheVariants.{Answer}
 
 -- what stands in the fields of a header
 record Heads (bytes : List ℕ) (opcode unique node uid gid pid : ℕ) : Type 0 where
@@ -186,6 +186,9 @@ shape_made op = grind arith
 
 opcode_fits : (kind : Kind) → opcode_for kind < 2 ^ 32
 opcode_fits kind = grind arith
+
+opcode_finds : (kind : Kind) → kind_of_opcode (opcode_for kind) ≡ Some kind
+opcode_finds kind = grind arith
 
 -- the message of an order says that order
 pub said_again : (order : Order) → IsSayable order → said (message_of order) ≡ Ok order

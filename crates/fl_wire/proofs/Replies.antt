@@ -3,16 +3,16 @@ use Rattle.std.proofs.Common.{◌≡◌, ℕ, ◌+◌, ◌<◌, ◌≤◌, ◌^�
 use Rattle.std.proofs.lemmas.List.{take_at}
 use Rattle.byteorder.specs.Endian.{little_from}
 use Rattle.byteorder.specs.Numbers.{little_from-take, little_number-reads_back}
+use Rattle.fl_order.specs.declared.errno.Errno.{Errno}
+use Rattle.fl_order.specs.declared.told.Answer.{Answer}
+use Rattle.fl_order.specs.declared.told.Answer.TheVariants.{Done, Entry, Attr, Open, Made, Lock}
+use Rattle.fl_order.specs.declared.told.Told.{Told}
 use Rattle.fl_wire.proofs.Appending.{length-attr, length-entry, length-open, length-lock}
 use Rattle.fl_wire.specs.Init.{init_spelling, agreed_bytes, again_bytes}
 use Rattle.fl_wire.specs.Layout.{field, number_at, out_header}
 use Rattle.fl_wire.specs.Spell.{header_bytes, answer_bytes, entry_bytes, open_bytes, reply_bytes, spelling_of, minus, IsReply}
-use Rattle.fl_wire.specs.declared.errno.Errno.{Errno}
 use Rattle.fl_wire.specs.declared.init.InitStep.{InitStep}
 use Rattle.fl_wire.specs.declared.init.InitStep.TheVariants.{Refused, Again, Agreed}
-use Rattle.fl_wire.specs.declared.told.Answer.{Answer}
-use Rattle.fl_wire.specs.declared.told.Answer.TheVariants.{Done, Entry, Attr, Open, Made, Lock}
-use Rattle.fl_wire.specs.declared.told.Told.{Told}
 
 -- the length stands in the first four bytes
 len-append : (xs ys : List ℕ) → 4 ≤ length xs → field out_header 0 0 (xs ++ ys) ≡ field out_header 0 0 xs

@@ -2,24 +2,10 @@
 use Rattle.std.specs.Prelude.{ℕ, ◌+◌, ◌-◌, ◌==◌, not, nat_lt, if◌then◌else◌, List, [], ◌∷◌, ◌++◌, length, sum, take, drop, slice_index, Result, Ok, Err}
 use Rattle.std.specs.List.{list_any}
 use Rattle.std.specs.Result.{result_map_both}
+use Rattle.fl_order.specs.declared.body.Body.{Body}
+use Rattle.fl_order.specs.declared.errno.Errno.{Errno}
+use Rattle.fl_order.specs.declared.errno.Errno.TheVariants.{EINVAL, ENAMETOOLONG}
 use Rattle.fl_wire.specs.Layout.{values_at}
-use Rattle.fl_wire.specs.declared.body.Body.{Body}
-use Rattle.fl_wire.specs.declared.body.Body.TheVariants as body
-use Rattle.fl_wire.specs.declared.body.Shape.{Shape}
-use Rattle.fl_wire.specs.declared.body.Shape.TheVariants as shape
-use Rattle.fl_wire.specs.declared.errno.Errno.{Errno}
-use Rattle.fl_wire.specs.declared.errno.Errno.TheVariants.{EINVAL, ENAMETOOLONG}
-
--- the shape of a body
-abbrev pub body_shape : Body → Shape
-body_shape (body.Lock ask) = shape.Lock
-body_shape (body.Create excl mode name) = shape.Create
-body_shape (body.Name name) = shape.Name
-body_shape (body.Number n) = shape.Number
-body_shape (body.Flush fh owner) = shape.Flush
-body_shape (body.Release fh unlocks owner) = shape.Release
-body_shape body.Getattr = shape.Getattr
-body_shape body.Open = shape.Open
 
 -- a name, and the zero byte that ends it
 abbrev pub name_bytes : List ℕ → List ℕ

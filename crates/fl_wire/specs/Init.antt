@@ -1,8 +1,8 @@
 -- INIT: what is agreed with the kernel before any order.
 use Rattle.std.specs.Prelude.{ℕ, bit_and, nat_lt, if◌then◌else◌, List, [], ◌∷◌, ◌++◌, length, replicate}
+use Rattle.fl_order.specs.declared.errno.Errno.TheVariants.{EINVAL, EPROTO}
 use Rattle.fl_wire.specs.Layout.{field, init_in, init_out, laid_out}
 use Rattle.fl_wire.specs.Spell.{header_bytes, minus}
-use Rattle.fl_wire.specs.declared.errno.Errno.TheVariants.{EINVAL, EPROTO}
 use Rattle.fl_wire.specs.declared.init.InitStep.{InitStep}
 use Rattle.fl_wire.specs.declared.init.InitStep.TheVariants.{Refused, Again, Agreed}
 

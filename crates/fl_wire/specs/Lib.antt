@@ -1,15 +1,10 @@
 pub mod Append
 pub mod Body
 pub mod Cut
-pub mod Errno
 pub mod Frame
 pub mod Init
-pub mod Kind
 pub mod Layout
 pub mod Message
-pub mod Name
-pub mod Order
-pub mod Sayable
 pub mod Says
 pub mod Spell
 pub mod Stream

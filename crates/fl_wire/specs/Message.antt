@@ -1,15 +1,15 @@
 -- The message that a kernel sends for an order. Fields that aren't read are zeros here.
 use Rattle.std.specs.Prelude.{◌≡◌, ℕ, ◌+◌, Bool, if◌then◌else◌, List, [], ◌∷◌, ◌++◌, length, Result, Ok}
+use Rattle.fl_order.specs.Kind.{opcode_for}
+use Rattle.fl_order.specs.Order.{body_of, kind_of}
+use Rattle.fl_order.specs.Sayable.{IsSayable}
+use Rattle.fl_order.specs.declared.body.Body.{Body}
+use Rattle.fl_order.specs.declared.body.Body.TheVariants as body
+use Rattle.fl_order.specs.declared.order.Order.{Order}
+use Rattle.fl_order.specs.declared.order.LockAsk.{LockAsk}
+use Rattle.fl_order.specs.declared.refusal.Refusal.{Refusal}
 use Rattle.fl_wire.specs.Body.{name_bytes}
-use Rattle.fl_wire.specs.Kind.{opcode_for}
 use Rattle.fl_wire.specs.Layout.{laid_out, in_header, create_in, flush_in, forget_in, getattr_in, lk_in, open_in, release_in}
-use Rattle.fl_wire.specs.Order.{body_of, kind_of}
-use Rattle.fl_wire.specs.Sayable.{IsSayable}
-use Rattle.fl_wire.specs.declared.body.Body.{Body}
-use Rattle.fl_wire.specs.declared.body.Body.TheVariants as body
-use Rattle.fl_wire.specs.declared.order.Order.{Order}
-use Rattle.fl_wire.specs.declared.order.LockAsk.{LockAsk}
-use Rattle.fl_wire.specs.declared.reading.Refusal.{Refusal}
 
 -- the values of a lock request's fields
 abbrev pub lock_values : LockAsk → List ℕ

@@ -1,23 +1,23 @@
 -- What a message says as an order, and how one that says none is refused.
 use Rattle.std.specs.Prelude.{ℕ, ◌==◌, not, bit_and, List, [], slice_index, Option, None, Some, Result, Ok, Err}
 use Rattle.std.specs.Option.{ok_or}
+use Rattle.fl_order.specs.Kind.{kind_of_opcode, refusal_for, shape_for}
+use Rattle.fl_order.specs.Order.{op_of}
+use Rattle.fl_order.specs.declared.body.Body.{Body}
+use Rattle.fl_order.specs.declared.body.Body.TheVariants as body
+use Rattle.fl_order.specs.declared.body.Shape.{Shape}
+use Rattle.fl_order.specs.declared.body.Shape.TheVariants as shape
+use Rattle.fl_order.specs.declared.errno.Errno.{Errno}
+use Rattle.fl_order.specs.declared.errno.Errno.TheVariants.{ENOSYS}
+use Rattle.fl_order.specs.declared.kind.Kind.{Kind}
+use Rattle.fl_order.specs.declared.order.Order.{Order}
+use Rattle.fl_order.specs.declared.order.LockAsk.{LockAsk}
+use Rattle.fl_order.specs.declared.order.Op.{Op}
+use Rattle.fl_order.specs.declared.refusal.Refusal.{Refusal}
+use Rattle.fl_order.specs.declared.refusal.Refusal.TheVariants.{Answer}
 use Rattle.fl_wire.specs.Body.{by_fields, by_fields_and_name}
-use Rattle.fl_wire.specs.Kind.{kind_of_opcode, refusal_for, shape_for}
 use Rattle.fl_wire.specs.Layout.{field, in_header, create_in, flush_in, forget_in, getattr_in, lk_in, open_in, release_in}
 use Rattle.fl_wire.specs.Layout.{opcode_of, unique_of}
-use Rattle.fl_wire.specs.Order.{op_of}
-use Rattle.fl_wire.specs.declared.body.Body.{Body}
-use Rattle.fl_wire.specs.declared.body.Body.TheVariants as body
-use Rattle.fl_wire.specs.declared.body.Shape.{Shape}
-use Rattle.fl_wire.specs.declared.body.Shape.TheVariants as shape
-use Rattle.fl_wire.specs.declared.errno.Errno.{Errno}
-use Rattle.fl_wire.specs.declared.errno.Errno.TheVariants.{ENOSYS}
-use Rattle.fl_wire.specs.declared.kind.Kind.{Kind}
-use Rattle.fl_wire.specs.declared.order.Order.{Order}
-use Rattle.fl_wire.specs.declared.order.LockAsk.{LockAsk}
-use Rattle.fl_wire.specs.declared.order.Op.{Op}
-use Rattle.fl_wire.specs.declared.reading.Refusal.{Refusal}
-use Rattle.fl_wire.specs.declared.reading.Refusal.TheVariants.{Answer}
 
 -- the lock request of these fields
 abbrev pub lock_of : List ℕ → LockAsk

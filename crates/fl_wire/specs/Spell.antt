@@ -1,12 +1,12 @@
 -- The bytes of a reply.
 use Rattle.std.specs.Prelude.{◌≡◌, ℕ, ◌+◌, ◌-◌, ◌^◌, ◌≤◌, List, [], ◌∷◌, ◌++◌, length, Result, Ok, Err}
-use Rattle.fl_wire.specs.Errno.{number_of}
+use Rattle.fl_order.specs.Errno.{number_of}
+use Rattle.fl_order.specs.declared.errno.Errno.{Errno}
+use Rattle.fl_order.specs.declared.told.Answer.{Answer}
+use Rattle.fl_order.specs.declared.told.Answer.TheVariants.{Done, Entry, Attr, Open, Made, Lock}
+use Rattle.fl_order.specs.declared.told.Attr.{Attr as Attributes}
+use Rattle.fl_order.specs.declared.told.Told.{Told}
 use Rattle.fl_wire.specs.Layout.{field, laid_out, out_header, attr, entry_out, attr_out, open_out, lk_out}
-use Rattle.fl_wire.specs.declared.errno.Errno.{Errno}
-use Rattle.fl_wire.specs.declared.told.Answer.{Answer}
-use Rattle.fl_wire.specs.declared.told.Answer.TheVariants.{Done, Entry, Attr, Open, Made, Lock}
-use Rattle.fl_wire.specs.declared.told.Attr.{Attr as Attributes}
-use Rattle.fl_wire.specs.declared.told.Told.{Told}
 
 -- the attributes of a node: its number, mode, links, owner and group, blocks of 4096 bytes, and zeros
 unfoldable pub attr_bytes : Attributes → List ℕ

@@ -4,8 +4,8 @@ ghost use Rattle.std.specs.Prelude.{◌≡◌, ◌+◌, ◌≤◌, ◌++◌, len
 ghost use Rattle.fl_wire.specs.Append.{Appends};
 ghost use Rattle.byteorder.specs.Endian.{little_bytes};
 
-use crate::no_memory::NoMemory;
 use byteorder::{ByteOrder, LittleEndian};
+use fl_order::NoMemory;
 
 /// Makes room for this many bytes more; where it is there, nothing changes. An `Err` changes nothing.
 pub(crate) fn make_room(out: &mut Vec<u8>, count: usize) -> Result<(), NoMemory>

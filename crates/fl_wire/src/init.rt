@@ -4,11 +4,10 @@ ghost use Rattle.fl_wire.specs.Init.{again_bytes, agreed_bytes, init_spelling, i
 ghost use Rattle.fl_wire.specs.Spell.{IsReply};
 
 use crate::append::{make_room, push_u16, push_u32, push_zeros};
-use crate::errno::Errno;
 use crate::frame::Frame;
 use crate::layout::u32_at;
-use crate::no_memory::NoMemory;
 use crate::writing::{push_header, write_error};
+use fl_order::{Errno, NoMemory};
 
 // The version that is spoken: protocol 7.31 of `fuse.h`.
 const MAJOR: u32 = 7;

@@ -1,19 +1,15 @@
 ghost use Rattle.std.specs.Prelude.{◌≡◌, ◌+◌, ◌<◌, ◌≤◌, ◌==◌, length, IfOk, OnOk, Ok, Err};
 ghost use Rattle.std.specs.Prelude.{if◌then◌else◌};
+ghost use Rattle.fl_order.specs.Kind.{shape_for};
+ghost use Rattle.fl_order.specs.Name.{IsName};
+ghost use Rattle.fl_order.specs.Sayable.{FitsBody, FitsOp, IsSayable};
 ghost use Rattle.fl_wire.specs.Body.{name_behind, name_in};
-ghost use Rattle.fl_wire.specs.Kind.{shape_for};
 ghost use Rattle.fl_wire.specs.Message.{ReadsBack};
-ghost use Rattle.fl_wire.specs.Name.{IsName};
-ghost use Rattle.fl_wire.specs.Sayable.{FitsBody, FitsOp, IsSayable};
 ghost use Rattle.fl_wire.specs.Says.{asked_by, body_in, said};
 
-use crate::body::{Body, Shape};
-use crate::errno::Errno;
 use crate::frame::Frame;
-use crate::kind::Kind;
 use crate::layout::{u32_at, u64_at};
-use crate::name::Name;
-use crate::order::{LockAsk, Op, Order};
+use fl_order::{Body, Errno, Kind, LockAsk, Name, Op, Order, Refusal, Shape};
 
 // `O_EXCL` of a kernel's flags, and the permissions of a mode.
 const O_EXCL: u32 = 0o200;
@@ -22,17 +18,6 @@ const PERMISSIONS: u32 = 0o777;
 
 // `FUSE_RELEASE_FLOCK_UNLOCK` of the release flags.
 const RELEASE_FLOCK_UNLOCK: u32 = 0b10;
-
-/// Why a message is no order.
-#[derive(Clone, Copy, Debug, PartialEq, Eq)]
-pub enum Refusal {
-    /// It is answered with this error.
-    Answer(Errno),
-    /// No reply is owed.
-    Silent,
-    /// It ends the session.
-    Destroy,
-}
 
 /// The order that a message says, or how it is refused: EPROTO for an INIT, ENOSYS for a kind that isn't
 /// served, EINVAL for a body of another length than its kind's or a name that no zero byte ends, and

@@ -3,9 +3,7 @@ ghost use Rattle.fl_wire.specs.Append.{Appends};
 ghost use Rattle.fl_wire.specs.Spell.{answer_bytes, attr_bytes, entry_bytes, header_bytes, lock_bytes, minus, open_bytes, reply_bytes, spelling_of, IsReply};
 
 use crate::append::{make_room, push_u32, push_u64, push_zeros};
-use crate::errno::Errno;
-use crate::no_memory::NoMemory;
-use crate::told::{Answer, Attr, Told};
+use fl_order::{Answer, Attr, Errno, NoMemory, Told};
 
 // The size of blocks that attributes tell, in bytes.
 const BLOCK_SIZE: u32 = 4096;

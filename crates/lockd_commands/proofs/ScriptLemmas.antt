@@ -3,11 +3,11 @@ use Rattle.std.proofs.Common.{◌≡◌, ℕ, ◌+◌, ◌<◌, List, [], ◌∷
 use Rattle.std.proofs.lemmas.Grind.{flat_map-append}
 use Rattle.std.proofs.lemmas.List.{take_more, map-append, length-map}
 use Rattle.std.proofs.lemmas.List.Elements.{All-cons, All-append, filter-append}
-use Rattle.fl_wire.specs.declared.told.Told.{Told as Reply}
-use Rattle.fl_trace.specs.Text.{line_text, text_of, LineFits, Fits, BreaksAt}
+use Rattle.fl_book.specs.Legal.{is_asked}
 use Rattle.fl_history.specs.declared.history.Line.{Line}
 use Rattle.fl_history.specs.declared.history.Line.TheVariants.{Told}
-use Rattle.fl_book.specs.Legal.{is_asked}
+use Rattle.fl_order.specs.declared.told.Told.{Told as Reply}
+use Rattle.fl_trace.specs.Text.{line_text, text_of, LineFits, Fits, BreaksAt}
 use Rattle.lockd_commands.specs.Script.{line_of, IsAskLine}
 use Rattle.lockd_commands.specs.declared.script.Ask.{Ask}
 

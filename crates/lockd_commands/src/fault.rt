@@ -1,7 +1,7 @@
 ghost use Rattle.std.specs.Prelude.{◌≡◌};
 
 use fl_book::TraceFault;
-use fl_wire::NoMemory;
+use fl_order::NoMemory;
 use std::alloc::{AllocError, AllocFailed};
 use thiserror::Error;
 

@@ -11,7 +11,7 @@ use crate::status::Status;
 use crate::streams::{read_all, write_all};
 use fl_book::{Desk, History, Line, first_line, print_trace};
 use fl_core::Tolds;
-use fl_wire::Order;
+use fl_order::Order;
 use std::alloc::Global;
 use std::io::{Read, Write};
 

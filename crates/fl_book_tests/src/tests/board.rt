@@ -6,7 +6,7 @@ use super::lines::{is_line, order};
 use super::same;
 use fl_book::{Board, BoardName, CloseFault, History, Line, Seat, Verdict, check};
 use fl_core::Tolds;
-use fl_wire::{Answer, Errno, LockAsk, Name, Op, Order};
+use fl_order::{Answer, Errno, LockAsk, Name, Op, Order};
 use std::alloc::{AllocError, Global};
 use std::marker::Brand;
 use std::process::Abort;
@@ -319,7 +319,7 @@ fn a_board_goes_on_where_a_seat_is_missing(rt: HostRuntime) -> Result<(), Fail> 
     same(&rt, &check(rt.alloc(), &history)?, &Verdict::Legal);
     same(&rt, &history.len(), &6);
     // The second seat's lock is refused: the two seats have one directory.
-    let last = Line::Told(fl_wire::Told {
+    let last = Line::Told(fl_order::Told {
         unique: 3,
         result: Err(Errno::EAGAIN),
     });

@@ -2,8 +2,8 @@
 
 use super::lines::{history_of, lines_of};
 use fl_book::{History, Line};
+use fl_order::{Answer, Attr, Errno, LockAsk, NoMemory, Op, Order, Told};
 use fl_testing::Numbers;
-use fl_wire::{Answer, Attr, Errno, LockAsk, NoMemory, Op, Order, Told};
 use std::alloc::Global;
 
 #[derive(Clone, Copy, PartialEq, Eq)]

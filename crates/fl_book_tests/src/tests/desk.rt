@@ -5,7 +5,7 @@ use super::same;
 use super::traces::{LOCKS, is_text, read};
 use fl_book::{Desk, History, Line, laws};
 use fl_core::Tolds;
-use fl_wire::{Answer, Attr, Errno, LockAsk, Name, Op, Told};
+use fl_order::{Answer, Attr, Errno, LockAsk, Name, Op, Told};
 use std::alloc::Global;
 use std::process::Abort;
 use std::test::Fail;

@@ -3,7 +3,7 @@
 use super::same;
 use fl_book::{Desk, History, Line};
 use fl_core::Tolds;
-use fl_wire::{NoMemory, Op, Order};
+use fl_order::{NoMemory, Op, Order};
 use std::alloc::Global;
 use std::process::Abort;
 

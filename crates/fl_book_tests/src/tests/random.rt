@@ -3,8 +3,8 @@
 use super::lines::order;
 use fl_book::{Desk, History};
 use fl_core::Tolds;
+use fl_order::{Answer, Errno, LockAsk, Name, NoMemory, Op, Order, Told};
 use fl_testing::Numbers;
-use fl_wire::{Answer, Errno, LockAsk, Name, NoMemory, Op, Order, Told};
 use std::alloc::Global;
 use std::process::Abort;
 

@@ -1,16 +1,16 @@
 -- What a core's parts are between the changes of one order.
 use Rattle.std.specs.Prelude.{◌≡◌, ◌==◌, Bool, false, not, Option, Some, None, Result, Ok, List}
 use Rattle.std.specs.List.{filter, AllByRecursion}
-use Rattle.fl_wire.specs.declared.errno.Errno.{Errno}
-use Rattle.fl_wire.specs.declared.errno.Errno.TheVariants.{EINTR, EBADF}
-use Rattle.fl_wire.specs.declared.told.Answer.{Answer}
-use Rattle.fl_wire.specs.declared.order.Op.{Op}
-use Rattle.fl_wire.specs.declared.order.Op.TheVariants.{Release, Interrupt}
 use Rattle.fl_core.specs.Replies.{is_malformed}
 use Rattle.fl_core.specs.State.{Snapshot}
 use Rattle.fl_core.specs.declared.ending.Ending.{Ending}
 use Rattle.fl_core.specs.declared.ending.Ending.TheVariants.{Through, Named}
 use Rattle.fl_core.specs.declared.parked.Request.{Request}
+use Rattle.fl_order.specs.declared.errno.Errno.{Errno}
+use Rattle.fl_order.specs.declared.errno.Errno.TheVariants.{EINTR, EBADF}
+use Rattle.fl_order.specs.declared.told.Answer.{Answer}
+use Rattle.fl_order.specs.declared.order.Op.{Op}
+use Rattle.fl_order.specs.declared.order.Op.TheVariants.{Release, Interrupt}
 
 -- no request that waits is malformed
 abbrev pub AreFormed : List Request → Type 0

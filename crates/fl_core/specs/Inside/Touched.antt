@@ -1,19 +1,19 @@
 -- Which requests an order may have set free: those on a node, of one class or of both.
 use Rattle.std.specs.Prelude.{◌≡◌, ℕ, ◌==◌, ◌&&◌, Bool, true, false, Option, Some, Result, Ok, List, [], ◌∷◌, ◌++◌}
 use Rattle.std.specs.List.{AllByRecursion}
-use Rattle.fl_wire.specs.declared.errno.Errno.{Errno}
-use Rattle.fl_wire.specs.declared.told.Answer.{Answer}
-use Rattle.fl_wire.specs.declared.order.Op.{Op}
-use Rattle.fl_wire.specs.declared.order.Op.TheVariants.{Release, Flush, Setlk, Setlkw}
-use Rattle.fl_ranges.specs.declared.lock.Class.{Class}
-use Rattle.fl_ranges.specs.declared.lock.Class.TheVariants.{Record}
-use Rattle.fl_ranges.specs.Marking.{Marking, class_number}
 use Rattle.fl_core.specs.LockRequest.{key_of}
 use Rattle.fl_core.specs.Replies.{is_malformed}
 use Rattle.fl_core.specs.Waiting.{waits}
 use Rattle.fl_core.specs.declared.parked.Request.{Request}
 use Rattle.fl_core.specs.declared.settling.Touched.{Touched}
 use Rattle.fl_core.specs.declared.settling.Touched.TheVariants.{Nothing, OfClass, OfNode}
+use Rattle.fl_order.specs.declared.errno.Errno.{Errno}
+use Rattle.fl_order.specs.declared.told.Answer.{Answer}
+use Rattle.fl_order.specs.declared.order.Op.{Op}
+use Rattle.fl_order.specs.declared.order.Op.TheVariants.{Release, Flush, Setlk, Setlkw}
+use Rattle.fl_ranges.specs.declared.lock.Class.{Class}
+use Rattle.fl_ranges.specs.declared.lock.Class.TheVariants.{Record}
+use Rattle.fl_ranges.specs.Marking.{Marking, class_number}
 
 -- locks of this class and node may have gone
 abbrev pub concerns : Touched → ℕ → Class → Bool

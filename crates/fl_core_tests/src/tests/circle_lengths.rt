@@ -2,8 +2,8 @@
 
 use super::orders::{DONE, READ, WRITE, create, lock, made, numbered, order, wait};
 use super::{Reply, Server};
+use fl_order::{Errno, Op, Order, Told};
 use fl_ranges::{Class, Kind};
-use fl_wire::{Errno, Op, Order, Told};
 use std::alloc::Global;
 use std::process::Abort;
 

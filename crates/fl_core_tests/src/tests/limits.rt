@@ -2,7 +2,7 @@
 
 use super::Server;
 use super::orders::{DONE, attr, create, made, name, numbered, order, release};
-use fl_wire::{Answer, Errno, Op};
+use fl_order::{Answer, Errno, Op};
 use std::process::Abort;
 
 // Makes 256 files, whose numbers begin with these.

@@ -2,7 +2,7 @@
 
 use super::orders::{name, order};
 use super::{Server, is_legal};
-use fl_wire::{Answer, Attr, Op, Order};
+use fl_order::{Answer, Attr, Op, Order};
 use std::process::Abort;
 
 #[test]

@@ -1,7 +1,7 @@
 //! Orders and replies, for tests that make them in a loop.
 
 use super::Reply;
-use fl_wire::{Answer, Attr, LockAsk, Name, Op, Order};
+use fl_order::{Answer, Attr, LockAsk, Name, Op, Order};
 use std::process::Abort;
 
 pub(super) const READ: u32 = 0;

@@ -5,7 +5,7 @@ use super::Reply;
 use super::orders::{READ, UNLOCK, WRITE};
 use super::plain::Plain;
 use fl_core::Request;
-use fl_wire::{Answer, Errno, LockAsk, Op, Order, Told};
+use fl_order::{Answer, Errno, LockAsk, Op, Order, Told};
 use std::alloc::Global;
 use std::process::Abort;
 

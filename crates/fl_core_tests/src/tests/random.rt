@@ -3,8 +3,8 @@
 use super::Server;
 use super::orders::{name, order};
 use super::plain::Plain;
+use fl_order::{Name, Op, Order};
 use fl_testing::Numbers;
-use fl_wire::{Name, Op, Order};
 use std::alloc::Global;
 use std::process::Abort;
 

@@ -2,7 +2,7 @@
 
 use super::Server;
 use super::orders::{DONE, READ, UNLOCK, WRITE, create, lock, made, name, numbered, order, wait};
-use fl_wire::{Order, Told};
+use fl_order::{Order, Told};
 use std::alloc::Global;
 use std::process::Abort;
 

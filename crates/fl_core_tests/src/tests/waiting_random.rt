@@ -4,9 +4,9 @@ use super::Server;
 use super::orders::{READ, UNLOCK, WRITE, create, name, order, release};
 use super::plain_locks::{Counts, LAST, OWNERS, PlainLocks, request_of};
 use fl_core::Core;
+use fl_order::{Errno, LockAsk, Op, Order};
 use fl_ranges::{Class, Key, Kind, Range};
 use fl_testing::Numbers;
-use fl_wire::{Errno, LockAsk, Op, Order};
 use std::alloc::Global;
 use std::process::Abort;
 

@@ -1,12 +1,6 @@
 -- How lines are kept in few bytes: a small record for each, and what it leads to.
 use Rattle.std.specs.Prelude.{◌≡◌, ℕ, ◌+◌, ◌*◌, ◌≤◌, ◌<◌, Option, Some, None, Ok, Err, List, [], ◌++◌, map, length, take, drop}
 use Rattle.std.specs.List.{slice_get, AllByRecursion}
-use Rattle.fl_wire.specs.Name.{IsName}
-use Rattle.fl_wire.specs.declared.order.Op.{Op}
-use Rattle.fl_wire.specs.declared.order.Op.TheVariants as op
-use Rattle.fl_wire.specs.declared.order.LockAsk.{LockAsk}
-use Rattle.fl_wire.specs.declared.order.Order.{Order}
-use Rattle.fl_wire.specs.declared.told.Answer.TheVariants.{Done}
 use Rattle.fl_history.specs.declared.history.Line.{Line}
 use Rattle.fl_history.specs.declared.history.Line.TheVariants as line
 use Rattle.fl_history.specs.declared.records.Span.{Span}
@@ -18,6 +12,12 @@ use Rattle.fl_history.specs.declared.records.Ask.{Ask}
 use Rattle.fl_history.specs.declared.records.Answered.{Answered}
 use Rattle.fl_history.specs.declared.records.Record.{Record}
 use Rattle.fl_history.specs.declared.records.Record.TheVariants as record_of
+use Rattle.fl_order.specs.Name.{IsName}
+use Rattle.fl_order.specs.declared.order.Op.{Op}
+use Rattle.fl_order.specs.declared.order.Op.TheVariants as op
+use Rattle.fl_order.specs.declared.order.LockAsk.{LockAsk}
+use Rattle.fl_order.specs.declared.order.Order.{Order}
+use Rattle.fl_order.specs.declared.told.Answer.TheVariants.{Done}
 
 -- the bytes of the name in what is asked, none where it names nothing
 abbrev pub name_in : Op → List ℕ

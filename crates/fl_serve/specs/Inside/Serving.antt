@@ -1,11 +1,8 @@
 -- A session that is under way: what is kept of it, and what it did with its reader and its writer so far.
 use Rattle.std.specs.Prelude.{◌≡◌, ℕ, Bool, true, false, List, [], ◌∷◌, ◌++◌, map, Result, Ok}
-use Rattle.fl_wire.specs.Init.{init_spelling}
-use Rattle.fl_wire.specs.Spell.{spelling_of}
-use Rattle.fl_wire.specs.declared.order.Order.{Order}
-use Rattle.fl_wire.specs.declared.reading.Refusal.{Refusal}
-use Rattle.fl_wire.specs.declared.told.Told.{Told}
-use Rattle.fl_wire.specs.Says.{said}
+use Rattle.fl_order.specs.declared.order.Order.{Order}
+use Rattle.fl_order.specs.declared.refusal.Refusal.{Refusal}
+use Rattle.fl_order.specs.declared.told.Told.{Told}
 use Rattle.fl_serve.specs.Session.{Session, with_message, after_init}
 use Rattle.fl_serve.specs.declared.session.server.Met.{Met}
 use Rattle.fl_serve.specs.declared.session.server.Met.TheVariants as met
@@ -13,6 +10,9 @@ use Rattle.fl_serve.specs.declared.session.server.Owed.{Owed}
 use Rattle.fl_serve.specs.declared.session.server.Talk.{Talk}
 use Rattle.fl_serve.specs.declared.session.server.Owed.TheVariants.{Nothing, Init, One, Replies}
 use Rattle.fl_serve.specs.declared.session.server.Server.{Server}
+use Rattle.fl_wire.specs.Init.{init_spelling}
+use Rattle.fl_wire.specs.Spell.{spelling_of}
+use Rattle.fl_wire.specs.Says.{said}
 
 -- the bytes of each reply that is owed, where an order gets these
 abbrev pub bytes_of : Owed → List Told → List (List ℕ)

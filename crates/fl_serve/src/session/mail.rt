@@ -8,7 +8,8 @@ ghost use Rattle.fl_serve.specs.Inside.Sending.{Sends};
 
 use crate::outbox::Outbox;
 use crate::session::server::Owed;
-use fl_wire::{InitStep, NoMemory, Told, write_init, write_told};
+use fl_order::{NoMemory, Told};
+use fl_wire::{InitStep, write_init, write_told};
 use std::alloc::Global;
 use std::io::Write;
 use std::marker::Model;

@@ -1,17 +1,16 @@
 //! What a session does with each message, apart from reading and writing.
 
 ghost use Rattle.std.specs.Prelude.{◌≡◌, ℕ, List, false, IfOk, if◌then◌else◌};
-ghost use Rattle.fl_wire.specs.Kind.{is_silent, kind_of_opcode};
-ghost use Rattle.fl_wire.specs.Layout.{opcode_of, unique_of};
-ghost use Rattle.fl_wire.specs.Says.{said};
+ghost use Rattle.fl_order.specs.Kind.{is_silent, kind_of_opcode};
 ghost use Rattle.fl_serve.specs.Session.{Session, before_init, without_memory};
 ghost use Rattle.fl_serve.specs.Inside.Serving.{answered, bytes_of, standing, IsFresh, IsHeard, IsHeardAs, IsMet, IsMetAs};
+ghost use Rattle.fl_wire.specs.Layout.{opcode_of, unique_of};
+ghost use Rattle.fl_wire.specs.Says.{said};
 
 use fl_book::{Desk, History};
 use fl_core::Tolds;
-use fl_wire::{
-    Answer, Errno, Frame, InitStep, Kind, NoMemory, Order, Refusal, Told, read_init, read_order,
-};
+use fl_order::{Answer, Errno, Kind, NoMemory, Order, Refusal, Told};
+use fl_wire::{Frame, InitStep, read_init, read_order};
 use std::alloc::Global;
 
 /// What a message is answered.

@@ -2,7 +2,7 @@
 
 use super::directory::{is_made, is_not_open, is_refused, made, name};
 use fl_dir::Dir;
-use fl_wire::Errno;
+use fl_order::Errno;
 use std::alloc::Global;
 use std::process::Abort;
 use std::test::Fail;

@@ -2,7 +2,7 @@
 
 use super::same;
 use fl_dir::{Closed, Dir};
-use fl_wire::{Answer, Attr, Errno, Name};
+use fl_order::{Answer, Attr, Errno, Name};
 use std::process::Abort;
 use std::test::Fail;
 

@@ -6,7 +6,7 @@ use super::directory::{
 };
 use super::same;
 use fl_dir::{Dir, ROOT};
-use fl_wire::{Answer, Attr, Errno, Name};
+use fl_order::{Answer, Attr, Errno, Name};
 use std::process::Abort;
 use std::test::Fail;
 

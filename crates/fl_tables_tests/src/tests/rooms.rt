@@ -2,7 +2,7 @@
 
 use super::directory::{is_closed, is_done, is_gone, is_made, is_open, is_refused, made, name};
 use fl_dir::Dir;
-use fl_wire::{Errno, Name};
+use fl_order::{Errno, Name};
 use std::process::Abort;
 use std::test::Fail;
 

@@ -1,7 +1,8 @@
 //! Bodies of other lengths, and flags that are read or not.
 
 use super::{message, same, whole};
-use fl_wire::{Errno, Op, Refusal, read_order};
+use fl_order::{Errno, Op, Refusal};
+use fl_wire::read_order;
 use std::process::Abort;
 use std::test::Fail;
 

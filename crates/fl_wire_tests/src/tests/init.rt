@@ -1,7 +1,8 @@
 //! INIT and its replies.
 
 use super::{message, same, whole};
-use fl_wire::{Errno, InitStep, read_init, write_init};
+use fl_order::Errno;
+use fl_wire::{InitStep, read_init, write_init};
 use std::process::Abort;
 use std::test::Fail;
 

@@ -4,7 +4,8 @@ use super::messages::{
     CREATE, FLUSH, FORGET, GETATTR, GETLK, INTERRUPT, LOOKUP, OPEN, RELEASE, SETLK, SETLKW, UNLINK,
 };
 use super::{same, whole};
-use fl_wire::{Kind, read_order};
+use fl_order::Kind;
+use fl_wire::read_order;
 use std::process::Abort;
 use std::test::Fail;
 

@@ -1,7 +1,8 @@
 //! Messages of each kind, and the orders that they are.
 
 use super::{same, whole};
-use fl_wire::{LockAsk, Name, Op, Order, read_order};
+use fl_order::{LockAsk, Name, Op, Order};
+use fl_wire::read_order;
 use std::process::Abort;
 use std::test::Fail;
 

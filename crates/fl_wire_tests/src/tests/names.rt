@@ -1,7 +1,8 @@
 //! Names, alone and in messages.
 
 use super::{message, same, whole};
-use fl_wire::{Body, Errno, Name, Op, Refusal, read_order};
+use fl_order::{Body, Errno, Name, Op, Refusal};
+use fl_wire::read_order;
 use std::process::Abort;
 use std::test::Fail;
 

@@ -1,7 +1,7 @@
 //! Orders and their parts, and the shapes of bodies.
 
 use super::same;
-use fl_wire::{Body, Errno, Kind, LockAsk, Name, Op, Refusal, Shape};
+use fl_order::{Body, Errno, Kind, LockAsk, Name, Op, Refusal, Shape};
 use std::process::Abort;
 use std::test::Fail;
 

@@ -2,7 +2,8 @@
 
 use super::messages::SETLK;
 use super::{message, same, whole};
-use fl_wire::{Errno, Refusal, Step, next_frame, read_order};
+use fl_order::{Errno, Refusal};
+use fl_wire::{Step, next_frame, read_order};
 use std::process::Abort;
 use std::test::Fail;
 

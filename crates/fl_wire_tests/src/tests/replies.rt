@@ -1,6 +1,7 @@
 //! Replies, as the bytes that are sent.
 
-use fl_wire::{Answer, Attr, Errno, Told, write_told};
+use fl_order::{Answer, Attr, Errno, Told};
+use fl_wire::write_told;
 use std::process::Abort;
 use std::test::Fail;
 

@@ -8,7 +8,7 @@ use super::scripts::locks::locks_and_files;
 use super::scripts::waiting::requests_that_wait;
 use fl_book::{Board, BoardName, History, Line, Seat, Verdict, check, print_trace, read_trace};
 use fl_core::Tolds;
-use fl_wire::Order;
+use fl_order::Order;
 use std::alloc::Global;
 use std::marker::Brand;
 use std::process::Abort;

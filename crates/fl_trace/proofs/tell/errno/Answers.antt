@@ -2,8 +2,8 @@ use Rattle.std.proofs.Common.{◌≡◌, ◌==◌, ◌∙◌, sym, subst, ap, ru
 use Rattle.std.proofs.lemmas.Iterator.{YieldsList-from_slice}
 use Rattle.std.proofs.lemmas.Iterator.Search.{find_from_yields_List}
 use Rattle.std.specs.List.{find}
-use Rattle.fl_wire.specs.Errno.{number_of}
-use Rattle.fl_wire.specs.declared.errno.Errno.{Errno}
+use Rattle.fl_order.specs.Errno.{number_of}
+use Rattle.fl_order.specs.declared.errno.Errno.{Errno}
 use Rattle.fl_trace.proofs.ReadBack.{all_errors, error_is_found}
 use Rattle.fl_trace.proofs.tell.errno.Goals as goal
 

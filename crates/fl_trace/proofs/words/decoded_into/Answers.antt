@@ -1,6 +1,6 @@
 use Rattle.std.proofs.Common.{ap, subst, sym, ◌∙◌}
 use Rattle.std.specs.Result.{result_ok}
-use Rattle.fl_wire.specs.Name.{IsName}
+use Rattle.fl_order.specs.Name.{IsName}
 use Rattle.fl_trace.proofs.WordLemmas.{decoded_name, some_of}
 use Rattle.fl_trace.proofs.words.decoded_into.Goals as goal
 

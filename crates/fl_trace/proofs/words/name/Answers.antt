@@ -1,5 +1,5 @@
 use Rattle.std.proofs.Common.{◌≡◌, sym, subst, ◌∙◌, [], ◌∷◌, rules}
-use Rattle.fl_wire.specs.Name.{IsName}
+use Rattle.fl_order.specs.Name.{IsName}
 use Rattle.fl_trace.proofs.WordLemmas.{dash_is_empty, some_of}
 use Rattle.fl_trace.proofs.words.name.Goals as goal
 

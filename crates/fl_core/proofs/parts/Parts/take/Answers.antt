@@ -1,13 +1,13 @@
 use Rattle.std.proofs.Common.{◌∙◌, Some, sym, subst, ap}
-use Rattle.fl_wire.specs.declared.order.Op.{Op}
-use Rattle.fl_wire.specs.declared.order.Op.TheVariants.{Flush}
-use Rattle.fl_ranges.specs.Conflict.{IsLawful}
 use Rattle.fl_core.specs.Inside.Touched.{touched_by, OthersWait}
 use Rattle.fl_core.specs.Replies.{reply_to, setlk_reply, setlkw_reply}
 use Rattle.fl_core.specs.State.{Snapshot, View}
 use Rattle.fl_core.specs.Waiting.{AllWait}
 use Rattle.fl_core.proofs.Waits.{others_kept, others_set, others_flushed, others_released, others_parked, formed_parked}
 use Rattle.fl_core.proofs.parts.Parts.take.Goals as goal
+use Rattle.fl_order.specs.declared.order.Op.{Op}
+use Rattle.fl_order.specs.declared.order.Op.TheVariants.{Flush}
+use Rattle.fl_ranges.specs.Conflict.{IsLawful}
 
 -- a snapshot whose requests all wait
 abbrev Waits : Snapshot → Type 0

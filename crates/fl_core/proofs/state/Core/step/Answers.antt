@@ -1,7 +1,4 @@
 use Rattle.std.proofs.Common.{◌≡◌, ◌++◌, ◌≤◌, ◌∙◌, true, false, Option, None, Result, length, sym, subst, ap, arith}
-use Rattle.fl_wire.specs.declared.errno.Errno.{Errno}
-use Rattle.fl_wire.specs.declared.order.Order.{Order}
-use Rattle.fl_wire.specs.declared.told.Answer.{Answer}
 use Rattle.fl_core.specs.Effects.{by_reply, replied, made}
 use Rattle.fl_core.specs.Inside.Touched.{touched_by, OthersWait}
 use Rattle.fl_core.specs.Replies.{own_replies, ended_by, reply_to}
@@ -15,6 +12,9 @@ use Rattle.fl_core.proofs.Settlings.{nothing_left}
 use Rattle.fl_core.proofs.Steps as steps
 use Rattle.fl_core.proofs.Waits.{nothing_touched}
 use Rattle.fl_core.proofs.state.Core.step.Goals as goal
+use Rattle.fl_order.specs.declared.errno.Errno.{Errno}
+use Rattle.fl_order.specs.declared.order.Order.{Order}
+use Rattle.fl_order.specs.declared.told.Answer.{Answer}
 
 -- ---- the order's unique is that of a request that waits
 

@@ -1,7 +1,7 @@
 use Rattle.std.proofs.Common.{◌≡◌, ◌++◌, ap, ◌∙◌, drop, length, replicate, ℕ, List}
 use Rattle.std.proofs.lemmas.List.{drop-replicate}
-use Rattle.fl_wire.specs.Name.{padded}
-use Rattle.fl_wire.proofs.name.padded.Goals as goal
+use Rattle.fl_order.specs.Name.{padded}
+use Rattle.fl_order.proofs.name.padded.Goals as goal
 
 -- a front of 255 zeros that is written over
 written : (bytes copied : List ℕ) → copied ≡ bytes → copied ++ drop (length bytes) (replicate 255 0) ≡ padded bytes

@@ -6,8 +6,8 @@ use Rattle.std.proofs.lemmas.Slice.Eq.{bytes_eq-Decides}
 use Rattle.std.specs.Bool.{Decides}
 use Rattle.std.specs.List.{find}
 use Rattle.std.specs.Str.{bytes_eq}
-use Rattle.fl_wire.specs.Kind.{all_kinds, opcode_for, word_for, kind_of_opcode, kind_of_word, IsFoundBy}
-use Rattle.fl_wire.specs.declared.kind.Kind.{Kind}
+use Rattle.fl_order.specs.Kind.{all_kinds, opcode_for, word_for, kind_of_opcode, kind_of_word, IsFoundBy}
+use Rattle.fl_order.specs.declared.kind.Kind.{Kind}
 
 -- what is found passes the test
 first_passes : {X : Type 0} (test : X → Bool) (y : X) (rest : Option X) (x : X) (b : Bool) → test y ≡ b → (if b then Some y else rest) ≡ Some x → (rest ≡ Some x → test x ≡ true) → test x ≡ true
@@ -28,7 +28,7 @@ found_by {Mark} same decides mark_of finds mark = record {
   apart = λ kind other e. same_Some kind other (sym (finds kind) ∙ ap (λ m. find (λ k. same (mark_of k) m) all_kinds) e ∙ finds other);
 }
 
-pub opcode_finds : (kind : Kind) → kind_of_opcode (opcode_for kind) ≡ Some kind
+opcode_finds : (kind : Kind) → kind_of_opcode (opcode_for kind) ≡ Some kind
 opcode_finds kind = grind arith
 
 word_finds : (kind : Kind) → kind_of_word (word_for kind) ≡ Some kind

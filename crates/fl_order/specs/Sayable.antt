@@ -1,17 +1,17 @@
 -- Which orders and replies can be said, in bytes and in text: those whose numbers fit their fields.
 use Rattle.std.specs.Prelude.{◌<◌, ◌^◌, Result, Ok, Err}
-use Rattle.fl_wire.specs.Name.{IsName}
-use Rattle.fl_wire.specs.Order.{body_of}
-use Rattle.fl_wire.specs.declared.body.Body.{Body}
-use Rattle.fl_wire.specs.declared.body.Body.TheVariants as body
-use Rattle.fl_wire.specs.declared.errno.Errno.{Errno}
-use Rattle.fl_wire.specs.declared.order.Order.{Order}
-use Rattle.fl_wire.specs.declared.order.LockAsk.{LockAsk}
-use Rattle.fl_wire.specs.declared.order.Op.{Op}
-use Rattle.fl_wire.specs.declared.told.Answer.{Answer}
-use Rattle.fl_wire.specs.declared.told.Answer.TheVariants.{Done, Entry, Attr, Open, Made, Lock}
-use Rattle.fl_wire.specs.declared.told.Attr.{Attr as Attributes}
-use Rattle.fl_wire.specs.declared.told.Told.{Told}
+use Rattle.fl_order.specs.Name.{IsName}
+use Rattle.fl_order.specs.Order.{body_of}
+use Rattle.fl_order.specs.declared.body.Body.{Body}
+use Rattle.fl_order.specs.declared.body.Body.TheVariants as body
+use Rattle.fl_order.specs.declared.errno.Errno.{Errno}
+use Rattle.fl_order.specs.declared.order.Order.{Order}
+use Rattle.fl_order.specs.declared.order.LockAsk.{LockAsk}
+use Rattle.fl_order.specs.declared.order.Op.{Op}
+use Rattle.fl_order.specs.declared.told.Answer.{Answer}
+use Rattle.fl_order.specs.declared.told.Answer.TheVariants.{Done, Entry, Attr, Open, Made, Lock}
+use Rattle.fl_order.specs.declared.told.Attr.{Attr as Attributes}
+use Rattle.fl_order.specs.declared.told.Told.{Told}
 
 -- the numbers of a lock request fit their fields
 pub record FitsLock (ask : LockAsk) : Type 0 where

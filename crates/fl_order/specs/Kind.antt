@@ -4,15 +4,15 @@ use Rattle.std.specs.Prelude.{◌≡◌, ◌↔◌, ℕ, ◌==◌, Bool, true, f
 use Rattle.std.specs.Prelude.{if◌then◌else◌}
 use Rattle.std.specs.List.{find}
 use Rattle.std.specs.Str.{bytes_eq}
-use Rattle.fl_wire.specs.declared.body.Shape.{Shape}
-use Rattle.fl_wire.specs.declared.body.Shape.TheVariants as shape
-use Rattle.fl_wire.specs.declared.errno.Errno.{Errno}
-use Rattle.fl_wire.specs.declared.errno.Errno.TheVariants.{EPROTO}
-use Rattle.fl_wire.specs.declared.kind.Kind.{Kind}
-use Rattle.fl_wire.specs.declared.kind.Kind.TheVariants.{Lookup, Forget, Getattr, Unlink, Open, Release, Flush, Init}
-use Rattle.fl_wire.specs.declared.kind.Kind.TheVariants.{Getlk, Setlk, Setlkw, Create, Interrupt, Destroy, BatchForget}
-use Rattle.fl_wire.specs.declared.reading.Refusal.{Refusal}
-use Rattle.fl_wire.specs.declared.reading.Refusal.TheVariants.{Answer, Silent, Destroy as Ends}
+use Rattle.fl_order.specs.declared.body.Shape.{Shape}
+use Rattle.fl_order.specs.declared.body.Shape.TheVariants as shape
+use Rattle.fl_order.specs.declared.errno.Errno.{Errno}
+use Rattle.fl_order.specs.declared.errno.Errno.TheVariants.{EPROTO}
+use Rattle.fl_order.specs.declared.kind.Kind.{Kind}
+use Rattle.fl_order.specs.declared.kind.Kind.TheVariants.{Lookup, Forget, Getattr, Unlink, Open, Release, Flush, Init}
+use Rattle.fl_order.specs.declared.kind.Kind.TheVariants.{Getlk, Setlk, Setlkw, Create, Interrupt, Destroy, BatchForget}
+use Rattle.fl_order.specs.declared.refusal.Refusal.{Refusal}
+use Rattle.fl_order.specs.declared.refusal.Refusal.TheVariants.{Answer, Silent, Destroy as Ends}
 
 -- each kind once
 abbrev pub all_kinds : List Kind

@@ -38,7 +38,7 @@ pub enum Errno {
 }
 
 impl Errno {
-    ghost use Rattle.fl_wire.specs.Errno.{number_of};
+    ghost use Rattle.fl_order.specs.Errno.{number_of};
 
     /// The number of Linux, positive.
     pub const fn number(self) -> u32

@@ -1,5 +1,5 @@
 ghost use Rattle.std.specs.Prelude.{◌≡◌, ◌≤◌, ◌↔◌, IsSome, IfSome, length};
-ghost use Rattle.fl_wire.specs.Name.{padded};
+ghost use Rattle.fl_order.specs.Name.{padded};
 
 use std::fmt;
 use std::marker::Model;
@@ -14,7 +14,7 @@ pub struct Name {
 impl Model for Name {
     ghost use Rattle.std.specs.Prelude.{List, ℕ, take, length};
     ghost use Rattle.std.proofs.Common.{sym};
-    ghost use Rattle.fl_wire.specs.Name.{padded, IsKept};
+    ghost use Rattle.fl_order.specs.Name.{padded, IsKept};
 
     ghost Value = { List ℕ };
 
@@ -28,7 +28,7 @@ impl Model for Name {
 }
 
 impl Name {
-    ghost use Rattle.fl_wire.specs.Name.{IsName};
+    ghost use Rattle.fl_order.specs.Name.{IsName};
 
     /// The name of these bytes; none where they are more than 255 or one of them is zero.
     pub fn new(bytes: &[u8]) -> Option<Name>

@@ -2,7 +2,7 @@ ghost use Rattle.std.specs.Prelude.{◌≡◌, ◌↔◌};
 
 use crate::body::Shape;
 use crate::errno::Errno;
-use crate::reading::Refusal;
+use crate::refusal::Refusal;
 
 /// The kinds of message that are told apart, with the numbers of `enum fuse_opcode` (Linux `fuse.h`).
 #[derive(Clone, Copy, Debug, PartialEq, Eq)]
@@ -59,8 +59,8 @@ const ALL: [Kind; 15] = [
 ];
 
 impl Kind {
-    ghost use Rattle.fl_wire.specs.Kind.{opcode_for, word_for, shape_for, is_silent, refusal_for};
-    ghost use Rattle.fl_wire.specs.Kind.{kind_of_opcode, kind_of_word, IsFoundBy};
+    ghost use Rattle.fl_order.specs.Kind.{opcode_for, word_for, shape_for, is_silent, refusal_for};
+    ghost use Rattle.fl_order.specs.Kind.{kind_of_opcode, kind_of_word, IsFoundBy};
 
     /// Its number in a message's header.
     pub fn opcode(self) -> u32
@@ -122,8 +122,8 @@ impl Kind {
         matches!(self, Kind::Forget | Kind::BatchForget)
     }
 
-    // How its message is refused that has this fault.
-    pub(crate) fn refusal(self, e: Errno) -> Refusal
+    /// How its message is refused that has this fault.
+    pub fn refusal(self, e: Errno) -> Refusal
         ensures { result ≡ refusal_for self e }
     {
         if self.is_silent() {

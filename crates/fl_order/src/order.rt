@@ -1,5 +1,5 @@
 ghost use Rattle.std.specs.Prelude.{◌≡◌, ◌↔◌, Some, IsSome, Ok};
-ghost use Rattle.fl_wire.specs.Order.{only_reads};
+ghost use Rattle.fl_order.specs.Order.{only_reads};
 
 use crate::body::Body;
 use crate::kind::Kind;
@@ -62,9 +62,9 @@ pub enum Op {
 }
 
 impl Op {
-    ghost use Rattle.fl_wire.specs.Body.{body_shape};
-    ghost use Rattle.fl_wire.specs.Kind.{shape_for};
-    ghost use Rattle.fl_wire.specs.Order.{kind_of, op_of, parts_of};
+    ghost use Rattle.fl_order.specs.Body.{body_shape};
+    ghost use Rattle.fl_order.specs.Kind.{shape_for};
+    ghost use Rattle.fl_order.specs.Order.{kind_of, op_of, parts_of};
 
     /// The kind of its message, and the body.
     pub fn parts(&self) -> (Kind, Body)

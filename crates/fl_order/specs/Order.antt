@@ -1,12 +1,12 @@
 -- Orders: their kinds and bodies, and which of them change nothing.
 use Rattle.std.specs.Prelude.{Bool, true, false, Option, Some, None}
-use Rattle.fl_wire.specs.declared.body.Body.{Body}
-use Rattle.fl_wire.specs.declared.body.Body.TheVariants as body
-use Rattle.fl_wire.specs.declared.kind.Kind.{Kind}
-use Rattle.fl_wire.specs.declared.kind.Kind.TheVariants as kind
-use Rattle.fl_wire.specs.declared.order.Op.{Op}
-use Rattle.fl_wire.specs.declared.order.Op.TheVariants.{Lookup, Forget, Getattr, Unlink, Open, Release, Flush}
-use Rattle.fl_wire.specs.declared.order.Op.TheVariants.{Create, Getlk, Setlk, Setlkw, Interrupt}
+use Rattle.fl_order.specs.declared.body.Body.{Body}
+use Rattle.fl_order.specs.declared.body.Body.TheVariants as body
+use Rattle.fl_order.specs.declared.kind.Kind.{Kind}
+use Rattle.fl_order.specs.declared.kind.Kind.TheVariants as kind
+use Rattle.fl_order.specs.declared.order.Op.{Op}
+use Rattle.fl_order.specs.declared.order.Op.TheVariants.{Lookup, Forget, Getattr, Unlink, Open, Release, Flush}
+use Rattle.fl_order.specs.declared.order.Op.TheVariants.{Create, Getlk, Setlk, Setlkw, Interrupt}
 
 -- the kind of its message, and the body
 abbrev pub parts_of : Op → Kind × Body

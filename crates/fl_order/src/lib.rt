@@ -1,0 +1,21 @@
+//! What is said to the lock directory and what it answers, as types: orders with their kinds and bodies, replies, error
+//! numbers and names. How they are spelled in bytes is another crate's.
+#![tactic(auto)]
+
+mod body;
+mod errno;
+mod kind;
+mod name;
+mod no_memory;
+mod order;
+mod refusal;
+mod told;
+
+pub use body::{Body, Shape};
+pub use errno::Errno;
+pub use kind::Kind;
+pub use name::Name;
+pub use no_memory::NoMemory;
+pub use order::{LockAsk, Op, Order};
+pub use refusal::Refusal;
+pub use told::{Answer, Attr, Told};

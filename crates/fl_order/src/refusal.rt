@@ -1,0 +1,14 @@
+//! How a message is refused that is no order.
+
+use crate::errno::Errno;
+
+/// Why a message is no order.
+#[derive(Clone, Copy, Debug, PartialEq, Eq)]
+pub enum Refusal {
+    /// It is answered with this error.
+    Answer(Errno),
+    /// No reply is owed.
+    Silent,
+    /// It ends the session.
+    Destroy,
+}
