@@ -15,6 +15,9 @@ pub trait Counter {
     /// How many orders were taken through a seat.
     ghost count: { Self.Seat → ℕ };
 
+    /// The number of the worker whose place a seat is.
+    ghost worker: { Self.Seat → ℕ };
+
     /// Takes an order, and hands out its replies. A refusal hands out nothing.
     fn hand_in<R: Wait>(
         &self,
@@ -23,6 +26,7 @@ pub trait Counter {
         order: &Order,
         tolds: &mut Tolds,
     ) -> Result<(), HandFault>
+        ensures own { worker seat.new ≡ worker seat.old }
         ensures taken { OnOk result (count seat.new ≡ count seat.old + 1) }
         ensures refused { OnErr result ((count seat.new ≡ count seat.old) × (tolds.new ≡ tolds.old)) };
 }
@@ -31,6 +35,8 @@ impl<L: BoardName> Counter for Board<L> {
     type Seat = Seat<L>;
 
     ghost count = { λ seat. seat.count };
+
+    ghost worker = { λ seat. seat.worker };
 
     fn hand_in<R: Wait>(
         &self,

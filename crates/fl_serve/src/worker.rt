@@ -1,6 +1,6 @@
 //! What a worker of a session does.
 
-ghost use Rattle.std.specs.Prelude.{◌≤◌};
+ghost use Rattle.std.specs.Prelude.{◌≡◌, ◌≤◌};
 
 use crate::counter::{Counter, Gate};
 use crate::intake::{Intake, Job};
@@ -20,7 +20,7 @@ pub struct Worked<S> {
     pub refused: bool,
 }
 
-/// Takes orders until the intake is closed and empty. It hands each in at its seat, and gives all replies that it is handed
+/// Takes orders until the intake is closed and empty. It hands each in at its seat, which it gives back at the end, and gives all replies that it is handed
 /// out to be sent; of an order that is refused, the reply that says so, if one is owed. Before it waits for an order it
 /// sends what is collected.
 pub fn worker_loop<R: Wait, C: Counter, G: Gate, W: Write, N: WriterName>(
@@ -32,7 +32,8 @@ pub fn worker_loop<R: Wait, C: Counter, G: Gate, W: Write, N: WriterName>(
     seat: C::Seat,
     tolds: Tolds,
 ) -> Worked<C::Seat>
-    ensures { C.count seat ≤ C.count result.seat }
+    ensures own { C.worker result.seat ≡ C.worker seat }
+    ensures count { C.count seat ≤ C.count result.seat }
 {
     let mut seat = seat;
     let mut tolds = tolds;
