@@ -8,6 +8,6 @@ mod stored;
 mod writers;
 
 pub use numbers::Numbers;
-pub use readers::{Newlines, Source};
+pub use readers::{Newlines, Source, Stumble};
 pub use stored::{bytes_after, lines_after};
 pub use writers::{Full, Hiccup, Sink};

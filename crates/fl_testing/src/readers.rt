@@ -27,6 +27,35 @@ impl Read for Source<'_> {
     }
 }
 
+/// Gives its bytes, at most `most` with a read, but for one read, which fails and gives none.
+#[derive(Drop)]
+pub struct Stumble<'a> {
+    /// The bytes that no read gave yet.
+    pub bytes: &'a [u8],
+    /// The most bytes that a read gives.
+    pub most: usize,
+    /// How many reads there were, the one that failed too.
+    pub reads: usize,
+    /// How many reads come before the one that fails.
+    pub fails_at: usize,
+    /// How it fails.
+    pub kind: ErrorKind,
+}
+
+impl Read for Stumble<'_> {
+    fn read(&mut self, buf: &mut [u8]) -> io::Result<usize> {
+        let at = self.reads;
+        self.reads = at.saturating_add(1);
+        if at == self.fails_at {
+            return Err(io::Error::from(self.kind));
+        }
+        let n = self.most.min(self.bytes.len()).min(buf.len());
+        buf[..n].copy_from_slice(&self.bytes[..n]);
+        self.bytes = &self.bytes[n..];
+        Ok(n)
+    }
+}
+
 /// Gives newlines, one with a read, and fails after this many.
 #[derive(Drop)]
 pub struct Newlines {

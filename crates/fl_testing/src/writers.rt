@@ -65,18 +65,21 @@ pub struct Hiccup {
     pub writes: usize,
     /// How many writes came before the one that fails.
     pub fails_at: usize,
+    /// How it fails.
+    pub kind: ErrorKind,
 }
 
 impl Hiccup {
     /// A writer that holds nothing yet.
-    pub fn new(alloc: Global, fails_at: usize) -> Hiccup
+    pub fn new(alloc: Global, fails_at: usize, kind: ErrorKind) -> Hiccup
         ensures empty { result.held.items ≡ [] }
-        ensures fields { (result.writes ≡ 0) × (result.fails_at ≡ fails_at) }
+        ensures fields { (result.writes ≡ 0) × (result.fails_at ≡ fails_at) × (result.kind ≡ kind) }
     {
         Hiccup {
             held: Vec::new(alloc),
             writes: 0,
             fails_at,
+            kind,
         }
     }
 }
@@ -86,7 +89,7 @@ impl Write for Hiccup {
         let at = self.writes;
         self.writes = at.saturating_add(1);
         if at == self.fails_at {
-            return Err(io::Error::from(ErrorKind::Other));
+            return Err(io::Error::from(self.kind));
         }
         self.held.extend_from_slice(buf)?;
         Ok(buf.len())

@@ -2,6 +2,7 @@
 
 mod around;
 mod faults;
+mod once;
 mod traced;
 mod waiting;
 

@@ -7,6 +7,7 @@ use crate::tests::MANY;
 use fl_serve::{Fault, Open};
 use fl_testing::{Hiccup, Sink, Source};
 use std::alloc::Global;
+use std::io::ErrorKind;
 use std::process::Abort;
 use std::sync::Wait;
 use std::test::Fail;
@@ -74,7 +75,7 @@ fn stops_at<R: Abort + Threads + Wait + Sync>(
     workers: u32,
 ) {
     let mut input = messages.bytes.as_slice();
-    let mut output = Hiccup::new(alloc, fails_at);
+    let mut output = Hiccup::new(alloc, fails_at, ErrorKind::Other);
     let done = served(rt, alloc, &mut input, &mut output, workers, &Open);
     ended(rt, alloc, &done, Some(Fault::Write), 40, workers);
     assert_eq!(rt; output.writes, fails_at.wrapping_add(1));

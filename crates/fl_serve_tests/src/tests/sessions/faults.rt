@@ -9,12 +9,12 @@ use std::alloc::Global;
 use std::process::Abort;
 
 // Its messages.
-fn stream(rt: &impl Abort, alloc: Global) -> Vec<u8> {
+pub(super) fn stream(rt: &impl Abort, alloc: Global) -> Vec<u8> {
     spelled(rt, alloc, "", two_locks(), "> ")
 }
 
 // Their replies.
-fn replies(rt: &impl Abort, alloc: Global) -> Vec<u8> {
+pub(super) fn replies(rt: &impl Abort, alloc: Global) -> Vec<u8> {
     spelled(rt, alloc, "", two_locks(), "< ")
 }
 
@@ -51,7 +51,7 @@ fn last_end(len: usize) -> (usize, usize) {
 }
 
 // So many bytes of replies went out.
-fn is_sent(rt: &impl Abort, output: &[u8], replies: &[u8], sent: usize) {
+pub(super) fn is_sent(rt: &impl Abort, output: &[u8], replies: &[u8], sent: usize) {
     assert_eq!(rt; Some(output), replies.get(..sent));
 }
 
@@ -88,7 +88,7 @@ fn ends_by_a_read(rt: &impl Abort, alloc: Global, stream: &[u8], reads: usize) -
 }
 
 // How many bytes of replies are sent by the time that a read fails, behind so many reads of 29 bytes.
-fn sent_after(reads: usize) -> usize {
+pub(super) fn sent_after(reads: usize) -> usize {
     match reads {
         0..2 => 0,
         2..4 => 80,
