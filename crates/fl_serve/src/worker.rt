@@ -20,9 +20,9 @@ pub struct Worked<S> {
     pub refused: bool,
 }
 
-/// Takes orders until the intake is closed and empty. It hands each in at its seat, which it gives back at the end, and gives all replies that it is handed
-/// out to be sent; of an order that is refused, the reply that says so, if one is owed. Before it waits for an order it
-/// sends what is collected.
+/// Takes orders until the intake is closed and empty. It hands each in at its seat, which it gives back at the end, and
+/// gives all replies that it is handed out to be sent; of an order that is refused, the reply that says so, if one is owed.
+/// Before it waits for an order it sends what is collected.
 pub fn worker_loop<R: Wait, C: Counter, G: Gate, W: Write, N: WriterName>(
     rt: &R,
     counter: &C,
