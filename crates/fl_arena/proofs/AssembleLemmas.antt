@@ -21,11 +21,16 @@ module _ {T : Type 0} where
   on_other a c d t es apart p =
       record { index = p.index; found = subst (λ (xs : List (Entry T)). link_at xs p.index ≡ Some t) (sym (entries-with_other a c d es apart)) p.found }
 
-  pub chain_kept : (old new : List (Node T)) (c : ℕ) (ends : Ends) (es : List (Entry T)) → SpellsChain old c ends es → ((j : ℕ) (x : Entry T) → slice_get es j ≡ Some x → slice_get new x.slot ≡ Some (Taken (member_of c es j x))) → SpellsChain new c ends es
+  pub chain_kept : (old new : List (Node T)) (c : ℕ) (ends : Ends) (es : List (Entry T)) → SpellsChain old c ends es →
+      ((j : ℕ) (x : Entry T) → slice_get es j ≡ Some x → slice_get new x.slot ≡ Some (Taken (member_of c es j x))) → SpellsChain new c ends es
   chain_kept old new c ends es h reads = record { first = h.first; last = h.last; len = h.len; linked = reads }
 
-module _ {T : Type 0} (nodes : List (Node T)) (ends : List Ends) (spare : Option ℕ) (free : ℕ) (a : Chains T) (h : Spells nodes ends spare free a) (c : ℕ) (within : c < length a.chains) (now : List (Node T)) (end : Ends) (es : List (Entry T)) (link : Option ℕ) (left : ℕ) where
-  pub assembled : length now ≡ length nodes → SpellsChain now c end es → ((d j : ℕ) (x : Entry T) → d ≢ c → slice_get (entries a d) j ≡ Some x → slice_get now x.slot ≡ Some (Taken (member_of d (entries a d) j x))) → ((t : ℕ) (m : Member T) → slice_get now t ≡ Some (Taken m) → IsOnChain (with_entries a c es) t m.chain) → SpellsFree now link left → count_by is_free now ≡ left → length es + left ≡ length (entries a c) + free → Spells now (set ends c end) link left (with_entries a c es)
+module _ {T : Type 0} (nodes : List (Node T)) (ends : List Ends) (spare : Option ℕ) (free : ℕ) (a : Chains T) (h : Spells nodes ends spare free a) (c : ℕ)
+    (within : c < length a.chains) (now : List (Node T)) (end : Ends) (es : List (Entry T)) (link : Option ℕ) (left : ℕ) where
+  pub assembled : length now ≡ length nodes → SpellsChain now c end es →
+      ((d j : ℕ) (x : Entry T) → d ≢ c → slice_get (entries a d) j ≡ Some x → slice_get now x.slot ≡ Some (Taken (member_of d (entries a d) j x))) →
+      ((t : ℕ) (m : Member T) → slice_get now t ≡ Some (Taken m) → IsOnChain (with_entries a c es) t m.chain) → SpellsFree now link left →
+      count_by is_free now ≡ left → length es + left ≡ length (entries a c) + free → Spells now (set ends c end) link left (with_entries a c es)
   assembled same chain others owned list spares count = record {
     slots = h.slots ∙ sym same;
     chains = length-set a.chains c es ∙ (h.chains ∙ sym (length-set ends c end));
@@ -44,8 +49,10 @@ module _ {T : Type 0} (nodes : List (Node T)) (ends : List Ends) (spare : Option
             | inl this ↦
                 let there : slice_get (set ends c end) d ≡ Some end = rw this (slice_get-set_same ends c end (omega (arith, h.chains))) in
                 let same : end ≡ e = let both = sym there ∙ found in cc in
-                rw this (subst (λ (xs : List (Entry T)). SpellsChain now c e xs) (sym (entries-with_same a c es within)) (subst (λ (x : Ends). SpellsChain now c x es) same chain))
+                rw this (subst (λ (xs : List (Entry T)). SpellsChain now c e xs) (sym (entries-with_same a c es within))
+                (subst (λ (x : Ends). SpellsChain now c x es) same chain))
             | inr other ↦
                 let was = h.each d e (sym (slice_get-set_other ends c d end other) ∙ found) in
-                subst (λ (xs : List (Entry T)). SpellsChain now d e xs) (sym (entries-with_other a c d es other)) (chain_kept nodes now d e (entries a d) was (λ j x. others d j x other))
+                subst (λ (xs : List (Entry T)). SpellsChain now d e xs) (sym (entries-with_other a c d es other))
+                (chain_kept nodes now d e (entries a d) was (λ j x. others d j x other))
           ]

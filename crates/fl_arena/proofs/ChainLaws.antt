@@ -1,6 +1,7 @@
 -- What callers need of the chains: a change to one of them leaves every other as it is, and the items
 -- change as the entries do.
-use Rattle.std.proofs.Common.{◌≡◌, ◌≢◌, ℕ, ◌+◌, ◌<◌, List, [], length, set, map, take, drop, zero, suc, inl, inr, ◌≤◌, ◌++◌, ◌∷◌, ◌∙◌, Some, slice_get, refl, sym, ap, subst, arith}
+use Rattle.std.proofs.Common.{◌≡◌, ◌≢◌, ℕ, ◌+◌, ◌<◌, List, [], length, set, map, take, drop, zero, suc, inl, inr, ◌≤◌, ◌++◌, ◌∷◌, ◌∙◌, Some, slice_get, refl}
+use Rattle.std.proofs.Common.{sym, ap, subst, arith}
 use Rattle.std.specs.List.{insert, remove}
 use Rattle.std.specs.Option.{option_map}
 use Rattle.std.proofs.lemmas.List.{length-set, get_or-set_same, get_or-set_other, map-append, take-map, drop-map, take_all, drop_all, map-set, length-map}
@@ -41,11 +42,13 @@ module _ {T : Type 0} where
   entries-with_other a c d es apart = get_or-set_other a.chains c d es [] apart
 
   -- the number of items changes as that chain's length does
-  pub item_count-with : (a : Chains T) (c : ℕ) (es : List (Entry T)) → c < length a.chains → item_count (with_entries a c es) + length (entries a c) ≡ item_count a + length es
+  pub item_count-with : (a : Chains T) (c : ℕ) (es : List (Entry T)) → c < length a.chains →
+      item_count (with_entries a c es) + length (entries a c) ≡ item_count a + length es
   item_count-with a c es within = sum_by-set length a.chains c es [] within
 
   -- the items of the chain after an insert, a remove and a change
-  pub items-insert : (a : Chains T) (c i : ℕ) (e : Entry T) → c < length a.chains → items (with_entries a c (insert (entries a c) i e)) c ≡ insert (items a c) i e.item
+  pub items-insert : (a : Chains T) (c i : ℕ) (e : Entry T) → c < length a.chains →
+      items (with_entries a c (insert (entries a c) i e)) c ≡ insert (items a c) i e.item
   items-insert a c i e within =
       ap (map (λ (x : Entry T). x.item)) (entries-with_same a c (insert (entries a c) i e) within)
       ∙ map-insert (λ (x : Entry T). x.item) (entries a c) i e
@@ -92,7 +95,8 @@ module _ {T : Type 0} where
   HasSizeOf-with a new c es e = rw e (record { chains = length-set a.chains c es; slots = refl })
 
   -- a cursor at an index of a chain stands at the next one after a step
-  pub stepped_at : (a : Chains T) (c i : ℕ) (cursor next : Cursor) → cursor ≡ cursor_at a c i → next ≡ cursor_at a cursor.chain (cursor.index + 1) → next ≡ cursor_at a c (i + 1)
+  pub stepped_at : (a : Chains T) (c i : ℕ) (cursor next : Cursor) → cursor ≡ cursor_at a c i → next ≡ cursor_at a cursor.chain (cursor.index + 1) →
+      next ≡ cursor_at a c (i + 1)
   stepped_at a c i cursor next here on = on ∙ ap (λ (x : Cursor). cursor_at a x.chain (x.index + 1)) here
 
   -- what is put before such a cursor is put in at its index

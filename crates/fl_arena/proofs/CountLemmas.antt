@@ -1,5 +1,6 @@
 -- The free nodes are as many as the slots that are on no chain.
-use Rattle.std.proofs.Common.{◌≡◌, ℕ, zero, suc, ◌+◌, ◌<◌, Bool, true, not, cond, eqb, List, [], ◌∷◌, length, set, count_by, Option, Some, None, slice_get, refl, sym, ◌∙◌, ap, inl, inr, arith, eq-eqb}
+use Rattle.std.proofs.Common.{◌≡◌, ℕ, zero, suc, ◌+◌, ◌<◌, Bool, true, not, cond, eqb, List, [], ◌∷◌, length, set, count_by, Option, Some, None, slice_get}
+use Rattle.std.proofs.Common.{refl, sym, ◌∙◌, ap, inl, inr, arith, eq-eqb}
 use Rattle.std.specs.List.{list_any, range_with_len}
 use Rattle.std.specs.Option.{option_map}
 use Rattle.std.proofs.lemmas.Bool.{or_cases, or_left, or_right, eqb-true, false_from_ne_true}
@@ -24,12 +25,14 @@ module _ {X : Type 0} where
   count-alter p f keeps (x ∷ xs) (suc i) =
       count-cons p x (alter f xs i) ∙ (ap (λ (n : ℕ). cond (p x) 1 0 + n) (count-alter p f keeps xs i) ∙ sym (count-cons p x xs))
 
-  count-alter_link : (p : X → Bool) (f : X → X) → ((x : X) → p (f x) ≡ p x) → (xs : List X) (link : Option ℕ) → count_by p (alter_link f xs link) ≡ count_by p xs
+  count-alter_link : (p : X → Bool) (f : X → X) → ((x : X) → p (f x) ≡ p x) → (xs : List X) (link : Option ℕ) →
+      count_by p (alter_link f xs link) ≡ count_by p xs
   count-alter_link p f keeps xs None = refl
   count-alter_link p f keeps xs (Some i) = count-alter p f keeps xs i
 
   -- a write changes the count by what it replaces
-  pub count-set : (p : X → Bool) (xs : List X) (i : ℕ) (x y : X) → slice_get xs i ≡ Some x → count_by p (set xs i y) + cond (p x) 1 0 ≡ count_by p xs + cond (p y) 1 0
+  pub count-set : (p : X → Bool) (xs : List X) (i : ℕ) (x y : X) → slice_get xs i ≡ Some x →
+      count_by p (set xs i y) + cond (p x) 1 0 ≡ count_by p xs + cond (p y) 1 0
   count-set p xs i x y h =
       let read = get_or_from_slice_get xs i x x h in
       ap (λ (z : X). count_by p (set xs i y) + cond (p z) 1 0) (sym read)
@@ -51,7 +54,8 @@ module _ {X : Type 0} where
       ]
 
   -- tests of the indexes from k on that answer as tests of the elements count alike
-  count_range : (q : ℕ → Bool) (p : X → Bool) (xs : List X) (k : ℕ) → ((i : ℕ) (x : X) → slice_get xs i ≡ Some x → q (k + i) ≡ p x) → count_by q (range_with_len k (length xs)) ≡ count_by p xs
+  count_range : (q : ℕ → Bool) (p : X → Bool) (xs : List X) (k : ℕ) → ((i : ℕ) (x : X) → slice_get xs i ≡ Some x → q (k + i) ≡ p x) →
+      count_by q (range_with_len k (length xs)) ≡ count_by p xs
   count_range q p [] k h = refl
   count_range q p (x ∷ xs) k h =
       let here : q k ≡ p x = ap q (omega arith) ∙ h 0 x refl in
@@ -69,7 +73,8 @@ module _ {T : Type 0} where
   previous_keeps link (Free next) = refl
   previous_keeps link (Taken m) = refl
 
-  pub count-relinked : (nodes : List (Node T)) (before after previous next : Option ℕ) → count_by is_free (relinked nodes before after previous next) ≡ count_by is_free nodes
+  pub count-relinked : (nodes : List (Node T)) (before after previous next : Option ℕ) →
+      count_by is_free (relinked nodes before after previous next) ≡ count_by is_free nodes
   count-relinked nodes before after previous next =
       count-alter_link is_free (with_previous previous) (previous_keeps previous) (alter_link (with_next next) nodes before) after
       ∙ count-alter_link is_free (with_next next) (next_keeps next) nodes before
@@ -91,7 +96,8 @@ module _ {T : Type 0} where
       (any_at (λ (x : Entry T). eqb x.slot e.slot) (entries a c) i e found (eq-eqb e.slot e.slot refl))
 
   -- the free slots are those on no chain
-  pub unlinked : (nodes : List (Node T)) (ends : List Ends) (spare : Option ℕ) (free : ℕ) (a : Chains T) → Spells nodes ends spare free a → free ≡ unlinked_count a
+  pub unlinked : (nodes : List (Node T)) (ends : List Ends) (spare : Option ℕ) (free : ℕ) (a : Chains T) → Spells nodes ends spare free a →
+      free ≡ unlinked_count a
   unlinked nodes ends spare free a h =
       sym (ap (λ (n : ℕ). count_by (λ (slot : ℕ). not (is_linked a slot)) (range_with_len 0 n)) h.slots
       ∙ (count_range (λ (slot : ℕ). not (is_linked a slot)) is_free nodes 0 (λ i x found. ap (λ (n : ℕ). not (is_linked a n)) (zero_plus i) ∙ at_node i x found)

@@ -37,7 +37,8 @@ module _ {T : Type 0} where
     pub next : m.next ≡ slot_at a c (suc i)
     pub item : slice_get (items a c) i ≡ Some m.item
 
-  pub is_at : (nodes : List (Node T)) (ends : List Ends) (spare : Option ℕ) (free : ℕ) (a : Chains T) → Spells nodes ends spare free a → (c i slot : ℕ) (m : Member T) → slot_at a c i ≡ Some slot → slice_get nodes slot ≡ Some (Taken m) → IsAt nodes a c i slot m
+  pub is_at : (nodes : List (Node T)) (ends : List Ends) (spare : Option ℕ) (free : ℕ) (a : Chains T) → Spells nodes ends spare free a →
+      (c i slot : ℕ) (m : Member T) → slot_at a c i ≡ Some slot → slice_get nodes slot ≡ Some (Taken m) → IsAt nodes a c i slot m
   is_at nodes ends spare free a h c i slot m there read =
       let at = linked_at nodes ends spare free a h c i slot there in
       let same = same_member nodes slot _ m at.linked read in
@@ -51,10 +52,12 @@ module _ {T : Type 0} where
         chain = ap (λ (x : Member T). x.chain) (sym same);
         previous = ap (λ (x : Member T). x.previous) (sym same);
         next = ap (λ (x : Member T). x.next) (sym same);
-        item = slice_get-map (λ (e : Entry T). e.item) (entries a c) i ∙ (ap (option_map (λ (e : Entry T). e.item)) at.found ∙ ap Some (ap (λ (x : Member T). x.item) same));
+        item = slice_get-map (λ (e : Entry T). e.item) (entries a c) i
+            ∙ (ap (option_map (λ (e : Entry T). e.item)) at.found ∙ ap Some (ap (λ (x : Member T). x.item) same));
       }
 
-  pub is_taken : (nodes : List (Node T)) (ends : List Ends) (spare : Option ℕ) (free : ℕ) (a : Chains T) → Spells nodes ends spare free a → (c i slot : ℕ) → slot_at a c i ≡ Some slot → IsTaken nodes slot
+  pub is_taken : (nodes : List (Node T)) (ends : List Ends) (spare : Option ℕ) (free : ℕ) (a : Chains T) → Spells nodes ends spare free a → (c i slot : ℕ) →
+      slot_at a c i ≡ Some slot → IsTaken nodes slot
   is_taken nodes ends spare free a h c i slot there =
       let at = linked_at nodes ends spare free a h c i slot there in
       (_, at.linked)
@@ -63,13 +66,15 @@ module _ {T : Type 0} where
   pub slot_there : (a : Chains T) (cursor : Cursor) (slot : ℕ) → cursor.slot ≡ Some slot → IsInPlace a cursor → slot_at a cursor.chain cursor.index ≡ Some slot
   slot_there a cursor slot named h = rw named at h
 
-  pub linked_within : (nodes : List (Node T)) (ends : List Ends) (spare : Option ℕ) (free : ℕ) (a : Chains T) → Spells nodes ends spare free a → (c i : ℕ) → IsWithin nodes (link_at (entries a c) i)
+  pub linked_within : (nodes : List (Node T)) (ends : List Ends) (spare : Option ℕ) (free : ℕ) (a : Chains T) → Spells nodes ends spare free a → (c i : ℕ) →
+      IsWithin nodes (link_at (entries a c) i)
   linked_within nodes ends spare free a h c i = by_link (link_at (entries a c) i) refl
     where
       by_link : (link : Option ℕ) → link ≡ link_at (entries a c) i → IsWithin nodes link
       by_link None e = tt
       by_link (Some slot) e = slice_get_within nodes slot _ (linked_at nodes ends spare free a h c i slot (sym e)).linked
 
-  pub before_within : (nodes : List (Node T)) (ends : List Ends) (spare : Option ℕ) (free : ℕ) (a : Chains T) → Spells nodes ends spare free a → (c i : ℕ) → IsWithin nodes (link_before (entries a c) i)
+  pub before_within : (nodes : List (Node T)) (ends : List Ends) (spare : Option ℕ) (free : ℕ) (a : Chains T) → Spells nodes ends spare free a → (c i : ℕ) →
+      IsWithin nodes (link_before (entries a c) i)
   before_within nodes ends spare free a h c zero = tt
   before_within nodes ends spare free a h c (suc i) = linked_within nodes ends spare free a h c i

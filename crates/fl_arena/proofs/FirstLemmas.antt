@@ -1,5 +1,6 @@
 -- A walk to the first item that passes a test.
-use Rattle.std.proofs.Common.{◌≡◌, ℕ, zero, suc, ◌+◌, ◌≤◌, Bool, true, false, not, List, [], ◌∷◌, length, drop, Some, None, slice_get, sym, ◌∙◌, ap, inl, inr, arith}
+use Rattle.std.proofs.Common.{◌≡◌, ℕ, zero, suc, ◌+◌, ◌≤◌, Bool, true, false, not, List, [], ◌∷◌, length, drop, Some, None, slice_get, sym, ◌∙◌, ap, inl, inr}
+use Rattle.std.proofs.Common.{arith}
 use Rattle.std.specs.List.{find, position_or_len}
 use Rattle.std.proofs.lemmas.List.{drop_all}
 use Rattle.std.proofs.lemmas.List.Folds.{find_at}
@@ -49,7 +50,8 @@ slice_get-drop (x ∷ xs) (suc k) j = slice_get-drop xs k j ∙ ap (slice_get (x
     next k j = omega arith
 
 -- the item at a cursor there is the first that passes, from an index on
-pub found_first : {T : Type 0} (a : Chains T) (c k : ℕ) (p : T → Bool) (cursor : Cursor) → cursor ≡ cursor_at a c (k + position_or_len p (drop k (items a c))) → item_of a cursor ≡ find p (drop k (items a c))
+pub found_first : {T : Type 0} (a : Chains T) (c k : ℕ) (p : T → Bool) (cursor : Cursor) → cursor ≡ cursor_at a c (k + position_or_len p (drop k (items a c))) →
+    item_of a cursor ≡ find p (drop k (items a c))
 found_first a c k p cursor at =
     ap (item_of a) at
     ∙ item_of-at a c (k + position_or_len p (drop k (items a c)))

@@ -19,11 +19,15 @@ module _ {T : Type 0} where
       ap suc (SpellsFree-unique nodes p.1 m n p.4 (subst (λ (l : Option ℕ). SpellsFree nodes l n) (sym nexts) q.4))
 
   -- nodes that read alike where they are free spell the same free list
-  pub SpellsFree-kept : (old new : List (Node T)) → ((slot : ℕ) (next : Option ℕ) → slice_get old slot ≡ Some (Free next) → slice_get new slot ≡ Some (Free next)) → (link : Option ℕ) (n : ℕ) → SpellsFree old link n → SpellsFree new link n
+  pub SpellsFree-kept : (old new : List (Node T)) →
+      ((slot : ℕ) (next : Option ℕ) → slice_get old slot ≡ Some (Free next) → slice_get new slot ≡ Some (Free next)) → (link : Option ℕ) (n : ℕ) →
+      SpellsFree old link n → SpellsFree new link n
   SpellsFree-kept old new keeps link zero p = p
   SpellsFree-kept old new keeps link (suc n) p = (p.0, p.1, p.2, keeps p.0 p.1 p.3, SpellsFree-kept old new keeps p.1 n p.4)
 
-  shorter_kept : (old new : List (Node T)) (first : ℕ) (next : Option ℕ) (count : ℕ) → slice_get old first ≡ Some (Free next) → SpellsFree old next count → ((slot : ℕ) (next : Option ℕ) → slot ≢ first → slice_get old slot ≡ Some (Free next) → slice_get new slot ≡ Some (Free next)) → (link : Option ℕ) (n : ℕ) → n ≤ count → SpellsFree old link n → SpellsFree new link n
+  shorter_kept : (old new : List (Node T)) (first : ℕ) (next : Option ℕ) (count : ℕ) → slice_get old first ≡ Some (Free next) → SpellsFree old next count →
+      ((slot : ℕ) (next : Option ℕ) → slot ≢ first → slice_get old slot ≡ Some (Free next) → slice_get new slot ≡ Some (Free next)) →
+      (link : Option ℕ) (n : ℕ) → n ≤ count → SpellsFree old link n → SpellsFree new link n
   shorter_kept old new first next count h rest keeps link zero le p = p
   shorter_kept old new first next count h rest keeps link (suc n) le p =
       let other : p.0 ≢ first = λ same.
@@ -33,5 +37,7 @@ module _ {T : Type 0} where
       (p.0, p.1, p.2, keeps p.0 p.1 other p.3, shorter_kept old new first next count h rest keeps p.1 n (omega arith) p.4)
 
   -- the free list without its first slot stays, whatever is put in that slot
-  pub SpellsFree-rest : (old new : List (Node T)) (first : ℕ) (next : Option ℕ) (count : ℕ) → slice_get old first ≡ Some (Free next) → SpellsFree old next count → ((slot : ℕ) (next : Option ℕ) → slot ≢ first → slice_get old slot ≡ Some (Free next) → slice_get new slot ≡ Some (Free next)) → SpellsFree new next count
+  pub SpellsFree-rest : (old new : List (Node T)) (first : ℕ) (next : Option ℕ) (count : ℕ) → slice_get old first ≡ Some (Free next) →
+      SpellsFree old next count →
+      ((slot : ℕ) (next : Option ℕ) → slot ≢ first → slice_get old slot ≡ Some (Free next) → slice_get new slot ≡ Some (Free next)) → SpellsFree new next count
   SpellsFree-rest old new first next count h rest keeps = shorter_kept old new first next count h rest keeps next count (omega arith) rest

@@ -27,7 +27,8 @@ module _ {A : Type 0} where
   at_link_both None slot x = refl
   at_link_both (Some named) slot x = elim (eqb named slot) as (λ b. cond b x x ≡ x) [ true ↦ refl | false ↦ refl ]
 
-  pub slice_get-alter_link : (f : A → A) (xs : List A) (link : Option ℕ) (slot : ℕ) (x : A) → slice_get xs slot ≡ Some x → slice_get (alter_link f xs link) slot ≡ Some (at_link link slot (f x) x)
+  pub slice_get-alter_link : (f : A → A) (xs : List A) (link : Option ℕ) (slot : ℕ) (x : A) → slice_get xs slot ≡ Some x →
+      slice_get (alter_link f xs link) slot ≡ Some (at_link link slot (f x) x)
   slice_get-alter_link f xs None slot x h = h
   slice_get-alter_link f xs (Some named) slot x h =
       elim (cases_eq named slot) [
@@ -45,7 +46,9 @@ module _ {T : Type 0} where
       length-alter_link (with_previous previous) (alter_link (with_next next) nodes before) after
       ∙ length-alter_link (with_next next) nodes before
 
-  pub taken_in_relinked : (nodes : List (Node T)) (before after previous next : Option ℕ) (slot : ℕ) (m : Member T) → slice_get nodes slot ≡ Some (Taken m) → slice_get (relinked nodes before after previous next) slot ≡ Some (Taken (record m { previous = at_link after slot previous m.previous; next = at_link before slot next m.next }))
+  pub taken_in_relinked : (nodes : List (Node T)) (before after previous next : Option ℕ) (slot : ℕ) (m : Member T) → slice_get nodes slot ≡ Some (Taken m) →
+      slice_get (relinked nodes before after previous next) slot
+      ≡ Some (Taken (record m { previous = at_link after slot previous m.previous; next = at_link before slot next m.next }))
   taken_in_relinked nodes before after previous next slot m h =
       let n : Member T = record m { next = at_link before slot next m.next } in
       let first : slice_get (alter_link (with_next next) nodes before) slot ≡ Some (Taken n) =
@@ -54,7 +57,8 @@ module _ {T : Type 0} where
       slice_get-alter_link (with_previous previous) (alter_link (with_next next) nodes before) after slot (Taken n) first
       ∙ ap Some (at_link-ap (λ (l : Option ℕ). Taken (record n { previous = l })) after slot previous n.previous)
 
-  pub free_in_relinked : (nodes : List (Node T)) (before after previous next : Option ℕ) (slot : ℕ) (link : Option ℕ) → slice_get nodes slot ≡ Some (Free link) → slice_get (relinked nodes before after previous next) slot ≡ Some (Free link)
+  pub free_in_relinked : (nodes : List (Node T)) (before after previous next : Option ℕ) (slot : ℕ) (link : Option ℕ) →
+      slice_get nodes slot ≡ Some (Free link) → slice_get (relinked nodes before after previous next) slot ≡ Some (Free link)
   free_in_relinked nodes before after previous next slot link h =
       let first : slice_get (alter_link (with_next next) nodes before) slot ≡ Some (Free link) =
       slice_get-alter_link (with_next next) nodes before slot (Free link) h

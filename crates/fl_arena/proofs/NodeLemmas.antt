@@ -1,5 +1,6 @@
 -- Writes of one link, and a list of free nodes.
-use Rattle.std.proofs.Common.{◌≡◌, ℕ, zero, suc, ◌+◌, ◌<◌, List, [], ◌∷◌, ◌++◌, length, set, get_or, cond, Option, Some, None, slice_get, refl, sym, ap, inl, inr, ◌⊎◌, arith, add-one, length-append}
+use Rattle.std.proofs.Common.{◌≡◌, ℕ, zero, suc, ◌+◌, ◌<◌, List, [], ◌∷◌, ◌++◌, length, set, get_or, cond, Option, Some, None, slice_get, refl, sym, ap, inl}
+use Rattle.std.proofs.Common.{inr, ◌⊎◌, arith, add-one, length-append}
 use Rattle.std.proofs.lemmas.List.Sums.{sum_by_push}
 use Rattle.std.proofs.lemmas.Option.{slice_get_read, none-some}
 use Rattle.fl_arena.specs.Inside.Links.{is_free, alter, alter_link, AreFree, IsWithin}
@@ -21,12 +22,14 @@ module _ {X : Type 0} where
   alter_kept f (y ∷ xs) (suc i) x h e = ap (λ (l : List X). y ∷ l) (alter_kept f xs i x h e)
 
   -- an element that was read is written, at the slot that the link names
-  pub alter_link-read : (f : X → X) (xs : List X) (link : Option ℕ) (i at : ℕ) (x : X) → link ≡ Some i → at ≡ i → i < length xs → x ≡ get_or xs at x → set xs at (f x) ≡ alter_link f xs link
+  pub alter_link-read : (f : X → X) (xs : List X) (link : Option ℕ) (i at : ℕ) (x : X) → link ≡ Some i → at ≡ i → i < length xs → x ≡ get_or xs at x →
+      set xs at (f x) ≡ alter_link f xs link
   alter_link-read f xs link i at x named same within read =
       rw (named, same) (sym (alter-set f xs i x (slice_get_read xs (length xs) i x refl within (rw same at read))))
 
   -- an element that was read is left as it is
-  pub alter_link_kept : (f : X → X) (xs : List X) (link : Option ℕ) (i at : ℕ) (x : X) → link ≡ Some i → at ≡ i → i < length xs → x ≡ get_or xs at x → f x ≡ x → xs ≡ alter_link f xs link
+  pub alter_link_kept : (f : X → X) (xs : List X) (link : Option ℕ) (i at : ℕ) (x : X) → link ≡ Some i → at ≡ i → i < length xs → x ≡ get_or xs at x → f x ≡ x →
+      xs ≡ alter_link f xs link
   alter_link_kept f xs link i at x named same within read stays =
       rw named (sym (alter_kept f xs i x (slice_get_read xs (length xs) i x refl within (rw same at read)) stays))
 
@@ -52,7 +55,8 @@ module _ {T : Type 0} where
   IsWithin-same nodes more None same h = h
   IsWithin-same nodes more (Some slot) same h = omega arith
 
-  pub AreFree-push : (nodes : List (Node T)) (link : Option ℕ) (count : ℕ) → AreFree nodes link count → AreFree (nodes ++ Free link ∷ []) (Some count) (count + 1)
+  pub AreFree-push : (nodes : List (Node T)) (link : Option ℕ) (count : ℕ) → AreFree nodes link count →
+      AreFree (nodes ++ Free link ∷ []) (Some count) (count + 1)
   AreFree-push nodes link count h = record {
     len = let long = h.len in omega (arith, length-append nodes (Free link ∷ []));
     free_list =
@@ -61,7 +65,8 @@ module _ {T : Type 0} where
           link,
           refl,
           rw (← h.len) (slice_get_push nodes (Free link)),
-          SpellsFree-kept nodes (nodes ++ Free link ∷ []) (λ slot next was. slice_get-append_left nodes (Free link ∷ []) slot (Free next) was) link count h.free_list,
+          SpellsFree-kept nodes (nodes ++ Free link ∷ []) (λ slot next was. slice_get-append_left nodes (Free link ∷ []) slot (Free next) was) link count
+              h.free_list,
         );
     counted = let before = h.counted in omega (arith, sum_by_push (λ (x : Node T). cond (is_free x) 1 0) nodes (Free link));
     untaken = λ slot m now.

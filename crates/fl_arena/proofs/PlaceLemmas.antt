@@ -38,12 +38,18 @@ module _ {T : Type 0} where
             absurd (none-some e (rw none at h))
       ]
 
-  pub linked_at : (nodes : List (Node T)) (ends : List Ends) (spare : Option ℕ) (free : ℕ) (a : Chains T) → Spells nodes ends spare free a → (c i slot : ℕ) → slot_at a c i ≡ Some slot → IsLinkedAt nodes a c i slot
+  pub linked_at : (nodes : List (Node T)) (ends : List Ends) (spare : Option ℕ) (free : ℕ) (a : Chains T) → Spells nodes ends spare free a → (c i slot : ℕ) →
+      slot_at a c i ≡ Some slot → IsLinkedAt nodes a c i slot
   linked_at nodes ends spare free a h c i slot found =
       let e = entry_from_slot_at a c i slot found in
       let within : c < length ends = omega (arith, chain_within a c i e.0 e.1, h.chains) in
       let spells = h.each c _ (slice_get-get_or ends c (record { first = None; last = None; len = 0 }) within) in
-      record { entry = e.0; found = e.1; slot_is = e.2; linked = subst (λ (s : ℕ). slice_get nodes s ≡ Some (Taken (member_of c (entries a c) i e.0))) e.2 (spells.linked i e.0 e.1) }
+      record {
+        entry = e.0;
+        found = e.1;
+        slot_is = e.2;
+        linked = subst (λ (s : ℕ). slice_get nodes s ≡ Some (Taken (member_of c (entries a c) i e.0))) e.2 (spells.linked i e.0 e.1);
+      }
 
   -- before an index that is in the list there is an entry, unless it is the first
   pub link_before-suc : (es : List (Entry T)) (i : ℕ) (e : Entry T) → slice_get es (suc i) ≡ Some e → (d : Entry T) × (slice_get es i ≡ Some d)
@@ -54,7 +60,8 @@ module _ {T : Type 0} where
   pub same_member : (nodes : List (Node T)) (slot : ℕ) (m n : Member T) → slice_get nodes slot ≡ Some (Taken m) → slice_get nodes slot ≡ Some (Taken n) → m ≡ n
   same_member nodes slot m n p q = let same = sym p ∙ q in cc
 
-  pub same_place : (nodes : List (Node T)) (ends : List Ends) (spare : Option ℕ) (free : ℕ) (a : Chains T) → Spells nodes ends spare free a → (c d slot i j : ℕ) → slot_at a c i ≡ Some slot → slot_at a d j ≡ Some slot → (c ≡ d) × (i ≡ j)
+  pub same_place : (nodes : List (Node T)) (ends : List Ends) (spare : Option ℕ) (free : ℕ) (a : Chains T) → Spells nodes ends spare free a →
+      (c d slot i j : ℕ) → slot_at a c i ≡ Some slot → slot_at a d j ≡ Some slot → (c ≡ d) × (i ≡ j)
   same_place nodes ends spare free a h c d slot zero zero p q =
       let x = linked_at nodes ends spare free a h c zero slot p in
       let y = linked_at nodes ends spare free a h d zero slot q in
@@ -92,12 +99,15 @@ module _ {T : Type 0} where
       (earlier.0, ap suc earlier.1)
 
   -- a free slot is on no chain
-  pub place_free : (nodes : List (Node T)) (ends : List Ends) (spare : Option ℕ) (free : ℕ) (a : Chains T) → Spells nodes ends spare free a → (slot : ℕ) (next : Option ℕ) → slice_get nodes slot ≡ Some (Free next) → (c i : ℕ) → (Place.Free ≡ On c i → slot_at a c i ≡ Some slot) × (slot_at a c i ≡ Some slot → Place.Free ≡ On c i)
+  pub place_free : (nodes : List (Node T)) (ends : List Ends) (spare : Option ℕ) (free : ℕ) (a : Chains T) → Spells nodes ends spare free a →
+      (slot : ℕ) (next : Option ℕ) → slice_get nodes slot ≡ Some (Free next) → (c i : ℕ) →
+      (Place.Free ≡ On c i → slot_at a c i ≡ Some slot) × (slot_at a c i ≡ Some slot → Place.Free ≡ On c i)
   place_free nodes ends spare free a h slot next read c i =
       (λ same. cc, λ there. let clash = sym read ∙ (linked_at nodes ends spare free a h c i slot there).linked in cc)
 
   -- a slot on a chain is at that place and at no other
-  pub place_on : (nodes : List (Node T)) (ends : List Ends) (spare : Option ℕ) (free : ℕ) (a : Chains T) → Spells nodes ends spare free a → (slot d j : ℕ) → slot_at a d j ≡ Some slot → (c i : ℕ) → (On d j ≡ On c i → slot_at a c i ≡ Some slot) × (slot_at a c i ≡ Some slot → On d j ≡ On c i)
+  pub place_on : (nodes : List (Node T)) (ends : List Ends) (spare : Option ℕ) (free : ℕ) (a : Chains T) → Spells nodes ends spare free a → (slot d j : ℕ) →
+      slot_at a d j ≡ Some slot → (c i : ℕ) → (On d j ≡ On c i → slot_at a c i ≡ Some slot) × (slot_at a c i ≡ Some slot → On d j ≡ On c i)
   place_on nodes ends spare free a h slot d j here c i = (
     λ same.
         let chains : d ≡ c = cc in

@@ -1,5 +1,6 @@
 -- A remove, from the links before it to the links after it.
-use Rattle.std.proofs.Common.{◌≡◌, ◌≢◌, ℕ, zero, suc, ◌+◌, ◌<◌, ◌≤◌, List, length, set, Option, Some, is_some, if◌then◌else◌, slice_get, refl, sym, ◌∙◌, ap, subst, inl, inr, arith, length-set, add-one}
+use Rattle.std.proofs.Common.{◌≡◌, ◌≢◌, ℕ, zero, suc, ◌+◌, ◌<◌, ◌≤◌, List, length, set, Option, Some, is_some, if◌then◌else◌, slice_get, refl, sym, ◌∙◌, ap}
+use Rattle.std.proofs.Common.{subst, inl, inr, arith, length-set, add-one}
 use Rattle.std.specs.List.{remove}
 use Rattle.std.specs.Option.{option_map}
 use Rattle.std.proofs.lemmas.Bool.{cases_lt, cases_eq}
@@ -35,12 +36,14 @@ module _ {T : Type 0} where
   link_before-remove_above es i (suc j) h = link_at-remove_above es i j (omega arith)
 
   -- the first slot after a remove
-  first_without : (es : List (Entry T)) (i : ℕ) (first : Option ℕ) → i < length es → first ≡ link_at es 0 → (if is_some (link_before es i) then first else link_at es (suc i)) ≡ link_at (remove es i) 0
+  first_without : (es : List (Entry T)) (i : ℕ) (first : Option ℕ) → i < length es → first ≡ link_at es 0 →
+      (if is_some (link_before es i) then first else link_at es (suc i)) ≡ link_at (remove es i) 0
   first_without es zero first le h = sym (link_at-remove_above es 0 0 (omega arith))
   first_without es (suc i) first le h = rw ((some_link es i (omega arith)).1) (h ∙ sym (link_at-remove_below es (suc i) 0 (omega arith)))
 
   -- the last slot after a remove
-  last_without : (es : List (Entry T)) (i : ℕ) (last : Option ℕ) → i < length es → last ≡ link_before es (length es) → (if is_some (link_at es (suc i)) then last else link_before es i) ≡ link_before (remove es i) (length (remove es i))
+  last_without : (es : List (Entry T)) (i : ℕ) (last : Option ℕ) → i < length es → last ≡ link_before es (length es) →
+      (if is_some (link_at es (suc i)) then last else link_before es i) ≡ link_before (remove es i) (length (remove es i))
   last_without es i last le h = by_length (length (remove es i)) (length-remove es i le)
     where
       by_length : (n : ℕ) → n + 1 ≡ length es → (if is_some (link_at es (suc i)) then last else link_before es i) ≡ link_before (remove es i) n
@@ -58,46 +61,56 @@ module _ {T : Type 0} where
   abbrev pub nodes_without : List (Node T) → Chains T → ℕ → ℕ → ℕ → Option ℕ → List (Node T)
   nodes_without nodes a c i slot spare = around nodes (entries a c) i (suc i) (link_before (entries a c) i) (link_at (entries a c) (suc i)) slot (Free spare)
 
-module _ {T : Type 0} (nodes : List (Node T)) (ends : List Ends) (spare : Option ℕ) (free : ℕ) (a : Chains T) (h : Spells nodes ends spare free a) (c i slot : ℕ) (there : slot_at a c i ≡ Some slot) where
+module _ {T : Type 0} (nodes : List (Node T)) (ends : List Ends) (spare : Option ℕ) (free : ℕ) (a : Chains T) (h : Spells nodes ends spare free a)
+    (c i slot : ℕ) (there : slot_at a c i ≡ Some slot) where
   apart_from : (d j : ℕ) (e : Entry T) → slice_get (entries a d) j ≡ Some e → ((d ≡ c) → (j ≡ i) → ⊥) → e.slot ≢ slot
   apart_from d j e found other same =
       let both = same_place nodes ends spare free a h d c slot j i (ap (option_map (λ (x : Entry T). x.slot)) found ∙ ap Some same) there in
       other both.0 both.1
 
   -- an entry of the chain before the one that is removed
-  below_reads : (j : ℕ) (e : Entry T) → j < i → slice_get (entries a c) j ≡ Some e → slice_get (nodes_without nodes a c i slot spare) e.slot ≡ Some (Taken (member_of c (remove (entries a c) i) j e))
+  below_reads : (j : ℕ) (e : Entry T) → j < i → slice_get (entries a c) j ≡ Some e →
+      slice_get (nodes_without nodes a c i slot spare) e.slot ≡ Some (Taken (member_of c (remove (entries a c) i) j e))
   below_reads j e below found =
       let es = entries a c in
       let at_j : slot_at a c j ≡ Some e.slot = ap (option_map (λ (x : Entry T). x.slot)) found in
-      entry_reads nodes ends spare free a h c i (suc i) (link_before es i) (link_at es (suc i)) slot (Free spare) c j e (link_before (remove es i) j) (link_at (remove es i) (suc j)) found
+      entry_reads nodes ends spare free a h c i (suc i) (link_before es i) (link_at es (suc i)) slot (Free spare) c j e (link_before (remove es i) j)
+      (link_at (remove es i) (suc j)) found
       (apart_from c j e found (λ _ same. omega arith))
-      (at_other nodes ends spare free a h c i (suc i) (link_before es i) (link_at es (suc i)) slot (Free spare) c j e.slot (link_before es i) (link_before es j) at_j (λ _ same. omega arith)
+      (at_other nodes ends spare free a h c i (suc i) (link_before es i) (link_at es (suc i)) slot (Free spare) c j e.slot (link_before es i) (link_before es j)
+      at_j (λ _ same. omega arith)
       ∙ sym (link_before-remove_below es i j (omega arith)))
       (elim (cases_eq i (suc j)) [
         | inl last ↦ at_link-same (link_before es i) e.slot (link_at es (suc i)) (link_at es (suc j)) (rw last at_j)
             ∙ sym (rw (← last) (link_at-remove_above es i i (omega arith)))
-        | inr earlier ↦ before_other nodes ends spare free a h c i (suc i) (link_before es i) (link_at es (suc i)) slot (Free spare) c j e.slot (link_at es (suc i)) (link_at es (suc j)) at_j (λ _ same. earlier same)
+        | inr earlier ↦ before_other nodes ends spare free a h c i (suc i) (link_before es i) (link_at es (suc i)) slot (Free spare) c j e.slot
+            (link_at es (suc i)) (link_at es (suc j)) at_j (λ _ same. earlier same)
             ∙ sym (link_at-remove_below es i (suc j) (omega arith))
       ])
 
   -- an entry of the chain after it, which stood at j + 1 and stands at j
-  above_reads : (j : ℕ) (e : Entry T) → i ≤ j → slice_get (entries a c) (suc j) ≡ Some e → slice_get (nodes_without nodes a c i slot spare) e.slot ≡ Some (Taken (member_of c (remove (entries a c) i) j e))
+  above_reads : (j : ℕ) (e : Entry T) → i ≤ j → slice_get (entries a c) (suc j) ≡ Some e →
+      slice_get (nodes_without nodes a c i slot spare) e.slot ≡ Some (Taken (member_of c (remove (entries a c) i) j e))
   above_reads j e above found =
       let es = entries a c in
       let at_j : slot_at a c (suc j) ≡ Some e.slot = ap (option_map (λ (x : Entry T). x.slot)) found in
-      entry_reads nodes ends spare free a h c i (suc i) (link_before es i) (link_at es (suc i)) slot (Free spare) c (suc j) e (link_before (remove es i) j) (link_at (remove es i) (suc j)) found
+      entry_reads nodes ends spare free a h c i (suc i) (link_before es i) (link_at es (suc i)) slot (Free spare) c (suc j) e (link_before (remove es i) j)
+      (link_at (remove es i) (suc j)) found
       (apart_from c (suc j) e found (λ _ same. omega arith))
       (elim (cases_eq i j) [
         | inl first ↦ at_link-same (link_at es (suc i)) e.slot (link_before es i) (link_at es j) (rw first at_j)
             ∙ sym (rw (← first) (link_before-remove_below es i i (omega arith)))
-        | inr later ↦ at_other nodes ends spare free a h c i (suc i) (link_before es i) (link_at es (suc i)) slot (Free spare) c (suc j) e.slot (link_before es i) (link_at es j) at_j (λ _ same. later (omega arith))
+        | inr later ↦ at_other nodes ends spare free a h c i (suc i) (link_before es i) (link_at es (suc i)) slot (Free spare) c (suc j) e.slot
+            (link_before es i) (link_at es j) at_j (λ _ same. later (omega arith))
             ∙ sym (link_before-remove_above es i j (omega arith))
       ])
-      (before_other nodes ends spare free a h c i (suc i) (link_before es i) (link_at es (suc i)) slot (Free spare) c (suc j) e.slot (link_at es (suc i)) (link_at es (suc (suc j))) at_j (λ _ same. omega arith)
+      (before_other nodes ends spare free a h c i (suc i) (link_before es i) (link_at es (suc i)) slot (Free spare) c (suc j) e.slot (link_at es (suc i))
+      (link_at es (suc (suc j))) at_j (λ _ same. omega arith)
       ∙ sym (link_at-remove_above es i (suc j) (omega arith)))
 
   -- each entry that is left is linked as its new index says
-  left_reads : (j : ℕ) (e : Entry T) → slice_get (remove (entries a c) i) j ≡ Some e → slice_get (nodes_without nodes a c i slot spare) e.slot ≡ Some (Taken (member_of c (remove (entries a c) i) j e))
+  left_reads : (j : ℕ) (e : Entry T) → slice_get (remove (entries a c) i) j ≡ Some e →
+      slice_get (nodes_without nodes a c i slot spare) e.slot ≡ Some (Taken (member_of c (remove (entries a c) i) j e))
   left_reads j e found =
       elim (cases_lt j i) [
         | inl below ↦ below_reads j e below (sym (slice_get-remove_below (entries a c) i j below) ∙ found)
@@ -105,23 +118,30 @@ module _ {T : Type 0} (nodes : List (Node T)) (ends : List Ends) (spare : Option
       ]
 
   -- every other chain is linked as before
-  other_reads : (d j : ℕ) (e : Entry T) → d ≢ c → slice_get (entries a d) j ≡ Some e → slice_get (nodes_without nodes a c i slot spare) e.slot ≡ Some (Taken (member_of d (entries a d) j e))
+  other_reads : (d j : ℕ) (e : Entry T) → d ≢ c → slice_get (entries a d) j ≡ Some e →
+      slice_get (nodes_without nodes a c i slot spare) e.slot ≡ Some (Taken (member_of d (entries a d) j e))
   other_reads d j e apart found =
       elsewhere_reads nodes ends spare free a h c i (suc i) (link_before (entries a c) i) (link_at (entries a c) (suc i)) slot (Free spare) d j e apart found
       (apart_from d j e found (λ same _. apart same))
 
   freed_reads : slot < length nodes → slice_get (nodes_without nodes a c i slot spare) slot ≡ Some (Free spare)
   freed_reads in_nodes =
-      slice_get-set_same _ slot (Free spare) (omega (arith, length-relinked nodes (link_before (entries a c) i) (link_at (entries a c) (suc i)) (link_before (entries a c) i) (link_at (entries a c) (suc i))))
+      slice_get-set_same _ slot (Free spare) (omega (
+        arith,
+        length-relinked nodes (link_before (entries a c) i) (link_at (entries a c) (suc i))
+            (link_before (entries a c) i) (link_at (entries a c) (suc i)),
+      ))
 
   -- each taken node is on its chain
-  owned_after : slot < length nodes → c < length a.chains → (t : ℕ) (m : Member T) → slice_get (nodes_without nodes a c i slot spare) t ≡ Some (Taken m) → IsOnChain (with_entries a c (remove (entries a c) i)) t m.chain
+  owned_after : slot < length nodes → c < length a.chains → (t : ℕ) (m : Member T) → slice_get (nodes_without nodes a c i slot spare) t ≡ Some (Taken m) →
+      IsOnChain (with_entries a c (remove (entries a c) i)) t m.chain
   owned_after in_nodes in_chains t m read =
       elim (cases_eq t slot) [
         | inl freed ↦
             let clash = sym (freed_reads in_nodes) ∙ subst (λ (s : ℕ). slice_get (nodes_without nodes a c i slot spare) s ≡ Some (Taken m)) freed read in cc
         | inr old ↦
-            let was = owned_before nodes ends spare free a h c i (suc i) (link_before (entries a c) i) (link_at (entries a c) (suc i)) slot (Free spare) t m old read in
+            let was = owned_before nodes ends spare free a h c i (suc i) (link_before (entries a c) i) (link_at (entries a c) (suc i)) slot (Free spare) t m old
+            read in
             elim (cases_eq m.chain c) [
               | inl this ↦ rw this (shifted old (rw this at was))
               | inr other ↦ on_other a c m.chain t (remove (entries a c) i) other was
@@ -145,29 +165,41 @@ module _ {T : Type 0} (nodes : List (Node T)) (ends : List Ends) (spare : Option
           ]
 
   -- the links after a remove
-  pub Spells-remove : (e : Ends) → slice_get ends c ≡ Some e → slot < length nodes → c < length a.chains → i < length (entries a c) → Spells (nodes_without nodes a c i slot spare) (set ends c (ends_without e (link_before (entries a c) i) (link_at (entries a c) (suc i)))) (Some slot) (free + 1) (with_entries a c (remove (entries a c) i))
+  pub Spells-remove : (e : Ends) → slice_get ends c ≡ Some e → slot < length nodes → c < length a.chains → i < length (entries a c) →
+      Spells (nodes_without nodes a c i slot spare) (set ends c (ends_without e (link_before (entries a c) i) (link_at (entries a c) (suc i)))) (Some slot)
+      (free + 1) (with_entries a c (remove (entries a c) i))
   Spells-remove e found in_nodes in_chains within =
       let was = h.each c e found in
       let before = link_before (entries a c) i in
       let after = link_at (entries a c) (suc i) in
       let fewer = length-remove (entries a c) i within in
-      let list : SpellsFree (nodes_without nodes a c i slot spare) spare free = SpellsFree-kept nodes (nodes_without nodes a c i slot spare) free_kept spare free h.free_list in
+      let list : SpellsFree (nodes_without nodes a c i slot spare) spare free =
+      SpellsFree-kept nodes (nodes_without nodes a c i slot spare) free_kept spare free h.free_list in
       let chain : SpellsChain (nodes_without nodes a c i slot spare) c (ends_without e before after) (remove (entries a c) i) = record {
         first = first_without (entries a c) i e.first within was.first;
         last = last_without (entries a c) i e.last within was.last;
         len = let long = was.len in omega arith;
         linked = left_reads;
       } in
-      assembled nodes ends spare free a h c in_chains (nodes_without nodes a c i slot spare) (ends_without e before after) (remove (entries a c) i) (Some slot) (free + 1)
+      assembled nodes ends spare free a h c in_chains (nodes_without nodes a c i slot spare) (ends_without e before after) (remove (entries a c) i) (Some slot)
+      (free + 1)
       (length-set _ slot _ ∙ length-relinked nodes before after before after)
       chain other_reads (owned_after in_nodes in_chains)
       (rw add-one (slot, spare, refl, freed_reads in_nodes, list))
-      (let spares = h.free_nodes in let at = linked_at nodes ends spare free a h c i slot there in omega (arith, count-set is_free (relinked nodes before after before after) slot _ (Free spare) (taken_in_relinked nodes before after before after slot _ at.linked), count-relinked nodes before after before after))
+      (let spares = h.free_nodes in let at = linked_at nodes ends spare free a h c i slot there in
+      omega (
+        arith,
+        count-set is_free (relinked nodes before after before after) slot _ (Free spare)
+            (taken_in_relinked nodes before after before after slot _ at.linked),
+        count-relinked nodes before after before after,
+      ))
       (omega arith)
     where
       free_kept : (t : ℕ) (link : Option ℕ) → slice_get nodes t ≡ Some (Free link) → slice_get (nodes_without nodes a c i slot spare) t ≡ Some (Free link)
       free_kept t link read =
           let other : t ≢ slot = λ same.
-          let clash = sym (subst (λ (s : ℕ). slice_get nodes s ≡ Some (Free link)) same read) ∙ (linked_at nodes ends spare free a h c i slot there).linked in cc in
+          let clash = sym (subst (λ (s : ℕ). slice_get nodes s ≡ Some (Free link)) same read) ∙ (linked_at nodes ends spare free a h c i slot there).linked in
+          cc in
           slice_get-set_other _ slot t (Free spare) other
-          ∙ free_in_relinked nodes (link_before (entries a c) i) (link_at (entries a c) (suc i)) (link_before (entries a c) i) (link_at (entries a c) (suc i)) t link read
+          ∙ free_in_relinked nodes (link_before (entries a c) i) (link_at (entries a c) (suc i)) (link_before (entries a c) i) (link_at (entries a c) (suc i)) t
+          link read

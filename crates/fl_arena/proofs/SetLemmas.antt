@@ -1,5 +1,6 @@
 -- A change of one item, from the links before it to the links after it.
-use Rattle.std.proofs.Common.{◌≡◌, ◌≢◌, ℕ, zero, suc, ◌<◌, List, [], ◌∷◌, length, set, Option, Some, slice_get, refl, sym, ◌∙◌, ap, subst, inl, inr, arith, length-set}
+use Rattle.std.proofs.Common.{◌≡◌, ◌≢◌, ℕ, zero, suc, ◌<◌, List, [], ◌∷◌, length, set, Option, Some, slice_get, refl, sym, ◌∙◌, ap, subst, inl, inr, arith}
+use Rattle.std.proofs.Common.{length-set}
 use Rattle.std.specs.Option.{option_map}
 use Rattle.std.proofs.lemmas.Bool.{cases_eq}
 use Rattle.std.proofs.lemmas.List.{set-get_or}
@@ -34,15 +35,18 @@ module _ {T : Type 0} where
       ap (λ (l : Option ℕ). record { chain = c; previous = l; next = link_at (set es i z) (suc j); item = e.item }) (link_before-set es i j z h)
       ∙ ap (λ (l : Option ℕ). record { chain = c; previous = link_before es j; next = l; item = e.item }) (link_at-set es i (suc j) z h)
 
-module _ {T : Type 0} (nodes : List (Node T)) (ends : List Ends) (spare : Option ℕ) (free : ℕ) (a : Chains T) (h : Spells nodes ends spare free a) (c i slot : ℕ) (y : T) (m : Member T) (there : slot_at a c i ≡ Some slot) (read : slice_get nodes slot ≡ Some (Taken m)) where
+module _ {T : Type 0} (nodes : List (Node T)) (ends : List Ends) (spare : Option ℕ) (free : ℕ) (a : Chains T) (h : Spells nodes ends spare free a)
+    (c i slot : ℕ) (y : T) (m : Member T) (there : slot_at a c i ≡ Some slot) (read : slice_get nodes slot ≡ Some (Taken m)) where
   was_member : m ≡ record (member_of c (entries a c) i (record { slot = slot; item = m.item })) { item = m.item }
   was_member =
       let at = linked_at nodes ends spare free a h c i slot there in
       let same = same_member nodes slot _ m at.linked read in
-      sym same ∙ ap (λ (x : T). record { chain = c; previous = link_before (entries a c) i; next = link_at (entries a c) (suc i); item = x }) (ap (λ (x : Member T). x.item) same)
+      sym same ∙ ap (λ (x : T). record { chain = c; previous = link_before (entries a c) i; next = link_at (entries a c) (suc i); item = x })
+      (ap (λ (x : Member T). x.item) same)
 
   -- an entry elsewhere
-  kept_reads : (d j : ℕ) (e : Entry T) → slice_get (entries a d) j ≡ Some e → ((d ≡ c) → (j ≡ i) → ⊥) → slice_get (set nodes slot (Taken (record m { item = y }))) e.slot ≡ Some (Taken (member_of d (entries a d) j e))
+  kept_reads : (d j : ℕ) (e : Entry T) → slice_get (entries a d) j ≡ Some e → ((d ≡ c) → (j ≡ i) → ⊥) →
+      slice_get (set nodes slot (Taken (record m { item = y }))) e.slot ≡ Some (Taken (member_of d (entries a d) j e))
   kept_reads d j e found apart =
       let at_j : slot_at a d j ≡ Some e.slot = ap (option_map (λ (x : Entry T). x.slot)) found in
       let other : e.slot ≢ slot = λ same.
@@ -58,7 +62,9 @@ module _ {T : Type 0} (nodes : List (Node T)) (ends : List Ends) (spare : Option
       slice_get-set_same nodes slot _ (slice_get_within nodes slot _ read)
       ∙ ap (λ (x : Member T). Some (Taken (record x { item = y }))) was_member
 
-  chain_reads : (j : ℕ) (e : Entry T) → slice_get (set (entries a c) i (record { slot = slot; item = y })) j ≡ Some e → slice_get (set nodes slot (Taken (record m { item = y }))) e.slot ≡ Some (Taken (member_of c (set (entries a c) i (record { slot = slot; item = y })) j e))
+  chain_reads : (j : ℕ) (e : Entry T) → slice_get (set (entries a c) i (record { slot = slot; item = y })) j ≡ Some e →
+      slice_get (set nodes slot (Taken (record m { item = y }))) e.slot
+      ≡ Some (Taken (member_of c (set (entries a c) i (record { slot = slot; item = y })) j e))
   chain_reads j e found =
       let es = entries a c in
       let z : Entry T = record { slot = slot; item = y } in
@@ -74,30 +80,35 @@ module _ {T : Type 0} (nodes : List (Node T)) (ends : List Ends) (spare : Option
             ∙ ap (λ (x : Member T). Some (Taken x)) (sym (member_of-set c es i j z e there))
       ]
 
-  owned_after : c < length a.chains → (t : ℕ) (n : Member T) → slice_get (set nodes slot (Taken (record m { item = y }))) t ≡ Some (Taken n) → IsOnChain (with_entries a c (set (entries a c) i (record { slot = slot; item = y }))) t n.chain
+  owned_after : c < length a.chains → (t : ℕ) (n : Member T) → slice_get (set nodes slot (Taken (record m { item = y }))) t ≡ Some (Taken n) →
+      IsOnChain (with_entries a c (set (entries a c) i (record { slot = slot; item = y }))) t n.chain
   owned_after in_chains t n now =
       elim (cases_eq t slot) [
         | inl this ↦
-            let same = ap (λ (x : Member T). x.chain) (same_member (set nodes slot (Taken (record m { item = y }))) slot _ n set_reads (subst (λ (s : ℕ). slice_get (set nodes slot (Taken (record m { item = y }))) s ≡ Some (Taken n)) this now)) in
+            let same = ap (λ (x : Member T). x.chain) (same_member (set nodes slot (Taken (record m { item = y }))) slot _ n set_reads
+            (subst (λ (s : ℕ). slice_get (set nodes slot (Taken (record m { item = y }))) s ≡ Some (Taken n)) this now)) in
             rw (← same, this) (on_changed a c slot i _ in_chains (link_at-set (entries a c) i i (record { slot = slot; item = y }) there ∙ there))
         | inr other ↦
             let was = h.owned t n (sym (slice_get-set_other nodes slot t _ other) ∙ now) in
             elim (cases_eq n.chain c) [
               | inl this ↦
                   let index = rw this at was in
-                  rw this (on_changed a c t index.index _ in_chains (link_at-set (entries a c) i index.index (record { slot = slot; item = y }) there ∙ index.found))
+                  rw this (on_changed a c t index.index _ in_chains
+                  (link_at-set (entries a c) i index.index (record { slot = slot; item = y }) there ∙ index.found))
               | inr apart ↦ on_other a c n.chain t _ apart was
             ]
       ]
 
   -- the links after a change of the item
-  pub Spells-set : (e : Ends) → slice_get ends c ≡ Some e → c < length a.chains → Spells (set nodes slot (Taken (record m { item = y }))) ends spare free (with_entries a c (set (entries a c) i (record { slot = slot; item = y })))
+  pub Spells-set : (e : Ends) → slice_get ends c ≡ Some e → c < length a.chains →
+      Spells (set nodes slot (Taken (record m { item = y }))) ends spare free (with_entries a c (set (entries a c) i (record { slot = slot; item = y })))
   Spells-set e found in_chains =
       let was = h.each c e found in
       let z : Entry T = record { slot = slot; item = y } in
       let chain : SpellsChain (set nodes slot (Taken (record m { item = y }))) c e (set (entries a c) i z) = record {
         first = was.first ∙ sym (link_at-set (entries a c) i 0 z there);
-        last = was.last ∙ (sym (link_before-set (entries a c) i (length (entries a c)) z there) ∙ ap (λ (n : ℕ). link_before (set (entries a c) i z) n) (sym (length-set (entries a c) i z)));
+        last = was.last ∙ (sym (link_before-set (entries a c) i (length (entries a c)) z there)
+            ∙ ap (λ (n : ℕ). link_before (set (entries a c) i z) n) (sym (length-set (entries a c) i z)));
         len = was.len ∙ sym (length-set (entries a c) i z);
         linked = chain_reads;
       } in
@@ -111,7 +122,8 @@ module _ {T : Type 0} (nodes : List (Node T)) (ends : List Ends) (spare : Option
       let ends_same : set ends c e ≡ ends = ap (set ends c) (sym (get_or_from_slice_get ends c e e found)) ∙ set-get_or ends c e in
       subst (λ (x : List Ends). Spells (set nodes slot (Taken (record m { item = y }))) x spare free (with_entries a c (set (entries a c) i z))) ends_same whole
     where
-      free_kept : (t : ℕ) (link : Option ℕ) → slice_get nodes t ≡ Some (Free link) → slice_get (set nodes slot (Taken (record m { item = y }))) t ≡ Some (Free link)
+      free_kept : (t : ℕ) (link : Option ℕ) → slice_get nodes t ≡ Some (Free link) →
+          slice_get (set nodes slot (Taken (record m { item = y }))) t ≡ Some (Free link)
       free_kept t link seen =
           let other : t ≢ slot = λ same.
           let clash = sym (subst (λ (s : ℕ). slice_get nodes s ≡ Some (Free link)) same seen) ∙ read in cc in

@@ -1,5 +1,6 @@
 -- Where a cursor stands.
-use Rattle.std.specs.Prelude.{◌≡◌, ℕ, Bool, length, Option, Some, None, is_some, slice_get, slice_set, unwrap_or, insert, remove, ◌<◌, MatchOption, if◌then◌else◌}
+use Rattle.std.specs.Prelude.{◌≡◌, ℕ, Bool, length, Option, Some, None, is_some, slice_get, slice_set, unwrap_or}
+use Rattle.std.specs.Prelude.{insert, remove, ◌<◌, MatchOption, if◌then◌else◌}
 use Rattle.std.specs.Bool.{⊤}
 use Rattle.std.specs.Fn.{Shared, AnyResult}
 use denote.Ref.{Bor}

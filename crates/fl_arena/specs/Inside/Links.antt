@@ -1,5 +1,6 @@
 -- How the links inside the slots spell the chains and the free list.
-use Rattle.std.specs.Prelude.{◌≡◌, ℕ, zero, suc, ◌+◌, ◌-◌, ◌≤◌, ◌<◌, ◌==◌, Bool, true, false, List, [], ◌∷◌, map, length, count_by, Option, Some, None, is_some, slice_get, MatchOption, if◌then◌else◌}
+use Rattle.std.specs.Prelude.{◌≡◌, ℕ, zero, suc, ◌+◌, ◌-◌, ◌≤◌, ◌<◌, ◌==◌, Bool, true, false, List, [], ◌∷◌, map}
+use Rattle.std.specs.Prelude.{length, count_by, Option, Some, None, is_some, slice_get, MatchOption, if◌then◌else◌}
 use Rattle.std.specs.Bool.{⊤}
 use Rattle.std.specs.Option.{option_map}
 use Rattle.fl_arena.specs.Chains.{Entry, Chains, entries, slot_at, item_count}
@@ -107,7 +108,8 @@ module _ {T : Type 0} where
     pub found : slot_at a c index ≡ Some slot
 
   -- the links spell these chains and a free list of the other slots
-  pub record Spells (nodes : List (Node T)) (ends : List Ends) (spare : Option ℕ) (free : ℕ) (a : Chains T) : Type 0 where
+  pub record Spells (nodes : List (Node T)) (ends : List Ends) (spare : Option ℕ) (free : ℕ) (a : Chains T) : Type
+      0 where
     pub slots : a.slots ≡ length nodes
     pub chains : length a.chains ≡ length ends
     pub each : (c : ℕ) (e : Ends) → slice_get ends c ≡ Some e → SpellsChain nodes c e (entries a c)

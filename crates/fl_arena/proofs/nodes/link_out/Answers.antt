@@ -13,7 +13,9 @@ set_previous-requires g c =
 pub index_mut-requires : goal.index_mut-requires
 index_mut-requires g c =
     let nodes = c.args.nodes.now.items in
-    let first : length c.set_next.new.nodes.items ≡ length nodes = ap length c.set_next.ensures ∙ length-alter_link (with_next c.args.member.next) nodes c.args.member.previous in
-    let second : length c.set_previous.new.nodes.items ≡ length nodes = ap length c.set_previous.ensures ∙ (length-alter_link (with_previous c.args.member.previous) c.set_next.new.nodes.items c.args.member.next ∙ first) in
+    let first : length c.set_next.new.nodes.items ≡ length nodes =
+    ap length c.set_next.ensures ∙ length-alter_link (with_next c.args.member.next) nodes c.args.member.previous in
+    let second : length c.set_previous.new.nodes.items ≡ length nodes =
+    ap length c.set_previous.ensures ∙ (length-alter_link (with_previous c.args.member.previous) c.set_next.new.nodes.items c.args.member.next ∙ first) in
     let ok = c.set_previous.new.nodes.ok.0 in
     omega (arith, c.requires.slot)

@@ -13,5 +13,6 @@ returns-in-Taken g c =
 pub returns-in_default-node : goal.returns-in_default-node
 returns-in_default-node g c =
     let within = rw c.in-Some.is at c.requires in
-    alter_link_kept (with_next c.args.next) c.args.nodes.now.items c.args.slot c.in-Some.slot _ (Free c.in_default-node.field-0) c.in-Some.is c.from-at.ensures within
+    alter_link_kept (with_next c.args.next) c.args.nodes.now.items c.args.slot c.in-Some.slot _ (Free c.in_default-node.field-0) c.in-Some.is c.from-at.ensures
+    within
     (rw c.in_default-node.is at c.index-node.ensures) refl

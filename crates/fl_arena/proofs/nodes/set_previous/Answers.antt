@@ -7,11 +7,13 @@ use Rattle.fl_arena.proofs.nodes.set_previous.Goals as goal
 pub returns-in-Taken : goal.returns-in-Taken
 returns-in-Taken g c =
     let within = rw c.in-Some.is at c.requires in
-    alter_link-read (with_previous c.args.previous) c.args.nodes.now.items c.args.slot c.in-Some.slot _ (Taken c.in-Taken.member) c.in-Some.is c.from-at.ensures within
+    alter_link-read (with_previous c.args.previous) c.args.nodes.now.items c.args.slot c.in-Some.slot _ (Taken c.in-Taken.member) c.in-Some.is c.from-at.ensures
+    within
     (rw c.in-Taken.is at c.index-node.ensures)
 
 pub returns-in_default-node : goal.returns-in_default-node
 returns-in_default-node g c =
     let within = rw c.in-Some.is at c.requires in
-    alter_link_kept (with_previous c.args.previous) c.args.nodes.now.items c.args.slot c.in-Some.slot _ (Free c.in_default-node.field-0) c.in-Some.is c.from-at.ensures within
+    alter_link_kept (with_previous c.args.previous) c.args.nodes.now.items c.args.slot c.in-Some.slot _ (Free c.in_default-node.field-0) c.in-Some.is
+    c.from-at.ensures within
     (rw c.in_default-node.is at c.index-node.ensures) refl

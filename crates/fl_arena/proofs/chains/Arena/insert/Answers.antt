@@ -22,13 +22,16 @@ next_free-self-inside-requires g c =
     spare_is_free _ _ c.self.inside.free c.in-Some.slot c.in-Some.is c.self.invariant.free_list
 
 -- the place that the links are put in
-placed : (g : _) (c : After-next_free-self-inside g) → (c.match-cursor.previous.0 ≡ link_before (entries c.args.self.now c.args.cursor.now.chain) (index_of c.args.self.now c.args.cursor.now)) × (c.match-cursor.previous.1 ≡ index_of c.args.self.now c.args.cursor.now)
+placed : (g : _) (c : After-next_free-self-inside g) →
+    (c.match-cursor.previous.0 ≡ link_before (entries c.args.self.now c.args.cursor.now.chain) (index_of c.args.self.now c.args.cursor.now))
+    × (c.match-cursor.previous.1 ≡ index_of c.args.self.now c.args.cursor.now)
 placed g c =
     let spells = spells_value _ _ _ _ _ c.self.invariant c.self.view_is in
     let chains = spells.chains in
     let in_chains = c.requires.chain in
     elim c.match-cursor.branch [
-      | in-Some-slot w ↦ place_before _ _ _ _ _ spells c.args.cursor.now c.requires.in_place _ _ c.match-cursor.previous w.in-Some-slot.is w.member_at.ensures w.previous-is
+      | in-Some-slot w ↦ place_before _ _ _ _ _ spells c.args.cursor.now c.requires.in_place _ _ c.match-cursor.previous w.in-Some-slot.is w.member_at.ensures
+          w.previous-is
       | in-None w ↦
           let found = end_read c.self.inside.ends.items c.args.cursor.now.chain c.index-ends.result.now (omega arith) c.index-ends.ensures in
           place_last _ _ _ _ _ spells c.args.cursor.now c.requires.in_place _ c.match-cursor.previous w.in-None.is found w.previous-is
@@ -52,16 +55,23 @@ link_in-requires-clause-after g c =
 pub with-requires : goal.with-requires
 with-requires g c =
     let spells = spells_value _ _ _ _ _ c.self.invariant c.self.view_is in
-    let found = end_read c.self.inside.ends.items c.args.cursor.now.chain c.index-ends.result.now (let chains = spells.chains in let within = c.requires.chain in omega arith) c.index-ends.ensures in
+    let found = end_read c.self.inside.ends.items c.args.cursor.now.chain c.index-ends.result.now
+    (let chains = spells.chains in let within = c.requires.chain in omega arith) c.index-ends.ensures in
     room _ _ _ _ _ spells c.args.cursor.now.chain _ c.in-Some.slot found c.in-Some.is
 
 -- the links once the slot is on its chain
-after : (g : _) (c : After-with g) → c.match-cursor.previous.0 ≡ link_before (entries c.args.self.now c.args.cursor.now.chain) (index_of c.args.self.now c.args.cursor.now) → Spells c.link_in.new.nodes.items (set c.self.inside.ends.items c.args.cursor.now.chain c.with.result) c.next_free-self-inside.result (c.self.inside.free - 1) (with_entries c.args.self.now c.args.cursor.now.chain (insert (entries c.args.self.now c.args.cursor.now.chain) (index_of c.args.self.now c.args.cursor.now) (record { slot = c.in-Some.slot; item = c.args.item })))
+after : (g : _) (c : After-with g) →
+    c.match-cursor.previous.0 ≡ link_before (entries c.args.self.now c.args.cursor.now.chain) (index_of c.args.self.now c.args.cursor.now) →
+    Spells c.link_in.new.nodes.items (set c.self.inside.ends.items c.args.cursor.now.chain c.with.result) c.next_free-self-inside.result
+    (c.self.inside.free - 1) (with_entries c.args.self.now c.args.cursor.now.chain (insert (entries c.args.self.now c.args.cursor.now.chain)
+    (index_of c.args.self.now c.args.cursor.now) (record { slot = c.in-Some.slot; item = c.args.item })))
 after g c back =
     let spells = spells_value _ _ _ _ _ c.self.invariant c.self.view_is in
-    let found = end_read c.self.inside.ends.items c.args.cursor.now.chain c.index-ends.result.now (let chains = spells.chains in let within = c.requires.chain in omega arith) c.index-ends.ensures in
+    let found = end_read c.self.inside.ends.items c.args.cursor.now.chain c.index-ends.result.now
+    (let chains = spells.chains in let within = c.requires.chain in omega arith) c.index-ends.ensures in
     let here = stands _ _ _ _ _ spells c.args.cursor.now c.requires.in_place c.requires.chain in
-    inserted _ _ _ _ _ _ _ _ _ _ _ _ _ _ (subst (λ l. Spells c.self.inside.nodes.items c.self.inside.ends.items l c.self.inside.free c.args.self.now) c.in-Some.is spells)
+    inserted _ _ _ _ _ _ _ _ _ _ _ _ _ _
+    (subst (λ l. Spells c.self.inside.nodes.items c.self.inside.ends.items l c.self.inside.free c.args.self.now) c.in-Some.is spells)
     c.requires.chain here.1 c.next_free-self-inside.ensures found back here.0 c.link_in.ensures c.with.ensures
 
 pub invariant_of-self : goal.invariant_of-self
@@ -86,13 +96,15 @@ pub returns-clause-items : goal.returns-clause-items
 returns-clause-items g c =
     let here = placed g (goal.at.returns-clause-items g c).After-next_free-self-inside in
     ap (λ x. items x c.args.cursor.now.chain) (spelled_is _ _ _ _ _ (after g (goal.at.returns-clause-items g c).After-with here.0))
-    ∙ items-insert c.args.self.now c.args.cursor.now.chain (index_of c.args.self.now c.args.cursor.now) (record { slot = c.in-Some.slot; item = c.args.item }) c.requires.chain
+    ∙ items-insert c.args.self.now c.args.cursor.now.chain (index_of c.args.self.now c.args.cursor.now) (record { slot = c.in-Some.slot; item = c.args.item })
+    c.requires.chain
 
 pub returns-clause-others : goal.returns-clause-others
 returns-clause-others g c d apart =
     let here = placed g (goal.at.returns-clause-others g c).After-next_free-self-inside in
     ap (λ x. entries x d) (spelled_is _ _ _ _ _ (after g (goal.at.returns-clause-others g c).After-with here.0))
-    ∙ entries-with_other c.args.self.now c.args.cursor.now.chain d (insert (entries c.args.self.now c.args.cursor.now.chain) (index_of c.args.self.now c.args.cursor.now) (record { slot = c.in-Some.slot; item = c.args.item })) apart
+    ∙ entries-with_other c.args.self.now c.args.cursor.now.chain d (insert (entries c.args.self.now c.args.cursor.now.chain)
+    (index_of c.args.self.now c.args.cursor.now) (record { slot = c.in-Some.slot; item = c.args.item })) apart
 
 pub returns-clause-cursor : goal.returns-clause-cursor
 returns-clause-cursor g c =
@@ -100,8 +112,10 @@ returns-clause-cursor g c =
     let within = (stands _ _ _ _ _ spells c.args.cursor.now c.requires.in_place c.requires.chain).1 in
     let here = placed g (goal.at.returns-clause-cursor g c).After-next_free-self-inside in
     ap (λ (i : ℕ). record { chain = c.args.cursor.now.chain; index = i; slot = Some c.in-Some.slot }) here.1
-    ∙ (cursor_at_new c.args.self.now c.args.cursor.now.chain (index_of c.args.self.now c.args.cursor.now) (record { slot = c.in-Some.slot; item = c.args.item }) c.requires.chain within
-    ∙ ap (λ x. cursor_at x c.args.cursor.now.chain (index_of c.args.self.now c.args.cursor.now)) (sym (spelled_is _ _ _ _ _ (after g (goal.at.returns-clause-cursor g c).After-with here.0))))
+    ∙ (cursor_at_new c.args.self.now c.args.cursor.now.chain (index_of c.args.self.now c.args.cursor.now) (record { slot = c.in-Some.slot; item = c.args.item })
+    c.requires.chain within
+    ∙ ap (λ x. cursor_at x c.args.cursor.now.chain (index_of c.args.self.now c.args.cursor.now))
+    (sym (spelled_is _ _ _ _ _ (after g (goal.at.returns-clause-cursor g c).After-with here.0))))
 
 pub returns-clause-size : goal.returns-clause-size
 returns-clause-size g c =

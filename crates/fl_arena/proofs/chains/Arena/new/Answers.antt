@@ -5,9 +5,11 @@ use Rattle.fl_arena.proofs.chains.Arena.new.Goals as goal
 pub invariant_of-result : goal.invariant_of-result
 invariant_of-result g c =
     let ends = c.in_ok-ends.ensures.items_if_clones_equal (λ _ same. same) in
-    rw ends (spells_own _ _ _ _ _ (made c.in_ok-nodes.nodes.items c.in_ok-nodes.spare c.args.slots c.args.chains c.in_ok-nodes.ensures c.requires.slots c.requires.chains))
+    rw ends (spells_own _ _ _ _ _
+    (made c.in_ok-nodes.nodes.items c.in_ok-nodes.spare c.args.slots c.args.chains c.in_ok-nodes.ensures c.requires.slots c.requires.chains))
 
 pub returns : goal.returns
 returns g c =
     let ends = c.in_ok-ends.ensures.items_if_clones_equal (λ _ same. same) in
-    rw ends (spelled_is _ _ _ _ _ (made c.in_ok-nodes.nodes.items c.in_ok-nodes.spare c.args.slots c.args.chains c.in_ok-nodes.ensures c.requires.slots c.requires.chains))
+    rw ends (spelled_is _ _ _ _ _
+    (made c.in_ok-nodes.nodes.items c.in_ok-nodes.spare c.args.slots c.args.chains c.in_ok-nodes.ensures c.requires.slots c.requires.chains))

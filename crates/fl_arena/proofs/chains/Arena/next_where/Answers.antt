@@ -17,7 +17,9 @@ loop-item-preserved g c =
     let index = ap (λ (k : Cursor). k.index) on in
     record {
       at = on ∙ ap (cursor_at c.args.self.now c.args.from.chain) (sym index);
-      first = λ p tests. rw index (first_more p (items c.args.self.now c.args.from.chain) (c.args.from.index + position_or_len p (drop c.args.from.index (items c.args.self.now c.args.from.chain))) i (c.loop-item.invariant.first p tests) c.in-Some.item.now found (sym (tests (c.in-Some.item, tt) c.test.result c.test.ensures) ∙ c.if-test.false));
+      first = λ p tests. rw index (first_more p (items c.args.self.now c.args.from.chain) (c.args.from.index
+          + position_or_len p (drop c.args.from.index (items c.args.self.now c.args.from.chain))) i (c.loop-item.invariant.first p tests) c.in-Some.item.now
+          found (sym (tests (c.in-Some.item, tt) c.test.result c.test.ensures) ∙ c.if-test.false));
     }
 
 pub returns-clause-first : goal.returns-clause-first
@@ -27,8 +29,12 @@ returns-clause-first g c p tests =
     let so_far = c.loop-item.invariant.first p tests in
     let first : i ≡ c.args.from.index + position_or_len p (drop c.args.from.index (items c.args.self.now c.args.from.chain)) =
     elim c.match-item.branch [
-      | in-Some+then-test w ↦ first_here p (items c.args.self.now c.args.from.chain) (c.args.from.index + position_or_len p (drop c.args.from.index (items c.args.self.now c.args.from.chain))) i so_far w.in-Some.item.now (sym (w.in-Some.ensures.at_index c.args.from.chain i here)) (sym (tests (w.in-Some.item, tt) w.test.result w.test.ensures) ∙ w.if-test.true)
-      | in_default w ↦ first_none p (items c.args.self.now c.args.from.chain) (c.args.from.index + position_or_len p (drop c.args.from.index (items c.args.self.now c.args.from.chain))) i so_far (sym (c.item.ensures.at_index c.args.from.chain i here) ∙ ap option_copied w.in_default.is)
+      | in-Some+then-test w ↦ first_here p (items c.args.self.now c.args.from.chain) (c.args.from.index
+          + position_or_len p (drop c.args.from.index (items c.args.self.now c.args.from.chain))) i so_far w.in-Some.item.now
+          (sym (w.in-Some.ensures.at_index c.args.from.chain i here)) (sym (tests (w.in-Some.item, tt) w.test.result w.test.ensures) ∙ w.if-test.true)
+      | in_default w ↦ first_none p (items c.args.self.now c.args.from.chain) (c.args.from.index
+          + position_or_len p (drop c.args.from.index (items c.args.self.now c.args.from.chain))) i so_far
+          (sym (c.item.ensures.at_index c.args.from.chain i here) ∙ ap option_copied w.in_default.is)
     ] in
     here ∙ ap (cursor_at c.args.self.now c.args.from.chain) first
 

@@ -7,7 +7,9 @@ use Rattle.fl_arena.proofs.chains.Arena.next_where.Given as goal
 abbrev pub invariant-loop-item : goal.invariant-loop-item
 invariant-loop-item g l = record {
   at : l.cursor ≡ cursor_at l.self l.fn.from.chain l.cursor.index;
-  first : (p : g.row.T.Denot → Bool) → Tests g.F.Fn p l.test → l.fn.from.index + position_or_len p (drop l.fn.from.index (items l.self l.fn.from.chain)) ≡ l.cursor.index + position_or_len p (drop l.cursor.index (items l.self l.fn.from.chain));
+  first : (p : g.row.T.Denot → Bool) → Tests g.F.Fn p l.test →
+      l.fn.from.index + position_or_len p (drop l.fn.from.index (items l.self l.fn.from.chain))
+      ≡ l.cursor.index + position_or_len p (drop l.cursor.index (items l.self l.fn.from.chain));
 }
 
 abbrev pub decreases-loop-item : goal.decreases-loop-item

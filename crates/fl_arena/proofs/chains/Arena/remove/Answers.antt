@@ -40,18 +40,22 @@ without-requires g c =
     let spells = spells_value _ _ _ _ _ c.self.invariant c.self.view_is in
     let there = slot_there c.args.self.now c.args.cursor.now _ c.in-Some.is c.requires.in_place in
     let at = is_at _ _ _ _ _ spells _ _ _ c.member_at-member.result.now there c.member_at-member.ensures in
-    let found = end_read c.self.inside.ends.items c.args.cursor.now.chain c.index-ends.result.now (let chains = spells.chains in let within = at.in_chains in omega arith) c.index-ends.ensures in
+    let found = end_read c.self.inside.ends.items c.args.cursor.now.chain c.index-ends.result.now
+    (let chains = spells.chains in let within = at.in_chains in omega arith) c.index-ends.ensures in
     let long = (spells.each c.args.cursor.now.chain c.index-ends.result.now found).len in
     let some = at.in_chain in
     omega arith
 
 -- the links once the slot is off its chain
-after : (g : _) (c : After-without g) → Spells c.link_out.new.nodes.items (set c.self.inside.ends.items c.args.cursor.now.chain c.without.result) (Some c.in-Some.slot) (c.self.inside.free + 1) (with_entries c.args.self.now c.args.cursor.now.chain (remove (entries c.args.self.now c.args.cursor.now.chain) c.args.cursor.now.index))
+after : (g : _) (c : After-without g) →
+    Spells c.link_out.new.nodes.items (set c.self.inside.ends.items c.args.cursor.now.chain c.without.result) (Some c.in-Some.slot) (c.self.inside.free + 1)
+    (with_entries c.args.self.now c.args.cursor.now.chain (remove (entries c.args.self.now c.args.cursor.now.chain) c.args.cursor.now.index))
 after g c =
     let spells = spells_value _ _ _ _ _ c.self.invariant c.self.view_is in
     let there = slot_there c.args.self.now c.args.cursor.now _ c.in-Some.is c.requires.in_place in
     let at = is_at _ _ _ _ _ spells _ _ _ c.member_at-member.result.now there c.member_at-member.ensures in
-    let found = end_read c.self.inside.ends.items c.args.cursor.now.chain c.index-ends.result.now (let chains = spells.chains in let within = at.in_chains in omega arith) c.index-ends.ensures in
+    let found = end_read c.self.inside.ends.items c.args.cursor.now.chain c.index-ends.result.now
+    (let chains = spells.chains in let within = at.in_chains in omega arith) c.index-ends.ensures in
     removed _ _ _ _ _ _ _ _ _ _ _ _ _ spells there at.in_nodes at.in_chains at.in_chain found at.previous at.next c.link_out.ensures c.without.ensures
 
 pub invariant_of-self : goal.invariant_of-self
@@ -72,7 +76,8 @@ returns-clause-cursor g c =
     let there = slot_there c.args.self.now c.args.cursor.now _ c.in-Some.is c.requires.in_place in
     let at = is_at _ _ _ _ _ spells _ _ _ c.member_at-member.result.now there c.member_at-member.ensures in
     cursor_after c.args.self.now c.args.cursor.now.chain c.args.cursor.now.index c.member_at-member.result.now.next at.in_chains at.next
-    ∙ ap (λ x. cursor_at x c.args.cursor.now.chain c.args.cursor.now.index) (sym (spelled_is _ _ _ _ _ (after g (goal.at.returns-clause-cursor g c).After-without)))
+    ∙ ap (λ x. cursor_at x c.args.cursor.now.chain c.args.cursor.now.index)
+    (sym (spelled_is _ _ _ _ _ (after g (goal.at.returns-clause-cursor g c).After-without)))
 
 pub returns-clause-items : goal.returns-clause-items
 returns-clause-items g c =
