@@ -1,5 +1,6 @@
 -- Walks that begin at a cursor before which no run reaches a byte of the key.
-use Rattle.std.proofs.Common.{◌≡◌, ℕ, zero, suc, ◌+◌, ◌-◌, ◌≤◌, Bool, true, false, cond, not, ◌&&◌, ◌||◌, nat_le, Option, Some, None, List, [], ◌∷◌, ◌++◌, length, take, drop, refl, ap, sym, ◌∙◌, subst, arith}
+use Rattle.std.proofs.Common.{◌≡◌, ℕ, zero, suc, ◌+◌, ◌-◌, ◌≤◌, Bool, true, false, cond, not, ◌&&◌, ◌||◌, nat_le, Option, Some, None, List, [], ◌∷◌, ◌++◌}
+use Rattle.std.proofs.Common.{length, take, drop, refl, ap, sym, ◌∙◌, subst, arith}
 use Rattle.std.proofs.lemmas.Bool.Decides.{nat_tests}
 use Rattle.std.specs.List.{find, filter, position_or_len, AllByRecursion}
 use Rattle.std.specs.Ordering.{eq_by_cmp}
@@ -60,10 +61,12 @@ module _ (t : Run → Bool) where
   count_behind (suc i) [] each = refl
   count_behind (suc i) (x ∷ xs) each = count_behind i xs each.1 ∙ ap (λ b. length (cond b (x ∷ filter t xs) (filter t xs))) (sym each.0)
 
-  kept_behind : (i : ℕ) (xs : List Run) → AllByRecursion (λ r. t r ≡ false) (take i xs) → filter (λ r. not (t r)) xs ≡ take i xs ++ filter (λ r. not (t r)) (drop i xs)
+  kept_behind : (i : ℕ) (xs : List Run) → AllByRecursion (λ r. t r ≡ false) (take i xs) →
+      filter (λ r. not (t r)) xs ≡ take i xs ++ filter (λ r. not (t r)) (drop i xs)
   kept_behind zero xs each = refl
   kept_behind (suc i) [] each = refl
-  kept_behind (suc i) (x ∷ xs) each = ap (λ b. cond (not b) (x ∷ filter (λ r. not (t r)) xs) (filter (λ r. not (t r)) xs)) each.0 ∙ ap (λ (l : List Run). x ∷ l) (kept_behind i xs each.1)
+  kept_behind (suc i) (x ∷ xs) each =
+      ap (λ b. cond (not b) (x ∷ filter (λ r. not (t r)) xs) (filter (λ r. not (t r)) xs)) each.0 ∙ ap (λ (l : List Run). x ∷ l) (kept_behind i xs each.1)
 
   one_more : (n : ℕ) → 1 + n ≡ suc n
   one_more n = omega arith
@@ -81,7 +84,8 @@ module _ (t : Run → Bool) where
   first_behind [] = tt
   first_behind (x ∷ xs) = go (t x) refl (first_behind xs)
     where
-      go : (b : Bool) → t x ≡ b → AllByRecursion (λ r. t r ≡ false) (take (position_or_len t xs) xs) → AllByRecursion (λ r. t r ≡ false) (take (cond (not b) (1 + position_or_len t xs) 0) (x ∷ xs))
+      go : (b : Bool) → t x ≡ b → AllByRecursion (λ r. t r ≡ false) (take (position_or_len t xs) xs) →
+          AllByRecursion (λ r. t r ≡ false) (take (cond (not b) (1 + position_or_len t xs) 0) (x ∷ xs))
       go true is rest = tt
       go false is rest = subst (λ (n : ℕ). AllByRecursion (λ r. t r ≡ false) (take n (x ∷ xs))) (sym (one_more (position_or_len t xs))) (is, rest)
 
@@ -92,7 +96,8 @@ second_false true b e = absurd (cc e)
 second_false false b e = e
 
 -- the first run that is past the byte or reaches it
-pub behind_first : (a : Chains Run) (key : Key) (byte : ℕ) (k : Cursor) → k ≡ cursor_at a (home key.node) (position_or_len (λ r. is_past key byte r || reaches key byte r) (items a (home key.node))) → IsBehind a key byte k
+pub behind_first : (a : Chains Run) (key : Key) (byte : ℕ) (k : Cursor) →
+    k ≡ cursor_at a (home key.node) (position_or_len (λ r. is_past key byte r || reaches key byte r) (items a (home key.node))) → IsBehind a key byte k
 behind_first a key byte k at =
     let t : Run → Bool = λ r. is_past key byte r || reaches key byte r in
     let xs = items a (home key.node) in
@@ -100,7 +105,8 @@ behind_first a key byte k at =
     record {
       at = at ∙ ap (cursor_at a (home key.node)) (sym index);
       within = subst (λ (n : ℕ). n ≤ length xs) (sym index) (first_within t xs);
-      before = subst (λ (n : ℕ). AllByRecursion (λ r. reaches key byte r ≡ false) (take n xs)) (sym index) (each_weaker (λ r. t r ≡ false) (λ r. reaches key byte r ≡ false) (λ r e. second_false (is_past key byte r) _ e) (take (position_or_len t xs) xs) (first_behind t xs));
+      before = subst (λ (n : ℕ). AllByRecursion (λ r. reaches key byte r ≡ false) (take n xs)) (sym index) (each_weaker (λ r. t r ≡ false)
+          (λ r. reaches key byte r ≡ false) (λ r e. second_false (is_past key byte r) _ e) (take (position_or_len t xs) xs) (first_behind t xs));
     }
 
 module _ (a : Chains Run) (key : Key) (byte : ℕ) (k : Cursor) (h : IsBehind a key byte k) where
@@ -112,19 +118,25 @@ module _ (a : Chains Run) (key : Key) (byte : ℕ) (k : Cursor) (h : IsBehind a 
   behind_later later le = record {
     at = h.at;
     within = h.within;
-    before = each_weaker (λ r. reaches key byte r ≡ false) (λ r. reaches key later r ≡ false) (λ r short. short_later key byte r short later le) (take k.index (items a (home key.node))) h.before;
+    before = each_weaker (λ r. reaches key byte r ≡ false) (λ r. reaches key later r ≡ false) (λ r short. short_later key byte r short later le)
+        (take k.index (items a (home key.node))) h.before;
   }
 
   none_over : (end : ℕ) → AllByRecursion (λ r. overlaps key byte end r ≡ false) (take k.index (items a (home key.node)))
-  none_over end = each_weaker (λ r. reaches key byte r ≡ false) (λ r. overlaps key byte end r ≡ false) (λ r short. short_over key byte r short byte end (omega arith)) (take k.index (items a (home key.node))) h.before
+  none_over end = each_weaker (λ r. reaches key byte r ≡ false) (λ r. overlaps key byte end r ≡ false)
+      (λ r short. short_over key byte r short byte end (omega arith)) (take k.index (items a (home key.node))) h.before
 
   pub find_from : find (has_spot (key, byte)) (drop k.index (items a (home key.node))) ≡ find (has_spot (key, byte)) (items a (home key.node))
-  find_from = find_behind (has_spot (key, byte)) k.index (items a (home key.node)) (each_weaker (λ r. reaches key byte r ≡ false) (λ r. has_spot (key, byte) r ≡ false) (λ r short. short_spot key byte r short byte (omega arith)) (take k.index (items a (home key.node))) h.before)
+  find_from = find_behind (has_spot (key, byte)) k.index (items a (home key.node)) (each_weaker (λ r. reaches key byte r ≡ false)
+      (λ r. has_spot (key, byte) r ≡ false) (λ r short. short_spot key byte r short byte (omega arith)) (take k.index (items a (home key.node))) h.before)
 
-  pub count_from : (end : ℕ) → 0 + length (filter (overlaps key byte end) (drop k.index (items a (home key.node)))) ≡ length (filter (overlaps key byte end) (items a (home key.node)))
+  pub count_from : (end : ℕ) →
+      0 + length (filter (overlaps key byte end) (drop k.index (items a (home key.node)))) ≡ length (filter (overlaps key byte end) (items a (home key.node)))
   count_from end = let same = count_behind (overlaps key byte end) k.index (items a (home key.node)) (none_over end) in omega (arith, same)
 
-  pub left_from : (end : ℕ) → left_over key byte end (items a (home key.node)) ≡ take k.index (items a (home key.node)) ++ left_over key byte end (drop k.index (items a (home key.node)))
+  pub left_from : (end : ℕ) →
+      left_over key byte end (items a (home key.node))
+      ≡ take k.index (items a (home key.node)) ++ left_over key byte end (drop k.index (items a (home key.node)))
   left_from end = kept_behind (overlaps key byte end) k.index (items a (home key.node)) (none_over end)
 
 -- ---- how far a stroke reaches

@@ -25,7 +25,8 @@ module _ (m : Marking) (key : Key) (start end : ℕ) (kind : Kind) where
         excluder = f.excluder;
         least_byte = f.least_byte;
         least_owner = f.least_owner;
-        row = subst (λ (k : Key). IsRow m (of_owner key e.0.0.owner) e.1 e.0.1 (row_start m k e.1 e.0.1) (row_end m k e.1 e.0.1 (9223372036854775807 - e.0.1))) (sym f.holder)
+        row = subst (λ (k : Key). IsRow m (of_owner key e.0.0.owner) e.1 e.0.1 (row_start m k e.1 e.0.1) (row_end m k e.1 e.0.1 (9223372036854775807 - e.0.1)))
+            (sym f.holder)
             (row_around m (of_owner key e.0.0.owner) e.1 e.0.1 f.excluder.held (omega arith));
       }
 
@@ -49,15 +50,18 @@ module _ (m : Marking) (key : Key) (start end : ℕ) (kind : Kind) where
       λ i. record { owner = owner i; start = start i; end = end i; mark = mark i }
 
   pub named_words : (held : Held) → end ≤ 9223372036854775807 → (blocker m key start end kind ≡ Some held) ↔ IsBlocker m key start end kind held
-  named_words held within = (λ h. words (first_excluder m key kind start (end + 1 - start)) refl h, λ b. found b (first_excluder m key kind start (end + 1 - start)) refl)
+  named_words held within =
+      (λ h. words (first_excluder m key kind start (end + 1 - start)) refl h, λ b. found b (first_excluder m key kind start (end + 1 - start)) refl)
     where
-      words : (o : Option (Spot × Mark)) → first_excluder m key kind start (end + 1 - start) ≡ o → option_map (lock_around m) o ≡ Some held → IsBlocker m key start end kind held
+      words : (o : Option (Spot × Mark)) → first_excluder m key kind start (end + 1 - start) ≡ o → option_map (lock_around m) o ≡ Some held →
+          IsBlocker m key start end kind held
       words (Some e) is h =
           let same : lock_around m e ≡ held = cc h in
           subst (IsBlocker m key start end kind) same (named_lock within e (first_found m key kind (end + 1 - start) start e is))
       words None is h = absurd (cc h)
 
-      found : IsBlocker m key start end kind held → (o : Option (Spot × Mark)) → first_excluder m key kind start (end + 1 - start) ≡ o → option_map (lock_around m) o ≡ Some held
+      found : IsBlocker m key start end kind held → (o : Option (Spot × Mark)) → first_excluder m key kind start (end + 1 - start) ≡ o →
+          option_map (lock_around m) o ≡ Some held
       found b (Some e) is = ap Some (same_lock (lock_around m e) held (named_lock within e (first_found m key kind (end + 1 - start) start e is)) b)
       found b None is =
           let from = b.from in
@@ -69,7 +73,8 @@ module _ (m : Marking) (key : Key) (start end : ℕ) (kind : Kind) where
       let rival : c.rival ≡ of_owner key c.rival.owner = λ i. record { class = c.class i; node = c.node i; owner = c.rival.owner } in
       record { held = ap (λ (k : Key). get m (k, c.byte)) (sym rival) ∙ c.held; other = c.other; write = c.write }
 
-  pub conflict_of_excluder : (byte owner : ℕ) (mark : Mark) → start ≤ byte → byte ≤ end → IsExcluder m key kind byte owner mark → IsConflict m key start end kind
+  pub conflict_of_excluder : (byte owner : ℕ) (mark : Mark) → start ≤ byte → byte ≤ end → IsExcluder m key kind byte owner mark →
+      IsConflict m key start end kind
   conflict_of_excluder byte owner mark from upto x = record {
     rival = of_owner key owner;
     byte = byte;
@@ -84,20 +89,26 @@ module _ (m : Marking) (key : Key) (start end : ℕ) (kind : Kind) where
   }
 
   pub none_words : (blocker m key start end kind ≡ None) ↔ (conflicts m key start end kind ≡ false)
-  none_words = (λ h. only_false (conflicts m key start end kind) (λ is. clash (first_excluder m key kind start (end + 1 - start)) refl h ((conflict_words m key start end kind).0 is)), λ clear. none clear (first_excluder m key kind start (end + 1 - start)) refl)
+  none_words = (
+    λ h. only_false (conflicts m key start end kind) (λ is. clash (first_excluder m key kind start (end + 1 - start)) refl h
+        ((conflict_words m key start end kind).0 is)),
+    λ clear. none clear (first_excluder m key kind start (end + 1 - start)) refl,
+  )
     where
       only_false : (b : Bool) → (b ≡ true → ⊥) → b ≡ false
       only_false true f = absurd (f refl)
       only_false false f = refl
 
-      clash : (o : Option (Spot × Mark)) → first_excluder m key kind start (end + 1 - start) ≡ o → option_map (lock_around m) o ≡ None → IsConflict m key start end kind → ⊥
+      clash : (o : Option (Spot × Mark)) → first_excluder m key kind start (end + 1 - start) ≡ o → option_map (lock_around m) o ≡ None →
+          IsConflict m key start end kind → ⊥
       clash (Some e) is h c = absurd (cc h)
       clash None is h c =
           let from = c.from in
           let upto = c.upto in
           none_excludes m key kind (end + 1 - start) start is c.byte c.rival.owner c.mark c.from (omega arith) (excluder_of_conflict c)
 
-      none : conflicts m key start end kind ≡ false → (o : Option (Spot × Mark)) → first_excluder m key kind start (end + 1 - start) ≡ o → option_map (lock_around m) o ≡ None
+      none : conflicts m key start end kind ≡ false → (o : Option (Spot × Mark)) → first_excluder m key kind start (end + 1 - start) ≡ o →
+          option_map (lock_around m) o ≡ None
       none clear (Some e) is =
           let f = first_found m key kind (end + 1 - start) start e is in
           let from = f.from in

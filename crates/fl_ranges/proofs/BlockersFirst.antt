@@ -1,5 +1,6 @@
 -- The first byte of a range at which another owner's mark excludes a lock, and the least such owner there.
-use Rattle.std.proofs.Common.{◌≡◌, ◌≢◌, ℕ, zero, suc, ◌+◌, ◌<◌, ◌≤◌, Bool, true, false, cond, ◌||◌, nat_lt, Option, Some, None, List, [], ◌∷◌, refl, ap, sym, ◌∙◌, subst, arith}
+use Rattle.std.proofs.Common.{◌≡◌, ◌≢◌, ℕ, zero, suc, ◌+◌, ◌<◌, ◌≤◌, Bool, true, false, cond, ◌||◌, nat_lt, Option, Some, None, List, [], ◌∷◌, refl, ap, sym}
+use Rattle.std.proofs.Common.{◌∙◌, subst, arith}
 use Rattle.std.proofs.lemmas.Bool.Decides.{nat_tests}
 use Rattle.std.specs.Option.{option_or}
 use Rattle.std.specs.List.{list_any}
@@ -25,7 +26,8 @@ use Rattle.fl_ranges.proofs.BlockersRows.{same_number}
 
 module _ {K X : Type 0} {R : K → K → Ordering} (o : IsTotalOrder R) (exact : IsAntisymmetric R) (test : (K × X) → Bool) where
   -- an entry that is found by its key and passes is not before the first one that passes
-  none_before : (es : List (K × X)) (e : K × X) (k : K) (v : X) → is_sorted R es ≡ true → list.find test es ≡ Some e → find R k es ≡ Some v → test (k, v) ≡ true → R k e.0 ≢ Less
+  none_before : (es : List (K × X)) (e : K × X) (k : K) (v : X) → is_sorted R es ≡ true → list.find test es ≡ Some e → find R k es ≡ Some v →
+      test (k, v) ≡ true → R k e.0 ≢ Less
   none_before [] e k v sorted first found passes = absurd (cc first)
   none_before (f ∷ es) e k v sorted first found passes =
       go (λ h i. none_before es e k v (second_so (below_all R f.0 es) (is_sorted R es) sorted) h i passes) (test f) (eq_by_cmp R k f.0) refl refl first found
@@ -33,7 +35,8 @@ module _ {K X : Type 0} {R : K → K → Ordering} (o : IsTotalOrder R) (exact :
       not_after : (x : K) → R x k ≡ Less → R k x ≢ Less
       not_after x before after = cc (before, after, o.antisymm k x)
 
-      go : (list.find test es ≡ Some e → find R k es ≡ Some v → R k e.0 ≢ Less) → (t u : Bool) → test f ≡ t → eq_by_cmp R k f.0 ≡ u → cond t (Some f) (list.find test es) ≡ Some e → cond u (Some f.1) (find R k es) ≡ Some v → R k e.0 ≢ Less
+      go : (list.find test es ≡ Some e → find R k es ≡ Some v → R k e.0 ≢ Less) → (t u : Bool) → test f ≡ t → eq_by_cmp R k f.0 ≡ u →
+          cond t (Some f) (list.find test es) ≡ Some e → cond u (Some f.1) (find R k es) ≡ Some v → R k e.0 ≢ Less
       go later true true is here h i = λ less.
           let same : f ≡ e = cc h in
           cc (is_Equal (R k f.0) here, ap (λ (g : K × X). R k g.0) same, less)
@@ -68,7 +71,8 @@ module _ {E : Type 0} (test : E → Bool) where
 no_lower : (p q : ℕ) → nat_cmp p q ≢ Less → q ≤ p
 no_lower p q not = grind (arith, nat_tests)
 
-no_lower_owner : (class node p q byte : ℕ) → ordering_then (ordering_then (nat_cmp class class) (ordering_then (nat_cmp node node) (nat_cmp p q))) (nat_cmp byte byte) ≢ Less → q ≤ p
+no_lower_owner : (class node p q byte : ℕ) →
+    ordering_then (ordering_then (nat_cmp class class) (ordering_then (nat_cmp node node) (nat_cmp p q))) (nat_cmp byte byte) ≢ Less → q ≤ p
 no_lower_owner class node p q byte not = no_lower p q (λ less. not (
     ap (λ o. ordering_then (ordering_then o (ordering_then (nat_cmp node node) (nat_cmp p q))) (nat_cmp byte byte)) (tied_itself nat_cmp_total class)
     ∙ ap (λ o. ordering_then (ordering_then o (nat_cmp p q)) (nat_cmp byte byte)) (tied_itself nat_cmp_total node)
@@ -76,9 +80,11 @@ no_lower_owner class node p q byte not = no_lower p q (λ less. not (
 
 module _ (m : Marking) (key : Key) (kind : Kind) where
   -- an excluder passes the test of entries
-  excluder_passes : (first byte end owner : ℕ) (mark : Mark) → first ≤ byte → byte ≤ end → IsExcluder m key kind byte owner mark → excludes_lock key first end kind ((of_owner key owner, byte), mark) ≡ true
+  excluder_passes : (first byte end owner : ℕ) (mark : Mark) → first ≤ byte → byte ≤ end → IsExcluder m key kind byte owner mark →
+      excludes_lock key first end kind ((of_owner key owner, byte), mark) ≡ true
   excluder_passes first byte end owner mark from upto x =
-      all_parts (class_number key.class) (class_number key.class) key.node key.node key.owner owner first byte end (excludes kind mark.kind) refl refl (λ same. x.other (sym same)) from upto x.write
+      all_parts (class_number key.class) (class_number key.class) key.node key.node key.owner owner first byte end (excludes kind mark.kind) refl refl
+      (λ same. x.other (sym same)) from upto x.write
 
   -- the least excluder at a byte
   record IsLeast (byte : ℕ) (e : Spot × Mark) : Type 0 where
@@ -89,26 +95,31 @@ module _ (m : Marking) (key : Key) (kind : Kind) where
   least_found : (byte : ℕ) (e : Spot × Mark) → list.find (excludes_lock key byte byte kind) (entries m) ≡ Some e → IsLeast byte e
   least_found byte e found =
       let passes = found_passes (excludes_lock key byte byte kind) (entries m) e found in
-      let t = parts (class_number key.class) (class_number e.0.0.class) key.node e.0.0.node key.owner e.0.0.owner byte e.0.1 byte (excludes kind e.1.kind) passes in
+      let t = parts (class_number key.class) (class_number e.0.0.class) key.node e.0.0.node key.owner e.0.0.owner byte e.0.1 byte (excludes kind e.1.kind)
+      passes in
       let class : e.0.0.class ≡ key.class = sym (same_class key.class e.0.0.class t.class) in
       let node : e.0.0.node ≡ key.node = sym t.node in
       let place : e.0.1 ≡ byte = same_number e.0.1 byte t.upto t.from in
       let spot : e.0 ≡ (of_owner key e.0.0.owner, byte) = λ i. (record { class = class i; node = node i; owner = e.0.0.owner }, place i) in
-      let held : get m (of_owner key e.0.0.owner, byte) ≡ Some e.1 = ap (get m) (sym spot) ∙ get_found spots_total (excludes_lock key byte byte kind) m e found in
+      let held : get m (of_owner key e.0.0.owner, byte) ≡ Some e.1 =
+      ap (get m) (sym spot) ∙ get_found spots_total (excludes_lock key byte byte kind) m e found in
       record {
         spot = spot;
         excluder = record { held = held; other = λ same. t.other (sym same); write = t.write };
         least = λ owner mark x. no_lower_owner (class_number key.class) key.node owner e.0.0.owner byte (λ less.
-            none_before spots_total exact_spots (excludes_lock key byte byte kind) (entries m) e (of_owner key owner, byte) mark (truth _ (entries_sorted m)) found
+            none_before spots_total exact_spots (excludes_lock key byte byte kind) (entries m) e (of_owner key owner, byte) mark (truth _ (entries_sorted m))
+            found
             (sym (get-entries m (of_owner key owner, byte)) ∙ x.held) (excluder_passes byte byte byte owner mark (omega arith) (omega arith) x)
             (ap (spot_cmp (of_owner key owner, byte)) spot ∙ less));
       }
 
-  none_found : (byte : ℕ) → list.find (excludes_lock key byte byte kind) (entries m) ≡ None → (owner : ℕ) (mark : Mark) → IsExcluder m key kind byte owner mark → ⊥
+  none_found : (byte : ℕ) → list.find (excludes_lock key byte byte kind) (entries m) ≡ None → (owner : ℕ) (mark : Mark) →
+      IsExcluder m key kind byte owner mark → ⊥
   none_found byte none owner mark x =
       cc (
         none_passes (excludes_lock key byte byte kind) (entries m) none,
-        entry_passes spots_total exact_spots (excludes_lock key byte byte kind) m (of_owner key owner, byte) mark x.held (excluder_passes byte byte byte owner mark (omega arith) (omega arith) x),
+        entry_passes spots_total exact_spots (excludes_lock key byte byte kind) m (of_owner key owner, byte) mark x.held
+            (excluder_passes byte byte byte owner mark (omega arith) (omega arith) x),
       )
 
   -- ---- at so many bytes
@@ -134,7 +145,8 @@ module _ (m : Marking) (key : Key) (kind : Kind) where
         least_owner = λ owner mark x. l.least owner mark (subst (λ n. IsExcluder m key kind n owner mark) place x);
       }
 
-  first_later : (count first : ℕ) (e : Spot × Mark) → ((owner : ℕ) (mark : Mark) → IsExcluder m key kind first owner mark → ⊥) → IsFirst (first + 1) count e → IsFirst first (suc count) e
+  first_later : (count first : ℕ) (e : Spot × Mark) → ((owner : ℕ) (mark : Mark) → IsExcluder m key kind first owner mark → ⊥) → IsFirst (first + 1) count e →
+      IsFirst first (suc count) e
   first_later count first e none f = record {
     holder = f.holder;
     from = let a = f.from in omega arith;
@@ -155,18 +167,22 @@ module _ (m : Marking) (key : Key) (kind : Kind) where
   first_found zero first e is = absurd (cc is)
   first_found (suc count) first e is = go (first_found count (first + 1) e) (list.find (excludes_lock key first first kind) (entries m)) refl is
     where
-      go : (first_excluder m key kind (first + 1) count ≡ Some e → IsFirst (first + 1) count e) → (o : Option (Spot × Mark)) → list.find (excludes_lock key first first kind) (entries m) ≡ o
+      go : (first_excluder m key kind (first + 1) count ≡ Some e → IsFirst (first + 1) count e) → (o : Option (Spot × Mark)) →
+          list.find (excludes_lock key first first kind) (entries m) ≡ o
           → option_or o (first_excluder m key kind (first + 1) count) ≡ Some e → IsFirst first (suc count) e
       go later (Some f) found h = first_here count first e (least_found first e (found ∙ h))
       go later None found h = first_later count first e (none_found first found) (later h)
 
-  pub none_excludes : (count first : ℕ) → first_excluder m key kind first count ≡ None → (b owner : ℕ) (mark : Mark) → first ≤ b → b < first + count → IsExcluder m key kind b owner mark → ⊥
+  pub none_excludes : (count first : ℕ) → first_excluder m key kind first count ≡ None → (b owner : ℕ) (mark : Mark) → first ≤ b → b < first + count →
+      IsExcluder m key kind b owner mark → ⊥
   unfolding first_excluder
   none_excludes zero first none b owner mark from upto x = absurd (omega arith)
   none_excludes (suc count) first none b owner mark from upto x =
-      go (λ h from. none_excludes count (first + 1) h b owner mark from (omega arith) x) (list.find (excludes_lock key first first kind) (entries m)) refl none (nat_lt first b) refl
+      go (λ h from. none_excludes count (first + 1) h b owner mark from (omega arith) x) (list.find (excludes_lock key first first kind) (entries m)) refl none
+      (nat_lt first b) refl
     where
-      go : (first_excluder m key kind (first + 1) count ≡ None → first + 1 ≤ b → ⊥) → (o : Option (Spot × Mark)) → list.find (excludes_lock key first first kind) (entries m) ≡ o
+      go : (first_excluder m key kind (first + 1) count ≡ None → first + 1 ≤ b → ⊥) → (o : Option (Spot × Mark)) →
+          list.find (excludes_lock key first first kind) (entries m) ≡ o
           → option_or o (first_excluder m key kind (first + 1) count) ≡ None → (t : Bool) → nat_lt first b ≡ t → ⊥
       go later (Some f) found h t after = absurd (cc h)
       go later None found h true after = later h (grind (arith, nat_tests))

@@ -49,7 +49,8 @@ module _ (m : Marking) (key : Key) (mark : Mark) where
   start_each zero b from below = absurd (omega arith)
   start_each (suc byte) b from below = go (start_each byte b) (is_mark mark (get m (key, byte))) (nat_lt b byte) refl refl from
     where
-      go : (row_start m key mark byte ≤ b → b < byte → get m (key, b) ≡ Some mark) → (t u : Bool) → is_mark mark (get m (key, byte)) ≡ t → nat_lt b byte ≡ u → cond t (row_start m key mark byte) (suc byte) ≤ b → get m (key, b) ≡ Some mark
+      go : (row_start m key mark byte ≤ b → b < byte → get m (key, b) ≡ Some mark) → (t u : Bool) → is_mark mark (get m (key, byte)) ≡ t → nat_lt b byte ≡ u →
+          cond t (row_start m key mark byte) (suc byte) ≤ b → get m (key, b) ≡ Some mark
       go lower true true e f h = lower h (is_less b byte f)
       go lower true false e f h =
           let same : byte ≡ b = same_number byte b (not_less b byte f) (omega arith) in
@@ -61,7 +62,8 @@ module _ (m : Marking) (key : Key) (mark : Mark) where
   start_first zero b is = absurd (omega arith)
   start_first (suc byte) b is = go (start_first byte b) (is_mark mark (get m (key, byte))) refl is
     where
-      go : (b + 1 ≡ row_start m key mark byte → get m (key, b) ≢ Some mark) → (t : Bool) → is_mark mark (get m (key, byte)) ≡ t → b + 1 ≡ cond t (row_start m key mark byte) (suc byte) → get m (key, b) ≢ Some mark
+      go : (b + 1 ≡ row_start m key mark byte → get m (key, b) ≢ Some mark) → (t : Bool) → is_mark mark (get m (key, byte)) ≡ t →
+          b + 1 ≡ cond t (row_start m key mark byte) (suc byte) → get m (key, b) ≢ Some mark
       go lower true e h = lower h
       go lower false e h =
           let same : byte ≡ b = omega arith in
@@ -92,7 +94,8 @@ module _ (m : Marking) (key : Key) (mark : Mark) where
   end_each byte zero b above upto = absurd (omega arith)
   end_each byte (suc more) b above upto = go (end_each (byte + 1) more b) (is_mark mark (get m (key, byte + 1))) (nat_lt (byte + 1) b) refl refl upto
     where
-      go : (byte + 1 < b → b ≤ row_end m key mark (byte + 1) more → get m (key, b) ≡ Some mark) → (t u : Bool) → is_mark mark (get m (key, byte + 1)) ≡ t → nat_lt (byte + 1) b ≡ u → b ≤ cond t (row_end m key mark (byte + 1) more) byte → get m (key, b) ≡ Some mark
+      go : (byte + 1 < b → b ≤ row_end m key mark (byte + 1) more → get m (key, b) ≡ Some mark) → (t u : Bool) → is_mark mark (get m (key, byte + 1)) ≡ t →
+          nat_lt (byte + 1) b ≡ u → b ≤ cond t (row_end m key mark (byte + 1) more) byte → get m (key, b) ≡ Some mark
       go later true true e f h = later (is_less (byte + 1) b f) h
       go later true false e f h =
           let same : byte + 1 ≡ b = same_number (byte + 1) b (omega arith) (not_less (byte + 1) b f) in
@@ -104,13 +107,15 @@ module _ (m : Marking) (key : Key) (mark : Mark) where
   end_last byte zero below = absurd (omega arith)
   end_last byte (suc more) below = go (end_last (byte + 1) more) (is_mark mark (get m (key, byte + 1))) refl below
     where
-      go : (row_end m key mark (byte + 1) more < (byte + 1) + more → get m (key, row_end m key mark (byte + 1) more + 1) ≢ Some mark) → (t : Bool) → is_mark mark (get m (key, byte + 1)) ≡ t → cond t (row_end m key mark (byte + 1) more) byte < byte + suc more
+      go : (row_end m key mark (byte + 1) more < (byte + 1) + more → get m (key, row_end m key mark (byte + 1) more + 1) ≢ Some mark) → (t : Bool) →
+          is_mark mark (get m (key, byte + 1)) ≡ t → cond t (row_end m key mark (byte + 1) more) byte < byte + suc more
           → get m (key, cond t (row_end m key mark (byte + 1) more) byte + 1) ≢ Some mark
       go later true e h = later (omega arith)
       go later false e h = hasnt (byte + 1) e
 
   -- around a marked byte, the row is what the functions give
-  pub row_around : (byte : ℕ) → get m (key, byte) ≡ Some mark → byte ≤ 9223372036854775807 → IsRow m key mark byte (row_start m key mark byte) (row_end m key mark byte (9223372036854775807 - byte))
+  pub row_around : (byte : ℕ) → get m (key, byte) ≡ Some mark → byte ≤ 9223372036854775807 →
+      IsRow m key mark byte (row_start m key mark byte) (row_end m key mark byte (9223372036854775807 - byte))
   row_around byte marked within =
       let upto = end_upto byte (9223372036854775807 - byte) in
       record {
@@ -122,7 +127,8 @@ module _ (m : Marking) (key : Key) (mark : Mark) where
         last = λ below. end_last byte (9223372036854775807 - byte) (omega arith);
       }
     where
-      go : (b : ℕ) → row_start m key mark byte ≤ b → b ≤ row_end m key mark byte (9223372036854775807 - byte) → (t u : Bool) → nat_lt b byte ≡ t → nat_lt byte b ≡ u → get m (key, b) ≡ Some mark
+      go : (b : ℕ) → row_start m key mark byte ≤ b → b ≤ row_end m key mark byte (9223372036854775807 - byte) → (t u : Bool) → nat_lt b byte ≡ t →
+          nat_lt byte b ≡ u → get m (key, b) ≡ Some mark
       go b from upto true u e f = start_each byte b from (is_less b byte e)
       go b from upto false true e f = end_each byte (9223372036854775807 - byte) b (is_less byte b f) upto
       go b from upto false false e f =

@@ -1,5 +1,6 @@
 -- The lock that is named, found among the runs that a marking is kept as.
-use Rattle.std.proofs.Common.{◌≡◌, ◌≢◌, ℕ, ◌+◌, ◌-◌, ◌≤◌, max, Bool, true, false, cond, not, ◌&&◌, ◌||◌, ◌==◌, nat_lt, nat_le, Option, Some, None, option_map, List, [], ◌∷◌, ◌++◌, map, refl, ap, sym, ◌∙◌, subst, arith}
+use Rattle.std.proofs.Common.{◌≡◌, ◌≢◌, ℕ, ◌+◌, ◌-◌, ◌≤◌, max, Bool, true, false, cond, not, ◌&&◌, ◌||◌, ◌==◌, nat_lt, nat_le, Option, Some, None, option_map}
+use Rattle.std.proofs.Common.{List, [], ◌∷◌, ◌++◌, map, refl, ap, sym, ◌∙◌, subst, arith}
 use Rattle.std.proofs.lemmas.Bool.Decides.{nat_tests}
 use Rattle.std.specs.List.{AllByRecursion}
 use Rattle.std.specs.FinMap.{get}
@@ -28,7 +29,8 @@ pub record ExcludingParts (a b n o p q start end from to : ℕ) (x : Bool) : Typ
   pub ends : start ≤ to
   pub write : x ≡ true
 
-pub excluding_parts : (a b n o p q start end from to : ℕ) (x : Bool) → (((a == b) && ((n == o) && not (p == q))) && ((nat_le from end && nat_le start to) && x)) ≡ true → ExcludingParts a b n o p q start end from to x
+pub excluding_parts : (a b n o p q start end from to : ℕ) (x : Bool) →
+    (((a == b) && ((n == o) && not (p == q))) && ((nat_le from end && nat_le start to) && x)) ≡ true → ExcludingParts a b n o p q start end from to x
 excluding_parts a b n o p q start end from to true e = record {
   class = grind (arith, nat_tests);
   node = grind (arith, nat_tests);
@@ -44,7 +46,8 @@ excluding_parts a b n o p q start end from to false e = absurd (none ((a == b) &
     none true false h = absurd (cc h)
     none false c h = absurd (cc h)
 
-pub excluding_all : (a b n o p q start end from to : ℕ) (x : Bool) → a ≡ b → n ≡ o → (p ≢ q) → from ≤ end → start ≤ to → x ≡ true → (((a == b) && ((n == o) && not (p == q))) && ((nat_le from end && nat_le start to) && x)) ≡ true
+pub excluding_all : (a b n o p q start end from to : ℕ) (x : Bool) → a ≡ b → n ≡ o → (p ≢ q) → from ≤ end → start ≤ to → x ≡ true →
+    (((a == b) && ((n == o) && not (p == q))) && ((nat_le from end && nat_le start to) && x)) ≡ true
 excluding_all a b n o p q start end from to true class node other begins ends write = grind (arith, nat_tests)
 excluding_all a b n o p q start end from to false class node other begins ends write = absurd (cc write)
 
@@ -55,7 +58,8 @@ not_nearer_back : (x y p q : ℕ) → (nat_lt x y || ((x == y) && nat_lt p q)) �
 not_nearer_back x y p q e = grind (arith, nat_tests)
 
 -- neither is nearer than the next, so the first isn't nearer than the last
-not_nearer_through : (x y z p q r : ℕ) → (nat_lt x y || ((x == y) && nat_lt p q)) ≡ false → (nat_lt y z || ((y == z) && nat_lt q r)) ≡ false → (nat_lt x z || ((x == z) && nat_lt p r)) ≡ false
+not_nearer_through : (x y z p q r : ℕ) → (nat_lt x y || ((x == y) && nat_lt p q)) ≡ false → (nat_lt y z || ((y == z) && nat_lt q r)) ≡ false →
+    (nat_lt x z || ((x == z) && nat_lt p r)) ≡ false
 not_nearer_through x y z p q r e f = grind (arith, nat_tests)
 
 record NotNearer (x y p q : ℕ) : Type 0 where
@@ -75,7 +79,8 @@ module _ (key : Key) (start end : ℕ) (kind : Kind) where
   -- a run that excludes the lock is on its node
   pub excluding_node : (r : Run) → run_excludes key start end kind r ≡ true → key.node ≡ r.key.node
   excluding_node r excluding =
-      let p = excluding_parts (class_number key.class) (class_number r.key.class) key.node r.key.node key.owner r.key.owner start end r.start r.end (excludes kind r.mark.kind) excluding in
+      let p = excluding_parts (class_number key.class) (class_number r.key.class) key.node r.key.node key.owner r.key.owner start end r.start r.end
+      (excludes kind r.mark.kind) excluding in
       p.node
 
   -- ---- what is found among runs
@@ -88,11 +93,13 @@ module _ (key : Key) (start end : ℕ) (kind : Kind) where
   through r s t e f = not_nearer_through (max r.start start) (max s.start start) (max t.start start) r.key.owner s.key.owner t.key.owner e f
 
   -- where the nearer of two isn't nearer than a third, neither is
-  passed_by : (best : Option Run) (x r : Run) → is_nearer start (nearer_of start best x) r ≡ false → ((b : Run) → best ≡ Some b → is_nearer start b r ≡ false) × (is_nearer start x r ≡ false)
+  passed_by : (best : Option Run) (x r : Run) → is_nearer start (nearer_of start best x) r ≡ false →
+      ((b : Run) → best ≡ Some b → is_nearer start b r ≡ false) × (is_nearer start x r ≡ false)
   passed_by None x r h = (λ b e. absurd (cc e), h)
   passed_by (Some a) x r h = go (is_nearer start x a) refl h
     where
-      go : (c : Bool) → is_nearer start x a ≡ c → is_nearer start (cond c x a) r ≡ false → ((b : Run) → Some a ≡ Some b → is_nearer start b r ≡ false) × (is_nearer start x r ≡ false)
+      go : (c : Bool) → is_nearer start x a ≡ c → is_nearer start (cond c x a) r ≡ false →
+          ((b : Run) → Some a ≡ Some b → is_nearer start b r ≡ false) × (is_nearer start x r ≡ false)
       go true is h =
           let back = not_nearer_back (max x.start start) (max a.start start) x.key.owner a.key.owner is in
           (λ b e. let same : a ≡ b = cc e in subst (λ (y : Run). is_nearer start y r ≡ false) same (through a x r back h), h)
@@ -113,9 +120,11 @@ module _ (key : Key) (start end : ℕ) (kind : Kind) where
           record { than_best = both.0; than_each = (λ h. both.1, n.than_each) }
       go false is n = record { than_best = n.than_best; than_each = (λ h. absurd (cc (sym is ∙ h)), n.than_each) }
 
-  nearest_among : (Q : Run → Type 0) (rs : List Run) (best : Option Run) (r : Run) → ((b : Run) → best ≡ Some b → Q b) → AllByRecursion (λ (s : Run). run_excludes key start end kind s ≡ true → Q s) rs → nearest_from key start end kind best rs ≡ Some r → Q r
+  nearest_among : (Q : Run → Type 0) (rs : List Run) (best : Option Run) (r : Run) → ((b : Run) → best ≡ Some b → Q b) →
+      AllByRecursion (λ (s : Run). run_excludes key start end kind s ≡ true → Q s) rs → nearest_from key start end kind best rs ≡ Some r → Q r
   nearest_among Q [] best r of_best each e = of_best r e
-  nearest_among Q (x ∷ xs) best r of_best each e = nearest_among Q xs (nearest_with key start end kind best x) r (λ b. go (run_excludes key start end kind x) refl b) each.1 e
+  nearest_among Q (x ∷ xs) best r of_best each e =
+      nearest_among Q xs (nearest_with key start end kind best x) r (λ b. go (run_excludes key start end kind x) refl b) each.1 e
     where
       of_nearer : (o : Option Run) → ((b : Run) → o ≡ Some b → Q b) → Q x → Q (nearer_of start o x)
       of_nearer None of_o q = q
@@ -142,11 +151,14 @@ module _ (key : Key) (start end : ℕ) (kind : Kind) where
       go false is n = record { no_best = n.no_best; each = (is, n.each) }
 
   -- runs that don't exclude the lock change nothing
-  pub nearest_past : (rs : List Run) (best : Option Run) → AllByRecursion (λ (s : Run). run_excludes key start end kind s ≡ false) rs → nearest_from key start end kind best rs ≡ best
+  pub nearest_past : (rs : List Run) (best : Option Run) → AllByRecursion (λ (s : Run). run_excludes key start end kind s ≡ false) rs →
+      nearest_from key start end kind best rs ≡ best
   nearest_past [] best each = refl
-  nearest_past (x ∷ xs) best each = ap (λ t. nearest_from key start end kind (cond t (Some (nearer_of start best x)) best) xs) each.0 ∙ nearest_past xs best each.1
+  nearest_past (x ∷ xs) best each =
+      ap (λ t. nearest_from key start end kind (cond t (Some (nearer_of start best x)) best) xs) each.0 ∙ nearest_past xs best each.1
 
-  pub nearest_append : (rs ss : List Run) (best : Option Run) → nearest_from key start end kind best (rs ++ ss) ≡ nearest_from key start end kind (nearest_from key start end kind best rs) ss
+  pub nearest_append : (rs ss : List Run) (best : Option Run) →
+      nearest_from key start end kind best (rs ++ ss) ≡ nearest_from key start end kind (nearest_from key start end kind best rs) ss
   nearest_append [] ss best = refl
   nearest_append (x ∷ xs) ss best = nearest_append xs ss (nearest_with key start end kind best x)
 
@@ -171,14 +183,17 @@ module _ (key : Key) (start end : ℕ) (kind : Kind) where
         record {
           run = h.run;
           found = h.found;
-          excludes = excluding_all (class_number key.class) (class_number h.run.key.class) key.node h.run.key.node key.owner h.run.key.owner start end h.run.start h.run.end (excludes kind h.run.mark.kind)
-              (ap (λ (k : Key). class_number k.class) (sym at.key)) (ap (λ (k : Key). k.node) (sym at.key)) (λ same. x.other (sym owner_is ∙ sym same)) (omega arith) (omega arith)
+          excludes = excluding_all (class_number key.class) (class_number h.run.key.class) key.node h.run.key.node key.owner h.run.key.owner start end
+              h.run.start h.run.end (excludes kind h.run.mark.kind)
+              (ap (λ (k : Key). class_number k.class) (sym at.key)) (ap (λ (k : Key). k.node) (sym at.key)) (λ same. x.other (sym owner_is ∙ sym same))
+              (omega arith) (omega arith)
               (ap (λ (t : Mark). excludes kind t.kind) h.mark_is ∙ x.write);
           owner_is = owner_is;
           from = begins;
         }
 
-    run_row : (r : Run) (byte : ℕ) → r.start ≤ byte → byte ≤ r.end → ((q : Spot) → has_spot q r ≡ true → run_at rs q ≡ Some r) → IsWhole (held_at rs) r → IsRow (marking_of (map meant rs)) r.key r.mark byte r.start r.end
+    run_row : (r : Run) (byte : ℕ) → r.start ≤ byte → byte ≤ r.end → ((q : Spot) → has_spot q r ≡ true → run_at rs q ≡ Some r) → IsWhole (held_at rs) r →
+        IsRow (marking_of (map meant rs)) r.key r.mark byte r.start r.end
     run_row r byte from upto found whole = record {
       from = from;
       upto = upto;
@@ -220,26 +235,34 @@ module _ (key : Key) (start end : ℕ) (kind : Kind) where
 
     each_listed : AllByRecursion (IsListed rs) rs
     each_listed =
-        each_weaker (λ r. ((q : Spot) → has_spot q r ≡ true → run_at rs q ≡ Some r) × ((r.start ≤ r.end) × IsWhole (held_at rs) r)) (IsListed rs) (λ r f. record { found = f.0; ordered = f.1.0; whole = f.1.1 }) rs
-        (each_both (λ r. (q : Spot) → has_spot q r ≡ true → run_at rs q ≡ Some r) (λ r. (r.start ≤ r.end) × IsWhole (held_at rs) r) rs (each_found rs good.apart)
+        each_weaker (λ r. ((q : Spot) → has_spot q r ≡ true → run_at rs q ≡ Some r) × ((r.start ≤ r.end) × IsWhole (held_at rs) r)) (IsListed rs)
+        (λ r f. record { found = f.0; ordered = f.1.0; whole = f.1.1 }) rs
+        (each_both (λ r. (q : Spot) → has_spot q r ≡ true → run_at rs q ≡ Some r) (λ r. (r.start ≤ r.end) × IsWhole (held_at rs) r) rs
+        (each_found rs good.apart)
         (each_both (λ r. r.start ≤ r.end) (IsWhole (held_at rs)) rs (each_ordered rs good.apart) good.whole))
 
     -- no excluder comes before the nearest run
-    none_first : (r : Run) → IsNearest None rs r → (byte owner : ℕ) (mark : Mark) → start ≤ byte → byte ≤ end → IsExcluder (marking_of (map meant rs)) key kind byte owner mark → NotNearer byte (max r.start start) owner r.key.owner
+    none_first : (r : Run) → IsNearest None rs r → (byte owner : ℕ) (mark : Mark) → start ≤ byte → byte ≤ end →
+        IsExcluder (marking_of (map meant rs)) key kind byte owner mark → NotNearer byte (max r.start start) owner r.key.owner
     none_first r near byte owner mark from upto x =
         let on = on_run byte owner mark from upto x in
         let begins = on.from in
         let owner_is = on.owner_is in
-        let test = each_at (λ (s : Run). run_excludes key start end kind s ≡ true → is_nearer start s r ≡ false) rs (has_spot (of_owner key owner, byte)) on.run near.than_each on.found on.excludes in
+        let test = each_at (λ (s : Run). run_excludes key start end kind s ≡ true → is_nearer start s r ≡ false) rs (has_spot (of_owner key owner, byte)) on.run
+        near.than_each on.found on.excludes in
         let n = not_nearer (max on.run.start start) (max r.start start) on.run.key.owner r.key.owner test in
         let place = n.place in
         record { place = omega arith; owner = λ same. let least = n.owner (omega arith) in omega arith }
 
-    named_run : start ≤ end → (r : Run) → nearest_from key start end kind None rs ≡ Some r → IsBlocker (marking_of (map meant rs)) key start end kind (lock_of r)
+    named_run : start ≤ end → (r : Run) → nearest_from key start end kind None rs ≡ Some r →
+        IsBlocker (marking_of (map meant rs)) key start end kind (lock_of r)
     named_run some r e =
-        let listed = nearest_among (IsListed rs) rs None r (λ b is. absurd (cc is)) (each_weaker (IsListed rs) (λ s. run_excludes key start end kind s ≡ true → IsListed rs s) (λ s l h. l) rs each_listed) e in
-        let excluding = nearest_among (λ s. run_excludes key start end kind s ≡ true) rs None r (λ b is. absurd (cc is)) (each_weaker (IsListed rs) (λ s. run_excludes key start end kind s ≡ true → run_excludes key start end kind s ≡ true) (λ s l h. h) rs each_listed) e in
-        let p = excluding_parts (class_number key.class) (class_number r.key.class) key.node r.key.node key.owner r.key.owner start end r.start r.end (excludes kind r.mark.kind) excluding in
+        let listed = nearest_among (IsListed rs) rs None r (λ b is. absurd (cc is))
+        (each_weaker (IsListed rs) (λ s. run_excludes key start end kind s ≡ true → IsListed rs s) (λ s l h. l) rs each_listed) e in
+        let excluding = nearest_among (λ s. run_excludes key start end kind s ≡ true) rs None r (λ b is. absurd (cc is)) (each_weaker (IsListed rs)
+        (λ s. run_excludes key start end kind s ≡ true → run_excludes key start end kind s ≡ true) (λ s l h. h) rs each_listed) e in
+        let p = excluding_parts (class_number key.class) (class_number r.key.class) key.node r.key.node key.owner r.key.owner start end r.start r.end
+        (excludes kind r.mark.kind) excluding in
         let near = nearest_is rs None r e in
         let class : r.key.class ≡ key.class = sym (same_class key.class r.key.class p.class) in
         let node : r.key.node ≡ key.node = sym p.node in
@@ -252,14 +275,20 @@ module _ (key : Key) (start end : ℕ) (kind : Kind) where
           byte = max r.start start;
           from = omega arith;
           upto = omega arith;
-          excluder = record { held = ap (λ (k : Key). get (marking_of (map meant rs)) (k, max r.start start)) (sym holder) ∙ row.each (max r.start start) row.from row.upto; other = λ same. p.other (sym same); write = p.write };
+          excluder = record {
+            held = ap (λ (k : Key). get (marking_of (map meant rs)) (k, max r.start start)) (sym holder)
+                ∙ row.each (max r.start start) row.from row.upto;
+            other = λ same. p.other (sym same);
+            write = p.write;
+          };
           least_byte = λ b owner mark from below x. let n = none_first r near b owner mark from (omega arith) x in let place = n.place in absurd (omega arith);
           least_owner = λ owner mark x. let n = none_first r near (max r.start start) owner mark (omega arith) (omega arith) x in n.owner refl;
           row = subst (λ (k : Key). IsRow (marking_of (map meant rs)) k r.mark (max r.start start) r.start r.end) holder row;
         }
 
     -- the nearest of the runs that exclude the lock is the one that is named
-    pub blocker_of_runs : start ≤ end → end ≤ 9223372036854775807 → option_map lock_of (nearest_from key start end kind None rs) ≡ blocker (marking_of (map meant rs)) key start end kind
+    pub blocker_of_runs : start ≤ end → end ≤ 9223372036854775807 →
+        option_map lock_of (nearest_from key start end kind None rs) ≡ blocker (marking_of (map meant rs)) key start end kind
     blocker_of_runs some within = go (nearest_from key start end kind None rs) refl
       where
         none : NoneExcludes None rs → (o : Option Held) → blocker (marking_of (map meant rs)) key start end kind ≡ o → None ≡ o

@@ -26,7 +26,8 @@ module _ (key : Key) (start end : ℕ) (kind : Kind) where
 
   -- so they change nothing
   past_others : (rs : List Run) (best : Option Run) → AllByRecursion (IsAway (home key.node)) rs → nearest_from key start end kind best rs ≡ best
-  past_others rs best away = nearest_past key start end kind rs best (each_weaker (IsAway (home key.node)) (λ r. run_excludes key start end kind r ≡ false) elsewhere rs away)
+  past_others rs best away =
+      nearest_past key start end kind rs best (each_weaker (IsAway (home key.node)) (λ r. run_excludes key start end kind r ≡ false) elsewhere rs away)
 
   nearest_home : (before own after : List Run) → AllByRecursion (IsAway (home key.node)) before → AllByRecursion (IsAway (home key.node)) after
       → nearest_from key start end kind None (before ++ (own ++ after)) ≡ nearest_from key start end kind None own
@@ -44,7 +45,8 @@ module _ (key : Key) (start end : ℕ) (kind : Kind) where
       let here : home key.node < length a.chains = omega arith in
       ap (option_map lock_of) (sym (
       ap (nearest_from key start end kind None) (all_around a (home key.node) here)
-      ∙ nearest_home (before_chain a (home key.node)) (items a (home key.node)) (after_chain a (home key.node)) (away_before a (home key.node) table.at_home) (away_after a (home key.node) table.at_home)))
+      ∙ nearest_home (before_chain a (home key.node)) (items a (home key.node)) (after_chain a (home key.node)) (away_before a (home key.node) table.at_home)
+      (away_after a (home key.node) table.at_home)))
       ∙ blocker_of_runs key start end kind (all_runs a) table.runs some within
 
   -- the same of what a walk found, in the words of a call

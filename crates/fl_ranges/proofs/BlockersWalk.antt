@@ -1,5 +1,6 @@
 -- The nearest run, on a walk along the runs of a chain.
-use Rattle.std.proofs.Common.{◌≡◌, ℕ, ◌+◌, ◌<◌, ◌≤◌, max, Bool, true, false, cond, ◌&&◌, ◌||◌, ◌==◌, nat_lt, Option, Some, None, List, [], ◌∷◌, drop, slice_get, refl, ap, ◌∙◌, arith}
+use Rattle.std.proofs.Common.{◌≡◌, ℕ, ◌+◌, ◌<◌, ◌≤◌, max, Bool, true, false, cond, ◌&&◌, ◌||◌, ◌==◌, nat_lt, Option, Some, None, List, [], ◌∷◌, drop, slice_get}
+use Rattle.std.proofs.Common.{refl, ap, ◌∙◌, arith}
 use Rattle.std.proofs.lemmas.Bool.Decides.{nat_tests}
 use Rattle.std.specs.List.{AllByRecursion}
 use Rattle.fl_ranges.specs.declared.lock.Key.{Key}
@@ -26,7 +27,8 @@ above a b not = go (nat_lt a b) refl
 
 module _ (key : Key) (start end : ℕ) (kind : Kind) where
   -- past one more run
-  pub nearest_more : (x : Run) (xs : List Run) (i : ℕ) (best : Option Run) → slice_get xs i ≡ Some x → nearest_from key start end kind best (drop i xs) ≡ nearest_from key start end kind (nearest_with key start end kind best x) (drop (i + 1) xs)
+  pub nearest_more : (x : Run) (xs : List Run) (i : ℕ) (best : Option Run) → slice_get xs i ≡ Some x →
+      nearest_from key start end kind best (drop i xs) ≡ nearest_from key start end kind (nearest_with key start end kind best x) (drop (i + 1) xs)
   nearest_more x xs i best found = ap (nearest_from key start end kind best) (drop_here xs i x found)
 
   -- at the end
@@ -38,10 +40,12 @@ module _ (key : Key) (start end : ℕ) (kind : Kind) where
   -- a run that excludes the lock and is past a byte doesn't start before it
   starts_beyond : (byte : ℕ) (s : Run) → is_past key byte s ≡ true → run_excludes key start end kind s ≡ true → (s.start ≤ byte → ⊥) × (s.start ≤ end)
   starts_beyond byte s past is =
-      let p = excluding_parts (class_number key.class) (class_number s.key.class) key.node s.key.node key.owner s.key.owner start end s.start s.end (excludes kind s.mark.kind) is in (
+      let p = excluding_parts (class_number key.class) (class_number s.key.class) key.node s.key.node key.owner s.key.owner start end s.start s.end
+      (excludes kind s.mark.kind) is in (
         λ before. cc (
           past_clash key start byte kind s past,
-          excluding_all (class_number key.class) (class_number s.key.class) key.node s.key.node key.owner s.key.owner start byte s.start s.end (excludes kind s.mark.kind) p.class p.node p.other before p.ends p.write,
+          excluding_all (class_number key.class) (class_number s.key.class) key.node s.key.node key.owner s.key.owner start byte s.start s.end
+              (excludes kind s.mark.kind) p.class p.node p.other before p.ends p.write,
         ),
         p.begins,
       )
@@ -59,10 +63,12 @@ module _ (key : Key) (start end : ℕ) (kind : Kind) where
       go true is = let b = starts_beyond (last_start start end best) s past is in kept best b.0 b.1
       go false is = refl
 
-  stays_from : (rs : List Run) (best : Option Run) → AllByRecursion (λ s. is_past key (last_start start end best) s ≡ true) rs → nearest_from key start end kind best rs ≡ best
+  stays_from : (rs : List Run) (best : Option Run) → AllByRecursion (λ s. is_past key (last_start start end best) s ≡ true) rs →
+      nearest_from key start end kind best rs ≡ best
   stays_from [] best past = refl
   stays_from (r ∷ rs) best past = ap (λ b. nearest_from key start end kind b rs) (stays_with best r past.0) ∙ stays_from rs best past.1
 
   -- at a run that is past
-  pub nearest_stop : (x : Run) (xs : List Run) (i : ℕ) (best : Option Run) → slice_get xs i ≡ Some x → IsSorted xs → is_past key (last_start start end best) x ≡ true → nearest_from key start end kind best (drop i xs) ≡ best
+  pub nearest_stop : (x : Run) (xs : List Run) (i : ℕ) (best : Option Run) → slice_get xs i ≡ Some x → IsSorted xs →
+      is_past key (last_start start end best) x ≡ true → nearest_from key start end kind best (drop i xs) ≡ best
   nearest_stop x xs i best found sorted past = stays_from (drop i xs) best (past_rest key (last_start start end best) xs i x sorted found past)

@@ -1,5 +1,6 @@
 -- All runs as a list, and those of one chain in it.
-use Rattle.std.proofs.Common.{◌≡◌, ◌≢◌, ℕ, zero, suc, ◌+◌, ◌<◌, Bool, true, false, cond, not, ◌||◌, Option, Some, None, List, [], ◌∷◌, ◌++◌, map, length, take, drop, get_or, length-append, append_assoc, refl, ap, sym, ◌∙◌, arith}
+use Rattle.std.proofs.Common.{◌≡◌, ◌≢◌, ℕ, zero, suc, ◌+◌, ◌<◌, Bool, true, false, cond, not, ◌||◌, Option, Some, None, List, [], ◌∷◌, ◌++◌, map, length, take}
+use Rattle.std.proofs.Common.{drop, get_or, length-append, append_assoc, refl, ap, sym, ◌∙◌, arith}
 use Rattle.std.proofs.lemmas.List.{length-map}
 use Rattle.std.proofs.lemmas.List.Sums.{sum_by-cons}
 use Rattle.std.proofs.lemmas.List.Elements.{filter-append}
@@ -44,7 +45,8 @@ before_chain a c = flat (take c a.chains)
 pub after_chain : Chains Run → ℕ → List Run
 after_chain a c = flat (drop (suc c) a.chains)
 
-around : (chains : List (List (Entry Run))) (c : ℕ) → c < length chains → flat chains ≡ flat (take c chains) ++ (items_of (get_or chains c []) ++ flat (drop (suc c) chains))
+around : (chains : List (List (Entry Run))) (c : ℕ) → c < length chains →
+    flat chains ≡ flat (take c chains) ++ (items_of (get_or chains c []) ++ flat (drop (suc c) chains))
 around [] c h = absurd (omega (arith, h))
 around (es ∷ chains) zero h = refl
 around (es ∷ chains) (suc c) h =
@@ -55,7 +57,8 @@ pub all_around : (a : Chains Run) (c : ℕ) → c < length a.chains → all_runs
 unfolding before_chain after_chain
 all_around a c h = around a.chains c h
 
-same_before : (xs ys : List (List (Entry Run))) (c : ℕ) → length xs ≡ length ys → ((d : ℕ) → d < c → get_or xs d [] ≡ get_or ys d []) → flat (take c xs) ≡ flat (take c ys)
+same_before : (xs ys : List (List (Entry Run))) (c : ℕ) → length xs ≡ length ys → ((d : ℕ) → d < c → get_or xs d [] ≡ get_or ys d []) →
+    flat (take c xs) ≡ flat (take c ys)
 same_before [] [] zero len same = refl
 same_before [] [] (suc c) len same = refl
 same_before [] (y ∷ ys) c len same = absurd (omega (arith, len))
@@ -75,7 +78,8 @@ same_all (x ∷ xs) (y ∷ ys) len same =
     let rest = same_all xs ys (omega (arith, len)) (λ d. same (suc d)) in
     λ i. items_of (first i) ++ rest i
 
-same_after : (xs ys : List (List (Entry Run))) (c : ℕ) → length xs ≡ length ys → ((d : ℕ) → c < d → get_or xs d [] ≡ get_or ys d []) → flat (drop (suc c) xs) ≡ flat (drop (suc c) ys)
+same_after : (xs ys : List (List (Entry Run))) (c : ℕ) → length xs ≡ length ys → ((d : ℕ) → c < d → get_or xs d [] ≡ get_or ys d []) →
+    flat (drop (suc c) xs) ≡ flat (drop (suc c) ys)
 same_after [] [] c len same = refl
 same_after [] (y ∷ ys) c len same = absurd (omega (arith, len))
 same_after (x ∷ xs) [] c len same = absurd (omega (arith, len))
@@ -83,12 +87,14 @@ same_after (x ∷ xs) (y ∷ ys) zero len same = same_all xs ys (omega (arith, l
 same_after (x ∷ xs) (y ∷ ys) (suc c) len same = same_after xs ys c (omega (arith, len)) (λ d more. same (suc d) (omega (arith, more)))
 
 -- where one chain has changed, all runs are those of the other chains around its own
-pub all_swapped : (a b : Chains Run) (c : ℕ) → c < length a.chains → HasSizeOf a b → ((d : ℕ) → d ≢ c → entries b d ≡ entries a d) → all_runs b ≡ before_chain a c ++ (items b c ++ after_chain a c)
+pub all_swapped : (a b : Chains Run) (c : ℕ) → c < length a.chains → HasSizeOf a b → ((d : ℕ) → d ≢ c → entries b d ≡ entries a d) →
+    all_runs b ≡ before_chain a c ++ (items b c ++ after_chain a c)
 unfolding before_chain after_chain
 all_swapped a b c h size others =
     let len : length b.chains ≡ length a.chains = size.chains in
     around b.chains c (omega (arith, h, len))
-    ∙ (λ i. same_before b.chains a.chains c len (λ d less. others d (λ e. omega (arith, less, e))) i ++ (items b c ++ same_after b.chains a.chains c len (λ d more. others d (λ e. omega (arith, more, e))) i))
+    ∙ (λ i. same_before b.chains a.chains c len (λ d less. others d (λ e. omega (arith, less, e))) i
+    ++ (items b c ++ same_after b.chains a.chains c len (λ d more. others d (λ e. omega (arith, more, e))) i))
 
 -- ---- the runs of other chains
 
@@ -96,17 +102,20 @@ pub each_append : (P : Run → Type 0) (xs ys : List Run) → AllByRecursion P x
 each_append P [] ys a b = b
 each_append P (x ∷ xs) ys a b = (a.0, each_append P xs ys a.1 b)
 
-each_before : (P : Run → Type 0) (chains : List (List (Entry Run))) (c : ℕ) → ((d : ℕ) → d < c → AllByRecursion P (items_of (get_or chains d []))) → AllByRecursion P (flat (take c chains))
+each_before : (P : Run → Type 0) (chains : List (List (Entry Run))) (c : ℕ) → ((d : ℕ) → d < c → AllByRecursion P (items_of (get_or chains d []))) →
+    AllByRecursion P (flat (take c chains))
 each_before P [] zero each = tt
 each_before P [] (suc c) each = tt
 each_before P (x ∷ xs) zero each = tt
-each_before P (x ∷ xs) (suc c) each = each_append P (items_of x) (flat (take c xs)) (each 0 (omega arith)) (each_before P xs c (λ d less. each (suc d) (omega (arith, less))))
+each_before P (x ∷ xs) (suc c) each =
+    each_append P (items_of x) (flat (take c xs)) (each 0 (omega arith)) (each_before P xs c (λ d less. each (suc d) (omega (arith, less))))
 
 each_all : (P : Run → Type 0) (chains : List (List (Entry Run))) → ((d : ℕ) → AllByRecursion P (items_of (get_or chains d []))) → AllByRecursion P (flat chains)
 each_all P [] each = tt
 each_all P (x ∷ xs) each = each_append P (items_of x) (flat xs) (each 0) (each_all P xs (λ d. each (suc d)))
 
-each_after : (P : Run → Type 0) (chains : List (List (Entry Run))) (c : ℕ) → ((d : ℕ) → c < d → AllByRecursion P (items_of (get_or chains d []))) → AllByRecursion P (flat (drop (suc c) chains))
+each_after : (P : Run → Type 0) (chains : List (List (Entry Run))) (c : ℕ) → ((d : ℕ) → c < d → AllByRecursion P (items_of (get_or chains d []))) →
+    AllByRecursion P (flat (drop (suc c) chains))
 each_after P [] c each = tt
 each_after P (x ∷ xs) zero each = each_all P xs (λ d. each (suc d) (omega arith))
 each_after P (x ∷ xs) (suc c) each = each_after P xs c (λ d more. each (suc d) (omega (arith, more)))
@@ -142,7 +151,8 @@ any_away t (r ∷ rs) each = ap (λ b. b || list_any t rs) each.0 ∙ any_away t
 
 pub filter_away : (t : Run → Bool) (rs : List Run) → AllByRecursion (λ r. t r ≡ false) rs → filter (λ r. not (t r)) rs ≡ rs
 filter_away t [] each = refl
-filter_away t (r ∷ rs) each = ap (λ b. cond (not b) (r ∷ filter (λ r. not (t r)) rs) (filter (λ r. not (t r)) rs)) each.0 ∙ ap (λ (l : List Run). r ∷ l) (filter_away t rs each.1)
+filter_away t (r ∷ rs) each =
+    ap (λ b. cond (not b) (r ∷ filter (λ r. not (t r)) rs) (filter (λ r. not (t r)) rs)) each.0 ∙ ap (λ (l : List Run). r ∷ l) (filter_away t rs each.1)
 
 none_after : {A : Type 0} (o : Option A) → option_or o None ≡ o
 none_after None = refl
@@ -178,17 +188,23 @@ module _ (t : Run → Bool) (xs ys zs : List Run) (first : AllByRecursion (λ r.
 
 -- tests of a key's runs fail at the runs of other chains
 pub no_spot : (c : ℕ) (q : Spot) → home q.0.node ≡ c → (rs : List Run) → AllByRecursion (IsAway c) rs → AllByRecursion (λ r. has_spot q r ≡ false) rs
-no_spot c q own rs each = each_weaker (IsAway c) (λ r. has_spot q r ≡ false) (λ r far. only_false _ (λ is. let at = at_spot r q is in far (ap (λ (k : Key). home k.node) at.key ∙ own))) rs each
+no_spot c q own rs each =
+    each_weaker (IsAway c) (λ r. has_spot q r ≡ false)
+    (λ r far. only_false _ (λ is. let at = at_spot r q is in far (ap (λ (k : Key). home k.node) at.key ∙ own))) rs each
 
-pub no_overlap : (c : ℕ) (key : Key) (start end : ℕ) → home key.node ≡ c → (rs : List Run) → AllByRecursion (IsAway c) rs → AllByRecursion (λ r. overlaps key start end r ≡ false) rs
-no_overlap c key start end own rs each = each_weaker (IsAway c) (λ r. overlaps key start end r ≡ false) (λ r far. only_false _ (λ is. let o = over key start end r is in far (ap (λ (k : Key). home k.node) o.key_is ∙ own))) rs each
+pub no_overlap : (c : ℕ) (key : Key) (start end : ℕ) → home key.node ≡ c → (rs : List Run) → AllByRecursion (IsAway c) rs →
+    AllByRecursion (λ r. overlaps key start end r ≡ false) rs
+no_overlap c key start end own rs each =
+    each_weaker (IsAway c) (λ r. overlaps key start end r ≡ false)
+    (λ r far. only_false _ (λ is. let o = over key start end r is in far (ap (λ (k : Key). home k.node) o.key_is ∙ own))) rs each
 
 -- the runs that pass a test and those that fail it are all
 pub both_parts : (t : Run → Bool) (rs : List Run) → length (filter t rs) + length (filter (λ r. not (t r)) rs) ≡ length rs
 both_parts t [] = refl
 both_parts t (r ∷ rs) = go (t r) (both_parts t rs)
   where
-    go : (b : Bool) → length (filter t rs) + length (filter (λ r. not (t r)) rs) ≡ length rs → length (cond b (r ∷ filter t rs) (filter t rs)) + length (cond (not b) (r ∷ filter (λ r. not (t r)) rs) (filter (λ r. not (t r)) rs)) ≡ suc (length rs)
+    go : (b : Bool) → length (filter t rs) + length (filter (λ r. not (t r)) rs) ≡ length rs →
+        length (cond b (r ∷ filter t rs) (filter t rs)) + length (cond (not b) (r ∷ filter (λ r. not (t r)) rs) (filter (λ r. not (t r)) rs)) ≡ suc (length rs)
     go true rest = omega (arith, rest)
     go false rest = omega (arith, rest)
 
@@ -201,14 +217,18 @@ pub lengths : (xs ys zs : List Run) → length (xs ++ (ys ++ zs)) ≡ length xs 
 lengths xs ys zs = length-append xs (ys ++ zs) ∙ ap (λ (n : ℕ). length xs + n) (length-append ys zs)
 
 -- all runs grow and shrink as those of the chain that has changed
-pub swapped_length : (a b : Chains Run) (c : ℕ) → c < length a.chains → HasSizeOf a b → ((d : ℕ) → d ≢ c → entries b d ≡ entries a d) → length (all_runs b) + length (items a c) ≡ length (all_runs a) + length (items b c)
+pub swapped_length : (a b : Chains Run) (c : ℕ) → c < length a.chains → HasSizeOf a b → ((d : ℕ) → d ≢ c → entries b d ≡ entries a d) →
+    length (all_runs b) + length (items a c) ≡ length (all_runs a) + length (items b c)
 swapped_length a b c h size others =
-    let was : length (all_runs a) ≡ length (before_chain a c) + (length (items a c) + length (after_chain a c)) = ap length (all_around a c h) ∙ lengths (before_chain a c) (items a c) (after_chain a c) in
-    let is : length (all_runs b) ≡ length (before_chain a c) + (length (items b c) + length (after_chain a c)) = ap length (all_swapped a b c h size others) ∙ lengths (before_chain a c) (items b c) (after_chain a c) in
+    let was : length (all_runs a) ≡ length (before_chain a c) + (length (items a c) + length (after_chain a c)) =
+    ap length (all_around a c h) ∙ lengths (before_chain a c) (items a c) (after_chain a c) in
+    let is : length (all_runs b) ≡ length (before_chain a c) + (length (items b c) + length (after_chain a c)) =
+    ap length (all_swapped a b c h size others) ∙ lengths (before_chain a c) (items b c) (after_chain a c) in
     omega (arith, was, is)
 
 -- without the runs of a key over a range there are so many fewer
-pub fewer_runs : (a b : Chains Run) (key : Key) (start end : ℕ) → length a.chains ≡ 256 → HasSizeOf a b → ((d : ℕ) → d ≢ home key.node → entries b d ≡ entries a d) → items b (home key.node) ≡ left_over key start end (items a (home key.node))
+pub fewer_runs : (a b : Chains Run) (key : Key) (start end : ℕ) → length a.chains ≡ 256 → HasSizeOf a b →
+    ((d : ℕ) → d ≢ home key.node → entries b d ≡ entries a d) → items b (home key.node) ≡ left_over key start end (items a (home key.node))
     → length (all_runs b) + length (filter (overlaps key start end) (items a (home key.node))) ≡ length (all_runs a)
 fewer_runs a b key start end chains size others is =
     let less = home_less key.node in

@@ -107,7 +107,8 @@ module _ (by : ℕ → Bool) (key : Key) (start end : ℕ) (kind : Kind) where
   abbrev excludes_so : Run → Bool
   excludes_so r = by r.key.owner && run_excludes key start end kind r
 
-  run_shows : (rs : List Run) (r : Run) (byte : ℕ) → run_at rs (r.key, byte) ≡ Some r → by r.key.owner ≡ true → are_rivals key r.key ≡ true → excludes kind r.mark.kind ≡ true → start ≤ byte → byte ≤ end → list_any spot_excludes (entries (marking_of (map meant rs))) ≡ true
+  run_shows : (rs : List Run) (r : Run) (byte : ℕ) → run_at rs (r.key, byte) ≡ Some r → by r.key.owner ≡ true → are_rivals key r.key ≡ true →
+      excludes kind r.mark.kind ≡ true → start ≤ byte → byte ≤ end → list_any spot_excludes (entries (marking_of (map meant rs))) ≡ true
   run_shows rs r byte found own rivals kinds from upto =
       entry_passes spots_total exact_spots spot_excludes (marking_of (map meant rs)) (r.key, byte) r.mark
       (get-runs rs (r.key, byte) ∙ held_of rs (r.key, byte) r found)
@@ -121,14 +122,16 @@ module _ (by : ℕ → Bool) (key : Key) (start end : ℕ) (kind : Kind) where
       (each_both (λ r. r.start ≤ r.end) (λ r. (q : Spot) → has_spot q r ≡ true → run_at rs q ≡ Some r) rs (each_ordered rs apart) (each_found rs apart)) any in
       let w = passes (are_rivals key p.run.key) (excludes kind p.run.mark.kind) p.run.start p.run.end start end (second_passes (by p.run.key.owner) _ p.test) in
       let b = shared p.run.start p.run.end start end p.own.0 range w.begins w.ends in
-      run_shows rs p.run b.byte (p.own.1 (p.run.key, b.byte) (spot_of p.run (p.run.key, b.byte) refl b.after_from b.before_to)) (first_passes (by p.run.key.owner) _ p.test) w.rivals w.kinds b.after_start b.before_end)
+      run_shows rs p.run b.byte (p.own.1 (p.run.key, b.byte) (spot_of p.run (p.run.key, b.byte) refl b.after_from b.before_to))
+      (first_passes (by p.run.key.owner) _ p.test) w.rivals w.kinds b.after_start b.before_end)
       (λ any.
       let e = any_entry spots_total spot_excludes (marking_of (map meant rs)) any in
       let h = held_by rs e.0 e.1 (sym (get-runs rs e.0) ∙ e.2) in
       let at = at_spot h.run e.0 (run_has rs e.0 h.run h.found) in
       let t = passes (are_rivals key e.0.0) (excludes kind e.1.kind) start end e.0.1 e.0.1 (second_passes (by e.0.0.owner) _ e.3) in
       any_of_found excludes_so (has_spot e.0) rs h.run h.found
-      (both_pass _ _ (ap (λ (k : Key). by k.owner) at.key ∙ first_passes (by e.0.0.owner) _ e.3) (all_pass (are_rivals key h.run.key) (excludes kind h.run.mark.kind) h.run.start h.run.end start end
+      (both_pass _ _ (ap (λ (k : Key). by k.owner) at.key ∙ first_passes (by e.0.0.owner) _ e.3)
+      (all_pass (are_rivals key h.run.key) (excludes kind h.run.mark.kind) h.run.start h.run.end start end
       (ap (are_rivals key) at.key ∙ t.rivals)
       (ap (λ (m : Mark). excludes kind m.kind) h.mark_is ∙ t.kinds)
       (omega (arith, at.from, t.ends))
@@ -149,10 +152,12 @@ module _ (by : ℕ → Bool) (key : Key) (start end : ℕ) (kind : Kind) where
   no_clash : (rs : List Run) → AllByRecursion (IsAway (home key.node)) rs → AllByRecursion (λ r. excludes_so r ≡ false) rs
   no_clash rs each = each_weaker (IsAway (home key.node)) (λ r. excludes_so r ≡ false) (λ r far. only_false _ (λ is.
       let w = passes (are_rivals key r.key) (excludes kind r.mark.kind) r.start r.end start end (second_passes (by r.key.owner) _ is) in
-      far (ap home (sym (same_number key.node r.key.node (rival_node (class_number key.class == class_number r.key.class) (key.node == r.key.node) (not (key.owner == r.key.owner)) w.rivals)))))) rs each
+      far (ap home (sym (same_number key.node r.key.node (rival_node (class_number key.class == class_number r.key.class) (key.node == r.key.node)
+      (not (key.owner == r.key.owner)) w.rivals)))))) rs each
 
   -- and so does the chain of the node
-  pub table_conflict : (a : Chains Run) (limit : ℕ) (t : IsTable a limit) → start ≤ end → list_any excludes_so (items a (home key.node)) ≡ list_any spot_excludes (entries (marking_of (map meant (all_runs a))))
+  pub table_conflict : (a : Chains Run) (limit : ℕ) (t : IsTable a limit) → start ≤ end →
+      list_any excludes_so (items a (home key.node)) ≡ list_any spot_excludes (entries (marking_of (map meant (all_runs a))))
   table_conflict a limit t range =
       let good = t.runs in
       sym (ap (list_any excludes_so) (all_around a (home key.node) (within a limit t key))

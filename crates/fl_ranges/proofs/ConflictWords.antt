@@ -25,7 +25,8 @@ pub record Parts (a b n o p q start byte end : ℕ) (x : Bool) : Type 0 where
   pub upto : byte ≤ end
   pub write : x ≡ true
 
-pub parts : (a b n o p q start byte end : ℕ) (x : Bool) → (((a == b) && ((n == o) && not (p == q))) && ((nat_le start byte && nat_le byte end) && x)) ≡ true → Parts a b n o p q start byte end x
+pub parts : (a b n o p q start byte end : ℕ) (x : Bool) → (((a == b) && ((n == o) && not (p == q))) && ((nat_le start byte && nat_le byte end) && x)) ≡ true →
+    Parts a b n o p q start byte end x
 parts a b n o p q start byte end true e = record {
   class = grind (arith, nat_tests);
   node = grind (arith, nat_tests);
@@ -50,7 +51,8 @@ pub conflict_words : (m : Marking) (key : Key) (start end : ℕ) (kind : Kind) �
 conflict_words m key start end kind = (
   λ h.
       let e = any_entry spots_total (excludes_lock key start end kind) m h in
-      let t = parts (class_number key.class) (class_number e.0.0.class) key.node e.0.0.node key.owner e.0.0.owner start e.0.1 end (excludes kind e.1.kind) e.3 in
+      let t = parts (class_number key.class) (class_number e.0.0.class) key.node e.0.0.node key.owner e.0.0.owner start e.0.1 end (excludes kind e.1.kind)
+      e.3 in
       record {
         rival = e.0.0;
         byte = e.0.1;
@@ -65,6 +67,7 @@ conflict_words m key start end kind = (
       },
   λ c.
       entry_passes spots_total exact_spots (excludes_lock key start end kind) m (c.rival, c.byte) c.mark c.held
-      (all_parts (class_number key.class) (class_number c.rival.class) key.node c.rival.node key.owner c.rival.owner start c.byte end (excludes kind c.mark.kind)
+      (all_parts (class_number key.class) (class_number c.rival.class) key.node c.rival.node key.owner c.rival.owner start c.byte end
+      (excludes kind c.mark.kind)
       (ap class_number (sym c.class)) (sym c.node) (λ same. c.other (sym same)) c.from c.upto c.write),
 )

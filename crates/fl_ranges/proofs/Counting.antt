@@ -1,5 +1,6 @@
 -- The number of runs of a marking is the length of a list of runs that means it.
-use Rattle.std.proofs.Common.{◌≡◌, ◌-◌, ◌<◌, ◌≤◌, Bool, true, false, cond, ◌||◌, nat_lt, Option, Some, None, List, [], ◌∷◌, map, length, refl, ap, sym, ◌∙◌, subst, arith}
+use Rattle.std.proofs.Common.{◌≡◌, ◌-◌, ◌<◌, ◌≤◌, Bool, true, false, cond, ◌||◌, nat_lt, Option, Some, None, List, [], ◌∷◌, map, length, refl, ap, sym, ◌∙◌}
+use Rattle.std.proofs.Common.{subst, arith}
 use Rattle.std.proofs.lemmas.Bool.Decides.{nat_tests}
 use Rattle.std.proofs.lemmas.List.{length-map}
 use Rattle.std.proofs.lemmas.Map.Made.{is_member-Decides}
@@ -50,11 +51,13 @@ unfolding IsDistinct
 distinct_starts [] apart = tt
 distinct_starts (r ∷ rs) apart = (unstarted (start_of r) rs apart.2 (apart.1 (start_of r) (has_start r (start_of r) apart.0 refl)), distinct_starts rs apart.2)
 
-started : (P : Spot → Type 0) (rs : List Run) → AllByRecursion (λ r. P (start_of r)) rs → (q : Spot) → is_member (eq_by_cmp spot_cmp) (map start_of rs) q ≡ true → P q
+started : (P : Spot → Type 0) (rs : List Run) → AllByRecursion (λ r. P (start_of r)) rs → (q : Spot) →
+    is_member (eq_by_cmp spot_cmp) (map start_of rs) q ≡ true → P q
 started P [] all q e = absurd (cc e)
 started P (r ∷ rs) all q e = go (started P rs all.1 q) (eq_by_cmp spot_cmp q (start_of r)) refl e
   where
-    go : (is_member (eq_by_cmp spot_cmp) (map start_of rs) q ≡ true → P q) → (b : Bool) → eq_by_cmp spot_cmp q (start_of r) ≡ b → (b || is_member (eq_by_cmp spot_cmp) (map start_of rs) q) ≡ true → P q
+    go : (is_member (eq_by_cmp spot_cmp) (map start_of rs) q ≡ true → P q) → (b : Bool) → eq_by_cmp spot_cmp q (start_of r) ≡ b →
+        (b || is_member (eq_by_cmp spot_cmp) (map start_of rs) q) ≡ true → P q
     go rest true is h = subst P (sym (same_spot q (start_of r) is)) all.0
     go rest false is h = rest h
 
@@ -70,7 +73,8 @@ all_started : (rs : List Run) → AllByRecursion (λ r. is_member (eq_by_cmp spo
 all_started [] = tt
 all_started (r ∷ rs) = (
   or_first _ _ (spot_itself (start_of r)),
-  each_weaker (λ x. is_member (eq_by_cmp spot_cmp) (map start_of rs) (start_of x) ≡ true) (λ x. is_member (eq_by_cmp spot_cmp) (map start_of (r ∷ rs)) (start_of x) ≡ true)
+  each_weaker (λ x. is_member (eq_by_cmp spot_cmp) (map start_of rs) (start_of x) ≡ true)
+      (λ x. is_member (eq_by_cmp spot_cmp) (map start_of (r ∷ rs)) (start_of x) ≡ true)
       (λ x h. or_later _ _ h) rs (all_started rs),
 )
 
@@ -91,7 +95,8 @@ pub held_of : (rs : List Run) (q : Spot) (r : Run) → run_at rs q ≡ Some r �
 held_of rs q r e = ap (option_map (λ (x : Run). x.mark)) e
 
 module _ (rs : List Run) (good : AreRuns rs) where
-  is_start : (r : Run) → (r.start ≤ r.end) × ((q : Spot) → has_spot q r ≡ true → run_at rs q ≡ Some r) → IsWhole (held_at rs) r → IsStart (marking_of (map meant rs)) (start_of r)
+  is_start : (r : Run) → (r.start ≤ r.end) × ((q : Spot) → has_spot q r ≡ true → run_at rs q ≡ Some r) → IsWhole (held_at rs) r →
+      IsStart (marking_of (map meant rs)) (start_of r)
   unfolding start_of
   is_start r own whole = record {
     mark = r.mark;
@@ -101,10 +106,12 @@ module _ (rs : List Run) (good : AreRuns rs) where
 
   starts_are : AllByRecursion (λ r. IsStart (marking_of (map meant rs)) (start_of r)) rs
   starts_are =
-      each_weaker (λ r. ((r.start ≤ r.end) × ((q : Spot) → has_spot q r ≡ true → run_at rs q ≡ Some r)) × IsWhole (held_at rs) r) (λ r. IsStart (marking_of (map meant rs)) (start_of r))
+      each_weaker (λ r. ((r.start ≤ r.end) × ((q : Spot) → has_spot q r ≡ true → run_at rs q ≡ Some r)) × IsWhole (held_at rs) r)
+      (λ r. IsStart (marking_of (map meant rs)) (start_of r))
       (λ r h. is_start r h.0 h.1) rs
       (each_both (λ r. (r.start ≤ r.end) × ((q : Spot) → has_spot q r ≡ true → run_at rs q ≡ Some r)) (IsWhole (held_at rs)) rs
-      (each_both (λ r. r.start ≤ r.end) (λ r. (q : Spot) → has_spot q r ≡ true → run_at rs q ≡ Some r) rs (each_ordered rs good.apart) (each_found rs good.apart)) good.whole)
+      (each_both (λ r. r.start ≤ r.end) (λ r. (q : Spot) → has_spot q r ≡ true → run_at rs q ≡ Some r) rs (each_ordered rs good.apart)
+      (each_found rs good.apart)) good.whole)
 
   -- a start is where a run of the list starts
   start_listed : (q : Spot) → IsStart (marking_of (map meant rs)) q → is_member (eq_by_cmp spot_cmp) (map start_of rs) q ≡ true

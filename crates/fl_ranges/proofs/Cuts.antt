@@ -1,5 +1,6 @@
 -- Runs once a key has lost a range of bytes, or has got a mark there.
-use Rattle.std.proofs.Common.{◌≡◌, ◌≢◌, ℕ, ◌+◌, ◌-◌, ◌<◌, ◌≤◌, Bool, true, false, cond, not, ◌&&◌, nat_lt, nat_le, Option, Some, None, List, refl, ap, sym, ◌∙◌, subst, arith}
+use Rattle.std.proofs.Common.{◌≡◌, ◌≢◌, ℕ, ◌+◌, ◌-◌, ◌<◌, ◌≤◌, Bool, true, false, cond, not, ◌&&◌, nat_lt, nat_le, Option, Some, None, List, refl, ap, sym, ◌∙◌}
+use Rattle.std.proofs.Common.{subst, arith}
 use Rattle.std.proofs.lemmas.Bool.Decides.{nat_tests}
 use Rattle.std.specs.List.{AllByRecursion}
 use Rattle.std.specs.Option.{option_map}
@@ -10,16 +11,19 @@ use Rattle.fl_ranges.specs.declared.run.Run.{Run}
 use Rattle.fl_ranges.specs.Marking.{key_cmp, Spot}
 use Rattle.fl_ranges.specs.Inside.RunList.{has_spot, run_at, held_at, AreApart, IsWhole, AreRuns, overlaps, part_before, part_after, with_run, left_over, cut}
 use Rattle.fl_ranges.proofs.Spots.{same_key, key_itself, within, is_within}
-use Rattle.fl_ranges.proofs.RunLists.{at_spot, spot_of, over, overlapping, each_at, each_filter, each_weaker, each_both, run_has, same_run, each_found, each_ordered, keep, run_at-filter, apart-filter}
+use Rattle.fl_ranges.proofs.RunLists.{at_spot, spot_of, over, overlapping, each_at, each_filter, each_weaker, each_both, run_has, same_run, each_found}
+use Rattle.fl_ranges.proofs.RunLists.{each_ordered, keep, run_at-filter, apart-filter}
 use Rattle.fl_ranges.proofs.Counting.{held_of}
 
 -- ---- one run more, where there is one
 
-pub apart_with : (o : Option Run) (rs : List Run) → AreApart rs → ((p : Run) → o ≡ Some p → (p.start ≤ p.end) × ((q : Spot) → has_spot q p ≡ true → run_at rs q ≡ None)) → AreApart (with_run o rs)
+pub apart_with : (o : Option Run) (rs : List Run) → AreApart rs →
+    ((p : Run) → o ≡ Some p → (p.start ≤ p.end) × ((q : Spot) → has_spot q p ≡ true → run_at rs q ≡ None)) → AreApart (with_run o rs)
 apart_with None rs apart own = apart
 apart_with (Some p) rs apart own = ((own p refl).0, (own p refl).1, apart)
 
-pub none_with : (o : Option Run) (rs : List Run) (q : Spot) → ((p : Run) → o ≡ Some p → has_spot q p ≡ true → ⊥) → run_at rs q ≡ None → run_at (with_run o rs) q ≡ None
+pub none_with : (o : Option Run) (rs : List Run) (q : Spot) → ((p : Run) → o ≡ Some p → has_spot q p ≡ true → ⊥) → run_at rs q ≡ None →
+    run_at (with_run o rs) q ≡ None
 none_with None rs q none rest = rest
 none_with (Some p) rs q none rest = go (has_spot q p) refl
   where
@@ -27,7 +31,8 @@ none_with (Some p) rs q none rest = go (has_spot q p) refl
     go true is = absurd (none p refl is)
     go false is = rest
 
-pub held_with : (o : Option Run) (rs : List Run) (q : Spot) (h : Option Mark) → ((p : Run) → o ≡ Some p → has_spot q p ≡ true → Some p.mark ≡ h) → (((p : Run) → o ≡ Some p → has_spot q p ≡ true → ⊥) → held_at rs q ≡ h) → held_at (with_run o rs) q ≡ h
+pub held_with : (o : Option Run) (rs : List Run) (q : Spot) (h : Option Mark) → ((p : Run) → o ≡ Some p → has_spot q p ≡ true → Some p.mark ≡ h) →
+    (((p : Run) → o ≡ Some p → has_spot q p ≡ true → ⊥) → held_at rs q ≡ h) → held_at (with_run o rs) q ≡ h
 held_with None rs q h own rest = rest (λ p is has. absurd (cc is))
 held_with (Some p) rs q h own rest = go (has_spot q p) refl
   where
@@ -150,10 +155,14 @@ module _ (rs : List Run) (good : AreRuns rs) (key : Key) (start end : ℕ) (orde
 
   -- a spot of a run that was taken out, and of one that was left
   none_left : (q : Spot) (r : Run) → run_at rs q ≡ Some r → overlaps key start end r ≡ true → run_at (left_over key start end rs) q ≡ None
-  none_left q r found is = run_at-filter (λ r. not (overlaps key start end r)) rs good.apart q ∙ ap (keep (λ r. not (overlaps key start end r))) found ∙ ap (λ b. cond (not b) (Some r) None) is
+  none_left q r found is =
+      run_at-filter (λ r. not (overlaps key start end r)) rs good.apart q ∙ ap (keep (λ r. not (overlaps key start end r))) found
+      ∙ ap (λ b. cond (not b) (Some r) None) is
 
   still_left : (q : Spot) (r : Run) → run_at rs q ≡ Some r → overlaps key start end r ≡ false → run_at (left_over key start end rs) q ≡ Some r
-  still_left q r found is = run_at-filter (λ r. not (overlaps key start end r)) rs good.apart q ∙ ap (keep (λ r. not (overlaps key start end r))) found ∙ ap (λ b. cond (not b) (Some r) None) is
+  still_left q r found is =
+      run_at-filter (λ r. not (overlaps key start end r)) rs good.apart q ∙ ap (keep (λ r. not (overlaps key start end r))) found
+      ∙ ap (λ b. cond (not b) (Some r) None) is
 
   never_left : (q : Spot) → run_at rs q ≡ None → run_at (left_over key start end rs) q ≡ None
   never_left q none = run_at-filter (λ r. not (overlaps key start end r)) rs good.apart q ∙ ap (keep (λ r. not (overlaps key start end r))) none
@@ -163,7 +172,8 @@ module _ (rs : List Run) (good : AreRuns rs) (key : Key) (start end : ℕ) (orde
 
   apart_rest : AreApart rest
   unfolding rest
-  apart_rest = apart_with (part_after end (run_at rs (key, end))) (left_over key start end rs) (apart-filter (λ r. not (overlaps key start end r)) rs good.apart) (λ p e.
+  apart_rest = apart_with (part_after end (run_at rs (key, end))) (left_over key start end rs)
+      (apart-filter (λ r. not (overlaps key start end r)) rs good.apart) (λ p e.
       let a = after_is end (run_at rs (key, end)) p e in (
         subst (λ (x : Run). x.start ≤ x.end) (sym a.part) (omega (arith, a.more)),
         λ q has. let o = (after_spot p e q has).0 in none_left q o.run o.found o.over,
@@ -197,7 +207,8 @@ module _ (rs : List Run) (good : AreRuns rs) (key : Key) (start end : ℕ) (orde
       go (Some r) e =
           let w = within (eq_by_cmp key_cmp key q.0) start q.1 end is in
           let at = at_spot r q (run_has rs q r e) in
-          none_left q r e (overlapping key start end r (at.key ∙ sym (same_key key q.0 w.same)) (omega (arith, at.from, w.upto)) (omega (arith, at.upto, w.from)))
+          none_left q r e (overlapping key start end r (at.key ∙ sym (same_key key q.0 w.same)) (omega (arith, at.from, w.upto))
+          (omega (arith, at.upto, w.from)))
 
   -- and every other spot has what it had
   pub cut_outside : (q : Spot) → inside key start end q ≡ false → held_at (cut key start end rs) q ≡ held_at rs q
@@ -209,7 +220,8 @@ module _ (rs : List Run) (good : AreRuns rs) (key : Key) (start end : ℕ) (orde
       (λ p e has. let a = (after_spot p e q has).0 in sym (held_of rs q a.run a.found ∙ ap Some a.mark_is))
       (λ none_after. ap (option_map (λ (r : Run). r.mark)) (go none_before none_after (run_at rs q) refl)))
     where
-      go : ((p : Run) → part_before start (run_at rs (key, start)) ≡ Some p → has_spot q p ≡ true → ⊥) → ((p : Run) → part_after end (run_at rs (key, end)) ≡ Some p → has_spot q p ≡ true → ⊥)
+      go : ((p : Run) → part_before start (run_at rs (key, start)) ≡ Some p → has_spot q p ≡ true → ⊥) →
+          ((p : Run) → part_after end (run_at rs (key, end)) ≡ Some p → has_spot q p ≡ true → ⊥)
           → (o : Option Run) → run_at rs q ≡ o → run_at (left_over key start end rs) q ≡ run_at rs q
       go none_before none_after None e = never_left q e ∙ sym e
       go none_before none_after (Some r) e = either (overlaps key start end r) refl
@@ -235,17 +247,21 @@ module _ (rs : List Run) (good : AreRuns rs) (key : Key) (start end : ℕ) (orde
               let o = over key start end r is in
               let at = at_spot r q (run_has rs q r e) in
               let same : key ≡ q.0 = sym o.key_is ∙ at.key in
-              outside_range (eq_by_cmp key_cmp key q.0) start q.1 end out (ap (eq_by_cmp key_cmp key) (sym same) ∙ key_itself key) (grind (arith, nat_tests)) (grind (arith, nat_tests))
+              outside_range (eq_by_cmp key_cmp key q.0) start q.1 end out (ap (eq_by_cmp key_cmp key) (sym same) ∙ key_itself key) (grind (arith, nat_tests))
+              (grind (arith, nat_tests))
 
           either : (b : Bool) → overlaps key start end r ≡ b → run_at (left_over key start end rs) q ≡ run_at rs q
           either true is = absurd (at_edges is (nat_lt q.1 start) (nat_lt end q.1) refl refl)
           either false is = still_left q r e is ∙ sym e
 
   -- each run of these is whole under marks that agree with the old ones outside the range, and have the new mark in it
-  module _ (mark : Option Mark) (held : Spot → Option Mark) (in_range : (q : Spot) → inside key start end q ≡ true → held q ≡ mark) (outside : (q : Spot) → inside key start end q ≡ false → held q ≡ held_at rs q)
+  module _ (mark : Option Mark) (held : Spot → Option Mark) (in_range : (q : Spot) → inside key start end q ≡ true → held q ≡ mark)
+      (outside : (q : Spot) → inside key start end q ≡ false → held q ≡ held_at rs q)
       (edge : (y : Mark) → mark ≡ Some y → held_at rs (key, end + 1) ≢ Some y) where
-    whole_left : (r : Run) → overlaps key start end r ≡ false → r.start ≤ r.end → ((q : Spot) → has_spot q r ≡ true → run_at rs q ≡ Some r) → IsWhole (held_at rs) r → IsWhole held r
-    whole_left r apart own found whole = record { in_range = whole.in_range; first = λ later same. go (inside key start end (r.key, r.start - 1)) refl later same }
+    whole_left : (r : Run) → overlaps key start end r ≡ false → r.start ≤ r.end → ((q : Spot) → has_spot q r ≡ true → run_at rs q ≡ Some r) →
+        IsWhole (held_at rs) r → IsWhole held r
+    whole_left r apart own found whole =
+        record { in_range = whole.in_range; first = λ later same. go (inside key start end (r.key, r.start - 1)) refl later same }
       where
         next : (key ≡ r.key) → start ≤ r.start - 1 → r.start - 1 ≤ end → r.start ≢ 0 → mark ≡ Some r.mark → (b : Bool) → nat_le r.start end ≡ b → ⊥
         next key_is from upto later same true le =
@@ -287,7 +303,8 @@ module _ (rs : List Run) (good : AreRuns rs) (key : Key) (start end : ℕ) (orde
         let whole = each_at (IsWhole (held_at rs)) rs (has_spot (key, end)) a.run good.whole a.is in
         let next : has_spot (key, end + 1) a.run ≡ true = spot_of a.run (key, end + 1) here.key (omega (arith, here.from)) (omega (arith, a.more)) in
         let own : inside key start end (a.run.key, end + 1 - 1) ≡ true =
-        is_within (eq_by_cmp key_cmp key a.run.key) start (end + 1 - 1) end (ap (eq_by_cmp key_cmp key) here.key ∙ key_itself key) (omega (arith, ordered)) (omega arith) in
+        is_within (eq_by_cmp key_cmp key a.run.key) start (end + 1 - 1) end (ap (eq_by_cmp key_cmp key) here.key ∙ key_itself key) (omega (arith, ordered))
+        (omega arith) in
         subst (IsWhole held) (sym a.part) (record {
           in_range = whole.in_range;
           first = λ later same.
@@ -311,5 +328,6 @@ module _ (rs : List Run) (good : AreRuns rs) (key : Key) (start end : ℕ) (orde
         (each_weaker Left (IsWhole held) (λ r h. whole_left r (turned (overlaps key start end r) h.0) h.1.0.0 h.1.0.1 h.1.1) (left_over key start end rs)
         (each_filter Kept (λ r. not (overlaps key start end r)) rs
         (each_both Own (IsWhole (held_at rs)) rs
-        (each_both (λ r. r.start ≤ r.end) (λ r. (q : Spot) → has_spot q r ≡ true → run_at rs q ≡ Some r) rs (each_ordered rs good.apart) (each_found rs good.apart))
+        (each_both (λ r. r.start ≤ r.end) (λ r. (q : Spot) → has_spot q r ≡ true → run_at rs q ≡ Some r) rs (each_ordered rs good.apart)
+        (each_found rs good.apart))
         good.whole))))

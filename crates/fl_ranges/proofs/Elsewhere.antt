@@ -40,7 +40,8 @@ carried m n key start end kind same c = record {
 same_conflicts : (m n : Marking) (key : Key) (start end : ℕ) (kind : Kind) → IsSameFor key m n → conflicts n key start end kind ≡ conflicts m key start end kind
 same_conflicts m n key start end kind same =
     same_test _ _
-    (λ h. (conflict_words m key start end kind).1 (carried n m key start end kind (λ q class node. sym (same q class node)) ((conflict_words n key start end kind).0 h)))
+    (λ h. (conflict_words m key start end kind).1
+    (carried n m key start end kind (λ q class node. sym (same q class node)) ((conflict_words n key start end kind).0 h)))
     (λ h. (conflict_words n key start end kind).1 (carried m n key start end kind same ((conflict_words m key start end kind).0 h)))
 
 -- ---- the changes
@@ -82,6 +83,7 @@ elsewhere_with s old new is =
     subst (SameElsewhere s.key old.marking) (sym (ap (λ (t : LockTable). t.marking) is)) (stroked_elsewhere s old.marking)
 
 -- a stroke that may be refused
-pub elsewhere_either : {T E : Type 0} (r : Result T E) (s : Stroke) (old new : LockTable) → OnOk r (new ≡ record old { marking = stroked s old.marking }) → OnErr r (new ≡ old) → SameElsewhere s.key old.marking new.marking
+pub elsewhere_either : {T E : Type 0} (r : Result T E) (s : Stroke) (old new : LockTable) → OnOk r (new ≡ record old { marking = stroked s old.marking }) →
+    OnErr r (new ≡ old) → SameElsewhere s.key old.marking new.marking
 elsewhere_either (Ok v) s old new ok err = elsewhere_with s old new ok
 elsewhere_either (Err e) s old new ok err = λ other start end kind apart. ap (λ (t : LockTable). conflicts t.marking other start end kind) err

@@ -68,7 +68,8 @@ module _ {K X : Type 0} {R : K → K → Ordering} (o : IsTotalOrder R) where
       let p = passing test (entries m) (truth _ (entries_sorted m)) any in
       (p.key, p.value, get-entries m p.key ∙ p.found, p.passes)
 
-  passes_of_found : IsAntisymmetric R → (test : (K × X) → Bool) (k : K) (v : X) (es : List (K × X)) → find R k es ≡ Some v → test (k, v) ≡ true → list_any test es ≡ true
+  passes_of_found : IsAntisymmetric R → (test : (K × X) → Bool) (k : K) (v : X) (es : List (K × X)) → find R k es ≡ Some v → test (k, v) ≡ true →
+      list_any test es ≡ true
   passes_of_found exact test k v [] found passes = absurd (cc found)
   passes_of_found exact test k v (e ∷ es) found passes = go (λ h. passes_of_found exact test k v es h passes) (eq_by_cmp R k e.0) refl found
     where
@@ -80,14 +81,16 @@ module _ {K X : Type 0} {R : K → K → Ordering} (o : IsTotalOrder R) where
       or_first true c h = refl
       or_first false c h = absurd (cc h)
 
-      go : (find R k es ≡ Some v → list_any test es ≡ true) → (b : Bool) → eq_by_cmp R k e.0 ≡ b → cond b (Some e.1) (find R k es) ≡ Some v → (test e || list_any test es) ≡ true
+      go : (find R k es ≡ Some v → list_any test es ≡ true) → (b : Bool) → eq_by_cmp R k e.0 ≡ b → cond b (Some e.1) (find R k es) ≡ Some v →
+          (test e || list_any test es) ≡ true
       go later true is h =
           let key : k ≡ e.0 = exact k e.0 (is_Equal (R k e.0) is) in
           let value : e.1 ≡ v = cc h in
           or_first _ _ (ap test (λ i. (sym key i, value i)) ∙ passes)
       go later false is h = or_later _ _ (later h)
 
-  pub entry_passes : IsAntisymmetric R → (test : (K × X) → Bool) (m : FinMap R X) (k : K) (v : X) → get m k ≡ Some v → test (k, v) ≡ true → list_any test (entries m) ≡ true
+  pub entry_passes : IsAntisymmetric R → (test : (K × X) → Bool) (m : FinMap R X) (k : K) (v : X) → get m k ≡ Some v → test (k, v) ≡ true →
+      list_any test (entries m) ≡ true
   entry_passes exact test m k v found passes = passes_of_found exact test k v (entries m) (sym (get-entries m k) ∙ found) passes
 
   find_found : (test : (K × X) → Bool) (es : List (K × X)) (e : K × X) → is_sorted R es ≡ true → list.find test es ≡ Some e → find R e.0 es ≡ Some e.1

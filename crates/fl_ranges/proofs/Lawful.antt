@@ -1,5 +1,6 @@
 -- No two owners hold conflicting locks: a stroke keeps that where it was tested for conflicts.
-use Rattle.std.proofs.Common.{◌≡◌, ℕ, Bool, true, false, cond, not, ◌&&◌, ◌==◌, nat_le, Option, Some, None, Result, Ok, Err, OnOk, OnErr, refl, ap, sym, ◌∙◌, subst, arith}
+use Rattle.std.proofs.Common.{◌≡◌, ℕ, Bool, true, false, cond, not, ◌&&◌, ◌==◌, nat_le, Option, Some, None, Result, Ok, Err, OnOk, OnErr, refl, ap, sym, ◌∙◌}
+use Rattle.std.proofs.Common.{subst, arith}
 use Rattle.std.proofs.lemmas.Bool.Decides.{nat_tests}
 use Rattle.std.specs.Ordering.{eq_by_cmp}
 use Rattle.std.specs.FinMap.{get, empty, get-empty}
@@ -28,7 +29,9 @@ same_number_both_ways : (x y : ℕ) → (x == y) ≡ (y == x)
 same_number_both_ways x y = grind (arith, nat_tests)
 
 rivals_both_ways : (a b : Key) → are_rivals a b ≡ are_rivals b a
-rivals_both_ways a b = λ i. same_number_both_ways (class_number a.class) (class_number b.class) i && (same_number_both_ways a.node b.node i && not (same_number_both_ways a.owner b.owner i))
+rivals_both_ways a b =
+    λ i. same_number_both_ways (class_number a.class) (class_number b.class) i
+    && (same_number_both_ways a.node b.node i && not (same_number_both_ways a.owner b.owner i))
 
 not_own_rival : (c n : Bool) (owner : ℕ) → (c && (n && not (owner == owner))) ≡ true → ⊥
 not_own_rival true true owner e = absurd (grind (arith, nat_tests))
@@ -51,19 +54,22 @@ in_range false c e = absurd (cc e)
 
 module _ (m : Marking) (s : Stroke) where
   -- another owner's mark in the range doesn't exclude the new one
-  spared : (a b : Key) (byte : ℕ) (x y : Mark) → (conflicts m s.key s.start s.end x.kind ≡ false) → covers s (a, byte) ≡ true → get m (b, byte) ≡ Some y → are_rivals a b ≡ true → excludes x.kind y.kind ≡ false
+  spared : (a b : Key) (byte : ℕ) (x y : Mark) → (conflicts m s.key s.start s.end x.kind ≡ false) → covers s (a, byte) ≡ true → get m (b, byte) ≡ Some y →
+      are_rivals a b ≡ true → excludes x.kind y.kind ≡ false
   spared a b byte x y clear covered held rivals = only_false (excludes x.kind y.kind) (λ clash.
       let w = within (eq_by_cmp key_cmp s.key a) s.start byte s.end covered in
       let same : s.key ≡ a = same_key s.key a w.same in
       let test : excludes_lock s.key s.start s.end x.kind ((b, byte), y) ≡ true =
-      all_true (are_rivals s.key b) (nat_le s.start byte && nat_le byte s.end) (excludes x.kind y.kind) (ap (λ (k : Key). are_rivals k b) same ∙ rivals) (in_range (eq_by_cmp key_cmp s.key a) _ covered) clash in
+      all_true (are_rivals s.key b) (nat_le s.start byte && nat_le byte s.end) (excludes x.kind y.kind) (ap (λ (k : Key). are_rivals k b) same ∙ rivals)
+      (in_range (eq_by_cmp key_cmp s.key a) _ covered) clash in
       cc (sym clear ∙ entry_passes spots_total exact_spots (excludes_lock s.key s.start s.end x.kind) m (b, byte) y held test))
 
   pub lawful_stroked : ((mark : Mark) → s.mark ≡ Some mark → conflicts m s.key s.start s.end mark.kind ≡ false) → IsLawful m → IsLawful (stroked s m)
   lawful_stroked clear lawful a b byte x y at_a at_b rivals =
       go (covers s (a, byte)) (covers s (b, byte)) refl refl (sym (get-stroked s m (a, byte)) ∙ at_a) (sym (get-stroked s m (b, byte)) ∙ at_b)
     where
-      go : (t u : Bool) → covers s (a, byte) ≡ t → covers s (b, byte) ≡ u → cond (covers s (a, byte)) s.mark (get m (a, byte)) ≡ Some x → cond (covers s (b, byte)) s.mark (get m (b, byte)) ≡ Some y → excludes x.kind y.kind ≡ false
+      go : (t u : Bool) → covers s (a, byte) ≡ t → covers s (b, byte) ≡ u → cond (covers s (a, byte)) s.mark (get m (a, byte)) ≡ Some x →
+          cond (covers s (b, byte)) s.mark (get m (b, byte)) ≡ Some y → excludes x.kind y.kind ≡ false
       go true true p q h k =
           let w = within (eq_by_cmp key_cmp s.key a) s.start byte s.end p in
           let v = within (eq_by_cmp key_cmp s.key b) s.start byte s.end q in
@@ -73,8 +79,10 @@ module _ (m : Marking) (s : Stroke) where
           spared a b byte x y (clear x (sym (ap (λ t. cond t s.mark (get m (a, byte))) p) ∙ h)) p (sym (ap (λ t. cond t s.mark (get m (b, byte))) q) ∙ k) rivals
       go false true p q h k =
           excludes_both_ways x.kind y.kind
-          ∙ spared b a byte y x (clear y (sym (ap (λ t. cond t s.mark (get m (b, byte))) q) ∙ k)) q (sym (ap (λ t. cond t s.mark (get m (a, byte))) p) ∙ h) (rivals_both_ways b a ∙ rivals)
-      go false false p q h k = lawful a b byte x y (sym (ap (λ t. cond t s.mark (get m (a, byte))) p) ∙ h) (sym (ap (λ t. cond t s.mark (get m (b, byte))) q) ∙ k) rivals
+          ∙ spared b a byte y x (clear y (sym (ap (λ t. cond t s.mark (get m (b, byte))) q) ∙ k)) q (sym (ap (λ t. cond t s.mark (get m (a, byte))) p) ∙ h)
+          (rivals_both_ways b a ∙ rivals)
+      go false false p q h k =
+          lawful a b byte x y (sym (ap (λ t. cond t s.mark (get m (a, byte))) p) ∙ h) (sym (ap (λ t. cond t s.mark (get m (b, byte))) q) ∙ k) rivals
 
 -- ---- the calls of a table
 
@@ -94,7 +102,8 @@ pub lawful_with : (old new : LockTable) (m : Marking) → new ≡ record old { m
 lawful_with old new m is lawful = subst IsLawful (sym (ap (λ (t : LockTable). t.marking) is)) lawful
 
 -- a stroke that may be refused
-pub lawful_either : {T E : Type 0} (r : Result T E) (s : Stroke) (old new : LockTable) → OnOk r (new ≡ record old { marking = stroked s old.marking }) → OnErr r (new ≡ old)
+pub lawful_either : {T E : Type 0} (r : Result T E) (s : Stroke) (old new : LockTable) → OnOk r (new ≡ record old { marking = stroked s old.marking }) →
+    OnErr r (new ≡ old)
     → ((mark : Mark) → s.mark ≡ Some mark → conflicts old.marking s.key s.start s.end mark.kind ≡ false) → IsLawful old.marking → IsLawful new.marking
 lawful_either (Ok v) s old new ok err clear lawful = lawful_with old new (stroked s old.marking) ok (lawful_stroked old.marking s clear lawful)
 lawful_either (Err e) s old new ok err clear lawful = lawful_with old new old.marking err lawful

@@ -1,5 +1,6 @@
 -- What a marking has at a spot after strokes.
-use Rattle.std.proofs.Common.{◌≡◌, ℕ, zero, suc, ◌+◌, ◌-◌, Bool, true, false, cond, not, ◌&&◌, ◌==◌, nat_lt, nat_le, Option, Some, None, List, [], ◌∷◌, refl, ap, sym, ◌∙◌, arith}
+use Rattle.std.proofs.Common.{◌≡◌, ℕ, zero, suc, ◌+◌, ◌-◌, Bool, true, false, cond, not, ◌&&◌, ◌==◌, nat_lt, nat_le, Option, Some, None, List, [], ◌∷◌, refl}
+use Rattle.std.proofs.Common.{ap, sym, ◌∙◌, arith}
 use Rattle.std.proofs.lemmas.Bool.Decides.{nat_tests}
 use Rattle.std.proofs.lemmas.Cmp.{on_total, then_total}
 use Rattle.std.proofs.lemmas.Map.Lookups.{CmpEqualImpliesEq, exact_unsigned}
@@ -18,7 +19,8 @@ use Rattle.fl_ranges.specs.Marking.{class_number, key_cmp, Spot, spot_cmp, Marki
 -- ---- the orders
 
 pub keys_total : IsTotalOrder key_cmp
-keys_total = then_total (on_total (λ (k : Key). class_number k.class) nat_cmp_total) (then_total (on_total (λ (k : Key). k.node) nat_cmp_total) (on_total (λ (k : Key). k.owner) nat_cmp_total))
+keys_total = then_total (on_total (λ (k : Key). class_number k.class) nat_cmp_total)
+    (then_total (on_total (λ (k : Key). k.node) nat_cmp_total) (on_total (λ (k : Key). k.owner) nat_cmp_total))
 
 pub spots_total : IsTotalOrder spot_cmp
 spots_total = then_total (on_total (λ (s : Spot). s.0) keys_total) (on_total (λ (s : Spot). s.1) nat_cmp_total)
@@ -52,7 +54,8 @@ exact_spots a b e =
 
 -- ---- one spot
 
-pub get-mark_spot : (spot : Spot) (mark : Option Mark) (m : Marking) (q : Spot) → get (mark_spot spot mark m) q ≡ cond (eq_by_cmp spot_cmp q spot) mark (get m q)
+pub get-mark_spot : (spot : Spot) (mark : Option Mark) (m : Marking) (q : Spot) →
+    get (mark_spot spot mark m) q ≡ cond (eq_by_cmp spot_cmp q spot) mark (get m q)
 get-mark_spot spot None m q = get-remove spots_total m spot q
 get-mark_spot spot (Some mark) m q = get-insert spots_total m spot mark q
 
@@ -71,7 +74,8 @@ among : Key → ℕ → ℕ → Spot → Bool
 among key first count q = eq_by_cmp key_cmp key q.0 && (nat_le first q.1 && nat_lt q.1 (first + count))
 
 one_more : {A : Type 0} (k : Bool) (first count byte : ℕ) (x y : A)
-    → cond (k && (byte == first + count)) x (cond (k && (nat_le first byte && nat_lt byte (first + count))) x y) ≡ cond (k && (nat_le first byte && nat_lt byte (first + suc count))) x y
+    → cond (k && (byte == first + count)) x (cond (k && (nat_le first byte && nat_lt byte (first + count))) x y)
+    ≡ cond (k && (nat_le first byte && nat_lt byte (first + suc count))) x y
 one_more false first count byte x y = refl
 one_more true first count byte x y = grind (arith, nat_tests)
 
@@ -79,16 +83,19 @@ none_more : {A : Type 0} (k : Bool) (first byte : ℕ) (x y : A) → y ≡ cond 
 none_more false first byte x y = refl
 none_more true first byte x y = grind (arith, nat_tests)
 
-get-mark_bytes : (key : Key) (mark : Option Mark) (first count : ℕ) (m : Marking) (q : Spot) → get (mark_bytes key mark first count m) q ≡ cond (among key first count q) mark (get m q)
+get-mark_bytes : (key : Key) (mark : Option Mark) (first count : ℕ) (m : Marking) (q : Spot) →
+    get (mark_bytes key mark first count m) q ≡ cond (among key first count q) mark (get m q)
 unfolding mark_bytes among
 get-mark_bytes key mark first zero m q = none_more (eq_by_cmp key_cmp key q.0) first q.1 mark (get m q)
 get-mark_bytes key mark first (suc count) m q =
-    let here = is_eq-then (key_cmp q.0 key) (nat_cmp q.1 (first + count)) ∙ (λ i. (eq_by_cmp_equiv keys_total).symm q.0 key i && is_eq-nat_cmp q.1 (first + count) i) in
+    let here = is_eq-then (key_cmp q.0 key) (nat_cmp q.1 (first + count))
+    ∙ (λ i. (eq_by_cmp_equiv keys_total).symm q.0 key i && is_eq-nat_cmp q.1 (first + count) i) in
     get-mark_spot (key, first + count) mark (mark_bytes key mark first count m) q
     ∙ (λ i. cond (here i) mark (get-mark_bytes key mark first count m q i))
     ∙ one_more (eq_by_cmp key_cmp key q.0) first count q.1 mark (get m q)
 
-among-covers : (k : Bool) (start end byte : ℕ) → (k && (nat_le start byte && nat_lt byte (start + (end + 1 - start)))) ≡ (k && (nat_le start byte && nat_le byte end))
+among-covers : (k : Bool) (start end byte : ℕ) →
+    (k && (nat_le start byte && nat_lt byte (start + (end + 1 - start)))) ≡ (k && (nat_le start byte && nat_le byte end))
 among-covers false start end byte = refl
 among-covers true start end byte = grind (arith, nat_tests)
 

@@ -1,5 +1,6 @@
 -- Conflicts with one owner, and the least owner that conflicts.
-use Rattle.std.proofs.Common.{◌≡◌, ◌↔◌, ℕ, ◌≤◌, Bool, true, false, cond, ◌&&◌, ◌||◌, ◌==◌, Option, Some, None, inl, inr, ◌⊎◌, List, [], ◌∷◌, map, refl, ap, sym, ◌∙◌, subst, arith}
+use Rattle.std.proofs.Common.{◌≡◌, ◌↔◌, ℕ, ◌≤◌, Bool, true, false, cond, ◌&&◌, ◌||◌, ◌==◌, Option, Some, None, inl, inr, ◌⊎◌, List, [], ◌∷◌, map, refl, ap, sym}
+use Rattle.std.proofs.Common.{◌∙◌, subst, arith}
 use Rattle.std.proofs.lemmas.Bool.Decides.{nat_tests}
 use Rattle.std.specs.List.{list_any}
 use Rattle.fl_arena.specs.Chains.{Chains, items}
@@ -40,11 +41,13 @@ only_false false f = refl
 
 -- ---- in words
 
-pub owner_conflict_words : (m : Marking) (key : Key) (start end : ℕ) (kind : Kind) (owner : ℕ) → (owner_conflicts m key start end kind owner ≡ true) ↔ IsOwnerConflict m key start end kind owner
+pub owner_conflict_words : (m : Marking) (key : Key) (start end : ℕ) (kind : Kind) (owner : ℕ) →
+    (owner_conflicts m key start end kind owner ≡ true) ↔ IsOwnerConflict m key start end kind owner
 owner_conflict_words m key start end kind owner = (
   λ h.
       let e = any_entry spots_total (excludes_by key start end kind owner) m h in
-      let t = parts (class_number key.class) (class_number e.0.0.class) key.node e.0.0.node key.owner e.0.0.owner start e.0.1 end (excludes kind e.1.kind) (second (e.0.0.owner == owner) _ e.3) in
+      let t = parts (class_number key.class) (class_number e.0.0.class) key.node e.0.0.node key.owner e.0.0.owner start e.0.1 end (excludes kind e.1.kind)
+      (second (e.0.0.owner == owner) _ e.3) in
       record {
         conflict = record {
           rival = e.0.0;
@@ -63,13 +66,16 @@ owner_conflict_words m key start end kind owner = (
   λ w.
       let c = w.conflict in
       entry_passes spots_total exact_spots (excludes_by key start end kind owner) m (c.rival, c.byte) c.mark c.held
-      (both _ _ (equal c.rival.owner owner w.of) (all_parts (class_number key.class) (class_number c.rival.class) key.node c.rival.node key.owner c.rival.owner start c.byte end (excludes kind c.mark.kind)
+      (both _ _ (equal c.rival.owner owner w.of) (all_parts (class_number key.class) (class_number c.rival.class) key.node c.rival.node key.owner c.rival.owner
+      start c.byte end (excludes kind c.mark.kind)
       (ap class_number (sym c.class)) (sym c.node) (λ same. c.other (sym same)) c.from c.upto c.write)),
 )
 
 -- an owner never conflicts with its own request
 pub never_own : (m : Marking) (key : Key) (start end : ℕ) (kind : Kind) → owner_conflicts m key start end kind key.owner ≡ false
-never_own m key start end kind = only_false (owner_conflicts m key start end kind key.owner) (λ h. let w = (owner_conflict_words m key start end kind key.owner).0 h in w.conflict.other w.of)
+never_own m key start end kind =
+    only_false (owner_conflicts m key start end kind key.owner)
+    (λ h. let w = (owner_conflict_words m key start end kind key.owner).0 h in w.conflict.other w.of)
 
 -- ---- among runs
 
@@ -98,7 +104,8 @@ module _ (key : Key) (start end : ℕ) (kind : Kind) (after : Option ℕ) where
   Has o rs = list_any (λ r. (r.key.owner == o) && run_excludes key start end kind r) rs ≡ true
 
   -- an owner that is found was the least so far, or has a run that excludes the lock
-  found : (rs : List Run) (least : Option ℕ) (o : ℕ) → least_from key start end kind after least rs ≡ Some o → (least ≡ Some o) ⊎ ((is_after after o ≡ true) × Has o rs)
+  found : (rs : List Run) (least : Option ℕ) (o : ℕ) → least_from key start end kind after least rs ≡ Some o →
+      (least ≡ Some o) ⊎ ((is_after after o ≡ true) × Has o rs)
   found [] least o e = inl e
   found (r ∷ rs) least o e = later (found rs (least_with key start end kind after least r) o e)
     where
@@ -110,16 +117,19 @@ module _ (key : Key) (start end : ℕ) (kind : Kind) (after : Option ℕ) where
       or_first true c h = refl
       or_first false c h = absurd (cc h)
 
-      here : (b : Bool) → (run_excludes key start end kind r && (is_after after r.key.owner && is_less least r.key.owner)) ≡ b → cond b (Some r.key.owner) least ≡ Some o → (least ≡ Some o) ⊎ ((is_after after o ≡ true) × Has o (r ∷ rs))
+      here : (b : Bool) → (run_excludes key start end kind r && (is_after after r.key.owner && is_less least r.key.owner)) ≡ b →
+          cond b (Some r.key.owner) least ≡ Some o → (least ≡ Some o) ⊎ ((is_after after o ≡ true) × Has o (r ∷ rs))
       here true is e =
           let same = same_some r.key.owner o e in
           inr (
-            subst (λ x. is_after after x ≡ true) same (first (is_after after r.key.owner) (is_less least r.key.owner) (second (run_excludes key start end kind r) _ is)),
+            subst (λ x. is_after after x ≡ true) same
+                (first (is_after after r.key.owner) (is_less least r.key.owner) (second (run_excludes key start end kind r) _ is)),
             or_first _ _ (both _ _ (equal r.key.owner o same) (first (run_excludes key start end kind r) _ is)),
           )
       here false is e = inl e
 
-      later : (least_with key start end kind after least r ≡ Some o) ⊎ ((is_after after o ≡ true) × Has o rs) → (least ≡ Some o) ⊎ ((is_after after o ≡ true) × Has o (r ∷ rs))
+      later : (least_with key start end kind after least r ≡ Some o) ⊎ ((is_after after o ≡ true) × Has o rs) →
+          (least ≡ Some o) ⊎ ((is_after after o ≡ true) × Has o (r ∷ rs))
       later (inl e) = here _ refl e
       later (inr h) = inr (h.0, or_later _ _ h.1)
 
@@ -128,7 +138,8 @@ module _ (key : Key) (start end : ℕ) (kind : Kind) (after : Option ℕ) where
   lower [] least o h = h
   lower (r ∷ rs) least o h = lower rs (least_with key start end kind after least r) o (go _ refl)
     where
-      go : (b : Bool) → (run_excludes key start end kind r && (is_after after r.key.owner && is_less least r.key.owner)) ≡ b → IsAtMost (cond b (Some r.key.owner) least) o
+      go : (b : Bool) → (run_excludes key start end kind r && (is_after after r.key.owner && is_less least r.key.owner)) ≡ b →
+          IsAtMost (cond b (Some r.key.owner) least) o
       go true is = less_at_most least r.key.owner o (second (is_after after r.key.owner) _ (second (run_excludes key start end kind r) _ is)) h
       go false is = h
 
@@ -137,36 +148,47 @@ module _ (key : Key) (start end : ℕ) (kind : Kind) (after : Option ℕ) where
   reached [] least o past any = absurd (cc any)
   reached (r ∷ rs) least o past any = go _ refl any (reached rs (least_with key start end kind after least r) o past)
     where
-      here : (b : Bool) → (run_excludes key start end kind r && (is_after after r.key.owner && is_less least r.key.owner)) ≡ b → r.key.owner ≡ o → run_excludes key start end kind r ≡ true → IsAtMost (cond b (Some r.key.owner) least) o
+      here : (b : Bool) → (run_excludes key start end kind r && (is_after after r.key.owner && is_less least r.key.owner)) ≡ b → r.key.owner ≡ o →
+          run_excludes key start end kind r ≡ true → IsAtMost (cond b (Some r.key.owner) least) o
       here true is same excluded = omega (arith, same)
       here false is same excluded =
-          let rest : (is_after after r.key.owner && is_less least r.key.owner) ≡ false = ap (λ b. b && (is_after after r.key.owner && is_less least r.key.owner)) (sym excluded) ∙ is in
+          let rest : (is_after after r.key.owner && is_less least r.key.owner) ≡ false =
+          ap (λ b. b && (is_after after r.key.owner && is_less least r.key.owner)) (sym excluded) ∙ is in
           let more : is_less least r.key.owner ≡ false = ap (λ b. b && is_less least r.key.owner) (sym (ap (is_after after) same ∙ past)) ∙ rest in
           subst (IsAtMost least) same (at_most_least least r.key.owner more)
 
-      go : (b : Bool) → ((r.key.owner == o) && run_excludes key start end kind r) ≡ b → (b || list_any (λ x. (x.key.owner == o) && run_excludes key start end kind x) rs) ≡ true
+      go : (b : Bool) → ((r.key.owner == o) && run_excludes key start end kind r) ≡ b →
+          (b || list_any (λ x. (x.key.owner == o) && run_excludes key start end kind x) rs) ≡ true
           → (Has o rs → IsAtMost (least_from key start end kind after least (r ∷ rs)) o) → IsAtMost (least_from key start end kind after least (r ∷ rs)) o
-      go true is any rest = lower rs (least_with key start end kind after least r) o (here _ refl (equals r.key.owner o (first (r.key.owner == o) _ is)) (second (r.key.owner == o) _ is))
+      go true is any rest =
+          lower rs (least_with key start end kind after least r) o
+          (here _ refl (equals r.key.owner o (first (r.key.owner == o) _ is)) (second (r.key.owner == o) _ is))
       go false is any rest = rest any
 
   -- ---- in the table
 
   has_is : (a : Chains Run) (limit : ℕ) → IsTable a limit → start ≤ end → (o : ℕ)
-      → list_any (λ r. (r.key.owner == o) && run_excludes key start end kind r) (items a (home key.node)) ≡ owner_conflicts (marking_of (map meant (all_runs a))) key start end kind o
+      → list_any (λ r. (r.key.owner == o) && run_excludes key start end kind r) (items a (home key.node))
+      ≡ owner_conflicts (marking_of (map meant (all_runs a))) key start end kind o
   has_is a limit t range o = table_conflict (λ x. x == o) key start end kind a limit t range
 
   -- what a walk found, in the words of a call
-  pub least_found : (a : Chains Run) (limit : ℕ) → IsTable a limit → start ≤ end → (chain : ℕ) → chain ≡ home key.node → (told : Option ℕ) → told ≡ least_from key start end kind after None (items a chain)
+  pub least_found : (a : Chains Run) (limit : ℕ) → IsTable a limit → start ≤ end → (chain : ℕ) → chain ≡ home key.node → (told : Option ℕ) →
+      told ≡ least_from key start end kind after None (items a chain)
       → (m : Marking) → marking_of (map meant (all_runs a)) ≡ m → IsLeastAfter m key start end kind after told
   least_found a limit t range chain at told walk m meaning =
-      let is : told ≡ least_from key start end kind after None (items a (home key.node)) = walk ∙ ap (λ c. least_from key start end kind after None (items a c)) at in
-      let conflict : (o : ℕ) → list_any (λ r. (r.key.owner == o) && run_excludes key start end kind r) (items a (home key.node)) ≡ owner_conflicts m key start end kind o = λ o. has_is a limit t range o ∙ ap (λ (n : Marking). owner_conflicts n key start end kind o) meaning in
+      let is : told ≡ least_from key start end kind after None (items a (home key.node)) =
+      walk ∙ ap (λ c. least_from key start end kind after None (items a c)) at in
+      let conflict : (o : ℕ) → list_any (λ r. (r.key.owner == o) && run_excludes key start end kind r) (items a (home key.node))
+      ≡ owner_conflicts m key start end kind o = λ o. has_is a limit t range o ∙ ap (λ (n : Marking). owner_conflicts n key start end kind o) meaning in
       record {
         itself = λ o e. itself o (found (items a (home key.node)) None o (sym is ∙ e)) conflict;
-        least = λ o past c. subst (λ (w : Option ℕ). IsAtMost w o) (sym is) (reached (items a (home key.node)) None o (is_after_words after o past) (conflict o ∙ c));
+        least = λ o past c. subst (λ (w : Option ℕ). IsAtMost w o) (sym is)
+            (reached (items a (home key.node)) None o (is_after_words after o past) (conflict o ∙ c));
       }
     where
-      itself : (o : ℕ) → (◌≡◌ {A = Option ℕ} None (Some o)) ⊎ ((is_after after o ≡ true) × Has o (items a (home key.node))) → ((x : ℕ) → list_any (λ r. (r.key.owner == x) && run_excludes key start end kind r) (items a (home key.node)) ≡ owner_conflicts m key start end kind x)
+      itself : (o : ℕ) → (◌≡◌ {A = Option ℕ} None (Some o)) ⊎ ((is_after after o ≡ true) × Has o (items a (home key.node))) →
+          ((x : ℕ) → list_any (λ r. (r.key.owner == x) && run_excludes key start end kind r) (items a (home key.node)) ≡ owner_conflicts m key start end kind x)
           → IsAfter after o × (owner_conflicts m key start end kind o ≡ true)
       itself o (inl e) conflict = absurd (cc e)
       itself o (inr h) conflict = (words_is_after after o h.0, sym (conflict o) ∙ h.1)

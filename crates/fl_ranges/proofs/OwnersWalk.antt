@@ -11,7 +11,9 @@ use Rattle.fl_ranges.proofs.Sorted.{past_clash, past_rest}
 
 module _ (key : Key) (start end : ℕ) (kind : Kind) (after : Option ℕ) where
   -- past one more run
-  pub least_more : (x : Run) (xs : List Run) (i : ℕ) (least : Option ℕ) → slice_get xs i ≡ Some x → least_from key start end kind after least (drop i xs) ≡ least_from key start end kind after (least_with key start end kind after least x) (drop (i + 1) xs)
+  pub least_more : (x : Run) (xs : List Run) (i : ℕ) (least : Option ℕ) → slice_get xs i ≡ Some x →
+      least_from key start end kind after least (drop i xs)
+      ≡ least_from key start end kind after (least_with key start end kind after least x) (drop (i + 1) xs)
   least_more x xs i least found = ap (least_from key start end kind after least) (drop_here xs i x found)
 
   -- at the end
@@ -21,9 +23,11 @@ module _ (key : Key) (start end : ℕ) (kind : Kind) (after : Option ℕ) where
   stays : (rs : List Run) (least : Option ℕ) → AllByRecursion (λ r. is_past key end r ≡ true) rs → least_from key start end kind after least rs ≡ least
   stays [] least past = refl
   stays (r ∷ rs) least past =
-      ap (λ b. least_from key start end kind after (cond (b && (is_after after r.key.owner && is_less least r.key.owner)) (Some r.key.owner) least) rs) (past_clash key start end kind r past.0)
+      ap (λ b. least_from key start end kind after (cond (b && (is_after after r.key.owner && is_less least r.key.owner)) (Some r.key.owner) least) rs)
+      (past_clash key start end kind r past.0)
       ∙ stays rs least past.1
 
   -- at a run that is past
-  pub least_stop : (x : Run) (xs : List Run) (i : ℕ) (least : Option ℕ) → slice_get xs i ≡ Some x → IsSorted xs → is_past key end x ≡ true → least_from key start end kind after least (drop i xs) ≡ least
+  pub least_stop : (x : Run) (xs : List Run) (i : ℕ) (least : Option ℕ) → slice_get xs i ≡ Some x → IsSorted xs → is_past key end x ≡ true →
+      least_from key start end kind after least (drop i xs) ≡ least
   least_stop x xs i least found sorted past = stays (drop i xs) least (past_rest key end xs i x sorted found past)

@@ -35,7 +35,8 @@ keeps_all t (r ∷ rs) each = ap (λ b. cond b (r ∷ filter t rs) (filter t rs)
 module _ (a : Chains Run) (limit : ℕ) (t : IsTable a limit) where
   module _ (c : ℕ) (within : c < length a.chains) where
     none_on : (rs : List Run) → AllByRecursion (IsAway c) rs → filter (λ r. home r.key.node == c) rs ≡ []
-    none_on rs away = keeps_none (λ r. home r.key.node == c) rs (each_weaker (IsAway c) (λ r. (home r.key.node == c) ≡ false) (λ r far. false_from_ne_true _ (λ is. far (same_number (home r.key.node) c is))) rs away)
+    none_on rs away = keeps_none (λ r. home r.key.node == c) rs
+        (each_weaker (IsAway c) (λ r. (home r.key.node == c) ≡ false) (λ r far. false_from_ne_true _ (λ is. far (same_number (home r.key.node) c is))) rs away)
 
     -- a chain has the runs of its nodes
     of_chain : filter (λ r. home r.key.node == c) (all_runs a) ≡ items a c
@@ -48,7 +49,8 @@ module _ (a : Chains Run) (limit : ℕ) (t : IsTable a limit) where
         ∙ append-nil (items a c)
       where
         own : AllByRecursion (λ r. (home r.key.node == c) ≡ true) (items a c)
-        own = each_weaker (λ r. home r.key.node ≡ c) (λ r. (home r.key.node == c) ≡ true) (λ r is. number_itself (home r.key.node) c is) (items a c) (t.at_home c)
+        own = each_weaker (λ r. home r.key.node ≡ c) (λ r. (home r.key.node == c) ≡ true) (λ r is. number_itself (home r.key.node) c is) (items a c)
+            (t.at_home c)
 
     length-chain : length (items a c) ≡ runs (on_chain c (marking_of (map meant (all_runs a))))
     length-chain =
@@ -60,7 +62,8 @@ module _ (a : Chains Run) (limit : ℕ) (t : IsTable a limit) where
   chain_within c i slot there =
       elim (cases_lt c (length a.chains)) [
         | inl within ↦ within
-        | inr past ↦ absurd (none-some slot (ap (λ (es : List (Entry Run)). option_map (λ e. e.slot) (slice_get es i)) (sym (get_or_past a.chains c [] past)) ∙ there))
+        | inr past ↦ absurd (none-some slot
+            (ap (λ (es : List (Entry Run)). option_map (λ e. e.slot) (slice_get es i)) (sym (get_or_past a.chains c [] past)) ∙ there))
       ]
 
   index_within : (c i slot : ℕ) → slot_at a c i ≡ Some slot → i < length (items a c)
@@ -71,7 +74,8 @@ module _ (a : Chains Run) (limit : ℕ) (t : IsTable a limit) where
       ]
 
   -- a place on a chain is below the number of its runs
-  pub place_on : (c i slot : ℕ) → slot_at a c i ≡ Some slot → (v : LockTable) → record { limit = limit; marking = marking_of (map meant (all_runs a)) } ≡ v → i < runs (on_chain c v.marking)
+  pub place_on : (c i slot : ℕ) → slot_at a c i ≡ Some slot → (v : LockTable) → record { limit = limit; marking = marking_of (map meant (all_runs a)) } ≡ v →
+      i < runs (on_chain c v.marking)
   place_on c i slot there v view =
       let index = index_within c i slot there in
       let long = length-chain c (chain_within c i slot there) in

@@ -1,5 +1,6 @@
 -- The same runs in another order.
-use Rattle.std.proofs.Common.{◌≡◌, suc, ◌+◌, ◌-◌, Bool, true, false, cond, Option, Some, None, List, [], ◌∷◌, ◌++◌, map, length, length-append, append_assoc, refl, ap, sym, ◌∙◌, subst, arith}
+use Rattle.std.proofs.Common.{◌≡◌, suc, ◌+◌, ◌-◌, Bool, true, false, cond, Option, Some, None, List, [], ◌∷◌, ◌++◌, map, length, length-append, append_assoc}
+use Rattle.std.proofs.Common.{refl, ap, sym, ◌∙◌, subst, arith}
 use Rattle.std.specs.List.{AllByRecursion}
 use Rattle.std.specs.Option.{option_map}
 use Rattle.std.specs.FinMap.{same_map}
@@ -36,12 +37,16 @@ as_runs rs zs r good =
     record {
       apart = both.0;
       whole = each_weaker (IsWhole (held_at rs)) (IsWhole (held_at zs))
-          (λ x w. record { in_range = w.in_range; first = λ later held. w.first later (sym (ap (option_map (λ (y : Run). y.mark)) (both.1 (x.key, x.start - 1))) ∙ held) })
+          (λ x w. record {
+            in_range = w.in_range;
+            first = λ later held. w.first later (sym (ap (option_map (λ (y : Run). y.mark)) (both.1 (x.key, x.start - 1))) ∙ held);
+          })
           zs (as_each (IsWhole (held_at rs)) rs zs r good.whole);
     }
 
 pub as_marking : (rs zs : List Run) → Rearranged rs zs → AreApart rs → marking_of (map meant zs) ≡ marking_of (map meant rs)
-as_marking rs zs r apart = same_map spots_total exact_spots _ _ (λ q. get-runs zs q ∙ ap (option_map (λ (y : Run). y.mark)) ((as_apart rs zs r apart).1 q) ∙ sym (get-runs rs q))
+as_marking rs zs r apart =
+    same_map spots_total exact_spots _ _ (λ q. get-runs zs q ∙ ap (option_map (λ (y : Run). y.mark)) ((as_apart rs zs r apart).1 q) ∙ sym (get-runs rs q))
 
 -- a run that was put in its place
 record IsPut (r : Run) (xs zs : List Run) : Type 0 where
@@ -65,14 +70,16 @@ length-insert_run r xs =
     let is : length (insert_run r xs) ≡ length p.front + suc (length p.back) = ap length p.is ∙ length-append p.front (r ∷ p.back) in
     omega (arith, was, is)
 
-pub each-insert_some : (P : Run → Type 0) (o : Option Run) (xs : List Run) → ((r : Run) → o ≡ Some r → P r) → AllByRecursion P xs → AllByRecursion P (insert_some o xs)
+pub each-insert_some : (P : Run → Type 0) (o : Option Run) (xs : List Run) → ((r : Run) → o ≡ Some r → P r) → AllByRecursion P xs →
+    AllByRecursion P (insert_some o xs)
 each-insert_some P None xs own all = all
 each-insert_some P (Some r) xs own all =
     let p = put_in r xs in
     subst (AllByRecursion P) (sym p.is) (each-moved P r p.front p.back (own r refl, subst (AllByRecursion P) p.was all))
 
 -- one more run in a chain, between those of the others
-pub rearranged_with : (o : Option Run) (rs before xs after : List Run) → Rearranged rs (before ++ (xs ++ after)) → Rearranged (with_run o rs) (before ++ (insert_some o xs ++ after))
+pub rearranged_with : (o : Option Run) (rs before xs after : List Run) → Rearranged rs (before ++ (xs ++ after)) →
+    Rearranged (with_run o rs) (before ++ (insert_some o xs ++ after))
 rearranged_with None rs before xs after r = r
 rearranged_with (Some x) rs before xs after r =
     let p = put_in x xs in

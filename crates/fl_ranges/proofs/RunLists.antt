@@ -1,5 +1,6 @@
 -- Lists of runs: which run has a spot, in other lists of the same runs.
-use Rattle.std.proofs.Common.{◌≡◌, ℕ, ◌≤◌, Bool, true, false, cond, ◌&&◌, nat_le, Option, Some, None, List, [], ◌∷◌, ◌++◌, map, refl, ap, sym, ◌∙◌, subst, arith}
+use Rattle.std.proofs.Common.{◌≡◌, ℕ, ◌≤◌, Bool, true, false, cond, ◌&&◌, nat_le, Option, Some, None, List, [], ◌∷◌, ◌++◌, map, refl, ap, sym, ◌∙◌, subst}
+use Rattle.std.proofs.Common.{arith}
 use Rattle.std.proofs.lemmas.Bool.Decides.{nat_tests}
 use Rattle.std.specs.List.{find, filter, AllByRecursion}
 use Rattle.std.specs.Option.{option_map}
@@ -63,7 +64,8 @@ module _ (P : Run → Type 0) where
   each_filter p [] all = tt
   each_filter p (x ∷ xs) all = go (p x) refl (each_filter p xs all.1)
     where
-      go : (b : Bool) → p x ≡ b → AllByRecursion (λ r. (p r ≡ true) × P r) (filter p xs) → AllByRecursion (λ r. (p r ≡ true) × P r) (cond b (x ∷ filter p xs) (filter p xs))
+      go : (b : Bool) → p x ≡ b → AllByRecursion (λ r. (p r ≡ true) × P r) (filter p xs) →
+          AllByRecursion (λ r. (p r ≡ true) × P r) (cond b (x ∷ filter p xs) (filter p xs))
       go true e rest = ((e, all.0), rest)
       go false e rest = rest
 
@@ -90,13 +92,15 @@ pub same_run : (rs : List Run) → AreApart rs → (q p : Spot) (r : Run) → ru
 same_run [] apart q p r e has = absurd (cc e)
 same_run (x ∷ xs) apart q p r e has = go (λ h. same_run xs apart.2 q p r h has) (has_spot q x) (has_spot p x) refl e
   where
-    go : (run_at xs q ≡ Some r → run_at xs p ≡ Some r) → (b c : Bool) → has_spot p x ≡ c → cond b (Some x) (run_at xs q) ≡ Some r → cond c (Some x) (run_at xs p) ≡ Some r
+    go : (run_at xs q ≡ Some r → run_at xs p ≡ Some r) → (b c : Bool) → has_spot p x ≡ c → cond b (Some x) (run_at xs q) ≡ Some r →
+        cond c (Some x) (run_at xs p) ≡ Some r
     go rest true true is h = h
     go rest true false is h = let same : x ≡ r = cc h in absurd (cc (sym is ∙ ap (has_spot p) same ∙ has))
     go rest false true is h = absurd (cc (sym (apart.1 p is) ∙ rest h))
     go rest false false is h = rest h
 
-found_later : (x : Run) (xs : List Run) → ((q : Spot) → has_spot q x ≡ true → run_at xs q ≡ None) → (r : Run) → ((q : Spot) → has_spot q r ≡ true → run_at xs q ≡ Some r) → (q : Spot) → has_spot q r ≡ true → run_at (x ∷ xs) q ≡ Some r
+found_later : (x : Run) (xs : List Run) → ((q : Spot) → has_spot q x ≡ true → run_at xs q ≡ None) → (r : Run) →
+    ((q : Spot) → has_spot q r ≡ true → run_at xs q ≡ Some r) → (q : Spot) → has_spot q r ≡ true → run_at (x ∷ xs) q ≡ Some r
 found_later x xs clear r found q has = go (has_spot q x) refl
   where
     go : (b : Bool) → has_spot q x ≡ b → cond b (Some x) (run_at xs q) ≡ Some r
@@ -106,7 +110,11 @@ found_later x xs clear r found q has = go (has_spot q x) refl
 -- each of them is the run that has its spots
 pub each_found : (rs : List Run) → AreApart rs → AllByRecursion (λ r. (q : Spot) → has_spot q r ≡ true → run_at rs q ≡ Some r) rs
 each_found [] apart = tt
-each_found (x ∷ xs) apart = (λ q has. ap (λ b. cond b (Some x) (run_at xs q)) has, each_weaker (λ r. (q : Spot) → has_spot q r ≡ true → run_at xs q ≡ Some r) (λ r. (q : Spot) → has_spot q r ≡ true → run_at (x ∷ xs) q ≡ Some r) (found_later x xs apart.1) xs (each_found xs apart.2))
+each_found (x ∷ xs) apart = (
+  λ q has. ap (λ b. cond b (Some x) (run_at xs q)) has,
+  each_weaker (λ r. (q : Spot) → has_spot q r ≡ true → run_at xs q ≡ Some r)
+      (λ r. (q : Spot) → has_spot q r ≡ true → run_at (x ∷ xs) q ≡ Some r) (found_later x xs apart.1) xs (each_found xs apart.2),
+)
 
 pub each_ordered : (rs : List Run) → AreApart rs → AllByRecursion (λ r. r.start ≤ r.end) rs
 each_ordered [] apart = tt
@@ -123,7 +131,8 @@ pub run_at-filter : (p : Run → Bool) (rs : List Run) → AreApart rs → (q : 
 run_at-filter p [] apart q = refl
 run_at-filter p (x ∷ xs) apart q = go (p x) (has_spot q x) refl refl (run_at-filter p xs apart.2 q)
   where
-    go : (b c : Bool) → p x ≡ b → has_spot q x ≡ c → run_at (filter p xs) q ≡ keep p (run_at xs q) → run_at (cond b (x ∷ filter p xs) (filter p xs)) q ≡ keep p (cond c (Some x) (run_at xs q))
+    go : (b c : Bool) → p x ≡ b → has_spot q x ≡ c → run_at (filter p xs) q ≡ keep p (run_at xs q) →
+        run_at (cond b (x ∷ filter p xs) (filter p xs)) q ≡ keep p (cond c (Some x) (run_at xs q))
     go true true is has rest = ap (λ d. cond d (Some x) (run_at (filter p xs) q)) has ∙ sym (ap (λ d. cond d (Some x) None) is)
     go true false is has rest = ap (λ d. cond d (Some x) (run_at (filter p xs) q)) has ∙ rest
     go false true is has rest = rest ∙ ap (keep p) (apart.1 q has) ∙ sym (ap (λ d. cond d (Some x) None) is)
@@ -151,7 +160,8 @@ pub run_at-moved : (r : Run) (xs ys : List Run) → AreApart (r ∷ xs ++ ys) �
 run_at-moved r [] ys apart q = refl
 run_at-moved r (x ∷ xs) ys apart q =
     ap (λ o. cond (has_spot q x) (Some x) o) (run_at-moved r xs ys (apart.0, (λ p has. later p (apart.1 p has)), apart.2.2) q)
-    ∙ swapped (has_spot q x) (has_spot q r) (Some x) (Some r) (run_at (xs ++ ys) q) (λ a b. absurd (cc (sym (apart.1 q b) ∙ ap (λ d. cond d (Some x) (run_at (xs ++ ys) q)) a)))
+    ∙ swapped (has_spot q x) (has_spot q r) (Some x) (Some r) (run_at (xs ++ ys) q)
+    (λ a b. absurd (cc (sym (apart.1 q b) ∙ ap (λ d. cond d (Some x) (run_at (xs ++ ys) q)) a)))
   where
     later : (p : Spot) → cond (has_spot p x) (Some x) (run_at (xs ++ ys) p) ≡ None → run_at (xs ++ ys) p ≡ None
     later p e = go (has_spot p x) e
@@ -191,6 +201,7 @@ pub mark_at-runs : (rs : List Run) (q : Spot) → mark_at (map meant rs) q ≡ h
 mark_at-runs [] q = refl
 mark_at-runs (x ∷ xs) q = go (has_spot q x) (mark_at-runs xs q)
   where
-    go : (b : Bool) → mark_at (map meant xs) q ≡ held_at xs q → cond b (Some x.mark) (mark_at (map meant xs) q) ≡ option_map (λ (r : Run). r.mark) (cond b (Some x) (run_at xs q))
+    go : (b : Bool) → mark_at (map meant xs) q ≡ held_at xs q →
+        cond b (Some x.mark) (mark_at (map meant xs) q) ≡ option_map (λ (r : Run). r.mark) (cond b (Some x) (run_at xs q))
     go true rest = refl
     go false rest = rest

@@ -1,5 +1,6 @@
 -- Chains in order: what an early stop of a walk leaves out, and that changes keep the order.
-use Rattle.std.proofs.Common.{◌≡◌, ℕ, zero, suc, ◌+◌, ◌<◌, ◌≤◌, Bool, true, false, cond, not, ◌&&◌, ◌||◌, ◌==◌, nat_le, Option, Some, None, is_some, MatchOption, Bor, List, [], ◌∷◌, ◌++◌, length, take, drop, slice_get, refl, ap, sym, ◌∙◌, subst, arith}
+use Rattle.std.proofs.Common.{◌≡◌, ℕ, zero, suc, ◌+◌, ◌<◌, ◌≤◌, Bool, true, false, cond, not, ◌&&◌, ◌||◌, ◌==◌, nat_le, Option, Some, None, is_some}
+use Rattle.std.proofs.Common.{MatchOption, Bor, List, [], ◌∷◌, ◌++◌, length, take, drop, slice_get, refl, ap, sym, ◌∙◌, subst, arith}
 use Rattle.std.proofs.lemmas.Bool.Decides.{nat_tests}
 use Rattle.std.proofs.lemmas.Cmp.{on_total, then_total}
 use Rattle.std.specs.Bool.{then_some}
@@ -22,7 +23,8 @@ use Rattle.fl_ranges.proofs.Rearranged.{each-insert_some}
 use Rattle.fl_ranges.proofs.Walks.{drop_here}
 
 places_total : IsTotalOrder place_cmp
-places_total = then_total (then_total (on_total (λ (r : Run). r.key.node) nat_cmp_total) (on_total (λ (r : Run). class_number r.key.class) nat_cmp_total)) (on_total (λ (r : Run). r.start) nat_cmp_total)
+places_total = then_total (then_total (on_total (λ (r : Run). r.key.node) nat_cmp_total) (on_total (λ (r : Run). class_number r.key.class) nat_cmp_total))
+    (on_total (λ (r : Run). r.start) nat_cmp_total)
 
 runs_total : IsTotalOrder run_cmp
 runs_total = then_total places_total (on_total (λ (r : Run). r.key.owner) nat_cmp_total)
@@ -41,7 +43,8 @@ past_later key byte r x past after = go (place_cmp x r) refl
     go Equal e =
         let p : Run = record r { key = key; start = byte } in
         let below : place_cmp p r ≡ Less = is_Less (place_cmp p r) past in
-        let same : place_cmp p x ≡ place_cmp p r = places_total.antisymm p x ∙ ap ordering_reverse (places_total.congr x r p e) ∙ sym (places_total.antisymm p r) in
+        let same : place_cmp p x ≡ place_cmp p r =
+        places_total.antisymm p x ∙ ap ordering_reverse (places_total.congr x r p e) ∙ sym (places_total.antisymm p r) in
         ap is_lt (same ∙ below)
     go Greater e =
         let p : Run = record r { key = key; start = byte } in
@@ -53,11 +56,14 @@ less_number : (a b : ℕ) → is_lt (nat_cmp a b) ≡ true → a < b
 less_number a b e = grind (arith, nat_tests)
 
 -- a run that is past a byte isn't of its key and class before it
-past_not : (key : Key) (byte : ℕ) (x : Run) → is_past key byte x ≡ true → x.key.node ≡ key.node → class_number x.key.class ≡ class_number key.class → x.start ≤ byte → ⊥
+past_not : (key : Key) (byte : ℕ) (x : Run) → is_past key byte x ≡ true → x.key.node ≡ key.node → class_number x.key.class ≡ class_number key.class →
+    x.start ≤ byte → ⊥
 past_not key byte x past node class le =
     let same_node : nat_cmp key.node x.key.node ≡ Equal = ap (nat_cmp key.node) node ∙ tied_itself nat_cmp_total key.node in
-    let same_class : nat_cmp (class_number key.class) (class_number x.key.class) ≡ Equal = ap (nat_cmp (class_number key.class)) class ∙ tied_itself nat_cmp_total (class_number key.class) in
-    let less : byte < x.start = less_number byte x.start ((λ i. is_lt (ordering_then (ordering_then (sym same_node i) (sym same_class i)) (nat_cmp byte x.start))) ∙ past) in
+    let same_class : nat_cmp (class_number key.class) (class_number x.key.class) ≡ Equal =
+    ap (nat_cmp (class_number key.class)) class ∙ tied_itself nat_cmp_total (class_number key.class) in
+    let less : byte < x.start =
+    less_number byte x.start ((λ i. is_lt (ordering_then (ordering_then (sym same_node i) (sym same_class i)) (nat_cmp byte x.start))) ∙ past) in
     omega (arith, less, le)
 
 same_number : (a b : ℕ) → (a == b) ≡ true → a ≡ b
@@ -68,12 +74,17 @@ only_false true f = absurd (f refl)
 only_false false f = refl
 
 pub past_spot : (key : Key) (byte : ℕ) (x : Run) → is_past key byte x ≡ true → has_spot (key, byte) x ≡ false
-past_spot key byte x past = only_false _ (λ is. let at = at_spot x (key, byte) is in past_not key byte x past (ap (λ (k : Key). k.node) at.key) (ap (λ (k : Key). class_number k.class) at.key) at.from)
+past_spot key byte x past =
+    only_false _ (λ is. let at = at_spot x (key, byte) is in
+    past_not key byte x past (ap (λ (k : Key). k.node) at.key) (ap (λ (k : Key). class_number k.class) at.key) at.from)
 
 pub past_overlap : (key : Key) (start end : ℕ) (x : Run) → is_past key end x ≡ true → overlaps key start end x ≡ false
-past_overlap key start end x past = only_false _ (λ is. let o = over key start end x is in past_not key end x past (ap (λ (k : Key). k.node) o.key_is) (ap (λ (k : Key). class_number k.class) o.key_is) o.begins)
+past_overlap key start end x past =
+    only_false _ (λ is. let o = over key start end x is in
+    past_not key end x past (ap (λ (k : Key). k.node) o.key_is) (ap (λ (k : Key). class_number k.class) o.key_is) o.begins)
 
-rival_parts : (a b n o p q from to start end : ℕ) (x : Bool) → (((a == b) && ((n == o) && not (p == q))) && ((nat_le from end && nat_le start to) && x)) ≡ true → (b ≡ a) × (o ≡ n) × (from ≤ end)
+rival_parts : (a b n o p q from to start end : ℕ) (x : Bool) →
+    (((a == b) && ((n == o) && not (p == q))) && ((nat_le from end && nat_le start to) && x)) ≡ true → (b ≡ a) × (o ≡ n) × (from ≤ end)
 rival_parts a b n o p q from to start end true e = (grind (arith, nat_tests), grind (arith, nat_tests), grind (arith, nat_tests))
 rival_parts a b n o p q from to start end false e = absurd (none ((a == b) && ((n == o) && not (p == q))) (nat_le from end && nat_le start to) e)
   where
@@ -84,7 +95,8 @@ rival_parts a b n o p q from to start end false e = absurd (none ((a == b) && ((
 
 pub past_clash : (key : Key) (start end : ℕ) (kind : Kind) (x : Run) → is_past key end x ≡ true → run_excludes key start end kind x ≡ false
 past_clash key start end kind x past = only_false _ (λ is.
-    let p = rival_parts (class_number key.class) (class_number x.key.class) key.node x.key.node key.owner x.key.owner x.start x.end start end (excludes kind x.mark.kind) is in
+    let p = rival_parts (class_number key.class) (class_number x.key.class) key.node x.key.node key.owner x.key.owner x.start x.end start end
+    (excludes kind x.mark.kind) is in
     past_not key end x past p.1 p.0 p.2)
 
 -- ---- from a run on that is past a byte
@@ -94,7 +106,8 @@ sorted_rest zero xs sorted = sorted
 sorted_rest (suc i) [] sorted = tt
 sorted_rest (suc i) (x ∷ xs) sorted = sorted_rest i xs sorted.1
 
-pub past_rest : (key : Key) (byte : ℕ) (xs : List Run) (i : ℕ) (r : Run) → IsSorted xs → slice_get xs i ≡ Some r → is_past key byte r ≡ true → AllByRecursion (λ x. is_past key byte x ≡ true) (drop i xs)
+pub past_rest : (key : Key) (byte : ℕ) (xs : List Run) (i : ℕ) (r : Run) → IsSorted xs → slice_get xs i ≡ Some r → is_past key byte r ≡ true →
+    AllByRecursion (λ x. is_past key byte x ≡ true) (drop i xs)
 past_rest key byte xs i r sorted found past =
     let here = drop_here xs i r found in
     let rest : IsSorted (r ∷ drop (i + 1) xs) = subst IsSorted here (sorted_rest i xs sorted) in
@@ -111,7 +124,8 @@ count_none t (r ∷ rs) each = ap (λ b. length (cond b (r ∷ filter t rs) (fil
 
 kept_rest : (t : Run → Bool) (rs : List Run) → AllByRecursion (λ r. t r ≡ false) rs → filter (λ r. not (t r)) rs ≡ rs
 kept_rest t [] each = refl
-kept_rest t (r ∷ rs) each = ap (λ b. cond (not b) (r ∷ filter (λ r. not (t r)) rs) (filter (λ r. not (t r)) rs)) each.0 ∙ ap (λ (l : List Run). r ∷ l) (kept_rest t rs each.1)
+kept_rest t (r ∷ rs) each =
+    ap (λ b. cond (not b) (r ∷ filter (λ r. not (t r)) rs) (filter (λ r. not (t r)) rs)) each.0 ∙ ap (λ (l : List Run). r ∷ l) (kept_rest t rs each.1)
 
 all_of : (i : ℕ) (xs : List Run) → take i xs ++ drop i xs ≡ xs
 all_of zero xs = refl
@@ -119,7 +133,8 @@ all_of (suc i) [] = refl
 all_of (suc i) (x ∷ xs) = ap (λ (l : List Run). x ∷ l) (all_of i xs)
 
 -- a walk may stop at a run that is past the last byte, where a test fails at all such
-module _ (t : Run → Bool) (key : Key) (byte : ℕ) (fails : (x : Run) → is_past key byte x ≡ true → t x ≡ false) (xs : List Run) (i : ℕ) (r : Run) (sorted : IsSorted xs) (found : slice_get xs i ≡ Some r) (past : is_past key byte r ≡ true) where
+module _ (t : Run → Bool) (key : Key) (byte : ℕ) (fails : (x : Run) → is_past key byte x ≡ true → t x ≡ false) (xs : List Run) (i : ℕ) (r : Run)
+    (sorted : IsSorted xs) (found : slice_get xs i ≡ Some r) (past : is_past key byte r ≡ true) where
   no_more : AllByRecursion (λ x. t x ≡ false) (drop i xs)
   no_more = each_weaker (λ x. is_past key byte x ≡ true) (λ x. t x ≡ false) fails (drop i xs) (past_rest key byte xs i r sorted found past)
 
@@ -135,13 +150,17 @@ module _ (t : Run → Bool) (key : Key) (byte : ℕ) (fails : (x : Run) → is_p
   find_first [] sorted = refl
   find_first (x ∷ xs) sorted = go (is_past key byte x) refl (t x) refl (find_first xs sorted.1)
     where
-      go : (b : Bool) → is_past key byte x ≡ b → (c : Bool) → t x ≡ c → keep t (find (λ r. is_past key byte r || t r) xs) ≡ find t xs → keep t (cond (is_past key byte x || t x) (Some x) (find (λ r. is_past key byte r || t r) xs)) ≡ find t (x ∷ xs)
+      go : (b : Bool) → is_past key byte x ≡ b → (c : Bool) → t x ≡ c → keep t (find (λ r. is_past key byte r || t r) xs) ≡ find t xs →
+          keep t (cond (is_past key byte x || t x) (Some x) (find (λ r. is_past key byte r || t r) xs)) ≡ find t (x ∷ xs)
       go true past c is rest =
           ap (λ b. keep t (cond (b || t x) (Some x) (find (λ r. is_past key byte r || t r) xs))) past
           ∙ ap (λ b. cond b (Some x) None) (fails x past)
           ∙ sym (find_none t (x ∷ xs) (no_more t key byte fails (x ∷ xs) 0 x sorted refl past))
-      go false past true is rest = (λ i. keep t (cond (past i || is i) (Some x) (find (λ r. is_past key byte r || t r) xs))) ∙ ap (λ b. cond b (Some x) None) is ∙ ap (λ b. cond b (Some x) (find t xs)) (sym is)
-      go false past false is rest = (λ i. keep t (cond (past i || is i) (Some x) (find (λ r. is_past key byte r || t r) xs))) ∙ rest ∙ ap (λ b. cond b (Some x) (find t xs)) (sym is)
+      go false past true is rest =
+          (λ i. keep t (cond (past i || is i) (Some x) (find (λ r. is_past key byte r || t r) xs))) ∙ ap (λ b. cond b (Some x) None) is
+          ∙ ap (λ b. cond b (Some x) (find t xs)) (sym is)
+      go false past false is rest =
+          (λ i. keep t (cond (past i || is i) (Some x) (find (λ r. is_past key byte r || t r) xs))) ∙ rest ∙ ap (λ b. cond b (Some x) (find t xs)) (sym is)
 
 any_find : (t : Run → Bool) (xs : List Run) → is_some (find t xs) ≡ list_any t xs
 any_find t [] = refl
@@ -152,7 +171,8 @@ any_find t (x ∷ xs) = go (t x) (any_find t xs)
     go false rest = rest
 
 -- the same, from what calls answer of the run that was found
-pub filtered : (t : Run → Bool) (P : Run → Bool → Type 0) (o r : Option Run) → MatchOption o (r ≡ None) (λ x. (b : Bool) × P x b × (r ≡ then_some b x)) → ((x : Run) (b : Bool) → P x b → b ≡ t x) → r ≡ keep t o
+pub filtered : (t : Run → Bool) (P : Run → Bool → Type 0) (o r : Option Run) → MatchOption o (r ≡ None) (λ x. (b : Bool) × P x b × (r ≡ then_some b x)) →
+    ((x : Run) (b : Bool) → P x b → b ≡ t x) → r ≡ keep t o
 filtered t P None r is answers = is
 filtered t P (Some x) r is answers = is.2 ∙ kept is.0 ∙ ap (λ b. cond b (Some x) None) (answers x is.0 is.1)
   where
@@ -160,7 +180,8 @@ filtered t P (Some x) r is answers = is.2 ∙ kept is.0 ∙ ap (λ b. cond b (So
     kept true = refl
     kept false = refl
 
-pub answered : (t : Run → Bool) (P : Bor Run → Type 0) (o : Option (Bor Run)) (r : Bool) → MatchOption o (r ≡ false) P → ((x : Bor Run) → P x → r ≡ t x.now) → (xs : List Run) → keep t (option_copied o) ≡ find t xs → r ≡ list_any t xs
+pub answered : (t : Run → Bool) (P : Bor Run → Type 0) (o : Option (Bor Run)) (r : Bool) → MatchOption o (r ≡ false) P → ((x : Bor Run) → P x → r ≡ t x.now) →
+    (xs : List Run) → keep t (option_copied o) ≡ find t xs → r ≡ list_any t xs
 answered t P o r is answers xs found = some o is ∙ ap is_some found ∙ any_find t xs
   where
     held : (b : Bool) (x : Run) → b ≡ is_some (cond b (Some x) None)
@@ -178,7 +199,11 @@ sorted_filter p [] sorted = tt
 sorted_filter p (x ∷ xs) sorted = go (p x) (sorted_filter p xs sorted.1)
   where
     go : (b : Bool) → IsSorted (filter p xs) → IsSorted (cond b (x ∷ filter p xs) (filter p xs))
-    go true rest = (each_weaker (λ y. (p y ≡ true) × (goes_before y x ≡ false)) (λ y. goes_before y x ≡ false) (λ y h. h.1) (filter p xs) (each_filter (λ y. goes_before y x ≡ false) p xs sorted.0), rest)
+    go true rest = (
+      each_weaker (λ y. (p y ≡ true) × (goes_before y x ≡ false)) (λ y. goes_before y x ≡ false) (λ y h. h.1) (filter p xs)
+          (each_filter (λ y. goes_before y x ≡ false) p xs sorted.0),
+      rest,
+    )
     go false rest = rest
 
 reverse_of_less : (o : Ordering) → o ≡ Less → is_lt (ordering_reverse o) ≡ false
@@ -190,15 +215,23 @@ not_back : (r x : Run) → goes_before r x ≡ true → goes_before x r ≡ fals
 not_back r x first = ap is_lt (runs_total.antisymm x r) ∙ reverse_of_less (run_cmp r x) (is_Less (run_cmp r x) first)
 
 not_later : (r x y : Run) → goes_before r x ≡ true → goes_before y x ≡ false → goes_before y r ≡ false
-not_later r x y first after = only_false _ (λ back. cc (sym after ∙ ap is_lt (runs_total.trans y r x (is_Less (run_cmp y r) back) (is_Less (run_cmp r x) first))))
+not_later r x y first after =
+    only_false _ (λ back. cc (sym after ∙ ap is_lt (runs_total.trans y r x (is_Less (run_cmp y r) back) (is_Less (run_cmp r x) first))))
 
 pub sorted_insert : (r : Run) (xs : List Run) → IsSorted xs → IsSorted (insert_run r xs)
 sorted_insert r [] sorted = (tt, tt)
 sorted_insert r (x ∷ xs) sorted = go (goes_before r x) refl (sorted_insert r xs sorted.1)
   where
     go : (b : Bool) → goes_before r x ≡ b → IsSorted (insert_run r xs) → IsSorted (cond b (r ∷ x ∷ xs) (x ∷ insert_run r xs))
-    go true first rest = ((not_back r x first, each_weaker (λ y. goes_before y x ≡ false) (λ y. goes_before y r ≡ false) (λ y after. not_later r x y first after) xs sorted.0), sorted)
-    go false after rest = (each-insert_some (λ y. goes_before y x ≡ false) (Some r) xs (λ y is. let same : r ≡ y = cc is in ap (λ (z : Run). goes_before z x) (sym same) ∙ after) sorted.0, rest)
+    go true first rest = (
+      (not_back r x first, each_weaker (λ y. goes_before y x ≡ false) (λ y. goes_before y r ≡ false) (λ y after. not_later r x y first after) xs sorted.0),
+      sorted,
+    )
+    go false after rest = (
+      each-insert_some (λ y. goes_before y x ≡ false) (Some r) xs (λ y is. let same : r ≡ y = cc is in ap (λ (z : Run). goes_before z x) (sym same) ∙ after)
+          sorted.0,
+      rest,
+    )
 
 pub sorted_insert_some : (o : Option Run) (xs : List Run) → IsSorted xs → IsSorted (insert_some o xs)
 sorted_insert_some None xs sorted = sorted
@@ -227,13 +260,15 @@ node_later node r x above after = go (is_lt (nat_cmp x.key.node r.key.node)) ref
     go : (b : Bool) → is_lt (nat_cmp x.key.node r.key.node) ≡ b → (x.key.node == node) ≡ false
     go true is =
         let less : nat_cmp x.key.node r.key.node ≡ Less = is_Less (nat_cmp x.key.node r.key.node) is in
-        absurd (cc (sym after ∙ ap (λ o. is_lt (ordering_then (ordering_then (ordering_then o (nat_cmp (class_number x.key.class) (class_number r.key.class))) (nat_cmp x.start r.start)) (nat_cmp x.key.owner r.key.owner))) less))
+        absurd (cc (sym after ∙ ap (λ o. is_lt (ordering_then (ordering_then (ordering_then o (nat_cmp (class_number x.key.class) (class_number r.key.class)))
+        (nat_cmp x.start r.start)) (nat_cmp x.key.owner r.key.owner))) less))
     go false is =
         let le = no_less_number x.key.node r.key.node is in
         only_false _ (λ same. omega (arith, le, above, same_number x.key.node node same))
 
 -- a walk may stop at a run of a later node
-pub node_stop : (node : ℕ) (xs : List Run) (i : ℕ) (r : Run) → IsSorted xs → slice_get xs i ≡ Some r → node < r.key.node → take i xs ++ filter (λ x. not (x.key.node == node)) (drop i xs) ≡ xs
+pub node_stop : (node : ℕ) (xs : List Run) (i : ℕ) (r : Run) → IsSorted xs → slice_get xs i ≡ Some r → node < r.key.node →
+    take i xs ++ filter (λ x. not (x.key.node == node)) (drop i xs) ≡ xs
 node_stop node xs i r sorted found above =
     let here = drop_here xs i r found in
     let rest : IsSorted (r ∷ drop (i + 1) xs) = subst IsSorted here (sorted_rest i xs sorted) in

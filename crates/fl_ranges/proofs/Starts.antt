@@ -1,5 +1,6 @@
 -- The number of runs, by a list of the spots where they start.
-use Rattle.std.proofs.Common.{◌≡◌, ◌≢◌, ◌↔◌, ℕ, zero, suc, ◌-◌, Bool, true, false, cond, not, ◌&&◌, ◌||◌, ◌==◌, Option, Some, None, List, [], ◌∷◌, map, length, Contains, refl, ap, sym, ◌∙◌, subst, arith}
+use Rattle.std.proofs.Common.{◌≡◌, ◌≢◌, ◌↔◌, ℕ, zero, suc, ◌-◌, Bool, true, false, cond, not, ◌&&◌, ◌||◌, ◌==◌, Option, Some, None, List, [], ◌∷◌, map, length}
+use Rattle.std.proofs.Common.{Contains, refl, ap, sym, ◌∙◌, subst, arith}
 use Rattle.std.proofs.lemmas.Bool.Decides.{nat_tests}
 use Rattle.std.proofs.lemmas.List.{length-map}
 use Rattle.std.proofs.lemmas.List.Sums.{length-filter}
@@ -79,7 +80,8 @@ start_test m q mark first = go (q.1 == 0) (is_mark mark (get m (q.0, q.1 - 1))) 
     go : (z h : Bool) → (q.1 == 0) ≡ z → is_mark mark (get m (q.0, q.1 - 1)) ≡ h → (z || not h) ≡ true
     go true h is has = refl
     go false false is has = refl
-    go false true is has = absurd (first (λ zero_is. absurd (cc (sym is ∙ ap (λ (n : ℕ). n == 0) zero_is))) ((is_mark-Decides mark (get m (q.0, q.1 - 1))).0 has))
+    go false true is has =
+        absurd (first (λ zero_is. absurd (cc (sym is ∙ ap (λ (n : ℕ). n == 0) zero_is))) ((is_mark-Decides mark (get m (q.0, q.1 - 1))).0 has))
 
 with_true : (b : Bool) → (b && true) ≡ b
 with_true true = refl
@@ -100,7 +102,8 @@ module _ {K X : Type 0} {R : K → K → Ordering} (o : IsTotalOrder R) (p : (K 
   above_kept k [] below = tt
   above_kept k (e ∷ es) below = go (p e) (above_kept k es (second_so (is_lt (R k e.0)) (below_all R k es) below))
     where
-      go : (b : Bool) → AllByRecursion (λ j. eq_by_cmp R k j ≡ false) (map (λ (e : K × X). e.0) (filter p es)) → AllByRecursion (λ j. eq_by_cmp R k j ≡ false) (map (λ (e : K × X). e.0) (cond b (e ∷ filter p es) (filter p es)))
+      go : (b : Bool) → AllByRecursion (λ j. eq_by_cmp R k j ≡ false) (map (λ (e : K × X). e.0) (filter p es)) →
+          AllByRecursion (λ j. eq_by_cmp R k j ≡ false) (map (λ (e : K × X). e.0) (cond b (e ∷ filter p es) (filter p es)))
       go true rest = (less_differs (R k e.0) (is_Less (R k e.0) (first_so (is_lt (R k e.0)) (below_all R k es) below)), rest)
       go false rest = rest
 
@@ -110,16 +113,21 @@ module _ {K X : Type 0} {R : K → K → Ordering} (o : IsTotalOrder R) (p : (K 
   kept_distinct [] sorted = tt
   kept_distinct (e ∷ es) sorted = go (p e) (kept_distinct es (second_so (below_all R e.0 es) (is_sorted R es) sorted))
     where
-      go : (b : Bool) → IsDistinct (eq_by_cmp R) (map (λ (e : K × X). e.0) (filter p es)) → IsDistinct (eq_by_cmp R) (map (λ (e : K × X). e.0) (cond b (e ∷ filter p es) (filter p es)))
+      go : (b : Bool) → IsDistinct (eq_by_cmp R) (map (λ (e : K × X). e.0) (filter p es)) →
+          IsDistinct (eq_by_cmp R) (map (λ (e : K × X). e.0) (cond b (e ∷ filter p es) (filter p es)))
       go true rest = (above_kept e.0 es (first_so (below_all R e.0 es) (is_sorted R es) sorted), rest)
       go false rest = rest
 
-  member_kept : (q : K) (es : List (K × X)) → is_member (eq_by_cmp R) (map (λ (e : K × X). e.0) (filter p es)) q ≡ list_any (λ (e : K × X). eq_by_cmp R q e.0 && p e) es
+  member_kept : (q : K) (es : List (K × X)) →
+      is_member (eq_by_cmp R) (map (λ (e : K × X). e.0) (filter p es)) q ≡ list_any (λ (e : K × X). eq_by_cmp R q e.0 && p e) es
   member_kept q [] = refl
   member_kept q (e ∷ es) = go (p e) (eq_by_cmp R q e.0) (member_kept q es)
     where
-      go : (b c : Bool) → is_member (eq_by_cmp R) (map (λ (e : K × X). e.0) (filter p es)) q ≡ list_any (λ (e : K × X). eq_by_cmp R q e.0 && p e) es → list_any (eq_by_cmp R q) (map (λ (e : K × X). e.0) (cond b (e ∷ filter p es) (filter p es))) ≡ ((eq_by_cmp R q e.0 && b) || list_any (λ (e : K × X). eq_by_cmp R q e.0 && p e) es)
-      go true c rest = ap (λ (b : Bool). eq_by_cmp R q e.0 || b) rest ∙ ap (λ (b : Bool). b || list_any (λ (e : K × X). eq_by_cmp R q e.0 && p e) es) (sym (with_true (eq_by_cmp R q e.0)))
+      go : (b c : Bool) → is_member (eq_by_cmp R) (map (λ (e : K × X). e.0) (filter p es)) q ≡ list_any (λ (e : K × X). eq_by_cmp R q e.0 && p e) es →
+          list_any (eq_by_cmp R q) (map (λ (e : K × X). e.0) (cond b (e ∷ filter p es) (filter p es)))
+          ≡ ((eq_by_cmp R q e.0 && b) || list_any (λ (e : K × X). eq_by_cmp R q e.0 && p e) es)
+      go true c rest = ap (λ (b : Bool). eq_by_cmp R q e.0 || b) rest
+          ∙ ap (λ (b : Bool). b || list_any (λ (e : K × X). eq_by_cmp R q e.0 && p e) es) (sym (with_true (eq_by_cmp R q e.0)))
       go false c rest = rest ∙ ap (λ (b : Bool). b || list_any (λ (e : K × X). eq_by_cmp R q e.0 && p e) es) (sym (with_false (eq_by_cmp R q e.0)))
 
 pub spots_decided : (a b : Spot) → Decides (eq_by_cmp spot_cmp a b) (a ≡ b)
@@ -140,7 +148,8 @@ unlisted m q any =
     subst (IsStart m) (sym same) (start_words m e.0 e.1 e.2 (second_so (eq_by_cmp spot_cmp q e.0) _ e.3))
 
 -- a list without doubles that holds exactly the starts has as many spots as there are runs
-pub starts_counted : (m : Marking) (spots : List Spot) → IsDistinct (eq_by_cmp spot_cmp) spots → ((q : Spot) → Contains spots q ↔ IsStart m q) → length spots ≡ runs m
+pub starts_counted : (m : Marking) (spots : List Spot) → IsDistinct (eq_by_cmp spot_cmp) spots → ((q : Spot) → Contains spots q ↔ IsStart m q) →
+    length spots ≡ runs m
 unfolding starts_at
 starts_counted m spots distinct each =
     let starts = map (λ (e : Spot × Mark). e.0) (filter (is_start m) (entries m)) in
@@ -148,6 +157,7 @@ starts_counted m spots distinct each =
     λ q. both_ways _ _
     (λ h. member_kept spots_total (is_start m) q (entries m) ∙ listed m q ((each q).0 ((is_member-Decides spots_decided spots q).0 h)))
     (λ h. (is_member-Decides spots_decided spots q).1 ((each q).1 (unlisted m q (sym (member_kept spots_total (is_start m) q (entries m)) ∙ h)))) in
-    length-from_same_keys (eq_by_cmp_equiv spots_total) spots starts distinct (kept_distinct spots_total (is_start m) (entries m) (truth _ (entries_sorted m))) same
+    length-from_same_keys (eq_by_cmp_equiv spots_total) spots starts distinct (kept_distinct spots_total (is_start m) (entries m) (truth _ (entries_sorted m)))
+    same
     ∙ length-map (filter (is_start m) (entries m)) (λ (e : Spot × Mark). e.0)
     ∙ length-filter (is_start m) (entries m)

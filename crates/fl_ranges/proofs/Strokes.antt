@@ -1,5 +1,6 @@
 -- The runs after a stroke are runs, and mean the marking after it.
-use Rattle.std.proofs.Common.{◌≡◌, ◌≢◌, ℕ, zero, suc, ◌+◌, ◌-◌, ◌<◌, ◌≤◌, Bool, true, false, cond, nat_lt, nat_le, Option, Some, None, List, map, length, refl, ap, sym, ◌∙◌, subst, arith}
+use Rattle.std.proofs.Common.{◌≡◌, ◌≢◌, ℕ, zero, suc, ◌+◌, ◌-◌, ◌<◌, ◌≤◌, Bool, true, false, cond, nat_lt, nat_le, Option, Some, None, List, map, length, refl}
+use Rattle.std.proofs.Common.{ap, sym, ◌∙◌, subst, arith}
 use Rattle.std.proofs.lemmas.Bool.Decides.{nat_tests}
 use Rattle.std.specs.Option.{option_map}
 use Rattle.std.specs.Ordering.{eq_by_cmp}
@@ -9,7 +10,8 @@ use Rattle.fl_ranges.specs.declared.lock.Mark.{Mark}
 use Rattle.fl_ranges.specs.declared.run.Run.{Run}
 use Rattle.fl_ranges.specs.Marking.{key_cmp, Spot, Stroke, covers, stroked, marking_of}
 use Rattle.fl_ranges.specs.Runs.{is_same_mark, runs}
-use Rattle.fl_ranges.specs.Inside.RunList.{meant, has_spot, run_at, held_at, IsWhole, AreRuns, with_run, cut, new_run, joined_start, joined_end, changed, after_stroke}
+use Rattle.fl_ranges.specs.Inside.RunList.{meant, has_spot, run_at, held_at, IsWhole, AreRuns, with_run, cut, new_run, joined_start, joined_end, changed}
+use Rattle.fl_ranges.specs.Inside.RunList.{after_stroke}
 use Rattle.fl_ranges.proofs.Markings.{spots_total, exact_spots, get-stroked}
 use Rattle.fl_ranges.proofs.Starts.{same_mark, mark_itself}
 use Rattle.fl_ranges.proofs.Spots.{same_key, within, is_within}
@@ -33,13 +35,15 @@ one_before zero h = absurd (h refl)
 one_before (suc n) h = omega arith
 
 module _ (rs : List Run) (good : AreRuns rs) (key : Key) (start end : ℕ) (ordered : start ≤ end) (limited : end ≤ 9223372036854775807) (mark : Option Mark)
-    (left : (y : Mark) → mark ≡ Some y → start ≢ 0 → held_at rs (key, start - 1) ≢ Some y) (right : (y : Mark) → mark ≡ Some y → held_at rs (key, end + 1) ≢ Some y) where
+    (left : (y : Mark) → mark ≡ Some y → start ≢ 0 → held_at rs (key, start - 1) ≢ Some y)
+    (right : (y : Mark) → mark ≡ Some y → held_at rs (key, end + 1) ≢ Some y) where
   changed_inside : (q : Spot) → inside key start end q ≡ true → held_at (changed key start end mark rs) q ≡ mark
   changed_inside q is = go mark
     where
       go : (o : Option Mark) → held_at (with_run (new_run key start end o) (cut key start end rs)) q ≡ o
       go None = ap (option_map (λ (r : Run). r.mark)) (cut_inside rs good key start end ordered q is)
-      go (Some y) = ap (λ b. option_map (λ (r : Run). r.mark) (cond b (Some (record { key = key; start = start; end = end; mark = y })) (run_at (cut key start end rs) q))) is
+      go (Some y) = ap (λ b. option_map (λ (r : Run). r.mark)
+          (cond b (Some (record { key = key; start = start; end = end; mark = y })) (run_at (cut key start end rs) q))) is
 
   changed_outside : (q : Spot) → inside key start end q ≡ false → held_at (changed key start end mark rs) q ≡ held_at rs q
   changed_outside q is = go mark
@@ -47,7 +51,8 @@ module _ (rs : List Run) (good : AreRuns rs) (key : Key) (start end : ℕ) (orde
       go : (o : Option Mark) → held_at (with_run (new_run key start end o) (cut key start end rs)) q ≡ held_at rs q
       go None = cut_outside rs good key start end ordered q is
       go (Some y) =
-          ap (λ b. option_map (λ (r : Run). r.mark) (cond b (Some (record { key = key; start = start; end = end; mark = y })) (run_at (cut key start end rs) q))) is
+          ap (λ b. option_map (λ (r : Run). r.mark)
+          (cond b (Some (record { key = key; start = start; end = end; mark = y })) (run_at (cut key start end rs) q))) is
           ∙ cut_outside rs good key start end ordered q is
 
   changed_at : (q : Spot) → held_at (changed key start end mark rs) q ≡ cond (inside key start end q) mark (held_at rs q)
@@ -98,7 +103,8 @@ module _ (rs : List Run) (good : AreRuns rs) (key : Key) (mark : Mark) where
   reach : (start : ℕ) → IsReach (λ byte. held_at rs (key, byte)) mark start (joined_start mark start (run_at rs (key, start - 1)))
   reach start = go (run_at rs (key, start - 1)) refl
     where
-      joined : (r : Run) → run_at rs (key, start - 1) ≡ Some r → (b : Bool) → is_same_mark r.mark mark ≡ b → IsReach (λ byte. held_at rs (key, byte)) mark start (cond b r.start start)
+      joined : (r : Run) → run_at rs (key, start - 1) ≡ Some r → (b : Bool) → is_same_mark r.mark mark ≡ b →
+          IsReach (λ byte. held_at rs (key, byte)) mark start (cond b r.start start)
       joined r found true same =
           let at = at_spot r (key, start - 1) (run_has rs (key, start - 1) r found) in
           let whole = each_at (IsWhole (held_at rs)) rs (has_spot (key, start - 1)) r good.whole found in
@@ -106,7 +112,8 @@ module _ (rs : List Run) (good : AreRuns rs) (key : Key) (mark : Mark) where
           record {
             ordered = omega (arith, at.from);
             held_between = λ byte from less.
-                held_of rs (key, byte) r (same_run rs good.apart (key, start - 1) (key, byte) r found (spot_of r (key, byte) at.key from (omega (arith, less, at.upto))))
+                held_of rs (key, byte) r (same_run rs good.apart (key, start - 1) (key, byte) r found
+                (spot_of r (key, byte) at.key from (omega (arith, less, at.upto))))
                 ∙ ap Some is;
             edge = λ later held. whole.first later (ap (λ (k : Key). held_at rs (k, r.start - 1)) at.key ∙ held ∙ ap Some (sym is));
           }
@@ -152,7 +159,8 @@ module _ (rs : List Run) (good : AreRuns rs) (key : Key) (mark : Mark) where
   reach_on : (end : ℕ) → end ≤ 9223372036854775807 → IsReachOn (λ byte. held_at rs (key, byte)) mark end (joined_end mark end (run_at rs (key, end + 1)))
   reach_on end limited = go (run_at rs (key, end + 1)) refl
     where
-      joined : (r : Run) → run_at rs (key, end + 1) ≡ Some r → (b : Bool) → is_same_mark r.mark mark ≡ b → IsReachOn (λ byte. held_at rs (key, byte)) mark end (cond b r.end end)
+      joined : (r : Run) → run_at rs (key, end + 1) ≡ Some r → (b : Bool) → is_same_mark r.mark mark ≡ b →
+          IsReachOn (λ byte. held_at rs (key, byte)) mark end (cond b r.end end)
       joined r found true same =
           let at = at_spot r (key, end + 1) (run_has rs (key, end + 1) r found) in
           let whole = each_at (IsWhole (held_at rs)) rs (has_spot (key, end + 1)) r good.whole found in
@@ -161,7 +169,8 @@ module _ (rs : List Run) (good : AreRuns rs) (key : Key) (mark : Mark) where
             ordered = omega (arith, at.upto);
             limited = whole.in_range;
             held_between = λ byte more upto.
-                held_of rs (key, byte) r (same_run rs good.apart (key, end + 1) (key, byte) r found (spot_of r (key, byte) at.key (omega (arith, more, at.from)) upto))
+                held_of rs (key, byte) r (same_run rs good.apart (key, end + 1) (key, byte) r found
+                (spot_of r (key, byte) at.key (omega (arith, more, at.from)) upto))
                 ∙ ap Some is;
             edge = λ held.
                 past r (λ q has. same_run rs good.apart (key, end + 1) q r found has) (omega (arith, at.from, at.upto))
@@ -226,7 +235,8 @@ module _ (rs : List Run) (good : AreRuns rs) (key : Key) (start end : ℕ) (orde
         let n = reaches_on in
         changed_at rs good key from to wider n.limited (Some mark) left_edge right_edge q ∙ go (inside key from to q) (inside key start end q) refl refl
       where
-        beside : inside key from to q ≡ true → inside key start end q ≡ false → (b c : Bool) → nat_lt q.1 start ≡ b → nat_lt end q.1 ≡ c → held_at rs q ≡ Some mark
+        beside : inside key from to q ≡ true → inside key start end q ≡ false → (b c : Bool) → nat_lt q.1 start ≡ b → nat_lt end q.1 ≡ c →
+            held_at rs q ≡ Some mark
         beside wide narrow true c less more =
             let w = within (eq_by_cmp key_cmp key q.0) from q.1 to wide in
             let r = reaches in
@@ -246,7 +256,11 @@ module _ (rs : List Run) (good : AreRuns rs) (key : Key) (start end : ℕ) (orde
             let w = within (eq_by_cmp key_cmp key q.0) start q.1 end narrow in
             let r = reaches in
             let n = reaches_on in
-            absurd (cc (sym wide ∙ is_within (eq_by_cmp key_cmp key q.0) from q.1 to w.same (omega (arith, r.ordered, w.from)) (omega (arith, w.upto, n.ordered))))
+            absurd (cc (sym wide ∙ is_within (eq_by_cmp key_cmp key q.0) from q.1 to w.same (omega (arith, r.ordered, w.from)) (omega (
+              arith,
+              w.upto,
+              n.ordered,
+            ))))
         go false false wide narrow = refl
 
   pub runs_stroked : (mark : Option Mark) → AreRuns (after_stroke key start end mark rs)
@@ -259,7 +273,9 @@ module _ (rs : List Run) (good : AreRuns rs) (key : Key) (start end : ℕ) (orde
   held_stroked None q = changed_at rs good key start end ordered limited None (no_left start) (no_right end) q
   held_stroked (Some mark) q = held_set mark q
 
-  pub marking_stroked : (mark : Option Mark) → marking_of (map meant (after_stroke key start end mark rs)) ≡ stroked (record { key = key; start = start; end = end; mark = mark }) (marking_of (map meant rs))
+  pub marking_stroked : (mark : Option Mark) →
+      marking_of (map meant (after_stroke key start end mark rs))
+      ≡ stroked (record { key = key; start = start; end = end; mark = mark }) (marking_of (map meant rs))
   marking_stroked mark =
       let s : Stroke = record { key = key; start = start; end = end; mark = mark } in
       same_map spots_total exact_spots _ _ (λ q.
@@ -268,5 +284,6 @@ module _ (rs : List Run) (good : AreRuns rs) (key : Key) (start end : ℕ) (orde
       ∙ ap (λ w. cond (covers s q) mark w) (sym (get-runs rs q))
       ∙ sym (get-stroked s (marking_of (map meant rs)) q))
 
-  pub count_stroked : (mark : Option Mark) → runs (stroked (record { key = key; start = start; end = end; mark = mark }) (marking_of (map meant rs))) ≡ length (after_stroke key start end mark rs)
+  pub count_stroked : (mark : Option Mark) →
+      runs (stroked (record { key = key; start = start; end = end; mark = mark }) (marking_of (map meant rs))) ≡ length (after_stroke key start end mark rs)
   count_stroked mark = ap runs (sym (marking_stroked mark)) ∙ runs_length (after_stroke key start end mark rs) (runs_stroked mark)

@@ -1,5 +1,6 @@
 -- The calls of a table: how many runs there are, and what they mean.
-use Rattle.std.proofs.Common.{[], replicate, get_or, suc, zero, ◌≡◌, ◌≢◌, ℕ, ◌+◌, ◌-◌, ◌<◌, ◌≤◌, Bool, true, false, cond, not, ◌==◌, nat_lt, Option, Some, None, List, ◌++◌, map, length, refl, ap, sym, ◌∙◌, subst, arith}
+use Rattle.std.proofs.Common.{[], replicate, get_or, suc, zero, ◌≡◌, ◌≢◌, ℕ, ◌+◌, ◌-◌, ◌<◌, ◌≤◌, Bool, true, false, cond, not, ◌==◌, nat_lt, Option, Some, None}
+use Rattle.std.proofs.Common.{List, ◌++◌, map, length, refl, ap, sym, ◌∙◌, subst, arith}
 use Rattle.std.proofs.lemmas.Bool.Decides.{nat_tests}
 use Rattle.std.specs.Prelude.{IfSome}
 use Rattle.std.specs.List.{filter, AllByRecursion}
@@ -21,11 +22,13 @@ use Rattle.fl_ranges.proofs.Markings.{spots_total, exact_spots, get-kept_nodes}
 use Rattle.fl_ranges.proofs.RunLists.{at_spot, run_has, each_at, each_filter, each_weaker, keep, run_at-filter, apart-filter}
 use Rattle.fl_ranges.proofs.Counting.{get-runs, runs_length}
 use Rattle.fl_ranges.proofs.Sorted.{sorted_filter}
-use Rattle.fl_ranges.proofs.ChainLists.{IsAway, count_all, before_chain, after_chain, all_around, all_swapped, away_before, away_after, filter_among, home_less, both_parts, lengths}
+use Rattle.fl_ranges.proofs.ChainLists.{IsAway, count_all, before_chain, after_chain, all_around, all_swapped, away_before, away_after, filter_among, home_less}
+use Rattle.fl_ranges.proofs.ChainLists.{both_parts, lengths}
 use Rattle.fl_ranges.proofs.TableLemmas.{within, same_found, table_stroked, runs_planned, number_itself}
 
 -- what contracts see after a change
-pub seen : (limit : ℕ) (m n : Marking) (v : LockTable) (f : Marking → Marking) → record { limit = limit; marking = m } ≡ v → n ≡ f m → ◌≡◌ {A = LockTable} (record { limit = limit; marking = n }) (record v { marking = f v.marking })
+pub seen : (limit : ℕ) (m n : Marking) (v : LockTable) (f : Marking → Marking) → record { limit = limit; marking = m } ≡ v → n ≡ f m →
+    ◌≡◌ {A = LockTable} (record { limit = limit; marking = n }) (record v { marking = f v.marking })
 seen limit m n v f view is =
     let room : limit ≡ v.limit = ap (λ (t : LockTable). t.limit) view in
     let marks : n ≡ f v.marking = is ∙ ap (λ (t : LockTable). f t.marking) view in
@@ -41,7 +44,8 @@ module _ (a : Chains Run) (limit : ℕ) (t : IsTable a limit) (free : ℕ) (tota
   pub few_items : (key : Key) → length (items a (home key.node)) ≤ 65536
   few_items key =
       let all : length (all_runs a) ≡ length (before_chain a (home key.node)) + (length (items a (home key.node)) + length (after_chain a (home key.node))) =
-      ap length (all_around a (home key.node) (within a limit t key)) ∙ lengths (before_chain a (home key.node)) (items a (home key.node)) (after_chain a (home key.node)) in
+      ap length (all_around a (home key.node) (within a limit t key))
+      ∙ lengths (before_chain a (home key.node)) (items a (home key.node)) (after_chain a (home key.node)) in
       let count = count_all a in
       let slots = t.slots in
       let small = t.small in
@@ -61,14 +65,16 @@ module _ (a : Chains Run) (limit : ℕ) (t : IsTable a limit) (free : ℕ) (tota
       omega (arith, count, slots, long, total)
 
   -- the room that is left after a stroke
-  pub room_told : (key : Key) (start end : ℕ) (mark : Option Mark) → start ≤ end → end ≤ 9223372036854775807 → (p : Plan) → p ≡ plan_of key start end mark (items a (home key.node)) → (v : LockTable) → record { limit = limit; marking = marking_of (map meant (all_runs a)) } ≡ v
+  pub room_told : (key : Key) (start end : ℕ) (mark : Option Mark) → start ≤ end → end ≤ 9223372036854775807 → (p : Plan) →
+      p ≡ plan_of key start end mark (items a (home key.node)) → (v : LockTable) → record { limit = limit; marking = marking_of (map meant (all_runs a)) } ≡ v
       → runs (stroked (record { key = key; start = start; end = end; mark = mark }) v.marking) + (free + p.taken) ≡ v.limit + pieces p
   room_told key start end mark ordered limited p is v view =
       let planned = runs_planned a limit t key start end mark ordered limited in
       let taken : p.taken ≡ (plan_of key start end mark (items a (home key.node))).taken = ap (λ (x : Plan). x.taken) is in
       let put : pieces p ≡ pieces (plan_of key start end mark (items a (home key.node))) = ap pieces is in
       let room : limit ≡ v.limit = ap (λ (x : LockTable). x.limit) view in
-      let marks : runs (stroked (record { key = key; start = start; end = end; mark = mark }) (marking_of (map meant (all_runs a)))) ≡ runs (stroked (record { key = key; start = start; end = end; mark = mark }) v.marking) =
+      let marks : runs (stroked (record { key = key; start = start; end = end; mark = mark }) (marking_of (map meant (all_runs a))))
+      ≡ runs (stroked (record { key = key; start = start; end = end; mark = mark }) v.marking) =
       ap (λ (x : LockTable). runs (stroked (record { key = key; start = start; end = end; mark = mark }) x.marking)) view in
       let count = count_all a in
       let slots = t.slots in
@@ -95,8 +101,10 @@ no_part_after rs good key (Some r) e = go (nat_lt 9223372036854775807 r.end) ref
         absurd (grind (arith, nat_tests))
     go false is = refl
 
-pub owner_erased : (a : Chains Run) (limit : ℕ) (t : IsTable a limit) (key : Key) (b : Chains Run) → HasSizeOf a b → ((d : ℕ) → d ≢ home key.node → entries b d ≡ entries a d) → items b (home key.node) ≡ left_over key 0 9223372036854775807 (items a (home key.node))
-    → IsTable b limit × (marking_of (map meant (all_runs b)) ≡ stroked (record { key = key; start = 0; end = 9223372036854775807; mark = None }) (marking_of (map meant (all_runs a))))
+pub owner_erased : (a : Chains Run) (limit : ℕ) (t : IsTable a limit) (key : Key) (b : Chains Run) → HasSizeOf a b →
+    ((d : ℕ) → d ≢ home key.node → entries b d ≡ entries a d) → items b (home key.node) ≡ left_over key 0 9223372036854775807 (items a (home key.node))
+    → IsTable b limit × (marking_of (map meant (all_runs b))
+    ≡ stroked (record { key = key; start = 0; end = 9223372036854775807; mark = None }) (marking_of (map meant (all_runs a))))
 owner_erased a limit t key b size others is =
     let after : part_after 9223372036854775807 (run_at (items a (home key.node)) (key, 9223372036854775807)) ≡ None =
     no_part_after (all_runs a) t.runs key (run_at (items a (home key.node)) (key, 9223372036854775807)) (sym (same_found a limit t key 9223372036854775807)) in
@@ -111,7 +119,10 @@ module _ (p : Run → Bool) (rs : List Run) (good : AreRuns rs) where
   runs-filter = record {
     apart = apart-filter p rs good.apart;
     whole = each_weaker (λ r. (p r ≡ true) × IsWhole (held_at rs) r) (IsWhole (held_at (filter p rs)))
-        (λ r h. record { in_range = h.1.in_range; first = λ later held. h.1.first later (still (r.key, r.start - 1) r.mark (run_at rs (r.key, r.start - 1)) refl held) })
+        (λ r h. record {
+          in_range = h.1.in_range;
+          first = λ later held. h.1.first later (still (r.key, r.start - 1) r.mark (run_at rs (r.key, r.start - 1)) refl held);
+        })
         (filter p rs) (each_filter (IsWhole (held_at rs)) p rs good.whole);
   }
     where
@@ -120,8 +131,10 @@ module _ (p : Run → Bool) (rs : List Run) (good : AreRuns rs) where
       still q mark (Some r) found held = go (p r) refl
         where
           go : (b : Bool) → p r ≡ b → held_at rs q ≡ Some mark
-          go true is = ap (option_map (λ (x : Run). x.mark)) found ∙ sym (ap (option_map (λ (x : Run). x.mark)) (run_at-filter p rs good.apart q ∙ ap (keep p) found ∙ ap (λ b. cond b (Some r) None) is)) ∙ held
-          go false is = absurd (cc (sym held ∙ ap (option_map (λ (x : Run). x.mark)) (run_at-filter p rs good.apart q ∙ ap (keep p) found ∙ ap (λ b. cond b (Some r) None) is)))
+          go true is = ap (option_map (λ (x : Run). x.mark)) found
+              ∙ sym (ap (option_map (λ (x : Run). x.mark)) (run_at-filter p rs good.apart q ∙ ap (keep p) found ∙ ap (λ b. cond b (Some r) None) is)) ∙ held
+          go false is = absurd (cc (sym held ∙ ap (option_map (λ (x : Run). x.mark)) (run_at-filter p rs good.apart q ∙ ap (keep p) found
+              ∙ ap (λ b. cond b (Some r) None) is)))
 
 only_false : (b : Bool) → (b ≡ true → ⊥) → b ≡ false
 only_false true f = absurd (f refl)
@@ -131,10 +144,12 @@ same_number : (a b : ℕ) → (a == b) ≡ true → a ≡ b
 same_number a b e = grind (arith, nat_tests)
 
 not_of_node : (node : ℕ) (rs : List Run) → AllByRecursion (IsAway (home node)) rs → AllByRecursion (λ r. (r.key.node == node) ≡ false) rs
-not_of_node node rs each = each_weaker (IsAway (home node)) (λ r. (r.key.node == node) ≡ false) (λ r far. only_false _ (λ is. far (ap home (same_number r.key.node node is)))) rs each
+not_of_node node rs each =
+    each_weaker (IsAway (home node)) (λ r. (r.key.node == node) ≡ false) (λ r far. only_false _ (λ is. far (ap home (same_number r.key.node node is)))) rs each
 
 -- the runs of the nodes that pass a test mean the marks of those nodes
-pub kept_nodes : (p : ℕ → Bool) (rs : List Run) → AreRuns rs → marking_of (map meant (filter (λ r. p r.key.node) rs)) ≡ retain_keys (marking_of (map meant rs)) (λ spot. p spot.0.node)
+pub kept_nodes : (p : ℕ → Bool) (rs : List Run) → AreRuns rs →
+    marking_of (map meant (filter (λ r. p r.key.node) rs)) ≡ retain_keys (marking_of (map meant rs)) (λ spot. p spot.0.node)
 kept_nodes p rs good = same_map spots_total exact_spots _ _ (λ q.
     get-runs (filter (λ r. p r.key.node) rs) q
     ∙ ap (option_map (λ (x : Run). x.mark)) (run_at-filter (λ r. p r.key.node) rs good.apart q)
@@ -150,8 +165,10 @@ kept_nodes p rs good = same_map spots_total exact_spots _ _ (λ q.
     kept true r = refl
     kept false r = refl
 
-    go : (q : Spot) (o : Option Run) → run_at rs q ≡ o → option_map (λ (x : Run). x.mark) (keep (λ r. p r.key.node) (run_at rs q)) ≡ cond (p q.0.node) (held_at rs q) None
-    go q None none = ap (λ (o : Option Run). option_map (λ (x : Run). x.mark) (keep (λ r. p r.key.node) o)) none ∙ none_either (p q.0.node) ∙ ap (λ (o : Option Run). cond (p q.0.node) (option_map (λ (x : Run). x.mark) o) None) (sym none)
+    go : (q : Spot) (o : Option Run) → run_at rs q ≡ o →
+        option_map (λ (x : Run). x.mark) (keep (λ r. p r.key.node) (run_at rs q)) ≡ cond (p q.0.node) (held_at rs q) None
+    go q None none = ap (λ (o : Option Run). option_map (λ (x : Run). x.mark) (keep (λ r. p r.key.node) o)) none ∙ none_either (p q.0.node)
+        ∙ ap (λ (o : Option Run). cond (p q.0.node) (option_map (λ (x : Run). x.mark) o) None) (sym none)
     go q (Some r) found =
         let at = at_spot r q (run_has rs q r found) in
         ap (λ (o : Option Run). option_map (λ (x : Run). x.mark) (keep (λ r. p r.key.node) o)) found
@@ -159,7 +176,8 @@ kept_nodes p rs good = same_map spots_total exact_spots _ _ (λ q.
         ∙ ap (λ (k : Key). cond (p k.node) (Some r.mark) None) at.key
         ∙ ap (λ (o : Option Run). cond (p q.0.node) (option_map (λ (x : Run). x.mark) o) None) (sym found)
 
-pub node_erased : (a : Chains Run) (limit : ℕ) (t : IsTable a limit) (node : ℕ) (b : Chains Run) → HasSizeOf a b → ((d : ℕ) → d ≢ home node → entries b d ≡ entries a d) → items b (home node) ≡ filter (λ r. not (r.key.node == node)) (items a (home node))
+pub node_erased : (a : Chains Run) (limit : ℕ) (t : IsTable a limit) (node : ℕ) (b : Chains Run) → HasSizeOf a b →
+    ((d : ℕ) → d ≢ home node → entries b d ≡ entries a d) → items b (home node) ≡ filter (λ r. not (r.key.node == node)) (items a (home node))
     → IsTable b limit × (marking_of (map meant (all_runs b)) ≡ without_node node (marking_of (map meant (all_runs a))))
 node_erased a limit t node b size others is =
     let less = home_less node in
@@ -188,15 +206,18 @@ node_erased a limit t node b size others is =
         let e : home node ≡ c = sym (same_number c (home node) same_chain) in
         subst (λ (d : ℕ). AllByRecursion (λ r. home r.key.node ≡ d) (items b d)) e
         (subst (AllByRecursion (λ r. home r.key.node ≡ home node)) (sym is)
-        (each_weaker (λ r. (not (r.key.node == node) ≡ true) × (home r.key.node ≡ home node)) (λ r. home r.key.node ≡ home node) (λ r h. h.1) (filter (λ r. not (r.key.node == node)) (items a (home node)))
+        (each_weaker (λ r. (not (r.key.node == node) ≡ true) × (home r.key.node ≡ home node)) (λ r. home r.key.node ≡ home node) (λ r h. h.1)
+        (filter (λ r. not (r.key.node == node)) (items a (home node)))
         (each_filter (λ r. home r.key.node ≡ home node) (λ r. not (r.key.node == node)) (items a (home node)) (t.at_home (home node)))))
     go c false other =
-        subst (AllByRecursion (λ r. home r.key.node ≡ c)) (ap (map (λ (x : Entry Run). x.item)) (sym (others c (λ e. absurd (cc (sym other ∙ number_itself c (home node) e)))))) (t.at_home c)
+        subst (AllByRecursion (λ r. home r.key.node ≡ c))
+        (ap (map (λ (x : Entry Run). x.item)) (sym (others c (λ e. absurd (cc (sym other ∙ number_itself c (home node) e)))))) (t.at_home c)
 
     in_order : (c : ℕ) (x : Bool) → (c == home node) ≡ x → IsSorted (items b c)
     in_order c true same_chain =
         let e : home node ≡ c = sym (same_number c (home node) same_chain) in
-        subst (λ (d : ℕ). IsSorted (items b d)) e (subst IsSorted (sym is) (sorted_filter (λ r. not (r.key.node == node)) (items a (home node)) (t.sorted (home node))))
+        subst (λ (d : ℕ). IsSorted (items b d)) e
+        (subst IsSorted (sym is) (sorted_filter (λ r. not (r.key.node == node)) (items a (home node)) (t.sorted (home node))))
     in_order c false other =
         subst IsSorted (ap (map (λ (x : Entry Run). x.item)) (sym (others c (λ e. absurd (cc (sym other ∙ number_itself c (home node) e)))))) (t.sorted c)
 

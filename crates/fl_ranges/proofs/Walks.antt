@@ -1,5 +1,6 @@
 -- Walks along the items of a chain.
-use Rattle.std.proofs.Common.{◌≡◌, ◌≢◌, ℕ, zero, suc, ◌+◌, ◌<◌, ◌≤◌, ◌-◌, Bool, true, false, cond, not, ◌==◌, List, [], ◌∷◌, ◌++◌, length, take, drop, Some, None, slice_get, refl, sym, ◌∙◌, ap, add-one, arith}
+use Rattle.std.proofs.Common.{◌≡◌, ◌≢◌, ℕ, zero, suc, ◌+◌, ◌<◌, ◌≤◌, ◌-◌, Bool, true, false, cond, not, ◌==◌, List, [], ◌∷◌, ◌++◌, length, take, drop, Some}
+use Rattle.std.proofs.Common.{None, slice_get, refl, sym, ◌∙◌, ap, add-one, arith}
 use Rattle.std.specs.List.{filter, insert, remove, position_or_len}
 use Rattle.std.proofs.lemmas.Bool.Decides.{nat_tests}
 use Rattle.std.proofs.lemmas.Option.{none-some, slice_get_within}
@@ -27,7 +28,8 @@ module _ {A : Type 0} where
   drop_end (x ∷ xs) (suc i) none = drop_end xs i none
 
   module _ (p : A → Bool) where
-    kept_more : (xs : List A) (i : ℕ) (x : A) → slice_get xs i ≡ Some x → p x ≡ true → take i xs ++ filter p (drop i xs) ≡ take (suc i) xs ++ filter p (drop (suc i) xs)
+    kept_more : (xs : List A) (i : ℕ) (x : A) → slice_get xs i ≡ Some x → p x ≡ true →
+        take i xs ++ filter p (drop i xs) ≡ take (suc i) xs ++ filter p (drop (suc i) xs)
     kept_more [] i x found keeps = absurd (none-some x found)
     kept_more (y ∷ xs) zero x found keeps =
         let same : y ≡ x = cc in
@@ -36,11 +38,13 @@ module _ {A : Type 0} where
     kept_more (y ∷ xs) (suc i) x found keeps = ap (λ (l : List A). y ∷ l) (kept_more xs i x found keeps)
 
     -- past an item that is kept
-    pub kept_on : (xs : List A) (i : ℕ) (x : A) → slice_get xs i ≡ Some x → p x ≡ true → take i xs ++ filter p (drop i xs) ≡ take (i + 1) xs ++ filter p (drop (i + 1) xs)
+    pub kept_on : (xs : List A) (i : ℕ) (x : A) → slice_get xs i ≡ Some x → p x ≡ true →
+        take i xs ++ filter p (drop i xs) ≡ take (i + 1) xs ++ filter p (drop (i + 1) xs)
     kept_on xs i x found keeps = rw add-one (kept_more xs i x found keeps)
 
     -- where an item is taken out
-    pub kept_out : (xs : List A) (i : ℕ) (x : A) → slice_get xs i ≡ Some x → p x ≡ false → take i xs ++ filter p (drop i xs) ≡ take i (remove xs i) ++ filter p (drop i (remove xs i))
+    pub kept_out : (xs : List A) (i : ℕ) (x : A) → slice_get xs i ≡ Some x → p x ≡ false →
+        take i xs ++ filter p (drop i xs) ≡ take i (remove xs i) ++ filter p (drop i (remove xs i))
     kept_out [] i x found goes = absurd (none-some x found)
     kept_out (y ∷ xs) zero x found goes =
         let same : y ≡ x = cc in
@@ -63,7 +67,8 @@ pub insert_first : (x : Run) (xs : List Run) → insert_run x xs ≡ insert xs (
 insert_first x [] = refl
 insert_first x (y ∷ ys) = go (goes_before x y) (insert_first x ys)
   where
-    go : (b : Bool) → insert_run x ys ≡ insert ys (position_or_len (goes_before x) ys) x → cond b (x ∷ y ∷ ys) (y ∷ insert_run x ys) ≡ insert (y ∷ ys) (cond (not b) (1 + position_or_len (goes_before x) ys) 0) x
+    go : (b : Bool) → insert_run x ys ≡ insert ys (position_or_len (goes_before x) ys) x →
+        cond b (x ∷ y ∷ ys) (y ∷ insert_run x ys) ≡ insert (y ∷ ys) (cond (not b) (1 + position_or_len (goes_before x) ys) 0) x
     go true rest = refl
     go false rest = ap (λ (l : List Run). y ∷ l) rest ∙ ap (λ (i : ℕ). insert (y ∷ ys) i x) (one_more (position_or_len (goes_before x) ys))
 
@@ -89,7 +94,8 @@ pub record IsOn {T : Type 0} (a : Chains T) (c : ℕ) (cursor next : Cursor) : T
   pub within : next.index ≤ length (items a c)
   pub smaller : length (items a c) - next.index < length (items a c) - cursor.index
 
-pub on_at : {T : Type 0} (a : Chains T) (c : ℕ) (cursor next : Cursor) (x : T) → slice_get (items a c) cursor.index ≡ Some x → next ≡ cursor_at a c (cursor.index + 1) → IsOn a c cursor next
+pub on_at : {T : Type 0} (a : Chains T) (c : ℕ) (cursor next : Cursor) (x : T) → slice_get (items a c) cursor.index ≡ Some x →
+    next ≡ cursor_at a c (cursor.index + 1) → IsOn a c cursor next
 on_at a c cursor next x found on =
     let index : next.index ≡ cursor.index + 1 = ap (λ (k : Cursor). k.index) on in
     let more : cursor.index < length (items a c) = slice_get_within (items a c) cursor.index x found in
@@ -112,8 +118,10 @@ pub record IsOut {T : Type 0} (a b : Chains T) (c : ℕ) (cursor next : Cursor) 
   pub within : next.index ≤ length (items b c)
   pub smaller : length (items b c) - next.index < length (items a c) - cursor.index
 
-pub out_at : {T : Type 0} (a b : Chains T) (c : ℕ) (cursor next : Cursor) (x : T) → cursor ≡ cursor_at a c cursor.index → slice_get (items a c) cursor.index ≡ Some x
-    → items b cursor.chain ≡ remove (items a cursor.chain) cursor.index → ((d : ℕ) → d ≢ cursor.chain → entries b d ≡ entries a d) → next ≡ cursor_at b cursor.chain cursor.index → IsOut a b c cursor next
+pub out_at : {T : Type 0} (a b : Chains T) (c : ℕ) (cursor next : Cursor) (x : T) → cursor ≡ cursor_at a c cursor.index →
+    slice_get (items a c) cursor.index ≡ Some x
+    → items b cursor.chain ≡ remove (items a cursor.chain) cursor.index → ((d : ℕ) → d ≢ cursor.chain → entries b d ≡ entries a d) →
+    next ≡ cursor_at b cursor.chain cursor.index → IsOut a b c cursor next
 out_at a b c cursor next x at found removed others moved =
     let chain : cursor.chain ≡ c = ap (λ (k : Cursor). k.chain) at in
     let there : next ≡ cursor_at b c cursor.index = moved ∙ ap (λ (d : ℕ). cursor_at b d cursor.index) chain in
@@ -134,14 +142,16 @@ out_at a b c cursor next x at found removed others moved =
 -- ---- what is known so far
 
 module _ {A : Type 0} (t : A → Bool) (xs : List A) (i : ℕ) where
-  pub count_yes : (j n : ℕ) (x : A) → n + length (filter t (drop i xs)) ≡ length (filter t xs) → slice_get xs i ≡ Some x → t x ≡ true → j ≡ i + 1 → n + 1 + length (filter t (drop j xs)) ≡ length (filter t xs)
+  pub count_yes : (j n : ℕ) (x : A) → n + length (filter t (drop i xs)) ≡ length (filter t xs) → slice_get xs i ≡ Some x → t x ≡ true → j ≡ i + 1 →
+      n + 1 + length (filter t (drop j xs)) ≡ length (filter t xs)
   count_yes j n x so_far found is next =
       let here : length (filter t (drop i xs)) ≡ suc (length (filter t (drop (i + 1) xs))) =
       ap (λ l. length (filter t l)) (drop_here xs i x found) ∙ ap (λ b. length (cond b (x ∷ filter t (drop (i + 1) xs)) (filter t (drop (i + 1) xs)))) is in
       let there : length (filter t (drop j xs)) ≡ length (filter t (drop (i + 1) xs)) = ap (λ (k : ℕ). length (filter t (drop k xs))) next in
       omega (arith, so_far, here, there)
 
-  pub count_no : (j n : ℕ) (x : A) → n + length (filter t (drop i xs)) ≡ length (filter t xs) → slice_get xs i ≡ Some x → t x ≡ false → j ≡ i + 1 → n + length (filter t (drop j xs)) ≡ length (filter t xs)
+  pub count_no : (j n : ℕ) (x : A) → n + length (filter t (drop i xs)) ≡ length (filter t xs) → slice_get xs i ≡ Some x → t x ≡ false → j ≡ i + 1 →
+      n + length (filter t (drop j xs)) ≡ length (filter t xs)
   count_no j n x so_far found is next =
       let here : length (filter t (drop i xs)) ≡ length (filter t (drop (i + 1) xs)) =
       ap (λ l. length (filter t l)) (drop_here xs i x found) ∙ ap (λ b. length (cond b (x ∷ filter t (drop (i + 1) xs)) (filter t (drop (i + 1) xs)))) is in

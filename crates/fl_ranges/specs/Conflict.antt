@@ -66,8 +66,10 @@ IsAtMost (Some told) owner = told ≤ owner
 
 -- the least owner that conflicts, of those greater than the one that is given; none where no such owner does
 pub record IsLeastAfter (m : Marking) (key : Key) (start end : ℕ) (kind : Kind) (after told : Option ℕ) : Type 0 where
-  pub itself : (owner : ℕ) → told ≡ Some owner → IsAfter after owner × (owner_conflicts m key start end kind owner ≡ true)
-  pub least : (owner : ℕ) → IsAfter after owner → owner_conflicts m key start end kind owner ≡ true → IsAtMost told owner
+  pub itself : (owner : ℕ) → told ≡ Some owner →
+      IsAfter after owner × (owner_conflicts m key start end kind owner ≡ true)
+  pub least : (owner : ℕ) → IsAfter after owner → owner_conflicts m key start end kind owner ≡ true →
+      IsAtMost told owner
 
 -- no byte of a node has marks of one class of two owners, one of them write
 abbrev pub IsLawful : Marking → Type 0

@@ -5,7 +5,8 @@ use Rattle.fl_ranges.specs.declared.lock.Key.{Key}
 use Rattle.fl_ranges.specs.declared.lock.Mark.{Mark}
 use Rattle.fl_ranges.specs.declared.run.Run.{Run}
 use Rattle.fl_ranges.specs.declared.plan.Plan.{Plan}
-use Rattle.fl_ranges.specs.Inside.RunList.{run_at, overlaps, left_over, part_before, part_after, new_run, reach_start, reach_end}
+use Rattle.fl_ranges.specs.Inside.RunList.{run_at, overlaps, left_over, part_before, part_after, new_run, reach_start}
+use Rattle.fl_ranges.specs.Inside.RunList.{reach_end}
 use Rattle.fl_ranges.specs.Inside.RunChains.{insert_run}
 
 -- what is taken out and put in where the bytes from start to end change

@@ -16,7 +16,8 @@ loop-run-preserved c =
     let at = c.loop-run.invariant.at in
     let got = c.in-Some.ensures in
     let found : slice_get xs i ≡ Some c.in-Some.run'.now = sym (got.at_index c.args.chain i at) in
-    let step = on_at c.args.runs.now c.args.chain c.loop-run.cursor c.step.new.cursor c.in-Some.run'.now found (c.step.ensures.at_index _ _ (got.some.0 refl) at) in
+    let step = on_at c.args.runs.now c.args.chain c.loop-run.cursor c.step.new.cursor c.in-Some.run'.now found
+    (c.step.ensures.at_index _ _ (got.some.0 refl) at) in
     let index = step.index in
     record {
       at = step.at;
@@ -41,5 +42,6 @@ returns-then-is_past c =
     let xs = items c.args.runs.now c.args.chain in
     let i = c.loop-run.cursor.index in
     let found : slice_get xs i ≡ Some c.in-Some.run'.now = sym (c.in-Some.ensures.at_index c.args.chain i c.loop-run.invariant.at) in
-    let past : is_past key (last_start range.start range.end c.loop-run.best) c.in-Some.run'.now ≡ true = sym (c.if-is_past.ensures ∙ ap (λ byte. is_past key byte c.in-Some.run'.now) c.last_start.ensures) in
+    let past : is_past key (last_start range.start range.end c.loop-run.best) c.in-Some.run'.now ≡ true =
+    sym (c.if-is_past.ensures ∙ ap (λ byte. is_past key byte c.in-Some.run'.now) c.last_start.ensures) in
     sym (c.loop-run.invariant.rest ∙ nearest_stop key range.start range.end c.args.kind c.in-Some.run'.now xs i c.loop-run.best found c.requires.sorted past)

@@ -15,5 +15,6 @@ pub returns-clause-items : goal.returns-clause-items
 returns-clause-items c =
     let run = c.args.run.now in
     let xs = items c.args.runs.now (home run.key.node) in
-    let first = c.first_where-cursor.ensures.first (goes_before run) (λ a r k. search rules) ∙ ap (λ d. cursor_at c.args.runs.now d (position_or_len (goes_before run) (items c.args.runs.now d))) c.home.ensures.home in
+    let first = c.first_where-cursor.ensures.first (goes_before run) (λ a r k. search rules)
+    ∙ ap (λ d. cursor_at c.args.runs.now d (position_or_len (goes_before run) (items c.args.runs.now d))) c.home.ensures.home in
     c.in-Ok.ensures.at_index (home run.key.node) (position_or_len (goes_before run) xs) first ∙ sym (insert_first run xs)

@@ -29,7 +29,8 @@ loop-run-smaller-then-overlaps c =
     let inv = c.loop-run.invariant in
     let got = c.in-Some.ensures in
     let found : slice_get xs i ≡ Some c.in-Some.run'.now = sym (got.at_index (home c.args.key.now.node) i inv.at) in
-    let step = on_at c.args.runs.now (home c.args.key.now.node) c.loop-run.cursor c.step.new.cursor c.in-Some.run'.now found (c.step.ensures.at_index _ _ (got.some.0 refl) inv.at) in
+    let step = on_at c.args.runs.now (home c.args.key.now.node) c.loop-run.cursor c.step.new.cursor c.in-Some.run'.now found
+    (c.step.ensures.at_index _ _ (got.some.0 refl) inv.at) in
     step.smaller
 
 pub loop-run-preserved-then-overlaps : goal.loop-run-preserved-then-overlaps
@@ -39,13 +40,15 @@ loop-run-preserved-then-overlaps c =
     let inv = c.loop-run.invariant in
     let got = c.in-Some.ensures in
     let found : slice_get xs i ≡ Some c.in-Some.run'.now = sym (got.at_index (home c.args.key.now.node) i inv.at) in
-    let step = on_at c.args.runs.now (home c.args.key.now.node) c.loop-run.cursor c.step.new.cursor c.in-Some.run'.now found (c.step.ensures.at_index _ _ (got.some.0 refl) inv.at) in
+    let step = on_at c.args.runs.now (home c.args.key.now.node) c.loop-run.cursor c.step.new.cursor c.in-Some.run'.now found
+    (c.step.ensures.at_index _ _ (got.some.0 refl) inv.at) in
     let index = step.index in
     record {
       at = step.at;
       within = step.within;
       few = omega (arith, inv.few, index);
-      rest = count_yes (overlaps c.args.key.now c.args.start c.args.end) xs i c.step.new.cursor.index c.loop-run.count c.in-Some.run'.now inv.rest found (sym c.overlaps.ensures ∙ c.if-overlaps.true) index;
+      rest = count_yes (overlaps c.args.key.now c.args.start c.args.end) xs i c.step.new.cursor.index c.loop-run.count c.in-Some.run'.now inv.rest found
+          (sym c.overlaps.ensures ∙ c.if-overlaps.true) index;
     }
 
 pub loop-run-smaller : goal.loop-run-smaller
@@ -55,7 +58,8 @@ loop-run-smaller c =
     let inv = c.loop-run.invariant in
     let got = c.in-Some.ensures in
     let found : slice_get xs i ≡ Some c.in-Some.run'.now = sym (got.at_index (home c.args.key.now.node) i inv.at) in
-    let step = on_at c.args.runs.now (home c.args.key.now.node) c.loop-run.cursor c.step.new.cursor c.in-Some.run'.now found (c.step.ensures.at_index _ _ (got.some.0 refl) inv.at) in
+    let step = on_at c.args.runs.now (home c.args.key.now.node) c.loop-run.cursor c.step.new.cursor c.in-Some.run'.now found
+    (c.step.ensures.at_index _ _ (got.some.0 refl) inv.at) in
     step.smaller
 
 pub loop-run-preserved : goal.loop-run-preserved
@@ -65,13 +69,15 @@ loop-run-preserved c =
     let inv = c.loop-run.invariant in
     let got = c.in-Some.ensures in
     let found : slice_get xs i ≡ Some c.in-Some.run'.now = sym (got.at_index (home c.args.key.now.node) i inv.at) in
-    let step = on_at c.args.runs.now (home c.args.key.now.node) c.loop-run.cursor c.step.new.cursor c.in-Some.run'.now found (c.step.ensures.at_index _ _ (got.some.0 refl) inv.at) in
+    let step = on_at c.args.runs.now (home c.args.key.now.node) c.loop-run.cursor c.step.new.cursor c.in-Some.run'.now found
+    (c.step.ensures.at_index _ _ (got.some.0 refl) inv.at) in
     let index = step.index in
     record {
       at = step.at;
       within = step.within;
       few = omega (arith, inv.few, index);
-      rest = count_no (overlaps c.args.key.now c.args.start c.args.end) xs i c.step.new.cursor.index c.loop-run.count c.in-Some.run'.now inv.rest found (sym c.overlaps.ensures ∙ c.if-overlaps.false) index;
+      rest = count_no (overlaps c.args.key.now c.args.start c.args.end) xs i c.step.new.cursor.index c.loop-run.count c.in-Some.run'.now inv.rest found
+          (sym c.overlaps.ensures ∙ c.if-overlaps.false) index;
     }
 
 pub returns-then-is_past : goal.returns-then-is_past
@@ -82,7 +88,8 @@ returns-then-is_past c =
     let got = c.in-Some.ensures in
     let found : slice_get xs i ≡ Some c.in-Some.run'.now = sym (got.at_index (home c.args.key.now.node) i inv.at) in
     let past = sym c.is_past.ensures ∙ c.if-is_past.true in
-    count_stop (overlaps c.args.key.now c.args.start c.args.end) c.args.key.now c.args.end (past_overlap c.args.key.now c.args.start c.args.end) xs i c.in-Some.run'.now c.requires.sorted found past c.loop-run.count inv.rest
+    count_stop (overlaps c.args.key.now c.args.start c.args.end) c.args.key.now c.args.end (past_overlap c.args.key.now c.args.start c.args.end) xs i
+    c.in-Some.run'.now c.requires.sorted found past c.loop-run.count inv.rest
 
 pub returns-in_default : goal.returns-in_default
 returns-in_default c =

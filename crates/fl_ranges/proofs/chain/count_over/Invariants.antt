@@ -11,7 +11,8 @@ invariant-loop-run l = record {
   at : l.cursor ≡ cursor_at l.runs (home l.key.node) l.cursor.index;
   within : l.cursor.index ≤ length (items l.runs (home l.key.node));
   few : l.count ≤ l.cursor.index;
-  rest : l.count + length (filter (overlaps l.key l.start l.end) (drop l.cursor.index (items l.runs (home l.key.node)))) ≡ length (filter (overlaps l.key l.start l.end) (items l.runs (home l.key.node)));
+  rest : l.count + length (filter (overlaps l.key l.start l.end) (drop l.cursor.index (items l.runs (home l.key.node))))
+      ≡ length (filter (overlaps l.key l.start l.end) (items l.runs (home l.key.node)));
 }
 
 abbrev pub decreases-loop-run : goal.decreases-loop-run

@@ -16,7 +16,8 @@ loop-run-smaller-then-run-node-2 c =
     let inv = c.loop-run.invariant in
     let got = c.in-Some.ensures in
     let found : slice_get xs i ≡ Some c.in-Some.run'.now = sym (got.at_index (home c.args.node) i inv.at) in
-    let out = out_at c.loop-run.runs c.remove.new.self (home c.args.node) c.loop-run.cursor c.remove.new.cursor c.in-Some.run'.now inv.at found c.remove.ensures.items c.remove.ensures.others c.remove.ensures.cursor in
+    let out = out_at c.loop-run.runs c.remove.new.self (home c.args.node) c.loop-run.cursor c.remove.new.cursor c.in-Some.run'.now inv.at found
+    c.remove.ensures.items c.remove.ensures.others c.remove.ensures.cursor in
     out.smaller
 
 pub loop-run-preserved-then-run-node-2 : goal.loop-run-preserved-then-run-node-2
@@ -26,14 +27,16 @@ loop-run-preserved-then-run-node-2 c =
     let inv = c.loop-run.invariant in
     let got = c.in-Some.ensures in
     let found : slice_get xs i ≡ Some c.in-Some.run'.now = sym (got.at_index (home c.args.node) i inv.at) in
-    let out = out_at c.loop-run.runs c.remove.new.self (home c.args.node) c.loop-run.cursor c.remove.new.cursor c.in-Some.run'.now inv.at found c.remove.ensures.items c.remove.ensures.others c.remove.ensures.cursor in
+    let out = out_at c.loop-run.runs c.remove.new.self (home c.args.node) c.loop-run.cursor c.remove.new.cursor c.in-Some.run'.now inv.at found
+    c.remove.ensures.items c.remove.ensures.others c.remove.ensures.cursor in
     record {
       at = out.at;
       within = out.within;
       left =
           inv.left
           ∙ kept_out (λ (r : Run). not (r.key.node == c.args.node)) xs i c.in-Some.run'.now found (on_node _ _ c.if-run-node-2.true)
-          ∙ (λ j. take (sym out.index j) (sym out.items_are j) ++ filter (λ (r : Run). not (r.key.node == c.args.node)) (drop (sym out.index j) (sym out.items_are j)));
+          ∙ (λ j. take (sym out.index j) (sym out.items_are j)
+          ++ filter (λ (r : Run). not (r.key.node == c.args.node)) (drop (sym out.index j) (sym out.items_are j)));
       sorted = subst IsSorted (sym out.items_are) (sorted_remove i xs inv.sorted);
       others = λ d apart. out.others d apart ∙ inv.others d apart;
       size = record { chains = c.remove.ensures.size.chains ∙ inv.size.chains; slots = c.remove.ensures.size.slots ∙ inv.size.slots };
@@ -46,7 +49,8 @@ loop-run-smaller c =
     let inv = c.loop-run.invariant in
     let got = c.in-Some.ensures in
     let found : slice_get xs i ≡ Some c.in-Some.run'.now = sym (got.at_index (home c.args.node) i inv.at) in
-    let step = on_at c.loop-run.runs (home c.args.node) c.loop-run.cursor c.step.new.cursor c.in-Some.run'.now found (c.step.ensures.at_index _ _ (got.some.0 refl) inv.at) in
+    let step = on_at c.loop-run.runs (home c.args.node) c.loop-run.cursor c.step.new.cursor c.in-Some.run'.now found
+    (c.step.ensures.at_index _ _ (got.some.0 refl) inv.at) in
     step.smaller
 
 pub loop-run-preserved : goal.loop-run-preserved
@@ -56,11 +60,13 @@ loop-run-preserved c =
     let inv = c.loop-run.invariant in
     let got = c.in-Some.ensures in
     let found : slice_get xs i ≡ Some c.in-Some.run'.now = sym (got.at_index (home c.args.node) i inv.at) in
-    let step = on_at c.loop-run.runs (home c.args.node) c.loop-run.cursor c.step.new.cursor c.in-Some.run'.now found (c.step.ensures.at_index _ _ (got.some.0 refl) inv.at) in
+    let step = on_at c.loop-run.runs (home c.args.node) c.loop-run.cursor c.step.new.cursor c.in-Some.run'.now found
+    (c.step.ensures.at_index _ _ (got.some.0 refl) inv.at) in
     record {
       at = step.at;
       within = step.within;
-      left = inv.left ∙ kept_on (λ (r : Run). not (r.key.node == c.args.node)) xs i c.in-Some.run'.now found (off_node _ _ c.if-run-node-2.false) ∙ ap (λ (j : ℕ). take j xs ++ filter (λ (r : Run). not (r.key.node == c.args.node)) (drop j xs)) (sym step.index);
+      left = inv.left ∙ kept_on (λ (r : Run). not (r.key.node == c.args.node)) xs i c.in-Some.run'.now found (off_node _ _ c.if-run-node-2.false)
+          ∙ ap (λ (j : ℕ). take j xs ++ filter (λ (r : Run). not (r.key.node == c.args.node)) (drop j xs)) (sym step.index);
       sorted = inv.sorted;
       others = inv.others;
       size = inv.size;

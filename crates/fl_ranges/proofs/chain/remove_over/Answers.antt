@@ -28,7 +28,8 @@ loop-run-smaller-then-overlaps c =
     let inv = c.loop-run.invariant in
     let got = c.in-Some.ensures in
     let found : slice_get xs i ≡ Some c.in-Some.run'.now = sym (got.at_index (home c.args.key.now.node) i inv.at) in
-    let out = out_at c.loop-run.runs c.remove.new.self (home c.args.key.now.node) c.loop-run.cursor c.remove.new.cursor c.in-Some.run'.now inv.at found c.remove.ensures.items c.remove.ensures.others c.remove.ensures.cursor in
+    let out = out_at c.loop-run.runs c.remove.new.self (home c.args.key.now.node) c.loop-run.cursor c.remove.new.cursor c.in-Some.run'.now inv.at found
+    c.remove.ensures.items c.remove.ensures.others c.remove.ensures.cursor in
     out.smaller
 
 pub loop-run-preserved-then-overlaps : goal.loop-run-preserved-then-overlaps
@@ -38,14 +39,17 @@ loop-run-preserved-then-overlaps c =
     let inv = c.loop-run.invariant in
     let got = c.in-Some.ensures in
     let found : slice_get xs i ≡ Some c.in-Some.run'.now = sym (got.at_index (home c.args.key.now.node) i inv.at) in
-    let out = out_at c.loop-run.runs c.remove.new.self (home c.args.key.now.node) c.loop-run.cursor c.remove.new.cursor c.in-Some.run'.now inv.at found c.remove.ensures.items c.remove.ensures.others c.remove.ensures.cursor in
+    let out = out_at c.loop-run.runs c.remove.new.self (home c.args.key.now.node) c.loop-run.cursor c.remove.new.cursor c.in-Some.run'.now inv.at found
+    c.remove.ensures.items c.remove.ensures.others c.remove.ensures.cursor in
     record {
       at = out.at;
       within = out.within;
       left =
           inv.left
-          ∙ kept_out (λ (r : Run). not (overlaps c.args.key.now c.args.start c.args.end r)) xs i c.in-Some.run'.now found (ap not (sym c.overlaps.ensures ∙ c.if-overlaps.true))
-          ∙ (λ j. take (sym out.index j) (sym out.items_are j) ++ filter (λ (r : Run). not (overlaps c.args.key.now c.args.start c.args.end r)) (drop (sym out.index j) (sym out.items_are j)));
+          ∙ kept_out (λ (r : Run). not (overlaps c.args.key.now c.args.start c.args.end r)) xs i c.in-Some.run'.now found
+          (ap not (sym c.overlaps.ensures ∙ c.if-overlaps.true))
+          ∙ (λ j. take (sym out.index j) (sym out.items_are j)
+          ++ filter (λ (r : Run). not (overlaps c.args.key.now c.args.start c.args.end r)) (drop (sym out.index j) (sym out.items_are j)));
       sorted = subst IsSorted (sym out.items_are) (sorted_remove i xs inv.sorted);
       others = λ d apart. out.others d apart ∙ inv.others d apart;
       size = record { chains = c.remove.ensures.size.chains ∙ inv.size.chains; slots = c.remove.ensures.size.slots ∙ inv.size.slots };
@@ -58,7 +62,8 @@ loop-run-smaller c =
     let inv = c.loop-run.invariant in
     let got = c.in-Some.ensures in
     let found : slice_get xs i ≡ Some c.in-Some.run'.now = sym (got.at_index (home c.args.key.now.node) i inv.at) in
-    let step = on_at c.loop-run.runs (home c.args.key.now.node) c.loop-run.cursor c.step.new.cursor c.in-Some.run'.now found (c.step.ensures.at_index _ _ (got.some.0 refl) inv.at) in
+    let step = on_at c.loop-run.runs (home c.args.key.now.node) c.loop-run.cursor c.step.new.cursor c.in-Some.run'.now found
+    (c.step.ensures.at_index _ _ (got.some.0 refl) inv.at) in
     step.smaller
 
 pub loop-run-preserved : goal.loop-run-preserved
@@ -68,11 +73,14 @@ loop-run-preserved c =
     let inv = c.loop-run.invariant in
     let got = c.in-Some.ensures in
     let found : slice_get xs i ≡ Some c.in-Some.run'.now = sym (got.at_index (home c.args.key.now.node) i inv.at) in
-    let step = on_at c.loop-run.runs (home c.args.key.now.node) c.loop-run.cursor c.step.new.cursor c.in-Some.run'.now found (c.step.ensures.at_index _ _ (got.some.0 refl) inv.at) in
+    let step = on_at c.loop-run.runs (home c.args.key.now.node) c.loop-run.cursor c.step.new.cursor c.in-Some.run'.now found
+    (c.step.ensures.at_index _ _ (got.some.0 refl) inv.at) in
     record {
       at = step.at;
       within = step.within;
-      left = inv.left ∙ kept_on (λ (r : Run). not (overlaps c.args.key.now c.args.start c.args.end r)) xs i c.in-Some.run'.now found (ap not (sym c.overlaps.ensures ∙ c.if-overlaps.false)) ∙ ap (λ (j : ℕ). take j xs ++ filter (λ (r : Run). not (overlaps c.args.key.now c.args.start c.args.end r)) (drop j xs)) (sym step.index);
+      left = inv.left ∙ kept_on (λ (r : Run). not (overlaps c.args.key.now c.args.start c.args.end r)) xs i c.in-Some.run'.now found
+          (ap not (sym c.overlaps.ensures ∙ c.if-overlaps.false))
+          ∙ ap (λ (j : ℕ). take j xs ++ filter (λ (r : Run). not (overlaps c.args.key.now c.args.start c.args.end r)) (drop j xs)) (sym step.index);
       sorted = inv.sorted;
       others = inv.others;
       size = inv.size;
@@ -86,7 +94,8 @@ returns-then-is_past-clause-items c =
     let got = c.in-Some.ensures in
     let found : slice_get xs i ≡ Some c.in-Some.run'.now = sym (got.at_index (home c.args.key.now.node) i inv.at) in
     let past = sym c.is_past.ensures ∙ c.if-is_past.true in
-    sym (inv.left ∙ kept_stop (overlaps c.args.key.now c.args.start c.args.end) c.args.key.now c.args.end (past_overlap c.args.key.now c.args.start c.args.end) xs i c.in-Some.run'.now inv.sorted found past)
+    sym (inv.left ∙ kept_stop (overlaps c.args.key.now c.args.start c.args.end) c.args.key.now c.args.end (past_overlap c.args.key.now c.args.start c.args.end)
+    xs i c.in-Some.run'.now inv.sorted found past)
 
 pub returns-in_default-clause-items : goal.returns-in_default-clause-items
 returns-in_default-clause-items c =

@@ -10,7 +10,8 @@ abbrev pub invariant-loop-run : goal.invariant-loop-run
 invariant-loop-run l = record {
   at : l.cursor ≡ cursor_at l.runs (home l.key.node) l.cursor.index;
   within : l.cursor.index ≤ length (items l.runs (home l.key.node));
-  left : left_over l.key l.start l.end (items l.initial.runs (home l.key.node)) ≡ take l.cursor.index (items l.runs (home l.key.node)) ++ left_over l.key l.start l.end (drop l.cursor.index (items l.runs (home l.key.node)));
+  left : left_over l.key l.start l.end (items l.initial.runs (home l.key.node))
+      ≡ take l.cursor.index (items l.runs (home l.key.node)) ++ left_over l.key l.start l.end (drop l.cursor.index (items l.runs (home l.key.node)));
   sorted : IsSorted (items l.runs (home l.key.node));
   others : (c : ℕ) → c ≢ home l.key.node → entries l.runs c ≡ entries l.initial.runs c;
   size : HasSizeOf l.initial.runs l.runs;

@@ -19,7 +19,8 @@ returns c =
     let chain = ap (λ (k : Cursor). k.chain) c.requires.from.at in
     let found = c.next_where-cursor.ensures.found (λ r. is_past key byte r || has_spot (key, byte) r) (λ a r k. search rules) in
     filtered (has_spot (key, byte)) _ c.get.result c.filter.result c.filter.ensures (λ x b k. search rules)
-    ∙ ap (keep (has_spot (key, byte))) (c.get.ensures.item ∙ found ∙ ap (λ d. find (λ r. is_past key byte r || has_spot (key, byte) r) (drop i (items c.args.runs.now d))) chain)
+    ∙ ap (keep (has_spot (key, byte)))
+    (c.get.ensures.item ∙ found ∙ ap (λ d. find (λ r. is_past key byte r || has_spot (key, byte) r) (drop i (items c.args.runs.now d))) chain)
     ∙ find_first (has_spot (key, byte)) key byte (past_spot key byte) (drop i xs) (sorted_rest i xs c.requires.sorted)
     ∙ find_from c.args.runs.now key byte c.args.from c.requires.from
 

@@ -11,5 +11,7 @@ pub returns : goal.returns
 returns c =
     let key = c.args.key.now in
     let byte = c.args.byte in
-    behind_first c.args.runs.now key byte c.first_where.result (c.first_where.ensures.first (λ r. is_past key byte r || reaches key byte r) (λ a r k. search rules)
-    ∙ ap (λ d. cursor_at c.args.runs.now d (position_or_len (λ (r : Run). is_past key byte r || reaches key byte r) (items c.args.runs.now d))) c.home.ensures.home)
+    behind_first c.args.runs.now key byte c.first_where.result
+    (c.first_where.ensures.first (λ r. is_past key byte r || reaches key byte r) (λ a r k. search rules)
+    ∙ ap (λ d. cursor_at c.args.runs.now d (position_or_len (λ (r : Run). is_past key byte r || reaches key byte r) (items c.args.runs.now d)))
+    c.home.ensures.home)

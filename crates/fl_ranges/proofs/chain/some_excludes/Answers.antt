@@ -15,4 +15,5 @@ returns c =
     let xs = items c.args.runs.now (home key.node) in
     let found = c.first_where-cursor.ensures.found (λ r. is_past key c.args.end r || test r) (λ a r k. search rules) in
     answered test _ c.item.result c.is_some_and.result c.is_some_and.ensures (λ x k. search rules) xs
-    (ap (keep test) (c.item.ensures.item ∙ found ∙ ap (λ d. find (λ r. is_past key c.args.end r || test r) (items c.args.runs.now d)) c.home.ensures.home) ∙ find_first test key c.args.end (past_clash key c.args.start c.args.end c.args.kind) xs c.requires.sorted)
+    (ap (keep test) (c.item.ensures.item ∙ found ∙ ap (λ d. find (λ r. is_past key c.args.end r || test r) (items c.args.runs.now d)) c.home.ensures.home)
+    ∙ find_first test key c.args.end (past_clash key c.args.start c.args.end c.args.kind) xs c.requires.sorted)

@@ -17,7 +17,8 @@ loop-run-preserved c =
     let at = c.loop-run.invariant.at in
     let got = c.in-Some.ensures in
     let found : slice_get xs i ≡ Some c.in-Some.run'.now = sym (got.at_index c.args.chain i at) in
-    let step = on_at c.args.runs.now c.args.chain c.loop-run.cursor c.step.new.cursor c.in-Some.run'.now found (c.step.ensures.at_index _ _ (got.some.0 refl) at) in
+    let step = on_at c.args.runs.now c.args.chain c.loop-run.cursor c.step.new.cursor c.in-Some.run'.now found
+    (c.step.ensures.at_index _ _ (got.some.0 refl) at) in
     let index = step.index in
     record {
       at = step.at;
@@ -43,4 +44,5 @@ returns-then-is_past c =
     let i = c.loop-run.cursor.index in
     let found : slice_get xs i ≡ Some c.in-Some.run'.now = sym (c.in-Some.ensures.at_index c.args.chain i c.loop-run.invariant.at) in
     let past : is_past key range.end c.in-Some.run'.now ≡ true = sym c.if-is_past.ensures in
-    sym (c.loop-run.invariant.rest ∙ least_stop key range.start range.end c.args.kind c.args.after c.in-Some.run'.now xs i c.loop-run.least found c.requires.sorted past)
+    sym (c.loop-run.invariant.rest
+    ∙ least_stop key range.start range.end c.args.kind c.args.after c.in-Some.run'.now xs i c.loop-run.least found c.requires.sorted past)

@@ -12,6 +12,7 @@ returns-in-Some-clause-count c =
     let less = home_less c.in-Some.run'.key.node in
     let chains = c.requires.chains in
     let len = swapped_length c.args.runs.now c.add.new.runs h (omega (arith, less, chains)) c.add.ensures.size c.add.ensures.others in
-    let grown : length (items c.add.new.runs h) ≡ length (items c.args.runs.now h) + 1 = ap length c.add.ensures.items ∙ length-insert_run c.in-Some.run' (items c.args.runs.now h) in
+    let grown : length (items c.add.new.runs h) ≡ length (items c.args.runs.now h) + 1 =
+    ap length c.add.ensures.items ∙ length-insert_run c.in-Some.run' (items c.args.runs.now h) in
     let one : count_run c.args.run ≡ 1 = ap count_run c.in-Some.is in
     omega (arith, len, grown, one)

@@ -6,7 +6,8 @@ use Rattle.fl_ranges.proofs.plan.carry_out.Goals.{After-remove_over}
 
 left_runs : (c : After-remove_over) → length (all_runs c.remove_over.new.runs) + c.args.plan.now.taken ≡ length (all_runs c.args.runs.now)
 left_runs c =
-    let less = fewer_runs c.args.runs.now c.remove_over.new.runs c.args.key.now c.args.plan.now.start c.args.plan.now.end c.requires.chains c.remove_over.ensures.size c.remove_over.ensures.others c.remove_over.ensures.items in
+    let less = fewer_runs c.args.runs.now c.remove_over.new.runs c.args.key.now c.args.plan.now.start c.args.plan.now.end c.requires.chains
+    c.remove_over.ensures.size c.remove_over.ensures.others c.remove_over.ensures.items in
     let taken = c.requires.taken in
     omega (arith, less, taken)
 

@@ -19,4 +19,5 @@ run_at-requires-2-clause-from c =
     let below = reach_below key c.args.start c.args.mark xs in
     let above = reach_above key c.args.end c.args.mark xs in
     let ordered = c.requires.ordered in
-    behind_later c.args.runs.now key _ c.seek_again-from.result c.seek_again-from.ensures c.reach_end-end.result (omega (arith, start, end, below, above, ordered))
+    behind_later c.args.runs.now key _ c.seek_again-from.result c.seek_again-from.ensures c.reach_end-end.result
+    (omega (arith, start, end, below, above, ordered))
