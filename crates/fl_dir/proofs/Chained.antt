@@ -1,5 +1,6 @@
 -- Changes in the chain of an arena, as changes of entries and of a finite map.
-use Rattle.std.proofs.Common.{◌≡◌, ◌≢◌, ℕ, ◌+◌, ◌<◌, ◌≤◌, Bool, true, false, cond, not, sum_by, slice_index_or, ◌==◌, ◌||◌, nat_le, Option, Some, None, IsSome, option_map, slice_get, slice_set, List, [], ◌∷◌, ◌++◌, length, refl, ap, sym, ◌∙◌, subst, arith}
+use Rattle.std.proofs.Common.{◌≡◌, ◌≢◌, ℕ, ◌+◌, ◌<◌, ◌≤◌, Bool, true, false, cond, not, sum_by, slice_index_or, ◌==◌, ◌||◌, nat_le, Option, Some, None, IsSome}
+use Rattle.std.proofs.Common.{option_map, slice_get, slice_set, List, [], ◌∷◌, ◌++◌, length, refl, ap, sym, ◌∙◌, subst, arith}
 use Rattle.std.proofs.lemmas.Bool.Decides.{nat_tests}
 use Rattle.std.proofs.lemmas.List.{length-map}
 use Rattle.std.proofs.lemmas.Option.{none-some}
@@ -29,7 +30,8 @@ module _ {X : Type 0} where
   found_number [] n e is = absurd (none-some e is)
   found_number (f ∷ es) n e is = go (f.0 == n) refl (found_number es n e) is
     where
-      go : (b : Bool) → (f.0 == n) ≡ b → (find (λ (e : ℕ × X). e.0 == n) es ≡ Some e → e ≡ (n, e.1)) → cond b (Some f) (find (λ (e : ℕ × X). e.0 == n) es) ≡ Some e → e ≡ (n, e.1)
+      go : (b : Bool) → (f.0 == n) ≡ b → (find (λ (e : ℕ × X). e.0 == n) es ≡ Some e → e ≡ (n, e.1)) →
+          cond b (Some f) (find (λ (e : ℕ × X). e.0 == n) es) ≡ Some e → e ≡ (n, e.1)
       go true same later h =
           let one : f ≡ e = cc h in
           let key : e.0 ≡ n = ap (λ (x : ℕ × X). x.0) (sym one) ∙ keys_equal f.0 n same in
@@ -80,14 +82,16 @@ module _ {X : Type 0} where
       go (c ∷ []) one = alone (length c)
       go (c ∷ d ∷ cs) one = absurd (omega (arith, one))
 
-  pub list_pushed : (a b : Chains (ℕ × X)) (most next : ℕ) (x : X) → IsList a most next → HasSizeOf a b → items b 0 ≡ items a 0 ++ (next, x) ∷ [] → IsList b most (next + 1)
+  pub list_pushed : (a b : Chains (ℕ × X)) (most next : ℕ) (x : X) → IsList a most next → HasSizeOf a b → items b 0 ≡ items a 0 ++ (next, x) ∷ [] →
+      IsList b most (next + 1)
   list_pushed a b most next x kept size is = record {
     chains = size.chains ∙ kept.chains;
     slots = size.slots ∙ kept.slots;
     listed = subst (λ es. AreListed es (next + 1)) (sym is) (listed_pushed (items a 0) next x kept.listed);
   }
 
-  pub list_put : (a b : Chains (ℕ × X)) (most next n : ℕ) (x : X) → IsList a most next → HasSizeOf a b → IsSome (find (λ (e : ℕ × X). e.0 == n) (items a 0)) → items b 0 ≡ rising.put nat_cmp n x (items a 0) → IsList b most next
+  pub list_put : (a b : Chains (ℕ × X)) (most next n : ℕ) (x : X) → IsList a most next → HasSizeOf a b → IsSome (find (λ (e : ℕ × X). e.0 == n) (items a 0)) →
+      items b 0 ≡ rising.put nat_cmp n x (items a 0) → IsList b most next
   list_put a b most next n x kept size some is =
       let e = some_entry (find (λ (e : ℕ × X). e.0 == n) (items a 0)) some in
       record {
@@ -96,7 +100,8 @@ module _ {X : Type 0} where
         listed = subst (λ es. AreListed es next) (sym is) (listed_put (items a 0) n next x e.0 e.1 kept.listed);
       }
 
-  pub list_where : (a b : Chains (ℕ × X)) (most next n : ℕ) → IsList a most next → HasSizeOf a b → items b 0 ≡ rising.where_key nat_cmp (λ k. not (eq_by_cmp nat_cmp n k)) (items a 0) → IsList b most next
+  pub list_where : (a b : Chains (ℕ × X)) (most next n : ℕ) → IsList a most next → HasSizeOf a b →
+      items b 0 ≡ rising.where_key nat_cmp (λ k. not (eq_by_cmp nat_cmp n k)) (items a 0) → IsList b most next
   list_where a b most next n kept size is = record {
     chains = size.chains ∙ kept.chains;
     slots = size.slots ∙ kept.slots;
@@ -104,32 +109,39 @@ module _ {X : Type 0} where
   }
 
   -- a number that the map has is found in the chain
-  pub found_of_map : (a : Chains (ℕ × X)) (most next n : ℕ) → IsList a most next → IsSome (map.get (map.from_sorted {R = nat_cmp} (items a 0)) n) → IsSome (find (λ (e : ℕ × X). e.0 == n) (items a 0))
+  pub found_of_map : (a : Chains (ℕ × X)) (most next n : ℕ) → IsList a most next → IsSome (map.get (map.from_sorted {R = nat_cmp} (items a 0)) n) →
+      IsSome (find (λ (e : ℕ × X). e.0 == n) (items a 0))
   found_of_map a most next n kept some = some_mapped (λ (e : ℕ × X). e.1) _ (subst IsSome (get_listed (items a 0) n kept.listed.sorted) some)
 
   -- ---- room
 
   -- where all slots hold items, so many are there
-  pub full_of_none : (a : Chains (ℕ × X)) (most next free : ℕ) (b : Bool) → IsList a most next → item_count a + free ≡ a.slots → free ≡ 0 → true ≡ (nat_le most (map.len (map.from_sorted {R = nat_cmp} (items a 0))) || b)
+  pub full_of_none : (a : Chains (ℕ × X)) (most next free : ℕ) (b : Bool) → IsList a most next → item_count a + free ≡ a.slots → free ≡ 0 →
+      true ≡ (nat_le most (map.len (map.from_sorted {R = nat_cmp} (items a 0))) || b)
   full_of_none a most next free b kept total none =
-      let all : most ≤ map.len (map.from_sorted {R = nat_cmp} (items a 0)) = omega (arith, counted a kept.chains, len_listed (items a 0) kept.listed.sorted, total, none, kept.slots) in
+      let all : most ≤ map.len (map.from_sorted {R = nat_cmp} (items a 0)) =
+      omega (arith, counted a kept.chains, len_listed (items a 0) kept.listed.sorted, total, none, kept.slots) in
       ap (λ t. t || b) (reached _ _ all)
     where
       reached : (m n : ℕ) → m ≤ n → true ≡ nat_le m n
       reached m n h = grind (arith, nat_tests)
 
-  pub room_of_some : (a : Chains (ℕ × X)) (most next free : ℕ) (b : Bool) → IsList a most next → item_count a + free ≡ a.slots → free ≢ 0 → b ≡ (nat_le most (map.len (map.from_sorted {R = nat_cmp} (items a 0))) || b)
+  pub room_of_some : (a : Chains (ℕ × X)) (most next free : ℕ) (b : Bool) → IsList a most next → item_count a + free ≡ a.slots → free ≢ 0 →
+      b ≡ (nat_le most (map.len (map.from_sorted {R = nat_cmp} (items a 0))) || b)
   room_of_some a most next free b kept total some =
-      let few : map.len (map.from_sorted {R = nat_cmp} (items a 0)) < most = omega (arith, counted a kept.chains, len_listed (items a 0) kept.listed.sorted, total, some, kept.slots) in
+      let few : map.len (map.from_sorted {R = nat_cmp} (items a 0)) < most =
+      omega (arith, counted a kept.chains, len_listed (items a 0) kept.listed.sorted, total, some, kept.slots) in
       ap (λ t. t || b) (missed _ _ few)
     where
       missed : (m n : ℕ) → n < m → false ≡ nat_le m n
       missed m n h = grind (arith, nat_tests)
 
   -- where a limit isn't reached there is room
-  pub room_left : (a : Chains (ℕ × X)) (most next : ℕ) (b : Bool) → IsList a most next → (nat_le most (map.len (map.from_sorted {R = nat_cmp} (items a 0))) || b) ≡ false → length (items a 0) < a.slots
+  pub room_left : (a : Chains (ℕ × X)) (most next : ℕ) (b : Bool) → IsList a most next →
+      (nat_le most (map.len (map.from_sorted {R = nat_cmp} (items a 0))) || b) ≡ false → length (items a 0) < a.slots
   room_left a most next b kept clear =
-      let few : map.len (map.from_sorted {R = nat_cmp} (items a 0)) < most = go _ (nat_le most (map.len (map.from_sorted {R = nat_cmp} (items a 0)))) refl clear in
+      let few : map.len (map.from_sorted {R = nat_cmp} (items a 0)) < most =
+      go _ (nat_le most (map.len (map.from_sorted {R = nat_cmp} (items a 0)))) refl clear in
       omega (arith, len_listed (items a 0) kept.listed.sorted, few, kept.slots)
     where
       go : (n : ℕ) (t : Bool) → nat_le most n ≡ t → (t || b) ≡ false → n < most
@@ -138,5 +150,6 @@ module _ {X : Type 0} where
 
 -- listings with equal parts
 pub same_listing : (m n : map.FinMap nat_cmp Node) (f g : map.FinMap nat_cmp ℕ) (next_node next_fh : ℕ) → m ≡ n → f ≡ g
-    → ◌≡◌ {A = Listing} (record { nodes = m; files = f; next_node = next_node; next_fh = next_fh }) (record { nodes = n; files = g; next_node = next_node; next_fh = next_fh })
+    → ◌≡◌ {A = Listing} (record { nodes = m; files = f; next_node = next_node; next_fh = next_fh })
+    (record { nodes = n; files = g; next_node = next_node; next_fh = next_fh })
 same_listing m n f g next_node next_fh p q = λ i. record { nodes = p i; files = q i; next_node = next_node; next_fh = next_fh }

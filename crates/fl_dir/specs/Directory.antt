@@ -1,5 +1,6 @@
 -- Names and nodes of one flat directory (Linux `fuse.h`: lookup counts and node numbers; POSIX.1-2017 `open`).
-use Rattle.std.specs.Prelude.{ℕ, ◌-◌, ◌^◌, Bool, false, ◌||◌, ◌==◌, nat_le, bit_and, bit_or, Option, Some, None, is_some, option_map, List, [], ◌∷◌, if◌then◌else◌}
+use Rattle.std.specs.Prelude.{ℕ, ◌-◌, ◌^◌, Bool, false, ◌||◌, ◌==◌, nat_le, bit_and, bit_or, Option, Some, None}
+use Rattle.std.specs.Prelude.{is_some, option_map, List, [], ◌∷◌, if◌then◌else◌}
 use Rattle.std.specs.List.{list_any, find}
 use Rattle.std.specs.Ordering.{nat_cmp}
 use Rattle.std.specs.Str.{bytes_eq}

@@ -3,10 +3,12 @@
 use Rattle.std.specs.Prelude.{ℕ, ◌-◌, ◌^◌, Bool, not, ◌==◌, Option, Some, None, Result, Ok, Err, List, if◌then◌else◌}
 use Rattle.fl_dir.specs.declared.node.Node.{Node}
 use Rattle.fl_dir.specs.declared.dir.Closed.{Closed}
-use Rattle.fl_dir.specs.Directory.{Listing, is_known, is_reserved, linked, nodes_full, made_node, attributes, attributes_at}
+use Rattle.fl_dir.specs.Directory.{Listing, is_known, is_reserved, linked, nodes_full, made_node, attributes}
+use Rattle.fl_dir.specs.Directory.{attributes_at}
 use Rattle.fl_dir.specs.OpenFiles.{files_full, is_open_on, has_open_file, without_file}
 use Rattle.fl_order.specs.declared.errno.Errno.{Errno}
-use Rattle.fl_order.specs.declared.errno.Errno.TheVariants.{ENOENT, EBADF, EEXIST, ENOTDIR, EISDIR, EINVAL, ENFILE, ENOSPC}
+use Rattle.fl_order.specs.declared.errno.Errno.TheVariants.{ENOENT, EBADF, EEXIST, ENOTDIR, EISDIR, EINVAL, ENFILE}
+use Rattle.fl_order.specs.declared.errno.Errno.TheVariants.{ENOSPC}
 use Rattle.fl_order.specs.declared.told.Answer.{Answer}
 use Rattle.fl_order.specs.declared.told.Answer.TheVariants.{Done, Entry, Attr as Attributes, Open, Made}
 use Rattle.fl_order.specs.declared.told.Attr.{Attr}

@@ -15,7 +15,8 @@ pub invariant_of-self : goal.invariant_of-self
 invariant_of-self c =
     let found = found_of_map c.self.inside.nodes 256 c.self.inside.next_node c.args.number c.self.invariant.0
     (subst (λ (d : Listing). IsSome (get d.nodes c.args.number)) (sym c.self.view_is) c.requires) in (
-      list_put c.self.inside.nodes c.replace.new.chain 256 c.self.inside.next_node c.args.number c.args.node.now c.self.invariant.0 c.replace.ensures.size found c.replace.ensures.items,
+      list_put c.self.inside.nodes c.replace.new.chain 256 c.self.inside.next_node c.args.number c.args.node.now c.self.invariant.0 c.replace.ensures.size found
+          c.replace.ensures.items,
       c.self.invariant.1,
     )
 

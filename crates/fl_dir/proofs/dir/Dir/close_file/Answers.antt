@@ -13,7 +13,8 @@ take_out-requires-clause-found c =
 
 pub invariant_of-self : goal.invariant_of-self
 invariant_of-self c =
-    let kept = list_where c.self.inside.files c.take_out.new.chain 1024 c.self.inside.next_fh c.args.fh c.self.invariant.1 c.take_out.ensures.size c.take_out.ensures.items in
+    let kept = list_where c.self.inside.files c.take_out.new.chain 1024 c.self.inside.next_fh c.args.fh c.self.invariant.1 c.take_out.ensures.size
+    c.take_out.ensures.items in
     (c.self.invariant.0, kept)
 
 pub returns : goal.returns

@@ -20,10 +20,12 @@ invariant_of-self c = (
 
 pub returns-clause-fresh : goal.returns-clause-fresh
 returns-clause-fresh c =
-    subst (λ (d : Listing). get d.nodes d.next_node ≡ None) c.self.view_is (fresh_listed (items c.self.inside.nodes 0) c.self.inside.next_node c.self.invariant.0.listed)
+    subst (λ (d : Listing). get d.nodes d.next_node ≡ None) c.self.view_is
+    (fresh_listed (items c.self.inside.nodes 0) c.self.inside.next_node c.self.invariant.0.listed)
 
 pub returns-clause-after : goal.returns-clause-after
 returns-clause-after c =
-    let pushed = ap from_sorted c.push.ensures.items ∙ map_pushed (items c.self.inside.nodes 0) c.self.inside.next_node c.args.node.now c.self.invariant.0.listed in
+    let pushed = ap from_sorted c.push.ensures.items
+    ∙ map_pushed (items c.self.inside.nodes 0) c.self.inside.next_node c.args.node.now c.self.invariant.0.listed in
     same_listing _ _ _ _ (c.self.inside.next_node + 1) c.self.inside.next_fh pushed refl
     ∙ ap (λ (d : Listing). record d { nodes = insert d.nodes d.next_node c.args.node.now; next_node = d.next_node + 1 }) c.self.view_is

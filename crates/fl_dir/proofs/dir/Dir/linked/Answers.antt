@@ -11,9 +11,11 @@ pub returns-clause-linked : goal.returns-clause-linked
 returns-clause-linked c =
     let name = c.args.name.now in
     subst (λ d. c.entry_named.result ≡ linked d name) c.self.view_is
-    (c.entry_named.ensures ∙ ap (find (λ (e : ℕ × Node). is_named e.1.name name)) (sym (entries_listed (items c.self.inside.nodes 0) c.self.invariant.0.listed.sorted)))
+    (c.entry_named.ensures ∙ ap (find (λ (e : ℕ × Node). is_named e.1.name name))
+    (sym (entries_listed (items c.self.inside.nodes 0) c.self.invariant.0.listed.sorted)))
 
 pub returns-clause-listed : goal.returns-clause-listed
 returns-clause-listed c =
     subst (λ (d : Listing). IfSome c.entry_named.result (λ e. get d.nodes e.0 ≡ Some e.1)) c.self.view_is
-    (get_all_found (λ (e : ℕ × Node). is_named e.1.name c.args.name.now) (items c.self.inside.nodes 0) _ c.self.invariant.0.listed.sorted (sym c.entry_named.ensures))
+    (get_all_found (λ (e : ℕ × Node). is_named e.1.name c.args.name.now) (items c.self.inside.nodes 0) _ c.self.invariant.0.listed.sorted
+    (sym c.entry_named.ensures))

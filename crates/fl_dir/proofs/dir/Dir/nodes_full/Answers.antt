@@ -8,9 +8,11 @@ pub returns-then-free-eq0 : goal.returns-then-free-eq0
 returns-then-free-eq0 c =
     subst (λ d. (c.free.result == 0) ≡ nodes_full d) c.self.view_is
     (same_number c.free.result 0 c.if-free-eq0.true
-    ∙ full_of_none c.self.inside.nodes 256 c.self.inside.next_node c.free.result (c.self.inside.next_node == 18446744073709551615) c.self.invariant.0 c.free.ensures.total c.if-free-eq0.true)
+    ∙ full_of_none c.self.inside.nodes 256 c.self.inside.next_node c.free.result (c.self.inside.next_node == 18446744073709551615) c.self.invariant.0
+    c.free.ensures.total c.if-free-eq0.true)
 
 pub returns-else-free-eq0 : goal.returns-else-free-eq0
 returns-else-free-eq0 c =
     subst (λ d. (c.self.inside.next_node == 18446744073709551615) ≡ nodes_full d) c.self.view_is
-    (room_of_some c.self.inside.nodes 256 c.self.inside.next_node c.free.result (c.self.inside.next_node == 18446744073709551615) c.self.invariant.0 c.free.ensures.total c.if-free-eq0.false)
+    (room_of_some c.self.inside.nodes 256 c.self.inside.next_node c.free.result (c.self.inside.next_node == 18446744073709551615) c.self.invariant.0
+    c.free.ensures.total c.if-free-eq0.false)

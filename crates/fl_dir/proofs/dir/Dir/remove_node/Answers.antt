@@ -13,7 +13,8 @@ take_out-requires-clause-found c =
 
 pub invariant_of-self : goal.invariant_of-self
 invariant_of-self c =
-    let kept = list_where c.self.inside.nodes c.take_out.new.chain 256 c.self.inside.next_node c.args.number c.self.invariant.0 c.take_out.ensures.size c.take_out.ensures.items in
+    let kept = list_where c.self.inside.nodes c.take_out.new.chain 256 c.self.inside.next_node c.args.number c.self.invariant.0 c.take_out.ensures.size
+    c.take_out.ensures.items in
     (kept, c.self.invariant.1)
 
 pub returns : goal.returns
