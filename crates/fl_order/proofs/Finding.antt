@@ -10,7 +10,8 @@ use Rattle.fl_order.specs.Kind.{all_kinds, opcode_for, word_for, kind_of_opcode,
 use Rattle.fl_order.specs.declared.kind.Kind.{Kind}
 
 -- what is found passes the test
-first_passes : {X : Type 0} (test : X → Bool) (y : X) (rest : Option X) (x : X) (b : Bool) → test y ≡ b → (if b then Some y else rest) ≡ Some x → (rest ≡ Some x → test x ≡ true) → test x ≡ true
+first_passes : {X : Type 0} (test : X → Bool) (y : X) (rest : Option X) (x : X) (b : Bool) → test y ≡ b → (if b then Some y else rest) ≡ Some x →
+    (rest ≡ Some x → test x ≡ true) → test x ≡ true
 first_passes test y rest x true is e later = ap test (sym (same_Some y x e)) ∙ is
 first_passes test y rest x false is e later = later e
 
@@ -19,7 +20,9 @@ found_passes test [] x e = absurd (none-some x e)
 found_passes test (y ∷ ys) x e = first_passes test y (find test ys) x (test y) refl e (found_passes test ys x)
 
 -- each kind is found by its own mark alone, where it is found by it
-found_by : {Mark : Type 0} (same : Mark → Mark → Bool) → ((a b : Mark) → Decides (same a b) (a ≡ b)) → (mark_of : Kind → Mark) → ((kind : Kind) → find (λ other. same (mark_of other) (mark_of kind)) all_kinds ≡ Some kind) → (mark : Mark) → IsFoundBy mark_of mark (find (λ kind. same (mark_of kind) mark) all_kinds)
+found_by : {Mark : Type 0} (same : Mark → Mark → Bool) → ((a b : Mark) → Decides (same a b) (a ≡ b)) → (mark_of : Kind → Mark) →
+    ((kind : Kind) → find (λ other. same (mark_of other) (mark_of kind)) all_kinds ≡ Some kind) → (mark : Mark) →
+    IsFoundBy mark_of mark (find (λ kind. same (mark_of kind) mark) all_kinds)
 found_by {Mark} same decides mark_of finds mark = record {
   own = λ kind. (
     λ e. (decides (mark_of kind) mark).0 (found_passes (λ k. same (mark_of k) mark) all_kinds kind e),

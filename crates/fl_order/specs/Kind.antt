@@ -17,7 +17,8 @@ use Rattle.fl_order.specs.declared.refusal.Refusal.TheVariants.{Answer, Silent, 
 -- each kind once
 abbrev pub all_kinds : List Kind
 all_kinds =
-    Lookup ∷ Forget ∷ Getattr ∷ Unlink ∷ Open ∷ Release ∷ Flush ∷ Init ∷ Getlk ∷ Setlk ∷ Setlkw ∷ Create ∷ Interrupt ∷ Destroy
+    Lookup ∷ Forget ∷ Getattr ∷ Unlink ∷ Open ∷ Release ∷ Flush ∷ Init ∷ Getlk ∷ Setlk ∷ Setlkw ∷ Create ∷ Interrupt
+    ∷ Destroy
     ∷ BatchForget ∷ []
 
 -- the number in a message's header, the word in a trace's line, and the shape of the body; where its messages are no

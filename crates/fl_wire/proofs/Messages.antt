@@ -39,7 +39,8 @@ record Heads (bytes : List ℕ) (opcode unique node uid gid pid : ℕ) : Type 0 
   gid_is : field in_header 5 0 bytes ≡ gid
   pid_is : field in_header 6 0 bytes ≡ pid
 
-heads : (o u n i g p : ℕ) (body : List ℕ) → o < 2 ^ 32 → u < 2 ^ 64 → n < 2 ^ 64 → i < 2 ^ 32 → g < 2 ^ 32 → p < 2 ^ 32 → Heads (request o u n i g p body) o u n i g p
+heads : (o u n i g p : ℕ) (body : List ℕ) → o < 2 ^ 32 → u < 2 ^ 64 → n < 2 ^ 64 → i < 2 ^ 32 → g < 2 ^ 32 → p < 2 ^ 32 →
+    Heads (request o u n i g p body) o u n i g p
 unfolding number_at request
 heads o u n i g p body ho hu hn hi hg hp =
     let bytes : List ℕ = request o u n i g p body in
@@ -64,10 +65,12 @@ length-laid_out : (widths values : List ℕ) → FitAll widths values → length
 length-laid_out [] values fit = refl
 length-laid_out (w ∷ ws) [] fit = absurd fit
 length-laid_out (w ∷ ws) (v ∷ vs) fit =
-    length-append (little_bytes w v) (laid_out ws vs) ∙ ap (λ n. n + length (laid_out ws vs)) (length-bytes_low_first 0 w v) ∙ ap (λ n. w + n) (length-laid_out ws vs fit.1) ∙ sym (sum_by-cons (λ x. x) w ws)
+    length-append (little_bytes w v) (laid_out ws vs) ∙ ap (λ n. n + length (laid_out ws vs)) (length-bytes_low_first 0 w v)
+    ∙ ap (λ n. w + n) (length-laid_out ws vs fit.1) ∙ sym (sum_by-cons (λ x. x) w ws)
 
 -- values that were laid out behind other bytes are read back
-values_again : (widths values before rest : List ℕ) → FitAll widths values → values_at widths (length before) (before ++ (laid_out widths values ++ rest)) ≡ values
+values_again : (widths values before rest : List ℕ) → FitAll widths values →
+    values_at widths (length before) (before ++ (laid_out widths values ++ rest)) ≡ values
 unfolding number_at
 values_again [] [] before rest fit = refl
 values_again [] (v ∷ vs) before rest fit = absurd fit
@@ -77,22 +80,26 @@ values_again (w ∷ ws) (v ∷ vs) before rest fit =
     let behind : drop (length before) bytes ≡ little_bytes w v ++ (laid_out ws vs ++ rest) =
     drop-append_seam before ((little_bytes w v ++ laid_out ws vs) ++ rest) ∙ append_assoc (little_bytes w v) (laid_out ws vs) rest in
     let first : little_number w (drop (length before) bytes) ≡ v = ap (little_number w) behind ∙ little_number-reads_back w v (laid_out ws vs ++ rest) fit.0 in
-    let place : length before + w ≡ length (before ++ little_bytes w v) = sym (length-append before (little_bytes w v) ∙ ap (λ n. length before + n) (length-bytes_low_first 0 w v)) in
+    let place : length before + w ≡ length (before ++ little_bytes w v) =
+    sym (length-append before (little_bytes w v) ∙ ap (λ n. length before + n) (length-bytes_low_first 0 w v)) in
     let same : bytes ≡ (before ++ little_bytes w v) ++ (laid_out ws vs ++ rest) =
     ap (λ xs. before ++ xs) (append_assoc (little_bytes w v) (laid_out ws vs) rest) ∙ sym (append_assoc before (little_bytes w v) (laid_out ws vs ++ rest)) in
     let later : values_at ws (length before + w) bytes ≡ vs =
-    ap (λ n. values_at ws n bytes) place ∙ ap (values_at ws (length (before ++ little_bytes w v))) same ∙ values_again ws vs (before ++ little_bytes w v) rest fit.1 in
+    ap (λ n. values_at ws n bytes) place ∙ ap (values_at ws (length (before ++ little_bytes w v))) same
+    ∙ values_again ws vs (before ++ little_bytes w v) rest fit.1 in
     λ k. first k ∷ later k
 
 -- an order whose parts are read back is read back
-order_again : (bytes : List ℕ) (opcode u n i g p : ℕ) (op : Op) → Heads bytes opcode u n i g p → asked (kind_of_opcode opcode) bytes ≡ Ok op → said bytes ≡ Ok (record { unique = u; node = n; uid = i; gid = g; pid = p; op = op })
+order_again : (bytes : List ℕ) (opcode u n i g p : ℕ) (op : Op) → Heads bytes opcode u n i g p → asked (kind_of_opcode opcode) bytes ≡ Ok op →
+    said bytes ≡ Ok (record { unique = u; node = n; uid = i; gid = g; pid = p; op = op })
 order_again bytes opcode u n i g p op h e =
     let parts : order_of bytes (Ok op) ≡ Ok (record { unique = u; node = n; uid = i; gid = g; pid = p; op = op }) =
     λ k. Ok (record { unique = h.unique_is k; node = h.node_is k; uid = h.uid_is k; gid = h.gid_is k; pid = h.pid_is k; op = op }) in
     ap (λ o. order_of bytes (asked (kind_of_opcode o) bytes)) h.opcode_is ∙ ap (order_of bytes) e ∙ parts
 
 -- what fields alone ask for is read back
-fields_again : (o u n i g p : ℕ) (widths values : List ℕ) (asks : List ℕ → Body) → FitAll widths values → by_fields widths asks (request o u n i g p (laid_out widths values)) ≡ Ok (asks values)
+fields_again : (o u n i g p : ℕ) (widths values : List ℕ) (asks : List ℕ → Body) → FitAll widths values →
+    by_fields widths asks (request o u n i g p (laid_out widths values)) ≡ Ok (asks values)
 unfolding request
 fields_again o u n i g p widths values asks fit =
     let body : List ℕ = laid_out widths values in
@@ -120,7 +127,8 @@ name_again name h =
     rw (long, last, text, clean, short) refl
 
 -- what fields and a name ask for is read back
-named_again : (o u n i g p : ℕ) (widths values name : List ℕ) (asks : List ℕ → List ℕ → Body) → FitAll widths values → IsName name → by_fields_and_name widths asks (request o u n i g p (laid_out widths values ++ name_bytes name)) ≡ Ok (asks values name)
+named_again : (o u n i g p : ℕ) (widths values name : List ℕ) (asks : List ℕ → List ℕ → Body) → FitAll widths values → IsName name →
+    by_fields_and_name widths asks (request o u n i g p (laid_out widths values ++ name_bytes name)) ≡ Ok (asks values name)
 unfolding request
 named_again o u n i g p widths values name asks fit is =
     let fields : List ℕ = laid_out widths values in
@@ -169,10 +177,12 @@ body_again o u n i g p (body.Create excl mode name) h =
 body_again o u n i g p (body.Name name) h = named_again o u n i g p [] [] name (λ values name. body.Name name) tt h
 body_again o u n i g p (body.Number x) h = fields_again o u n i g p forget_in (x ∷ []) (λ values. body.Number (slice_index values 0)) (h, tt)
 body_again o u n i g p (body.Flush fh owner) h =
-    fields_again o u n i g p flush_in (fh ∷ 0 ∷ 0 ∷ owner ∷ []) (λ values. body.Flush (slice_index values 0) (slice_index values 3)) (h.0, (lit< tt, (lit< tt, (h.1, tt))))
+    fields_again o u n i g p flush_in (fh ∷ 0 ∷ 0 ∷ owner ∷ []) (λ values. body.Flush (slice_index values 0) (slice_index values 3))
+    (h.0, (lit< tt, (lit< tt, (h.1, tt))))
 body_again o u n i g p (body.Release fh unlocks owner) h =
     let flags = release_flags_again unlocks in
-    fields_again o u n i g p release_in (release_values fh unlocks owner) release_of (h.0, (lit< tt, (release_flags_fit unlocks, (h.1, tt)))) ∙ (λ k. Ok (body.Release fh (flags k) owner))
+    fields_again o u n i g p release_in (release_values fh unlocks owner) release_of (h.0, (lit< tt, (release_flags_fit unlocks, (h.1, tt))))
+    ∙ (λ k. Ok (body.Release fh (flags k) owner))
 body_again o u n i g p body.Getattr h = fields_again o u n i g p getattr_in (0 ∷ 0 ∷ 0 ∷ []) (λ values. body.Getattr) (lit< tt, (lit< tt, (lit< tt, tt)))
 body_again o u n i g p body.Open h = fields_again o u n i g p open_in (0 ∷ 0 ∷ []) (λ values. body.Open) (lit< tt, (lit< tt, tt))
 

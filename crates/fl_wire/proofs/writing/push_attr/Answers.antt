@@ -6,4 +6,7 @@ use Rattle.fl_wire.proofs.writing.push_attr.Goals as goal
 pub returns-clause-items : goal.returns-clause-items
 unfolding attr_bytes
 returns-clause-items c =
-    appended (appended (appended (appended (appended (appended (appended (appended c.push_u64.ensures.items c.push_zeros.ensures.items) c.push_u32.ensures.items) c.push_u32-2.ensures.items) c.push_u32-3.ensures.items) c.push_u32-4.ensures.items) c.push_zeros-2.ensures.items) c.push_u32-5.ensures.items) c.push_zeros-3.ensures.items
+    appended
+    (appended (appended (appended (appended (appended (appended (appended c.push_u64.ensures.items c.push_zeros.ensures.items) c.push_u32.ensures.items)
+    c.push_u32-2.ensures.items) c.push_u32-3.ensures.items) c.push_u32-4.ensures.items) c.push_zeros-2.ensures.items) c.push_u32-5.ensures.items)
+    c.push_zeros-3.ensures.items

@@ -7,7 +7,8 @@ use Rattle.fl_order.proofs.kind.Kind.of_opcode.Goals as goal
 
 pub returns-clause-value : goal.returns-clause-value
 returns-clause-value c =
-    c.copied.ensures ∙ find_from_yields_List (λ kind. opcode_for kind == c.args.opcode) _ _ _ c.find.ensures.ran (YieldsList-from_slice all_kinds cc) (λ x b q k. search (rules, tests))
+    c.copied.ensures ∙ find_from_yields_List (λ kind. opcode_for kind == c.args.opcode) _ _ _ c.find.ensures.ran (YieldsList-from_slice all_kinds cc)
+    (λ x b q k. search (rules, tests))
 
 pub returns-clause-inverse : goal.returns-clause-inverse
 returns-clause-inverse c = subst (IsFoundBy opcode_for c.args.opcode) (sym (returns-clause-value c)) (found_by_opcode c.args.opcode)

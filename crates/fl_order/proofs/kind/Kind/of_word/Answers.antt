@@ -8,7 +8,8 @@ use Rattle.fl_order.proofs.kind.Kind.of_word.Goals as goal
 
 pub returns-clause-value : goal.returns-clause-value
 returns-clause-value c =
-    c.copied.ensures ∙ find_from_yields_List (λ kind. bytes_eq (word_for kind) c.args.word.now) _ _ _ c.find.ensures.ran (YieldsList-from_slice all_kinds cc) (λ x b q k. search (rules, tests))
+    c.copied.ensures ∙ find_from_yields_List (λ kind. bytes_eq (word_for kind) c.args.word.now) _ _ _ c.find.ensures.ran (YieldsList-from_slice all_kinds cc)
+    (λ x b q k. search (rules, tests))
 
 pub returns-clause-inverse : goal.returns-clause-inverse
 returns-clause-inverse c = subst (IsFoundBy word_for c.args.word.now) (sym (returns-clause-value c)) (found_by_word c.args.word.now)
