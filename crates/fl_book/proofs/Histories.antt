@@ -19,11 +19,13 @@ use Rattle.fl_ranges.specs.Conflict.{IsLawful}
 
 -- an order that was asked is read from the state before it
 read_asked : (lines : List Line) (worker : ℕ) (order : Order) (tolds : List Told)
-    → state_after (lines ++ step_lines worker order tolds) ≡ state_at_end (fold read_line (record { state = state_after lines; waiting = Some order }) (map (λ told. line.Told told) tolds))
+    → state_after (lines ++ step_lines worker order tolds)
+    ≡ state_at_end (fold read_line (record { state = state_after lines; waiting = Some order }) (map (λ told. line.Told told) tolds))
 read_asked lines worker order tolds = ap state_at_end (fold-append read_line unread lines (step_lines worker order tolds))
 
 -- once no order waits for its own reply, each reply answers a parked request
-read_later : (tolds : List Told) (s : State) → state_at_end (fold read_line (record { state = s; waiting = None }) (map (λ told. line.Told told) tolds)) ≡ all_later tolds s
+read_later : (tolds : List Told) (s : State) →
+    state_at_end (fold read_line (record { state = s; waiting = None }) (map (λ told. line.Told told) tolds)) ≡ all_later tolds s
 read_later [] s = refl
 read_later (told ∷ tolds) s = read_later tolds (recorded (later told) s)
 
@@ -33,12 +35,14 @@ recorded_twice f g s =
     let e = f s.view in
     λ i. record { view = (g e.view).view; changes = sym (append_assoc (g e.view).changes e.changes s.changes) i }
 
-later_recorded : (tolds : List Told) (f : View → Effect) (s : State) → all_later tolds (recorded f s) ≡ recorded (λ v. fold (λ e t. followed_by (later t) e) (f v) tolds) s
+later_recorded : (tolds : List Told) (f : View → Effect) (s : State) →
+    all_later tolds (recorded f s) ≡ recorded (λ v. fold (λ e t. followed_by (later t) e) (f v) tolds) s
 later_recorded [] f s = refl
 later_recorded (told ∷ tolds) f s = ap (all_later tolds) (recorded_twice f (later told) s) ∙ later_recorded tolds (λ v. followed_by (later told) (f v)) s
 
 -- the state after lines and one more step
-pub read_step : (lines : List Line) (worker : ℕ) (order : Order) (tolds : List Told) → state_after (lines ++ step_lines worker order tolds) ≡ recorded (replied order tolds) (state_after lines)
+pub read_step : (lines : List Line) (worker : ℕ) (order : Order) (tolds : List Told) →
+    state_after (lines ++ step_lines worker order tolds) ≡ recorded (replied order tolds) (state_after lines)
 read_step lines worker order [] = read_asked lines worker order []
 read_step lines worker order (told ∷ tolds) =
     read_asked lines worker order (told ∷ tolds)
@@ -57,7 +61,8 @@ pub read_own : (lines : List Line) (worker : ℕ) (order : Order) (told : Told) 
 read_own lines worker order told tolds own =
     read_asked lines worker order (told ∷ tolds)
     ∙ read_later tolds (recorded (told_first order told) (state_after lines))
-    ∙ ap (λ b. all_later tolds (recorded (λ v. cond b (at_once order (Some told.result) v) (followed_by (later told) (at_once order None v))) (state_after lines)))
+    ∙ ap (λ b. all_later tolds (recorded (λ v. cond b (at_once order (Some told.result) v) (followed_by (later told) (at_once order None v)))
+    (state_after lines)))
     (same_number told.unique order.unique own)
 
 -- one more step without a reply of its own
@@ -67,7 +72,8 @@ read_none lines worker order [] others = read_asked lines worker order []
 read_none lines worker order (told ∷ tolds) others =
     read_asked lines worker order (told ∷ tolds)
     ∙ read_later tolds (recorded (told_first order told) (state_after lines))
-    ∙ ap (λ b. all_later tolds (recorded (λ v. cond b (at_once order (Some told.result) v) (followed_by (later told) (at_once order None v))) (state_after lines)))
+    ∙ ap (λ b. all_later tolds (recorded (λ v. cond b (at_once order (Some told.result) v) (followed_by (later told) (at_once order None v)))
+    (state_after lines)))
     (other_number told.unique order.unique others.0)
     ∙ ap (all_later tolds) (sym (recorded_twice (at_once order None) (later told) (state_after lines)))
 
@@ -79,7 +85,8 @@ pub taken_kept : (lines given new : List Line) (present after : Snapshot) (worke
 taken_kept lines given new present after worker order tolds shown kept given_is tolds_is goes lawful shown_is new_is =
     let all : new ≡ lines ++ step_lines worker order tolds = new_is ∙ (λ i. given_is i ++ step_lines worker order (shown_is i)) in
     record {
-      legal = step lines worker order kept.legal (all ∙ ap (λ t. lines ++ step_lines worker order t) (tolds_is ∙ ap (λ (p : Snapshot). replies p order) kept.stands));
+      legal = step lines worker order kept.legal
+          (all ∙ ap (λ t. lines ++ step_lines worker order t) (tolds_is ∙ ap (λ (p : Snapshot). replies p order) kept.stands));
       stands = sym (goes (state_after lines) (sym kept.stands)) ∙ ap snapshot_of (sym (read_step lines worker order tolds) ∙ ap state_after (sym all));
       lawful = lawful kept.lawful;
     }

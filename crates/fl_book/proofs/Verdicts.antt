@@ -1,5 +1,6 @@
 -- A legal history is the one that its orders give.
-use Rattle.std.proofs.Common.{◌≡◌, ◌≢◌, ℕ, zero, suc, ◌+◌, ◌-◌, ◌≤◌, ◌<◌, inl, inr, ◌⊎◌, ⊎_elim, Some, Option, List, [], ◌∷◌, ◌++◌, map, length, take, drop, get_or, slice_get, append_assoc, append-nil, refl, sym, ap, ◌∙◌, subst, arith}
+use Rattle.std.proofs.Common.{◌≡◌, ◌≢◌, ℕ, zero, suc, ◌+◌, ◌-◌, ◌≤◌, ◌<◌, inl, inr, ◌⊎◌, ⊎_elim, Some, Option, List, [], ◌∷◌, ◌++◌, map, length, take, drop}
+use Rattle.std.proofs.Common.{get_or, slice_get, append_assoc, append-nil, refl, sym, ap, ◌∙◌, subst, arith}
 use Rattle.std.proofs.lemmas.Option.{none-some, slice_get_within}
 use Rattle.std.proofs.Math.Seq.{take-append-add}
 use Rattle.std.proofs.lemmas.List.{append_cancel_left, length-append, map-append, take_all, take-append-drop, length-drop, length-take-le}
@@ -93,8 +94,10 @@ replies_first : (before rest : List Line) (worker : ℕ) (order : Order) → IsL
     → (more : List Line) × (rest ≡ map (λ told. line.Told told) (replies_in (state_after before) order) ++ more)
 unfolding asks given
 replies_first before rest worker order legal all =
-    let a : ℕ × Order = (worker, order) in
-    (given (before ++ answers before a) (asks rest), append_cancel_left (line.Asked worker order ∷ []) rest _ (behind before (line.Asked worker order ∷ rest) legal all))
+    let a : ℕ × Order = (worker, order) in (
+      given (before ++ answers before a) (asks rest),
+      append_cancel_left (line.Asked worker order ∷ []) rest _ (behind before (line.Asked worker order ∷ rest) legal all),
+    )
 
 abbrev replies_of : List Line → Order → List Told
 replies_of before order = replies_in (state_after before) order
@@ -103,14 +106,16 @@ abbrev told_lines : List Told → List Line
 told_lines tolds = map (λ told. line.Told told) tolds
 
 -- the first replies of an order are a beginning
-begins : (before : List Line) (worker : ℕ) (order : Order) (j : ℕ) → IsLegal before → IsBeginning (before ++ line.Asked worker order ∷ told_lines (take j (replies_of before order)))
+begins : (before : List Line) (worker : ℕ) (order : Order) (j : ℕ) → IsLegal before →
+    IsBeginning (before ++ line.Asked worker order ∷ told_lines (take j (replies_of before order)))
 begins before worker order j legal =
     let r = replies_of before order in
     record {
       rest = told_lines (drop j r);
       legal = step before worker order legal (
           append_assoc before (line.Asked worker order ∷ told_lines (take j r)) (told_lines (drop j r))
-          ∙ ap (λ l. before ++ line.Asked worker order ∷ l) (sym (map-append (λ told. line.Told told) (take j r) (drop j r)) ∙ ap told_lines (take-append-drop j r)));
+          ∙ ap (λ l. before ++ line.Asked worker order ∷ l)
+          (sym (map-append (λ told. line.Told told) (take j r) (drop j r)) ∙ ap told_lines (take-append-drop j r)));
     }
 
 -- one more at a place, where there is one
@@ -143,7 +148,8 @@ past_length (x ∷ xs) zero e = absurd (cc e)
 past_length (x ∷ xs) (suc j) e = let rest = past_length xs j (same_tail x x (take j xs) xs e) in omega arith
 
 -- no other line stands at the place of a reply
-other_reply : (before rest : List Line) (worker : ℕ) (order : Order) (j : ℕ) (x : Line) (told : Told) → IsLegal before → drop j (replies_of before order) ≡ told ∷ drop (suc j) (replies_of before order)
+other_reply : (before rest : List Line) (worker : ℕ) (order : Order) (j : ℕ) (x : Line) (told : Told) → IsLegal before →
+    drop j (replies_of before order) ≡ told ∷ drop (suc j) (replies_of before order)
     → x ≢ line.Told told → IsLegal (before ++ line.Asked worker order ∷ (told_lines (take j (replies_of before order)) ++ x ∷ rest)) → ⊥
 other_reply before rest worker order j x told legal at other all =
     let r = replies_of before order in
@@ -155,7 +161,8 @@ other_reply before rest worker order j x told legal at other all =
     other (cc same)
 
 -- nor does the history end there
-no_end : (before : List Line) (worker : ℕ) (order : Order) (j : ℕ) → IsLegal before → j < length (replies_of before order) → IsLegal (before ++ line.Asked worker order ∷ told_lines (take j (replies_of before order))) → ⊥
+no_end : (before : List Line) (worker : ℕ) (order : Order) (j : ℕ) → IsLegal before → j < length (replies_of before order) →
+    IsLegal (before ++ line.Asked worker order ∷ told_lines (take j (replies_of before order))) → ⊥
 no_end before worker order j legal h all =
     let r = replies_of before order in
     let w = replies_first before (told_lines (take j r)) worker order legal all in
@@ -163,7 +170,8 @@ no_end before worker order j legal h all =
     let parts : told_lines r ≡ told_lines (take j r) ++ line.Told at.0 ∷ told_lines (drop (suc j) r) =
     ap told_lines (sym (take-append-drop j r)) ∙ map-append (λ t. line.Told t) (take j r) (drop j r) ∙ ap (λ l. told_lines (take j r) ++ told_lines l) at.2 in
     let same : [] ≡ line.Told at.0 ∷ (told_lines (drop (suc j) r) ++ w.0) =
-    append_cancel_left (told_lines (take j r)) [] _ (append-nil (told_lines (take j r)) ∙ w.1 ∙ ap (λ l. l ++ w.0) parts ∙ append_assoc (told_lines (take j r)) _ w.0) in
+    append_cancel_left (told_lines (take j r)) [] _
+    (append-nil (told_lines (take j r)) ∙ w.1 ∙ ap (λ l. l ++ w.0) parts ∙ append_assoc (told_lines (take j r)) _ w.0) in
     cc same
 
 -- legal lines are a beginning, and so is what they begin with
@@ -193,12 +201,18 @@ pub differs_order : (before rest : List Line) (told : Told) (n : ℕ) → IsLega
 differs_order before rest told n legal at =
     let lines = before ++ line.Told told ∷ rest in
     let long : length lines ≡ length before + suc (length rest) = length-append before (line.Told told ∷ rest) in
-    let wrong : Wrong lines n = λ b. no_order before b.rest told legal (subst IsLegal (ap (λ k. take k lines ++ b.rest) at ∙ ap (λ l. l ++ b.rest) (take-append-add before (line.Told told ∷ rest) 1) ∙ append_assoc before (line.Told told ∷ []) b.rest) b.legal) in
+    let wrong : Wrong lines n =
+    λ b. no_order before b.rest told legal (subst IsLegal (ap (λ k. take k lines ++ b.rest) at
+    ∙ ap (λ l. l ++ b.rest) (take-append-add before (line.Told told ∷ rest) 1) ∙ append_assoc before (line.Told told ∷ []) b.rest) b.legal) in
     record {
       illegal = λ all. wrong (whole lines n all);
       from = omega (arith, at);
       upto = omega (arith, at, long);
-      before = record { rest = []; legal = subst IsLegal (sym (append-nil (take (n - 1) lines) ∙ ap (λ k. take k lines) (less n (length before) at) ∙ take-append-add before (line.Told told ∷ rest) 0 ∙ append-nil before)) legal };
+      before = record {
+        rest = [];
+        legal = subst IsLegal (sym (append-nil (take (n - 1) lines) ∙ ap (λ k. take k lines) (less n (length before) at)
+            ∙ take-append-add before (line.Told told ∷ rest) 0 ∙ append-nil before)) legal;
+      };
       no_more = λ _ b. wrong b;
     }
   where
@@ -206,8 +220,10 @@ differs_order before rest told n legal at =
     less n k e = omega arith
 
 -- another line stands, or none, where a reply of an order is due
-pub differs_reply : (before rest : List Line) (worker : ℕ) (order : Order) (j n : ℕ) → IsLegal before → j < length (replies_of before order) → j ≤ length rest → take j rest ≡ told_lines (take j (replies_of before order))
-    → ((told : Told) → slice_get (replies_of before order) j ≡ Some told → slice_get rest j ≢ Some (line.Told told)) → n ≡ length before + (j + 2) → DiffersAt (before ++ line.Asked worker order ∷ rest) n
+pub differs_reply : (before rest : List Line) (worker : ℕ) (order : Order) (j n : ℕ) → IsLegal before → j < length (replies_of before order) → j ≤ length rest →
+    take j rest ≡ told_lines (take j (replies_of before order))
+    → ((told : Told) → slice_get (replies_of before order) j ≡ Some told → slice_get rest j ≢ Some (line.Told told)) → n ≡ length before + (j + 2) →
+    DiffersAt (before ++ line.Asked worker order ∷ rest) n
 differs_reply before rest worker order j n legal short there alike other at =
     let lines = before ++ line.Asked worker order ∷ rest in
     let r = replies_of before order in
@@ -222,7 +238,8 @@ differs_reply before rest worker order j n legal short there alike other at =
           (is_past rest j there);
       from = omega (arith, at);
       upto = omega (arith, at, long, there);
-      before = subst IsBeginning (sym (ap (λ k. take k lines) (one_less n (length before) j at) ∙ take-append-add before (line.Asked worker order ∷ rest) (suc j) ∙ ap (λ l. before ++ line.Asked worker order ∷ l) alike)) (begins before worker order j legal);
+      before = subst IsBeginning (sym (ap (λ k. take k lines) (one_less n (length before) j at) ∙ take-append-add before (line.Asked worker order ∷ rest)
+          (suc j) ∙ ap (λ l. before ++ line.Asked worker order ∷ l) alike)) (begins before worker order j legal);
       no_more = λ inside b. ⊎_elim
           (λ more. let x = at_place rest j more in
           let shown : take n lines ≡ before ++ line.Asked worker order ∷ (told_lines (take j r) ++ x.0 ∷ []) =
@@ -243,7 +260,8 @@ differs_reply before rest worker order j n legal short there alike other at =
 
 -- ---- the first replies that stand
 
-one_more_alike : (lines : List Line) (tolds : List Told) (i : ℕ) (told : Told) → take i lines ≡ told_lines (take i tolds) → slice_get tolds i ≡ Some told → slice_get lines i ≡ Some (line.Told told)
+one_more_alike : (lines : List Line) (tolds : List Told) (i : ℕ) (told : Told) → take i lines ≡ told_lines (take i tolds) → slice_get tolds i ≡ Some told →
+    slice_get lines i ≡ Some (line.Told told)
     → take (i + 1) lines ≡ told_lines (take (i + 1) tolds)
 one_more_alike lines tolds i told so_far at stands =
     ap (λ k. take k lines) (one i) ∙ take_suc lines i (line.Told told) stands ∙ ap (λ l. l ++ line.Told told ∷ []) so_far
@@ -257,14 +275,16 @@ indexed [] i d x e = absurd (none-some x e)
 indexed (y ∷ xs) zero d x e = same_some y x e
 indexed (y ∷ xs) (suc i) d x e = indexed xs i d x e
 
-pub told_stands : (lines : List Line) (tolds : List Told) (i : ℕ) (d : Told) → i < length tolds → take i lines ≡ told_lines (take i tolds) → slice_get lines i ≡ Some (line.Told (get_or tolds i d))
+pub told_stands : (lines : List Line) (tolds : List Told) (i : ℕ) (d : Told) → i < length tolds → take i lines ≡ told_lines (take i tolds) →
+    slice_get lines i ≡ Some (line.Told (get_or tolds i d))
     → (i + 1 ≤ length lines) × (take (i + 1) lines ≡ told_lines (take (i + 1) tolds))
 told_stands lines tolds i d short so_far stands =
     let t = at_place tolds i short in
     let here : slice_get lines i ≡ Some (line.Told t.0) = stands ∙ ap (λ x. Some (line.Told x)) (indexed tolds i d t.0 t.1) in
     (let within = slice_get_within lines i (line.Told t.0) here in omega arith, one_more_alike lines tolds i t.0 so_far t.1 here)
 
-pub told_differs : (lines : List Line) (tolds : List Told) (i : ℕ) (d : Told) → (slice_get lines i ≡ Some (line.Told (get_or tolds i d)) → ⊥) → (told : Told) → slice_get tolds i ≡ Some told → slice_get lines i ≢ Some (line.Told told)
+pub told_differs : (lines : List Line) (tolds : List Told) (i : ℕ) (d : Told) → (slice_get lines i ≡ Some (line.Told (get_or tolds i d)) → ⊥) → (told : Told) →
+    slice_get tolds i ≡ Some told → slice_get lines i ≢ Some (line.Told told)
 told_differs lines tolds i d other told at stands = other (stands ∙ ap (λ x. Some (line.Told x)) (sym (indexed tolds i d told at)))
 
 -- ---- in the words of a walk
@@ -287,7 +307,8 @@ pub rest_of : (lines : List Line) (k : ℕ) → take (length lines - k) (drop k 
 rest_of lines k = take_all (length lines - k) (drop k lines) (omega (arith, length-drop k lines))
 
 -- a reply stands where an order is due
-pub due_order : (lines : List Line) (at : ℕ) (d : Line) (told : Told) → at < length lines → get_or lines at d ≡ line.Told told → IsLegal (take at lines) → DiffersAt lines (at + 1)
+pub due_order : (lines : List Line) (at : ℕ) (d : Line) (told : Told) → at < length lines → get_or lines at d ≡ line.Told told → IsLegal (take at lines) →
+    DiffersAt lines (at + 1)
 due_order lines at d told there is legal =
     subst (λ l. DiffersAt l (at + 1)) (sym (round lines at d (line.Told told) there is))
     (differs_order (take at lines) (drop (at + 1) lines) told (at + 1) legal (ap (λ k. k + 1) (sym (long lines at there))))
@@ -299,18 +320,21 @@ pub record IsShort (rest : List Line) (tolds : List Told) (j : ℕ) : Type 0 whe
   pub alike : take j rest ≡ told_lines (take j tolds)
   pub other : (told : Told) → slice_get tolds j ≡ Some told → slice_get rest j ≢ Some (line.Told told)
 
-pub due_reply : (lines : List Line) (at : ℕ) (d : Line) (worker : ℕ) (order : Order) (tolds : List Told) (j : ℕ) → at < length lines → get_or lines at d ≡ line.Asked worker order → IsLegal (take at lines)
+pub due_reply : (lines : List Line) (at : ℕ) (d : Line) (worker : ℕ) (order : Order) (tolds : List Told) (j : ℕ) → at < length lines →
+    get_or lines at d ≡ line.Asked worker order → IsLegal (take at lines)
     → tolds ≡ replies_of (take at lines) order → IsShort (drop (at + 1) lines) tolds j → DiffersAt lines (at + j + 2)
 due_reply lines at d worker order tolds j there is legal are facts =
     let w = subst (λ t. IsShort (drop (at + 1) lines) t j) are facts in
     subst (λ l. DiffersAt l (at + j + 2)) (sym (round lines at d (line.Asked worker order) there is))
-    (differs_reply (take at lines) (drop (at + 1) lines) worker order j (at + j + 2) legal w.short w.there w.alike w.other (sum at j ∙ ap (λ k. k + (j + 2)) (sym (long lines at there))))
+    (differs_reply (take at lines) (drop (at + 1) lines) worker order j (at + j + 2) legal w.short w.there w.alike w.other
+    (sum at j ∙ ap (λ k. k + (j + 2)) (sym (long lines at there))))
   where
     sum : (k j : ℕ) → k + j + 2 ≡ k + (j + 2)
     sum k j = omega arith
 
 -- all of them do
-pub whole_step : (lines : List Line) (at : ℕ) (d : Line) (worker : ℕ) (order : Order) (tolds : List Told) (j : ℕ) → at < length lines → get_or lines at d ≡ line.Asked worker order → length tolds ≤ j
+pub whole_step : (lines : List Line) (at : ℕ) (d : Line) (worker : ℕ) (order : Order) (tolds : List Told) (j : ℕ) → at < length lines →
+    get_or lines at d ≡ line.Asked worker order → length tolds ≤ j
     → take j (drop (at + 1) lines) ≡ told_lines (take j tolds) → take (at + (j + 1)) lines ≡ take at lines ++ step_lines worker order tolds
 whole_step lines at d worker order tolds j there is all alike =
     let front = take at lines in

@@ -4,6 +4,8 @@ use Rattle.std.proofs.Common.{length, take, drop, refl, ap, sym, ◌∙◌, subs
 use Rattle.std.proofs.lemmas.Bool.Decides.{nat_tests}
 use Rattle.std.specs.List.{find, filter, position_or_len, AllByRecursion}
 use Rattle.std.specs.Ordering.{eq_by_cmp}
+use Rattle.std.proofs.lemmas.Bool.{false_from_ne_true}
+use Rattle.std.proofs.Math.Numerals.{one-add}
 use Rattle.fl_arena.specs.Chains.{Chains, items}
 use Rattle.fl_arena.specs.Cursors.{cursor_at}
 use Rattle.fl_arena.specs.declared.cursors.Cursor.{Cursor}
@@ -17,7 +19,6 @@ use Rattle.fl_ranges.specs.Inside.RunList.{has_spot, overlaps, run_at, left_over
 use Rattle.fl_ranges.specs.Inside.RunChains.{is_past, reaches, IsBehind}
 use Rattle.fl_ranges.proofs.RunLists.{at_spot, over, each_weaker, run_has}
 use Rattle.fl_ranges.proofs.Spots.{key_itself}
-use Rattle.fl_ranges.proofs.Sorted.{only_false}
 
 -- ---- what a run has that reaches a byte
 
@@ -34,19 +35,19 @@ reaching key byte r same le = reach_of (eq_by_cmp key_cmp r.key key) byte r.end 
 
 module _ (key : Key) (byte : ℕ) (r : Run) (short : reaches key byte r ≡ false) where
   short_spot : (later : ℕ) → byte ≤ later → has_spot (key, later) r ≡ false
-  short_spot later le = only_false _ (λ is.
+  short_spot later le = false_from_ne_true _ (λ is.
       let at = at_spot r (key, later) is in
       let upto = at.upto in
       cc (sym short ∙ reaching key byte r at.key (omega (arith, le, upto))))
 
   short_over : (start end : ℕ) → byte ≤ start → overlaps key start end r ≡ false
-  short_over start end le = only_false _ (λ is.
+  short_over start end le = false_from_ne_true _ (λ is.
       let o = over key start end r is in
       let ends = o.ends in
       cc (sym short ∙ reaching key byte r o.key_is (omega (arith, le, ends))))
 
   short_later : (later : ℕ) → byte ≤ later → reaches key later r ≡ false
-  short_later later le = only_false _ (λ is. cc (sym short ∙ reach_from (eq_by_cmp key_cmp r.key key) byte later r.end le is))
+  short_later later le = false_from_ne_true _ (λ is. cc (sym short ∙ reach_from (eq_by_cmp key_cmp r.key key) byte later r.end le is))
 
 -- ---- items that fail a test, before an index
 
@@ -68,9 +69,6 @@ module _ (t : Run → Bool) where
   kept_behind (suc i) (x ∷ xs) each =
       ap (λ b. cond (not b) (x ∷ filter (λ r. not (t r)) xs) (filter (λ r. not (t r)) xs)) each.0 ∙ ap (λ (l : List Run). x ∷ l) (kept_behind i xs each.1)
 
-  one_more : (n : ℕ) → 1 + n ≡ suc n
-  one_more n = omega arith
-
   first_within : (xs : List Run) → position_or_len t xs ≤ length xs
   first_within [] = omega arith
   first_within (x ∷ xs) = go (t x) (first_within xs)
@@ -87,7 +85,7 @@ module _ (t : Run → Bool) where
       go : (b : Bool) → t x ≡ b → AllByRecursion (λ r. t r ≡ false) (take (position_or_len t xs) xs) →
           AllByRecursion (λ r. t r ≡ false) (take (cond (not b) (1 + position_or_len t xs) 0) (x ∷ xs))
       go true is rest = tt
-      go false is rest = subst (λ (n : ℕ). AllByRecursion (λ r. t r ≡ false) (take n (x ∷ xs))) (sym (one_more (position_or_len t xs))) (is, rest)
+      go false is rest = subst (λ (n : ℕ). AllByRecursion (λ r. t r ≡ false) (take n (x ∷ xs))) (sym (one-add (position_or_len t xs))) (is, rest)
 
 -- ---- cursors
 

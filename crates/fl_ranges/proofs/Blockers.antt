@@ -1,6 +1,8 @@
 -- The lock that is named, as a function and in words.
-use Rattle.std.proofs.Common.{◌≡◌, ◌↔◌, ℕ, ◌+◌, ◌-◌, ◌≤◌, Bool, true, false, Option, Some, None, option_map, refl, ap, sym, ◌∙◌, subst, arith}
+use Rattle.std.proofs.Common.{◌≡◌, ◌↔◌, ℕ, ◌+◌, ◌-◌, ◌≤◌, false, Option, Some, None, option_map, refl, ap, sym, ◌∙◌, subst, arith}
 use Rattle.std.specs.FinMap.{get}
+use Rattle.std.proofs.lemmas.Bool.{false_from_ne_true}
+use Rattle.std.proofs.Math.Nat.{le_antisymm}
 use Rattle.fl_ranges.specs.declared.lock.Key.{Key}
 use Rattle.fl_ranges.specs.declared.lock.Kind.{Kind}
 use Rattle.fl_ranges.specs.declared.lock.Mark.{Mark}
@@ -9,7 +11,7 @@ use Rattle.fl_ranges.specs.Marking.{Spot, Marking}
 use Rattle.fl_ranges.specs.Conflict.{conflicts, IsConflict}
 use Rattle.fl_ranges.specs.Blocker.{of_owner, IsExcluder, IsRow, IsBlocker, first_excluder, row_start, row_end, lock_around, blocker}
 use Rattle.fl_ranges.proofs.ConflictWords.{conflict_words}
-use Rattle.fl_ranges.proofs.BlockersRows.{at_most, same_number, row_around, same_start, same_end}
+use Rattle.fl_ranges.proofs.BlockersRows.{at_most, row_around, same_start, same_end}
 use Rattle.fl_ranges.proofs.BlockersFirst.{IsFirst, first_found, none_excludes}
 
 module _ (m : Marking) (key : Key) (start end : ℕ) (kind : Kind) where
@@ -36,10 +38,10 @@ module _ (m : Marking) (key : Key) (start end : ℕ) (kind : Kind) where
   -- there is at most one
   pub same_lock : (a b : Held) → IsBlocker m key start end kind a → IsBlocker m key start end kind b → a ≡ b
   same_lock a b x y =
-      let byte : x.byte ≡ y.byte = same_number x.byte y.byte (no_later a b x y) (no_later b a y x) in
+      let byte : x.byte ≡ y.byte = le_antisymm (no_later a b x y) (no_later b a y x) in
       let at_one : IsExcluder m key kind x.byte b.owner b.mark = subst (λ n. IsExcluder m key kind n b.owner b.mark) (sym byte) y.excluder in
       let at_other : IsExcluder m key kind y.byte a.owner a.mark = subst (λ n. IsExcluder m key kind n a.owner a.mark) byte x.excluder in
-      let owner : a.owner ≡ b.owner = same_number a.owner b.owner (x.least_owner b.owner b.mark at_one) (y.least_owner a.owner a.mark at_other) in
+      let owner : a.owner ≡ b.owner = le_antisymm (x.least_owner b.owner b.mark at_one) (y.least_owner a.owner a.mark at_other) in
       let mark : a.mark ≡ b.mark = cc (x.excluder.held, at_one.held, ap (λ o. get m (of_owner key o, x.byte)) owner) in
       let other : IsRow m (of_owner key a.owner) a.mark x.byte b.start b.end =
       subst (λ n. IsRow m (of_owner key a.owner) a.mark n b.start b.end) (sym byte)
@@ -90,15 +92,11 @@ module _ (m : Marking) (key : Key) (start end : ℕ) (kind : Kind) where
 
   pub none_words : (blocker m key start end kind ≡ None) ↔ (conflicts m key start end kind ≡ false)
   none_words = (
-    λ h. only_false (conflicts m key start end kind) (λ is. clash (first_excluder m key kind start (end + 1 - start)) refl h
+    λ h. false_from_ne_true (conflicts m key start end kind) (λ is. clash (first_excluder m key kind start (end + 1 - start)) refl h
         ((conflict_words m key start end kind).0 is)),
     λ clear. none clear (first_excluder m key kind start (end + 1 - start)) refl,
   )
     where
-      only_false : (b : Bool) → (b ≡ true → ⊥) → b ≡ false
-      only_false true f = absurd (f refl)
-      only_false false f = refl
-
       clash : (o : Option (Spot × Mark)) → first_excluder m key kind start (end + 1 - start) ≡ o → option_map (lock_around m) o ≡ None →
           IsConflict m key start end kind → ⊥
       clash (Some e) is h c = absurd (cc h)

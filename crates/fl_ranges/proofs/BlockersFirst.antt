@@ -8,19 +8,19 @@ use Rattle.std.specs.List as list
 use Rattle.std.specs.declared.cmp.Ordering.{Ordering}
 use Rattle.std.specs.declared.cmp.Ordering.TheVariants.{Less}
 use Rattle.std.specs.Ordering.{nat_cmp, ordering_then, eq_by_cmp}
-use Rattle.std.specs.Cmp.{IsTotalOrder, nat_cmp_total, tied_itself, first_so, second_so}
+use Rattle.std.specs.Cmp.{IsTotalOrder, nat_cmp_total, tied_itself, first_so, second_so, Equal-is}
 use Rattle.std.specs.FinMap.{get, find, entries, entries_sorted, get-entries, is_sorted, IsAntisymmetric}
 use Rattle.std.specs.FinMap.Entries.{below_all}
+use Rattle.std.proofs.Math.Nat.{le_antisymm}
 use Rattle.fl_ranges.specs.declared.lock.Key.{Key}
 use Rattle.fl_ranges.specs.declared.lock.Kind.{Kind}
 use Rattle.fl_ranges.specs.declared.lock.Mark.{Mark}
 use Rattle.fl_ranges.specs.Marking.{class_number, spot_cmp, Spot, Marking}
 use Rattle.fl_ranges.specs.Conflict.{excludes, excludes_lock}
 use Rattle.fl_ranges.specs.Blocker.{of_owner, IsExcluder, first_excluder}
-use Rattle.fl_ranges.proofs.Markings.{spots_total, exact_spots}
-use Rattle.fl_ranges.proofs.Entries.{found_above, is_Equal, get_found, entry_passes, truth}
-use Rattle.fl_ranges.proofs.ConflictWords.{parts, all_parts, same_class}
-use Rattle.fl_ranges.proofs.BlockersRows.{same_number}
+use Rattle.fl_ranges.proofs.Markings.{spots_total, exact_spots, same_class}
+use Rattle.fl_ranges.proofs.Entries.{found_above, get_found, entry_passes, truth}
+use Rattle.fl_ranges.proofs.ConflictWords.{parts, all_parts}
 
 -- ---- the first entry that passes a test
 
@@ -39,12 +39,12 @@ module _ {K X : Type 0} {R : K → K → Ordering} (o : IsTotalOrder R) (exact :
           cond t (Some f) (list.find test es) ≡ Some e → cond u (Some f.1) (find R k es) ≡ Some v → R k e.0 ≢ Less
       go later true true is here h i = λ less.
           let same : f ≡ e = cc h in
-          cc (is_Equal (R k f.0) here, ap (λ (g : K × X). R k g.0) same, less)
+          cc ((Equal-is (R k f.0)).0 here, ap (λ (g : K × X). R k g.0) same, less)
       go later true false is here h i = λ less.
           let same : f ≡ e = cc h in
           not_after f.0 (found_above o f.0 k v es (first_so (below_all R f.0 es) (is_sorted R es) sorted) i) (ap (λ (g : K × X). R k g.0) same ∙ less)
       go later false true is here h i = λ less.
-          let key : k ≡ f.0 = exact k f.0 (is_Equal (R k f.0) here) in
+          let key : k ≡ f.0 = exact k f.0 ((Equal-is (R k f.0)).0 here) in
           let value : f.1 ≡ v = cc i in
           cc (sym is ∙ ap test (λ j. (sym key j, value j)) ∙ passes)
       go later false false is here h i = later h i
@@ -99,7 +99,7 @@ module _ (m : Marking) (key : Key) (kind : Kind) where
       passes in
       let class : e.0.0.class ≡ key.class = sym (same_class key.class e.0.0.class t.class) in
       let node : e.0.0.node ≡ key.node = sym t.node in
-      let place : e.0.1 ≡ byte = same_number e.0.1 byte t.upto t.from in
+      let place : e.0.1 ≡ byte = le_antisymm t.upto t.from in
       let spot : e.0 ≡ (of_owner key e.0.0.owner, byte) = λ i. (record { class = class i; node = node i; owner = e.0.0.owner }, place i) in
       let held : get m (of_owner key e.0.0.owner, byte) ≡ Some e.1 =
       ap (get m) (sym spot) ∙ get_found spots_total (excludes_lock key byte byte kind) m e found in

@@ -1,7 +1,8 @@
 -- The longest row of bytes around a byte at which a key has a mark.
 use Rattle.std.proofs.Common.{◌≡◌, ◌≢◌, ℕ, zero, suc, ◌+◌, ◌-◌, ◌<◌, ◌≤◌, Bool, true, false, cond, nat_lt, Some, refl, subst, arith}
-use Rattle.std.proofs.lemmas.Bool.Decides.{nat_tests}
 use Rattle.std.specs.FinMap.{get}
+use Rattle.std.proofs.lemmas.Bool.{ltb-false, ltb-true}
+use Rattle.std.proofs.Math.Nat.{le_antisymm}
 use Rattle.fl_ranges.specs.declared.lock.Key.{Key}
 use Rattle.fl_ranges.specs.declared.lock.Mark.{Mark}
 use Rattle.fl_ranges.specs.Marking.{Marking}
@@ -9,22 +10,13 @@ use Rattle.fl_ranges.specs.Runs.{is_mark}
 use Rattle.fl_ranges.specs.Blocker.{IsRow, row_start, row_end}
 use Rattle.fl_ranges.proofs.Starts.{is_mark-Decides}
 
-not_less : (a b : ℕ) → nat_lt a b ≡ false → b ≤ a
-not_less a b e = grind (arith, nat_tests)
-
-is_less : (a b : ℕ) → nat_lt a b ≡ true → a < b
-is_less a b e = grind (arith, nat_tests)
-
 -- one number is at most another, if it can't be above it
 pub at_most : (a b : ℕ) → (b < a → ⊥) → a ≤ b
 at_most a b not_above = go (nat_lt b a) refl
   where
     go : (t : Bool) → nat_lt b a ≡ t → a ≤ b
-    go true e = absurd (not_above (is_less b a e))
-    go false e = not_less b a e
-
-pub same_number : (a b : ℕ) → a ≤ b → b ≤ a → a ≡ b
-same_number a b h k = omega arith
+    go true e = absurd (not_above (ltb-true b a e))
+    go false e = ltb-false b a e
 
 module _ (m : Marking) (key : Key) (mark : Mark) where
   has : (byte : ℕ) → is_mark mark (get m (key, byte)) ≡ true → get m (key, byte) ≡ Some mark
@@ -51,9 +43,9 @@ module _ (m : Marking) (key : Key) (mark : Mark) where
     where
       go : (row_start m key mark byte ≤ b → b < byte → get m (key, b) ≡ Some mark) → (t u : Bool) → is_mark mark (get m (key, byte)) ≡ t → nat_lt b byte ≡ u →
           cond t (row_start m key mark byte) (suc byte) ≤ b → get m (key, b) ≡ Some mark
-      go lower true true e f h = lower h (is_less b byte f)
+      go lower true true e f h = lower h (ltb-true b byte f)
       go lower true false e f h =
-          let same : byte ≡ b = same_number byte b (not_less b byte f) (omega arith) in
+          let same : byte ≡ b = le_antisymm (ltb-false b byte f) (omega arith) in
           subst (λ (n : ℕ). get m (key, n) ≡ Some mark) same (has byte e)
       go lower false u e f h = absurd (omega arith)
 
@@ -96,9 +88,9 @@ module _ (m : Marking) (key : Key) (mark : Mark) where
     where
       go : (byte + 1 < b → b ≤ row_end m key mark (byte + 1) more → get m (key, b) ≡ Some mark) → (t u : Bool) → is_mark mark (get m (key, byte + 1)) ≡ t →
           nat_lt (byte + 1) b ≡ u → b ≤ cond t (row_end m key mark (byte + 1) more) byte → get m (key, b) ≡ Some mark
-      go later true true e f h = later (is_less (byte + 1) b f) h
+      go later true true e f h = later (ltb-true (byte + 1) b f) h
       go later true false e f h =
-          let same : byte + 1 ≡ b = same_number (byte + 1) b (omega arith) (not_less (byte + 1) b f) in
+          let same : byte + 1 ≡ b = le_antisymm (omega arith) (ltb-false (byte + 1) b f) in
           subst (λ (n : ℕ). get m (key, n) ≡ Some mark) same (has (byte + 1) e)
       go later false u e f h = absurd (omega arith)
 
@@ -129,10 +121,10 @@ module _ (m : Marking) (key : Key) (mark : Mark) where
     where
       go : (b : ℕ) → row_start m key mark byte ≤ b → b ≤ row_end m key mark byte (9223372036854775807 - byte) → (t u : Bool) → nat_lt b byte ≡ t →
           nat_lt byte b ≡ u → get m (key, b) ≡ Some mark
-      go b from upto true u e f = start_each byte b from (is_less b byte e)
-      go b from upto false true e f = end_each byte (9223372036854775807 - byte) b (is_less byte b f) upto
+      go b from upto true u e f = start_each byte b from (ltb-true b byte e)
+      go b from upto false true e f = end_each byte (9223372036854775807 - byte) b (ltb-true byte b f) upto
       go b from upto false false e f =
-          let same : byte ≡ b = same_number byte b (not_less b byte e) (not_less byte b f) in
+          let same : byte ≡ b = le_antisymm (ltb-false b byte e) (ltb-false byte b f) in
           subst (λ (n : ℕ). get m (key, n) ≡ Some mark) same marked
 
   -- ---- there is one longest row around a byte
@@ -163,7 +155,7 @@ module _ (m : Marking) (key : Key) (mark : Mark) where
         upto earlier = omega arith
 
   pub same_start : {byte start end start2 end2 : ℕ} → IsRow m key mark byte start end → IsRow m key mark byte start2 end2 → start ≡ start2
-  same_start r s = same_number _ _ (starts_no_later s r) (starts_no_later r s)
+  same_start r s = le_antisymm (starts_no_later s r) (starts_no_later r s)
 
   pub same_end : {byte start end start2 end2 : ℕ} → IsRow m key mark byte start end → IsRow m key mark byte start2 end2 → end ≡ end2
-  same_end r s = same_number _ _ (ends_no_earlier r s) (ends_no_earlier s r)
+  same_end r s = le_antisymm (ends_no_earlier r s) (ends_no_earlier s r)

@@ -14,10 +14,11 @@ use Rattle.fl_ranges.specs.Conflict.{excludes}
 use Rattle.fl_ranges.specs.Blocker.{of_owner, IsExcluder, IsRow, IsBlocker, blocker}
 use Rattle.fl_ranges.specs.Inside.RunList.{meant, has_spot, run_at, held_at, IsWhole, AreRuns, run_excludes}
 use Rattle.fl_ranges.specs.Inside.Nearest.{is_nearer, nearer_of, nearest_with, nearest_from, lock_of}
-use Rattle.fl_ranges.proofs.ConflictWords.{same_class}
 use Rattle.fl_ranges.proofs.RunLists.{IsAt, at_spot, spot_of, each_at, each_both, each_weaker, each_found, each_ordered, run_has, same_run}
 use Rattle.fl_ranges.proofs.Counting.{Held as HeldBy, get-runs, held_by, held_of}
 use Rattle.fl_ranges.proofs.Blockers.{named_words}
+use Rattle.fl_ranges.proofs.Markings.{same_class}
+use Rattle.fl_ranges.proofs.Spots.{and_and_false}
 
 -- ---- the tests, as facts
 
@@ -39,12 +40,7 @@ excluding_parts a b n o p q start end from to true e = record {
   ends = grind (arith, nat_tests);
   write = refl;
 }
-excluding_parts a b n o p q start end from to false e = absurd (none ((a == b) && ((n == o) && not (p == q))) (nat_le from end && nat_le start to) e)
-  where
-    none : (r c : Bool) → (r && (c && false)) ≡ true → ⊥
-    none true true h = absurd (cc h)
-    none true false h = absurd (cc h)
-    none false c h = absurd (cc h)
+excluding_parts a b n o p q start end from to false e = absurd (and_and_false ((a == b) && ((n == o) && not (p == q))) (nat_le from end && nat_le start to) e)
 
 pub excluding_all : (a b n o p q start end from to : ℕ) (x : Bool) → a ≡ b → n ≡ o → (p ≢ q) → from ≤ end → start ≤ to → x ≡ true →
     (((a == b) && ((n == o) && not (p == q))) && ((nat_le from end && nat_le start to) && x)) ≡ true

@@ -7,6 +7,8 @@ use Rattle.std.proofs.lemmas.List.Elements.{filter-append}
 use Rattle.std.proofs.lemmas.List.Folds.{find-append, list_any-append}
 use Rattle.std.specs.List.{flat_map, filter, find, list_any, sum_by, AllByRecursion}
 use Rattle.std.specs.Option.{option_or}
+use Rattle.std.proofs.lemmas.Bool.{false_from_ne_true}
+use Rattle.std.proofs.Math.Bool.{or-false}
 use Rattle.fl_arena.specs.Chains.{Entry, Chains, entries, items, item_count, free_count, HasSizeOf}
 use Rattle.fl_ranges.specs.declared.lock.Key.{Key}
 use Rattle.fl_ranges.specs.declared.run.Run.{Run}
@@ -137,10 +139,6 @@ away_after a c each = each_after (IsAway c) a.chains c (λ d more. away c d (ite
 
 -- ---- what the runs of other chains don't change
 
-only_false : (b : Bool) → (b ≡ true → ⊥) → b ≡ false
-only_false true f = absurd (f refl)
-only_false false f = refl
-
 pub find_away : (t : Run → Bool) (rs : List Run) → AllByRecursion (λ r. t r ≡ false) rs → find t rs ≡ None
 find_away t [] each = refl
 find_away t (r ∷ rs) each = ap (λ b. cond b (Some r) (find t rs)) each.0 ∙ find_away t rs each.1
@@ -158,10 +156,6 @@ none_after : {A : Type 0} (o : Option A) → option_or o None ≡ o
 none_after None = refl
 none_after (Some x) = refl
 
-false_after : (b : Bool) → (b || false) ≡ b
-false_after true = refl
-false_after false = refl
-
 -- a test that fails at every run of the other chains
 module _ (t : Run → Bool) (xs ys zs : List Run) (first : AllByRecursion (λ r. t r ≡ false) xs) (last : AllByRecursion (λ r. t r ≡ false) zs) where
   pub find_among : find t (xs ++ (ys ++ zs)) ≡ find t ys
@@ -178,7 +172,7 @@ module _ (t : Run → Bool) (xs ys zs : List Run) (first : AllByRecursion (λ r.
       ∙ ap (λ b. b || list_any t (ys ++ zs)) (any_away t xs first)
       ∙ list_any-append t ys zs
       ∙ ap (λ b. list_any t ys || b) (any_away t zs last)
-      ∙ false_after (list_any t ys)
+      ∙ or-false (list_any t ys)
 
   pub filter_among : filter (λ r. not (t r)) (xs ++ (ys ++ zs)) ≡ xs ++ (filter (λ r. not (t r)) ys ++ zs)
   filter_among =
@@ -190,13 +184,13 @@ module _ (t : Run → Bool) (xs ys zs : List Run) (first : AllByRecursion (λ r.
 pub no_spot : (c : ℕ) (q : Spot) → home q.0.node ≡ c → (rs : List Run) → AllByRecursion (IsAway c) rs → AllByRecursion (λ r. has_spot q r ≡ false) rs
 no_spot c q own rs each =
     each_weaker (IsAway c) (λ r. has_spot q r ≡ false)
-    (λ r far. only_false _ (λ is. let at = at_spot r q is in far (ap (λ (k : Key). home k.node) at.key ∙ own))) rs each
+    (λ r far. false_from_ne_true _ (λ is. let at = at_spot r q is in far (ap (λ (k : Key). home k.node) at.key ∙ own))) rs each
 
 pub no_overlap : (c : ℕ) (key : Key) (start end : ℕ) → home key.node ≡ c → (rs : List Run) → AllByRecursion (IsAway c) rs →
     AllByRecursion (λ r. overlaps key start end r ≡ false) rs
 no_overlap c key start end own rs each =
     each_weaker (IsAway c) (λ r. overlaps key start end r ≡ false)
-    (λ r far. only_false _ (λ is. let o = over key start end r is in far (ap (λ (k : Key). home k.node) o.key_is ∙ own))) rs each
+    (λ r far. false_from_ne_true _ (λ is. let o = over key start end r is in far (ap (λ (k : Key). home k.node) o.key_is ∙ own))) rs each
 
 -- the runs that pass a test and those that fail it are all
 pub both_parts : (t : Run → Bool) (rs : List Run) → length (filter t rs) + length (filter (λ r. not (t r)) rs) ≡ length rs

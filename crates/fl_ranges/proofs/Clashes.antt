@@ -4,6 +4,7 @@ use Rattle.std.proofs.lemmas.Bool.Decides.{nat_tests}
 use Rattle.std.specs.List.{list_any, find, AllByRecursion}
 use Rattle.std.specs.Cmp.{both_ways}
 use Rattle.std.specs.FinMap.{entries}
+use Rattle.std.proofs.lemmas.Bool.{false_from_ne_true, or_left, or_right, and_from, eqb-true}
 use Rattle.fl_arena.specs.Chains.{Chains, items}
 use Rattle.fl_ranges.specs.declared.lock.Kind.{Kind}
 use Rattle.fl_ranges.specs.declared.lock.Key.{Key}
@@ -75,21 +76,9 @@ any_of_found : (t u : Run → Bool) (rs : List Run) (r : Run) → find u rs ≡ 
 any_of_found t u [] r found is = absurd (cc found)
 any_of_found t u (x ∷ rs) r found is = go (λ h. any_of_found t u rs r h is) (u x) found
   where
-    or_first : (b c : Bool) → b ≡ true → (b || c) ≡ true
-    or_first true c h = refl
-    or_first false c h = absurd (cc h)
-
-    or_later : (b c : Bool) → c ≡ true → (b || c) ≡ true
-    or_later true c h = refl
-    or_later false c h = h
-
     go : (find u rs ≡ Some r → list_any t rs ≡ true) → (b : Bool) → cond b (Some x) (find u rs) ≡ Some r → (t x || list_any t rs) ≡ true
-    go rest true h = let same : x ≡ r = cc h in or_first _ _ (ap t same ∙ is)
-    go rest false h = or_later _ _ (rest h)
-
--- a test of the owner, and the test for a conflict
-both_pass : (a b : Bool) → a ≡ true → b ≡ true → (a && b) ≡ true
-both_pass a b e f = λ i. e i && f i
+    go rest true h = let same : x ≡ r = cc h in or_left _ _ (ap t same ∙ is)
+    go rest false h = or_right _ _ (rest h)
 
 first_passes : (a b : Bool) → (a && b) ≡ true → a ≡ true
 first_passes true b e = refl
@@ -112,7 +101,7 @@ module _ (by : ℕ → Bool) (key : Key) (start end : ℕ) (kind : Kind) where
   run_shows rs r byte found own rivals kinds from upto =
       entry_passes spots_total exact_spots spot_excludes (marking_of (map meant rs)) (r.key, byte) r.mark
       (get-runs rs (r.key, byte) ∙ held_of rs (r.key, byte) r found)
-      (both_pass _ _ own (all_pass (are_rivals key r.key) (excludes kind r.mark.kind) start end byte byte rivals kinds from upto))
+      (and_from _ _ own (all_pass (are_rivals key r.key) (excludes kind r.mark.kind) start end byte byte rivals kinds from upto))
 
   -- runs that are apart show a conflict exactly where their marking has one
   pub runs_conflict : (rs : List Run) → start ≤ end → AreApart rs → list_any excludes_so rs ≡ list_any spot_excludes (entries (marking_of (map meant rs)))
@@ -130,7 +119,7 @@ module _ (by : ℕ → Bool) (key : Key) (start end : ℕ) (kind : Kind) where
       let at = at_spot h.run e.0 (run_has rs e.0 h.run h.found) in
       let t = passes (are_rivals key e.0.0) (excludes kind e.1.kind) start end e.0.1 e.0.1 (second_passes (by e.0.0.owner) _ e.3) in
       any_of_found excludes_so (has_spot e.0) rs h.run h.found
-      (both_pass _ _ (ap (λ (k : Key). by k.owner) at.key ∙ first_passes (by e.0.0.owner) _ e.3)
+      (and_from _ _ (ap (λ (k : Key). by k.owner) at.key ∙ first_passes (by e.0.0.owner) _ e.3)
       (all_pass (are_rivals key h.run.key) (excludes kind h.run.mark.kind) h.run.start h.run.end start end
       (ap (are_rivals key) at.key ∙ t.rivals)
       (ap (λ (m : Mark). excludes kind m.kind) h.mark_is ∙ t.kinds)
@@ -142,17 +131,10 @@ module _ (by : ℕ → Bool) (key : Key) (start end : ℕ) (kind : Kind) where
   rival_node true false o e = absurd (cc e)
   rival_node false n o e = absurd (cc e)
 
-  same_number : (a b : ℕ) → (a == b) ≡ true → a ≡ b
-  same_number a b e = grind (arith, nat_tests)
-
-  only_false : (b : Bool) → (b ≡ true → ⊥) → b ≡ false
-  only_false true f = absurd (f refl)
-  only_false false f = refl
-
   no_clash : (rs : List Run) → AllByRecursion (IsAway (home key.node)) rs → AllByRecursion (λ r. excludes_so r ≡ false) rs
-  no_clash rs each = each_weaker (IsAway (home key.node)) (λ r. excludes_so r ≡ false) (λ r far. only_false _ (λ is.
+  no_clash rs each = each_weaker (IsAway (home key.node)) (λ r. excludes_so r ≡ false) (λ r far. false_from_ne_true _ (λ is.
       let w = passes (are_rivals key r.key) (excludes kind r.mark.kind) r.start r.end start end (second_passes (by r.key.owner) _ is) in
-      far (ap home (sym (same_number key.node r.key.node (rival_node (class_number key.class == class_number r.key.class) (key.node == r.key.node)
+      far (ap home (sym (eqb-true key.node r.key.node (rival_node (class_number key.class == class_number r.key.class) (key.node == r.key.node)
       (not (key.owner == r.key.owner)) w.rivals)))))) rs each
 
   -- and so does the chain of the node

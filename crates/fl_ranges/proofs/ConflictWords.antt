@@ -1,20 +1,13 @@
 -- The test for a conflict, and a conflict in words.
 use Rattle.std.proofs.Common.{◌≡◌, ◌≢◌, ◌↔◌, ℕ, ◌≤◌, Bool, true, false, not, ◌&&◌, ◌==◌, nat_le, refl, ap, sym, arith}
 use Rattle.std.proofs.lemmas.Bool.Decides.{nat_tests}
-use Rattle.fl_ranges.specs.declared.lock.Class.{Class}
-use Rattle.fl_ranges.specs.declared.lock.Class.TheVariants.{Record, Flock}
 use Rattle.fl_ranges.specs.declared.lock.Key.{Key}
 use Rattle.fl_ranges.specs.declared.lock.Kind.{Kind}
 use Rattle.fl_ranges.specs.Marking.{class_number, Marking}
 use Rattle.fl_ranges.specs.Conflict.{excludes, excludes_lock, conflicts, IsConflict}
-use Rattle.fl_ranges.proofs.Markings.{spots_total, exact_spots}
+use Rattle.fl_ranges.proofs.Markings.{spots_total, exact_spots, same_class}
 use Rattle.fl_ranges.proofs.Entries.{any_entry, entry_passes}
-
-pub same_class : (a b : Class) → class_number a ≡ class_number b → a ≡ b
-same_class Record Record e = refl
-same_class Record Flock e = absurd (omega arith)
-same_class Flock Record e = absurd (omega arith)
-same_class Flock Flock e = refl
+use Rattle.fl_ranges.proofs.Spots.{and_and_false}
 
 -- the parts of the test, told by numbers
 pub record Parts (a b n o p q start byte end : ℕ) (x : Bool) : Type 0 where
@@ -35,12 +28,7 @@ parts a b n o p q start byte end true e = record {
   upto = grind (arith, nat_tests);
   write = refl;
 }
-parts a b n o p q start byte end false e = absurd (none ((a == b) && ((n == o) && not (p == q))) (nat_le start byte && nat_le byte end) e)
-  where
-    none : (r c : Bool) → (r && (c && false)) ≡ true → ⊥
-    none true true h = absurd (cc h)
-    none true false h = absurd (cc h)
-    none false c h = absurd (cc h)
+parts a b n o p q start byte end false e = absurd (and_and_false ((a == b) && ((n == o) && not (p == q))) (nat_le start byte && nat_le byte end) e)
 
 pub all_parts : (a b n o p q start byte end : ℕ) (x : Bool) → a ≡ b → n ≡ o → (p ≢ q) → start ≤ byte → byte ≤ end → x ≡ true
     → (((a == b) && ((n == o) && not (p == q))) && ((nat_le start byte && nat_le byte end) && x)) ≡ true

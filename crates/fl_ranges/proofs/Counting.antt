@@ -9,6 +9,7 @@ use Rattle.std.specs.List.{IsDistinct, AllByRecursion}
 use Rattle.std.specs.Option.{option_map}
 use Rattle.std.specs.Ordering.{eq_by_cmp}
 use Rattle.std.specs.FinMap.{get}
+use Rattle.std.proofs.lemmas.Bool.{or_left, or_right}
 use Rattle.fl_ranges.specs.declared.lock.Mark.{Mark}
 use Rattle.fl_ranges.specs.declared.run.Run.{Run}
 use Rattle.fl_ranges.specs.Marking.{Spot, spot_cmp, marking_of}
@@ -61,21 +62,13 @@ started P (r ∷ rs) all q e = go (started P rs all.1 q) (eq_by_cmp spot_cmp q (
     go rest true is h = subst P (sym (same_spot q (start_of r) is)) all.0
     go rest false is h = rest h
 
-or_first : (b c : Bool) → b ≡ true → (b || c) ≡ true
-or_first true c h = refl
-or_first false c h = absurd (cc h)
-
-or_later : (b c : Bool) → c ≡ true → (b || c) ≡ true
-or_later true c h = refl
-or_later false c h = h
-
 all_started : (rs : List Run) → AllByRecursion (λ r. is_member (eq_by_cmp spot_cmp) (map start_of rs) (start_of r) ≡ true) rs
 all_started [] = tt
 all_started (r ∷ rs) = (
-  or_first _ _ (spot_itself (start_of r)),
+  or_left _ _ (spot_itself (start_of r)),
   each_weaker (λ x. is_member (eq_by_cmp spot_cmp) (map start_of rs) (start_of x) ≡ true)
       (λ x. is_member (eq_by_cmp spot_cmp) (map start_of (r ∷ rs)) (start_of x) ≡ true)
-      (λ x h. or_later _ _ h) rs (all_started rs),
+      (λ x h. or_right _ _ h) rs (all_started rs),
 )
 
 -- the run whose mark a spot has

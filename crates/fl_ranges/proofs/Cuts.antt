@@ -5,6 +5,7 @@ use Rattle.std.proofs.lemmas.Bool.Decides.{nat_tests}
 use Rattle.std.specs.List.{AllByRecursion}
 use Rattle.std.specs.Option.{option_map}
 use Rattle.std.specs.Ordering.{eq_by_cmp}
+use Rattle.std.proofs.lemmas.Bool.{not-true}
 use Rattle.fl_ranges.specs.declared.lock.Key.{Key}
 use Rattle.fl_ranges.specs.declared.lock.Mark.{Mark}
 use Rattle.fl_ranges.specs.declared.run.Run.{Run}
@@ -105,13 +106,16 @@ after_key rs key end p e =
 abbrev pub inside : Key → ℕ → ℕ → Spot → Bool
 inside key start end q = eq_by_cmp key_cmp key q.0 && (nat_le start q.1 && nat_le q.1 end)
 
+pub not_inside : (key : Key) (start end : ℕ) (q : Spot) → q.1 < start → inside key start end q ≡ false
+not_inside key start end q less = go (inside key start end q) refl
+  where
+    go : (b : Bool) → inside key start end q ≡ b → b ≡ false
+    go true is = let w = within (eq_by_cmp key_cmp key q.0) start q.1 end is in absurd (omega (arith, less, w.from))
+    go false is = refl
+
 outside_range : (k : Bool) (start byte end : ℕ) → (k && (nat_le start byte && nat_le byte end)) ≡ false → k ≡ true → (start ≤ byte) → (byte ≤ end) → ⊥
 outside_range true start byte end e k from upto = absurd (grind (arith, nat_tests))
 outside_range false start byte end e k from upto = absurd (cc k)
-
-turned : (b : Bool) → not b ≡ true → b ≡ false
-turned true e = absurd (cc e)
-turned false e = refl
 
 module _ (rs : List Run) (good : AreRuns rs) (key : Key) (start end : ℕ) (ordered : start ≤ end) where
   -- what is known of a spot of a part: its run in the list is the one that was cut
@@ -278,19 +282,12 @@ module _ (rs : List Run) (good : AreRuns rs) (key : Key) (start end : ℕ) (orde
             next (same_key key r.key w.same) w.from w.upto later (sym (in_range (r.key, r.start - 1) is) ∙ same) (nat_le r.start end) refl
         go false is later same = whole.first later (sym (outside (r.key, r.start - 1) is) ∙ same)
 
-    not_inside : (q : Spot) → q.1 < start → inside key start end q ≡ false
-    not_inside q less = go (inside key start end q) refl
-      where
-        go : (b : Bool) → inside key start end q ≡ b → b ≡ false
-        go true is = let w = within (eq_by_cmp key_cmp key q.0) start q.1 end is in absurd (omega (arith, less, w.from))
-        go false is = refl
-
     whole_before : (p : Run) → part_before start (run_at rs (key, start)) ≡ Some p → IsWhole held p
     whole_before p e =
         let b = before_is start (run_at rs (key, start)) p e in
         let here = at_spot b.run (key, start) (run_has rs (key, start) b.run b.is) in
         let whole = each_at (IsWhole (held_at rs)) rs (has_spot (key, start)) b.run good.whole b.is in
-        let out : inside key start end (b.run.key, b.run.start - 1) ≡ false = not_inside (b.run.key, b.run.start - 1) (omega (arith, b.less)) in
+        let out : inside key start end (b.run.key, b.run.start - 1) ≡ false = not_inside key start end (b.run.key, b.run.start - 1) (omega (arith, b.less)) in
         subst (IsWhole held) (sym b.part) (record {
           in_range = omega (arith, here.upto, whole.in_range);
           first = λ later same. whole.first later (sym (outside (b.run.key, b.run.start - 1) out) ∙ same);
@@ -325,7 +322,7 @@ module _ (rs : List Run) (good : AreRuns rs) (key : Key) (start end : ℕ) (orde
     whole_cut =
         each_with (IsWhole held) (part_before start (run_at rs (key, start))) _ whole_before
         (each_with (IsWhole held) (part_after end (run_at rs (key, end))) (left_over key start end rs) whole_after
-        (each_weaker Left (IsWhole held) (λ r h. whole_left r (turned (overlaps key start end r) h.0) h.1.0.0 h.1.0.1 h.1.1) (left_over key start end rs)
+        (each_weaker Left (IsWhole held) (λ r h. whole_left r (not-true (overlaps key start end r) h.0) h.1.0.0 h.1.0.1 h.1.1) (left_over key start end rs)
         (each_filter Kept (λ r. not (overlaps key start end r)) rs
         (each_both Own (IsWhole (held_at rs)) rs
         (each_both (λ r. r.start ≤ r.end) (λ r. (q : Spot) → has_spot q r ≡ true → run_at rs q ≡ Some r) rs (each_ordered rs good.apart)

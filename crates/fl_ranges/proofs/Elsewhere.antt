@@ -49,9 +49,6 @@ same_conflicts m n key start end kind same =
 both : (a b c d : ℕ) → a ≡ b → c ≡ d → ((a == b) && (c == d)) ≡ true
 both a b c d e f = grind (arith, nat_tests)
 
-alike : (a b : ℕ) → a ≡ b → (a == b) ≡ true
-alike a b e = grind (arith, nat_tests)
-
 stroked_elsewhere : (s : Stroke) (m : Marking) → SameElsewhere s.key m (stroked s m)
 stroked_elsewhere s m other start end kind apart = same_conflicts m (stroked s m) other start end kind same
   where

@@ -5,9 +5,10 @@ use Rattle.std.specs.List as list
 use Rattle.std.specs.declared.cmp.Ordering.{Ordering}
 use Rattle.std.specs.declared.cmp.Ordering.TheVariants.{Less, Equal, Greater}
 use Rattle.std.specs.Ordering.{eq_by_cmp, is_eq, is_lt, ordering_reverse}
-use Rattle.std.specs.Cmp.{IsTotalOrder, tied_itself, alike_right, first_so, second_so}
+use Rattle.std.specs.Cmp.{IsTotalOrder, tied_itself, alike_right, first_so, second_so, Equal-is}
 use Rattle.std.specs.FinMap.{FinMap, get, find, entries, entries_sorted, get-entries, is_sorted, IsAntisymmetric}
 use Rattle.std.specs.FinMap.Entries.{below_all}
+use Rattle.std.proofs.lemmas.Bool.{or_left, or_right}
 
 less_not_equal : (o : Ordering) → o ≡ Less → is_eq (ordering_reverse o) ≡ false
 less_not_equal Less e = refl
@@ -24,11 +25,6 @@ is_Less Less e = refl
 is_Less Equal e = absurd (cc e)
 is_Less Greater e = absurd (cc e)
 
-pub is_Equal : (o : Ordering) → is_eq o ≡ true → o ≡ Equal
-is_Equal Less e = absurd (cc e)
-is_Equal Equal e = refl
-is_Equal Greater e = absurd (cc e)
-
 pub truth : (b : Bool) → T b → b ≡ true
 truth true t = refl
 truth false t = absurd t
@@ -40,7 +36,7 @@ module _ {K X : Type 0} {R : K → K → Ordering} (o : IsTotalOrder R) where
   found_above x q v (e ∷ es) below found = go (found_above x q v es (second_so (is_lt (R x e.0)) (below_all R x es) below)) (eq_by_cmp R q e.0) refl found
     where
       go : (find R q es ≡ Some v → R x q ≡ Less) → (b : Bool) → eq_by_cmp R q e.0 ≡ b → cond b (Some e.1) (find R q es) ≡ Some v → R x q ≡ Less
-      go later true is h = alike_right o q e.0 x (is_Equal (R q e.0) is) ∙ is_Less (R x e.0) (first_so (is_lt (R x e.0)) (below_all R x es) below)
+      go later true is h = alike_right o q e.0 x ((Equal-is (R q e.0)).0 is) ∙ is_Less (R x e.0) (first_so (is_lt (R x e.0)) (below_all R x es) below)
       go later false is h = later h
 
   -- an entry that passes a test, and is what the list has at its key
@@ -73,21 +69,13 @@ module _ {K X : Type 0} {R : K → K → Ordering} (o : IsTotalOrder R) where
   passes_of_found exact test k v [] found passes = absurd (cc found)
   passes_of_found exact test k v (e ∷ es) found passes = go (λ h. passes_of_found exact test k v es h passes) (eq_by_cmp R k e.0) refl found
     where
-      or_later : (b c : Bool) → c ≡ true → (b || c) ≡ true
-      or_later true c h = refl
-      or_later false c h = h
-
-      or_first : (b c : Bool) → b ≡ true → (b || c) ≡ true
-      or_first true c h = refl
-      or_first false c h = absurd (cc h)
-
       go : (find R k es ≡ Some v → list_any test es ≡ true) → (b : Bool) → eq_by_cmp R k e.0 ≡ b → cond b (Some e.1) (find R k es) ≡ Some v →
           (test e || list_any test es) ≡ true
       go later true is h =
-          let key : k ≡ e.0 = exact k e.0 (is_Equal (R k e.0) is) in
+          let key : k ≡ e.0 = exact k e.0 ((Equal-is (R k e.0)).0 is) in
           let value : e.1 ≡ v = cc h in
-          or_first _ _ (ap test (λ i. (sym key i, value i)) ∙ passes)
-      go later false is h = or_later _ _ (later h)
+          or_left _ _ (ap test (λ i. (sym key i, value i)) ∙ passes)
+      go later false is h = or_right _ _ (later h)
 
   pub entry_passes : IsAntisymmetric R → (test : (K × X) → Bool) (m : FinMap R X) (k : K) (v : X) → get m k ≡ Some v → test (k, v) ≡ true →
       list_any test (entries m) ≡ true

@@ -4,6 +4,7 @@ use Rattle.std.proofs.Common.{subst, arith}
 use Rattle.std.proofs.lemmas.Bool.Decides.{nat_tests}
 use Rattle.std.specs.Ordering.{eq_by_cmp}
 use Rattle.std.specs.FinMap.{get, empty, get-empty}
+use Rattle.std.proofs.lemmas.Bool.{false_from_ne_true}
 use Rattle.fl_ranges.specs.declared.lock.Kind.{Kind}
 use Rattle.fl_ranges.specs.declared.lock.Kind.TheVariants.{Read, Write}
 use Rattle.fl_ranges.specs.declared.lock.Key.{Key}
@@ -44,10 +45,6 @@ all_true false c x p q s = absurd (cc p)
 all_true true false x p q s = absurd (cc q)
 all_true true true false p q s = absurd (cc s)
 
-only_false : (b : Bool) → (b ≡ true → ⊥) → b ≡ false
-only_false true f = absurd (f refl)
-only_false false f = refl
-
 in_range : (k c : Bool) → (k && c) ≡ true → c ≡ true
 in_range true c e = e
 in_range false c e = absurd (cc e)
@@ -56,7 +53,7 @@ module _ (m : Marking) (s : Stroke) where
   -- another owner's mark in the range doesn't exclude the new one
   spared : (a b : Key) (byte : ℕ) (x y : Mark) → (conflicts m s.key s.start s.end x.kind ≡ false) → covers s (a, byte) ≡ true → get m (b, byte) ≡ Some y →
       are_rivals a b ≡ true → excludes x.kind y.kind ≡ false
-  spared a b byte x y clear covered held rivals = only_false (excludes x.kind y.kind) (λ clash.
+  spared a b byte x y clear covered held rivals = false_from_ne_true (excludes x.kind y.kind) (λ clash.
       let w = within (eq_by_cmp key_cmp s.key a) s.start byte s.end covered in
       let same : s.key ≡ a = same_key s.key a w.same in
       let test : excludes_lock s.key s.start s.end x.kind ((b, byte), y) ≡ true =

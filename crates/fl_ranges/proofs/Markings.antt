@@ -30,7 +30,7 @@ both_equal Less b e = absurd (cc e)
 both_equal Equal b e = (refl, e)
 both_equal Greater b e = absurd (cc e)
 
-same_class : (a b : Class) → class_number a ≡ class_number b → a ≡ b
+pub same_class : (a b : Class) → class_number a ≡ class_number b → a ≡ b
 same_class Record Record e = refl
 same_class Record Flock e = absurd (omega arith)
 same_class Flock Record e = absurd (omega arith)
@@ -73,26 +73,26 @@ is_eq-nat_cmp x y = grind (arith, nat_tests)
 among : Key → ℕ → ℕ → Spot → Bool
 among key first count q = eq_by_cmp key_cmp key q.0 && (nat_le first q.1 && nat_lt q.1 (first + count))
 
-one_more : {A : Type 0} (k : Bool) (first count byte : ℕ) (x y : A)
+marks_one_more : {A : Type 0} (k : Bool) (first count byte : ℕ) (x y : A)
     → cond (k && (byte == first + count)) x (cond (k && (nat_le first byte && nat_lt byte (first + count))) x y)
     ≡ cond (k && (nat_le first byte && nat_lt byte (first + suc count))) x y
-one_more false first count byte x y = refl
-one_more true first count byte x y = grind (arith, nat_tests)
+marks_one_more false first count byte x y = refl
+marks_one_more true first count byte x y = grind (arith, nat_tests)
 
-none_more : {A : Type 0} (k : Bool) (first byte : ℕ) (x y : A) → y ≡ cond (k && (nat_le first byte && nat_lt byte (first + 0))) x y
-none_more false first byte x y = refl
-none_more true first byte x y = grind (arith, nat_tests)
+marks_none : {A : Type 0} (k : Bool) (first byte : ℕ) (x y : A) → y ≡ cond (k && (nat_le first byte && nat_lt byte (first + 0))) x y
+marks_none false first byte x y = refl
+marks_none true first byte x y = grind (arith, nat_tests)
 
 get-mark_bytes : (key : Key) (mark : Option Mark) (first count : ℕ) (m : Marking) (q : Spot) →
     get (mark_bytes key mark first count m) q ≡ cond (among key first count q) mark (get m q)
 unfolding mark_bytes among
-get-mark_bytes key mark first zero m q = none_more (eq_by_cmp key_cmp key q.0) first q.1 mark (get m q)
+get-mark_bytes key mark first zero m q = marks_none (eq_by_cmp key_cmp key q.0) first q.1 mark (get m q)
 get-mark_bytes key mark first (suc count) m q =
     let here = is_eq-then (key_cmp q.0 key) (nat_cmp q.1 (first + count))
     ∙ (λ i. (eq_by_cmp_equiv keys_total).symm q.0 key i && is_eq-nat_cmp q.1 (first + count) i) in
     get-mark_spot (key, first + count) mark (mark_bytes key mark first count m) q
     ∙ (λ i. cond (here i) mark (get-mark_bytes key mark first count m q i))
-    ∙ one_more (eq_by_cmp key_cmp key q.0) first count q.1 mark (get m q)
+    ∙ marks_one_more (eq_by_cmp key_cmp key q.0) first count q.1 mark (get m q)
 
 among-covers : (k : Bool) (start end byte : ℕ) →
     (k && (nat_le start byte && nat_lt byte (start + (end + 1 - start)))) ≡ (k && (nat_le start byte && nat_le byte end))

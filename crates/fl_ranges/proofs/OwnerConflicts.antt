@@ -3,6 +3,8 @@ use Rattle.std.proofs.Common.{◌≡◌, ◌↔◌, ℕ, ◌≤◌, Bool, true, 
 use Rattle.std.proofs.Common.{◌∙◌, subst, arith}
 use Rattle.std.proofs.lemmas.Bool.Decides.{nat_tests}
 use Rattle.std.specs.List.{list_any}
+use Rattle.std.proofs.lemmas.Bool.{false_from_ne_true, or_left, or_right, and_from, eqb-true, eq-eqb}
+use Rattle.std.specs.Cmp.{first_so, second_so}
 use Rattle.fl_arena.specs.Chains.{Chains, items}
 use Rattle.fl_ranges.specs.declared.lock.Key.{Key}
 use Rattle.fl_ranges.specs.declared.lock.Kind.{Kind}
@@ -13,31 +15,10 @@ use Rattle.fl_ranges.specs.Placing.{home}
 use Rattle.fl_ranges.specs.Inside.RunList.{meant, run_excludes}
 use Rattle.fl_ranges.specs.Inside.RunChains.{all_runs, IsTable}
 use Rattle.fl_ranges.specs.Inside.Owners.{is_after, is_less, least_with, least_from}
-use Rattle.fl_ranges.proofs.Markings.{spots_total, exact_spots}
+use Rattle.fl_ranges.proofs.Markings.{spots_total, exact_spots, same_class}
 use Rattle.fl_ranges.proofs.Entries.{any_entry, entry_passes}
-use Rattle.fl_ranges.proofs.ConflictWords.{same_class, parts, all_parts}
+use Rattle.fl_ranges.proofs.ConflictWords.{parts, all_parts}
 use Rattle.fl_ranges.proofs.Clashes.{table_conflict}
-
-equals : (x y : ℕ) → (x == y) ≡ true → x ≡ y
-equals x y e = grind (arith, nat_tests)
-
-equal : (x y : ℕ) → x ≡ y → (x == y) ≡ true
-equal x y e = grind (arith, nat_tests)
-
-both : (b c : Bool) → b ≡ true → c ≡ true → (b && c) ≡ true
-both b c e f = λ i. e i && f i
-
-first : (b c : Bool) → (b && c) ≡ true → b ≡ true
-first true c e = refl
-first false c e = absurd (cc e)
-
-second : (b c : Bool) → (b && c) ≡ true → c ≡ true
-second true c e = e
-second false c e = absurd (cc e)
-
-only_false : (b : Bool) → (b ≡ true → ⊥) → b ≡ false
-only_false true f = absurd (f refl)
-only_false false f = refl
 
 -- ---- in words
 
@@ -47,7 +28,7 @@ owner_conflict_words m key start end kind owner = (
   λ h.
       let e = any_entry spots_total (excludes_by key start end kind owner) m h in
       let t = parts (class_number key.class) (class_number e.0.0.class) key.node e.0.0.node key.owner e.0.0.owner start e.0.1 end (excludes kind e.1.kind)
-      (second (e.0.0.owner == owner) _ e.3) in
+      (second_so (e.0.0.owner == owner) _ e.3) in
       record {
         conflict = record {
           rival = e.0.0;
@@ -61,12 +42,12 @@ owner_conflict_words m key start end kind owner = (
           upto = t.upto;
           write = t.write;
         };
-        of = equals e.0.0.owner owner (first (e.0.0.owner == owner) _ e.3);
+        of = eqb-true e.0.0.owner owner (first_so (e.0.0.owner == owner) _ e.3);
       },
   λ w.
       let c = w.conflict in
       entry_passes spots_total exact_spots (excludes_by key start end kind owner) m (c.rival, c.byte) c.mark c.held
-      (both _ _ (equal c.rival.owner owner w.of) (all_parts (class_number key.class) (class_number c.rival.class) key.node c.rival.node key.owner c.rival.owner
+      (and_from _ _ (eq-eqb c.rival.owner owner w.of) (all_parts (class_number key.class) (class_number c.rival.class) key.node c.rival.node key.owner c.rival.owner
       start c.byte end (excludes kind c.mark.kind)
       (ap class_number (sym c.class)) (sym c.node) (λ same. c.other (sym same)) c.from c.upto c.write)),
 )
@@ -74,7 +55,7 @@ owner_conflict_words m key start end kind owner = (
 -- an owner never conflicts with its own request
 pub never_own : (m : Marking) (key : Key) (start end : ℕ) (kind : Kind) → owner_conflicts m key start end kind key.owner ≡ false
 never_own m key start end kind =
-    only_false (owner_conflicts m key start end kind key.owner)
+    false_from_ne_true (owner_conflicts m key start end kind key.owner)
     (λ h. let w = (owner_conflict_words m key start end kind key.owner).0 h in w.conflict.other w.of)
 
 -- ---- among runs
@@ -109,29 +90,21 @@ module _ (key : Key) (start end : ℕ) (kind : Kind) (after : Option ℕ) where
   found [] least o e = inl e
   found (r ∷ rs) least o e = later (found rs (least_with key start end kind after least r) o e)
     where
-      or_later : (b c : Bool) → c ≡ true → (b || c) ≡ true
-      or_later true c h = refl
-      or_later false c h = h
-
-      or_first : (b c : Bool) → b ≡ true → (b || c) ≡ true
-      or_first true c h = refl
-      or_first false c h = absurd (cc h)
-
       here : (b : Bool) → (run_excludes key start end kind r && (is_after after r.key.owner && is_less least r.key.owner)) ≡ b →
           cond b (Some r.key.owner) least ≡ Some o → (least ≡ Some o) ⊎ ((is_after after o ≡ true) × Has o (r ∷ rs))
       here true is e =
           let same = same_some r.key.owner o e in
           inr (
             subst (λ x. is_after after x ≡ true) same
-                (first (is_after after r.key.owner) (is_less least r.key.owner) (second (run_excludes key start end kind r) _ is)),
-            or_first _ _ (both _ _ (equal r.key.owner o same) (first (run_excludes key start end kind r) _ is)),
+                (first_so (is_after after r.key.owner) (is_less least r.key.owner) (second_so (run_excludes key start end kind r) _ is)),
+            or_left _ _ (and_from _ _ (eq-eqb r.key.owner o same) (first_so (run_excludes key start end kind r) _ is)),
           )
       here false is e = inl e
 
       later : (least_with key start end kind after least r ≡ Some o) ⊎ ((is_after after o ≡ true) × Has o rs) →
           (least ≡ Some o) ⊎ ((is_after after o ≡ true) × Has o (r ∷ rs))
       later (inl e) = here _ refl e
-      later (inr h) = inr (h.0, or_later _ _ h.1)
+      later (inr h) = inr (h.0, or_right _ _ h.1)
 
   -- it only gets less
   lower : (rs : List Run) (least : Option ℕ) (o : ℕ) → IsAtMost least o → IsAtMost (least_from key start end kind after least rs) o
@@ -140,7 +113,7 @@ module _ (key : Key) (start end : ℕ) (kind : Kind) (after : Option ℕ) where
     where
       go : (b : Bool) → (run_excludes key start end kind r && (is_after after r.key.owner && is_less least r.key.owner)) ≡ b →
           IsAtMost (cond b (Some r.key.owner) least) o
-      go true is = less_at_most least r.key.owner o (second (is_after after r.key.owner) _ (second (run_excludes key start end kind r) _ is)) h
+      go true is = less_at_most least r.key.owner o (second_so (is_after after r.key.owner) _ (second_so (run_excludes key start end kind r) _ is)) h
       go false is = h
 
   -- and isn't greater than an owner that has such a run
@@ -162,7 +135,7 @@ module _ (key : Key) (start end : ℕ) (kind : Kind) (after : Option ℕ) where
           → (Has o rs → IsAtMost (least_from key start end kind after least (r ∷ rs)) o) → IsAtMost (least_from key start end kind after least (r ∷ rs)) o
       go true is any rest =
           lower rs (least_with key start end kind after least r) o
-          (here _ refl (equals r.key.owner o (first (r.key.owner == o) _ is)) (second (r.key.owner == o) _ is))
+          (here _ refl (eqb-true r.key.owner o (first_so (r.key.owner == o) _ is)) (second_so (r.key.owner == o) _ is))
       go false is any rest = rest any
 
   -- ---- in the table

@@ -1,7 +1,6 @@
 -- The places of the slots.
 use Rattle.std.proofs.Common.{◌≡◌, ℕ, ◌<◌, Bool, true, false, cond, ◌==◌, Some, List, [], ◌∷◌, ◌++◌, map, length, refl, ap, sym, ◌∙◌, subst, inl, inr, arith}
-use Rattle.std.proofs.lemmas.Bool.{cases_lt, false_from_ne_true}
-use Rattle.std.proofs.lemmas.Bool.Decides.{nat_tests}
+use Rattle.std.proofs.lemmas.Bool.{cases_lt, false_from_ne_true, eqb-true, eq-eqb}
 use Rattle.std.proofs.lemmas.List.{append-nil, get_or_past, length-map}
 use Rattle.std.proofs.lemmas.List.Elements.{filter-append}
 use Rattle.std.proofs.lemmas.Option.{none-some, slice_get_past}
@@ -18,11 +17,7 @@ use Rattle.fl_ranges.specs.Marking.{marking_of}
 use Rattle.fl_ranges.proofs.RunLists.{each_weaker}
 use Rattle.fl_ranges.proofs.ChainLists.{IsAway, before_chain, after_chain, all_around, away_before, away_after, count_all}
 use Rattle.fl_ranges.proofs.Counting.{runs_length}
-use Rattle.fl_ranges.proofs.TableLemmas.{number_itself}
 use Rattle.fl_ranges.proofs.TableCalls.{runs-filter, kept_nodes}
-
-same_number : (a b : ℕ) → (a == b) ≡ true → a ≡ b
-same_number a b e = grind (arith, nat_tests)
 
 keeps_none : (t : Run → Bool) (rs : List Run) → AllByRecursion (λ r. t r ≡ false) rs → filter t rs ≡ []
 keeps_none t [] each = refl
@@ -36,7 +31,7 @@ module _ (a : Chains Run) (limit : ℕ) (t : IsTable a limit) where
   module _ (c : ℕ) (within : c < length a.chains) where
     none_on : (rs : List Run) → AllByRecursion (IsAway c) rs → filter (λ r. home r.key.node == c) rs ≡ []
     none_on rs away = keeps_none (λ r. home r.key.node == c) rs
-        (each_weaker (IsAway c) (λ r. (home r.key.node == c) ≡ false) (λ r far. false_from_ne_true _ (λ is. far (same_number (home r.key.node) c is))) rs away)
+        (each_weaker (IsAway c) (λ r. (home r.key.node == c) ≡ false) (λ r far. false_from_ne_true _ (λ is. far (eqb-true (home r.key.node) c is))) rs away)
 
     -- a chain has the runs of its nodes
     of_chain : filter (λ r. home r.key.node == c) (all_runs a) ≡ items a c
@@ -49,7 +44,7 @@ module _ (a : Chains Run) (limit : ℕ) (t : IsTable a limit) where
         ∙ append-nil (items a c)
       where
         own : AllByRecursion (λ r. (home r.key.node == c) ≡ true) (items a c)
-        own = each_weaker (λ r. home r.key.node ≡ c) (λ r. (home r.key.node == c) ≡ true) (λ r is. number_itself (home r.key.node) c is) (items a c)
+        own = each_weaker (λ r. home r.key.node ≡ c) (λ r. (home r.key.node == c) ≡ true) (λ r is. eq-eqb (home r.key.node) c is) (items a c)
             (t.at_home c)
 
     length-chain : length (items a c) ≡ runs (on_chain c (marking_of (map meant (all_runs a))))

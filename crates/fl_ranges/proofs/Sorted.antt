@@ -10,6 +10,8 @@ use Rattle.std.specs.declared.cmp.Ordering.{Ordering}
 use Rattle.std.specs.declared.cmp.Ordering.TheVariants.{Less, Equal, Greater}
 use Rattle.std.specs.Ordering.{nat_cmp, ordering_then, ordering_reverse, is_lt}
 use Rattle.std.specs.Cmp.{IsTotalOrder, nat_cmp_total, tied_itself}
+use Rattle.std.proofs.lemmas.Bool.{false_from_ne_true, eqb-true}
+use Rattle.std.proofs.lemmas.List.{take-append-drop}
 use Rattle.fl_ranges.specs.declared.lock.Key.{Key}
 use Rattle.fl_ranges.specs.declared.lock.Kind.{Kind}
 use Rattle.fl_ranges.specs.declared.run.Run.{Run}
@@ -21,6 +23,9 @@ use Rattle.fl_ranges.specs.Inside.RunPlan.{insert_some}
 use Rattle.fl_ranges.proofs.RunLists.{at_spot, over, keep, each_filter, each_weaker}
 use Rattle.fl_ranges.proofs.Rearranged.{each-insert_some}
 use Rattle.fl_ranges.proofs.Walks.{drop_here}
+use Rattle.fl_ranges.proofs.Entries.{is_Less}
+use Rattle.fl_ranges.proofs.ChainLists.{find_away, filter_away}
+use Rattle.fl_ranges.proofs.Spots.{and_and_false}
 
 places_total : IsTotalOrder place_cmp
 places_total = then_total (then_total (on_total (λ (r : Run). r.key.node) nat_cmp_total) (on_total (λ (r : Run). class_number r.key.class) nat_cmp_total))
@@ -28,11 +33,6 @@ places_total = then_total (then_total (on_total (λ (r : Run). r.key.node) nat_c
 
 runs_total : IsTotalOrder run_cmp
 runs_total = then_total places_total (on_total (λ (r : Run). r.key.owner) nat_cmp_total)
-
-is_Less : (o : Ordering) → is_lt o ≡ true → o ≡ Less
-is_Less Less e = refl
-is_Less Equal e = absurd (cc e)
-is_Less Greater e = absurd (cc e)
 
 -- what stands after a run that is past a byte is past it too
 past_later : (key : Key) (byte : ℕ) (r x : Run) → is_past key byte r ≡ true → goes_before x r ≡ false → is_past key byte x ≡ true
@@ -66,35 +66,23 @@ past_not key byte x past node class le =
     less_number byte x.start ((λ i. is_lt (ordering_then (ordering_then (sym same_node i) (sym same_class i)) (nat_cmp byte x.start))) ∙ past) in
     omega (arith, less, le)
 
-same_number : (a b : ℕ) → (a == b) ≡ true → a ≡ b
-same_number a b e = grind (arith, nat_tests)
-
-pub only_false : (b : Bool) → (b ≡ true → ⊥) → b ≡ false
-only_false true f = absurd (f refl)
-only_false false f = refl
-
 pub past_spot : (key : Key) (byte : ℕ) (x : Run) → is_past key byte x ≡ true → has_spot (key, byte) x ≡ false
 past_spot key byte x past =
-    only_false _ (λ is. let at = at_spot x (key, byte) is in
+    false_from_ne_true _ (λ is. let at = at_spot x (key, byte) is in
     past_not key byte x past (ap (λ (k : Key). k.node) at.key) (ap (λ (k : Key). class_number k.class) at.key) at.from)
 
 pub past_overlap : (key : Key) (start end : ℕ) (x : Run) → is_past key end x ≡ true → overlaps key start end x ≡ false
 past_overlap key start end x past =
-    only_false _ (λ is. let o = over key start end x is in
+    false_from_ne_true _ (λ is. let o = over key start end x is in
     past_not key end x past (ap (λ (k : Key). k.node) o.key_is) (ap (λ (k : Key). class_number k.class) o.key_is) o.begins)
 
 rival_parts : (a b n o p q from to start end : ℕ) (x : Bool) →
     (((a == b) && ((n == o) && not (p == q))) && ((nat_le from end && nat_le start to) && x)) ≡ true → (b ≡ a) × (o ≡ n) × (from ≤ end)
 rival_parts a b n o p q from to start end true e = (grind (arith, nat_tests), grind (arith, nat_tests), grind (arith, nat_tests))
-rival_parts a b n o p q from to start end false e = absurd (none ((a == b) && ((n == o) && not (p == q))) (nat_le from end && nat_le start to) e)
-  where
-    none : (r c : Bool) → (r && (c && false)) ≡ true → ⊥
-    none true true h = absurd (cc h)
-    none true false h = absurd (cc h)
-    none false c h = absurd (cc h)
+rival_parts a b n o p q from to start end false e = absurd (and_and_false ((a == b) && ((n == o) && not (p == q))) (nat_le from end && nat_le start to) e)
 
 pub past_clash : (key : Key) (start end : ℕ) (kind : Kind) (x : Run) → is_past key end x ≡ true → run_excludes key start end kind x ≡ false
-past_clash key start end kind x past = only_false _ (λ is.
+past_clash key start end kind x past = false_from_ne_true _ (λ is.
     let p = rival_parts (class_number key.class) (class_number x.key.class) key.node x.key.node key.owner x.key.owner x.start x.end start end
     (excludes kind x.mark.kind) is in
     past_not key end x past p.1 p.0 p.2)
@@ -114,23 +102,9 @@ past_rest key byte xs i r sorted found past =
     subst (AllByRecursion (λ x. is_past key byte x ≡ true)) (sym here)
     (past, each_weaker (λ x. goes_before x r ≡ false) (λ x. is_past key byte x ≡ true) (λ x after. past_later key byte r x past after) (drop (i + 1) xs) rest.0)
 
-find_none : (t : Run → Bool) (rs : List Run) → AllByRecursion (λ r. t r ≡ false) rs → find t rs ≡ None
-find_none t [] each = refl
-find_none t (r ∷ rs) each = ap (λ b. cond b (Some r) (find t rs)) each.0 ∙ find_none t rs each.1
-
 count_none : (t : Run → Bool) (rs : List Run) → AllByRecursion (λ r. t r ≡ false) rs → length (filter t rs) ≡ 0
 count_none t [] each = refl
 count_none t (r ∷ rs) each = ap (λ b. length (cond b (r ∷ filter t rs) (filter t rs))) each.0 ∙ count_none t rs each.1
-
-kept_rest : (t : Run → Bool) (rs : List Run) → AllByRecursion (λ r. t r ≡ false) rs → filter (λ r. not (t r)) rs ≡ rs
-kept_rest t [] each = refl
-kept_rest t (r ∷ rs) each =
-    ap (λ b. cond (not b) (r ∷ filter (λ r. not (t r)) rs) (filter (λ r. not (t r)) rs)) each.0 ∙ ap (λ (l : List Run). r ∷ l) (kept_rest t rs each.1)
-
-all_of : (i : ℕ) (xs : List Run) → take i xs ++ drop i xs ≡ xs
-all_of zero xs = refl
-all_of (suc i) [] = refl
-all_of (suc i) (x ∷ xs) = ap (λ (l : List Run). x ∷ l) (all_of i xs)
 
 -- a walk may stop at a run that is past the last byte, where a test fails at all such
 module _ (t : Run → Bool) (key : Key) (byte : ℕ) (fails : (x : Run) → is_past key byte x ≡ true → t x ≡ false) (xs : List Run) (i : ℕ) (r : Run)
@@ -142,7 +116,7 @@ module _ (t : Run → Bool) (key : Key) (byte : ℕ) (fails : (x : Run) → is_p
   count_stop n so_far = let none = count_none t (drop i xs) no_more in omega (arith, so_far, none)
 
   pub kept_stop : take i xs ++ filter (λ r. not (t r)) (drop i xs) ≡ xs
-  kept_stop = ap (λ (l : List Run). take i xs ++ l) (kept_rest t (drop i xs) no_more) ∙ all_of i xs
+  kept_stop = ap (λ (l : List Run). take i xs ++ l) (filter_away t (drop i xs) no_more) ∙ take-append-drop i xs
 
 -- the first run of those past the last byte and those that pass the test
 module _ (t : Run → Bool) (key : Key) (byte : ℕ) (fails : (x : Run) → is_past key byte x ≡ true → t x ≡ false) where
@@ -155,7 +129,7 @@ module _ (t : Run → Bool) (key : Key) (byte : ℕ) (fails : (x : Run) → is_p
       go true past c is rest =
           ap (λ b. keep t (cond (b || t x) (Some x) (find (λ r. is_past key byte r || t r) xs))) past
           ∙ ap (λ b. cond b (Some x) None) (fails x past)
-          ∙ sym (find_none t (x ∷ xs) (no_more t key byte fails (x ∷ xs) 0 x sorted refl past))
+          ∙ sym (find_away t (x ∷ xs) (no_more t key byte fails (x ∷ xs) 0 x sorted refl past))
       go false past true is rest =
           (λ i. keep t (cond (past i || is i) (Some x) (find (λ r. is_past key byte r || t r) xs))) ∙ ap (λ b. cond b (Some x) None) is
           ∙ ap (λ b. cond b (Some x) (find t xs)) (sym is)
@@ -216,7 +190,7 @@ not_back r x first = ap is_lt (runs_total.antisymm x r) ∙ reverse_of_less (run
 
 not_later : (r x y : Run) → goes_before r x ≡ true → goes_before y x ≡ false → goes_before y r ≡ false
 not_later r x y first after =
-    only_false _ (λ back. cc (sym after ∙ ap is_lt (runs_total.trans y r x (is_Less (run_cmp y r) back) (is_Less (run_cmp r x) first))))
+    false_from_ne_true _ (λ back. cc (sym after ∙ ap is_lt (runs_total.trans y r x (is_Less (run_cmp y r) back) (is_Less (run_cmp r x) first))))
 
 pub sorted_insert : (r : Run) (xs : List Run) → IsSorted xs → IsSorted (insert_run r xs)
 sorted_insert r [] sorted = (tt, tt)
@@ -264,7 +238,7 @@ node_later node r x above after = go (is_lt (nat_cmp x.key.node r.key.node)) ref
         (nat_cmp x.start r.start)) (nat_cmp x.key.owner r.key.owner))) less))
     go false is =
         let le = no_less_number x.key.node r.key.node is in
-        only_false _ (λ same. omega (arith, le, above, same_number x.key.node node same))
+        false_from_ne_true _ (λ same. omega (arith, le, above, eqb-true x.key.node node same))
 
 -- a walk may stop at a run of a later node
 pub node_stop : (node : ℕ) (xs : List Run) (i : ℕ) (r : Run) → IsSorted xs → slice_get xs i ≡ Some r → node < r.key.node →
@@ -274,7 +248,7 @@ node_stop node xs i r sorted found above =
     let rest : IsSorted (r ∷ drop (i + 1) xs) = subst IsSorted here (sorted_rest i xs sorted) in
     let each : AllByRecursion (λ x. (x.key.node == node) ≡ false) (drop i xs) =
     subst (AllByRecursion (λ x. (x.key.node == node) ≡ false)) (sym here) (
-      only_false _ (λ same. omega (arith, above, same_number r.key.node node same)),
+      false_from_ne_true _ (λ same. omega (arith, above, eqb-true r.key.node node same)),
       each_weaker (λ x. goes_before x r ≡ false) (λ x. (x.key.node == node) ≡ false) (λ x after. node_later node r x above after) (drop (i + 1) xs) rest.0,
     ) in
-    ap (λ (l : List Run). take i xs ++ l) (kept_rest (λ x. x.key.node == node) (drop i xs) each) ∙ all_of i xs
+    ap (λ (l : List Run). take i xs ++ l) (filter_away (λ x. x.key.node == node) (drop i xs) each) ∙ take-append-drop i xs

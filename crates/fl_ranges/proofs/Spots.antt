@@ -1,29 +1,22 @@
 -- Tests of keys and spots.
 use Rattle.std.proofs.Common.{◌≡◌, ℕ, ◌≤◌, Bool, true, false, ◌&&◌, nat_le, refl, ap, arith}
 use Rattle.std.proofs.lemmas.Bool.Decides.{nat_tests}
-use Rattle.std.specs.declared.cmp.Ordering.{Ordering}
-use Rattle.std.specs.declared.cmp.Ordering.TheVariants.{Less, Equal, Greater}
 use Rattle.std.specs.Ordering.{eq_by_cmp, is_eq}
-use Rattle.std.specs.Cmp.{tied_itself}
+use Rattle.std.specs.Cmp.{tied_itself, Equal-is}
 use Rattle.fl_ranges.specs.declared.lock.Key.{Key}
 use Rattle.fl_ranges.specs.Marking.{key_cmp, Spot, spot_cmp}
 use Rattle.fl_ranges.proofs.Markings.{exact_keys, keys_total, exact_spots, spots_total}
 
-is_Equal : (o : Ordering) → is_eq o ≡ true → o ≡ Equal
-is_Equal Less e = absurd (cc e)
-is_Equal Equal e = refl
-is_Equal Greater e = absurd (cc e)
-
 -- keys that are found equal are equal
 pub same_key : (a b : Key) → eq_by_cmp key_cmp a b ≡ true → a ≡ b
-same_key a b e = exact_keys a b (is_Equal (key_cmp a b) e)
+same_key a b e = exact_keys a b ((Equal-is (key_cmp a b)).0 e)
 
 pub key_itself : (a : Key) → eq_by_cmp key_cmp a a ≡ true
 key_itself a = ap is_eq (tied_itself keys_total a)
 
 -- and so for spots
 pub same_spot : (a b : Spot) → eq_by_cmp spot_cmp a b ≡ true → a ≡ b
-same_spot a b e = exact_spots a b (is_Equal (spot_cmp a b) e)
+same_spot a b e = exact_spots a b ((Equal-is (spot_cmp a b)).0 e)
 
 pub spot_itself : (a : Spot) → eq_by_cmp spot_cmp a a ≡ true
 spot_itself a = ap is_eq (tied_itself spots_total a)
@@ -41,3 +34,8 @@ within false start byte end e = absurd (cc e)
 pub is_within : (k : Bool) (start byte end : ℕ) → k ≡ true → start ≤ byte → byte ≤ end → (k && (nat_le start byte && nat_le byte end)) ≡ true
 is_within true start byte end same from upto = grind (arith, nat_tests)
 is_within false start byte end same from upto = absurd (cc same)
+
+pub and_and_false : (r c : Bool) → (r && (c && false)) ≡ true → ⊥
+and_and_false true true h = absurd (cc h)
+and_and_false true false h = absurd (cc h)
+and_and_false false c h = absurd (cc h)

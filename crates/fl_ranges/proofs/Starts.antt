@@ -13,6 +13,8 @@ use Rattle.std.specs.Ordering.{eq_by_cmp, is_lt}
 use Rattle.std.specs.Cmp.{IsTotalOrder, eq_by_cmp_equiv, both_ways, first_so, second_so}
 use Rattle.std.specs.FinMap.{get, entries, entries_sorted, is_sorted}
 use Rattle.std.specs.FinMap.Entries.{below_all}
+use Rattle.std.proofs.lemmas.Bool.{and_from}
+use Rattle.std.proofs.Math.Bool.{and-true, and-false}
 use Rattle.fl_ranges.specs.declared.lock.Kind.{Kind}
 use Rattle.fl_ranges.specs.declared.lock.Kind.TheVariants.{Read, Write}
 use Rattle.fl_ranges.specs.declared.lock.Mark.{Mark}
@@ -83,18 +85,6 @@ start_test m q mark first = go (q.1 == 0) (is_mark mark (get m (q.0, q.1 - 1))) 
     go false true is has =
         absurd (first (λ zero_is. absurd (cc (sym is ∙ ap (λ (n : ℕ). n == 0) zero_is))) ((is_mark-Decides mark (get m (q.0, q.1 - 1))).0 has))
 
-with_true : (b : Bool) → (b && true) ≡ b
-with_true true = refl
-with_true false = refl
-
-with_false : (b : Bool) → (b && false) ≡ false
-with_false true = refl
-with_false false = refl
-
-both_true : (a b : Bool) → a ≡ true → b ≡ true → (a && b) ≡ true
-both_true true b e f = f
-both_true false b e f = absurd (cc e)
-
 -- ---- the starts of a marking, as a list
 
 module _ {K X : Type 0} {R : K → K → Ordering} (o : IsTotalOrder R) (p : (K × X) → Bool) where
@@ -127,8 +117,8 @@ module _ {K X : Type 0} {R : K → K → Ordering} (o : IsTotalOrder R) (p : (K 
           list_any (eq_by_cmp R q) (map (λ (e : K × X). e.0) (cond b (e ∷ filter p es) (filter p es)))
           ≡ ((eq_by_cmp R q e.0 && b) || list_any (λ (e : K × X). eq_by_cmp R q e.0 && p e) es)
       go true c rest = ap (λ (b : Bool). eq_by_cmp R q e.0 || b) rest
-          ∙ ap (λ (b : Bool). b || list_any (λ (e : K × X). eq_by_cmp R q e.0 && p e) es) (sym (with_true (eq_by_cmp R q e.0)))
-      go false c rest = rest ∙ ap (λ (b : Bool). b || list_any (λ (e : K × X). eq_by_cmp R q e.0 && p e) es) (sym (with_false (eq_by_cmp R q e.0)))
+          ∙ ap (λ (b : Bool). b || list_any (λ (e : K × X). eq_by_cmp R q e.0 && p e) es) (sym (and-true (eq_by_cmp R q e.0)))
+      go false c rest = rest ∙ ap (λ (b : Bool). b || list_any (λ (e : K × X). eq_by_cmp R q e.0 && p e) es) (sym (and-false (eq_by_cmp R q e.0)))
 
 pub spots_decided : (a b : Spot) → Decides (eq_by_cmp spot_cmp a b) (a ≡ b)
 spots_decided a b = (same_spot a b, λ e. ap (eq_by_cmp spot_cmp a) (sym e) ∙ spot_itself a)
@@ -138,7 +128,7 @@ starts_at m q e = eq_by_cmp spot_cmp q e.0 && is_start m e
 
 listed : (m : Marking) (q : Spot) → IsStart m q → list_any (starts_at m q) (entries m) ≡ true
 unfolding starts_at
-listed m q s = entry_passes spots_total exact_spots (starts_at m q) m q s.mark s.marked (both_true _ _ (spot_itself q) (start_test m q s.mark s.first))
+listed m q s = entry_passes spots_total exact_spots (starts_at m q) m q s.mark s.marked (and_from _ _ (spot_itself q) (start_test m q s.mark s.first))
 
 unlisted : (m : Marking) (q : Spot) → list_any (starts_at m q) (entries m) ≡ true → IsStart m q
 unfolding starts_at

@@ -17,7 +17,7 @@ use Rattle.fl_ranges.proofs.Starts.{same_mark, mark_itself}
 use Rattle.fl_ranges.proofs.Spots.{same_key, within, is_within}
 use Rattle.fl_ranges.proofs.RunLists.{at_spot, spot_of, each_at, run_has, same_run}
 use Rattle.fl_ranges.proofs.Counting.{get-runs, held_by, held_of, runs_length}
-use Rattle.fl_ranges.proofs.Cuts.{inside, apart_with, each_with, apart_cut, cut_inside, cut_outside, whole_cut}
+use Rattle.fl_ranges.proofs.Cuts.{inside, apart_with, each_with, apart_cut, cut_inside, cut_outside, whole_cut, not_inside}
 
 -- ---- bytes cut out and set anew, where the new mark doesn't stand beside them
 
@@ -62,13 +62,6 @@ module _ (rs : List Run) (good : AreRuns rs) (key : Key) (start end : ℕ) (orde
       go true is = changed_inside q is
       go false is = changed_outside q is
 
-  not_inside : (q : Spot) → q.1 < start → inside key start end q ≡ false
-  not_inside q less = go (inside key start end q) refl
-    where
-      go : (b : Bool) → inside key start end q ≡ b → b ≡ false
-      go true is = let w = within (eq_by_cmp key_cmp key q.0) start q.1 end is in absurd (omega (arith, less, w.from))
-      go false is = refl
-
   runs_changed : AreRuns (changed key start end mark rs)
   runs_changed = record {
     apart = apart_with (new_run key start end mark) (cut key start end rs) (apart_cut rs good key start end ordered) (λ p e.
@@ -81,7 +74,7 @@ module _ (rs : List Run) (good : AreRuns rs) (key : Key) (start end : ℕ) (orde
         let n = new_is key start end mark p e in
         subst (IsWhole (held_at (changed key start end mark rs))) (sym n.is) (record {
           in_range = limited;
-          first = λ later same. left n.new n.set later (sym (changed_outside (key, start - 1) (not_inside (key, start - 1) (one_before start later))) ∙ same);
+          first = λ later same. left n.new n.set later (sym (changed_outside (key, start - 1) (not_inside key start end (key, start - 1) (one_before start later))) ∙ same);
         }))
         (whole_cut rs good key start end ordered mark (held_at (changed key start end mark rs)) changed_inside changed_outside right);
   }

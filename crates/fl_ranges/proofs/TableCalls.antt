@@ -6,6 +6,7 @@ use Rattle.std.specs.Prelude.{IfSome}
 use Rattle.std.specs.List.{filter, AllByRecursion}
 use Rattle.std.specs.Option.{option_map}
 use Rattle.std.specs.FinMap.{same_map, retain_keys}
+use Rattle.std.proofs.lemmas.Bool.{false_from_ne_true, eqb-true, eq-eqb}
 use Rattle.fl_arena.specs.Chains.{Entry, Chains, entries, items, item_count, HasSizeOf}
 use Rattle.fl_ranges.specs.declared.lock.Key.{Key}
 use Rattle.fl_ranges.specs.declared.lock.Mark.{Mark}
@@ -24,7 +25,7 @@ use Rattle.fl_ranges.proofs.Counting.{get-runs, runs_length}
 use Rattle.fl_ranges.proofs.Sorted.{sorted_filter}
 use Rattle.fl_ranges.proofs.ChainLists.{IsAway, count_all, before_chain, after_chain, all_around, all_swapped, away_before, away_after, filter_among, home_less}
 use Rattle.fl_ranges.proofs.ChainLists.{both_parts, lengths}
-use Rattle.fl_ranges.proofs.TableLemmas.{within, same_found, table_stroked, runs_planned, number_itself}
+use Rattle.fl_ranges.proofs.TableLemmas.{within, same_found, table_stroked, runs_planned}
 
 -- what contracts see after a change
 pub seen : (limit : ℕ) (m n : Marking) (v : LockTable) (f : Marking → Marking) → record { limit = limit; marking = m } ≡ v → n ≡ f m →
@@ -136,16 +137,9 @@ module _ (p : Run → Bool) (rs : List Run) (good : AreRuns rs) where
           go false is = absurd (cc (sym held ∙ ap (option_map (λ (x : Run). x.mark)) (run_at-filter p rs good.apart q ∙ ap (keep p) found
               ∙ ap (λ b. cond b (Some r) None) is)))
 
-only_false : (b : Bool) → (b ≡ true → ⊥) → b ≡ false
-only_false true f = absurd (f refl)
-only_false false f = refl
-
-same_number : (a b : ℕ) → (a == b) ≡ true → a ≡ b
-same_number a b e = grind (arith, nat_tests)
-
 not_of_node : (node : ℕ) (rs : List Run) → AllByRecursion (IsAway (home node)) rs → AllByRecursion (λ r. (r.key.node == node) ≡ false) rs
 not_of_node node rs each =
-    each_weaker (IsAway (home node)) (λ r. (r.key.node == node) ≡ false) (λ r far. only_false _ (λ is. far (ap home (same_number r.key.node node is)))) rs each
+    each_weaker (IsAway (home node)) (λ r. (r.key.node == node) ≡ false) (λ r far. false_from_ne_true _ (λ is. far (ap home (eqb-true r.key.node node is)))) rs each
 
 -- the runs of the nodes that pass a test mean the marks of those nodes
 pub kept_nodes : (p : ℕ → Bool) (rs : List Run) → AreRuns rs →
@@ -203,7 +197,7 @@ node_erased a limit t node b size others is =
   where
     go : (c : ℕ) (x : Bool) → (c == home node) ≡ x → AllByRecursion (λ r. home r.key.node ≡ c) (items b c)
     go c true same_chain =
-        let e : home node ≡ c = sym (same_number c (home node) same_chain) in
+        let e : home node ≡ c = sym (eqb-true c (home node) same_chain) in
         subst (λ (d : ℕ). AllByRecursion (λ r. home r.key.node ≡ d) (items b d)) e
         (subst (AllByRecursion (λ r. home r.key.node ≡ home node)) (sym is)
         (each_weaker (λ r. (not (r.key.node == node) ≡ true) × (home r.key.node ≡ home node)) (λ r. home r.key.node ≡ home node) (λ r h. h.1)
@@ -211,15 +205,15 @@ node_erased a limit t node b size others is =
         (each_filter (λ r. home r.key.node ≡ home node) (λ r. not (r.key.node == node)) (items a (home node)) (t.at_home (home node)))))
     go c false other =
         subst (AllByRecursion (λ r. home r.key.node ≡ c))
-        (ap (map (λ (x : Entry Run). x.item)) (sym (others c (λ e. absurd (cc (sym other ∙ number_itself c (home node) e)))))) (t.at_home c)
+        (ap (map (λ (x : Entry Run). x.item)) (sym (others c (λ e. absurd (cc (sym other ∙ eq-eqb c (home node) e)))))) (t.at_home c)
 
     in_order : (c : ℕ) (x : Bool) → (c == home node) ≡ x → IsSorted (items b c)
     in_order c true same_chain =
-        let e : home node ≡ c = sym (same_number c (home node) same_chain) in
+        let e : home node ≡ c = sym (eqb-true c (home node) same_chain) in
         subst (λ (d : ℕ). IsSorted (items b d)) e
         (subst IsSorted (sym is) (sorted_filter (λ r. not (r.key.node == node)) (items a (home node)) (t.sorted (home node))))
     in_order c false other =
-        subst IsSorted (ap (map (λ (x : Entry Run). x.item)) (sym (others c (λ e. absurd (cc (sym other ∙ number_itself c (home node) e)))))) (t.sorted c)
+        subst IsSorted (ap (map (λ (x : Entry Run). x.item)) (sym (others c (λ e. absurd (cc (sym other ∙ eq-eqb c (home node) e)))))) (t.sorted c)
 
 -- ---- a new table
 

@@ -3,6 +3,7 @@ use Rattle.std.proofs.Common.{◌≡◌, ◌≢◌, ℕ, ◌+◌, ◌-◌, ◌<�
 use Rattle.std.proofs.Common.{subst, arith}
 use Rattle.std.specs.List.{filter, AllByRecursion}
 use Rattle.std.proofs.lemmas.Bool.Decides.{nat_tests}
+use Rattle.std.proofs.lemmas.Bool.{eq-eqb}
 use Rattle.fl_arena.specs.Chains.{Entry, Chains, entries, items, HasSizeOf}
 use Rattle.fl_ranges.specs.declared.lock.Key.{Key}
 use Rattle.fl_ranges.specs.declared.lock.Mark.{Mark}
@@ -21,9 +22,6 @@ use Rattle.fl_ranges.proofs.ChainLists.{before_chain, after_chain, all_around, a
 use Rattle.fl_ranges.proofs.ChainLists.{no_overlap, home_less, both_parts, lengths}
 use Rattle.fl_ranges.proofs.Sorted.{sorted_filter, sorted_insert_some}
 use Rattle.fl_ranges.proofs.Rearranged.{Rearranged, same, rearranged_with, as_runs, as_marking, each-insert_some}
-
-pub number_itself : (a b : ℕ) → a ≡ b → (a == b) ≡ true
-number_itself a b e = grind (arith, nat_tests)
 
 length-with_run : (o : Option Run) (rs : List Run) → length (with_run o rs) ≡ count_run o + length rs
 length-with_run None rs = omega arith
@@ -109,7 +107,7 @@ module _ (a : Chains Run) (limit : ℕ) (t : IsTable a limit) (key : Key) where
             subst (λ (d : ℕ). AllByRecursion (λ r. home r.key.node ≡ d) (items b d)) e own
         go false other =
             subst (AllByRecursion (λ r. home r.key.node ≡ c))
-            (ap (map (λ (x : Entry Run). x.item)) (sym (others c (λ e. absurd (cc (sym other ∙ number_itself c (home key.node) e)))))) (t.at_home c)
+            (ap (map (λ (x : Entry Run). x.item)) (sym (others c (λ e. absurd (cc (sym other ∙ eq-eqb c (home key.node) e)))))) (t.at_home c)
 
     sorted_changed : (c : ℕ) → IsSorted (items b c)
     sorted_changed c = go (c == home key.node) refl
@@ -124,7 +122,7 @@ module _ (a : Chains Run) (limit : ℕ) (t : IsTable a limit) (key : Key) where
             (sorted_insert_some (part_after end (run_at (items a (home key.node)) (key, end))) _
             (sorted_filter (λ r. not (overlaps key start end r)) (items a (home key.node)) (t.sorted (home key.node)))))))
         go false other =
-            subst IsSorted (ap (map (λ (x : Entry Run). x.item)) (sym (others c (λ e. absurd (cc (sym other ∙ number_itself c (home key.node) e))))))
+            subst IsSorted (ap (map (λ (x : Entry Run). x.item)) (sym (others c (λ e. absurd (cc (sym other ∙ eq-eqb c (home key.node) e))))))
             (t.sorted c)
 
 -- ---- a stroke

@@ -4,6 +4,7 @@ use Rattle.std.proofs.Common.{None, slice_get, refl, sym, ◌∙◌, ap, add-one
 use Rattle.std.specs.List.{filter, insert, remove, position_or_len}
 use Rattle.std.proofs.lemmas.Bool.Decides.{nat_tests}
 use Rattle.std.proofs.lemmas.Option.{none-some, slice_get_within}
+use Rattle.std.proofs.Math.Numerals.{one-add, add-one}
 use Rattle.fl_arena.specs.Chains.{Chains, items, entries}
 use Rattle.fl_arena.specs.Cursors.{cursor_at}
 use Rattle.fl_arena.specs.declared.cursors.Cursor.{Cursor}
@@ -59,9 +60,6 @@ module _ {A : Type 0} where
     kept_all (x ∷ xs) zero none = absurd (none-some x (sym none))
     kept_all (x ∷ xs) (suc i) none = ap (λ (l : List A). x ∷ l) (kept_all xs i none)
 
-one_more : (n : ℕ) → suc n ≡ 1 + n
-one_more n = omega arith
-
 -- a run's place is before the first that it stands before
 pub insert_first : (x : Run) (xs : List Run) → insert_run x xs ≡ insert xs (position_or_len (goes_before x) xs) x
 insert_first x [] = refl
@@ -70,7 +68,7 @@ insert_first x (y ∷ ys) = go (goes_before x y) (insert_first x ys)
     go : (b : Bool) → insert_run x ys ≡ insert ys (position_or_len (goes_before x) ys) x →
         cond b (x ∷ y ∷ ys) (y ∷ insert_run x ys) ≡ insert (y ∷ ys) (cond (not b) (1 + position_or_len (goes_before x) ys) 0) x
     go true rest = refl
-    go false rest = ap (λ (l : List Run). y ∷ l) rest ∙ ap (λ (i : ℕ). insert (y ∷ ys) i x) (one_more (position_or_len (goes_before x) ys))
+    go false rest = ap (λ (l : List Run). y ∷ l) rest ∙ ap (λ (i : ℕ). insert (y ∷ ys) i x) (sym (one-add (position_or_len (goes_before x) ys)))
 
 -- ---- a node's runs
 
@@ -103,10 +101,7 @@ on_at a c cursor next x found on =
 
 fewer : {A : Type 0} (xs : List A) (i : ℕ) → i < length xs → length (remove xs i) + 1 ≡ length xs
 fewer [] i h = absurd (omega (arith, h))
-fewer (x ∷ xs) zero h = refl_add (length xs)
-  where
-    refl_add : (n : ℕ) → n + 1 ≡ suc n
-    refl_add n = omega arith
+fewer (x ∷ xs) zero h = add-one (length xs)
 fewer (x ∷ xs) (suc i) h = let rest = fewer xs i (omega (arith, h)) in omega (arith, rest)
 
 -- the item at a cursor was taken out

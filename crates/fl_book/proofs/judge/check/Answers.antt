@@ -17,7 +17,8 @@ returns-in_default c =
     let lines = c.args.history.now in
     let at = c.loop-at.at in
     let inside : at < length lines = omega (arith, c.loop-at-test.true, c.len.ensures.len) in
-    due_order lines at c.line.result c.in_default.field-0 inside (get_or_from_slice_get lines at c.line.result c.line.result c.line.ensures ∙ c.in_default.is) c.loop-at.invariant.kept.legal
+    due_order lines at c.line.result c.in_default.field-0 inside (get_or_from_slice_get lines at c.line.result c.line.result c.line.ensures ∙ c.in_default.is)
+    c.loop-at.invariant.kept.legal
 
 pub returns-then-told-replies : goal.returns-then-told-replies
 returns-then-told-replies c =
@@ -43,7 +44,8 @@ loop-at-preserved c =
     let step = c.step.ensures in
     record {
       within = omega (arith, told.there, length-drop (at + 1) lines, inside);
-      kept = taken_kept (take at lines) _ _ _ _ c.in-Asked.worker c.in-Asked.order c.step.new.tolds replies_all kept refl step.replies step.recorded step.lawful c.as_slice-replies.ensures
+      kept = taken_kept (take at lines) _ _ _ _ c.in-Asked.worker c.in-Asked.order c.step.new.tolds replies_all kept refl step.replies step.recorded step.lawful
+          c.as_slice-replies.ensures
           (whole_step lines at c.line.result c.in-Asked.worker c.in-Asked.order replies_all c.told_alike-told.result inside
           (get_or_from_slice_get lines at c.line.result c.line.result c.line.ensures ∙ c.in-Asked.is) (omega (arith, c.if-told-replies.false)) told.alike);
     }
