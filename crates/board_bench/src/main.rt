@@ -1,5 +1,5 @@
-//! Lock requests handed in at a board from as many threads as the first argument says, or at a desk without a lock where
-//! it is 0; the second says how many. `bench/board.sh` times it.
+//! Lock requests handed in at a board from as many threads as the first argument says, or at a desk without a lock
+//! where it is 0; the second says how many. `bench/board.sh` times it.
 #![tactic(auto)]
 
 ghost use Rattle.std.specs.Prelude.{◌≡◌, ◌<◌, ◌≤◌};

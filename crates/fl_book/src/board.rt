@@ -1,6 +1,7 @@
 //! The board: workers with seats hand in orders under one lock, and one history of them all is kept.
 
-ghost use Rattle.std.specs.Prelude.{◌≡◌, ℕ, ◌+◌, ◌<◌, ◌≤◌, ◌++◌, List, All, IfOk, IfErr, IfSome, IsSome, IsErr, OnOk, OnErr, ◌↔◌, length, map, sum_by};
+ghost use Rattle.std.specs.Prelude.{◌≡◌, ℕ, ◌+◌, ◌<◌, ◌≤◌, ◌++◌, List, All, IfOk, IfErr, IfSome, IsSome, IsErr, OnOk};
+ghost use Rattle.std.specs.Prelude.{OnErr, ◌↔◌, length, map, sum_by};
 ghost use Rattle.std.specs.List.{range_with_len};
 ghost use Rattle.fl_book.specs.Legal.{IsLegal, step_lines, orders_asked};
 ghost use Rattle.fl_history.specs.declared.history.Line.{Line as Entry};
@@ -70,7 +71,9 @@ pub enum HandFault {
 pub enum CloseFault<L: BoardName> {
     /// There are fewer seats than were made.
     NotAll {
+        /// The board, as it was.
         board: Board<L>,
+        /// The seats that were handed back.
         seats: Vec<Seat<L>>,
     },
 }
@@ -132,8 +135,8 @@ impl<L: BoardName> Board<L> {
         Ok((board, seats))
     }
 
-    /// Takes an order of the seat's worker, as `Desk::take` does: records it, answers it, and hands out the replies that
-    /// it records. A refusal changes no line, lock or count.
+    /// Takes an order of the seat's worker, as `Desk::take` does: records it, answers it, and hands out the replies
+    /// that it records. A refusal changes no line, lock or count.
     pub fn hand_in<R: Wait>(
         &self,
         rt: &R,
@@ -189,7 +192,8 @@ impl<L: BoardName> Counted<L> {
     ) -> Result<(), HandFault>
         ensures worker { seat.new.worker ≡ seat.old.worker }
         ensures count { OnOk result (seat.new.count ≡ seat.old.count + 1) }
-        ensures lines { OnOk result (self.new.desk.lines ≡ self.old.desk.lines ++ step_lines seat.old.worker order.now tolds.new) }
+        ensures lines { OnOk result
+            (self.new.desk.lines ≡ self.old.desk.lines ++ step_lines seat.old.worker order.now tolds.new) }
         ensures legal { IsLegal self.new.desk.lines }
         ensures refused { OnErr result ((seat.new.count ≡ seat.old.count) × (tolds.new ≡ tolds.old) ×
             (self.new.desk.lines ≡ self.old.desk.lines) × (self.new.desk.present ≡ self.old.desk.present)) }

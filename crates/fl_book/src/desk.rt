@@ -1,3 +1,5 @@
+//! The desk: takes orders one after another, and keeps their history.
+
 ghost use Rattle.std.specs.Prelude.{◌≡◌, ◌≤◌, ◌+◌, ◌++◌, length, IfOk, IsOk, OnOk, OnErr};
 ghost use Rattle.fl_book.specs.Replay.{state_after};
 ghost use Rattle.fl_core.specs.Step.{replies_in};

@@ -21,8 +21,8 @@ pub enum Verdict {
     Differs(usize),
 }
 
-/// Judges a history: takes its orders anew, one after another, and compares the replies. It goes through the lines once,
-/// and takes memory for one directory and one list of replies.
+/// Judges a history: takes its orders anew, one after another, and compares the replies. It goes through the lines
+/// once, and takes memory for one directory and one list of replies.
 pub fn check(alloc: Global, history: &History) -> Result<Verdict, NoMemory>
     ensures { IfOk result (λ verdict. IsVerdict history.now verdict) }
 {

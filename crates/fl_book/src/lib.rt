@@ -1,5 +1,5 @@
-//! The book of the lock directory: a desk that takes orders one after another, a board at which workers hand them in, and
-//! the judge of a history.
+//! The book of the lock directory: a desk that takes orders one after another, a board at which workers hand them
+//! in, and the judge of a history.
 #![tactic(auto)]
 
 mod board;

@@ -24,7 +24,9 @@ pub struct Node {
     pub name: Option<Name>,
     /// The file type and the permissions, as `st_mode`.
     pub mode: u32,
+    /// The user who made it.
     pub uid: u32,
+    /// The group of who made it.
     pub gid: u32,
 }
 

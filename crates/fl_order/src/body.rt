@@ -1,3 +1,5 @@
+//! The bodies of messages, and their layouts.
+
 use crate::name::Name;
 use crate::order::LockAsk;
 
@@ -8,15 +10,34 @@ pub enum Body {
     /// A lock request (`struct fuse_lk_in`).
     Lock(LockAsk),
     /// The fields of a CREATE that are read, and a name (`struct fuse_create_in`).
-    Create { excl: bool, mode: u32, name: Name },
+    Create {
+        /// `O_EXCL` of the open flags: an error where there is a file of this name.
+        excl: bool,
+        /// The permission bits, 0 to 511 (octal 777).
+        mode: u32,
+        /// The file's name.
+        name: Name,
+    },
     /// A name alone.
     Name(Name),
     /// One number (`struct fuse_forget_in`).
     Number(u64),
     /// The fields of a FLUSH that are read (`struct fuse_flush_in`).
-    Flush { fh: u64, owner: u64 },
+    Flush {
+        /// The open file of which a descriptor was closed.
+        fh: u64,
+        /// Whose record locks go.
+        owner: u64,
+    },
     /// The fields of a RELEASE that are read (`struct fuse_release_in`).
-    Release { fh: u64, drop: bool, owner: u64 },
+    Release {
+        /// The open file that is closed.
+        fh: u64,
+        /// `FUSE_RELEASE_FLOCK_UNLOCK`: the owner's whole-file lock goes.
+        drop: bool,
+        /// Who owns that lock.
+        owner: u64,
+    },
     /// Fields that aren't read (`struct fuse_getattr_in`).
     Getattr,
     /// Fields that aren't read (`struct fuse_open_in`).
@@ -26,12 +47,20 @@ pub enum Body {
 /// The layouts of bodies, one for each variant of [`Body`].
 #[derive(Clone, Copy, Debug, PartialEq, Eq)]
 pub enum Shape {
+    /// 48 bytes, `struct fuse_lk_in`.
     Lock,
+    /// 16 bytes, `struct fuse_create_in`, and then a name with a zero byte.
     Create,
+    /// A name with a zero byte: at least one byte.
     Name,
+    /// Eight bytes.
     Number,
+    /// 24 bytes, `struct fuse_flush_in`.
     Flush,
+    /// 24 bytes, `struct fuse_release_in`.
     Release,
+    /// 16 bytes, `struct fuse_getattr_in`.
     Getattr,
+    /// Eight bytes, `struct fuse_open_in`.
     Open,
 }

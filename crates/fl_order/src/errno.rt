@@ -1,3 +1,5 @@
+//! The errors of answers, with Linux's numbers (`errno.h`).
+
 ghost use Rattle.std.specs.Prelude.{◌≡◌};
 
 /// An error of an answer, named as in Linux's `errno.h`.
@@ -9,7 +11,7 @@ pub enum Errno {
     EINTR,
     /// No such open file.
     EBADF,
-    /// The lock is held by another owner.
+    /// The lock is held by another owner; also an INTERRUPT that finds nothing or is refused for want of memory.
     EAGAIN,
     /// Want of memory.
     ENOMEM,

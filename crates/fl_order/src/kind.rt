@@ -1,3 +1,5 @@
+//! The kinds of message: their numbers, their words in a trace, and the shapes of their bodies.
+
 ghost use Rattle.std.specs.Prelude.{◌≡◌, ◌↔◌};
 
 use crate::body::Shape;

@@ -1,3 +1,5 @@
+//! File names, as arrays of a fixed size that can be copied.
+
 ghost use Rattle.std.specs.Prelude.{◌≡◌, ◌≤◌, ◌↔◌, IsSome, IfSome, length};
 ghost use Rattle.fl_order.specs.Name.{padded};
 

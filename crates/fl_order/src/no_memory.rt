@@ -1,3 +1,5 @@
+//! The error of a growth that was refused.
+
 use std::alloc::{AllocError, AllocFailed};
 use thiserror::Error;
 

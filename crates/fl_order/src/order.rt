@@ -1,3 +1,5 @@
+//! Orders: the messages that reach the lock state, by what they ask.
+
 ghost use Rattle.std.specs.Prelude.{◌≡◌, ◌↔◌, Some, IsSome, Ok};
 ghost use Rattle.fl_order.specs.Order.{only_reads};
 
@@ -18,6 +20,7 @@ pub struct Order {
     pub gid: u32,
     /// The process that asks.
     pub pid: u32,
+    /// What is asked.
     pub op: Op,
 }
 
@@ -45,12 +48,31 @@ pub enum Op {
     Open,
     /// Closes an open file (FUSE_RELEASE). With `drop` the owner's whole-file lock goes
     /// (`FUSE_RELEASE_FLOCK_UNLOCK`).
-    Release { fh: u64, drop: bool, owner: u64 },
+    Release {
+        /// The open file that is closed.
+        fh: u64,
+        /// Whether the owner's whole-file lock goes.
+        drop: bool,
+        /// Who owns that lock.
+        owner: u64,
+    },
     /// The owner closed a descriptor of the file: its record locks on the file go (FUSE_FLUSH; POSIX.1-2017 `fcntl`).
-    Flush { fh: u64, owner: u64 },
+    Flush {
+        /// The open file of which a descriptor was closed.
+        fh: u64,
+        /// Whose record locks go.
+        owner: u64,
+    },
     /// Makes the file of this name where there is none, and opens it (FUSE_CREATE). With `excl` it is
     /// an error if there is one (`O_EXCL` of POSIX.1-2017 `open`).
-    Create { excl: bool, mode: u32, name: Name },
+    Create {
+        /// Whether it is an error if the file is there.
+        excl: bool,
+        /// The permission bits of a file that is made, 0 to 511 (octal 777) in a message.
+        mode: u32,
+        /// The file's name.
+        name: Name,
+    },
     /// Tells a lock that excludes the one asked for (FUSE_GETLK; POSIX.1-2017 `fcntl`, F_GETLK).
     Getlk(LockAsk),
     /// Sets or takes away a lock, and doesn't wait (FUSE_SETLK).

@@ -1,9 +1,13 @@
+//! Replies: the answers to orders.
+
 use crate::errno::Errno;
 
 /// A reply: the unique of the order that it answers, and the answer.
 #[derive(Clone, Copy, Debug, PartialEq, Eq)]
 pub struct Told {
+    /// The unique of the order that it answers.
     pub unique: u64,
+    /// The answer, or the error.
     pub result: Result<Answer, Errno>,
 }
 
@@ -22,9 +26,13 @@ pub enum Answer {
     Made(Attr, u64),
     /// A lock record (`struct fuse_file_lock`), whose end is its last byte.
     Lock {
+        /// The first byte.
         start: u64,
+        /// The last byte, which is included.
         end: u64,
+        /// 0 for a read lock, 1 for a write lock, 2 for none.
         kind: u32,
+        /// The process that is named as the holder.
         pid: u32,
     },
 }
@@ -32,11 +40,14 @@ pub enum Answer {
 /// A node's attributes.
 #[derive(Clone, Copy, Debug, PartialEq, Eq)]
 pub struct Attr {
+    /// The node's number.
     pub node: u64,
     /// The file type and the permissions, as `st_mode` of POSIX.1-2017 `sys/stat.h`.
     pub mode: u32,
     /// How many names it has.
     pub nlink: u32,
+    /// The user who owns it.
     pub uid: u32,
+    /// The group that owns it.
     pub gid: u32,
 }

@@ -47,7 +47,8 @@ owner_conflict_words m key start end kind owner = (
   λ w.
       let c = w.conflict in
       entry_passes spots_total exact_spots (excludes_by key start end kind owner) m (c.rival, c.byte) c.mark c.held
-      (and_from _ _ (eq-eqb c.rival.owner owner w.of) (all_parts (class_number key.class) (class_number c.rival.class) key.node c.rival.node key.owner c.rival.owner
+      (and_from _ _ (eq-eqb c.rival.owner owner w.of)
+      (all_parts (class_number key.class) (class_number c.rival.class) key.node c.rival.node key.owner c.rival.owner
       start c.byte end (excludes kind c.mark.kind)
       (ap class_number (sym c.class)) (sym c.node) (λ same. c.other (sym same)) c.from c.upto c.write)),
 )

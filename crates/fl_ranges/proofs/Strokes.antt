@@ -74,7 +74,8 @@ module _ (rs : List Run) (good : AreRuns rs) (key : Key) (start end : ℕ) (orde
         let n = new_is key start end mark p e in
         subst (IsWhole (held_at (changed key start end mark rs))) (sym n.is) (record {
           in_range = limited;
-          first = λ later same. left n.new n.set later (sym (changed_outside (key, start - 1) (not_inside key start end (key, start - 1) (one_before start later))) ∙ same);
+          first = λ later same. left n.new n.set later
+              (sym (changed_outside (key, start - 1) (not_inside key start end (key, start - 1) (one_before start later))) ∙ same);
         }))
         (whole_cut rs good key start end ordered mark (held_at (changed key start end mark rs)) changed_inside changed_outside right);
   }

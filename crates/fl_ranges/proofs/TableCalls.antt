@@ -139,7 +139,8 @@ module _ (p : Run → Bool) (rs : List Run) (good : AreRuns rs) where
 
 not_of_node : (node : ℕ) (rs : List Run) → AllByRecursion (IsAway (home node)) rs → AllByRecursion (λ r. (r.key.node == node) ≡ false) rs
 not_of_node node rs each =
-    each_weaker (IsAway (home node)) (λ r. (r.key.node == node) ≡ false) (λ r far. false_from_ne_true _ (λ is. far (ap home (eqb-true r.key.node node is)))) rs each
+    each_weaker (IsAway (home node)) (λ r. (r.key.node == node) ≡ false) (λ r far. false_from_ne_true _ (λ is. far (ap home (eqb-true r.key.node node is)))) rs
+    each
 
 -- the runs of the nodes that pass a test mean the marks of those nodes
 pub kept_nodes : (p : ℕ → Bool) (rs : List Run) → AreRuns rs →

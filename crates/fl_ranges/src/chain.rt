@@ -4,7 +4,8 @@ ghost use Rattle.std.specs.List.{filter, list_any};
 ghost use Rattle.fl_arena.specs.Chains.{entries, items, HasSizeOf};
 ghost use Rattle.fl_ranges.specs.Inside.RunList.{run_at, overlaps, left_over, run_excludes};
 ghost use Rattle.fl_ranges.specs.Placing.{home};
-ghost use Rattle.fl_ranges.specs.Inside.RunChains.{all_runs, insert_run, goes_before, is_past, reaches, IsBehind, IsSorted};
+ghost use Rattle.fl_ranges.specs.Inside.RunChains.{all_runs, insert_run, goes_before, is_past, reaches, IsBehind};
+ghost use Rattle.fl_ranges.specs.Inside.RunChains.{IsSorted};
 
 use crate::lock::{Key, Kind};
 use crate::run::{Run, excludes, has_spot, overlaps, reaches};

@@ -1,6 +1,7 @@
 //! One run of bytes, and what is done with runs one by one.
 ghost use Rattle.std.specs.Prelude.{◌≡◌, ◌==◌, ◌≤◌, ◌<◌};
-ghost use Rattle.fl_ranges.specs.Inside.RunList.{has_spot, overlaps, part_before, part_after, new_run, joined_start, joined_end, run_excludes};
+ghost use Rattle.fl_ranges.specs.Inside.RunList.{has_spot, overlaps, part_before, part_after, new_run, joined_start};
+ghost use Rattle.fl_ranges.specs.Inside.RunList.{joined_end, run_excludes};
 ghost use Rattle.fl_ranges.specs.Inside.RunChains.{reaches};
 ghost use Rattle.fl_ranges.specs.Runs.{is_same_mark};
 

@@ -1,3 +1,5 @@
+//! The cutting of a stream of bytes into whole messages.
+
 ghost use Rattle.std.specs.Prelude.{◌≡◌};
 ghost use Rattle.fl_wire.specs.Cut.{first_step};
 

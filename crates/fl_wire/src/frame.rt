@@ -1,3 +1,5 @@
+//! One whole message as it stands in a stream, and the fields of its header that all messages have.
+
 ghost use Rattle.std.specs.Prelude.{◌≡◌};
 ghost use Rattle.fl_wire.specs.Frame.{IsMessage};
 ghost use Rattle.fl_wire.specs.Layout.{opcode_of, unique_of};

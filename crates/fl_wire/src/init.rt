@@ -1,3 +1,5 @@
+//! The agreement at the start of a session: what an INIT comes to, and the reply to it.
+
 ghost use Rattle.std.specs.Prelude.{◌≡◌, ◌+◌, ◌≤◌, ◌++◌, IsOk, OnErr, OnOk, vec_len, vec_capacity};
 ghost use Rattle.fl_wire.specs.Append.{Appends};
 ghost use Rattle.fl_wire.specs.Init.{again_bytes, agreed_bytes, init_spelling, init_step};
@@ -35,7 +37,12 @@ pub enum InitStep {
     /// The kernel speaks a higher major version: it is told 7.31, and asks again.
     Again,
     /// The session begins. `flags` are those of the kernel's that are offered.
-    Agreed { max_readahead: u32, flags: u32 },
+    Agreed {
+        /// How many bytes the kernel reads ahead at most, as it asked.
+        max_readahead: u32,
+        /// The kernel's INIT flags (`FUSE_POSIX_LOCKS` and the like) that are offered too.
+        flags: u32,
+    },
 }
 
 /// What a message comes to, read as an INIT: EINVAL where its body is shorter than 16 bytes, EPROTO for

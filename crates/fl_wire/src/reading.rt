@@ -1,3 +1,5 @@
+//! The reading of a message: the order that it says, or how it is refused.
+
 ghost use Rattle.std.specs.Prelude.{◌≡◌, ◌+◌, ◌<◌, ◌≤◌, ◌==◌, length, IfOk, OnOk, Ok, Err};
 ghost use Rattle.std.specs.Prelude.{if◌then◌else◌};
 ghost use Rattle.fl_order.specs.Kind.{shape_for};
