@@ -6,6 +6,7 @@ use Rattle.std.specs.Option.{option_map}
 use Rattle.std.proofs.lemmas.Bool.{or_cases, or_left, or_right, eqb-true, false_from_ne_true}
 use Rattle.std.proofs.lemmas.List.Sums.{sum_by-cons, sum_by-set}
 use Rattle.std.proofs.lemmas.Option.{none-some, slice_get_within, get_or_from_slice_get, slice_get-get_or}
+use Rattle.std.proofs.lemmas.Map.Keys.{any_passes_from_place}
 use Rattle.fl_arena.specs.Chains.{Entry, Chains, entries, slot_at, is_linked, unlinked_count}
 use Rattle.fl_arena.specs.Inside.Links.{alter, alter_link, with_next, with_previous, relinked, is_free, Spells}
 use Rattle.fl_arena.specs.declared.nodes.Node.{Node}
@@ -37,11 +38,6 @@ module _ {X : Type 0} where
       let read = get_or_from_slice_get xs i x x h in
       ap (λ (z : X). count_by p (set xs i y) + cond (p z) 1 0) (sym read)
       ∙ sum_by-set (λ (z : X). cond (p z) 1 0) xs i y x (slice_get_within xs i x h)
-
-  any_at : (p : X → Bool) (xs : List X) (i : ℕ) (x : X) → slice_get xs i ≡ Some x → p x ≡ true → list_any p xs ≡ true
-  any_at p [] i x h e = absurd (none-some x h)
-  any_at p (y ∷ xs) zero x h e = let same : y ≡ x = cc in or_left (p y) (list_any p xs) (ap p same ∙ e)
-  any_at p (y ∷ xs) (suc i) x h e = or_right (p y) (list_any p xs) (any_at p xs i x h e)
 
   any_place : (p : X → Bool) (xs : List X) → list_any p xs ≡ true → (i : ℕ) × (x : X) × (slice_get xs i ≡ Some x) × (p x ≡ true)
   any_place p [] e = absurd (let clash = e in cc)
@@ -92,8 +88,8 @@ module _ {T : Type 0} where
 
   linked_from : (a : Chains T) (c i : ℕ) (e : Entry T) → c < length a.chains → slice_get (entries a c) i ≡ Some e → is_linked a e.slot ≡ true
   linked_from a c i e within found =
-      any_at (λ (es : List (Entry T)). list_any (λ (x : Entry T). eqb x.slot e.slot) es) a.chains c (entries a c) (slice_get-get_or a.chains c [] within)
-      (any_at (λ (x : Entry T). eqb x.slot e.slot) (entries a c) i e found (eq-eqb e.slot e.slot refl))
+      any_passes_from_place (λ (es : List (Entry T)). list_any (λ (x : Entry T). eqb x.slot e.slot) es) a.chains c (entries a c) (slice_get-get_or a.chains c [] within)
+      (any_passes_from_place (λ (x : Entry T). eqb x.slot e.slot) (entries a c) i e found (eq-eqb e.slot e.slot refl))
 
   -- the free slots are those on no chain
   pub unlinked : (nodes : List (Node T)) (ends : List Ends) (spare : Option ℕ) (free : ℕ) (a : Chains T) → Spells nodes ends spare free a →

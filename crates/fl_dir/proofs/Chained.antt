@@ -8,13 +8,14 @@ use Rattle.std.specs.List.{find, remove}
 use Rattle.std.specs.Ordering.{nat_cmp, eq_by_cmp}
 use Rattle.std.specs.FinMap as map
 use Rattle.std.specs.FinMap.Entries as rising
+use Rattle.std.proofs.lemmas.Bool.{eqb-true}
 use Rattle.fl_arena.specs.Chains.{Entry, Chains, entries, items, item_count, HasSizeOf}
 use Rattle.fl_arena.specs.Cursors.{cursor_at}
 use Rattle.fl_arena.specs.declared.cursors.Cursor.{Cursor}
 use Rattle.fl_dir.specs.declared.node.Node.{Node}
 use Rattle.fl_dir.specs.Directory.{Listing}
 use Rattle.fl_dir.specs.Inside.Listed.{AreListed, IsList}
-use Rattle.fl_dir.proofs.Entries.{set_put, remove_where, listed_pushed, listed_put, listed_where, get_listed, len_listed, keys_equal}
+use Rattle.fl_dir.proofs.Entries.{set_put, remove_where, listed_pushed, listed_put, listed_where, get_listed, len_listed}
 
 some_entry : {A : Type 0} (o : Option A) → IsSome o → (x : A) × (o ≡ Some x)
 some_entry None h = absurd (cc h)
@@ -34,7 +35,7 @@ module _ {X : Type 0} where
           cond b (Some f) (find (λ (e : ℕ × X). e.0 == n) es) ≡ Some e → e ≡ (n, e.1)
       go true same later h =
           let one : f ≡ e = cc h in
-          let key : e.0 ≡ n = ap (λ (x : ℕ × X). x.0) (sym one) ∙ keys_equal f.0 n same in
+          let key : e.0 ≡ n = ap (λ (x : ℕ × X). x.0) (sym one) ∙ eqb-true f.0 n same in
           ap (λ (k : ℕ). (k, e.1)) key
       go false same later h = later h
 

@@ -10,6 +10,7 @@ use Rattle.std.specs.Ordering.{nat_cmp, eq_by_cmp, is_eq, is_lt}
 use Rattle.std.specs.Cmp.{nat_cmp_total, first_so, second_so}
 use Rattle.std.specs.FinMap as map
 use Rattle.std.specs.FinMap.Entries as rising
+use Rattle.std.proofs.lemmas.Bool.{and_from, eqb-true, eq-eqb}
 use Rattle.fl_dir.specs.Inside.Listed.{AreBelow, AreListed}
 
 held : (b : Bool) → b ≡ true → T b
@@ -22,10 +23,6 @@ truth false t = absurd t
 
 tied : (x y : ℕ) → eq_by_cmp nat_cmp x y ≡ (y == x)
 tied x y = grind (arith, nat_tests)
-
-and_so : (a b : Bool) → a ≡ true → b ≡ true → (a && b) ≡ true
-and_so true b p q = q
-and_so false b p q = absurd (cc p)
 
 less_than : (a b : ℕ) → a < b → is_lt (nat_cmp a b) ≡ true
 less_than a b less = grind (arith, nat_tests)
@@ -41,12 +38,6 @@ same_key a b e = ap (nat_cmp a) (sym e) ∙ itself a
 
 later_key : (a b : ℕ) → b < a → nat_cmp a b ≡ Greater
 later_key a b h = grind (arith, nat_tests)
-
-pub keys_equal : (a b : ℕ) → (a == b) ≡ true → a ≡ b
-keys_equal a b e = grind (arith, nat_tests)
-
-pub same_number : (a b : ℕ) → a ≡ b → (a == b) ≡ true
-same_number a b e = grind (arith, nat_tests)
 
 module _ {X : Type 0} where
   -- the numbers of the rest of a list are above that of its first entry
@@ -81,16 +72,16 @@ module _ {X : Type 0} where
 
   above_pushed : (es : List (ℕ × X)) (k next : ℕ) (x : X) → k < next → rising.below_all nat_cmp k es ≡ true →
       rising.below_all nat_cmp k (es ++ (next, x) ∷ []) ≡ true
-  above_pushed [] k next x less above = and_so _ true (less_than k next less) refl
+  above_pushed [] k next x less above = and_from _ true (less_than k next less) refl
   above_pushed (e ∷ es) k next x less above =
-      and_so _ _ (first_so (is_lt (nat_cmp k e.0)) (rising.below_all nat_cmp k es) above)
+      and_from _ _ (first_so (is_lt (nat_cmp k e.0)) (rising.below_all nat_cmp k es) above)
       (above_pushed es k next x less (second_so (is_lt (nat_cmp k e.0)) (rising.below_all nat_cmp k es) above))
 
   sorted_pushed : (es : List (ℕ × X)) (next : ℕ) (x : X) → AreBelow next es → map.is_sorted nat_cmp es ≡ true →
       map.is_sorted nat_cmp (es ++ (next, x) ∷ []) ≡ true
   sorted_pushed [] next x below sorted = refl
   sorted_pushed (e ∷ es) next x below sorted =
-      and_so _ _ (above_pushed es e.0 next x below.0 (head_below e es sorted)) (sorted_pushed es next x below.1 (rest_sorted e es sorted))
+      and_from _ _ (above_pushed es e.0 next x below.0 (head_below e es sorted)) (sorted_pushed es next x below.1 (rest_sorted e es sorted))
 
   pub listed_pushed : (es : List (ℕ × X)) (next : ℕ) (x : X) → AreListed es next → AreListed (es ++ (next, x) ∷ []) (next + 1)
   listed_pushed es next x kept = record { sorted = sorted_pushed es next x kept.below kept.sorted; below = below_pushed es next x kept.below }
@@ -142,7 +133,7 @@ module _ {X : Type 0} where
     where
       go : (b : Bool) → (f.0 == n) ≡ b → (find (λ (e : ℕ × X). e.0 == n) es ≡ Some e → n < next) →
           cond b (Some f) (find (λ (e : ℕ × X). e.0 == n) es) ≡ Some e → n < next
-      go true same later h = subst (λ k. k < next) (keys_equal f.0 n same) below.0
+      go true same later h = subst (λ k. k < next) (eqb-true f.0 n same) below.0
       go false same later h = later h
 
   pub listed_put : (es : List (ℕ × X)) (n next : ℕ) (x : X) (e : ℕ × X) → find (λ (e : ℕ × X). e.0 == n) es ≡ Some e → AreListed es next →
