@@ -88,7 +88,8 @@ module _ {T : Type 0} where
 
   linked_from : (a : Chains T) (c i : ℕ) (e : Entry T) → c < length a.chains → slice_get (entries a c) i ≡ Some e → is_linked a e.slot ≡ true
   linked_from a c i e within found =
-      any_passes_from_place (λ (es : List (Entry T)). list_any (λ (x : Entry T). eqb x.slot e.slot) es) a.chains c (entries a c) (slice_get-get_or a.chains c [] within)
+      any_passes_from_place (λ (es : List (Entry T)). list_any (λ (x : Entry T). eqb x.slot e.slot) es) a.chains c (entries a c)
+      (slice_get-get_or a.chains c [] within)
       (any_passes_from_place (λ (x : Entry T). eqb x.slot e.slot) (entries a c) i e found (eq-eqb e.slot e.slot refl))
 
   -- the free slots are those on no chain

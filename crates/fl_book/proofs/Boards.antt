@@ -18,9 +18,9 @@ told_asks_nothing (t ∷ ts) =
     ∙ ap (λ n. 0 + n) (told_asks_nothing ts)
 
 -- an order and its replies ask one
-pub one_more : (lines : List Line) (worker : ℕ) (order : Order) (tolds : List Told) →
+pub step_asks_one_order : (lines : List Line) (worker : ℕ) (order : Order) (tolds : List Told) →
     orders_asked (lines ++ step_lines worker order tolds) ≡ orders_asked lines + 1
-one_more lines worker order tolds =
+step_asks_one_order lines worker order tolds =
     let told = map (λ told. line.Told told) tolds in
     sum_by-append (λ l. cond (is_asked l) 1 0) lines (step_lines worker order tolds)
     ∙ ap (λ n. orders_asked lines + n)

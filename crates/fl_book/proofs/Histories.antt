@@ -3,6 +3,7 @@ use Rattle.std.proofs.Common.{◌≡◌, ◌≢◌, ℕ, true, false, cond, ◌=
 use Rattle.std.proofs.lemmas.Bool.Decides.{nat_tests}
 use Rattle.std.proofs.lemmas.List.Sums.{fold-append}
 use Rattle.std.specs.List.{fold}
+use Rattle.std.proofs.lemmas.Bool.{eq-eqb, ne_eqb}
 use Rattle.fl_book.specs.Replay.{unread, read_line, state_at_end, state_after, all_later, AllOthers}
 use Rattle.fl_book.specs.Legal.{step, step_lines}
 use Rattle.fl_book.specs.Kept.{IsKept}
@@ -49,12 +50,6 @@ read_step lines worker order (told ∷ tolds) =
     ∙ read_later tolds (recorded (told_first order told) (state_after lines))
     ∙ later_recorded tolds (told_first order told) (state_after lines)
 
-same_number : (m n : ℕ) → m ≡ n → (m == n) ≡ true
-same_number m n same = grind (arith, nat_tests)
-
-other_number : (m n : ℕ) → m ≢ n → (m == n) ≡ false
-other_number m n other = grind (arith, nat_tests)
-
 -- one more step whose first reply is its own
 pub read_own : (lines : List Line) (worker : ℕ) (order : Order) (told : Told) (tolds : List Told) → told.unique ≡ order.unique
     → state_after (lines ++ step_lines worker order (told ∷ tolds)) ≡ all_later tolds (recorded (at_once order (Some told.result)) (state_after lines))
@@ -63,7 +58,7 @@ read_own lines worker order told tolds own =
     ∙ read_later tolds (recorded (told_first order told) (state_after lines))
     ∙ ap (λ b. all_later tolds (recorded (λ v. cond b (at_once order (Some told.result) v) (followed_by (later told) (at_once order None v)))
     (state_after lines)))
-    (same_number told.unique order.unique own)
+    (eq-eqb told.unique order.unique own)
 
 -- one more step without a reply of its own
 pub read_none : (lines : List Line) (worker : ℕ) (order : Order) (tolds : List Told) → AllOthers order.unique tolds
@@ -74,7 +69,7 @@ read_none lines worker order (told ∷ tolds) others =
     ∙ read_later tolds (recorded (told_first order told) (state_after lines))
     ∙ ap (λ b. all_later tolds (recorded (λ v. cond b (at_once order (Some told.result) v) (followed_by (later told) (at_once order None v)))
     (state_after lines)))
-    (other_number told.unique order.unique others.0)
+    (ne_eqb told.unique order.unique others.0)
     ∙ ap (all_later tolds) (sym (recorded_twice (at_once order None) (later told) (state_after lines)))
 
 -- ---- what a desk keeps

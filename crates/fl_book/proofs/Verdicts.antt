@@ -4,6 +4,7 @@ use Rattle.std.proofs.Common.{get_or, slice_get, append_assoc, append-nil, refl,
 use Rattle.std.proofs.lemmas.Option.{none-some, slice_get_within}
 use Rattle.std.proofs.Math.Seq.{take-append-add}
 use Rattle.std.proofs.lemmas.List.{append_cancel_left, length-append, map-append, take_all, take-append-drop, length-drop, length-take-le}
+use Rattle.std.proofs.Math.Numerals.{add-one}
 use Rattle.fl_book.specs.Legal.{IsLegal, nothing, step, step_lines}
 use Rattle.fl_book.specs.Replay.{state_after}
 use Rattle.fl_book.specs.Verdicts.{IsBeginning, DiffersAt}
@@ -260,15 +261,13 @@ differs_reply before rest worker order j n legal short there alike other at =
 
 -- ---- the first replies that stand
 
-one_more_alike : (lines : List Line) (tolds : List Told) (i : ℕ) (told : Told) → take i lines ≡ told_lines (take i tolds) → slice_get tolds i ≡ Some told →
+replies_alike_to_the_next : (lines : List Line) (tolds : List Told) (i : ℕ) (told : Told) → take i lines ≡ told_lines (take i tolds) →
+    slice_get tolds i ≡ Some told →
     slice_get lines i ≡ Some (line.Told told)
     → take (i + 1) lines ≡ told_lines (take (i + 1) tolds)
-one_more_alike lines tolds i told so_far at stands =
-    ap (λ k. take k lines) (one i) ∙ take_suc lines i (line.Told told) stands ∙ ap (λ l. l ++ line.Told told ∷ []) so_far
-    ∙ sym (ap told_lines (ap (λ k. take k tolds) (one i) ∙ take_suc tolds i told at) ∙ map-append (λ t. line.Told t) (take i tolds) (told ∷ []))
-  where
-    one : (k : ℕ) → k + 1 ≡ suc k
-    one k = omega arith
+replies_alike_to_the_next lines tolds i told so_far at stands =
+    ap (λ k. take k lines) (add-one i) ∙ take_suc lines i (line.Told told) stands ∙ ap (λ l. l ++ line.Told told ∷ []) so_far
+    ∙ sym (ap told_lines (ap (λ k. take k tolds) (add-one i) ∙ take_suc tolds i told at) ∙ map-append (λ t. line.Told t) (take i tolds) (told ∷ []))
 
 indexed : {A : Type 0} (xs : List A) (i : ℕ) (d x : A) → slice_get xs i ≡ Some x → get_or xs i d ≡ x
 indexed [] i d x e = absurd (none-some x e)
@@ -281,7 +280,7 @@ pub told_stands : (lines : List Line) (tolds : List Told) (i : ℕ) (d : Told) �
 told_stands lines tolds i d short so_far stands =
     let t = at_place tolds i short in
     let here : slice_get lines i ≡ Some (line.Told t.0) = stands ∙ ap (λ x. Some (line.Told x)) (indexed tolds i d t.0 t.1) in
-    (let within = slice_get_within lines i (line.Told t.0) here in omega arith, one_more_alike lines tolds i t.0 so_far t.1 here)
+    (let within = slice_get_within lines i (line.Told t.0) here in omega arith, replies_alike_to_the_next lines tolds i t.0 so_far t.1 here)
 
 pub told_differs : (lines : List Line) (tolds : List Told) (i : ℕ) (d : Told) → (slice_get lines i ≡ Some (line.Told (get_or tolds i d)) → ⊥) → (told : Told) →
     slice_get tolds i ≡ Some told → slice_get lines i ≢ Some (line.Told told)
@@ -289,15 +288,12 @@ told_differs lines tolds i d other told at stands = other (stands ∙ ap (λ x. 
 
 -- ---- in the words of a walk
 
-one_more : (k : ℕ) → k + 1 ≡ suc k
-one_more k = omega arith
-
 -- lines round one of them
 round : (lines : List Line) (at : ℕ) (d x : Line) → at < length lines → get_or lines at d ≡ x → lines ≡ take at lines ++ x ∷ drop (at + 1) lines
 round lines at d x there is =
     let w = at_place lines at there in
     let same : w.0 ≡ x = sym (indexed lines at d w.0 w.1) ∙ is in
-    sym (take-append-drop at lines) ∙ ap (λ l. take at lines ++ l) (w.2 ∙ (λ i. same i ∷ drop (sym (one_more at) i) lines))
+    sym (take-append-drop at lines) ∙ ap (λ l. take at lines ++ l) (w.2 ∙ (λ i. same i ∷ drop (sym (add-one at) i) lines))
 
 long : (lines : List Line) (at : ℕ) → at < length lines → length (take at lines) ≡ at
 long lines at there = length-take-le at lines (omega arith)
@@ -340,6 +336,6 @@ whole_step lines at d worker order tolds j there is all alike =
     let front = take at lines in
     let rest = drop (at + 1) lines in
     ap (take (at + (j + 1))) (round lines at d (line.Asked worker order) there is)
-    ∙ ap (λ k. take k (front ++ line.Asked worker order ∷ rest)) (ap (λ k. k + (j + 1)) (sym (long lines at there)) ∙ ap (λ k. length front + k) (one_more j))
+    ∙ ap (λ k. take k (front ++ line.Asked worker order ∷ rest)) (ap (λ k. k + (j + 1)) (sym (long lines at there)) ∙ ap (λ k. length front + k) (add-one j))
     ∙ take-append-add front (line.Asked worker order ∷ rest) (suc j)
     ∙ ap (λ l. front ++ line.Asked worker order ∷ l) (alike ∙ ap told_lines (take_all j tolds all))

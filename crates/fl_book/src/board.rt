@@ -183,7 +183,7 @@ struct Counted<L: BoardName> {
 
 impl<L: BoardName> Counted<L> {
     // Takes an order, and counts it.
-    #[tactic(auto, using(crate::proofs::Boards::one_more))]
+    #[tactic(auto, using(crate::proofs::Boards::step_asks_one_order))]
     fn hand_in(
         &mut self,
         seat: &mut Seat<L>,

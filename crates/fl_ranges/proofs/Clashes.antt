@@ -80,6 +80,7 @@ any_of_found t u (x ∷ rs) r found is = go (λ h. any_of_found t u rs r h is) (
     go rest true h = let same : x ≡ r = cc h in or_left _ _ (ap t same ∙ is)
     go rest false h = or_right _ _ (rest h)
 
+-- a test of the owner, and the test for a conflict
 first_passes : (a b : Bool) → (a && b) ≡ true → a ≡ true
 first_passes true b e = refl
 first_passes false b e = absurd (cc e)
