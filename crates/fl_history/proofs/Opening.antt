@@ -13,10 +13,15 @@ use Rattle.fl_history.specs.declared.records.Ask.{Ask}
 use Rattle.fl_history.specs.declared.records.Answered.{Answered}
 use Rattle.fl_history.specs.declared.records.Record.{Record}
 use Rattle.fl_history.specs.declared.records.Record.TheVariants as record_of
-use Rattle.fl_history.specs.Inside.Records.{name_in, short_op, ask_of, bytes_at, opened_op, asked_line, answered_line, line_or_none, opened, opened_all, Begins, IsNamed, NamesAreThere, IsThere, AreKept}
+use Rattle.fl_history.specs.Inside.Records.{name_in, short_op, ask_of, bytes_at, opened_parts, opened_op, line_asking, asked_line, answered_line}
+use Rattle.fl_history.proofs.Packing.{get_left, get_right}
+use Rattle.fl_history.specs.Inside.Records.{line_or_none, opened, opened_all, Begins, IsNamed, NamesAreThere, LeadsBack, IsThere, AreKept}
 use Rattle.fl_order.specs.Name.{IsName}
+use Rattle.fl_order.specs.Order.{parts_of, op_of}
+use Rattle.fl_order.specs.declared.body.Body.{Body}
+use Rattle.fl_order.specs.declared.body.Body.TheVariants as body
+use Rattle.fl_order.specs.declared.kind.Kind.{Kind}
 use Rattle.fl_order.specs.declared.order.Op.{Op}
-use Rattle.fl_order.specs.declared.order.Op.TheVariants as op
 use Rattle.fl_order.specs.declared.order.Order.{Order}
 
 -- ---- lists with more behind them
@@ -26,11 +31,6 @@ begins_itself xs = record { rest = []; is = sym (append-nil xs) }
 
 begins_length : {A : Type 0} (xs ys : List A) → Begins xs ys → length xs ≤ length ys
 begins_length xs ys b = subst (λ l. length xs ≤ length l) (sym b.is) (omega (arith, length-append xs b.rest))
-
-get_left : {A : Type 0} (xs ys : List A) (i : ℕ) → i < length xs → slice_get (xs ++ ys) i ≡ slice_get xs i
-get_left [] ys i l = absurd (omega arith)
-get_left (x ∷ xs) ys zero l = refl
-get_left (x ∷ xs) ys (suc i) l = get_left xs ys i (omega arith)
 
 all_more : {A : Type 0} (P : A → Type 0) (xs ys : List A) → AllByRecursion P xs → AllByRecursion P ys → AllByRecursion P (xs ++ ys)
 all_more P [] ys a b = b
@@ -50,36 +50,39 @@ all_at P (y ∷ xs) (suc i) x a e = all_at P xs i x a.1 e
 
 -- ---- one order, there and back
 
-pub op_back : (names : List ℕ) (span : Span) (o : Op) → bytes_at names span ≡ name_in o → opened_op names (short_op span o) ≡ o
-op_back names span (op.Lookup name) e = ap (λ n. op.Lookup n) e
-op_back names span (op.Forget n) e = refl
-op_back names span op.Getattr e = refl
-op_back names span (op.Unlink name) e = ap (λ n. op.Unlink n) e
-op_back names span op.Open e = refl
-op_back names span (op.Release fh unlocks owner) e = refl
-op_back names span (op.Flush fh owner) e = refl
-op_back names span (op.Create excl mode name) e = ap (λ n. op.Create excl mode n) e
-op_back names span (op.Getlk ask) e = refl
-op_back names span (op.Setlk ask) e = refl
-op_back names span (op.Setlkw ask) e = refl
-op_back names span (op.Interrupt unique) e = refl
+parts_back : (names : List ℕ) (span : Span) (kind : Kind) (b : Body) → bytes_at names span ≡ name_in b → opened_parts names (short_op span kind b) ≡ (kind, b)
+parts_back names span kind (body.Lock ask) e = refl
+parts_back names span kind (body.Create excl mode name) e = ap (λ n. (kind, body.Create excl mode n)) e
+parts_back names span kind (body.Name name) e = ap (λ n. (kind, body.Name n)) e
+parts_back names span kind (body.Number n) e = refl
+parts_back names span kind (body.Flush fh owner) e = refl
+parts_back names span kind (body.Release fh unlocks owner) e = refl
+parts_back names span kind body.Getattr e = refl
+parts_back names span kind body.Open e = refl
 
-pub asked_back : (names : List ℕ) (span : Span) (worker : ℕ) (o : Order) → bytes_at names span ≡ name_in o.op → asked_line names (ask_of worker o span) ≡ line.Asked worker o
-asked_back names span worker o e = ap (λ p. line.Asked worker (record o { op = p })) (op_back names span o.op e)
+named_short : (names : List ℕ) (span : Span) (kind : Kind) (b : Body) → IsNamed names span → NamesAreThere names (short_op span kind b)
+named_short names span kind (body.Lock ask) n = tt
+named_short names span kind (body.Create excl mode name) n = n
+named_short names span kind (body.Name name) n = n
+named_short names span kind (body.Number m) n = tt
+named_short names span kind (body.Flush fh owner) n = tt
+named_short names span kind (body.Release fh unlocks owner) n = tt
+named_short names span kind body.Getattr n = tt
+named_short names span kind body.Open n = tt
 
-pub named_short : (names : List ℕ) (span : Span) (o : Op) → IsNamed names span → NamesAreThere names (short_op span o)
-named_short names span (op.Lookup name) n = n
-named_short names span (op.Forget m) n = tt
-named_short names span op.Getattr n = tt
-named_short names span (op.Unlink name) n = n
-named_short names span op.Open n = tt
-named_short names span (op.Release fh unlocks owner) n = tt
-named_short names span (op.Flush fh owner) n = tt
-named_short names span (op.Create excl mode name) n = n
-named_short names span (op.Getlk ask) n = tt
-named_short names span (op.Setlk ask) n = tt
-named_short names span (op.Setlkw ask) n = tt
-named_short names span (op.Interrupt unique) n = tt
+-- an order is that of its parts
+of_its_parts : (o : Op) → op_of (parts_of o).0 (parts_of o).1 ≡ Some o
+of_its_parts o = grind arith
+
+module _ (names : List ℕ) (span : Span) (o : Order) (parts : Kind × Body) (of : parts ≡ parts_of o.op) (there : bytes_at names span ≡ name_in parts.1) where
+  op_back : opened_op names (short_op span parts.0 parts.1) ≡ Some o.op
+  op_back = ap (λ (p : Kind × Body). op_of p.0 p.1) (parts_back names span parts.0 parts.1 there ∙ of) ∙ of_its_parts o.op
+
+  leads_back : IsNamed names span → LeadsBack names (short_op span parts.0 parts.1)
+  leads_back n = record { named = named_short names span parts.0 parts.1 n; asked = o.op; is = op_back }
+
+  asked_back : (worker : ℕ) → asked_line names (ask_of worker o (short_op span parts.0 parts.1)) ≡ line.Asked worker o
+  asked_back worker = ap (line_or_none (line_asking (ask_of worker o (short_op span parts.0 parts.1)))) op_back
 
 -- ---- names with more names behind them
 
@@ -94,30 +97,40 @@ named_stay names more span n = record {
   name = subst IsName (sym (bytes_stay names more span n.within)) n.name;
 }
 
-op_stays : (names more : List ℕ) (o : ShortOp) → NamesAreThere names o → (opened_op (names ++ more) o ≡ opened_op names o) × NamesAreThere (names ++ more) o
-op_stays names more (short.Lookup span) n = (ap (λ b. op.Lookup b) (bytes_stay names more span n.within), named_stay names more span n)
-op_stays names more (short.Forget m) n = (refl, tt)
-op_stays names more short.Getattr n = (refl, tt)
-op_stays names more (short.Unlink span) n = (ap (λ b. op.Unlink b) (bytes_stay names more span n.within), named_stay names more span n)
-op_stays names more short.Open n = (refl, tt)
-op_stays names more (short.Release fh unlocks owner) n = (refl, tt)
-op_stays names more (short.Flush fh owner) n = (refl, tt)
-op_stays names more (short.Create excl mode span) n = (ap (λ b. op.Create excl mode b) (bytes_stay names more span n.within), named_stay names more span n)
-op_stays names more (short.Lock what kind pid flags fh owner start end) n = (refl, tt)
-op_stays names more (short.Interrupt unique) n = (refl, tt)
+parts_stay : (names more : List ℕ) (s : ShortOp) → NamesAreThere names s
+    → (opened_parts (names ++ more) s ≡ opened_parts names s) × NamesAreThere (names ++ more) s
+parts_stay names more (short.Lock what kind pid flags fh owner start end) n = (refl, tt)
+parts_stay names more (short.Create what excl mode span) n =
+    (ap (λ b. (what, body.Create excl mode b)) (bytes_stay names more span n.within), named_stay names more span n)
+parts_stay names more (short.Name what span) n = (ap (λ b. (what, body.Name b)) (bytes_stay names more span n.within), named_stay names more span n)
+parts_stay names more (short.Number what m) n = (refl, tt)
+parts_stay names more (short.Flush what fh owner) n = (refl, tt)
+parts_stay names more (short.Release what unlocks fh owner) n = (refl, tt)
+parts_stay names more (short.Getattr what) n = (refl, tt)
+parts_stay names more (short.Open what) n = (refl, tt)
+
+op_stays : (names more : List ℕ) (s : ShortOp) → NamesAreThere names s → opened_op (names ++ more) s ≡ opened_op names s
+op_stays names more s n = ap (λ (p : Kind × Body). op_of p.0 p.1) (parts_stay names more s n).0
+
+still_back : (names more : List ℕ) (s : ShortOp) → LeadsBack names s → LeadsBack (names ++ more) s
+still_back names more s b = record {
+  named = (parts_stay names more s b.named).1;
+  asked = b.asked;
+  is = op_stays names more s b.named ∙ b.is;
+}
 
 -- ---- more of everything
 
-ask_stays : (names more : List ℕ) (asks : List Ask) (at : ℕ) → AllByRecursion (λ (a : Ask). NamesAreThere names a.op) asks
+ask_stays : (names more : List ℕ) (asks : List Ask) (at : ℕ) → AllByRecursion (λ (a : Ask). LeadsBack names a.op) asks
     → line_or_none (asked_line (names ++ more)) (slice_get asks at) ≡ line_or_none (asked_line names) (slice_get asks at)
 ask_stays names more [] at n = refl
 ask_stays names more (a ∷ asks) zero n =
-    ap (λ p. line.Asked a.worker (record { unique = a.unique; node = a.node; uid = a.uid; gid = a.gid; pid = a.pid; op = p })) (op_stays names more a.op n.0).0
+    ap (line_or_none (line_asking a)) (op_stays names more a.op n.0.named)
 ask_stays names more (a ∷ asks) (suc at) n = ask_stays names more asks at n.1
 
 module _ (asks : List Ask) (answers : List Answered) (names : List ℕ) (asks′ : List Ask) (answers′ : List Answered) (names′ : List ℕ)
     (a : Begins asks asks′) (t : Begins answers answers′) (n : Begins names names′) where
-  opened_stays : (r : Record) → IsThere (length asks) (length answers) r → AllByRecursion (λ (a : Ask). NamesAreThere names a.op) asks
+  opened_stays : (r : Record) → IsThere (length asks) (length answers) r → AllByRecursion (λ (a : Ask). LeadsBack names a.op) asks
       → opened asks′ answers′ names′ r ≡ opened asks answers names r
   opened_stays (record_of.Asked at) there named =
       (λ i. line_or_none (asked_line (n.is i)) (slice_get (a.is i) at))
@@ -131,7 +144,7 @@ module _ (asks : List Ask) (answers : List Answered) (names : List ℕ) (asks′
   lines_stay : (records : List Record) → AreKept records asks answers names → opened_all asks′ answers′ names′ records ≡ opened_all asks answers names records
   lines_stay [] k = refl
   lines_stay (r ∷ records) k =
-      (λ i. opened_stays r k.there.0 k.named i ∷ lines_stay records (record { there = k.there.1; named = k.named }) i)
+      (λ i. opened_stays r k.there.0 k.back i ∷ lines_stay records (record { there = k.there.1; back = k.back }) i)
 
   -- one line more
   pub one_line : (records : List Record) (r : Record) (l : Line) → AreKept records asks answers names → opened asks′ answers′ names′ r ≡ l
@@ -147,37 +160,37 @@ module _ (asks : List Ask) (answers : List Answered) (names : List ℕ) (asks′
 
   -- what is kept goes on to lead to what is there
   pub kept_still : (records : List Record) (r : Record) → AreKept records asks answers names → IsThere (length asks′) (length answers′) r
-      → AllByRecursion (λ (a : Ask). NamesAreThere names′ a.op) a.rest → AreKept (records ++ r ∷ []) asks′ answers′ names′
+      → AllByRecursion (λ (a : Ask). LeadsBack names′ a.op) a.rest → AreKept (records ++ r ∷ []) asks′ answers′ names′
   kept_still records r k there more = record {
     there = all_more (IsThere (length asks′) (length answers′)) records (r ∷ [])
         (all_as (IsThere (length asks) (length answers)) (IsThere (length asks′) (length answers′)) records there_still k.there) (there, tt);
-    named = subst (AllByRecursion (λ (a : Ask). NamesAreThere names′ a.op)) (sym a.is)
-        (all_more (λ (a : Ask). NamesAreThere names′ a.op) asks a.rest
-        (all_as (λ (a : Ask). NamesAreThere names a.op) (λ (a : Ask). NamesAreThere names′ a.op) asks
-        (λ x h. subst (λ ns. NamesAreThere ns x.op) (sym n.is) (op_stays names n.rest x.op h).1) k.named) more);
+    back = subst (AllByRecursion (λ (a : Ask). LeadsBack names′ a.op)) (sym a.is)
+        (all_more (λ (a : Ask). LeadsBack names′ a.op) asks a.rest
+        (all_as (λ (a : Ask). LeadsBack names a.op) (λ (a : Ask). LeadsBack names′ a.op) asks
+        (λ x h. subst (λ ns. LeadsBack ns x.op) (sym n.is) (still_back names n.rest x.op h)) k.back) more);
   }
 
 -- ---- in the words of the calls
 
-pub asked_kept : (records records′ : List Record) (asks asks′ : List Ask) (answers : List Answered) (names names′ : List ℕ) (worker : ℕ) (o : Order) (span : Span) (new : Ask) → AreKept records asks answers names
-    → names′ ≡ names ++ name_in o.op → IsNamed names′ span → bytes_at names′ span ≡ name_in o.op → new ≡ ask_of worker o span → asks′ ≡ asks ++ new ∷ [] → records′ ≡ records ++ record_of.Asked (length asks) ∷ []
+pub asked_kept : (records records′ : List Record) (asks asks′ : List Ask) (answers : List Answered) (names names′ : List ℕ) (worker : ℕ) (o : Order)
+    (parts : Kind × Body) (span : Span) (new : Ask) → AreKept records asks answers names → parts ≡ parts_of o.op → names′ ≡ names ++ name_in parts.1
+    → IsNamed names′ span → bytes_at names′ span ≡ name_in parts.1 → new ≡ ask_of worker o (short_op span parts.0 parts.1) → asks′ ≡ asks ++ new ∷ []
+    → records′ ≡ records ++ record_of.Asked (length asks) ∷ []
     → AreKept records′ asks′ answers names′ × (opened_all asks′ answers names′ records′ ≡ opened_all asks answers names records ++ line.Asked worker o ∷ [])
-asked_kept records records′ asks asks′ answers names names′ worker o span new k more named there is joins last =
+asked_kept records records′ asks asks′ answers names names′ worker o parts span new k of more named there is joins last =
     let a : Begins asks asks′ = record { rest = new ∷ []; is = joins } in
-    let n : Begins names names′ = record { rest = name_in o.op; is = more } in
+    let n : Begins names names′ = record { rest = name_in parts.1; is = more } in
     let t = begins_itself answers in
     let inside : length asks < length asks′ = subst (λ l. length asks < length l) (sym joins) (omega (arith, length-append asks (new ∷ []))) in
-    let names_new : NamesAreThere names′ new.op = subst (λ (x : Ask). NamesAreThere names′ x.op) (sym is) (named_short names′ span o.op named) in
+    let back : LeadsBack names′ new.op = subst (λ (x : Ask). LeadsBack names′ x.op) (sym is) (leads_back names′ span o parts of there named) in
     let found : line_or_none (asked_line names′) (slice_get asks′ (length asks)) ≡ line.Asked worker o =
-    ap (λ l. line_or_none (asked_line names′) (slice_get l (length asks))) joins ∙ ap (line_or_none (asked_line names′)) (get_last asks new) ∙ ap (asked_line names′) is ∙ asked_back names′ span worker o there in
-    subst (λ rs. AreKept rs asks′ answers names′ × (opened_all asks′ answers names′ rs ≡ opened_all asks answers names records ++ line.Asked worker o ∷ [])) (sym last) (
-      kept_still asks answers names asks′ answers names′ a t n records (record_of.Asked (length asks)) k inside (names_new, tt),
+    ap (λ l. line_or_none (asked_line names′) (slice_get l (length asks))) joins ∙ ap (line_or_none (asked_line names′)) (get_right asks (new ∷ []) (length asks) 0 (omega arith))
+    ∙ ap (asked_line names′) is ∙ asked_back names′ span o parts of there worker in
+    subst (λ rs. AreKept rs asks′ answers names′ × (opened_all asks′ answers names′ rs ≡ opened_all asks answers names records ++ line.Asked worker o ∷ []))
+    (sym last) (
+      kept_still asks answers names asks′ answers names′ a t n records (record_of.Asked (length asks)) k inside (back, tt),
       one_line asks answers names asks′ answers names′ a t n records (record_of.Asked (length asks)) (line.Asked worker o) k found,
     )
-  where
-    get_last : {A : Type 0} (xs : List A) (x : A) → slice_get (xs ++ x ∷ []) (length xs) ≡ Some x
-    get_last [] x = refl
-    get_last (y ∷ xs) x = get_last xs x
 
 pub told_kept : (records records′ : List Record) (asks : List Ask) (answers answers′ : List Answered) (names : List ℕ) (r : Record) (l : Line) → AreKept records asks answers names
     → Begins answers answers′ → IsThere (length asks) (length answers′) r → opened asks answers′ names r ≡ l → records′ ≡ records ++ r ∷ []
@@ -195,5 +208,6 @@ line_at asks answers names records i r e = slice_get-map (opened asks answers na
 pub there_at : (asks : List Ask) (answers : List Answered) (names : List ℕ) (records : List Record) (i : ℕ) (r : Record) → AreKept records asks answers names → slice_get records i ≡ Some r → IsThere (length asks) (length answers) r
 there_at asks answers names records i r k e = all_at (IsThere (length asks) (length answers)) records i r k.there e
 
-pub named_at : (asks : List Ask) (answers : List Answered) (names : List ℕ) (records : List Record) (i : ℕ) (a : Ask) → AreKept records asks answers names → slice_get asks i ≡ Some a → NamesAreThere names a.op
-named_at asks answers names records i a k e = all_at (λ (a : Ask). NamesAreThere names a.op) asks i a k.named e
+pub back_at : (asks : List Ask) (answers : List Answered) (names : List ℕ) (records : List Record) (i : ℕ) (a : Ask) → AreKept records asks answers names
+    → slice_get asks i ≡ Some a → LeadsBack names a.op
+back_at asks answers names records i a k e = all_at (λ (a : Ask). LeadsBack names a.op) asks i a k.back e

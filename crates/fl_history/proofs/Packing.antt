@@ -10,12 +10,12 @@ module _ {A : Type 0} where
   packed_length size len [] p = sym p
   packed_length size len (c ∷ cs) p = omega (arith, length-append c (joined cs), p.0, packed_length size (len - size) cs p.1)
 
-  get_left : (xs ys : List A) (i : ℕ) → i < length xs → slice_get (xs ++ ys) i ≡ slice_get xs i
+  pub get_left : (xs ys : List A) (i : ℕ) → i < length xs → slice_get (xs ++ ys) i ≡ slice_get xs i
   get_left [] ys i l = absurd (omega arith)
   get_left (x ∷ xs) ys zero l = refl
   get_left (x ∷ xs) ys (suc i) l = get_left xs ys i (omega arith)
 
-  get_right : (xs ys : List A) (n i : ℕ) → n ≡ length xs + i → slice_get (xs ++ ys) n ≡ slice_get ys i
+  pub get_right : (xs ys : List A) (n i : ℕ) → n ≡ length xs + i → slice_get (xs ++ ys) n ≡ slice_get ys i
   get_right [] ys n i e = ap (slice_get ys) (omega (arith, e))
   get_right (x ∷ xs) ys zero i e = absurd (omega arith)
   get_right (x ∷ xs) ys (suc n) i e = get_right xs ys n i (omega arith)
@@ -49,10 +49,10 @@ module _ {A : Type 0} where
   room_left size len zero r (c ∷ cs) p e l = omega arith
   room_left size len (suc q) r (c ∷ cs) p e l = omega (arith, room_left size (len - size) q r cs p.1 (omega arith) (omega (arith, l)))
 
-  one_more : (size len q r : ℕ) (cs : List (List A)) (chunk : List A) (x : A) → ArePacked size len cs → len ≡ q * size + r → r < size
+  chunk_takes_one : (size len q r : ℕ) (cs : List (List A)) (chunk : List A) (x : A) → ArePacked size len cs → len ≡ q * size + r → r < size
       → q < length cs → chunk ≡ get_or cs q chunk → TakesOne size len q r cs chunk x
-  one_more size len q r [] chunk x p e s l there = absurd (omega (arith, l))
-  one_more size len zero r (c ∷ cs) chunk x p e s l there =
+  chunk_takes_one size len q r [] chunk x p e s l there = absurd (omega (arith, l))
+  chunk_takes_one size len zero r (c ∷ cs) chunk x p e s l there =
       let none : joined cs ≡ [] = nil_from_length (joined cs) (omega (arith, packed_length size (len - size) cs p.1)) in
       subst (λ c′. TakesOne size len zero r (c ∷ cs) c′ x) (sym there) (record {
         long = omega (arith, p.0);
@@ -62,8 +62,8 @@ module _ {A : Type 0} where
     where
       rest : (n s : ℕ) → n + 1 ≤ s → n - s ≡ n + 1 - s
       rest n s l = omega arith
-  one_more size len (suc q) r (c ∷ cs) chunk x p e s l there =
-      let w = one_more size (len - size) q r cs chunk x p.1 (omega arith) s (omega arith) there in
+  chunk_takes_one size len (suc q) r (c ∷ cs) chunk x p e s l there =
+      let w = chunk_takes_one size (len - size) q r cs chunk x p.1 (omega arith) s (omega arith) there in
       record {
         long = w.long;
         packed = (omega (arith, p.0), subst (λ n. ArePacked size n (slice_set cs q (chunk ++ x ∷ []))) (rest len size (omega arith)) w.packed);
@@ -93,7 +93,7 @@ module _ {A : Type 0} where
   pub takes_one : (size len capacity : ℕ) (cs : List (List A)) (chunk : List A) (x : A) → 0 < size → IsStocked size cs len capacity → len < capacity
       → chunk ≡ get_or cs (len / size) chunk → TakesOne size len (len / size) (len % size) cs chunk x
   takes_one size len capacity cs chunk x some k l there =
-      one_more size len (len / size) (len % size) cs chunk x k.packed (sym (div-add-mod' len size)) (mod_below len size some)
+      chunk_takes_one size len (len / size) (len % size) cs chunk x k.packed (sym (div-add-mod' len size)) (mod_below len size some)
       (chunk_with_room size len capacity cs k l) there
 
   pub stocked_more : (size len capacity : ℕ) (cs : List (List A)) → IsStocked size cs len capacity → capacity + size < 2 ^ 63 → IsStocked size (cs ++ [] ∷ []) len (capacity + size)

@@ -1,3 +1,5 @@
+//! A history, as its users see it: its lines by place.
+
 ghost use Rattle.std.specs.Prelude.{◌≡◌, ◌<◌, ◌^◌, ◌↔◌, ◌++◌, ◌∷◌, [], Some, IsTrue, OnOk, OnErr, length};
 ghost use Rattle.std.specs.List.{slice_get};
 
@@ -9,7 +11,14 @@ use std::marker::Model;
 /// One line of a history: an order that a worker handed in, or a reply.
 #[derive(Clone, Copy, Debug, PartialEq, Eq)]
 pub enum Line {
-    Asked { worker: u32, order: Order },
+    /// What a worker handed in.
+    Asked {
+        /// The worker's number, from 0.
+        worker: u32,
+        /// What it asks.
+        order: Order,
+    },
+    /// What an order was answered.
     Told(Told),
 }
 

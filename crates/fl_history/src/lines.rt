@@ -2,15 +2,16 @@
 
 ghost use Rattle.std.specs.Prelude.{◌≡◌, ℕ, ◌+◌, ◌*◌, ◌<◌, ◌≤◌, ◌^◌, List, ◌++◌, ◌∷◌, [], length, Some, IsOk, OnOk};
 ghost use Rattle.std.specs.List.{slice_get};
-ghost use Rattle.fl_history.specs.Inside.Records.{bytes_at, opened, opened_op, asked_line, Begins, IsNamed, IsThere, NamesAreThere};
+ghost use Rattle.fl_history.specs.Inside.Records.{bytes_at, opened, opened_parts, asked_line};
+ghost use Rattle.fl_history.specs.Inside.Records.{Begins, IsNamed, IsThere, NamesAreThere, LeadsBack};
 ghost use Rattle.fl_history.specs.declared.records.Ask.{Ask as Kept};
 ghost use Rattle.fl_history.specs.declared.history.Line.TheVariants.{Asked, Told as Reply};
 ghost use Rattle.fl_order.specs.Name.{IsName};
 
 use crate::chunks::ChunkedVec;
 use crate::history::Line;
-use crate::records::{Answered, Ask, Record, ShortOp, Span, lock_op, name_in};
-use fl_order::{Answer, LockAsk, Name, Op, Order, Told};
+use crate::records::{Answered, Ask, Record, ShortOp, Span, name_in, short_op};
+use fl_order::{Answer, Body, Kind, LockAsk, Name, Op, Order, Told};
 use std::alloc::{AllocError, Global};
 use std::marker::Model;
 
@@ -114,9 +115,11 @@ impl Lines {
         ensures items { self.new.items ≡ self.old.items ++ Asked worker order.now ∷ [] }
         ensures room { self.new.room + 1 ≡ self.old.room }
     {
-        let name = push_name(&mut self.names, name_in(&order.op));
+        let parts = order.op.parts();
+        let name = push_name(&mut self.names, name_in(&parts.1));
+        let op = short_op(parts.0, &parts.1, name);
         let at = self.asks.len();
-        self.asks.push(Ask::new(worker, order, name));
+        self.asks.push(Ask::new(worker, order, op));
         self.records.push(Record::Asked(at));
         self.room -= 1;
     }
@@ -187,9 +190,13 @@ fn name_at(names: &ChunkedVec<u8>, span: Span) -> Name
 
 // The line of an order.
 fn asked(ask: &Ask, names: &ChunkedVec<u8>) -> Line
-    requires { NamesAreThere names.now.items ask.now.op }
+    requires { LeadsBack names.now.items ask.now.op }
     ensures { result ≡ asked_line names.now.items ask.now }
 {
+    let (kind, body) = opened_parts(&ask.op, names);
+    let Some(op) = Op::of(kind, body) else {
+        unreachable!()
+    };
     Line::Asked {
         worker: ask.worker,
         order: Order {
@@ -198,29 +205,17 @@ fn asked(ask: &Ask, names: &ChunkedVec<u8>) -> Line
             uid: ask.uid,
             gid: ask.gid,
             pid: ask.pid,
-            op: opened_op(&ask.op, names),
+            op,
         },
     }
 }
 
-// What was asked.
-fn opened_op(op: &ShortOp, names: &ChunkedVec<u8>) -> Op
+// The kind and the body of what was asked.
+fn opened_parts(op: &ShortOp, names: &ChunkedVec<u8>) -> (Kind, Body)
     requires { NamesAreThere names.now.items op.now }
-    ensures { result ≡ opened_op names.now.items op.now }
+    ensures { result ≡ opened_parts names.now.items op.now }
 {
     match *op {
-        ShortOp::Lookup(span) => Op::Lookup(name_at(names, span)),
-        ShortOp::Forget(n) => Op::Forget(n),
-        ShortOp::Getattr => Op::Getattr,
-        ShortOp::Unlink(span) => Op::Unlink(name_at(names, span)),
-        ShortOp::Open => Op::Open,
-        ShortOp::Release { fh, drop, owner } => Op::Release { fh, drop, owner },
-        ShortOp::Flush { fh, owner } => Op::Flush { fh, owner },
-        ShortOp::Create { excl, mode, name } => Op::Create {
-            excl,
-            mode,
-            name: name_at(names, name),
-        },
         ShortOp::Lock {
             what,
             kind,
@@ -230,9 +225,8 @@ fn opened_op(op: &ShortOp, names: &ChunkedVec<u8>) -> Op
             owner,
             start,
             end,
-        } => lock_op(
-            what,
-            LockAsk {
+        } => {
+            let ask = LockAsk {
                 fh,
                 owner,
                 start,
@@ -240,8 +234,28 @@ fn opened_op(op: &ShortOp, names: &ChunkedVec<u8>) -> Op
                 kind,
                 pid,
                 flags,
-            },
-        ),
-        ShortOp::Interrupt(unique) => Op::Interrupt(unique),
+            };
+            (what, Body::Lock(ask))
+        }
+        ShortOp::Create {
+            what,
+            excl,
+            mode,
+            name,
+        } => {
+            let name = name_at(names, name);
+            (what, Body::Create { excl, mode, name })
+        }
+        ShortOp::Name(what, name) => (what, Body::Name(name_at(names, name))),
+        ShortOp::Number(what, n) => (what, Body::Number(n)),
+        ShortOp::Flush { what, fh, owner } => (what, Body::Flush { fh, owner }),
+        ShortOp::Release {
+            what,
+            drop,
+            fh,
+            owner,
+        } => (what, Body::Release { fh, drop, owner }),
+        ShortOp::Getattr(what) => (what, Body::Getattr),
+        ShortOp::Open(what) => (what, Body::Open),
     }
 }

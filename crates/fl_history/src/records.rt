@@ -1,10 +1,10 @@
 //! What is kept of a line: a small record, and the order or the answer that it leads to.
 
 ghost use Rattle.std.specs.Prelude.{◌≡◌};
-ghost use Rattle.fl_history.specs.Inside.Records.{name_in, short_lock, short_op, ask_of, lock_op};
+ghost use Rattle.fl_history.specs.Inside.Records.{name_in, short_lock, short_op, ask_of};
 ghost use Rattle.fl_order.specs.Name.{IsName};
 
-use fl_order::{Answer, Errno, LockAsk, Op, Order};
+use fl_order::{Answer, Body, Errno, Kind, LockAsk, Order};
 
 // So many bytes are kept of a line, and of the order or the answer that it leads to.
 const _: () = prove!(size_of::<Record>() == 16);
@@ -48,30 +48,12 @@ pub(crate) struct Ask {
     pub op: ShortOp,
 }
 
-/// What an order asks, with the place of a name instead of the name, and lock requests flat.
+/// What an order asks: its kind, and its body by shape, with the place of a name instead of the name, and lock requests
+/// flat.
 #[derive(Clone, Copy, Debug)]
 pub(crate) enum ShortOp {
-    Lookup(Span),
-    Forget(u64),
-    Getattr,
-    Unlink(Span),
-    Open,
-    Release {
-        fh: u64,
-        drop: bool,
-        owner: u64,
-    },
-    Flush {
-        fh: u64,
-        owner: u64,
-    },
-    Create {
-        excl: bool,
-        mode: u32,
-        name: Span,
-    },
     Lock {
-        what: LockKind,
+        what: Kind,
         kind: u32,
         pid: u32,
         flags: u32,
@@ -80,32 +62,93 @@ pub(crate) enum ShortOp {
         start: u64,
         end: u64,
     },
-    Interrupt(u64),
+    Create {
+        what: Kind,
+        excl: bool,
+        mode: u32,
+        name: Span,
+    },
+    Name(Kind, Span),
+    Number(Kind, u64),
+    Flush {
+        what: Kind,
+        fh: u64,
+        owner: u64,
+    },
+    Release {
+        what: Kind,
+        drop: bool,
+        fh: u64,
+        owner: u64,
+    },
+    Getattr(Kind),
+    Open(Kind),
 }
 
-/// The orders that ask with a `LockAsk`.
-#[derive(Clone, Copy, Debug)]
-pub(crate) enum LockKind {
-    Get,
-    Set,
-    SetAndWait,
-}
-
-/// The bytes of the name in what is asked; none where it has no name.
-pub(crate) fn name_in(op: &Op) -> &[u8]
-    ensures bytes { result.now ≡ name_in op.now }
+/// The bytes of the name in a body; none where it has no name.
+pub(crate) fn name_in(body: &Body) -> &[u8]
+    ensures bytes { result.now ≡ name_in body.now }
     ensures name { IsName result.now }
 {
-    match op {
-        Op::Lookup(name) | Op::Unlink(name) | Op::Create { name, .. } => name.as_bytes(),
+    match body {
+        Body::Create { name, .. } | Body::Name(name) => name.as_bytes(),
         _ => &[],
     }
 }
 
+/// What is kept of a kind and a body whose name stands there.
+pub(crate) fn short_op(what: Kind, body: &Body, name: Span) -> ShortOp
+    ensures { result ≡ short_op name what body.now }
+{
+    match body {
+        Body::Lock(ask) => short_lock(what, ask),
+        Body::Create {
+            excl,
+            mode,
+            name: _,
+        } => ShortOp::Create {
+            what,
+            excl: *excl,
+            mode: *mode,
+            name,
+        },
+        Body::Name(_) => ShortOp::Name(what, name),
+        Body::Number(n) => ShortOp::Number(what, *n),
+        Body::Flush { fh, owner } => ShortOp::Flush {
+            what,
+            fh: *fh,
+            owner: *owner,
+        },
+        Body::Release { fh, drop, owner } => ShortOp::Release {
+            what,
+            drop: *drop,
+            fh: *fh,
+            owner: *owner,
+        },
+        Body::Getattr => ShortOp::Getattr(what),
+        Body::Open => ShortOp::Open(what),
+    }
+}
+
+fn short_lock(what: Kind, ask: &LockAsk) -> ShortOp
+    ensures { result ≡ short_lock what ask.now }
+{
+    ShortOp::Lock {
+        what,
+        kind: ask.kind,
+        pid: ask.pid,
+        flags: ask.flags,
+        fh: ask.fh,
+        owner: ask.owner,
+        start: ask.start,
+        end: ask.end,
+    }
+}
+
 impl Ask {
-    /// What is kept of an order whose name stands there.
-    pub(crate) fn new(worker: u32, order: &Order, name: Span) -> Ask
-        ensures { result ≡ ask_of worker order.now name }
+    /// What is kept of an order that asks this.
+    pub(crate) fn new(worker: u32, order: &Order, op: ShortOp) -> Ask
+        ensures { result ≡ ask_of worker order.now op }
     {
         Ask {
             worker,
@@ -114,65 +157,7 @@ impl Ask {
             pid: order.pid,
             unique: order.unique,
             node: order.node,
-            op: short_op(&order.op, name),
+            op,
         }
-    }
-}
-
-fn short_op(op: &Op, name: Span) -> ShortOp
-    ensures { result ≡ short_op name op.now }
-{
-    match *op {
-        Op::Lookup(_) => ShortOp::Lookup(name),
-        Op::Forget(n) => ShortOp::Forget(n),
-        Op::Getattr => ShortOp::Getattr,
-        Op::Unlink(_) => ShortOp::Unlink(name),
-        Op::Open => ShortOp::Open,
-        Op::Release { fh, drop, owner } => ShortOp::Release { fh, drop, owner },
-        Op::Flush { fh, owner } => ShortOp::Flush { fh, owner },
-        Op::Create {
-            excl,
-            mode,
-            name: _,
-        } => ShortOp::Create { excl, mode, name },
-        Op::Getlk(ask) => short_lock(LockKind::Get, ask),
-        Op::Setlk(ask) => short_lock(LockKind::Set, ask),
-        Op::Setlkw(ask) => short_lock(LockKind::SetAndWait, ask),
-        Op::Interrupt(unique) => ShortOp::Interrupt(unique),
-    }
-}
-
-fn short_lock(what: LockKind, ask: LockAsk) -> ShortOp
-    ensures { result ≡ short_lock what ask }
-{
-    let LockAsk {
-        fh,
-        owner,
-        start,
-        end,
-        kind,
-        pid,
-        flags,
-    } = ask;
-    ShortOp::Lock {
-        what,
-        kind,
-        pid,
-        flags,
-        fh,
-        owner,
-        start,
-        end,
-    }
-}
-
-/// The lock request of this kind.
-pub(crate) fn lock_op(what: LockKind, ask: LockAsk) -> Op
-    ensures { result ≡ lock_op what ask }
-{
-    match what {
-        LockKind::Get => Op::Getlk(ask),
-        LockKind::Set => Op::Setlk(ask),
-        LockKind::SetAndWait => Op::Setlkw(ask),
     }
 }

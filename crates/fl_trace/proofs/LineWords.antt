@@ -12,14 +12,13 @@ use Rattle.fl_order.specs.declared.body.Body.TheVariants as body
 use Rattle.fl_order.specs.declared.errno.Errno.{Errno}
 use Rattle.fl_order.specs.declared.errno.Errno.TheVariants.{ENOENT, EINTR, EBADF, EAGAIN, ENOMEM, EEXIST, ENOTDIR, EISDIR, EINVAL, ENFILE, ENOSPC, EDEADLK, ENAMETOOLONG, ENOLCK, ENOSYS, EPROTO}
 use Rattle.fl_order.specs.declared.kind.Kind.{Kind}
-use Rattle.fl_order.specs.declared.kind.Kind.TheVariants as kind
 use Rattle.fl_order.specs.declared.order.LockAsk.{LockAsk}
 use Rattle.fl_order.specs.declared.order.Order.{Order}
 use Rattle.fl_order.specs.declared.told.Answer.{Answer}
 use Rattle.fl_order.specs.declared.told.Answer.TheVariants.{Done, Entry, Attr, Open, Made, Lock}
 use Rattle.fl_order.specs.declared.told.Attr.{Attr as Attributes}
 use Rattle.fl_trace.specs.Text.{spaced, flag_text, name_text, fields_text, behind, result_text, line_text, LineFits}
-use Rattle.fl_trace.proofs.Letters.{IsWord, AreWords, literal, decimal_word, name_word}
+use Rattle.fl_trace.proofs.Letters.{IsWord, AreWords, all_letters, literal, decimal_word, name_word}
 
 -- ---- the words
 
@@ -108,22 +107,11 @@ pub flag_word : (flag : Bool) → IsWord (flag_text flag)
 flag_word true = literal (codes "1") refl
 flag_word false = literal (codes "0") refl
 
+kind_tested : (k : Kind) → all_letters 33 (word_for k) ≡ true
+kind_tested k = grind arith
+
 pub kind_word : (k : Kind) → IsWord (word_for k)
-kind_word kind.Lookup = literal (word_for kind.Lookup) refl
-kind_word kind.Forget = literal (word_for kind.Forget) refl
-kind_word kind.Getattr = literal (word_for kind.Getattr) refl
-kind_word kind.Unlink = literal (word_for kind.Unlink) refl
-kind_word kind.Open = literal (word_for kind.Open) refl
-kind_word kind.Release = literal (word_for kind.Release) refl
-kind_word kind.Flush = literal (word_for kind.Flush) refl
-kind_word kind.Init = literal (word_for kind.Init) refl
-kind_word kind.Getlk = literal (word_for kind.Getlk) refl
-kind_word kind.Setlk = literal (word_for kind.Setlk) refl
-kind_word kind.Setlkw = literal (word_for kind.Setlkw) refl
-kind_word kind.Interrupt = literal (word_for kind.Interrupt) refl
-kind_word kind.Create = literal (word_for kind.Create) refl
-kind_word kind.Destroy = literal (word_for kind.Destroy) refl
-kind_word kind.BatchForget = literal (word_for kind.BatchForget) refl
+kind_word k = literal (word_for k) (kind_tested k)
 
 fields_are : (b : Body) → FitsBody b → AreWords (field_words b)
 fields_are (body.Lock ask) f = lock_ask_are ask f

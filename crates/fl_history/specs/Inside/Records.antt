@@ -4,8 +4,6 @@ use Rattle.std.specs.List.{slice_get, AllByRecursion}
 use Rattle.fl_history.specs.declared.history.Line.{Line}
 use Rattle.fl_history.specs.declared.history.Line.TheVariants as line
 use Rattle.fl_history.specs.declared.records.Span.{Span}
-use Rattle.fl_history.specs.declared.records.LockKind.{LockKind}
-use Rattle.fl_history.specs.declared.records.LockKind.TheVariants.{Get, Set, SetAndWait}
 use Rattle.fl_history.specs.declared.records.ShortOp.{ShortOp}
 use Rattle.fl_history.specs.declared.records.ShortOp.TheVariants as short
 use Rattle.fl_history.specs.declared.records.Ask.{Ask}
@@ -13,89 +11,67 @@ use Rattle.fl_history.specs.declared.records.Answered.{Answered}
 use Rattle.fl_history.specs.declared.records.Record.{Record}
 use Rattle.fl_history.specs.declared.records.Record.TheVariants as record_of
 use Rattle.fl_order.specs.Name.{IsName}
+use Rattle.fl_order.specs.Order.{op_of}
+use Rattle.fl_order.specs.declared.body.Body.{Body}
+use Rattle.fl_order.specs.declared.body.Body.TheVariants as body
+use Rattle.fl_order.specs.declared.kind.Kind.{Kind}
 use Rattle.fl_order.specs.declared.order.Op.{Op}
-use Rattle.fl_order.specs.declared.order.Op.TheVariants as op
 use Rattle.fl_order.specs.declared.order.LockAsk.{LockAsk}
 use Rattle.fl_order.specs.declared.order.Order.{Order}
 use Rattle.fl_order.specs.declared.told.Answer.TheVariants.{Done}
 
--- the bytes of the name in what is asked, none where it names nothing
-abbrev pub name_in : Op → List ℕ
-name_in (op.Lookup name) = name
-name_in (op.Unlink name) = name
-name_in (op.Create excl mode name) = name
+-- the bytes of the name in a body, none where it names nothing
+abbrev pub name_in : Body → List ℕ
+name_in (body.Create excl mode name) = name
+name_in (body.Name name) = name
 name_in _ = []
 
 -- a lock request, kept flat
-abbrev pub short_lock : LockKind → LockAsk → ShortOp
-short_lock what a = short.Lock what a.kind a.pid a.flags a.fh a.owner a.start a.end
+abbrev pub short_lock : Kind → LockAsk → ShortOp
+short_lock kind a = short.Lock kind a.kind a.pid a.flags a.fh a.owner a.start a.end
 
--- what is asked, with a place in the names instead of the name
-abbrev pub short_op : Span → Op → ShortOp
-short_op span (op.Lookup name) = short.Lookup span
-short_op span (op.Forget n) = short.Forget n
-short_op span op.Getattr = short.Getattr
-short_op span (op.Unlink name) = short.Unlink span
-short_op span op.Open = short.Open
-short_op span (op.Release fh unlocks owner) = short.Release fh unlocks owner
-short_op span (op.Flush fh owner) = short.Flush fh owner
-short_op span (op.Create excl mode name) = short.Create excl mode span
-short_op span (op.Getlk ask) = short_lock Get ask
-short_op span (op.Setlk ask) = short_lock Set ask
-short_op span (op.Setlkw ask) = short_lock SetAndWait ask
-short_op span (op.Interrupt unique) = short.Interrupt unique
+-- a kind and a body, with a place in the names instead of the name
+abbrev pub short_op : Span → Kind → Body → ShortOp
+short_op span kind (body.Lock ask) = short_lock kind ask
+short_op span kind (body.Create excl mode name) = short.Create kind excl mode span
+short_op span kind (body.Name name) = short.Name kind span
+short_op span kind (body.Number n) = short.Number kind n
+short_op span kind (body.Flush fh owner) = short.Flush kind fh owner
+short_op span kind (body.Release fh unlocks owner) = short.Release kind unlocks fh owner
+short_op span kind body.Getattr = short.Getattr kind
+short_op span kind body.Open = short.Open kind
 
--- an order of a worker, with a place in the names instead of the name
-abbrev pub ask_of : ℕ → Order → Span → Ask
-ask_of worker o span = record {
+-- an order of a worker, with what is kept of what it asks
+abbrev pub ask_of : ℕ → Order → ShortOp → Ask
+ask_of worker o op = record {
   worker = worker;
   uid = o.uid;
   gid = o.gid;
   pid = o.pid;
   unique = o.unique;
   node = o.node;
-  op = short_op span o.op;
+  op = op;
 }
 
 -- the bytes at a place in the names
 abbrev pub bytes_at : List ℕ → Span → List ℕ
 bytes_at names span = take span.len (drop span.start names)
 
--- a lock request of a kind
-abbrev pub lock_op : LockKind → LockAsk → Op
-lock_op Get ask = op.Getlk ask
-lock_op Set ask = op.Setlk ask
-lock_op SetAndWait ask = op.Setlkw ask
+-- the kind and the body of what was asked
+abbrev pub opened_parts : List ℕ → ShortOp → Kind × Body
+opened_parts names (short.Lock what kind pid flags fh owner start end) =
+    (what, body.Lock (record { fh = fh; owner = owner; start = start; end = end; kind = kind; pid = pid; flags = flags }))
+opened_parts names (short.Create what excl mode span) = (what, body.Create excl mode (bytes_at names span))
+opened_parts names (short.Name what span) = (what, body.Name (bytes_at names span))
+opened_parts names (short.Number what n) = (what, body.Number n)
+opened_parts names (short.Flush what fh owner) = (what, body.Flush fh owner)
+opened_parts names (short.Release what unlocks fh owner) = (what, body.Release fh unlocks owner)
+opened_parts names (short.Getattr what) = (what, body.Getattr)
+opened_parts names (short.Open what) = (what, body.Open)
 
--- what was asked
-abbrev pub opened_op : List ℕ → ShortOp → Op
-opened_op names (short.Lookup span) = op.Lookup (bytes_at names span)
-opened_op names (short.Forget n) = op.Forget n
-opened_op names short.Getattr = op.Getattr
-opened_op names (short.Unlink span) = op.Unlink (bytes_at names span)
-opened_op names short.Open = op.Open
-opened_op names (short.Release fh unlocks owner) = op.Release fh unlocks owner
-opened_op names (short.Flush fh owner) = op.Flush fh owner
-opened_op names (short.Create excl mode span) = op.Create excl mode (bytes_at names span)
-opened_op names (short.Lock what kind pid flags fh owner start end) =
-    lock_op what (record { fh = fh; owner = owner; start = start; end = end; kind = kind; pid = pid; flags = flags })
-opened_op names (short.Interrupt unique) = op.Interrupt unique
-
--- the line of an order
-abbrev pub asked_line : List ℕ → Ask → Line
-asked_line names a =
-    line.Asked a.worker (record {
-      unique = a.unique;
-      node = a.node;
-      uid = a.uid;
-      gid = a.gid;
-      pid = a.pid;
-      op = opened_op names a.op;
-    })
-
--- the line of a reply that tells more than that it is done
-abbrev pub answered_line : Answered → Line
-answered_line a = line.Told (record { unique = a.unique; result = Ok a.answer })
+-- what was asked; none where no order has these parts
+abbrev pub opened_op : List ℕ → ShortOp → Option Op
+opened_op names op = op_of (opened_parts names op).0 (opened_parts names op).1
 
 -- the line of no record
 abbrev pub no_line : Line
@@ -104,6 +80,26 @@ no_line = line.Told (record { unique = 0; result = Ok Done })
 abbrev pub line_or_none : {A : Type 0} → (A → Line) → Option A → Line
 line_or_none f None = no_line
 line_or_none f (Some a) = f a
+
+-- the line of an order that asks this
+abbrev pub line_asking : Ask → Op → Line
+line_asking a op =
+    line.Asked a.worker (record {
+      unique = a.unique;
+      node = a.node;
+      uid = a.uid;
+      gid = a.gid;
+      pid = a.pid;
+      op = op;
+    })
+
+-- the line of an order
+abbrev pub asked_line : List ℕ → Ask → Line
+asked_line names a = line_or_none (line_asking a) (opened_op names a.op)
+
+-- the line of a reply that tells more than that it is done
+abbrev pub answered_line : Answered → Line
+answered_line a = line.Told (record { unique = a.unique; result = Ok a.answer })
 
 -- the line of a record
 abbrev pub opened : List Ask → List Answered → List ℕ → Record → Line
@@ -128,10 +124,15 @@ pub record IsNamed (names : List ℕ) (span : Span) : Type 0 where
 
 -- what was asked names what is there
 abbrev pub NamesAreThere : List ℕ → ShortOp → Type 0
-NamesAreThere names (short.Lookup span) = IsNamed names span
-NamesAreThere names (short.Unlink span) = IsNamed names span
-NamesAreThere names (short.Create excl mode span) = IsNamed names span
+NamesAreThere names (short.Create what excl mode span) = IsNamed names span
+NamesAreThere names (short.Name what span) = IsNamed names span
 NamesAreThere names _ = Unit {0}
+
+-- what is kept of what an order asks leads back to it
+pub record LeadsBack (names : List ℕ) (op : ShortOp) : Type 0 where
+  pub named : NamesAreThere names op
+  pub asked : Op
+  pub is : opened_op names op ≡ Some asked
 
 -- a record leads to what is there
 abbrev pub IsThere : ℕ → ℕ → Record → Type 0
@@ -142,7 +143,7 @@ IsThere asks answers _ = Unit {0}
 -- All that is kept leads to what is there.
 pub record AreKept (records : List Record) (asks : List Ask) (answers : List Answered) (names : List ℕ) : Type 0 where
   pub there : AllByRecursion (IsThere (length asks) (length answers)) records
-  pub named : AllByRecursion (λ (a : Ask). NamesAreThere names a.op) asks
+  pub back : AllByRecursion (λ (a : Ask). LeadsBack names a.op) asks
 
 -- For so many more lines memory is there, whatever they are.
 pub record HaveRoom (room records asks answers names : ℕ) : Type 0 where
