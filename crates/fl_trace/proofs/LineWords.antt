@@ -10,7 +10,8 @@ use Rattle.fl_order.specs.Sayable.{FitsBody, FitsLock, FitsResult, FitsAttr}
 use Rattle.fl_order.specs.declared.body.Body.{Body}
 use Rattle.fl_order.specs.declared.body.Body.TheVariants as body
 use Rattle.fl_order.specs.declared.errno.Errno.{Errno}
-use Rattle.fl_order.specs.declared.errno.Errno.TheVariants.{ENOENT, EINTR, EBADF, EAGAIN, ENOMEM, EEXIST, ENOTDIR, EISDIR, EINVAL, ENFILE, ENOSPC, EDEADLK, ENAMETOOLONG, ENOLCK, ENOSYS, EPROTO}
+use Rattle.fl_order.specs.declared.errno.Errno.TheVariants.{ENOENT, EINTR, EBADF, EAGAIN, ENOMEM, EEXIST, ENOTDIR, EISDIR, EINVAL, ENFILE, ENOSPC}
+use Rattle.fl_order.specs.declared.errno.Errno.TheVariants.{EDEADLK, ENAMETOOLONG, ENOLCK, ENOSYS, EPROTO}
 use Rattle.fl_order.specs.declared.kind.Kind.{Kind}
 use Rattle.fl_order.specs.declared.order.LockAsk.{LockAsk}
 use Rattle.fl_order.specs.declared.order.Order.{Order}

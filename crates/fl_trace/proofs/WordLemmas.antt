@@ -1,5 +1,6 @@
 -- Numbers' words.
-use Rattle.std.proofs.Common.{◌≡◌, ℕ, ◌<◌, ◌≤◌, ◌^◌, List, length, get_or, IfOk, Result, Ok, Err, Option, Some, None, IsSome, IfSome, IsSomeAnd, MatchOption, MatchResult, zero, suc, [], ◌∷◌, refl, sym, ◌∙◌, ap, subst, arith}
+use Rattle.std.proofs.Common.{◌≡◌, ℕ, ◌<◌, ◌≤◌, ◌^◌, List, length, get_or, IfOk, Result, Ok, Err, Option, Some, None, IsSome, IfSome, IsSomeAnd}
+use Rattle.std.proofs.Common.{MatchOption, MatchResult, zero, suc, [], ◌∷◌, refl, sym, ◌∙◌, ap, subst, arith}
 use Rattle.std.specs.Fmt.{decimal}
 use Rattle.std.specs.Int.{IsInRange}
 use Rattle.std.specs.Str.Iter.{LacksByte}
