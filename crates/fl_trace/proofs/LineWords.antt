@@ -128,22 +128,7 @@ attr_are : (a : Attributes) (more : List (List ℕ)) → FitsAttr a → AreWords
 attr_are a more f are = (decimal_word a.node f.node, (u32_word a.mode f.mode, (u32_word a.nlink f.nlink, (u32_word a.uid f.uid, (u32_word a.gid f.gid, are)))))
 
 pub number_small : (e : Errno) → number_of e < 2 ^ 32
-number_small ENOENT = lit< tt
-number_small EINTR = lit< tt
-number_small EBADF = lit< tt
-number_small EAGAIN = lit< tt
-number_small ENOMEM = lit< tt
-number_small EEXIST = lit< tt
-number_small ENOTDIR = lit< tt
-number_small EISDIR = lit< tt
-number_small EINVAL = lit< tt
-number_small ENFILE = lit< tt
-number_small ENOSPC = lit< tt
-number_small EDEADLK = lit< tt
-number_small ENAMETOOLONG = lit< tt
-number_small ENOLCK = lit< tt
-number_small ENOSYS = lit< tt
-number_small EPROTO = lit< tt
+number_small e = grind arith
 
 result_are : (told : Result Answer Errno) → FitsResult told → AreWords (result_words told)
 result_are (Ok Done) f = (literal (codes "ok") refl, tt)

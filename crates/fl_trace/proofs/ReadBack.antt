@@ -162,22 +162,7 @@ attr_back word a more f = λ i. record {
 
 -- each error is found by its number
 pub error_is_found : (e : Errno) → find (λ one. number_of one == number_of e) all_errors ≡ Some e
-error_is_found ENOENT = refl
-error_is_found EINTR = refl
-error_is_found EBADF = refl
-error_is_found EAGAIN = refl
-error_is_found ENOMEM = refl
-error_is_found EEXIST = refl
-error_is_found ENOTDIR = refl
-error_is_found EISDIR = refl
-error_is_found EINVAL = refl
-error_is_found ENFILE = refl
-error_is_found ENOSPC = refl
-error_is_found EDEADLK = refl
-error_is_found ENAMETOOLONG = refl
-error_is_found ENOLCK = refl
-error_is_found ENOSYS = refl
-error_is_found EPROTO = refl
+error_is_found e = grind arith
 
 error_back : (e : Errno) → error_of (number_of e) ≡ e
 error_back e = ap (λ found. unwrap_or found ENOENT) (error_is_found e)
