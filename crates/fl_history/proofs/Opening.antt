@@ -185,7 +185,8 @@ asked_kept records records′ asks asks′ answers names names′ worker o parts
     let inside : length asks < length asks′ = subst (λ l. length asks < length l) (sym joins) (omega (arith, length-append asks (new ∷ []))) in
     let back : LeadsBack names′ new.op = subst (λ (x : Ask). LeadsBack names′ x.op) (sym is) (leads_back names′ span o parts of there named) in
     let found : line_or_none (asked_line names′) (slice_get asks′ (length asks)) ≡ line.Asked worker o =
-    ap (λ l. line_or_none (asked_line names′) (slice_get l (length asks))) joins ∙ ap (line_or_none (asked_line names′)) (get_right asks (new ∷ []) (length asks) 0 (omega arith))
+    ap (λ l. line_or_none (asked_line names′) (slice_get l (length asks))) joins
+    ∙ ap (line_or_none (asked_line names′)) (get_right asks (new ∷ []) (length asks) 0 (omega arith))
     ∙ ap (asked_line names′) is ∙ asked_back names′ span o parts of there worker in
     subst (λ rs. AreKept rs asks′ answers names′ × (opened_all asks′ answers names′ rs ≡ opened_all asks answers names records ++ line.Asked worker o ∷ []))
     (sym last) (
@@ -193,7 +194,8 @@ asked_kept records records′ asks asks′ answers names names′ worker o parts
       one_line asks answers names asks′ answers names′ a t n records (record_of.Asked (length asks)) (line.Asked worker o) k found,
     )
 
-pub told_kept : (records records′ : List Record) (asks : List Ask) (answers answers′ : List Answered) (names : List ℕ) (r : Record) (l : Line) → AreKept records asks answers names
+pub told_kept : (records records′ : List Record) (asks : List Ask) (answers answers′ : List Answered) (names : List ℕ) (r : Record) (l : Line)
+    → AreKept records asks answers names
     → Begins answers answers′ → IsThere (length asks) (length answers′) r → opened asks answers′ names r ≡ l → records′ ≡ records ++ r ∷ []
     → AreKept records′ asks answers′ names × (opened_all asks answers′ names records′ ≡ opened_all asks answers names records ++ l ∷ [])
 told_kept records records′ asks answers answers′ names r l k t there is last =
@@ -206,7 +208,8 @@ pub line_at : (asks : List Ask) (answers : List Answered) (names : List ℕ) (re
     → slice_get (opened_all asks answers names records) i ≡ Some (opened asks answers names r)
 line_at asks answers names records i r e = slice_get-map (opened asks answers names) records i ∙ ap (option_map (opened asks answers names)) e
 
-pub there_at : (asks : List Ask) (answers : List Answered) (names : List ℕ) (records : List Record) (i : ℕ) (r : Record) → AreKept records asks answers names → slice_get records i ≡ Some r → IsThere (length asks) (length answers) r
+pub there_at : (asks : List Ask) (answers : List Answered) (names : List ℕ) (records : List Record) (i : ℕ) (r : Record)
+    → AreKept records asks answers names → slice_get records i ≡ Some r → IsThere (length asks) (length answers) r
 there_at asks answers names records i r k e = all_at (IsThere (length asks) (length answers)) records i r k.there e
 
 pub back_at : (asks : List Ask) (answers : List Answered) (names : List ℕ) (records : List Record) (i : ℕ) (a : Ask) → AreKept records asks answers names

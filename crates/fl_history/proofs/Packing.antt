@@ -58,7 +58,8 @@ module _ {A : Type 0} where
       subst (λ c′. TakesOne size len zero r (c ∷ cs) c′ x) (sym there) (record {
         long = omega (arith, p.0);
         packed = (omega (arith, p.0, length_push c x), subst (λ n. ArePacked size n cs) (rest len size (omega arith)) p.1);
-        joined_is = append_assoc c (x ∷ []) (joined cs) ∙ ap (λ (l : List A). c ++ (x ∷ l)) none ∙ sym (ap (λ (l : List A). (c ++ l) ++ x ∷ []) none ∙ ap (λ (l : List A). l ++ x ∷ []) (append-nil c));
+        joined_is = append_assoc c (x ∷ []) (joined cs) ∙ ap (λ (l : List A). c ++ (x ∷ l)) none
+            ∙ sym (ap (λ (l : List A). (c ++ l) ++ x ∷ []) none ∙ ap (λ (l : List A). l ++ x ∷ []) (append-nil c));
       })
     where
       rest : (n s : ℕ) → n + 1 ≤ s → n - s ≡ n + 1 - s
@@ -97,7 +98,8 @@ module _ {A : Type 0} where
       chunk_takes_one size len (len / size) (len % size) cs chunk x k.packed (sym (div-add-mod' len size)) (mod_below len size some)
       (chunk_with_room size len capacity cs k l) there
 
-  pub stocked_more : (size len capacity : ℕ) (cs : List (List A)) → IsStocked size cs len capacity → capacity + size < 2 ^ 63 → IsStocked size (cs ++ [] ∷ []) len (capacity + size)
+  pub stocked_more : (size len capacity : ℕ) (cs : List (List A)) → IsStocked size cs len capacity → capacity + size < 2 ^ 63
+      → IsStocked size (cs ++ [] ∷ []) len (capacity + size)
   stocked_more size len capacity cs k few = record {
     made = omega (arith, k.made, ap (λ n. n * size) (length_push cs []));
     within = omega (arith, k.within);

@@ -16,35 +16,50 @@ const _: () = prove!(size_of::<Answered>() == 48);
 /// What is kept of a line. A place is one in the vector of orders or of answers.
 #[derive(Clone, Copy, Debug)]
 pub(crate) enum Record {
+    /// An order, at this place.
     Asked(usize),
+    /// A reply that tells more than that it is done, at this place.
     Answered(usize),
+    /// A reply that tells no more than that the order with this unique is done.
     Done(u64),
+    /// A reply with an error, and its unique.
     Failed(Errno, u64),
 }
 
 /// A reply that tells more than that it is done.
 #[derive(Clone, Copy, Debug)]
 pub(crate) struct Answered {
+    /// The unique of the order that it answers.
     pub unique: u64,
+    /// What it tells.
     pub answer: Answer,
 }
 
 /// Where a name stands in the bytes of all names.
 #[derive(Clone, Copy, Debug)]
 pub(crate) struct Span {
+    /// How many bytes the name has.
     pub len: u8,
+    /// The place of its first byte, from 0.
     pub start: usize,
 }
 
 /// An order, and whose it is. Fields stand by size, since they lie in the order of the source.
 #[derive(Clone, Copy, Debug)]
 pub(crate) struct Ask {
+    /// The worker's number, from 0.
     pub worker: u32,
+    /// The user who asks.
     pub uid: u32,
+    /// The group that asks.
     pub gid: u32,
+    /// The process that asks.
     pub pid: u32,
+    /// The number by which its reply is known.
     pub unique: u64,
+    /// The node that it speaks of.
     pub node: u64,
+    /// What it asks.
     pub op: ShortOp,
 }
 

@@ -93,4 +93,8 @@ spaced_letters (word ∷ next ∷ rest) words =
     (All-cons (IsLetter 32) 32 (spaced (next ∷ rest)) (lit≤ tt, lit< tt) (spaced_letters (next ∷ rest) words.1))
 
 pub letters_utf8 : (low : ℕ) (bs : List ℕ) → AreLetters low bs → IsUtf8 bs
-letters_utf8 low bs letters = IsUtf8-from_ascii bs (λ i. elim (cases_lt i (length bs)) [ inl at ↦ (letters i 0 at).1 | inr past ↦ rw (get_or_past bs i 0 past) (lit< tt) ])
+letters_utf8 low bs letters = IsUtf8-from_ascii bs (λ i. elim (cases_lt i (length bs)) [
+  | inl at ↦ (letters i 0 at).1
+  | inr past ↦ rw
+      (get_or_past bs i 0 past) (lit< tt)
+])

@@ -77,7 +77,8 @@ result_spaced word (Err error) = refl
 -- the words with spaces between them are the text
 pub line_spaced : (line : Line) → spaced (line_words line) ≡ line_text line
 line_spaced (Asked worker o) =
-    ap (λ end. codes "ask" ++ 32 ∷ (decimal worker ++ 32 ∷ (decimal o.unique ++ 32 ∷ (decimal o.node ++ 32 ∷ (decimal o.uid ++ 32 ∷ (decimal o.gid ++ 32 ∷ (decimal o.pid ++ 32 ∷ end)))))))
+    ap (λ end. codes "ask" ++ 32 ∷ (decimal worker ++ 32 ∷ (decimal o.unique ++ 32 ∷
+    (decimal o.node ++ 32 ∷ (decimal o.uid ++ 32 ∷ (decimal o.gid ++ 32 ∷ (decimal o.pid ++ 32 ∷ end)))))))
     (body_spaced (word_for (kind_of o.op)) (body_of o.op))
 line_spaced (Told told) = ap (λ end. codes "tell" ++ 32 ∷ end) (result_spaced (decimal told.unique) told.result)
 

@@ -15,14 +15,16 @@ at_newline line rest lacks =
     let within : length line < length (line ++ 10 ∷ rest) = omega (arith, length-append line (10 ∷ rest)) in
     let first : position_or_len (λ b. b == 10) (line ++ 10 ∷ rest) ≡ length line =
     position_or_len_is (λ b. b == 10) (line ++ 10 ∷ rest) (length line) 0 (omega arith)
-    (λ k below. rw (get_or_append_left line (10 ∷ rest) 0 k below) (ne_eqb (get_or line k 0) 10 (lacks k below))) (λ _. rw (get_or-append_seam line 10 rest 0) refl) in
+    (λ k below. rw (get_or_append_left line (10 ∷ rest) 0 k below) (ne_eqb (get_or line k 0) 10 (lacks k below)))
+    (λ _. rw (get_or-append_seam line 10 rest 0) refl) in
     rw (first, lt-ltb (length line) (length (line ++ 10 ∷ rest)) within) refl
 
 -- all of what is left
 rest_whole : (text : List ℕ) (n : ℕ) → take (length text - n) (drop n text) ≡ drop n text
 rest_whole text n = take_all (length text - n) (drop n text) (omega (arith, length-drop n text))
 
-pub cut_at_newline : (text : List ℕ) (end : ℕ) → position (λ b. b == 10) text ≡ Some end → text ≡ take end text ++ 10 ∷ take (length text - (end + 1)) (drop (end + 1) text)
+pub cut_at_newline : (text : List ℕ) (end : ℕ) → position (λ b. b == 10) text ≡ Some end
+    → text ≡ take end text ++ 10 ∷ take (length text - (end + 1)) (drop (end + 1) text)
 cut_at_newline text end found =
     let at = position-Some (λ b. b == 10) text end 0 found in
     let byte : get_or text end 0 ≡ 10 = eqb-true (get_or text end 0) 10 at.1 in

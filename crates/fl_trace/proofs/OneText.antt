@@ -20,7 +20,8 @@ first_of text = head_of (slice_split (λ b. eqb b 10) text)
 
 first_is : (line : Line) (after : List ℕ) → LineFits line → first_of (line_text line ++ 10 ∷ after) ≡ line_text line
 unfolding first_of head_of
-first_is line after fits = ap head_of (slice_split_at (λ b. eqb b 10) (line_text line) 10 after (no_low 32 10 (line_text line) (line_letters line fits) (lit< tt)) refl)
+first_is line after fits = ap head_of (slice_split_at (λ b. eqb b 10) (line_text line) 10 after
+    (no_low 32 10 (line_text line) (line_letters line fits) (lit< tt)) refl)
 
 -- the first lines of a text are one
 pub first_alone : (line other : Line) (after later : List ℕ) → LineFits line → LineFits other → line_text line ++ 10 ∷ after ≡ line_text other ++ 10 ∷ later
@@ -42,14 +43,16 @@ abbrev pub IsBad : List ℕ → Type 0
 IsBad rest = (line : Line) (after : List ℕ) → LineFits line → rest ≡ line_text line ++ 10 ∷ after → ⊥
 
 -- lines and a rest that no line begins are found again
-pub fronts_alone : (lines others : List Line) (rest left : List ℕ) → Fits lines → Fits others → IsBad rest → IsBad left → text_of lines ++ rest ≡ text_of others ++ left → lines ≡ others
+pub fronts_alone : (lines others : List Line) (rest left : List ℕ) → Fits lines → Fits others → IsBad rest → IsBad left
+    → text_of lines ++ rest ≡ text_of others ++ left → lines ≡ others
 fronts_alone [] [] rest left fits also bad broken e = refl
 fronts_alone [] (other ∷ others) rest left fits also bad broken e =
     absurd (bad other (text_of others ++ left) (All-head LineFits other others also) (e ∙ first_line other others left))
 fronts_alone (line ∷ lines) [] rest left fits also bad broken e =
     absurd (broken line (text_of lines ++ rest) (All-head LineFits line lines fits) (sym e ∙ first_line line lines rest))
 fronts_alone (line ∷ lines) (other ∷ others) rest left fits also bad broken e =
-    let first = first_alone line other (text_of lines ++ rest) (text_of others ++ left) (All-head LineFits line lines fits) (All-head LineFits other others also)
+    let first = first_alone line other (text_of lines ++ rest) (text_of others ++ left) (All-head LineFits line lines fits)
+    (All-head LineFits other others also)
     (sym (first_line line lines rest) ∙ e ∙ first_line other others left) in
     let more = fronts_alone lines others rest left (All-tail LineFits line lines fits) (All-tail LineFits other others also) bad broken first.1 in
     λ i. first.0 i ∷ more i
@@ -59,16 +62,19 @@ nothing_bad : IsBad []
 nothing_bad line after fits e = let n = ap length e in absurd (omega (arith, length-append (line_text line) (10 ∷ after)))
 
 pub texts_alone : (lines others : List Line) → Fits lines → Fits others → text_of lines ≡ text_of others → lines ≡ others
-texts_alone lines others fits also e = fronts_alone lines others [] [] fits also nothing_bad nothing_bad (append-nil (text_of lines) ∙ e ∙ sym (append-nil (text_of others)))
+texts_alone lines others fits also e = fronts_alone lines others [] [] fits also nothing_bad nothing_bad (append-nil (text_of lines) ∙ e
+    ∙ sym (append-nil (text_of others)))
 
 pub breaks_once : (text : List ℕ) (m n : ℕ) → BreaksAt LineFits text m → BreaksAt LineFits text n → m ≡ n
-breaks_once text m n b d = b.number ∙ ap (λ (lines : List Line). length lines + 1) (fronts_alone b.front d.front b.rest d.rest b.good d.good b.bad d.bad (sym b.parts ∙ d.parts)) ∙ sym d.number
+breaks_once text m n b d = b.number ∙ ap (λ (lines : List Line). length lines + 1)
+    (fronts_alone b.front d.front b.rest d.rest b.good d.good b.bad d.bad (sym b.parts ∙ d.parts)) ∙ sym d.number
 
 -- no text of lines that fit breaks
 pub breaks_never : (lines : List Line) (n : ℕ) → Fits lines → BreaksAt LineFits (text_of lines) n → ⊥
 breaks_never lines n fits b =
     let same : lines ≡ b.front = fronts_alone lines b.front [] b.rest fits b.good nothing_bad b.bad (append-nil (text_of lines) ∙ b.parts) in
-    let none : [] ≡ b.rest = append_cancel_left (text_of lines) [] b.rest (append-nil (text_of lines) ∙ b.parts ∙ ap (λ (l : List Line). text_of l ++ b.rest) (sym same)) in
+    let none : [] ≡ b.rest = append_cancel_left (text_of lines) [] b.rest (append-nil (text_of lines) ∙ b.parts
+    ∙ ap (λ (l : List Line). text_of l ++ b.rest) (sym same)) in
     let len = ap length none in
     let more = b.more in
     absurd (omega arith)

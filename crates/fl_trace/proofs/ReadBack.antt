@@ -53,7 +53,15 @@ abbrev pub name_of : List ℕ → List ℕ
 name_of word = result_unwrap_or (decode_of word) []
 
 abbrev pub lock_ask_of : List (List ℕ) → LockAsk
-lock_ask_of ws = record { fh = number_at ws 0; owner = number_at ws 1; start = number_at ws 2; end = number_at ws 3; kind = number_at ws 4; pid = number_at ws 5; flags = number_at ws 6 }
+lock_ask_of ws = record {
+  fh = number_at ws 0;
+  owner = number_at ws 1;
+  start = number_at ws 2;
+  end = number_at ws 3;
+  kind = number_at ws 4;
+  pid = number_at ws 5;
+  flags = number_at ws 6;
+}
 
 abbrev pub body_of_words : Result Shape Refusal → List (List ℕ) → Body
 body_of_words (Ok shape.Create) ws = body.Create (bytes_eq (word_at ws 0) (codes "1")) (number_at ws 1) (name_of (word_at ws 2))
@@ -92,7 +100,14 @@ result_of ws =
     else Err (error_of (number_at ws 1))
 
 abbrev pub order_of : List (List ℕ) → Order
-order_of ws = record { unique = number_at ws 2; node = number_at ws 3; uid = number_at ws 4; gid = number_at ws 5; pid = number_at ws 6; op = unwrap_or (op_of_words (kind_of_word (word_at ws 7)) (drop 8 ws)) (Getlk (lock_ask_of ws)) }
+order_of ws = record {
+  unique = number_at ws 2;
+  node = number_at ws 3;
+  uid = number_at ws 4;
+  gid = number_at ws 5;
+  pid = number_at ws 6;
+  op = unwrap_or (op_of_words (kind_of_word (word_at ws 7)) (drop 8 ws)) (Getlk (lock_ask_of ws));
+}
 
 abbrev pub line_of_words : List (List ℕ) → Line
 line_of_words ws =

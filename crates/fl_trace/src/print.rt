@@ -1,3 +1,5 @@
+//! The text of a history, printed line by line.
+
 ghost use Rattle.std.specs.Prelude.{◌≡◌, ◌++◌, ◌∷◌, [], ◌↔◌, IsTrue, IfOk, OnOk, string_bytes};
 ghost use Rattle.fl_history.specs.declared.history.Line.TheVariants.{Asked, Told as Reply};
 ghost use Rattle.fl_order.specs.Sayable.{FitsBody, FitsTold, IsSayable};

@@ -8,4 +8,5 @@ returns-in_err-word-clause-only c = λ line fits e.
 
 pub returns-in_default-clause-only : goal.returns-in_default-clause-only
 returns-in_default-clause-only c = λ line fits e.
-    absurd (no_line c.args.text.now c.in_ok-word.word.now (λ word rest lacks parts. (c.in_ok-word.ensures.only word rest lacks parts).0) c.in_default.not-ask c.in_default.not-tell line e)
+    absurd (no_line c.args.text.now c.in_ok-word.word.now (λ word rest lacks parts. (c.in_ok-word.ensures.only word rest lacks parts).0)
+    c.in_default.not-ask c.in_default.not-tell line e)

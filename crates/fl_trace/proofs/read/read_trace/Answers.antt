@@ -9,7 +9,8 @@ pub returns-in_default-clause-only : goal.returns-in_default-clause-only
 returns-in_default-clause-only c = λ lines fits e.
     let more : 0 < length c.loop-rest.rest.now = grind (arith, common_steps) in
     let number : c.len.result + 1 ≡ length c.loop-rest.history + 1 = grind (arith, common_steps) in
-    let broken = breaks c.args.text.now c.loop-rest.rest.now c.loop-rest.history (c.len.result + 1) c.loop-rest.invariant more number c.in_default.ensures.only in
+    let broken = breaks c.args.text.now c.loop-rest.rest.now c.loop-rest.history
+    (c.len.result + 1) c.loop-rest.invariant more number c.in_default.ensures.only in
     absurd (breaks_never lines (c.len.result + 1) fits (subst (λ (text : List ℕ). BreaksAt LineFits text (c.len.result + 1)) e broken))
 
 pub loop-rest-preserved : goal.loop-rest-preserved

@@ -18,4 +18,5 @@ cut_there text word first rest (Some more) lacks e parts only = let same = only 
 
 pub returns-in-Some-clause-only : goal.returns-in-Some-clause-only
 returns-in-Some-clause-only c = λ word fields lacks e.
-    cut_there c.args.text.now word c.in-Some.word.now c.in-Some.rest.now fields lacks e c.in-Some.ensures.parts (λ more also. c.in-Some.ensures.only word more lacks also)
+    cut_there c.args.text.now word c.in-Some.word.now c.in-Some.rest.now fields lacks e c.in-Some.ensures.parts
+    (λ more also. c.in-Some.ensures.only word more lacks also)

@@ -7,7 +7,16 @@ use Rattle.fl_history.proofs.chunks.ChunkedVec.copy_from.Goals as goal
 pub overflow_add-start : goal.overflow_add-start
 overflow_add-start g c =
     let s = c.self.inside in
-    omega (arith, c.requires, c.loop-i-test.true, c.loop-i.invariant.long, packed_length 4096 s.len s.chunks.items c.self.invariant.packed, ap (λ v. length v.items) c.self.view_is, c.self.invariant.within, c.self.invariant.few)
+    omega (
+      arith,
+      c.requires,
+      c.loop-i-test.true,
+      c.loop-i.invariant.long,
+      packed_length 4096 s.len s.chunks.items c.self.invariant.packed,
+      ap (λ v. length v.items) c.self.view_is,
+      c.self.invariant.within,
+      c.self.invariant.few,
+    )
 
 pub loop-i-preserved : goal.loop-i-preserved
 loop-i-preserved g c =

@@ -7,7 +7,12 @@ use Rattle.fl_history.proofs.chunks.ChunkedVec.push.Goals as goal
 pub index_mut-requires : goal.index_mut-requires
 index_mut-requires g c =
     let s = c.self.inside in
-    omega (arith, s.chunks.ok.0, chunk_with_room 4096 s.len s.capacity s.chunks.items c.self.invariant (omega (arith, c.requires, ap (λ v. v.room) c.self.view_is)))
+    omega (
+      arith,
+      s.chunks.ok.0,
+      chunk_with_room 4096 s.len s.capacity s.chunks.items c.self.invariant
+          (omega (arith, c.requires, ap (λ v. v.room) c.self.view_is)),
+    )
 
 pub push-requires : goal.push-requires
 push-requires g c =
@@ -22,7 +27,12 @@ invariant_of-self g c =
     let l : s.len < s.capacity = omega (arith, c.requires, ap (λ v. v.room) c.self.view_is) in
     let w = takes_one 4096 s.len s.capacity s.chunks.items c.index_mut.result.now c.args.item (omega arith) c.self.invariant l c.index_mut.ensures.value in
     subst (λ x. IsStocked 4096 (slice_set s.chunks.items (s.len / 4096) x) (s.len + 1) s.capacity) (sym c.push.ensures)
-    (record { made = omega (arith, c.self.invariant.made, length-set s.chunks.items (s.len / 4096) (c.index_mut.result.now ++ c.args.item ∷ [])); within = omega arith; few = c.self.invariant.few; packed = w.packed })
+    (record {
+      made = omega (arith, c.self.invariant.made, length-set s.chunks.items (s.len / 4096) (c.index_mut.result.now ++ c.args.item ∷ []));
+      within = omega arith;
+      few = c.self.invariant.few;
+      packed = w.packed;
+    })
 
 pub returns-clause-items : goal.returns-clause-items
 returns-clause-items g c =

@@ -1,4 +1,4 @@
-use Rattle.std.proofs.Common.{◌∙◌, ◌≡◌, ◌++◌, ◌∷◌, [], ap, arith}
+use Rattle.std.proofs.Common.{◌∙◌, ◌++◌, ◌∷◌, [], ap, arith}
 use Rattle.fl_history.specs.declared.history.Line.TheVariants.{Asked}
 use Rattle.fl_history.specs.declared.records.Record.TheVariants as record_of
 use Rattle.fl_history.specs.Inside.Records.{ask_of}

@@ -8,7 +8,8 @@ invariant_of-self c =
     let s = c.self.inside in
     let k = c.keep_told-record in
     let room = c.self.invariant.1 in (
-      (told_kept s.records.items c.push.new.self.items s.asks.items s.answers.items k.new.answers.items s.names.items k.result (Reply c.args.told.now) c.self.invariant.0
+      (told_kept s.records.items c.push.new.self.items s.asks.items s.answers.items k.new.answers.items s.names.items k.result
+          (Reply c.args.told.now) c.self.invariant.0
           k.ensures.answers (k.ensures.there (length s.asks.items)) (k.ensures.opened s.asks.items s.names.items) c.push.ensures.items).0,
       record {
         for_records = omega (arith, c.push.ensures.room, room.for_records);
@@ -22,6 +23,7 @@ pub returns-clause-items : goal.returns-clause-items
 returns-clause-items c =
     let s = c.self.inside in
     let k = c.keep_told-record in
-    (told_kept s.records.items c.push.new.self.items s.asks.items s.answers.items k.new.answers.items s.names.items k.result (Reply c.args.told.now) c.self.invariant.0
+    (told_kept s.records.items c.push.new.self.items s.asks.items s.answers.items k.new.answers.items s.names.items k.result
+    (Reply c.args.told.now) c.self.invariant.0
     k.ensures.answers (k.ensures.there (length s.asks.items)) (k.ensures.opened s.asks.items s.names.items) c.push.ensures.items).1
     ∙ ap (λ v. v.items ++ Reply c.args.told.now ∷ []) c.self.view_is
