@@ -1,5 +1,5 @@
 -- The words of a line: the text of the line is these, with spaces between them.
-use Rattle.std.proofs.Common.{◌≡◌, ℕ, ◌<◌, ◌^◌, Bool, true, false, List, [], ◌∷◌, ◌++◌, codes, Result, Ok, Err, refl, sym, ap, arith, lit<, append-nil}
+use Rattle.std.proofs.Common.{◌≡◌, ℕ, ◌<◌, ◌^◌, Bool, true, false, List, [], ◌∷◌, ◌++◌, codes, Result, Ok, Err, refl, sym, ap, arith, append-nil}
 use Rattle.std.specs.Fmt.{decimal}
 use Rattle.fl_history.specs.declared.history.Line.{Line}
 use Rattle.fl_history.specs.declared.history.Line.TheVariants.{Asked, Told}
@@ -10,8 +10,6 @@ use Rattle.fl_order.specs.Sayable.{FitsBody, FitsLock, FitsResult, FitsAttr}
 use Rattle.fl_order.specs.declared.body.Body.{Body}
 use Rattle.fl_order.specs.declared.body.Body.TheVariants as body
 use Rattle.fl_order.specs.declared.errno.Errno.{Errno}
-use Rattle.fl_order.specs.declared.errno.Errno.TheVariants.{ENOENT, EINTR, EBADF, EAGAIN, ENOMEM, EEXIST, ENOTDIR, EISDIR, EINVAL, ENFILE, ENOSPC}
-use Rattle.fl_order.specs.declared.errno.Errno.TheVariants.{EDEADLK, ENAMETOOLONG, ENOLCK, ENOSYS, EPROTO}
 use Rattle.fl_order.specs.declared.kind.Kind.{Kind}
 use Rattle.fl_order.specs.declared.order.LockAsk.{LockAsk}
 use Rattle.fl_order.specs.declared.order.Order.{Order}
