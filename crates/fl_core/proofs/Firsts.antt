@@ -2,10 +2,11 @@
 use Rattle.std.proofs.Common.{◌≡◌, ◌≢◌, ◌↔◌, ℕ, ◌==◌, ◌≤◌, ◌<◌, nat_le, Bool, true, false, cond, ◌||◌, Option, Some, None, Ok, Err, List, [], ◌∷◌, ◌++◌, append-nil, length, map, refl, sym, ap, ◌∙◌, subst, arith}
 use Rattle.std.proofs.lemmas.Bool.Decides.{nat_tests}
 use Rattle.std.specs.List.{filter, AllByRecursion}
-use Rattle.fl_core.specs.First.{IsWaiter, IsNew, is_alone, own, request_of, IsAnswered, IsFirst}
+use Rattle.fl_core.specs.First.{IsWaiter, IsNew, is_alone, own, IsAnswered, IsFirst}
 use Rattle.fl_core.specs.First.{alone, not_open, closes, interrupts, interrupts_none, fails, is_free, closes_one, is_one_too_many, waits_now}
 use Rattle.fl_core.specs.First.{forget_of_a_waiter, as_a_waiter, as_no_waiter}
 use Rattle.fl_core.specs.Circle.{ClosesCircle}
+use Rattle.fl_core.specs.Effects.{request_of}
 use Rattle.fl_core.specs.Replies.{ask_error, is_deadlock, reply_to, taken_reply, own_replies, ended_with, ended_all, ended_by, first_told, at_once_unless}
 use Rattle.fl_core.specs.LockRequest.{mark_of, stroke_of}
 use Rattle.fl_core.specs.Settling.{grant_reply}
@@ -21,8 +22,7 @@ use Rattle.fl_order.specs.declared.told.Answer.TheVariants.{Done}
 use Rattle.fl_order.specs.declared.told.Told.{Told}
 use Rattle.fl_order.specs.declared.order.LockAsk.{LockAsk}
 use Rattle.fl_order.specs.declared.order.Op.{Op}
-use Rattle.fl_order.specs.declared.order.Op.TheVariants.{Lookup, Forget, Getattr, Unlink, Open, Release, Flush}
-use Rattle.fl_order.specs.declared.order.Op.TheVariants.{Create, Getlk, Setlk, Setlkw, Interrupt}
+use Rattle.fl_order.specs.declared.order.Op.TheVariants.{Forget, Release, Setlkw, Interrupt}
 use Rattle.fl_order.specs.declared.order.Order.{Order}
 
 only_false : (b : Bool) → (b ≡ true → ⊥) → b ≡ false
@@ -137,21 +137,12 @@ lock_is p order ask e conflict deadlock full fault c d f =
     ∙ (λ i. lock_told p order ask (fault i) (c i) (d i) (f i))
 
 answered_so : (p : Snapshot) (order : Order) → AreApart p.view.parked → (op : Op) → IsAnswered p order op (told_of p order op)
-answered_so p order apart (Lookup name) = alone (Lookup name) refl
-answered_so p order apart (Forget n) = alone (Forget n) refl
-answered_so p order apart Getattr = alone Getattr refl
-answered_so p order apart (Unlink name) = alone (Unlink name) refl
-answered_so p order apart Open = alone Open refl
 answered_so p order apart (Release fh unlocks owner) = go (is_open_on p.view.directory fh order.node) refl
   where
     go : (b : Bool) → is_open_on p.view.directory fh order.node ≡ b
         → let reply = Some (cond b (Ok Done) (Err EBADF)) in IsAnswered p order (Release fh unlocks owner) (own_replies order reply ++ ended_by p.view.parked (Release fh unlocks owner) reply)
     go true e = closes fh unlocks owner e
     go false e = not_open fh unlocks owner e
-answered_so p order apart (Flush fh owner) = alone (Flush fh owner) refl
-answered_so p order apart (Create excl mode name) = alone (Create excl mode name) refl
-answered_so p order apart (Getlk ask) = alone (Getlk ask) refl
-answered_so p order apart (Setlk ask) = alone (Setlk ask) refl
 answered_so p order apart (Setlkw ask) =
     subst (IsAnswered p order (Setlkw ask)) (sym (lock_is p order ask _ _ _ _ refl refl refl refl)) (lock_answered p order ask _ _ _ _ refl refl refl refl)
 answered_so p order apart (Interrupt u) = go (is_parked u p.view.parked) refl
@@ -162,20 +153,13 @@ answered_so p order apart (Interrupt u) = go (is_parked u p.view.parked) refl
         let w = waiter_of u p.view.parked e in
         subst (IsAnswered p order (Interrupt u)) (sym (interrupted u p.view.parked w.0 apart w.1)) (interrupts u w.0 w.1)
     go false e = interrupts_none u (none_of u p.view.parked e)
+answered_so p order apart op = alone op refl
 
 alone_is : (p : Snapshot) (order : Order) (op : Op) → is_alone op ≡ true → told_of p order op ≡ own_replies order (reply_to p.view p.marking order op)
-alone_is p order (Lookup name) a = refl
-alone_is p order (Forget n) a = refl
-alone_is p order Getattr a = refl
-alone_is p order (Unlink name) a = refl
-alone_is p order Open a = refl
 alone_is p order (Release fh unlocks owner) a = absurd (cc a)
-alone_is p order (Flush fh owner) a = refl
-alone_is p order (Create excl mode name) a = refl
-alone_is p order (Getlk ask) a = refl
-alone_is p order (Setlk ask) a = refl
 alone_is p order (Setlkw ask) a = absurd (cc a)
 alone_is p order (Interrupt u) a = absurd (cc a)
+alone_is p order op a = refl
 
 told_so : {p : Snapshot} {order : Order} {op : Op} {tolds : List Told} → AreApart p.view.parked → IsAnswered p order op tolds → told_of p order op ≡ tolds
 told_so {p} {order} apart (alone op a) = alone_is p order op a
@@ -208,18 +192,8 @@ pub data ForgetOrNot (op : Op) : Type 0 where
   other : ((n : ℕ) → op ≢ Forget n) → taken_reply op ≡ Some (Err EINVAL) → ForgetOrNot op
 
 forget_or_not : (op : Op) → ForgetOrNot op
-forget_or_not (Lookup name) = other (λ n e. cc e) refl
 forget_or_not (Forget n) = forgets n refl
-forget_or_not Getattr = other (λ n e. cc e) refl
-forget_or_not (Unlink name) = other (λ n e. cc e) refl
-forget_or_not Open = other (λ n e. cc e) refl
-forget_or_not (Release fh unlocks owner) = other (λ n e. cc e) refl
-forget_or_not (Flush fh owner) = other (λ n e. cc e) refl
-forget_or_not (Create excl mode name) = other (λ n e. cc e) refl
-forget_or_not (Getlk ask) = other (λ n e. cc e) refl
-forget_or_not (Setlk ask) = other (λ n e. cc e) refl
-forget_or_not (Setlkw ask) = other (λ n e. cc e) refl
-forget_or_not (Interrupt u) = other (λ n e. cc e) refl
+forget_or_not op = other (λ n e. cc e) refl
 
 first_so : (p : Snapshot) (order : Order) → AreApart p.view.parked → IsFirst p order (first_told p order)
 first_so p order apart = go (is_parked order.unique p.view.parked) refl

@@ -1,27 +1,27 @@
 -- A whole step: its replies, and what they change.
-use Rattle.std.proofs.Common.{◌≡◌, ◌≢◌, ℕ, Bool, true, false, cond, Option, Some, None, Result, Ok, Err, List, [], ◌∷◌, ◌++◌, append_assoc, append-nil, map, length, suc, ◌+◌, ◌≤◌, refl, sym, ap, ◌∙◌, subst, arith}
+use Rattle.std.proofs.Common.{◌≡◌, ◌≢◌, ℕ, Bool, true, false, cond, Option, Some, None, Result, Err, List, [], ◌∷◌, ◌++◌, append_assoc, append-nil, map, length, suc, ◌+◌, ◌≤◌, refl, sym, ap, ◌∙◌, subst, arith}
 use Rattle.std.specs.List.{filter, AllByRecursion}
-use Rattle.fl_core.specs.Effects.{Effect, leaving, answered, unanswered, by_reply, at_once, replied, made}
-use Rattle.fl_core.specs.Inside.Parts.{left_by, with_parked}
-use Rattle.fl_core.specs.Inside.Touched.{concerns_request, touched_by, OthersWait}
-use Rattle.fl_core.specs.Replies.{taken_reply, reply_to, own_reply, own_replies, ended_with, ended_all, ended_by, ended, first_told}
+use Rattle.fl_core.specs.Effects.{Effect, leaving, answered, unanswered, request_of, waited_for, with_waiter, by_reply, at_once, replied, made}
+use Rattle.fl_core.specs.Inside.Parts.{left_by, left_if, with_parked}
+use Rattle.fl_core.specs.Inside.Touched.{concerns_request, OthersWait}
+use Rattle.fl_core.specs.Replies.{taken_reply, reply_to, own_reply, own_replies, ended_with, ended_all, ending_of, error_of, picks, ended_if, ended_by, ended, first_told}
 use Rattle.fl_core.specs.Settling.{Settled, present}
-use Rattle.fl_core.specs.State.{View, Snapshot}
+use Rattle.fl_core.specs.State.{Snapshot}
 use Rattle.fl_core.specs.Step.{after_first, settling, replies, with_present, next}
 use Rattle.fl_core.specs.Waiting.{is_parked, waits, AllWait, AreApart}
+use Rattle.fl_core.specs.declared.ending.Ending.{Ending}
 use Rattle.fl_core.specs.declared.parked.Request.{Request}
 use Rattle.fl_core.specs.declared.settling.Touched.{Touched}
-use Rattle.fl_core.specs.declared.settling.Touched.TheVariants.{Nothing}
 use Rattle.fl_core.proofs.Effects.{made_all, made_all-append, made_replied, AreOthers}
 use Rattle.fl_core.proofs.Readings.{settled_read, ended_read}
 use Rattle.fl_core.proofs.Settlings.{settled_none}
 use Rattle.fl_core.proofs.Taken.{all_passing, apart_more, apart_passing, none_of, one_longer}
 use Rattle.fl_order.specs.Order.{only_reads}
 use Rattle.fl_order.specs.declared.errno.Errno.{Errno}
-use Rattle.fl_order.specs.declared.errno.Errno.TheVariants.{EINTR, EBADF, EINVAL}
+use Rattle.fl_order.specs.declared.errno.Errno.TheVariants.{EINVAL}
 use Rattle.fl_order.specs.declared.order.Op.{Op}
-use Rattle.fl_order.specs.declared.order.Op.TheVariants.{Lookup, Forget, Getattr, Unlink, Open, Release, Flush}
-use Rattle.fl_order.specs.declared.order.Op.TheVariants.{Create, Getlk, Setlk, Setlkw, Interrupt}
+use Rattle.fl_order.specs.declared.order.LockAsk.{LockAsk}
+use Rattle.fl_order.specs.declared.order.Op.TheVariants.{Getattr, Getlk, Setlkw}
 use Rattle.fl_order.specs.declared.order.Order.{Order}
 use Rattle.fl_order.specs.declared.told.Answer.{Answer}
 use Rattle.fl_order.specs.declared.told.Told.{Told}
@@ -37,58 +37,24 @@ ended_others u e test (r ∷ parked) all = go (test r) (ended_others u e test pa
     go true rest = (all.0, rest)
     go false rest = rest
 
-ended_apart : (u : ℕ) (parked : List Request) → AllByRecursion (λ (r : Request). r.unique ≢ u) parked → (op : Op) (own : Option (Result Answer Errno)) → AreOthers u (ended_by parked op own)
-ended_apart u parked all (Lookup name) own = tt
-ended_apart u parked all (Forget n) own = tt
-ended_apart u parked all Getattr own = tt
-ended_apart u parked all (Unlink name) own = tt
-ended_apart u parked all Open own = tt
-ended_apart u parked all (Release fh unlocks owner) None = tt
-ended_apart u parked all (Release fh unlocks owner) (Some (Ok answer)) = ended_others u EBADF _ parked all
-ended_apart u parked all (Release fh unlocks owner) (Some (Err e)) = tt
-ended_apart u parked all (Flush fh owner) own = tt
-ended_apart u parked all (Create excl mode name) own = tt
-ended_apart u parked all (Getlk ask) own = tt
-ended_apart u parked all (Setlk ask) own = tt
-ended_apart u parked all (Setlkw ask) own = tt
-ended_apart u parked all (Interrupt unique) None = ended_others u EINTR _ parked all
-ended_apart u parked all (Interrupt unique) (Some reply) = tt
+ended_apart : (u : ℕ) (parked : List Request) → AllByRecursion (λ (r : Request). r.unique ≢ u) parked → (ending : Option Ending) → AreOthers u (ended_if ending parked)
+ended_apart u parked all None = tt
+ended_apart u parked all (Some ending) = ended_others u (error_of ending) (picks ending) parked all
 
 -- the replies that end requests are read as their ends
-ends_read : (s : Snapshot) → AreApart s.view.parked → (op : Op) (own : Option (Result Answer Errno)) → made_all (ended_by s.view.parked op own) s ≡ with_parked (left_by s.view.parked op own) s
-ends_read s apart (Lookup name) own = refl
-ends_read s apart (Forget n) own = refl
-ends_read s apart Getattr own = refl
-ends_read s apart (Unlink name) own = refl
-ends_read s apart Open own = refl
-ends_read s apart (Release fh unlocks owner) None = refl
-ends_read s apart (Release fh unlocks owner) (Some (Ok answer)) = ended_read EBADF _ s apart
-ends_read s apart (Release fh unlocks owner) (Some (Err e)) = refl
-ends_read s apart (Flush fh owner) own = refl
-ends_read s apart (Create excl mode name) own = refl
-ends_read s apart (Getlk ask) own = refl
-ends_read s apart (Setlk ask) own = refl
-ends_read s apart (Setlkw ask) own = refl
-ends_read s apart (Interrupt unique) None = ended_read EINTR _ s apart
-ends_read s apart (Interrupt unique) (Some reply) = refl
+ends_read : (s : Snapshot) → AreApart s.view.parked → (ending : Option Ending) → made_all (ended_if ending s.view.parked) s ≡ with_parked (left_if ending s.view.parked) s
+ends_read s apart None = refl
+ends_read s apart (Some ending) = ended_read (error_of ending) (picks ending) s apart
+
+-- an order that waits ends no request
+ends_or_waits : (order : Order) (parked : List Request) (op : Op) → ended_by (with_waiter order (waited_for op) parked) op None ≡ ended_by parked op None
+ends_or_waits order parked (Setlkw ask) = refl
+ends_or_waits order parked op = refl
 
 -- an order ends the same requests whether it made its change already
-ends_alike : (order : Order) (p : Snapshot) (own : Option (Result Answer Errno)) (op : Op) → order.op ≡ op → ended_by (made (by_reply order own) p).view.parked op own ≡ ended_by p.view.parked op own
-ends_alike order p own (Lookup name) is = refl
-ends_alike order p own (Forget n) is = refl
-ends_alike order p own Getattr is = refl
-ends_alike order p own (Unlink name) is = refl
-ends_alike order p own Open is = refl
-ends_alike order p None (Release fh unlocks owner) is = refl
-ends_alike order p (Some (Ok answer)) (Release fh unlocks owner) is = ap (λ o. ended_by (made (answered order o (Ok answer)) p).view.parked (Release fh unlocks owner) (Some (Ok answer))) is
-ends_alike order p (Some (Err e)) (Release fh unlocks owner) is = refl
-ends_alike order p own (Flush fh owner) is = refl
-ends_alike order p own (Create excl mode name) is = refl
-ends_alike order p own (Getlk ask) is = refl
-ends_alike order p own (Setlk ask) is = refl
-ends_alike order p own (Setlkw ask) is = refl
-ends_alike order p None (Interrupt unique) is = ap (λ o. ended_by (made (unanswered order o) p).view.parked (Interrupt unique) None) is
-ends_alike order p (Some reply) (Interrupt unique) is = refl
+ends_alike : (order : Order) (p : Snapshot) (own : Option (Result Answer Errno)) → ended_by (made (by_reply order own) p).view.parked order.op own ≡ ended_by p.view.parked order.op own
+ends_alike order p None = ends_or_waits order p.view.parked order.op
+ends_alike order p (Some reply) = refl
 
 abbrev made_by : Effect → Snapshot → Snapshot
 made_by e p = record { view = e.view; marking = after_changes e.changes p.marking }
@@ -114,14 +80,14 @@ module _ (order : Order) (p : Snapshot) where
       rest = (settling q).tolds
 
       ends_are : ended_by s.view.parked order.op own ≡ ends
-      ends_are = ap (λ (t : Snapshot). ended_by t.view.parked order.op own) s_is ∙ ends_alike order p own order.op refl
+      ends_are = ap (λ (t : Snapshot). ended_by t.view.parked order.op own) s_is ∙ ends_alike order p own
 
       others : own ≡ None → AreOthers order.unique ends
-      others none = ended_apart order.unique p.view.parked (none_of order.unique p.view.parked fresh) order.op own
+      others none = ended_apart order.unique p.view.parked (none_of order.unique p.view.parked fresh) (ending_of order.op own)
 
       read : made_all ends (made (at_once order own) p) ≡ q
       read =
-          ap (made_all ends) (changed_is ∙ sym s_is) ∙ ap (λ xs. made_all xs s) (sym ends_are) ∙ ends_read s apart_s order.op own ∙ sym q_is
+          ap (made_all ends) (changed_is ∙ sym s_is) ∙ ap (λ xs. made_all xs s) (sym ends_are) ∙ ends_read s apart_s (ending_of order.op own) ∙ sym q_is
 
       after_is : after_first p order ≡ q
       after_is = ap (λ xs. made (replied order xs) p) first_is ∙ made_replied order own ends p others ∙ read
@@ -174,182 +140,58 @@ module _ (order : Order) (p : Snapshot) where
     pub refused_read : made (replied order (replies p order)) p ≡ next p order
     refused_read = ap (λ xs. made (replied order xs) p) refused_replies ∙ nothing_changed ∙ sym refused_next
 
--- the requests that wait once an order was answered
-answered_parked : (order : Order) (reply : Result Answer Errno) (v : View) (op : Op) → (answered order op reply v).view.parked ≡ v.parked
-answered_parked order reply v (Lookup name) = refl
-answered_parked order reply v (Forget n) = refl
-answered_parked order reply v Getattr = refl
-answered_parked order reply v (Unlink name) = refl
-answered_parked order reply v Open = refl
-answered_parked order (Ok answer) v (Release fh unlocks owner) = refl
-answered_parked order (Err e) v (Release fh unlocks owner) = refl
-answered_parked order reply v (Flush fh owner) = refl
-answered_parked order reply v (Create excl mode name) = refl
-answered_parked order reply v (Getlk ask) = refl
-answered_parked order reply v (Setlk ask) = refl
-answered_parked order reply v (Setlkw ask) = refl
-answered_parked order reply v (Interrupt unique) = refl
-
-one_at_most : (order : Order) (v : View) (op : Op) → length (unanswered order op v).view.parked ≤ suc (length v.parked)
-one_at_most order v (Lookup name) = omega arith
-one_at_most order v (Forget n) = omega arith
-one_at_most order v Getattr = omega arith
-one_at_most order v (Unlink name) = omega arith
-one_at_most order v Open = omega arith
-one_at_most order v (Release fh unlocks owner) = omega arith
-one_at_most order v (Flush fh owner) = omega arith
-one_at_most order v (Create excl mode name) = omega arith
-one_at_most order v (Getlk ask) = omega arith
-one_at_most order v (Setlk ask) = omega arith
-one_at_most order v (Setlkw ask) = omega (arith, one_longer v.parked (record { unique = order.unique; node = order.node; ask = ask }))
-one_at_most order v (Interrupt unique) = omega arith
+one_at_most : (order : Order) (ask : Option LockAsk) (parked : List Request) → length (with_waiter order ask parked) ≤ suc (length parked)
+one_at_most order None parked = omega arith
+one_at_most order (Some ask) parked = omega (arith, one_longer parked (request_of order ask))
 
 -- an order that waits has no reply of its own
 pub room_left : (order : Order) (own : Option (Result Answer Errno)) (p : Snapshot) → length p.view.parked ≤ 256 → length (own_replies order own) + length (made (by_reply order own) p).view.parked ≤ 257
-room_left order (Some reply) p few = omega (arith, few, ap length (answered_parked order reply p.view order.op))
-room_left order None p few = omega (arith, few, one_at_most order p.view order.op)
+room_left order (Some reply) p few = omega (arith, few)
+room_left order None p few = omega (arith, few, one_at_most order (waited_for order.op) p.view.parked)
 
-waiting_apart : (order : Order) (v : View) (op : Op) → AreApart v.parked → AllByRecursion (λ (r : Request). r.unique ≢ order.unique) v.parked → AreApart (unanswered order op v).view.parked
-waiting_apart order v (Lookup name) apart others = apart
-waiting_apart order v (Forget n) apart others = apart
-waiting_apart order v Getattr apart others = apart
-waiting_apart order v (Unlink name) apart others = apart
-waiting_apart order v Open apart others = apart
-waiting_apart order v (Release fh unlocks owner) apart others = apart
-waiting_apart order v (Flush fh owner) apart others = apart
-waiting_apart order v (Create excl mode name) apart others = apart
-waiting_apart order v (Getlk ask) apart others = apart
-waiting_apart order v (Setlk ask) apart others = apart
-waiting_apart order v (Setlkw ask) apart others = apart_more v.parked (record { unique = order.unique; node = order.node; ask = ask }) apart others
-waiting_apart order v (Interrupt unique) apart others = apart
+waiting_apart : (order : Order) (ask : Option LockAsk) (parked : List Request) → AreApart parked → AllByRecursion (λ (r : Request). r.unique ≢ order.unique) parked → AreApart (with_waiter order ask parked)
+waiting_apart order None parked apart others = apart
+waiting_apart order (Some ask) parked apart others = apart_more parked (request_of order ask) apart others
 
 -- requests that wait stay apart, where the order's unique was none of theirs
 pub apart_after : (order : Order) (own : Option (Result Answer Errno)) (p : Snapshot) → is_parked order.unique p.view.parked ≡ false → AreApart p.view.parked → AreApart (made (by_reply order own) p).view.parked
-apart_after order (Some reply) p fresh apart = subst AreApart (sym (answered_parked order reply p.view order.op)) apart
-apart_after order None p fresh apart = waiting_apart order p.view order.op apart (none_of order.unique p.view.parked fresh)
+apart_after order (Some reply) p fresh apart = apart
+apart_after order None p fresh apart = waiting_apart order (waited_for order.op) p.view.parked apart (none_of order.unique p.view.parked fresh)
 
-pub apart_left_by : (parked : List Request) (op : Op) (own : Option (Result Answer Errno)) → AreApart parked → AreApart (left_by parked op own)
-apart_left_by parked (Lookup name) own apart = apart
-apart_left_by parked (Forget n) own apart = apart
-apart_left_by parked Getattr own apart = apart
-apart_left_by parked (Unlink name) own apart = apart
-apart_left_by parked Open own apart = apart
-apart_left_by parked (Release fh unlocks owner) None apart = apart
-apart_left_by parked (Release fh unlocks owner) (Some (Ok answer)) apart = apart_passing _ parked apart
-apart_left_by parked (Release fh unlocks owner) (Some (Err e)) apart = apart
-apart_left_by parked (Flush fh owner) own apart = apart
-apart_left_by parked (Create excl mode name) own apart = apart
-apart_left_by parked (Getlk ask) own apart = apart
-apart_left_by parked (Setlk ask) own apart = apart
-apart_left_by parked (Setlkw ask) own apart = apart
-apart_left_by parked (Interrupt unique) None apart = apart_passing _ parked apart
-apart_left_by parked (Interrupt unique) (Some reply) apart = apart
+pub apart_left : (parked : List Request) (ending : Option Ending) → AreApart parked → AreApart (left_if ending parked)
+apart_left parked None apart = apart
+apart_left parked (Some ending) apart = apart_passing _ parked apart
 
 -- those that an order leaves still wait, but for the locks that it touched
-pub others_left_by : (t : Touched) (m : Marking) (parked : List Request) (op : Op) (own : Option (Result Answer Errno)) → OthersWait t m parked → OthersWait t m (left_by parked op own)
-others_left_by t m parked (Lookup name) own all = all
-others_left_by t m parked (Forget n) own all = all
-others_left_by t m parked Getattr own all = all
-others_left_by t m parked (Unlink name) own all = all
-others_left_by t m parked Open own all = all
-others_left_by t m parked (Release fh unlocks owner) None all = all
-others_left_by t m parked (Release fh unlocks owner) (Some (Ok answer)) all = all_passing (λ (r : Request). concerns_request t r ≡ false → waits m r ≡ true) _ parked all
-others_left_by t m parked (Release fh unlocks owner) (Some (Err e)) all = all
-others_left_by t m parked (Flush fh owner) own all = all
-others_left_by t m parked (Create excl mode name) own all = all
-others_left_by t m parked (Getlk ask) own all = all
-others_left_by t m parked (Setlk ask) own all = all
-others_left_by t m parked (Setlkw ask) own all = all
-others_left_by t m parked (Interrupt unique) None all = all_passing (λ (r : Request). concerns_request t r ≡ false → waits m r ≡ true) _ parked all
-others_left_by t m parked (Interrupt unique) (Some reply) all = all
-
--- an order without a reply touches no lock
-pub untouched : (node : ℕ) (op : Op) → touched_by node op None ≡ Nothing
-untouched node (Lookup name) = refl
-untouched node (Forget n) = refl
-untouched node Getattr = refl
-untouched node (Unlink name) = refl
-untouched node Open = refl
-untouched node (Release fh unlocks owner) = refl
-untouched node (Flush fh owner) = refl
-untouched node (Create excl mode name) = refl
-untouched node (Getlk ask) = refl
-untouched node (Setlk ask) = refl
-untouched node (Setlkw ask) = refl
-untouched node (Interrupt unique) = refl
+pub others_left : (t : Touched) (m : Marking) (parked : List Request) (ending : Option Ending) → OthersWait t m parked → OthersWait t m (left_if ending parked)
+others_left t m parked None all = all
+others_left t m parked (Some ending) all = all_passing (λ (r : Request). concerns_request t r ≡ false → waits m r ≡ true) _ parked all
 
 -- ---- orders that only read
 
-reads_end_none : (parked : List Request) (own : Option (Result Answer Errno)) (op : Op) → only_reads op ≡ true → ended_by parked op own ≡ []
-reads_end_none parked own (Lookup name) e = absurd (cc e)
-reads_end_none parked own (Forget n) e = absurd (cc e)
-reads_end_none parked own Getattr e = refl
-reads_end_none parked own (Unlink name) e = absurd (cc e)
-reads_end_none parked own Open e = absurd (cc e)
-reads_end_none parked own (Release fh unlocks owner) e = absurd (cc e)
-reads_end_none parked own (Flush fh owner) e = absurd (cc e)
-reads_end_none parked own (Create excl mode name) e = absurd (cc e)
-reads_end_none parked own (Getlk ask) e = refl
-reads_end_none parked own (Setlk ask) e = absurd (cc e)
-reads_end_none parked own (Setlkw ask) e = absurd (cc e)
-reads_end_none parked own (Interrupt unique) e = absurd (cc e)
-
-reads_answered : (order : Order) (reply : Result Answer Errno) (v : View) (op : Op) → only_reads op ≡ true → answered order op reply v ≡ leaving v
-reads_answered order reply v (Lookup name) e = absurd (cc e)
-reads_answered order reply v (Forget n) e = absurd (cc e)
-reads_answered order reply v Getattr e = refl
-reads_answered order reply v (Unlink name) e = absurd (cc e)
-reads_answered order reply v Open e = absurd (cc e)
-reads_answered order reply v (Release fh unlocks owner) e = absurd (cc e)
-reads_answered order reply v (Flush fh owner) e = absurd (cc e)
-reads_answered order reply v (Create excl mode name) e = absurd (cc e)
-reads_answered order reply v (Getlk ask) e = refl
-reads_answered order reply v (Setlk ask) e = absurd (cc e)
-reads_answered order reply v (Setlkw ask) e = absurd (cc e)
-reads_answered order reply v (Interrupt unique) e = absurd (cc e)
-
-reads_unanswered : (order : Order) (v : View) (op : Op) → only_reads op ≡ true → unanswered order op v ≡ leaving v
-reads_unanswered order v (Lookup name) e = absurd (cc e)
-reads_unanswered order v (Forget n) e = absurd (cc e)
-reads_unanswered order v Getattr e = refl
-reads_unanswered order v (Unlink name) e = absurd (cc e)
-reads_unanswered order v Open e = absurd (cc e)
-reads_unanswered order v (Release fh unlocks owner) e = absurd (cc e)
-reads_unanswered order v (Flush fh owner) e = absurd (cc e)
-reads_unanswered order v (Create excl mode name) e = absurd (cc e)
-reads_unanswered order v (Getlk ask) e = refl
-reads_unanswered order v (Setlk ask) e = absurd (cc e)
-reads_unanswered order v (Setlkw ask) e = absurd (cc e)
-reads_unanswered order v (Interrupt unique) e = absurd (cc e)
+-- what holds of both that read, holds of any order that only reads
+of_reads : (P : Op → Type 0) → P Getattr → ((ask : LockAsk) → P (Getlk ask)) → (op : Op) → only_reads op ≡ true → P op
+of_reads P getattr getlk Getattr e = getattr
+of_reads P getattr getlk (Getlk ask) e = getlk ask
+of_reads P getattr getlk op e = absurd (cc e)
 
 pub reads_refused : (op : Op) → only_reads op ≡ true → taken_reply op ≡ Some (Err EINVAL)
-reads_refused (Lookup name) e = absurd (cc e)
-reads_refused (Forget n) e = absurd (cc e)
-reads_refused Getattr e = refl
-reads_refused (Unlink name) e = absurd (cc e)
-reads_refused Open e = absurd (cc e)
-reads_refused (Release fh unlocks owner) e = absurd (cc e)
-reads_refused (Flush fh owner) e = absurd (cc e)
-reads_refused (Create excl mode name) e = absurd (cc e)
-reads_refused (Getlk ask) e = refl
-reads_refused (Setlk ask) e = absurd (cc e)
-reads_refused (Setlkw ask) e = absurd (cc e)
-reads_refused (Interrupt unique) e = absurd (cc e)
+reads_refused = of_reads (λ op. taken_reply op ≡ Some (Err EINVAL)) refl (λ ask. refl)
 
 module _ (order : Order) (p : Snapshot) (waiting : AllWait p.marking p.view.parked) (reads : only_reads order.op ≡ true) where
   abbrev own_read : Option (Result Answer Errno)
   own_read = own_reply p.view p.marking order
 
   reads_by_reply : (own : Option (Result Answer Errno)) → by_reply order own p.view ≡ leaving p.view
-  reads_by_reply None = reads_unanswered order p.view order.op reads
-  reads_by_reply (Some reply) = reads_answered order reply p.view order.op reads
+  reads_by_reply None = of_reads (λ op. unanswered order op p.view ≡ leaving p.view) refl (λ ask. refl) order.op reads
+  reads_by_reply (Some reply) = of_reads (λ op. answered order op reply p.view ≡ leaving p.view) refl (λ ask. refl) order.op reads
 
   ended_none : ended p.view order own_read ≡ []
   ended_none = go (is_parked order.unique p.view.parked)
     where
       go : (b : Bool) → cond b [] (ended_by p.view.parked order.op own_read) ≡ []
       go true = refl
-      go false = reads_end_none p.view.parked own_read order.op reads
+      go false = of_reads (λ op. ended_by p.view.parked op own_read ≡ []) refl (λ ask. refl) order.op reads
 
   reads_unchanged : made (at_once order own_read) p ≡ p
   reads_unchanged = go (is_parked order.unique p.view.parked)

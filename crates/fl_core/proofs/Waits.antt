@@ -2,18 +2,18 @@
 use Rattle.std.proofs.Common.{◌≡◌, ℕ, ◌==◌, ◌&&◌, Bool, true, false, not, Option, Some, None, IfSome, IsNone, Result, Ok, Err, List, [], ◌∷◌, refl, sym, ap, ◌∙◌, subst, arith}
 use Rattle.std.proofs.lemmas.Bool.Decides.{nat_tests}
 use Rattle.std.specs.List.{AllByRecursion}
-use Rattle.fl_core.specs.Effects.{flushed, locked, made, released}
+use Rattle.fl_core.specs.Effects.{flushed, locked, released}
 use Rattle.fl_core.specs.Inside.Parts.{AreFormed}
 use Rattle.fl_core.specs.Inside.Touched.{concerns, concerns_request, touched_by, OthersWait, WaitsNow}
 use Rattle.fl_core.specs.LockRequest.{key_of, mark_of, stroke_of}
 use Rattle.fl_core.specs.Replies.{is_malformed}
-use Rattle.fl_core.specs.State.{Snapshot}
 use Rattle.fl_core.specs.Waiting.{is_excluded, waits, taken_first, AllWait}
 use Rattle.fl_core.specs.Settling.{oldest_free}
 use Rattle.fl_core.specs.declared.parked.Request.{Request}
 use Rattle.fl_core.specs.declared.settling.Touched.{Touched}
 use Rattle.fl_core.specs.declared.settling.Touched.TheVariants.{Nothing, OfClass, OfNode}
 use Rattle.fl_core.proofs.Taken.{taken_alike, all_more}
+use Rattle.fl_dir.specs.Directory.{Listing}
 use Rattle.fl_order.specs.declared.errno.Errno.{Errno}
 use Rattle.fl_order.specs.declared.order.LockAsk.{LockAsk}
 use Rattle.fl_order.specs.declared.order.Op.TheVariants.{Release, Flush, Setlk, Setlkw}
@@ -124,12 +124,11 @@ others_granted t m n given others elsewhere waiting free all =
     let there = concerned t m given _ refl waiting free in
     others_after t m n others (λ r apart. let s = stroke_of r.node r.ask in excluded_same m n s (mark_of r.ask) (λ kind. elsewhere s.key s.start s.end kind (off_granted t given r there apart))) all
 
-pub others_released : (node fh : ℕ) (unlocks : Bool) (owner : ℕ) (reply : Result Answer Errno) (p q : Snapshot) → q ≡ made (released node fh unlocks owner reply) p → SameOffNode node p.marking q.marking
-    → AllWait p.marking p.view.parked → OthersWait (touched_by node (Release fh unlocks owner) (Some reply)) q.marking q.view.parked
-others_released node fh unlocks owner (Ok answer) p q is elsewhere all =
-    subst (λ parked. OthersWait (OfNode node) q.marking parked) (sym (ap (λ (s : Snapshot). s.view.parked) is))
-    (others_after (OfNode node) p.marking q.marking p.view.parked (off_node node p.marking q.marking elsewhere) (others_kept (OfNode node) p.marking p.view.parked all))
-others_released node fh unlocks owner (Err e) p q is elsewhere all = others_kept Nothing q.marking q.view.parked (subst (λ (s : Snapshot). AllWait s.marking s.view.parked) (sym is) all)
+pub others_released : (node fh : ℕ) (unlocks : Bool) (owner : ℕ) (reply : Result Answer Errno) (d : Listing) (m n : Marking) (parked : List Request) → n ≡ after_changes (released node fh unlocks owner reply d) m → SameOffNode node m n
+    → AllWait m parked → OthersWait (touched_by node (Release fh unlocks owner) (Some reply)) n parked
+others_released node fh unlocks owner (Ok answer) d m n parked is elsewhere all =
+    others_after (OfNode node) m n parked (off_node node m n elsewhere) (others_kept (OfNode node) m parked all)
+others_released node fh unlocks owner (Err e) d m n parked is elsewhere all = others_kept Nothing n parked (subst (λ k. AllWait k parked) (sym is) all)
 
 -- after a lock request that may wait now
 module _ (node : ℕ) (ask : LockAsk) (unique : ℕ) (m n : Marking) (parked left : List Request) where

@@ -14,8 +14,7 @@ use Rattle.fl_order.specs.declared.told.Answer.{Answer}
 use Rattle.fl_order.specs.declared.told.Told.{Told}
 use Rattle.fl_order.specs.declared.order.Order.{Order}
 use Rattle.fl_order.specs.declared.order.Op.{Op}
-use Rattle.fl_order.specs.declared.order.Op.TheVariants.{Lookup, Forget, Getattr, Unlink, Open, Release, Flush}
-use Rattle.fl_order.specs.declared.order.Op.TheVariants.{Create, Getlk, Setlk, Setlkw, Interrupt}
+use Rattle.fl_order.specs.declared.order.Op.TheVariants.{Lookup, Forget, Unlink, Open, Release, Flush, Create, Setlk, Setlkw}
 use Rattle.fl_order.specs.declared.order.LockAsk.{LockAsk}
 use Rattle.fl_ranges.specs.declared.lock.Class.{Class}
 use Rattle.fl_ranges.specs.declared.lock.Class.TheVariants.{Record, Flock}
@@ -61,39 +60,59 @@ cleared_on d node = if has_open_file d node then [] else cleared node ∷ []
 
 -- RELEASE with this reply: the whole-file lock of the owner, if it is dropped; then the fh; then the locks of a node
 -- that isn't open any more
-abbrev pub released : ℕ → ℕ → Bool → ℕ → Result Answer Errno → View → Effect
-released node fh unlocks owner (Ok answer) v = record {
-  view = record v { directory = after_close v.directory node fh (Ok answer) };
-  changes = cleared_on (without_file v.directory fh) node ++ dropped unlocks node owner;
-}
-released node fh unlocks owner (Err e) v = leaving v
+abbrev pub released : ℕ → ℕ → Bool → ℕ → Result Answer Errno → Listing → List Change
+released node fh unlocks owner (Ok answer) d = cleared_on (without_file d fh) node ++ dropped unlocks node owner
+released node fh unlocks owner (Err e) d = []
 
--- only the directory changes
-abbrev pub with_directory : View → Listing → Effect
-with_directory v d = leaving (record v { directory = d })
+-- the locks that an order with this reply of its own changes
+abbrev pub locks_answered : Order → Op → Result Answer Errno → Listing → List Change
+locks_answered order (Release fh unlocks owner) reply d = released order.node fh unlocks owner reply d
+locks_answered order (Flush fh owner) reply d = flushed order.node owner reply
+locks_answered order (Setlk ask) reply d = locked order.node ask reply
+locks_answered order (Setlkw ask) reply d = locked order.node ask reply
+locks_answered order op reply d = []
+
+-- the directory after an order with this reply of its own
+abbrev pub listing_answered : Order → Op → Result Answer Errno → Listing → Listing
+listing_answered order (Lookup name) reply d = after_lookup d reply
+listing_answered order (Unlink name) reply d = after_unlink d name reply
+listing_answered order Open reply d = after_open d order.node reply
+listing_answered order (Release fh unlocks owner) reply d = after_close d order.node fh reply
+listing_answered order (Create excl mode name) reply d = after_create d order.uid order.gid mode name reply
+listing_answered order op reply d = d
 
 -- an order with this reply of its own; an error changes nothing
 abbrev pub answered : Order → Op → Result Answer Errno → View → Effect
-answered order (Lookup name) reply v = with_directory v (after_lookup v.directory reply)
-answered order (Forget n) reply v = leaving v
-answered order Getattr reply v = leaving v
-answered order (Unlink name) reply v = with_directory v (after_unlink v.directory name reply)
-answered order Open reply v = with_directory v (after_open v.directory order.node reply)
-answered order (Release fh unlocks owner) reply v = released order.node fh unlocks owner reply v
-answered order (Flush fh owner) reply v = record { view = v; changes = flushed order.node owner reply }
-answered order (Create excl mode name) reply v =
-    with_directory v (after_create v.directory order.uid order.gid mode name reply)
-answered order (Getlk ask) reply v = leaving v
-answered order (Setlk ask) reply v = record { view = v; changes = locked order.node ask reply }
-answered order (Setlkw ask) reply v = record { view = v; changes = locked order.node ask reply }
-answered order (Interrupt unique) reply v = leaving v
+answered order op reply v = record {
+  view = record v { directory = listing_answered order op reply v.directory };
+  changes = locks_answered order op reply v.directory;
+}
 
--- an order with no reply of its own: lookups are forgotten, or a lock request waits, behind the others
+-- the directory after an order with no reply of its own: lookups are forgotten
+abbrev pub listing_unanswered : Order → Op → Listing → Listing
+listing_unanswered order (Forget n) d = after_forget d order.node n
+listing_unanswered order op d = d
+
+-- what a lock request with no reply of its own asks for
+abbrev pub waited_for : Op → Option LockAsk
+waited_for (Setlkw ask) = Some ask
+waited_for op = None
+
+-- the request that it is from now on, while it waits
+abbrev pub request_of : Order → LockAsk → Request
+request_of order ask = record { unique = order.unique; node = order.node; ask = ask }
+
+-- behind the others
+abbrev pub with_waiter : Order → Option LockAsk → List Request → List Request
+with_waiter order None parked = parked
+with_waiter order (Some ask) parked = parked ++ request_of order ask ∷ []
+
+-- an order with no reply of its own: lookups are forgotten, or a lock request waits
 abbrev pub unanswered : Order → Op → View → Effect
-unanswered order (Forget n) v = with_directory v (after_forget v.directory order.node n)
-unanswered order (Setlkw ask) v =
-    leaving (record v { parked = v.parked ++ record { unique = order.unique; node = order.node; ask = ask } ∷ [] })
-unanswered order _ v = leaving v
+unanswered order op v = leaving (record {
+  directory = listing_unanswered order op v.directory;
+  parked = with_waiter order (waited_for op) v.parked;
+})
 
 -- an order with its own reply, if it has one
 abbrev pub by_reply : Order → Option (Result Answer Errno) → View → Effect

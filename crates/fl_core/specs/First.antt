@@ -4,6 +4,7 @@ use Rattle.std.specs.Prelude.{◌≡◌, ◌≢◌, ◌==◌, ◌≤◌, ◌<◌
 use Rattle.std.specs.Prelude.{length}
 use Rattle.std.specs.List.{AllByRecursion}
 use Rattle.fl_core.specs.Circle.{ClosesCircle}
+use Rattle.fl_core.specs.Effects.{request_of}
 use Rattle.fl_core.specs.Replies.{ask_error, reply_to, own_replies, ended_with, ended_all}
 use Rattle.fl_core.specs.Settling.{grant_reply}
 use Rattle.fl_core.specs.State.{Snapshot}
@@ -41,10 +42,6 @@ is_alone _ = true
 -- the order's own reply
 abbrev pub own : Order → Result Answer Errno → Told
 own order result = record { unique = order.unique; result = result }
-
--- the request that a SETLKW is while it waits
-abbrev pub request_of : Order → LockAsk → Request
-request_of order ask = record { unique = order.unique; node = order.node; ask = ask }
 
 -- what an order gives whose unique is none of a request that waits
 pub data IsAnswered (p : Snapshot) (order : Order) : Op → List Told → Type 0 where

@@ -7,6 +7,8 @@ use Rattle.fl_core.specs.Circle.{closes_circle, wish_on}
 use Rattle.fl_core.specs.LockRequest.{is_flock, key_of, mark_of, stroke_of}
 use Rattle.fl_core.specs.State.{View, Snapshot}
 use Rattle.fl_core.specs.Waiting.{is_excluded, is_parked}
+use Rattle.fl_core.specs.declared.ending.Ending.{Ending}
+use Rattle.fl_core.specs.declared.ending.Ending.TheVariants.{Through, Named}
 use Rattle.fl_core.specs.declared.parked.Request.{Request}
 use Rattle.fl_dir.specs.Directory.{Listing}
 use Rattle.fl_dir.specs.OpenFiles.{is_open_on}
@@ -145,12 +147,31 @@ ended_with e r = record { unique = r.unique; result = Err e }
 abbrev pub ended_all : Errno → (Request → Bool) → List Request → List Told
 ended_all e test parked = map (ended_with e) (filter test parked)
 
--- the replies to requests that an order ends by what it is answered itself: those that came through the fh that it closes,
--- or the one that it names
+-- which requests an order ends by what it is answered itself: those that came through the fh that it closes, or the one
+-- that it names
+abbrev pub ending_of : Op → Option (Result Answer Errno) → Option Ending
+ending_of (Release fh unlocks owner) (Some (Ok answer)) = Some (Through fh)
+ending_of (Interrupt unique) None = Some (Named unique)
+ending_of op own = None
+
+-- whether a request is one of them
+abbrev pub picks : Ending → Request → Bool
+picks (Through fh) r = r.ask.fh == fh
+picks (Named unique) r = r.unique == unique
+
+-- what they are told
+abbrev pub error_of : Ending → Errno
+error_of (Through fh) = EBADF
+error_of (Named unique) = EINTR
+
+-- the replies to them, if there are any
+abbrev pub ended_if : Option Ending → List Request → List Told
+ended_if None parked = []
+ended_if (Some ending) parked = ended_all (error_of ending) (picks ending) parked
+
+-- the replies to requests that an order ends
 abbrev pub ended_by : List Request → Op → Option (Result Answer Errno) → List Told
-ended_by parked (Release fh unlocks owner) (Some (Ok answer)) = ended_all EBADF (λ r. r.ask.fh == fh) parked
-ended_by parked (Interrupt unique) None = ended_all EINTR (λ r. r.unique == unique) parked
-ended_by parked op own = []
+ended_by parked op own = ended_if (ending_of op own) parked
 
 -- the same, but none where the order's unique is that of a request that waits
 abbrev pub ended : View → Order → Option (Result Answer Errno) → List Told

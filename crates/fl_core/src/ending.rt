@@ -2,12 +2,11 @@
 
 ghost use Rattle.std.specs.Prelude.{◌≡◌, ◌≤◌, ◌+◌, ◌++◌, not, length};
 ghost use Rattle.std.specs.List.{filter};
-ghost use Rattle.fl_core.specs.Inside.Parts.{error_of, picks};
-ghost use Rattle.fl_core.specs.Replies.{ended_all};
+ghost use Rattle.fl_core.specs.Replies.{ended_all, ending_of, error_of, picks};
 
 use crate::parked::{Parked, Request};
 use crate::tolds::{MOST_TOLDS, Tolds};
-use fl_order::{Errno, Told};
+use fl_order::{Answer, Errno, Op, Order, Told};
 
 /// Which requests are ended.
 #[derive(Clone, Copy)]
@@ -16,6 +15,17 @@ pub(crate) enum Ending {
     Through(u64),
     /// The one of this unique, which is interrupted.
     Named(u64),
+}
+
+/// Which requests an order ends that is answered so.
+pub(crate) fn ending_of(order: &Order, own: &Option<Result<Answer, Errno>>) -> Option<Ending>
+    ensures { result ≡ ending_of order.now.op own.now }
+{
+    match (&order.op, own) {
+        (Op::Release { fh, .. }, Some(Ok(_))) => Some(Ending::Through(*fh)),
+        (Op::Interrupt(unique), None) => Some(Ending::Named(*unique)),
+        _ => None,
+    }
 }
 
 /// Takes out these requests, the oldest first, and tells each.

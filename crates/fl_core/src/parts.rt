@@ -10,13 +10,14 @@ ghost use Rattle.fl_core.specs.Replies.{ended_by, file_reply, reply_to};
 ghost use Rattle.fl_core.specs.State.{opening, snapshot_of};
 ghost use Rattle.fl_core.specs.Step.{settling, with_present};
 ghost use Rattle.fl_core.specs.Waiting.{is_parked, AllWait, AreApart};
+ghost use Rattle.fl_dir.specs.Changes.{after_close};
 ghost use Rattle.fl_order.specs.Order.{only_reads};
 ghost use Rattle.fl_ranges.specs.Change.{after_changes};
 ghost use Rattle.fl_ranges.specs.Conflict.{IsLawful, SameElsewhere, SameOffNode};
 ghost use Rattle.fl_ranges.specs.declared.lock.Class.TheVariants.{Record};
 
 use crate::circle::Wanted;
-use crate::ending::{Ending, end_all};
+use crate::ending::{end_all, ending_of};
 use crate::locking::{MOST_RUNS, release_locks, set_lock, set_or_wait, test_lock, unlock};
 use crate::parked::Parked;
 use crate::settling::{Touched, settle};
@@ -146,14 +147,8 @@ impl Parts {
         ensures parked { self.new ≡ with_parked (left_by self.old.view.parked order.now.op own.now) self.old }
         ensures few { length tolds.new + length self.new.view.parked ≤ MOST_TOLDS }
     {
-        match (&order.op, own) {
-            (Op::Release { fh, .. }, Some(Ok(_))) => {
-                end_all(&mut self.parked, Ending::Through(*fh), tolds);
-            }
-            (Op::Interrupt(unique), None) => {
-                end_all(&mut self.parked, Ending::Named(*unique), tolds);
-            }
-            _ => {}
+        if let Some(ending) = ending_of(order, own) {
+            end_all(&mut self.parked, ending, tolds);
         }
     }
 
@@ -189,7 +184,10 @@ impl Parts {
     // the node.
     fn release(&mut self, node: u64, fh: u64, drop: bool, owner: u64) -> Result<Answer, Errno>
         ensures reply { result ≡ file_reply self.old.view.directory node fh }
-        ensures changed { self.new ≡ made (released node fh drop owner result) self.old }
+        ensures view { self.new.view
+            ≡ record self.old.view { directory = after_close self.old.view.directory node fh result } }
+        ensures marking { self.new.marking
+            ≡ after_changes (released node fh drop owner result self.old.view.directory) self.old.marking }
         ensures lawful { IsLawful self.old.marking → IsLawful self.new.marking }
         ensures elsewhere { SameOffNode node self.old.marking self.new.marking }
     {

@@ -36,10 +36,15 @@ pub record WaitsNow (before after : Marking) (parked parked_after : List Request
   pub waits : waits before r ≡ true
   pub formed : is_malformed r.ask ≡ false
 
+-- what an order touches that isn't refused
+abbrev pub touched_if_done : ℕ → Op → Touched
+touched_if_done node (Setlk ask) = OfClass node (key_of node ask).class
+touched_if_done node (Setlkw ask) = OfClass node (key_of node ask).class
+touched_if_done node (Flush fh owner) = OfClass node Record
+touched_if_done node (Release fh unlocks owner) = OfNode node
+touched_if_done node op = Nothing
+
 -- what an order touches that is answered so
 abbrev pub touched_by : ℕ → Op → Option (Result Answer Errno) → Touched
-touched_by node (Setlk ask) (Some (Ok answer)) = OfClass node (key_of node ask).class
-touched_by node (Setlkw ask) (Some (Ok answer)) = OfClass node (key_of node ask).class
-touched_by node (Flush fh owner) (Some (Ok answer)) = OfClass node Record
-touched_by node (Release fh unlocks owner) (Some (Ok answer)) = OfNode node
+touched_by node op (Some (Ok answer)) = touched_if_done node op
 touched_by node op own = Nothing

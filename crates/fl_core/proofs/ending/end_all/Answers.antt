@@ -1,6 +1,5 @@
 use Rattle.std.proofs.Common.{rules, ◌∙◌, ap, sym, length, arith}
-use Rattle.fl_core.specs.Inside.Parts.{error_of, picks}
-use Rattle.fl_core.specs.Replies.{ended_with}
+use Rattle.fl_core.specs.Replies.{ended_with, error_of, picks}
 use Rattle.fl_core.proofs.Endings.{ending_goes_on, ending_ends}
 use Rattle.fl_core.proofs.Taken.{is_taken, none_taken, one_longer}
 use Rattle.fl_core.proofs.ending.end_all.Goals as goal

@@ -1,7 +1,6 @@
 use Rattle.std.proofs.Common.{◌≡◌, ◌≤◌, ◌+◌, ◌++◌, not, length}
 use Rattle.std.specs.List.{filter}
-use Rattle.fl_core.specs.Inside.Parts.{error_of, picks}
-use Rattle.fl_core.specs.Replies.{ended_all}
+use Rattle.fl_core.specs.Replies.{ended_all, error_of, picks}
 use Rattle.fl_core.proofs.ending.end_all.Given as goal
 
 -- what was told and is left to tell is the whole

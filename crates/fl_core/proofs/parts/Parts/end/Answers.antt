@@ -8,7 +8,3 @@ use Rattle.fl_core.proofs.parts.Parts.end.Goals as goal
 pub invariant_of-self : goal.invariant_of-self
 invariant_of-self c =
     (c.self.invariant.0, subst AreFormed (sym c.end_all.ensures.parked) (all_passing (λ (r : Request). is_malformed r.ask ≡ false) _ _ c.self.invariant.1))
-
-pub invariant_of-self-in-None-own-3 : goal.invariant_of-self-in-None-own-3
-invariant_of-self-in-None-own-3 c =
-    (c.self.invariant.0, subst AreFormed (sym c.end_all-in-Interrupt-None.ensures.parked) (all_passing (λ (r : Request). is_malformed r.ask ≡ false) _ _ c.self.invariant.1))

@@ -2,11 +2,12 @@ use Rattle.std.proofs.Common.{◌∙◌, Some, sym, subst, ap}
 use Rattle.fl_core.specs.Inside.Touched.{touched_by, OthersWait}
 use Rattle.fl_core.specs.Replies.{reply_to, setlk_reply, setlkw_reply}
 use Rattle.fl_core.specs.State.{Snapshot, View}
+use Rattle.fl_core.specs.declared.settling.Touched.TheVariants.{Nothing}
 use Rattle.fl_core.specs.Waiting.{AllWait}
 use Rattle.fl_core.proofs.Waits.{others_kept, others_set, others_flushed, others_released, others_parked, formed_parked}
 use Rattle.fl_core.proofs.parts.Parts.take.Goals as goal
 use Rattle.fl_order.specs.declared.order.Op.{Op}
-use Rattle.fl_order.specs.declared.order.Op.TheVariants.{Flush}
+use Rattle.fl_order.specs.declared.order.Op.TheVariants.{Release, Flush}
 use Rattle.fl_ranges.specs.Conflict.{IsLawful}
 
 -- a snapshot whose requests all wait
@@ -32,10 +33,10 @@ pub returns-in-Getlk-clause-others : goal.returns-in-Getlk-clause-others
 returns-in-Getlk-clause-others c all = others_kept _ _ _ all
 
 pub returns-in-Interrupt-clause-others : goal.returns-in-Interrupt-clause-others
-returns-in-Interrupt-clause-others c all = others_kept _ _ _ all
+returns-in-Interrupt-clause-others c all = others_kept Nothing _ _ all
 
 pub returns-in-Interrupt-2-clause-others : goal.returns-in-Interrupt-2-clause-others
-returns-in-Interrupt-2-clause-others c all = others_kept _ _ _ all
+returns-in-Interrupt-2-clause-others c all = others_kept Nothing _ _ all
 
 pub returns-in-Release-clause-others : goal.returns-in-Release-clause-others
 returns-in-Release-clause-others c all =
@@ -43,7 +44,8 @@ returns-in-Release-clause-others c all =
     let p = c.args.self.now in
     let q = c.release.new.self in
     subst (λ (op : Op). OthersWait (touched_by c.args.order.now.node op (Some c.release.result)) q.marking q.view.parked) (sym r.is)
-    (others_released c.args.order.now.node r.fh r.drop r.owner c.release.result p q c.release.ensures.changed c.release.ensures.elsewhere all)
+    (subst (λ xs. OthersWait (touched_by c.args.order.now.node (Release r.fh r.drop r.owner) (Some c.release.result)) q.marking xs) (sym (ap (λ (v : View). v.parked) c.release.ensures.view))
+    (others_released c.args.order.now.node r.fh r.drop r.owner c.release.result p.view.directory p.marking q.marking p.view.parked c.release.ensures.marking c.release.ensures.elsewhere all))
 
 pub returns-in-Flush-clause-others : goal.returns-in-Flush-clause-others
 returns-in-Flush-clause-others c all =

@@ -1,7 +1,7 @@
 use Rattle.std.proofs.Common.{◌≡◌, ◌++◌, ◌≤◌, ◌∙◌, true, false, Option, None, Result, length, sym, subst, ap, arith}
 use Rattle.fl_core.specs.Effects.{by_reply, replied, made}
 use Rattle.fl_core.specs.Inside.Touched.{touched_by, OthersWait}
-use Rattle.fl_core.specs.Replies.{own_replies, ended_by, reply_to}
+use Rattle.fl_core.specs.Replies.{own_replies, ended_by, ending_of, reply_to}
 use Rattle.fl_core.specs.Settling.{present}
 use Rattle.fl_core.specs.State.{Snapshot}
 use Rattle.fl_core.specs.Step.{settling, replies, next}
@@ -55,7 +55,7 @@ settle-requires-clause-others c =
     let q : Snapshot = c.end.new.self in
     let others_s = c.take-own.ensures.others c.self.invariant.0 in
     let others_q : OthersWait (touched_by order.node order.op own) q.marking q.view.parked =
-    subst (λ (t : Snapshot). OthersWait (touched_by order.node order.op own) t.marking t.view.parked) (sym c.end.ensures.parked) (steps.others_left_by (touched_by order.node order.op own) s.marking s.view.parked order.op own others_s) in
+    subst (λ (t : Snapshot). OthersWait (touched_by order.node order.op own) t.marking t.view.parked) (sym c.end.ensures.parked) (steps.others_left (touched_by order.node order.op own) s.marking s.view.parked (ending_of order.op own) others_s) in
     subst (λ t. OthersWait t q.marking q.view.parked) (sym c.touched_by.ensures) others_q
 
 -- what is known of the parts before the order, after its own step, and before settling
@@ -80,14 +80,14 @@ known c =
     let apart_p : AreApart p.view.parked = subst (λ (t : Snapshot). AreApart t.view.parked) c.self.view_is c.self.invariant.1 in
     let apart_s : AreApart s.view.parked = subst (λ (t : Snapshot). AreApart t.view.parked) (sym s_is) (steps.apart_after order own p fresh apart_p) in
     let others : OthersWait t q.marking q.view.parked =
-    subst (λ (r : Snapshot). OthersWait t r.marking r.view.parked) (sym c.end.ensures.parked) (steps.others_left_by t s.marking s.view.parked order.op own (c.take-own.ensures.others c.self.invariant.0)) in
+    subst (λ (r : Snapshot). OthersWait t r.marking r.view.parked) (sym c.end.ensures.parked) (steps.others_left t s.marking s.view.parked (ending_of order.op own) (c.take-own.ensures.others c.self.invariant.0)) in
     record {
       fresh = fresh;
       own_is = c.take-own.ensures.reply ∙ ap (λ (t : Snapshot). reply_to t.view t.marking order order.op) c.self.view_is;
       s_is = s_is;
       apart_s = apart_s;
-      apart_q = subst (λ (t : Snapshot). AreApart t.view.parked) (sym c.end.ensures.parked) (steps.apart_left_by s.view.parked order.op own apart_s);
-      waiting = λ none. nothing_touched q.marking q.view.parked (subst (λ t. OthersWait t q.marking q.view.parked) (ap (touched_by order.node order.op) none ∙ steps.untouched order.node order.op) others);
+      apart_q = subst (λ (t : Snapshot). AreApart t.view.parked) (sym c.end.ensures.parked) (steps.apart_left s.view.parked (ending_of order.op own) apart_s);
+      waiting = λ none. nothing_touched q.marking q.view.parked (subst (λ t. OthersWait t q.marking q.view.parked) (ap (touched_by order.node order.op) none) others);
     }
 
 pub returns-clause-replies : goal.returns-clause-replies
