@@ -37,7 +37,7 @@ ended_others u e test (r ∷ parked) all = go (test r) (ended_others u e test pa
     go true rest = (all.0, rest)
     go false rest = rest
 
-ended_apart : (u : ℕ) (parked : List Request) → AllByRecursion (λ (r : Request). r.unique ≢ u) parked → (ending : Option Ending) → AreOthers u (ended_if ending parked)
+pub ended_apart : (u : ℕ) (parked : List Request) → AllByRecursion (λ (r : Request). r.unique ≢ u) parked → (ending : Option Ending) → AreOthers u (ended_if ending parked)
 ended_apart u parked all None = tt
 ended_apart u parked all (Some ending) = ended_others u (error_of ending) (picks ending) parked all
 
@@ -52,11 +52,11 @@ ends_or_waits order parked (Setlkw ask) = refl
 ends_or_waits order parked op = refl
 
 -- an order ends the same requests whether it made its change already
-ends_alike : (order : Order) (p : Snapshot) (own : Option (Result Answer Errno)) → ended_by (made (by_reply order own) p).view.parked order.op own ≡ ended_by p.view.parked order.op own
+pub ends_alike : (order : Order) (p : Snapshot) (own : Option (Result Answer Errno)) → ended_by (made (by_reply order own) p).view.parked order.op own ≡ ended_by p.view.parked order.op own
 ends_alike order p None = ends_or_waits order p.view.parked order.op
 ends_alike order p (Some reply) = refl
 
-abbrev made_by : Effect → Snapshot → Snapshot
+abbrev pub made_by : Effect → Snapshot → Snapshot
 made_by e p = record { view = e.view; marking = after_changes e.changes p.marking }
 
 module _ (order : Order) (p : Snapshot) where

@@ -93,6 +93,11 @@ abbrev pub listing_unanswered : Order → Op → Listing → Listing
 listing_unanswered order (Forget n) d = after_forget d order.node n
 listing_unanswered order op d = d
 
+-- the directory after an order with its own reply, if it has one
+abbrev pub listing_replied : Order → Option (Result Answer Errno) → Listing → Listing
+listing_replied order None d = listing_unanswered order order.op d
+listing_replied order (Some reply) d = listing_answered order order.op reply d
+
 -- what a lock request with no reply of its own asks for
 abbrev pub waited_for : Op → Option LockAsk
 waited_for (Setlkw ask) = Some ask

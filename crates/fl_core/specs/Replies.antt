@@ -108,21 +108,24 @@ file_reply d node fh = if is_open_on d fh node then Ok Done else Err EBADF
 abbrev pub interrupt_reply : List Request → ℕ → Option (Result Answer Errno)
 interrupt_reply parked unique = if is_parked unique parked then None else Some (Err EAGAIN)
 
--- what an order is answered at once; FORGET has no reply
+-- what an order that goes to the directory alone is answered; FORGET has no reply
+abbrev pub directory_reply : Listing → Order → Op → Option (Result Answer Errno)
+directory_reply d order (Lookup name) = Some (lookup_reply d order.node name)
+directory_reply d order Getattr = Some (getattr_reply d order.node)
+directory_reply d order (Unlink name) = Some (unlink_reply d order.node name)
+directory_reply d order Open = Some (open_reply d order.node)
+directory_reply d order (Create excl mode name) = Some (create_reply d order.node order.uid order.gid excl mode name)
+directory_reply d order op = None
+
+-- what an order is answered at once: one about locks or requests that wait, and any other
 abbrev pub reply_to : View → Marking → Order → Op → Option (Result Answer Errno)
-reply_to v m order (Lookup name) = Some (lookup_reply v.directory order.node name)
-reply_to v m order (Forget n) = None
-reply_to v m order Getattr = Some (getattr_reply v.directory order.node)
-reply_to v m order (Unlink name) = Some (unlink_reply v.directory order.node name)
-reply_to v m order Open = Some (open_reply v.directory order.node)
 reply_to v m order (Release fh unlocks owner) = Some (file_reply v.directory order.node fh)
 reply_to v m order (Flush fh owner) = Some (file_reply v.directory order.node fh)
-reply_to v m order (Create excl mode name) =
-    Some (create_reply v.directory order.node order.uid order.gid excl mode name)
 reply_to v m order (Getlk ask) = Some (getlk_reply v.directory m order.node ask)
 reply_to v m order (Setlk ask) = Some (setlk_reply v.directory m order.node ask)
 reply_to v m order (Setlkw ask) = setlkw_reply v m order.node ask
 reply_to v m order (Interrupt unique) = interrupt_reply v.parked unique
+reply_to v m order op = directory_reply v.directory order op
 
 -- what an order is answered whose unique is that of a request that waits
 abbrev pub taken_reply : Op → Option (Result Answer Errno)

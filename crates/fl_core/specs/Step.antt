@@ -1,9 +1,12 @@
 -- All replies that an order gives, and what is there after it.
-use Rattle.std.specs.Prelude.{List, ◌++◌}
+use Rattle.std.specs.Prelude.{◌≡◌, Err, List, [], ◌∷◌, ◌++◌}
+use Rattle.std.specs.List.{Contains}
 use Rattle.fl_core.specs.Effects.{replied, made}
+use Rattle.fl_core.specs.First.{own}
 use Rattle.fl_core.specs.Replies.{first_told}
 use Rattle.fl_core.specs.Settling.{Present, Settled, present, settled}
 use Rattle.fl_core.specs.State.{State, Snapshot, snapshot_of}
+use Rattle.fl_order.specs.declared.errno.Errno.{Errno}
 use Rattle.fl_order.specs.declared.order.Order.{Order}
 use Rattle.fl_order.specs.declared.told.Told.{Told}
 
@@ -30,3 +33,9 @@ with_present s p = record { view = record p.view { parked = s.parked }; marking 
 -- what is there after an order
 abbrev pub next : Snapshot → Order → Snapshot
 next p order = let first = after_first p order in with_present (settling first).present first
+
+-- Where the order is told an error itself, nobody else is told anything, and all is as it was before: the directory, the
+-- requests that wait, and the locks.
+abbrev pub ChangesNothing : Snapshot → Order → List Told → Snapshot → Type 0
+ChangesNothing before order tolds after =
+    (e : Errno) → Contains tolds (own order (Err e)) → (tolds ≡ own order (Err e) ∷ []) × (after ≡ before)

@@ -3,10 +3,10 @@
 ghost use Rattle.std.specs.Prelude.{◌≡◌, ◌≤◌, ◌↔◌, ◌+◌, ◌++◌, true, false, length, IfOk, IsSome};
 ghost use Rattle.std.specs.List.{AllByRecursion};
 ghost use Rattle.fl_core.specs.Circle.{closes_circle};
-ghost use Rattle.fl_core.specs.Effects.{by_reply, flushed, released, made};
+ghost use Rattle.fl_core.specs.Effects.{by_reply, flushed, listing_replied, released, made};
 ghost use Rattle.fl_core.specs.Inside.Parts.{AreFormed, left_by, with_parked};
 ghost use Rattle.fl_core.specs.Inside.Touched.{touched_by, OthersWait};
-ghost use Rattle.fl_core.specs.Replies.{ended_by, file_reply, reply_to};
+ghost use Rattle.fl_core.specs.Replies.{directory_reply, ended_by, file_reply, reply_to};
 ghost use Rattle.fl_core.specs.State.{opening, snapshot_of};
 ghost use Rattle.fl_core.specs.Step.{settling, with_present};
 ghost use Rattle.fl_core.specs.Waiting.{is_parked, AllWait, AreApart};
@@ -90,36 +90,23 @@ impl Parts {
             OthersWait (touched_by order.now.node order.now.op result) self.new.marking self.new.view.parked }
     {
         let node = order.node;
-        Some(match &order.op {
-            Op::Lookup(name) => self.directory.lookup(node, name),
-            Op::Forget(n) => {
-                self.directory.forget(node, *n);
-                return None;
-            }
-            Op::Getattr => self.directory.getattr(node),
-            Op::Unlink(name) => self.directory.unlink(node, name),
-            Op::Open => self.directory.open(node),
-            Op::Release { fh, drop, owner } => self.release(node, *fh, *drop, *owner),
-            Op::Flush { fh, owner } => self.flush(node, *fh, *owner),
-            Op::Create { excl, mode, name } => {
-                self.directory
-                    .create(node, order.uid, order.gid, *excl, *mode, name)
-            }
-            Op::Getlk(ask) => test_lock(&self.directory, &self.locks, node, ask),
-            Op::Setlk(ask) => set_lock(&self.directory, &mut self.locks, node, ask),
-            Op::Setlkw(ask) => {
-                return set_or_wait(
-                    &self.directory,
-                    &mut self.locks,
-                    &mut self.parked,
-                    order.unique,
-                    node,
-                    ask,
-                );
-            }
-            Op::Interrupt(unique) if self.parked.has(*unique) => return None,
-            Op::Interrupt(_) => Err(Errno::EAGAIN),
-        })
+        match &order.op {
+            Op::Release { fh, drop, owner } => Some(self.release(node, *fh, *drop, *owner)),
+            Op::Flush { fh, owner } => Some(self.flush(node, *fh, *owner)),
+            Op::Getlk(ask) => Some(test_lock(&self.directory, &self.locks, node, ask)),
+            Op::Setlk(ask) => Some(set_lock(&self.directory, &mut self.locks, node, ask)),
+            Op::Setlkw(ask) => set_or_wait(
+                &self.directory,
+                &mut self.locks,
+                &mut self.parked,
+                order.unique,
+                node,
+                ask,
+            ),
+            Op::Interrupt(unique) if self.parked.has(*unique) => None,
+            Op::Interrupt(_) => Some(Err(Errno::EAGAIN)),
+            _ => in_directory(&mut self.directory, order),
+        }
     }
 
     /// Whether a request for this lock would close a circle of waiting owners.
@@ -195,4 +182,26 @@ impl Parts {
         release_locks(&mut self.locks, node, drop, owner, closed.last);
         Ok(Answer::Done)
     }
+}
+
+// The own reply of an order that goes to the directory alone, with its change made; none of any other, or of a FORGET.
+fn in_directory(directory: &mut Dir, order: &Order) -> Option<Result<Answer, Errno>>
+    ensures reply { result ≡ directory_reply directory.old order.now order.now.op }
+    ensures listing { directory.new ≡ listing_replied order.now result directory.old }
+{
+    let node = order.node;
+    Some(match &order.op {
+        Op::Lookup(name) => directory.lookup(node, name),
+        Op::Forget(n) => {
+            directory.forget(node, *n);
+            return None;
+        }
+        Op::Getattr => directory.getattr(node),
+        Op::Unlink(name) => directory.unlink(node, name),
+        Op::Open => directory.open(node),
+        Op::Create { excl, mode, name } => {
+            directory.create(node, order.uid, order.gid, *excl, *mode, name)
+        }
+        _ => return None,
+    })
 }

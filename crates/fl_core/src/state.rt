@@ -3,7 +3,7 @@ ghost use Rattle.fl_core.specs.Circle.{closes_circle};
 ghost use Rattle.fl_core.specs.State.{State, opening, snapshot_of};
 ghost use Rattle.fl_core.specs.Effects.{replied, recorded};
 ghost use Rattle.fl_core.specs.Replies.{own_replies, taken_reply};
-ghost use Rattle.fl_core.specs.Step.{next, replies};
+ghost use Rattle.fl_core.specs.Step.{next, replies, ChangesNothing};
 ghost use Rattle.fl_core.specs.Waiting.{AllWait, AreApart};
 ghost use Rattle.fl_order.specs.Order.{only_reads};
 ghost use Rattle.fl_ranges.specs.Conflict.{IsLawful};
@@ -58,6 +58,7 @@ impl Core {
         // A state that the core stands for goes the same way by the order and its replies alone.
         ensures recorded { (s : State) → snapshot_of s ≡ self.old →
             snapshot_of (recorded (replied order.now tolds.new) s) ≡ self.new }
+        ensures an_error_changes_nothing { ChangesNothing self.old order.now tolds.new self.new }
         ensures lawful { IsLawful self.old.marking → IsLawful self.new.marking }
         ensures waiting { AllWait self.new.marking self.new.view.parked }
         ensures apart { AreApart self.new.view.parked }

@@ -14,21 +14,6 @@ use Rattle.fl_ranges.specs.Conflict.{IsLawful}
 abbrev Waits : Snapshot → Type 0
 Waits p = AllWait p.marking p.view.parked
 
-pub returns-in-Lookup-clause-others : goal.returns-in-Lookup-clause-others
-returns-in-Lookup-clause-others c all = others_kept _ _ _ (subst Waits (sym c.self.view_is) all)
-
-pub returns-in-Getattr-clause-others : goal.returns-in-Getattr-clause-others
-returns-in-Getattr-clause-others c all = others_kept _ _ _ all
-
-pub returns-in-Unlink-clause-others : goal.returns-in-Unlink-clause-others
-returns-in-Unlink-clause-others c all = others_kept _ _ _ (subst Waits (sym c.self-in-Unlink.view_is) all)
-
-pub returns-in-Open-clause-others : goal.returns-in-Open-clause-others
-returns-in-Open-clause-others c all = others_kept _ _ _ (subst Waits (sym c.self-in-Open.view_is) all)
-
-pub returns-in-Create-clause-others : goal.returns-in-Create-clause-others
-returns-in-Create-clause-others c all = others_kept _ _ _ (subst Waits (sym c.self-in-Create.view_is) all)
-
 pub returns-in-Getlk-clause-others : goal.returns-in-Getlk-clause-others
 returns-in-Getlk-clause-others c all = others_kept _ _ _ all
 
@@ -96,6 +81,3 @@ invariant_of-self-in-Setlkw c =
     let inside = c.self-in-Setlkw.inside in
     let set = c.set_or_wait in
     (set.ensures.limit, formed_parked order.node c.in-Setlkw.ask order.unique inside.locks.marking set.new.locks.marking inside.parked set.new.parked set.result set.ensures.told set.ensures.waits c.self-in-Setlkw.invariant.1)
-
-pub returns-in-Create-clause-lawful : goal.returns-in-Create-clause-lawful
-returns-in-Create-clause-lawful c lawful = subst (λ (p : Snapshot). IsLawful p.marking) (sym c.self-in-Create.view_is) lawful

@@ -4,10 +4,11 @@ use Rattle.fl_core.specs.Inside.Touched.{touched_by, OthersWait}
 use Rattle.fl_core.specs.Replies.{own_replies, ended_by, ending_of, reply_to}
 use Rattle.fl_core.specs.Settling.{present}
 use Rattle.fl_core.specs.State.{Snapshot}
-use Rattle.fl_core.specs.Step.{settling, replies, next}
+use Rattle.fl_core.specs.Step.{settling, replies, next, ChangesNothing}
 use Rattle.fl_core.specs.declared.state.Core.TheInside.{Inside}
 use Rattle.fl_core.specs.Waiting.{is_parked, AllWait, AreApart}
 use Rattle.fl_core.proofs.Effects.{is_recorded}
+use Rattle.fl_core.proofs.Quiet.{alone_quiet, step_quiet}
 use Rattle.fl_core.proofs.Settlings.{nothing_left}
 use Rattle.fl_core.proofs.Steps as steps
 use Rattle.fl_core.proofs.Waits.{nothing_touched}
@@ -33,6 +34,12 @@ returns-then-has-clause-next c =
     let taken : is_parked order.unique p.view.parked ≡ true = ap (λ (t : Snapshot). is_parked order.unique t.view.parked) (sym c.self.view_is) ∙ ap (λ (i : Inside). is_parked order.unique i.parts.view.parked) (sym c.self-inside.view_is) ∙ sym c.has.ensures.found ∙ c.if-has.true in
     let waiting : AllWait p.marking p.view.parked = subst (λ (t : Snapshot). AllWait t.marking t.view.parked) c.self.view_is c.self.invariant.0 in
     sym (steps.refused_next order p taken waiting)
+
+pub returns-then-has-clause-an_error_changes_nothing : goal.returns-then-has-clause-an_error_changes_nothing
+returns-then-has-clause-an_error_changes_nothing c =
+    let order = c.args.order.now in
+    let p : Snapshot = c.args.self.now in
+    subst (λ xs. ChangesNothing p order xs p) (sym c.tell.ensures) (alone_quiet order p c.refusal.result)
 
 -- ---- it isn't
 
@@ -99,6 +106,20 @@ returns-clause-replies c =
     let k = known c in
     c.settle.ensures.tolds ∙ ap (λ xs. xs ++ (settling q).tolds) (c.end.ensures.tolds ∙ ap (λ xs. xs ++ ended_by s.view.parked order.op own) c.tell-2.ensures)
     ∙ sym (steps.replies_are order c.args.self.now k.fresh own k.own_is s q k.s_is c.end.ensures.parked k.apart_s k.apart_q k.waiting)
+
+pub returns-clause-an_error_changes_nothing : goal.returns-clause-an_error_changes_nothing
+returns-clause-an_error_changes_nothing c =
+    let order = c.args.order.now in
+    let p : Snapshot = c.args.self.now in
+    let own = c.take-own.result in
+    let s : Snapshot = c.take-own.new.self in
+    let q : Snapshot = c.end.new.self in
+    let k = known c in
+    let waiting : AllWait p.marking p.view.parked = subst (λ (t : Snapshot). AllWait t.marking t.view.parked) c.self.view_is c.self.invariant.0 in
+    let told_is = c.settle.ensures.tolds ∙ ap (λ xs. xs ++ (settling q).tolds) (c.end.ensures.tolds ∙ ap (λ xs. xs ++ ended_by s.view.parked order.op own) c.tell-2.ensures) in
+    subst (λ xs. ChangesNothing p order xs c.settle.new.self) (sym told_is)
+    (subst (λ (t : Snapshot). ChangesNothing p order ((own_replies order own ++ ended_by s.view.parked order.op own) ++ (settling q).tolds) t) (sym c.settle.ensures.present)
+    (step_quiet order p k.fresh waiting own s q k.s_is c.end.ensures.parked k.waiting))
 
 pub returns-clause-next : goal.returns-clause-next
 returns-clause-next c =
