@@ -42,11 +42,11 @@ made_fold : (tolds : List Told) (g : View → Effect) (p : Snapshot) → made (�
 made_fold [] g p = refl
 made_fold (t ∷ tolds) g p = made_fold tolds (λ v. followed_by (later t) (g v)) p ∙ ap (made_all tolds) (made_twice (later t) g p)
 
-same_number : (n : ℕ) → (n == n) ≡ true
-same_number n = grind (arith, nat_tests)
+equals_itself : (n : ℕ) → (n == n) ≡ true
+equals_itself n = grind (arith, nat_tests)
 
-other_number : (m n : ℕ) → m ≢ n → (m == n) ≡ false
-other_number m n apart = grind (arith, nat_tests)
+differs_from_other : (m n : ℕ) → m ≢ n → (m == n) ≡ false
+differs_from_other m n apart = grind (arith, nat_tests)
 
 -- none of the replies is of this unique
 abbrev pub AreOthers : ℕ → List Told → Type 0
@@ -58,9 +58,9 @@ pub made_replied : (order : Order) (own : Option (Result Answer Errno)) (tolds :
 made_replied order (Some reply) tolds p others =
     let told : Told = record { unique = order.unique; result = reply } in
     made_fold tolds (told_first order told) p
-    ∙ ap (λ b. made_all tolds (made (λ v. cond b (at_once order (Some reply) v) (followed_by (later told) (at_once order None v))) p)) (same_number order.unique)
+    ∙ ap (λ b. made_all tolds (made (λ v. cond b (at_once order (Some reply) v) (followed_by (later told) (at_once order None v))) p)) (equals_itself order.unique)
 made_replied order None [] p others = refl
 made_replied order None (told ∷ tolds) p others =
     made_fold tolds (told_first order told) p
-    ∙ ap (λ b. made_all tolds (made (λ v. cond b (at_once order (Some told.result) v) (followed_by (later told) (at_once order None v))) p)) (other_number told.unique order.unique (others refl).0)
+    ∙ ap (λ b. made_all tolds (made (λ v. cond b (at_once order (Some told.result) v) (followed_by (later told) (at_once order None v))) p)) (differs_from_other told.unique order.unique (others refl).0)
     ∙ ap (made_all tolds) (made_twice (later told) (at_once order None) p)

@@ -43,8 +43,8 @@ unfolding taken_first
 taken_alike p q [] all = refl
 taken_alike p q (r ∷ parked) all = λ i. cond (all.0 i) (Some (r, parked)) (keep r (taken_alike p q parked all.1 i))
 
-one_more : (n : ℕ) → suc n ≡ 1 + n
-one_more n = omega arith
+suc_is_one_plus : (n : ℕ) → suc n ≡ 1 + n
+suc_is_one_plus n = omega arith
 
 -- in the words of a chain: what is found, and what its removal leaves
 pub taken_found : (test : Request → Bool) (parked : List Request) → taken_first test parked ≡ option_map (λ r. (r, remove parked (position_or_len test parked))) (find test parked)
@@ -56,7 +56,7 @@ taken_found test (r ∷ parked) = go (test r) (find test parked) (taken_found te
         → cond b (Some (r, parked)) (keep r (taken_first test parked)) ≡ option_map (λ s. (s, remove (r ∷ parked) (cond (not b) (1 + position_or_len test parked) 0))) (cond b (Some r) o)
     go true o e = refl
     go false None e = ap (keep r) e
-    go false (Some s) e = ap (keep r) e ∙ ap (λ k. Some (s, remove (r ∷ parked) k)) (one_more (position_or_len test parked))
+    go false (Some s) e = ap (keep r) e ∙ ap (λ k. Some (s, remove (r ∷ parked) k)) (suc_is_one_plus (position_or_len test parked))
 
 -- the request of a unique that no older one has
 same : (x y : ℕ) → x ≡ y → (x == y) ≡ true

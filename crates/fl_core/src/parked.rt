@@ -19,8 +19,11 @@ const BUCKETS: usize = 256;
 /// A lock request that waits: the unique of its order, and what it asks on which node.
 #[derive(Clone, Copy, Debug, PartialEq, Eq)]
 pub struct Request {
+    /// The unique of its order.
     pub unique: u64,
+    /// The node whose bytes it asks for.
     pub node: u64,
+    /// What it asks.
     pub ask: LockAsk,
 }
 

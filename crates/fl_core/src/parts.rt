@@ -2,7 +2,6 @@
 
 ghost use Rattle.std.specs.Prelude.{◌≡◌, ◌≤◌, ◌↔◌, ◌+◌, ◌++◌, true, false, length, IfOk, IsSome};
 ghost use Rattle.std.specs.List.{AllByRecursion};
-ghost use Rattle.fl_core.specs.Circle.{closes_circle};
 ghost use Rattle.fl_core.specs.Effects.{by_reply, flushed, listing_replied, released, made};
 ghost use Rattle.fl_core.specs.Inside.Parts.{AreFormed, left_by, with_parked};
 ghost use Rattle.fl_core.specs.Inside.Touched.{touched_by, OthersWait};
@@ -16,7 +15,6 @@ ghost use Rattle.fl_ranges.specs.Change.{after_changes};
 ghost use Rattle.fl_ranges.specs.Conflict.{IsLawful, SameElsewhere, SameOffNode};
 ghost use Rattle.fl_ranges.specs.declared.lock.Class.TheVariants.{Record};
 
-use crate::circle::Wanted;
 use crate::ending::{end_all, ending_of};
 use crate::locking::{MOST_RUNS, release_locks, set_lock, set_or_wait, test_lock, unlock};
 use crate::parked::Parked;
@@ -24,15 +22,18 @@ use crate::settling::{Touched, settle};
 use crate::tolds::{MOST_TOLDS, Tolds};
 use fl_dir::Dir;
 use fl_order::{Answer, Errno, NoMemory, Op, Order};
-use fl_ranges::{Class, Key, Kind, Range, Table};
+use fl_ranges::{Class, Table};
 use std::alloc::Global;
 use std::marker::Model;
 
 /// The directory, the locks, and the requests that wait. Contracts see them as a `Snapshot`.
 #[derive(Drop)]
 pub(crate) struct Parts {
+    /// Names, nodes and open files.
     pub directory: Dir,
+    /// The locks that are held.
     pub locks: Table,
+    /// The requests that wait.
     pub parked: Parked,
 }
 
@@ -107,19 +108,6 @@ impl Parts {
             Op::Interrupt(_) => Some(Err(Errno::EAGAIN)),
             _ => in_directory(&mut self.directory, order),
         }
-    }
-
-    /// Whether a request for this lock would close a circle of waiting owners.
-    pub(crate) fn circle(&self, key: &Key, range: &Range, kind: Kind) -> bool
-        ensures { result ≡ closes_circle self.now.marking self.now.view.parked
-            (record { key = key.now; start = range.now.start; end = range.now.end; kind = kind }) }
-    {
-        let asked = Wanted {
-            key: *key,
-            range: *range,
-            kind,
-        };
-        self.parked.close_circle(&self.locks, &asked)
     }
 
     /// Ends the requests that wait which the order ends, by what it was answered itself, and tells them.

@@ -1,3 +1,5 @@
+//! What takes orders: each is tested, answered and carried out, and requests that wait are settled.
+
 ghost use Rattle.std.specs.Prelude.{◌≡◌, ◌≤◌, ◌↔◌, [], true, length, IfOk, IsSome};
 ghost use Rattle.fl_core.specs.Circle.{closes_circle};
 ghost use Rattle.fl_core.specs.State.{State, opening, snapshot_of};
@@ -8,6 +10,7 @@ ghost use Rattle.fl_core.specs.Waiting.{AllWait, AreApart};
 ghost use Rattle.fl_order.specs.Order.{only_reads};
 ghost use Rattle.fl_ranges.specs.Conflict.{IsLawful};
 
+use crate::circle::Wanted;
 use crate::parts::Parts;
 use crate::settling::touched_by;
 use crate::tolds::{MOST_TOLDS, Tolds};
@@ -95,7 +98,12 @@ impl Core {
         ensures { result ≡ closes_circle self.now.marking self.now.view.parked
             (record { key = key.now; start = range.now.start; end = range.now.end; kind = kind }) }
     {
-        self.parts.circle(key, range, kind)
+        let asked = Wanted {
+            key: *key,
+            range: *range,
+            kind,
+        };
+        self.parts.parked.close_circle(&self.parts.locks, &asked)
     }
 }
 

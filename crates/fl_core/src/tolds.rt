@@ -1,3 +1,5 @@
+//! The list of replies that one order gives, with room for all of them.
+
 ghost use Rattle.std.specs.Prelude.{◌≡◌, ◌<◌, [], ◌∷◌, ◌++◌, length, IfOk};
 
 use fl_order::{NoMemory, Told};
