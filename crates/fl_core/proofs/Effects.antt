@@ -1,11 +1,13 @@
 -- Effects on a state, and on what contracts see of it.
-use Rattle.std.proofs.Common.{◌≡◌, ◌≢◌, ℕ, true, false, cond, ◌==◌, Option, Some, None, Result, List, [], ◌∷◌, ◌++◌, refl, sym, ap, ◌∙◌, arith}
+use Rattle.std.proofs.Common.{◌≡◌, ◌≢◌, ℕ, true, false, cond, ◌==◌, Option, Some, None, Result, Err, List, [], ◌∷◌, ◌++◌, refl, sym, ap, ◌∙◌, arith}
 use Rattle.std.proofs.lemmas.Bool.Decides.{nat_tests}
 use Rattle.std.specs.FinMap.{empty}
 use Rattle.std.specs.List.{fold, AllByRecursion}
 use Rattle.fl_core.specs.State.{View, State, Snapshot, snapshot_of}
 use Rattle.fl_core.specs.Replies.{own_replies}
-use Rattle.fl_core.specs.Effects.{Effect, at_once, later, followed_by, told_first, replied, recorded, made}
+use Rattle.fl_core.specs.Waiting.{taken_out}
+use Rattle.fl_core.specs.declared.parked.Request.{Request}
+use Rattle.fl_core.specs.Effects.{Effect, leaving, at_once, later_to, later, followed_by, told_first, replied, recorded, made}
 use Rattle.fl_order.specs.declared.errno.Errno.{Errno}
 use Rattle.fl_order.specs.declared.told.Answer.{Answer}
 use Rattle.fl_order.specs.declared.told.Told.{Told}
@@ -64,3 +66,8 @@ made_replied order None (told ∷ tolds) p others =
     made_fold tolds (told_first order told) p
     ∙ ap (λ b. made_all tolds (made (λ v. cond b (at_once order (Some told.result) v) (followed_by (later told) (at_once order None v))) p)) (differs_from_other told.unique order.unique (others refl).0)
     ∙ ap (made_all tolds) (made_twice (later told) (at_once order None) p)
+
+-- a parked request that is told an error goes, and nothing else changes
+pub late_error : (told : Told) (e : Errno) (v : View) (r : Request) (others : List Request) → taken_out told.unique v.parked ≡ Some (r, others)
+    → told.result ≡ Err e → later told v ≡ leaving (record v { parked = others })
+late_error told e v r others taken is = λ i. later_to (taken i) (is i) v

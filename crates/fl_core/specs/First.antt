@@ -70,11 +70,13 @@ pub data IsAnswered (p : Snapshot) (order : Order) : Op → List Told → Type 0
       → waits p.marking (request_of order ask) ≡ true → ClosesCircle p.marking p.view.parked (request_of order ask)
       → IsAnswered p order (Setlkw ask) (own order (Err EDEADLK) ∷ [])
   is_one_too_many : (ask : LockAsk) → ask_error p.view.directory order.node ask ≡ None
-      → waits p.marking (request_of order ask) ≡ true → (ClosesCircle p.marking p.view.parked (request_of order ask) → ⊥)
+      → waits p.marking (request_of order ask) ≡ true
+      → (ClosesCircle p.marking p.view.parked (request_of order ask) → ⊥)
       → 256 ≤ length p.view.parked
       → IsAnswered p order (Setlkw ask) (own order (Err ENOLCK) ∷ [])
   waits_now : (ask : LockAsk) → ask_error p.view.directory order.node ask ≡ None
-      → waits p.marking (request_of order ask) ≡ true → (ClosesCircle p.marking p.view.parked (request_of order ask) → ⊥)
+      → waits p.marking (request_of order ask) ≡ true
+      → (ClosesCircle p.marking p.view.parked (request_of order ask) → ⊥)
       → length p.view.parked < 256
       → IsAnswered p order (Setlkw ask) []
 

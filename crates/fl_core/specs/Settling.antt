@@ -45,8 +45,8 @@ abbrev pub with_told : Told → Settled → Settled
 with_told told s = record s { tolds = told ∷ s.tolds }
 
 -- the request that is found is answered first, and what is left to do comes after
-abbrev pub answered_first : Marking → List Request → ((Request × List Request) → Settled) → Option (Request × List Request)
-    → Settled
+abbrev pub answered_first : Marking → List Request → ((Request × List Request) → Settled)
+    → Option (Request × List Request) → Settled
 answered_first m parked rest None = record { present = present m parked; tolds = [] }
 answered_first m parked rest (Some p) = with_told (granted_told m p.0) (rest p)
 

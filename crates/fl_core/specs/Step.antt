@@ -34,8 +34,8 @@ with_present s p = record { view = record p.view { parked = s.parked }; marking 
 abbrev pub next : Snapshot → Order → Snapshot
 next p order = let first = after_first p order in with_present (settling first).present first
 
--- Where the order is told an error itself, nobody else is told anything, and all is as it was before: the directory, the
--- requests that wait, and the locks.
+-- Where the order is told an error itself, nobody else is told anything, and all is as it was before: the directory,
+-- the requests that wait, and the locks.
 abbrev pub ChangesNothing : Snapshot → Order → List Told → Snapshot → Type 0
 ChangesNothing before order tolds after =
     (e : Errno) → Contains tolds (own order (Err e)) → (tolds ≡ own order (Err e) ∷ []) × (after ≡ before)

@@ -1,16 +1,17 @@
 //! Laws of the definitions, in the words of their subject. Each is the contract of an empty function.
 
-ghost use Rattle.std.specs.Prelude.{◌≡◌, ◌↔◌, true, [], List};
+ghost use Rattle.std.specs.Prelude.{◌≡◌, ◌↔◌, true, Some, Err, [], List};
 ghost use Rattle.fl_core.specs.Circle.{Wish, owner_of, hinders, wishes, closes_circle, IsCircle, ClosesCircle};
-ghost use Rattle.fl_core.specs.Effects.{Effect, recorded, made};
+ghost use Rattle.fl_core.specs.Effects.{Effect, later, leaving, recorded, made};
 ghost use Rattle.fl_core.specs.First.{IsFirst};
 ghost use Rattle.fl_core.specs.LockRequest.{mark_of, stroke_of};
 ghost use Rattle.fl_core.specs.Replies.{first_told, is_deadlock};
 ghost use Rattle.fl_core.specs.Settling.{Present, settled, IsSettled};
 ghost use Rattle.fl_core.specs.State.{View, State, Snapshot, snapshot_of};
-ghost use Rattle.fl_core.specs.Waiting.{AllWait, AreApart};
+ghost use Rattle.fl_core.specs.Waiting.{AllWait, AreApart, taken_out};
 ghost use Rattle.fl_core.specs.declared.parked.Request.{Request as Waiter};
-ghost use Rattle.fl_order.specs.declared.order.Order.{Order as Asked};
+ghost use Rattle.fl_order.specs.declared.errno.Errno.{Errno as Fault};
+ghost use Rattle.fl_order.specs.declared.order.Order.{Order as Request};
 ghost use Rattle.fl_order.specs.declared.told.Told.{Told as Reply};
 ghost use Rattle.fl_ranges.specs.Marking.{Marking as Locks};
 
@@ -21,7 +22,7 @@ pub fn effects_are_shown_alike()
 
 /// The first replies of an order are those that its case says, where no two requests that wait have one unique.
 pub fn first_replies_are_those_of_the_orders_case()
-    ensures { (p : Snapshot) (order : Asked) (tolds : List Reply) → AreApart p.view.parked →
+    ensures { (p : Snapshot) (order : Request) (tolds : List Reply) → AreApart p.view.parked →
         (tolds ≡ first_told p order) ↔ IsFirst p order tolds }
 {}
 
@@ -40,4 +41,11 @@ pub fn settling_answers_the_oldest_first()
         IsSettled s tolds after ↔ ((tolds ≡ (settled s).tolds) × (after ≡ (settled s).present)) }
     ensures nothing { (s : Present) → ((settled s).tolds ≡ []) ↔ AllWait s.marking s.parked }
     ensures ends { (s : Present) → AllWait (settled s).present.marking (settled s).present.parked }
+{}
+
+/// A request that waits and is told an error leaves those that wait, and that is all that changes.
+pub fn a_late_error_changes_no_lock()
+    ensures { (told : Reply) (e : Fault) (v : View) (r : Waiter) (others : List Waiter) →
+        taken_out told.unique v.parked ≡ Some (r, others) → told.result ≡ Err e →
+        later told v ≡ leaving (record v { parked = others }) }
 {}

@@ -146,7 +146,8 @@ impl Parts {
         ensures view { self.new.view ≡ self.old.view }
         ensures marking { self.new.marking ≡ after_changes (flushed node owner result) self.old.marking }
         ensures lawful { IsLawful self.old.marking → IsLawful self.new.marking }
-        ensures elsewhere { SameElsewhere (record { class = Record; node = node; owner = owner }) self.old.marking self.new.marking }
+        ensures elsewhere { SameElsewhere (record { class = Record; node = node; owner = owner })
+            self.old.marking self.new.marking }
     {
         if self.directory.node_of(fh) != Some(node) {
             return Err(Errno::EBADF);
