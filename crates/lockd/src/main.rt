@@ -5,15 +5,19 @@
 ghost use Rattle.std.specs.Prelude.{IfOk};
 ghost use Rattle.lockd_cli.specs.Workers.{HasWorkers};
 
-use lockd_cli::{Asked, Refusal, read_words};
-use lockd_commands::{Status, bytes_on, check_on, drive_on, script_on, serve_on};
+use descriptors::hold_closed_streams;
+use lockd_cli::{Asked, Refusal, print_version, read_words};
+use lockd_commands::{Fault, Status, bytes_on, check_on, drive_on, script_on, serve_on};
 use std::fs::Files;
+use std::io::Write;
 use std::net::Net;
 use std::path::Path;
 use std::process::ExitCode;
 use std::sync::Wait;
 use std::thread::Threads;
 use std::{env, io};
+
+mod descriptors;
 
 fn main(rt: HostRuntime) -> ExitCode {
     match asked(&rt) {
@@ -40,6 +44,9 @@ fn run<T: Threads + Wait + Net + Files + Sync>(
 ) -> Status
     requires workers { HasWorkers asked.now }
 {
+    if matches!(asked, Asked::Serve(..) | Asked::Drive(_)) {
+        hold_closed_streams(rt);
+    }
     let alloc = rt.alloc();
     let mut input = rt.reader();
     let mut output = io::writer(rt);
@@ -48,6 +55,7 @@ fn run<T: Threads + Wait + Net + Files + Sync>(
         Asked::Script => script_on(alloc, &mut input, &mut output, &mut faults),
         Asked::Bytes => bytes_on(alloc, &mut input, &mut output, &mut faults),
         Asked::Check => check_on(alloc, &mut input, &mut output, &mut faults),
+        Asked::Version => version_on(&mut output, &mut faults),
         Asked::Serve(socket, workers) => {
             let path = Path::new(socket.as_str());
             serve_on(threads, alloc, path, *workers, &mut output, &mut faults)
@@ -55,6 +63,18 @@ fn run<T: Threads + Wait + Net + Files + Sync>(
         Asked::Drive(socket) => {
             let path = Path::new(socket.as_str());
             drive_on(rt, alloc, path, &mut input, &mut output, &mut faults)
+        }
+    }
+}
+
+// `lockd --version`: writes the line that says the version.
+fn version_on<W: Write, F: Write>(output: &mut W, faults: &mut F) -> Status {
+    match print_version(output) {
+        Ok(()) => Status::Good,
+        Err(_) => {
+            let fault = Fault::Write;
+            let _ = writeln!(faults, "{fault}");
+            Status::Faulted(fault)
         }
     }
 }

@@ -3,6 +3,8 @@
 
 mod options;
 mod refusal;
+mod version;
 
 pub use options::{Asked, read_words};
 pub use refusal::Refusal;
+pub use version::{VERSION, print_version};

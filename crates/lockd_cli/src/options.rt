@@ -4,6 +4,8 @@ ghost use Rattle.std.specs.Prelude.{IfOk};
 ghost use Rattle.lockd_cli.specs.Workers.{HasWorkers};
 
 use crate::refusal::Refusal;
+use crate::version::VERSION;
+use clap::error::ErrorKind;
 use clap::{Arg, ArgAction, ArgMatches, Command, Error};
 use std::alloc::Global;
 
@@ -23,6 +25,8 @@ pub enum Asked {
     Serve(String, u32),
     /// Sends messages to the socket at this path and prints its replies.
     Drive(String),
+    /// Prints the program's version.
+    Version,
 }
 
 /// What the words of a command line ask for; the first is the program's name. A word that no command takes, a count of
@@ -30,7 +34,11 @@ pub enum Asked {
 pub fn read_words(alloc: Global, words: &[String]) -> Result<Asked, Refusal>
     ensures workers { IfOk result HasWorkers }
 {
-    let matches = command(alloc)?.try_get_matches_from(words)?;
+    let matches = match command(alloc)?.try_get_matches_from(words) {
+        Ok(matches) => matches,
+        Err(error) if error.kind() == ErrorKind::DisplayVersion => return Ok(Asked::Version),
+        Err(error) => return Err(Refusal::from(error)),
+    };
     match matches.subcommand() {
         Some(("bytes", _)) => Ok(Asked::Bytes),
         Some(("check", _)) => Ok(Asked::Check),
@@ -87,6 +95,7 @@ fn command<'a>(alloc: Global) -> Result<Command<'a>, Error> {
         .arg(socket_argument(alloc))?;
     let lockd = Command::new(alloc, "lockd")
         .about("Keeps the locks of a directory of lock files")
+        .version(VERSION)
         .after_help("Without a command it is script.")
         .subcommand(script)?
         .subcommand(bytes)?

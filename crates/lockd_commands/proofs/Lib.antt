@@ -5,3 +5,4 @@ pub mod HexLemmas
 pub mod ReplyLemmas
 pub mod ScriptLemmas
 pub mod StepLemmas
+pub mod WriteLemmas

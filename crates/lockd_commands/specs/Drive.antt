@@ -1,6 +1,6 @@
 -- A client: what the lines of a text say to a server, and what came of them.
 pub mod Inside
-use Rattle.std.specs.Prelude.{◌≡◌, ℕ, ◌+◌, ◌<◌, ◌≤◌, nat_le, ◌&&◌, Bool, if◌then◌else◌, List, [], ◌∷◌, length, take, drop, codes, All, Option, Some, None, option_map, IfSome, Result, Ok, Err}
+use Rattle.std.specs.Prelude.{◌≡◌, ℕ, ◌+◌, ◌<◌, ◌≤◌, nat_le, ◌&&◌, Bool, if◌then◌else◌, List, [], ◌∷◌, length, take, drop, codes, All, Option, Some, None, option_map, IfSome, Result, Ok, Err, ⊤}
 use Rattle.std.specs.Fmt.{decimal}
 use Rattle.std.specs.List.{sum_by}
 use Rattle.std.specs.Io.KnownBytes.{Appends}
@@ -10,6 +10,8 @@ use Rattle.std.specs.Str.Parse.{digits_value}
 use Rattle.hex.specs.Hex.{decode_of}
 use Rattle.fl_wire.specs.Layout.{len_of}
 use Rattle.lockd_commands.specs.Hex.{lines_of, hex_lines}
+use Rattle.lockd_commands.specs.declared.fault.Fault.{Fault}
+use Rattle.lockd_commands.specs.declared.fault.Fault.TheVariants as command
 
 -- what a line says: these bytes are sent, or so many replies are waited for
 pub data Said : Type 0 where
@@ -90,3 +92,11 @@ pub record IsCutShort (left old new : Option (List ℕ)) : Type 0 where
   pub said : text_says text ≡ Ok lines
   pub fewer : got < awaited_by lines
   pub printed : ArePrinted got old new
+
+-- why a client gives up before it is connected
+abbrev pub IsUnconnected : Fault → Type 0
+IsUnconnected (command.BadLine n) = ⊤
+IsUnconnected command.NoMemory = ⊤
+IsUnconnected command.Read = ⊤
+IsUnconnected command.Connect = ⊤
+IsUnconnected fault = ⊥

@@ -1,5 +1,6 @@
--- The exit status of a command.
+-- How a command ends, and its exit status.
 use Rattle.std.specs.Prelude.{ℕ}
+use Rattle.lockd_commands.specs.declared.fault.Fault.{Fault}
 use Rattle.lockd_commands.specs.declared.status.Status.{Status}
 use Rattle.lockd_commands.specs.declared.status.Status.TheVariants.{Good, Different, Faulted}
 
@@ -8,3 +9,9 @@ abbrev pub exit_code_of : Status → ℕ
 exit_code_of Good = 0
 exit_code_of Different = 1
 exit_code_of (Faulted fault) = 2
+
+-- the command gave up, by a fault of which this holds
+abbrev pub EndsBy : (Fault → Type 0) → Status → Type 0
+EndsBy holds Good = ⊥
+EndsBy holds Different = ⊥
+EndsBy holds (Faulted fault) = holds fault

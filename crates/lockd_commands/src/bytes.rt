@@ -2,11 +2,12 @@ ghost use Rattle.std.specs.Prelude.{◌≡◌, ◌≢◌, ◌⊎◌, ℕ, None, 
 ghost use Rattle.std.specs.Io.KnownBytes.{Keeps};
 ghost use Rattle.lockd_commands.specs.Bytes.{IsPrinted, IsSession};
 ghost use Rattle.lockd_commands.specs.Bytes.Inside.{Did, IsOfStream};
+ghost use Rattle.lockd_commands.specs.Faults.{IsOfBytes, IsTold};
 ghost use Rattle.lockd_commands.specs.Hex.{hex_stream};
 ghost use Rattle.lockd_commands.specs.declared.fault.Fault.{Fault};
 ghost use Rattle.fl_serve.specs.declared.session.Fault.{Fault as SessionFault};
 
-use crate::fault::Fault;
+use crate::fault::{Fault, tell};
 use crate::status::Status;
 use crate::streams::{read_all, write_all};
 use fl_serve::{Ended, run_session};
@@ -46,12 +47,15 @@ pub fn bytes_on<R: Read, W: Write, F: Write>(
     ensures kept { (fault : Fault) → result ≡ Status.Faulted fault
         → fault ≢ Fault.Write → fault ≢ Fault.Cut → ((n : ℕ) → fault ≢ Fault.BadLength n)
         → Keeps (W.contents output.old) (W.contents output.new) }
+    ensures faulted { (fault : Fault) → result ≡ Status.Faulted fault →
+        IsOfBytes fault × IsTold fault (F.contents faults.old) (F.contents faults.new) }
     ensures quiet { result ≡ Status.Good → Keeps (F.contents faults.old) (F.contents faults.new) }
+    ensures ended { result ≢ Status.Different }
 {
     match bytes(alloc, input, output) {
         Ok(()) => Status::Good,
         Err(fault) => {
-            let _ = writeln!(faults, "{fault}");
+            tell(faults, fault);
             Status::Faulted(fault)
         }
     }

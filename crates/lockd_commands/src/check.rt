@@ -1,12 +1,13 @@
-ghost use Rattle.std.specs.Prelude.{◌≡◌, ◌≢◌, ℕ, string_bytes, IfSome, IfOk, OnOk, IfErr};
+ghost use Rattle.std.specs.Prelude.{◌≡◌, ◌≢◌, ◌⊎◌, ℕ, string_bytes, IfSome, IfOk, OnOk, IfErr};
 ghost use Rattle.std.specs.Io.KnownBytes.{Keeps};
 ghost use Rattle.fl_trace.specs.Text.{text_of, BreaksAt, LineFits, Fits};
 ghost use Rattle.fl_book.specs.Verdicts.{IsVerdict};
 ghost use Rattle.fl_book.specs.declared.judge.Verdict.TheVariants as said;
 ghost use Rattle.lockd_commands.specs.Check.{verdict_text, IsJudged};
+ghost use Rattle.lockd_commands.specs.Faults.{IsOfCheck, IsTold};
 ghost use Rattle.lockd_commands.specs.declared.fault.Fault.{Fault};
 
-use crate::fault::Fault;
+use crate::fault::{Fault, tell};
 use crate::status::Status;
 use crate::streams::{read_all, write_all};
 use fl_book::{Verdict, check, read_trace};
@@ -34,13 +35,16 @@ pub fn check_on<R: Read, W: Write, F: Write>(
     // Only a write that fails leaves anything on the output.
     ensures kept { (fault : Fault) → result ≡ Status.Faulted fault → fault ≢ Fault.Write →
         Keeps (W.contents output.old) (W.contents output.new) }
-    ensures quiet { result ≡ Status.Good → Keeps (F.contents faults.old) (F.contents faults.new) }
+    ensures faulted { (fault : Fault) → result ≡ Status.Faulted fault →
+        IsOfCheck fault × IsTold fault (F.contents faults.old) (F.contents faults.new) }
+    ensures quiet { (result ≡ Status.Good) ⊎ (result ≡ Status.Different) →
+        Keeps (F.contents faults.old) (F.contents faults.new) }
 {
     match judge(alloc, input, output) {
         Ok(Verdict::Legal) => Status::Good,
         Ok(Verdict::Differs(_)) => Status::Different,
         Err(fault) => {
-            let _ = writeln!(faults, "{fault}");
+            tell(faults, fault);
             Status::Faulted(fault)
         }
     }
@@ -52,6 +56,7 @@ fn judge<R: Read, W: Write>(alloc: Global, input: &mut R, output: &mut W) -> Res
     ensures bad { IfErr result (λ fault. (n : ℕ) → fault ≡ Fault.BadLine n →
         IfSome (R.remaining input.old) (λ trace. BreaksAt LineFits trace n)) }
     ensures kept { IfErr result (λ fault. fault ≢ Fault.Write → Keeps (W.contents output.old) (W.contents output.new)) }
+    ensures fault { IfErr result IsOfCheck }
 {
     let text = read_all(alloc, input)?;
     let history = read_trace(alloc, &text)?;

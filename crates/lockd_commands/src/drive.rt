@@ -1,10 +1,13 @@
-ghost use Rattle.std.specs.Prelude.{◌≡◌, ◌≢◌, ◌⊎◌, ℕ, Err, IfSome, IfErr};
+ghost use Rattle.std.specs.Prelude.{◌≡◌, ◌≢◌, ◌⊎◌, ℕ, [], Err, IfSome, IfErr, IsErrAnd};
 ghost use Rattle.std.specs.Io.KnownBytes.{Keeps};
-ghost use Rattle.lockd_commands.specs.Drive.{text_says, ArePrinted, IsDriven, IsCutShort};
+ghost use Rattle.std.specs.Path.{path_bytes};
+ghost use Rattle.lockd_commands.specs.Drive.{text_says, ArePrinted, IsDriven, IsCutShort, IsUnconnected};
 ghost use Rattle.lockd_commands.specs.Drive.Inside.{Did};
+ghost use Rattle.lockd_commands.specs.Status.{EndsBy};
+ghost use Rattle.lockd_commands.specs.Faults.{IsOfDrive, IsTold};
 ghost use Rattle.lockd_commands.specs.declared.fault.Fault.{Fault};
 
-use crate::fault::Fault;
+use crate::fault::{Fault, tell};
 use crate::status::Status;
 use crate::streams::read_all;
 use exchange::drive_over;
@@ -23,7 +26,7 @@ mod steps;
 /// `lockd drive`: connects to the Unix stream socket at a path, and does what each line of the input says, in turn. A
 /// line of hex is sent as it is; `recv N`, N from 1 to 1000, waits for N replies and writes each as a line of lower
 /// case hex. Then it closes. All input is read and checked before it connects. A fault is told as one line on
-/// `faults`. Nothing is read between two `recv`: a server that waits until its replies are read may keep a long row
+/// `faults`. There is no connection at an empty path. Nothing is read between two `recv`: a server that waits until its replies are read may keep a long row
 /// of other lines waiting for ever.
 pub fn drive_on<N: Net, R: Read, W: Write, F: Write>(
     net: &N,
@@ -51,13 +54,16 @@ pub fn drive_on<N: Net, R: Read, W: Write, F: Write>(
     ensures kept { (fault : Fault) → result ≡ Status.Faulted fault
         → (fault ≡ Fault.Connect) ⊎ ((n : ℕ) × (fault ≡ Fault.BadLine n))
         → Keeps (W.contents output.old) (W.contents output.new) }
+    ensures unnamed { path_bytes path.entry ≡ [] → EndsBy IsUnconnected result }
+    ensures faulted { (fault : Fault) → result ≡ Status.Faulted fault →
+        IsOfDrive fault × IsTold fault (F.contents faults.old) (F.contents faults.new) }
     ensures quiet { result ≡ Status.Good → Keeps (F.contents faults.old) (F.contents faults.new) }
     ensures ended { result ≢ Status.Different }
 {
     match drive(net, alloc, path, input, output) {
         Ok(()) => Status::Good,
         Err(fault) => {
-            let _ = writeln!(faults, "{fault}");
+            tell(faults, fault);
             Status::Faulted(fault)
         }
     }
@@ -70,7 +76,8 @@ fn drive<N: Net, R: Read, W: Write>(
     input: &mut R,
     output: &mut W,
 ) -> Result<(), Fault>
-    ensures { Did (R.remaining input.old) (W.contents output.old) (W.contents output.new) result }
+    ensures did { Did (R.remaining input.old) (W.contents output.old) (W.contents output.new) result }
+    ensures unnamed { path_bytes path.entry ≡ [] → IsErrAnd result IsUnconnected }
 {
     let text = read_all(alloc, input)?;
     let steps = read_steps(alloc, &text)?;
@@ -84,6 +91,10 @@ fn drive<N: Net, R: Read, W: Write>(
 // A connection to the socket at this path.
 fn connect<N: Net>(net: &N, path: Path<'_>) -> Result<UnixStream, Fault>
     ensures error { IfErr result (λ fault. fault ≡ Fault.Connect) }
+    ensures unnamed { path_bytes path.entry ≡ [] → result ≡ Err Fault.Connect }
 {
+    if path.as_str().is_empty() {
+        return Err(Fault::Connect);
+    }
     UnixStream::connect(net, path).map_err(|_| Fault::Connect)
 }

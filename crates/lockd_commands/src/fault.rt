@@ -1,40 +1,71 @@
+//! Why a command gives up, and how that is told.
 ghost use Rattle.std.specs.Prelude.{◌≡◌};
+ghost use Rattle.lockd_commands.specs.Faults.{IsTold};
 
+use crate::line::Line;
+use crate::streams::begin;
 use fl_book::TraceFault;
 use fl_order::NoMemory;
 use std::alloc::{AllocError, AllocFailed};
-use thiserror::Error;
+use std::error::Error;
+use std::fmt;
+use std::fmt::{Display, Formatter};
+use std::io::Write;
 
 /// Why a command gave up. Its text is the line on standard error.
-#[derive(Clone, Copy, Debug, PartialEq, Eq, Error)]
+#[derive(Clone, Copy, Debug, PartialEq, Eq)]
 pub enum Fault {
     /// This line of the input, from 1, is the first that is wrong.
-    #[error("bad line {0}")]
     BadLine(usize),
     /// Want of memory.
-    #[error("no memory")]
     NoMemory,
     /// No connection came at the socket's path: it can't be bound, or accepting failed.
-    #[error("cannot listen")]
     Listen,
     /// The input can't be read.
-    #[error("read failed")]
     Read,
     /// The output can't be written.
-    #[error("write failed")]
     Write,
     /// The stream of messages ended inside one.
-    #[error("cut")]
     Cut,
     /// A message says this length, which none has: it is outside 40 to 8192 bytes.
-    #[error("bad length {0}")]
     BadLength(u32),
     /// There is no connection to a server at the path.
-    #[error("cannot connect")]
     Connect,
     /// A reply says a length that none has, outside 16 to 8192 bytes.
-    #[error("bad reply")]
     BadReply,
+}
+
+impl Display for Fault {
+    ghost use Rattle.std.specs.Prelude.{Some};
+    ghost use Rattle.lockd_commands.specs.Faults.{fault_text};
+
+    ghost output = { λ fault. Some (fault_text fault) };
+
+    fn fmt<W: fmt::Write>(&self, f: &mut Formatter<W>) -> fmt::Result {
+        match self {
+            Fault::BadLine(n) => write!(f, "bad line {n}"),
+            Fault::NoMemory => f.write_str("no memory"),
+            Fault::Listen => f.write_str("cannot listen"),
+            Fault::Read => f.write_str("read failed"),
+            Fault::Write => f.write_str("write failed"),
+            Fault::Cut => f.write_str("cut"),
+            Fault::BadLength(n) => write!(f, "bad length {n}"),
+            Fault::Connect => f.write_str("cannot connect"),
+            Fault::BadReply => f.write_str("bad reply"),
+        }
+    }
+}
+
+impl Error for Fault {}
+
+/// Tells a fault as one line, and takes no memory for it.
+pub(crate) fn tell<F: Write>(faults: &mut F, fault: Fault)
+    ensures { IsTold fault (F.contents faults.old) (F.contents faults.new) }
+{
+    let mut line = Line::new();
+    if writeln!(line, "{fault}").is_ok() {
+        begin(faults, line.as_bytes());
+    }
 }
 
 impl From<NoMemory> for Fault {

@@ -5,6 +5,7 @@ mod bytes;
 mod check;
 mod drive;
 mod fault;
+mod line;
 mod script;
 mod serve;
 mod status;

@@ -2,11 +2,12 @@ ghost use Rattle.std.specs.Prelude.{◌≡◌, ◌≢◌, ℕ, ◌++◌, ◌∷�
 ghost use Rattle.std.specs.Io.KnownBytes.{Keeps, Appends};
 ghost use Rattle.fl_book.specs.Legal.{IsLegal, is_asked};
 ghost use Rattle.fl_trace.specs.Text.{line_text, text_of, BreaksAt};
+ghost use Rattle.lockd_commands.specs.Faults.{IsOfScript, IsTold};
 ghost use Rattle.lockd_commands.specs.Script.{line_of, IsAskLine, IsTraceOf, FaultSays, IsAnswered};
 ghost use Rattle.fl_history.specs.declared.history.Line.{Line as Entry};
 ghost use Rattle.lockd_commands.specs.declared.fault.Fault.{Fault};
 
-use crate::fault::Fault;
+use crate::fault::{Fault, tell};
 use crate::status::Status;
 use crate::streams::{read_all, write_all};
 use fl_book::{Desk, History, Line, first_line, print_trace};
@@ -41,12 +42,15 @@ pub fn script_on<R: Read, W: Write, F: Write>(
     // Only a write that fails leaves anything on the output.
     ensures kept { (fault : Fault) → result ≡ Status.Faulted fault → fault ≢ Fault.Write →
         Keeps (W.contents output.old) (W.contents output.new) }
+    ensures faulted { (fault : Fault) → result ≡ Status.Faulted fault →
+        IsOfScript fault × IsTold fault (F.contents faults.old) (F.contents faults.new) }
     ensures quiet { result ≡ Status.Good → Keeps (F.contents faults.old) (F.contents faults.new) }
+    ensures ended { result ≢ Status.Different }
 {
     match script(alloc, input, output) {
         Ok(()) => Status::Good,
         Err(fault) => {
-            let _ = writeln!(faults, "{fault}");
+            tell(faults, fault);
             Status::Faulted(fault)
         }
     }
@@ -57,6 +61,7 @@ fn script<R: Read, W: Write>(alloc: Global, input: &mut R, output: &mut W) -> Re
     ensures bad { IfErr result (λ fault. (n : ℕ) → fault ≡ Fault.BadLine n →
         IfSome (R.remaining input.old) (λ script. BreaksAt IsAskLine script n)) }
     ensures kept { IfErr result (λ fault. fault ≢ Fault.Write → Keeps (W.contents output.old) (W.contents output.new)) }
+    ensures fault { IfErr result IsOfScript }
 {
     let text = read_all(alloc, input)?;
     let trace = trace_of(alloc, &text)?;

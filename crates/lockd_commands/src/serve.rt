@@ -1,11 +1,13 @@
-ghost use Rattle.std.specs.Prelude.{◌≡◌, ◌≢◌, ◌⊎◌, ◌≤◌, ◌<◌, IfErr};
+ghost use Rattle.std.specs.Prelude.{◌≡◌, ◌≢◌, ◌⊎◌, ◌≤◌, ◌<◌, [], Err, IfErr};
 ghost use Rattle.std.specs.Io.KnownBytes.{Keeps};
+ghost use Rattle.std.specs.Path.{path_bytes};
 ghost use Rattle.fl_book.specs.Legal.{IsLegal};
 ghost use Rattle.lockd_commands.specs.Serve.{IsTraced, IsOfSession};
-ghost use Rattle.lockd_commands.specs.Serve.Inside.{Did};
+ghost use Rattle.lockd_commands.specs.Serve.Inside.{Did, TellsOf};
+ghost use Rattle.lockd_commands.specs.Faults.{IsOfServe, IsTold};
 ghost use Rattle.lockd_commands.specs.declared.fault.Fault.{Fault};
 
-use crate::fault::Fault;
+use crate::fault::{Fault, tell};
 use crate::status::Status;
 use crate::streams::write_all;
 use fl_book::print_trace;
@@ -15,15 +17,16 @@ use std::fs;
 use std::fs::Files;
 use std::io::Write;
 use std::net::Net;
-use std::os::unix::fs::FileTypeExt;
+use std::os::unix::fs::{FileTypeExt, MetadataExt};
 use std::os::unix::net::{UnixListener, UnixStream};
 use std::path::Path;
 use std::sync::Wait;
 use std::thread::Threads;
 
 /// `lockd serve`: listens at a path with a Unix stream socket, serves the first connection with 1 to 16 workers, and
-/// writes the trace of the session once it is over. The socket's file is taken away when the connection is there. A fault
-/// is told as one line on `faults`, behind the trace if there is one.
+/// writes the trace of the session once it is over. The socket's file is taken away when the connection is there, and no
+/// other file that stands at the path by then. At an empty path it doesn't listen. A fault is told as one line on `faults`,
+/// behind the trace if there is one.
 pub fn serve_on<R: Threads + Wait + Net + Files + Sync, W: Write, F: Write>(
     rt: &R,
     alloc: Global,
@@ -38,13 +41,16 @@ pub fn serve_on<R: Threads + Wait + Net + Files + Sync, W: Write, F: Write>(
         → IsTraced (W.contents output.old) (W.contents output.new) }
     ensures kept { (fault : Fault) → result ≡ Status.Faulted fault → (fault ≡ Fault.Listen) ⊎ (fault ≡ Fault.NoMemory)
         → Keeps (W.contents output.old) (W.contents output.new) }
+    ensures faulted { (fault : Fault) → result ≡ Status.Faulted fault →
+        IsOfServe fault × IsTold fault (F.contents faults.old) (F.contents faults.new) }
     ensures quiet { result ≡ Status.Good → Keeps (F.contents faults.old) (F.contents faults.new) }
+    ensures unnamed { path_bytes path.entry ≡ [] → result ≡ Status.Faulted Fault.Listen }
     ensures ended { result ≢ Status.Different }
 {
     match serve_and_print(rt, alloc, path, workers, output) {
         Ok(()) => Status::Good,
         Err(fault) => {
-            let _ = writeln!(faults, "{fault}");
+            tell(faults, fault);
             Status::Faulted(fault)
         }
     }
@@ -58,7 +64,8 @@ fn serve_and_print<R: Threads + Wait + Net + Files + Sync, W: Write>(
     output: &mut W,
 ) -> Result<(), Fault>
     requires workers { (0 < workers) × (workers ≤ 16) }
-    ensures { Did (W.contents output.old) (W.contents output.new) result }
+    ensures did { Did (W.contents output.old) (W.contents output.new) result }
+    ensures unnamed { path_bytes path.entry ≡ [] → result ≡ Err Fault.Listen }
 {
     let stream = connection(rt, path)?;
     let done = fl_serve::serve(rt, alloc, &mut &stream, &mut &stream, workers, &Open);
@@ -69,7 +76,8 @@ fn serve_and_print<R: Threads + Wait + Net + Files + Sync, W: Write>(
 // Writes the trace of a session, and then tells its fault.
 fn print_done<W: Write>(alloc: Global, done: &Done, output: &mut W) -> Result<(), Fault>
     requires { IsLegal done.now.history }
-    ensures { Did (W.contents output.old) (W.contents output.new) result }
+    ensures did { Did (W.contents output.old) (W.contents output.new) result }
+    ensures tells { TellsOf done.now.history (W.contents output.old) (W.contents output.new) result }
 {
     if done.fault == Some(fl_serve::Fault::NoMemory) {
         return Err(Fault::NoMemory);
@@ -82,20 +90,44 @@ fn print_done<W: Write>(alloc: Global, done: &Done, output: &mut W) -> Result<()
     }
 }
 
-// The first connection at a path, whose file is then taken away.
+// The first connection at a path, whose file is then taken away. A socket with no path has no file, and nobody finds it.
 fn connection<R: Net + Files>(rt: &R, path: Path<'_>) -> Result<UnixStream, Fault>
-    ensures { IfErr result (λ fault. fault ≡ Fault.Listen) }
+    ensures error { IfErr result (λ fault. fault ≡ Fault.Listen) }
+    ensures unnamed { path_bytes path.entry ≡ [] → result ≡ Err Fault.Listen }
 {
+    if path.as_str().is_empty() {
+        return Err(Fault::Listen);
+    }
     let listener = UnixListener::bind(rt, path).map_err(|_| Fault::Listen)?;
+    let made = socket_at(rt, path);
     let accepted = listener.accept().map_err(|_| Fault::Listen);
-    remove_socket(rt, path);
+    remove_socket(rt, path, made);
     let (stream, _) = accepted?;
     Ok(stream)
 }
 
-// Takes the file of a socket away, and no other file.
-fn remove_socket<R: Files>(rt: &R, path: Path<'_>) {
-    if fs::symlink_metadata(rt, path).is_ok_and(|found| found.file_type().is_socket()) {
+// Which file a socket at a path is. No other file has these two numbers while the socket is open.
+#[derive(Clone, Copy, PartialEq, Eq)]
+struct SocketFile {
+    device: u64,
+    inode: u64,
+}
+
+// The socket at a path, where there is one and the file system tells.
+fn socket_at<R: Files>(rt: &R, path: Path<'_>) -> Option<SocketFile> {
+    let found = fs::symlink_metadata(rt, path).ok()?;
+    if !found.file_type().is_socket() {
+        return None;
+    }
+    Some(SocketFile {
+        device: found.dev(),
+        inode: found.ino(),
+    })
+}
+
+// Takes the file at a path away where it is the socket that was made, and no other file.
+fn remove_socket<R: Files>(rt: &R, path: Path<'_>, made: Option<SocketFile>) {
+    if made.is_some() && socket_at(rt, path) == made {
         let _ = fs::remove_file(rt, path);
     }
 }

@@ -1,6 +1,7 @@
 //! Whole inputs and outputs.
 ghost use Rattle.std.specs.Prelude.{◌≡◌, ◌⊎◌, IfSome, IfOk, OnOk, IfErr};
 ghost use Rattle.std.specs.Io.KnownBytes.{Appends};
+ghost use Rattle.lockd_commands.specs.Faults.{IsBegun};
 ghost use Rattle.lockd_commands.specs.declared.fault.Fault.{Fault};
 
 use crate::fault::Fault;
@@ -27,4 +28,22 @@ pub(crate) fn write_all<W: Write>(output: &mut W, text: &[u8]) -> Result<(), Fau
 {
     output.write_all(text).map_err(|_| Fault::Write)?;
     output.flush().map_err(|_| Fault::Write)
+}
+
+/// Writes a text, up to the first write that fails.
+pub(crate) fn begin<W: Write>(output: &mut W, text: &[u8])
+    ensures { IsBegun text.now (W.contents output.old) (W.contents output.new) }
+{
+    let mut rest = text;
+    for _ in 0..u64::MAX {
+        if rest.is_empty() {
+            return;
+        }
+        match output.write(rest) {
+            Ok(0) => return,
+            Ok(n) => rest = &rest[n..],
+            Err(error) if error.kind() == ErrorKind::Interrupted => {}
+            Err(_) => return,
+        }
+    }
 }

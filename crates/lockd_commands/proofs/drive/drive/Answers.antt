@@ -4,15 +4,15 @@ use Rattle.lockd_commands.specs.Drive.Inside.{said_by, TextFaults}
 use Rattle.lockd_commands.proofs.DriveLemmas.{did_all, did_not_begin, did_not_connect, did_stop}
 use Rattle.lockd_commands.proofs.drive.drive.Goals as goal
 
-pub returns-in_err-steps : goal.returns-in_err-steps
-returns-in_err-steps g c =
+pub returns-in_err-steps-clause-did : goal.returns-in_err-steps-clause-did
+returns-in_err-steps-clause-did g c =
     let bad = subst (λ text. TextFaults text c.in_err-steps.field-0.0) c.deref.ensures.value c.in_err-steps.ensures.error in
     let did = did_not_begin (g.R.Read.remaining c.args.input.now) (g.W.Write.contents c.args.output.now)
     c.in_ok-text.text.items c.in_err-steps.field-0.0 c.in_ok-text.ensures.bytes bad in
     search rules
 
-pub returns-in_err-stream : goal.returns-in_err-stream
-returns-in_err-stream g c =
+pub returns-in_err-stream-clause-did : goal.returns-in_err-stream-clause-did
+returns-in_err-stream-clause-did g c =
     let lines = map said_by c.in_ok-steps.steps.items in
     let said = subst (λ text. text_says text ≡ Ok lines) c.deref.ensures.value c.in_ok-steps.ensures.said in
     let did = did_not_connect (g.R.Read.remaining c.args.input.now) (g.W.Write.contents c.args.output.now)
@@ -20,8 +20,8 @@ returns-in_err-stream g c =
     c.in_err-stream.ensures.error in
     search rules
 
-pub returns-in_err-drive_over : goal.returns-in_err-drive_over
-returns-in_err-drive_over g c =
+pub returns-in_err-drive_over-clause-did : goal.returns-in_err-drive_over-clause-did
+returns-in_err-drive_over-clause-did g c =
     let text = c.in_ok-text.text.items in
     let told = subst (λ text. text_says text ≡ Ok (map said_by c.in_ok-steps.steps.items)) c.deref.ensures.value
     c.in_ok-steps.ensures.said in
@@ -31,8 +31,8 @@ returns-in_err-drive_over g c =
     c.in_err-drive_over.field-0.0 c.in_ok-text.ensures.bytes said c.in_err-drive_over.ensures.stopped in
     search rules
 
-pub returns : goal.returns
-returns g c =
+pub returns-clause-did : goal.returns-clause-did
+returns-clause-did g c =
     let text = c.in_ok-text.text.items in
     let told = subst (λ text. text_says text ≡ Ok (map said_by c.in_ok-steps.steps.items)) c.deref.ensures.value
     c.in_ok-steps.ensures.said in

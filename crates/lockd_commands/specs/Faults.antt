@@ -1,0 +1,76 @@
+-- What is told of a fault, and which faults each command can end with.
+use Rattle.std.specs.Prelude.{◌≡◌, ℕ, List, [], ◌∷◌, ◌++◌, codes, Option, ⊤}
+use Rattle.std.specs.Fmt.{decimal}
+use Rattle.std.specs.Io.KnownBytes.{Appends}
+use Rattle.lockd_commands.specs.declared.fault.Fault.{Fault}
+use Rattle.lockd_commands.specs.declared.fault.Fault.TheVariants.{BadLine, NoMemory, Listen, Read, Write, Cut, BadLength, Connect, BadReply}
+
+-- the text of a fault
+abbrev pub fault_text : Fault → List ℕ
+fault_text (BadLine n) = codes "bad line " ++ decimal n
+fault_text NoMemory = codes "no memory"
+fault_text Listen = codes "cannot listen"
+fault_text Read = codes "read failed"
+fault_text Write = codes "write failed"
+fault_text Cut = codes "cut"
+fault_text (BadLength n) = codes "bad length " ++ decimal n
+fault_text Connect = codes "cannot connect"
+fault_text BadReply = codes "bad reply"
+
+-- these bytes were written, or a beginning of them where a write failed
+pub record IsBegun (bytes : List ℕ) (old new : Option (List ℕ)) : Type 0 where
+  pub part : List ℕ
+  pub rest : List ℕ
+  pub parts : bytes ≡ part ++ rest
+  pub written : Appends old new part
+
+-- a fault was told: its text as one line, or a beginning of it where that couldn't be written
+abbrev pub IsTold : Fault → Option (List ℕ) → Option (List ℕ) → Type 0
+IsTold fault old new = IsBegun (fault_text fault ++ 10 ∷ []) old new
+
+-- a fault of a script
+abbrev pub IsOfScript : Fault → Type 0
+IsOfScript (BadLine n) = ⊤
+IsOfScript NoMemory = ⊤
+IsOfScript Read = ⊤
+IsOfScript Write = ⊤
+IsOfScript fault = ⊥
+
+-- a fault of a trace that is to be judged
+abbrev pub IsOfCheck : Fault → Type 0
+IsOfCheck (BadLine n) = ⊤
+IsOfCheck NoMemory = ⊤
+IsOfCheck Read = ⊤
+IsOfCheck Write = ⊤
+IsOfCheck fault = ⊥
+
+-- a fault of a session from bytes to bytes
+abbrev pub IsOfBytes : Fault → Type 0
+IsOfBytes (BadLine n) = ⊤
+IsOfBytes NoMemory = ⊤
+IsOfBytes Read = ⊤
+IsOfBytes Write = ⊤
+IsOfBytes Cut = ⊤
+IsOfBytes (BadLength n) = ⊤
+IsOfBytes fault = ⊥
+
+-- a fault of a server
+abbrev pub IsOfServe : Fault → Type 0
+IsOfServe NoMemory = ⊤
+IsOfServe Listen = ⊤
+IsOfServe Read = ⊤
+IsOfServe Write = ⊤
+IsOfServe Cut = ⊤
+IsOfServe (BadLength n) = ⊤
+IsOfServe fault = ⊥
+
+-- a fault of a client
+abbrev pub IsOfDrive : Fault → Type 0
+IsOfDrive (BadLine n) = ⊤
+IsOfDrive NoMemory = ⊤
+IsOfDrive Read = ⊤
+IsOfDrive Write = ⊤
+IsOfDrive Cut = ⊤
+IsOfDrive Connect = ⊤
+IsOfDrive BadReply = ⊤
+IsOfDrive fault = ⊥
