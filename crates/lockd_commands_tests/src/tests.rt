@@ -5,6 +5,7 @@ mod bytes;
 mod check;
 mod drive;
 mod failing;
+mod many;
 mod scripts;
 mod serve;
 

@@ -15,7 +15,7 @@ use std::path::Path;
 use std::test::Fail;
 
 // What the command does at a path with the lines of a text.
-fn drive(rt: &(impl Net + AllocGlobal), path: Path<'_>, text: &[u8]) -> Came {
+pub(super) fn drive(rt: &(impl Net + AllocGlobal), path: Path<'_>, text: &[u8]) -> Came {
     let mut input = text;
     let mut printed = Vec::new(rt.alloc());
     let mut told = Vec::new(rt.alloc());

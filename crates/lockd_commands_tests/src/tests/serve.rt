@@ -16,7 +16,7 @@ use std::thread::Threads;
 use std::time::{Clock, Duration};
 use std::{fs, thread};
 
-fn serve<R: Threads + Wait + Net + Files + AllocGlobal + Sync>(
+pub(super) fn serve<R: Threads + Wait + Net + Files + AllocGlobal + Sync>(
     rt: &R,
     path: Path<'_>,
     workers: u32,
@@ -74,15 +74,15 @@ fn has_replies(rt: &impl Abort, alloc: Global, replies: &[u8]) {
     assert_eq!(rt; replies, wanted.as_slice());
 }
 
-// Its trace has six lines, and is legal.
-fn has_trace(rt: &impl Abort, alloc: Global, trace: &[u8]) {
+// A trace has this many lines, and is legal.
+pub(super) fn has_trace(rt: &impl Abort, alloc: Global, trace: &[u8], wanted: usize) {
     let mut lines = 0usize;
     for byte in trace {
         if *byte == b'\n' {
             lines = lines.saturating_add(1);
         }
     }
-    assert_eq!(rt; lines, 6);
+    assert_eq!(rt; lines, wanted);
     is(
         rt,
         "a trace",
@@ -108,7 +108,7 @@ fn sessions_over_a_socket(rt: HostRuntime) -> Result<(), Fail> {
         let came = serve(&rt, path.as_path(), 1);
         let replies = client.join(&rt).ok_or("a connection")?;
         has_replies(&rt, alloc, &replies);
-        has_trace(&rt, alloc, &came.printed);
+        has_trace(&rt, alloc, &came.printed, 6);
         assert_eq!(&rt; str::from_utf8(&came.told)?, told);
         let code = if told.is_empty() { 0 } else { 2 };
         assert_eq!(&rt; came.status.exit_code(), code);
@@ -116,12 +116,12 @@ fn sessions_over_a_socket(rt: HostRuntime) -> Result<(), Fail> {
     Ok(())
 }
 
-// A path at which there is something already, which stays, and one that can't be.
+// A path at which there is something already, which stays, one that can't be, and an empty one.
 #[test]
 fn paths_that_cannot_be_bound(rt: HostRuntime) -> Result<(), Fail> {
     let taken = own_path(&rt)?;
     let listener = UnixListener::bind(&rt, taken.as_path())?;
-    for path in [taken.as_path(), Path::new("/nowhere/at/all")] {
+    for path in [taken.as_path(), Path::new("/nowhere/at/all"), Path::new("")] {
         is(&rt, "a path", &serve(&rt, path, 4), "", "cannot listen\n");
     }
     drop(listener);

@@ -78,6 +78,7 @@ fn nobody_listens(rt: HostRuntime) -> Result<(), Fail> {
     let path = own_path(&rt)?;
     refuses(&rt, path.as_path(), "0102\nrecv 1\n", "cannot connect\n");
     refuses(&rt, path.as_path(), "", "cannot connect\n");
+    refuses(&rt, Path::new(""), "", "cannot connect\n");
     // No socket has a path of 200 bytes.
     let long = "x".repeat(rt.alloc(), 200)?;
     refuses(&rt, Path::new(long.as_str()), "", "cannot connect\n");
