@@ -12,6 +12,9 @@ use std::alloc::Global;
 // The most workers of a server.
 const MOST_WORKERS: u32 = 16;
 
+// Its workers where none are said, as the option's default has them.
+const DEFAULT_WORKERS: u32 = 4;
+
 /// What a command line asks for.
 #[derive(Debug, Drop)]
 pub enum Asked {
@@ -43,7 +46,7 @@ pub fn read_words(alloc: Global, words: &[String]) -> Result<Asked, Refusal>
         Some(("bytes", _)) => Ok(Asked::Bytes),
         Some(("check", _)) => Ok(Asked::Check),
         Some(("serve", options)) => {
-            let workers = options.get_one::<u32>("workers").unwrap_or(1);
+            let workers = options.get_one::<u32>("workers").unwrap_or(DEFAULT_WORKERS);
             let socket = socket_of(alloc, options)?;
             Ok(Asked::Serve(socket, workers.clamp(1, MOST_WORKERS)))
         }
