@@ -4,49 +4,45 @@ use super::same;
 use super::text::lookup_text;
 use fl_book::{TraceFault, read_trace};
 use std::process::Abort;
-use std::test::Fail;
 
 // The trace breaks at this line.
-fn refuses(rt: &(impl Abort + AllocGlobal), trace: &[u8], line: usize) -> Result<(), Fail> {
-    let fault = read_trace(rt.alloc(), trace).err().ok_or("a bad line")?;
+fn refuses(rt: &(impl Abort + AllocGlobal), trace: &[u8], line: usize) {
+    let fault = read_trace(rt.alloc(), trace).err().expect(rt, "a bad line");
     same(rt, &fault, &TraceFault::BadLine(line));
-    Ok(())
 }
 
 // A trace breaks where this line stands in it.
-fn is_bad(rt: &(impl Abort + AllocGlobal), line: &str) -> Result<(), Fail> {
+fn is_bad(rt: &(impl Abort + AllocGlobal), line: &str) {
     let good = "tell 1 ok\n";
-    let first = format!(in rt.alloc(); "{line}\n{good}")?;
-    refuses(rt, first.as_bytes(), 1)?;
-    let third = format!(in rt.alloc(); "{good}{good}{line}\n{good}\n")?;
-    refuses(rt, third.as_bytes(), 3)
+    let first = format!(in rt.alloc(); "{line}\n{good}").expect(rt, "memory");
+    refuses(rt, first.as_bytes(), 1);
+    let third = format!(in rt.alloc(); "{good}{good}{line}\n{good}\n").expect(rt, "memory");
+    refuses(rt, third.as_bytes(), 3);
 }
 
 // Each of so many lines is bad.
-fn are_bad(rt: &(impl Abort + AllocGlobal), lines: &str, count: usize) -> Result<(), Fail> {
+fn are_bad(rt: &(impl Abort + AllocGlobal), lines: &str, count: usize) {
     same(rt, &lines.lines().count(), &count);
     for line in lines.lines() {
-        is_bad(rt, line)?;
+        is_bad(rt, line);
     }
-    Ok(())
 }
 
 // So many times, nothing can be asked by these words.
-fn ask_nothing(rt: &(impl Abort + AllocGlobal), words: &str, count: usize) -> Result<(), Fail> {
+fn ask_nothing(rt: &(impl Abort + AllocGlobal), words: &str, count: usize) {
     same(rt, &words.lines().count(), &count);
     for op in words.lines() {
-        asks_nothing(rt, op)?;
+        asks_nothing(rt, op);
     }
-    Ok(())
 }
 
-fn asks_nothing(rt: &(impl Abort + AllocGlobal), op: &str) -> Result<(), Fail> {
-    let line = format!(in rt.alloc(); "ask 0 1 1 0 0 0 {op}")?;
-    is_bad(rt, line.as_str())
+fn asks_nothing(rt: &(impl Abort + AllocGlobal), op: &str) {
+    let line = format!(in rt.alloc(); "ask 0 1 1 0 0 0 {op}").expect(rt, "memory");
+    is_bad(rt, line.as_str());
 }
 
 #[test]
-fn bad_first_words(rt: HostRuntime) -> Result<(), Fail> {
+fn bad_first_words(rt: HostRuntime) {
     let lines = "\
 ok
 tell
@@ -61,11 +57,11 @@ tell 1 done
 tell 1 ok 1
 tell 18446744073709551616 ok
 ";
-    are_bad(&rt, lines, 12)
+    are_bad(&rt, lines, 12);
 }
 
 #[test]
-fn bad_answers(rt: HostRuntime) -> Result<(), Fail> {
+fn bad_answers(rt: HostRuntime) {
     let lines = "\
 tell 1 entry 2 33188 1 0
 tell 1 entry 2 33188 1 0 0 0
@@ -82,11 +78,11 @@ tell 1 lock 0 9 1
 tell 1 lock 0 9 1 4294967296
 tell 1 lock 0 9 1 11 0
 ";
-    are_bad(&rt, lines, 14)
+    are_bad(&rt, lines, 14);
 }
 
 #[test]
-fn bad_errors_and_other_lines(rt: HostRuntime) -> Result<(), Fail> {
+fn bad_errors_and_other_lines(rt: HostRuntime) {
     let lines = "\
 tell 1 err
 tell 1 err 0
@@ -99,11 +95,11 @@ ask 16 1 1 0 0 0 create 0 420 61
 ask 0 1 1 0 0 0
 tell 1 \u{e9}
 ";
-    are_bad(&rt, lines, 10)
+    are_bad(&rt, lines, 10);
 }
 
 #[test]
-fn lines_with_spaces_that_are_not_seen(rt: HostRuntime) -> Result<(), Fail> {
+fn lines_with_spaces_that_are_not_seen(rt: HostRuntime) {
     for line in [
         "",
         " ",
@@ -115,24 +111,23 @@ fn lines_with_spaces_that_are_not_seen(rt: HostRuntime) -> Result<(), Fail> {
         "tell 1 attr 2 33188 1 0 ",
         "tell 1 err 11 ",
     ] {
-        is_bad(&rt, line)?;
+        is_bad(&rt, line);
     }
-    Ok(())
 }
 
 #[test]
-fn lines_that_do_not_end(rt: HostRuntime) -> Result<(), Fail> {
-    refuses(&rt, b"tell 1 ok", 1)?;
-    refuses(&rt, b"tell 1 ok\ntell 2 ok\ntell 3 o", 3)
+fn lines_that_do_not_end(rt: HostRuntime) {
+    refuses(&rt, b"tell 1 ok", 1);
+    refuses(&rt, b"tell 1 ok\ntell 2 ok\ntell 3 o", 3);
 }
 
 #[test]
-fn a_line_that_is_no_text(rt: HostRuntime) -> Result<(), Fail> {
-    refuses(&rt, b"tell 1 ok\n\xff\n", 2)
+fn a_line_that_is_no_text(rt: HostRuntime) {
+    refuses(&rt, b"tell 1 ok\n\xff\n", 2);
 }
 
 #[test]
-fn bad_orders_of_names(rt: HostRuntime) -> Result<(), Fail> {
+fn bad_orders_of_names(rt: HostRuntime) {
     let lines = "\
 -
 lookup
@@ -155,11 +150,11 @@ create 0 420 6A
 create 0 420 616
 create 0 420 00
 ";
-    ask_nothing(&rt, lines, 20)
+    ask_nothing(&rt, lines, 20);
 }
 
 #[test]
-fn bad_orders_of_nodes(rt: HostRuntime) -> Result<(), Fail> {
+fn bad_orders_of_nodes(rt: HostRuntime) {
     let lines = "\
 forget
 forget -
@@ -180,11 +175,11 @@ destroy
 batch_forget
 batch_forget 1
 ";
-    ask_nothing(&rt, lines, 18)
+    ask_nothing(&rt, lines, 18);
 }
 
 #[test]
-fn bad_orders_of_open_files(rt: HostRuntime) -> Result<(), Fail> {
+fn bad_orders_of_open_files(rt: HostRuntime) {
     let lines = "\
 release
 release 1 0
@@ -206,11 +201,11 @@ flush 18446744073709551616 7
 flush 1 18446744073709551616
 flush 1 7 0
 ";
-    ask_nothing(&rt, lines, 19)
+    ask_nothing(&rt, lines, 19);
 }
 
 #[test]
-fn bad_orders_of_locks(rt: HostRuntime) -> Result<(), Fail> {
+fn bad_orders_of_locks(rt: HostRuntime) {
     let lines = "\
 getlk
 getlk 1 7 0 9 1 11
@@ -228,11 +223,11 @@ interrupt 01
 interrupt 1 1
 interrupt 18446744073709551616
 ";
-    ask_nothing(&rt, lines, 15)
+    ask_nothing(&rt, lines, 15);
 }
 
 #[test]
-fn orders_with_spaces_that_are_not_seen(rt: HostRuntime) -> Result<(), Fail> {
+fn orders_with_spaces_that_are_not_seen(rt: HostRuntime) {
     for op in [
         "",
         " ",
@@ -252,13 +247,12 @@ fn orders_with_spaces_that_are_not_seen(rt: HostRuntime) -> Result<(), Fail> {
         "interrupt ",
         "interrupt 1 ",
     ] {
-        asks_nothing(&rt, op)?;
+        asks_nothing(&rt, op);
     }
-    Ok(())
 }
 
 #[test]
-fn a_name_of_256_bytes(rt: HostRuntime) -> Result<(), Fail> {
-    let text = lookup_text(&rt, 256)?;
-    refuses(&rt, text.as_bytes(), 1)
+fn a_name_of_256_bytes(rt: HostRuntime) {
+    let text = lookup_text(&rt, 256);
+    refuses(&rt, text.as_bytes(), 1);
 }

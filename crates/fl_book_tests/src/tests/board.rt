@@ -12,19 +12,18 @@ use std::marker::Brand;
 use std::process::Abort;
 use std::sync::Wait;
 use std::sync::ledger::Blank;
-use std::test::Fail;
 use std::thread;
 use std::thread::{JoinHandle, Scope, Threads};
 
 // Makes one file, with one open file.
-fn create() -> Result<Order, Fail> {
-    let name = Name::new(b"a").ok_or("a name")?;
+fn create(rt: &impl Abort) -> Order {
+    let name = Name::new(b"a").expect(rt, "a name");
     let op = Op::Create {
         excl: false,
         mode: 420,
         name,
     };
-    Ok(order(1, 1, op))
+    order(1, 1, op)
 }
 
 // A lock of the worker's own owner on one byte of that file.
@@ -157,27 +156,27 @@ fn scoped<L: BoardName + Send + Sync, R: Threads + Wait + Sync>(
 }
 
 // The history of a board at which the file is made, and then all workers hand in their orders.
-fn history_of<L: BoardName + Send + Sync, R: Threads + Wait + Sync>(
+fn history_of<L: BoardName + Send + Sync, R: Threads + Wait + Sync + Abort>(
     rt: &R,
     alloc: Global,
     blank: Blank,
     workers: u32,
     orders: Orders,
     many: u64,
-) -> Result<History, Fail>
+) -> History
     requires named { (blank.name ≡ L.name) × (blank.parts ≡ L.parts) }
     requires parts { (workers ≡ L.parts) × (L.workers ≡ L.parts) }
     requires workers { (0 < workers) × (workers ≤ 16) }
 {
     let (board, mut seats) = Board::<L>::new(alloc, blank, workers)
         .ok()
-        .ok_or("a board")?;
-    let mut tolds = Tolds::new(alloc)?;
-    let first = seats.get_mut(0).ok_or("a seat")?;
+        .expect(rt, "a board");
+    let mut tolds = Tolds::new(alloc).expect(rt, "memory");
+    let first = seats.get_mut(0).expect(rt, "a seat");
     board
-        .hand_in(rt, first, &create()?, &mut tolds)
+        .hand_in(rt, first, &create(rt), &mut tolds)
         .ok()
-        .ok_or("memory")?;
+        .expect(rt, "memory");
     let crew = Crew {
         rt,
         alloc,
@@ -185,7 +184,7 @@ fn history_of<L: BoardName + Send + Sync, R: Threads + Wait + Sync>(
         orders,
         many,
     };
-    let back = scoped(&crew, seats).ok_or("a thread and memory for all")?;
+    let back = scoped(&crew, seats).expect(rt, "a thread and memory for all");
     let Crew {
         rt: _,
         alloc: _,
@@ -193,47 +192,47 @@ fn history_of<L: BoardName + Send + Sync, R: Threads + Wait + Sync>(
         orders: _,
         many: _,
     } = crew;
-    board
-        .close(back)
-        .ok()
-        .ok_or("all seats")
-        .map_err(Fail::from)
+    board.close(back).ok().expect(rt, "all seats")
 }
 
 // The history's orders are the first one, and then each worker's, in the order in which it handed them in. It gives
 // how many of its own each worker handed in.
-fn handed_in(rt: &impl Abort, history: &History, orders: Orders) -> Result<[u64; 16], Fail> {
+fn handed_in(rt: &impl Abort, history: &History, orders: Orders) -> [u64; 16] {
     let mut places = [0u64; 16];
     let first = Line::Asked {
         worker: 0,
-        order: create()?,
+        order: create(rt),
     };
     is_line(rt, history, 0, &first);
     for at in 1..history.len() {
         if let Line::Asked { worker, order } = history.line(at) {
-            let place = places.get_mut(worker as usize).ok_or("a worker")?;
+            let place = places.get_mut(worker as usize).expect(rt, "a worker");
             same(rt, &order, &made(orders, worker, *place));
             *place = place.saturating_add(1);
         }
     }
-    Ok(places)
+    places
 }
 
 // The history is legal. Each of so many workers handed in so many orders, and all of them are there.
 fn has_all(
-    rt: &(impl Abort + AllocGlobal),
+    rt: &impl Abort,
+    alloc: Global,
     history: &History,
     workers: usize,
     orders: Orders,
     many: u64,
-) -> Result<(), Fail> {
-    same(rt, &check(rt.alloc(), history)?, &Verdict::Legal);
-    let places = handed_in(rt, history, orders)?;
+) {
+    same(
+        rt,
+        &check(alloc, history).expect(rt, "memory"),
+        &Verdict::Legal,
+    );
+    let places = handed_in(rt, history, orders);
     for (worker, place) in places.iter().enumerate() {
         let wanted = if worker < workers { many } else { 0 };
         assert_eq!(rt; *place, wanted, "of worker {worker}");
     }
-    Ok(())
 }
 
 // How many replies of this result there are.
@@ -248,22 +247,28 @@ fn count(history: &History, wanted: Result<Answer, Errno>) -> usize {
 }
 
 #[test]
-fn two_seats_in_two_threads(rt: HostRuntime) -> Result<(), Fail> {
-    let history = history_of::<Brand, _>(&rt, rt.alloc(), Blank::new(2), 2, Orders::Locks, 100)?;
-    has_all(&rt, &history, 2, Orders::Locks, 100)?;
+fn two_seats_in_two_threads(rt: HostRuntime) {
+    let history = history_of::<Brand, _>(&rt, rt.alloc(), Blank::new(2), 2, Orders::Locks, 100);
+    has_all(&rt, rt.alloc(), &history, 2, Orders::Locks, 100);
     same(&rt, &history.len(), &402);
     // Each byte is locked by the one that comes first.
     same(&rt, &count(&history, Ok(Answer::Done)), &100);
     same(&rt, &count(&history, Err(Errno::EAGAIN)), &100);
-    Ok(())
 }
 
 #[test]
-fn mixed_orders_of_any_number_of_seats(rt: HostRuntime) -> Result<(), Fail> {
+fn mixed_orders_of_any_number_of_seats(rt: HostRuntime) {
     for (workers, many) in [(1, 10_000), (4, 2_500), (16, 625)] {
         let blank = Blank::new(u64::from(workers));
-        let history = history_of::<Brand, _>(&rt, rt.alloc(), blank, workers, Orders::Mixed, many)?;
-        has_all(&rt, &history, workers as usize, Orders::Mixed, many)?;
+        let history = history_of::<Brand, _>(&rt, rt.alloc(), blank, workers, Orders::Mixed, many);
+        has_all(
+            &rt,
+            rt.alloc(),
+            &history,
+            workers as usize,
+            Orders::Mixed,
+            many,
+        );
         if workers > 1 {
             assert!(rt;
                 count(&history, Err(Errno::EINTR)) > 0,
@@ -271,31 +276,30 @@ fn mixed_orders_of_any_number_of_seats(rt: HostRuntime) -> Result<(), Fail> {
             );
         }
     }
-    Ok(())
 }
 
 // A board of two seats, one of which is kept back at first.
-fn closed_late<L: BoardName, R: Wait>(rt: &R, alloc: Global, blank: Blank) -> Result<History, Fail>
+fn closed_late<L: BoardName, R: Wait + Abort>(rt: &R, alloc: Global, blank: Blank) -> History
     requires named { (blank.name ≡ L.name) × (blank.parts ≡ L.parts) }
     requires parts { (2 ≡ L.parts) × (L.workers ≡ L.parts) }
 {
-    let (board, mut seats) = Board::<L>::new(alloc, blank, 2).ok().ok_or("a board")?;
-    let mut tolds = Tolds::new(alloc)?;
-    let first = seats.get_mut(0).ok_or("a seat")?;
+    let (board, mut seats) = Board::<L>::new(alloc, blank, 2).ok().expect(rt, "a board");
+    let mut tolds = Tolds::new(alloc).expect(rt, "memory");
+    let first = seats.get_mut(0).expect(rt, "a seat");
     board
-        .hand_in(rt, first, &create()?, &mut tolds)
+        .hand_in(rt, first, &create(rt), &mut tolds)
         .ok()
-        .ok_or("memory")?;
-    let second = seats.pop().ok_or("a second seat")?;
+        .expect(rt, "memory");
+    let second = seats.pop().expect(rt, "a second seat");
     let Err(CloseFault::NotAll { board, seats }) = board.close(seats) else {
-        return Err(Fail::from("a seat is missing"));
+        panic!(rt; "a seat is missing")
     };
     let (mut seats, mut second) = (seats, second);
-    let first = seats.get_mut(0).ok_or("a seat")?;
+    let first = seats.get_mut(0).expect(rt, "a seat");
     board
         .hand_in(rt, first, &made(Orders::Locks, 0, 0), &mut tolds)
         .ok()
-        .ok_or("memory")?;
+        .expect(rt, "memory");
     board
         .hand_in(
             rt,
@@ -304,19 +308,19 @@ fn closed_late<L: BoardName, R: Wait>(rt: &R, alloc: Global, blank: Blank) -> Re
             &mut tolds,
         )
         .ok()
-        .ok_or("memory")?;
-    seats.push(second)?;
-    board
-        .close(seats)
-        .ok()
-        .ok_or("all seats")
-        .map_err(Fail::from)
+        .expect(rt, "memory");
+    seats.push(second).expect(rt, "memory");
+    board.close(seats).ok().expect(rt, "all seats")
 }
 
 #[test]
-fn a_board_goes_on_where_a_seat_is_missing(rt: HostRuntime) -> Result<(), Fail> {
-    let history = closed_late::<Brand, _>(&rt, rt.alloc(), Blank::new(2))?;
-    same(&rt, &check(rt.alloc(), &history)?, &Verdict::Legal);
+fn a_board_goes_on_where_a_seat_is_missing(rt: HostRuntime) {
+    let history = closed_late::<Brand, _>(&rt, rt.alloc(), Blank::new(2));
+    same(
+        &rt,
+        &check(rt.alloc(), &history).expect(&rt, "memory"),
+        &Verdict::Legal,
+    );
     same(&rt, &history.len(), &6);
     // The second seat's lock is refused: the two seats have one directory.
     let last = Line::Told(fl_order::Told {
@@ -324,5 +328,4 @@ fn a_board_goes_on_where_a_seat_is_missing(rt: HostRuntime) -> Result<(), Fail> 
         result: Err(Errno::EAGAIN),
     });
     is_line(&rt, &history, 5, &last);
-    Ok(())
 }

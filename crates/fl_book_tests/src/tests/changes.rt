@@ -2,9 +2,10 @@
 
 use super::lines::{history_of, lines_of};
 use fl_book::{History, Line};
-use fl_order::{Answer, Attr, Errno, LockAsk, NoMemory, Op, Order, Told};
+use fl_order::{Answer, Attr, Errno, LockAsk, Op, Order, Told};
 use fl_testing::Numbers;
 use std::alloc::Global;
+use std::process::Abort;
 
 #[derive(Clone, Copy, PartialEq, Eq)]
 pub(super) enum Change {
@@ -283,24 +284,26 @@ impl Lines {
         }
     }
 
-    fn double(&mut self, at: usize) -> Result<(), NoMemory> {
+    fn double(&mut self, rt: &impl Abort, at: usize) {
         if at < self.lines.len() {
-            self.lines.extend_from_within(at..at + 1)?;
+            self.lines
+                .extend_from_within(at..at + 1)
+                .expect(rt, "memory");
             self.move_last_to(at);
         }
-        Ok(())
     }
 
     // The reply at a place also stands at the end, to an order that was never asked.
-    fn answer_a_stranger(&mut self, at: usize) -> Result<(), NoMemory> {
+    fn answer_a_stranger(&mut self, rt: &impl Abort, at: usize) {
         let end = self.lines.len();
         if at < end {
-            self.lines.extend_from_within(at..at + 1)?;
+            self.lines
+                .extend_from_within(at..at + 1)
+                .expect(rt, "memory");
         }
         if let Some(Line::Told(told)) = self.lines.get_mut(end) {
             told.unique = 1_000_000;
         }
-        Ok(())
     }
 
     // The first line from a place on that can be changed is.
@@ -314,7 +317,7 @@ impl Lines {
     }
 
     // The places of replies that lock requests are granted: that it is done, and not to the order before them.
-    fn grants(&self, alloc: Global) -> Result<Vec<usize>, NoMemory> {
+    fn grants(&self, rt: &impl Abort, alloc: Global) -> Vec<usize> {
         let mut places = Vec::new(alloc);
         let mut asked = 0;
         for (at, line) in self.lines.iter().enumerate() {
@@ -322,78 +325,77 @@ impl Lines {
                 Line::Asked { worker: _, order } => asked = order.unique,
                 Line::Told(told) => {
                     if told.unique != asked && told.result == Ok(Answer::Done) {
-                        places.push(at)?;
+                        places.push(at).expect(rt, "memory");
                     }
                 }
             }
         }
-        Ok(places)
+        places
     }
 
-    fn exchange_grants(&mut self, alloc: Global, numbers: &mut Numbers) -> Result<(), NoMemory> {
-        let places = self.grants(alloc)?;
+    fn exchange_grants(&mut self, rt: &impl Abort, alloc: Global, numbers: &mut Numbers) {
+        let places = self.grants(rt, alloc);
         let count = places.len();
         if count > 0 {
             let first = numbers.below(100) as usize % count;
             let second = numbers.below(100) as usize % count;
             self.swap(places[first], places[second]);
         }
-        Ok(())
     }
 
-    fn drop_replies(&mut self, alloc: Global) -> Result<(), NoMemory> {
+    fn drop_replies(&mut self, rt: &impl Abort, alloc: Global) {
         let mut orders = Vec::new(alloc);
         for line in self.lines.iter() {
             if matches!(line, Line::Asked { .. }) {
-                orders.push(*line)?;
+                orders.push(*line).expect(rt, "memory");
             }
         }
         self.lines = orders;
-        Ok(())
     }
 
     // Makes the change at a place, or the first after it where it can be made. There may be none.
     fn change_from(
         &mut self,
+        rt: &impl Abort,
         alloc: Global,
         from: usize,
         change: Change,
         numbers: &mut Numbers,
-    ) -> Result<(), NoMemory> {
+    ) {
         let reply = self.next(from, true);
         let order = self.next(from, false);
         let two = self.next_two(from);
         let last = self.lines.len().saturating_sub(1);
         match change {
             Change::ReplyDropped => self.remove(reply),
-            Change::ReplyDoubled => self.double(reply)?,
+            Change::ReplyDoubled => self.double(rt, reply),
             Change::ReplyLater => self.swap(reply, reply.saturating_add(1)),
             Change::ReplyToTheEnd => self.move_to_the_end(reply),
-            Change::GrantsExchanged => self.exchange_grants(alloc, numbers)?,
+            Change::GrantsExchanged => self.exchange_grants(rt, alloc, numbers),
             Change::RepliesSwapped => self.swap(two, two.saturating_add(1)),
             Change::NeighboursSwapped => self.swap(from, from.saturating_add(1)),
             Change::OrderDropped => self.remove(order),
-            Change::OrderDoubled => self.double(order)?,
+            Change::OrderDoubled => self.double(rt, order),
             Change::LastDropped => self.lines.truncate(last),
             Change::EndDropped => self.lines.truncate(from),
-            Change::AllRepliesDropped => self.drop_replies(alloc)?,
-            Change::StrangerAnswered => self.answer_a_stranger(reply)?,
+            Change::AllRepliesDropped => self.drop_replies(rt, alloc),
+            Change::StrangerAnswered => self.answer_a_stranger(rt, reply),
             _ => self.change(from, change),
         }
-        Ok(())
     }
 }
 
 // The lines with a change at a random place. Where it can't be made they are the same.
 pub(super) fn changed(
+    rt: &impl Abort,
     alloc: Global,
     history: &History,
     change: Change,
     numbers: &mut Numbers,
-) -> Result<History, NoMemory> {
-    let lines = lines_of(alloc, history)?;
+) -> History {
+    let lines = lines_of(rt, alloc, history);
     let mut changed = Lines { lines };
     let from = numbers.below(100) as usize;
-    changed.change_from(alloc, from, change, numbers)?;
-    history_of(alloc, &changed.lines)
+    changed.change_from(rt, alloc, from, change, numbers);
+    history_of(rt, alloc, &changed.lines)
 }

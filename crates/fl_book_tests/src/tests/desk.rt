@@ -8,7 +8,6 @@ use fl_core::Tolds;
 use fl_order::{Answer, Attr, Errno, LockAsk, Name, Op, Told};
 use std::alloc::Global;
 use std::process::Abort;
-use std::test::Fail;
 
 // The replies, and no others, stand behind a line of a trace.
 fn stand_behind(rt: &impl Abort, trace: &History, at: usize, tolds: &[Told]) {
@@ -22,34 +21,34 @@ fn stand_behind(rt: &impl Abort, trace: &History, at: usize, tolds: &[Told]) {
 }
 
 // A new desk is asked what a trace asks, and tells what the trace tells. It gives the desk's history.
-fn asked_again(rt: &impl Abort, alloc: Global, trace: &History) -> Result<History, Fail> {
-    let mut desk = Desk::new(alloc)?;
-    let mut tolds = Tolds::new(alloc)?;
+fn asked_again(rt: &impl Abort, alloc: Global, trace: &History) -> History {
+    let mut desk = Desk::new(alloc).expect(rt, "memory");
+    let mut tolds = Tolds::new(alloc).expect(rt, "memory");
     for at in 0..trace.len() {
-        if take(&mut desk, &trace.line(at), &mut tolds)? {
+        if take(rt, &mut desk, &trace.line(at), &mut tolds) {
             stand_behind(rt, trace, at, tolds.as_slice());
         }
     }
-    Ok(desk.into_history())
+    desk.into_history()
 }
 
 #[test]
-fn a_desk_answers_and_records(rt: HostRuntime) -> Result<(), Fail> {
+fn a_desk_answers_and_records(rt: HostRuntime) {
     laws::own_reply_comes_first();
-    let trace = read(&rt, LOCKS, 10)?;
-    let history = asked_again(&rt, rt.alloc(), &trace)?;
+    let trace = read(&rt, LOCKS, 10);
+    let history = asked_again(&rt, rt.alloc(), &trace);
     same(&rt, &history.len(), &10);
-    is_text(&rt, &history, LOCKS)
+    is_text(&rt, &history, LOCKS);
 }
 
 // What another place doesn't ask, with names of any length.
-fn op_for(place: u64) -> Result<Op, Fail> {
+fn op_for(rt: &impl Abort, place: u64) -> Op {
     if place % 2 == 1 {
-        return Ok(lock_for(place));
+        return lock_for(place);
     }
     let letters = [b'a' + (place % 26) as u8; 255];
-    let name = Name::new(&letters[..(place % 256) as usize]).ok_or("a name")?;
-    Ok(Op::Unlink(name))
+    let name = Name::new(&letters[..(place % 256) as usize]).expect(rt, "a name");
+    Op::Unlink(name)
 }
 
 fn lock_for(place: u64) -> Op {
@@ -95,17 +94,17 @@ fn told_for(place: u64) -> Line {
 }
 
 #[test]
-fn a_history_of_many_chunks_gives_each_line_back(rt: HostRuntime) -> Result<(), Fail> {
+fn a_history_of_many_chunks_gives_each_line_back(rt: HostRuntime) {
     let mut history = History::new(rt.alloc());
     for place in 0..10_000 {
-        let op = op_for(place)?;
-        history.push(&asked_for(place, op))?;
-        history.push(&told_for(place))?;
+        let op = op_for(&rt, place);
+        history.push(&asked_for(place, op)).expect(&rt, "memory");
+        history.push(&told_for(place)).expect(&rt, "memory");
     }
     same(&rt, &history.len(), &20_000);
     for at in 0..history.len() {
         let place = at as u64 / 2;
-        let op = op_for(place)?;
+        let op = op_for(&rt, place);
         let wanted = if at % 2 == 0 {
             asked_for(place, op)
         } else {
@@ -113,5 +112,4 @@ fn a_history_of_many_chunks_gives_each_line_back(rt: HostRuntime) -> Result<(), 
         };
         is_line(&rt, &history, at, &wanted);
     }
-    Ok(())
 }

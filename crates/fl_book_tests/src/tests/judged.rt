@@ -5,20 +5,19 @@ use super::lines::take;
 use super::random::{Seen, random_history};
 use fl_book::{Desk, History, Line, Verdict, check};
 use fl_core::Tolds;
-use fl_order::{Name, NoMemory};
+use fl_order::Name;
 use fl_testing::Numbers;
 use std::alloc::Global;
 use std::process::Abort;
-use std::test::Fail;
 
 // The one legal history that has the orders of another, in their order.
-fn with_these_orders(alloc: Global, history: &History) -> Result<History, NoMemory> {
-    let mut desk = Desk::new(alloc)?;
-    let mut tolds = Tolds::new(alloc)?;
+fn with_these_orders(rt: &impl Abort, alloc: Global, history: &History) -> History {
+    let mut desk = Desk::new(alloc).expect(rt, "memory");
+    let mut tolds = Tolds::new(alloc).expect(rt, "memory");
     for at in 0..history.len() {
-        take(&mut desk, &history.line(at), &mut tolds)?;
+        take(rt, &mut desk, &history.line(at), &mut tolds);
     }
-    Ok(desk.into_history())
+    desk.into_history()
 }
 
 fn equal<T: PartialEq>(one: &T, other: &T) -> bool {
@@ -81,27 +80,24 @@ impl Tally {
 
     // Each change of a legal history is judged as it is beside the legal history of its orders. If the orders are the
     // same as before, that is the one that was changed.
-    fn change(
-        &mut self,
-        rt: &impl Abort,
-        alloc: Global,
-        history: &History,
-        numbers: &mut Numbers,
-    ) -> Result<(), NoMemory> {
+    fn change(&mut self, rt: &impl Abort, alloc: Global, history: &History, numbers: &mut Numbers) {
         for (at, (change, effect)) in CHANGES.iter().enumerate() {
-            let other = changed(alloc, history, *change, numbers)?;
+            let other = changed(rt, alloc, history, *change, numbers);
             if alike(&other, history) {
                 continue;
             }
-            let legal = with_these_orders(alloc, &other)?;
+            let legal = with_these_orders(rt, alloc, &other);
             let wanted = verdict_beside(&other, &legal);
-            assert_eq!(rt; check(alloc, &other)?, wanted, "change {at}");
+            assert_eq!(rt;
+                check(alloc, &other).expect(rt, "memory"),
+                wanted,
+                "change {at}"
+            );
             if *effect == Effect::Differs {
                 assert_eq!(rt; verdict_beside(&other, history), wanted, "change {at}");
             }
             self.count(at, wanted);
         }
-        Ok(())
     }
 
     // Each change was made often. One that keeps the orders always made the history differ, one of a worker never did,
@@ -126,11 +122,11 @@ impl Tally {
 
 // The changes of 300 random histories are all judged right.
 #[test]
-fn check_says_what_the_history_of_the_same_orders_says(rt: HostRuntime) -> Result<(), Fail> {
+fn check_says_what_the_history_of_the_same_orders_says(rt: HostRuntime) {
     let alloc = rt.alloc();
     let names = [
-        Name::new(b"a").ok_or("a name")?,
-        Name::new(b"b").ok_or("a name")?,
+        Name::new(b"a").expect(&rt, "a name"),
+        Name::new(b"b").expect(&rt, "a name"),
     ];
     let mut numbers = Numbers { state: 1 };
     let mut tally = Tally {
@@ -139,12 +135,15 @@ fn check_says_what_the_history_of_the_same_orders_says(rt: HostRuntime) -> Resul
         seen: Seen::none(),
     };
     for seed in 0..300 {
-        let (history, seen) = random_history(alloc, names, seed)?;
-        assert_eq!(rt; check(alloc, &history)?, Verdict::Legal, "seed {seed}");
+        let (history, seen) = random_history(&rt, alloc, names, seed);
+        assert_eq!(rt;
+            check(alloc, &history).expect(&rt, "memory"),
+            Verdict::Legal,
+            "seed {seed}"
+        );
         tally.seen.add(seen);
-        tally.change(&rt, alloc, &history, &mut numbers)?;
+        tally.change(&rt, alloc, &history, &mut numbers);
     }
     tally.assert_often(&rt);
     tally.seen.assert_often(&rt);
-    Ok(())
 }

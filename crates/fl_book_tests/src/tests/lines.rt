@@ -3,35 +3,36 @@
 use super::same;
 use fl_book::{Desk, History, Line};
 use fl_core::Tolds;
-use fl_order::{NoMemory, Op, Order};
+use fl_order::{Op, Order};
 use std::alloc::Global;
 use std::process::Abort;
 
 // The history of these lines.
-pub(super) fn history_of(alloc: Global, lines: &[Line]) -> Result<History, NoMemory> {
+pub(super) fn history_of(rt: &impl Abort, alloc: Global, lines: &[Line]) -> History {
     let mut history = History::new(alloc);
     for line in lines {
-        history.push(line)?;
+        history.push(line).expect(rt, "memory");
     }
-    Ok(history)
+    history
 }
 
 // The lines of a history. They are taken apart, since the check of loans has to meet the type `Op` here.
-pub(super) fn lines_of(alloc: Global, history: &History) -> Result<Vec<Line>, NoMemory> {
+pub(super) fn lines_of(rt: &impl Abort, alloc: Global, history: &History) -> Vec<Line> {
     let mut lines = Vec::new(alloc);
     for at in 0..history.len() {
         match history.line(at) {
             Line::Asked { worker, order } => {
                 let op = order.op;
-                lines.push(Line::Asked {
+                let line = Line::Asked {
                     worker,
                     order: Order { op, ..order },
-                })?;
+                };
+                lines.push(line).expect(rt, "memory");
             }
-            Line::Told(told) => lines.push(Line::Told(told))?,
+            Line::Told(told) => lines.push(Line::Told(told)).expect(rt, "memory"),
         }
     }
-    Ok(lines)
+    lines
 }
 
 // This is a history's line at a place, from 0.
@@ -41,12 +42,12 @@ pub(super) fn is_line(rt: &impl Abort, history: &History, at: usize, line: &Line
 }
 
 // A desk takes the order of a line, if it is one.
-pub(super) fn take(desk: &mut Desk, line: &Line, tolds: &mut Tolds) -> Result<bool, NoMemory> {
+pub(super) fn take(rt: &impl Abort, desk: &mut Desk, line: &Line, tolds: &mut Tolds) -> bool {
     let Line::Asked { worker, order } = line else {
-        return Ok(false);
+        return false;
     };
-    desk.take(*worker, order, tolds)?;
-    Ok(true)
+    desk.take(*worker, order, tolds).expect(rt, "memory");
+    true
 }
 
 // An order by the superuser.

@@ -3,7 +3,7 @@
 use super::lines::order;
 use fl_book::{Desk, History};
 use fl_core::Tolds;
-use fl_order::{Answer, Errno, LockAsk, Name, NoMemory, Op, Order, Told};
+use fl_order::{Answer, Errno, LockAsk, Name, Op, Order, Told};
 use fl_testing::Numbers;
 use std::alloc::Global;
 use std::process::Abort;
@@ -85,20 +85,22 @@ pub(super) struct Asking {
 }
 
 impl Asking {
-    fn new(alloc: Global, names: [Name; 2], seed: u64) -> Result<Asking, NoMemory> {
-        Ok(Asking {
+    fn new(rt: &impl Abort, alloc: Global, names: [Name; 2], seed: u64) -> Asking {
+        Asking {
             numbers: Numbers { state: seed },
-            desk: Desk::new(alloc)?,
-            tolds: Tolds::new(alloc)?,
+            desk: Desk::new(alloc).expect(rt, "memory"),
+            tolds: Tolds::new(alloc).expect(rt, "memory"),
             names,
             opened: [(1, 2); 4],
             seen: Seen::none(),
-        })
+        }
     }
 
-    fn take(&mut self, order: &Order) -> Result<(), NoMemory> {
+    fn take(&mut self, rt: &impl Abort, order: &Order) {
         let worker = self.numbers.below(4) as u32;
-        self.desk.take(worker, order, &mut self.tolds)?;
+        self.desk
+            .take(worker, order, &mut self.tolds)
+            .expect(rt, "memory");
         let tolds = self.tolds.as_slice();
         if matches!(order.op, Op::Setlkw(_)) && tolds.is_empty() {
             self.seen.waits = self.seen.waits.wrapping_add(1);
@@ -111,7 +113,6 @@ impl Asking {
                 _ => {}
             }
         }
-        Ok(())
     }
 
     // What is asked of names in the root.
@@ -217,23 +218,24 @@ impl Asking {
 
 // Two files are made, and then come 60 to 99 random orders. It gives the history, and what it shows.
 pub(super) fn random_history(
+    rt: &impl Abort,
     alloc: Global,
     names: [Name; 2],
     seed: u64,
-) -> Result<(History, Seen), NoMemory> {
-    let mut asking = Asking::new(alloc, names, seed)?;
+) -> (History, Seen) {
+    let mut asking = Asking::new(rt, alloc, names, seed);
     for (turn, name) in names.iter().enumerate() {
         let create = Op::Create {
             excl: true,
             mode: 420,
             name: *name,
         };
-        asking.take(&order(turn as u64, 1, create))?;
+        asking.take(rt, &order(turn as u64, 1, create));
     }
     for turn in 2..62 + asking.numbers.below(40) {
         let order = asking.order(turn);
-        asking.take(&order)?;
+        asking.take(rt, &order);
     }
     let Asking { desk, seen, .. } = asking;
-    Ok((desk.into_history(), seen))
+    (desk.into_history(), seen)
 }

@@ -6,9 +6,7 @@ use super::traces::{is_text, read};
 use fl_book::{Line, first_line, has_text};
 use fl_order::{Answer, Attr, Errno, LockAsk, Name, Op, Order, Told};
 use fl_trace::laws;
-use std::alloc::Global;
 use std::process::Abort;
-use std::test::Fail;
 
 fn asked(worker: u32, op: Op) -> Line {
     Line::Asked {
@@ -31,33 +29,28 @@ fn told(answer: Result<Answer, Errno>) -> Line {
     })
 }
 
-fn name(bytes: &[u8]) -> Result<Name, Fail> {
-    Ok(Name::new(bytes).ok_or("a name")?)
+fn name(rt: &impl Abort, bytes: &[u8]) -> Name {
+    Name::new(bytes).expect(rt, "a name")
 }
 
 // A line is printed as this text, and the text is read as the line.
-fn there_and_back(rt: &(impl Abort + AllocGlobal), line: &Line, text: &str) -> Result<(), Fail> {
-    let history = history_of(rt.alloc(), &[*line])?;
+fn there_and_back(rt: &(impl Abort + AllocGlobal), line: &Line, text: &str) {
+    let history = history_of(rt, rt.alloc(), &[*line]);
     same(rt, &has_text(&history), &true);
-    is_text(rt, &history, text)?;
-    is_line(rt, &read(rt, text, 1)?, 0, line);
-    Ok(())
+    is_text(rt, &history, text);
+    is_line(rt, &read(rt, text, 1), 0, line);
 }
 
 // What worker 0 asks is printed and read as these words.
-fn asks(rt: &(impl Abort + AllocGlobal), op: Op, words: &str) -> Result<(), Fail> {
-    let text = format!(in rt.alloc(); "ask 0 1 2 3 4 5 {words}\n")?;
-    there_and_back(rt, &asked(0, op), text.as_str())
+fn asks(rt: &(impl Abort + AllocGlobal), op: Op, words: &str) {
+    let text = format!(in rt.alloc(); "ask 0 1 2 3 4 5 {words}\n").expect(rt, "memory");
+    there_and_back(rt, &asked(0, op), text.as_str());
 }
 
 // What is told is printed and read as these words.
-fn tells(
-    rt: &(impl Abort + AllocGlobal),
-    answer: Result<Answer, Errno>,
-    words: &str,
-) -> Result<(), Fail> {
-    let text = format!(in rt.alloc(); "tell 9 {words}\n")?;
-    there_and_back(rt, &told(answer), text.as_str())
+fn tells(rt: &(impl Abort + AllocGlobal), answer: Result<Answer, Errno>, words: &str) {
+    let text = format!(in rt.alloc(); "tell 9 {words}\n").expect(rt, "memory");
+    there_and_back(rt, &told(answer), text.as_str());
 }
 
 fn create(name: Name, mode: u32) -> Op {
@@ -69,28 +62,28 @@ fn create(name: Name, mode: u32) -> Op {
 }
 
 #[test]
-fn creates_there_and_back(rt: HostRuntime) -> Result<(), Fail> {
-    asks(&rt, create(name(b"a\xff")?, 420), "create 1 420 61ff")?;
-    let last = asked(15, create(name(b"")?, 511));
-    there_and_back(&rt, &last, "ask 15 1 2 3 4 5 create 1 511 -\n")
+fn creates_there_and_back(rt: HostRuntime) {
+    asks(&rt, create(name(&rt, b"a\xff"), 420), "create 1 420 61ff");
+    let last = asked(15, create(name(&rt, b""), 511));
+    there_and_back(&rt, &last, "ask 15 1 2 3 4 5 create 1 511 -\n");
 }
 
 #[test]
-fn names_there_and_back(rt: HostRuntime) -> Result<(), Fail> {
-    let full = name(b"a\xff")?;
-    let empty = name(b"")?;
-    asks(&rt, Op::Lookup(full), "lookup 61ff")?;
-    asks(&rt, Op::Lookup(empty), "lookup -")?;
-    asks(&rt, Op::Unlink(full), "unlink 61ff")?;
-    asks(&rt, Op::Unlink(empty), "unlink -")
+fn names_there_and_back(rt: HostRuntime) {
+    let full = name(&rt, b"a\xff");
+    let empty = name(&rt, b"");
+    asks(&rt, Op::Lookup(full), "lookup 61ff");
+    asks(&rt, Op::Lookup(empty), "lookup -");
+    asks(&rt, Op::Unlink(full), "unlink 61ff");
+    asks(&rt, Op::Unlink(empty), "unlink -");
 }
 
 #[test]
-fn orders_of_a_node_there_and_back(rt: HostRuntime) -> Result<(), Fail> {
-    asks(&rt, Op::Forget(0), "forget 0")?;
-    asks(&rt, Op::Forget(u64::MAX), "forget 18446744073709551615")?;
-    asks(&rt, Op::Getattr, "getattr")?;
-    asks(&rt, Op::Open, "open")
+fn orders_of_a_node_there_and_back(rt: HostRuntime) {
+    asks(&rt, Op::Forget(0), "forget 0");
+    asks(&rt, Op::Forget(u64::MAX), "forget 18446744073709551615");
+    asks(&rt, Op::Getattr, "getattr");
+    asks(&rt, Op::Open, "open");
 }
 
 fn release(fh: u64, drop: bool, owner: u64) -> Op {
@@ -98,14 +91,14 @@ fn release(fh: u64, drop: bool, owner: u64) -> Op {
 }
 
 #[test]
-fn releases_there_and_back(rt: HostRuntime) -> Result<(), Fail> {
-    asks(&rt, release(1, false, 7), "release 1 0 7")?;
-    asks(&rt, release(7, true, 1), "release 7 1 1")?;
+fn releases_there_and_back(rt: HostRuntime) {
+    asks(&rt, release(1, false, 7), "release 1 0 7");
+    asks(&rt, release(7, true, 1), "release 7 1 1");
     asks(
         &rt,
         release(u64::MAX, true, u64::MAX),
         "release 18446744073709551615 1 18446744073709551615",
-    )
+    );
 }
 
 fn flush(fh: u64, owner: u64) -> Op {
@@ -113,9 +106,9 @@ fn flush(fh: u64, owner: u64) -> Op {
 }
 
 #[test]
-fn flushes_there_and_back(rt: HostRuntime) -> Result<(), Fail> {
-    asks(&rt, flush(1, 7), "flush 1 7")?;
-    asks(&rt, flush(0, u64::MAX), "flush 0 18446744073709551615")
+fn flushes_there_and_back(rt: HostRuntime) {
+    asks(&rt, flush(1, 7), "flush 1 7");
+    asks(&rt, flush(0, u64::MAX), "flush 0 18446744073709551615");
 }
 
 const ASK: LockAsk = LockAsk {
@@ -129,10 +122,10 @@ const ASK: LockAsk = LockAsk {
 };
 
 #[test]
-fn locks_there_and_back(rt: HostRuntime) -> Result<(), Fail> {
-    asks(&rt, Op::Getlk(ASK), "getlk 1 7 0 9 1 11 0")?;
-    asks(&rt, Op::Setlk(ASK), "setlk 1 7 0 9 1 11 0")?;
-    asks(&rt, Op::Setlkw(ASK), "setlkw 1 7 0 9 1 11 0")
+fn locks_there_and_back(rt: HostRuntime) {
+    asks(&rt, Op::Getlk(ASK), "getlk 1 7 0 9 1 11 0");
+    asks(&rt, Op::Setlk(ASK), "setlk 1 7 0 9 1 11 0");
+    asks(&rt, Op::Setlkw(ASK), "setlkw 1 7 0 9 1 11 0");
 }
 
 const GREATEST: LockAsk = LockAsk {
@@ -146,47 +139,48 @@ const GREATEST: LockAsk = LockAsk {
 };
 
 #[test]
-fn the_greatest_locks_there_and_back(rt: HostRuntime) -> Result<(), Fail> {
+fn the_greatest_locks_there_and_back(rt: HostRuntime) {
     asks(
         &rt,
         Op::Setlk(GREATEST),
         "setlk 18446744073709551615 18446744073709551615 18446744073709551615 \
          18446744073709551615 4294967295 4294967295 4294967295",
-    )?;
+    );
     asks(
         &rt,
         Op::Setlkw(GREATEST),
         "setlkw 18446744073709551615 18446744073709551615 18446744073709551615 \
          18446744073709551615 4294967295 4294967295 4294967295",
-    )
+    );
 }
 
 #[test]
-fn interrupts_there_and_back(rt: HostRuntime) -> Result<(), Fail> {
-    asks(&rt, Op::Interrupt(0), "interrupt 0")?;
+fn interrupts_there_and_back(rt: HostRuntime) {
+    asks(&rt, Op::Interrupt(0), "interrupt 0");
     asks(
         &rt,
         Op::Interrupt(u64::MAX),
         "interrupt 18446744073709551615",
-    )
+    );
 }
 
 // A LOOKUP's name of so many bytes.
-pub(super) fn lookup_text(rt: &(impl Abort + AllocGlobal), bytes: usize) -> Result<String, Fail> {
+pub(super) fn lookup_text(rt: &(impl Abort + AllocGlobal), bytes: usize) -> String {
     let mut text = String::new(rt.alloc());
-    text.push_str("ask 0 1 2 3 4 5 lookup ")?;
+    text.push_str("ask 0 1 2 3 4 5 lookup ")
+        .expect(rt, "memory");
     for _ in 0..bytes {
-        text.push_str("61")?;
+        text.push_str("61").expect(rt, "memory");
     }
-    text.push('\n')?;
-    Ok(text)
+    text.push('\n').expect(rt, "memory");
+    text
 }
 
 #[test]
-fn the_longest_name_there_and_back(rt: HostRuntime) -> Result<(), Fail> {
-    let line = asked(0, Op::Lookup(name(&[b'a'; 255])?));
-    let text = lookup_text(&rt, 255)?;
-    there_and_back(&rt, &line, text.as_str())
+fn the_longest_name_there_and_back(rt: HostRuntime) {
+    let line = asked(0, Op::Lookup(name(&rt, &[b'a'; 255])));
+    let text = lookup_text(&rt, 255);
+    there_and_back(&rt, &line, text.as_str());
 }
 
 const ATTR: Attr = Attr {
@@ -198,24 +192,24 @@ const ATTR: Attr = Attr {
 };
 
 #[test]
-fn answers_there_and_back(rt: HostRuntime) -> Result<(), Fail> {
+fn answers_there_and_back(rt: HostRuntime) {
     let lock = Answer::Lock {
         start: 0,
         end: u64::MAX,
         kind: 1,
         pid: u32::MAX,
     };
-    tells(&rt, Ok(Answer::Done), "ok")?;
-    tells(&rt, Ok(Answer::Entry(ATTR)), "entry 2 33188 1 3 4")?;
-    tells(&rt, Ok(Answer::Attr(ATTR)), "attr 2 33188 1 3 4")?;
-    tells(&rt, Ok(Answer::Open(7)), "open 7")?;
-    tells(&rt, Ok(Answer::Made(ATTR, 7)), "made 2 33188 1 3 4 7")?;
-    tells(&rt, Ok(lock), "lock 0 18446744073709551615 1 4294967295")
+    tells(&rt, Ok(Answer::Done), "ok");
+    tells(&rt, Ok(Answer::Entry(ATTR)), "entry 2 33188 1 3 4");
+    tells(&rt, Ok(Answer::Attr(ATTR)), "attr 2 33188 1 3 4");
+    tells(&rt, Ok(Answer::Open(7)), "open 7");
+    tells(&rt, Ok(Answer::Made(ATTR, 7)), "made 2 33188 1 3 4 7");
+    tells(&rt, Ok(lock), "lock 0 18446744073709551615 1 4294967295");
 }
 
 // The numbers of Linux.
 #[test]
-fn errors_there_and_back(rt: HostRuntime) -> Result<(), Fail> {
+fn errors_there_and_back(rt: HostRuntime) {
     let errors = [
         (Errno::ENOENT, 2),
         (Errno::EINTR, 4),
@@ -235,65 +229,57 @@ fn errors_there_and_back(rt: HostRuntime) -> Result<(), Fail> {
         (Errno::EPROTO, 71),
     ];
     for (error, number) in errors {
-        let words = format!(in rt.alloc(); "err {number}")?;
-        tells(&rt, Err(error), words.as_str())?;
+        let words = format!(in rt.alloc(); "err {number}").expect(&rt, "memory");
+        tells(&rt, Err(error), words.as_str());
     }
-    Ok(())
 }
 
 // Whether the creation of a file can be read back.
-fn can_be_read(
-    rt: &(impl Abort + AllocGlobal),
-    worker: u32,
-    mode: u32,
-    can: bool,
-) -> Result<(), Fail> {
-    let line = asked(worker, create(name(b"a")?, mode));
-    let history = history_of(rt.alloc(), &[line])?;
+fn can_be_read(rt: &(impl Abort + AllocGlobal), worker: u32, mode: u32, can: bool) {
+    let line = asked(worker, create(name(rt, b"a"), mode));
+    let history = history_of(rt, rt.alloc(), &[line]);
     same(rt, &has_text(&history), &can);
-    Ok(())
 }
 
 #[test]
-fn what_can_be_read_back(rt: HostRuntime) -> Result<(), Fail> {
-    can_be_read(&rt, 15, 511, true)?;
-    can_be_read(&rt, 16, 511, false)?;
-    can_be_read(&rt, 15, 512, false)
+fn what_can_be_read_back(rt: HostRuntime) {
+    can_be_read(&rt, 15, 511, true);
+    can_be_read(&rt, 16, 511, false);
+    can_be_read(&rt, 15, 512, false);
 }
 
 #[test]
-fn no_lines(rt: HostRuntime) -> Result<(), Fail> {
-    let trace = read(&rt, "", 0)?;
+fn no_lines(rt: HostRuntime) {
+    let trace = read(&rt, "", 0);
     same(&rt, &trace.is_empty(), &true);
-    is_text(&rt, &trace, "")
+    is_text(&rt, &trace, "");
 }
 
 #[test]
-fn a_line_at_a_time(rt: HostRuntime) -> Result<(), Fail> {
+fn a_line_at_a_time(rt: HostRuntime) {
     let Some((line, rest)) = first_line(b"tell 9 ok\ntell") else {
-        return Err(Fail::from("a line"));
+        panic!(rt; "a line");
     };
     same(&rt, &line, &told(Ok(Answer::Done)));
     assert_eq!(rt; rest, b"tell".as_slice());
     assert!(rt; first_line(rest).is_none());
-    Ok(())
 }
 
 // So many locks that are set at once, each with its reply.
-fn many_locks(alloc: Global, locks: u32) -> Result<String, Fail> {
-    let mut text = String::new(alloc);
+fn many_locks(rt: &(impl Abort + AllocGlobal), locks: u32) -> String {
+    let mut text = String::new(rt.alloc());
     for i in 0..locks {
-        write!(text, "ask 0 {i} 2 0 0 0 setlk 1 7 {i} {i} 1 11 0\n")?;
-        write!(text, "tell {i} ok\n")?;
+        write!(text, "ask 0 {i} 2 0 0 0 setlk 1 7 {i} {i} 1 11 0\n").expect(rt, "memory");
+        write!(text, "tell {i} ok\n").expect(rt, "memory");
     }
-    Ok(text)
+    text
 }
 
 #[test]
-fn a_trace_of_ten_thousand_lines(rt: HostRuntime) -> Result<(), Fail> {
-    let text = many_locks(rt.alloc(), 5_000)?;
-    let trace = read(&rt, text.as_str(), 10_000)?;
-    is_text(&rt, &trace, text.as_str())
+fn a_trace_of_ten_thousand_lines(rt: HostRuntime) {
+    let text = many_locks(&rt, 5_000);
+    let trace = read(&rt, text.as_str(), 10_000);
+    is_text(&rt, &trace, text.as_str());
 }
 
 #[test]

@@ -3,7 +3,6 @@
 use super::same;
 use fl_book::{History, Verdict, check, print_trace, read_trace};
 use std::process::Abort;
-use std::test::Fail;
 
 // A write lock of owner 7 keeps owner 8 from a read lock of its last byte, until that half is given back.
 pub(super) const LOCKS: &str = "\
@@ -20,48 +19,33 @@ tell 5 ok
 ";
 
 // The trace of a text that has so many lines.
-pub(super) fn read(
-    rt: &(impl Abort + AllocGlobal),
-    text: &str,
-    lines: usize,
-) -> Result<History, Fail> {
+pub(super) fn read(rt: &(impl Abort + AllocGlobal), text: &str, lines: usize) -> History {
     let trace = read_trace(rt.alloc(), text.as_bytes())
         .ok()
-        .ok_or("a trace")?;
+        .expect(rt, "a trace");
     same(rt, &trace.len(), &lines);
-    Ok(trace)
+    trace
 }
 
 // A history is printed as this text.
-pub(super) fn is_text(
-    rt: &(impl Abort + AllocGlobal),
-    history: &History,
-    text: &str,
-) -> Result<(), Fail> {
-    let printed = print_trace(rt.alloc(), history)?;
+pub(super) fn is_text(rt: &(impl Abort + AllocGlobal), history: &History, text: &str) {
+    let printed = print_trace(rt.alloc(), history).expect(rt, "memory");
     assert_eq!(rt; printed.as_str(), text);
-    Ok(())
 }
 
 // So is a trace of so many lines judged.
-fn is_judged(
-    rt: &(impl Abort + AllocGlobal),
-    text: &str,
-    lines: usize,
-    wanted: Verdict,
-) -> Result<(), Fail> {
-    let trace = read(rt, text, lines)?;
-    same(rt, &check(rt.alloc(), &trace)?, &wanted);
-    Ok(())
+fn is_judged(rt: &(impl Abort + AllocGlobal), text: &str, lines: usize, wanted: Verdict) {
+    let trace = read(rt, text, lines);
+    same(rt, &check(rt.alloc(), &trace).expect(rt, "memory"), &wanted);
 }
 
 #[test]
-fn a_lock_is_refused_and_then_set(rt: HostRuntime) -> Result<(), Fail> {
-    is_judged(&rt, LOCKS, 10, Verdict::Legal)
+fn a_lock_is_refused_and_then_set(rt: HostRuntime) {
+    is_judged(&rt, LOCKS, 10, Verdict::Legal);
 }
 
 #[test]
-fn a_lock_is_set_where_it_conflicts(rt: HostRuntime) -> Result<(), Fail> {
+fn a_lock_is_set_where_it_conflicts(rt: HostRuntime) {
     let text = "\
 ask 3 1 1 0 0 0 create 0 420 61
 tell 1 made 2 33188 1 0 0 1
@@ -74,26 +58,26 @@ tell 4 ok
 ask 3 5 2 0 0 0 setlk 1 8 9 9 0 11 0
 tell 5 ok
 ";
-    is_judged(&rt, text, 10, Verdict::Differs(6))
+    is_judged(&rt, text, 10, Verdict::Differs(6));
 }
 
 #[test]
-fn a_trace_of_no_lines_is_legal(rt: HostRuntime) -> Result<(), Fail> {
-    is_judged(&rt, "", 0, Verdict::Legal)
+fn a_trace_of_no_lines_is_legal(rt: HostRuntime) {
+    is_judged(&rt, "", 0, Verdict::Legal);
 }
 
 #[test]
-fn a_forget_has_no_reply(rt: HostRuntime) -> Result<(), Fail> {
-    is_judged(&rt, "ask 0 1 2 0 0 0 forget 1\n", 1, Verdict::Legal)?;
+fn a_forget_has_no_reply(rt: HostRuntime) {
+    is_judged(&rt, "ask 0 1 2 0 0 0 forget 1\n", 1, Verdict::Legal);
     let answered = "\
 ask 0 1 2 0 0 0 forget 1
 tell 1 err 2
 ";
-    is_judged(&rt, answered, 2, Verdict::Differs(2))
+    is_judged(&rt, answered, 2, Verdict::Differs(2));
 }
 
 #[test]
-fn a_reply_is_owed_once(rt: HostRuntime) -> Result<(), Fail> {
+fn a_reply_is_owed_once(rt: HostRuntime) {
     let once = "\
 ask 0 1 2 0 0 0 getattr
 tell 1 err 2
@@ -103,17 +87,17 @@ ask 0 1 2 0 0 0 getattr
 tell 1 err 2
 tell 1 err 2
 ";
-    is_judged(&rt, once, 2, Verdict::Legal)?;
-    is_judged(&rt, "ask 0 1 2 0 0 0 getattr\n", 1, Verdict::Differs(2))?;
-    is_judged(&rt, twice, 3, Verdict::Differs(3))
+    is_judged(&rt, once, 2, Verdict::Legal);
+    is_judged(&rt, "ask 0 1 2 0 0 0 getattr\n", 1, Verdict::Differs(2));
+    is_judged(&rt, twice, 3, Verdict::Differs(3));
 }
 
 #[test]
-fn a_reply_stands_behind_its_order(rt: HostRuntime) -> Result<(), Fail> {
+fn a_reply_stands_behind_its_order(rt: HostRuntime) {
     let before = "\
 tell 1 err 2
 ask 0 1 2 0 0 0 getattr
 ";
-    is_judged(&rt, "tell 1 err 2\n", 1, Verdict::Differs(1))?;
-    is_judged(&rt, before, 2, Verdict::Differs(1))
+    is_judged(&rt, "tell 1 err 2\n", 1, Verdict::Differs(1));
+    is_judged(&rt, before, 2, Verdict::Differs(1));
 }
