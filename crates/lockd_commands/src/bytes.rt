@@ -1,3 +1,5 @@
+//! `lockd bytes`: a session over lines of hex.
+
 ghost use Rattle.std.specs.Prelude.{◌≡◌, ◌≢◌, ◌⊎◌, ℕ, None, Some, Err, IfSome, IfOk, IfErr};
 ghost use Rattle.std.specs.Io.KnownBytes.{Keeps};
 ghost use Rattle.lockd_commands.specs.Bytes.{IsPrinted, IsSession};

@@ -1,3 +1,5 @@
+//! `lockd check`: judges a trace.
+
 ghost use Rattle.std.specs.Prelude.{◌≡◌, ◌≢◌, ◌⊎◌, ℕ, string_bytes, IfSome, IfOk, OnOk, IfErr};
 ghost use Rattle.std.specs.Io.KnownBytes.{Keeps};
 ghost use Rattle.fl_trace.specs.Text.{text_of, BreaksAt, LineFits, Fits};

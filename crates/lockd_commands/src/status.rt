@@ -1,3 +1,5 @@
+//! How a command ended, and its exit status.
+
 ghost use Rattle.std.specs.Prelude.{◌≡◌};
 
 use crate::fault::Fault;
