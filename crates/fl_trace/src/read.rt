@@ -3,10 +3,10 @@
 ghost use Rattle.std.specs.Prelude.{◌≡◌, ◌⊎◌, ℕ, ◌<◌, ◌++◌, ◌∷◌, List, length, Ok, Err, IfOk, IfSome, IsSome, IsSomeAnd, codes};
 ghost use Rattle.fl_history.specs.declared.history.Line.{Line as Entry};
 ghost use Rattle.fl_history.specs.declared.history.Line.TheVariants.{Asked};
-ghost use Rattle.fl_order.specs.declared.order.Order.{Order as Asking};
+ghost use Rattle.fl_order.specs.declared.order.Order.{Order as Request};
 ghost use Rattle.fl_trace.specs.Text.{asked_text, line_text, text_of, LineFits, Fits, BreaksAt};
 
-use crate::ask::read_order;
+use crate::ask::read_asked;
 use crate::tell::read_told;
 use crate::words::{split_line, split_word, u32_word};
 use fl_history::{History, Line};
@@ -81,13 +81,13 @@ fn read_line(text: &str) -> Option<Line>
 fn read_asked(text: &str) -> Option<Line>
     ensures fits { IfSome result LineFits }
     ensures spelled { IfSome result (λ line. line_text line ≡ codes "ask " ++ text.now) }
-    ensures only { (worker : ℕ) (order : Asking) → LineFits (Asked worker order) →
+    ensures only { (worker : ℕ) (order : Request) → LineFits (Asked worker order) →
         text.now ≡ asked_text worker order → IsSome result }
 {
     let (worker, rest) = u32_word(text)?;
     if worker > 15 {
         return None;
     }
-    let order = read_order(rest)?;
+    let order = read_asked(rest)?;
     Some(Line::Asked { worker, order })
 }

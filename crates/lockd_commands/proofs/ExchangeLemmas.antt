@@ -12,7 +12,7 @@ use Rattle.hex.specs.Hex.{encode_lower}
 use Rattle.lockd_commands.specs.Drive.{Said, Sends, Waits, awaited, awaited_by, IsFramed}
 use Rattle.lockd_commands.specs.Drive.Inside.{said_by, sent, sent_by, HasReceived, HasFallenShort, HasDone, HasStopped, IsStopped, IsWhy}
 use Rattle.lockd_commands.specs.Hex.{hex_lines}
-use Rattle.lockd_commands.specs.declared.drive.steps.Step.{Step}
+use Rattle.lockd_commands.specs.declared.drive.actions.Action.{Action}
 use Rattle.lockd_commands.specs.declared.fault.Fault.{Fault}
 use Rattle.lockd_commands.specs.declared.fault.Fault.TheVariants.{NoMemory, Write}
 
@@ -137,63 +137,63 @@ unprinted reply fault left left_now old read e =
     fallen_short fault left left_now old
     (record { behind = reply; read = read; why = subst (λ f. IsWhy f reply left_now) (sym e) tt })
 
--- one step more, as what lines say
-pub more_said : (steps : List Step) (i : ℕ) (step : Step) → i < length steps → step ≡ get_or steps i step
-    → map said_by (take (i + 1) steps) ≡ map said_by (take i steps) ++ said_by step ∷ []
-more_said steps i step below at =
-    rw (take_more steps i step below, map-append, ← at) refl
+-- one action more, as what lines say
+pub more_said : (actions : List Action) (i : ℕ) (action : Action) → i < length actions → action ≡ get_or actions i action
+    → map said_by (take (i + 1) actions) ≡ map said_by (take i actions) ++ said_by action ∷ []
+more_said actions i action below at =
+    rw (take_more actions i action below, map-append, ← at) refl
 
--- a step among all
-pub step_parts : (steps : List Step) (i : ℕ) (step : Step) → i < length steps → step ≡ get_or steps i step
-    → map said_by steps ≡ map said_by (take i steps) ++ said_by step ∷ map said_by (drop (i + 1) steps)
-step_parts steps i step below at =
-    ap (map said_by) (sym (take-append-drop (i + 1) steps))
-    ∙ map-append said_by (take (i + 1) steps) (drop (i + 1) steps)
-    ∙ ap (λ l. l ++ map said_by (drop (i + 1) steps)) (more_said steps i step below at)
-    ∙ append_assoc (map said_by (take i steps)) (said_by step ∷ []) (map said_by (drop (i + 1) steps))
+-- a action among all
+pub action_parts : (actions : List Action) (i : ℕ) (action : Action) → i < length actions → action ≡ get_or actions i action
+    → map said_by actions ≡ map said_by (take i actions) ++ said_by action ∷ map said_by (drop (i + 1) actions)
+action_parts actions i action below at =
+    ap (map said_by) (sym (take-append-drop (i + 1) actions))
+    ∙ map-append said_by (take (i + 1) actions) (drop (i + 1) actions)
+    ∙ ap (λ l. l ++ map said_by (drop (i + 1) actions)) (more_said actions i action below at)
+    ∙ append_assoc (map said_by (take i actions)) (said_by action ∷ []) (map said_by (drop (i + 1) actions))
 
--- a step that sends
-pub step_sends : (steps : List Step) (i : ℕ) (step : Step) (bytes : List ℕ)
-    (left left_now held held_now held_later old new : Option (List ℕ)) → i < length steps → step ≡ get_or steps i step
-    → said_by step ≡ Sends bytes → HasDone (map said_by (take i steps)) left left_now held held_now old new
-    → Appends held_now held_later bytes → HasDone (map said_by (take (i + 1) steps)) left left_now held held_later old new
-step_sends steps i step bytes left left_now held held_now held_later old new below at says done written =
-    let lines : map said_by (take (i + 1) steps) ≡ map said_by (take i steps) ++ Sends bytes ∷ [] =
-    more_said steps i step below at ∙ ap (λ said. map said_by (take i steps) ++ said ∷ []) says in
+-- a action that sends
+pub action_sends : (actions : List Action) (i : ℕ) (action : Action) (bytes : List ℕ)
+    (left left_now held held_now held_later old new : Option (List ℕ)) → i < length actions → action ≡ get_or actions i action
+    → said_by action ≡ Sends bytes → HasDone (map said_by (take i actions)) left left_now held held_now old new
+    → Appends held_now held_later bytes → HasDone (map said_by (take (i + 1) actions)) left left_now held held_later old new
+action_sends actions i action bytes left left_now held held_now held_later old new below at says done written =
+    let lines : map said_by (take (i + 1) actions) ≡ map said_by (take i actions) ++ Sends bytes ∷ [] =
+    more_said actions i action below at ∙ ap (λ said. map said_by (take i actions) ++ said ∷ []) says in
     subst (λ lines. HasDone lines left left_now held held_later old new) (sym lines)
-    (done_sending (map said_by (take i steps)) bytes left left_now held held_now held_later old new done written)
+    (done_sending (map said_by (take i actions)) bytes left left_now held held_now held_later old new done written)
 
--- a step that waits
-pub step_waits : (steps : List Step) (i : ℕ) (step : Step) (count : ℕ)
-    (left left_now left_later held held_now old new newer : Option (List ℕ)) → i < length steps
-    → step ≡ get_or steps i step → said_by step ≡ Waits count
-    → HasDone (map said_by (take i steps)) left left_now held held_now old new
+-- a action that waits
+pub action_waits : (actions : List Action) (i : ℕ) (action : Action) (count : ℕ)
+    (left left_now left_later held held_now old new newer : Option (List ℕ)) → i < length actions
+    → action ≡ get_or actions i action → said_by action ≡ Waits count
+    → HasDone (map said_by (take i actions)) left left_now held held_now old new
     → HasReceived count [] left_now left_later new newer
-    → HasDone (map said_by (take (i + 1) steps)) left left_later held held_now old newer
-step_waits steps i step count left left_now left_later held held_now old new newer below at says done more =
-    let lines : map said_by (take (i + 1) steps) ≡ map said_by (take i steps) ++ Waits count ∷ [] =
-    more_said steps i step below at ∙ ap (λ said. map said_by (take i steps) ++ said ∷ []) says in
+    → HasDone (map said_by (take (i + 1) actions)) left left_later held held_now old newer
+action_waits actions i action count left left_now left_later held held_now old new newer below at says done more =
+    let lines : map said_by (take (i + 1) actions) ≡ map said_by (take i actions) ++ Waits count ∷ [] =
+    more_said actions i action below at ∙ ap (λ said. map said_by (take i actions) ++ said ∷ []) says in
     subst (λ lines. HasDone lines left left_later held held_now old newer) (sym lines)
-    (done_waiting (map said_by (take i steps)) count left left_now left_later held held_now old new newer done more)
+    (done_waiting (map said_by (take i actions)) count left left_now left_later held held_now old new newer done more)
 
--- a step that waits for replies that don't all come
-pub step_stops : (steps : List Step) (i : ℕ) (step : Step) (count : ℕ) (fault : Fault)
-    (left left_now left_later held held_now old new newer : Option (List ℕ)) → i < length steps
-    → step ≡ get_or steps i step → said_by step ≡ Waits count
-    → HasDone (map said_by (take i steps)) left left_now held held_now old new
+-- a action that waits for replies that don't all come
+pub action_stops : (actions : List Action) (i : ℕ) (action : Action) (count : ℕ) (fault : Fault)
+    (left left_now left_later held held_now old new newer : Option (List ℕ)) → i < length actions
+    → action ≡ get_or actions i action → said_by action ≡ Waits count
+    → HasDone (map said_by (take i actions)) left left_now held held_now old new
     → (fault ≢ Write → HasFallenShort count fault left_now left_later new newer)
-    → fault ≢ Write → HasStopped (map said_by steps) fault left left_later held held_now old newer
-step_stops steps i step count fault left left_now left_later held held_now old new newer below at says d stop other =
+    → fault ≢ Write → HasStopped (map said_by actions) fault left left_later held held_now old newer
+action_stops actions i action count fault left left_now left_later held held_now old new newer below at says d stop other =
     let short = stop other in
-    let before = map said_by (take i steps) in
-    let later = map said_by (drop (i + 1) steps) in
+    let before = map said_by (take i actions) in
+    let later = map said_by (drop (i + 1) actions) in
     record {
       done = before;
       count = count;
       later = later;
       got = short.got;
       behind = short.behind;
-      parts = step_parts steps i step below at ∙ ap (λ said. before ++ said ∷ later) says;
+      parts = action_parts actions i action below at ∙ ap (λ said. before ++ said ∷ later) says;
       fewer = short.fewer;
       sent_some = d.sent_all;
       received = received_more (awaited_by before) short.got short.behind left left_now left_later old new newer

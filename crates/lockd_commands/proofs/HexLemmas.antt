@@ -51,9 +51,9 @@ no_newline [] n e = refl
 no_newline (c ∷ text) n e = no_char c text n (c == 10) refl (no_newline text (n + 1)) e
 
 -- the first line, by where the first newline is
-pub first_line_is : (text : List ℕ) (i : ℕ) → position_from (λ c. c == 10) 0 text ≡ Some i
+pub split_line_is : (text : List ℕ) (i : ℕ) → position_from (λ c. c == 10) 0 text ≡ Some i
     → lines_of text ≡ take i text ∷ lines_of (drop (i + 1) text)
-first_line_is text i e =
+split_line_is text i e =
     let at = first_at text 0 i e in
     let same : i ≡ at.k = omega (arith, at.place) in
     subst (λ k. lines_of text ≡ take k text ∷ lines_of (drop (k + 1) text)) (sym same) at.lines

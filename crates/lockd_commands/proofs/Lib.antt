@@ -4,5 +4,5 @@ pub mod FillLemmas
 pub mod HexLemmas
 pub mod ReplyLemmas
 pub mod ScriptLemmas
-pub mod StepLemmas
+pub mod ActionLemmas
 pub mod WriteLemmas

@@ -9,7 +9,7 @@ use Rattle.fl_history.specs.declared.history.Line.TheVariants.{Told}
 use Rattle.fl_order.specs.declared.told.Told.{Told as Reply}
 use Rattle.fl_trace.specs.Text.{line_text, text_of, LineFits, Fits, BreaksAt}
 use Rattle.lockd_commands.specs.Script.{line_of, IsAskLine}
-use Rattle.lockd_commands.specs.declared.script.Ask.{Ask}
+use Rattle.lockd_commands.specs.declared.script.AskLine.{AskLine}
 
 -- ask lines can be read back
 pub fits_of_asks : (lines asks : List Line) → lines ≡ asks → All IsAskLine asks → Fits lines
@@ -21,16 +21,16 @@ filter-told [] = refl
 filter-told (told ∷ tolds) = filter-told tolds
 
 -- ask lines all ask
-pub filter-asks : (asks : List Ask) → filter is_asked (map line_of asks) ≡ map line_of asks
+pub filter-asks : (asks : List AskLine) → filter is_asked (map line_of asks) ≡ map line_of asks
 filter-asks [] = refl
 filter-asks (ask ∷ asks) = ap (λ lines. line_of ask ∷ lines) (filter-asks asks)
 
 -- the script is the ask lines that are read and the rest
-pub record IsReadSoFar (script : List ℕ) (asks : List Ask) (rest : List ℕ) : Type 0 where
+pub record IsReadSoFar (script : List ℕ) (asks : List AskLine) (rest : List ℕ) : Type 0 where
   pub spelled : script ≡ text_of (map line_of asks) ++ rest
   pub fits : All IsAskLine (map line_of asks)
 
-pub read_more : (script rest after : List ℕ) (asks : List Ask) (ask : Ask) → IsReadSoFar script asks rest
+pub read_more : (script rest after : List ℕ) (asks : List AskLine) (ask : AskLine) → IsReadSoFar script asks rest
     → rest ≡ line_text (line_of ask) ++ 10 ∷ after → IsAskLine (line_of ask) → IsReadSoFar script (asks ++ ask ∷ []) after
 read_more script rest after asks ask read line fits =
     let more : text_of (map line_of (asks ++ ask ∷ [])) ++ after ≡ text_of (map line_of asks) ++ (line_text (line_of ask) ++ 10 ∷ after) =
@@ -41,7 +41,7 @@ read_more script rest after asks ask read line fits =
       fits = rw map-append (All-append IsAskLine (map line_of asks) (line_of ask ∷ []) read.fits one);
     }
 
-pub breaks : (script rest : List ℕ) (asks : List Ask) (n : ℕ) → IsReadSoFar script asks rest → 0 < length rest → n ≡ length asks + 1
+pub breaks : (script rest : List ℕ) (asks : List AskLine) (n : ℕ) → IsReadSoFar script asks rest → 0 < length rest → n ≡ length asks + 1
     → ((line : Line) (after : List ℕ) → IsAskLine line → rest ≡ line_text line ++ 10 ∷ after → ⊥) → BreaksAt IsAskLine script n
 breaks script rest asks n read more number bad = record {
   front = map line_of asks;
@@ -53,7 +53,7 @@ breaks script rest asks n read more number bad = record {
   bad = bad;
 }
 
-pub take_more_asks : (old new : List Line) (asks : List Ask) (i : ℕ) (ask : Ask) (tolds : List Reply) → filter is_asked old ≡ map line_of (take i asks)
+pub take_more_asks : (old new : List Line) (asks : List AskLine) (i : ℕ) (ask : AskLine) (tolds : List Reply) → filter is_asked old ≡ map line_of (take i asks)
     → new ≡ old ++ (line_of ask ∷ map (λ told. Told told) tolds) → i < length asks → ask ≡ get_or asks i ask
     → filter is_asked new ≡ map line_of (take (i + 1) asks)
 take_more_asks old new asks i ask tolds before taken below at =

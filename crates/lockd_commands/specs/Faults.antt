@@ -28,21 +28,13 @@ pub record IsBegun (bytes : List ℕ) (old new : Option (List ℕ)) : Type 0 whe
 abbrev pub IsTold : Fault → Option (List ℕ) → Option (List ℕ) → Type 0
 IsTold fault old new = IsBegun (fault_text fault ++ 10 ∷ []) old new
 
--- a fault of a script
-abbrev pub IsOfScript : Fault → Type 0
-IsOfScript (BadLine n) = ⊤
-IsOfScript NoMemory = ⊤
-IsOfScript Read = ⊤
-IsOfScript Write = ⊤
-IsOfScript fault = ⊥
-
--- a fault of a trace that is to be judged
-abbrev pub IsOfCheck : Fault → Type 0
-IsOfCheck (BadLine n) = ⊤
-IsOfCheck NoMemory = ⊤
-IsOfCheck Read = ⊤
-IsOfCheck Write = ⊤
-IsOfCheck fault = ⊥
+-- a fault of a command from lines of a trace to text
+abbrev pub IsOfText : Fault → Type 0
+IsOfText (BadLine n) = ⊤
+IsOfText NoMemory = ⊤
+IsOfText Read = ⊤
+IsOfText Write = ⊤
+IsOfText fault = ⊥
 
 -- a fault of a session from bytes to bytes
 abbrev pub IsOfBytes : Fault → Type 0

@@ -6,7 +6,7 @@ use Rattle.fl_trace.specs.Text.{text_of, LineFits, Fits, BreaksAt}
 use Rattle.fl_history.specs.declared.history.Line.{Line}
 use Rattle.fl_history.specs.declared.history.Line.TheVariants.{Asked}
 use Rattle.lockd_commands.specs.declared.fault.Fault.{Fault}
-use Rattle.lockd_commands.specs.declared.script.Ask.{Ask}
+use Rattle.lockd_commands.specs.declared.script.AskLine.{AskLine}
 use Rattle.lockd_commands.specs.declared.fault.Fault.TheVariants.{BadLine, NoMemory, Listen, Read, Write, Cut, BadLength, Connect, BadReply}
 
 -- an ask line that can be read back
@@ -14,7 +14,7 @@ abbrev pub IsAskLine : Line → Type 0
 IsAskLine line = LineFits line × (is_asked line ≡ true)
 
 -- the line of a history in which a worker asks
-abbrev pub line_of : Ask → Line
+abbrev pub line_of : AskLine → Line
 line_of ask = Asked ask.worker ask.order
 
 -- The trace of a script is the text of a legal history whose ask lines are the script.

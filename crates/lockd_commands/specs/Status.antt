@@ -11,7 +11,7 @@ exit_code_of Different = 1
 exit_code_of (Faulted fault) = 2
 
 -- the command gave up, by a fault of which this holds
-abbrev pub EndsBy : (Fault → Type 0) → Status → Type 0
-EndsBy holds Good = ⊥
-EndsBy holds Different = ⊥
-EndsBy holds (Faulted fault) = holds fault
+abbrev pub GivesUpBy : (Fault → Type 0) → Status → Type 0
+GivesUpBy holds Good = ⊥
+GivesUpBy holds Different = ⊥
+GivesUpBy holds (Faulted fault) = holds fault

@@ -9,8 +9,8 @@ ghost use Rattle.lockd_commands.specs.Hex.{hex_stream};
 ghost use Rattle.lockd_commands.specs.declared.fault.Fault.{Fault};
 ghost use Rattle.fl_serve.specs.declared.session.Fault.{Fault as SessionFault};
 
-use crate::fault::{Fault, tell};
-use crate::status::Status;
+use crate::fault::Fault;
+use crate::status::{Status, end};
 use crate::streams::{read_all, write_all};
 use fl_serve::{Ended, run_session};
 use hex_text::read_stream;
@@ -54,13 +54,7 @@ pub fn bytes_on<R: Read, W: Write, F: Write>(
     ensures quiet { result ≡ Status.Good → Keeps (F.contents faults.old) (F.contents faults.new) }
     ensures ended { result ≢ Status.Different }
 {
-    match bytes(alloc, input, output) {
-        Ok(()) => Status::Good,
-        Err(fault) => {
-            tell(faults, fault);
-            Status::Faulted(fault)
-        }
-    }
+    end(faults, bytes(alloc, input, output))
 }
 
 fn bytes<R: Read, W: Write>(alloc: Global, input: &mut R, output: &mut W) -> Result<(), Fault>

@@ -6,11 +6,11 @@ ghost use Rattle.fl_trace.specs.Text.{text_of, BreaksAt, LineFits, Fits};
 ghost use Rattle.fl_book.specs.Verdicts.{IsVerdict};
 ghost use Rattle.fl_book.specs.declared.judge.Verdict.TheVariants as said;
 ghost use Rattle.lockd_commands.specs.Check.{verdict_text, IsJudged};
-ghost use Rattle.lockd_commands.specs.Faults.{IsOfCheck, IsTold};
+ghost use Rattle.lockd_commands.specs.Faults.{IsOfText, IsTold};
 ghost use Rattle.lockd_commands.specs.declared.fault.Fault.{Fault};
 
-use crate::fault::{Fault, tell};
-use crate::status::Status;
+use crate::fault::Fault;
+use crate::status::{Status, end};
 use crate::streams::{read_all, write_all};
 use fl_book::{Verdict, check, read_trace};
 use std::alloc::Global;
@@ -38,17 +38,14 @@ pub fn check_on<R: Read, W: Write, F: Write>(
     ensures kept { (fault : Fault) → result ≡ Status.Faulted fault → fault ≢ Fault.Write →
         Keeps (W.contents output.old) (W.contents output.new) }
     ensures faulted { (fault : Fault) → result ≡ Status.Faulted fault →
-        IsOfCheck fault × IsTold fault (F.contents faults.old) (F.contents faults.new) }
+        IsOfText fault × IsTold fault (F.contents faults.old) (F.contents faults.new) }
     ensures quiet { (result ≡ Status.Good) ⊎ (result ≡ Status.Different) →
         Keeps (F.contents faults.old) (F.contents faults.new) }
 {
     match judge(alloc, input, output) {
         Ok(Verdict::Legal) => Status::Good,
         Ok(Verdict::Differs(_)) => Status::Different,
-        Err(fault) => {
-            tell(faults, fault);
-            Status::Faulted(fault)
-        }
+        Err(fault) => end(faults, Err(fault)),
     }
 }
 
@@ -58,7 +55,7 @@ fn judge<R: Read, W: Write>(alloc: Global, input: &mut R, output: &mut W) -> Res
     ensures bad { IfErr result (λ fault. (n : ℕ) → fault ≡ Fault.BadLine n →
         IfSome (R.remaining input.old) (λ trace. BreaksAt LineFits trace n)) }
     ensures kept { IfErr result (λ fault. fault ≢ Fault.Write → Keeps (W.contents output.old) (W.contents output.new)) }
-    ensures fault { IfErr result IsOfCheck }
+    ensures fault { IfErr result IsOfText }
 {
     let text = read_all(alloc, input)?;
     let history = read_trace(alloc, &text)?;

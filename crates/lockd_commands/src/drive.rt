@@ -5,13 +5,14 @@ ghost use Rattle.std.specs.Io.KnownBytes.{Keeps};
 ghost use Rattle.std.specs.Path.{path_bytes};
 ghost use Rattle.lockd_commands.specs.Drive.{text_says, ArePrinted, IsDriven, IsCutShort, IsUnconnected};
 ghost use Rattle.lockd_commands.specs.Drive.Inside.{Did};
-ghost use Rattle.lockd_commands.specs.Status.{EndsBy};
+ghost use Rattle.lockd_commands.specs.Status.{GivesUpBy};
 ghost use Rattle.lockd_commands.specs.Faults.{IsOfDrive, IsTold};
 ghost use Rattle.lockd_commands.specs.declared.fault.Fault.{Fault};
 
-use crate::fault::{Fault, tell};
-use crate::status::Status;
+use crate::fault::Fault;
+use crate::status::{Status, end};
 use crate::streams::read_all;
+use actions::read_actions;
 use exchange::drive_over;
 use reply::MOST_BYTES;
 use std::alloc::Global;
@@ -19,11 +20,10 @@ use std::io::{Read, Write};
 use std::net::{Net, Shutdown};
 use std::os::unix::net::UnixStream;
 use std::path::Path;
-use steps::read_steps;
 
+mod actions;
 mod exchange;
 mod reply;
-mod steps;
 
 /// `lockd drive`: connects to the Unix stream socket at a path, and does what each line of the input says, in turn. A
 /// line of hex is sent as it is; `recv N`, N from 1 to 1000, waits for N replies and writes each as a line of lower
@@ -56,19 +56,13 @@ pub fn drive_on<N: Net, R: Read, W: Write, F: Write>(
     ensures kept { (fault : Fault) → result ≡ Status.Faulted fault
         → (fault ≡ Fault.Connect) ⊎ ((n : ℕ) × (fault ≡ Fault.BadLine n))
         → Keeps (W.contents output.old) (W.contents output.new) }
-    ensures unnamed { path_bytes path.entry ≡ [] → EndsBy IsUnconnected result }
+    ensures unnamed { path_bytes path.entry ≡ [] → GivesUpBy IsUnconnected result }
     ensures faulted { (fault : Fault) → result ≡ Status.Faulted fault →
         IsOfDrive fault × IsTold fault (F.contents faults.old) (F.contents faults.new) }
     ensures quiet { result ≡ Status.Good → Keeps (F.contents faults.old) (F.contents faults.new) }
     ensures ended { result ≢ Status.Different }
 {
-    match drive(net, alloc, path, input, output) {
-        Ok(()) => Status::Good,
-        Err(fault) => {
-            tell(faults, fault);
-            Status::Faulted(fault)
-        }
-    }
+    end(faults, drive(net, alloc, path, input, output))
 }
 
 fn drive<N: Net, R: Read, W: Write>(
@@ -82,10 +76,17 @@ fn drive<N: Net, R: Read, W: Write>(
     ensures unnamed { path_bytes path.entry ≡ [] → IsErrAnd result IsUnconnected }
 {
     let text = read_all(alloc, input)?;
-    let steps = read_steps(alloc, &text)?;
+    let actions = read_actions(alloc, &text)?;
     let mut room = vec![in alloc; 0; MOST_BYTES]?;
     let stream = connect(net, path)?;
-    drive_over(alloc, &steps, &mut room, &mut &stream, &mut &stream, output)?;
+    drive_over(
+        alloc,
+        &actions,
+        &mut room,
+        &mut &stream,
+        &mut &stream,
+        output,
+    )?;
     let _ = stream.shutdown(Shutdown::Write);
     Ok(())
 }

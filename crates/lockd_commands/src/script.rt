@@ -4,13 +4,13 @@ ghost use Rattle.std.specs.Prelude.{◌≡◌, ◌≢◌, ℕ, ◌++◌, ◌∷�
 ghost use Rattle.std.specs.Io.KnownBytes.{Keeps, Appends};
 ghost use Rattle.fl_book.specs.Legal.{IsLegal, is_asked};
 ghost use Rattle.fl_trace.specs.Text.{line_text, text_of, BreaksAt};
-ghost use Rattle.lockd_commands.specs.Faults.{IsOfScript, IsTold};
+ghost use Rattle.lockd_commands.specs.Faults.{IsOfText, IsTold};
 ghost use Rattle.lockd_commands.specs.Script.{line_of, IsAskLine, IsTraceOf, FaultSays, IsAnswered};
 ghost use Rattle.fl_history.specs.declared.history.Line.{Line as Entry};
 ghost use Rattle.lockd_commands.specs.declared.fault.Fault.{Fault};
 
-use crate::fault::{Fault, tell};
-use crate::status::Status;
+use crate::fault::Fault;
+use crate::status::{Status, end};
 use crate::streams::{read_all, write_all};
 use fl_book::{Desk, History, Line, first_line, print_trace};
 use fl_core::Tolds;
@@ -20,7 +20,7 @@ use std::io::{Read, Write};
 
 /// An order, and the worker who hands it in.
 #[derive(Clone, Copy, Debug, PartialEq, Eq)]
-struct Ask {
+struct AskLine {
     worker: u32,
     order: Order,
 }
@@ -45,17 +45,11 @@ pub fn script_on<R: Read, W: Write, F: Write>(
     ensures kept { (fault : Fault) → result ≡ Status.Faulted fault → fault ≢ Fault.Write →
         Keeps (W.contents output.old) (W.contents output.new) }
     ensures faulted { (fault : Fault) → result ≡ Status.Faulted fault →
-        IsOfScript fault × IsTold fault (F.contents faults.old) (F.contents faults.new) }
+        IsOfText fault × IsTold fault (F.contents faults.old) (F.contents faults.new) }
     ensures quiet { result ≡ Status.Good → Keeps (F.contents faults.old) (F.contents faults.new) }
     ensures ended { result ≢ Status.Different }
 {
-    match script(alloc, input, output) {
-        Ok(()) => Status::Good,
-        Err(fault) => {
-            tell(faults, fault);
-            Status::Faulted(fault)
-        }
-    }
+    end(faults, script(alloc, input, output))
 }
 
 fn script<R: Read, W: Write>(alloc: Global, input: &mut R, output: &mut W) -> Result<(), Fault>
@@ -63,7 +57,7 @@ fn script<R: Read, W: Write>(alloc: Global, input: &mut R, output: &mut W) -> Re
     ensures bad { IfErr result (λ fault. (n : ℕ) → fault ≡ Fault.BadLine n →
         IfSome (R.remaining input.old) (λ script. BreaksAt IsAskLine script n)) }
     ensures kept { IfErr result (λ fault. fault ≢ Fault.Write → Keeps (W.contents output.old) (W.contents output.new)) }
-    ensures fault { IfErr result IsOfScript }
+    ensures fault { IfErr result IsOfText }
 {
     let text = read_all(alloc, input)?;
     let trace = trace_of(alloc, &text)?;
@@ -82,7 +76,7 @@ fn trace_of(alloc: Global, script: &[u8]) -> Result<String, Fault>
 }
 
 // What the ask lines of a script ask.
-fn read_asks(alloc: Global, script: &[u8]) -> Result<Vec<Ask>, Fault>
+fn read_asks(alloc: Global, script: &[u8]) -> Result<Vec<AskLine>, Fault>
     ensures spelled { IfOk result (λ asks. script.now ≡ text_of (map line_of asks.items)) }
     ensures fits { IfOk result (λ asks. All IsAskLine (map line_of asks.items)) }
     ensures error { IfErr result (FaultSays script.now) }
@@ -100,7 +94,7 @@ fn read_asks(alloc: Global, script: &[u8]) -> Result<Vec<Ask>, Fault>
 }
 
 // What the first line of a text asks, and the text after it; none where it is no ask line.
-fn first_ask(text: &[u8]) -> Option<(Ask, &[u8])>
+fn first_ask(text: &[u8]) -> Option<(AskLine, &[u8])>
     ensures fits { IfSome result (λ read. IsAskLine (line_of read.0)) }
     ensures spelled { IfSome result (λ read. text.now ≡ line_text (line_of read.0) ++ 10 ∷ read.1.now) }
     ensures none { IsNone result → (line : Entry) (after : List ℕ) → IsAskLine line →
@@ -109,11 +103,11 @@ fn first_ask(text: &[u8]) -> Option<(Ask, &[u8])>
     let Some((Line::Asked { worker, order }, rest)) = first_line(text) else {
         return None;
     };
-    Some((Ask { worker, order }, rest))
+    Some((AskLine { worker, order }, rest))
 }
 
 // The history of a desk that takes these orders in turn.
-fn take_all(alloc: Global, asks: &[Ask]) -> Result<History, Fault>
+fn take_all(alloc: Global, asks: &[AskLine]) -> Result<History, Fault>
     ensures asked { IfOk result (λ history. filter is_asked history ≡ map line_of asks.now) }
     ensures legal { IfOk result IsLegal }
     ensures error { IfErr result (λ fault. fault ≡ Fault.NoMemory) }

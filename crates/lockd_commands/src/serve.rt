@@ -9,8 +9,8 @@ ghost use Rattle.lockd_commands.specs.Serve.Inside.{Did, TellsOf};
 ghost use Rattle.lockd_commands.specs.Faults.{IsOfServe, IsTold};
 ghost use Rattle.lockd_commands.specs.declared.fault.Fault.{Fault};
 
-use crate::fault::{Fault, tell};
-use crate::status::Status;
+use crate::fault::Fault;
+use crate::status::{Status, end};
 use crate::streams::write_all;
 use fl_book::print_trace;
 use fl_serve::{Done, Open};
@@ -49,13 +49,7 @@ pub fn serve_on<R: Threads + Wait + Net + Files + Sync, W: Write, F: Write>(
     ensures unnamed { path_bytes path.entry ≡ [] → result ≡ Status.Faulted Fault.Listen }
     ensures ended { result ≢ Status.Different }
 {
-    match serve_and_print(rt, alloc, path, workers, output) {
-        Ok(()) => Status::Good,
-        Err(fault) => {
-            tell(faults, fault);
-            Status::Faulted(fault)
-        }
-    }
+    end(faults, serve_and_print(rt, alloc, path, workers, output))
 }
 
 fn serve_and_print<R: Threads + Wait + Net + Files + Sync, W: Write>(

@@ -1,8 +1,11 @@
 //! How a command ended, and its exit status.
 
-ghost use Rattle.std.specs.Prelude.{◌≡◌};
+ghost use Rattle.std.specs.Prelude.{◌≡◌, IfErr, OnOk};
+ghost use Rattle.std.specs.Io.KnownBytes.{Keeps};
+ghost use Rattle.lockd_commands.specs.Faults.{IsTold};
 
-use crate::fault::Fault;
+use crate::fault::{Fault, tell};
+use std::io::Write;
 
 /// How a command ended.
 #[derive(Clone, Copy, Debug, PartialEq, Eq)]
@@ -26,6 +29,21 @@ impl Status {
             Status::Good => 0,
             Status::Different => 1,
             Status::Faulted(_) => 2,
+        }
+    }
+}
+
+/// Ends a command: tells the fault by which it gave up, if it did.
+pub(crate) fn end<F: Write>(faults: &mut F, done: Result<(), Fault>) -> Status
+    ensures good { OnOk done ((result ≡ Status.Good) × Keeps (F.contents faults.old) (F.contents faults.new)) }
+    ensures faulted { IfErr done (λ fault. (result ≡ Status.Faulted fault)
+        × IsTold fault (F.contents faults.old) (F.contents faults.new)) }
+{
+    match done {
+        Ok(()) => Status::Good,
+        Err(fault) => {
+            tell(faults, fault);
+            Status::Faulted(fault)
         }
     }
 }

@@ -1,19 +1,19 @@
--- What the steps of a client come to. No contract of a public function cites these definitions.
+-- What the actions of a client come to. No contract of a public function cites these definitions.
 use Rattle.std.specs.Prelude.{◌≡◌, ◌⊎◌, ℕ, ◌+◌, ◌<◌, ◌≤◌, List, [], ◌∷◌, ◌++◌, length, take, drop, map, All, Option, IfSome, IsOk, Result, Ok, Err, ⊤}
 use Rattle.std.specs.List.{concat, flat_map}
 use Rattle.std.specs.Io.KnownBytes.{Appends, Consumes, IsAtEnd, Keeps}
 use Rattle.fl_wire.specs.Layout.{len_of}
 use Rattle.lockd_commands.specs.Drive.{Said, Sends, Waits, awaited_by, text_says, IsFramed, ArePrinted, IsDriven, IsCutShort}
 use Rattle.lockd_commands.specs.Hex.{hex_lines}
-use Rattle.lockd_commands.specs.declared.drive.steps.Step.{Step}
-use Rattle.lockd_commands.specs.declared.drive.steps.Step.TheVariants as step
+use Rattle.lockd_commands.specs.declared.drive.actions.Action.{Action}
+use Rattle.lockd_commands.specs.declared.drive.actions.Action.TheVariants as action
 use Rattle.lockd_commands.specs.declared.fault.Fault.{Fault}
 use Rattle.lockd_commands.specs.declared.fault.Fault.TheVariants as command
 
--- a step of the code, as what a line says
-abbrev pub said_by : Step → Said
-said_by (step.Send bytes) = Sends bytes.items
-said_by (step.Receive n) = Waits n
+-- an action of the code, as what a line says
+abbrev pub said_by : Action → Said
+said_by (action.Send bytes) = Sends bytes.items
+said_by (action.Receive n) = Waits n
 
 -- what a fault says of a text of lines
 abbrev pub TextFaults : List ℕ → Fault → Type 0

@@ -19,7 +19,7 @@ pub(crate) fn read_stream(alloc: Global, text: &[u8]) -> Result<Vec<u8>, Fault>
     let mut rest = text;
     let mut number = 1;
     while !rest.is_empty() {
-        let Some((line, after)) = first_line(rest) else {
+        let Some((line, after)) = split_line(rest) else {
             return Err(Fault::BadLine(number));
         };
         let bytes = read_line(alloc, line, number)?;
@@ -31,7 +31,7 @@ pub(crate) fn read_stream(alloc: Global, text: &[u8]) -> Result<Vec<u8>, Fault>
 }
 
 /// The first line of a text without its newline, and the text after it; none where there is no newline.
-pub(crate) fn first_line(text: &[u8]) -> Option<(&[u8], &[u8])>
+pub(crate) fn split_line(text: &[u8]) -> Option<(&[u8], &[u8])>
     ensures first { IfSome result (λ parts. lines_of text.now ≡ parts.0.now ∷ lines_of parts.1.now) }
     ensures shorter { IfSome result (λ parts. length parts.1.now < length text.now) }
     ensures none { result ≡ None → lines_of text.now ≡ text.now ∷ [] }

@@ -3,35 +3,35 @@ ghost use Rattle.std.specs.Prelude.{◌≡◌, ◌≢◌, [], length, map, OnOk,
 ghost use Rattle.lockd_commands.specs.Drive.Inside.{said_by, HasReceived, HasFallenShort, HasDone, HasStopped};
 ghost use Rattle.lockd_commands.specs.declared.fault.Fault.TheVariants.{Write as WriteFailed};
 
+use super::actions::Action;
 use super::reply::read_reply;
-use super::steps::Step;
 use crate::bytes::replies::push_line;
 use crate::fault::Fault;
 use crate::streams::write_all;
 use std::alloc::Global;
 use std::io::{Read, Write};
 
-/// Does what these steps say, in turn: writes to `requests`, reads from `replies`, and writes each reply that is waited
+/// Does what these actions say, in turn: writes to `requests`, reads from `replies`, and writes each reply that is waited
 /// for as a line of hex to `output`. Each is read in the room, which has place for the longest.
 pub(super) fn drive_over<R: Read, W: Write, O: Write>(
     alloc: Global,
-    steps: &[Step],
+    actions: &[Action],
     room: &mut [u8],
     replies: &mut R,
     requests: &mut W,
     output: &mut O,
 ) -> Result<(), Fault>
     requires { length room.old ≡ 8192 }
-    ensures done { OnOk result (HasDone (map said_by steps.now) (R.remaining replies.old) (R.remaining replies.new)
+    ensures done { OnOk result (HasDone (map said_by actions.now) (R.remaining replies.old) (R.remaining replies.new)
         (W.contents requests.old) (W.contents requests.new) (O.contents output.old) (O.contents output.new)) }
     ensures stopped { IfErr result (λ fault. fault ≢ WriteFailed →
-        HasStopped (map said_by steps.now) fault (R.remaining replies.old) (R.remaining replies.new)
+        HasStopped (map said_by actions.now) fault (R.remaining replies.old) (R.remaining replies.new)
         (W.contents requests.old) (W.contents requests.new) (O.contents output.old) (O.contents output.new)) }
 {
-    for step in steps {
-        match step {
-            Step::Send(bytes) => write_all(requests, bytes)?,
-            Step::Receive(count) => print_next(alloc, *count, room, replies, output)?,
+    for action in actions {
+        match action {
+            Action::Send(bytes) => write_all(requests, bytes)?,
+            Action::Receive(count) => print_next(alloc, *count, room, replies, output)?,
         }
     }
     Ok(())

@@ -2,9 +2,9 @@ use Rattle.std.proofs.Common.{map, take}
 use Rattle.lockd_commands.specs.Drive.Inside.{said_by, HasDone}
 use Rattle.lockd_commands.proofs.drive.exchange.drive_over.Given as goal
 
--- what the steps so far say is done
-abbrev pub invariant-loop-step : goal.invariant-loop-step
-invariant-loop-step g l =
-    HasDone (map said_by (take l.step-index l.steps)) (g.R.Read.remaining l.initial.replies) (g.R.Read.remaining l.replies)
+-- what the actions so far say is done
+abbrev pub invariant-loop-action : goal.invariant-loop-action
+invariant-loop-action g l =
+    HasDone (map said_by (take l.action-index l.actions)) (g.R.Read.remaining l.initial.replies) (g.R.Read.remaining l.replies)
     (g.W.Write.contents l.initial.requests) (g.W.Write.contents l.requests)
     (g.O.Write.contents l.initial.output) (g.O.Write.contents l.output)

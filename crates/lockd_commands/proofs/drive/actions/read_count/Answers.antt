@@ -1,7 +1,7 @@
 use Rattle.std.proofs.Common.{◌≡◌, ◌≤◌, rules, arith}
 use Rattle.std.specs.Fmt.{decimal}
-use Rattle.lockd_commands.proofs.StepLemmas.{count_is}
-use Rattle.lockd_commands.proofs.drive.steps.read_count.Goals as goal
+use Rattle.lockd_commands.proofs.ActionLemmas.{count_is}
+use Rattle.lockd_commands.proofs.drive.actions.read_count.Goals as goal
 
 pub returns-clause-count : goal.returns-clause-count
 returns-clause-count c =

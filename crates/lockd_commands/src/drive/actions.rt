@@ -5,13 +5,13 @@ ghost use Rattle.lockd_commands.specs.Drive.{count_of, line_says, text_says};
 ghost use Rattle.lockd_commands.specs.Drive.Inside.{said_by, TextFaults};
 ghost use Rattle.lockd_commands.specs.declared.fault.Fault.TheVariants.{BadLine, NoMemory};
 
-use crate::bytes::hex_text::{first_line, read_line};
+use crate::bytes::hex_text::{read_line, split_line};
 use crate::fault::Fault;
 use std::alloc::Global;
 
 /// What one line asks for.
 #[derive(Drop)]
-pub(super) enum Step {
+pub(super) enum Action {
     /// These bytes are sent.
     Send(Vec<u8>),
     /// So many replies are waited for.
@@ -19,34 +19,34 @@ pub(super) enum Step {
 }
 
 /// What the lines of a text ask for, in their order.
-pub(super) fn read_steps(alloc: Global, text: &[u8]) -> Result<Vec<Step>, Fault>
-    ensures said { IfOk result (λ steps. text_says text.now ≡ Ok (map said_by steps.items)) }
+pub(super) fn read_actions(alloc: Global, text: &[u8]) -> Result<Vec<Action>, Fault>
+    ensures said { IfOk result (λ actions. text_says text.now ≡ Ok (map said_by actions.items)) }
     ensures error { IfErr result (TextFaults text.now) }
 {
-    let mut steps = Vec::new(alloc);
+    let mut actions = Vec::new(alloc);
     let mut rest = text;
     let mut number = 1;
     while !rest.is_empty() {
-        let Some((line, after)) = first_line(rest) else {
+        let Some((line, after)) = split_line(rest) else {
             return Err(Fault::BadLine(number));
         };
-        let step: Step = read_step(alloc, line, number)?;
-        steps.push(step)?;
+        let action: Action = read_action(alloc, line, number)?;
+        actions.push(action)?;
         rest = after;
         number += 1;
     }
-    Ok(steps)
+    Ok(actions)
 }
 
 // What the line of this number asks for.
-fn read_step(alloc: Global, line: &[u8], number: usize) -> Result<Step, Fault>
-    ensures said { IfOk result (λ step. line_says line.now ≡ Some (said_by step)) }
+fn read_action(alloc: Global, line: &[u8], number: usize) -> Result<Action, Fault>
+    ensures said { IfOk result (λ action. line_says line.now ≡ Some (said_by action)) }
     ensures error { IfErr result (λ fault. (fault ≡ NoMemory)
         ⊎ ((fault ≡ BadLine number) × (line_says line.now ≡ None))) }
 {
     match line.strip_prefix(b"recv ") {
-        Some(word) => Ok(Step::Receive(read_count(alloc, word, number)?)),
-        None => Ok(Step::Send(read_line(alloc, line, number)?)),
+        Some(word) => Ok(Action::Receive(read_count(alloc, word, number)?)),
+        None => Ok(Action::Send(read_line(alloc, line, number)?)),
     }
 }
 

@@ -1,7 +1,7 @@
 use Rattle.std.proofs.Common.{◌≡◌, ◌-◌, ◌+◌, ap, sym, ◌∙◌, ◌∷◌, arith, length, take, drop, take_all, length-drop}
 use Rattle.lockd_commands.specs.Hex.{lines_of}
-use Rattle.lockd_commands.proofs.HexLemmas.{first_line_is, only_line_is}
-use Rattle.lockd_commands.proofs.bytes.hex_text.first_line.Goals as goal
+use Rattle.lockd_commands.proofs.HexLemmas.{split_line_is, only_line_is}
+use Rattle.lockd_commands.proofs.bytes.hex_text.split_line.Goals as goal
 
 pub returns-in_err-end-clause-none : goal.returns-in_err-end-clause-none
 returns-in_err-end-clause-none c = λ none. only_line_is c.args.text.now
@@ -13,5 +13,5 @@ returns-clause-first c =
     let end = c.in_ok-end.end in
     let rest : take (length text - (end + 1)) (drop (end + 1) text) ≡ drop (end + 1) text = take_all
     (length text - (end + 1)) (drop (end + 1) text) (omega (arith, length-drop (end + 1) text)) in
-    first_line_is text end (sym c.first_newline.ensures.place ∙ c.in_ok-end.was)
+    split_line_is text end (sym c.first_newline.ensures.place ∙ c.in_ok-end.was)
     ∙ ap (λ after. take end text ∷ lines_of after) (sym rest)

@@ -14,7 +14,7 @@ use Rattle.lockd_commands.proofs.HexLemmas.{HasLine, has_line}
 use Rattle.lockd_commands.specs.Drive.{Said, count_of, is_count, line_says, said_before, said_from, text_says}
 use Rattle.lockd_commands.specs.Drive.Inside.{said_by, TextFaults}
 use Rattle.lockd_commands.specs.Hex.{lines_of}
-use Rattle.lockd_commands.specs.declared.drive.steps.Step.{Step}
+use Rattle.lockd_commands.specs.declared.drive.actions.Action.{Action}
 use Rattle.lockd_commands.specs.declared.fault.Fault.{Fault}
 use Rattle.lockd_commands.specs.declared.fault.Fault.TheVariants.{BadLine, NoMemory}
 
@@ -23,9 +23,9 @@ abbrev pub after : List Said → Result (List Said) ℕ → Result (List Said) �
 after lines (Ok more) = Ok (lines ++ more)
 after lines (Err n) = Err n
 
--- the steps so far, and the text that is left, whose first line has this number
-pub record IsReadSoFar (text : List ℕ) (steps : List Step) (rest : List ℕ) (number : ℕ) : Type 0 where
-  pub said : text_says text ≡ after (map said_by steps) (said_from number (lines_of rest))
+-- the actions so far, and the text that is left, whose first line has this number
+pub record IsReadSoFar (text : List ℕ) (actions : List Action) (rest : List ℕ) (number : ℕ) : Type 0 where
+  pub said : text_says text ≡ after (map said_by actions) (said_from number (lines_of rest))
   pub few : number + length rest ≤ length text + 1
 
 after_nothing : (r : Result (List Said) ℕ) → r ≡ after [] r
@@ -45,47 +45,47 @@ after_line : (before : List Said) (said : Said) (number : ℕ) (o : Option Said)
 after_line before said number o (Ok more) e = rw e (ap Ok (sym (append_assoc before (said ∷ []) more)))
 after_line before said number o (Err n) e = rw e refl
 
-pub read_more : (text : List ℕ) (steps : List Step) (rest line after_it : List ℕ) (step : Step) (number : ℕ)
-    → IsReadSoFar text steps rest number → lines_of rest ≡ line ∷ lines_of after_it
-    → length after_it < length rest → line_says line ≡ Some (said_by step)
-    → IsReadSoFar text (steps ++ step ∷ []) after_it (number + 1)
-read_more text steps rest line after_it step number read first shorter says =
+pub read_more : (text : List ℕ) (actions : List Action) (rest line after_it : List ℕ) (action : Action) (number : ℕ)
+    → IsReadSoFar text actions rest number → lines_of rest ≡ line ∷ lines_of after_it
+    → length after_it < length rest → line_says line ≡ Some (said_by action)
+    → IsReadSoFar text (actions ++ action ∷ []) after_it (number + 1)
+read_more text actions rest line after_it action number read first shorter says =
     let few = read.few in
-    let before = map said_by steps in
+    let before = map said_by actions in
     let later = said_from (number + 1) (lines_of after_it) in
     let one = ap (λ lines. after before (said_from number lines)) first
     ∙ ap (after before) (said_line number line after_it (has_line after_it))
-    ∙ after_line before (said_by step) number (line_says line) later says in
+    ∙ after_line before (said_by action) number (line_says line) later says in
     record {
-      said = read.said ∙ one ∙ ap (λ lines. after lines later) (sym (map-append said_by steps (step ∷ [])));
+      said = read.said ∙ one ∙ ap (λ lines. after lines later) (sym (map-append said_by actions (action ∷ [])));
       few = omega arith;
     }
 
 -- the text is read
-pub read_all_of_it : (text : List ℕ) (steps : List Step) (rest : List ℕ) (number : ℕ)
-    → IsReadSoFar text steps rest number → length rest ≡ 0 → text_says text ≡ Ok (map said_by steps)
-read_all_of_it text steps [] number read none = read.said ∙ ap Ok (append-nil (map said_by steps))
-read_all_of_it text steps (c ∷ rest) number read none = absurd (omega arith)
+pub read_all_of_it : (text : List ℕ) (actions : List Action) (rest : List ℕ) (number : ℕ)
+    → IsReadSoFar text actions rest number → length rest ≡ 0 → text_says text ≡ Ok (map said_by actions)
+read_all_of_it text actions [] number read none = read.said ∙ ap Ok (append-nil (map said_by actions))
+read_all_of_it text actions (c ∷ rest) number read none = absurd (omega arith)
 
 -- text after the last newline is a bad line
-pub read_open : (text : List ℕ) (steps : List Step) (rest : List ℕ) (number : ℕ)
-    → IsReadSoFar text steps rest number → 0 < length rest
+pub read_open : (text : List ℕ) (actions : List Action) (rest : List ℕ) (number : ℕ)
+    → IsReadSoFar text actions rest number → 0 < length rest
     → lines_of rest ≡ rest ∷ [] → text_says text ≡ Err number
-read_open text steps [] number read more open_line = absurd (omega arith)
-read_open text steps (c ∷ rest) number read more open_line = read.said
-    ∙ ap (λ lines. after (map said_by steps) (said_from number lines)) open_line
+read_open text actions [] number read more open_line = absurd (omega arith)
+read_open text actions (c ∷ rest) number read more open_line = read.said
+    ∙ ap (λ lines. after (map said_by actions) (said_from number lines)) open_line
 
 before_err : (number : ℕ) (o : Option Said) (later : Result (List Said) ℕ) → o ≡ None
     → said_before number o later ≡ Err number
 before_err number o later e = rw e refl
 
 -- a line that says nothing is a bad line
-pub read_bad : (text : List ℕ) (steps : List Step) (rest line after_it : List ℕ) (number : ℕ) (fault : Fault)
-    → IsReadSoFar text steps rest number → lines_of rest ≡ line ∷ lines_of after_it
+pub read_bad : (text : List ℕ) (actions : List Action) (rest line after_it : List ℕ) (number : ℕ) (fault : Fault)
+    → IsReadSoFar text actions rest number → lines_of rest ≡ line ∷ lines_of after_it
     → (fault ≡ NoMemory) ⊎ ((fault ≡ BadLine number) × (line_says line ≡ None)) → TextFaults text fault
-read_bad text steps rest line after_it number fault read first (inl e) = subst (TextFaults text) (sym e) tt
-read_bad text steps rest line after_it number fault read first (inr e) =
-    let before = map said_by steps in
+read_bad text actions rest line after_it number fault read first (inl e) = subst (TextFaults text) (sym e) tt
+read_bad text actions rest line after_it number fault read first (inr e) =
+    let before = map said_by actions in
     let one = ap (λ lines. after before (said_from number lines)) first
     ∙ ap (after before) (said_line number line after_it (has_line after_it)) in
     let bad = ap (after before) (before_err number (line_says line) (said_from (number + 1) (lines_of after_it)) e.1) in

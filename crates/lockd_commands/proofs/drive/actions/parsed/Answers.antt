@@ -1,8 +1,8 @@
 use Rattle.std.proofs.Common.{◌≡◌, ◌∙◌, rules, sym, ap, arith}
 use Rattle.std.specs.Result.{result_ok}
 use Rattle.std.proofs.lemmas.Fmt.{parse-decimal}
-use Rattle.lockd_commands.proofs.StepLemmas.{utf8_is_read, decimal_utf8}
-use Rattle.lockd_commands.proofs.drive.steps.parsed.Goals as goal
+use Rattle.lockd_commands.proofs.ActionLemmas.{utf8_is_read, decimal_utf8}
+use Rattle.lockd_commands.proofs.drive.actions.parsed.Goals as goal
 
 pub returns-in_err-ok : goal.returns-in_err-ok
 returns-in_err-ok c = λ n small e.
