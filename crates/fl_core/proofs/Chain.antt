@@ -1,7 +1,8 @@
 -- The one chain of an arena.
-use Rattle.std.proofs.Common.{◌≡◌, ℕ, ◌+◌, ◌==◌, Bool, true, false, cond, ◌||◌, Option, Some, None, is_some, Bor, List, [], ◌∷◌, length, sum_by, slice_index_or, refl, sym, ◌∙◌, arith}
+use Rattle.std.proofs.Common.{◌≡◌, ℕ, zero, suc, ◌+◌, ◌<◌, ◌==◌, Bool, true, false, cond, ◌||◌, Option, Some, None, is_some, Bor, List, [], ◌∷◌, length, sum_by, take, get_or, slice_get, slice_index_or, refl, sym, ap, ◌∙◌, arith}
 use Rattle.std.proofs.lemmas.Bool.Decides.{nat_tests}
 use Rattle.std.proofs.lemmas.List.{length-map}
+use Rattle.std.proofs.lemmas.Option.{none-some}
 use Rattle.std.specs.List.{find, list_any}
 use Rattle.std.specs.Option.{option_copied}
 use Rattle.fl_arena.specs.Chains.{Chains, Entry, entries, items, item_count}
@@ -27,6 +28,19 @@ module _ {T : Type 0} where
       go : (b : Bool) → is_some (find t xs) ≡ list_any t xs → is_some (cond b (Some x) (find t xs)) ≡ (b || list_any t xs)
       go true later = refl
       go false later = later
+
+  -- what stands at a place
+  pub found_at : (xs : List T) (i : ℕ) (x : T) → slice_get xs i ≡ Some x → (i < length xs) × (get_or xs i x ≡ x)
+  found_at [] i x e = absurd (none-some x e)
+  found_at (y ∷ xs) zero x e = (omega arith, cc e)
+  found_at (y ∷ xs) (suc i) x e = let rest = found_at xs i x e in (omega arith, rest.1)
+
+  -- all stand before a place where nothing does
+  pub nothing_left : (xs : List T) (i : ℕ) → slice_get xs i ≡ None → take i xs ≡ xs
+  nothing_left [] zero e = refl
+  nothing_left [] (suc i) e = refl
+  nothing_left (x ∷ xs) zero e = absurd (cc e)
+  nothing_left (x ∷ xs) (suc i) e = ap (λ l. x ∷ l) (nothing_left xs i e)
 
 -- none is free where all are taken
 pub full : (taken free : ℕ) → taken + free ≡ 256 → (free == 0) ≡ (taken == 256)

@@ -1,16 +1,25 @@
 -- Locks that requests want, copied one after another.
-use Rattle.std.proofs.Common.{◌≡◌, ◌∙◌, ℕ, zero, suc, ◌+◌, ◌<◌, Option, Some, None, option_map, List, [], ◌∷◌, ◌++◌, length, map, take, get_or, slice_get, refl, sym, ap, arith}
-use Rattle.std.proofs.lemmas.Option.{none-some}
+use Rattle.std.proofs.Common.{◌≡◌, ◌∙◌, ℕ, ◌+◌, ◌<◌, Bool, true, false, cond, Option, Some, None, option_map, List, [], ◌∷◌, ◌++◌, length, map, take, get_or, slice_get, refl, sym, ap, arith}
+use Rattle.std.proofs.lemmas.Option.{slice_get-map}
 use Rattle.std.proofs.lemmas.List.{take_more, map-append}
 use Rattle.std.proofs.lemmas.List.Elements.{filter_map-append}
 use Rattle.std.specs.List.{cons_option, filter_map}
 use Rattle.fl_arena.specs.Chains.{Chains, items}
 use Rattle.fl_arena.specs.Cursors.{cursor_at}
 use Rattle.fl_arena.specs.declared.cursors.Cursor.{Cursor}
-use Rattle.fl_core.specs.Circle.{wish_of, wishes}
+use Rattle.fl_core.specs.Circle.{Wish, wish_of, wishes}
+use Rattle.fl_core.specs.Inside.Claims.{request_in, requests_of}
 use Rattle.fl_core.specs.Inside.Searching.{meant, one_of}
 use Rattle.fl_core.specs.declared.circle.Wanted.{Wanted}
+use Rattle.fl_core.specs.LockRequest.{is_flock, key_of, stroke_of}
+use Rattle.fl_core.specs.declared.claim.Claim.{Claim}
 use Rattle.fl_core.specs.declared.parked.Request.{Request}
+use Rattle.fl_core.proofs.Chain.{found_at, nothing_left}
+use Rattle.fl_core.proofs.Claims.{stands_at}
+use Rattle.fl_ranges.specs.Marking.{Stroke, stroke_on}
+use Rattle.fl_ranges.specs.declared.lock.Class.{Class}
+use Rattle.fl_ranges.specs.declared.lock.Class.TheVariants.{Record, Flock}
+use Rattle.fl_ranges.specs.declared.lock.Mark.{Mark}
 
 one_wish : (w : Option Wanted) (r : Request) → option_map meant w ≡ wish_of r → map meant (one_of w) ≡ filter_map wish_of (r ∷ [])
 one_wish None r e = ap (λ o. cons_option o []) e
@@ -24,26 +33,42 @@ copied_more room new count next w parked i r so_far put wish there at =
     ∙ ap wishes (ap (λ x. take i parked ++ x ∷ []) (sym at) ∙ sym (take_more parked i r there))
 
 -- the cursor has gone on by one
-pub record IsNext (a : Chains Request) (i : ℕ) (r : Request) (next : Cursor) : Type 0 where
+pub record IsNext (a : Chains Claim) (i : ℕ) (claim : Claim) (next : Cursor) : Type 0 where
   pub at : next ≡ cursor_at a 0 next.index
   pub index : next.index ≡ i + 1
-  pub there : i < length (items a 0)
-  pub value : get_or (items a 0) i r ≡ r
+  pub inside : i < length (items a 0)
+  pub there : i < length (requests_of a)
+  pub value : get_or (requests_of a) i claim.request ≡ claim.request
 
-found_at : (xs : List Request) (i : ℕ) (r : Request) → slice_get xs i ≡ Some r → (i < length xs) × (get_or xs i r ≡ r)
-found_at [] i r e = absurd (none-some r e)
-found_at (x ∷ xs) zero r e = (omega arith, cc e)
-found_at (x ∷ xs) (suc i) r e = let rest = found_at xs i r e in (omega arith, rest.1)
-
-pub is_next : (a : Chains Request) (i : ℕ) (r : Request) (next : Cursor) → slice_get (items a 0) i ≡ Some r → next ≡ cursor_at a 0 (i + 1) → IsNext a i r next
-is_next a i r next found on =
+pub is_next : (a : Chains Claim) (i : ℕ) (claim : Claim) (next : Cursor) → slice_get (items a 0) i ≡ Some claim
+    → next ≡ cursor_at a 0 (i + 1) → IsNext a i claim next
+is_next a i claim next found on =
     let index : next.index ≡ i + 1 = ap (λ (k : Cursor). k.index) on in
-    let there = found_at (items a 0) i r found in
-    record { at = on ∙ ap (cursor_at a 0) (sym index); index = index; there = there.0; value = there.1 }
+    let there = stands_at a i claim found in
+    record {
+      at = on ∙ ap (cursor_at a 0) (sym index);
+      index = index;
+      inside = (found_at (items a 0) i claim found).0;
+      there = there.0;
+      value = there.1;
+    }
 
--- all are copied where no item is left
-pub nothing_left : (xs : List Request) (i : ℕ) → slice_get xs i ≡ None → take i xs ≡ xs
-nothing_left [] zero e = refl
-nothing_left [] (suc i) e = refl
-nothing_left (x ∷ xs) zero e = absurd (cc e)
-nothing_left (x ∷ xs) (suc i) e = ap (λ l. x ∷ l) (nothing_left xs i e)
+-- all are copied where no claim is left
+pub none_left : (a : Chains Claim) (i : ℕ) → slice_get (items a 0) i ≡ None → take i (requests_of a) ≡ requests_of a
+none_left a i e = nothing_left (requests_of a) i (slice_get-map request_in (items a 0) i ∙ ap (option_map request_in) e)
+
+-- the record lock of a stroke, if it is one that is set
+abbrev wish_at : Class → Stroke → Option Wish
+wish_at Flock s = None
+wish_at Record s = option_map (λ (mark : Mark). record { key = s.key; start = s.start; end = s.end; kind = mark.kind }) s.mark
+
+wish_by : (r : Request) → wish_of r ≡ wish_at (key_of r.node r.ask).class (stroke_of r.node r.ask)
+wish_by r = go (is_flock r.ask)
+  where
+    go : (b : Bool) → cond b None (wish_at Record (stroke_of r.node r.ask)) ≡ wish_at (cond b Flock Record) (stroke_of r.node r.ask)
+    go true = refl
+    go false = refl
+
+-- the record lock that a claim is for
+pub wish_in : (claim : Claim) → wish_at claim.key.class (stroke_on claim.key claim.range claim.mark) ≡ wish_of claim.request
+wish_in claim = ap (λ (s : Stroke). wish_at s.key.class s) claim.wanted ∙ sym (wish_by claim.request)

@@ -1,7 +1,7 @@
 -- The oldest request that passes a test, and the others.
-use Rattle.std.proofs.Common.{◌≡◌, ◌≢◌, ℕ, suc, ◌==◌, ◌+◌, ◌||◌, Bool, true, false, not, cond, Option, Some, None, option_map, List, [], ◌∷◌, ◌++◌, length, refl, sym, ap, ◌∙◌, subst, arith, remove}
+use Rattle.std.proofs.Common.{◌≡◌, ◌≢◌, ℕ, suc, ◌==◌, ◌+◌, ◌||◌, Bool, true, false, not, cond, Option, Some, None, option_map, List, [], ◌∷◌, ◌++◌, length, refl, sym, ap, ◌∙◌, subst, arith}
 use Rattle.std.proofs.lemmas.Bool.Decides.{nat_tests}
-use Rattle.std.specs.List.{filter, find, position_or_len, AllByRecursion}
+use Rattle.std.specs.List.{filter, AllByRecursion}
 use Rattle.fl_core.specs.declared.parked.Request.{Request}
 use Rattle.fl_core.specs.Waiting.{is_parked, taken_first, taken_out, AreApart}
 
@@ -42,21 +42,6 @@ pub taken_alike : (p q : Request → Bool) (parked : List Request) → AllByRecu
 unfolding taken_first
 taken_alike p q [] all = refl
 taken_alike p q (r ∷ parked) all = λ i. cond (all.0 i) (Some (r, parked)) (keep r (taken_alike p q parked all.1 i))
-
-suc_is_one_plus : (n : ℕ) → suc n ≡ 1 + n
-suc_is_one_plus n = omega arith
-
--- in the words of a chain: what is found, and what its removal leaves
-pub taken_found : (test : Request → Bool) (parked : List Request) → taken_first test parked ≡ option_map (λ r. (r, remove parked (position_or_len test parked))) (find test parked)
-unfolding taken_first
-taken_found test [] = refl
-taken_found test (r ∷ parked) = go (test r) (find test parked) (taken_found test parked)
-  where
-    go : (b : Bool) (o : Option Request) → taken_first test parked ≡ option_map (λ r. (r, remove parked (position_or_len test parked))) o
-        → cond b (Some (r, parked)) (keep r (taken_first test parked)) ≡ option_map (λ s. (s, remove (r ∷ parked) (cond (not b) (1 + position_or_len test parked) 0))) (cond b (Some r) o)
-    go true o e = refl
-    go false None e = ap (keep r) e
-    go false (Some s) e = ap (keep r) e ∙ ap (λ k. Some (s, remove (r ∷ parked) k)) (suc_is_one_plus (position_or_len test parked))
 
 -- the request of a unique that no older one has
 same : (x y : ℕ) → x ≡ y → (x == y) ≡ true

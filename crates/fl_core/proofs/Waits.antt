@@ -3,10 +3,8 @@ use Rattle.std.proofs.Common.{◌≡◌, ℕ, ◌==◌, ◌&&◌, Bool, true, fa
 use Rattle.std.proofs.lemmas.Bool.Decides.{nat_tests}
 use Rattle.std.specs.List.{AllByRecursion}
 use Rattle.fl_core.specs.Effects.{flushed, locked, released}
-use Rattle.fl_core.specs.Inside.Parts.{AreFormed}
 use Rattle.fl_core.specs.Inside.Touched.{concerns, concerns_request, touched_by, OthersWait, WaitsNow}
 use Rattle.fl_core.specs.LockRequest.{key_of, mark_of, stroke_of}
-use Rattle.fl_core.specs.Replies.{is_malformed}
 use Rattle.fl_core.specs.Waiting.{is_excluded, waits, taken_first, AllWait}
 use Rattle.fl_core.specs.Settling.{oldest_free}
 use Rattle.fl_core.specs.declared.parked.Request.{Request}
@@ -78,18 +76,18 @@ others_flushed node fh owner (Ok answer) m n parked is elsewhere all =
 others_flushed node fh owner (Err e) m n parked is elsewhere all = others_kept Nothing n parked (subst (λ k. AllWait k parked) (sym is) all)
 
 -- a test of those alone that are concerned finds the oldest that is free
-pub free_found : (t : Touched) (m : Marking) (parked : List Request) → AllByRecursion (λ (r : Request). is_malformed r.ask ≡ false) parked → OthersWait t m parked
-    → taken_first (λ r. concerns_request t r && not (not (is_malformed r.ask) && waits m r)) parked ≡ oldest_free m parked
-free_found t m parked formed others = taken_alike _ _ parked (alike parked formed others)
+pub free_found : (t : Touched) (m : Marking) (parked : List Request) → OthersWait t m parked
+    → taken_first (λ r. concerns_request t r && not (waits m r)) parked ≡ oldest_free m parked
+free_found t m parked others = taken_alike _ _ parked (alike parked others)
   where
-    one : (concerned malformed waiting : Bool) → malformed ≡ false → (concerned ≡ false → waiting ≡ true) → (concerned && not (not malformed && waiting)) ≡ not waiting
-    one true malformed waiting e f = ap (λ b. not (not b && waiting)) e
-    one false malformed true e f = refl
-    one false malformed false e f = absurd (cc (f refl))
+    one : (concerned waiting : Bool) → (concerned ≡ false → waiting ≡ true) → (concerned && not waiting) ≡ not waiting
+    one true waiting f = refl
+    one false true f = refl
+    one false false f = absurd (cc (f refl))
 
-    alike : (parked : List Request) → AllByRecursion (λ (r : Request). is_malformed r.ask ≡ false) parked → OthersWait t m parked → AllByRecursion (λ r. (concerns_request t r && not (not (is_malformed r.ask) && waits m r)) ≡ not (waits m r)) parked
-    alike [] formed others = tt
-    alike (r ∷ parked) formed others = (one (concerns_request t r) (is_malformed r.ask) (waits m r) formed.0 others.0, alike parked formed.1 others.1)
+    alike : (parked : List Request) → OthersWait t m parked → AllByRecursion (λ r. (concerns_request t r && not (waits m r)) ≡ not (waits m r)) parked
+    alike [] others = tt
+    alike (r ∷ parked) others = (one (concerns_request t r) (waits m r) others.0, alike parked others.1)
 
 concerns_alike : (t : Touched) (n k : ℕ) (a b : Class) → class_number a ≡ class_number b → n ≡ k → concerns t n a ≡ concerns t k b
 concerns_alike Nothing n k a b c e = refl
@@ -142,9 +140,3 @@ module _ (node : ℕ) (ask : LockAsk) (unique : ℕ) (m n : Marking) (parked lef
   others_parked None told waiting elsewhere all =
       let w = waiting refl in
       others_kept Nothing n left (subst (λ k. AllWait k left) (sym w.locks) (subst (AllWait m) (sym w.last) (all_more (λ r. waits m r ≡ true) parked request all w.waits)))
-
-  pub formed_parked : (own : Option (Result Answer Errno)) → IfSome own (λ reply. (n ≡ after_changes (locked node ask reply) m) × (left ≡ parked)) → (IsNone own → WaitsNow m n parked left request) → AreFormed parked → AreFormed left
-  formed_parked (Some reply) told waiting formed = subst AreFormed (sym told.1) formed
-  formed_parked None told waiting formed =
-      let w = waiting refl in
-      subst AreFormed (sym w.last) (all_more (λ r. is_malformed r.ask ≡ false) parked request formed w.formed)

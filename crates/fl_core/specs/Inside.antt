@@ -1,3 +1,4 @@
+pub mod Claims
 pub mod Counts
 pub mod Parts
 pub mod Searching

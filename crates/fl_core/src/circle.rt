@@ -4,12 +4,11 @@ ghost use Rattle.std.specs.Prelude.{◌≡◌, ◌+◌, ◌++◌, ◌≤◌, ◌
 ghost use Rattle.fl_arena.specs.Chains.{items};
 ghost use Rattle.fl_ranges.specs.Conflict.{owner_conflicts};
 ghost use Rattle.fl_core.specs.Circle.{closes_circle, hinders, leads, owner_of as owner_of_wish, wish_of, wishes};
-ghost use Rattle.fl_core.specs.Inside.Parts.{AreFormed};
+ghost use Rattle.fl_core.specs.Inside.Claims.{requests_of};
 ghost use Rattle.fl_core.specs.Inside.Searching.{meant, one_of, is_set, owner_at, AreTwins, IsByOwner, AreReached};
-ghost use Rattle.fl_core.specs.Replies.{is_malformed};
 
-use crate::locking::{key_of, mark_of, range_of};
-use crate::parked::{MOST_PARKED, Parked, Request};
+use crate::claim::Claim;
+use crate::parked::{MOST_PARKED, Parked};
 use fl_arena::Arena;
 use fl_ranges::{Class, Key, Kind, Range, Table};
 
@@ -27,7 +26,6 @@ type Bits = [bool; MOST_PARKED];
 impl Parked {
     /// Whether a request would close a circle if it waited. Requests for whole-file locks never do.
     pub(crate) fn close_circle(&self, locks: &Table, asked: &Wanted) -> bool
-        requires { AreFormed self.now }
         ensures { result ≡ closes_circle locks.now.marking self.now (meant asked.now) }
     {
         if let Class::Flock = asked.key.class {
@@ -37,25 +35,24 @@ impl Parked {
             return false;
         }
         let mut room = [*asked; MOST_PARKED];
-        let count = copy_wanted(&self.requests, &mut room);
+        let count = copy_wanted(&self.claims, &mut room);
         leads_back(locks, &room[..count], asked)
     }
 }
 
 // Copies the record locks that requests wait for, the oldest first, to the front of the room, and tells how many they
 // are.
-fn copy_wanted(requests: &Arena<Request>, room: &mut [Wanted; MOST_PARKED]) -> usize
-    requires chain { 0 < length requests.now.chains }
-    requires few { length (items requests.now 0) ≤ MOST_PARKED }
-    requires formed { AreFormed (items requests.now 0) }
+fn copy_wanted(claims: &Arena<Claim>, room: &mut [Wanted; MOST_PARKED]) -> usize
+    requires chain { 0 < length claims.now.chains }
+    requires few { length (items claims.now 0) ≤ MOST_PARKED }
     ensures few { result ≤ MOST_PARKED }
-    ensures wanted { map meant (take result room.new) ≡ wishes (items requests.now 0) }
+    ensures wanted { map meant (take result room.new) ≡ wishes (requests_of claims.now) }
 {
     let mut count = 0;
-    let mut cursor = requests.cursor(0);
-    while let Some(request) = requests.item(&cursor) {
-        count = put(room, count, wanted_of(request));
-        requests.step(&mut cursor);
+    let mut cursor = claims.cursor(0);
+    while let Some(claim) = claims.item(&cursor) {
+        count = put(room, count, wanted_of(claim));
+        claims.step(&mut cursor);
     }
     count
 }
@@ -74,20 +71,17 @@ fn put(room: &mut [Wanted; MOST_PARKED], count: usize, wanted: Option<Wanted>) -
 }
 
 // The record lock that a request waits for, if it is for one.
-fn wanted_of(request: &Request) -> Option<Wanted>
-    requires { is_malformed request.now.ask ≡ false }
-    ensures { option_map meant result ≡ wish_of request.now }
+fn wanted_of(claim: &Claim) -> Option<Wanted>
+    ensures { option_map meant result ≡ wish_of claim.now.request }
 {
-    let key = key_of(request.node, &request.ask);
-    if key.class == Class::Flock {
-        return None;
+    match (claim.key.class, claim.mark) {
+        (Class::Record, Some(mark)) => Some(Wanted {
+            key: claim.key,
+            range: claim.range,
+            kind: mark.kind,
+        }),
+        _ => None,
     }
-    let mark = mark_of(&request.ask)?;
-    Some(Wanted {
-        key,
-        range: range_of(&request.ask)?,
-        kind: mark.kind,
-    })
 }
 
 // Whether a request waits for its own owner, through others.

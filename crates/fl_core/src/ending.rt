@@ -4,7 +4,8 @@ ghost use Rattle.std.specs.Prelude.{◌≡◌, ◌≤◌, ◌+◌, ◌++◌, not
 ghost use Rattle.std.specs.List.{filter};
 ghost use Rattle.fl_core.specs.Replies.{ended_all, ending_of, error_of, picks};
 
-use crate::parked::{Parked, Request};
+use crate::claim::Claim;
+use crate::parked::Parked;
 use crate::tolds::{MOST_TOLDS, Tolds};
 use fl_order::{Answer, Errno, Op, Order, Told};
 
@@ -35,20 +36,20 @@ pub(crate) fn end_all(parked: &mut Parked, ending: Ending, tolds: &mut Tolds)
     ensures parked { parked.new ≡ filter (λ r. not (picks ending r)) parked.old }
     ensures few { length tolds.new + length parked.new ≤ MOST_TOLDS }
 {
-    while let Some(request) = parked.take_first(|request| picks(ending, request)) {
+    while let Some(claim) = parked.take_first(|claim| picks(ending, claim)) {
         tolds.push(Told {
-            unique: request.unique,
+            unique: claim.request.unique,
             result: Err(error_of(ending)),
         });
     }
 }
 
-fn picks(ending: Ending, request: &Request) -> bool
-    ensures { result ≡ picks ending request.now }
+fn picks(ending: Ending, claim: &Claim) -> bool
+    ensures { result ≡ picks ending claim.now.request }
 {
     match ending {
-        Ending::Through(fh) => request.ask.fh == fh,
-        Ending::Named(unique) => request.unique == unique,
+        Ending::Through(fh) => claim.request.ask.fh == fh,
+        Ending::Named(unique) => claim.request.unique == unique,
     }
 }
 

@@ -2,6 +2,7 @@
 #![tactic(auto)]
 
 mod circle;
+mod claim;
 mod ending;
 pub mod laws;
 mod locking;

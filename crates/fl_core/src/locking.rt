@@ -9,11 +9,11 @@ ghost use Rattle.fl_core.specs.LockRequest.{is_flock, key_of, start_of, end_of, 
 ghost use Rattle.fl_core.specs.Effects.{dropped, locked, unlocked};
 ghost use Rattle.fl_core.specs.Replies.{ask_error, is_deadlock, is_malformed, type_of, lock_answer};
 ghost use Rattle.fl_core.specs.Replies.{room_reply, set_reply, setlk_reply, setlkw_reply, getlk_reply};
-ghost use Rattle.fl_core.specs.Inside.Parts.{AreFormed};
 ghost use Rattle.fl_core.specs.Inside.Touched.{WaitsNow};
 ghost use Rattle.fl_core.specs.Waiting.{is_excluded};
 
 use crate::circle::Wanted;
+use crate::claim::Claim;
 use crate::parked::{Parked, Request};
 use fl_dir::Dir;
 use fl_order::{Answer, Errno, LockAsk};
@@ -83,8 +83,7 @@ pub(crate) fn set_or_wait(
     node: u64,
     ask: &LockAsk,
 ) -> Option<Result<Answer, Errno>>
-    requires limit { locks.old.limit ≡ MOST_RUNS }
-    requires formed { AreFormed parked.old }
+    requires { locks.old.limit ≡ MOST_RUNS }
     ensures reply { result ≡ setlkw_reply (record { directory = directory.now; parked = parked.old })
         locks.old.marking node ask.now }
     ensures told { IfSome result (λ reply.
@@ -110,17 +109,22 @@ pub(crate) fn set_or_wait(
     if parked.is_full() {
         return Some(Err(Errno::ENOLCK));
     }
-    parked.push(Request {
+    let request = Request {
         unique,
         node,
         ask: *ask,
+    };
+    parked.push(Claim {
+        request,
+        key,
+        range,
+        mark,
     });
     None
 }
 
 // Whether a lock would close a circle of waiting owners if its request waited.
 fn is_deadlock(locks: &Table, parked: &Parked, key: &Key, range: &Range, mark: Option<Mark>) -> bool
-    requires { AreFormed parked.now }
     ensures { result ≡ is_deadlock locks.now.marking parked.now (stroke_on key.now range.now mark) mark }
 {
     match mark {
@@ -251,7 +255,7 @@ fn asked_range(directory: &Dir, node: u64, ask: &LockAsk) -> Result<Range, Errno
 }
 
 // The range of a lock request; none where the request is malformed.
-pub(crate) fn range_of(ask: &LockAsk) -> Option<Range>
+fn range_of(ask: &LockAsk) -> Option<Range>
     ensures malformed { IsNone result ↔ (is_malformed ask.now ≡ true) }
     ensures range { IfSome result (λ range. (range.start ≡ start_of ask.now) × (range.end ≡ end_of ask.now)) }
 {
@@ -284,7 +288,7 @@ pub(crate) fn key_of(node: u64, ask: &LockAsk) -> Key
     }
 }
 
-pub(crate) fn mark_of(ask: &LockAsk) -> Option<Mark>
+fn mark_of(ask: &LockAsk) -> Option<Mark>
     ensures { result ≡ mark_of ask.now }
 {
     let kind = match ask.kind {

@@ -1,11 +1,13 @@
-//! Lock requests that wait, in the order of asking.
+//! Parked requests, in the order of asking.
 
 ghost use Rattle.std.specs.Prelude.{◌≡◌, ◌==◌, ◌↔◌, ◌≤◌, ◌<◌, ◌%◌, ◌++◌, ◌∷◌, [], Bool, false, None, Some, IfOk, MatchOption, length};
 ghost use Rattle.std.specs.List.{AllByRecursion};
 ghost use Rattle.fl_arena.specs.Cursors.{Tests};
 ghost use Rattle.fl_core.specs.Waiting.{is_parked, taken_first};
+ghost use Rattle.fl_core.specs.declared.claim.Claim.{Claim as Wanting};
 ghost use Rattle.fl_core.specs.declared.parked.Request.{Request as Waiter};
 
+use crate::claim::Claim;
 use fl_arena::{Arena, Cursor};
 use fl_order::{LockAsk, NoMemory};
 use std::alloc::Global;
@@ -27,10 +29,10 @@ pub struct Request {
     pub ask: LockAsk,
 }
 
-/// Requests that wait, the oldest first. Contracts see their list.
+/// Parked requests, the oldest first. Contracts see their list.
 #[derive(Drop)]
 pub(crate) struct Parked {
-    pub(crate) requests: Arena<Request>,
+    pub(crate) claims: Arena<Claim>,
 
     // No request that waits has a greater unique. Those of a kernel rise, so that a new one is past all.
     greatest: u64,
@@ -43,14 +45,15 @@ impl Model for Parked {
     ghost use Rattle.std.specs.Prelude.{◌≡◌, List, length};
     ghost use Rattle.fl_arena.specs.Chains.{items};
     ghost use Rattle.fl_core.specs.declared.parked.Request.{Request};
+    ghost use Rattle.fl_core.specs.Inside.Claims.{requests_of};
     ghost use Rattle.fl_core.specs.Inside.Counts.{AreUpTo, AreCounted};
 
     ghost Value = { List Request };
 
-    ghost view = { λ p. items p.requests 0 };
+    ghost view = { λ p. requests_of p.claims };
 
-    ghost invariant = { λ p. (length p.requests.chains ≡ 1) × (p.requests.slots ≡ 256)
-        × AreUpTo p.greatest (items p.requests 0) × AreCounted p.on_nodes (items p.requests 0) };
+    ghost invariant = { λ p. (length p.claims.chains ≡ 1) × (p.claims.slots ≡ 256)
+        × AreUpTo p.greatest (requests_of p.claims) × AreCounted p.on_nodes (requests_of p.claims) };
 }
 
 impl Parked {
@@ -59,7 +62,7 @@ impl Parked {
         ensures { IfOk result (λ parked. parked ≡ []) }
     {
         Ok(Parked {
-            requests: Arena::new(alloc, 1, MOST_PARKED)?,
+            claims: Arena::new(alloc, 1, MOST_PARKED)?,
             greatest: 0,
             on_nodes: [0; BUCKETS],
         })
@@ -70,7 +73,7 @@ impl Parked {
         ensures few { length self.now ≤ MOST_PARKED }
         ensures full { result ≡ (length self.now == MOST_PARKED) }
     {
-        self.requests.free() == 0
+        self.claims.free() == 0
     }
 
     /// Whether none waits.
@@ -78,7 +81,7 @@ impl Parked {
         ensures few { length self.now ≤ MOST_PARKED }
         ensures empty { result ≡ (length self.now == 0) }
     {
-        self.requests.free() == MOST_PARKED
+        self.claims.free() == MOST_PARKED
     }
 
     /// Whether a request of this unique waits.
@@ -86,16 +89,16 @@ impl Parked {
         ensures found { result ≡ is_parked unique self.now }
         ensures few { length self.now ≤ MOST_PARKED }
     {
-        if self.requests.free() == MOST_PARKED {
+        if self.claims.free() == MOST_PARKED {
             return false;
         }
         if unique > self.greatest {
             return false;
         }
         let cursor = self
-            .requests
-            .first_where(0, |waiter| waiter.unique == unique);
-        self.requests.item(&cursor).is_some()
+            .claims
+            .first_where(0, |claim| claim.request.unique == unique);
+        self.claims.item(&cursor).is_some()
     }
 
     /// Whether a request on this node may wait; where none may, none does.
@@ -106,36 +109,36 @@ impl Parked {
     }
 
     /// A request more, after the others.
-    pub(crate) fn push(&mut self, request: Request)
+    pub(crate) fn push(&mut self, claim: Claim)
         requires { length self.old < MOST_PARKED }
-        ensures { self.new ≡ self.old ++ request ∷ [] }
+        ensures { self.new ≡ self.old ++ claim.request ∷ [] }
     {
-        self.greatest = self.greatest.max(request.unique);
-        self.on_nodes[bucket(request.node)] += 1;
+        self.greatest = self.greatest.max(claim.request.unique);
+        self.on_nodes[bucket(claim.request.node)] += 1;
         let mut end = Cursor {
             chain: 0,
             index: 0,
             slot: None,
         };
-        let Ok(()) = self.requests.insert(&mut end, request) else {
+        let Ok(()) = self.claims.insert(&mut end, claim) else {
             unreachable!()
         };
     }
 
     /// Takes out the oldest request that passes the test.
-    pub(crate) fn take_first<F: Fn(&Request) -> bool>(&mut self, test: F) -> Option<Request>
+    pub(crate) fn take_first<F: Fn(&Claim) -> bool>(&mut self, test: F) -> Option<Claim>
         requires { F.IsAlwaysCallable test }
-        ensures { (p : Waiter → Bool) → Tests F.Fn p test → MatchOption result
+        ensures { (p : Waiter → Bool) → Tests F.Fn (λ (claim : Wanting). p claim.request) test → MatchOption result
             ((taken_first p self.old ≡ None) × (self.new ≡ self.old))
-            (λ taken. taken_first p self.old ≡ Some (taken, self.new)) }
+            (λ taken. taken_first p self.old ≡ Some (taken.request, self.new)) }
     {
-        let mut cursor = self.requests.first_where(0, test);
-        if self.requests.item(&cursor).is_none() {
+        let mut cursor = self.claims.first_where(0, test);
+        if self.claims.item(&cursor).is_none() {
             return None;
         }
-        let request = self.requests.remove(&mut cursor);
-        self.on_nodes[bucket(request.node)] -= 1;
-        Some(request)
+        let claim = self.claims.remove(&mut cursor);
+        self.on_nodes[bucket(claim.request.node)] -= 1;
+        Some(claim)
     }
 }
 

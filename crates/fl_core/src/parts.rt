@@ -3,7 +3,7 @@
 ghost use Rattle.std.specs.Prelude.{◌≡◌, ◌≤◌, ◌↔◌, ◌+◌, ◌++◌, true, false, length, IfOk, IsSome};
 ghost use Rattle.std.specs.List.{AllByRecursion};
 ghost use Rattle.fl_core.specs.Effects.{by_reply, flushed, listing_replied, released, made};
-ghost use Rattle.fl_core.specs.Inside.Parts.{AreFormed, left_by, with_parked};
+ghost use Rattle.fl_core.specs.Inside.Parts.{left_by, with_parked};
 ghost use Rattle.fl_core.specs.Inside.Touched.{touched_by, OthersWait};
 ghost use Rattle.fl_core.specs.Replies.{directory_reply, ended_by, file_reply, reply_to};
 ghost use Rattle.fl_core.specs.State.{opening, snapshot_of};
@@ -41,7 +41,6 @@ impl Model for Parts {
     ghost use Rattle.std.specs.Prelude.{◌≡◌};
     ghost use Rattle.fl_core.specs.State.{Snapshot};
     ghost use Rattle.fl_core.specs.Codes.{snapshot_code};
-    ghost use Rattle.fl_core.specs.Inside.Parts.{AreFormed};
     ghost use Rattle.fl_core.specs.declared.locking.TheConstants.{MOST_RUNS};
 
     ghost Value = { Snapshot };
@@ -51,7 +50,7 @@ impl Model for Parts {
     ghost view = { λ p.
         record { view = record { directory = p.directory; parked = p.parked }; marking = p.locks.marking } };
 
-    ghost invariant = { λ p. (p.locks.limit ≡ MOST_RUNS) × AreFormed p.parked };
+    ghost invariant = { λ p. p.locks.limit ≡ MOST_RUNS };
 }
 
 impl Parts {

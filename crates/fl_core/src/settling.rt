@@ -1,18 +1,17 @@
 //! Requests that wait, answered once locks have changed.
 
-ghost use Rattle.std.specs.Prelude.{◌≡◌, ◌≤◌, ◌+◌, ◌++◌, ◌&&◌, not, false, None, Some, MatchOption, length};
+ghost use Rattle.std.specs.Prelude.{◌≡◌, ◌≤◌, ◌+◌, ◌++◌, false, None, Some, MatchOption, length};
 ghost use Rattle.std.specs.List.{AllByRecursion};
 ghost use Rattle.fl_ranges.specs.Conflict.{IsLawful, SameElsewhere};
 ghost use Rattle.fl_core.specs.LockRequest.{key_of};
-ghost use Rattle.fl_core.specs.Inside.Parts.{AreFormed};
 ghost use Rattle.fl_core.specs.Inside.Touched.{concerns_request, touched_by, OthersWait};
-ghost use Rattle.fl_core.specs.Replies.{is_malformed};
 ghost use Rattle.fl_core.specs.Settling.{granted_told, marking_granted, oldest_free, present, settled};
 ghost use Rattle.fl_core.specs.Waiting.{waits, AreApart};
 ghost use Rattle.fl_core.specs.declared.parked.Request.{Request as Waiter};
 
-use crate::locking::{MOST_RUNS, is_excluded, key_of, mark_of, range_of, store};
-use crate::parked::{Parked, Request};
+use crate::claim::Claim;
+use crate::locking::{MOST_RUNS, is_excluded, key_of, store};
+use crate::parked::Parked;
 use crate::tolds::{MOST_TOLDS, Tolds};
 use fl_order::{Answer, Errno, Op, Order, Told};
 use fl_ranges::{Class, Table};
@@ -48,7 +47,6 @@ pub(crate) fn touched_by(order: &Order, own: &Option<Result<Answer, Errno>>) -> 
 /// locks were touched.
 pub(crate) fn settle(locks: &mut Table, parked: &mut Parked, touched: Touched, tolds: &mut Tolds)
     requires limit { locks.old.limit ≡ MOST_RUNS }
-    requires formed { AreFormed parked.old }
     requires others { OthersWait touched locks.old.marking parked.old }
     requires room { length tolds.old + length parked.old ≤ MOST_TOLDS }
     ensures tolds { tolds.new ≡ tolds.old ++ (settled (present locks.old.marking parked.old)).tolds }
@@ -56,15 +54,14 @@ pub(crate) fn settle(locks: &mut Table, parked: &mut Parked, touched: Touched, t
         ≡ (settled (present locks.old.marking parked.old)).present }
     ensures few { length tolds.new + length parked.new ≤ MOST_TOLDS }
     ensures apart { AreApart parked.old → AreApart parked.new }
-    ensures still_formed { AreFormed parked.new }
     ensures lawful { IsLawful locks.old.marking → IsLawful locks.new.marking }
     ensures limit { locks.new.limit ≡ MOST_RUNS }
 {
     if !may_concern(touched, parked) {
         return;
     }
-    while let Some(request) = take_free(locks, parked, touched) {
-        tolds.push(grant(locks, &request));
+    while let Some(claim) = take_free(locks, parked, touched) {
+        tolds.push(grant(locks, &claim));
     }
 }
 
@@ -79,56 +76,45 @@ fn may_concern(touched: Touched, parked: &Parked) -> bool
 }
 
 // Takes out the oldest request that conflicts with nothing.
-fn take_free(locks: &Table, parked: &mut Parked, touched: Touched) -> Option<Request>
-    requires formed { AreFormed parked.old }
-    requires others { OthersWait touched locks.now.marking parked.old }
+fn take_free(locks: &Table, parked: &mut Parked, touched: Touched) -> Option<Claim>
+    requires { OthersWait touched locks.now.marking parked.old }
     ensures { MatchOption result
         ((oldest_free locks.now.marking parked.old ≡ None) × (parked.new ≡ parked.old))
-        (λ taken. oldest_free locks.now.marking parked.old ≡ Some (taken, parked.new)) }
+        (λ taken. oldest_free locks.now.marking parked.old ≡ Some (taken.request, parked.new)) }
 {
-    parked.take_first(|request| concerns(touched, request) && !waits(locks, request))
+    parked.take_first(|claim| concerns(touched, claim) && !waits(locks, claim))
 }
 
 // The request's lock is set where there is room.
-fn grant(locks: &mut Table, request: &Request) -> Told
+fn grant(locks: &mut Table, claim: &Claim) -> Told
     requires limit { locks.old.limit ≡ MOST_RUNS }
-    requires formed { is_malformed request.now.ask ≡ false }
-    requires free { waits locks.old.marking request.now ≡ false }
-    ensures told { result ≡ granted_told locks.old.marking request.now }
-    ensures marking { locks.new.marking ≡ marking_granted locks.old.marking request.now }
-    ensures elsewhere { SameElsewhere (key_of request.now.node request.now.ask) locks.old.marking locks.new.marking }
+    requires free { waits locks.old.marking claim.now.request ≡ false }
+    ensures told { result ≡ granted_told locks.old.marking claim.now.request }
+    ensures marking { locks.new.marking ≡ marking_granted locks.old.marking claim.now.request }
+    ensures elsewhere { SameElsewhere claim.now.key locks.old.marking locks.new.marking }
     ensures lawful { IsLawful locks.old.marking → IsLawful locks.new.marking }
     ensures limit { locks.new.limit ≡ MOST_RUNS }
 {
-    let Some(range) = range_of(&request.ask) else {
-        unreachable!()
-    };
-    let key = key_of(request.node, &request.ask);
     Told {
-        unique: request.unique,
-        result: store(locks, &key, &range, mark_of(&request.ask)),
+        unique: claim.request.unique,
+        result: store(locks, &claim.key, &claim.range, claim.mark),
     }
 }
 
-fn concerns(touched: Touched, request: &Request) -> bool
-    ensures { result ≡ concerns_request touched request.now }
+fn concerns(touched: Touched, claim: &Claim) -> bool
+    ensures { result ≡ concerns_request touched claim.now.request }
 {
+    let key = &claim.key;
     match touched {
         Touched::Nothing => false,
-        Touched::OfClass(node, class) => {
-            key_of(node, &request.ask).class == class && request.node == node
-        }
-        Touched::OfNode(node) => request.node == node,
+        Touched::OfClass(node, class) => key.class == class && key.node == node,
+        Touched::OfNode(node) => key.node == node,
     }
 }
 
-// Whether a request that is no malformed one conflicts with a lock that is held.
-fn waits(locks: &Table, request: &Request) -> bool
-    ensures { result ≡ (not (is_malformed request.now.ask) && waits locks.now.marking request.now) }
+// Whether a request conflicts with a lock that is held.
+fn waits(locks: &Table, claim: &Claim) -> bool
+    ensures { result ≡ waits locks.now.marking claim.now.request }
 {
-    let Some(range) = range_of(&request.ask) else {
-        return false;
-    };
-    let key = key_of(request.node, &request.ask);
-    is_excluded(locks, &key, &range, mark_of(&request.ask))
+    is_excluded(locks, &claim.key, &claim.range, claim.mark)
 }

@@ -1,17 +1,13 @@
 -- What a core's parts are between the changes of one order.
-use Rattle.std.specs.Prelude.{◌≡◌, false, not, Option, Some, None, Result, List}
-use Rattle.std.specs.List.{filter, AllByRecursion}
-use Rattle.fl_core.specs.Replies.{ending_of, is_malformed, picks}
+use Rattle.std.specs.Prelude.{not, Option, Some, None, Result, List}
+use Rattle.std.specs.List.{filter}
+use Rattle.fl_core.specs.Replies.{ending_of, picks}
 use Rattle.fl_core.specs.State.{Snapshot}
 use Rattle.fl_core.specs.declared.ending.Ending.{Ending}
 use Rattle.fl_core.specs.declared.parked.Request.{Request}
 use Rattle.fl_order.specs.declared.errno.Errno.{Errno}
 use Rattle.fl_order.specs.declared.told.Answer.{Answer}
 use Rattle.fl_order.specs.declared.order.Op.{Op}
-
--- no request that waits is malformed
-abbrev pub AreFormed : List Request → Type 0
-AreFormed parked = AllByRecursion (λ (r : Request). is_malformed r.ask ≡ false) parked
 
 -- the requests that wait are these
 abbrev pub with_parked : List Request → Snapshot → Snapshot

@@ -2,7 +2,6 @@
 use Rattle.std.specs.Prelude.{◌≡◌, ℕ, ◌==◌, ◌&&◌, Bool, true, false, Option, Some, Result, Ok, List, [], ◌∷◌, ◌++◌}
 use Rattle.std.specs.List.{AllByRecursion}
 use Rattle.fl_core.specs.LockRequest.{key_of}
-use Rattle.fl_core.specs.Replies.{is_malformed}
 use Rattle.fl_core.specs.Waiting.{waits}
 use Rattle.fl_core.specs.declared.parked.Request.{Request}
 use Rattle.fl_core.specs.declared.settling.Touched.{Touched}
@@ -34,7 +33,6 @@ pub record WaitsNow (before after : Marking) (parked parked_after : List Request
   pub locks : after ≡ before
   pub last : parked_after ≡ parked ++ r ∷ []
   pub waits : waits before r ≡ true
-  pub formed : is_malformed r.ask ≡ false
 
 -- what an order touches that isn't refused
 abbrev pub touched_if_done : ℕ → Op → Touched

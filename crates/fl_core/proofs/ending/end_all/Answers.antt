@@ -7,35 +7,35 @@ use Rattle.fl_core.proofs.ending.end_all.Goals as goal
 pub push-requires : goal.push-requires
 push-requires c =
     let w = is_taken (picks c.args.ending) _ _ _ (c.in-Some.ensures (picks c.args.ending) (λ a r k. search rules)) in
-    omega (arith, c.loop-request.invariant.room, w.shorter)
+    omega (arith, c.loop-claim.invariant.room, w.shorter)
 
-pub loop-request-smaller : goal.loop-request-smaller
-loop-request-smaller c =
+pub loop-claim-smaller : goal.loop-claim-smaller
+loop-claim-smaller c =
     let w = is_taken (picks c.args.ending) _ _ _ (c.in-Some.ensures (picks c.args.ending) (λ a r k. search rules)) in
     omega (arith, w.shorter)
 
-pub loop-request-preserved : goal.loop-request-preserved
-loop-request-preserved c =
+pub loop-claim-preserved : goal.loop-claim-preserved
+loop-claim-preserved c =
     let taken = c.in-Some.ensures (picks c.args.ending) (λ a r k. search rules) in
     let w = is_taken (picks c.args.ending) _ _ _ taken in
     record {
       tolds =
-          ending_goes_on (error_of c.args.ending) (picks c.args.ending) _ _ _ _ _ _ c.in-Some.request _ c.loop-request.invariant.tolds taken (ap (λ e. ended_with e c.in-Some.request) c.error_of.ensures) c.push.ensures;
-      parked = sym w.failing ∙ c.loop-request.invariant.parked;
-      room = omega (arith, c.loop-request.invariant.room, w.shorter, ap length c.push.ensures, one_longer c.loop-request.tolds (ended_with c.error_of.result c.in-Some.request));
+          ending_goes_on (error_of c.args.ending) (picks c.args.ending) _ _ _ _ _ _ c.in-Some.claim.request _ c.loop-claim.invariant.tolds taken (ap (λ e. ended_with e c.in-Some.claim.request) c.error_of.ensures) c.push.ensures;
+      parked = sym w.failing ∙ c.loop-claim.invariant.parked;
+      room = omega (arith, c.loop-claim.invariant.room, w.shorter, ap length c.push.ensures, one_longer c.loop-claim.tolds (ended_with c.error_of.result c.in-Some.claim.request));
     }
 
 pub returns-clause-tolds : goal.returns-clause-tolds
 returns-clause-tolds c =
     let none = c.in_default.ensures (picks c.args.ending) (λ a r k. search rules) in
-    ending_ends (error_of c.args.ending) (picks c.args.ending) _ _ _ _ c.loop-request.invariant.tolds none.0
+    ending_ends (error_of c.args.ending) (picks c.args.ending) _ _ _ _ c.loop-claim.invariant.tolds none.0
 
 pub returns-clause-parked : goal.returns-clause-parked
 returns-clause-parked c =
     let none = c.in_default.ensures (picks c.args.ending) (λ a r k. search rules) in
-    none.1 ∙ sym (none_taken (picks c.args.ending) _ none.0).1 ∙ c.loop-request.invariant.parked
+    none.1 ∙ sym (none_taken (picks c.args.ending) _ none.0).1 ∙ c.loop-claim.invariant.parked
 
 pub returns-clause-few : goal.returns-clause-few
 returns-clause-few c =
     let none = c.in_default.ensures (picks c.args.ending) (λ a r k. search rules) in
-    omega (arith, c.loop-request.invariant.room, ap length none.1)
+    omega (arith, c.loop-claim.invariant.room, ap length none.1)

@@ -1,6 +1,5 @@
 use Rattle.std.proofs.Common.{◌≡◌, ◌≤◌, ◌+◌, length}
 use Rattle.fl_ranges.specs.Conflict.{IsLawful}
-use Rattle.fl_core.specs.Inside.Parts.{AreFormed}
 use Rattle.fl_core.specs.Inside.Touched.{OthersWait}
 use Rattle.fl_core.specs.Settling.{present}
 use Rattle.fl_core.specs.Waiting.{AreApart}
@@ -8,10 +7,9 @@ use Rattle.fl_core.proofs.Settlings.{IsSettling}
 use Rattle.fl_core.proofs.settling.settle.Given as goal
 
 -- what was told and is left to tell is the whole
-abbrev pub invariant-loop-request : goal.invariant-loop-request
-invariant-loop-request l = record {
+abbrev pub invariant-loop-claim : goal.invariant-loop-claim
+invariant-loop-claim l = record {
   so_far : IsSettling (present l.initial.locks.marking l.initial.parked) (present l.locks.marking l.parked) l.initial.tolds l.tolds;
-  formed : AreFormed l.parked;
   others : OthersWait l.touched l.locks.marking l.parked;
   apart : AreApart l.initial.parked → AreApart l.parked;
   room : length l.tolds + length l.parked ≤ 257;
@@ -19,5 +17,5 @@ invariant-loop-request l = record {
   limit : l.locks.limit ≡ 4096;
 }
 
-abbrev pub decreases-loop-request : goal.decreases-loop-request
-decreases-loop-request l = length l.parked
+abbrev pub decreases-loop-claim : goal.decreases-loop-claim
+decreases-loop-claim l = length l.parked

@@ -1,8 +1,8 @@
 use Rattle.std.proofs.Common.{◌≡◌, rules, ◌∙◌, ◌&&◌, not, Option, Some, None, List, sym}
 use Rattle.std.specs.Option.{MatchOption}
 use Rattle.fl_core.specs.Inside.Touched.{concerns_request}
-use Rattle.fl_core.specs.Replies.{is_malformed}
 use Rattle.fl_core.specs.Waiting.{waits}
+use Rattle.fl_core.specs.declared.claim.Claim.{Claim}
 use Rattle.fl_core.specs.declared.parked.Request.{Request}
 use Rattle.fl_core.proofs.Waits.{free_found}
 use Rattle.fl_core.proofs.settling.take_free.Goals as goal
@@ -10,10 +10,11 @@ use Rattle.fl_core.proofs.settling.take_free.Goals as goal
 pub returns : goal.returns
 returns c =
     let m = c.args.locks.now.marking in
-    let test = λ (r : Request). concerns_request c.args.touched r && not (not (is_malformed r.ask) && waits m r) in
-    let found = free_found c.args.touched m c.args.parked.now c.requires.formed c.requires.others in
+    let test = λ (r : Request). concerns_request c.args.touched r && not (waits m r) in
+    let found = free_found c.args.touched m c.args.parked.now c.requires in
     go c.args.parked.now c.take_first.new.self c.take_first.result (c.take_first.ensures test (λ a r k. search rules)) found
   where
-    go : (old new : List Request) (o : Option Request) {taken free : Option (Request × List Request)} → MatchOption o ((taken ≡ None) × (new ≡ old)) (λ r. taken ≡ Some (r, new)) → taken ≡ free → MatchOption o ((free ≡ None) × (new ≡ old)) (λ r. free ≡ Some (r, new))
+    go : (old new : List Request) (o : Option Claim) {taken free : Option (Request × List Request)} → MatchOption o ((taken ≡ None) × (new ≡ old)) (λ claim. taken ≡ Some (claim.request, new)) → taken ≡ free
+        → MatchOption o ((free ≡ None) × (new ≡ old)) (λ claim. free ≡ Some (claim.request, new))
     go old new None e same = (sym same ∙ e.0, e.1)
-    go old new (Some r) e same = sym same ∙ e
+    go old new (Some claim) e same = sym same ∙ e

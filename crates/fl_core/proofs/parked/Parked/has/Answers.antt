@@ -1,33 +1,39 @@
 use Rattle.std.proofs.Common.{rules, ◌≡◌, ℕ, ◌==◌, ◌∙◌, false, List, [], ◌∷◌, is_some, length, refl, sym, ap, arith}
 use Rattle.std.specs.List.{list_any}
 use Rattle.fl_arena.specs.Chains.{items}
+use Rattle.fl_core.specs.Inside.Claims.{requests_of}
 use Rattle.fl_core.specs.Waiting.{is_parked}
+use Rattle.fl_core.specs.declared.claim.Claim.{Claim}
 use Rattle.fl_core.specs.declared.parked.Request.{Request}
-use Rattle.fl_core.proofs.Chain.{all_counted, some_copied, any_found}
+use Rattle.fl_core.proofs.Chain.{some_copied, any_found}
+use Rattle.fl_core.proofs.Claims.{all_requests, any_request}
 use Rattle.fl_core.proofs.Counts.{none_past}
 use Rattle.fl_core.proofs.parked.Parked.has.Goals as goal
 
 pub returns-clause-found : goal.returns-clause-found
 returns-clause-found c =
     let test = λ (r : Request). r.unique == c.args.unique in
-    let found = c.first_where-cursor.ensures.found test (λ a r k. search rules) in
-    c.is_some.ensures ∙ some_copied c.item.result ∙ ap is_some (c.item.ensures.item ∙ found) ∙ any_found test (items c.self.inside.requests 0) ∙ ap (list_any test) c.self.view_is
+    let of_claim = λ (claim : Claim). test claim.request in
+    let found = c.first_where-cursor.ensures.found of_claim (λ a r k. search rules) in
+    let claims = items c.self.inside.claims 0 in
+    c.is_some.ensures ∙ some_copied c.item.result ∙ ap is_some (c.item.ensures.item ∙ found) ∙ any_found of_claim claims ∙ any_request test claims
+    ∙ ap (list_any test) c.self.view_is
 
 pub returns-clause-few : goal.returns-clause-few
-returns-clause-few c = omega (arith, all_counted c.self.inside.requests c.self.invariant.0, c.free.ensures.total, c.self.invariant.1, ap length c.self.view_is)
+returns-clause-few c = omega (arith, all_requests c.self.inside.claims c.self.invariant.0, c.free.ensures.total, c.self.invariant.1, ap length c.self.view_is)
 
 nothing : (parked : List Request) (unique : ℕ) → length parked ≡ 0 → false ≡ is_parked unique parked
 nothing [] unique e = refl
 nothing (r ∷ parked) unique e = absurd (omega arith)
 
 pub returns-then-free-eq-MOST_PARKED-clause-found : goal.returns-then-free-eq-MOST_PARKED-clause-found
-returns-then-free-eq-MOST_PARKED-clause-found c = nothing c.args.self.now c.args.unique (omega (arith, all_counted c.self.inside.requests c.self.invariant.0, c.free.ensures.total, c.self.invariant.1, ap length c.self.view_is, c.if-free-eq-MOST_PARKED.true))
+returns-then-free-eq-MOST_PARKED-clause-found c = nothing c.args.self.now c.args.unique (omega (arith, all_requests c.self.inside.claims c.self.invariant.0, c.free.ensures.total, c.self.invariant.1, ap length c.self.view_is, c.if-free-eq-MOST_PARKED.true))
 
 pub returns-then-free-eq-MOST_PARKED-clause-few : goal.returns-then-free-eq-MOST_PARKED-clause-few
-returns-then-free-eq-MOST_PARKED-clause-few c = omega (arith, all_counted c.self.inside.requests c.self.invariant.0, c.free.ensures.total, c.self.invariant.1, ap length c.self.view_is)
+returns-then-free-eq-MOST_PARKED-clause-few c = omega (arith, all_requests c.self.inside.claims c.self.invariant.0, c.free.ensures.total, c.self.invariant.1, ap length c.self.view_is)
 
 pub returns-then-unique-self-clause-found : goal.returns-then-unique-self-clause-found
-returns-then-unique-self-clause-found c = sym (ap (is_parked c.args.unique) (sym c.self.view_is) ∙ none_past c.args.unique c.self.inside.greatest (items c.self.inside.requests 0) c.self.invariant.2 c.if-unique-self.true)
+returns-then-unique-self-clause-found c = sym (ap (is_parked c.args.unique) (sym c.self.view_is) ∙ none_past c.args.unique c.self.inside.greatest (requests_of c.self.inside.claims) c.self.invariant.2 c.if-unique-self.true)
 
 pub returns-then-unique-self-clause-few : goal.returns-then-unique-self-clause-few
-returns-then-unique-self-clause-few c = omega (arith, all_counted c.self.inside.requests c.self.invariant.0, c.free.ensures.total, c.self.invariant.1, ap length c.self.view_is)
+returns-then-unique-self-clause-few c = omega (arith, all_requests c.self.inside.claims c.self.invariant.0, c.free.ensures.total, c.self.invariant.1, ap length c.self.view_is)

@@ -1,7 +1,7 @@
 use Rattle.std.proofs.Common.{◌≡◌, ◌∙◌, ℕ, ◌==◌, not, false, sym, subst, arith}
 use Rattle.std.proofs.lemmas.Bool.Decides.{nat_tests}
 use Rattle.std.specs.List.{AllByRecursion}
-use Rattle.fl_arena.specs.Chains.{items}
+use Rattle.fl_core.specs.Inside.Claims.{requests_of}
 use Rattle.fl_core.specs.declared.parked.Request.{Request}
 use Rattle.fl_core.proofs.Counts.{none_on}
 use Rattle.fl_core.proofs.parked.Parked.may_be_on.Goals as goal
@@ -12,4 +12,4 @@ none n e = grind (arith, nat_tests)
 pub returns : goal.returns
 returns c = λ e.
     subst (AllByRecursion (λ (r : Request). (r.node == c.args.node) ≡ false)) c.self.view_is
-    (none_on c.args.node c.bucket.result (items c.self.inside.requests 0) c.bucket.ensures.is (sym (c.self.invariant.3 c.bucket.result c.bucket.ensures.below) ∙ none _ e))
+    (none_on c.args.node c.bucket.result (requests_of c.self.inside.claims) c.bucket.ensures.is (sym (c.self.invariant.3 c.bucket.result c.bucket.ensures.below) ∙ none _ e))

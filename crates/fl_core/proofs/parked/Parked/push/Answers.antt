@@ -1,24 +1,28 @@
-use Rattle.std.proofs.Common.{◌≡◌, ◌∙◌, [], ◌∷◌, ◌++◌, length, insert, sym, ap, subst, arith}
-use Rattle.std.proofs.lemmas.List.{length-map}
+use Rattle.std.proofs.Common.{◌≡◌, ◌∙◌, [], ◌∷◌, ◌++◌, length, map, insert, sym, ap, subst, arith}
+use Rattle.std.proofs.lemmas.List.{length-map, map-append}
 use Rattle.std.proofs.lemmas.List.Edits.{insert_end}
 use Rattle.fl_arena.specs.Chains.{Entry, entries, items}
+use Rattle.fl_core.specs.Inside.Claims.{request_in, requests_of}
 use Rattle.fl_core.specs.Inside.Counts.{AreUpTo, AreCounted}
-use Rattle.fl_core.specs.declared.parked.Request.{Request}
+use Rattle.fl_core.specs.declared.claim.Claim.{Claim}
 use Rattle.fl_core.proofs.Counts.{count_fits, counted_more, up_to_more}
 use Rattle.fl_core.proofs.parked.Parked.push.Goals as goal
 
 pub overflow_add-self : goal.overflow_add-self
 overflow_add-self c =
-    let few = count_fits c.self.inside.on_nodes (items c.self.inside.requests 0) c.bucket.result c.self.invariant.3 c.bucket.ensures.below in
+    let few = count_fits c.self.inside.on_nodes (requests_of c.self.inside.claims) c.bucket.result c.self.invariant.3 c.bucket.ensures.below in
     omega (arith, few, c.requires, ap length c.self.view_is)
 
 pub invariant_of-self : goal.invariant_of-self
 invariant_of-self c =
-    let a = c.self.inside.requests in
-    let old = items a 0 in
-    let r = c.args.request in
-    let new : items c.insert.new.self 0 ≡ old ++ r ∷ [] =
-    c.in-Ok.ensures.items ∙ ap (λ n. insert old n r) (sym (length-map (entries a 0) (λ (e : Entry Request). e.item))) ∙ insert_end old r in (
+    let a = c.self.inside.claims in
+    let claims = items a 0 in
+    let old = requests_of a in
+    let claim = c.args.claim in
+    let r = claim.request in
+    let more : items c.insert.new.self 0 ≡ claims ++ claim ∷ [] =
+    c.in-Ok.ensures.items ∙ ap (λ n. insert claims n claim) (sym (length-map (entries a 0) (λ (e : Entry Claim). e.item))) ∙ insert_end claims claim in
+    let new : requests_of c.insert.new.self ≡ old ++ r ∷ [] = ap (map request_in) more ∙ map-append request_in claims (claim ∷ []) in (
       c.in-Ok.ensures.size.chains ∙ c.self.invariant.0,
       c.in-Ok.ensures.size.slots ∙ c.self.invariant.1,
       subst (AreUpTo c.max-self-inside.result) (sym new)

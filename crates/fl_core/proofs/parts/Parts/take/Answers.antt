@@ -4,7 +4,7 @@ use Rattle.fl_core.specs.Replies.{reply_to, setlk_reply, setlkw_reply}
 use Rattle.fl_core.specs.State.{Snapshot, View}
 use Rattle.fl_core.specs.declared.settling.Touched.TheVariants.{Nothing}
 use Rattle.fl_core.specs.Waiting.{AllWait}
-use Rattle.fl_core.proofs.Waits.{others_kept, others_set, others_flushed, others_released, others_parked, formed_parked}
+use Rattle.fl_core.proofs.Waits.{others_kept, others_set, others_flushed, others_released, others_parked}
 use Rattle.fl_core.proofs.parts.Parts.take.Goals as goal
 use Rattle.fl_order.specs.declared.order.Op.{Op}
 use Rattle.fl_order.specs.declared.order.Op.TheVariants.{Release, Flush}
@@ -74,10 +74,3 @@ returns-in-Setlkw-clause-others c all =
     let set = c.set_or_wait in
     subst (λ (op : Op). OthersWait (touched_by order.node op set.result) set.new.locks.marking set.new.parked) (sym c.in-Setlkw.is)
     (others_parked order.node c.in-Setlkw.ask order.unique inside.locks.marking set.new.locks.marking inside.parked set.new.parked set.result set.ensures.told set.ensures.waits set.ensures.elsewhere (subst Waits (sym c.self-in-Setlkw.view_is) all))
-
-pub invariant_of-self-in-Setlkw : goal.invariant_of-self-in-Setlkw
-invariant_of-self-in-Setlkw c =
-    let order = c.args.order.now in
-    let inside = c.self-in-Setlkw.inside in
-    let set = c.set_or_wait in
-    (set.ensures.limit, formed_parked order.node c.in-Setlkw.ask order.unique inside.locks.marking set.new.locks.marking inside.parked set.new.parked set.result set.ensures.told set.ensures.waits c.self-in-Setlkw.invariant.1)
