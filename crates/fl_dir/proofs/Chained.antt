@@ -12,9 +12,8 @@ use Rattle.std.proofs.lemmas.Bool.{eqb-true}
 use Rattle.fl_arena.specs.Chains.{Entry, Chains, entries, items, item_count, HasSizeOf}
 use Rattle.fl_arena.specs.Cursors.{cursor_at}
 use Rattle.fl_arena.specs.declared.cursors.Cursor.{Cursor}
-use Rattle.fl_dir.specs.declared.node.Node.{Node}
-use Rattle.fl_dir.specs.Directory.{Listing}
 use Rattle.fl_dir.specs.Inside.Listed.{AreListed, IsList}
+use Rattle.fl_dir.specs.Inside.Numbers.{Numbers}
 use Rattle.fl_dir.proofs.Entries.{set_put, remove_where, listed_pushed, listed_put, listed_where, get_listed, len_listed}
 
 some_entry : {A : Type 0} (o : Option A) → IsSome o → (x : A) × (o ≡ Some x)
@@ -83,74 +82,70 @@ module _ {X : Type 0} where
       go (c ∷ []) one = alone (length c)
       go (c ∷ d ∷ cs) one = absurd (omega (arith, one))
 
-  pub list_pushed : (a b : Chains (ℕ × X)) (most next : ℕ) (x : X) → IsList a most next → HasSizeOf a b → items b 0 ≡ items a 0 ++ (next, x) ∷ [] →
-      IsList b most (next + 1)
-  list_pushed a b most next x kept size is = record {
+  pub list_pushed : (a b : Chains (ℕ × X)) (next : ℕ) (x : X) → IsList a next → HasSizeOf a b → items b 0 ≡ items a 0 ++ (next, x) ∷ [] →
+      IsList b (next + 1)
+  list_pushed a b next x kept size is = record {
     chains = size.chains ∙ kept.chains;
-    slots = size.slots ∙ kept.slots;
     listed = subst (λ es. AreListed es (next + 1)) (sym is) (listed_pushed (items a 0) next x kept.listed);
   }
 
-  pub list_put : (a b : Chains (ℕ × X)) (most next n : ℕ) (x : X) → IsList a most next → HasSizeOf a b → IsSome (find (λ (e : ℕ × X). e.0 == n) (items a 0)) →
-      items b 0 ≡ rising.put nat_cmp n x (items a 0) → IsList b most next
-  list_put a b most next n x kept size some is =
+  pub list_put : (a b : Chains (ℕ × X)) (next n : ℕ) (x : X) → IsList a next → HasSizeOf a b → IsSome (find (λ (e : ℕ × X). e.0 == n) (items a 0)) →
+      items b 0 ≡ rising.put nat_cmp n x (items a 0) → IsList b next
+  list_put a b next n x kept size some is =
       let e = some_entry (find (λ (e : ℕ × X). e.0 == n) (items a 0)) some in
       record {
         chains = size.chains ∙ kept.chains;
-        slots = size.slots ∙ kept.slots;
         listed = subst (λ es. AreListed es next) (sym is) (listed_put (items a 0) n next x e.0 e.1 kept.listed);
       }
 
-  pub list_where : (a b : Chains (ℕ × X)) (most next n : ℕ) → IsList a most next → HasSizeOf a b →
-      items b 0 ≡ rising.where_key nat_cmp (λ k. not (eq_by_cmp nat_cmp n k)) (items a 0) → IsList b most next
-  list_where a b most next n kept size is = record {
+  pub list_where : (a b : Chains (ℕ × X)) (next n : ℕ) → IsList a next → HasSizeOf a b →
+      items b 0 ≡ rising.where_key nat_cmp (λ k. not (eq_by_cmp nat_cmp n k)) (items a 0) → IsList b next
+  list_where a b next n kept size is = record {
     chains = size.chains ∙ kept.chains;
-    slots = size.slots ∙ kept.slots;
     listed = subst (λ es. AreListed es next) (sym is) (listed_where (items a 0) (λ k. not (eq_by_cmp nat_cmp n k)) next kept.listed);
   }
 
   -- a number that the map has is found in the chain
-  pub found_of_map : (a : Chains (ℕ × X)) (most next n : ℕ) → IsList a most next → IsSome (map.get (map.from_sorted {R = nat_cmp} (items a 0)) n) →
+  pub found_of_map : (a : Chains (ℕ × X)) (next n : ℕ) → IsList a next → IsSome (map.get (map.from_sorted {R = nat_cmp} (items a 0)) n) →
       IsSome (find (λ (e : ℕ × X). e.0 == n) (items a 0))
-  found_of_map a most next n kept some = some_mapped (λ (e : ℕ × X). e.1) _ (subst IsSome (get_listed (items a 0) n kept.listed.sorted) some)
+  found_of_map a next n kept some = some_mapped (λ (e : ℕ × X). e.1) _ (subst IsSome (get_listed (items a 0) n kept.listed.sorted) some)
 
   -- ---- room
 
   -- where all slots hold items, so many are there
-  pub full_of_none : (a : Chains (ℕ × X)) (most next free : ℕ) (b : Bool) → IsList a most next → item_count a + free ≡ a.slots → free ≡ 0 →
-      true ≡ (nat_le most (map.len (map.from_sorted {R = nat_cmp} (items a 0))) || b)
-  full_of_none a most next free b kept total none =
-      let all : most ≤ map.len (map.from_sorted {R = nat_cmp} (items a 0)) =
-      omega (arith, counted a kept.chains, len_listed (items a 0) kept.listed.sorted, total, none, kept.slots) in
+  pub full_of_none : (a : Chains (ℕ × X)) (next free : ℕ) (b : Bool) → IsList a next → item_count a + free ≡ a.slots → free ≡ 0 →
+      true ≡ (nat_le a.slots (map.len (map.from_sorted {R = nat_cmp} (items a 0))) || b)
+  full_of_none a next free b kept total none =
+      let all : a.slots ≤ map.len (map.from_sorted {R = nat_cmp} (items a 0)) =
+      omega (arith, counted a kept.chains, len_listed (items a 0) kept.listed.sorted, total, none) in
       ap (λ t. t || b) (reached _ _ all)
     where
       reached : (m n : ℕ) → m ≤ n → true ≡ nat_le m n
       reached m n h = grind (arith, nat_tests)
 
-  pub room_of_some : (a : Chains (ℕ × X)) (most next free : ℕ) (b : Bool) → IsList a most next → item_count a + free ≡ a.slots → free ≢ 0 →
-      b ≡ (nat_le most (map.len (map.from_sorted {R = nat_cmp} (items a 0))) || b)
-  room_of_some a most next free b kept total some =
-      let few : map.len (map.from_sorted {R = nat_cmp} (items a 0)) < most =
-      omega (arith, counted a kept.chains, len_listed (items a 0) kept.listed.sorted, total, some, kept.slots) in
+  pub room_of_some : (a : Chains (ℕ × X)) (next free : ℕ) (b : Bool) → IsList a next → item_count a + free ≡ a.slots → free ≢ 0 →
+      b ≡ (nat_le a.slots (map.len (map.from_sorted {R = nat_cmp} (items a 0))) || b)
+  room_of_some a next free b kept total some =
+      let few : map.len (map.from_sorted {R = nat_cmp} (items a 0)) < a.slots =
+      omega (arith, counted a kept.chains, len_listed (items a 0) kept.listed.sorted, total, some) in
       ap (λ t. t || b) (missed _ _ few)
     where
       missed : (m n : ℕ) → n < m → false ≡ nat_le m n
       missed m n h = grind (arith, nat_tests)
 
   -- where a limit isn't reached there is room
-  pub room_left : (a : Chains (ℕ × X)) (most next : ℕ) (b : Bool) → IsList a most next →
-      (nat_le most (map.len (map.from_sorted {R = nat_cmp} (items a 0))) || b) ≡ false → length (items a 0) < a.slots
-  room_left a most next b kept clear =
-      let few : map.len (map.from_sorted {R = nat_cmp} (items a 0)) < most =
-      go _ (nat_le most (map.len (map.from_sorted {R = nat_cmp} (items a 0)))) refl clear in
-      omega (arith, len_listed (items a 0) kept.listed.sorted, few, kept.slots)
+  pub room_left : (a : Chains (ℕ × X)) (next : ℕ) (b : Bool) → IsList a next →
+      (nat_le a.slots (map.len (map.from_sorted {R = nat_cmp} (items a 0))) || b) ≡ false → length (items a 0) < a.slots
+  room_left a next b kept clear =
+      let few : map.len (map.from_sorted {R = nat_cmp} (items a 0)) < a.slots =
+      go _ (nat_le a.slots (map.len (map.from_sorted {R = nat_cmp} (items a 0)))) refl clear in
+      omega (arith, len_listed (items a 0) kept.listed.sorted, few)
     where
-      go : (n : ℕ) (t : Bool) → nat_le most n ≡ t → (t || b) ≡ false → n < most
+      go : (n : ℕ) (t : Bool) → nat_le a.slots n ≡ t → (t || b) ≡ false → n < a.slots
       go n true is h = absurd (cc h)
       go n false is h = grind (arith, nat_tests)
 
--- listings with equal parts
-pub same_listing : (m n : map.FinMap nat_cmp Node) (f g : map.FinMap nat_cmp ℕ) (next_node next_fh : ℕ) → m ≡ n → f ≡ g
-    → ◌≡◌ {A = Listing} (record { nodes = m; files = f; next_node = next_node; next_fh = next_fh })
-    (record { nodes = n; files = g; next_node = next_node; next_fh = next_fh })
-same_listing m n f g next_node next_fh p q = λ i. record { nodes = p i; files = q i; next_node = next_node; next_fh = next_fh }
+-- numbers with equal values and limits
+pub same_numbers : {X : Type 0} (m n : map.FinMap nat_cmp X) (next k l : ℕ) → m ≡ n → k ≡ l
+    → ◌≡◌ {A = Numbers X} (record { values = m; next = next; limit = k }) (record { values = n; next = next; limit = l })
+same_numbers m n next k l p q = λ i. record { values = p i; next = next; limit = q i }

@@ -28,7 +28,7 @@ use crate::names::is_reserved;
 use crate::node::{
     Node, attributes, counted_down, counted_up, made_node, nameless, root_attributes,
 };
-use fl_arena::Arena;
+use crate::numbered::Numbered;
 use fl_order::{Answer, Errno, Name, NoMemory};
 use std::alloc::Global;
 use std::marker::Model;
@@ -46,11 +46,9 @@ const MOST_FILES: usize = 1024;
 /// changes nothing.
 #[derive(Drop)]
 pub struct Dir {
-    // One chain each, in the order of the numbers, which only grow.
-    pub(crate) nodes: Arena<(u64, Node)>,
-    pub(crate) files: Arena<(u64, u64)>,
-    pub(crate) next_node: u64,
-    pub(crate) next_fh: u64,
+    pub(crate) nodes: Numbered<Node>,
+    // The node on which each fh is open.
+    pub(crate) files: Numbered<u64>,
 }
 
 /// An fh that was closed.
@@ -63,24 +61,22 @@ pub struct Closed {
 }
 
 impl Model for Dir {
-    ghost use Rattle.std.specs.FinMap.{from_sorted};
-    ghost use Rattle.fl_arena.specs.Chains.{items};
+    ghost use Rattle.std.specs.Prelude.{◌≡◌};
     ghost use Rattle.fl_dir.specs.Directory.{Listing};
     ghost use Rattle.fl_dir.specs.Codes.{listing_code};
-    ghost use Rattle.fl_dir.specs.Inside.Listed.{IsList};
 
     ghost Value = { Listing };
 
     ghost coded = { listing_code };
 
     ghost view = { λ d. record {
-      nodes = from_sorted (items d.nodes 0);
-      files = from_sorted (items d.files 0);
-      next_node = d.next_node;
-      next_fh = d.next_fh;
+      nodes = d.nodes.values;
+      files = d.files.values;
+      next_node = d.nodes.next;
+      next_fh = d.files.next;
     } };
 
-    ghost invariant = { λ d. IsList d.nodes 256 d.next_node × IsList d.files 1024 d.next_fh };
+    ghost invariant = { λ d. (d.nodes.limit ≡ 256) × (d.files.limit ≡ 1024) };
 }
 
 impl Dir {
@@ -89,10 +85,8 @@ impl Dir {
         ensures { IfOk result (λ d. d ≡ opening_listing) }
     {
         Ok(Dir {
-            nodes: Arena::new(alloc, 1, MOST_NODES)?,
-            files: Arena::new(alloc, 1, MOST_FILES)?,
-            next_node: ROOT + 1,
-            next_fh: 1,
+            nodes: Numbered::new(alloc, MOST_NODES, ROOT + 1)?,
+            files: Numbered::new(alloc, MOST_FILES, 1)?,
         })
     }
 
@@ -234,8 +228,7 @@ impl Dir {
         if self.files_full() {
             return Err(Errno::ENFILE);
         }
-        let attr = attributes(self.next_node, node);
-        self.link(node);
+        let attr = attributes(self.link(node), node);
         Ok(Answer::Made(attr, self.open_file(attr.node)))
     }
 

@@ -1,26 +1,22 @@
 //! The directory's open files.
-ghost use Rattle.std.specs.Prelude.{◌≡◌, ◌+◌, ◌==◌, IsSome, length, false};
+ghost use Rattle.std.specs.Prelude.{◌≡◌, ◌+◌, IsSome, false};
 ghost use Rattle.std.specs.FinMap as map;
-ghost use Rattle.std.specs.List.{list_any};
-ghost use Rattle.fl_arena.specs.Chains.{items};
 ghost use Rattle.fl_dir.specs.OpenFiles.{files_full, has_open_file};
 
-use crate::chain::{push, take_out, value_at};
 use crate::dir::Dir;
-use fl_arena::Arena;
 
 impl Dir {
     /// The node on which an fh is open.
     pub fn node_of(&self, fh: u64) -> Option<u64>
         ensures { result ≡ map.get self.now.files fh }
     {
-        value_at(&self.files, fh)
+        self.files.get(fh)
     }
 
     pub(crate) fn files_full(&self) -> bool
         ensures { result ≡ files_full self.now }
     {
-        self.files.free() == 0 || self.next_fh == u64::MAX
+        self.files.is_full()
     }
 
     // The next fh, open on the node.
@@ -32,17 +28,14 @@ impl Dir {
           next_fh = self.old.next_fh + 1;
         } }
     {
-        let fh = self.next_fh;
-        push(&mut self.files, fh, node);
-        self.next_fh += 1;
-        fh
+        self.files.push(node)
     }
 
     // Some fh is open on the node.
     pub(crate) fn has_open_file(&self, node: u64) -> bool
         ensures { result ≡ has_open_file self.now node }
     {
-        any_on(&self.files, node)
+        self.files.any(|here| here.1 == node)
     }
 
     // An fh that is open is closed.
@@ -50,15 +43,6 @@ impl Dir {
         requires { IsSome (map.get self.old.files fh) }
         ensures { self.new ≡ record self.old { files = map.remove self.old.files fh } }
     {
-        take_out(&mut self.files, fh);
+        self.files.remove(fh);
     }
-}
-
-// Some open file is this node's.
-fn any_on(files: &Arena<(u64, u64)>, node: u64) -> bool
-    requires { length files.now.chains ≡ 1 }
-    ensures { result ≡ list_any (λ e. e.1 == node) (items files.now 0) }
-{
-    let cursor = files.first_where(0, |here| here.1 == node);
-    files.item(&cursor).is_some()
 }

@@ -7,6 +7,7 @@ mod files;
 mod names;
 mod node;
 mod nodes;
+mod numbered;
 #[cfg(test)]
 mod tests;
 

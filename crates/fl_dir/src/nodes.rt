@@ -5,9 +5,8 @@ ghost use Rattle.fl_dir.specs.Directory.{is_known, linked, nodes_full};
 ghost use Rattle.fl_dir.specs.OpenFiles.{lives};
 ghost use Rattle.fl_dir.specs.Changes.{swept};
 
-use crate::chain::{push, replace, take_out, value_at};
 use crate::dir::{Dir, ROOT};
-use crate::names::entry_named;
+use crate::names::is_named;
 use crate::node::Node;
 use fl_order::Name;
 
@@ -16,7 +15,7 @@ impl Dir {
     pub(crate) fn node_at(&self, number: u64) -> Option<Node>
         ensures { result ≡ map.get self.now.nodes number }
     {
-        value_at(&self.nodes, number)
+        self.nodes.get(number)
     }
 
     pub(crate) fn is_known(&self, number: u64) -> bool
@@ -30,13 +29,13 @@ impl Dir {
         ensures linked { result ≡ linked self.now name.now }
         ensures listed { IfSome result (λ e. map.get self.now.nodes e.0 ≡ Some e.1) }
     {
-        entry_named(&self.nodes, name)
+        self.nodes.find(|here| is_named(&here.1, name))
     }
 
     pub(crate) fn nodes_full(&self) -> bool
         ensures { result ≡ nodes_full self.now }
     {
-        self.nodes.free() == 0 || self.next_node == u64::MAX
+        self.nodes.is_full()
     }
 
     // Something keeps this node alive.
@@ -62,20 +61,20 @@ impl Dir {
         requires { IsSome (map.get self.old.nodes number) }
         ensures { self.new ≡ record self.old { nodes = map.remove self.old.nodes number } }
     {
-        take_out(&mut self.nodes, number);
+        self.nodes.remove(number);
     }
 
     // The node gets the next number.
-    pub(crate) fn link(&mut self, node: &Node)
+    pub(crate) fn link(&mut self, node: &Node) -> u64
         requires { nodes_full self.old ≡ false }
+        ensures number { result ≡ self.old.next_node }
         ensures fresh { map.get self.old.nodes self.old.next_node ≡ None }
         ensures after { self.new ≡ record self.old {
           nodes = map.insert self.old.nodes self.old.next_node node.now;
           next_node = self.old.next_node + 1;
         } }
     {
-        push(&mut self.nodes, self.next_node, *node);
-        self.next_node += 1;
+        self.nodes.push(*node)
     }
 
     // A node that is there becomes this one.
@@ -83,6 +82,6 @@ impl Dir {
         requires { IsSome (map.get self.old.nodes number) }
         ensures { self.new ≡ record self.old { nodes = map.insert self.old.nodes number node.now } }
     {
-        replace(&mut self.nodes, number, *node);
+        self.nodes.replace(number, *node);
     }
 }

@@ -2,7 +2,7 @@
 
 use crate::dir::Dir;
 use crate::node::Node;
-use fl_arena::Arena;
+use crate::numbered::Numbered;
 use fl_order::{Answer, Attr, Errno, Name, NoMemory};
 use std::alloc::Global;
 use std::process::Abort;
@@ -13,10 +13,8 @@ const LAST_NUMBER: u64 = u64::MAX;
 // An empty directory that goes on with these numbers.
 fn directory_at(alloc: Global, next_node: u64, next_fh: u64) -> Result<Dir, NoMemory> {
     Ok(Dir {
-        nodes: Arena::new(alloc, 1, 256)?,
-        files: Arena::new(alloc, 1, 1024)?,
-        next_node,
-        next_fh,
+        nodes: Numbered::new(alloc, 256, next_node)?,
+        files: Numbered::new(alloc, 1024, next_fh)?,
     })
 }
 

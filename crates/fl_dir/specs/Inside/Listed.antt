@@ -14,8 +14,7 @@ pub record AreListed {X : Type 0} (es : List (ℕ × X)) (next : ℕ) : Type 0 w
   pub sorted : is_sorted nat_cmp es ≡ true
   pub below : AreBelow next es
 
--- one chain over so many slots, with such entries
-pub record IsList {X : Type 0} (a : Chains (ℕ × X)) (most next : ℕ) : Type 0 where
+-- one chain with such entries
+pub record IsList {X : Type 0} (a : Chains (ℕ × X)) (next : ℕ) : Type 0 where
   pub chains : length a.chains ≡ 1
-  pub slots : a.slots ≡ most
   pub listed : AreListed (items a 0) next

@@ -1,0 +1,21 @@
+-- Values, each under a number that is given once: numbers only grow.
+use Rattle.std.specs.Prelude.{ℕ, ◌-◌, ◌^◌, Bool, ◌||◌, ◌==◌, nat_le, refl}
+use Rattle.std.specs.Coded.{Coded, code_by, coded×, coded_ℕ}
+use Rattle.std.specs.FinMap.{FinMap, code, len}
+use Rattle.std.specs.Ordering.{nat_cmp}
+
+-- the values by number, the number that comes next, and how many values there may be
+pub record Numbers (X : Type 0) : Type 0 where
+  pub values : FinMap nat_cmp X
+  pub next : ℕ
+  pub limit : ℕ
+
+-- so many values are there, or all numbers are given
+abbrev pub is_full : {X : Type 0} → Numbers X → Bool
+is_full n = nat_le n.limit (len n.values) || (n.next == 2 ^ 64 - 1)
+
+-- how proofs tell them apart: by their three parts
+abbrev pub numbers_code : {X : Type 0} → Coded X → Coded (Numbers X)
+numbers_code {X} coded =
+    code_by (FinMap nat_cmp X × (ℕ × ℕ)) (coded× (code coded_ℕ coded) (coded× coded_ℕ coded_ℕ))
+    (λ n. (n.values, (n.next, n.limit))) (λ t. record { values = t.0; next = t.1.0; limit = t.1.1 }) (λ _. refl)
