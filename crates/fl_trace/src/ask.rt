@@ -15,7 +15,7 @@ use crate::words::{first_word, flag_word, name, number, u32_number, u32_word, u6
 use fl_order::{Body, Kind, LockAsk, Op, Order, Shape};
 
 /// An order; none where it has any other spelling.
-pub(super) fn read_asked(text: &str) -> Option<Order>
+pub(super) fn asked_order(text: &str) -> Option<Order>
     ensures fits { IfSome result IsSayable }
     ensures spelled { IfSome result (λ order. text.now ≡ order_text order) }
     ensures only { (order : Order) → IsSayable order → text.now ≡ order_text order → IsSome result }

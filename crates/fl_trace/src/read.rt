@@ -6,7 +6,7 @@ ghost use Rattle.fl_history.specs.declared.history.Line.TheVariants.{Asked};
 ghost use Rattle.fl_order.specs.declared.order.Order.{Order as Request};
 ghost use Rattle.fl_trace.specs.Text.{asked_text, line_text, text_of, LineFits, Fits, BreaksAt};
 
-use crate::ask::read_asked;
+use crate::ask::asked_order;
 use crate::tell::read_told;
 use crate::words::{split_line, split_word, u32_word};
 use fl_history::{History, Line};
@@ -88,6 +88,6 @@ fn read_asked(text: &str) -> Option<Line>
     if worker > 15 {
         return None;
     }
-    let order = read_asked(rest)?;
+    let order = asked_order(rest)?;
     Some(Line::Asked { worker, order })
 }
