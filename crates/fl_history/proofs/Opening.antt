@@ -10,10 +10,10 @@ use Rattle.fl_history.specs.declared.history.Line.TheVariants as line
 use Rattle.fl_history.specs.declared.records.Span.{Span}
 use Rattle.fl_history.specs.declared.records.ShortOp.{ShortOp}
 use Rattle.fl_history.specs.declared.records.ShortOp.TheVariants as short
-use Rattle.fl_history.specs.declared.records.Ask.{Ask}
+use Rattle.fl_history.specs.declared.records.ShortOrder.{ShortOrder}
 use Rattle.fl_history.specs.declared.records.Answered.{Answered}
-use Rattle.fl_history.specs.declared.records.Record.{Record}
-use Rattle.fl_history.specs.declared.records.Record.TheVariants as record_of
+use Rattle.fl_history.specs.declared.records.ShortLine.{ShortLine}
+use Rattle.fl_history.specs.declared.records.ShortLine.TheVariants as record_of
 use Rattle.fl_history.specs.Inside.Records.{name_in, short_op, ask_of, bytes_at, opened_parts, opened_op, line_asking, asked_line, answered_line}
 use Rattle.fl_history.proofs.Packing.{get_left, get_right}
 use Rattle.fl_history.specs.Inside.Records.{line_or_none, opened, opened_all, Begins, IsNamed, NamesAreThere, LeadsBack, IsThere, AreKept}
@@ -122,16 +122,16 @@ still_back names more s b = record {
 
 -- ---- more of everything
 
-ask_stays : (names more : List ℕ) (asks : List Ask) (at : ℕ) → AllByRecursion (λ (a : Ask). LeadsBack names a.op) asks
+ask_stays : (names more : List ℕ) (asks : List ShortOrder) (at : ℕ) → AllByRecursion (λ (a : ShortOrder). LeadsBack names a.op) asks
     → line_or_none (asked_line (names ++ more)) (slice_get asks at) ≡ line_or_none (asked_line names) (slice_get asks at)
 ask_stays names more [] at n = refl
 ask_stays names more (a ∷ asks) zero n =
     ap (line_or_none (line_asking a)) (op_stays names more a.op n.0.named)
 ask_stays names more (a ∷ asks) (suc at) n = ask_stays names more asks at n.1
 
-module _ (asks : List Ask) (answers : List Answered) (names : List ℕ) (asks′ : List Ask) (answers′ : List Answered) (names′ : List ℕ)
+module _ (asks : List ShortOrder) (answers : List Answered) (names : List ℕ) (asks′ : List ShortOrder) (answers′ : List Answered) (names′ : List ℕ)
     (a : Begins asks asks′) (t : Begins answers answers′) (n : Begins names names′) where
-  opened_stays : (r : Record) → IsThere (length asks) (length answers) r → AllByRecursion (λ (a : Ask). LeadsBack names a.op) asks
+  opened_stays : (r : ShortLine) → IsThere (length asks) (length answers) r → AllByRecursion (λ (a : ShortOrder). LeadsBack names a.op) asks
       → opened asks′ answers′ names′ r ≡ opened asks answers names r
   opened_stays (record_of.Asked at) there named =
       (λ i. line_or_none (asked_line (n.is i)) (slice_get (a.is i) at))
@@ -142,39 +142,39 @@ module _ (asks : List Ask) (answers : List Answered) (names : List ℕ) (asks′
   opened_stays (record_of.Done unique) there named = refl
   opened_stays (record_of.Failed error unique) there named = refl
 
-  lines_stay : (records : List Record) → AreKept records asks answers names → opened_all asks′ answers′ names′ records ≡ opened_all asks answers names records
+  lines_stay : (records : List ShortLine) → AreKept records asks answers names → opened_all asks′ answers′ names′ records ≡ opened_all asks answers names records
   lines_stay [] k = refl
   lines_stay (r ∷ records) k =
       (λ i. opened_stays r k.there.0 k.back i ∷ lines_stay records (record { there = k.there.1; back = k.back }) i)
 
   -- one line more
-  pub one_line : (records : List Record) (r : Record) (l : Line) → AreKept records asks answers names → opened asks′ answers′ names′ r ≡ l
+  pub one_line : (records : List ShortLine) (r : ShortLine) (l : Line) → AreKept records asks answers names → opened asks′ answers′ names′ r ≡ l
       → opened_all asks′ answers′ names′ (records ++ r ∷ []) ≡ opened_all asks answers names records ++ l ∷ []
   one_line records r l k e =
       map-append (opened asks′ answers′ names′) records (r ∷ []) ∙ (λ i. lines_stay records k i ++ e i ∷ [])
 
-  there_still : (r : Record) → IsThere (length asks) (length answers) r → IsThere (length asks′) (length answers′) r
+  there_still : (r : ShortLine) → IsThere (length asks) (length answers) r → IsThere (length asks′) (length answers′) r
   there_still (record_of.Asked at) h = omega (arith, h, begins_length asks asks′ a)
   there_still (record_of.Answered at) h = omega (arith, h, begins_length answers answers′ t)
   there_still (record_of.Done unique) h = tt
   there_still (record_of.Failed error unique) h = tt
 
   -- what is kept goes on to lead to what is there
-  pub kept_still : (records : List Record) (r : Record) → AreKept records asks answers names → IsThere (length asks′) (length answers′) r
-      → AllByRecursion (λ (a : Ask). LeadsBack names′ a.op) a.rest → AreKept (records ++ r ∷ []) asks′ answers′ names′
+  pub kept_still : (records : List ShortLine) (r : ShortLine) → AreKept records asks answers names → IsThere (length asks′) (length answers′) r
+      → AllByRecursion (λ (a : ShortOrder). LeadsBack names′ a.op) a.rest → AreKept (records ++ r ∷ []) asks′ answers′ names′
   kept_still records r k there more = record {
     there = all_more (IsThere (length asks′) (length answers′)) records (r ∷ [])
         (all_as (IsThere (length asks) (length answers)) (IsThere (length asks′) (length answers′)) records there_still k.there) (there, tt);
-    back = subst (AllByRecursion (λ (a : Ask). LeadsBack names′ a.op)) (sym a.is)
-        (all_more (λ (a : Ask). LeadsBack names′ a.op) asks a.rest
-        (all_as (λ (a : Ask). LeadsBack names a.op) (λ (a : Ask). LeadsBack names′ a.op) asks
+    back = subst (AllByRecursion (λ (a : ShortOrder). LeadsBack names′ a.op)) (sym a.is)
+        (all_more (λ (a : ShortOrder). LeadsBack names′ a.op) asks a.rest
+        (all_as (λ (a : ShortOrder). LeadsBack names a.op) (λ (a : ShortOrder). LeadsBack names′ a.op) asks
         (λ x h. subst (λ ns. LeadsBack ns x.op) (sym n.is) (still_back names n.rest x.op h)) k.back) more);
   }
 
 -- ---- in the words of the calls
 
-pub asked_kept : (records records′ : List Record) (asks asks′ : List Ask) (answers : List Answered) (names names′ : List ℕ) (worker : ℕ) (o : Order)
-    (parts : Kind × Body) (span : Span) (new : Ask) → AreKept records asks answers names → parts ≡ parts_of o.op → names′ ≡ names ++ name_in parts.1
+pub asked_kept : (records records′ : List ShortLine) (asks asks′ : List ShortOrder) (answers : List Answered) (names names′ : List ℕ) (worker : ℕ) (o : Order)
+    (parts : Kind × Body) (span : Span) (new : ShortOrder) → AreKept records asks answers names → parts ≡ parts_of o.op → names′ ≡ names ++ name_in parts.1
     → IsNamed names′ span → bytes_at names′ span ≡ name_in parts.1 → new ≡ ask_of worker o (short_op span parts.0 parts.1) → asks′ ≡ asks ++ new ∷ []
     → records′ ≡ records ++ record_of.Asked (length asks) ∷ []
     → AreKept records′ asks′ answers names′ × (opened_all asks′ answers names′ records′ ≡ opened_all asks answers names records ++ line.Asked worker o ∷ [])
@@ -183,7 +183,7 @@ asked_kept records records′ asks asks′ answers names names′ worker o parts
     let n : Begins names names′ = record { rest = name_in parts.1; is = more } in
     let t = begins_itself answers in
     let inside : length asks < length asks′ = subst (λ l. length asks < length l) (sym joins) (omega (arith, length-append asks (new ∷ []))) in
-    let back : LeadsBack names′ new.op = subst (λ (x : Ask). LeadsBack names′ x.op) (sym is) (leads_back names′ span o parts of there named) in
+    let back : LeadsBack names′ new.op = subst (λ (x : ShortOrder). LeadsBack names′ x.op) (sym is) (leads_back names′ span o parts of there named) in
     let found : line_or_none (asked_line names′) (slice_get asks′ (length asks)) ≡ line.Asked worker o =
     ap (λ l. line_or_none (asked_line names′) (slice_get l (length asks))) joins
     ∙ ap (line_or_none (asked_line names′)) (get_right asks (new ∷ []) (length asks) 0 (omega arith))
@@ -194,7 +194,7 @@ asked_kept records records′ asks asks′ answers names names′ worker o parts
       one_line asks answers names asks′ answers names′ a t n records (record_of.Asked (length asks)) (line.Asked worker o) k found,
     )
 
-pub told_kept : (records records′ : List Record) (asks : List Ask) (answers answers′ : List Answered) (names : List ℕ) (r : Record) (l : Line)
+pub told_kept : (records records′ : List ShortLine) (asks : List ShortOrder) (answers answers′ : List Answered) (names : List ℕ) (r : ShortLine) (l : Line)
     → AreKept records asks answers names
     → Begins answers answers′ → IsThere (length asks) (length answers′) r → opened asks answers′ names r ≡ l → records′ ≡ records ++ r ∷ []
     → AreKept records′ asks answers′ names × (opened_all asks answers′ names records′ ≡ opened_all asks answers names records ++ l ∷ [])
@@ -204,14 +204,14 @@ told_kept records records′ asks answers answers′ names r l k t there is last
     subst (λ rs. AreKept rs asks answers′ names × (opened_all asks answers′ names rs ≡ opened_all asks answers names records ++ l ∷ [])) (sym last)
     (kept_still asks answers names asks answers′ names a t n records r k there tt, one_line asks answers names asks answers′ names a t n records r l k is)
 
-pub line_at : (asks : List Ask) (answers : List Answered) (names : List ℕ) (records : List Record) (i : ℕ) (r : Record) → slice_get records i ≡ Some r
+pub line_at : (asks : List ShortOrder) (answers : List Answered) (names : List ℕ) (records : List ShortLine) (i : ℕ) (r : ShortLine) → slice_get records i ≡ Some r
     → slice_get (opened_all asks answers names records) i ≡ Some (opened asks answers names r)
 line_at asks answers names records i r e = slice_get-map (opened asks answers names) records i ∙ ap (option_map (opened asks answers names)) e
 
-pub there_at : (asks : List Ask) (answers : List Answered) (names : List ℕ) (records : List Record) (i : ℕ) (r : Record)
+pub there_at : (asks : List ShortOrder) (answers : List Answered) (names : List ℕ) (records : List ShortLine) (i : ℕ) (r : ShortLine)
     → AreKept records asks answers names → slice_get records i ≡ Some r → IsThere (length asks) (length answers) r
 there_at asks answers names records i r k e = all_at (IsThere (length asks) (length answers)) records i r k.there e
 
-pub back_at : (asks : List Ask) (answers : List Answered) (names : List ℕ) (records : List Record) (i : ℕ) (a : Ask) → AreKept records asks answers names
+pub back_at : (asks : List ShortOrder) (answers : List Answered) (names : List ℕ) (records : List ShortLine) (i : ℕ) (a : ShortOrder) → AreKept records asks answers names
     → slice_get asks i ≡ Some a → LeadsBack names a.op
-back_at asks answers names records i a k e = all_at (λ (a : Ask). LeadsBack names a.op) asks i a k.back e
+back_at asks answers names records i a k e = all_at (λ (a : ShortOrder). LeadsBack names a.op) asks i a k.back e

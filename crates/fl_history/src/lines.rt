@@ -4,13 +4,13 @@ ghost use Rattle.std.specs.Prelude.{◌≡◌, ℕ, ◌+◌, ◌*◌, ◌<◌, �
 ghost use Rattle.std.specs.List.{slice_get};
 ghost use Rattle.fl_history.specs.Inside.Records.{bytes_at, opened, opened_parts, asked_line};
 ghost use Rattle.fl_history.specs.Inside.Records.{Begins, IsNamed, IsThere, NamesAreThere, LeadsBack};
-ghost use Rattle.fl_history.specs.declared.records.Ask.{Ask as Kept};
+ghost use Rattle.fl_history.specs.declared.records.ShortOrder.{ShortOrder as Kept};
 ghost use Rattle.fl_history.specs.declared.history.Line.TheVariants.{Asked, Told as Reply};
 ghost use Rattle.fl_order.specs.Name.{IsName};
 
 use crate::chunks::ChunkedVec;
 use crate::history::Line;
-use crate::records::{Answered, Ask, Record, ShortOp, Span, name_in, short_op};
+use crate::records::{Answered, ShortLine, ShortOp, ShortOrder, Span, name_in, short_op};
 use fl_order::{Answer, Body, Kind, LockAsk, Name, Op, Order, Told};
 use std::alloc::{AllocError, Global};
 use std::marker::Model;
@@ -21,8 +21,8 @@ const MOST_BYTES: usize = 255;
 /// Lines in the order of time. Contracts see their list, and for how many more memory is there.
 #[derive(Debug, Drop)]
 pub struct Lines {
-    records: ChunkedVec<Record>,
-    asks: ChunkedVec<Ask>,
+    records: ChunkedVec<ShortLine>,
+    asks: ChunkedVec<ShortOrder>,
     answers: ChunkedVec<Answered>,
     // The bytes of all names, one after another.
     names: ChunkedVec<u8>,
@@ -72,19 +72,19 @@ impl Lines {
         ensures { slice_get self.now.items at ≡ Some result }
     {
         match self.records.get(at) {
-            Record::Asked(at) => asked(&self.asks.get(at), &self.names),
-            Record::Answered(at) => {
+            ShortLine::Asked(at) => asked(&self.asks.get(at), &self.names),
+            ShortLine::Answered(at) => {
                 let Answered { unique, answer } = self.answers.get(at);
                 Line::Told(Told {
                     unique,
                     result: Ok(answer),
                 })
             }
-            Record::Done(unique) => Line::Told(Told {
+            ShortLine::Done(unique) => Line::Told(Told {
                 unique,
                 result: Ok(Answer::Done),
             }),
-            Record::Failed(error, unique) => Line::Told(Told {
+            ShortLine::Failed(error, unique) => Line::Told(Told {
                 unique,
                 result: Err(error),
             }),
@@ -119,8 +119,8 @@ impl Lines {
         let name = push_name(&mut self.names, name_in(&parts.1));
         let op = short_op(parts.0, &parts.1, name);
         let at = self.asks.len();
-        self.asks.push(Ask::new(worker, order, op));
-        self.records.push(Record::Asked(at));
+        self.asks.push(ShortOrder::new(worker, order, op));
+        self.records.push(ShortLine::Asked(at));
         self.room -= 1;
     }
 
@@ -137,7 +137,7 @@ impl Lines {
 }
 
 // The record of a reply, whose answer joins the others where it tells more than that it is done.
-fn keep_told(answers: &mut ChunkedVec<Answered>, told: &Told) -> Record
+fn keep_told(answers: &mut ChunkedVec<Answered>, told: &Told) -> ShortLine
     requires { 0 < answers.old.room }
     ensures answers { Begins answers.old.items answers.new.items }
     ensures room { answers.old.room ≤ answers.new.room + 1 }
@@ -147,12 +147,12 @@ fn keep_told(answers: &mut ChunkedVec<Answered>, told: &Told) -> Record
 {
     let unique = told.unique;
     match told.result {
-        Ok(Answer::Done) => Record::Done(unique),
-        Err(error) => Record::Failed(error, unique),
+        Ok(Answer::Done) => ShortLine::Done(unique),
+        Err(error) => ShortLine::Failed(error, unique),
         Ok(answer) => {
             let at = answers.len();
             answers.push(Answered { unique, answer });
-            Record::Answered(at)
+            ShortLine::Answered(at)
         }
     }
 }
@@ -189,7 +189,7 @@ fn name_at(names: &ChunkedVec<u8>, span: Span) -> Name
 }
 
 // The line of an order.
-fn asked(ask: &Ask, names: &ChunkedVec<u8>) -> Line
+fn asked(ask: &ShortOrder, names: &ChunkedVec<u8>) -> Line
     requires { LeadsBack names.now.items ask.now.op }
     ensures { result ≡ asked_line names.now.items ask.now }
 {

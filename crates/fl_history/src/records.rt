@@ -7,15 +7,15 @@ ghost use Rattle.fl_order.specs.Name.{IsName};
 use fl_order::{Answer, Body, Errno, Kind, LockAsk, Order};
 
 // So many bytes are kept of a line, and of the order or the answer that it leads to.
-const _: () = prove!(size_of::<Record>() == 16);
+const _: () = prove!(size_of::<ShortLine>() == 16);
 
-const _: () = prove!(size_of::<Ask>() == 80);
+const _: () = prove!(size_of::<ShortOrder>() == 80);
 
 const _: () = prove!(size_of::<Answered>() == 48);
 
 /// What is kept of a line. A place is one in the vector of orders or of answers.
 #[derive(Clone, Copy, Debug)]
-pub(crate) enum Record {
+pub(crate) enum ShortLine {
     /// An order, at this place.
     Asked(usize),
     /// A reply that tells more than that it is done, at this place.
@@ -46,7 +46,7 @@ pub(crate) struct Span {
 
 /// An order, and whose it is. Fields stand by size, since they lie in the order of the source.
 #[derive(Clone, Copy, Debug)]
-pub(crate) struct Ask {
+pub(crate) struct ShortOrder {
     /// The worker's number, from 0.
     pub worker: u32,
     /// The user who asks.
@@ -160,12 +160,12 @@ fn short_lock(what: Kind, ask: &LockAsk) -> ShortOp
     }
 }
 
-impl Ask {
+impl ShortOrder {
     /// What is kept of an order that asks this.
-    pub(crate) fn new(worker: u32, order: &Order, op: ShortOp) -> Ask
+    pub(crate) fn new(worker: u32, order: &Order, op: ShortOp) -> ShortOrder
         ensures { result ≡ ask_of worker order.now op }
     {
-        Ask {
+        ShortOrder {
             worker,
             uid: order.uid,
             gid: order.gid,

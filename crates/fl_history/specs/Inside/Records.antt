@@ -6,10 +6,10 @@ use Rattle.fl_history.specs.declared.history.Line.TheVariants as line
 use Rattle.fl_history.specs.declared.records.Span.{Span}
 use Rattle.fl_history.specs.declared.records.ShortOp.{ShortOp}
 use Rattle.fl_history.specs.declared.records.ShortOp.TheVariants as short
-use Rattle.fl_history.specs.declared.records.Ask.{Ask}
+use Rattle.fl_history.specs.declared.records.ShortOrder.{ShortOrder}
 use Rattle.fl_history.specs.declared.records.Answered.{Answered}
-use Rattle.fl_history.specs.declared.records.Record.{Record}
-use Rattle.fl_history.specs.declared.records.Record.TheVariants as record_of
+use Rattle.fl_history.specs.declared.records.ShortLine.{ShortLine}
+use Rattle.fl_history.specs.declared.records.ShortLine.TheVariants as record_of
 use Rattle.fl_order.specs.Name.{IsName}
 use Rattle.fl_order.specs.Order.{op_of}
 use Rattle.fl_order.specs.declared.body.Body.{Body}
@@ -42,7 +42,7 @@ short_op span kind body.Getattr = short.Getattr kind
 short_op span kind body.Open = short.Open kind
 
 -- an order of a worker, with what is kept of what it asks
-abbrev pub ask_of : ℕ → Order → ShortOp → Ask
+abbrev pub ask_of : ℕ → Order → ShortOp → ShortOrder
 ask_of worker o op = record {
   worker = worker;
   uid = o.uid;
@@ -82,7 +82,7 @@ line_or_none f None = no_line
 line_or_none f (Some a) = f a
 
 -- the line of an order that asks this
-abbrev pub line_asking : Ask → Op → Line
+abbrev pub line_asking : ShortOrder → Op → Line
 line_asking a op =
     line.Asked a.worker (record {
       unique = a.unique;
@@ -94,7 +94,7 @@ line_asking a op =
     })
 
 -- the line of an order
-abbrev pub asked_line : List ℕ → Ask → Line
+abbrev pub asked_line : List ℕ → ShortOrder → Line
 asked_line names a = line_or_none (line_asking a) (opened_op names a.op)
 
 -- the line of a reply that tells more than that it is done
@@ -102,14 +102,14 @@ abbrev pub answered_line : Answered → Line
 answered_line a = line.Told (record { unique = a.unique; result = Ok a.answer })
 
 -- the line of a record
-abbrev pub opened : List Ask → List Answered → List ℕ → Record → Line
+abbrev pub opened : List ShortOrder → List Answered → List ℕ → ShortLine → Line
 opened asks answers names (record_of.Asked at) = line_or_none (asked_line names) (slice_get asks at)
 opened asks answers names (record_of.Answered at) = line_or_none answered_line (slice_get answers at)
 opened asks answers names (record_of.Done unique) = line.Told (record { unique = unique; result = Ok Done })
 opened asks answers names (record_of.Failed error unique) = line.Told (record { unique = unique; result = Err error })
 
 -- the lines of records
-abbrev pub opened_all : List Ask → List Answered → List ℕ → List Record → List Line
+abbrev pub opened_all : List ShortOrder → List Answered → List ℕ → List ShortLine → List Line
 opened_all asks answers names records = map (opened asks answers names) records
 
 -- the second list begins with the first
@@ -135,15 +135,15 @@ pub record LeadsBack (names : List ℕ) (op : ShortOp) : Type 0 where
   pub is : opened_op names op ≡ Some asked
 
 -- a record leads to what is there
-abbrev pub IsThere : ℕ → ℕ → Record → Type 0
+abbrev pub IsThere : ℕ → ℕ → ShortLine → Type 0
 IsThere asks answers (record_of.Asked at) = at < asks
 IsThere asks answers (record_of.Answered at) = at < answers
 IsThere asks answers _ = Unit {0}
 
 -- All that is kept leads to what is there.
-pub record AreKept (records : List Record) (asks : List Ask) (answers : List Answered) (names : List ℕ) : Type 0 where
+pub record AreKept (records : List ShortLine) (asks : List ShortOrder) (answers : List Answered) (names : List ℕ) : Type 0 where
   pub there : AllByRecursion (IsThere (length asks) (length answers)) records
-  pub back : AllByRecursion (λ (a : Ask). LeadsBack names a.op) asks
+  pub back : AllByRecursion (λ (a : ShortOrder). LeadsBack names a.op) asks
 
 -- For so many more lines memory is there, whatever they are.
 pub record HaveRoom (room records asks answers names : ℕ) : Type 0 where

@@ -1,6 +1,6 @@
 use Rattle.std.proofs.Common.{◌∙◌, ◌++◌, ◌∷◌, [], ap, arith}
 use Rattle.fl_history.specs.declared.history.Line.TheVariants.{Asked}
-use Rattle.fl_history.specs.declared.records.Record.TheVariants as record_of
+use Rattle.fl_history.specs.declared.records.ShortLine.TheVariants as record_of
 use Rattle.fl_history.specs.Inside.Records.{ask_of}
 use Rattle.fl_history.proofs.Opening.{asked_kept}
 use Rattle.fl_history.proofs.lines.Lines.push_asked.Goals as goal
