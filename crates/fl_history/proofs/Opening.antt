@@ -21,7 +21,7 @@ use Rattle.fl_order.specs.Name.{IsName}
 use Rattle.fl_order.specs.Order.{parts_of, op_of}
 use Rattle.fl_order.specs.declared.body.Body.{Body}
 use Rattle.fl_order.specs.declared.body.Body.TheVariants as body
-use Rattle.fl_order.specs.declared.kind.Kind.{Kind}
+use Rattle.fl_order.specs.declared.kind.OpKind.{OpKind}
 use Rattle.fl_order.specs.declared.order.Op.{Op}
 use Rattle.fl_order.specs.declared.order.Order.{Order}
 
@@ -51,7 +51,7 @@ all_at P (y ∷ xs) (suc i) x a e = all_at P xs i x a.1 e
 
 -- ---- one order, there and back
 
-parts_back : (names : List ℕ) (span : Span) (kind : Kind) (b : Body) → bytes_at names span ≡ name_in b → opened_parts names (short_op span kind b) ≡ (kind, b)
+parts_back : (names : List ℕ) (span : Span) (kind : OpKind) (b : Body) → bytes_at names span ≡ name_in b → opened_parts names (short_op span kind b) ≡ (kind, b)
 parts_back names span kind (body.Lock ask) e = refl
 parts_back names span kind (body.Create excl mode name) e = ap (λ n. (kind, body.Create excl mode n)) e
 parts_back names span kind (body.Name name) e = ap (λ n. (kind, body.Name n)) e
@@ -61,7 +61,7 @@ parts_back names span kind (body.Release fh unlocks owner) e = refl
 parts_back names span kind body.Getattr e = refl
 parts_back names span kind body.Open e = refl
 
-named_short : (names : List ℕ) (span : Span) (kind : Kind) (b : Body) → IsNamed names span → NamesAreThere names (short_op span kind b)
+named_short : (names : List ℕ) (span : Span) (kind : OpKind) (b : Body) → IsNamed names span → NamesAreThere names (short_op span kind b)
 named_short names span kind (body.Lock ask) n = tt
 named_short names span kind (body.Create excl mode name) n = n
 named_short names span kind (body.Name name) n = n
@@ -75,9 +75,9 @@ named_short names span kind body.Open n = tt
 of_its_parts : (o : Op) → op_of (parts_of o).0 (parts_of o).1 ≡ Some o
 of_its_parts o = grind arith
 
-module _ (names : List ℕ) (span : Span) (o : Order) (parts : Kind × Body) (of : parts ≡ parts_of o.op) (there : bytes_at names span ≡ name_in parts.1) where
+module _ (names : List ℕ) (span : Span) (o : Order) (parts : OpKind × Body) (of : parts ≡ parts_of o.op) (there : bytes_at names span ≡ name_in parts.1) where
   op_back : opened_op names (short_op span parts.0 parts.1) ≡ Some o.op
-  op_back = ap (λ (p : Kind × Body). op_of p.0 p.1) (parts_back names span parts.0 parts.1 there ∙ of) ∙ of_its_parts o.op
+  op_back = ap (λ (p : OpKind × Body). op_of p.0 p.1) (parts_back names span parts.0 parts.1 there ∙ of) ∙ of_its_parts o.op
 
   leads_back : IsNamed names span → LeadsBack names (short_op span parts.0 parts.1)
   leads_back n = record { named = named_short names span parts.0 parts.1 n; asked = o.op; is = op_back }
@@ -111,7 +111,7 @@ parts_stay names more (short.Getattr what) n = (refl, tt)
 parts_stay names more (short.Open what) n = (refl, tt)
 
 op_stays : (names more : List ℕ) (s : ShortOp) → NamesAreThere names s → opened_op (names ++ more) s ≡ opened_op names s
-op_stays names more s n = ap (λ (p : Kind × Body). op_of p.0 p.1) (parts_stay names more s n).0
+op_stays names more s n = ap (λ (p : OpKind × Body). op_of p.0 p.1) (parts_stay names more s n).0
 
 still_back : (names more : List ℕ) (s : ShortOp) → LeadsBack names s → LeadsBack (names ++ more) s
 still_back names more s b = record {
@@ -174,7 +174,7 @@ module _ (asks : List ShortOrder) (answers : List Answered) (names : List ℕ) (
 -- ---- in the words of the calls
 
 pub asked_kept : (records records′ : List ShortLine) (asks asks′ : List ShortOrder) (answers : List Answered) (names names′ : List ℕ) (worker : ℕ) (o : Order)
-    (parts : Kind × Body) (span : Span) (new : ShortOrder) → AreKept records asks answers names → parts ≡ parts_of o.op → names′ ≡ names ++ name_in parts.1
+    (parts : OpKind × Body) (span : Span) (new : ShortOrder) → AreKept records asks answers names → parts ≡ parts_of o.op → names′ ≡ names ++ name_in parts.1
     → IsNamed names′ span → bytes_at names′ span ≡ name_in parts.1 → new ≡ ask_of worker o (short_op span parts.0 parts.1) → asks′ ≡ asks ++ new ∷ []
     → records′ ≡ records ++ record_of.Asked (length asks) ∷ []
     → AreKept records′ asks′ answers names′ × (opened_all asks′ answers names′ records′ ≡ opened_all asks answers names records ++ line.Asked worker o ∷ [])

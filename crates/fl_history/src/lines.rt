@@ -11,7 +11,7 @@ ghost use Rattle.fl_order.specs.Name.{IsName};
 use crate::chunks::ChunkedVec;
 use crate::history::Line;
 use crate::records::{Answered, ShortLine, ShortOp, ShortOrder, Span, name_in, short_op};
-use fl_order::{Answer, Body, Kind, LockAsk, Name, Op, Order, Told};
+use fl_order::{Answer, Body, LockAsk, Name, Op, OpKind, Order, Told};
 use std::alloc::{AllocError, Global};
 use std::marker::Model;
 
@@ -211,7 +211,7 @@ fn asked(ask: &ShortOrder, names: &ChunkedVec<u8>) -> Line
 }
 
 // The kind and the body of what was asked.
-fn opened_parts(op: &ShortOp, names: &ChunkedVec<u8>) -> (Kind, Body)
+fn opened_parts(op: &ShortOp, names: &ChunkedVec<u8>) -> (OpKind, Body)
     requires { NamesAreThere names.now.items op.now }
     ensures { result ≡ opened_parts names.now.items op.now }
 {

@@ -4,7 +4,7 @@ ghost use Rattle.std.specs.Prelude.{◌≡◌};
 ghost use Rattle.fl_history.specs.Inside.Records.{name_in, short_lock, short_op, ask_of};
 ghost use Rattle.fl_order.specs.Name.{IsName};
 
-use fl_order::{Answer, Body, Errno, Kind, LockAsk, Order};
+use fl_order::{Answer, Body, Errno, LockAsk, OpKind, Order};
 
 // So many bytes are kept of a line, and of the order or the answer that it leads to.
 const _: () = prove!(size_of::<ShortLine>() == 16);
@@ -68,7 +68,7 @@ pub(crate) struct ShortOrder {
 #[derive(Clone, Copy, Debug)]
 pub(crate) enum ShortOp {
     Lock {
-        what: Kind,
+        what: OpKind,
         kind: u32,
         pid: u32,
         flags: u32,
@@ -78,26 +78,26 @@ pub(crate) enum ShortOp {
         end: u64,
     },
     Create {
-        what: Kind,
+        what: OpKind,
         excl: bool,
         mode: u32,
         name: Span,
     },
-    Name(Kind, Span),
-    Number(Kind, u64),
+    Name(OpKind, Span),
+    Number(OpKind, u64),
     Flush {
-        what: Kind,
+        what: OpKind,
         fh: u64,
         owner: u64,
     },
     Release {
-        what: Kind,
+        what: OpKind,
         drop: bool,
         fh: u64,
         owner: u64,
     },
-    Getattr(Kind),
-    Open(Kind),
+    Getattr(OpKind),
+    Open(OpKind),
 }
 
 /// The bytes of the name in a body; none where it has no name.
@@ -112,7 +112,7 @@ pub(crate) fn name_in(body: &Body) -> &[u8]
 }
 
 /// What is kept of a kind and a body whose name stands there.
-pub(crate) fn short_op(what: Kind, body: &Body, name: Span) -> ShortOp
+pub(crate) fn short_op(what: OpKind, body: &Body, name: Span) -> ShortOp
     ensures { result ≡ short_op name what body.now }
 {
     match body {
@@ -145,7 +145,7 @@ pub(crate) fn short_op(what: Kind, body: &Body, name: Span) -> ShortOp
     }
 }
 
-fn short_lock(what: Kind, ask: &LockAsk) -> ShortOp
+fn short_lock(what: OpKind, ask: &LockAsk) -> ShortOp
     ensures { result ≡ short_lock what ask.now }
 {
     ShortOp::Lock {

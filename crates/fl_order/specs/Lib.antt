@@ -1,6 +1,6 @@
 pub mod Body
 pub mod Errno
-pub mod Kind
+pub mod OpKind
 pub mod Name
 pub mod Order
 pub mod Sayable

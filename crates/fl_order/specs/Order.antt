@@ -2,14 +2,14 @@
 use Rattle.std.specs.Prelude.{Bool, true, false, Option, Some, None}
 use Rattle.fl_order.specs.declared.body.Body.{Body}
 use Rattle.fl_order.specs.declared.body.Body.TheVariants as body
-use Rattle.fl_order.specs.declared.kind.Kind.{Kind}
-use Rattle.fl_order.specs.declared.kind.Kind.TheVariants as kind
+use Rattle.fl_order.specs.declared.kind.OpKind.{OpKind}
+use Rattle.fl_order.specs.declared.kind.OpKind.TheVariants as kind
 use Rattle.fl_order.specs.declared.order.Op.{Op}
 use Rattle.fl_order.specs.declared.order.Op.TheVariants.{Lookup, Forget, Getattr, Unlink, Open, Release, Flush}
 use Rattle.fl_order.specs.declared.order.Op.TheVariants.{Create, Getlk, Setlk, Setlkw, Interrupt}
 
 -- the kind of its message, and the body
-abbrev pub parts_of : Op → Kind × Body
+abbrev pub parts_of : Op → OpKind × Body
 parts_of (Lookup name) = (kind.Lookup, body.Name name)
 parts_of (Forget n) = (kind.Forget, body.Number n)
 parts_of Getattr = (kind.Getattr, body.Getattr)
@@ -24,7 +24,7 @@ parts_of (Setlkw ask) = (kind.Setlkw, body.Lock ask)
 parts_of (Interrupt unique) = (kind.Interrupt, body.Number unique)
 
 -- the kind of its message
-abbrev pub kind_of : Op → Kind
+abbrev pub kind_of : Op → OpKind
 kind_of op = (parts_of op).0
 
 -- the body of its message
@@ -32,7 +32,7 @@ abbrev pub body_of : Op → Body
 body_of op = (parts_of op).1
 
 -- the order of this kind and body; none where the kind is no order's, or its orders have bodies of another shape
-abbrev pub op_of : Kind → Body → Option Op
+abbrev pub op_of : OpKind → Body → Option Op
 op_of kind.Lookup (body.Name name) = Some (Lookup name)
 op_of kind.Forget (body.Number n) = Some (Forget n)
 op_of kind.Getattr body.Getattr = Some Getattr

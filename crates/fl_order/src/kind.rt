@@ -8,7 +8,7 @@ use crate::refusal::Refusal;
 
 /// The kinds of message that are told apart, with the numbers of `enum fuse_opcode` (Linux `fuse.h`).
 #[derive(Clone, Copy, Debug, PartialEq, Eq)]
-pub enum Kind {
+pub enum OpKind {
     /// Tells the node of a name.
     Lookup = 1,
     /// The kernel forgets lookups of a node. No reply is owed.
@@ -42,27 +42,27 @@ pub enum Kind {
 }
 
 // Each kind once.
-const ALL: [Kind; 15] = [
-    Kind::Lookup,
-    Kind::Forget,
-    Kind::Getattr,
-    Kind::Unlink,
-    Kind::Open,
-    Kind::Release,
-    Kind::Flush,
-    Kind::Init,
-    Kind::Getlk,
-    Kind::Setlk,
-    Kind::Setlkw,
-    Kind::Create,
-    Kind::Interrupt,
-    Kind::Destroy,
-    Kind::BatchForget,
+const ALL: [OpKind; 15] = [
+    OpKind::Lookup,
+    OpKind::Forget,
+    OpKind::Getattr,
+    OpKind::Unlink,
+    OpKind::Open,
+    OpKind::Release,
+    OpKind::Flush,
+    OpKind::Init,
+    OpKind::Getlk,
+    OpKind::Setlk,
+    OpKind::Setlkw,
+    OpKind::Create,
+    OpKind::Interrupt,
+    OpKind::Destroy,
+    OpKind::BatchForget,
 ];
 
-impl Kind {
-    ghost use Rattle.fl_order.specs.Kind.{opcode_for, word_for, shape_for, is_silent, refusal_for};
-    ghost use Rattle.fl_order.specs.Kind.{kind_of_opcode, kind_of_word, IsFoundBy};
+impl OpKind {
+    ghost use Rattle.fl_order.specs.OpKind.{opcode_for, word_for, shape_for, is_silent, refusal_for};
+    ghost use Rattle.fl_order.specs.OpKind.{kind_of_opcode, kind_of_word, IsFoundBy};
 
     /// Its number in a message's header.
     pub fn opcode(self) -> u32
@@ -72,7 +72,7 @@ impl Kind {
     }
 
     /// The kind of this number; none where no kind has it.
-    pub fn of_opcode(opcode: u32) -> Option<Kind>
+    pub fn of_opcode(opcode: u32) -> Option<OpKind>
         ensures value { result ≡ kind_of_opcode opcode }
         ensures inverse { IsFoundBy opcode_for opcode result }
     {
@@ -85,21 +85,21 @@ impl Kind {
         ensures shape { result.1 ≡ shape_for self }
     {
         match self {
-            Kind::Lookup => ("lookup", Ok(Shape::Name)),
-            Kind::Forget => ("forget", Ok(Shape::Number)),
-            Kind::Getattr => ("getattr", Ok(Shape::Getattr)),
-            Kind::Unlink => ("unlink", Ok(Shape::Name)),
-            Kind::Open => ("open", Ok(Shape::Open)),
-            Kind::Release => ("release", Ok(Shape::Release)),
-            Kind::Flush => ("flush", Ok(Shape::Flush)),
-            Kind::Init => ("init", Err(Refusal::Answer(Errno::EPROTO))),
-            Kind::Getlk => ("getlk", Ok(Shape::Lock)),
-            Kind::Setlk => ("setlk", Ok(Shape::Lock)),
-            Kind::Setlkw => ("setlkw", Ok(Shape::Lock)),
-            Kind::Create => ("create", Ok(Shape::Create)),
-            Kind::Interrupt => ("interrupt", Ok(Shape::Number)),
-            Kind::Destroy => ("destroy", Err(Refusal::Destroy)),
-            Kind::BatchForget => ("batch_forget", Err(Refusal::Silent)),
+            OpKind::Lookup => ("lookup", Ok(Shape::Name)),
+            OpKind::Forget => ("forget", Ok(Shape::Number)),
+            OpKind::Getattr => ("getattr", Ok(Shape::Getattr)),
+            OpKind::Unlink => ("unlink", Ok(Shape::Name)),
+            OpKind::Open => ("open", Ok(Shape::Open)),
+            OpKind::Release => ("release", Ok(Shape::Release)),
+            OpKind::Flush => ("flush", Ok(Shape::Flush)),
+            OpKind::Init => ("init", Err(Refusal::Answer(Errno::EPROTO))),
+            OpKind::Getlk => ("getlk", Ok(Shape::Lock)),
+            OpKind::Setlk => ("setlk", Ok(Shape::Lock)),
+            OpKind::Setlkw => ("setlkw", Ok(Shape::Lock)),
+            OpKind::Create => ("create", Ok(Shape::Create)),
+            OpKind::Interrupt => ("interrupt", Ok(Shape::Number)),
+            OpKind::Destroy => ("destroy", Err(Refusal::Destroy)),
+            OpKind::BatchForget => ("batch_forget", Err(Refusal::Silent)),
         }
     }
 
@@ -121,7 +121,7 @@ impl Kind {
     pub fn is_silent(self) -> bool
         ensures { result ≡ is_silent self }
     {
-        matches!(self, Kind::Forget | Kind::BatchForget)
+        matches!(self, OpKind::Forget | OpKind::BatchForget)
     }
 
     /// How its message is refused that has this fault.
@@ -136,7 +136,7 @@ impl Kind {
     }
 
     /// The kind of this word; none where no kind has it.
-    pub fn of_word(word: &str) -> Option<Kind>
+    pub fn of_word(word: &str) -> Option<OpKind>
         ensures value { result ≡ kind_of_word word.now }
         ensures inverse { IsFoundBy word_for word.now result }
     {

@@ -13,7 +13,7 @@ mod told;
 
 pub use body::{Body, Shape};
 pub use errno::Errno;
-pub use kind::Kind;
+pub use kind::OpKind;
 pub use name::Name;
 pub use no_memory::NoMemory;
 pub use order::{LockAsk, Op, Order};

@@ -4,7 +4,7 @@ ghost use Rattle.std.specs.Prelude.{◌≡◌, ◌↔◌, Some, IsSome, Ok};
 ghost use Rattle.fl_order.specs.Order.{only_reads};
 
 use crate::body::Body;
-use crate::kind::Kind;
+use crate::kind::OpKind;
 use crate::name::Name;
 
 /// A message that reaches the lock state.
@@ -85,62 +85,62 @@ pub enum Op {
 
 impl Op {
     ghost use Rattle.fl_order.specs.Body.{body_shape};
-    ghost use Rattle.fl_order.specs.Kind.{shape_for};
+    ghost use Rattle.fl_order.specs.OpKind.{shape_for};
     ghost use Rattle.fl_order.specs.Order.{kind_of, op_of, parts_of};
 
     /// The kind of its message, and the body.
-    pub fn parts(&self) -> (Kind, Body)
+    pub fn parts(&self) -> (OpKind, Body)
         ensures { result ≡ parts_of self.now }
     {
         match *self {
-            Op::Lookup(name) => (Kind::Lookup, Body::Name(name)),
-            Op::Forget(n) => (Kind::Forget, Body::Number(n)),
-            Op::Getattr => (Kind::Getattr, Body::Getattr),
-            Op::Unlink(name) => (Kind::Unlink, Body::Name(name)),
-            Op::Open => (Kind::Open, Body::Open),
-            Op::Release { fh, drop, owner } => (Kind::Release, Body::Release { fh, drop, owner }),
-            Op::Flush { fh, owner } => (Kind::Flush, Body::Flush { fh, owner }),
-            Op::Create { excl, mode, name } => (Kind::Create, Body::Create { excl, mode, name }),
-            Op::Getlk(ask) => (Kind::Getlk, Body::Lock(ask)),
-            Op::Setlk(ask) => (Kind::Setlk, Body::Lock(ask)),
-            Op::Setlkw(ask) => (Kind::Setlkw, Body::Lock(ask)),
-            Op::Interrupt(unique) => (Kind::Interrupt, Body::Number(unique)),
+            Op::Lookup(name) => (OpKind::Lookup, Body::Name(name)),
+            Op::Forget(n) => (OpKind::Forget, Body::Number(n)),
+            Op::Getattr => (OpKind::Getattr, Body::Getattr),
+            Op::Unlink(name) => (OpKind::Unlink, Body::Name(name)),
+            Op::Open => (OpKind::Open, Body::Open),
+            Op::Release { fh, drop, owner } => (OpKind::Release, Body::Release { fh, drop, owner }),
+            Op::Flush { fh, owner } => (OpKind::Flush, Body::Flush { fh, owner }),
+            Op::Create { excl, mode, name } => (OpKind::Create, Body::Create { excl, mode, name }),
+            Op::Getlk(ask) => (OpKind::Getlk, Body::Lock(ask)),
+            Op::Setlk(ask) => (OpKind::Setlk, Body::Lock(ask)),
+            Op::Setlkw(ask) => (OpKind::Setlkw, Body::Lock(ask)),
+            Op::Interrupt(unique) => (OpKind::Interrupt, Body::Number(unique)),
         }
     }
 
     /// The order of these parts; none where the kind is no order's, or its orders have bodies of another shape.
-    pub fn of(kind: Kind, body: Body) -> Option<Op>
+    pub fn of(kind: OpKind, body: Body) -> Option<Op>
         ensures value { result ≡ op_of kind body }
         ensures inverse { (op : Op) → (result ≡ Some op) ↔ (parts_of op ≡ (kind, body)) }
         ensures shaped { IsSome result ↔ (shape_for kind ≡ Ok (body_shape body)) }
     {
         match (kind, body) {
-            (Kind::Lookup, Body::Name(name)) => Some(Op::Lookup(name)),
-            (Kind::Forget, Body::Number(n)) => Some(Op::Forget(n)),
-            (Kind::Getattr, Body::Getattr) => Some(Op::Getattr),
-            (Kind::Unlink, Body::Name(name)) => Some(Op::Unlink(name)),
-            (Kind::Open, Body::Open) => Some(Op::Open),
-            (Kind::Release, Body::Release { fh, drop, owner }) => Some(Op::Release {
+            (OpKind::Lookup, Body::Name(name)) => Some(Op::Lookup(name)),
+            (OpKind::Forget, Body::Number(n)) => Some(Op::Forget(n)),
+            (OpKind::Getattr, Body::Getattr) => Some(Op::Getattr),
+            (OpKind::Unlink, Body::Name(name)) => Some(Op::Unlink(name)),
+            (OpKind::Open, Body::Open) => Some(Op::Open),
+            (OpKind::Release, Body::Release { fh, drop, owner }) => Some(Op::Release {
                 fh,
                 drop,
                 owner,
             }),
-            (Kind::Flush, Body::Flush { fh, owner }) => Some(Op::Flush { fh, owner }),
-            (Kind::Create, Body::Create { excl, mode, name }) => Some(Op::Create {
+            (OpKind::Flush, Body::Flush { fh, owner }) => Some(Op::Flush { fh, owner }),
+            (OpKind::Create, Body::Create { excl, mode, name }) => Some(Op::Create {
                 excl,
                 mode,
                 name,
             }),
-            (Kind::Getlk, Body::Lock(ask)) => Some(Op::Getlk(ask)),
-            (Kind::Setlk, Body::Lock(ask)) => Some(Op::Setlk(ask)),
-            (Kind::Setlkw, Body::Lock(ask)) => Some(Op::Setlkw(ask)),
-            (Kind::Interrupt, Body::Number(unique)) => Some(Op::Interrupt(unique)),
+            (OpKind::Getlk, Body::Lock(ask)) => Some(Op::Getlk(ask)),
+            (OpKind::Setlk, Body::Lock(ask)) => Some(Op::Setlk(ask)),
+            (OpKind::Setlkw, Body::Lock(ask)) => Some(Op::Setlkw(ask)),
+            (OpKind::Interrupt, Body::Number(unique)) => Some(Op::Interrupt(unique)),
             _ => None,
         }
     }
 
     /// The kind of its message.
-    pub fn kind(&self) -> Kind
+    pub fn kind(&self) -> OpKind
         ensures { result ≡ kind_of self.now }
     {
         self.parts().0

@@ -4,13 +4,13 @@ use Rattle.std.specs.Fmt.{decimal}
 use Rattle.fl_history.specs.declared.history.Line.{Line}
 use Rattle.fl_history.specs.declared.history.Line.TheVariants.{Asked, Told}
 use Rattle.fl_order.specs.Errno.{number_of}
-use Rattle.fl_order.specs.Kind.{word_for}
+use Rattle.fl_order.specs.OpKind.{word_for}
 use Rattle.fl_order.specs.Order.{kind_of, body_of}
 use Rattle.fl_order.specs.Sayable.{FitsBody, FitsLock, FitsResult, FitsAttr}
 use Rattle.fl_order.specs.declared.body.Body.{Body}
 use Rattle.fl_order.specs.declared.body.Body.TheVariants as body
 use Rattle.fl_order.specs.declared.errno.Errno.{Errno}
-use Rattle.fl_order.specs.declared.kind.Kind.{Kind}
+use Rattle.fl_order.specs.declared.kind.OpKind.{OpKind}
 use Rattle.fl_order.specs.declared.order.LockAsk.{LockAsk}
 use Rattle.fl_order.specs.declared.order.Order.{Order}
 use Rattle.fl_order.specs.declared.told.Answer.{Answer}
@@ -107,10 +107,10 @@ pub flag_word : (flag : Bool) → IsWord (flag_text flag)
 flag_word true = literal (codes "1") refl
 flag_word false = literal (codes "0") refl
 
-kind_tested : (k : Kind) → all_letters 33 (word_for k) ≡ true
+kind_tested : (k : OpKind) → all_letters 33 (word_for k) ≡ true
 kind_tested k = grind arith
 
-pub kind_word : (k : Kind) → IsWord (word_for k)
+pub kind_word : (k : OpKind) → IsWord (word_for k)
 kind_word k = literal (word_for k) (kind_tested k)
 
 fields_are : (b : Body) → FitsBody b → AreWords (field_words b)

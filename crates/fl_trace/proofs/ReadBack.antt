@@ -16,7 +16,7 @@ use Rattle.fl_history.specs.declared.history.Line.{Line}
 use Rattle.fl_history.specs.declared.history.Line.TheVariants.{Asked, Told}
 use Rattle.fl_order.specs.Errno.{number_of}
 use Rattle.fl_order.specs.Body.{body_shape}
-use Rattle.fl_order.specs.Kind.{word_for, shape_for, kind_of_word}
+use Rattle.fl_order.specs.OpKind.{word_for, shape_for, kind_of_word}
 use Rattle.fl_order.specs.Order.{kind_of, body_of, op_of}
 use Rattle.fl_order.specs.Sayable.{FitsBody, FitsOp, FitsLock, FitsResult, FitsAttr}
 use Rattle.fl_order.specs.declared.body.Body.{Body}
@@ -27,7 +27,7 @@ use Rattle.fl_order.specs.declared.refusal.Refusal.{Refusal}
 use Rattle.fl_order.specs.declared.errno.Errno.{Errno}
 use Rattle.fl_order.specs.declared.errno.Errno.TheVariants.{ENOENT, EINTR, EBADF, EAGAIN, ENOMEM, EEXIST, ENOTDIR, EISDIR, EINVAL, ENFILE, ENOSPC}
 use Rattle.fl_order.specs.declared.errno.Errno.TheVariants.{EDEADLK, ENAMETOOLONG, ENOLCK, ENOSYS, EPROTO}
-use Rattle.fl_order.specs.declared.kind.Kind.{Kind}
+use Rattle.fl_order.specs.declared.kind.OpKind.{OpKind}
 use Rattle.fl_order.specs.declared.order.LockAsk.{LockAsk}
 use Rattle.fl_order.specs.declared.order.Op.{Op}
 use Rattle.fl_order.specs.declared.order.Op.TheVariants.{Getlk}
@@ -73,7 +73,7 @@ body_of_words (Ok shape.Getattr) ws = body.Getattr
 body_of_words (Ok shape.Open) ws = body.Open
 body_of_words _ ws = body.Lock (lock_ask_of ws)
 
-abbrev pub op_of_words : Option Kind → List (List ℕ) → Option Op
+abbrev pub op_of_words : Option OpKind → List (List ℕ) → Option Op
 op_of_words None ws = None
 op_of_words (Some k) ws = op_of k (body_of_words (shape_for k) ws)
 
@@ -149,7 +149,7 @@ body_back (body.Release fh unlocks owner) f = λ i. body.Release (value fh f.0 i
 body_back body.Getattr f = refl
 body_back body.Open f = refl
 
-kind_found : (k : Kind) → kind_of_word (word_for k) ≡ Some k
+kind_found : (k : OpKind) → kind_of_word (word_for k) ≡ Some k
 kind_found k = grind arith
 
 -- an order's kind has the shape of its body

@@ -7,7 +7,7 @@ use Rattle.hex.specs.Hex.{encode_lower}
 use Rattle.fl_history.specs.declared.history.Line.{Line}
 use Rattle.fl_history.specs.declared.history.Line.TheVariants.{Asked, Told}
 use Rattle.fl_order.specs.Errno.{number_of}
-use Rattle.fl_order.specs.Kind.{word_for}
+use Rattle.fl_order.specs.OpKind.{word_for}
 use Rattle.fl_order.specs.Order.{kind_of, body_of}
 use Rattle.fl_order.specs.Sayable.{IsSayable, FitsTold}
 use Rattle.fl_order.specs.declared.body.Body.{Body}

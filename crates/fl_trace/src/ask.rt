@@ -12,7 +12,7 @@ ghost use Rattle.fl_order.specs.declared.order.LockAsk.{LockAsk};
 ghost use Rattle.fl_trace.specs.Text.{order_text, op_text, fields_text, lock_ask_text};
 
 use crate::words::{first_word, flag_word, name, number, u32_number, u32_word, u64_word};
-use fl_order::{Body, Kind, LockAsk, Op, Order, Shape};
+use fl_order::{Body, LockAsk, Op, OpKind, Order, Shape};
 
 /// An order; none where it has any other spelling.
 pub(super) fn asked_order(text: &str) -> Option<Order>
@@ -44,7 +44,7 @@ fn read_op(text: &str) -> Option<Op>
     ensures only { (op : Op) → FitsOp op → text.now ≡ op_text op → IsSome result }
 {
     let (word, fields) = first_word(text);
-    let kind = Kind::of_word(word)?;
+    let kind = OpKind::of_word(word)?;
     let body = read_body(kind.shape().ok()?, fields)?;
     Op::of(kind, body)
 }

@@ -12,14 +12,14 @@ use Rattle.std.specs.List.{list_any}
 use Rattle.byteorder.specs.Endian.{little_bytes, little_number}
 use Rattle.byteorder.specs.Numbers.{length-bytes_low_first, little_number-reads_back}
 use Rattle.fl_order.specs.Body.{body_shape}
-use Rattle.fl_order.specs.Kind.{kind_of_opcode, opcode_for, shape_for}
+use Rattle.fl_order.specs.OpKind.{kind_of_opcode, opcode_for, shape_for}
 use Rattle.fl_order.specs.Name.{IsName}
 use Rattle.fl_order.specs.Order.{body_of, kind_of, op_of}
 use Rattle.fl_order.specs.Sayable.{FitsLock, FitsBody, IsSayable}
 use Rattle.fl_order.specs.declared.body.Body.{Body}
 use Rattle.fl_order.specs.declared.body.Body.TheVariants as body
 use Rattle.fl_order.specs.declared.errno.Errno.TheVariants.{ENOSYS}
-use Rattle.fl_order.specs.declared.kind.Kind.{Kind}
+use Rattle.fl_order.specs.declared.kind.OpKind.{OpKind}
 use Rattle.fl_order.specs.declared.order.Order.{Order}
 use Rattle.fl_order.specs.declared.order.LockAsk.{LockAsk}
 use Rattle.fl_order.specs.declared.order.Op.{Op}
@@ -194,10 +194,10 @@ parts_made op = grind arith
 shape_made : (op : Op) → shape_for (kind_of op) ≡ Ok (body_shape (body_of op))
 shape_made op = grind arith
 
-opcode_fits : (kind : Kind) → opcode_for kind < 2 ^ 32
+opcode_fits : (kind : OpKind) → opcode_for kind < 2 ^ 32
 opcode_fits kind = grind arith
 
-opcode_finds : (kind : Kind) → kind_of_opcode (opcode_for kind) ≡ Some kind
+opcode_finds : (kind : OpKind) → kind_of_opcode (opcode_for kind) ≡ Some kind
 opcode_finds kind = grind arith
 
 -- the message of an order says that order

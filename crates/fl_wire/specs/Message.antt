@@ -1,6 +1,6 @@
 -- The message that a kernel sends for an order. Fields that aren't read are zeros here.
 use Rattle.std.specs.Prelude.{◌≡◌, ℕ, ◌+◌, Bool, if◌then◌else◌, List, [], ◌∷◌, ◌++◌, length, Result, Ok}
-use Rattle.fl_order.specs.Kind.{opcode_for}
+use Rattle.fl_order.specs.OpKind.{opcode_for}
 use Rattle.fl_order.specs.Order.{body_of, kind_of}
 use Rattle.fl_order.specs.Sayable.{IsSayable}
 use Rattle.fl_order.specs.declared.body.Body.{Body}

@@ -1,7 +1,7 @@
 -- What a message says as an order, and how one that says none is refused.
 use Rattle.std.specs.Prelude.{ℕ, ◌==◌, not, bit_and, List, [], slice_index, Option, None, Some, Result, Ok, Err}
 use Rattle.std.specs.Option.{ok_or}
-use Rattle.fl_order.specs.Kind.{kind_of_opcode, refusal_for, shape_for}
+use Rattle.fl_order.specs.OpKind.{kind_of_opcode, refusal_for, shape_for}
 use Rattle.fl_order.specs.Order.{op_of}
 use Rattle.fl_order.specs.declared.body.Body.{Body}
 use Rattle.fl_order.specs.declared.body.Body.TheVariants as body
@@ -9,7 +9,7 @@ use Rattle.fl_order.specs.declared.body.Shape.{Shape}
 use Rattle.fl_order.specs.declared.body.Shape.TheVariants as shape
 use Rattle.fl_order.specs.declared.errno.Errno.{Errno}
 use Rattle.fl_order.specs.declared.errno.Errno.TheVariants.{ENOSYS}
-use Rattle.fl_order.specs.declared.kind.Kind.{Kind}
+use Rattle.fl_order.specs.declared.kind.OpKind.{OpKind}
 use Rattle.fl_order.specs.declared.order.Order.{Order}
 use Rattle.fl_order.specs.declared.order.LockAsk.{LockAsk}
 use Rattle.fl_order.specs.declared.order.Op.{Op}
@@ -57,17 +57,17 @@ body_in shape.Open bytes = by_fields open_in (λ values. body.Open) bytes
 
 -- what a message of this kind asks, by its body or the body's fault. A kind has an order of each body of its shape, so
 -- the error for none never comes.
-abbrev pub asked_with : Kind → Result Body Errno → Result Op Refusal
+abbrev pub asked_with : OpKind → Result Body Errno → Result Op Refusal
 asked_with kind (Ok said) = ok_or (op_of kind said) (Answer ENOSYS)
 asked_with kind (Err e) = Err (refusal_for kind e)
 
 -- what a message of this kind asks, where its bodies have this shape
-abbrev pub asked_by : Kind → Result Shape Refusal → List ℕ → Result Op Refusal
+abbrev pub asked_by : OpKind → Result Shape Refusal → List ℕ → Result Op Refusal
 asked_by kind (Ok shape) bytes = asked_with kind (body_in shape bytes)
 asked_by kind (Err refusal) bytes = Err refusal
 
 -- what a message of this kind asks
-abbrev pub asked : Option Kind → List ℕ → Result Op Refusal
+abbrev pub asked : Option OpKind → List ℕ → Result Op Refusal
 asked None bytes = Err (Answer ENOSYS)
 asked (Some kind) bytes = asked_by kind (shape_for kind) bytes
 

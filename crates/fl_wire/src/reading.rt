@@ -2,7 +2,7 @@
 
 ghost use Rattle.std.specs.Prelude.{◌≡◌, ◌+◌, ◌<◌, ◌≤◌, ◌==◌, length, IfOk, OnOk, Ok, Err};
 ghost use Rattle.std.specs.Prelude.{if◌then◌else◌};
-ghost use Rattle.fl_order.specs.Kind.{shape_for};
+ghost use Rattle.fl_order.specs.OpKind.{shape_for};
 ghost use Rattle.fl_order.specs.Name.{IsName};
 ghost use Rattle.fl_order.specs.Sayable.{FitsBody, FitsOp, IsSayable};
 ghost use Rattle.fl_wire.specs.Body.{name_behind, name_in};
@@ -11,7 +11,7 @@ ghost use Rattle.fl_wire.specs.Says.{asked_by, body_in, said};
 
 use crate::frame::Frame;
 use crate::layout::{u32_at, u64_at};
-use fl_order::{Body, Errno, Kind, LockAsk, Name, Op, Order, Refusal, Shape};
+use fl_order::{Body, Errno, LockAsk, Name, Op, OpKind, Order, Refusal, Shape};
 
 // `O_EXCL` of a kernel's flags, and the permissions of a mode.
 const O_EXCL: u32 = 0o200;
@@ -38,7 +38,7 @@ fn order_in(frame: &Frame) -> Result<Order, Refusal>
     ensures sayable { IfOk result IsSayable }
 {
     let bytes = frame.as_bytes();
-    let kind = Kind::of_opcode(frame.opcode()).ok_or(Refusal::Answer(Errno::ENOSYS))?;
+    let kind = OpKind::of_opcode(frame.opcode()).ok_or(Refusal::Answer(Errno::ENOSYS))?;
     let op = op_in(kind, bytes)?;
     Ok(Order {
         unique: frame.unique(),
@@ -51,7 +51,7 @@ fn order_in(frame: &Frame) -> Result<Order, Refusal>
 }
 
 // What a message of this kind asks.
-fn op_in(kind: Kind, message: &[u8]) -> Result<Op, Refusal>
+fn op_in(kind: OpKind, message: &[u8]) -> Result<Op, Refusal>
     ensures value { result ≡ asked_by kind (shape_for kind) message.now }
     ensures fits { IfOk result FitsOp }
 {

@@ -14,7 +14,7 @@ use Rattle.fl_order.specs.Name.{IsName}
 use Rattle.fl_order.specs.Order.{op_of}
 use Rattle.fl_order.specs.declared.body.Body.{Body}
 use Rattle.fl_order.specs.declared.body.Body.TheVariants as body
-use Rattle.fl_order.specs.declared.kind.Kind.{Kind}
+use Rattle.fl_order.specs.declared.kind.OpKind.{OpKind}
 use Rattle.fl_order.specs.declared.order.Op.{Op}
 use Rattle.fl_order.specs.declared.order.LockAsk.{LockAsk}
 use Rattle.fl_order.specs.declared.order.Order.{Order}
@@ -27,11 +27,11 @@ name_in (body.Name name) = name
 name_in _ = []
 
 -- a lock request, kept flat
-abbrev pub short_lock : Kind → LockAsk → ShortOp
+abbrev pub short_lock : OpKind → LockAsk → ShortOp
 short_lock kind a = short.Lock kind a.kind a.pid a.flags a.fh a.owner a.start a.end
 
 -- a kind and a body, with a place in the names instead of the name
-abbrev pub short_op : Span → Kind → Body → ShortOp
+abbrev pub short_op : Span → OpKind → Body → ShortOp
 short_op span kind (body.Lock ask) = short_lock kind ask
 short_op span kind (body.Create excl mode name) = short.Create kind excl mode span
 short_op span kind (body.Name name) = short.Name kind span
@@ -58,7 +58,7 @@ abbrev pub bytes_at : List ℕ → Span → List ℕ
 bytes_at names span = take span.len (drop span.start names)
 
 -- the kind and the body of what was asked
-abbrev pub opened_parts : List ℕ → ShortOp → Kind × Body
+abbrev pub opened_parts : List ℕ → ShortOp → OpKind × Body
 opened_parts names (short.Lock what kind pid flags fh owner start end) =
     (what, body.Lock (record { fh = fh; owner = owner; start = start; end = end; kind = kind; pid = pid; flags = flags }))
 opened_parts names (short.Create what excl mode span) = (what, body.Create excl mode (bytes_at names span))

@@ -4,59 +4,59 @@ use super::messages::{
     CREATE, FLUSH, FORGET, GETATTR, GETLK, INTERRUPT, LOOKUP, OPEN, RELEASE, SETLK, SETLKW, UNLINK,
 };
 use super::{same, whole};
-use fl_order::Kind;
+use fl_order::OpKind;
 use fl_wire::read_order;
 use std::process::Abort;
 use std::test::Fail;
 
 // The kind has this number of `enum fuse_opcode`, and this word in a trace's lines.
-fn is_kind(rt: &impl Abort, kind: Kind, opcode: u32, word: &str) {
+fn is_kind(rt: &impl Abort, kind: OpKind, opcode: u32, word: &str) {
     same(rt, &kind.opcode(), &opcode);
     assert_eq!(rt; kind.word(), word);
-    same(rt, &Kind::of_opcode(opcode), &Some(kind));
-    same(rt, &Kind::of_word(word), &Some(kind));
+    same(rt, &OpKind::of_opcode(opcode), &Some(kind));
+    same(rt, &OpKind::of_word(word), &Some(kind));
 }
 
 // The kind is owed a reply.
-fn is_answered(rt: &impl Abort, kind: Kind, opcode: u32, word: &str) {
+fn is_answered(rt: &impl Abort, kind: OpKind, opcode: u32, word: &str) {
     is_kind(rt, kind, opcode, word);
     same(rt, &kind.is_silent(), &false);
 }
 
 // The kind is owed no reply.
-fn is_silent(rt: &impl Abort, kind: Kind, opcode: u32, word: &str) {
+fn is_silent(rt: &impl Abort, kind: OpKind, opcode: u32, word: &str) {
     is_kind(rt, kind, opcode, word);
     same(rt, &kind.is_silent(), &true);
 }
 
 #[test]
 fn kinds_by_opcodes_and_words(rt: HostRuntime) {
-    is_answered(&rt, Kind::Lookup, 1, "lookup");
-    is_silent(&rt, Kind::Forget, 2, "forget");
-    is_answered(&rt, Kind::Getattr, 3, "getattr");
-    is_answered(&rt, Kind::Unlink, 10, "unlink");
-    is_answered(&rt, Kind::Open, 14, "open");
-    is_answered(&rt, Kind::Release, 18, "release");
-    is_answered(&rt, Kind::Flush, 25, "flush");
-    is_answered(&rt, Kind::Init, 26, "init");
-    is_answered(&rt, Kind::Getlk, 31, "getlk");
-    is_answered(&rt, Kind::Setlk, 32, "setlk");
-    is_answered(&rt, Kind::Setlkw, 33, "setlkw");
-    is_answered(&rt, Kind::Create, 35, "create");
-    is_answered(&rt, Kind::Interrupt, 36, "interrupt");
-    is_answered(&rt, Kind::Destroy, 38, "destroy");
-    is_silent(&rt, Kind::BatchForget, 42, "batch_forget");
+    is_answered(&rt, OpKind::Lookup, 1, "lookup");
+    is_silent(&rt, OpKind::Forget, 2, "forget");
+    is_answered(&rt, OpKind::Getattr, 3, "getattr");
+    is_answered(&rt, OpKind::Unlink, 10, "unlink");
+    is_answered(&rt, OpKind::Open, 14, "open");
+    is_answered(&rt, OpKind::Release, 18, "release");
+    is_answered(&rt, OpKind::Flush, 25, "flush");
+    is_answered(&rt, OpKind::Init, 26, "init");
+    is_answered(&rt, OpKind::Getlk, 31, "getlk");
+    is_answered(&rt, OpKind::Setlk, 32, "setlk");
+    is_answered(&rt, OpKind::Setlkw, 33, "setlkw");
+    is_answered(&rt, OpKind::Create, 35, "create");
+    is_answered(&rt, OpKind::Interrupt, 36, "interrupt");
+    is_answered(&rt, OpKind::Destroy, 38, "destroy");
+    is_silent(&rt, OpKind::BatchForget, 42, "batch_forget");
 }
 
 #[test]
 fn numbers_and_words_of_no_kind(rt: HostRuntime) {
-    same(&rt, &Kind::of_opcode(0), &None);
-    same(&rt, &Kind::of_word(""), &None);
-    same(&rt, &Kind::of_word("Getlk"), &None);
+    same(&rt, &OpKind::of_opcode(0), &None);
+    same(&rt, &OpKind::of_word(""), &None);
+    same(&rt, &OpKind::of_word("Getlk"), &None);
 }
 
 // The message's order is of this kind. It changes nothing, or may change something.
-fn has_kind(rt: &impl Abort, bytes: &[u8], kind: Kind, only_reads: bool) -> Result<(), Fail> {
+fn has_kind(rt: &impl Abort, bytes: &[u8], kind: OpKind, only_reads: bool) -> Result<(), Fail> {
     let order = read_order(&whole(rt, bytes)).ok().ok_or("an order")?;
     same(rt, &order.op.kind(), &kind);
     same(rt, &order.only_reads(), &only_reads);
@@ -65,24 +65,24 @@ fn has_kind(rt: &impl Abort, bytes: &[u8], kind: Kind, only_reads: bool) -> Resu
 
 #[test]
 fn orders_that_only_read(rt: HostRuntime) -> Result<(), Fail> {
-    has_kind(&rt, &GETATTR, Kind::Getattr, true)?;
-    has_kind(&rt, &GETLK, Kind::Getlk, true)
+    has_kind(&rt, &GETATTR, OpKind::Getattr, true)?;
+    has_kind(&rt, &GETLK, OpKind::Getlk, true)
 }
 
 #[test]
 fn orders_of_names_and_nodes_that_change_something(rt: HostRuntime) -> Result<(), Fail> {
-    has_kind(&rt, &LOOKUP, Kind::Lookup, false)?;
-    has_kind(&rt, &FORGET, Kind::Forget, false)?;
-    has_kind(&rt, &UNLINK, Kind::Unlink, false)?;
-    has_kind(&rt, &OPEN, Kind::Open, false)?;
-    has_kind(&rt, &CREATE, Kind::Create, false)
+    has_kind(&rt, &LOOKUP, OpKind::Lookup, false)?;
+    has_kind(&rt, &FORGET, OpKind::Forget, false)?;
+    has_kind(&rt, &UNLINK, OpKind::Unlink, false)?;
+    has_kind(&rt, &OPEN, OpKind::Open, false)?;
+    has_kind(&rt, &CREATE, OpKind::Create, false)
 }
 
 #[test]
 fn orders_of_open_files_that_change_something(rt: HostRuntime) -> Result<(), Fail> {
-    has_kind(&rt, &RELEASE, Kind::Release, false)?;
-    has_kind(&rt, &FLUSH, Kind::Flush, false)?;
-    has_kind(&rt, &SETLK, Kind::Setlk, false)?;
-    has_kind(&rt, &SETLKW, Kind::Setlkw, false)?;
-    has_kind(&rt, &INTERRUPT, Kind::Interrupt, false)
+    has_kind(&rt, &RELEASE, OpKind::Release, false)?;
+    has_kind(&rt, &FLUSH, OpKind::Flush, false)?;
+    has_kind(&rt, &SETLK, OpKind::Setlk, false)?;
+    has_kind(&rt, &SETLKW, OpKind::Setlkw, false)?;
+    has_kind(&rt, &INTERRUPT, OpKind::Interrupt, false)
 }

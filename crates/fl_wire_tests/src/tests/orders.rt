@@ -1,7 +1,7 @@
 //! Orders and their parts, and the shapes of bodies.
 
 use super::same;
-use fl_order::{Body, Errno, Kind, LockAsk, Name, Op, Refusal, Shape};
+use fl_order::{Body, Errno, LockAsk, Name, Op, OpKind, Refusal, Shape};
 use std::process::Abort;
 use std::test::Fail;
 
@@ -38,7 +38,7 @@ fn name() -> Result<Name, Fail> {
 }
 
 // The order has these parts, and they make the order.
-fn has_parts(rt: &impl Abort, op: Op, kind: Kind, body: Body) {
+fn has_parts(rt: &impl Abort, op: Op, kind: OpKind, body: Body) {
     let (own_kind, own_body) = op.parts();
     same(rt, &own_kind, &kind);
     same(rt, &own_body, &body);
@@ -53,18 +53,18 @@ fn orders_of_names_and_their_parts(rt: HostRuntime) -> Result<(), Fail> {
         mode: 0o644,
         name,
     };
-    has_parts(&rt, Op::Lookup(name), Kind::Lookup, Body::Name(name));
-    has_parts(&rt, Op::Unlink(name), Kind::Unlink, Body::Name(name));
-    has_parts(&rt, create, Kind::Create, creation(name));
+    has_parts(&rt, Op::Lookup(name), OpKind::Lookup, Body::Name(name));
+    has_parts(&rt, Op::Unlink(name), OpKind::Unlink, Body::Name(name));
+    has_parts(&rt, create, OpKind::Create, creation(name));
     Ok(())
 }
 
 #[test]
 fn orders_of_nodes_and_their_parts(rt: HostRuntime) {
-    has_parts(&rt, Op::Forget(3), Kind::Forget, Body::Number(3));
-    has_parts(&rt, Op::Getattr, Kind::Getattr, Body::Getattr);
-    has_parts(&rt, Op::Open, Kind::Open, Body::Open);
-    has_parts(&rt, Op::Interrupt(3), Kind::Interrupt, Body::Number(3));
+    has_parts(&rt, Op::Forget(3), OpKind::Forget, Body::Number(3));
+    has_parts(&rt, Op::Getattr, OpKind::Getattr, Body::Getattr);
+    has_parts(&rt, Op::Open, OpKind::Open, Body::Open);
+    has_parts(&rt, Op::Interrupt(3), OpKind::Interrupt, Body::Number(3));
 }
 
 #[test]
@@ -74,75 +74,75 @@ fn orders_of_open_files_and_their_parts(rt: HostRuntime) {
         drop: true,
         owner: 7,
     };
-    has_parts(&rt, release, Kind::Release, RELEASE);
-    has_parts(&rt, Op::Flush { fh: 1, owner: 7 }, Kind::Flush, FLUSH);
+    has_parts(&rt, release, OpKind::Release, RELEASE);
+    has_parts(&rt, Op::Flush { fh: 1, owner: 7 }, OpKind::Flush, FLUSH);
 }
 
 #[test]
 fn orders_of_locks_and_their_parts(rt: HostRuntime) {
-    has_parts(&rt, Op::Getlk(ASK), Kind::Getlk, Body::Lock(ASK));
-    has_parts(&rt, Op::Setlk(ASK), Kind::Setlk, Body::Lock(ASK));
-    has_parts(&rt, Op::Setlkw(ASK), Kind::Setlkw, Body::Lock(ASK));
+    has_parts(&rt, Op::Getlk(ASK), OpKind::Getlk, Body::Lock(ASK));
+    has_parts(&rt, Op::Setlk(ASK), OpKind::Setlk, Body::Lock(ASK));
+    has_parts(&rt, Op::Setlkw(ASK), OpKind::Setlkw, Body::Lock(ASK));
 }
 
 // No order has these parts.
-fn is_no_order(rt: &impl Abort, kind: Kind, body: Body) {
+fn is_no_order(rt: &impl Abort, kind: OpKind, body: Body) {
     same(rt, &Op::of(kind, body), &None);
 }
 
 #[test]
 fn names_are_parts_of_no_other_order(rt: HostRuntime) -> Result<(), Fail> {
     let name = name()?;
-    is_no_order(&rt, Kind::Getlk, creation(name));
-    is_no_order(&rt, Kind::Lookup, creation(name));
-    is_no_order(&rt, Kind::Create, Body::Name(name));
-    is_no_order(&rt, Kind::Forget, Body::Name(name));
+    is_no_order(&rt, OpKind::Getlk, creation(name));
+    is_no_order(&rt, OpKind::Lookup, creation(name));
+    is_no_order(&rt, OpKind::Create, Body::Name(name));
+    is_no_order(&rt, OpKind::Forget, Body::Name(name));
     Ok(())
 }
 
 #[test]
 fn locks_and_numbers_are_parts_of_no_other_order(rt: HostRuntime) {
-    is_no_order(&rt, Kind::Create, Body::Lock(ASK));
-    is_no_order(&rt, Kind::Init, Body::Lock(ASK));
-    is_no_order(&rt, Kind::Interrupt, Body::Lock(ASK));
-    is_no_order(&rt, Kind::BatchForget, Body::Number(3));
-    is_no_order(&rt, Kind::Setlkw, Body::Number(3));
+    is_no_order(&rt, OpKind::Create, Body::Lock(ASK));
+    is_no_order(&rt, OpKind::Init, Body::Lock(ASK));
+    is_no_order(&rt, OpKind::Interrupt, Body::Lock(ASK));
+    is_no_order(&rt, OpKind::BatchForget, Body::Number(3));
+    is_no_order(&rt, OpKind::Setlkw, Body::Number(3));
 }
 
 #[test]
 fn other_bodies_are_parts_of_no_other_order(rt: HostRuntime) {
-    is_no_order(&rt, Kind::Release, FLUSH);
-    is_no_order(&rt, Kind::Flush, RELEASE);
-    is_no_order(&rt, Kind::Open, Body::Getattr);
-    is_no_order(&rt, Kind::Getattr, Body::Open);
-    is_no_order(&rt, Kind::Destroy, Body::Open);
+    is_no_order(&rt, OpKind::Release, FLUSH);
+    is_no_order(&rt, OpKind::Flush, RELEASE);
+    is_no_order(&rt, OpKind::Open, Body::Getattr);
+    is_no_order(&rt, OpKind::Getattr, Body::Open);
+    is_no_order(&rt, OpKind::Destroy, Body::Open);
 }
 
 // Bodies of the kind have this shape.
-fn has_shape(rt: &impl Abort, kind: Kind, shape: Shape) {
+fn has_shape(rt: &impl Abort, kind: OpKind, shape: Shape) {
     same(rt, &kind.shape(), &Ok(shape));
 }
 
 #[test]
 fn shapes_of_kinds(rt: HostRuntime) {
-    has_shape(&rt, Kind::Lookup, Shape::Name);
-    has_shape(&rt, Kind::Forget, Shape::Number);
-    has_shape(&rt, Kind::Getattr, Shape::Getattr);
-    has_shape(&rt, Kind::Unlink, Shape::Name);
-    has_shape(&rt, Kind::Open, Shape::Open);
-    has_shape(&rt, Kind::Release, Shape::Release);
-    has_shape(&rt, Kind::Flush, Shape::Flush);
-    has_shape(&rt, Kind::Getlk, Shape::Lock);
-    has_shape(&rt, Kind::Setlk, Shape::Lock);
-    has_shape(&rt, Kind::Setlkw, Shape::Lock);
-    has_shape(&rt, Kind::Interrupt, Shape::Number);
-    has_shape(&rt, Kind::Create, Shape::Create);
+    has_shape(&rt, OpKind::Lookup, Shape::Name);
+    has_shape(&rt, OpKind::Forget, Shape::Number);
+    has_shape(&rt, OpKind::Getattr, Shape::Getattr);
+    has_shape(&rt, OpKind::Unlink, Shape::Name);
+    has_shape(&rt, OpKind::Open, Shape::Open);
+    has_shape(&rt, OpKind::Release, Shape::Release);
+    has_shape(&rt, OpKind::Flush, Shape::Flush);
+    has_shape(&rt, OpKind::Getlk, Shape::Lock);
+    has_shape(&rt, OpKind::Setlk, Shape::Lock);
+    has_shape(&rt, OpKind::Setlkw, Shape::Lock);
+    has_shape(&rt, OpKind::Interrupt, Shape::Number);
+    has_shape(&rt, OpKind::Create, Shape::Create);
 }
 
 #[test]
 fn kinds_without_an_order(rt: HostRuntime) {
     let refused = Refusal::Answer(Errno::EPROTO);
-    same(&rt, &Kind::BatchForget.shape(), &Err(Refusal::Silent));
-    same(&rt, &Kind::Init.shape(), &Err(refused));
-    same(&rt, &Kind::Destroy.shape(), &Err(Refusal::Destroy));
+    same(&rt, &OpKind::BatchForget.shape(), &Err(Refusal::Silent));
+    same(&rt, &OpKind::Init.shape(), &Err(refused));
+    same(&rt, &OpKind::Destroy.shape(), &Err(Refusal::Destroy));
 }

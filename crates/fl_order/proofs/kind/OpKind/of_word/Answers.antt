@@ -2,9 +2,9 @@ use Rattle.std.proofs.Common.{◌∙◌, sym, subst, rules, tests}
 use Rattle.std.proofs.lemmas.Iterator.{YieldsList-from_slice}
 use Rattle.std.proofs.lemmas.Iterator.Search.{find_from_yields_List}
 use Rattle.std.specs.Str.{bytes_eq}
-use Rattle.fl_order.specs.Kind.{all_kinds, word_for, IsFoundBy}
+use Rattle.fl_order.specs.OpKind.{all_kinds, word_for, IsFoundBy}
 use Rattle.fl_order.proofs.Finding.{found_by_word}
-use Rattle.fl_order.proofs.kind.Kind.of_word.Goals as goal
+use Rattle.fl_order.proofs.kind.OpKind.of_word.Goals as goal
 
 pub returns-clause-value : goal.returns-clause-value
 returns-clause-value c =

@@ -1,9 +1,9 @@
 use Rattle.std.proofs.Common.{◌==◌, ◌∙◌, sym, subst, rules, tests}
 use Rattle.std.proofs.lemmas.Iterator.{YieldsList-from_slice}
 use Rattle.std.proofs.lemmas.Iterator.Search.{find_from_yields_List}
-use Rattle.fl_order.specs.Kind.{all_kinds, opcode_for, IsFoundBy}
+use Rattle.fl_order.specs.OpKind.{all_kinds, opcode_for, IsFoundBy}
 use Rattle.fl_order.proofs.Finding.{found_by_opcode}
-use Rattle.fl_order.proofs.kind.Kind.of_opcode.Goals as goal
+use Rattle.fl_order.proofs.kind.OpKind.of_opcode.Goals as goal
 
 pub returns-clause-value : goal.returns-clause-value
 returns-clause-value c =

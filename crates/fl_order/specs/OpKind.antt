@@ -8,14 +8,14 @@ use Rattle.fl_order.specs.declared.body.Shape.{Shape}
 use Rattle.fl_order.specs.declared.body.Shape.TheVariants as shape
 use Rattle.fl_order.specs.declared.errno.Errno.{Errno}
 use Rattle.fl_order.specs.declared.errno.Errno.TheVariants.{EPROTO}
-use Rattle.fl_order.specs.declared.kind.Kind.{Kind}
-use Rattle.fl_order.specs.declared.kind.Kind.TheVariants.{Lookup, Forget, Getattr, Unlink, Open, Release, Flush, Init}
-use Rattle.fl_order.specs.declared.kind.Kind.TheVariants.{Getlk, Setlk, Setlkw, Create, Interrupt, Destroy, BatchForget}
+use Rattle.fl_order.specs.declared.kind.OpKind.{OpKind}
+use Rattle.fl_order.specs.declared.kind.OpKind.TheVariants.{Lookup, Forget, Getattr, Unlink, Open, Release, Flush, Init}
+use Rattle.fl_order.specs.declared.kind.OpKind.TheVariants.{Getlk, Setlk, Setlkw, Create, Interrupt, Destroy, BatchForget}
 use Rattle.fl_order.specs.declared.refusal.Refusal.{Refusal}
 use Rattle.fl_order.specs.declared.refusal.Refusal.TheVariants.{Answer, Silent, Destroy as Ends}
 
 -- each kind once
-abbrev pub all_kinds : List Kind
+abbrev pub all_kinds : List OpKind
 all_kinds =
     Lookup ∷ Forget ∷ Getattr ∷ Unlink ∷ Open ∷ Release ∷ Flush ∷ Init ∷ Getlk ∷ Setlk ∷ Setlkw ∷ Create ∷ Interrupt
     ∷ Destroy
@@ -32,7 +32,7 @@ abbrev pub row : ℕ → List ℕ → Result Shape Refusal → Row
 row opcode word shape = record { opcode = opcode; word = word; shape = shape }
 
 -- what is known of a kind
-abbrev pub row_for : Kind → Row
+abbrev pub row_for : OpKind → Row
 row_for Lookup = row 1 (codes "lookup") (Ok shape.Name)
 row_for Forget = row 2 (codes "forget") (Ok shape.Number)
 row_for Getattr = row 3 (codes "getattr") (Ok shape.Getattr)
@@ -50,36 +50,36 @@ row_for Destroy = row 38 (codes "destroy") (Err Ends)
 row_for BatchForget = row 42 (codes "batch_forget") (Err Silent)
 
 -- the number that a message's header has
-abbrev pub opcode_for : Kind → ℕ
+abbrev pub opcode_for : OpKind → ℕ
 opcode_for kind = (row_for kind).opcode
 
 -- the word that a trace's line has
-abbrev pub word_for : Kind → List ℕ
+abbrev pub word_for : OpKind → List ℕ
 word_for kind = (row_for kind).word
 
 -- the shape of a body; where a message is no order, how it is refused
-abbrev pub shape_for : Kind → Result Shape Refusal
+abbrev pub shape_for : OpKind → Result Shape Refusal
 shape_for kind = (row_for kind).shape
 
 -- a kernel waits for no reply to a message of this kind
-abbrev pub is_silent : Kind → Bool
+abbrev pub is_silent : OpKind → Bool
 is_silent Forget = true
 is_silent BatchForget = true
 is_silent _ = false
 
 -- how a message is refused that has this fault
-abbrev pub refusal_for : Kind → Errno → Refusal
+abbrev pub refusal_for : OpKind → Errno → Refusal
 refusal_for kind e = if is_silent kind then Silent else Answer e
 
 -- the kind that has this number
-abbrev pub kind_of_opcode : ℕ → Option Kind
+abbrev pub kind_of_opcode : ℕ → Option OpKind
 kind_of_opcode opcode = find (λ kind. opcode_for kind == opcode) all_kinds
 
 -- the kind that has this word
-abbrev pub kind_of_word : List ℕ → Option Kind
+abbrev pub kind_of_word : List ℕ → Option OpKind
 kind_of_word word = find (λ kind. bytes_eq (word_for kind) word) all_kinds
 
 -- a kind is found exactly by its own mark, and two kinds never share one
-pub record IsFoundBy {Mark : Type 0} (mark_of : Kind → Mark) (mark : Mark) (found : Option Kind) : Type 0 where
-  pub own : (kind : Kind) → (found ≡ Some kind) ↔ (mark_of kind ≡ mark)
-  pub apart : (kind other : Kind) → mark_of kind ≡ mark_of other → kind ≡ other
+pub record IsFoundBy {Mark : Type 0} (mark_of : OpKind → Mark) (mark : Mark) (found : Option OpKind) : Type 0 where
+  pub own : (kind : OpKind) → (found ≡ Some kind) ↔ (mark_of kind ≡ mark)
+  pub apart : (kind other : OpKind) → mark_of kind ≡ mark_of other → kind ≡ other
