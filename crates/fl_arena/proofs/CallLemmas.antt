@@ -69,21 +69,21 @@ module _ {T : Type 0} (nodes : List (Node T)) (ends : List Ends) (spare : Option
           let within = m.in_chain in
           rw named (sym there, omega arith)
 
-  -- where an insert goes, read from the node at the cursor
-  pub place_before : (slot : ℕ) (m : Member T) (at : Option ℕ × ℕ) → cursor.slot ≡ Some slot → slice_get nodes slot ≡ Some (Taken m) →
-      at ≡ (m.previous, cursor.index) → (at.0 ≡ link_before (entries a cursor.chain) (index_of a cursor)) × (at.1 ≡ index_of a cursor)
-  place_before slot m at named read is =
+  -- the slot before a place and its index, read from the node at the cursor
+  pub place_before : (slot : ℕ) (m : Member T) → cursor.slot ≡ Some slot → slice_get nodes slot ≡ Some (Taken m) →
+      (m.previous ≡ link_before (entries a cursor.chain) (index_of a cursor)) × (cursor.index ≡ index_of a cursor)
+  place_before slot m named read =
       let there = is_at nodes ends spare free a h cursor.chain cursor.index slot m (slot_there a cursor slot named in_place) read in
       let index : index_of a cursor ≡ cursor.index = rw named refl in
-      rw (is, index) (there.previous, refl)
+      rw index (there.previous, refl)
 
   -- or from the ends of its chain
-  pub place_last : (e : Ends) (at : Option ℕ × ℕ) → cursor.slot ≡ None → slice_get ends cursor.chain ≡ Some e → at ≡ (e.last, e.len) →
-      (at.0 ≡ link_before (entries a cursor.chain) (index_of a cursor)) × (at.1 ≡ index_of a cursor)
-  place_last e at named found is =
+  pub place_last : (e : Ends) → cursor.slot ≡ None → slice_get ends cursor.chain ≡ Some e →
+      (e.last ≡ link_before (entries a cursor.chain) (index_of a cursor)) × (e.len ≡ index_of a cursor)
+  place_last e named found =
       let spells = h.each cursor.chain e found in
       let index : index_of a cursor ≡ length (entries a cursor.chain) = rw named refl in
-      rw (is, index) (spells.last, spells.len)
+      rw index (spells.last, spells.len)
 
 module _ {T : Type 0} where
   pub inserted : (nodes : List (Node T)) (ends : List Ends) (free : ℕ) (a : Chains T) (c i slot : ℕ) (y : T) (next before after : Option ℕ) (e end : Ends)

@@ -12,7 +12,7 @@ use Rattle.fl_arena.specs.Chains.{Entry, Chains, entries, items, item_count, wit
 use Rattle.fl_arena.specs.Cursors.{cursor_at, index_of, item_of}
 use Rattle.fl_arena.specs.declared.cursors.Cursor.{Cursor}
 
-map-insert : {A B : Type 0} (f : A → B) (xs : List A) (i : ℕ) (x : A) → map f (insert xs i x) ≡ insert (map f xs) i (f x)
+pub map-insert : {A B : Type 0} (f : A → B) (xs : List A) (i : ℕ) (x : A) → map f (insert xs i x) ≡ insert (map f xs) i (f x)
 map-insert f xs i x =
     map-append f (take i xs) (x ∷ drop i xs)
     ∙ (ap (λ l. l ++ f x ∷ map f (drop i xs)) (sym (take-map f i xs))

@@ -8,6 +8,7 @@ mod RelinkLemmas
 mod AssembleLemmas
 mod InsertLemmas
 mod RemoveLemmas
+mod ShiftLemmas
 mod SetLemmas
 mod NodeLemmas
 mod CursorLemmas

@@ -46,6 +46,10 @@ module _ {T : Type 0} where
       length-alter_link (with_previous previous) (alter_link (with_next next) nodes before) after
       ∙ length-alter_link (with_next next) nodes before
 
+  pub as_long : (nodes now : List (Node T)) (before after previous next : Option ℕ) → now ≡ relinked nodes before after previous next →
+      length now ≡ length nodes
+  as_long nodes now before after previous next e = ap length e ∙ length-relinked nodes before after previous next
+
   pub taken_in_relinked : (nodes : List (Node T)) (before after previous next : Option ℕ) (slot : ℕ) (m : Member T) → slice_get nodes slot ≡ Some (Taken m) →
       slice_get (relinked nodes before after previous next) slot
       ≡ Some (Taken (record m { previous = at_link after slot previous m.previous; next = at_link before slot next m.next }))

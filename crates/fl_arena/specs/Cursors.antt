@@ -4,7 +4,7 @@ use Rattle.std.specs.Prelude.{insert, remove, ◌<◌, MatchOption, if◌then◌
 use Rattle.std.specs.Bool.{⊤}
 use Rattle.std.specs.Fn.{Shared, AnyResult}
 use denote.Ref.{Bor}
-use Rattle.fl_arena.specs.Chains.{Chains, entries, items, slot_at, IsFree, with_entries}
+use Rattle.fl_arena.specs.Chains.{Entry, Chains, entries, items, slot_at, IsFree, with_entries}
 use Rattle.fl_arena.specs.declared.cursors.Cursor.{Cursor}
 
 -- each call of a closure at an item answers what the test does
@@ -47,3 +47,11 @@ module _ {T : Type 0} where
         ≡ with_entries old from.chain
         (insert (entries old from.chain) (index_of old from) (record { slot = slot; item = item }))
     pub cursor : to ≡ record { chain = from.chain; index = index_of old from; slot = Some slot }
+
+  -- the entry at a cursor was taken off its chain, and put before another cursor, in the slot that it was in
+  pub record Shifts (old new : Chains T) (from to : Cursor) : Type 0 where
+    pub moved : Entry T
+    pub was_there : slice_get (entries old from.chain) from.index ≡ Some moved
+    pub chains : new
+        ≡ with_entries (without old from.chain from.index) to.chain
+        (insert (entries old to.chain) (index_of old to) moved)

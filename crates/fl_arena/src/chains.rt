@@ -5,11 +5,12 @@ ghost use Rattle.std.specs.Prelude.{IfSome};
 ghost use Rattle.std.specs.Option.{option_copied};
 ghost use Rattle.std.specs.List.{find, position_or_len};
 ghost use Rattle.fl_arena.specs.Chains.{entries, items, slot_at, item_count, free_count, unlinked_count, HasSizeOf};
-ghost use Rattle.fl_arena.specs.Cursors.{Tests, cursor_at, IsInPlace, index_of, item_of, with_item, without, Inserts};
+ghost use Rattle.fl_arena.specs.Cursors.{Tests, cursor_at, IsInPlace, index_of, item_of, with_item, without, Inserts, Shifts};
+ghost use Rattle.fl_arena.specs.Inside.Links.{link_before};
 
 use crate::cursors::{Cursor, Full, Place};
 use crate::nodes::{
-    Ends, Member, Node, free_nodes, link_in, link_out, member_at, next_free, slot_number,
+    Ends, Member, Node, free_nodes, link_in, link_out, link_over, member_at, next_free, slot_number,
 };
 use std::alloc::{AllocError, Global};
 use std::marker::Model;
@@ -206,10 +207,7 @@ impl<T: Copy> Arena<T> {
             return Err(Full);
         };
         let ends = self.ends[cursor.chain];
-        let (previous, index) = match cursor.slot {
-            Some(after) => (member_at(&self.nodes, after).previous, cursor.index),
-            None => (ends.last, ends.len),
-        };
+        let (previous, index) = self.spot_before(cursor);
         let member = Member {
             chain: cursor.chain as u16,
             previous,
@@ -223,6 +221,66 @@ impl<T: Copy> Arena<T> {
         cursor.index = index;
         cursor.slot = Some(slot);
         Ok(())
+    }
+
+    /// Takes the item at the first cursor off its chain, and puts it before the second one, on another
+    /// chain. It stays in its slot. The first cursor is then at the next item, and the second at the one that
+    /// was moved.
+    pub fn shift(&mut self, from: &mut Cursor, to: &mut Cursor)
+        requires at_item { IsSome from.old.slot }
+        requires from { IsInPlace self.old from.old }
+        requires chain { to.old.chain < length self.old.chains }
+        requires to { IsInPlace self.old to.old }
+        requires apart { from.old.chain ≢ to.old.chain }
+        ensures chains { Shifts self.old self.new from.old to.old }
+        ensures left { items self.new from.old.chain ≡ remove (items self.old from.old.chain) from.old.index }
+        ensures joined { (item : T) → slice_get (items self.old from.old.chain) from.old.index ≡ Some item
+            → items self.new to.old.chain ≡ insert (items self.old to.old.chain) (index_of self.old to.old) item }
+        ensures others { (c : ℕ) → c ≢ from.old.chain → c ≢ to.old.chain → entries self.new c ≡ entries self.old c }
+        ensures size { HasSizeOf self.old self.new }
+        ensures free { free_count self.new ≡ free_count self.old }
+        ensures from_cursor { from.new ≡ cursor_at self.new from.old.chain from.old.index }
+        ensures to_cursor { to.new ≡ cursor_at self.new to.old.chain (index_of self.old to.old) }
+        ensures slot { to.new.slot ≡ from.old.slot }
+        ensures at_index { (c i : ℕ) (item : T) → to.old ≡ cursor_at self.old c i
+            → slice_get (items self.old from.old.chain) from.old.index ≡ Some item
+            → items self.new c ≡ insert (items self.old c) i item }
+    {
+        let Some(slot) = from.slot else {
+            unreachable!()
+        };
+        let member = member_at(&self.nodes, slot);
+        let (before, after) = (member.previous, member.next);
+        let (previous, index) = self.spot_before(to);
+        let next = to.slot;
+        link_over(
+            &mut self.nodes,
+            slot,
+            (before, after),
+            to.chain as u16,
+            (previous, next),
+        );
+        self.ends[from.chain] = self.ends[from.chain].without(before, after);
+        self.ends[to.chain] = self.ends[to.chain].with(previous, next, slot);
+        from.slot = after;
+        to.index = index;
+        to.slot = Some(slot);
+    }
+
+    // The slot before the cursor, and the index that it stands at.
+    fn spot_before(&self, cursor: &Cursor) -> (Option<u16>, usize)
+        requires chain { cursor.now.chain < length self.now.chains }
+        requires in_place { IsInPlace self.now cursor.now }
+        ensures previous { result.0 ≡ link_before (entries self.now cursor.now.chain) (index_of self.now cursor.now) }
+        ensures index { result.1 ≡ index_of self.now cursor.now }
+    {
+        match cursor.slot {
+            Some(slot) => (member_at(&self.nodes, slot).previous, cursor.index),
+            None => {
+                let ends = self.ends[cursor.chain];
+                (ends.last, ends.len)
+            }
+        }
     }
 
     /// How many slots hold no item.

@@ -1,6 +1,6 @@
 //! The nodes in the slots, and the links between them.
 ghost use Rattle.std.specs.Prelude.{◌≡◌, ◌≤◌, ◌<◌, ◌^◌, length, slice_get, slice_set, Some, IfOk};
-ghost use Rattle.fl_arena.specs.Inside.Links.{alter_link, with_previous, with_next, relinked, ends_with, ends_without};
+ghost use Rattle.fl_arena.specs.Inside.Links.{alter, alter_link, with_links, with_previous, with_next, relinked, ends_with, ends_without};
 ghost use Rattle.fl_arena.specs.Inside.Links.{IsTaken, IsSpare, IsWithin, AreFree};
 
 use std::alloc::{AllocError, Global};
@@ -138,6 +138,22 @@ fn set_previous<T: Copy>(nodes: &mut Vec<Node<T>>, slot: Option<u16>, previous: 
     }
 }
 
+// Leads the node in the one slot to `next`, and that in the other back to `previous`.
+fn relink<T: Copy>(
+    nodes: &mut Vec<Node<T>>,
+    before: Option<u16>,
+    after: Option<u16>,
+    previous: Option<u16>,
+    next: Option<u16>,
+)
+    requires before { IsWithin nodes.old.items before }
+    requires after { IsWithin nodes.old.items after }
+    ensures { nodes.new.items ≡ relinked nodes.old.items before after previous next }
+{
+    set_next(nodes, before, next);
+    set_previous(nodes, after, previous);
+}
+
 // Puts a member into the slot, and links it to those before and after it.
 pub(crate) fn link_in<T: Copy>(nodes: &mut Vec<Node<T>>, slot: u16, member: Member<T>)
     requires slot { slot < length nodes.old.items }
@@ -147,8 +163,7 @@ pub(crate) fn link_in<T: Copy>(nodes: &mut Vec<Node<T>>, slot: u16, member: Memb
         ≡ slice_set (relinked nodes.old.items member.previous member.next (Some slot) (Some slot)) slot
         (Node.Taken member) }
 {
-    set_next(nodes, member.previous, Some(slot));
-    set_previous(nodes, member.next, Some(slot));
+    relink(nodes, member.previous, member.next, Some(slot), Some(slot));
     nodes[usize::from(slot)] = Node::Taken(member);
 }
 
@@ -167,7 +182,39 @@ pub(crate) fn link_out<T: Copy>(
         ≡ slice_set (relinked nodes.old.items member.previous member.next member.previous member.next) slot
         (Node.Free spare) }
 {
-    set_next(nodes, member.previous, member.next);
-    set_previous(nodes, member.next, member.previous);
+    relink(
+        nodes,
+        member.previous,
+        member.next,
+        member.previous,
+        member.next,
+    );
     nodes[usize::from(slot)] = Node::Free(spare);
+}
+
+// Takes a slot from between the first links, which lead to each other then, to between the second ones
+// of a chain. Its item stays where it is.
+pub(crate) fn link_over<T: Copy>(
+    nodes: &mut Vec<Node<T>>,
+    slot: u16,
+    old: (Option<u16>, Option<u16>),
+    chain: u16,
+    new: (Option<u16>, Option<u16>),
+)
+    requires slot { slot < length nodes.old.items }
+    requires old_before { IsWithin nodes.old.items old.0 }
+    requires old_after { IsWithin nodes.old.items old.1 }
+    requires new_before { IsWithin nodes.old.items new.0 }
+    requires new_after { IsWithin nodes.old.items new.1 }
+    ensures { nodes.new.items
+        ≡ alter (with_links chain new.0 new.1)
+        (relinked (relinked nodes.old.items old.0 old.1 old.0 old.1) new.0 new.1 (Some slot) (Some slot)) slot }
+{
+    relink(nodes, old.0, old.1, old.0, old.1);
+    relink(nodes, new.0, new.1, Some(slot), Some(slot));
+    if let Node::Taken(member) = &mut nodes[usize::from(slot)] {
+        member.chain = chain;
+        member.previous = new.0;
+        member.next = new.1;
+    }
 }

@@ -11,6 +11,7 @@ mod locks;
 mod owners;
 mod ranges;
 mod rooms;
+mod shift;
 mod strokes;
 
 use std::fmt::Debug;

@@ -65,6 +65,11 @@ module _ {T : Type 0} where
   with_next link (Free next) = Free next
   with_next link (Taken m) = Taken (record m { next = link })
 
+  -- the node on another chain, with other links
+  abbrev pub with_links : ℕ → Option ℕ → Option ℕ → Node T → Node T
+  with_links c previous next (Free link) = Free link
+  with_links c previous next (Taken m) = Taken (record m { chain = c; previous = previous; next = next })
+
   -- the slot holds an item
   abbrev pub IsTaken : List (Node T) → ℕ → Type 0
   IsTaken nodes slot = (m : Member T) × (slice_get nodes slot ≡ Some (Taken m))

@@ -3,39 +3,18 @@ use Rattle.std.specs.List.{insert}
 use Rattle.std.proofs.lemmas.Option.{slice_get_within}
 use Rattle.fl_arena.specs.Chains.{entries, items, with_entries}
 use Rattle.fl_arena.specs.Cursors.{cursor_at, index_of}
-use Rattle.fl_arena.specs.Inside.Links.{Spells, link_before}
+use Rattle.fl_arena.specs.Inside.Links.{Spells}
 use Rattle.fl_arena.proofs.ChainLaws.{HasSizeOf-with, items-insert, entries-with_other, inserted_at}
-use Rattle.fl_arena.proofs.CursorLemmas.{is_taken, slot_there, linked_within, before_within}
+use Rattle.fl_arena.proofs.CursorLemmas.{linked_within, before_within}
 use Rattle.fl_arena.proofs.InsertLemmas.{unused_slot}
 use Rattle.fl_arena.proofs.WalkLemmas.{spelled_is}
-use Rattle.fl_arena.proofs.CallLemmas.{spells_value, spells_own, end_read, inserted, stands, place_before, place_last, spare_is_free, room, cursor_at_new}
+use Rattle.fl_arena.proofs.CallLemmas.{spells_value, spells_own, end_read, inserted, stands, spare_is_free, room, cursor_at_new}
 use Rattle.fl_arena.proofs.chains.Arena.insert.Goals as goal
-use Rattle.fl_arena.proofs.chains.Arena.insert.Goals.{After-next_free-self-inside, After-with, in-Some-slot, in-None}
-
-pub member_at-requires : goal.member_at-requires
-member_at-requires g c =
-    let spells = spells_value _ _ _ _ _ c.self.invariant c.self.view_is in
-    is_taken _ _ _ _ _ spells _ _ _ (slot_there c.args.self.now c.args.cursor.now _ c.in-Some-slot.is c.requires.in_place)
+use Rattle.fl_arena.proofs.chains.Arena.insert.Goals.{After-with}
 
 pub next_free-self-inside-requires : goal.next_free-self-inside-requires
 next_free-self-inside-requires g c =
     spare_is_free _ _ c.self.inside.free c.in-Some.slot c.in-Some.is c.self.invariant.free_list
-
--- the place that the links are put in
-placed : (g : _) (c : After-next_free-self-inside g) →
-    (c.match-cursor.previous.0 ≡ link_before (entries c.args.self.now c.args.cursor.now.chain) (index_of c.args.self.now c.args.cursor.now))
-    × (c.match-cursor.previous.1 ≡ index_of c.args.self.now c.args.cursor.now)
-placed g c =
-    let spells = spells_value _ _ _ _ _ c.self.invariant c.self.view_is in
-    let chains = spells.chains in
-    let in_chains = c.requires.chain in
-    elim c.match-cursor.branch [
-      | in-Some-slot w ↦ place_before _ _ _ _ _ spells c.args.cursor.now c.requires.in_place _ _ c.match-cursor.previous w.in-Some-slot.is w.member_at.ensures
-          w.previous-is
-      | in-None w ↦
-          let found = end_read c.self.inside.ends.items c.args.cursor.now.chain c.index-ends.result.now (omega arith) c.index-ends.ensures in
-          place_last _ _ _ _ _ spells c.args.cursor.now c.requires.in_place _ c.match-cursor.previous w.in-None.is found w.previous-is
-    ]
 
 pub link_in-requires-clause-slot : goal.link_in-requires-clause-slot
 link_in-requires-clause-slot g c = slice_get_within c.self.inside.nodes.items c.in-Some.slot _ c.next_free-self-inside.ensures
@@ -43,8 +22,7 @@ link_in-requires-clause-slot g c = slice_get_within c.self.inside.nodes.items c.
 pub link_in-requires-clause-before : goal.link_in-requires-clause-before
 link_in-requires-clause-before g c =
     let spells = spells_value _ _ _ _ _ c.self.invariant c.self.view_is in
-    let here = placed g (goal.at.link_in-requires-clause-before g c).After-next_free-self-inside in
-    rw here.0 (before_within _ _ _ _ _ spells c.args.cursor.now.chain (index_of c.args.self.now c.args.cursor.now))
+    rw c.spot_before-previous.ensures.previous (before_within _ _ _ _ _ spells c.args.cursor.now.chain (index_of c.args.self.now c.args.cursor.now))
 
 pub link_in-requires-clause-after : goal.link_in-requires-clause-after
 link_in-requires-clause-after g c =
@@ -61,48 +39,43 @@ with-requires g c =
 
 -- the links once the slot is on its chain
 after : (g : _) (c : After-with g) →
-    c.match-cursor.previous.0 ≡ link_before (entries c.args.self.now c.args.cursor.now.chain) (index_of c.args.self.now c.args.cursor.now) →
     Spells c.link_in.new.nodes.items (set c.self.inside.ends.items c.args.cursor.now.chain c.with.result) c.next_free-self-inside.result
     (c.self.inside.free - 1) (with_entries c.args.self.now c.args.cursor.now.chain (insert (entries c.args.self.now c.args.cursor.now.chain)
     (index_of c.args.self.now c.args.cursor.now) (record { slot = c.in-Some.slot; item = c.args.item })))
-after g c back =
+after g c =
     let spells = spells_value _ _ _ _ _ c.self.invariant c.self.view_is in
     let found = end_read c.self.inside.ends.items c.args.cursor.now.chain c.index-ends.result.now
     (let chains = spells.chains in let within = c.requires.chain in omega arith) c.index-ends.ensures in
     let here = stands _ _ _ _ _ spells c.args.cursor.now c.requires.in_place c.requires.chain in
     inserted _ _ _ _ _ _ _ _ _ _ _ _ _ _
     (subst (λ l. Spells c.self.inside.nodes.items c.self.inside.ends.items l c.self.inside.free c.args.self.now) c.in-Some.is spells)
-    c.requires.chain here.1 c.next_free-self-inside.ensures found back here.0 c.link_in.ensures c.with.ensures
+    c.requires.chain here.1 c.next_free-self-inside.ensures found c.spot_before-previous.ensures.previous here.0 c.link_in.ensures c.with.ensures
 
 pub invariant_of-self : goal.invariant_of-self
 invariant_of-self g c =
-    let here = placed g (goal.at.invariant_of-self g c).After-next_free-self-inside in
-    spells_own _ _ _ _ _ (after g (goal.at.invariant_of-self g c).After-with here.0)
+    spells_own _ _ _ _ _ (after g (goal.at.invariant_of-self g c).After-with)
 
 pub returns-clause-ok : goal.returns-clause-ok
 returns-clause-ok g c =
     let spells = spells_value _ _ _ _ _ c.self.invariant c.self.view_is in
     let slots = spells.slots in
-    let here = placed g (goal.at.returns-clause-ok g c).After-next_free-self-inside in
     record {
       slot = c.in-Some.slot;
       in_range = omega (arith, slice_get_within c.self.inside.nodes.items c.in-Some.slot _ c.next_free-self-inside.ensures);
       was_free = unused_slot _ _ _ _ _ spells c.in-Some.slot _ c.next_free-self-inside.ensures;
-      chains = spelled_is _ _ _ _ _ (after g (goal.at.returns-clause-ok g c).After-with here.0);
-      cursor = ap (λ (i : ℕ). record { chain = c.args.cursor.now.chain; index = i; slot = Some c.in-Some.slot }) here.1;
+      chains = spelled_is _ _ _ _ _ (after g (goal.at.returns-clause-ok g c).After-with);
+      cursor = ap (λ (i : ℕ). record { chain = c.args.cursor.now.chain; index = i; slot = Some c.in-Some.slot }) c.spot_before-previous.ensures.index;
     }
 
 pub returns-clause-items : goal.returns-clause-items
 returns-clause-items g c =
-    let here = placed g (goal.at.returns-clause-items g c).After-next_free-self-inside in
-    ap (λ x. items x c.args.cursor.now.chain) (spelled_is _ _ _ _ _ (after g (goal.at.returns-clause-items g c).After-with here.0))
+    ap (λ x. items x c.args.cursor.now.chain) (spelled_is _ _ _ _ _ (after g (goal.at.returns-clause-items g c).After-with))
     ∙ items-insert c.args.self.now c.args.cursor.now.chain (index_of c.args.self.now c.args.cursor.now) (record { slot = c.in-Some.slot; item = c.args.item })
     c.requires.chain
 
 pub returns-clause-others : goal.returns-clause-others
 returns-clause-others g c d apart =
-    let here = placed g (goal.at.returns-clause-others g c).After-next_free-self-inside in
-    ap (λ x. entries x d) (spelled_is _ _ _ _ _ (after g (goal.at.returns-clause-others g c).After-with here.0))
+    ap (λ x. entries x d) (spelled_is _ _ _ _ _ (after g (goal.at.returns-clause-others g c).After-with))
     ∙ entries-with_other c.args.self.now c.args.cursor.now.chain d (insert (entries c.args.self.now c.args.cursor.now.chain)
     (index_of c.args.self.now c.args.cursor.now) (record { slot = c.in-Some.slot; item = c.args.item })) apart
 
@@ -110,20 +83,17 @@ pub returns-clause-cursor : goal.returns-clause-cursor
 returns-clause-cursor g c =
     let spells = spells_value _ _ _ _ _ c.self.invariant c.self.view_is in
     let within = (stands _ _ _ _ _ spells c.args.cursor.now c.requires.in_place c.requires.chain).1 in
-    let here = placed g (goal.at.returns-clause-cursor g c).After-next_free-self-inside in
-    ap (λ (i : ℕ). record { chain = c.args.cursor.now.chain; index = i; slot = Some c.in-Some.slot }) here.1
+    ap (λ (i : ℕ). record { chain = c.args.cursor.now.chain; index = i; slot = Some c.in-Some.slot }) c.spot_before-previous.ensures.index
     ∙ (cursor_at_new c.args.self.now c.args.cursor.now.chain (index_of c.args.self.now c.args.cursor.now) (record { slot = c.in-Some.slot; item = c.args.item })
     c.requires.chain within
     ∙ ap (λ x. cursor_at x c.args.cursor.now.chain (index_of c.args.self.now c.args.cursor.now))
-    (sym (spelled_is _ _ _ _ _ (after g (goal.at.returns-clause-cursor g c).After-with here.0))))
+    (sym (spelled_is _ _ _ _ _ (after g (goal.at.returns-clause-cursor g c).After-with))))
 
 pub returns-clause-size : goal.returns-clause-size
 returns-clause-size g c =
-    let here = placed g (goal.at.returns-clause-size g c).After-next_free-self-inside in
-    HasSizeOf-with c.args.self.now _ c.args.cursor.now.chain _ (spelled_is _ _ _ _ _ (after g (goal.at.returns-clause-size g c).After-with here.0))
+    HasSizeOf-with c.args.self.now _ c.args.cursor.now.chain _ (spelled_is _ _ _ _ _ (after g (goal.at.returns-clause-size g c).After-with))
 
 pub returns-clause-at_index : goal.returns-clause-at_index
 returns-clause-at_index g c d i at =
-    let here = placed g (goal.at.returns-clause-at_index g c).After-next_free-self-inside in
-    ap (λ x. items x d) (spelled_is _ _ _ _ _ (after g (goal.at.returns-clause-at_index g c).After-with here.0))
+    ap (λ x. items x d) (spelled_is _ _ _ _ _ (after g (goal.at.returns-clause-at_index g c).After-with))
     ∙ inserted_at c.args.self.now d i c.args.cursor.now (record { slot = c.in-Some.slot; item = c.args.item }) at c.requires.chain
