@@ -92,6 +92,14 @@ impl Server {
         self.core.circle(&key, &Range { start: 0, end: 0 }, kind)
     }
 
+    // The same is said of a request for a record lock. None for the whole file would close one.
+    fn check_closes(&self, rt: &impl Abort, owner: u64, node: u64, kind: Kind, wanted: bool) {
+        let record = self.closes(Class::Record, owner, node, kind);
+        assert_closes(rt, owner, node, record == wanted);
+        let whole_file = self.closes(Class::Flock, owner, node, kind);
+        assert_closes(rt, owner, node, !whole_file);
+    }
+
     // The order gives these replies.
     fn tells(&mut self, rt: &impl Abort, order: &Order, tolds: &[Told]) {
         self.take(rt, order);
@@ -127,11 +135,7 @@ impl Server {
         for at in 0..history.len() {
             match history.line(at) {
                 Line::Asked { worker: _, order } => {
-                    assert_eq!(rt;
-                        self.tolds.as_slice().len(),
-                        seen,
-                        "replies before line {at}"
-                    );
+                    assert_seen(rt, self.tolds.as_slice().len(), seen, at);
                     self.take(rt, &order);
                     seen = 0;
                 }
@@ -141,8 +145,16 @@ impl Server {
                 }
             }
         }
-        assert_eq!(rt; self.tolds.as_slice().len(), seen);
+        assert_seen(rt, self.tolds.as_slice().len(), seen, history.len());
     }
+}
+
+fn assert_seen(rt: &impl Abort, told: usize, seen: usize, line: usize) {
+    assert_eq!(rt; told, seen, "replies before line {line}");
+}
+
+fn assert_closes(rt: &impl Abort, owner: u64, node: u64, as_wanted: bool) {
+    assert!(rt; as_wanted, "owner {owner} on node {node}");
 }
 
 fn assert_answer(rt: &impl Abort, found: &Option<Reply>, wanted: &Option<Reply>) {

@@ -3,7 +3,7 @@
 use super::orders::{DONE, READ, WRITE, create, lock, made, numbered, order, wait};
 use super::{Reply, Server};
 use fl_order::{Errno, Op, Order, Told};
-use fl_ranges::{Class, Kind};
+use fl_ranges::Kind;
 use std::alloc::Global;
 use std::process::Abort;
 
@@ -128,10 +128,7 @@ tell 6 err 37
 fn check_closes(rt: &impl Abort, server: &Server, owner: u32) {
     for other in 0..20u32 {
         let wanted = owner < 20 && other < owner;
-        let (asker, node) = (u64::from(owner), node(other));
-        let found = server.closes(Class::Record, asker, node, Kind::Write);
-        assert_eq!(rt; found, wanted, "owner {owner} on the file of {other}");
-        assert!(rt; !server.closes(Class::Flock, asker, node, Kind::Write));
+        server.check_closes(rt, u64::from(owner), node(other), Kind::Write, wanted);
     }
 }
 

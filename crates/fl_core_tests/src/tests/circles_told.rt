@@ -3,23 +3,16 @@
 use super::circles::WITH_FILES;
 use super::circles_cut::WITH_THREE;
 use super::{Server, history_of};
-use fl_ranges::{Class, Kind};
+use fl_ranges::Kind;
 use std::alloc::Global;
 use std::process::Abort;
 
-// Whether a request of the owner for byte 0 of the node would close one, of either kind. None for the whole file would.
-fn check_closer(rt: &impl Abort, server: &Server, owner: u64, node: u64, wanted: bool) {
-    let write = server.closes(Class::Record, owner, node, Kind::Write);
-    let read = server.closes(Class::Record, owner, node, Kind::Read);
-    assert_eq!(rt; write, wanted, "owner {owner} on node {node}");
-    assert_eq!(rt; read, wanted, "owner {owner} on node {node}");
-    assert!(rt; !server.closes(Class::Flock, owner, node, Kind::Write));
-}
-
-// Of the owners from 6 to 10 those whose request would close one are these.
+// Of the owners from 6 to 10 those whose request would close one, of either kind, are these.
 fn check_closers(rt: &impl Abort, server: &Server, node: u64, closers: &[u64]) {
     for owner in 6..11u64 {
-        check_closer(rt, server, owner, node, closers.contains(&owner));
+        let wanted = closers.contains(&owner);
+        server.check_closes(rt, owner, node, Kind::Write, wanted);
+        server.check_closes(rt, owner, node, Kind::Read, wanted);
     }
 }
 

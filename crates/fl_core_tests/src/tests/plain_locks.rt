@@ -300,9 +300,13 @@ impl PlainLocks {
         (start, LAST)
     }
 
+    fn take_out(&mut self, unique: u64) {
+        self.parked.retain(|request| request.unique != unique);
+    }
+
     // Takes out the request and tells it an error.
     fn end(&mut self, rt: &impl Abort, unique: u64, errno: Errno) {
-        self.parked.retain(|request| request.unique != unique);
+        self.take_out(unique);
         self.tell(rt, unique, Err(errno));
     }
 
@@ -367,7 +371,7 @@ impl PlainLocks {
             let Some((place, request)) = self.first_free() else {
                 return;
             };
-            self.parked.retain(|other| other.unique != request.unique);
+            self.take_out(request.unique);
             self.set(&request);
             self.tell(rt, request.unique, Ok(Answer::Done));
             self.counts.granted = self.counts.granted.saturating_add(1);

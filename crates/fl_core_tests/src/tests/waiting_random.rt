@@ -15,7 +15,11 @@ use std::process::Abort;
 fn check_unique(rt: &impl Abort, core: &Core, plain: &PlainLocks, unique: u64) {
     let reply = core.answer(&order(unique, 1, Op::Getattr));
     let waits = matches!(reply, Some(Err(Errno::EINVAL)));
-    assert_eq!(rt; waits, plain.is_parked(unique), "unique {unique}");
+    assert_waits(rt, unique, waits == plain.is_parked(unique));
+}
+
+fn assert_waits(rt: &impl Abort, unique: u64, as_wanted: bool) {
+    assert!(rt; as_wanted, "unique {unique}");
 }
 
 // After an order: of the requests that it is about, and of those that wait in the plain program.
@@ -207,30 +211,30 @@ fn close_all(rt: &impl Abort, server: &mut Server, plain: &mut PlainLocks) {
     assert!(rt; plain.parked.is_empty());
 }
 
+// More than so many things happened.
+fn check_more(rt: &impl Abort, count: u64, least: u64, what: &str) {
+    assert!(rt; count > least, "{count} {what}");
+}
+
 // Many waited, and were granted.
 fn check_waits(rt: &impl Abort, counts: &Counts) {
-    let (parked, granted) = (counts.parked, counts.granted);
-    let (most, freed) = (counts.most, counts.freed_by_grants);
-    assert!(rt; most > 30, "{most} waited at once");
-    assert!(rt; parked > 400, "{parked} waited");
-    assert!(rt; granted > 200, "{granted} were granted");
-    assert!(rt; freed > 0, "{freed} were freed by grants");
+    check_more(rt, counts.most as u64, 30, "waited at once");
+    check_more(rt, counts.parked, 400, "waited");
+    check_more(rt, counts.granted, 200, "were granted");
+    check_more(rt, counts.freed_by_grants, 0, "were freed by grants");
 }
 
 // Many were ended otherwise.
 fn check_ends(rt: &impl Abort, counts: &Counts) {
-    let (closed, interrupted) = (counts.closed, counts.interrupted);
-    assert!(rt; closed > 40, "{closed} were closed");
-    assert!(rt; interrupted > 40, "{interrupted} were interrupted");
+    check_more(rt, counts.closed, 40, "were closed");
+    check_more(rt, counts.interrupted, 40, "were interrupted");
 }
 
 // Many were refused.
 fn check_refusals(rt: &impl Abort, counts: &Counts) {
-    let (refused, deadlocks) = (counts.refused, counts.deadlocks);
-    let long = counts.long_deadlocks;
-    assert!(rt; refused > 15, "{refused} uniques were refused");
-    assert!(rt; deadlocks > 300, "{deadlocks} circles were refused");
-    assert!(rt; long > 8, "{long} long circles were refused");
+    check_more(rt, counts.refused, 15, "uniques were refused");
+    check_more(rt, counts.deadlocks, 300, "circles were refused");
+    check_more(rt, counts.long_deadlocks, 8, "long circles were refused");
 }
 
 // Each of these seeds brings about each thing often.

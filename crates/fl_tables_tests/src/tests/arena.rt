@@ -8,7 +8,6 @@ use super::same;
 use fl_arena::{Arena, Cursor, Full, Place};
 use std::fmt::Debug;
 use std::process::Abort;
-use std::test::Fail;
 
 // Adds a keyed item to a chain before the first whose key is no smaller.
 fn add_sorted(arena: &mut Arena<(u32, u32)>, chain: usize, item: (u32, u32)) -> Result<(), Full>
@@ -44,6 +43,26 @@ fn pop_front<T: Copy>(arena: &mut Arena<T>, chain: usize) -> Option<T>
     Some(arena.remove(&mut cursor))
 }
 
+// There was room.
+fn is_done(rt: &impl Abort, told: &Result<(), Full>) {
+    same(rt, told, &Ok(()));
+}
+
+// There was no room.
+fn is_full(rt: &impl Abort, told: &Result<(), Full>) {
+    same(rt, told, &Err(Full));
+}
+
+// This item was taken.
+fn gave(rt: &impl Abort, told: &Option<u8>, wanted: &Option<u8>) {
+    same(rt, told, wanted);
+}
+
+// The slot is there.
+fn stands(rt: &impl Abort, told: &Place, wanted: &Place) {
+    same(rt, told, wanted);
+}
+
 // The chain holds these items and no others.
 pub(super) fn holds<T: Copy + Debug + PartialEq>(
     rt: &impl Abort,
@@ -62,10 +81,10 @@ pub(super) fn holds<T: Copy + Debug + PartialEq>(
 }
 
 #[test]
-fn finds_the_first_item_that_passes(rt: HostRuntime) -> Result<(), Fail> {
-    let mut arena = Arena::new(rt.alloc(), 2, 4)?;
+fn finds_the_first_item_that_passes(rt: HostRuntime) {
+    let mut arena = Arena::new(rt.alloc(), 2, 4).expect(&rt, "memory");
     for item in [7u64, 4, 9] {
-        same(&rt, &push_front(&mut arena, 1, item), &Ok(()));
+        is_done(&rt, &push_front(&mut arena, 1, item));
     }
     let cursor = arena.first_where(1, |item| *item < 8);
     same(&rt, &cursor.index, &1);
@@ -73,96 +92,88 @@ fn finds_the_first_item_that_passes(rt: HostRuntime) -> Result<(), Fail> {
     let end = arena.first_where(1, |item| *item > 9);
     same(&rt, &end.index, &3);
     same(&rt, &arena.item(&end).copied(), &None);
-    Ok(())
 }
 
 #[test]
-fn keeps_a_chain_in_order(rt: HostRuntime) -> Result<(), Fail> {
-    let mut arena = Arena::new(rt.alloc(), 2, 4)?;
+fn keeps_a_chain_in_order(rt: HostRuntime) {
+    let mut arena = Arena::new(rt.alloc(), 2, 4).expect(&rt, "memory");
     for item in [(5, 0), (2, 1), (9, 2), (5, 3)] {
-        same(&rt, &add_sorted(&mut arena, 1, item), &Ok(()));
+        is_done(&rt, &add_sorted(&mut arena, 1, item));
     }
-    same(&rt, &add_sorted(&mut arena, 1, (1, 4)), &Err(Full));
+    is_full(&rt, &add_sorted(&mut arena, 1, (1, 4)));
     holds(&rt, &arena, 1, &[(2, 1), (5, 3), (5, 0), (9, 2)]);
     same(&rt, &pop_front(&mut arena, 1), &Some((2, 1)));
-    Ok(())
 }
 
 #[test]
-fn has_no_slots(rt: HostRuntime) -> Result<(), Fail> {
-    let mut arena = Arena::new(rt.alloc(), 2, 0)?;
+fn has_no_slots(rt: HostRuntime) {
+    let mut arena = Arena::new(rt.alloc(), 2, 0).expect(&rt, "memory");
     same(&rt, &arena.free(), &0);
     let mut cursor = arena.cursor(1);
     let first = cursor;
-    same(&rt, &arena.insert(&mut cursor, 7u8), &Err(Full));
+    is_full(&rt, &arena.insert(&mut cursor, 7u8));
     same(&rt, &cursor, &first);
     holds(&rt, &arena, 1, &[]);
     same(&rt, &arena.slot_at(1, 0), &None);
-    Ok(())
 }
 
 #[test]
-fn has_no_chains(rt: HostRuntime) -> Result<(), Fail> {
-    let arena: Arena<u8> = Arena::new(rt.alloc(), 0, 3)?;
+fn has_no_chains(rt: HostRuntime) {
+    let arena: Arena<u8> = Arena::new(rt.alloc(), 0, 3).expect(&rt, "memory");
     same(&rt, &arena.free(), &3);
-    same(&rt, &arena.place(0), &Place::Free);
-    same(&rt, &arena.place(2), &Place::Free);
-    Ok(())
+    stands(&rt, &arena.place(0), &Place::Free);
+    stands(&rt, &arena.place(2), &Place::Free);
 }
 
 #[test]
-fn fills_every_slot_twice(rt: HostRuntime) -> Result<(), Fail> {
-    let mut arena = Arena::new(rt.alloc(), 1, 65_536)?;
+fn fills_every_slot_twice(rt: HostRuntime) {
+    let mut arena = Arena::new(rt.alloc(), 1, 65_536).expect(&rt, "memory");
     for round in 0..2u32 {
         for item in 0..65_536u32 {
-            same(&rt, &push_front(&mut arena, 0, (round, item)), &Ok(()));
+            is_done(&rt, &push_front(&mut arena, 0, (round, item)));
         }
         same(&rt, &arena.free(), &0);
-        same(&rt, &push_front(&mut arena, 0, (round, 0)), &Err(Full));
+        is_full(&rt, &push_front(&mut arena, 0, (round, 0)));
         for item in (0..65_536u32).rev() {
             same(&rt, &pop_front(&mut arena, 0), &Some((round, item)));
         }
         same(&rt, &pop_front(&mut arena, 0), &None);
         same(&rt, &arena.free(), &65_536);
     }
-    Ok(())
 }
 
 #[test]
-fn a_cursor_has_the_slot_of_its_item(rt: HostRuntime) -> Result<(), Fail> {
-    let mut arena = Arena::new(rt.alloc(), 1, 3)?;
-    same(&rt, &push_front(&mut arena, 0, 'b'), &Ok(()));
+fn a_cursor_has_the_slot_of_its_item(rt: HostRuntime) {
+    let mut arena = Arena::new(rt.alloc(), 1, 3).expect(&rt, "memory");
+    is_done(&rt, &push_front(&mut arena, 0, b'b'));
     let slot = arena.cursor(0).slot.map(usize::from);
     same(&rt, &slot, &arena.slot_at(0, 0));
-    Ok(())
 }
 
 #[test]
-fn tells_where_an_item_comes_to_stand(rt: HostRuntime) -> Result<(), Fail> {
-    let mut arena = Arena::new(rt.alloc(), 1, 3)?;
-    same(&rt, &push_front(&mut arena, 0, 'b'), &Ok(()));
-    let slot = arena.slot_at(0, 0).ok_or("no slot")?;
-    same(&rt, &push_front(&mut arena, 0, 'a'), &Ok(()));
-    same(&rt, &arena.place(slot), &Place::On(0, 1));
-    same(&rt, &pop_front(&mut arena, 0), &Some('a'));
-    same(&rt, &pop_front(&mut arena, 0), &Some('b'));
-    same(&rt, &arena.place(slot), &Place::Free);
-    Ok(())
+fn tells_where_an_item_comes_to_stand(rt: HostRuntime) {
+    let mut arena = Arena::new(rt.alloc(), 1, 3).expect(&rt, "memory");
+    is_done(&rt, &push_front(&mut arena, 0, b'b'));
+    let slot = arena.slot_at(0, 0).expect(&rt, "no slot");
+    is_done(&rt, &push_front(&mut arena, 0, b'a'));
+    stands(&rt, &arena.place(slot), &Place::On(0, 1));
+    gave(&rt, &pop_front(&mut arena, 0), &Some(b'a'));
+    gave(&rt, &pop_front(&mut arena, 0), &Some(b'b'));
+    stands(&rt, &arena.place(slot), &Place::Free);
 }
 
 #[test]
-fn a_cursor_at_the_end_stays_there(rt: HostRuntime) -> Result<(), Fail> {
-    let mut arena = Arena::new(rt.alloc(), 1, 3)?;
+fn a_cursor_at_the_end_stays_there(rt: HostRuntime) {
+    let mut arena = Arena::new(rt.alloc(), 1, 3).expect(&rt, "memory");
     let mut last = Cursor {
         chain: 0,
         index: 0,
         slot: None,
     };
     same(&rt, &arena.cursor(0), &last);
-    same(&rt, &push_front(&mut arena, 0, 'b'), &Ok(()));
-    same(&rt, &push_front(&mut arena, 0, 'a'), &Ok(()));
-    same(&rt, &arena.insert(&mut last, 'c'), &Ok(()));
+    is_done(&rt, &push_front(&mut arena, 0, b'b'));
+    is_done(&rt, &push_front(&mut arena, 0, b'a'));
+    is_done(&rt, &arena.insert(&mut last, b'c'));
     same(&rt, &last.index, &2);
-    holds(&rt, &arena, 0, &['a', 'b', 'c']);
-    Ok(())
+    holds(&rt, &arena, 0, b"abc");
 }

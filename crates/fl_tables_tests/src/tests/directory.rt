@@ -4,10 +4,9 @@ use super::same;
 use fl_dir::{Closed, Dir};
 use fl_order::{Answer, Attr, Errno, Name};
 use std::process::Abort;
-use std::test::Fail;
 
-pub(super) fn name(bytes: &[u8]) -> Result<Name, Fail> {
-    Ok(Name::new(bytes).ok_or("no name")?)
+pub(super) fn name(rt: &impl Abort, bytes: &[u8]) -> Name {
+    Name::new(bytes).expect(rt, "no name")
 }
 
 // A new file.
@@ -62,6 +61,11 @@ pub(super) fn is_gone(rt: &impl Abort, dir: &Dir, node: u64) {
 // The fh is closed, and is the last one on the node or not.
 pub(super) fn is_closed(rt: &impl Abort, told: &Result<Closed, Errno>, node: u64, last: bool) {
     same(rt, told, &Ok(Closed { node, last }));
+}
+
+// The fh is open on this node, or on none.
+pub(super) fn is_open_on(rt: &impl Abort, dir: &Dir, fh: u64, node: Option<u64>) {
+    same(rt, &dir.node_of(fh), &node);
 }
 
 pub(super) fn is_not_open(rt: &impl Abort, told: &Result<Closed, Errno>) {

@@ -8,20 +8,13 @@ use super::same;
 use fl_arena::{Arena, Cursor, Place};
 use fl_testing::Numbers;
 use std::process::Abort;
-use std::test::Fail;
 
 const CHAINS: usize = 4;
 
 const SLOTS: usize = 24;
 
 // An item before the cursor.
-fn insert(
-    rt: &impl Abort,
-    arena: &mut Arena<u64>,
-    cursor: Cursor,
-    list: &mut Vec<u64>,
-    item: u64,
-) -> Result<(), Fail>
+fn insert(rt: &impl Abort, arena: &mut Arena<u64>, cursor: Cursor, list: &mut Vec<u64>, item: u64)
     requires chain { cursor.chain < length arena.old.chains }
     requires in_place { IsInPlace arena.old cursor }
     ensures { HasSizeOf arena.old arena.new }
@@ -31,9 +24,8 @@ fn insert(
     let is_full = arena.free() == 0;
     same(rt, &arena.insert(&mut cursor, item).is_err(), &is_full);
     if !is_full && index <= list.len() {
-        list.insert(index, item)?;
+        list.insert(index, item).expect(rt, "memory");
     }
-    Ok(())
 }
 
 // Another item in place of the one at the cursor, if there is one.
@@ -73,7 +65,7 @@ fn random_step(
     list: &mut Vec<u64>,
     numbers: &mut Numbers,
     item: u64,
-) -> Result<(), Fail>
+)
     requires { chain < length arena.old.chains }
     ensures { HasSizeOf arena.old arena.new }
 {
@@ -84,27 +76,25 @@ fn random_step(
     same(rt, &cursor.index, &index);
     same(rt, &arena.get(&cursor), &here);
     match numbers.below(8) {
-        0..4 => insert(rt, arena, cursor, list, item)?,
+        0..4 => insert(rt, arena, cursor, list, item),
         4 => {
             replace(arena, &cursor, item);
             replace_in(list, index, item);
         }
         _ => remove(rt, arena, cursor, list),
     }
-    Ok(())
 }
 
 // The slot at an index of a chain tells its place.
-fn has_a_slot(rt: &impl Abort, arena: &Arena<u64>, chain: usize, index: usize) -> Result<(), Fail>
+fn has_a_slot(rt: &impl Abort, arena: &Arena<u64>, chain: usize, index: usize)
     requires { chain < length arena.now.chains }
 {
-    let slot = arena.slot_at(chain, index).ok_or("no slot")?;
+    let slot = arena.slot_at(chain, index).expect(rt, "no slot");
     same(rt, &arena.place(slot), &Place::On(chain, index));
-    Ok(())
 }
 
 // The arena holds what the lists do, each item in a slot that tells its place.
-fn compare(rt: &impl Abort, arena: &Arena<u64>, lists: &[Vec<u64>]) -> Result<(), Fail>
+fn compare(rt: &impl Abort, arena: &Arena<u64>, lists: &[Vec<u64>])
     requires { length arena.now.chains ≡ CHAINS }
 {
     let mut free = SLOTS;
@@ -112,31 +102,30 @@ fn compare(rt: &impl Abort, arena: &Arena<u64>, lists: &[Vec<u64>]) -> Result<()
         assert!(rt; chain < CHAINS);
         holds(rt, arena, chain, list);
         for index in 0..list.len() {
-            has_a_slot(rt, arena, chain, index)?;
+            has_a_slot(rt, arena, chain, index);
         }
         same(rt, &arena.slot_at(chain, list.len()), &None);
         free = free.saturating_sub(list.len());
     }
     same(rt, &arena.free(), &free);
-    Ok(())
 }
 
 #[test]
-fn answers_as_lists_do(rt: HostRuntime) -> Result<(), Fail> {
+fn answers_as_lists_do(rt: HostRuntime) {
     let alloc = rt.alloc();
-    let mut arena = Arena::new(alloc, CHAINS, SLOTS)?;
+    let mut arena = Arena::new(alloc, CHAINS, SLOTS).expect(&rt, "memory");
     let mut lists = Vec::new(alloc);
     for _ in 0..CHAINS {
-        lists.push(Vec::new(alloc))?;
+        lists.push(Vec::new(alloc)).expect(&rt, "memory");
     }
     let mut numbers = Numbers { state: 2026 };
     for item in 0..4000 {
         let chain = numbers.below(4) as usize;
-        let list = lists.get_mut(chain).ok_or("a list")?;
-        random_step(&rt, &mut arena, chain, list, &mut numbers, item)?;
+        let list = lists.get_mut(chain).expect(&rt, "a list");
+        random_step(&rt, &mut arena, chain, list, &mut numbers, item);
         if item % 16 == 0 {
-            compare(&rt, &arena, &lists)?;
+            compare(&rt, &arena, &lists);
         }
     }
-    compare(&rt, &arena, &lists)
+    compare(&rt, &arena, &lists);
 }

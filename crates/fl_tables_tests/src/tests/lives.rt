@@ -1,14 +1,13 @@
 //! When nodes live and go, and that their room comes back.
 
 use super::directory::{
-    file, is, is_closed, is_done, is_found, is_gone, is_made, is_not_open, is_open, is_refused,
-    lives, made, name,
+    file, is, is_closed, is_done, is_found, is_gone, is_made, is_not_open, is_open, is_open_on,
+    is_refused, lives, made, name,
 };
-use super::same;
 use fl_dir::{Dir, ROOT};
 use fl_order::{Answer, Attr, Errno, Name};
+use std::alloc::Global;
 use std::process::Abort;
-use std::test::Fail;
 
 // What keeps a node alive.
 #[derive(Clone, Copy, PartialEq, Eq)]
@@ -23,7 +22,7 @@ fn take_away(rt: &impl Abort, dir: &mut Dir, name: &Name, reason: Reason) {
     match reason {
         Reason::Name => is_done(rt, &dir.unlink(1, name)),
         Reason::Lookup => dir.forget(2, 1),
-        Reason::Open => same(rt, &dir.close(2, 1).is_ok(), &true),
+        Reason::Open => is_closed(rt, &dir.close(2, 1), 2, true),
     }
 }
 
@@ -46,6 +45,14 @@ fn lives_until(
     is_gone(rt, dir, 2);
 }
 
+// So it goes, and its room comes back.
+fn goes(rt: &impl Abort, alloc: Global, first: Reason, second: Reason, last: Reason) {
+    let a = name(rt, b"a");
+    let mut dir = Dir::new(alloc).expect(rt, "memory");
+    lives_until(rt, &mut dir, &a, first, second, last);
+    is_forgotten(rt, &mut dir, &a);
+}
+
 // The room of a first file is free, and its numbers are not given again.
 fn is_forgotten(rt: &impl Abort, dir: &mut Dir, name: &Name) {
     is_refused(rt, &dir.open(2), Errno::ENOENT);
@@ -54,21 +61,13 @@ fn is_forgotten(rt: &impl Abort, dir: &mut Dir, name: &Name) {
 }
 
 #[test]
-fn a_node_goes_with_its_last_reason_to_live(rt: HostRuntime) -> Result<(), Fail> {
-    let a = name(b"a")?;
-    for (first, second, last) in [
-        (Reason::Name, Reason::Lookup, Reason::Open),
-        (Reason::Name, Reason::Open, Reason::Lookup),
-        (Reason::Lookup, Reason::Name, Reason::Open),
-        (Reason::Lookup, Reason::Open, Reason::Name),
-        (Reason::Open, Reason::Name, Reason::Lookup),
-        (Reason::Open, Reason::Lookup, Reason::Name),
-    ] {
-        let mut dir = Dir::new(rt.alloc())?;
-        lives_until(&rt, &mut dir, &a, first, second, last);
-        is_forgotten(&rt, &mut dir, &a);
-    }
-    Ok(())
+fn a_node_goes_with_its_last_reason_to_live(rt: HostRuntime) {
+    goes(&rt, rt.alloc(), Reason::Name, Reason::Lookup, Reason::Open);
+    goes(&rt, rt.alloc(), Reason::Name, Reason::Open, Reason::Lookup);
+    goes(&rt, rt.alloc(), Reason::Lookup, Reason::Name, Reason::Open);
+    goes(&rt, rt.alloc(), Reason::Lookup, Reason::Open, Reason::Name);
+    goes(&rt, rt.alloc(), Reason::Open, Reason::Name, Reason::Lookup);
+    goes(&rt, rt.alloc(), Reason::Open, Reason::Lookup, Reason::Name);
 }
 
 // The file `a`, node 2, is open under fh 1 and has no name any more; then comes another `a`, node 3, under fh 2.
@@ -81,42 +80,50 @@ fn named_again(rt: &impl Abort, dir: &mut Dir, a: &Name) {
 }
 
 #[test]
-fn a_name_is_free_while_its_old_node_lives(rt: HostRuntime) -> Result<(), Fail> {
-    let a = name(b"a")?;
-    let mut dir = Dir::new(rt.alloc())?;
+fn a_name_is_free_while_its_old_node_lives(rt: HostRuntime) {
+    let a = name(&rt, b"a");
+    let mut dir = Dir::new(rt.alloc()).expect(&rt, "memory");
     named_again(&rt, &mut dir, &a);
     is_open(&rt, &dir.open(2), 3);
     is_found(&rt, &dir.lookup(1, &a), 3);
     dir.forget(2, 7);
     lives(&rt, &dir, 2, 0);
-    Ok(())
+}
+
+// The same, and node 2 is open under fh 3 too and has no lookups any more.
+fn opened_again(rt: &impl Abort, dir: &mut Dir, a: &Name) {
+    named_again(rt, dir, a);
+    is_open(rt, &dir.open(2), 3);
+    dir.forget(2, 7);
 }
 
 #[test]
-fn a_node_goes_with_its_last_open_file(rt: HostRuntime) -> Result<(), Fail> {
-    let mut dir = Dir::new(rt.alloc())?;
-    named_again(&rt, &mut dir, &name(b"a")?);
-    is_open(&rt, &dir.open(2), 3);
-    dir.forget(2, 7);
-    same(&rt, &dir.node_of(1), &Some(2));
+fn a_node_goes_with_its_last_open_file(rt: HostRuntime) {
+    let mut dir = Dir::new(rt.alloc()).expect(&rt, "memory");
+    opened_again(&rt, &mut dir, &name(&rt, b"a"));
+    is_open_on(&rt, &dir, 1, Some(2));
     is_closed(&rt, &dir.close(2, 1), 2, false);
     is_not_open(&rt, &dir.close(2, 1));
-    same(&rt, &dir.node_of(1), &None);
+    is_open_on(&rt, &dir, 1, None);
     is_closed(&rt, &dir.close(2, 3), 2, true);
     is_gone(&rt, &dir, 2);
-    same(&rt, &dir.node_of(2), &Some(3));
-    Ok(())
+    is_open_on(&rt, &dir, 2, Some(3));
+}
+
+// The file `a`, node 2, isn't open, and was looked up twice since its lookups were forgotten.
+fn found_twice(rt: &impl Abort, dir: &mut Dir, a: &Name) {
+    is_made(rt, &made(dir, a), 2, 1);
+    is_closed(rt, &dir.close(2, 1), 2, true);
+    dir.forget(2, 2);
+    is_found(rt, &dir.lookup(1, a), 2);
+    is_found(rt, &dir.lookup(1, a), 2);
 }
 
 #[test]
-fn lookups_are_counted_and_forgotten(rt: HostRuntime) -> Result<(), Fail> {
-    let a = name(b"a")?;
-    let mut dir = Dir::new(rt.alloc())?;
-    is_made(&rt, &made(&mut dir, &a), 2, 1);
-    is_closed(&rt, &dir.close(2, 1), 2, true);
-    dir.forget(2, 2);
-    is_found(&rt, &dir.lookup(1, &a), 2);
-    is_found(&rt, &dir.lookup(1, &a), 2);
+fn lookups_are_counted_and_forgotten(rt: HostRuntime) {
+    let a = name(&rt, b"a");
+    let mut dir = Dir::new(rt.alloc()).expect(&rt, "memory");
+    found_twice(&rt, &mut dir, &a);
     is_done(&rt, &dir.unlink(1, &a));
     dir.forget(2, 1);
     lives(&rt, &dir, 2, 0);
@@ -124,12 +131,11 @@ fn lookups_are_counted_and_forgotten(rt: HostRuntime) -> Result<(), Fail> {
     lives(&rt, &dir, 2, 0);
     dir.forget(2, 1);
     is_gone(&rt, &dir, 2);
-    Ok(())
 }
 
 #[test]
-fn the_root_is_not_forgotten(rt: HostRuntime) -> Result<(), Fail> {
-    let mut dir = Dir::new(rt.alloc())?;
+fn the_root_is_not_forgotten(rt: HostRuntime) {
+    let mut dir = Dir::new(rt.alloc()).expect(&rt, "memory");
     let root = Attr {
         node: ROOT,
         mode: 0o40755,
@@ -137,18 +143,17 @@ fn the_root_is_not_forgotten(rt: HostRuntime) -> Result<(), Fail> {
         uid: 0,
         gid: 0,
     };
-    is_made(&rt, &made(&mut dir, &name(b"a")?), 2, 1);
+    is_made(&rt, &made(&mut dir, &name(&rt, b"a")), 2, 1);
     dir.forget(1, 9);
     dir.forget(3, 9);
     is(&rt, &dir.getattr(1), &Ok(Answer::Attr(root)));
     lives(&rt, &dir, 2, 1);
-    Ok(())
 }
 
 #[test]
-fn a_linked_name_keeps_its_first_mode_and_owner(rt: HostRuntime) -> Result<(), Fail> {
-    let a = name(b"a")?;
-    let mut dir = Dir::new(rt.alloc())?;
+fn a_linked_name_keeps_its_first_mode_and_owner(rt: HostRuntime) {
+    let a = name(&rt, b"a");
+    let mut dir = Dir::new(rt.alloc()).expect(&rt, "memory");
     let first = Attr {
         node: 2,
         mode: 0o100777,
@@ -161,5 +166,4 @@ fn a_linked_name_keeps_its_first_mode_and_owner(rt: HostRuntime) -> Result<(), F
     let reopened = dir.create(1, 5, 6, false, 0o600, &a);
     is(&rt, &reopened, &Ok(Answer::Made(first, 2)));
     is(&rt, &dir.getattr(2), &Ok(Answer::Attr(first)));
-    Ok(())
 }

@@ -56,11 +56,17 @@ pub(super) fn range(rt: &impl Abort, start: u64, end: u64) -> Range {
     Range { start, end }
 }
 
+// There was room for a change, or not.
+pub(super) fn is(rt: &impl Abort, told: &Result<(), NoRoom>, wanted: &Result<(), NoRoom>) {
+    same(rt, told, wanted);
+}
+
 // The bytes get the key's mark, for which there is room.
 pub(super) fn put_as(rt: &impl Abort, table: &mut Table, key: Key, start: u64, end: u64, mark: Mark)
     ensures { table.new.limit ≡ table.old.limit }
 {
-    same(rt, &table.put(&key, &range(rt, start, end), mark), &Ok(()));
+    let told = table.put(&key, &range(rt, start, end), mark);
+    is(rt, &told, &Ok(()));
 }
 
 // The bytes get the owner's mark, for which there is room.
@@ -80,7 +86,7 @@ pub(super) fn has_no_room(
     mark: Mark,
 ) {
     let told = table.put(&key(owner), &range(rt, start, end), mark);
-    same(rt, &told, &Err(NoRoom));
+    is(rt, &told, &Err(NoRoom));
 }
 
 // The bytes lose the owner's mark, or there is no room for what is left.
@@ -93,7 +99,7 @@ pub(super) fn erase(
     wanted: Result<(), NoRoom>,
 ) {
     let told = table.erase(&key(owner), &range(rt, start, end));
-    same(rt, &told, &wanted);
+    is(rt, &told, &wanted);
 }
 
 // A lock as it is named.

@@ -8,7 +8,6 @@ use fl_ranges::{Key, Kind, LAST_BYTE, Table};
 use fl_testing::Numbers;
 use std::alloc::Global;
 use std::process::Abort;
-use std::test::Fail;
 
 // Who asks, on which bytes, both included, and for what kind of lock.
 type Asked = (Key, u64, u64, Kind);
@@ -21,6 +20,11 @@ fn writes(owner: u64, start: u64, end: u64) -> Asked {
     (key(owner), start, end, Kind::Write)
 }
 
+// This owner is told, or none.
+fn is(rt: &impl Abort, told: &Option<u64>, wanted: &Option<u64>) {
+    same(rt, told, wanted);
+}
+
 // These owners and no others are in the way, told one after another.
 fn in_the_way(rt: &impl Abort, table: &Table, asked: Asked, owners: &[u64]) {
     let (key, start, end, kind) = asked;
@@ -28,14 +32,21 @@ fn in_the_way(rt: &impl Abort, table: &Table, asked: Asked, owners: &[u64]) {
     let mut after = None;
     for owner in owners {
         let told = table.clash_owner_after(&key, &range, kind, after);
-        same(rt, &told, &Some(*owner));
+        is(rt, &told, &Some(*owner));
         after = told;
     }
-    same(
-        rt,
-        &table.clash_owner_after(&key, &range, kind, after),
-        &None,
-    );
+    let told = table.clash_owner_after(&key, &range, kind, after);
+    is(rt, &told, &None);
+}
+
+// These owners and no others are in the way of an owner's write lock of these bytes.
+fn stop_writer(rt: &impl Abort, table: &Table, owner: u64, start: u64, end: u64, owners: &[u64]) {
+    in_the_way(rt, table, writes(owner, start, end), owners);
+}
+
+// So it is for a read lock.
+fn stop_reader(rt: &impl Abort, table: &Table, owner: u64, start: u64, end: u64, owners: &[u64]) {
+    in_the_way(rt, table, reads(owner, start, end), owners);
 }
 
 // Read locks of three owners, all of which hold byte 5.
@@ -46,81 +57,76 @@ fn put_three_readers(rt: &impl Abort, table: &mut Table) {
 }
 
 #[test]
-fn names_each_owner_on_one_byte(rt: HostRuntime) -> Result<(), Fail> {
-    let mut table = Table::new(rt.alloc(), 8)?;
+fn names_each_owner_on_one_byte(rt: HostRuntime) {
+    let mut table = Table::new(rt.alloc(), 8).expect(&rt, "memory");
     put_three_readers(&rt, &mut table);
-    in_the_way(&rt, &table, writes(1, 5, 5), &[3, 6, 8]);
-    in_the_way(&rt, &table, writes(7, 5, 5), &[3, 6, 8]);
-    in_the_way(&rt, &table, writes(9, 0, LAST_BYTE), &[3, 6, 8]);
-    in_the_way(&rt, &table, reads(1, 0, 20), &[]);
-    Ok(())
+    stop_writer(&rt, &table, 1, 5, 5, &[3, 6, 8]);
+    stop_writer(&rt, &table, 7, 5, 5, &[3, 6, 8]);
+    stop_writer(&rt, &table, 9, 0, LAST_BYTE, &[3, 6, 8]);
+    stop_reader(&rt, &table, 1, 0, 20, &[]);
 }
 
 #[test]
-fn names_the_owners_on_the_bytes_asked_for(rt: HostRuntime) -> Result<(), Fail> {
-    let mut table = Table::new(rt.alloc(), 8)?;
+fn names_the_owners_on_the_bytes_asked_for(rt: HostRuntime) {
+    let mut table = Table::new(rt.alloc(), 8).expect(&rt, "memory");
     put_three_readers(&rt, &mut table);
-    in_the_way(&rt, &table, writes(1, 0, 3), &[8]);
-    in_the_way(&rt, &table, writes(1, 0, 4), &[6, 8]);
-    in_the_way(&rt, &table, writes(1, 6, 9), &[3, 8]);
-    in_the_way(&rt, &table, writes(1, 10, 20), &[3]);
-    in_the_way(&rt, &table, writes(1, 21, LAST_BYTE), &[]);
-    Ok(())
+    stop_writer(&rt, &table, 1, 0, 3, &[8]);
+    stop_writer(&rt, &table, 1, 0, 4, &[6, 8]);
+    stop_writer(&rt, &table, 1, 6, 9, &[3, 8]);
+    stop_writer(&rt, &table, 1, 10, 20, &[3]);
+    stop_writer(&rt, &table, 1, 21, LAST_BYTE, &[]);
 }
 
 #[test]
-fn names_no_owner_for_its_own_lock(rt: HostRuntime) -> Result<(), Fail> {
-    let mut table = Table::new(rt.alloc(), 8)?;
+fn names_no_owner_for_its_own_lock(rt: HostRuntime) {
+    let mut table = Table::new(rt.alloc(), 8).expect(&rt, "memory");
     put(&rt, &mut table, 3, 0, 9, READ);
     put(&rt, &mut table, 6, 0, 9, READ);
     put(&rt, &mut table, 8, 10, 19, WRITE);
-    in_the_way(&rt, &table, writes(3, 0, 19), &[6, 8]);
-    in_the_way(&rt, &table, writes(6, 0, 19), &[3, 8]);
-    in_the_way(&rt, &table, writes(8, 0, 19), &[3, 6]);
-    in_the_way(&rt, &table, reads(8, 0, 19), &[]);
-    in_the_way(&rt, &table, reads(3, 0, 19), &[8]);
-    Ok(())
+    stop_writer(&rt, &table, 3, 0, 19, &[6, 8]);
+    stop_writer(&rt, &table, 6, 0, 19, &[3, 8]);
+    stop_writer(&rt, &table, 8, 0, 19, &[3, 6]);
+    stop_reader(&rt, &table, 8, 0, 19, &[]);
+    stop_reader(&rt, &table, 3, 0, 19, &[8]);
 }
 
 #[test]
-fn names_an_owner_of_many_locks_once(rt: HostRuntime) -> Result<(), Fail> {
-    let mut table = Table::new(rt.alloc(), 8)?;
+fn names_an_owner_of_many_locks_once(rt: HostRuntime) {
+    let mut table = Table::new(rt.alloc(), 8).expect(&rt, "memory");
     put(&rt, &mut table, 9, 0, 1, WRITE);
     put(&rt, &mut table, 4, 2, 3, WRITE);
     put(&rt, &mut table, 9, 4, 5, READ);
     put(&rt, &mut table, 2, 6, 7, WRITE);
     put(&rt, &mut table, 9, 8, 9, WRITE);
-    in_the_way(&rt, &table, writes(1, 0, 9), &[2, 4, 9]);
-    in_the_way(&rt, &table, reads(1, 0, 9), &[2, 4, 9]);
-    in_the_way(&rt, &table, writes(1, 2, 7), &[2, 4, 9]);
-    in_the_way(&rt, &table, reads(1, 2, 7), &[2, 4]);
-    Ok(())
+    stop_writer(&rt, &table, 1, 0, 9, &[2, 4, 9]);
+    stop_reader(&rt, &table, 1, 0, 9, &[2, 4, 9]);
+    stop_writer(&rt, &table, 1, 2, 7, &[2, 4, 9]);
+    stop_reader(&rt, &table, 1, 2, 7, &[2, 4]);
 }
 
 // Of the owners that are greater than the one given, or of all, this is the least in the way.
 fn is_next(rt: &impl Abort, table: &Table, asked: Asked, after: Option<u64>, wanted: Option<u64>) {
     let (key, start, end, kind) = asked;
     let told = table.clash_owner_after(&key, &range(rt, start, end), kind, after);
-    same(rt, &told, &wanted);
+    is(rt, &told, &wanted);
 }
 
 // Owners 10 and 20 are in the way, and no others.
 fn tells_10_and_20(rt: &impl Abort, table: &Table, asked: Asked) {
     is_next(rt, table, asked, None, Some(10));
-    for after in [0, 9] {
-        is_next(rt, table, asked, Some(after), Some(10));
-    }
-    for after in [10, 15, 19] {
-        is_next(rt, table, asked, Some(after), Some(20));
-    }
-    for after in [20, 21, u64::MAX] {
-        is_next(rt, table, asked, Some(after), None);
-    }
+    is_next(rt, table, asked, Some(0), Some(10));
+    is_next(rt, table, asked, Some(9), Some(10));
+    is_next(rt, table, asked, Some(10), Some(20));
+    is_next(rt, table, asked, Some(15), Some(20));
+    is_next(rt, table, asked, Some(19), Some(20));
+    is_next(rt, table, asked, Some(20), None);
+    is_next(rt, table, asked, Some(21), None);
+    is_next(rt, table, asked, Some(u64::MAX), None);
 }
 
 #[test]
-fn names_the_least_owner_after_the_one_given(rt: HostRuntime) -> Result<(), Fail> {
-    let mut table = Table::new(rt.alloc(), 8)?;
+fn names_the_least_owner_after_the_one_given(rt: HostRuntime) {
+    let mut table = Table::new(rt.alloc(), 8).expect(&rt, "memory");
     put(&rt, &mut table, 10, 0, 0, READ);
     put(&rt, &mut table, 20, 0, 0, READ);
     put(&rt, &mut table, 15, 1, 1, WRITE);
@@ -129,37 +135,34 @@ fn names_the_least_owner_after_the_one_given(rt: HostRuntime) -> Result<(), Fail
     is_next(&rt, &table, reads(1, 0, 1), None, Some(15));
     is_next(&rt, &table, reads(1, 0, 1), Some(14), Some(15));
     is_next(&rt, &table, reads(1, 0, 1), Some(15), None);
-    Ok(())
 }
 
 #[test]
-fn names_the_least_and_the_greatest_owner_there_can_be(rt: HostRuntime) -> Result<(), Fail> {
-    let mut table = Table::new(rt.alloc(), 8)?;
+fn names_the_least_and_the_greatest_owner_there_can_be(rt: HostRuntime) {
+    let mut table = Table::new(rt.alloc(), 8).expect(&rt, "memory");
     let last = u64::MAX;
     put(&rt, &mut table, last, 0, 9, READ);
     put(&rt, &mut table, 0, 5, 9, READ);
-    in_the_way(&rt, &table, writes(7, 0, 9), &[0, last]);
-    in_the_way(&rt, &table, writes(0, 0, 9), &[last]);
-    in_the_way(&rt, &table, writes(last, 0, 9), &[0]);
+    stop_writer(&rt, &table, 7, 0, 9, &[0, last]);
+    stop_writer(&rt, &table, 0, 0, 9, &[last]);
+    stop_writer(&rt, &table, last, 0, 9, &[0]);
     is_next(&rt, &table, writes(7, 9, 9), Some(0), Some(last));
     is_next(&rt, &table, writes(7, 9, 9), Some(last - 1), Some(last));
     is_next(&rt, &table, writes(7, 9, 9), Some(last), None);
-    Ok(())
 }
 
 #[test]
-fn names_no_owner_of_another_class_or_node(rt: HostRuntime) -> Result<(), Fail> {
-    let mut table = Table::new(rt.alloc(), 8)?;
+fn names_no_owner_of_another_class_or_node(rt: HostRuntime) {
+    let mut table = Table::new(rt.alloc(), 8).expect(&rt, "memory");
     put_as(&rt, &mut table, whole_file(3), 0, LAST_BYTE, READ);
     put_as(&rt, &mut table, whole_file(5), 0, LAST_BYTE, READ);
     put(&rt, &mut table, 4, 0, 9, READ);
     put_as(&rt, &mut table, elsewhere(2), 0, 9, WRITE);
-    in_the_way(&rt, &table, writes(1, 0, 9), &[4]);
+    stop_writer(&rt, &table, 1, 0, 9, &[4]);
     in_the_way(&rt, &table, (whole_file(1), 0, 9, Kind::Write), &[3, 5]);
     in_the_way(&rt, &table, (whole_file(3), 0, 9, Kind::Write), &[5]);
     in_the_way(&rt, &table, (elsewhere(1), 0, 9, Kind::Write), &[2]);
     in_the_way(&rt, &table, (elsewhere(2), 0, 9, Kind::Write), &[]);
-    Ok(())
 }
 
 // The owners that are told one after another are those whose marks exclude a lock of this kind, the least first.
@@ -178,15 +181,12 @@ fn compare_asker(
     for (owner, row) in grid.rows.iter().enumerate() {
         if owner != asker && row_excludes(row, start, end, kind) {
             let told = table.clash_owner_after(&key, &range, kind, after);
-            same(rt, &told, &Some(owner as u64));
+            is(rt, &told, &Some(owner as u64));
             after = told;
         }
     }
-    same(
-        rt,
-        &table.clash_owner_after(&key, &range, kind, after),
-        &None,
-    );
+    let told = table.clash_owner_after(&key, &range, kind, after);
+    is(rt, &told, &None);
 }
 
 // Each owner asks for each range from a byte on.
@@ -199,19 +199,18 @@ fn compare(rt: &impl Abort, table: &Table, grid: &Grid, start: usize) {
     }
 }
 
-fn follow(rt: &impl Abort, alloc: Global, first: u64) -> Result<(), Fail> {
-    let mut table = Table::new(alloc, 64)?;
+fn follow(rt: &impl Abort, alloc: Global, first: u64) {
+    let mut table = Table::new(alloc, 64).expect(rt, "memory");
     let mut grid = Grid::new(owners(), first, 64);
     let mut numbers = Numbers { state: 1988 };
     for step in 0..400 {
         grid.random_stroke(rt, &mut table, &mut numbers);
         compare(rt, &table, &grid, step % BYTES);
     }
-    Ok(())
 }
 
 #[test]
-fn names_the_owners_that_the_bytes_say(rt: HostRuntime) -> Result<(), Fail> {
-    follow(&rt, rt.alloc(), 0)?;
-    follow(&rt, rt.alloc(), LAST_ROW)
+fn names_the_owners_that_the_bytes_say(rt: HostRuntime) {
+    follow(&rt, rt.alloc(), 0);
+    follow(&rt, rt.alloc(), LAST_ROW);
 }

@@ -1,60 +1,62 @@
 //! The edges of a lock table's room, and of its bytes.
 ghost use Rattle.std.specs.Prelude.{◌≡◌};
 
-use super::locks::{READ, WRITE, erase, has_no_room, key, put, range};
+use super::locks::{READ, WRITE, erase, has_no_room, is, key, put, range};
 use super::same;
 use fl_ranges::{Kind, LAST_BYTE, Mark, NoRoom, Place, Range, Table, laws};
 use std::process::Abort;
-use std::test::Fail;
 
 const OTHER_READ: Mark = Mark {
     kind: Kind::Read,
     pid: 2,
 };
 
+// The table has so many runs.
+fn has_runs(rt: &impl Abort, table: &Table, wanted: u32) {
+    same(rt, &table.runs(), &wanted);
+}
+
 // Four runs of owner 1, with gaps between them, in a table that has room for four.
 fn put_four_runs(rt: &impl Abort, table: &mut Table) {
-    for start in [0, 10, 20, 30] {
-        put(rt, table, 1, start, start + 4, READ);
-    }
-    same(rt, &table.runs(), &4);
+    put(rt, table, 1, 0, 4, READ);
+    put(rt, table, 1, 10, 14, READ);
+    put(rt, table, 1, 20, 24, READ);
+    put(rt, table, 1, 30, 34, READ);
+    has_runs(rt, table, 4);
 }
 
 #[test]
-fn the_fourth_run_fits_and_a_fifth_does_not(rt: HostRuntime) -> Result<(), Fail> {
-    let mut table = Table::new(rt.alloc(), 4)?;
+fn the_fourth_run_fits_and_a_fifth_does_not(rt: HostRuntime) {
+    let mut table = Table::new(rt.alloc(), 4).expect(&rt, "memory");
     put_four_runs(&rt, &mut table);
     has_no_room(&rt, &mut table, 1, 40, 44, READ);
     has_no_room(&rt, &mut table, 2, 0, 0, READ);
     erase(&rt, &mut table, 1, 11, 12, Err(NoRoom));
     has_no_room(&rt, &mut table, 1, 22, 22, WRITE);
-    same(&rt, &table.runs(), &4);
-    Ok(())
+    has_runs(&rt, &table, 4);
 }
 
 #[test]
-fn room_comes_back_where_runs_are_joined(rt: HostRuntime) -> Result<(), Fail> {
-    let mut table = Table::new(rt.alloc(), 4)?;
+fn room_comes_back_where_runs_are_joined(rt: HostRuntime) {
+    let mut table = Table::new(rt.alloc(), 4).expect(&rt, "memory");
     put_four_runs(&rt, &mut table);
     erase(&rt, &mut table, 1, 14, 14, Ok(()));
     put(&rt, &mut table, 1, 0, 34, WRITE);
-    same(&rt, &table.runs(), &1);
+    has_runs(&rt, &table, 1);
     put(&rt, &mut table, 1, 5, 6, OTHER_READ);
-    same(&rt, &table.runs(), &3);
+    has_runs(&rt, &table, 3);
     erase(&rt, &mut table, 1, 20, 20, Ok(()));
     erase(&rt, &mut table, 1, 30, 30, Err(NoRoom));
     put(&rt, &mut table, 1, 6, 7, OTHER_READ);
-    same(&rt, &table.runs(), &4);
-    Ok(())
+    has_runs(&rt, &table, 4);
 }
 
 #[test]
-fn a_table_with_no_room(rt: HostRuntime) -> Result<(), Fail> {
-    let mut table = Table::new(rt.alloc(), 0)?;
+fn a_table_with_no_room(rt: HostRuntime) {
+    let mut table = Table::new(rt.alloc(), 0).expect(&rt, "memory");
     has_no_room(&rt, &mut table, 1, 0, 0, READ);
     erase(&rt, &mut table, 1, 0, LAST_BYTE, Ok(()));
-    same(&rt, &table.runs(), &0);
-    Ok(())
+    has_runs(&rt, &table, 0);
 }
 
 // At which indices of node 7's chain the runs stand, of a table of three slots. The other slots are free.
@@ -72,29 +74,27 @@ fn indices(rt: &impl Abort, table: &Table) -> [bool; 2]
 }
 
 #[test]
-fn slots_are_free_or_on_a_chain(rt: HostRuntime) -> Result<(), Fail> {
-    let mut table = Table::new(rt.alloc(), 3)?;
+fn slots_are_free_or_on_a_chain(rt: HostRuntime) {
+    let mut table = Table::new(rt.alloc(), 3).expect(&rt, "memory");
     same(&rt, &table.slot_place(0), &Place::Free);
     put(&rt, &mut table, 1, 5, 9, READ);
     put(&rt, &mut table, 1, 0, 1, READ);
     same(&rt, &indices(&rt, &table), &[true, true]);
-    Ok(())
 }
 
 #[test]
-fn the_last_byte_is_a_byte_like_any(rt: HostRuntime) -> Result<(), Fail> {
-    let mut table = Table::new(rt.alloc(), 4)?;
+fn the_last_byte_is_a_byte_like_any(rt: HostRuntime) {
+    let mut table = Table::new(rt.alloc(), 4).expect(&rt, "memory");
     put(&rt, &mut table, 1, LAST_BYTE, LAST_BYTE, READ);
     put(&rt, &mut table, 1, LAST_BYTE - 1, LAST_BYTE - 1, READ);
-    same(&rt, &table.runs(), &1);
+    has_runs(&rt, &table, 1);
     let whole = Range::whole();
-    same(&rt, &table.put(&key(1), &whole, WRITE), &Ok(()));
-    same(&rt, &table.runs(), &1);
+    is(&rt, &table.put(&key(1), &whole, WRITE), &Ok(()));
+    has_runs(&rt, &table, 1);
     let last = range(&rt, LAST_BYTE, LAST_BYTE);
     same(&rt, &table.clashes(&key(2), &last, Kind::Read), &true);
     table.erase_owner(&key(1));
-    same(&rt, &table.runs(), &0);
-    Ok(())
+    has_runs(&rt, &table, 0);
 }
 
 #[test]

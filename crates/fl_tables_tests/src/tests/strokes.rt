@@ -7,7 +7,6 @@ use fl_ranges::{Key, Kind, Table};
 use fl_testing::Numbers;
 use std::alloc::Global;
 use std::process::Abort;
-use std::test::Fail;
 
 // Two owners of one node, the other class, and another node whose runs stand in the same chain.
 fn keys() -> [Key; ROWS] {
@@ -47,14 +46,26 @@ fn random_step(rt: &impl Abort, table: &mut Table, grid: &mut Grid, numbers: &mu
     }
 }
 
-// The table answers as the grid does, to each range of a key from a byte on.
+// The table answers as the grid does, to a range of a key.
+fn compare_range(
+    rt: &impl Abort,
+    table: &Table,
+    grid: &Grid,
+    row: usize,
+    key: &Key,
+    start: usize,
+    end: usize,
+    kind: Kind,
+) {
+    let told = table.clashes(key, &grid.range(rt, start, end), kind);
+    same(rt, &told, &is_excluded(grid, row, start, end, kind));
+}
+
+// To each range of a key from a byte on.
 fn compare_row(rt: &impl Abort, table: &Table, grid: &Grid, row: usize, key: &Key, start: usize) {
     for end in start..BYTES {
-        let range = grid.range(rt, start, end);
-        for kind in [Kind::Read, Kind::Write] {
-            let told = table.clashes(key, &range, kind);
-            same(rt, &told, &is_excluded(grid, row, start, end, kind));
-        }
+        compare_range(rt, table, grid, row, key, start, end, Kind::Read);
+        compare_range(rt, table, grid, row, key, start, end, Kind::Write);
     }
 }
 
@@ -68,8 +79,8 @@ fn compare(rt: &impl Abort, table: &Table, grid: &Grid) {
 }
 
 // Many changes of bytes from one on, in a table with room for eight runs.
-fn follow(rt: &impl Abort, alloc: Global, first: u64, seed: u64) -> Result<(), Fail> {
-    let mut table = Table::new(alloc, 8)?;
+fn follow(rt: &impl Abort, alloc: Global, first: u64, seed: u64) {
+    let mut table = Table::new(alloc, 8).expect(rt, "memory");
     let mut grid = Grid::new(keys(), first, 8);
     let mut numbers = Numbers { state: seed };
     for step in 0..1500 {
@@ -78,15 +89,14 @@ fn follow(rt: &impl Abort, alloc: Global, first: u64, seed: u64) -> Result<(), F
             compare(rt, &table, &grid);
         }
     }
-    Ok(())
 }
 
 #[test]
-fn answers_as_a_grid_does_from_byte_0(rt: HostRuntime) -> Result<(), Fail> {
-    follow(&rt, rt.alloc(), 0, 2026)
+fn answers_as_a_grid_does_from_byte_0(rt: HostRuntime) {
+    follow(&rt, rt.alloc(), 0, 2026);
 }
 
 #[test]
-fn answers_as_a_grid_does_up_to_the_last_byte(rt: HostRuntime) -> Result<(), Fail> {
-    follow(&rt, rt.alloc(), LAST_ROW, 731)
+fn answers_as_a_grid_does_up_to_the_last_byte(rt: HostRuntime) {
+    follow(&rt, rt.alloc(), LAST_ROW, 731);
 }
