@@ -2,12 +2,11 @@
 
 use super::messages::{SETLK, SETLKW, WRITE, byte_lock};
 use super::talker::Talker;
-use super::{asked_in, ended, served};
+use super::{asked_in, ended, serve_stream, socket_pair};
 use fl_serve::{Done, Open};
 use std::alloc::Global;
 use std::os::unix::net::UnixStream;
 use std::process::Abort;
-use std::test::Fail;
 use std::thread;
 
 // Makes a file and sets a lock on its first byte.
@@ -42,16 +41,14 @@ fn has_no_replies(rt: &impl Abort, alloc: Global, done: &Done, replies: usize) {
 }
 
 #[test]
-fn requests_that_wait_have_no_reply(rt: HostRuntime) -> Result<(), Fail> {
+fn requests_that_wait_have_no_reply(rt: HostRuntime) {
     let alloc = rt.alloc();
     for workers in [1, 16] {
-        let (near, far) = UnixStream::pair(&rt)?;
-        let client = thread::spawn(&rt, move || ask_and_go(&rt, alloc, near))?;
-        let done = served(&rt, alloc, &mut &far, &mut &far, workers, &Open);
-        drop(far);
-        let replies = client.join(&rt);
+        let (near, far) = socket_pair(&rt);
+        let client = thread::spawn(&rt, move || ask_and_go(&rt, alloc, near));
+        let done = serve_stream(&rt, alloc, far, workers, &Open);
+        let replies = client.expect(&rt, "a thread").join(&rt);
         ended(&rt, alloc, &done, None, 204, workers);
         has_no_replies(&rt, alloc, &done, replies);
     }
-    Ok(())
 }
