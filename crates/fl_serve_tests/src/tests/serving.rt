@@ -101,7 +101,8 @@ fn ended(
 }
 
 fn is_legal(rt: &impl Abort, alloc: Global, history: &History) {
-    assert_eq!(rt; check(alloc, history), Ok(Verdict::Legal));
+    let verdict = check(alloc, history).expect(rt, "memory");
+    assert_eq!(rt; verdict, Verdict::Legal);
 }
 
 // So many whole replies went out.

@@ -3,6 +3,7 @@
 use super::messages::Messages;
 use super::talker::Talker;
 use super::{serve_stream, socket_pair};
+use crate::tests::{count_is, fault_is};
 use fl_serve::{Done, Gate};
 use std::alloc::Global;
 use std::os::unix::net::UnixStream;
@@ -64,9 +65,9 @@ fn send_bursts(rt: &impl Abort, alloc: Global, stream: UnixStream, size: u32) {
 
 fn has_met(rt: &impl Abort, done: &Done, gate: &Meeting, workers: u32) {
     assert!(rt; !gate.given_up.load(Ordering::SeqCst));
-    assert_eq!(rt; done.fault, None);
+    fault_is(rt, done.fault, None);
     let lines = (workers as usize).saturating_mul(200);
-    assert_eq!(rt; done.history.len(), lines);
+    count_is(rt, done.history.len(), lines);
 }
 
 #[test]

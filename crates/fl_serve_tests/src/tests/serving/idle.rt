@@ -2,6 +2,7 @@
 
 use super::talker::Talker;
 use super::{serve_stream, socket_pair};
+use crate::tests::fault_is;
 use fl_serve::{Done, Open};
 use std::alloc::Global;
 use std::os::unix::net::UnixStream;
@@ -9,12 +10,12 @@ use std::process::Abort;
 use std::thread;
 use std::time::{Clock, CpuClock, Duration};
 
-// How much processor time the process uses in a second in which the client asks nothing.
+// How many milliseconds of processor time the process uses in a second in which the client asks nothing.
 fn used_in_a_second<R: Abort + Clock + CpuClock>(
     rt: &R,
     alloc: Global,
     stream: UnixStream,
-) -> Duration {
+) -> u128 {
     let mut talker = Talker::start(rt, alloc, stream);
     let mut message = talker.messages();
     message.create(2, 0).expect(rt, "memory");
@@ -24,12 +25,12 @@ fn used_in_a_second<R: Abort + Clock + CpuClock>(
     thread::sleep(rt, Duration::from_secs(1));
     let after = rt.process_cpu_time().expect(rt, "a clock");
     talker.close(rt);
-    after.saturating_sub(before)
+    after.saturating_sub(before).as_millis()
 }
 
-fn has_idled(rt: &impl Abort, done: &Done, used: Duration) {
-    assert_eq!(rt; done.fault, None);
-    assert!(rt; used < Duration::from_millis(20));
+fn has_idled(rt: &impl Abort, done: &Done, used: u128) {
+    fault_is(rt, done.fault, None);
+    assert!(rt; used < 20);
 }
 
 // Each test runs in a process of its own.

@@ -3,6 +3,7 @@
 use super::messages::Messages;
 use super::talker::read_replies;
 use super::{serve_stream, socket_pair};
+use crate::tests::{count_is, fault_is};
 use fl_serve::{Done, Open};
 use std::alloc::Global;
 use std::io::Write;
@@ -74,9 +75,9 @@ fn read_late<R: Abort + Clock>(rt: &R, alloc: Global, side: &Side) -> (u64, usiz
 // Some orders went out before any reply was read, and not all; all have a reply.
 fn has_piled_up(rt: &impl Abort, done: &Done, before: u64, replies: usize) {
     assert!(rt; 0 < before && before < MANY, "{before}");
-    assert_eq!(rt; replies, 10_001);
-    assert_eq!(rt; done.fault, None);
-    assert_eq!(rt; done.history.len(), 20_000);
+    count_is(rt, replies, 10_001);
+    fault_is(rt, done.fault, None);
+    count_is(rt, done.history.len(), 20_000);
 }
 
 #[test]

@@ -3,6 +3,7 @@
 use super::messages::{GETLK, Lock, Messages, READ, SETLK, UNLOCK, WRITE, byte_lock};
 use super::talker::{Talker, long_at, word_at};
 use super::{ended, serve_stream, socket_pair};
+use crate::tests::{count_is, fault_is};
 use fl_serve::{Done, Open};
 use std::alloc::{AllocError, Global};
 use std::os::unix::net::UnixStream;
@@ -14,7 +15,10 @@ fn make(rt: &impl Abort, talker: &mut Talker, name: u64) -> (u64, u64) {
     let mut create = talker.messages();
     create.create(2, name).expect(rt, "memory");
     talker.ask(rt, &create, 2);
-    let made = talker.body.as_slice();
+    node_and_fh(&talker.body)
+}
+
+fn node_and_fh(made: &[u8]) -> (u64, u64) {
     (long_at(made, 0), long_at(made, 128))
 }
 
@@ -90,9 +94,9 @@ fn one_at_a_time(rt: &impl Abort, alloc: Global, stream: UnixStream) -> usize {
 }
 
 fn has_all_replies(rt: &impl Abort, done: &Done, behind: usize) {
-    assert_eq!(rt; behind, 0);
-    assert_eq!(rt; done.fault, None);
-    assert_eq!(rt; done.history.len(), 20_002);
+    count_is(rt, behind, 0);
+    fault_is(rt, done.fault, None);
+    count_is(rt, done.history.len(), 20_002);
 }
 
 #[test]

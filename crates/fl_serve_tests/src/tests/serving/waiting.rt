@@ -3,6 +3,7 @@
 use super::messages::{SETLK, SETLKW, WRITE, byte_lock};
 use super::talker::Talker;
 use super::{asked_in, ended, serve_stream, socket_pair};
+use crate::tests::count_is;
 use fl_serve::{Done, Open};
 use std::alloc::Global;
 use std::os::unix::net::UnixStream;
@@ -36,8 +37,8 @@ fn ask_and_go(rt: &impl Abort, alloc: Global, stream: UnixStream) -> usize {
 
 // CREATE, the first lock and 200 requests were asked, of which only the first two have a reply.
 fn has_no_replies(rt: &impl Abort, alloc: Global, done: &Done, replies: usize) {
-    assert_eq!(rt; replies, 0);
-    assert_eq!(rt; asked_in(rt, alloc, &done.history).len(), 202);
+    count_is(rt, replies, 0);
+    count_is(rt, asked_in(rt, alloc, &done.history).len(), 202);
 }
 
 #[test]
