@@ -1,6 +1,7 @@
 //! Orders that are held up until a DESTROY was read.
 
 use super::ends::{end_last, twenty_orders_and_a_destroy};
+use super::messages::Messages;
 use super::served;
 use crate::tests::MANY;
 use fl_serve::Gate;
@@ -58,7 +59,7 @@ impl Gate for Late<'_> {
 fn waits_for_all<R: Abort + Threads + Wait + Sync>(
     rt: &R,
     alloc: Global,
-    messages: &[u8],
+    messages: Messages,
     workers: u32,
 ) {
     let all_read = AtomicBool::new(false);
@@ -68,8 +69,8 @@ fn waits_for_all<R: Abort + Threads + Wait + Sync>(
     };
     let mut input = Watched {
         source: Source {
-            bytes: messages,
-            most: messages.len().saturating_sub(40),
+            bytes: &messages.bytes,
+            most: messages.bytes.len().saturating_sub(40),
             reads: MANY,
         },
         all_read: &all_read,
@@ -82,8 +83,8 @@ fn waits_for_all<R: Abort + Threads + Wait + Sync>(
 
 #[test]
 fn destroy_waits_for_orders_that_are_held_up(rt: HostRuntime) {
-    let messages = twenty_orders_and_a_destroy(rt.alloc()).expect(&rt, "memory");
     for workers in [1, 4, 16] {
-        waits_for_all(&rt, rt.alloc(), &messages.bytes, workers);
+        let messages = twenty_orders_and_a_destroy(rt.alloc()).expect(&rt, "memory");
+        waits_for_all(&rt, rt.alloc(), messages, workers);
     }
 }
