@@ -20,6 +20,8 @@ use fl_book::{History, Line, Verdict, check};
 use fl_serve::{Done, Fault, Gate, Open, serve};
 use std::alloc::Global;
 use std::io::{Read, Write};
+use std::net::Net;
+use std::os::unix::net::UnixStream;
 use std::process::Abort;
 use std::sync::Wait;
 use std::thread::Threads;
@@ -34,6 +36,11 @@ fn of_workers(workers: u32) -> u32
     } else {
         workers
     }
+}
+
+// The two ends of a socket.
+fn socket_pair(rt: &(impl Abort + Net)) -> (UnixStream, UnixStream) {
+    UnixStream::pair(rt).expect(rt, "a socket")
 }
 
 // Serves with this many workers.
@@ -53,6 +60,17 @@ fn served<R: Threads + Wait + Sync, I: Read, W: Write + Send + Drop, G: Gate + S
 struct Came {
     done: Done,
     out: Vec<u8>,
+}
+
+// Serves a client at the other end of a socket with this many workers.
+fn serve_stream<R: Threads + Wait + Sync, G: Gate + Sync>(
+    rt: &R,
+    alloc: Global,
+    stream: UnixStream,
+    workers: u32,
+    gate: &G,
+) -> Done {
+    served(rt, alloc, &mut &stream, &mut &stream, workers, gate)
 }
 
 // Serves these messages with this many workers.
@@ -83,7 +101,8 @@ fn ended(
 }
 
 fn is_legal(rt: &impl Abort, alloc: Global, history: &History) {
-    assert_eq!(rt; check(alloc, history), Ok(Verdict::Legal));
+    let verdict = check(alloc, history).expect(rt, "memory");
+    assert_eq!(rt; verdict, Verdict::Legal);
 }
 
 // So many whole replies went out.

@@ -6,6 +6,7 @@ mod once;
 mod traced;
 mod waiting;
 
+use super::are_bytes;
 use around::AROUND_AN_INIT;
 use fl_book::{History, print_trace};
 use fl_serve::run_one;
@@ -17,8 +18,10 @@ use waiting::{BEGINNING, REQUESTS_THAT_WAIT};
 
 // The bytes that the lines with a mark spell in two texts, of which the first comes before the second.
 fn spelled(rt: &impl Abort, alloc: Global, before: &str, case: &str, mark: &str) -> Vec<u8> {
-    let text = [before, case].concat(alloc).expect(rt, "memory");
-    bytes_after(alloc, &text, mark).expect(rt, "hex")
+    let mut bytes = bytes_after(alloc, before, mark).expect(rt, "hex");
+    let behind = bytes_after(alloc, case, mark).expect(rt, "hex");
+    bytes.extend_from_slice(&behind).expect(rt, "memory");
+    bytes
 }
 
 // The messages of a session get its replies, and it ends with the stream. Gives its history.
@@ -49,7 +52,7 @@ fn all_answer(rt: &impl Abort, alloc: Global, before: &str, cases: &str) -> usiz
 fn is_traced(rt: &impl Abort, alloc: Global, history: &History, case: &str) {
     let trace = print_trace(alloc, history).expect(rt, "memory");
     let wanted = lines_after(alloc, case, "= ").expect(rt, "memory");
-    assert_eq!(rt; trace.as_str(), wanted.as_str());
+    are_bytes(rt, trace.as_bytes(), wanted.as_bytes());
 }
 
 // The same of sessions whose traces stand beside, for those too.

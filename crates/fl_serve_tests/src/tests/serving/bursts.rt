@@ -1,14 +1,14 @@
 //! Orders that come together, as many as there are workers, each of which has to find a worker of its own.
 
 use super::messages::Messages;
-use super::served;
 use super::talker::Talker;
+use super::{serve_stream, socket_pair};
+use crate::tests::{count_is, fault_is};
 use fl_serve::{Done, Gate};
 use std::alloc::Global;
 use std::os::unix::net::UnixStream;
 use std::process::Abort;
 use std::sync::atomic::{AtomicBool, AtomicU64, Ordering};
-use std::test::Fail;
 use std::thread;
 use std::thread::yield_now;
 
@@ -65,13 +65,13 @@ fn send_bursts(rt: &impl Abort, alloc: Global, stream: UnixStream, size: u32) {
 
 fn has_met(rt: &impl Abort, done: &Done, gate: &Meeting, workers: u32) {
     assert!(rt; !gate.given_up.load(Ordering::SeqCst));
-    assert_eq!(rt; done.fault, None);
+    fault_is(rt, done.fault, None);
     let lines = (workers as usize).saturating_mul(200);
-    assert_eq!(rt; done.history.len(), lines);
+    count_is(rt, done.history.len(), lines);
 }
 
 #[test]
-fn no_order_waits_for_a_worker_while_another_sleeps(rt: HostRuntime) -> Result<(), Fail> {
+fn no_order_waits_for_a_worker_while_another_sleeps(rt: HostRuntime) {
     let alloc = rt.alloc();
     for workers in [2, 4, 16] {
         let gate = Meeting {
@@ -79,12 +79,10 @@ fn no_order_waits_for_a_worker_while_another_sleeps(rt: HostRuntime) -> Result<(
             come: AtomicU64::new(0),
             given_up: AtomicBool::new(false),
         };
-        let (near, far) = UnixStream::pair(&rt)?;
-        let client = thread::spawn(&rt, move || send_bursts(&rt, alloc, near, workers))?;
-        let done = served(&rt, alloc, &mut &far, &mut &far, workers, &gate);
-        drop(far);
-        client.join(&rt);
+        let (near, far) = socket_pair(&rt);
+        let client = thread::spawn(&rt, move || send_bursts(&rt, alloc, near, workers));
+        let done = serve_stream(&rt, alloc, far, workers, &gate);
+        client.expect(&rt, "a thread").join(&rt);
         has_met(&rt, &done, &gate, workers);
     }
-    Ok(())
 }

@@ -2,13 +2,12 @@
 
 use super::messages::Messages;
 use super::{ended, replied, serve_bytes, served};
-use crate::tests::MANY;
-use fl_serve::{Fault, Open};
+use crate::tests::{MANY, count_is};
+use fl_serve::{Done, Fault, Open};
 use fl_testing::{Source, bytes_after};
 use std::alloc::{AllocError, Global};
 use std::process::Abort;
 use std::sync::Wait;
-use std::test::Fail;
 use std::thread::Threads;
 
 // INIT, and 20 orders of the uniques 2 to 21.
@@ -20,7 +19,14 @@ pub(super) fn twenty_orders(alloc: Global) -> Result<Messages, AllocError> {
     Ok(messages)
 }
 
-// The same, and behind them the bytes that this spells in hex.
+// The same, and a DESTROY of the unique 22.
+pub(super) fn twenty_orders_and_a_destroy(alloc: Global) -> Result<Messages, AllocError> {
+    let mut messages = twenty_orders(alloc)?;
+    messages.destroy(22)?;
+    Ok(messages)
+}
+
+// The first, and behind them the bytes that this spells in hex.
 pub(super) fn twenty_orders_and(rt: &impl Abort, alloc: Global, end: &str) -> Messages {
     let mut messages = twenty_orders(alloc).expect(rt, "memory");
     let end = bytes_after(alloc, end, "").expect(rt, "hex");
@@ -76,16 +82,15 @@ fn end_by_a_read<R: Abort + Threads + Wait + Sync>(
 }
 
 #[test]
-fn orders_before_a_read_that_fails(rt: HostRuntime) -> Result<(), Fail> {
-    let messages = twenty_orders(rt.alloc())?;
+fn orders_before_a_read_that_fails(rt: HostRuntime) {
+    let messages = twenty_orders(rt.alloc()).expect(&rt, "memory");
     for workers in [1, 4] {
         end_by_a_read(&rt, rt.alloc(), &messages.bytes, workers);
     }
-    Ok(())
 }
 
 // The reply to a DESTROY of the unique 22.
-pub(super) const DESTROYED: &[u8; 16] = b"\x10\0\0\0\0\0\0\0\x16\0\0\0\0\0\0\0";
+const DESTROYED: &[u8; 16] = b"\x10\0\0\0\0\0\0\0\x16\0\0\0\0\0\0\0";
 
 // Of these bytes, as many are read at first as come before the last message, which isn't read.
 fn end_by_a_destroy<R: Abort + Threads + Wait + Sync>(
@@ -101,22 +106,31 @@ fn end_by_a_destroy<R: Abort + Threads + Wait + Sync>(
     };
     let mut out = Vec::new(alloc);
     let done = served(rt, alloc, &mut input, &mut out, workers, &Open);
-    assert_eq!(rt; input.reads, MANY - 1);
-    assert_eq!(rt; input.bytes.len(), 56);
-    ended(rt, alloc, &done, None, 40, workers);
-    replied(rt, alloc, &out, 22, workers);
+    count_is(rt, input.reads, MANY - 1);
+    count_is(rt, input.bytes.len(), 56);
+    end_last(rt, alloc, &done, &out, workers);
+}
+
+// All orders and the DESTROY were answered, and that one was last.
+pub(super) fn end_last(rt: &impl Abort, alloc: Global, done: &Done, out: &[u8], workers: u32) {
+    ended(rt, alloc, done, None, 40, workers);
+    replied(rt, alloc, out, 22, workers);
     assert!(rt; out.ends_with(DESTROYED));
+}
+
+// Twenty orders, a DESTROY, and orders behind it.
+fn orders_behind_a_destroy(alloc: Global) -> Result<Messages, AllocError> {
+    let mut messages = twenty_orders_and_a_destroy(alloc)?;
+    messages.getattr(23, 1)?;
+    messages.getattr(24, 1)?;
+    Ok(messages)
 }
 
 // Orders behind the DESTROY, in the same read and in one that isn't made.
 #[test]
-fn destroy_is_answered_last(rt: HostRuntime) -> Result<(), Fail> {
-    let mut messages = twenty_orders(rt.alloc())?;
-    messages.destroy(22)?;
-    messages.getattr(23, 1)?;
-    messages.getattr(24, 1)?;
+fn destroy_is_answered_last(rt: HostRuntime) {
+    let messages = orders_behind_a_destroy(rt.alloc()).expect(&rt, "memory");
     for workers in [1, 4, 16] {
         end_by_a_destroy(&rt, rt.alloc(), &messages.bytes, workers);
     }
-    Ok(())
 }

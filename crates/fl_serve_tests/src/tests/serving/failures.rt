@@ -1,16 +1,15 @@
 //! Sessions with workers whose writes fail.
 
-use super::ends::{twenty_orders, twenty_orders_and};
+use super::ends::{twenty_orders, twenty_orders_and, twenty_orders_and_a_destroy};
 use super::messages::Messages;
 use super::{ended, replied, served};
-use crate::tests::MANY;
+use crate::tests::{MANY, count_is, fault_is};
 use fl_serve::{Fault, Open};
 use fl_testing::{Hiccup, Sink, Source};
 use std::alloc::Global;
 use std::io::ErrorKind;
 use std::process::Abort;
 use std::sync::Wait;
-use std::test::Fail;
 use std::thread::Threads;
 
 // All orders are in the history, though no reply to them goes out.
@@ -29,13 +28,12 @@ fn sends_nothing<R: Abort + Threads + Wait + Sync>(
 }
 
 #[test]
-fn no_write_succeeds(rt: HostRuntime) -> Result<(), Fail> {
-    let messages = twenty_orders(rt.alloc())?;
+fn no_write_succeeds(rt: HostRuntime) {
+    let messages = twenty_orders(rt.alloc()).expect(&rt, "memory");
     for workers in [1, 4] {
         sends_nothing(&rt, rt.alloc(), &messages, true, workers);
         sends_nothing(&rt, rt.alloc(), &messages, false, workers);
     }
-    Ok(())
 }
 
 // Three writes take 16 bytes each, and the fourth fails. The reader comes to these bytes, or so many reads.
@@ -54,8 +52,8 @@ fn has_fault<R: Abort + Threads + Wait + Sync>(
     };
     let mut output = Sink::new(alloc, 16, 3, true);
     let done = served(rt, alloc, &mut input, &mut output, 4, &Open);
-    assert_eq!(rt; done.fault, Some(fault));
-    assert_eq!(rt; output.held.len(), 48);
+    fault_is(rt, done.fault, Some(fault));
+    count_is(rt, output.held.len(), 48);
 }
 
 #[test]
@@ -78,17 +76,15 @@ fn stops_at<R: Abort + Threads + Wait + Sync>(
     let mut output = Hiccup::new(alloc, fails_at, ErrorKind::Other);
     let done = served(rt, alloc, &mut input, &mut output, workers, &Open);
     ended(rt, alloc, &done, Some(Fault::Write), 40, workers);
-    assert_eq!(rt; output.writes, fails_at.wrapping_add(1));
+    count_is(rt, output.writes, fails_at.wrapping_add(1));
     replied(rt, alloc, &output.held, fails_at, workers);
 }
 
 #[test]
-fn nothing_is_written_behind_a_write_that_failed(rt: HostRuntime) -> Result<(), Fail> {
-    let mut messages = twenty_orders(rt.alloc())?;
-    messages.destroy(22)?;
+fn nothing_is_written_behind_a_write_that_failed(rt: HostRuntime) {
+    let messages = twenty_orders_and_a_destroy(rt.alloc()).expect(&rt, "memory");
     for workers in [1, 4, 16] {
         stops_at(&rt, rt.alloc(), &messages, 0, workers);
         stops_at(&rt, rt.alloc(), &messages, 1, workers);
     }
-    Ok(())
 }

@@ -1,21 +1,21 @@
 //! A server that nobody asks.
 
-use super::served;
 use super::talker::Talker;
-use fl_serve::Open;
+use super::{serve_stream, socket_pair};
+use crate::tests::fault_is;
+use fl_serve::{Done, Open};
 use std::alloc::Global;
 use std::os::unix::net::UnixStream;
 use std::process::Abort;
-use std::test::Fail;
 use std::thread;
 use std::time::{Clock, CpuClock, Duration};
 
-// How much processor time the process uses in a second in which the client asks nothing.
+// How many milliseconds of processor time the process uses in a second in which the client asks nothing.
 fn used_in_a_second<R: Abort + Clock + CpuClock>(
     rt: &R,
     alloc: Global,
     stream: UnixStream,
-) -> Duration {
+) -> u128 {
     let mut talker = Talker::start(rt, alloc, stream);
     let mut message = talker.messages();
     message.create(2, 0).expect(rt, "memory");
@@ -25,25 +25,23 @@ fn used_in_a_second<R: Abort + Clock + CpuClock>(
     thread::sleep(rt, Duration::from_secs(1));
     let after = rt.process_cpu_time().expect(rt, "a clock");
     talker.close(rt);
-    after.saturating_sub(before)
+    after.saturating_sub(before).as_millis()
 }
 
-fn is_little(rt: &impl Abort, used: Duration) {
-    assert!(rt; used < Duration::from_millis(20));
+fn has_idled(rt: &impl Abort, done: &Done, used: u128) {
+    fault_is(rt, done.fault, None);
+    assert!(rt; used < 20);
 }
 
 // Each test runs in a process of its own.
 #[test]
-fn an_idle_server_uses_no_processor_time(rt: HostRuntime) -> Result<(), Fail> {
+fn an_idle_server_uses_no_processor_time(rt: HostRuntime) {
     let alloc = rt.alloc();
     for workers in [1, 16] {
-        let (near, far) = UnixStream::pair(&rt)?;
-        let client = thread::spawn(&rt, move || used_in_a_second(&rt, alloc, near))?;
-        let done = served(&rt, alloc, &mut &far, &mut &far, workers, &Open);
-        drop(far);
-        let used = client.join(&rt);
-        assert_eq!(&rt; done.fault, None);
-        is_little(&rt, used);
+        let (near, far) = socket_pair(&rt);
+        let client = thread::spawn(&rt, move || used_in_a_second(&rt, alloc, near));
+        let done = serve_stream(&rt, alloc, far, workers, &Open);
+        let used = client.expect(&rt, "a thread").join(&rt);
+        has_idled(&rt, &done, used);
     }
-    Ok(())
 }

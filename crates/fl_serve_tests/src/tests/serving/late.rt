@@ -1,8 +1,8 @@
 //! Orders that are held up until a DESTROY was read.
 
-use super::ends::{DESTROYED, twenty_orders};
+use super::ends::{end_last, twenty_orders_and_a_destroy};
 use super::messages::Messages;
-use super::{ended, replied, served};
+use super::served;
 use crate::tests::MANY;
 use fl_serve::Gate;
 use fl_testing::Source;
@@ -12,7 +12,6 @@ use std::io::Read;
 use std::process::Abort;
 use std::sync::Wait;
 use std::sync::atomic::{AtomicBool, Ordering};
-use std::test::Fail;
 use std::thread::{Threads, yield_now};
 
 // Says when the last byte was read.
@@ -79,17 +78,13 @@ fn waits_for_all<R: Abort + Threads + Wait + Sync>(
     let mut out = Vec::new(alloc);
     let done = served(rt, alloc, &mut input, &mut out, workers, &gate);
     assert!(rt; !gate.given_up.load(Ordering::SeqCst));
-    ended(rt, alloc, &done, None, 40, workers);
-    replied(rt, alloc, &out, 22, workers);
-    assert!(rt; out.ends_with(DESTROYED));
+    end_last(rt, alloc, &done, &out, workers);
 }
 
 #[test]
-fn destroy_waits_for_orders_that_are_held_up(rt: HostRuntime) -> Result<(), Fail> {
+fn destroy_waits_for_orders_that_are_held_up(rt: HostRuntime) {
     for workers in [1, 4, 16] {
-        let mut messages = twenty_orders(rt.alloc())?;
-        messages.destroy(22)?;
+        let messages = twenty_orders_and_a_destroy(rt.alloc()).expect(&rt, "memory");
         waits_for_all(&rt, rt.alloc(), messages, workers);
     }
-    Ok(())
 }

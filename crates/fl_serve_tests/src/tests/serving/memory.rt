@@ -3,13 +3,13 @@
 use super::messages::{GETLK, Lock, Messages, READ, SETLK, SETLKW, UNLOCK, WRITE, byte_lock};
 use super::talker::{Reply, sorted};
 use super::{Came, ended, serve_bytes, served};
-use fl_book::{History, print_trace};
+use crate::tests::{are_bytes, count_is, fault_is};
+use fl_book::{History, Line, print_trace};
 use fl_serve::{Gate, run_one};
 use std::alloc::{AllocError, Global};
 use std::process::Abort;
 use std::sync::Wait;
 use std::sync::atomic::{AtomicBool, Ordering};
-use std::test::Fail;
 use std::thread::{Threads, yield_now};
 
 // INIT, CREATE, a write lock of bytes 0 to 9 by owner 7, and a read lock of byte 9 by owner 8.
@@ -53,12 +53,11 @@ fn are_one_to_four(rt: &impl Abort, replies: &[Reply]) {
 }
 
 #[test]
-fn each_order_is_answered_once(rt: HostRuntime) -> Result<(), Fail> {
-    let messages = four_messages(rt.alloc())?;
+fn each_order_is_answered_once(rt: HostRuntime) {
+    let messages = four_messages(rt.alloc()).expect(&rt, "memory");
     for workers in [1, 2, 4, 16] {
         answers_once(&rt, rt.alloc(), &messages, workers);
     }
-    Ok(())
 }
 
 const TRACE: &str = "\
@@ -72,22 +71,27 @@ tell 4 err 11
 
 fn has_trace(rt: &impl Abort, alloc: Global, history: &History, wanted: &str) {
     let trace = print_trace(alloc, history).expect(rt, "memory");
-    assert_eq!(rt; trace.as_str(), wanted);
+    are_bytes(rt, trace.as_bytes(), wanted.as_bytes());
 }
 
 #[test]
-fn one_worker_takes_orders_as_they_came(rt: HostRuntime) -> Result<(), Fail> {
-    let messages = four_messages(rt.alloc())?;
+fn one_worker_takes_orders_as_they_came(rt: HostRuntime) {
+    let messages = four_messages(rt.alloc()).expect(&rt, "memory");
     let came = serve_bytes(&rt, rt.alloc(), &messages.bytes, 1);
     has_trace(&rt, rt.alloc(), &came.done.history, TRACE);
+}
+
+// Ten requests that wait, each of an owner of its own.
+fn wait(messages: &mut Messages) -> Result<(), AllocError> {
+    for unique in 5u64..15 {
+        let write = byte_lock(unique.wrapping_add(64), WRITE);
+        messages.lock(SETLKW, unique, 2, &write)?;
+    }
     Ok(())
 }
 
-// Ten requests that wait, of which the third is interrupted.
-fn wait(messages: &mut Messages) -> Result<(), AllocError> {
-    for unique in 5..15 {
-        messages.lock(SETLKW, unique, 2, &byte_lock(unique + 64, WRITE))?;
-    }
+// INTERRUPT of the third of them, and of a request that isn't there.
+fn interrupt(messages: &mut Messages) -> Result<(), AllocError> {
     messages.interrupt(15, 7)?;
     messages.interrupt(16, 99)
 }
@@ -104,29 +108,33 @@ fn unlock(messages: &mut Messages) -> Result<(), AllocError> {
 fn with_waiters(alloc: Global) -> Result<Messages, AllocError> {
     let mut messages = four_messages(alloc)?;
     wait(&mut messages)?;
+    interrupt(&mut messages)?;
     unlock(&mut messages)?;
     Ok(messages)
 }
 
 fn are_alike(rt: &impl Abort, found: &History, wanted: &History) {
-    assert_eq!(rt; found.len(), wanted.len());
+    count_is(rt, found.len(), wanted.len());
     for at in 0..found.len().min(wanted.len()) {
-        assert_eq!(rt; found.line(at), wanted.line(at));
+        is_line(rt, &found.line(at), &wanted.line(at));
     }
+}
+
+fn is_line(rt: &impl Abort, found: &Line, wanted: &Line) {
+    assert_eq!(rt; *found, *wanted);
 }
 
 // What one worker sends and records is what a session without workers sends and records.
 #[test]
-fn one_worker_sends_the_same_bytes(rt: HostRuntime) -> Result<(), Fail> {
-    let messages = with_waiters(rt.alloc())?;
+fn one_worker_sends_the_same_bytes(rt: HostRuntime) {
+    let messages = with_waiters(rt.alloc()).expect(&rt, "memory");
     let Came { done, out } = serve_bytes(&rt, rt.alloc(), &messages.bytes, 1);
     let mut alone = Vec::new(rt.alloc());
     let mut input = messages.bytes.as_slice();
     let wanted = run_one(rt.alloc(), &mut input, &mut alone);
-    assert_eq!(&rt; out, alone);
-    assert_eq!(&rt; done.fault, None);
+    are_bytes(&rt, &out, &alone);
+    fault_is(&rt, done.fault, None);
     are_alike(&rt, &done.history, &wanted.history);
-    Ok(())
 }
 
 // A lock of an open file that isn't there.
@@ -189,17 +197,20 @@ fn are_answered<R: Abort + Threads + Wait + Sync>(
     let came = serve_bytes(rt, alloc, &messages.bytes, workers);
     ended(rt, alloc, &came.done, None, 1000, workers);
     let found = sorted(rt, alloc, &came.out);
-    assert_eq!(rt; found.as_slice(), wanted);
+    are_replies(rt, &found, wanted);
+}
+
+fn are_replies(rt: &impl Abort, found: &[Reply], wanted: &[Reply]) {
+    assert_eq!(rt; found, wanted);
 }
 
 #[test]
-fn answers_that_are_alike_for_all_workers(rt: HostRuntime) -> Result<(), Fail> {
-    let messages = six_hundred(rt.alloc())?;
-    let wanted = wanted_replies(rt.alloc())?;
+fn answers_that_are_alike_for_all_workers(rt: HostRuntime) {
+    let messages = six_hundred(rt.alloc()).expect(&rt, "memory");
+    let wanted = wanted_replies(rt.alloc()).expect(&rt, "memory");
     for workers in [1, 2, 4, 16] {
         are_answered(&rt, rt.alloc(), &messages, &wanted, workers);
     }
-    Ok(())
 }
 
 // Holds the order 2 until a reply of the order 3 was sent.
@@ -243,19 +254,23 @@ fn two_files(alloc: Global) -> Result<Messages, AllocError> {
     Ok(messages)
 }
 
-#[test]
-fn two_workers_run_at_once(rt: HostRuntime) -> Result<(), Fail> {
-    let messages = two_files(rt.alloc())?;
+// Two workers take both orders, the second before the first.
+fn cross<R: Abort + Threads + Wait + Sync>(rt: &R, alloc: Global, messages: &[u8]) {
     let gate = Crossing {
         sent: AtomicBool::new(false),
         given_up: AtomicBool::new(false),
     };
-    let mut out = Vec::new(rt.alloc());
-    let mut input = messages.bytes.as_slice();
-    let done = served(&rt, rt.alloc(), &mut input, &mut out, 2, &gate);
-    assert!(&rt; !gate.given_up.load(Ordering::SeqCst));
-    ended(&rt, rt.alloc(), &done, None, 4, 2);
-    has_crossed(&rt, rt.alloc(), &done.history);
-    assert_eq!(&rt; out.len(), 400);
-    Ok(())
+    let mut out = Vec::new(alloc);
+    let mut input = messages;
+    let done = served(rt, alloc, &mut input, &mut out, 2, &gate);
+    assert!(rt; !gate.given_up.load(Ordering::SeqCst));
+    ended(rt, alloc, &done, None, 4, 2);
+    has_crossed(rt, alloc, &done.history);
+    count_is(rt, out.len(), 400);
+}
+
+#[test]
+fn two_workers_run_at_once(rt: HostRuntime) {
+    let messages = two_files(rt.alloc()).expect(&rt, "memory");
+    cross(&rt, rt.alloc(), &messages.bytes);
 }

@@ -2,14 +2,14 @@
 
 use super::messages::{GETLK, Lock, Messages, READ, SETLK, SETLKW, UNLOCK, WRITE};
 use super::talker::{MOST_BODY, next_reply};
-use super::{asked_in, is_legal, served};
-use fl_serve::Open;
+use super::{asked_in, is_legal, serve_stream, socket_pair};
+use crate::tests::{count_is, fault_is};
+use fl_serve::{Done, Open};
 use std::alloc::{AllocError, Global};
 use std::io::{BufReader, Write};
 use std::net::Shutdown;
 use std::os::unix::net::UnixStream;
 use std::process::Abort;
-use std::test::Fail;
 use std::thread;
 
 // How many orders there are, and the unique of the first.
@@ -114,8 +114,8 @@ impl Counted {
     }
 
     // How many uniques have a number of replies that they can't have.
-    fn wrong(&self) -> u64 {
-        let mut wrong = 0u64;
+    fn wrong(&self) -> usize {
+        let mut wrong = 0usize;
         for unique in FIRST..FIRST + ORDERS {
             let replies = self.of_unique.get(unique as usize).copied().unwrap_or(9);
             if replies > 1 || replies == 0 && has_a_reply(unique) {
@@ -148,25 +148,32 @@ fn count_replies(rt: &impl Abort, alloc: Global, stream: UnixStream) -> Counted 
 // The CREATE and all orders are in the history, and each line of it that isn't one of them is a reply. The INIT's reply is
 // no line.
 fn has_all(rt: &impl Abort, lines: usize, asked: usize, counted: &Counted) {
-    assert_eq!(rt; counted.wrong(), 0);
-    assert_eq!(rt; asked as u64, ORDERS + 1);
-    assert_eq!(rt; counted.all, lines.saturating_sub(asked).saturating_add(1));
+    count_is(rt, counted.wrong(), 0);
+    count_is(rt, asked, 1_000_001);
+    count_is(
+        rt,
+        counted.all,
+        lines.saturating_sub(asked).saturating_add(1),
+    );
+}
+
+// The session ended with the stream, with all orders and a legal history.
+fn is_whole(rt: &impl Abort, alloc: Global, done: &Done, counted: &Counted) {
+    fault_is(rt, done.fault, None);
+    let asked = asked_in(rt, alloc, &done.history).len();
+    has_all(rt, done.history.len(), asked, counted);
+    is_legal(rt, alloc, &done.history);
 }
 
 #[test]
-fn a_million_orders(rt: HostRuntime) -> Result<(), Fail> {
+fn a_million_orders(rt: HostRuntime) {
     let alloc = rt.alloc();
-    let (near, far) = UnixStream::pair(&rt)?;
-    let reads = near.try_clone()?;
-    let sender = thread::spawn(&rt, move || send_all(&rt, alloc, near))?;
-    let reader = thread::spawn(&rt, move || count_replies(&rt, alloc, reads))?;
-    let done = served(&rt, alloc, &mut &far, &mut &far, 4, &Open);
-    drop(far);
-    sender.join(&rt);
-    let counted = reader.join(&rt);
-    assert_eq!(&rt; done.fault, None);
-    let asked = asked_in(&rt, alloc, &done.history).len();
-    has_all(&rt, done.history.len(), asked, &counted);
-    is_legal(&rt, alloc, &done.history);
-    Ok(())
+    let (near, far) = socket_pair(&rt);
+    let reads = near.try_clone().expect(&rt, "a socket");
+    let sender = thread::spawn(&rt, move || send_all(&rt, alloc, near));
+    let reader = thread::spawn(&rt, move || count_replies(&rt, alloc, reads));
+    let done = serve_stream(&rt, alloc, far, 4, &Open);
+    sender.expect(&rt, "a thread").join(&rt);
+    let counted = reader.expect(&rt, "a thread").join(&rt);
+    is_whole(&rt, alloc, &done, &counted);
 }

@@ -1,8 +1,9 @@
 //! A client that doesn't read its replies for a long time.
 
 use super::messages::Messages;
-use super::served;
 use super::talker::read_replies;
+use super::{serve_stream, socket_pair};
+use crate::tests::{count_is, fault_is};
 use fl_serve::{Done, Open};
 use std::alloc::Global;
 use std::io::Write;
@@ -11,7 +12,6 @@ use std::os::unix::net::UnixStream;
 use std::process::Abort;
 use std::sync::Arc;
 use std::sync::atomic::{AtomicU64, Ordering};
-use std::test::Fail;
 use std::thread;
 use std::time::{Clock, Duration};
 
@@ -26,13 +26,13 @@ struct Side {
 }
 
 // The sides that send and read.
-fn sides(alloc: Global, stream: UnixStream) -> Result<(Side, Side), Fail> {
-    let sent = Arc::new(alloc, AtomicU64::new(0))?;
+fn sides(rt: &impl Abort, alloc: Global, stream: UnixStream) -> (Side, Side) {
+    let sent = Arc::new(alloc, AtomicU64::new(0)).expect(rt, "memory");
     let reads = Side {
-        stream: stream.try_clone()?,
-        sent: Arc::try_clone(&sent)?,
+        stream: stream.try_clone().expect(rt, "a socket"),
+        sent: Arc::try_clone(&sent).expect(rt, "an Arc"),
     };
-    Ok((Side { stream, sent }, reads))
+    (Side { stream, sent }, reads)
 }
 
 // Sends INIT and 10,000 orders, and counts those that went out.
@@ -75,24 +75,22 @@ fn read_late<R: Abort + Clock>(rt: &R, alloc: Global, side: &Side) -> (u64, usiz
 // Some orders went out before any reply was read, and not all; all have a reply.
 fn has_piled_up(rt: &impl Abort, done: &Done, before: u64, replies: usize) {
     assert!(rt; 0 < before && before < MANY, "{before}");
-    assert_eq!(rt; replies, 10_001);
-    assert_eq!(rt; done.fault, None);
-    assert_eq!(rt; done.history.len(), 20_000);
+    count_is(rt, replies, 10_001);
+    fault_is(rt, done.fault, None);
+    count_is(rt, done.history.len(), 20_000);
 }
 
 #[test]
-fn replies_pile_up(rt: HostRuntime) -> Result<(), Fail> {
+fn replies_pile_up(rt: HostRuntime) {
     let alloc = rt.alloc();
     for workers in [1, 4] {
-        let (near, far) = UnixStream::pair(&rt)?;
-        let (writes, reads) = sides(alloc, near)?;
-        let sender = thread::spawn(&rt, move || send_many(&rt, alloc, &writes))?;
-        let reader = thread::spawn(&rt, move || read_late(&rt, alloc, &reads))?;
-        let done = served(&rt, alloc, &mut &far, &mut &far, workers, &Open);
-        drop(far);
-        sender.join(&rt);
-        let (before, replies) = reader.join(&rt);
+        let (near, far) = socket_pair(&rt);
+        let (writes, reads) = sides(&rt, alloc, near);
+        let sender = thread::spawn(&rt, move || send_many(&rt, alloc, &writes));
+        let reader = thread::spawn(&rt, move || read_late(&rt, alloc, &reads));
+        let done = serve_stream(&rt, alloc, far, workers, &Open);
+        sender.expect(&rt, "a thread").join(&rt);
+        let (before, replies) = reader.expect(&rt, "a thread").join(&rt);
         has_piled_up(&rt, &done, before, replies);
     }
-    Ok(())
 }

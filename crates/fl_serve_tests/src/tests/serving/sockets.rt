@@ -1,13 +1,13 @@
 //! Sessions over a socket with clients that wait for their replies.
 
-use super::messages::{GETLK, Lock, READ, SETLK, UNLOCK, WRITE, byte_lock};
+use super::messages::{GETLK, Lock, Messages, READ, SETLK, UNLOCK, WRITE, byte_lock};
 use super::talker::{Talker, long_at, word_at};
-use super::{ended, served};
+use super::{ended, serve_stream, socket_pair};
+use crate::tests::{count_is, fault_is};
 use fl_serve::{Done, Open};
-use std::alloc::Global;
+use std::alloc::{AllocError, Global};
 use std::os::unix::net::UnixStream;
 use std::process::Abort;
-use std::test::Fail;
 use std::thread;
 
 // Makes a file, and says which node and which fh it has.
@@ -15,7 +15,10 @@ fn make(rt: &impl Abort, talker: &mut Talker, name: u64) -> (u64, u64) {
     let mut create = talker.messages();
     create.create(2, name).expect(rt, "memory");
     talker.ask(rt, &create, 2);
-    let made = talker.body.as_slice();
+    node_and_fh(&talker.body)
+}
+
+fn node_and_fh(made: &[u8]) -> (u64, u64) {
     (long_at(made, 0), long_at(made, 128))
 }
 
@@ -44,23 +47,36 @@ fn shown_locks(rt: &impl Abort, alloc: Global, stream: UnixStream) {
     for name in 0..100 {
         let (node, fh) = make(rt, &mut talker, name);
         set_and_get(rt, &mut talker, node, fh);
-        let shown = talker.body.as_slice();
-        assert_eq!(rt; (long_at(shown, 0), long_at(shown, 8)), (0, 9));
-        assert_eq!(rt; (word_at(shown, 16), word_at(shown, 20)), (WRITE, 11));
+        is_shown(rt, talker.body.as_slice());
     }
     talker.close(rt);
 }
 
+// What is shown is a write lock of bytes 0 to 9 by the process 11.
+fn is_shown(rt: &impl Abort, shown: &[u8]) {
+    assert_eq!(rt; long_at(shown, 0), 0);
+    assert_eq!(rt; long_at(shown, 8), 9);
+    assert_eq!(rt; word_at(shown, 16), WRITE);
+    assert_eq!(rt; word_at(shown, 20), 11);
+}
+
 #[test]
-fn a_lock_that_was_set_is_shown(rt: HostRuntime) -> Result<(), Fail> {
+fn a_lock_that_was_set_is_shown(rt: HostRuntime) {
     let alloc = rt.alloc();
-    let (near, far) = UnixStream::pair(&rt)?;
-    let client = thread::spawn(&rt, move || shown_locks(&rt, alloc, near))?;
-    let done = served(&rt, alloc, &mut &far, &mut &far, 4, &Open);
-    drop(far);
-    client.join(&rt);
+    let (near, far) = socket_pair(&rt);
+    let client = thread::spawn(&rt, move || shown_locks(&rt, alloc, near));
+    let done = serve_stream(&rt, alloc, far, 4, &Open);
+    client.expect(&rt, "a thread").join(&rt);
     ended(&rt, alloc, &done, None, 600, 4);
-    Ok(())
+}
+
+// A lock, a GETATTR or an unlock of the file that was made first.
+fn put_order(message: &mut Messages, unique: u64) -> Result<(), AllocError> {
+    match unique % 3 {
+        0 => message.lock(SETLK, unique, 2, &byte_lock(7, WRITE)),
+        1 => message.getattr(unique, 2),
+        _ => message.lock(SETLK, unique, 2, &byte_lock(7, UNLOCK)),
+    }
 }
 
 // Sends 10,000 orders, each when the reply before it came, and says how many more replies come.
@@ -70,12 +86,7 @@ fn one_at_a_time(rt: &impl Abort, alloc: Global, stream: UnixStream) -> usize {
     let mut message = talker.messages();
     for unique in 3..10_003 {
         message.bytes.clear();
-        match unique % 3 {
-            0 => message.lock(SETLK, unique, 2, &byte_lock(7, WRITE)),
-            1 => message.getattr(unique, 2),
-            _ => message.lock(SETLK, unique, 2, &byte_lock(7, UNLOCK)),
-        }
-        .expect(rt, "memory");
+        put_order(&mut message, unique).expect(rt, "memory");
         talker.ask(rt, &message, unique);
     }
     talker.close(rt);
@@ -83,20 +94,19 @@ fn one_at_a_time(rt: &impl Abort, alloc: Global, stream: UnixStream) -> usize {
 }
 
 fn has_all_replies(rt: &impl Abort, done: &Done, behind: usize) {
-    assert_eq!(rt; behind, 0);
-    assert_eq!(rt; done.fault, None);
-    assert_eq!(rt; done.history.len(), 20_002);
+    count_is(rt, behind, 0);
+    fault_is(rt, done.fault, None);
+    count_is(rt, done.history.len(), 20_002);
 }
 
 #[test]
-fn no_reply_stays_behind(rt: HostRuntime) -> Result<(), Fail> {
+fn no_reply_stays_behind(rt: HostRuntime) {
     let alloc = rt.alloc();
     for workers in [1, 16] {
-        let (near, far) = UnixStream::pair(&rt)?;
-        let client = thread::spawn(&rt, move || one_at_a_time(&rt, alloc, near))?;
-        let done = served(&rt, alloc, &mut &far, &mut &far, workers, &Open);
-        drop(far);
-        has_all_replies(&rt, &done, client.join(&rt));
+        let (near, far) = socket_pair(&rt);
+        let client = thread::spawn(&rt, move || one_at_a_time(&rt, alloc, near));
+        let done = serve_stream(&rt, alloc, far, workers, &Open);
+        let behind = client.expect(&rt, "a thread").join(&rt);
+        has_all_replies(&rt, &done, behind);
     }
-    Ok(())
 }

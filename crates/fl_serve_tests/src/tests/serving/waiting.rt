@@ -2,12 +2,12 @@
 
 use super::messages::{SETLK, SETLKW, WRITE, byte_lock};
 use super::talker::Talker;
-use super::{asked_in, ended, served};
+use super::{asked_in, ended, serve_stream, socket_pair};
+use crate::tests::count_is;
 use fl_serve::{Done, Open};
 use std::alloc::Global;
 use std::os::unix::net::UnixStream;
 use std::process::Abort;
-use std::test::Fail;
 use std::thread;
 
 // Makes a file and sets a lock on its first byte.
@@ -37,21 +37,19 @@ fn ask_and_go(rt: &impl Abort, alloc: Global, stream: UnixStream) -> usize {
 
 // CREATE, the first lock and 200 requests were asked, of which only the first two have a reply.
 fn has_no_replies(rt: &impl Abort, alloc: Global, done: &Done, replies: usize) {
-    assert_eq!(rt; replies, 0);
-    assert_eq!(rt; asked_in(rt, alloc, &done.history).len(), 202);
+    count_is(rt, replies, 0);
+    count_is(rt, asked_in(rt, alloc, &done.history).len(), 202);
 }
 
 #[test]
-fn requests_that_wait_have_no_reply(rt: HostRuntime) -> Result<(), Fail> {
+fn requests_that_wait_have_no_reply(rt: HostRuntime) {
     let alloc = rt.alloc();
     for workers in [1, 16] {
-        let (near, far) = UnixStream::pair(&rt)?;
-        let client = thread::spawn(&rt, move || ask_and_go(&rt, alloc, near))?;
-        let done = served(&rt, alloc, &mut &far, &mut &far, workers, &Open);
-        drop(far);
-        let replies = client.join(&rt);
+        let (near, far) = socket_pair(&rt);
+        let client = thread::spawn(&rt, move || ask_and_go(&rt, alloc, near));
+        let done = serve_stream(&rt, alloc, far, workers, &Open);
+        let replies = client.expect(&rt, "a thread").join(&rt);
         ended(&rt, alloc, &done, None, 204, workers);
         has_no_replies(&rt, alloc, &done, replies);
     }
-    Ok(())
 }

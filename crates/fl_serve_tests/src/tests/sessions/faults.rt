@@ -1,6 +1,6 @@
 //! The worked session, a few bytes at a time, cut off, and with reads and writes that fail.
 
-use super::super::MANY;
+use super::super::{MANY, are_bytes, count_is, fault_is};
 use super::traced::two_locks;
 use super::{is_traced, spelled};
 use fl_serve::{Done, Fault, run_one, run_session};
@@ -20,7 +20,7 @@ pub(super) fn replies(rt: &impl Abort, alloc: Global) -> Vec<u8> {
 
 // It came to the trace that is wanted, and to this fault.
 fn is_whole(rt: &impl Abort, alloc: Global, done: &Done, fault: Option<Fault>) {
-    assert_eq!(rt; done.fault, fault);
+    fault_is(rt, done.fault, fault);
     assert!(rt; !done.refused);
     is_traced(rt, alloc, &done.history, two_locks());
 }
@@ -61,7 +61,7 @@ fn is_cut(rt: &impl Abort, alloc: Global, stream: &[u8], replies: &[u8], len: us
     let done = run_one(alloc, &mut input, &mut output);
     let (end, sent) = last_end(len);
     let fault = if end == len { None } else { Some(Fault::Cut) };
-    assert_eq!(rt; done.fault, fault);
+    fault_is(rt, done.fault, fault);
     is_sent(rt, &output, replies, sent);
 }
 
@@ -83,7 +83,7 @@ fn ends_by_a_read(rt: &impl Abort, alloc: Global, stream: &[u8], reads: usize) -
     };
     let mut output = Vec::new(alloc);
     let done = run_one(alloc, &mut input, &mut output);
-    assert_eq!(rt; done.fault, Some(Fault::Read));
+    fault_is(rt, done.fault, Some(Fault::Read));
     output
 }
 
@@ -154,14 +154,14 @@ fn ends_before(rt: &impl Abort, alloc: Global, end: &str, fault: Option<Fault>) 
     };
     let mut output: Vec<u8> = Vec::new(alloc);
     let done = run_one(alloc, &mut input, &mut output);
-    assert_eq!(rt; done.fault, fault);
+    fault_is(rt, done.fault, fault);
     is_left(rt, &input, &behind);
 }
 
 // One read was made, and these bytes are left.
 fn is_left(rt: &impl Abort, input: &Source<'_>, left: &[u8]) {
-    assert_eq!(rt; input.reads, MANY - 1);
-    assert_eq!(rt; input.bytes, left);
+    count_is(rt, input.reads, MANY - 1);
+    are_bytes(rt, input.bytes, left);
 }
 
 const DESTROY: &str =
@@ -181,7 +181,7 @@ fn is_cut_and_broken(rt: &impl Abort, alloc: Global, writes: usize, broken: bool
     let mut input = stream.get(..289).unwrap_or(&[]);
     let mut output = Sink::new(alloc, 240, writes, true);
     let ended = run_session(alloc, &mut input, &mut output);
-    assert_eq!(rt; ended.done.fault, Some(Fault::Cut));
+    fault_is(rt, ended.done.fault, Some(Fault::Cut));
     assert_eq!(rt; ended.broken, broken);
 }
 

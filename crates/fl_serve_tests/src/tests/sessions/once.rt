@@ -1,6 +1,7 @@
 //! The worked session with one read or one write that is interrupted. It isn't tried again: the session takes it as any
 //! other that fails.
 
+use super::super::{count_is, fault_is};
 use super::faults::{is_sent, replies, sent_after, stream};
 use fl_serve::{Fault, run_one, run_session};
 use fl_testing::{Hiccup, Stumble};
@@ -19,8 +20,8 @@ fn ends_by_the_read(rt: &impl Abort, alloc: Global, stream: &[u8], reads: usize)
     };
     let mut output = Vec::new(alloc);
     let done = run_one(alloc, &mut input, &mut output);
-    assert_eq!(rt; done.fault, Some(Fault::Read));
-    assert_eq!(rt; input.reads, reads.saturating_add(1));
+    fault_is(rt, done.fault, Some(Fault::Read));
+    count_is(rt, input.reads, reads.saturating_add(1));
     output
 }
 
@@ -39,9 +40,9 @@ fn ends_by_the_write(rt: &impl Abort, alloc: Global, stream: &[u8], writes: usiz
     let mut input = stream;
     let mut output = Hiccup::new(alloc, writes, ErrorKind::Interrupted);
     let ended = run_session(alloc, &mut input, &mut output);
-    assert_eq!(rt; ended.done.fault, Some(Fault::Write));
+    fault_is(rt, ended.done.fault, Some(Fault::Write));
     assert!(rt; ended.broken);
-    assert_eq!(rt; output.writes, writes.saturating_add(1));
+    count_is(rt, output.writes, writes.saturating_add(1));
     output.held
 }
 
