@@ -95,7 +95,8 @@ module _ {T : Type 0} (nodes : List (Node T)) (ends : List Ends) (spare : Option
   shifted before after previous next e end f last now found back on ended other back_there on_there lasts written =
       let outside = relinked nodes before after before after in
       let freed : slice_get (set outside slot (Free spare)) slot ≡ Some (Free spare) =
-      slice_get-set_same outside slot (Free spare) (omega (arith, slice_get_within nodes slot (Taken m) read, length-relinked nodes before after before after)) in
+      slice_get-set_same outside slot (Free spare)
+      (omega (arith, slice_get_within nodes slot (Taken m) read, length-relinked nodes before after before after)) in
       let whole =
       inserted (set outside slot (Free spare)) (set ends c end) (free + 1) (without a c i) d j slot m.item spare previous next f last now
       (left before after e end found back on ended) still_within (rw still within) freed other (rw still back_there) (rw still on_there)

@@ -43,7 +43,8 @@ stands xs s c = stands_at xs s c.0 c.1 c.2
 
 -- What leads from a request a to the owner of s, and what leads from s to q, by or without the first request r. Each name
 -- says from where to where.
-meet : (a_s a_r r_s s_q s_r r_q a_q : Bool) → (a_s ≡ true → s_q ≡ true → a_q ≡ true) → (a_s ≡ true → s_r ≡ true → a_r ≡ true) → (r_s ≡ true → s_q ≡ true → r_q ≡ true)
+meet : (a_s a_r r_s s_q s_r r_q a_q : Bool) → (a_s ≡ true → s_q ≡ true → a_q ≡ true) → (a_s ≡ true → s_r ≡ true → a_r ≡ true)
+    → (r_s ≡ true → s_q ≡ true → r_q ≡ true)
     → (a_s ≡ true) ⊎ ((a_r ≡ true) × (r_s ≡ true)) → (s_q ≡ true) ⊎ ((s_r ≡ true) × (r_q ≡ true)) → (a_q || (a_r && r_q)) ≡ true
 meet a_s a_r r_s s_q s_r r_q a_q f g h (inl p) (inl q) = without a_q a_r r_q (f p q)
 meet a_s a_r r_s s_q s_r r_q a_q f g h (inl p) (inr q) = through a_q a_r r_q (g p q.0) q.1
@@ -51,7 +52,8 @@ meet a_s a_r r_s s_q s_r r_q a_q f g h (inr p) (inl q) = through a_q a_r r_q p.0
 meet a_s a_r r_s s_q s_r r_q a_q f g h (inr p) (inr q) = through a_q a_r r_q p.0 q.1
 
 -- and where s is the first request itself
-meet_first : (a_r r_r r_q a_q : Bool) → (a_r ≡ true) ⊎ ((a_r ≡ true) × (r_r ≡ true)) → (r_q ≡ true) ⊎ ((r_r ≡ true) × (r_q ≡ true)) → (a_q || (a_r && r_q)) ≡ true
+meet_first : (a_r r_r r_q a_q : Bool) → (a_r ≡ true) ⊎ ((a_r ≡ true) × (r_r ≡ true)) → (r_q ≡ true) ⊎ ((r_r ≡ true) × (r_q ≡ true))
+    → (a_q || (a_r && r_q)) ≡ true
 meet_first a_r r_r r_q a_q p q = through a_q a_r r_q (⊎_elim (λ h. h) (λ h. h.0) p) (⊎_elim (λ h. h) (λ h. h.1) q)
 
 module _ {A : Type 0} (owner_of : A → ℕ) (hinders : A → ℕ → Bool) where
@@ -64,7 +66,8 @@ module _ {A : Type 0} (owner_of : A → ℕ) (hinders : A → ℕ → Bool) wher
   leads_directly [] a q h = h
   leads_directly (r ∷ rs) a q h = without (L rs a q) (L rs a (owner_of r)) (L rs r q) (leads_directly rs a q h)
 
-  on : (rs : List A) (a s : A) (q : ℕ) → Stands rs s → leads owner_of hinders rs a (owner_of s) ≡ true → leads owner_of hinders rs s q ≡ true → leads owner_of hinders rs a q ≡ true
+  on : (rs : List A) (a s : A) (q : ℕ) → Stands rs s → leads owner_of hinders rs a (owner_of s) ≡ true → leads owner_of hinders rs s q ≡ true
+      → leads owner_of hinders rs a q ≡ true
   unfolding leads Stands
   on [] a s q i h k = absurd i
   on (r ∷ rs) a s q (inl e) h k =
@@ -77,7 +80,8 @@ module _ {A : Type 0} (owner_of : A → ℕ) (hinders : A → ℕ → Bool) wher
       (by_two (L rs a (owner_of s)) (L rs a (owner_of r)) (L rs r (owner_of s)) h) (by_two (L rs s q) (L rs s (owner_of r)) (L rs r q) k)
 
   -- and so is an owner whom a request waits for, of an owner that is led to
-  pub leads_on : (rs : List A) (a s : A) (q : ℕ) → Contains rs s → leads owner_of hinders rs a (owner_of s) ≡ true → hinders s q ≡ true → leads owner_of hinders rs a q ≡ true
+  pub leads_on : (rs : List A) (a s : A) (q : ℕ) → Contains rs s → leads owner_of hinders rs a (owner_of s) ≡ true → hinders s q ≡ true
+      → leads owner_of hinders rs a q ≡ true
   leads_on rs a s q i h k = on rs a s q (stands rs s i) h (leads_directly rs s q k)
 
   module _ (waiting : List A) where
@@ -112,21 +116,25 @@ module _ {A : Type 0} (owner_of : A → ℕ) (hinders : A → ℕ → Bool) wher
 
     as_told : (p : ℕ) (others : List ℕ) (a : A) (q : ℕ) → hinders a p ≡ true → Row p others q → leads owner_of hinders waiting a q ≡ true
     as_told p [] a q h w =
-        on waiting a w.request q (stands waiting w.request w.among) (leads_directly waiting a (owner_of w.request) (subst (λ x. hinders a x ≡ true) (sym w.of) h)) (leads_directly waiting w.request q w.hindered)
+        on waiting a w.request q (stands waiting w.request w.among)
+        (leads_directly waiting a (owner_of w.request) (subst (λ x. hinders a x ≡ true) (sym w.of) h)) (leads_directly waiting w.request q w.hindered)
     as_told p (x ∷ others) a q h w =
         let v = w.0 in
-        on waiting a v.request q (stands waiting v.request v.among) (leads_directly waiting a (owner_of v.request) (subst (λ y. hinders a y ≡ true) (sym v.of) h)) (as_told x others v.request q v.hindered w.1)
+        on waiting a v.request q (stands waiting v.request v.among)
+        (leads_directly waiting a (owner_of v.request) (subst (λ y. hinders a y ≡ true) (sym v.of) h)) (as_told x others v.request q v.hindered w.1)
 
     pub circle_words : (a : A) → hinders a (owner_of a) ≡ false → (leads owner_of hinders waiting a (owner_of a) ≡ true) ↔ IsCircle owner_of hinders waiting a
     unfolding Led
     circle_words a own = (
       λ h.
-          ⊎_elim (λ e. absurd (cc (e, own))) (λ w. record { first = w.0; others = w.1; hindered = w.2; row = w.3 }) (in_words waiting (contains waiting) a (owner_of a) h),
+          ⊎_elim (λ e. absurd (cc (e, own))) (λ w. record { first = w.0; others = w.1; hindered = w.2; row = w.3 })
+          (in_words waiting (contains waiting) a (owner_of a) h),
       λ w. as_told w.first w.others a (owner_of a) w.hindered w.row,
     )
 
 -- requests that mean others lead where these do
-pub leads_alike : {A B : Type 0} (f : A → B) (owner_of : B → ℕ) (hinders : B → ℕ → Bool) (rs : List A) (a : A) (q : ℕ) → leads (λ r. owner_of (f r)) (λ r. hinders (f r)) rs a q ≡ leads owner_of hinders (map f rs) (f a) q
+pub leads_alike : {A B : Type 0} (f : A → B) (owner_of : B → ℕ) (hinders : B → ℕ → Bool) (rs : List A) (a : A) (q : ℕ)
+    → leads (λ r. owner_of (f r)) (λ r. hinders (f r)) rs a q ≡ leads owner_of hinders (map f rs) (f a) q
 unfolding leads
 leads_alike f owner_of hinders [] a q = refl
 leads_alike f owner_of hinders (r ∷ rs) a q =

@@ -47,7 +47,8 @@ taken_found test (c ∷ claims) = go (test c.request) (find at claims) (taken_fo
     at : Claim → Bool
     at = λ k. test k.request
 
-    go : (b : Bool) (o : Option Claim) → taken_first test (map request_in claims) ≡ option_map (λ k. (request_in k, without claims (position_or_len at claims))) o
+    go : (b : Bool) (o : Option Claim)
+        → taken_first test (map request_in claims) ≡ option_map (λ k. (request_in k, without claims (position_or_len at claims))) o
         → cond b (Some (c.request, map request_in claims)) (keep c.request (taken_first test (map request_in claims)))
         ≡ option_map (λ k. (request_in k, without (c ∷ claims) (cond (not b) (1 + position_or_len at claims) 0))) (cond b (Some c) o)
     go true o e = refl

@@ -26,10 +26,12 @@ one_wish None r e = ap (λ o. cons_option o []) e
 one_wish (Some w) r e = ap (λ o. cons_option o []) e
 
 -- one more is copied, if the request wants a record lock
-pub copied_more : (room new : List Wanted) (count next : ℕ) (w : Option Wanted) (parked : List Request) (i : ℕ) (r : Request) → map meant (take count room) ≡ wishes (take i parked) → take next new ≡ take count room ++ one_of w
+pub copied_more : (room new : List Wanted) (count next : ℕ) (w : Option Wanted) (parked : List Request) (i : ℕ) (r : Request)
+    → map meant (take count room) ≡ wishes (take i parked) → take next new ≡ take count room ++ one_of w
     → option_map meant w ≡ wish_of r → i < length parked → get_or parked i r ≡ r → map meant (take next new) ≡ wishes (take (i + 1) parked)
 copied_more room new count next w parked i r so_far put wish there at =
-    ap (map meant) put ∙ map-append meant (take count room) (one_of w) ∙ (λ j. so_far j ++ one_wish w r wish j) ∙ sym (filter_map-append wish_of (take i parked) (r ∷ []))
+    ap (map meant) put ∙ map-append meant (take count room) (one_of w) ∙ (λ j. so_far j ++ one_wish w r wish j)
+    ∙ sym (filter_map-append wish_of (take i parked) (r ∷ []))
     ∙ ap wishes (ap (λ x. take i parked ++ x ∷ []) (sym at) ∙ sym (take_more parked i r there))
 
 -- the cursor has gone on by one

@@ -66,7 +66,8 @@ how_many_more : (b : ℕ) (parked : List Request) (r : Request) → how_many b (
 how_many_more b [] r = omega arith
 how_many_more b (a ∷ parked) r = let rest = how_many_more b parked r in omega arith
 
-how_many_less : (b : ℕ) (parked : List Request) (i : ℕ) (r : Request) → i < length parked → how_many b (remove parked i) + counts_in b (get_or parked i r) ≡ how_many b parked
+how_many_less : (b : ℕ) (parked : List Request) (i : ℕ) (r : Request) → i < length parked
+    → how_many b (remove parked i) + counts_in b (get_or parked i r) ≡ how_many b parked
 how_many_less b [] i r h = absurd (omega arith)
 how_many_less b (a ∷ parked) zero r h = omega arith
 how_many_less b (a ∷ parked) (suc i) r h = let rest = how_many_less b parked i r (omega arith) in omega arith
@@ -75,33 +76,40 @@ how_many_less b (a ∷ parked) (suc i) r h = let rest = how_many_less b parked i
 pub count_fits : (counts : List ℕ) (parked : List Request) (b : ℕ) → AreCounted counts parked → b < 256 → slice_index_or counts b 0 ≤ length parked
 count_fits counts parked b all h = let few = counted_few b parked in omega (arith, all b h)
 
-pub counted_more : (counts : List ℕ) (parked : List Request) (r : Request) (b : ℕ) → length counts ≡ 256 → AreCounted counts parked → b ≡ r.node % 256 → b < 256 → AreCounted (set counts b (slice_index_or counts b 0 + 1)) (parked ++ r ∷ [])
+pub counted_more : (counts : List ℕ) (parked : List Request) (r : Request) (b : ℕ) → length counts ≡ 256 → AreCounted counts parked → b ≡ r.node % 256 → b < 256
+    → AreCounted (set counts b (slice_index_or counts b 0 + 1)) (parked ++ r ∷ [])
 counted_more counts parked r b long all is below = λ k h. go k h (cases_eq k b) ∙ sym (how_many_more k parked r)
   where
     go : (k : ℕ) → k < 256 → (k ≡ b) ⊎ (k ≢ b) → slice_index_or (set counts b (slice_index_or counts b 0 + 1)) k 0 ≡ how_many k parked + counts_in k r
     go k h (inl same) =
         let one : counts_in k r ≡ 1 = here r.node k (sym is ∙ sym same) in
-        let at : slice_index_or (set counts b (slice_index_or counts b 0 + 1)) k 0 ≡ slice_index_or counts b 0 + 1 = ap (λ j. slice_index_or (set counts b (slice_index_or counts b 0 + 1)) j 0) same ∙ get_or-set_same counts b (slice_index_or counts b 0 + 1) 0 (omega arith) in
+        let at : slice_index_or (set counts b (slice_index_or counts b 0 + 1)) k 0 ≡ slice_index_or counts b 0 + 1 = ap
+        (λ j. slice_index_or (set counts b (slice_index_or counts b 0 + 1)) j 0) same
+        ∙ get_or-set_same counts b (slice_index_or counts b 0 + 1) 0 (omega arith) in
         let own : slice_index_or counts b 0 ≡ how_many k parked = all b below ∙ ap (λ j. how_many j parked) (sym same) in
         omega arith
     go k h (inr other) =
         let none : counts_in k r ≡ 0 = elsewhere r.node k (λ e. other (sym e ∙ sym is)) in
-        let at : slice_index_or (set counts b (slice_index_or counts b 0 + 1)) k 0 ≡ slice_index_or counts k 0 = get_or-set_other counts b k (slice_index_or counts b 0 + 1) 0 other in
+        let at : slice_index_or (set counts b (slice_index_or counts b 0 + 1)) k 0 ≡ slice_index_or counts k 0 =
+        get_or-set_other counts b k (slice_index_or counts b 0 + 1) 0 other in
         omega (arith, all k h)
 
-removed_count : (counts : List ℕ) (parked : List Request) (i : ℕ) (r : Request) (k : ℕ) → AreCounted counts parked → k < 256 → i < length parked → get_or parked i r ≡ r → how_many k (remove parked i) + counts_in k r ≡ slice_index_or counts k 0
+removed_count : (counts : List ℕ) (parked : List Request) (i : ℕ) (r : Request) (k : ℕ) → AreCounted counts parked → k < 256 → i < length parked
+    → get_or parked i r ≡ r → how_many k (remove parked i) + counts_in k r ≡ slice_index_or counts k 0
 removed_count counts parked i r k all h there at =
     let whole = how_many_less k parked i r there in
     ap (λ x. how_many k (remove parked i) + counts_in k x) (sym at) ∙ whole ∙ sym (all k h)
 
 -- a request that is taken out was counted
-pub count_there : (counts : List ℕ) (parked : List Request) (i : ℕ) (r : Request) (b : ℕ) → AreCounted counts parked → b ≡ r.node % 256 → b < 256 → i < length parked → get_or parked i r ≡ r → 1 ≤ slice_index_or counts b 0
+pub count_there : (counts : List ℕ) (parked : List Request) (i : ℕ) (r : Request) (b : ℕ) → AreCounted counts parked → b ≡ r.node % 256 → b < 256
+    → i < length parked → get_or parked i r ≡ r → 1 ≤ slice_index_or counts b 0
 count_there counts parked i r b all is below there at =
     let whole = removed_count counts parked i r b all below there at in
     let one : counts_in b r ≡ 1 = here r.node b (sym is) in
     omega arith
 
-pub counted_less : (counts : List ℕ) (parked : List Request) (i : ℕ) (r : Request) (b : ℕ) → length counts ≡ 256 → AreCounted counts parked → b ≡ r.node % 256 → b < 256 → i < length parked → get_or parked i r ≡ r
+pub counted_less : (counts : List ℕ) (parked : List Request) (i : ℕ) (r : Request) (b : ℕ) → length counts ≡ 256 → AreCounted counts parked → b ≡ r.node % 256
+    → b < 256 → i < length parked → get_or parked i r ≡ r
     → AreCounted (set counts b (slice_index_or counts b 0 - 1)) (remove parked i)
 counted_less counts parked i r b long all is below there at = λ k h. go k h (cases_eq k b)
   where
@@ -110,12 +118,15 @@ counted_less counts parked i r b long all is below there at = λ k h. go k h (ca
         let one : counts_in k r ≡ 1 = here r.node k (sym is ∙ sym same) in
         let whole = removed_count counts parked i r k all h there at in
         let alike : slice_index_or counts b 0 ≡ slice_index_or counts k 0 = ap (λ j. slice_index_or counts j 0) (sym same) in
-        let now : slice_index_or (set counts b (slice_index_or counts b 0 - 1)) k 0 ≡ slice_index_or counts b 0 - 1 = ap (λ j. slice_index_or (set counts b (slice_index_or counts b 0 - 1)) j 0) same ∙ get_or-set_same counts b (slice_index_or counts b 0 - 1) 0 (omega arith) in
+        let now : slice_index_or (set counts b (slice_index_or counts b 0 - 1)) k 0 ≡ slice_index_or counts b 0 - 1 = ap
+        (λ j. slice_index_or (set counts b (slice_index_or counts b 0 - 1)) j 0) same
+        ∙ get_or-set_same counts b (slice_index_or counts b 0 - 1) 0 (omega arith) in
         omega arith
     go k h (inr other) =
         let none : counts_in k r ≡ 0 = elsewhere r.node k (λ e. other (sym e ∙ sym is)) in
         let whole = removed_count counts parked i r k all h there at in
-        let now : slice_index_or (set counts b (slice_index_or counts b 0 - 1)) k 0 ≡ slice_index_or counts k 0 = get_or-set_other counts b k (slice_index_or counts b 0 - 1) 0 other in
+        let now : slice_index_or (set counts b (slice_index_or counts b 0 - 1)) k 0 ≡ slice_index_or counts k 0 =
+        get_or-set_other counts b k (slice_index_or counts b 0 - 1) 0 other in
         omega arith
 
 positive : (x y : ℕ) → x ≡ 1 → x + y ≡ 0 → ⊥

@@ -38,7 +38,8 @@ made_all-append (x ∷ xs) ys p = made_all-append xs ys (made (later x) p)
 
 made_twice : (f g : View → Effect) (p : Snapshot) → made (λ v. followed_by f (g v)) p ≡ made f (made g p)
 made_twice f g p =
-    ap (λ (m : Marking). record { view = (f (g p.view).view).view; marking = m }) (after_changes-append (f (g p.view).view).changes (g p.view).changes p.marking)
+    ap (λ (m : Marking). record { view = (f (g p.view).view).view; marking = m })
+    (after_changes-append (f (g p.view).view).changes (g p.view).changes p.marking)
 
 made_fold : (tolds : List Told) (g : View → Effect) (p : Snapshot) → made (λ v. fold (λ e t. followed_by (later t) e) (g v) tolds) p ≡ made_all tolds (made g p)
 made_fold [] g p = refl
@@ -60,11 +61,13 @@ pub made_replied : (order : Order) (own : Option (Result Answer Errno)) (tolds :
 made_replied order (Some reply) tolds p others =
     let told : Told = record { unique = order.unique; result = reply } in
     made_fold tolds (told_first order told) p
-    ∙ ap (λ b. made_all tolds (made (λ v. cond b (at_once order (Some reply) v) (followed_by (later told) (at_once order None v))) p)) (equals_itself order.unique)
+    ∙ ap (λ b. made_all tolds (made (λ v. cond b (at_once order (Some reply) v) (followed_by (later told) (at_once order None v))) p))
+    (equals_itself order.unique)
 made_replied order None [] p others = refl
 made_replied order None (told ∷ tolds) p others =
     made_fold tolds (told_first order told) p
-    ∙ ap (λ b. made_all tolds (made (λ v. cond b (at_once order (Some told.result) v) (followed_by (later told) (at_once order None v))) p)) (differs_from_other told.unique order.unique (others refl).0)
+    ∙ ap (λ b. made_all tolds (made (λ v. cond b (at_once order (Some told.result) v) (followed_by (later told) (at_once order None v))) p))
+    (differs_from_other told.unique order.unique (others refl).0)
     ∙ ap (made_all tolds) (made_twice (later told) (at_once order None) p)
 
 -- a parked request that is told an error goes, and nothing else changes

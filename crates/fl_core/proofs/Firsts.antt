@@ -68,20 +68,25 @@ none_named : (u : ℕ) (parked : List Request) → AllByRecursion (λ (r : Reque
 none_named u [] all = refl
 none_named u (a ∷ parked) all = λ i. cond (not_equal a.unique u all.0 i) (a ∷ filter (λ (r : Request). r.unique == u) parked) (none_named u parked all.1 i)
 
-behind : (older : List Request) (r : Request) (younger : List Request) → (a : Request) → AllByRecursion (λ (b : Request). b.unique ≢ a.unique) (older ++ r ∷ younger) → r.unique ≢ a.unique
+behind : (older : List Request) (r : Request) (younger : List Request) → (a : Request)
+    → AllByRecursion (λ (b : Request). b.unique ≢ a.unique) (older ++ r ∷ younger) → r.unique ≢ a.unique
 behind [] r younger a all = all.0
 behind (b ∷ older) r younger a all = behind older r younger a all.1
 
-one_named : (older : List Request) (r : Request) (younger : List Request) → AreApart (older ++ r ∷ younger) → filter (λ (b : Request). b.unique == r.unique) (older ++ r ∷ younger) ≡ r ∷ []
+one_named : (older : List Request) (r : Request) (younger : List Request) → AreApart (older ++ r ∷ younger)
+    → filter (λ (b : Request). b.unique == r.unique) (older ++ r ∷ younger) ≡ r ∷ []
 one_named [] r younger apart =
-    ap (λ b. cond b (r ∷ filter (λ (b : Request). b.unique == r.unique) younger) (filter (λ (b : Request). b.unique == r.unique) younger)) (yes_equal r.unique r.unique refl)
+    ap (λ b. cond b (r ∷ filter (λ (b : Request). b.unique == r.unique) younger) (filter (λ (b : Request). b.unique == r.unique) younger))
+    (yes_equal r.unique r.unique refl)
     ∙ ap (λ xs. r ∷ xs) (none_named r.unique younger apart.0)
 one_named (a ∷ older) r younger apart =
     let test = λ (b : Request). b.unique == r.unique in
-    ap (λ b. cond b (a ∷ filter test (older ++ r ∷ younger)) (filter test (older ++ r ∷ younger))) (not_equal a.unique r.unique (λ e. behind older r younger a apart.0 (sym e)))
+    ap (λ b. cond b (a ∷ filter test (older ++ r ∷ younger)) (filter test (older ++ r ∷ younger)))
+    (not_equal a.unique r.unique (λ e. behind older r younger a apart.0 (sym e)))
     ∙ one_named older r younger apart.1
 
-interrupted : (u : ℕ) (parked : List Request) (r : Request) → AreApart parked → IsWaiter u parked r → ended_all EINTR (λ b. b.unique == u) parked ≡ ended_with EINTR r ∷ []
+interrupted : (u : ℕ) (parked : List Request) (r : Request) → AreApart parked → IsWaiter u parked r
+    → ended_all EINTR (λ b. b.unique == u) parked ≡ ended_with EINTR r ∷ []
 interrupted u parked r apart w =
     ap (λ x. ended_all EINTR (λ b. b.unique == x) parked) (sym w.named)
     ∙ ap (ended_all EINTR (λ b. b.unique == r.unique)) w.stands
@@ -110,7 +115,8 @@ not_at_least n e = grind (arith, nat_tests)
 -- a SETLKW by its tests
 abbrev lock_told : Snapshot → Order → LockAsk → Option Errno → Bool → Bool → Bool → List Told
 lock_told p order ask e conflict deadlock full =
-    own_replies order (at_once_unless e (cond conflict (cond deadlock (Some (Err EDEADLK)) (cond full (Some (Err ENOLCK)) None)) (Some (grant_reply p.marking (request_of order ask)))))
+    own_replies order (at_once_unless e
+    (cond conflict (cond deadlock (Some (Err EDEADLK)) (cond full (Some (Err ENOLCK)) None)) (Some (grant_reply p.marking (request_of order ask)))))
 
 -- the request would close a circle
 abbrev deadlocks : Snapshot → Order → LockAsk → Bool
@@ -122,8 +128,10 @@ no_circle p order ask d c = cc (sym ((deadlock_words p.marking p.view.parked (re
 no_deadlock : (p : Snapshot) (order : Order) (ask : LockAsk) → (ClosesCircle p.marking p.view.parked (request_of order ask) → ⊥) → deadlocks p order ask ≡ false
 no_deadlock p order ask none = only_false _ (λ d. none ((deadlock_words p.marking p.view.parked (request_of order ask)).0 d))
 
-lock_answered : (p : Snapshot) (order : Order) (ask : LockAsk) (e : Option Errno) (conflict deadlock full : Bool) → ask_error p.view.directory order.node ask ≡ e
-    → waits p.marking (request_of order ask) ≡ conflict → deadlocks p order ask ≡ deadlock → nat_le 256 (length p.view.parked) ≡ full → IsAnswered p order (Setlkw ask) (lock_told p order ask e conflict deadlock full)
+lock_answered : (p : Snapshot) (order : Order) (ask : LockAsk) (e : Option Errno) (conflict deadlock full : Bool)
+    → ask_error p.view.directory order.node ask ≡ e
+    → waits p.marking (request_of order ask) ≡ conflict → deadlocks p order ask ≡ deadlock → nat_le 256 (length p.view.parked) ≡ full
+    → IsAnswered p order (Setlkw ask) (lock_told p order ask e conflict deadlock full)
 lock_answered p order ask (Some e) conflict deadlock full fault c d f = fails ask e fault
 lock_answered p order ask None false deadlock full fault c d f = is_free ask fault c
 lock_answered p order ask None true true full fault c d f = closes_one ask fault c ((deadlock_words p.marking p.view.parked (request_of order ask)).0 d)
@@ -131,16 +139,19 @@ lock_answered p order ask None true false true fault c d f = is_one_too_many ask
 lock_answered p order ask None true false false fault c d f = waits_now ask fault c (no_circle p order ask d) (below (length p.view.parked) f)
 
 lock_is : (p : Snapshot) (order : Order) (ask : LockAsk) (e : Option Errno) (conflict deadlock full : Bool) → ask_error p.view.directory order.node ask ≡ e
-    → waits p.marking (request_of order ask) ≡ conflict → deadlocks p order ask ≡ deadlock → nat_le 256 (length p.view.parked) ≡ full → told_of p order (Setlkw ask) ≡ lock_told p order ask e conflict deadlock full
+    → waits p.marking (request_of order ask) ≡ conflict → deadlocks p order ask ≡ deadlock → nat_le 256 (length p.view.parked) ≡ full
+    → told_of p order (Setlkw ask) ≡ lock_told p order ask e conflict deadlock full
 lock_is p order ask e conflict deadlock full fault c d f =
-    append-nil (lock_told p order ask (ask_error p.view.directory order.node ask) (waits p.marking (request_of order ask)) (deadlocks p order ask) (nat_le 256 (length p.view.parked)))
+    append-nil (lock_told p order ask (ask_error p.view.directory order.node ask) (waits p.marking (request_of order ask)) (deadlocks p order ask)
+    (nat_le 256 (length p.view.parked)))
     ∙ (λ i. lock_told p order ask (fault i) (c i) (d i) (f i))
 
 answered_so : (p : Snapshot) (order : Order) → AreApart p.view.parked → (op : Op) → IsAnswered p order op (told_of p order op)
 answered_so p order apart (Release fh unlocks owner) = go (is_open_on p.view.directory fh order.node) refl
   where
     go : (b : Bool) → is_open_on p.view.directory fh order.node ≡ b
-        → let reply = Some (cond b (Ok Done) (Err EBADF)) in IsAnswered p order (Release fh unlocks owner) (own_replies order reply ++ ended_by p.view.parked (Release fh unlocks owner) reply)
+        → let reply = Some (cond b (Ok Done) (Err EBADF)) in IsAnswered p order (Release fh unlocks owner)
+        (own_replies order reply ++ ended_by p.view.parked (Release fh unlocks owner) reply)
     go true e = closes fh unlocks owner e
     go false e = not_open fh unlocks owner e
 answered_so p order apart (Setlkw ask) =
@@ -148,7 +159,8 @@ answered_so p order apart (Setlkw ask) =
 answered_so p order apart (Interrupt u) = go (is_parked u p.view.parked) refl
   where
     go : (b : Bool) → is_parked u p.view.parked ≡ b
-        → let reply = cond b None (Some (Err EAGAIN)) in IsAnswered p order (Interrupt u) (own_replies order reply ++ ended_by p.view.parked (Interrupt u) reply)
+        → let reply = cond b None (Some (Err EAGAIN)) in IsAnswered p order (Interrupt u)
+        (own_replies order reply ++ ended_by p.view.parked (Interrupt u) reply)
     go true e =
         let w = waiter_of u p.view.parked e in
         subst (IsAnswered p order (Interrupt u)) (sym (interrupted u p.view.parked w.0 apart w.1)) (interrupts u w.0 w.1)
@@ -168,15 +180,20 @@ told_so {p} {order} apart (not_open fh unlocks owner e) =
 told_so {p} {order} apart (closes fh unlocks owner e) =
     ap (λ b. let reply = Some (cond b (Ok Done) (Err EBADF)) in own_replies order reply ++ ended_by p.view.parked (Release fh unlocks owner) reply) e
 told_so {p} {order} apart (interrupts u r w) =
-    ap (λ b. let reply = cond b None (Some (Err EAGAIN)) in own_replies order reply ++ ended_by p.view.parked (Interrupt u) reply) (is_there u p.view.parked r w)
+    ap (λ b. let reply = cond b None (Some (Err EAGAIN)) in own_replies order reply ++ ended_by p.view.parked (Interrupt u) reply)
+    (is_there u p.view.parked r w)
     ∙ interrupted u p.view.parked r apart w
 told_so {p} {order} apart (interrupts_none u new) =
-    ap (λ b. let reply = cond b None (Some (Err EAGAIN)) in own_replies order reply ++ ended_by p.view.parked (Interrupt u) reply) (not_there u p.view.parked new)
+    ap (λ b. let reply = cond b None (Some (Err EAGAIN)) in own_replies order reply ++ ended_by p.view.parked (Interrupt u) reply)
+    (not_there u p.view.parked new)
 told_so {p} {order} apart (fails ask e fault) = lock_is p order ask (Some e) _ _ _ fault refl refl refl
 told_so {p} {order} apart (is_free ask fault c) = lock_is p order ask None false _ _ fault c refl refl
-told_so {p} {order} apart (closes_one ask fault c circle) = lock_is p order ask None true true _ fault c ((deadlock_words p.marking p.view.parked (request_of order ask)).1 circle) refl
-told_so {p} {order} apart (is_one_too_many ask fault c none full) = lock_is p order ask None true false true fault c (no_deadlock p order ask none) (not_below (length p.view.parked) full)
-told_so {p} {order} apart (waits_now ask fault c none few) = lock_is p order ask None true false false fault c (no_deadlock p order ask none) (not_at_least (length p.view.parked) few)
+told_so {p} {order} apart (closes_one ask fault c circle) =
+    lock_is p order ask None true true _ fault c ((deadlock_words p.marking p.view.parked (request_of order ask)).1 circle) refl
+told_so {p} {order} apart (is_one_too_many ask fault c none full) =
+    lock_is p order ask None true false true fault c (no_deadlock p order ask none) (not_below (length p.view.parked) full)
+told_so {p} {order} apart (waits_now ask fault c none few) =
+    lock_is p order ask None true false false fault c (no_deadlock p order ask none) (not_at_least (length p.view.parked) few)
 
 -- ---- any order
 
@@ -206,7 +223,8 @@ first_so p order apart = go (is_parked order.unique p.view.parked) refl
     go true e = let w = waiter_of order.unique p.view.parked e in waiter w.0 w.1 (forget_or_not order.op)
     go false e = as_no_waiter _ (none_of order.unique p.view.parked e) (answered_so p order apart order.op)
 
-refused_so : (order : Order) → ForgetOrNot order.op → ((n : ℕ) → order.op ≢ Forget n) → own_replies order (taken_reply order.op) ++ [] ≡ own order (Err EINVAL) ∷ []
+refused_so : (order : Order) → ForgetOrNot order.op → ((n : ℕ) → order.op ≢ Forget n)
+    → own_replies order (taken_reply order.op) ++ [] ≡ own order (Err EINVAL) ∷ []
 refused_so order (forgets n e) differs = absurd (differs n e)
 refused_so order (other k e) differs = ap (λ reply. own_replies order reply ++ []) e
 

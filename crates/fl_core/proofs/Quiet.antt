@@ -115,7 +115,8 @@ module _ (order : Order) (p : Snapshot) (fresh : is_parked order.unique p.view.p
           ∙ ap (λ (r : Settled). with_present r.present p) (settled_none p.marking p.view.parked waiting)
 
   -- those that are told beside an order which is granted
-  rest_others : (answer : Answer) → AreOthers order.unique (ended_by p.view.parked order.op (Some (Ok answer)) ++ (settling (after_ends (Some (Ok answer)))).tolds)
+  rest_others : (answer : Answer)
+      → AreOthers order.unique (ended_by p.view.parked order.op (Some (Ok answer)) ++ (settling (after_ends (Some (Ok answer)))).tolds)
   rest_others answer =
       let q = after_ends (Some (Ok answer)) in
       both_others order.unique _ _ (ended_apart order.unique p.view.parked others (ending_of order.op (Some (Ok answer))))
@@ -133,7 +134,9 @@ module _ (order : Order) (p : Snapshot) (fresh : is_parked order.unique p.view.p
       go (suc k) below is = none_told order (Err e) rest (rest_others answer) k (omega (arith, below)) is
 
   silent : AllWait (after_ends None).marking (after_ends None).view.parked → Quiet None (after_own None) (after_ends None)
-  silent all e there = absurd (none_told order (Err e) _ (subst (AreOthers order.unique) (sym told_is) (ended_apart order.unique p.view.parked others (ending_of order.op None))) there.0 there.1 there.2)
+  silent all e there =
+      absurd (none_told order (Err e) _
+      (subst (AreOthers order.unique) (sym told_is) (ended_apart order.unique p.view.parked others (ending_of order.op None))) there.0 there.1 there.2)
     where
       q : Snapshot
       q = after_ends None
@@ -143,13 +146,17 @@ module _ (order : Order) (p : Snapshot) (fresh : is_parked order.unique p.view.p
           ap (λ (r : Settled). ended_by (after_own None).view.parked order.op None ++ r.tolds) (settled_none q.marking q.view.parked all)
           ∙ append-nil (ended_by (after_own None).view.parked order.op None) ∙ ends_alike order p None
 
-  quiet : (reply : Option (Result Answer Errno)) → (reply ≡ None → AllWait (after_ends reply).marking (after_ends reply).view.parked) → Quiet reply (after_own reply) (after_ends reply)
+  quiet : (reply : Option (Result Answer Errno)) → (reply ≡ None → AllWait (after_ends reply).marking (after_ends reply).view.parked)
+      → Quiet reply (after_own reply) (after_ends reply)
   quiet None all = silent (all refl)
   quiet (Some (Ok answer)) all = granted answer
   quiet (Some (Err f)) all = refused f
 
-  pub step_quiet : (reply : Option (Result Answer Errno)) (s q : Snapshot) → s ≡ made (by_reply order reply) p → q ≡ with_parked (left_by s.view.parked order.op reply) s
+  pub step_quiet : (reply : Option (Result Answer Errno)) (s q : Snapshot) → s ≡ made (by_reply order reply) p
+      → q ≡ with_parked (left_by s.view.parked order.op reply) s
       → (reply ≡ None → AllWait q.marking q.view.parked) → Quiet reply s q
   step_quiet reply s q s_is q_is all =
-      subst (λ (s : Snapshot). (q : Snapshot) → q ≡ with_parked (left_by s.view.parked order.op reply) s → (reply ≡ None → AllWait q.marking q.view.parked) → Quiet reply s q) (sym s_is)
-      (λ q q_is all. subst (λ (q : Snapshot). (reply ≡ None → AllWait q.marking q.view.parked) → Quiet reply (after_own reply) q) (sym q_is) (quiet reply) all) q q_is all
+      subst (λ (s : Snapshot). (q : Snapshot) → q ≡ with_parked (left_by s.view.parked order.op reply) s → (reply ≡ None → AllWait q.marking q.view.parked)
+      → Quiet reply s q) (sym s_is)
+      (λ q q_is all. subst (λ (q : Snapshot). (reply ≡ None → AllWait q.marking q.view.parked) → Quiet reply (after_own reply) q) (sym q_is)
+      (quiet reply) all) q q_is all

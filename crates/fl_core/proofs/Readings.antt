@@ -16,11 +16,13 @@ use Rattle.fl_order.specs.declared.errno.Errno.{Errno}
 use Rattle.fl_order.specs.declared.told.Told.{Told}
 
 -- the replies of settling leave what settling leaves
-read_settled : {s after : Present} {tolds : List Told} → IsSettled s tolds after → (p : Snapshot) → present p.marking p.view.parked ≡ s → AreApart s.parked → made_all tolds p ≡ with_present after p
+read_settled : {s after : Present} {tolds : List Told} → IsSettled s tolds after → (p : Snapshot) → present p.marking p.view.parked ≡ s → AreApart s.parked
+    → made_all tolds p ≡ with_present after p
 read_settled (done all) p e apart = ap (λ (s : Present). with_present s p) e
 read_settled (one {m} {parked} {tolds} {after} older r younger stands all free rest) p e apart =
     let w = apart_without older r younger (subst AreApart stands apart) in
-    let there : taken_out r.unique p.view.parked ≡ Some (r, older ++ younger) = ap (λ (s : Present). taken_out r.unique s.parked) e ∙ ap (taken_out r.unique) stands ∙ taken_there older r younger w.0 in
+    let there : taken_out r.unique p.view.parked ≡ Some (r, older ++ younger) = ap (λ (s : Present). taken_out r.unique s.parked) e
+    ∙ ap (taken_out r.unique) stands ∙ taken_there older r younger w.0 in
     let next : Snapshot = with_present (present (marking_granted m r) (older ++ younger)) p in
     let first : made (λ v. later_to (taken_out r.unique v.parked) (granted_told m r).result v) p ≡ next =
     ap (λ o. made (λ v. later_to o (granted_told m r).result v) p) there
@@ -35,10 +37,12 @@ module _ (e : Errno) (test : Request → Bool) where
   abbrev others : List Request → List Request
   others parked = filter (λ r. not (test r)) parked
 
-  read_from : (p : Snapshot) (older younger : List Request) → AreApart (older ++ younger) → made_all (ended_all e test younger) (with_parked (older ++ younger) p) ≡ with_parked (older ++ others younger) p
+  read_from : (p : Snapshot) (older younger : List Request) → AreApart (older ++ younger)
+      → made_all (ended_all e test younger) (with_parked (older ++ younger) p) ≡ with_parked (older ++ others younger) p
   read_from p older [] apart = refl
   read_from p older (r ∷ younger) apart =
-      go (test r) refl (read_from p older younger (apart_without older r younger apart).1) (read_from p (older ++ r ∷ []) younger (subst AreApart (sym moved) apart))
+      go (test r) refl (read_from p older younger (apart_without older r younger apart).1)
+      (read_from p (older ++ r ∷ []) younger (subst AreApart (sym moved) apart))
     where
       moved : (older ++ r ∷ []) ++ younger ≡ older ++ r ∷ younger
       moved = append_assoc older (r ∷ []) younger
@@ -51,7 +55,8 @@ module _ (e : Errno) (test : Request → Bool) where
           → made_all (ended_all e test (r ∷ younger)) (with_parked (older ++ r ∷ younger) p) ≡ with_parked (older ++ others (r ∷ younger)) p
       go true is gone left =
           ap (λ b. made_all (map (ended_with e) (cond b (r ∷ filter test younger) (filter test younger))) now) is
-          ∙ ap (λ o. made_all (ended_all e test younger) (made (λ v. later_to o (Err e) v) now)) (taken_there older r younger (apart_without older r younger apart).0)
+          ∙ ap (λ o. made_all (ended_all e test younger) (made (λ v. later_to o (Err e) v) now))
+          (taken_there older r younger (apart_without older r younger apart).0)
           ∙ gone ∙ ap (λ b. with_parked (older ++ cond (not b) (r ∷ others younger) (others younger)) p) (sym is)
       go false is gone left =
           ap (λ b. made_all (map (ended_with e) (cond b (r ∷ filter test younger) (filter test younger))) now) is

@@ -15,17 +15,22 @@ use Rattle.fl_ranges.specs.declared.lock.Mark.{Mark}
 use Rattle.fl_ranges.specs.declared.lock.Range.{Range}
 use Rattle.fl_ranges.specs.Marking.{Marking, Stroke, stroke_on, stroked}
 
-pub asked_stroke : (node : ℕ) (ask : LockAsk) (key : Key) (range : Range) (mark : Option Mark) → key ≡ key_of node ask → (range.start ≡ start_of ask) × (range.end ≡ end_of ask) → mark ≡ mark_of ask → stroke_on key range mark ≡ stroke_of node ask
+pub asked_stroke : (node : ℕ) (ask : LockAsk) (key : Key) (range : Range) (mark : Option Mark) → key ≡ key_of node ask
+    → (range.start ≡ start_of ask) × (range.end ≡ end_of ask) → mark ≡ mark_of ask → stroke_on key range mark ≡ stroke_of node ask
 asked_stroke node ask key range mark k at m = λ i. record { key = k i; start = at.0 i; end = at.1 i; mark = m i }
 
 -- what is set, and what is left where there was no room
-pub set_marking : (reply : Result Answer Errno) (m n : Marking) (s : Stroke) (node : ℕ) (ask : LockAsk) → s ≡ stroke_of node ask → OnOk reply (n ≡ stroked s m) → OnErr reply (n ≡ m) → n ≡ after_changes (locked node ask reply) m
+pub set_marking : (reply : Result Answer Errno) (m n : Marking) (s : Stroke) (node : ℕ) (ask : LockAsk) → s ≡ stroke_of node ask → OnOk reply (n ≡ stroked s m)
+    → OnErr reply (n ≡ m) → n ≡ after_changes (locked node ask reply) m
 set_marking (Ok answer) m n s node ask is ok err = ok ∙ ap (λ t. stroked t m) is
 set_marking (Err e) m n s node ask is ok err = err
 
 -- a SETLKW by its tests
-pub setlkw_is : (v : View) (m : Marking) (node : ℕ) (ask : LockAsk) (e : Option Errno) (conflict deadlock full : Bool) → ask_error v.directory node ask ≡ e → is_excluded m (stroke_of node ask) (mark_of ask) ≡ conflict
+pub setlkw_is : (v : View) (m : Marking) (node : ℕ) (ask : LockAsk) (e : Option Errno) (conflict deadlock full : Bool) → ask_error v.directory node ask ≡ e
+    → is_excluded m (stroke_of node ask) (mark_of ask) ≡ conflict
     → is_deadlock m v.parked (stroke_of node ask) (mark_of ask) ≡ deadlock → nat_le 256 (length v.parked) ≡ full
-    → setlkw_reply v m node ask ≡ at_once_unless e (cond conflict (cond deadlock (Some (Err EDEADLK)) (cond full (Some (Err ENOLCK)) None)) (Some (room_reply m (stroke_of node ask))))
+    → setlkw_reply v m node ask ≡ at_once_unless e
+    (cond conflict (cond deadlock (Some (Err EDEADLK)) (cond full (Some (Err ENOLCK)) None)) (Some (room_reply m (stroke_of node ask))))
 setlkw_is v m node ask e conflict deadlock full fault c d f =
-    λ i. at_once_unless (fault i) (cond (c i) (cond (d i) (Some (Err EDEADLK)) (cond (f i) (Some (Err ENOLCK)) None)) (Some (room_reply m (stroke_of node ask))))
+    λ i. at_once_unless (fault i) (cond (c i) (cond (d i) (Some (Err EDEADLK)) (cond (f i) (Some (Err ENOLCK)) None))
+    (Some (room_reply m (stroke_of node ask))))

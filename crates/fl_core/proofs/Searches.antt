@@ -33,7 +33,8 @@ owner_is (x ∷ ws) zero w h e = ap owner e
 owner_is (x ∷ ws) (suc i) w h e = owner_is ws i w (omega arith) e
 
 -- what is left to visit gets less
-pub fewer_left : (visited : List Bool) (i : ℕ) → i < length visited → is_set visited i ≡ false → sum_by (λ (v : Bool). cond v 0 1) (set visited i true) < sum_by (λ (v : Bool). cond v 0 1) visited
+pub fewer_left : (visited : List Bool) (i : ℕ) → i < length visited → is_set visited i ≡ false
+    → sum_by (λ (v : Bool). cond v 0 1) (set visited i true) < sum_by (λ (v : Bool). cond v 0 1) visited
 fewer_left visited i h e =
     let count : Bool → ℕ = λ v. cond v 0 1 in
     let one : count (get_or visited i false) ≡ 1 = ap count e in
@@ -52,7 +53,8 @@ pub record IsSearching (hinders : Wanted → ℕ → Bool) (ws : List Wanted) (a
   pub led : (i : ℕ) → i < length ws → is_set reached i ≡ true → leads owner hinders ws asked (owner_at ws i) ≡ true
   pub start : (i : ℕ) → i < length ws → hinders asked (owner_at ws i) ≡ true → is_set reached i ≡ true
   pub clear : (i : ℕ) (w : Wanted) → i < length ws → get_or ws i w ≡ w → is_set visited i ≡ true → hinders w (owner asked) ≡ false
-  pub closed : (i j : ℕ) (w : Wanted) → i < length ws → j < length ws → get_or ws i w ≡ w → is_set visited i ≡ true → hinders w (owner_at ws j) ≡ true → is_set reached j ≡ true
+  pub closed : (i j : ℕ) (w : Wanted) → i < length ws → j < length ws → get_or ws i w ≡ w → is_set visited i ≡ true → hinders w (owner_at ws j) ≡ true
+      → is_set reached j ≡ true
 
 module _ (hinders : Wanted → ℕ → Bool) (ws : List Wanted) (asked : Wanted) where
   -- what is reached goes by owner again
@@ -62,24 +64,30 @@ module _ (hinders : Wanted → ℕ → Bool) (ws : List Wanted) (asked : Wanted)
   pub none_by_owner : length ws ≤ 256 → IsByOwner ws (replicate 256 false)
   none_by_owner few = λ i j h k same. get_or-replicate 256 i false false (omega arith) ∙ sym (get_or-replicate 256 j false false (omega arith))
 
-  pub starts : (new : List Bool) → length ws ≤ 256 → AreReached (hinders asked) ws (replicate 256 false) new → IsSearching hinders ws asked new (replicate 256 false)
+  pub starts : (new : List Bool) → length ws ≤ 256 → AreReached (hinders asked) ws (replicate 256 false) new
+      → IsSearching hinders ws asked new (replicate 256 false)
   starts new few more = record {
     long = length-replicate 256 false;
     by_owner = goes_by_owner (hinders asked) (replicate 256 false) new (none_by_owner few) more;
-    led = λ i h e. leads_directly owner hinders ws asked (owner_at ws i) (⊎_elim (λ old. absurd (none_set 256 i (omega arith) old)) (λ now. now) (or_cases _ _ _ (more i h) e));
+    led = λ i h e. leads_directly owner hinders ws asked (owner_at ws i)
+        (⊎_elim (λ old. absurd (none_set 256 i (omega arith) old)) (λ now. now) (or_cases _ _ _ (more i h) e));
     start = λ i h e. or_right _ _ _ (more i h) e;
     clear = λ i w h at e. absurd (none_set 256 i (omega arith) e);
     closed = λ i j w h k at e f. absurd (none_set 256 i (omega arith) e);
   }
 
   module _ (reached visited : List Bool) (so_far : IsSearching hinders ws asked reached visited) where
-    onward : (i : ℕ) (w : Wanted) (q : ℕ) → i < length ws → get_or ws i w ≡ w → is_set reached i ≡ true → hinders w q ≡ true → leads owner hinders ws asked q ≡ true
-    onward i w q h at e k = leads_on owner hinders ws asked w q (i, h, at) (subst (λ o. leads owner hinders ws asked o ≡ true) (owner_is ws i w h at) (so_far.led i h e)) k
+    onward : (i : ℕ) (w : Wanted) (q : ℕ) → i < length ws → get_or ws i w ≡ w → is_set reached i ≡ true → hinders w q ≡ true
+        → leads owner hinders ws asked q ≡ true
+    onward i w q h at e k =
+        leads_on owner hinders ws asked w q (i, h, at) (subst (λ o. leads owner hinders ws asked o ≡ true) (owner_is ws i w h at) (so_far.led i h e)) k
 
-    pub finds : (i : ℕ) (w : Wanted) → i < length ws → get_or ws i w ≡ w → is_set reached i ≡ true → hinders w (owner asked) ≡ true → leads owner hinders ws asked (owner asked) ≡ true
+    pub finds : (i : ℕ) (w : Wanted) → i < length ws → get_or ws i w ≡ w → is_set reached i ≡ true → hinders w (owner asked) ≡ true
+        → leads owner hinders ws asked (owner asked) ≡ true
     finds i w h at e k = onward i w (owner asked) h at e k
 
-    pub goes_on : (new : List Bool) (i : ℕ) (w : Wanted) → i < length ws → get_or ws i w ≡ w → is_set reached i ≡ true → hinders w (owner asked) ≡ false → AreReached (hinders w) ws reached new → IsSearching hinders ws asked new (set visited i true)
+    pub goes_on : (new : List Bool) (i : ℕ) (w : Wanted) → i < length ws → get_or ws i w ≡ w → is_set reached i ≡ true → hinders w (owner asked) ≡ false
+        → AreReached (hinders w) ws reached new → IsSearching hinders ws asked new (set visited i true)
     goes_on new i w h at e free more = record {
       long = length-set visited i true ∙ so_far.long;
       by_owner = goes_by_owner (hinders w) reached new so_far.by_owner more;
@@ -97,13 +105,16 @@ module _ (hinders : Wanted → ℕ → Bool) (ws : List Wanted) (asked : Wanted)
             any (z ∷ xs) zero x y below = refl
             any (z ∷ xs) (suc n) x y below = any xs n x y (omega arith)
 
-        clear_at : (j : ℕ) (v : Wanted) → j < length ws → get_or ws j v ≡ v → is_set (set visited i true) j ≡ true → (j ≡ i) ⊎ (j ≢ i) → hinders v (owner asked) ≡ false
+        clear_at : (j : ℕ) (v : Wanted) → j < length ws → get_or ws j v ≡ v → is_set (set visited i true) j ≡ true → (j ≡ i) ⊎ (j ≢ i)
+            → hinders v (owner asked) ≡ false
         clear_at j v k there f (inl same) = ap (λ x. hinders x (owner asked)) (it j v k there same) ∙ free
         clear_at j v k there f (inr other) = so_far.clear j v k there (sym (get_or-set_other visited i j true false other) ∙ f)
 
-        closed_at : (j l : ℕ) (v : Wanted) → j < length ws → l < length ws → get_or ws j v ≡ v → is_set (set visited i true) j ≡ true → hinders v (owner_at ws l) ≡ true → (j ≡ i) ⊎ (j ≢ i) → is_set new l ≡ true
+        closed_at : (j l : ℕ) (v : Wanted) → j < length ws → l < length ws → get_or ws j v ≡ v → is_set (set visited i true) j ≡ true
+            → hinders v (owner_at ws l) ≡ true → (j ≡ i) ⊎ (j ≢ i) → is_set new l ≡ true
         closed_at j l v k m there f g (inl same) = or_right _ _ _ (more l m) (ap (λ x. hinders x (owner_at ws l)) (sym (it j v k there same)) ∙ g)
-        closed_at j l v k m there f g (inr other) = or_left _ _ _ (more l m) (so_far.closed j l v k m there (sym (get_or-set_other visited i j true false other) ∙ f) g)
+        closed_at j l v k m there f g (inr other) =
+            or_left _ _ _ (more l m) (so_far.closed j l v k m there (sym (get_or-set_other visited i j true false other) ∙ f) g)
 
     -- where a row of owners begins
     place_of : (p : ℕ) (others : List ℕ) (q : ℕ) → AreInRow owner hinders ws p others q → (i : ℕ) × (i < length ws) × (owner_at ws i ≡ p)
@@ -115,12 +126,14 @@ module _ (hinders : Wanted → ℕ → Bool) (ws : List Wanted) (asked : Wanted)
       seen w i h at e =
           all w.among.0 w.among.1 (so_far.by_owner w.among.0 i w.among.1 h (owner_is ws w.among.0 w.request w.among.1 w.among.2 ∙ w.of ∙ sym at) ∙ e)
 
-      no_row : (p : ℕ) (others : List ℕ) (i : ℕ) → i < length ws → owner_at ws i ≡ p → is_set reached i ≡ true → AreInRow owner hinders ws p others (owner asked) → ⊥
+      no_row : (p : ℕ) (others : List ℕ) (i : ℕ) → i < length ws → owner_at ws i ≡ p → is_set reached i ≡ true
+          → AreInRow owner hinders ws p others (owner asked) → ⊥
       no_row p [] i h at e w = cc (sym (so_far.clear w.among.0 w.request w.among.1 w.among.2 (seen w i h at e)) ∙ w.hindered)
       no_row p (x ∷ others) i h at e w =
           let v = w.0 in
           let n = place_of x others (owner asked) w.1 in
-          no_row x others n.0 n.1 n.2 (so_far.closed v.among.0 n.0 v.request v.among.1 n.1 v.among.2 (seen v i h at e) (ap (hinders v.request) n.2 ∙ v.hindered)) w.1
+          no_row x others n.0 n.1 n.2 (so_far.closed v.among.0 n.0 v.request v.among.1 n.1 v.among.2 (seen v i h at e)
+          (ap (hinders v.request) n.2 ∙ v.hindered)) w.1
 
       no_circle : IsCircle owner hinders ws asked → ⊥
       no_circle w =

@@ -21,7 +21,8 @@ unfolding taken_first
 none_free m [] e = tt
 none_free m (a ∷ parked) e = go (waits m a) refl (oldest_free m parked) refl e (none_free m parked)
   where
-    go : (b : Bool) → waits m a ≡ b → (o : Option (Request × List Request)) → oldest_free m parked ≡ o → cond (not b) (Some (a, parked)) (keep a o) ≡ None → (oldest_free m parked ≡ None → AllWait m parked) → AllWait m (a ∷ parked)
+    go : (b : Bool) → waits m a ≡ b → (o : Option (Request × List Request)) → oldest_free m parked ≡ o → cond (not b) (Some (a, parked)) (keep a o) ≡ None
+        → (oldest_free m parked ≡ None → AllWait m parked) → AllWait m (a ∷ parked)
     go true c None o e f = (c, f o)
     go true c (Some p) o e f = absurd (cc e)
     go false c x o e f = absurd (cc e)
@@ -31,12 +32,15 @@ unfolding taken_first
 all_wait m [] all = refl
 all_wait m (a ∷ parked) all = λ i. cond (not (all.0 i)) (Some (a, parked)) (keep a (all_wait m parked all.1 i))
 
-pub is_oldest : (m : Marking) (parked : List Request) (r : Request) (others : List Request) → oldest_free m parked ≡ Some (r, others) → IsOldest m parked r others
+pub is_oldest : (m : Marking) (parked : List Request) (r : Request) (others : List Request) → oldest_free m parked ≡ Some (r, others)
+    → IsOldest m parked r others
 unfolding taken_first
 is_oldest m [] r others e = absurd (cc e)
 is_oldest m (a ∷ parked) r others e = go (waits m a) refl (oldest_free m parked) refl e (is_oldest m parked)
   where
-    go : (b : Bool) → waits m a ≡ b → (o : Option (Request × List Request)) → oldest_free m parked ≡ o → cond (not b) (Some (a, parked)) (keep a o) ≡ Some (r, others) → ((k : Request) (l : List Request) → oldest_free m parked ≡ Some (k, l) → IsOldest m parked k l) → IsOldest m (a ∷ parked) r others
+    go : (b : Bool) → waits m a ≡ b → (o : Option (Request × List Request)) → oldest_free m parked ≡ o
+        → cond (not b) (Some (a, parked)) (keep a o) ≡ Some (r, others)
+        → ((k : Request) (l : List Request) → oldest_free m parked ≡ Some (k, l) → IsOldest m parked k l) → IsOldest m (a ∷ parked) r others
     go true c None o e f = absurd (cc e)
     go true c (Some p) o e f =
         let w = f p.0 p.1 o in
@@ -57,7 +61,8 @@ is_oldest m (a ∷ parked) r others e = go (waits m a) refl (oldest_free m parke
         let lefts : parked ≡ others = ap (λ (p : Request × List Request). p.1) both in
         record { older = []; younger = parked; stands = ap (λ k. k ∷ parked) asks; left = sym lefts; all = tt; free = ap (waits m) (sym asks) ∙ c }
 
-oldest_is : (m : Marking) (older : List Request) (r : Request) (younger : List Request) → AllWait m older → waits m r ≡ false → oldest_free m (older ++ r ∷ younger) ≡ Some (r, older ++ younger)
+oldest_is : (m : Marking) (older : List Request) (r : Request) (younger : List Request) → AllWait m older → waits m r ≡ false
+    → oldest_free m (older ++ r ∷ younger) ≡ Some (r, older ++ younger)
 unfolding taken_first
 oldest_is m [] r younger all free = ap (λ b. cond (not b) (Some (r, younger)) (keep r (oldest_free m younger))) free
 oldest_is m (a ∷ older) r younger all free = λ i. cond (not (all.0 i)) (Some (a, older ++ r ∷ younger)) (keep a (oldest_is m older r younger all.1 free i))
@@ -75,7 +80,8 @@ shorter (a ∷ older) r younger = ap suc (shorter older r younger)
 pub one_shorter : {m : Marking} {parked : List Request} {r : Request} {others : List Request} → IsOldest m parked r others → length parked ≡ suc (length others)
 one_shorter {r = r} w = ap length w.stands ∙ shorter w.older r w.younger ∙ ap (λ xs. suc (length xs)) (sym w.left)
 
-settled_one : (m : Marking) (parked : List Request) (r : Request) (others : List Request) → oldest_free m parked ≡ Some (r, others) → length parked ≡ suc (length others)
+settled_one : (m : Marking) (parked : List Request) (r : Request) (others : List Request) → oldest_free m parked ≡ Some (r, others)
+    → length parked ≡ suc (length others)
     → settled (present m parked) ≡ with_told (granted_told m r) (settled (present (marking_granted m r) others))
 unfolding settled_within
 settled_one m parked r others e shorter =
@@ -86,13 +92,16 @@ pub settled_first : (m : Marking) (parked : List Request) (r : Request) (others 
 settled_first m parked r others e = settled_one m parked r others e (one_shorter (is_oldest m parked r others e))
 
 -- the function is in the words
-sound : (n : ℕ) (m : Marking) (parked : List Request) → length parked ≡ n → IsSettled (present m parked) (settled (present m parked)).tolds (settled (present m parked)).present
+sound : (n : ℕ) (m : Marking) (parked : List Request) → length parked ≡ n
+    → IsSettled (present m parked) (settled (present m parked)).tolds (settled (present m parked)).present
 sound zero m [] e = subst (λ s. IsSettled (present m []) s.tolds s.present) (sym (settled_none m [] tt)) (done tt)
 sound zero m (a ∷ parked) e = absurd (omega arith)
 sound (suc n) m parked e = go (oldest_free m parked) refl (λ r others. sound n (marking_granted m r) others)
   where
     go : (o : Option (Request × List Request)) → oldest_free m parked ≡ o
-        → ((r : Request) (others : List Request) → length others ≡ n → IsSettled (present (marking_granted m r) others) (settled (present (marking_granted m r) others)).tolds (settled (present (marking_granted m r) others)).present)
+        → ((r : Request) (others : List Request) → length others ≡ n
+        → IsSettled (present (marking_granted m r) others) (settled (present (marking_granted m r) others)).tolds
+        (settled (present (marking_granted m r) others)).present)
         → IsSettled (present m parked) (settled (present m parked)).tolds (settled (present m parked)).present
     go None o f = let all = none_free m parked o in subst (λ s. IsSettled (present m parked) s.tolds s.present) (sym (settled_none m parked all)) (done all)
     go (Some p) o f =
@@ -100,7 +109,8 @@ sound (suc n) m parked e = go (oldest_free m parked) refl (λ r others. sound n 
         let rest = settled (present (marking_granted m p.0) p.1) in
         let left : length p.1 ≡ n = omega (arith, one_shorter w) in
         subst (λ s. IsSettled (present m parked) s.tolds s.present) (sym (settled_first m parked p.0 p.1 o))
-        (one w.older p.0 w.younger w.stands w.all w.free (subst (λ xs. IsSettled (present (marking_granted m p.0) xs) rest.tolds rest.present) w.left (f p.0 p.1 left)))
+        (one w.older p.0 w.younger w.stands w.all w.free
+        (subst (λ xs. IsSettled (present (marking_granted m p.0) xs) rest.tolds rest.present) w.left (f p.0 p.1 left)))
 
 pub is_settled : (s : Present) → IsSettled s (settled s).tolds (settled s).present
 is_settled s = sound (length s.parked) s.marking s.parked refl
@@ -109,7 +119,8 @@ is_settled s = sound (length s.parked) s.marking s.parked refl
 complete : {s after : Present} {tolds : List Told} → IsSettled s tolds after → settled s ≡ record { present = after; tolds = tolds }
 complete (done {m} {parked} all) = settled_none m parked all
 complete (one {m} {parked} {tolds} {after} older r younger stands all free rest) =
-    settled_first m parked r (older ++ younger) (ap (oldest_free m) stands ∙ oldest_is m older r younger all free) ∙ ap (with_told (granted_told m r)) (complete rest)
+    settled_first m parked r (older ++ younger) (ap (oldest_free m) stands ∙ oldest_is m older r younger all free)
+    ∙ ap (with_told (granted_told m r)) (complete rest)
 
 pub settling_told : (s after : Present) (tolds : List Told) → IsSettled s tolds after ↔ ((tolds ≡ (settled s).tolds) × (after ≡ (settled s).present))
 settling_told s after tolds = (
@@ -141,19 +152,23 @@ pub record IsSettling (s t : Present) (given told : List Told) : Type 0 where
 pub settling_starts : (s : Present) (given : List Told) → IsSettling s s given given
 settling_starts s given = record { tolds = refl; present = refl }
 
-pub settling_goes_on : (s : Present) (given told more : List Told) (m later : Marking) (parked others : List Request) (r : Request) (reply : Told) → IsSettling s (present m parked) given told
-    → oldest_free m parked ≡ Some (r, others) → later ≡ marking_granted m r → reply ≡ granted_told m r → more ≡ told ++ reply ∷ [] → IsSettling s (present later others) given more
+pub settling_goes_on : (s : Present) (given told more : List Told) (m later : Marking) (parked others : List Request) (r : Request) (reply : Told)
+    → IsSettling s (present m parked) given told
+    → oldest_free m parked ≡ Some (r, others) → later ≡ marking_granted m r → reply ≡ granted_told m r → more ≡ told ++ reply ∷ []
+    → IsSettling s (present later others) given more
 settling_goes_on s given told more m later parked others r reply so_far first later_is reply_is more_is =
     let e = settled_first m parked r others first in
     let rest = settled (present (marking_granted m r) others) in
     let same : settled (present later others) ≡ rest = ap (λ n. settled (present n others)) later_is in
     record {
       tolds =
-          (λ i. more_is i ++ (same i).tolds) ∙ append_assoc told (reply ∷ []) rest.tolds ∙ ap (λ t. told ++ t ∷ rest.tolds) reply_is ∙ ap (λ (t : Settled). told ++ t.tolds) (sym e) ∙ so_far.tolds;
+          (λ i. more_is i ++ (same i).tolds) ∙ append_assoc told (reply ∷ []) rest.tolds ∙ ap (λ t. told ++ t ∷ rest.tolds) reply_is
+          ∙ ap (λ (t : Settled). told ++ t.tolds) (sym e) ∙ so_far.tolds;
       present = ap (λ (t : Settled). t.present) same ∙ ap (λ (t : Settled). t.present) (sym e) ∙ so_far.present;
     }
 
-pub settling_ends : (s : Present) (given told : List Told) (m : Marking) (parked : List Request) → IsSettling s (present m parked) given told → oldest_free m parked ≡ None → (told ≡ given ++ (settled s).tolds) × (present m parked ≡ (settled s).present)
+pub settling_ends : (s : Present) (given told : List Told) (m : Marking) (parked : List Request) → IsSettling s (present m parked) given told
+    → oldest_free m parked ≡ None → (told ≡ given ++ (settled s).tolds) × (present m parked ≡ (settled s).present)
 settling_ends s given told m parked so_far none =
     let e = settled_none m parked (none_free m parked none) in
     (sym (append-nil told) ∙ ap (λ (r : Settled). told ++ r.tolds) (sym e) ∙ so_far.tolds, ap (λ (r : Settled). r.present) (sym e) ∙ so_far.present)

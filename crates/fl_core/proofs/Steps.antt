@@ -29,7 +29,8 @@ use Rattle.fl_ranges.specs.Change.{after_changes}
 use Rattle.fl_ranges.specs.Marking.{Marking}
 
 -- requests that are ended have other uniques than an order whose unique is none of theirs
-ended_others : (u : ℕ) (e : Errno) (test : Request → Bool) (parked : List Request) → AllByRecursion (λ (r : Request). r.unique ≢ u) parked → AreOthers u (ended_all e test parked)
+ended_others : (u : ℕ) (e : Errno) (test : Request → Bool) (parked : List Request) → AllByRecursion (λ (r : Request). r.unique ≢ u) parked
+    → AreOthers u (ended_all e test parked)
 ended_others u e test [] all = tt
 ended_others u e test (r ∷ parked) all = go (test r) (ended_others u e test parked all.1)
   where
@@ -37,12 +38,14 @@ ended_others u e test (r ∷ parked) all = go (test r) (ended_others u e test pa
     go true rest = (all.0, rest)
     go false rest = rest
 
-pub ended_apart : (u : ℕ) (parked : List Request) → AllByRecursion (λ (r : Request). r.unique ≢ u) parked → (ending : Option Ending) → AreOthers u (ended_if ending parked)
+pub ended_apart : (u : ℕ) (parked : List Request) → AllByRecursion (λ (r : Request). r.unique ≢ u) parked → (ending : Option Ending)
+    → AreOthers u (ended_if ending parked)
 ended_apart u parked all None = tt
 ended_apart u parked all (Some ending) = ended_others u (error_of ending) (picks ending) parked all
 
 -- the replies that end requests are read as their ends
-ends_read : (s : Snapshot) → AreApart s.view.parked → (ending : Option Ending) → made_all (ended_if ending s.view.parked) s ≡ with_parked (left_if ending s.view.parked) s
+ends_read : (s : Snapshot) → AreApart s.view.parked → (ending : Option Ending)
+    → made_all (ended_if ending s.view.parked) s ≡ with_parked (left_if ending s.view.parked) s
 ends_read s apart None = refl
 ends_read s apart (Some ending) = ended_read (error_of ending) (picks ending) s apart
 
@@ -52,7 +55,8 @@ ends_or_waits order parked (Setlkw ask) = refl
 ends_or_waits order parked op = refl
 
 -- an order ends the same requests whether it made its change already
-pub ends_alike : (order : Order) (p : Snapshot) (own : Option (Result Answer Errno)) → ended_by (made (by_reply order own) p).view.parked order.op own ≡ ended_by p.view.parked order.op own
+pub ends_alike : (order : Order) (p : Snapshot) (own : Option (Result Answer Errno))
+    → ended_by (made (by_reply order own) p).view.parked order.op own ≡ ended_by p.view.parked order.op own
 ends_alike order p None = ends_or_waits order p.view.parked order.op
 ends_alike order p (Some reply) = refl
 
@@ -61,7 +65,8 @@ made_by e p = record { view = e.view; marking = after_changes e.changes p.markin
 
 module _ (order : Order) (p : Snapshot) where
   -- its unique is none of a request that waits
-  module _ (fresh : is_parked order.unique p.view.parked ≡ false) (own : Option (Result Answer Errno)) (own_is : own ≡ reply_to p.view p.marking order order.op) where
+  module _ (fresh : is_parked order.unique p.view.parked ≡ false) (own : Option (Result Answer Errno))
+      (own_is : own ≡ reply_to p.view p.marking order order.op) where
     abbrev ends : List Told
     ends = ended_by p.view.parked order.op own
 
@@ -74,7 +79,8 @@ module _ (order : Order) (p : Snapshot) where
     changed_is : made (at_once order own) p ≡ made (by_reply order own) p
     changed_is = ap (λ b. made_by (cond b (leaving p.view) (by_reply order own p.view)) p) fresh
 
-    module _ (s q : Snapshot) (s_is : s ≡ made (by_reply order own) p) (q_is : q ≡ with_parked (left_by s.view.parked order.op own) s) (apart_s : AreApart s.view.parked) (apart_q : AreApart q.view.parked)
+    module _ (s q : Snapshot) (s_is : s ≡ made (by_reply order own) p) (q_is : q ≡ with_parked (left_by s.view.parked order.op own) s)
+        (apart_s : AreApart s.view.parked) (apart_q : AreApart q.view.parked)
         (waiting : own ≡ None → AllWait q.marking q.view.parked) where
       abbrev rest : List Told
       rest = (settling q).tolds
@@ -107,7 +113,8 @@ module _ (order : Order) (p : Snapshot) where
       pub step_read : made (replied order (replies p order)) p ≡ next p order
       step_read =
           ap (λ xs. made (replied order xs) p) ((λ i. first_is i ++ (settling (after_is i)).tolds) ∙ append_assoc (own_replies order own) ends rest)
-          ∙ made_replied order own (ends ++ rest) p all_others ∙ made_all-append ends rest (made (at_once order own) p) ∙ ap (made_all rest) read ∙ settled_read q apart_q ∙ sym next_is
+          ∙ made_replied order own (ends ++ rest) p all_others ∙ made_all-append ends rest (made (at_once order own) p) ∙ ap (made_all rest) read
+          ∙ settled_read q apart_q ∙ sym next_is
 
   -- its unique is that of a request that waits
   module _ (taken : is_parked order.unique p.view.parked ≡ true) (waiting : AllWait p.marking p.view.parked) where
@@ -145,16 +152,19 @@ one_at_most order None parked = omega arith
 one_at_most order (Some ask) parked = omega (arith, one_longer parked (request_of order ask))
 
 -- an order that waits has no reply of its own
-pub room_left : (order : Order) (own : Option (Result Answer Errno)) (p : Snapshot) → length p.view.parked ≤ 256 → length (own_replies order own) + length (made (by_reply order own) p).view.parked ≤ 257
+pub room_left : (order : Order) (own : Option (Result Answer Errno)) (p : Snapshot) → length p.view.parked ≤ 256
+    → length (own_replies order own) + length (made (by_reply order own) p).view.parked ≤ 257
 room_left order (Some reply) p few = omega (arith, few)
 room_left order None p few = omega (arith, few, one_at_most order (waited_for order.op) p.view.parked)
 
-waiting_apart : (order : Order) (ask : Option LockAsk) (parked : List Request) → AreApart parked → AllByRecursion (λ (r : Request). r.unique ≢ order.unique) parked → AreApart (with_waiter order ask parked)
+waiting_apart : (order : Order) (ask : Option LockAsk) (parked : List Request) → AreApart parked
+    → AllByRecursion (λ (r : Request). r.unique ≢ order.unique) parked → AreApart (with_waiter order ask parked)
 waiting_apart order None parked apart others = apart
 waiting_apart order (Some ask) parked apart others = apart_more parked (request_of order ask) apart others
 
 -- requests that wait stay apart, where the order's unique was none of theirs
-pub apart_after : (order : Order) (own : Option (Result Answer Errno)) (p : Snapshot) → is_parked order.unique p.view.parked ≡ false → AreApart p.view.parked → AreApart (made (by_reply order own) p).view.parked
+pub apart_after : (order : Order) (own : Option (Result Answer Errno)) (p : Snapshot) → is_parked order.unique p.view.parked ≡ false → AreApart p.view.parked
+    → AreApart (made (by_reply order own) p).view.parked
 apart_after order (Some reply) p fresh apart = apart
 apart_after order None p fresh apart = waiting_apart order (waited_for order.op) p.view.parked apart (none_of order.unique p.view.parked fresh)
 
@@ -207,7 +217,9 @@ module _ (order : Order) (p : Snapshot) (waiting : AllWait p.marking p.view.park
   settled_after = ap settling after_read ∙ settled_none p.marking p.view.parked waiting
 
   pub reads_replies : replies p order ≡ own_replies order own_read
-  reads_replies = (λ i. (own_replies order own_read ++ ended_none i) ++ (settled_after i).tolds) ∙ append-nil (own_replies order own_read ++ []) ∙ append-nil (own_replies order own_read)
+  reads_replies =
+      (λ i. (own_replies order own_read ++ ended_none i) ++ (settled_after i).tolds) ∙ append-nil (own_replies order own_read ++ [])
+      ∙ append-nil (own_replies order own_read)
 
   pub reads_next : next p order ≡ p
   reads_next = ap (λ (r : Settled). with_present r.present (after_first p order)) settled_after ∙ ap (with_present (present p.marking p.view.parked)) after_read

@@ -30,9 +30,11 @@ all_taken P test (r ∷ parked) all = go (test r) (taken_first test parked) (all
 pub apart_taken : (test : Request → Bool) (parked : List Request) → AreApart parked → ApartLeft (taken_first test parked)
 unfolding ApartLeft AllLeft taken_first
 apart_taken test [] apart = tt
-apart_taken test (r ∷ parked) apart = go (test r) (taken_first test parked) (apart_taken test parked apart.1) (all_taken (λ b. b.unique ≢ r.unique) test parked apart.0)
+apart_taken test (r ∷ parked) apart =
+    go (test r) (taken_first test parked) (apart_taken test parked apart.1) (all_taken (λ b. b.unique ≢ r.unique) test parked apart.0)
   where
-    go : (b : Bool) (o : Option (Request × List Request)) → ApartLeft o → AllLeft (λ b. b.unique ≢ r.unique) o → ApartLeft (cond b (Some (r, parked)) (keep r o))
+    go : (b : Bool) (o : Option (Request × List Request)) → ApartLeft o → AllLeft (λ b. b.unique ≢ r.unique) o
+        → ApartLeft (cond b (Some (r, parked)) (keep r o))
     go true o h k = apart.1
     go false None h k = tt
     go false (Some p) h k = (k.1, h)
@@ -50,17 +52,21 @@ same x y e = grind (arith, nat_tests)
 other : (x y : ℕ) → x ≢ y → (x == y) ≡ false
 other x y ne = grind (arith, nat_tests)
 
-pub taken_there : (older : List Request) (r : Request) (younger : List Request) → AllByRecursion (λ (b : Request). b.unique ≢ r.unique) older → taken_out r.unique (older ++ r ∷ younger) ≡ Some (r, older ++ younger)
+pub taken_there : (older : List Request) (r : Request) (younger : List Request) → AllByRecursion (λ (b : Request). b.unique ≢ r.unique) older
+    → taken_out r.unique (older ++ r ∷ younger) ≡ Some (r, older ++ younger)
 unfolding taken_first
 taken_there [] r younger apart = ap (λ b. cond b (Some (r, younger)) (keep r (taken_out r.unique younger))) (same r.unique r.unique refl)
-taken_there (a ∷ older) r younger apart = λ i. cond (other a.unique r.unique apart.0 i) (Some (a, older ++ r ∷ younger)) (keep a (taken_there older r younger apart.1 i))
+taken_there (a ∷ older) r younger apart =
+    λ i. cond (other a.unique r.unique apart.0 i) (Some (a, older ++ r ∷ younger)) (keep a (taken_there older r younger apart.1 i))
 
-not_at : (a r : Request) (older younger : List Request) → AllByRecursion (λ (b : Request). b.unique ≢ a.unique) (older ++ r ∷ younger) → (r.unique ≢ a.unique) × AllByRecursion (λ (b : Request). b.unique ≢ a.unique) (older ++ younger)
+not_at : (a r : Request) (older younger : List Request) → AllByRecursion (λ (b : Request). b.unique ≢ a.unique) (older ++ r ∷ younger)
+    → (r.unique ≢ a.unique) × AllByRecursion (λ (b : Request). b.unique ≢ a.unique) (older ++ younger)
 not_at a r [] younger all = all
 not_at a r (b ∷ older) younger all = let rest = not_at a r older younger all.1 in (rest.0, (all.0, rest.1))
 
 -- a request that goes leaves the others apart
-pub apart_without : (older : List Request) (r : Request) (younger : List Request) → AreApart (older ++ r ∷ younger) → AllByRecursion (λ (b : Request). b.unique ≢ r.unique) older × AreApart (older ++ younger)
+pub apart_without : (older : List Request) (r : Request) (younger : List Request) → AreApart (older ++ r ∷ younger)
+    → AllByRecursion (λ (b : Request). b.unique ≢ r.unique) older × AreApart (older ++ younger)
 apart_without [] r younger apart = (tt, apart.1)
 apart_without (a ∷ older) r younger apart =
     let rest = apart_without older r younger apart.1 in
@@ -72,7 +78,8 @@ pub none_of : (unique : ℕ) (parked : List Request) → is_parked unique parked
 none_of u [] e = tt
 none_of u (a ∷ parked) e = go (a.unique == u) (is_parked u parked) refl e (none_of u parked)
   where
-    go : (b c : Bool) → (a.unique == u) ≡ b → (b || c) ≡ false → (c ≡ false → AllByRecursion (λ (b : Request). b.unique ≢ u) parked) → (a.unique ≢ u) × AllByRecursion (λ (b : Request). b.unique ≢ u) parked
+    go : (b c : Bool) → (a.unique == u) ≡ b → (b || c) ≡ false → (c ≡ false → AllByRecursion (λ (b : Request). b.unique ≢ u) parked)
+        → (a.unique ≢ u) × AllByRecursion (λ (b : Request). b.unique ≢ u) parked
     go true c e f rest = absurd (cc f)
     go false c e f rest = ((λ same. absurd (grind (arith, nat_tests))), rest f)
 
@@ -81,7 +88,8 @@ all_more P [] r all p = (p, tt)
 all_more P (a ∷ parked) r all p = (all.0, all_more P parked r all.1 p)
 
 -- one more request of another unique
-pub apart_more : (parked : List Request) (r : Request) → AreApart parked → AllByRecursion (λ (b : Request). b.unique ≢ r.unique) parked → AreApart (parked ++ r ∷ [])
+pub apart_more : (parked : List Request) (r : Request) → AreApart parked → AllByRecursion (λ (b : Request). b.unique ≢ r.unique) parked
+    → AreApart (parked ++ r ∷ [])
 apart_more [] r apart all = (tt, tt)
 apart_more (a ∷ parked) r apart all = (all_more (λ b. b.unique ≢ a.unique) parked r apart.0 (λ e. all.0 (sym e)), apart_more parked r apart.1 all.1)
 
@@ -91,19 +99,22 @@ pub record IsTaken (test : Request → Bool) (parked : List Request) (r : Reques
   pub failing : filter (λ a. not (test a)) parked ≡ filter (λ a. not (test a)) others
   pub shorter : length parked ≡ suc (length others)
 
-pub is_taken : (test : Request → Bool) (parked : List Request) (r : Request) (others : List Request) → taken_first test parked ≡ Some (r, others) → IsTaken test parked r others
+pub is_taken : (test : Request → Bool) (parked : List Request) (r : Request) (others : List Request) → taken_first test parked ≡ Some (r, others)
+    → IsTaken test parked r others
 unfolding taken_first
 is_taken test [] r others e = absurd (cc e)
 is_taken test (a ∷ parked) r others e = go (test a) refl (taken_first test parked) refl e (is_taken test parked)
   where
-    go : (b : Bool) → test a ≡ b → (o : Option (Request × List Request)) → taken_first test parked ≡ o → cond b (Some (a, parked)) (keep a o) ≡ Some (r, others) → ((k : Request) (l : List Request) → taken_first test parked ≡ Some (k, l) → IsTaken test parked k l) → IsTaken test (a ∷ parked) r others
+    go : (b : Bool) → test a ≡ b → (o : Option (Request × List Request)) → taken_first test parked ≡ o → cond b (Some (a, parked)) (keep a o) ≡ Some (r, others)
+        → ((k : Request) (l : List Request) → taken_first test parked ≡ Some (k, l) → IsTaken test parked k l) → IsTaken test (a ∷ parked) r others
     go true t o is e f =
         let both : ◌≡◌ {A = Request × List Request} (a, parked) (r, others) = cc in
         let asks : a ≡ r = ap (λ (q : Request × List Request). q.0) both in
         let lefts : parked ≡ others = ap (λ (q : Request × List Request). q.1) both in
         record {
           passing = ap (λ b. cond b (a ∷ filter test parked) (filter test parked)) t ∙ (λ i. asks i ∷ filter test (lefts i));
-          failing = ap (λ b. cond (not b) (a ∷ filter (λ x. not (test x)) parked) (filter (λ x. not (test x)) parked)) t ∙ ap (filter (λ x. not (test x))) lefts;
+          failing = ap (λ b. cond (not b) (a ∷ filter (λ x. not (test x)) parked) (filter (λ x. not (test x)) parked)) t
+              ∙ ap (filter (λ x. not (test x))) lefts;
           shorter = ap (λ xs. suc (length xs)) lefts;
         }
     go false t None is e f = absurd (cc e)
@@ -113,7 +124,8 @@ is_taken test (a ∷ parked) r others e = go (test a) refl (taken_first test par
         let lefts : a ∷ p.1 ≡ others = ap (λ (q : Request × List Request). q.1) both in
         let w = f p.0 p.1 is in
         record {
-          passing = ap (λ b. cond b (a ∷ filter test parked) (filter test parked)) t ∙ w.passing ∙ ap (λ k. k ∷ filter test p.1) asks ∙ ap (λ b. r ∷ cond b (a ∷ filter test p.1) (filter test p.1)) (sym t) ∙ ap (λ xs. r ∷ filter test xs) lefts;
+          passing = ap (λ b. cond b (a ∷ filter test parked) (filter test parked)) t ∙ w.passing ∙ ap (λ k. k ∷ filter test p.1) asks
+              ∙ ap (λ b. r ∷ cond b (a ∷ filter test p.1) (filter test p.1)) (sym t) ∙ ap (λ xs. r ∷ filter test xs) lefts;
           failing =
               ap (λ b. cond (not b) (a ∷ filter (λ x. not (test x)) parked) (filter (λ x. not (test x)) parked)) t ∙ ap (λ xs. a ∷ xs) w.failing
               ∙ ap (λ b. cond (not b) (a ∷ filter (λ x. not (test x)) p.1) (filter (λ x. not (test x)) p.1)) (sym t) ∙ ap (filter (λ x. not (test x))) lefts;
@@ -121,12 +133,14 @@ is_taken test (a ∷ parked) r others e = go (test a) refl (taken_first test par
         }
 
 -- none passes
-pub none_taken : (test : Request → Bool) (parked : List Request) → taken_first test parked ≡ None → (filter test parked ≡ []) × (filter (λ a. not (test a)) parked ≡ parked)
+pub none_taken : (test : Request → Bool) (parked : List Request) → taken_first test parked ≡ None
+    → (filter test parked ≡ []) × (filter (λ a. not (test a)) parked ≡ parked)
 unfolding taken_first
 none_taken test [] e = (refl, refl)
 none_taken test (a ∷ parked) e = go (test a) refl (taken_first test parked) refl e (none_taken test parked)
   where
-    go : (b : Bool) → test a ≡ b → (o : Option (Request × List Request)) → taken_first test parked ≡ o → cond b (Some (a, parked)) (keep a o) ≡ None → (taken_first test parked ≡ None → (filter test parked ≡ []) × (filter (λ x. not (test x)) parked ≡ parked))
+    go : (b : Bool) → test a ≡ b → (o : Option (Request × List Request)) → taken_first test parked ≡ o → cond b (Some (a, parked)) (keep a o) ≡ None
+        → (taken_first test parked ≡ None → (filter test parked ≡ []) × (filter (λ x. not (test x)) parked ≡ parked))
         → (filter test (a ∷ parked) ≡ []) × (filter (λ x. not (test x)) (a ∷ parked) ≡ a ∷ parked)
     go true t o is e f = absurd (cc e)
     go false t (Some p) is e f = absurd (cc e)
@@ -137,11 +151,13 @@ none_taken test (a ∷ parked) e = go (test a) refl (taken_first test parked) re
         )
 
 -- what holds of each request holds of the one that is taken out, and of the others
-pub all_left : (P : Request → Type 0) (test : Request → Bool) (parked : List Request) (r : Request) (others : List Request) → taken_first test parked ≡ Some (r, others) → AllByRecursion P parked → P r × AllByRecursion P others
+pub all_left : (P : Request → Type 0) (test : Request → Bool) (parked : List Request) (r : Request) (others : List Request)
+    → taken_first test parked ≡ Some (r, others) → AllByRecursion P parked → P r × AllByRecursion P others
 unfolding AllLeft
 all_left P test parked r others e all = subst (AllLeft P) e (all_taken P test parked all)
 
-pub apart_left : (test : Request → Bool) (parked : List Request) (r : Request) (others : List Request) → taken_first test parked ≡ Some (r, others) → AreApart parked → AreApart others
+pub apart_left : (test : Request → Bool) (parked : List Request) (r : Request) (others : List Request) → taken_first test parked ≡ Some (r, others)
+    → AreApart parked → AreApart others
 unfolding ApartLeft
 apart_left test parked r others e apart = subst ApartLeft e (apart_taken test parked apart)
 

@@ -25,12 +25,14 @@ use Rattle.fl_ranges.specs.Change.{after_changes}
 use Rattle.fl_ranges.specs.Conflict.{conflicts, SameElsewhere, SameOffNode}
 use Rattle.fl_ranges.specs.Marking.{Marking, Stroke, class_number}
 
-excluded_same : (m n : Marking) (s : Stroke) (mark : Option Mark) → ((kind : Kind) → conflicts n s.key s.start s.end kind ≡ conflicts m s.key s.start s.end kind) → is_excluded n s mark ≡ is_excluded m s mark
+excluded_same : (m n : Marking) (s : Stroke) (mark : Option Mark)
+    → ((kind : Kind) → conflicts n s.key s.start s.end kind ≡ conflicts m s.key s.start s.end kind) → is_excluded n s mark ≡ is_excluded m s mark
 excluded_same m n s None same = refl
 excluded_same m n s (Some mark) same = same mark.kind
 
 -- where nothing changed for requests that aren't concerned, they still wait
-pub others_after : (t : Touched) (m n : Marking) (parked : List Request) → ((r : Request) → concerns_request t r ≡ false → waits n r ≡ waits m r) → OthersWait t m parked → OthersWait t n parked
+pub others_after : (t : Touched) (m n : Marking) (parked : List Request) → ((r : Request) → concerns_request t r ≡ false → waits n r ≡ waits m r)
+    → OthersWait t m parked → OthersWait t n parked
 others_after t m n [] same all = tt
 others_after t m n (r ∷ parked) same all = ((λ apart. same r apart ∙ all.0 apart), others_after t m n parked same all.1)
 
@@ -43,11 +45,13 @@ nothing_touched m [] all = tt
 nothing_touched m (r ∷ parked) all = (all.0 refl, nothing_touched m parked all.1)
 
 -- all wait where no lock was touched that one of them waits for
-pub none_concerned : (t : Touched) (m : Marking) (parked : List Request) → AllByRecursion (λ (r : Request). concerns_request t r ≡ false) parked → OthersWait t m parked → AllWait m parked
+pub none_concerned : (t : Touched) (m : Marking) (parked : List Request) → AllByRecursion (λ (r : Request). concerns_request t r ≡ false) parked
+    → OthersWait t m parked → AllWait m parked
 none_concerned t m [] none all = tt
 none_concerned t m (r ∷ parked) none all = (all.0 none.0, none_concerned t m parked none.1 all.1)
 
-pub off_class : (key : Key) (m n : Marking) → SameElsewhere key m n → (r : Request) → concerns_request (OfClass key.node key.class) r ≡ false → waits n r ≡ waits m r
+pub off_class : (key : Key) (m n : Marking) → SameElsewhere key m n → (r : Request) → concerns_request (OfClass key.node key.class) r ≡ false
+    → waits n r ≡ waits m r
 off_class key m n elsewhere r apart =
     let s = stroke_of r.node r.ask in
     excluded_same m n s (mark_of r.ask) (λ kind. elsewhere s.key s.start s.end kind apart)
@@ -58,21 +62,26 @@ off_node node m n elsewhere r apart =
     excluded_same m n s (mark_of r.ask) (λ kind. elsewhere s.key s.start s.end kind apart)
 
 -- after a lock request that is answered so
-pub others_set : (node : ℕ) (ask : LockAsk) (reply : Result Answer Errno) (m n : Marking) (parked : List Request) → n ≡ after_changes (locked node ask reply) m → SameElsewhere (key_of node ask) m n
+pub others_set : (node : ℕ) (ask : LockAsk) (reply : Result Answer Errno) (m n : Marking) (parked : List Request) → n ≡ after_changes (locked node ask reply) m
+    → SameElsewhere (key_of node ask) m n
     → AllWait m parked → OthersWait (touched_by node (Setlk ask) (Some reply)) n parked
 others_set node ask (Ok answer) m n parked is elsewhere all =
-    others_after (OfClass node (key_of node ask).class) m n parked (off_class (key_of node ask) m n elsewhere) (others_kept (OfClass node (key_of node ask).class) m parked all)
+    others_after (OfClass node (key_of node ask).class) m n parked (off_class (key_of node ask) m n elsewhere)
+    (others_kept (OfClass node (key_of node ask).class) m parked all)
 others_set node ask (Err e) m n parked is elsewhere all = others_kept Nothing n parked (subst (λ k. AllWait k parked) (sym is) all)
 
-pub others_waited : (node : ℕ) (ask : LockAsk) (reply : Result Answer Errno) (m n : Marking) (parked : List Request) → n ≡ after_changes (locked node ask reply) m → SameElsewhere (key_of node ask) m n
+pub others_waited : (node : ℕ) (ask : LockAsk) (reply : Result Answer Errno) (m n : Marking) (parked : List Request)
+    → n ≡ after_changes (locked node ask reply) m → SameElsewhere (key_of node ask) m n
     → AllWait m parked → OthersWait (touched_by node (Setlkw ask) (Some reply)) n parked
 others_waited node ask (Ok answer) m n parked is elsewhere all = others_set node ask (Ok answer) m n parked is elsewhere all
 others_waited node ask (Err e) m n parked is elsewhere all = others_kept Nothing n parked (subst (λ k. AllWait k parked) (sym is) all)
 
-pub others_flushed : (node fh owner : ℕ) (reply : Result Answer Errno) (m n : Marking) (parked : List Request) → n ≡ after_changes (flushed node owner reply) m → SameElsewhere (record { class = Record; node = node; owner = owner }) m n
+pub others_flushed : (node fh owner : ℕ) (reply : Result Answer Errno) (m n : Marking) (parked : List Request) → n ≡ after_changes (flushed node owner reply) m
+    → SameElsewhere (record { class = Record; node = node; owner = owner }) m n
     → AllWait m parked → OthersWait (touched_by node (Flush fh owner) (Some reply)) n parked
 others_flushed node fh owner (Ok answer) m n parked is elsewhere all =
-    others_after (OfClass node Record) m n parked (off_class (record { class = Record; node = node; owner = owner }) m n elsewhere) (others_kept (OfClass node Record) m parked all)
+    others_after (OfClass node Record) m n parked (off_class (record { class = Record; node = node; owner = owner }) m n elsewhere)
+    (others_kept (OfClass node Record) m parked all)
 others_flushed node fh owner (Err e) m n parked is elsewhere all = others_kept Nothing n parked (subst (λ k. AllWait k parked) (sym is) all)
 
 -- a test of those alone that are concerned finds the oldest that is free
@@ -110,19 +119,24 @@ off_granted t given r there apart = go _ refl
     go false e = refl
     go true e =
         let parts = both_true _ _ e in
-        absurd (cc (sym apart ∙ concerns_alike t r.node given.node (key_of r.node r.ask).class (key_of given.node given.ask).class (numbers_equal _ _ parts.0) (numbers_equal _ _ parts.1) ∙ there))
+        absurd (cc (sym apart ∙ concerns_alike t r.node given.node (key_of r.node r.ask).class (key_of given.node given.ask).class (numbers_equal _ _ parts.0)
+        (numbers_equal _ _ parts.1) ∙ there))
 
-concerned : (t : Touched) (m : Marking) (r : Request) (b : Bool) → concerns_request t r ≡ b → (concerns_request t r ≡ false → waits m r ≡ true) → waits m r ≡ false → concerns_request t r ≡ true
+concerned : (t : Touched) (m : Marking) (r : Request) (b : Bool) → concerns_request t r ≡ b → (concerns_request t r ≡ false → waits m r ≡ true)
+    → waits m r ≡ false → concerns_request t r ≡ true
 concerned t m r true e others free = e
 concerned t m r false e others free = absurd (cc (sym (others e) ∙ free))
 
-pub others_granted : (t : Touched) (m n : Marking) (given : Request) (others : List Request) → SameElsewhere (key_of given.node given.ask) m n → (concerns_request t given ≡ false → waits m given ≡ true) → waits m given ≡ false
+pub others_granted : (t : Touched) (m n : Marking) (given : Request) (others : List Request) → SameElsewhere (key_of given.node given.ask) m n
+    → (concerns_request t given ≡ false → waits m given ≡ true) → waits m given ≡ false
     → OthersWait t m others → OthersWait t n others
 others_granted t m n given others elsewhere waiting free all =
     let there = concerned t m given _ refl waiting free in
-    others_after t m n others (λ r apart. let s = stroke_of r.node r.ask in excluded_same m n s (mark_of r.ask) (λ kind. elsewhere s.key s.start s.end kind (off_granted t given r there apart))) all
+    others_after t m n others (λ r apart. let s = stroke_of r.node r.ask in excluded_same m n s (mark_of r.ask)
+    (λ kind. elsewhere s.key s.start s.end kind (off_granted t given r there apart))) all
 
-pub others_released : (node fh : ℕ) (unlocks : Bool) (owner : ℕ) (reply : Result Answer Errno) (d : Listing) (m n : Marking) (parked : List Request) → n ≡ after_changes (released node fh unlocks owner reply d) m → SameOffNode node m n
+pub others_released : (node fh : ℕ) (unlocks : Bool) (owner : ℕ) (reply : Result Answer Errno) (d : Listing) (m n : Marking) (parked : List Request)
+    → n ≡ after_changes (released node fh unlocks owner reply d) m → SameOffNode node m n
     → AllWait m parked → OthersWait (touched_by node (Release fh unlocks owner) (Some reply)) n parked
 others_released node fh unlocks owner (Ok answer) d m n parked is elsewhere all =
     others_after (OfNode node) m n parked (off_node node m n elsewhere) (others_kept (OfNode node) m parked all)
@@ -133,10 +147,12 @@ module _ (node : ℕ) (ask : LockAsk) (unique : ℕ) (m n : Marking) (parked lef
   abbrev pub request : Request
   request = record { unique = unique; node = node; ask = ask }
 
-  pub others_parked : (own : Option (Result Answer Errno)) → IfSome own (λ reply. (n ≡ after_changes (locked node ask reply) m) × (left ≡ parked)) → (IsNone own → WaitsNow m n parked left request) → SameElsewhere (key_of node ask) m n
+  pub others_parked : (own : Option (Result Answer Errno)) → IfSome own (λ reply. (n ≡ after_changes (locked node ask reply) m) × (left ≡ parked))
+      → (IsNone own → WaitsNow m n parked left request) → SameElsewhere (key_of node ask) m n
       → AllWait m parked → OthersWait (touched_by node (Setlkw ask) own) n left
   others_parked (Some reply) told waiting elsewhere all =
       subst (λ xs. OthersWait (touched_by node (Setlkw ask) (Some reply)) n xs) (sym told.1) (others_waited node ask reply m n parked told.0 elsewhere all)
   others_parked None told waiting elsewhere all =
       let w = waiting refl in
-      others_kept Nothing n left (subst (λ k. AllWait k left) (sym w.locks) (subst (AllWait m) (sym w.last) (all_more (λ r. waits m r ≡ true) parked request all w.waits)))
+      others_kept Nothing n left (subst (λ k. AllWait k left) (sym w.locks)
+      (subst (AllWait m) (sym w.last) (all_more (λ r. waits m r ≡ true) parked request all w.waits)))

@@ -35,7 +35,8 @@ never x y false b c = none (x == y)
 never_own : (es : List (Spot × Mark)) (key : Key) (start end : ℕ) (kind : Kind) → list_any (excludes_by key start end kind key.owner) es ≡ false
 never_own [] key start end kind = refl
 never_own (e ∷ es) key start end kind =
-    λ i. never e.0.0.owner key.owner (class_number key.class == class_number e.0.0.class) (key.node == e.0.0.node) ((nat_le start e.0.1 && nat_le e.0.1 end) && excludes kind e.1.kind) i || never_own es key start end kind i
+    λ i. never e.0.0.owner key.owner (class_number key.class == class_number e.0.0.class) (key.node == e.0.0.node)
+    ((nat_le start e.0.1 && nat_le e.0.1 end) && excludes kind e.1.kind) i || never_own es key start end kind i
 
 and_false : (b c : Bool) → c ≡ false → (b && c) ≡ false
 and_false true c e = e
@@ -70,7 +71,10 @@ deadlock_is : (m : Marking) (parked : List Request) (r : Request) (flock : Bool)
 deadlock_is m parked r flock f None e = (
   λ h. absurd (cc h),
   λ c.
-      let nothing : wish_of r ≡ None = ap (λ (k : Option Mark). cond (is_flock r.ask) None (option_map (λ (mark : Mark). record { key = key_of r.node r.ask; start = start_of r.ask; end = end_of r.ask; kind = mark.kind }) k)) e ∙ either (is_flock r.ask) in
+      let nothing : wish_of r ≡ None = ap
+      (λ (k : Option Mark). cond (is_flock r.ask) None
+      (option_map (λ (mark : Mark). record { key = key_of r.node r.ask; start = start_of r.ask; end = end_of r.ask; kind = mark.kind })
+      k)) e ∙ either (is_flock r.ask) in
       absurd (cc (sym nothing ∙ c.wants)),
 )
   where
@@ -79,19 +83,24 @@ deadlock_is m parked r flock f None e = (
     either false = refl
 deadlock_is m parked r true f (Some mark) e = (
   λ h. absurd (cc (sym h ∙ flock_closes_none m parked (wish_on (stroke_of r.node r.ask) mark) (ap (λ b. cond b Flock Record) f))),
-  λ c. absurd (cc (sym c.wants ∙ ap (λ b. cond b None (option_map (λ (k : Mark). record { key = key_of r.node r.ask; start = start_of r.ask; end = end_of r.ask; kind = k.kind }) (mark_of r.ask))) f)),
+  λ c. absurd (cc (sym c.wants ∙ ap
+      (λ b. cond b None (option_map (λ (k : Mark). record { key = key_of r.node r.ask; start = start_of r.ask; end = end_of r.ask; kind = k.kind })
+      (mark_of r.ask))) f)),
 )
 deadlock_is m parked r false f (Some mark) e =
-    let wanted : wish_of r ≡ Some (wish_on (stroke_of r.node r.ask) mark) = λ i. cond (f i) None (option_map (λ (k : Mark). record { key = key_of r.node r.ask; start = start_of r.ask; end = end_of r.ask; kind = k.kind }) (e i)) in
+    let wanted : wish_of r ≡ Some (wish_on (stroke_of r.node r.ask) mark) = λ i. cond (f i) None
+    (option_map (λ (k : Mark). record { key = key_of r.node r.ask; start = start_of r.ask; end = end_of r.ask; kind = k.kind }) (e i)) in
     let words = closes_words m parked (wish_on (stroke_of r.node r.ask) mark) in (
       λ h. record { wish = wish_on (stroke_of r.node r.ask) mark; wants = wanted; circle = words.0 h },
-      λ c. words.1 (subst (IsCircle owner_of (hinders m) (wishes parked)) (same c.wish (wish_on (stroke_of r.node r.ask) mark) (sym c.wants ∙ wanted)) c.circle),
+      λ c. words.1 (subst (IsCircle owner_of (hinders m) (wishes parked))
+          (same c.wish (wish_on (stroke_of r.node r.ask) mark) (sym c.wants ∙ wanted)) c.circle),
     )
   where
     same : (x y : Wish) → ◌≡◌ {A = Option Wish} (Some x) (Some y) → x ≡ y
     same x y e = cc e
 
-pub deadlock_words : (m : Marking) (parked : List Request) (r : Request) → (is_deadlock m parked (stroke_of r.node r.ask) (mark_of r.ask) ≡ true) ↔ ClosesCircle m parked r
+pub deadlock_words : (m : Marking) (parked : List Request) (r : Request)
+    → (is_deadlock m parked (stroke_of r.node r.ask) (mark_of r.ask) ≡ true) ↔ ClosesCircle m parked r
 deadlock_words m parked r = deadlock_is m parked r (is_flock r.ask) refl (mark_of r.ask) refl
 
 -- ---- the least owner past the one before
@@ -112,7 +121,8 @@ at_least zero x h = omega arith
 at_least (suc q) x h = omega arith
 
 -- an owner conflicts exactly where it is the least past the number before it
-pub told_by_least : (m : Marking) (key : Key) (start end : ℕ) (kind : Kind) (q : ℕ) (told : Option ℕ) → IsLeastAfter m key start end kind (before q) told → (told ≡ Some q) ↔ (owner_conflicts m key start end kind q ≡ true)
+pub told_by_least : (m : Marking) (key : Key) (start end : ℕ) (kind : Kind) (q : ℕ) (told : Option ℕ) → IsLeastAfter m key start end kind (before q) told
+    → (told ≡ Some q) ↔ (owner_conflicts m key start end kind q ≡ true)
 told_by_least m key start end kind q told w = (λ e. (w.itself q e).1, λ h. go told refl (w.least q (past q) h))
   where
     go : (t : Option ℕ) → told ≡ t → IsAtMost t q → t ≡ Some q
@@ -130,7 +140,8 @@ one_before (Some x) zero w = absurd (let low = w.0 in omega arith)
 one_before (Some x) (suc q) w = ap (λ n. Some n) (let same = w.1 in omega arith)
 
 -- what the table tells of an owner
-pub told_owner : (m : Marking) (key : Key) (start end : ℕ) (kind : Kind) (q x : ℕ) (o told : Option ℕ) → SomeIff o (1 ≤ q) (q - 1) → IsLeastAfter m key start end kind o told → told ≡ Some x → (x == q) ≡ owner_conflicts m key start end kind q
+pub told_owner : (m : Marking) (key : Key) (start end : ℕ) (kind : Kind) (q x : ℕ) (o told : Option ℕ) → SomeIff o (1 ≤ q) (q - 1)
+    → IsLeastAfter m key start end kind o told → told ≡ Some x → (x == q) ≡ owner_conflicts m key start end kind q
 told_owner m key start end kind q x o told before_q least some =
     let words = told_by_least m key start end kind q told (subst (λ b. IsLeastAfter m key start end kind b told) (one_before o q before_q) least) in
     go (owner_conflicts m key start end kind q) refl words.0 words.1
@@ -144,6 +155,7 @@ told_owner m key start end kind q x o told before_q least some =
     differ : (x ≡ q → ⊥) → (x == q) ≡ false
     differ e = grind (arith, nat_tests)
 
-    go : (b : Bool) → owner_conflicts m key start end kind q ≡ b → (told ≡ Some q → owner_conflicts m key start end kind q ≡ true) → (owner_conflicts m key start end kind q ≡ true → told ≡ Some q) → (x == q) ≡ b
+    go : (b : Bool) → owner_conflicts m key start end kind q ≡ b → (told ≡ Some q → owner_conflicts m key start end kind q ≡ true)
+        → (owner_conflicts m key start end kind q ≡ true → told ≡ Some q) → (x == q) ≡ b
     go true is f g = equal (same_some q (g is))
     go false is f g = differ (λ e. cc (sym is ∙ f (some ∙ ap (λ n. Some n) e)))

@@ -142,7 +142,8 @@ module _ (asks : List ShortOrder) (answers : List Answered) (names : List ℕ) (
   opened_stays (record_of.Done unique) there named = refl
   opened_stays (record_of.Failed error unique) there named = refl
 
-  lines_stay : (records : List ShortLine) → AreKept records asks answers names → opened_all asks′ answers′ names′ records ≡ opened_all asks answers names records
+  lines_stay : (records : List ShortLine) → AreKept records asks answers names
+      → opened_all asks′ answers′ names′ records ≡ opened_all asks answers names records
   lines_stay [] k = refl
   lines_stay (r ∷ records) k =
       (λ i. opened_stays r k.there.0 k.back i ∷ lines_stay records (record { there = k.there.1; back = k.back }) i)
@@ -204,7 +205,8 @@ told_kept records records′ asks answers answers′ names r l k t there is last
     subst (λ rs. AreKept rs asks answers′ names × (opened_all asks answers′ names rs ≡ opened_all asks answers names records ++ l ∷ [])) (sym last)
     (kept_still asks answers names asks answers′ names a t n records r k there tt, one_line asks answers names asks answers′ names a t n records r l k is)
 
-pub line_at : (asks : List ShortOrder) (answers : List Answered) (names : List ℕ) (records : List ShortLine) (i : ℕ) (r : ShortLine) → slice_get records i ≡ Some r
+pub line_at : (asks : List ShortOrder) (answers : List Answered) (names : List ℕ) (records : List ShortLine) (i : ℕ) (r : ShortLine)
+    → slice_get records i ≡ Some r
     → slice_get (opened_all asks answers names records) i ≡ Some (opened asks answers names r)
 line_at asks answers names records i r e = slice_get-map (opened asks answers names) records i ∙ ap (option_map (opened asks answers names)) e
 
@@ -212,6 +214,7 @@ pub there_at : (asks : List ShortOrder) (answers : List Answered) (names : List 
     → AreKept records asks answers names → slice_get records i ≡ Some r → IsThere (length asks) (length answers) r
 there_at asks answers names records i r k e = all_at (IsThere (length asks) (length answers)) records i r k.there e
 
-pub back_at : (asks : List ShortOrder) (answers : List Answered) (names : List ℕ) (records : List ShortLine) (i : ℕ) (a : ShortOrder) → AreKept records asks answers names
+pub back_at : (asks : List ShortOrder) (answers : List Answered) (names : List ℕ) (records : List ShortLine) (i : ℕ) (a : ShortOrder)
+    → AreKept records asks answers names
     → slice_get asks i ≡ Some a → LeadsBack names a.op
 back_at asks answers names records i a k e = all_at (λ (a : ShortOrder). LeadsBack names a.op) asks i a k.back e

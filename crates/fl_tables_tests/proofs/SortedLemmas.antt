@@ -11,7 +11,8 @@ pub sorted_at : (x : ℕ × ℕ) (xs : List (ℕ × ℕ)) → insert_sorted x xs
 sorted_at x [] = refl
 sorted_at x (y ∷ ys) = go (nat_le x.0 y.0) (sorted_at x ys)
   where
-    go : (b : Bool) → insert_sorted x ys ≡ insert ys (position_or_len (λ y. nat_le x.0 y.0) ys) x → cond b (x ∷ y ∷ ys) (y ∷ insert_sorted x ys) ≡ insert (y ∷ ys) (cond (not b) (1 + position_or_len (λ y. nat_le x.0 y.0) ys) 0) x
+    go : (b : Bool) → insert_sorted x ys ≡ insert ys (position_or_len (λ y. nat_le x.0 y.0) ys) x
+        → cond b (x ∷ y ∷ ys) (y ∷ insert_sorted x ys) ≡ insert (y ∷ ys) (cond (not b) (1 + position_or_len (λ y. nat_le x.0 y.0) ys) 0) x
     go true rest = refl
     go false rest = ap (λ (l : List (ℕ × ℕ)). y ∷ l) rest ∙ ap (λ (i : ℕ). insert (y ∷ ys) i x) (one_more (position_or_len (λ y. nat_le x.0 y.0) ys))
 

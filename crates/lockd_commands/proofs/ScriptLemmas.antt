@@ -13,7 +13,8 @@ use Rattle.lockd_commands.specs.declared.script.AskLine.{AskLine}
 
 -- ask lines can be read back
 pub fits_of_asks : (lines asks : List Line) → lines ≡ asks → All IsAskLine asks → Fits lines
-fits_of_asks lines asks same all k d below = subst (λ (l : List Line). LineFits (get_or l k d)) (sym same) (all k d (subst (λ (l : List Line). k < length l) same below)).0
+fits_of_asks lines asks same all k d below =
+    subst (λ (l : List Line). LineFits (get_or l k d)) (sym same) (all k d (subst (λ (l : List Line). k < length l) same below)).0
 
 -- replies ask nothing
 pub filter-told : (tolds : List Reply) → filter is_asked (map (λ told. Told told) tolds) ≡ []
@@ -57,4 +58,5 @@ pub take_more_asks : (old new : List Line) (asks : List AskLine) (i : ℕ) (ask 
     → new ≡ old ++ (line_of ask ∷ map (λ told. Told told) tolds) → i < length asks → ask ≡ get_or asks i ask
     → filter is_asked new ≡ map line_of (take (i + 1) asks)
 take_more_asks old new asks i ask tolds before taken below at =
-    rw (taken, filter-append is_asked old, before, take_more asks i ask below, map-append, ← at) (ap (λ lines. map line_of (take i asks) ++ line_of ask ∷ lines) (filter-told tolds))
+    rw (taken, filter-append is_asked old, before, take_more asks i ask below, map-append, ← at)
+    (ap (λ lines. map line_of (take i asks) ++ line_of ask ∷ lines) (filter-told tolds))

@@ -20,9 +20,17 @@ loop-claim-preserved c =
     let w = is_taken (picks c.args.ending) _ _ _ taken in
     record {
       tolds =
-          ending_goes_on (error_of c.args.ending) (picks c.args.ending) _ _ _ _ _ _ c.in-Some.claim.request _ c.loop-claim.invariant.tolds taken (ap (λ e. ended_with e c.in-Some.claim.request) c.error_of.ensures) c.push.ensures;
+          ending_goes_on (error_of c.args.ending) (picks c.args.ending) _ _ _ _ _ _ c.in-Some.claim.request _ c.loop-claim.invariant.tolds taken
+          (ap (λ e. ended_with e c.in-Some.claim.request) c.error_of.ensures) c.push.ensures;
       parked = sym w.failing ∙ c.loop-claim.invariant.parked;
-      room = omega (arith, c.loop-claim.invariant.room, w.shorter, ap length c.push.ensures, one_longer c.loop-claim.tolds (ended_with c.error_of.result c.in-Some.claim.request));
+      room = omega (
+        arith,
+        c.loop-claim.invariant.room,
+        w.shorter,
+        ap length c.push.ensures,
+        one_longer c.loop-claim.tolds
+            (ended_with c.error_of.result c.in-Some.claim.request),
+      );
     }
 
 pub returns-clause-tolds : goal.returns-clause-tolds

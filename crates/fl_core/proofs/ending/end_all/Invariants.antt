@@ -6,7 +6,8 @@ use Rattle.fl_core.proofs.ending.end_all.Given as goal
 -- what was told and is left to tell is the whole
 abbrev pub invariant-loop-claim : goal.invariant-loop-claim
 invariant-loop-claim l = record {
-  tolds : l.tolds ++ ended_all (error_of l.ending) (picks l.ending) l.parked ≡ l.initial.tolds ++ ended_all (error_of l.ending) (picks l.ending) l.initial.parked;
+  tolds : l.tolds ++ ended_all (error_of l.ending) (picks l.ending) l.parked ≡ l.initial.tolds ++ ended_all (error_of l.ending) (picks l.ending)
+      l.initial.parked;
   parked : filter (λ r. not (picks l.ending r)) l.parked ≡ filter (λ r. not (picks l.ending r)) l.initial.parked;
   room : length l.tolds + length l.parked ≤ 257;
 }

@@ -12,8 +12,10 @@ returns-then-not-is_excluded-clause-reply c =
     let ask = c.args.ask.now in
     let v : View = record { directory = c.args.directory.now; parked = c.args.parked.now } in
     let s = stroke_of c.args.node ask in
-    let asked = asked_stroke c.args.node ask c.key_of-key.result c.in-Ok.range c.mark_of-mark.result c.key_of-key.ensures c.in-Ok.ensures.range c.mark_of-mark.ensures in
-    let free : is_excluded m s (mark_of ask) ≡ false = (λ i. is_excluded m (sym asked i) (sym c.mark_of-mark.ensures i)) ∙ sym c.is_excluded.ensures ∙ c.if-not-is_excluded.true in
+    let asked = asked_stroke c.args.node ask c.key_of-key.result c.in-Ok.range c.mark_of-mark.result c.key_of-key.ensures c.in-Ok.ensures.range
+    c.mark_of-mark.ensures in
+    let free : is_excluded m s (mark_of ask) ≡ false = (λ i. is_excluded m (sym asked i) (sym c.mark_of-mark.ensures i)) ∙ sym c.is_excluded.ensures
+    ∙ c.if-not-is_excluded.true in
     ap Some (c.store.ensures.reply ∙ ap (room_reply m) asked) ∙ sym (setlkw_is v m c.args.node ask None false _ _ c.in-Ok.ensures.passed free refl refl)
 
 pub returns-then-is_deadlock-clause-reply : goal.returns-then-is_deadlock-clause-reply
@@ -22,7 +24,10 @@ returns-then-is_deadlock-clause-reply c =
     let ask = c.args.ask.now in
     let v : View = record { directory = c.args.directory.now; parked = c.args.parked.now } in
     let s = stroke_of c.args.node ask in
-    let asked = asked_stroke c.args.node ask c.key_of-key.result c.in-Ok.range c.mark_of-mark.result c.key_of-key.ensures c.in-Ok.ensures.range c.mark_of-mark.ensures in
-    let held : is_excluded m s (mark_of ask) ≡ true = (λ i. is_excluded m (sym asked i) (sym c.mark_of-mark.ensures i)) ∙ sym c.is_excluded.ensures ∙ c.if-not-is_excluded.false in
-    let circle : is_deadlock m v.parked s (mark_of ask) ≡ true = (λ i. is_deadlock m v.parked (sym asked i) (sym c.mark_of-mark.ensures i)) ∙ sym c.is_deadlock.ensures ∙ c.if-is_deadlock.true in
+    let asked = asked_stroke c.args.node ask c.key_of-key.result c.in-Ok.range c.mark_of-mark.result c.key_of-key.ensures c.in-Ok.ensures.range
+    c.mark_of-mark.ensures in
+    let held : is_excluded m s (mark_of ask) ≡ true = (λ i. is_excluded m (sym asked i) (sym c.mark_of-mark.ensures i)) ∙ sym c.is_excluded.ensures
+    ∙ c.if-not-is_excluded.false in
+    let circle : is_deadlock m v.parked s (mark_of ask) ≡ true = (λ i. is_deadlock m v.parked (sym asked i) (sym c.mark_of-mark.ensures i))
+    ∙ sym c.is_deadlock.ensures ∙ c.if-is_deadlock.true in
     sym (setlkw_is v m c.args.node ask None true true _ c.in-Ok.ensures.passed held circle refl)

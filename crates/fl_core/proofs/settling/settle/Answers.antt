@@ -24,10 +24,12 @@ loop-claim-preserved c =
     let m = c.loop-claim.locks.marking in
     let taken = c.in-Some.ensures in
     let oldest = is_oldest m _ _ _ taken in
-    let others = all_left (λ (r : Request). concerns_request c.args.touched r ≡ false → waits m r ≡ true) (λ r. not (waits m r)) _ _ _ taken c.loop-claim.invariant.others in
+    let others = all_left (λ (r : Request). concerns_request c.args.touched r ≡ false → waits m r ≡ true)
+    (λ r. not (waits m r)) _ _ _ taken c.loop-claim.invariant.others in
     let elsewhere = subst (λ (s : Stroke). SameElsewhere s.key m c.grant.new.locks.marking) c.in-Some.claim.wanted c.grant.ensures.elsewhere in
     record {
-      so_far = settling_goes_on _ _ _ _ m _ _ _ c.in-Some.claim.request _ c.loop-claim.invariant.so_far taken c.grant.ensures.marking c.grant.ensures.told c.push.ensures;
+      so_far = settling_goes_on _ _ _ _ m _ _ _ c.in-Some.claim.request _ c.loop-claim.invariant.so_far taken c.grant.ensures.marking c.grant.ensures.told
+          c.push.ensures;
       others = others_granted c.args.touched m _ c.in-Some.claim.request _ elsewhere others.0 oldest.free others.1;
       apart = λ apart. apart_left (λ r. not (waits m r)) _ _ _ taken (c.loop-claim.invariant.apart apart);
       room = omega (arith, c.loop-claim.invariant.room, one_shorter oldest, ap length c.push.ensures, one_longer c.loop-claim.tolds c.grant.result);
@@ -40,7 +42,8 @@ returns-clause-tolds c = (settling_ends _ _ _ c.loop-claim.locks.marking c.loop-
 
 pub returns-clause-present : goal.returns-clause-present
 returns-clause-present c =
-    ap (λ ps. present c.loop-claim.locks.marking ps) c.in_default.ensures.1 ∙ (settling_ends _ _ _ c.loop-claim.locks.marking c.loop-claim.parked c.loop-claim.invariant.so_far c.in_default.ensures.0).1
+    ap (λ ps. present c.loop-claim.locks.marking ps) c.in_default.ensures.1
+    ∙ (settling_ends _ _ _ c.loop-claim.locks.marking c.loop-claim.parked c.loop-claim.invariant.so_far c.in_default.ensures.0).1
 
 pub returns-then-not-may_concern-clause-tolds : goal.returns-then-not-may_concern-clause-tolds
 returns-then-not-may_concern-clause-tolds c =

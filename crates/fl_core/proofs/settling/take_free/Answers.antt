@@ -14,7 +14,8 @@ returns c =
     let found = free_found c.args.touched m c.args.parked.now c.requires in
     go c.args.parked.now c.take_first.new.self c.take_first.result (c.take_first.ensures test (λ a r k. search rules)) found
   where
-    go : (old new : List Request) (o : Option Claim) {taken free : Option (Request × List Request)} → MatchOption o ((taken ≡ None) × (new ≡ old)) (λ claim. taken ≡ Some (claim.request, new)) → taken ≡ free
+    go : (old new : List Request) (o : Option Claim) {taken free : Option (Request × List Request)}
+        → MatchOption o ((taken ≡ None) × (new ≡ old)) (λ claim. taken ≡ Some (claim.request, new)) → taken ≡ free
         → MatchOption o ((free ≡ None) × (new ≡ old)) (λ claim. free ≡ Some (claim.request, new))
     go old new None e same = (sym same ∙ e.0, e.1)
     go old new (Some claim) e same = sym same ∙ e

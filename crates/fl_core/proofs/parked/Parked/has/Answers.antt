@@ -27,13 +27,26 @@ nothing [] unique e = refl
 nothing (r ∷ parked) unique e = absurd (omega arith)
 
 pub returns-then-free-eq-MOST_PARKED-clause-found : goal.returns-then-free-eq-MOST_PARKED-clause-found
-returns-then-free-eq-MOST_PARKED-clause-found c = nothing c.args.self.now c.args.unique (omega (arith, all_requests c.self.inside.claims c.self.invariant.0, c.free.ensures.total, c.self.invariant.1, ap length c.self.view_is, c.if-free-eq-MOST_PARKED.true))
+returns-then-free-eq-MOST_PARKED-clause-found c =
+    nothing c.args.self.now c.args.unique
+    (omega (
+      arith,
+      all_requests c.self.inside.claims c.self.invariant.0,
+      c.free.ensures.total,
+      c.self.invariant.1,
+      ap length c.self.view_is,
+      c.if-free-eq-MOST_PARKED.true,
+    ))
 
 pub returns-then-free-eq-MOST_PARKED-clause-few : goal.returns-then-free-eq-MOST_PARKED-clause-few
-returns-then-free-eq-MOST_PARKED-clause-few c = omega (arith, all_requests c.self.inside.claims c.self.invariant.0, c.free.ensures.total, c.self.invariant.1, ap length c.self.view_is)
+returns-then-free-eq-MOST_PARKED-clause-few c =
+    omega (arith, all_requests c.self.inside.claims c.self.invariant.0, c.free.ensures.total, c.self.invariant.1, ap length c.self.view_is)
 
 pub returns-then-unique-self-clause-found : goal.returns-then-unique-self-clause-found
-returns-then-unique-self-clause-found c = sym (ap (is_parked c.args.unique) (sym c.self.view_is) ∙ none_past c.args.unique c.self.inside.greatest (requests_of c.self.inside.claims) c.self.invariant.2 c.if-unique-self.true)
+returns-then-unique-self-clause-found c =
+    sym (ap (is_parked c.args.unique) (sym c.self.view_is)
+    ∙ none_past c.args.unique c.self.inside.greatest (requests_of c.self.inside.claims) c.self.invariant.2 c.if-unique-self.true)
 
 pub returns-then-unique-self-clause-few : goal.returns-then-unique-self-clause-few
-returns-then-unique-self-clause-few c = omega (arith, all_requests c.self.inside.claims c.self.invariant.0, c.free.ensures.total, c.self.invariant.1, ap length c.self.view_is)
+returns-then-unique-self-clause-few c =
+    omega (arith, all_requests c.self.inside.claims c.self.invariant.0, c.free.ensures.total, c.self.invariant.1, ap length c.self.view_is)

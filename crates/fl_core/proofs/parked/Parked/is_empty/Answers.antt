@@ -11,4 +11,5 @@ returns-clause-few c = omega (arith, all_requests c.self.inside.claims c.self.in
 
 pub returns-clause-empty : goal.returns-clause-empty
 returns-clause-empty c =
-    none (length c.args.self.now) c.free.result (omega (arith, all_requests c.self.inside.claims c.self.invariant.0, c.free.ensures.total, c.self.invariant.1, ap length c.self.view_is))
+    none (length c.args.self.now) c.free.result
+    (omega (arith, all_requests c.self.inside.claims c.self.invariant.0, c.free.ensures.total, c.self.invariant.1, ap length c.self.view_is))

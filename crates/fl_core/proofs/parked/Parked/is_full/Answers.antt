@@ -8,4 +8,5 @@ returns-clause-few c = omega (arith, all_requests c.self.inside.claims c.self.in
 
 pub returns-clause-full : goal.returns-clause-full
 returns-clause-full c =
-    full (length c.args.self.now) c.free.result (omega (arith, all_requests c.self.inside.claims c.self.invariant.0, c.free.ensures.total, c.self.invariant.1, ap length c.self.view_is))
+    full (length c.args.self.now) c.free.result
+    (omega (arith, all_requests c.self.inside.claims c.self.invariant.0, c.free.ensures.total, c.self.invariant.1, ap length c.self.view_is))

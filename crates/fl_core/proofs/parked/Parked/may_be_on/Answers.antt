@@ -12,4 +12,5 @@ none n e = grind (arith, nat_tests)
 pub returns : goal.returns
 returns c = λ e.
     subst (AllByRecursion (λ (r : Request). (r.node == c.args.node) ≡ false)) c.self.view_is
-    (none_on c.args.node c.bucket.result (requests_of c.self.inside.claims) c.bucket.ensures.is (sym (c.self.invariant.3 c.bucket.result c.bucket.ensures.below) ∙ none _ e))
+    (none_on c.args.node c.bucket.result (requests_of c.self.inside.claims) c.bucket.ensures.is
+    (sym (c.self.invariant.3 c.bucket.result c.bucket.ensures.below) ∙ none _ e))

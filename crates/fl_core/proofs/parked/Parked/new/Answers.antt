@@ -9,5 +9,10 @@ use Rattle.fl_core.proofs.parked.Parked.new.Goals as goal
 pub invariant_of-result : goal.invariant_of-result
 invariant_of-result c =
     let is = c.in_ok-new.ensures in
-    let empty : requests_of c.in_ok-new.field-0 ≡ [] = ap requests_of is in
-    (ap (λ (a : Chains Claim). length a.chains) is, ap (λ (a : Chains Claim). a.slots) is, subst (AreUpTo 0) (sym empty) tt, λ bucket h. none_counted bucket h ∙ ap (how_many bucket) (sym empty))
+    let empty : requests_of c.in_ok-new.field-0 ≡ [] = ap requests_of is in (
+      ap (λ (a : Chains Claim). length a.chains) is,
+      ap (λ (a : Chains Claim). a.slots) is,
+      subst (AreUpTo 0) (sym empty) tt,
+      λ bucket h. none_counted bucket h
+          ∙ ap (how_many bucket) (sym empty),
+    )

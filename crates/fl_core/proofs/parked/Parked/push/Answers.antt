@@ -26,6 +26,8 @@ invariant_of-self c =
       c.in-Ok.ensures.size.chains ∙ c.self.invariant.0,
       c.in-Ok.ensures.size.slots ∙ c.self.invariant.1,
       subst (AreUpTo c.max-self-inside.result) (sym new)
-          (up_to_more c.self.inside.greatest c.max-self-inside.result old r c.self.invariant.2 (omega (arith, c.max-self-inside.ensures)) (omega (arith, c.max-self-inside.ensures))),
-      subst (AreCounted _) (sym new) (counted_more c.self.inside.on_nodes old r c.bucket.result c.self.told c.self.invariant.3 c.bucket.ensures.is c.bucket.ensures.below),
+          (up_to_more c.self.inside.greatest c.max-self-inside.result old r c.self.invariant.2 (omega (arith, c.max-self-inside.ensures))
+          (omega (arith, c.max-self-inside.ensures))),
+      subst (AreCounted _) (sym new)
+          (counted_more c.self.inside.on_nodes old r c.bucket.result c.self.told c.self.invariant.3 c.bucket.ensures.is c.bucket.ensures.below),
     )

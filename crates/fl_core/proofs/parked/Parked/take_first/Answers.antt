@@ -20,7 +20,8 @@ pub returns-then-is_none : goal.returns-then-is_none
 returns-then-is_none g c = λ p tests.
     let claims = items c.self.inside.claims 0 in
     let test = λ (claim : Claim). p claim.request in
-    let none = none_found (find test claims) (ap is_some (sym (c.item.ensures.item ∙ c.first_where-cursor.ensures.found test tests)) ∙ sym (some_copied c.item.result) ∙ c.if-is_none.ensures) in (
+    let none = none_found (find test claims)
+    (ap is_some (sym (c.item.ensures.item ∙ c.first_where-cursor.ensures.found test tests)) ∙ sym (some_copied c.item.result) ∙ c.if-is_none.ensures) in (
       ap (taken_first p) (sym c.self.view_is) ∙ taken_found p claims ∙ ap (option_map (λ k. (request_in k, without claims (position_or_len test claims)))) none,
       refl,
     )
@@ -45,7 +46,8 @@ overflow_sub-self g c =
     let claim = c.remove-claim.result in
     let at : slice_get (items a 0) i ≡ Some claim = ap (λ k. slice_get (items a k) i) (sym c.first_where-cursor.ensures.chain) ∙ c.remove-claim.ensures.value in
     let there = stands_at a i claim at in
-    count_there c.self.inside.on_nodes (requests_of a) i claim.request c.bucket.result c.self.invariant.3 c.bucket.ensures.is c.bucket.ensures.below there.0 there.1
+    count_there c.self.inside.on_nodes
+    (requests_of a) i claim.request c.bucket.result c.self.invariant.3 c.bucket.ensures.is c.bucket.ensures.below there.0 there.1
 
 pub invariant_of-self : goal.invariant_of-self
 invariant_of-self g c =
@@ -62,5 +64,6 @@ invariant_of-self g c =
       c.remove-claim.ensures.size.slots ∙ c.self.invariant.1,
       subst (AreUpTo c.self.inside.greatest) (sym left) (up_to_removed c.self.inside.greatest (requests_of a) i c.self.invariant.2),
       subst (AreCounted _) (sym left)
-          (counted_less c.self.inside.on_nodes (requests_of a) i claim.request c.bucket.result c.self.told c.self.invariant.3 c.bucket.ensures.is c.bucket.ensures.below there.0 there.1),
+          (counted_less c.self.inside.on_nodes
+          (requests_of a) i claim.request c.bucket.result c.self.told c.self.invariant.3 c.bucket.ensures.is c.bucket.ensures.below there.0 there.1),
     )

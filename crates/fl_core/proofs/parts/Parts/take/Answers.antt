@@ -29,8 +29,10 @@ returns-in-Release-clause-others c all =
     let p = c.args.self.now in
     let q = c.release.new.self in
     subst (λ (op : Op). OthersWait (touched_by c.args.order.now.node op (Some c.release.result)) q.marking q.view.parked) (sym r.is)
-    (subst (λ xs. OthersWait (touched_by c.args.order.now.node (Release r.fh r.drop r.owner) (Some c.release.result)) q.marking xs) (sym (ap (λ (v : View). v.parked) c.release.ensures.view))
-    (others_released c.args.order.now.node r.fh r.drop r.owner c.release.result p.view.directory p.marking q.marking p.view.parked c.release.ensures.marking c.release.ensures.elsewhere all))
+    (subst (λ xs. OthersWait (touched_by c.args.order.now.node (Release r.fh r.drop r.owner) (Some c.release.result)) q.marking xs)
+    (sym (ap (λ (v : View). v.parked) c.release.ensures.view))
+    (others_released c.args.order.now.node r.fh r.drop r.owner c.release.result p.view.directory p.marking q.marking p.view.parked c.release.ensures.marking
+    c.release.ensures.elsewhere all))
 
 pub returns-in-Flush-clause-others : goal.returns-in-Flush-clause-others
 returns-in-Flush-clause-others c all =
@@ -38,7 +40,8 @@ returns-in-Flush-clause-others c all =
     let p = c.args.self.now in
     let q = c.flush.new.self in
     subst (λ (op : Op). OthersWait (touched_by c.args.order.now.node op (Some c.flush.result)) q.marking q.view.parked) (sym f.is)
-    (subst (λ xs. OthersWait (touched_by c.args.order.now.node (Flush f.fh f.owner) (Some c.flush.result)) q.marking xs) (sym (ap (λ (v : View). v.parked) c.flush.ensures.view))
+    (subst (λ xs. OthersWait (touched_by c.args.order.now.node (Flush f.fh f.owner) (Some c.flush.result)) q.marking xs)
+    (sym (ap (λ (v : View). v.parked) c.flush.ensures.view))
     (others_flushed c.args.order.now.node f.fh f.owner c.flush.result p.marking q.marking p.view.parked c.flush.ensures.marking c.flush.ensures.elsewhere all))
 
 pub returns-in-Setlk-clause-reply : goal.returns-in-Setlk-clause-reply
@@ -54,8 +57,10 @@ returns-in-Setlk-clause-lawful c lawful = c.set_lock.ensures.lawful (subst (λ (
 pub returns-in-Setlk-clause-others : goal.returns-in-Setlk-clause-others
 returns-in-Setlk-clause-others c all =
     let order = c.args.order.now in
-    subst (λ (op : Op). OthersWait (touched_by order.node op (Some c.set_lock.result)) c.set_lock.new.locks.marking c.self-in-Setlk.inside.parked) (sym c.in-Setlk.is)
-    (others_set order.node c.in-Setlk.ask c.set_lock.result c.self-in-Setlk.inside.locks.marking c.set_lock.new.locks.marking c.self-in-Setlk.inside.parked c.set_lock.ensures.changed c.set_lock.ensures.elsewhere (subst Waits (sym c.self-in-Setlk.view_is) all))
+    subst (λ (op : Op). OthersWait (touched_by order.node op (Some c.set_lock.result)) c.set_lock.new.locks.marking c.self-in-Setlk.inside.parked)
+    (sym c.in-Setlk.is)
+    (others_set order.node c.in-Setlk.ask c.set_lock.result c.self-in-Setlk.inside.locks.marking c.set_lock.new.locks.marking c.self-in-Setlk.inside.parked
+    c.set_lock.ensures.changed c.set_lock.ensures.elsewhere (subst Waits (sym c.self-in-Setlk.view_is) all))
 
 pub returns-in-Setlkw-clause-reply : goal.returns-in-Setlkw-clause-reply
 returns-in-Setlkw-clause-reply c =
@@ -73,4 +78,5 @@ returns-in-Setlkw-clause-others c all =
     let inside = c.self-in-Setlkw.inside in
     let set = c.set_or_wait in
     subst (λ (op : Op). OthersWait (touched_by order.node op set.result) set.new.locks.marking set.new.parked) (sym c.in-Setlkw.is)
-    (others_parked order.node c.in-Setlkw.ask order.unique inside.locks.marking set.new.locks.marking inside.parked set.new.parked set.result set.ensures.told set.ensures.waits set.ensures.elsewhere (subst Waits (sym c.self-in-Setlkw.view_is) all))
+    (others_parked order.node c.in-Setlkw.ask order.unique inside.locks.marking set.new.locks.marking inside.parked set.new.parked set.result
+    set.ensures.told set.ensures.waits set.ensures.elsewhere (subst Waits (sym c.self-in-Setlkw.view_is) all))
