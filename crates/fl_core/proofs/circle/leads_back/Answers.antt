@@ -34,7 +34,7 @@ loop-place-preserved c =
 pub returns : goal.returns
 returns c =
     let asked = c.args.asked.now in
-    sym (ends (λ w. hinders c.args.locks.now.marking
-    (meant w)) c.args.wanted.now asked c.loop-place.reached c.loop-place.visited c.loop-place.invariant c.in_default.ensures
+    sym (ends (λ w. hinders c.args.locks.now.marking (meant w)) c.args.wanted.now asked c.loop-place.reached c.loop-place.visited
+    c.loop-place.invariant c.in_default.ensures
     (hinders_not_itself c.args.locks.now.marking (meant asked)))
     ∙ leads_alike meant owner_of (hinders c.args.locks.now.marking) c.args.wanted.now asked asked.key.owner
