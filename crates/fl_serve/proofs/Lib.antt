@@ -1,7 +1,7 @@
 pub mod BatchLemmas
 pub mod HearingLemmas
+pub mod InboxLemmas
 pub mod MeetLemmas
-pub mod ReadLemmas
 pub mod SendLemmas
 pub mod ServedLemmas
 pub mod ServingLemmas

@@ -1,14 +1,13 @@
 -- What a message comes to at a server.
-use Rattle.std.proofs.Common.{◌≡◌, ℕ, Bool, true, false, List, ◌++◌, Ok, refl, sym, ap, ◌∙◌, subst}
+use Rattle.std.proofs.Common.{◌≡◌, ℕ, false, List, Ok, refl, sym, ap, ◌∙◌}
 use Rattle.fl_order.specs.declared.order.Order.{Order}
 use Rattle.fl_serve.specs.Inside.Serving.{bytes_of, session_with, IsHeard, IsMet, IsMetAs}
-use Rattle.fl_serve.specs.Session.{Came, with_message, after_init}
+use Rattle.fl_serve.specs.Session.{Came, after_init}
 use Rattle.fl_serve.specs.declared.session.server.Met.TheVariants as met
 use Rattle.fl_serve.specs.declared.session.server.Owed.{Owed}
 use Rattle.fl_serve.specs.declared.session.server.Server.{Server}
 use Rattle.fl_serve.specs.declared.session.server.Talk.{Talk}
 use Rattle.fl_wire.specs.Layout.{unique_of}
-use Rattle.fl_wire.specs.Says.{said}
 
 -- an order is taken
 pub met_order : (old new : Server) (talk : Talk) (order : Order) (owed : List (List ℕ)) (message : List ℕ)

@@ -1,5 +1,5 @@
 -- What workers who share one writer have sent.
-use Rattle.std.proofs.Common.{◌≡◌, ℕ, Bool, true, false, List, [], ◌∷◌, ◌++◌, map, Option, refl, sym, subst, append-nil, All}
+use Rattle.std.proofs.Common.{ℕ, Bool, false, List, [], ◌∷◌, ◌++◌, map, Option, refl, sym, subst, append-nil, All}
 use Rattle.std.proofs.lemmas.List.Elements.{All-nil, All-cons, All-append}
 use Rattle.std.proofs.KnownBytes.{Appends-nil}
 use Rattle.fl_order.specs.declared.told.Told.{Told}

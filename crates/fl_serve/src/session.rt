@@ -1,26 +1,28 @@
 //! A whole session of the FUSE protocol with one worker, over any reader and any writer.
-ghost use Rattle.std.specs.Prelude.{◌≡◌, Bool, IfOk, length, vec_len};
-ghost use Rattle.fl_serve.specs.Served.{IsServed};
+ghost use Rattle.std.specs.Prelude.{◌≡◌, ℕ, Bool, false, List, [], Option, Some, IfOk};
+ghost use Rattle.std.specs.Io.KnownBytes.{Keeps};
+ghost use Rattle.fl_book.specs.Legal.{IsLegal};
+ghost use Rattle.fl_serve.specs.Served.{EndsBy, IsRead, IsServed};
+ghost use Rattle.fl_serve.specs.Session.{Came, session_of};
+ghost use Rattle.fl_serve.specs.Inside.Inbox.{IsEnding, IsUnread};
 ghost use Rattle.fl_serve.specs.Inside.Serving.{IsFresh};
-ghost use Rattle.fl_serve.specs.Inside.Turns.{first_fault, HasEnded};
+ghost use Rattle.fl_serve.specs.Inside.UnderWay.{HasEnded};
 
 pub(crate) mod answering;
+pub(crate) mod inbox;
 pub(crate) mod mail;
-pub(crate) mod reading;
 pub(crate) mod server;
 
 use crate::outbox::Outbox;
+use crate::session::answering::answer_all;
+use crate::session::inbox::Inbox;
 use crate::session::mail::{Mail, ReplyBuffer};
-use crate::session::reading::read_and_answer;
 use crate::session::server::Server;
 use fl_book::History;
 use fl_order::NoMemory;
 use std::alloc::Global;
 use std::io::{Read, Write};
 use thiserror::Error;
-
-// The most bytes of a message.
-pub(crate) const MESSAGE_BYTES: usize = 8192;
 
 /// Why a session ended before its stream did. Its text is the line on standard error.
 #[derive(Clone, Copy, Debug, PartialEq, Eq, Error)]
@@ -53,6 +55,24 @@ pub struct Done {
     pub refused: bool,
 }
 
+impl Done {
+    /// What a session comes to that has no memory, and reads nothing.
+    #[tactic(auto, using(crate::proofs::InboxLemmas::nothing_read, crate::proofs::ServedLemmas::nothing_legal))]
+    pub(crate) fn no_memory(alloc: Global) -> Done
+        ensures history { result.history ≡ [] }
+        ensures legal { IsLegal result.history }
+        ensures fault { result.fault ≡ Some Fault.NoMemory }
+        ensures refused { result.refused ≡ false }
+        ensures read { (left left_now : Option (List ℕ)) → Keeps left left_now → IsRead left left_now [] [] }
+    {
+        Done {
+            history: History::new(alloc),
+            fault: Some(Fault::NoMemory),
+            refused: false,
+        }
+    }
+}
+
 /// What a session came to, and whether a write failed.
 #[derive(Debug, Drop)]
 pub struct Ended {
@@ -79,18 +99,13 @@ pub fn run_session<R: Read, W: Write>(alloc: Global, r: &mut R, w: &mut W) -> En
     ensures { IsServed (R.remaining r.old) (R.remaining r.new) (W.contents w.old) (W.contents w.new)
         result.broken result.done }
 {
-    let Ok((mut buffer, server, reply)) = memory(alloc) else {
-        let done = Done {
-            history: History::new(alloc),
-            fault: Some(Fault::NoMemory),
-            refused: false,
-        };
+    let Ok((mut inbox, server, reply)) = memory(alloc) else {
         return Ended {
-            done,
+            done: Done::no_memory(alloc),
             broken: false,
         };
     };
-    let (server, fault, broken) = run(r, w, &mut buffer, server, reply);
+    let (server, fault, broken) = run(r, w, &mut inbox, server, reply);
     let refused = server.refused;
     let done = Done {
         history: server.into_history(),
@@ -105,11 +120,11 @@ pub fn run_session<R: Read, W: Write>(alloc: Global, r: &mut R, w: &mut W) -> En
 fn run<R: Read, W: Write>(
     r: &mut R,
     w: &mut W,
-    buffer: &mut [u8],
+    inbox: &mut Inbox,
     mut server: Server,
     mut reply: ReplyBuffer,
 ) -> (Server, Option<Fault>, bool)
-    requires size { length buffer.old ≡ 8192 }
+    requires unread { IsUnread inbox.old }
     requires fresh { IsFresh server }
     ensures { HasEnded (R.remaining r.old) (R.remaining r.new) (W.contents w.old) (W.contents w.new)
         result.2 result.0 result.1 }
@@ -118,7 +133,7 @@ fn run<R: Read, W: Write>(
         reply: &mut reply,
         out: Outbox::new(w),
     };
-    let fault = read_and_answer(r, buffer, &mut server, &mut mail);
+    let fault = answer_all(r, inbox, &mut server, &mut mail);
     let Mail { reply: _, out } = mail;
     let Outbox { writer, broken } = out;
     // No effect at run time: the proof reads here what the writer holds.
@@ -126,20 +141,22 @@ fn run<R: Read, W: Write>(
     (server, fault, broken)
 }
 
-// The memory of a session: a buffer for a message, the lock directory, and a buffer for a reply.
-fn memory(alloc: Global) -> Result<(Vec<u8>, Server, ReplyBuffer), NoMemory>
-    ensures size { IfOk result (λ made. vec_len made.0 ≡ 8192) }
+// The memory of a session: a room for a message, the lock directory, and a buffer for a reply.
+fn memory(alloc: Global) -> Result<(Inbox, Server, ReplyBuffer), NoMemory>
+    ensures unread { IfOk result (λ made. IsUnread made.0) }
     ensures fresh { IfOk result (λ made. IsFresh made.1) }
 {
-    let buffer = vec![in alloc; 0; MESSAGE_BYTES]?;
+    let inbox = Inbox::new(alloc)?;
     let server = Server::new(alloc)?;
     let reply = ReplyBuffer::new(alloc)?;
-    Ok((buffer, server, reply))
+    Ok((inbox, server, reply))
 }
 
 // The reader's fault before the writer's.
 pub(crate) fn first(fault: Option<Fault>, broken: bool) -> Option<Fault>
-    ensures { result ≡ first_fault fault broken }
+    ensures ends { (came : List Came) (rest : List ℕ) (left : Option (List ℕ))
+        → IsEnding fault (session_of came).over rest left → EndsBy result broken came rest left }
+    ensures memory { result ≡ Some Fault.NoMemory → fault ≡ Some Fault.NoMemory }
 {
     match fault {
         None if broken => Some(Fault::Write),

@@ -1,16 +1,11 @@
 -- A session that is under way: what it did with its reader and its writer so far.
-use Rattle.std.specs.Prelude.{◌≡◌, ℕ, Bool, true, false, List, [], ◌∷◌, ◌++◌, map, Option}
-use Rattle.std.specs.Io.KnownBytes.{Consumes}
-use Rattle.fl_wire.specs.Cut.{first_step}
-use Rattle.fl_wire.specs.Stream.{IsCut}
-use Rattle.fl_wire.specs.declared.cut.Step.TheVariants as step
+use Rattle.std.specs.Prelude.{◌≡◌, ℕ, ◌≤◌, Bool, List, length, Option}
+use Rattle.fl_serve.specs.Inside.Inbox.{IsEnding}
 use Rattle.fl_serve.specs.Inside.Sending.{IsSending, Sends}
 use Rattle.fl_serve.specs.Inside.Serving.{session_with, IsMet}
 use Rattle.fl_serve.specs.Session.{Came, session_of}
-use Rattle.fl_serve.specs.declared.session.answering.Stop.{Stop}
-use Rattle.fl_serve.specs.declared.session.answering.Stop.TheVariants.{More, Bad, Over}
+use Rattle.fl_serve.specs.declared.session.Fault.{Fault}
 use Rattle.fl_serve.specs.declared.session.server.Server.{Server}
-use Rattle.fl_serve.specs.declared.session.server.Talk.{Talk}
 use Rattle.fl_serve.specs.Served.{IsRead}
 
 -- What was read is whole messages and a rest, the server stands where the session of these messages stands, and what
@@ -29,14 +24,10 @@ pub record IsAnswered (old new : Server) (held held_now : Option (List ℕ)) (br
   pub met : IsMet old new owed message
   pub sent : Sends held held_now broken broken_now owed
 
--- the session goes on from this rest to that one, and reads nothing
-pub record Answers (old new : Server) (held held_now : Option (List ℕ)) (broken broken_now : Bool)
-    (rest rest_now : List ℕ) : Type 0 where
-  pub onward : (left left_now start : Option (List ℕ)) → IsUnderWay left left_now start held broken old rest
-      → IsUnderWay left left_now start held_now broken_now new rest_now
-
--- what stands after the messages that were met
-abbrev pub IsStop : Stop → Talk → List ℕ → Type 0
-IsStop More talk rest = (talk.over ≡ false) × (first_step rest ≡ step.More)
-IsStop (Bad n) talk rest = (talk.over ≡ false) × (first_step rest ≡ step.Bad n)
-IsStop Over talk rest = talk.over ≡ true
+-- the session ended, with this fault of its reader
+pub record HasEnded (left left_now held held_now : Option (List ℕ)) (broken : Bool) (server : Server)
+    (fault : Option Fault) : Type 0 where
+  pub rest : List ℕ
+  pub bounded : length rest ≤ 8192
+  pub way : IsUnderWay left left_now held held_now broken server rest
+  pub ending : IsEnding fault server.talk.over rest left_now

@@ -1,51 +1,48 @@
-//! How the messages that were read are answered, one after another.
+//! How a session reads its stream, and answers one message after another.
 
-ghost use Rattle.std.specs.Prelude.{◌≡◌, ◌≤◌, false, length, drop};
-ghost use Rattle.fl_serve.specs.Inside.UnderWay.{IsAnswered, Answers, IsStop};
+ghost use Rattle.std.specs.Prelude.{◌≡◌, false};
+ghost use Rattle.fl_serve.specs.Inside.Inbox.{IsUnread};
+ghost use Rattle.fl_serve.specs.Inside.Serving.{IsFresh};
+ghost use Rattle.fl_serve.specs.Inside.UnderWay.{IsAnswered, HasEnded};
 
+use crate::session::Fault;
+use crate::session::inbox::{Filled, Inbox};
 use crate::session::mail::Mail;
 use crate::session::server::Server;
-use fl_wire::{Frame, Step, next_frame};
-use std::io::Write;
+use fl_wire::{Frame, Step};
+use std::io::{Read, Write};
 
-/// Why no more messages are answered for now.
-#[derive(Clone, Copy, Debug, PartialEq, Eq)]
-pub(crate) enum Stop {
-    /// More bytes have to come.
-    More,
-    /// A length that no message has.
-    Bad(u32),
-    /// The session is over.
-    Over,
-}
-
-/// Answers the whole messages in these bytes, in their order, and says how many bytes those were and what
-/// stands after them.
-pub(crate) fn answer_all<W: Write>(
+/// Reads and answers until the session ends, and tells the fault of its reader, if any.
+pub(crate) fn answer_all<R: Read, W: Write>(
+    r: &mut R,
+    inbox: &mut Inbox,
     server: &mut Server,
     mail: &mut Mail<'_, W>,
-    bytes: &[u8],
-) -> (usize, Stop)
-    requires { server.old.talk.over ≡ false }
+) -> Option<Fault>
+    requires unread { IsUnread inbox.old }
+    requires fresh { IsFresh server.old }
+    requires whole { mail.old.out.broken ≡ false }
     ensures same { mail.new.out.writer.ghost_name ≡ mail.old.out.writer.ghost_name }
-    ensures within { result.0 ≤ length bytes.now }
-    ensures answered { Answers server.old server.new
+    ensures ended { HasEnded (R.remaining r.old) (R.remaining r.new)
         (W.contents mail.old.out.writer.now) (W.contents mail.new.out.writer.now)
-        mail.old.out.broken mail.new.out.broken bytes.now (drop result.0 bytes.now) }
-    ensures stop { IsStop result.1 server.new.talk (drop result.0 bytes.now) }
+        mail.new.out.broken server.new result }
 {
-    let mut at = 0;
     while !server.talk.over {
-        match next_frame(&bytes[at..]) {
-            Step::More => return (at, Stop::More),
-            Step::Bad(len) => return (at, Stop::Bad(len)),
+        match inbox.next() {
             Step::Whole(frame) => {
                 answer(server, mail, &frame);
-                at += frame.as_bytes().len();
+                let len = frame.as_bytes().len();
+                inbox.skip(len);
+            }
+            Step::Bad(len) => return Some(Fault::BadLength(len)),
+            Step::More => {
+                if let Filled::End(fault) = inbox.fill(r) {
+                    return fault;
+                }
             }
         }
     }
-    (at, Stop::Over)
+    None
 }
 
 // Answers one message of a session that isn't over.
