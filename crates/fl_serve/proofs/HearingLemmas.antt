@@ -1,10 +1,10 @@
 -- What the reader of a session with workers heard.
 use Rattle.std.proofs.Common.{◌≡◌, ℕ, false, List, [], ◌∷◌, ◌++◌, Option, refl, sym, ap, subst, ◌∙◌}
-use Rattle.fl_serve.proofs.SessionLemmas.{session_of_more}
+use Rattle.std.proofs.lemmas.Grind.{fold-append}
 use Rattle.fl_serve.specs.Inside.Hearing.{Hears, IsHearing, IsThisFar}
-use Rattle.fl_serve.specs.Inside.Inbox.{Inflow, IsUnread, Takes}
-use Rattle.fl_serve.specs.Inside.Serving.{IsHeard, standing}
-use Rattle.fl_serve.specs.Session.{Came, Session, session_of, with_message}
+use Rattle.fl_serve.specs.Inbox.{Inflow, IsUnread, Takes}
+use Rattle.fl_serve.specs.Talk.{IsHeard, standing}
+use Rattle.fl_serve.specs.Session.{Came, Session, session_of, with_message, opening_session}
 use Rattle.fl_serve.specs.declared.session.server.Met.{Met}
 use Rattle.fl_serve.specs.declared.session.server.Met.TheVariants as met
 use Rattle.fl_serve.specs.declared.session.server.Talk.{Talk}
@@ -43,5 +43,6 @@ hearing_more left left_now old new message rest rest_now live takes heard before
     record {
       came = before.came ++ c ∷ [];
       is_read = takes.onward left left_now before.came false (before.far.over ∙ live) before.is_read;
-      far = subst (λ s. IsThisFar s new) (sym (session_of_more before.came c)) (heard (session_of before.came) before.far);
+      far = subst (λ s. IsThisFar s new) (sym (fold-append with_message opening_session before.came (c ∷ [])))
+          (heard (session_of before.came) before.far);
     }

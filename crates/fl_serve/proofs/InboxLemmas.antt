@@ -11,7 +11,7 @@ use Rattle.fl_wire.specs.Layout.{len_of}
 use Rattle.fl_wire.specs.Stream.{IsCut}
 use Rattle.fl_wire.specs.declared.cut.Step.TheVariants.{Whole, More, Bad}
 use Rattle.fl_serve.proofs.SendLemmas.{concat_one}
-use Rattle.fl_serve.specs.Inside.Inbox.{IsUnread, Inflow, ReadsOn, Takes}
+use Rattle.fl_serve.specs.Inbox.{IsUnread, Inflow, ReadsOn, Takes}
 use Rattle.fl_serve.specs.Served.{IsRead}
 use Rattle.fl_serve.specs.Session.{Came, session_of}
 

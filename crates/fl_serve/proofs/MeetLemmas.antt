@@ -1,7 +1,8 @@
 -- What a message comes to at a server.
 use Rattle.std.proofs.Common.{◌≡◌, ℕ, false, List, Ok, refl, sym, ap, ◌∙◌}
 use Rattle.fl_order.specs.declared.order.Order.{Order}
-use Rattle.fl_serve.specs.Inside.Serving.{bytes_of, session_with, IsHeard, IsMet, IsMetAs}
+use Rattle.fl_serve.specs.Inside.Serving.{session_with, IsMet, IsMetAs}
+use Rattle.fl_serve.specs.Talk.{bytes_of, IsHeard}
 use Rattle.fl_serve.specs.Session.{Came, after_init}
 use Rattle.fl_serve.specs.declared.session.server.Met.TheVariants as met
 use Rattle.fl_serve.specs.declared.session.server.Owed.{Owed}

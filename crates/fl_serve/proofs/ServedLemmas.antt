@@ -7,7 +7,7 @@ use Rattle.fl_history.specs.declared.history.Line.{Line}
 use Rattle.fl_wire.specs.Spell.{IsReply}
 use Rattle.fl_serve.specs.Served.{IsRead, IsServed, EndsBy}
 use Rattle.fl_serve.specs.Session.{Came, session_of}
-use Rattle.fl_serve.specs.Inside.Inbox.{IsEnding}
+use Rattle.fl_serve.specs.Inbox.{IsEnding}
 use Rattle.fl_serve.specs.Inside.UnderWay.{HasEnded}
 use Rattle.fl_serve.specs.declared.session.Done.{Done}
 use Rattle.fl_serve.specs.declared.session.Fault.{Fault}

@@ -5,7 +5,7 @@ use Rattle.std.proofs.lemmas.List.FromFn.{length-range_with_len}
 use Rattle.std.specs.List.{range_with_len}
 use Rattle.fl_book.specs.Seats.{Place}
 use Rattle.fl_serve.specs.Inside.Hearing.{HasHeard}
-use Rattle.fl_serve.specs.Inside.Inbox.{IsEnding}
+use Rattle.fl_serve.specs.Inbox.{IsEnding}
 use Rattle.fl_serve.specs.Serve.{IsServedBy}
 use Rattle.fl_serve.specs.Served.{EndsBy, IsRead}
 use Rattle.fl_serve.specs.Session.{Came, session_of}

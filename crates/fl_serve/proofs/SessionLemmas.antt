@@ -4,7 +4,7 @@ use Rattle.std.proofs.lemmas.Grind.{fold-append}
 use Rattle.std.proofs.lemmas.List.Elements.{All-nil}
 use Rattle.std.proofs.KnownBytes.{Appends-nil}
 use Rattle.fl_wire.specs.Spell.{IsReply}
-use Rattle.fl_serve.specs.Inside.Inbox.{Inflow, IsEnding, IsUnread, ReadsOn, Takes}
+use Rattle.fl_serve.specs.Inbox.{Inflow, IsEnding, IsUnread, ReadsOn, Takes}
 use Rattle.fl_serve.specs.Inside.Sending.{IsSending}
 use Rattle.fl_serve.specs.Inside.Serving.{session_with, IsFresh}
 use Rattle.fl_serve.specs.Inside.UnderWay.{IsUnderWay, IsAnswered, HasEnded}

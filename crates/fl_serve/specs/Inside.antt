@@ -1,7 +1,6 @@
 -- What a session keeps while it is under way. No contract of a public function cites these definitions.
 pub mod Collecting
 pub mod Hearing
-pub mod Inbox
 pub mod Sending
 pub mod Serving
 pub mod UnderWay

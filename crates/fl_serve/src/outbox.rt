@@ -32,6 +32,15 @@ impl<W: Write> Outbox<W> {
         }
     }
 
+    /// Where its replies went, and whether one of them didn't go out whole.
+    pub fn into_parts(self) -> (W, bool)
+        ensures writer { result.0 ≡ writer_of self }
+        ensures broken { result.1 ≡ is_broken self }
+    {
+        let Outbox { writer, broken } = self;
+        (writer, broken)
+    }
+
     /// Writes the whole reply. An error of a write breaks the outbox, of whatever kind, and so does a write that
     /// takes 0 bytes; nothing else does, which contracts can't say, since they see no failure of a writer.
     pub fn send(&mut self, reply: &[u8]) -> Result<(), Broken>
@@ -51,11 +60,11 @@ impl<W: Write> Outbox<W> {
 }
 
 impl<W: Write> Outbox<&mut W> {
-    /// Sends to a writer that is lent, and holds it still.
-    pub(crate) fn post(&mut self, reply: &[u8])
-        ensures same { self.new.writer.ghost_name ≡ self.old.writer.ghost_name }
-        ensures sent { IsSentBy (W.contents self.old.writer.now) (W.contents self.new.writer.now)
-            self.old.broken self.new.broken reply.now }
+    /// Writes the whole reply to a writer that is lent, and holds it still.
+    pub fn post(&mut self, reply: &[u8])
+        ensures same { (writer_of self.new).ghost_name ≡ (writer_of self.old).ghost_name }
+        ensures sent { IsSentBy (W.contents (writer_of self.old).now) (W.contents (writer_of self.new).now)
+            (is_broken self.old) (is_broken self.new) reply.now }
     {
         let broken = self.broken;
         self.broken = send_on(self.writer, broken, reply);

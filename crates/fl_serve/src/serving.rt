@@ -3,7 +3,7 @@
 ghost use Rattle.std.specs.Prelude.{◌≡◌, ◌≤◌, ◌<◌, [], Some, length, vec_capacity, IfOk};
 ghost use Rattle.std.specs.Io.KnownBytes.{Keeps};
 ghost use Rattle.fl_book.specs.Legal.{IsLegal};
-ghost use Rattle.fl_serve.specs.Inside.Inbox.{IsUnread};
+ghost use Rattle.fl_serve.specs.Inbox.{IsUnread};
 ghost use Rattle.fl_serve.specs.Serve.{IsServedBy};
 ghost use Rattle.fl_serve.specs.Shared.{HasSent};
 
@@ -16,7 +16,7 @@ use crate::serving::crew::{Back, Crew, Thread, run};
 use crate::session::inbox::Inbox;
 use crate::session::mail::ReplyBuffer;
 use crate::session::server::Owed;
-use crate::session::{Done, Fault, first};
+use crate::session::{Done, Fault};
 use crate::shared::{Shared, WriterName};
 use fl_book::{Board, BoardName, Seat};
 use fl_core::Tolds;
@@ -152,7 +152,7 @@ fn serve_at<
     };
     let done = Done {
         history,
-        fault: first(heard.fault, broken),
+        fault: Fault::told(heard.fault, broken),
         refused,
     };
     (done, w)

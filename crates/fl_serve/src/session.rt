@@ -4,7 +4,7 @@ ghost use Rattle.std.specs.Io.KnownBytes.{Keeps};
 ghost use Rattle.fl_book.specs.Legal.{IsLegal};
 ghost use Rattle.fl_serve.specs.Served.{EndsBy, IsRead, IsServed};
 ghost use Rattle.fl_serve.specs.Session.{Came, session_of};
-ghost use Rattle.fl_serve.specs.Inside.Inbox.{IsEnding, IsUnread};
+ghost use Rattle.fl_serve.specs.Inbox.{IsEnding, IsUnread};
 ghost use Rattle.fl_serve.specs.Inside.Serving.{IsFresh};
 ghost use Rattle.fl_serve.specs.Inside.UnderWay.{HasEnded};
 
@@ -44,6 +44,20 @@ pub enum Fault {
     NoMemory,
 }
 
+impl Fault {
+    /// The fault that is told of a session: its reader's before its writer's, which is broken or not.
+    pub fn told(reader: Option<Fault>, broken: bool) -> Option<Fault>
+        ensures ends { (came : List Came) (rest : List ℕ) (left : Option (List ℕ))
+            → IsEnding reader (session_of came).over rest left → EndsBy result broken came rest left }
+        ensures memory { result ≡ Some Fault.NoMemory → reader ≡ Some Fault.NoMemory }
+    {
+        match reader {
+            None if broken => Some(Fault::Write),
+            fault => fault,
+        }
+    }
+}
+
 /// What a session came to.
 #[derive(Debug, Drop)]
 pub struct Done {
@@ -58,7 +72,7 @@ pub struct Done {
 impl Done {
     /// What a session comes to that has no memory, and reads nothing.
     #[tactic(auto, using(crate::proofs::InboxLemmas::nothing_read, crate::proofs::ServedLemmas::nothing_legal))]
-    pub(crate) fn no_memory(alloc: Global) -> Done
+    pub fn no_memory(alloc: Global) -> Done
         ensures history { result.history ≡ [] }
         ensures legal { IsLegal result.history }
         ensures fault { result.fault ≡ Some Fault.NoMemory }
@@ -109,7 +123,7 @@ pub fn run_session<R: Read, W: Write>(alloc: Global, r: &mut R, w: &mut W) -> En
     let refused = server.refused;
     let done = Done {
         history: server.into_history(),
-        fault: first(fault, broken),
+        fault: Fault::told(fault, broken),
         refused,
     };
     Ended { done, broken }
@@ -150,16 +164,4 @@ fn memory(alloc: Global) -> Result<(Inbox, Server, ReplyBuffer), NoMemory>
     let server = Server::new(alloc)?;
     let reply = ReplyBuffer::new(alloc)?;
     Ok((inbox, server, reply))
-}
-
-// The reader's fault before the writer's.
-pub(crate) fn first(fault: Option<Fault>, broken: bool) -> Option<Fault>
-    ensures ends { (came : List Came) (rest : List ℕ) (left : Option (List ℕ))
-        → IsEnding fault (session_of came).over rest left → EndsBy result broken came rest left }
-    ensures memory { result ≡ Some Fault.NoMemory → fault ≡ Some Fault.NoMemory }
-{
-    match fault {
-        None if broken => Some(Fault::Write),
-        fault => fault,
-    }
 }

@@ -1,6 +1,6 @@
 -- The reader of a session with workers, while it is under way.
 use Rattle.std.specs.Prelude.{◌≡◌, ℕ, ◌≤◌, false, List, length, Option}
-use Rattle.fl_serve.specs.Inside.Inbox.{IsEnding}
+use Rattle.fl_serve.specs.Inbox.{IsEnding}
 use Rattle.fl_serve.specs.Served.{IsRead}
 use Rattle.fl_serve.specs.Session.{Came, Session, session_of, with_message}
 use Rattle.fl_serve.specs.declared.session.Fault.{Fault}

@@ -1,33 +1,14 @@
--- A session that is under way: what is kept of it, and what it did with its reader and its writer so far.
-use Rattle.std.specs.Prelude.{◌≡◌, ℕ, Bool, true, false, List, [], ◌∷◌, ◌++◌, map, Result, Ok}
+-- A server that is under way: what is kept of its session, and what a message changes.
+use Rattle.std.specs.Prelude.{◌≡◌, ℕ, Bool, false, List, [], ◌++◌, Result, Ok}
 use Rattle.fl_order.specs.declared.order.Order.{Order}
 use Rattle.fl_order.specs.declared.refusal.Refusal.{Refusal}
 use Rattle.fl_order.specs.declared.told.Told.{Told}
 use Rattle.fl_serve.specs.Session.{Session, with_message, after_init}
+use Rattle.fl_serve.specs.Talk.{answered, bytes_of, standing}
 use Rattle.fl_serve.specs.declared.session.server.Met.{Met}
 use Rattle.fl_serve.specs.declared.session.server.Met.TheVariants as met
-use Rattle.fl_serve.specs.declared.session.server.Owed.{Owed}
-use Rattle.fl_serve.specs.declared.session.server.Talk.{Talk}
-use Rattle.fl_serve.specs.declared.session.server.Owed.TheVariants.{Nothing, Init, One, Replies}
 use Rattle.fl_serve.specs.declared.session.server.Server.{Server}
-use Rattle.fl_wire.specs.Init.{init_spelling}
-use Rattle.fl_wire.specs.Spell.{spelling_of}
-use Rattle.fl_wire.specs.Says.{said}
-
--- the bytes of each reply that is owed, where an order gets these
-abbrev pub bytes_of : Owed → List Told → List (List ℕ)
-bytes_of Nothing tolds = []
-bytes_of (Init unique step) tolds = init_spelling unique step ∷ []
-bytes_of (One told) tolds = spelling_of told ∷ []
-bytes_of Replies tolds = map spelling_of tolds
-
--- a session that is this far
-abbrev pub standing : Session → Talk → Session
-standing s talk = record s { agreed = talk.agreed; over = talk.over }
-
--- these replies more
-abbrev pub answered : Session → List (List ℕ) → Session
-answered s more = record s { replies = s.replies ++ more }
+use Rattle.fl_serve.specs.declared.session.server.Talk.{Talk}
 
 -- A message that says this, after an INIT is agreed, is an order and changes nothing yet, or the session itself
 -- answers it.
@@ -35,13 +16,6 @@ abbrev pub IsHeardAs : Met → Talk → Talk → ℕ → Result Order Refusal �
 IsHeardAs (met.Order order) old new unique says = (new ≡ old) × (says ≡ Ok order)
 IsHeardAs (met.Owed owed) old new unique says = (s : Session) (tolds : List Told) (refused : Bool)
     → standing (answered s (bytes_of owed tolds)) new ≡ after_init (standing s old) refused unique says
-
--- A message of a session that isn't over is an order after an INIT is agreed, or the session itself answers it.
-abbrev pub IsHeard : Met → Talk → Talk → List ℕ → Type 0
-IsHeard (met.Order order) old new message = (old.agreed ≡ true) × (new ≡ old) × (said message ≡ Ok order)
-IsHeard (met.Owed owed) old new message = (s : Session) (tolds : List Told) (refused : Bool)
-    → standing (answered s (bytes_of owed tolds)) new
-    ≡ with_message (standing s old) (record { message = message; refused = refused })
 
 -- the session that a server keeps, and that got these replies
 abbrev pub session_with : Server → List (List ℕ) → Session

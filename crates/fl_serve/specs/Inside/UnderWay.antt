@@ -1,6 +1,6 @@
 -- A session that is under way: what it did with its reader and its writer so far.
 use Rattle.std.specs.Prelude.{◌≡◌, ℕ, ◌≤◌, Bool, List, length, Option}
-use Rattle.fl_serve.specs.Inside.Inbox.{IsEnding}
+use Rattle.fl_serve.specs.Inbox.{IsEnding}
 use Rattle.fl_serve.specs.Inside.Sending.{IsSending, Sends}
 use Rattle.fl_serve.specs.Inside.Serving.{session_with, IsMet}
 use Rattle.fl_serve.specs.Session.{Came, session_of}

@@ -3,7 +3,7 @@
 ghost use Rattle.std.specs.Prelude.{◌≡◌, ◌≢◌, ◌+◌, ◌≤◌, [], true, Some, length, vec_capacity};
 ghost use Rattle.std.specs.Io.KnownBytes.{Keeps};
 ghost use Rattle.fl_serve.specs.Inside.Hearing.{HasHeard};
-ghost use Rattle.fl_serve.specs.Inside.Inbox.{IsUnread};
+ghost use Rattle.fl_serve.specs.Inbox.{IsUnread};
 
 use crate::counter::Gate;
 use crate::intake::Intake;

@@ -2,7 +2,7 @@
 
 ghost use Rattle.std.specs.Prelude.{◌≡◌, ◌≢◌, Some, false};
 ghost use Rattle.fl_serve.specs.Inside.Hearing.{HasHeard, Hears};
-ghost use Rattle.fl_serve.specs.Inside.Inbox.{IsUnread};
+ghost use Rattle.fl_serve.specs.Inbox.{IsUnread};
 
 use crate::intake::Intake;
 use crate::session::Fault;

@@ -1,7 +1,7 @@
 //! How a session reads its stream, and answers one message after another.
 
 ghost use Rattle.std.specs.Prelude.{◌≡◌, false};
-ghost use Rattle.fl_serve.specs.Inside.Inbox.{IsUnread};
+ghost use Rattle.fl_serve.specs.Inbox.{IsUnread};
 ghost use Rattle.fl_serve.specs.Inside.Serving.{IsFresh};
 ghost use Rattle.fl_serve.specs.Inside.UnderWay.{IsAnswered, HasEnded};
 

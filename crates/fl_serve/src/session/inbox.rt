@@ -4,7 +4,7 @@ ghost use Rattle.std.specs.Prelude.{◌≡◌, ℕ, List, ◌≤◌, ◌<◌, �
 ghost use Rattle.std.specs.Io.KnownBytes.{Consumes, IsAtEnd, Keeps};
 ghost use Rattle.fl_wire.specs.Cut.{first_step};
 ghost use Rattle.fl_wire.specs.Frame.{IsMessage};
-ghost use Rattle.fl_serve.specs.Inside.Inbox.{work, IsUnread, ReadsOn, Takes, IsEnd};
+ghost use Rattle.fl_serve.specs.Inbox.{work, IsUnread, ReadsOn, Takes, IsEnd};
 
 use crate::session::Fault;
 use fl_order::NoMemory;
@@ -19,7 +19,7 @@ const MESSAGE_BYTES: usize = 8192;
 
 /// What a read came to.
 #[derive(Clone, Copy, Debug, PartialEq, Eq)]
-pub(crate) enum Filled {
+pub enum Filled {
     /// Bytes came.
     More,
     /// No more come: the session ends, with this fault of its reader, if any.
@@ -28,7 +28,7 @@ pub(crate) enum Filled {
 
 /// The bytes that were read from a stream and not taken yet. There is room for a message of any length.
 #[derive(Drop)]
-pub(crate) struct Inbox {
+pub struct Inbox {
     buffer: Vec<u8>,
     // The bytes stand in the buffer from here,
     from: usize,
@@ -40,7 +40,7 @@ pub(crate) struct Inbox {
 
 impl Model for Inbox {
     ghost use Rattle.std.specs.Prelude.{◌≡◌, ◌≤◌, ◌-◌, take, drop, vec_len};
-    ghost use Rattle.fl_serve.specs.Inside.Inbox.{Inflow};
+    ghost use Rattle.fl_serve.specs.Inbox.{Inflow};
 
     ghost Value = { Inflow };
 
@@ -51,7 +51,7 @@ impl Model for Inbox {
 
 impl Inbox {
     /// Nothing was read yet.
-    pub(crate) fn new(alloc: Global) -> Result<Inbox, NoMemory>
+    pub fn new(alloc: Global) -> Result<Inbox, NoMemory>
         ensures { IfOk result IsUnread }
     {
         Ok(Inbox {
@@ -63,14 +63,14 @@ impl Inbox {
     }
 
     /// What stands first.
-    pub(crate) fn next(&self) -> Step<'_>
+    pub fn next(&self) -> Step<'_>
         ensures { result ≡ first_step self.now.rest }
     {
         next_frame(&self.buffer[self.from..self.filled])
     }
 
     /// Takes the message away that stands first, of this length.
-    pub(crate) fn skip(&mut self, len: usize)
+    pub fn skip(&mut self, len: usize)
         requires whole { (message : List ℕ) × (first_step self.old.rest ≡ Step.Whole message) × (length message ≡ len) }
         requires some { 0 < len }
         ensures shorter { length self.new.rest ≤ length self.old.rest }
@@ -82,7 +82,7 @@ impl Inbox {
     }
 
     /// Moves the bytes to the front, and reads once into the room behind them.
-    pub(crate) fn fill<R: Read>(&mut self, r: &mut R) -> Filled
+    pub fn fill<R: Read>(&mut self, r: &mut R) -> Filled
         requires { first_step self.old.rest ≡ Step.More }
         ensures bounded { length self.new.rest ≤ 8192 }
         ensures less { result ≡ Filled.More → work self.new < work self.old }

@@ -3,7 +3,7 @@
 ghost use Rattle.std.specs.Prelude.{◌≡◌, ◌≤◌, ◌++◌, [], ◌∷◌, true, false, IfOk, IsTrue, ◌↔◌, map};
 ghost use Rattle.fl_wire.specs.Init.{init_spelling};
 ghost use Rattle.fl_wire.specs.Spell.{spelling_of, IsReply};
-ghost use Rattle.fl_serve.specs.Inside.Serving.{bytes_of};
+ghost use Rattle.fl_serve.specs.Talk.{bytes_of};
 ghost use Rattle.fl_serve.specs.Inside.Sending.{Sends};
 
 use crate::outbox::Outbox;
@@ -19,7 +19,7 @@ const REPLY_BYTES: usize = 160;
 
 /// Where replies are laid out, each by itself or one behind the other. Contracts see the bytes that lie there.
 #[derive(Drop)]
-pub(crate) struct ReplyBuffer {
+pub struct ReplyBuffer {
     bytes: Vec<u8>,
 }
 
@@ -42,7 +42,7 @@ impl ReplyBuffer {
     }
 
     /// Room for this many bytes, at least those of one reply, and no reply there yet.
-    pub(crate) fn with_bytes(alloc: Global, bytes: usize) -> Result<ReplyBuffer, NoMemory>
+    pub fn with_bytes(alloc: Global, bytes: usize) -> Result<ReplyBuffer, NoMemory>
         requires { 160 ≤ bytes }
         ensures { IfOk result (λ made. made ≡ []) }
     {
@@ -52,7 +52,7 @@ impl ReplyBuffer {
     }
 
     /// Lays out a reply behind the others, where there is room for any reply, and says whether it did.
-    pub(crate) fn append(&mut self, told: &Told) -> bool
+    pub fn append(&mut self, told: &Told) -> bool
         ensures done { result ≡ true → self.new ≡ self.old ++ spelling_of told.now }
         ensures full { result ≡ false → self.new ≡ self.old }
         ensures reply { result ≡ true → IsReply (spelling_of told.now) }
@@ -65,21 +65,21 @@ impl ReplyBuffer {
     }
 
     /// Takes all replies away.
-    pub(crate) fn clear(&mut self)
+    pub fn clear(&mut self)
         ensures { self.new ≡ [] }
     {
         self.bytes.clear();
     }
 
     /// Whether no reply lies there.
-    pub(crate) fn is_empty(&self) -> bool
+    pub fn is_empty(&self) -> bool
         ensures { IsTrue result ↔ (self.now ≡ []) }
     {
         self.bytes.is_empty()
     }
 
     /// Lays out a reply by itself.
-    pub(crate) fn lay_out(&mut self, told: &Told)
+    pub fn lay_out(&mut self, told: &Told)
         ensures bytes { self.new ≡ spelling_of told.now }
         ensures reply { IsReply (spelling_of told.now) }
     {
@@ -88,7 +88,7 @@ impl ReplyBuffer {
     }
 
     /// Lays out the reply to an INIT by itself.
-    pub(crate) fn lay_out_init(&mut self, unique: u64, step: &InitStep)
+    pub fn lay_out_init(&mut self, unique: u64, step: &InitStep)
         ensures bytes { self.new ≡ init_spelling unique step.now }
         ensures reply { IsReply (init_spelling unique step.now) }
     {
@@ -97,7 +97,7 @@ impl ReplyBuffer {
     }
 
     /// The bytes that lie there.
-    pub(crate) fn as_slice(&self) -> &[u8]
+    pub fn as_slice(&self) -> &[u8]
         ensures { result.now ≡ self.now }
     {
         &self.bytes

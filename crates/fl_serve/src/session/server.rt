@@ -3,7 +3,8 @@
 ghost use Rattle.std.specs.Prelude.{◌≡◌, ℕ, List, false, IfOk, if◌then◌else◌};
 ghost use Rattle.fl_order.specs.Kind.{is_silent, kind_of_opcode};
 ghost use Rattle.fl_serve.specs.Session.{Session, before_init, without_memory};
-ghost use Rattle.fl_serve.specs.Inside.Serving.{answered, bytes_of, standing, IsFresh, IsHeard, IsHeardAs, IsMet, IsMetAs};
+ghost use Rattle.fl_serve.specs.Inside.Serving.{IsFresh, IsHeardAs, IsMet, IsMetAs};
+ghost use Rattle.fl_serve.specs.Talk.{answered, bytes_of, standing, IsHeard};
 ghost use Rattle.fl_wire.specs.Layout.{opcode_of, unique_of};
 ghost use Rattle.fl_wire.specs.Says.{said};
 
@@ -15,7 +16,7 @@ use std::alloc::Global;
 
 /// What a message is answered.
 #[derive(Clone, Copy, Debug)]
-pub(crate) enum Owed {
+pub enum Owed {
     /// No reply.
     Nothing,
     /// The reply to the INIT with this unique.
@@ -26,9 +27,19 @@ pub(crate) enum Owed {
     Replies,
 }
 
+impl Owed {
+    /// What is owed to an order of this kind that is refused for want of memory.
+    pub fn lost(kind: Kind, unique: u64) -> Owed
+        ensures { result ≡ if is_silent kind then Owed.Nothing
+            else Owed.One (record { unique = unique; result = Err (without_memory kind) }) }
+    {
+        refusal(kind, unique, without_memory(kind))
+    }
+}
+
 /// What a message comes to.
 #[derive(Clone, Copy, Debug)]
-pub(crate) enum Met {
+pub enum Met {
     /// An order, which the lock directory answers.
     Order(Order),
     /// An answer of the session itself.
@@ -37,7 +48,7 @@ pub(crate) enum Met {
 
 /// How far a session is.
 #[derive(Clone, Copy, Debug)]
-pub(crate) struct Talk {
+pub struct Talk {
     /// An INIT was agreed.
     pub agreed: bool,
     /// A DESTROY ended the session.
@@ -46,7 +57,7 @@ pub(crate) struct Talk {
 
 impl Talk {
     /// No message came yet.
-    pub(crate) fn new() -> Talk
+    pub fn new() -> Talk
         ensures { (result.agreed ≡ false) × (result.over ≡ false) }
     {
         Talk {
@@ -56,7 +67,7 @@ impl Talk {
     }
 
     /// What a message of a session that isn't over comes to.
-    pub(crate) fn meet(&mut self, frame: &Frame) -> Met
+    pub fn meet(&mut self, frame: &Frame) -> Met
         requires { self.old.over ≡ false }
         ensures { IsHeard result self.old self.new frame.now }
     {
@@ -152,18 +163,10 @@ impl Server {
             Ok(()) => Owed::Replies,
             Err(NoMemory) => {
                 self.refused = true;
-                lost(order.op.kind(), order.unique)
+                Owed::lost(order.op.kind(), order.unique)
             }
         }
     }
-}
-
-// What an order of this kind is answered that is refused for want of memory.
-pub(crate) fn lost(kind: Kind, unique: u64) -> Owed
-    ensures { result ≡ if is_silent kind then Owed.Nothing
-        else Owed.One (record { unique = unique; result = Err (without_memory kind) }) }
-{
-    refusal(kind, unique, without_memory(kind))
 }
 
 // The error of an order that is refused for want of memory: an INTERRUPT may come again.

@@ -19,4 +19,4 @@ pub returns-clause-served : goal.returns-clause-served
 returns-clause-served g c =
     let some : c.run-back.result.1.fault ≢ Some NoMemory = search rules in
     served_by _ _ _ _ _ _ _ (c.run-back.ensures.heard some) (rw c.requires.start c.said_goodbye-w.ensures.sent)
-    c.first.ensures.ends
+    c.told.ensures.ends

@@ -8,4 +8,4 @@ returns-in_default g c = unserved _ _ _ c.no_memory.ensures.history c.no_memory.
     (c.no_memory.ensures.read _ _ (Keeps-refl _))
 
 pub returns : goal.returns
-returns g c = served _ _ _ _ _ _ _ _ c.run-server.ensures c.into_history.ensures c.first.ensures.ends refl
+returns g c = served _ _ _ _ _ _ _ _ c.run-server.ensures c.into_history.ensures c.told.ensures.ends refl

@@ -1,5 +1,5 @@
 use Rattle.std.proofs.Common.{◌≡◌, ◌≤◌, length}
-use Rattle.fl_serve.specs.Inside.Inbox.{work}
+use Rattle.fl_serve.specs.Inbox.{work}
 use Rattle.fl_serve.specs.Inside.UnderWay.{IsUnderWay}
 use Rattle.fl_serve.proofs.session.answering.answer_all.Given as goal
 
