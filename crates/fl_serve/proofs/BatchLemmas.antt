@@ -6,7 +6,7 @@ use Rattle.std.specs.List.{concat}
 use Rattle.std.proofs.KnownBytes.{Appends-trans, Appends-kept}
 use Rattle.fl_wire.specs.Spell.{IsReply}
 use Rattle.fl_serve.specs.Inside.Collecting.{Collects}
-use Rattle.fl_serve.specs.Outbox.{IsSentBy}
+use Rattle.fl_session.specs.Outbox.{IsSentBy}
 use Rattle.fl_serve.specs.Shared.{IsGiven}
 
 -- no reply more

@@ -2,12 +2,12 @@
 use Rattle.std.proofs.Common.{◌≡◌, ℕ, false, List, [], ◌∷◌, ◌++◌, Option, refl, sym, ap, subst, ◌∙◌}
 use Rattle.std.proofs.lemmas.Grind.{fold-append}
 use Rattle.fl_serve.specs.Inside.Hearing.{Hears, IsHearing, IsThisFar}
-use Rattle.fl_serve.specs.Inbox.{Inflow, IsUnread, Takes}
-use Rattle.fl_serve.specs.Talk.{IsHeard, standing}
-use Rattle.fl_serve.specs.Session.{Came, Session, session_of, with_message, opening_session}
-use Rattle.fl_serve.specs.declared.session.server.Met.{Met}
-use Rattle.fl_serve.specs.declared.session.server.Met.TheVariants as met
-use Rattle.fl_serve.specs.declared.session.server.Talk.{Talk}
+use Rattle.fl_session.specs.Inbox.{Inflow, IsUnread, Takes}
+use Rattle.fl_session.specs.Talk.{IsHeard, standing}
+use Rattle.fl_session.specs.Session.{Came, Session, session_of, with_message, opening_session}
+use Rattle.fl_session.specs.declared.server.Met.{Met}
+use Rattle.fl_session.specs.declared.server.Met.TheVariants as met
+use Rattle.fl_session.specs.declared.server.Talk.{Talk}
 
 -- a session that is this far stands there
 stands_there : (s : Session) (talk : Talk) → IsThisFar s talk → standing s talk ≡ s

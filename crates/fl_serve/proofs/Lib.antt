@@ -1,10 +1,4 @@
 pub mod BatchLemmas
 pub mod HearingLemmas
-pub mod InboxLemmas
-pub mod MeetLemmas
-pub mod SendLemmas
-pub mod ServedLemmas
 pub mod ServingLemmas
-pub mod SessionLemmas
-pub mod WriteLemmas
 pub mod SharedLemmas

@@ -5,14 +5,14 @@ use Rattle.std.proofs.lemmas.List.FromFn.{length-range_with_len}
 use Rattle.std.specs.List.{range_with_len}
 use Rattle.fl_book.specs.Seats.{Place}
 use Rattle.fl_serve.specs.Inside.Hearing.{HasHeard}
-use Rattle.fl_serve.specs.Inbox.{IsEnding}
+use Rattle.fl_session.specs.Inbox.{IsEnding}
 use Rattle.fl_serve.specs.Serve.{IsServedBy}
-use Rattle.fl_serve.specs.Served.{EndsBy, IsRead}
-use Rattle.fl_serve.specs.Session.{Came, session_of}
+use Rattle.fl_session.specs.Served.{EndsBy, IsRead}
+use Rattle.fl_session.specs.Session.{Came, session_of}
 use Rattle.fl_serve.specs.Shared.{HasSent}
-use Rattle.fl_serve.specs.declared.session.Fault.{Fault}
-use Rattle.fl_serve.specs.declared.session.Fault.TheVariants.{NoMemory}
-use Rattle.fl_serve.specs.declared.session.Done.{Done}
+use Rattle.fl_session.specs.declared.session.Fault.{Fault}
+use Rattle.fl_session.specs.declared.session.Fault.TheVariants.{NoMemory}
+use Rattle.fl_session.specs.declared.session.Done.{Done}
 
 -- there is a seat for each worker
 pub as_many : (seats : List Place) (workers : ℕ) → map (λ seat. seat.worker) seats ≡ range_with_len 0 workers

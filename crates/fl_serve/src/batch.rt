@@ -4,13 +4,11 @@ ghost use Rattle.std.specs.Prelude.{◌≡◌, [], ◌∷◌, map};
 ghost use Rattle.fl_wire.specs.Init.{init_spelling};
 ghost use Rattle.fl_wire.specs.Spell.{spelling_of};
 ghost use Rattle.fl_serve.specs.Inside.Collecting.{Collects};
-ghost use Rattle.fl_serve.specs.Outbox.{is_broken, writer_of};
-ghost use Rattle.fl_serve.specs.Talk.{bytes_of};
+ghost use Rattle.fl_session.specs.Outbox.{is_broken, writer_of};
+ghost use Rattle.fl_session.specs.Talk.{bytes_of};
 
-use crate::outbox::Outbox;
-use crate::session::mail::ReplyBuffer;
-use crate::session::server::Owed;
 use fl_order::Told;
+use fl_session::{Outbox, Owed, ReplyBuffer};
 use fl_wire::InitStep;
 use std::io::Write;
 

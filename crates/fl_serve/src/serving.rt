@@ -3,7 +3,7 @@
 ghost use Rattle.std.specs.Prelude.{◌≡◌, ◌≤◌, ◌<◌, [], Some, length, vec_capacity, IfOk};
 ghost use Rattle.std.specs.Io.KnownBytes.{Keeps};
 ghost use Rattle.fl_book.specs.Legal.{IsLegal};
-ghost use Rattle.fl_serve.specs.Inbox.{IsUnread};
+ghost use Rattle.fl_session.specs.Inbox.{IsUnread};
 ghost use Rattle.fl_serve.specs.Serve.{IsServedBy};
 ghost use Rattle.fl_serve.specs.Shared.{HasSent};
 
@@ -13,14 +13,11 @@ mod hearing;
 use crate::counter::Gate;
 use crate::intake::Intake;
 use crate::serving::crew::{Back, Crew, Thread, run};
-use crate::session::inbox::Inbox;
-use crate::session::mail::ReplyBuffer;
-use crate::session::server::Owed;
-use crate::session::{Done, Fault};
 use crate::shared::{Shared, WriterName};
 use fl_book::{Board, BoardName, Seat};
 use fl_core::Tolds;
 use fl_order::NoMemory;
+use fl_session::{Done, Fault, Inbox, Owed, ReplyBuffer};
 use std::alloc::Global;
 use std::io::{Read, Write};
 use std::marker::Brand;

@@ -3,13 +3,11 @@
 ghost use Rattle.std.specs.Prelude.{◌≡◌, [], false};
 ghost use Rattle.fl_serve.specs.Inside.Collecting.{Collects};
 ghost use Rattle.fl_serve.specs.Shared.{HasSent};
-ghost use Rattle.fl_serve.specs.Talk.{bytes_of};
+ghost use Rattle.fl_session.specs.Talk.{bytes_of};
 
 use crate::batch::Batch;
-use crate::outbox::Outbox;
-use crate::session::mail::ReplyBuffer;
-use crate::session::server::Owed;
 use fl_order::Told;
+use fl_session::{Outbox, Owed, ReplyBuffer};
 use std::io::Write;
 use std::marker::{Brand, Model, PhantomData};
 
@@ -41,7 +39,7 @@ pub struct Shared<'a, W: Write, N: WriterName> {
 
 impl<'a, W: Write, N: WriterName> Model for Shared<'a, W, N> {
     ghost use Rattle.std.specs.Prelude.{◌≡◌};
-    ghost use Rattle.fl_serve.specs.Outbox.{is_broken, writer_of};
+    ghost use Rattle.fl_session.specs.Outbox.{is_broken, writer_of};
     ghost use Rattle.fl_serve.specs.Shared.{Outgoing, HasSent};
 
     ghost Value = { Outgoing };

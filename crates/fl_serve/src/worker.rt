@@ -4,10 +4,10 @@ ghost use Rattle.std.specs.Prelude.{◌≡◌, ◌≤◌};
 
 use crate::counter::{Counter, Gate};
 use crate::intake::{Intake, Job};
-use crate::session::server::Owed;
 use crate::shared::{Shared, WriterName};
 use fl_core::Tolds;
 use fl_order::Told;
+use fl_session::Owed;
 use std::io::Write;
 use std::sync::{Mutex, Wait};
 

@@ -1,10 +1,10 @@
 -- The reader of a session with workers, while it is under way.
 use Rattle.std.specs.Prelude.{◌≡◌, ℕ, ◌≤◌, false, List, length, Option}
-use Rattle.fl_serve.specs.Inbox.{IsEnding}
-use Rattle.fl_serve.specs.Served.{IsRead}
-use Rattle.fl_serve.specs.Session.{Came, Session, session_of, with_message}
-use Rattle.fl_serve.specs.declared.session.Fault.{Fault}
-use Rattle.fl_serve.specs.declared.session.server.Talk.{Talk}
+use Rattle.fl_session.specs.Inbox.{IsEnding}
+use Rattle.fl_session.specs.Served.{IsRead}
+use Rattle.fl_session.specs.Session.{Came, Session, session_of, with_message}
+use Rattle.fl_session.specs.declared.session.Fault.{Fault}
+use Rattle.fl_session.specs.declared.server.Talk.{Talk}
 
 -- a session is this far
 pub record IsThisFar (s : Session) (talk : Talk) : Type 0 where

@@ -3,18 +3,16 @@
 ghost use Rattle.std.specs.Prelude.{◌≡◌, ◌≢◌, ◌+◌, ◌≤◌, [], true, Some, length, vec_capacity};
 ghost use Rattle.std.specs.Io.KnownBytes.{Keeps};
 ghost use Rattle.fl_serve.specs.Inside.Hearing.{HasHeard};
-ghost use Rattle.fl_serve.specs.Inbox.{IsUnread};
+ghost use Rattle.fl_session.specs.Inbox.{IsUnread};
 
 use crate::counter::Gate;
 use crate::intake::Intake;
 use crate::serving::hearing::{Heard, Hearer};
-use crate::session::Fault;
-use crate::session::inbox::Inbox;
-use crate::session::server::Owed;
 use crate::shared::{Shared, WriterName};
 use crate::worker::{Worked, worker_loop};
 use fl_book::{Board, BoardName, Seat};
 use fl_core::Tolds;
+use fl_session::{Fault, Inbox, Owed};
 use std::io::{Read, Write};
 use std::sync::{Mutex, Wait};
 use std::thread::{Builder, JoinHandle, Scope, Threads};

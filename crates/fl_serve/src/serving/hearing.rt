@@ -2,13 +2,11 @@
 
 ghost use Rattle.std.specs.Prelude.{◌≡◌, ◌≢◌, Some, false};
 ghost use Rattle.fl_serve.specs.Inside.Hearing.{HasHeard, Hears};
-ghost use Rattle.fl_serve.specs.Inbox.{IsUnread};
+ghost use Rattle.fl_session.specs.Inbox.{IsUnread};
 
 use crate::intake::Intake;
-use crate::session::Fault;
-use crate::session::inbox::{Filled, Inbox};
-use crate::session::server::{Met, Owed, Talk};
 use crate::shared::{Shared, WriterName};
+use fl_session::{Fault, Filled, Inbox, Met, Owed, Talk};
 use fl_wire::{Frame, Step};
 use std::io::{Read, Write};
 use std::sync::{Mutex, Wait};

@@ -2,7 +2,7 @@ use Rattle.std.proofs.Common.{rules, ◌≡◌, ◌≢◌, Some, false}
 use Rattle.std.proofs.KnownBytes.{Keeps-refl}
 use Rattle.fl_serve.proofs.ServingLemmas.{served_by, unserved}
 use Rattle.fl_serve.proofs.SharedLemmas.{starts}
-use Rattle.fl_serve.specs.declared.session.Fault.TheVariants.{NoMemory}
+use Rattle.fl_session.specs.declared.session.Fault.TheVariants.{NoMemory}
 use Rattle.fl_serve.proofs.serving.serve_at.Goals as goal
 
 pub returns-in_default-clause-served : goal.returns-in_default-clause-served
