@@ -1,11 +1,12 @@
 -- Replies that are collected, and go out together.
-use Rattle.std.proofs.Common.{◌≡◌, ℕ, Bool, true, false, List, [], ◌∷◌, ◌++◌, take, drop, Option, refl, sym, ap, subst, ◌∙◌, arith, append_assoc, append-nil, length-append, take-append-drop, length-drop}
+use Rattle.std.proofs.Common.{◌≡◌, ℕ, Bool, true, false, List, [], ◌∷◌, ◌++◌, take, drop, Option, sym, ap, subst, ◌∙◌, arith, append_assoc, append-nil, length-append, take-append-drop, length-drop}
 use Rattle.std.proofs.lemmas.List.Elements.{All-push}
+use Rattle.std.proofs.lemmas.List.Folds.{concat-append}
+use Rattle.std.specs.List.{concat}
 use Rattle.std.proofs.KnownBytes.{Appends-trans, Appends-kept}
 use Rattle.fl_wire.specs.Spell.{IsReply}
-use Rattle.fl_serve.proofs.SendLemmas.{concat_one}
 use Rattle.fl_serve.specs.Inside.Collecting.{Collects}
-use Rattle.fl_serve.specs.Outbox.{IsSentBy}
+use Rattle.fl_session.specs.Outbox.{IsSentBy}
 use Rattle.fl_serve.specs.Shared.{IsGiven}
 
 -- no reply more
@@ -34,6 +35,7 @@ given_one : (start held : Option (List ℕ)) (waiting : List ℕ) (broken : Bool
     → IsGiven start held waiting broken replies → IsGiven start held (waiting ++ reply) broken (replies ++ reply ∷ [])
 given_one start held waiting true replies reply is before =
     let cut = before.are_given in
+    let one : concat (replies ++ reply ∷ []) ≡ concat replies ++ reply = simp (concat-append, append-nil) in
     record {
       sent = before.sent;
       written = before.written;
@@ -41,17 +43,19 @@ given_one start held waiting true replies reply is before =
         rest = cut.rest ++ reply;
         more = let some = cut.more in omega (arith, length-append cut.rest reply);
         is = sym (append_assoc before.sent cut.rest reply) ∙ ap (λ bytes. bytes ++ reply) cut.is
-            ∙ sym (concat_one replies reply);
+            ∙ sym one;
       };
       framed = All-push IsReply replies reply before.framed is;
     }
-given_one start held waiting false replies reply is before = record {
-  sent = before.sent;
-  written = before.written;
-  are_given = sym (append_assoc before.sent waiting reply) ∙ ap (λ bytes. bytes ++ reply) before.are_given
-      ∙ sym (concat_one replies reply);
-  framed = All-push IsReply replies reply before.framed is;
-}
+given_one start held waiting false replies reply is before =
+    let one : concat (replies ++ reply ∷ []) ≡ concat replies ++ reply = simp (concat-append, append-nil) in
+    record {
+      sent = before.sent;
+      written = before.written;
+      are_given = sym (append_assoc before.sent waiting reply) ∙ ap (λ bytes. bytes ++ reply) before.are_given
+          ∙ sym one;
+      framed = All-push IsReply replies reply before.framed is;
+    }
 
 -- a reply is collected
 pub Collects-one : (held : Option (List ℕ)) (waiting now : List ℕ) (broken : Bool) (reply : List ℕ)

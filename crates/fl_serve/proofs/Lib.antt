@@ -1,10 +1,4 @@
 pub mod BatchLemmas
 pub mod HearingLemmas
-pub mod MeetLemmas
-pub mod ReadLemmas
-pub mod SendLemmas
-pub mod ServedLemmas
 pub mod ServingLemmas
-pub mod SessionLemmas
-pub mod WriteLemmas
 pub mod SharedLemmas

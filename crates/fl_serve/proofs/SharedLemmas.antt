@@ -1,12 +1,12 @@
 -- What workers who share one writer have sent.
-use Rattle.std.proofs.Common.{◌≡◌, ℕ, Bool, true, false, List, [], ◌∷◌, ◌++◌, map, Option, refl, sym, subst, append-nil, All}
+use Rattle.std.proofs.Common.{ℕ, Bool, false, List, [], ◌∷◌, ◌++◌, map, Option, refl, sym, subst, append-nil, All}
 use Rattle.std.proofs.lemmas.List.Elements.{All-nil, All-cons, All-append}
 use Rattle.std.proofs.KnownBytes.{Appends-nil}
 use Rattle.fl_order.specs.declared.told.Told.{Told}
 use Rattle.fl_serve.specs.Inside.Collecting.{Collects}
-use Rattle.fl_serve.specs.Inside.Serving.{bytes_of}
-use Rattle.fl_serve.specs.declared.session.server.Owed.{Owed}
-use Rattle.fl_serve.specs.declared.session.server.Owed.TheVariants.{Nothing, Init, One, Replies}
+use Rattle.fl_session.specs.Talk.{bytes_of}
+use Rattle.fl_session.specs.declared.server.Owed.{Owed}
+use Rattle.fl_session.specs.declared.server.Owed.TheVariants.{Nothing, Init, One, Replies}
 use Rattle.fl_serve.specs.Shared.{IsSpelling, told, greeted, HasSent}
 use Rattle.fl_wire.specs.Spell.{spelling_of, IsReply}
 

@@ -1,6 +1,3 @@
 pub mod Inside
-pub mod Outbox
 pub mod Serve
-pub mod Served
 pub mod Shared
-pub mod Session

@@ -1,9 +1,9 @@
 -- What a session with workers did.
 use Rattle.std.specs.Prelude.{ℕ, ◌≤◌, Bool, List, [], length, Option}
-use Rattle.fl_serve.specs.Served.{EndsBy, IsRead}
-use Rattle.fl_serve.specs.Session.{Came}
+use Rattle.fl_session.specs.Served.{EndsBy, IsRead}
+use Rattle.fl_session.specs.Session.{Came}
 use Rattle.fl_serve.specs.Shared.{HasSent}
-use Rattle.fl_serve.specs.declared.session.Done.{Done}
+use Rattle.fl_session.specs.declared.session.Done.{Done}
 
 -- What was read is whole messages and a rest of at most 8192 bytes, and no message came after one that ended the
 -- session. Whole replies were written behind what the writer held; where a write failed (`broken`), a beginning of them.

@@ -3,7 +3,7 @@ use Rattle.std.specs.Prelude.{◌≡◌, ℕ, Bool, true, false, List, ◌++◌,
 use Rattle.std.specs.List.{concat}
 use Rattle.std.specs.Io.KnownBytes.{Appends}
 use Rattle.fl_order.specs.declared.told.Told.{Told}
-use Rattle.fl_serve.specs.Served.{IsProperPrefix}
+use Rattle.fl_session.specs.Served.{IsProperPrefix}
 use Rattle.fl_wire.specs.Init.{init_spelling}
 use Rattle.fl_wire.specs.Spell.{spelling_of, IsReply}
 use Rattle.fl_wire.specs.declared.init.InitStep.{InitStep}

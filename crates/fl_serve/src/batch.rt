@@ -4,12 +4,11 @@ ghost use Rattle.std.specs.Prelude.{◌≡◌, [], ◌∷◌, map};
 ghost use Rattle.fl_wire.specs.Init.{init_spelling};
 ghost use Rattle.fl_wire.specs.Spell.{spelling_of};
 ghost use Rattle.fl_serve.specs.Inside.Collecting.{Collects};
-ghost use Rattle.fl_serve.specs.Inside.Serving.{bytes_of};
+ghost use Rattle.fl_session.specs.Outbox.{is_broken, writer_of};
+ghost use Rattle.fl_session.specs.Talk.{bytes_of};
 
-use crate::outbox::Outbox;
-use crate::session::mail::ReplyBuffer;
-use crate::session::server::Owed;
 use fl_order::Told;
+use fl_session::{Outbox, Owed, ReplyBuffer};
 use fl_wire::InitStep;
 use std::io::Write;
 
@@ -23,9 +22,9 @@ pub(crate) struct Batch<'a, W> {
 impl<W: Write> Batch<'_, W> {
     /// Collects what is owed. Where there is no more room, what was collected before goes out.
     pub(crate) fn collect(&mut self, owed: &Owed, tolds: &[Told])
-        ensures same { self.new.out.writer.ghost_name ≡ self.old.out.writer.ghost_name }
-        ensures collected { Collects (W.contents self.old.out.writer.now) (W.contents self.new.out.writer.now)
-            self.old.replies self.new.replies self.old.out.broken self.new.out.broken (bytes_of owed.now tolds.now) }
+        ensures same { (writer_of self.new.out).ghost_name ≡ (writer_of self.old.out).ghost_name }
+        ensures collected { Collects (W.contents (writer_of self.old.out).now) (W.contents (writer_of self.new.out).now)
+            self.old.replies self.new.replies (is_broken self.old.out) (is_broken self.new.out) (bytes_of owed.now tolds.now) }
     {
         match owed {
             Owed::Nothing => {}
@@ -36,9 +35,9 @@ impl<W: Write> Batch<'_, W> {
     }
 
     fn collect_init(&mut self, unique: u64, step: &InitStep)
-        ensures same { self.new.out.writer.ghost_name ≡ self.old.out.writer.ghost_name }
-        ensures collected { Collects (W.contents self.old.out.writer.now) (W.contents self.new.out.writer.now)
-            self.old.replies self.new.replies self.old.out.broken self.new.out.broken
+        ensures same { (writer_of self.new.out).ghost_name ≡ (writer_of self.old.out).ghost_name }
+        ensures collected { Collects (W.contents (writer_of self.old.out).now) (W.contents (writer_of self.new.out).now)
+            self.old.replies self.new.replies (is_broken self.old.out) (is_broken self.new.out)
             (init_spelling unique step.now ∷ []) }
     {
         self.flush();
@@ -46,9 +45,9 @@ impl<W: Write> Batch<'_, W> {
     }
 
     fn collect_one(&mut self, told: &Told)
-        ensures same { self.new.out.writer.ghost_name ≡ self.old.out.writer.ghost_name }
-        ensures collected { Collects (W.contents self.old.out.writer.now) (W.contents self.new.out.writer.now)
-            self.old.replies self.new.replies self.old.out.broken self.new.out.broken (spelling_of told.now ∷ []) }
+        ensures same { (writer_of self.new.out).ghost_name ≡ (writer_of self.old.out).ghost_name }
+        ensures collected { Collects (W.contents (writer_of self.old.out).now) (W.contents (writer_of self.new.out).now)
+            self.old.replies self.new.replies (is_broken self.old.out) (is_broken self.new.out) (spelling_of told.now ∷ []) }
     {
         if !self.replies.append(told) {
             self.flush();
@@ -57,9 +56,9 @@ impl<W: Write> Batch<'_, W> {
     }
 
     fn collect_all(&mut self, tolds: &[Told])
-        ensures same { self.new.out.writer.ghost_name ≡ self.old.out.writer.ghost_name }
-        ensures collected { Collects (W.contents self.old.out.writer.now) (W.contents self.new.out.writer.now)
-            self.old.replies self.new.replies self.old.out.broken self.new.out.broken (map spelling_of tolds.now) }
+        ensures same { (writer_of self.new.out).ghost_name ≡ (writer_of self.old.out).ghost_name }
+        ensures collected { Collects (W.contents (writer_of self.old.out).now) (W.contents (writer_of self.new.out).now)
+            self.old.replies self.new.replies (is_broken self.old.out) (is_broken self.new.out) (map spelling_of tolds.now) }
     {
         for told in tolds {
             self.collect_one(told);
@@ -68,10 +67,10 @@ impl<W: Write> Batch<'_, W> {
 
     /// Sends what is collected.
     pub(crate) fn flush(&mut self)
-        ensures same { self.new.out.writer.ghost_name ≡ self.old.out.writer.ghost_name }
+        ensures same { (writer_of self.new.out).ghost_name ≡ (writer_of self.old.out).ghost_name }
         ensures none { self.new.replies ≡ [] }
-        ensures sent { Collects (W.contents self.old.out.writer.now) (W.contents self.new.out.writer.now)
-            self.old.replies self.new.replies self.old.out.broken self.new.out.broken [] }
+        ensures sent { Collects (W.contents (writer_of self.old.out).now) (W.contents (writer_of self.new.out).now)
+            self.old.replies self.new.replies (is_broken self.old.out) (is_broken self.new.out) [] }
     {
         if !self.replies.is_empty() {
             self.out.post(self.replies.as_slice());

@@ -1,8 +1,9 @@
 //! A whole session of the FUSE protocol with workers, over any reader and any writer.
 
-ghost use Rattle.std.specs.Prelude.{◌≡◌, ◌≤◌, ◌<◌, [], Some, length, vec_len, vec_capacity, IfOk};
+ghost use Rattle.std.specs.Prelude.{◌≡◌, ◌≤◌, ◌<◌, [], Some, length, vec_capacity, IfOk};
 ghost use Rattle.std.specs.Io.KnownBytes.{Keeps};
 ghost use Rattle.fl_book.specs.Legal.{IsLegal};
+ghost use Rattle.fl_session.specs.Inbox.{IsUnread};
 ghost use Rattle.fl_serve.specs.Serve.{IsServedBy};
 ghost use Rattle.fl_serve.specs.Shared.{HasSent};
 
@@ -12,13 +13,11 @@ mod hearing;
 use crate::counter::Gate;
 use crate::intake::Intake;
 use crate::serving::crew::{Back, Crew, Thread, run};
-use crate::session::mail::ReplyBuffer;
-use crate::session::server::Owed;
-use crate::session::{Done, Fault, MESSAGE_BYTES, first};
 use crate::shared::{Shared, WriterName};
-use fl_book::{Board, BoardName, History, Seat};
+use fl_book::{Board, BoardName, Seat};
 use fl_core::Tolds;
 use fl_order::NoMemory;
+use fl_session::{Done, Fault, Inbox, Owed, ReplyBuffer};
 use std::alloc::Global;
 use std::io::{Read, Write};
 use std::marker::Brand;
@@ -118,14 +117,14 @@ fn serve_at<
         → (result.0.history ≡ []) × Keeps (I.remaining r.old) (I.remaining r.new) }
 {
     let Ok(rooms) = Rooms::<L>::new(alloc, blank, staff.workers) else {
-        return (no_memory(alloc), w);
+        return (Done::no_memory(alloc), w);
     };
     let Rooms {
         board,
         seats,
         tolds,
         intake,
-        buffer,
+        inbox,
         replies,
         threads,
         places,
@@ -138,11 +137,11 @@ fn serve_at<
         intake,
         shared: Mutex::new(Shared::<'w, W, N>::new(replies, w)),
     };
-    let (back, heard) = run(&crew, r, buffer, seats, tolds, threads, places);
+    let (back, heard) = run(&crew, r, inbox, seats, tolds, threads, places);
     let Crew { board, shared, .. } = crew;
     let (w, broken) = said_goodbye(shared.into_inner(), &heard.goodbye);
     if heard.fault == Some(Fault::NoMemory) {
-        return (no_memory(alloc), w);
+        return (Done::no_memory(alloc), w);
     }
     let Back { seats, refused } = back;
     let Ok(history) = board.close(seats) else {
@@ -150,7 +149,7 @@ fn serve_at<
     };
     let done = Done {
         history,
-        fault: first(heard.fault, broken),
+        fault: Fault::told(heard.fault, broken),
         refused,
     };
     (done, w)
@@ -170,20 +169,6 @@ fn said_goodbye<'w, W: Write, N: WriterName>(
     shared.into_writer()
 }
 
-// A session that has no memory.
-#[tactic(auto, using(crate::proofs::ServingLemmas::nothing_legal))]
-fn no_memory(alloc: Global) -> Done
-    ensures history { result.history ≡ [] }
-    ensures legal { IsLegal result.history }
-    ensures fault { result.fault ≡ Some Fault.NoMemory }
-{
-    Done {
-        history: History::new(alloc),
-        fault: Some(Fault::NoMemory),
-        refused: false,
-    }
-}
-
 // All that a session has before its first read.
 struct Rooms<L: BoardName> {
     board: Board<L>,
@@ -191,8 +176,7 @@ struct Rooms<L: BoardName> {
     // For each worker.
     tolds: Vec<Tolds>,
     intake: Intake,
-    // For a message.
-    buffer: Vec<u8>,
+    inbox: Inbox,
     replies: ReplyBuffer,
     // Room for each worker's thread, and for each seat that comes back.
     threads: Vec<Thread<L>>,
@@ -207,7 +191,7 @@ impl<L: BoardName> Rooms<L> {
         requires workers { (0 < workers) × (workers ≤ 16) }
         ensures seats { IfOk result (λ rooms. length rooms.seats.items ≡ L.workers) }
         ensures room { IfOk result (λ rooms. length rooms.seats.items ≤ vec_capacity rooms.places) }
-        ensures size { IfOk result (λ rooms. vec_len rooms.buffer ≡ 8192) }
+        ensures unread { IfOk result (λ rooms. IsUnread rooms.inbox) }
         ensures none { IfOk result (λ rooms. (rooms.threads.items ≡ []) × (rooms.places.items ≡ []) × (rooms.replies ≡ [])) }
     {
         let mut tolds = Vec::with_capacity(alloc, workers as usize)?;
@@ -215,7 +199,7 @@ impl<L: BoardName> Rooms<L> {
             tolds.push(Tolds::new(alloc)?)?;
         }
         let intake = Intake::new(alloc)?;
-        let buffer = vec![in alloc; 0; MESSAGE_BYTES]?;
+        let inbox = Inbox::new(alloc)?;
         let replies = ReplyBuffer::with_bytes(alloc, BATCH_BYTES)?;
         let threads = Vec::with_capacity(alloc, workers as usize)?;
         let places = Vec::with_capacity(alloc, workers as usize)?;
@@ -227,7 +211,7 @@ impl<L: BoardName> Rooms<L> {
             seats,
             tolds,
             intake,
-            buffer,
+            inbox,
             replies,
             threads,
             places,

@@ -2,14 +2,12 @@
 
 ghost use Rattle.std.specs.Prelude.{◌≡◌, [], false};
 ghost use Rattle.fl_serve.specs.Inside.Collecting.{Collects};
-ghost use Rattle.fl_serve.specs.Inside.Serving.{bytes_of};
 ghost use Rattle.fl_serve.specs.Shared.{HasSent};
+ghost use Rattle.fl_session.specs.Talk.{bytes_of};
 
 use crate::batch::Batch;
-use crate::outbox::Outbox;
-use crate::session::mail::ReplyBuffer;
-use crate::session::server::Owed;
 use fl_order::Told;
+use fl_session::{Outbox, Owed, ReplyBuffer};
 use std::io::Write;
 use std::marker::{Brand, Model, PhantomData};
 
@@ -41,14 +39,19 @@ pub struct Shared<'a, W: Write, N: WriterName> {
 
 impl<'a, W: Write, N: WriterName> Model for Shared<'a, W, N> {
     ghost use Rattle.std.specs.Prelude.{◌≡◌};
+    ghost use Rattle.fl_session.specs.Outbox.{is_broken, writer_of};
     ghost use Rattle.fl_serve.specs.Shared.{Outgoing, HasSent};
 
     ghost Value = { Outgoing };
 
-    ghost view = { λ s. record { held = W.contents s.batch.out.writer.now; waiting = s.batch.replies; broken = s.batch.out.broken } };
+    ghost view = { λ s. record {
+      held = W.contents (writer_of s.batch.out).now;
+      waiting = s.batch.replies;
+      broken = is_broken s.batch.out;
+    } };
 
-    ghost invariant = { λ s. (s.batch.out.writer.ghost_name ≡ N.name)
-        × HasSent N.start (W.contents s.batch.out.writer.now) s.batch.replies s.batch.out.broken };
+    ghost invariant = { λ s. ((writer_of s.batch.out).ghost_name ≡ N.name)
+        × HasSent N.start (W.contents (writer_of s.batch.out).now) s.batch.replies (is_broken s.batch.out) };
 }
 
 impl<'a, W: Write, N: WriterName> Shared<'a, W, N> {
@@ -60,12 +63,11 @@ impl<'a, W: Write, N: WriterName> Shared<'a, W, N> {
         requires named { writer.ghost_name ≡ N.name }
         ensures { result ≡ record { held = N.start; waiting = []; broken = false } }
     {
-        let out = Outbox {
-            writer,
-            broken: false,
-        };
         Shared {
-            batch: Batch { replies, out },
+            batch: Batch {
+                replies,
+                out: Outbox::new(writer),
+            },
             of: PhantomData,
         }
     }
@@ -96,7 +98,6 @@ impl<'a, W: Write, N: WriterName> Shared<'a, W, N> {
     {
         let Shared { batch, of: _ } = self;
         let Batch { replies: _, out } = batch;
-        let Outbox { writer, broken } = out;
-        (writer, broken)
+        out.into_parts()
     }
 }

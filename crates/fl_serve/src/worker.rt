@@ -4,10 +4,10 @@ ghost use Rattle.std.specs.Prelude.{◌≡◌, ◌≤◌};
 
 use crate::counter::{Counter, Gate};
 use crate::intake::{Intake, Job};
-use crate::session::server::{Owed, lost};
 use crate::shared::{Shared, WriterName};
 use fl_core::Tolds;
 use fl_order::Told;
+use fl_session::Owed;
 use std::io::Write;
 use std::sync::{Mutex, Wait};
 
@@ -47,7 +47,7 @@ pub fn worker_loop<R: Wait, C: Counter, G: Gate, W: Write, N: WriterName>(
             Ok(()) => Owed::Replies,
             Err(_) => {
                 refused = true;
-                lost(job.op.kind(), job.unique)
+                Owed::lost(job.op.kind(), job.unique)
             }
         };
         collect(rt, shared, &owed, tolds.as_slice());

@@ -11,10 +11,10 @@ use Rattle.fl_wire.specs.Layout.{len_of, number_at}
 use Rattle.lockd_commands.specs.Bytes.{IsSession}
 use Rattle.lockd_commands.specs.Bytes.Inside.{AreReplies}
 use Rattle.lockd_commands.specs.Hex.{hex_lines}
-use Rattle.fl_serve.specs.Served.{IsServed}
+use Rattle.fl_session.specs.Served.{IsServed}
 use Rattle.fl_wire.specs.Spell.{IsReply}
-use Rattle.fl_serve.specs.declared.session.Done.{Done}
-use Rattle.fl_serve.specs.Session.{session_of}
+use Rattle.fl_session.specs.declared.session.Done.{Done}
+use Rattle.fl_session.specs.Session.{session_of}
 
 -- the length stands in the first four bytes
 len-append : (xs ys : List ℕ) → 4 ≤ length xs → len_of (xs ++ ys) ≡ len_of xs

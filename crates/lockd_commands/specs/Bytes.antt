@@ -4,14 +4,14 @@ use Rattle.std.specs.Prelude.{◌≡◌, ℕ, false, List, [], All, Option, Some
 use Rattle.std.specs.List.{concat}
 use Rattle.std.specs.Io.KnownBytes.{Appends, Keeps}
 use Rattle.lockd_commands.specs.Hex.{hex_stream, hex_lines}
-use Rattle.fl_serve.specs.Served.{IsServed}
+use Rattle.fl_session.specs.Served.{IsServed}
 use Rattle.fl_wire.specs.Spell.{IsReply}
-use Rattle.fl_serve.specs.Session.{session_of}
+use Rattle.fl_session.specs.Session.{session_of}
 use Rattle.lockd_commands.specs.declared.fault.Fault.{Fault}
 use Rattle.lockd_commands.specs.declared.fault.Fault.TheVariants as command
-use Rattle.fl_serve.specs.declared.session.Done.{Done}
-use Rattle.fl_serve.specs.declared.session.Fault.{Fault as SessionFault}
-use Rattle.fl_serve.specs.declared.session.Fault.TheVariants as session
+use Rattle.fl_session.specs.declared.session.Done.{Done}
+use Rattle.fl_session.specs.declared.session.Fault.{Fault as SessionFault}
+use Rattle.fl_session.specs.declared.session.Fault.TheVariants as session
 
 -- a session's fault as a command tells it
 abbrev pub fault_of : SessionFault → Fault

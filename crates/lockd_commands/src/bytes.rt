@@ -7,7 +7,7 @@ ghost use Rattle.lockd_commands.specs.Bytes.Inside.{Did, IsOfStream};
 ghost use Rattle.lockd_commands.specs.Faults.{IsOfBytes, IsTold};
 ghost use Rattle.lockd_commands.specs.Hex.{hex_stream};
 ghost use Rattle.lockd_commands.specs.declared.fault.Fault.{Fault};
-ghost use Rattle.fl_serve.specs.declared.session.Fault.{Fault as SessionFault};
+ghost use Rattle.fl_session.specs.declared.session.Fault.{Fault as SessionFault};
 
 use crate::fault::Fault;
 use crate::status::{Status, end};

@@ -1,19 +1,18 @@
 //! The workers of a session, from start to join.
 
-ghost use Rattle.std.specs.Prelude.{◌≡◌, ◌≢◌, ◌+◌, ◌≤◌, [], true, Some, length, vec_len, vec_capacity};
+ghost use Rattle.std.specs.Prelude.{◌≡◌, ◌≢◌, ◌+◌, ◌≤◌, [], true, Some, length, vec_capacity};
 ghost use Rattle.std.specs.Io.KnownBytes.{Keeps};
 ghost use Rattle.fl_serve.specs.Inside.Hearing.{HasHeard};
-ghost use Rattle.fl_serve.specs.declared.session.server.Talk.{Talk as HowFar};
+ghost use Rattle.fl_session.specs.Inbox.{IsUnread};
 
 use crate::counter::Gate;
 use crate::intake::Intake;
 use crate::serving::hearing::{Heard, Hearer};
-use crate::session::Fault;
-use crate::session::server::Owed;
 use crate::shared::{Shared, WriterName};
 use crate::worker::{Worked, worker_loop};
 use fl_book::{Board, BoardName, Seat};
 use fl_core::Tolds;
+use fl_session::{Fault, Inbox, Owed};
 use std::io::{Read, Write};
 use std::sync::{Mutex, Wait};
 use std::thread::{Builder, JoinHandle, Scope, Threads};
@@ -54,18 +53,18 @@ pub(crate) fn run<
 >(
     crew: &Crew<'_, '_, L, N, R, W, G>,
     r: &mut I,
-    buffer: Vec<u8>,
+    inbox: Inbox,
     seats: Vec<Seat<L>>,
     tolds: Vec<Tolds>,
     threads: Vec<Thread<L>>,
     places: Vec<Seat<L>>,
 ) -> (Back<L>, Heard)
-    requires size { vec_len buffer ≡ 8192 }
+    requires unread { IsUnread inbox }
     requires room { length seats.items ≤ vec_capacity places }
     requires none { (threads.items ≡ []) × (places.items ≡ []) }
     ensures all { result.1.fault ≢ Some Fault.NoMemory → length result.0.seats.items ≡ length seats.items }
     ensures heard { result.1.fault ≢ Some Fault.NoMemory
-        → (talk : HowFar) × HasHeard (I.remaining r.old) (I.remaining r.new) talk result.1.fault }
+        → HasHeard (I.remaining r.old) (I.remaining r.new) result.1.fault }
     ensures unread { result.1.fault ≡ Some Fault.NoMemory → Keeps (I.remaining r.old) (I.remaining r.new) }
 {
     let rt = crew.rt;
@@ -73,20 +72,20 @@ pub(crate) fn run<
         thread::scope_env(),
         rt,
         move |scope| -> (Back<L>, Heard, &mut I)
-            requires size { vec_len buffer ≡ 8192 }
+            requires unread { IsUnread inbox }
             requires room { length seats.items ≤ vec_capacity places }
             requires none { (threads.items ≡ []) × (places.items ≡ []) }
             ensures all { result.1.fault ≢ Some Fault.NoMemory → length result.0.seats.items ≡ length seats.items }
             ensures same { result.2.ghost_name ≡ r.entry.ghost_name }
             ensures heard { result.1.fault ≢ Some Fault.NoMemory
-                → (talk : HowFar) × HasHeard (I.remaining r.entry.now) (I.remaining result.2.now) talk result.1.fault }
+                → HasHeard (I.remaining r.entry.now) (I.remaining result.2.now) result.1.fault }
             ensures unread { result.1.fault ≡ Some Fault.NoMemory
                 → Keeps (I.remaining r.entry.now) (I.remaining result.2.now) }
         {
-            let mut buffer = buffer;
+            let mut inbox = inbox;
             let mut threads = threads;
             let heard = if start_all(scope, crew, seats, tolds, &mut threads) {
-                Hearer::new(rt, &crew.intake, &crew.shared).hear_all(r, &mut buffer)
+                Hearer::new(rt, &crew.intake, &crew.shared).hear_all(r, &mut inbox)
             } else {
                 Heard {
                     fault: Some(Fault::NoMemory),

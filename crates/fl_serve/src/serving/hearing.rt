@@ -1,17 +1,13 @@
 //! How the reader of a session with workers reads its stream.
 
-ghost use Rattle.std.specs.Prelude.{◌≡◌, ◌≢◌, ℕ, List, Option, Some, ◌≤◌, false, take, drop, length};
-ghost use Rattle.fl_serve.specs.Inside.Hearing.{GoesOn, HasHeard, Hears, HearsMore, HearsOn, IsHearing, IsLive};
-ghost use Rattle.fl_serve.specs.Inside.UnderWay.{IsStop};
-ghost use Rattle.fl_serve.specs.declared.session.server.Talk.{Talk as HowFar};
+ghost use Rattle.std.specs.Prelude.{◌≡◌, ◌≢◌, Some, false};
+ghost use Rattle.fl_serve.specs.Inside.Hearing.{HasHeard, Hears};
+ghost use Rattle.fl_session.specs.Inbox.{IsUnread};
 
 use crate::intake::Intake;
-use crate::session::Fault;
-use crate::session::answering::Stop;
-use crate::session::reading::{Turn, move_front, read_behind};
-use crate::session::server::{Met, Owed, Talk};
 use crate::shared::{Shared, WriterName};
-use fl_wire::{Frame, Step, next_frame};
+use fl_session::{Fault, Filled, Inbox, Met, Owed, Talk};
+use fl_wire::{Frame, Step};
 use std::io::{Read, Write};
 use std::sync::{Mutex, Wait};
 
@@ -54,89 +50,39 @@ impl<'r, 'a, 'w, R: Wait, W: Write, N: WriterName> Hearer<'r, 'a, 'w, R, W, N> {
     }
 
     /// Reads until the session ends: orders go to the intake, and other messages are answered at once.
-    pub(crate) fn hear_all<I: Read>(self, r: &mut I, buffer: &mut [u8]) -> Heard
-        requires size { length buffer.old ≡ 8192 }
+    pub(crate) fn hear_all<I: Read>(self, r: &mut I, inbox: &mut Inbox) -> Heard
+        requires unread { IsUnread inbox.old }
         requires fresh { (self.talk.agreed ≡ false) × (self.talk.over ≡ false) }
-        ensures heard { (talk : HowFar) × HasHeard (I.remaining r.old) (I.remaining r.new) talk result.fault }
+        ensures heard { HasHeard (I.remaining r.old) (I.remaining r.new) result.fault }
         ensures memory { result.fault ≢ Some Fault.NoMemory }
     {
         let mut hearer = self;
-        let mut filled = 0;
-        for _ in 0..u64::MAX {
-            match hearer.hear_once(r, buffer, filled) {
-                Turn::More(left) => filled = left,
-                Turn::End(fault) => {
-                    return Heard {
-                        fault,
-                        goodbye: hearer.goodbye,
-                    };
-                }
-            }
-        }
-        Heard {
-            fault: Some(Fault::Read),
-            goodbye: Owed::Nothing,
-        }
-    }
-
-    // Reads once, behind the bytes that fill the front of the buffer, and hears the messages that are whole then.
-    fn hear_once<I: Read>(&mut self, r: &mut I, buffer: &mut [u8], filled: usize) -> Turn
-        requires size { length buffer.old ≡ 8192 }
-        requires within { filled ≤ length buffer.old }
-        requires live { self.old.talk.over ≡ false }
-        ensures live { IsLive result self.new.talk buffer.new }
-        ensures on { (left : Option (List ℕ)) → HearsMore left (I.remaining r.old) self.old.talk buffer.old filled
-            → HearsOn result left (I.remaining r.new) self.new.talk buffer.new }
-    {
-        match read_behind(r, buffer, filled) {
-            Ok(0) if filled == 0 => Turn::End(None),
-            Ok(0) => Turn::End(Some(Fault::Cut)),
-            Ok(n) => self.hear_read(buffer, filled + n),
-            Err(_) => Turn::End(Some(Fault::Read)),
-        }
-    }
-
-    // Hears the whole messages among the bytes that fill the front of the buffer, and moves the rest there.
-    fn hear_read(&mut self, buffer: &mut [u8], filled: usize) -> Turn
-        requires size { length buffer.old ≡ 8192 }
-        requires within { filled ≤ length buffer.old }
-        requires live { self.old.talk.over ≡ false }
-        ensures live { IsLive result self.new.talk buffer.new }
-        ensures on { (left left_now : Option (List ℕ))
-            → IsHearing left left_now self.old.talk (take filled buffer.old)
-            → HearsOn result left left_now self.new.talk buffer.new }
-    {
-        let (at, stop) = self.hear_whole(&buffer[..filled]);
-        match stop {
-            Stop::More => {
-                move_front(buffer, at, filled);
-                Turn::More(filled - at)
-            }
-            Stop::Bad(len) => Turn::End(Some(Fault::BadLength(len))),
-            Stop::Over => Turn::End(None),
-        }
-    }
-
-    // Hears the whole messages in these bytes, in their order, and says how many bytes those were and what stands after
-    // them.
-    fn hear_whole(&mut self, bytes: &[u8]) -> (usize, Stop)
-        requires { self.old.talk.over ≡ false }
-        ensures within { result.0 ≤ length bytes.now }
-        ensures heard { GoesOn self.old.talk self.new.talk bytes.now (drop result.0 bytes.now) }
-        ensures stop { IsStop result.1 self.new.talk (drop result.0 bytes.now) }
-    {
-        let mut at = 0;
-        while !self.talk.over {
-            match next_frame(&bytes[at..]) {
-                Step::More => return (at, Stop::More),
-                Step::Bad(len) => return (at, Stop::Bad(len)),
+        while !hearer.talk.over {
+            match inbox.next() {
                 Step::Whole(frame) => {
-                    self.hear(&frame);
-                    at += frame.as_bytes().len();
+                    hearer.hear(&frame);
+                    let len = frame.as_bytes().len();
+                    inbox.skip(len);
+                }
+                Step::Bad(len) => return hearer.ended(Some(Fault::BadLength(len))),
+                Step::More => {
+                    if let Filled::End(fault) = inbox.fill(r) {
+                        return hearer.ended(fault);
+                    }
                 }
             }
         }
-        (at, Stop::Over)
+        hearer.ended(None)
+    }
+
+    // How the reader's part ended, with this fault.
+    fn ended(self, fault: Option<Fault>) -> Heard
+        ensures { result.fault ≡ fault }
+    {
+        Heard {
+            fault,
+            goodbye: self.goodbye,
+        }
     }
 
     // Hears one message of a session that isn't over.

@@ -7,8 +7,8 @@ use Rattle.lockd_commands.specs.Bytes.{IsPrinted}
 use Rattle.lockd_commands.specs.Hex.{hex_stream}
 use Rattle.lockd_commands.specs.declared.fault.Fault.{Fault}
 use Rattle.lockd_commands.specs.declared.fault.Fault.TheVariants as command
-use Rattle.fl_serve.specs.declared.session.Fault.{Fault as SessionFault}
-use Rattle.fl_serve.specs.declared.session.Fault.TheVariants as session
+use Rattle.fl_session.specs.declared.session.Fault.{Fault as SessionFault}
+use Rattle.fl_session.specs.declared.session.Fault.TheVariants as session
 
 -- what a fault says of a text of hex lines
 abbrev pub TextSays : List ℕ → Fault → Type 0

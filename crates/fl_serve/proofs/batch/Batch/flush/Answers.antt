@@ -1,4 +1,3 @@
-use Rattle.std.proofs.Common.{subst, sym}
 use Rattle.fl_serve.proofs.BatchLemmas.{Collects-sent}
 use Rattle.fl_serve.proofs.batch.Batch.flush.Goals as goal
 

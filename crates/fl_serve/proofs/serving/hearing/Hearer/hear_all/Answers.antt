@@ -1,20 +1,17 @@
-use Rattle.std.proofs.Common.{refl, arith}
-use Rattle.fl_serve.proofs.HearingLemmas.{hearing_first, has_memory}
+use Rattle.std.proofs.Common.{◌∙◌, sym, arith, ap, length}
+use Rattle.fl_serve.proofs.HearingLemmas.{hearing_first, hearing_more}
 use Rattle.fl_serve.proofs.serving.hearing.Hearer.hear_all.Goals as goal
 
-pub loop-init : goal.loop-init
-loop-init g c = (omega arith, c.requires.size, c.requires.fresh.1, hearing_first _ _ _ c.requires.fresh.0 c.requires.fresh.1)
+pub loop-hearer-init : goal.loop-hearer-init
+loop-hearer-init g c = record {
+  bounded = omega (arith, ap length c.requires.unread.empty);
+  hearing = hearing_first _ _ c.args.inbox.now c.requires.fresh.0 c.requires.fresh.1 c.requires.unread;
+}
 
-pub loop-preserved : goal.loop-preserved
-loop-preserved g c = (
-  c.in-More.ensures.live.0,
-  c.in-More.ensures.live.1,
-  c.in-More.ensures.live.2,
-  c.in-More.ensures.on _ c.loop.invariant.3,
-)
-
-pub returns-in-End-clause-heard : goal.returns-in-End-clause-heard
-returns-in-End-clause-heard g c = (c.hear_once.new.self.talk, c.in-End.ensures.on _ c.loop.invariant.3)
-
-pub returns-in-End-clause-memory : goal.returns-in-End-clause-memory
-returns-in-End-clause-memory g c = has_memory _ _ _ _ (c.in-End.ensures.on _ c.loop.invariant.3)
+pub loop-hearer-preserved-in-Whole : goal.loop-hearer-preserved-in-Whole
+loop-hearer-preserved-in-Whole g c = record {
+  bounded = omega (arith, c.skip.ensures.shorter, c.loop-hearer.invariant.bounded);
+  hearing = hearing_more _ _ _ _ c.in-Whole.frame _ _ c.loop-hearer-test.true
+      (c.skip.ensures.taken c.in-Whole.frame (sym c.next.ensures ∙ c.in-Whole.is) c.as_bytes-len.ensures.message)
+      c.hear.ensures c.loop-hearer.invariant.hearing;
+}

@@ -1,8 +1,14 @@
-use Rattle.std.proofs.Common.{◌≡◌, ◌≤◌, false, length}
-use Rattle.fl_serve.specs.Inside.Hearing.{HearsMore}
+use Rattle.std.proofs.Common.{◌≤◌, length}
+use Rattle.fl_serve.specs.Inside.Hearing.{IsHearing}
+use Rattle.fl_session.specs.Inbox.{work}
 use Rattle.fl_serve.proofs.serving.hearing.Hearer.hear_all.Given as goal
 
--- what was read so far is heard, but for a beginning of a message
-abbrev pub invariant-loop : goal.invariant-loop
-invariant-loop g l = (l.filled ≤ length l.buffer) × (length l.buffer ≡ 8192) × (l.hearer.talk.over ≡ false)
-    × HearsMore (g.I.Read.remaining l.initial.r) (g.I.Read.remaining l.r) l.hearer.talk l.buffer l.filled
+-- what was read so far is heard, but for what is left in the inbox
+abbrev pub invariant-loop-hearer : goal.invariant-loop-hearer
+invariant-loop-hearer g l = record {
+  bounded : length l.inbox.rest ≤ 8192;
+  hearing : IsHearing (g.I.Read.remaining l.initial.r) (g.I.Read.remaining l.r) l.hearer.talk l.inbox.rest;
+}
+
+abbrev pub decreases-loop-hearer : goal.decreases-loop-hearer
+decreases-loop-hearer g l = work l.inbox

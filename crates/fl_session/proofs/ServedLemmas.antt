@@ -1,0 +1,59 @@
+-- What a whole session did.
+use Rattle.std.proofs.Common.{◌≡◌, ℕ, Bool, false, List, [], Option, Some, refl, sym, ap, subst, ◌∙◌, arith}
+use Rattle.std.proofs.lemmas.List.Elements.{All-nil}
+use Rattle.std.proofs.KnownBytes.{Appends-nil}
+use Rattle.fl_book.specs.Legal.{IsLegal, nothing}
+use Rattle.fl_history.specs.declared.history.Line.{Line}
+use Rattle.fl_wire.specs.Spell.{IsReply}
+use Rattle.fl_session.specs.Served.{IsRead, IsServed, EndsBy}
+use Rattle.fl_session.specs.Session.{Came, session_of}
+use Rattle.fl_session.specs.Inbox.{IsEnding}
+use Rattle.fl_session.specs.Inside.UnderWay.{HasEnded}
+use Rattle.fl_session.specs.declared.session.Done.{Done}
+use Rattle.fl_session.specs.declared.session.Fault.{Fault}
+use Rattle.fl_session.specs.declared.session.Fault.TheVariants.{NoMemory}
+use Rattle.fl_session.specs.declared.server.Server.{Server}
+
+-- a history of no line is legal
+pub nothing_legal : (history : List Line) → history ≡ [] → IsLegal history
+nothing_legal history none = subst IsLegal (sym none) nothing
+
+-- a session that ended is served
+pub served : (left left_now held held_now : Option (List ℕ)) (broken : Bool) (server : Server) (fault : Option Fault)
+    (done : Done) → HasEnded left left_now held held_now broken server fault → done.history ≡ server.desk.lines
+    → ((came : List Came) (rest : List ℕ) (left : Option (List ℕ)) → IsEnding fault (session_of came).over rest left
+    → EndsBy done.fault broken came rest left) → done.refused ≡ server.refused
+    → IsServed left left_now held held_now broken done
+served left left_now held held_now broken server fault done ended history told refused =
+    let way = ended.way in
+    let P : Bool → Type 0 = λ over. IsEnding fault over ended.rest left_now in
+    record {
+      came = way.came;
+      rest = ended.rest;
+      sent = way.sending.sent;
+      is_read = way.is_read;
+      bounded = ended.bounded;
+      history = history ∙ ap (λ s. s.lines) way.stands;
+      refused = refused ∙ ap (λ s. s.refused) way.stands;
+      framed = way.sending.framed;
+      written = way.sending.written;
+      are_sent = way.sending.are_sent;
+      ending = told way.came ended.rest left_now (subst P (ap (λ s. s.over) way.stands) ended.ending);
+    }
+
+-- what a session did that had no memory
+pub unserved : (left held : Option (List ℕ)) (done : Done) → done.history ≡ [] → done.fault ≡ Some NoMemory
+    → done.refused ≡ false → IsRead left left [] [] → IsServed left left held held false done
+unserved left held done history fault refused unread = record {
+  came = [];
+  rest = [];
+  sent = [];
+  is_read = unread;
+  bounded = omega arith;
+  history = history;
+  refused = refused;
+  framed = All-nil IsReply;
+  written = Appends-nil held;
+  are_sent = refl;
+  ending = rw fault (refl, refl);
+}

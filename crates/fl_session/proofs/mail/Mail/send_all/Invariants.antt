@@ -1,0 +1,12 @@
+use Rattle.std.proofs.Common.{◌≡◌, map, take}
+use Rattle.fl_wire.specs.Spell.{spelling_of}
+use Rattle.fl_session.specs.Inside.Sending.{Sends}
+use Rattle.fl_session.proofs.mail.Mail.send_all.Given as goal
+
+-- the replies so far are sent
+abbrev pub invariant-loop-told : goal.invariant-loop-told
+invariant-loop-told g l = (l.self.out.writer.ghost_name ≡ l.initial.self.out.writer.ghost_name)
+    × (l.self.reply.ghost_name ≡ l.initial.self.reply.ghost_name)
+    × Sends (g.W.Write.contents l.initial.self.out.writer.now)
+    (g.W.Write.contents l.self.out.writer.now) l.initial.self.out.broken l.self.out.broken
+    (map spelling_of (take l.told-index l.tolds))

@@ -1,0 +1,33 @@
+-- A session that is under way: what it did with its reader and its writer so far.
+use Rattle.std.specs.Prelude.{◌≡◌, ℕ, ◌≤◌, Bool, List, length, Option}
+use Rattle.fl_session.specs.Inbox.{IsEnding}
+use Rattle.fl_session.specs.Inside.Sending.{IsSending, Sends}
+use Rattle.fl_session.specs.Inside.Serving.{session_with, IsMet}
+use Rattle.fl_session.specs.Session.{Came, session_of}
+use Rattle.fl_session.specs.declared.session.Fault.{Fault}
+use Rattle.fl_session.specs.declared.server.Server.{Server}
+use Rattle.fl_session.specs.Served.{IsRead}
+
+-- What was read is whole messages and a rest, the server stands where the session of these messages stands, and what
+-- was written is a beginning of its replies.
+pub record IsUnderWay (left left_now held held_now : Option (List ℕ)) (broken : Bool) (server : Server)
+    (rest : List ℕ) : Type 0 where
+  pub came : List Came
+  pub is_read : IsRead left left_now came rest
+  pub stands : session_with server (session_of came).replies ≡ session_of came
+  pub sending : IsSending held held_now broken (session_of came).replies
+
+-- a message is met, and its replies are sent
+pub record IsAnswered (old new : Server) (held held_now : Option (List ℕ)) (broken broken_now : Bool)
+    (message : List ℕ) : Type 0 where
+  pub owed : List (List ℕ)
+  pub met : IsMet old new owed message
+  pub sent : Sends held held_now broken broken_now owed
+
+-- the session ended, with this fault of its reader
+pub record HasEnded (left left_now held held_now : Option (List ℕ)) (broken : Bool) (server : Server)
+    (fault : Option Fault) : Type 0 where
+  pub rest : List ℕ
+  pub bounded : length rest ≤ 8192
+  pub way : IsUnderWay left left_now held held_now broken server rest
+  pub ending : IsEnding fault server.talk.over rest left_now

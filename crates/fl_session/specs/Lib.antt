@@ -1,0 +1,6 @@
+pub mod Inbox
+pub mod Inside
+pub mod Outbox
+pub mod Served
+pub mod Session
+pub mod Talk

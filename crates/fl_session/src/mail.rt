@@ -1,0 +1,160 @@
+//! How the replies of a session go out.
+
+ghost use Rattle.std.specs.Prelude.{◌≡◌, ◌≤◌, ◌++◌, [], ◌∷◌, true, false, IfOk, IsTrue, ◌↔◌, map};
+ghost use Rattle.fl_wire.specs.Init.{init_spelling};
+ghost use Rattle.fl_wire.specs.Spell.{spelling_of, IsReply};
+ghost use Rattle.fl_session.specs.Talk.{bytes_of};
+ghost use Rattle.fl_session.specs.Inside.Sending.{Sends};
+
+use crate::outbox::Outbox;
+use crate::server::Owed;
+use fl_order::{NoMemory, Told};
+use fl_wire::{InitStep, write_init, write_told};
+use std::alloc::Global;
+use std::io::Write;
+use std::marker::Model;
+
+// The most bytes of a reply.
+const REPLY_BYTES: usize = 160;
+
+/// Where replies are laid out, each by itself or one behind the other. Contracts see the bytes that lie there.
+#[derive(Drop)]
+pub struct ReplyBuffer {
+    bytes: Vec<u8>,
+}
+
+impl Model for ReplyBuffer {
+    ghost use Rattle.std.specs.Prelude.{List, ℕ, ◌≤◌, vec_capacity};
+
+    ghost Value = { List ℕ };
+
+    ghost view = { λ r. r.bytes.items };
+
+    ghost invariant = { λ r. 160 ≤ vec_capacity r.bytes };
+}
+
+impl ReplyBuffer {
+    /// Room for one reply, and none there yet.
+    pub(crate) fn new(alloc: Global) -> Result<ReplyBuffer, NoMemory>
+        ensures { IfOk result (λ made. made ≡ []) }
+    {
+        ReplyBuffer::with_bytes(alloc, REPLY_BYTES)
+    }
+
+    /// Room for this many bytes, at least those of one reply, and no reply there yet.
+    pub fn with_bytes(alloc: Global, bytes: usize) -> Result<ReplyBuffer, NoMemory>
+        requires { 160 ≤ bytes }
+        ensures { IfOk result (λ made. made ≡ []) }
+    {
+        Ok(ReplyBuffer {
+            bytes: Vec::with_capacity(alloc, bytes)?,
+        })
+    }
+
+    /// Lays out a reply behind the others, where there is room for any reply, and says whether it did.
+    pub fn append(&mut self, told: &Told) -> bool
+        ensures done { result ≡ true → self.new ≡ self.old ++ spelling_of told.now }
+        ensures full { result ≡ false → self.new ≡ self.old }
+        ensures reply { result ≡ true → IsReply (spelling_of told.now) }
+    {
+        if self.bytes.capacity() - self.bytes.len() < REPLY_BYTES {
+            return false;
+        }
+        write_told(told, &mut self.bytes).unwrap();
+        true
+    }
+
+    /// Takes all replies away.
+    pub fn clear(&mut self)
+        ensures { self.new ≡ [] }
+    {
+        self.bytes.clear();
+    }
+
+    /// Whether no reply lies there.
+    pub fn is_empty(&self) -> bool
+        ensures { IsTrue result ↔ (self.now ≡ []) }
+    {
+        self.bytes.is_empty()
+    }
+
+    /// Lays out a reply by itself.
+    pub fn lay_out(&mut self, told: &Told)
+        ensures bytes { self.new ≡ spelling_of told.now }
+        ensures reply { IsReply (spelling_of told.now) }
+    {
+        self.bytes.clear();
+        write_told(told, &mut self.bytes).unwrap();
+    }
+
+    /// Lays out the reply to an INIT by itself.
+    pub fn lay_out_init(&mut self, unique: u64, step: &InitStep)
+        ensures bytes { self.new ≡ init_spelling unique step.now }
+        ensures reply { IsReply (init_spelling unique step.now) }
+    {
+        self.bytes.clear();
+        write_init(unique, step, &mut self.bytes).unwrap();
+    }
+
+    /// The bytes that lie there.
+    pub fn as_slice(&self) -> &[u8]
+        ensures { result.now ≡ self.now }
+    {
+        &self.bytes
+    }
+}
+
+/// The replies of a session on their way out: where each is laid out, and the outbox that sends it.
+#[derive(Drop)]
+pub(crate) struct Mail<'a, W> {
+    pub reply: &'a mut ReplyBuffer,
+    pub out: Outbox<&'a mut W>,
+}
+
+impl<W: Write> Mail<'_, W> {
+    /// Sends what is owed, each reply by itself.
+    pub(crate) fn send(&mut self, owed: &Owed, tolds: &[Told])
+        ensures same { self.new.out.writer.ghost_name ≡ self.old.out.writer.ghost_name }
+        ensures same_reply { self.new.reply.ghost_name ≡ self.old.reply.ghost_name }
+        ensures sent { Sends (W.contents self.old.out.writer.now) (W.contents self.new.out.writer.now)
+            self.old.out.broken self.new.out.broken (bytes_of owed.now tolds.now) }
+    {
+        match owed {
+            Owed::Nothing => {}
+            Owed::Init(unique, step) => self.send_init(*unique, step),
+            Owed::One(told) => self.send_one(told),
+            Owed::Replies => self.send_all(tolds),
+        }
+    }
+
+    fn send_init(&mut self, unique: u64, step: &InitStep)
+        ensures same { self.new.out.writer.ghost_name ≡ self.old.out.writer.ghost_name }
+        ensures same_reply { self.new.reply.ghost_name ≡ self.old.reply.ghost_name }
+        ensures sent { Sends (W.contents self.old.out.writer.now) (W.contents self.new.out.writer.now)
+            self.old.out.broken self.new.out.broken (init_spelling unique step.now ∷ []) }
+    {
+        self.reply.lay_out_init(unique, step);
+        self.out.post(self.reply.as_slice());
+    }
+
+    fn send_one(&mut self, told: &Told)
+        ensures same { self.new.out.writer.ghost_name ≡ self.old.out.writer.ghost_name }
+        ensures same_reply { self.new.reply.ghost_name ≡ self.old.reply.ghost_name }
+        ensures sent { Sends (W.contents self.old.out.writer.now) (W.contents self.new.out.writer.now)
+            self.old.out.broken self.new.out.broken (spelling_of told.now ∷ []) }
+    {
+        self.reply.lay_out(told);
+        self.out.post(self.reply.as_slice());
+    }
+
+    fn send_all(&mut self, tolds: &[Told])
+        ensures same { self.new.out.writer.ghost_name ≡ self.old.out.writer.ghost_name }
+        ensures same_reply { self.new.reply.ghost_name ≡ self.old.reply.ghost_name }
+        ensures sent { Sends (W.contents self.old.out.writer.now) (W.contents self.new.out.writer.now)
+            self.old.out.broken self.new.out.broken (map spelling_of tolds.now) }
+    {
+        for told in tolds {
+            self.send_one(told);
+        }
+    }
+}

@@ -1,0 +1,202 @@
+//! What a session does with each message, apart from reading and writing.
+
+ghost use Rattle.std.specs.Prelude.{◌≡◌, ℕ, List, false, IfOk, if◌then◌else◌};
+ghost use Rattle.fl_order.specs.Kind.{is_silent, kind_of_opcode};
+ghost use Rattle.fl_session.specs.Session.{Session, before_init, without_memory};
+ghost use Rattle.fl_session.specs.Inside.Serving.{IsFresh, IsHeardAs, IsMet, IsMetAs};
+ghost use Rattle.fl_session.specs.Talk.{answered, bytes_of, standing, IsHeard};
+ghost use Rattle.fl_wire.specs.Layout.{opcode_of, unique_of};
+ghost use Rattle.fl_wire.specs.Says.{said};
+
+use fl_book::{Desk, History};
+use fl_core::Tolds;
+use fl_order::{Answer, Errno, Kind, NoMemory, Order, Refusal, Told};
+use fl_wire::{Frame, InitStep, read_init, read_order};
+use std::alloc::Global;
+
+/// What a message is answered.
+#[derive(Clone, Copy, Debug)]
+pub enum Owed {
+    /// No reply.
+    Nothing,
+    /// The reply to the INIT with this unique.
+    Init(u64, InitStep),
+    /// One reply.
+    One(Told),
+    /// The replies of an order, none or several, which the server holds.
+    Replies,
+}
+
+impl Owed {
+    /// What is owed to an order of this kind that is refused for want of memory.
+    pub fn lost(kind: Kind, unique: u64) -> Owed
+        ensures { result ≡ if is_silent kind then Owed.Nothing
+            else Owed.One (record { unique = unique; result = Err (without_memory kind) }) }
+    {
+        refusal(kind, unique, without_memory(kind))
+    }
+}
+
+/// What a message comes to.
+#[derive(Clone, Copy, Debug)]
+pub enum Met {
+    /// An order, which the lock directory answers.
+    Order(Order),
+    /// An answer of the session itself.
+    Owed(Owed),
+}
+
+/// How far a session is.
+#[derive(Clone, Copy, Debug)]
+pub struct Talk {
+    /// An INIT was agreed.
+    pub agreed: bool,
+    /// A DESTROY ended the session.
+    pub over: bool,
+}
+
+impl Talk {
+    /// No message came yet.
+    pub fn new() -> Talk
+        ensures { (result.agreed ≡ false) × (result.over ≡ false) }
+    {
+        Talk {
+            agreed: false,
+            over: false,
+        }
+    }
+
+    /// What a message of a session that isn't over comes to.
+    pub fn meet(&mut self, frame: &Frame) -> Met
+        requires { self.old.over ≡ false }
+        ensures { IsHeard result self.old self.new frame.now }
+    {
+        if self.agreed {
+            self.meet_after_init(frame)
+        } else {
+            Met::Owed(self.meet_before_init(frame))
+        }
+    }
+
+    // The answer of the session before an INIT is agreed.
+    fn meet_before_init(&mut self, frame: &Frame) -> Owed
+        ensures { (s : Session) (tolds : List Told) → standing (answered s (bytes_of result tolds)) self.new
+            ≡ before_init (standing s self.old) (kind_of_opcode (opcode_of frame.now)) frame.now }
+    {
+        match Kind::of_opcode(frame.opcode()) {
+            Some(Kind::Init) => {
+                let step = read_init(frame);
+                self.agreed = matches!(step, InitStep::Agreed { .. });
+                Owed::Init(frame.unique(), step)
+            }
+            Some(kind) => refusal(kind, frame.unique(), Errno::EPROTO),
+            None => error_reply(frame.unique(), Errno::EPROTO),
+        }
+    }
+
+    // What a message comes to after an INIT is agreed.
+    fn meet_after_init(&mut self, frame: &Frame) -> Met
+        ensures { IsHeardAs result self.old self.new (unique_of frame.now) (said frame.now) }
+    {
+        match read_order(frame) {
+            Ok(order) => Met::Order(order),
+            Err(Refusal::Answer(e)) => Met::Owed(error_reply(frame.unique(), e)),
+            Err(Refusal::Silent) => Met::Owed(Owed::Nothing),
+            Err(Refusal::Destroy) => {
+                self.over = true;
+                Met::Owed(Owed::One(Told {
+                    unique: frame.unique(),
+                    result: Ok(Answer::Done),
+                }))
+            }
+        }
+    }
+}
+
+/// The lock directory of a session, and how far the session is.
+#[derive(Drop)]
+pub(crate) struct Server {
+    pub desk: Desk,
+    pub tolds: Tolds,
+    pub talk: Talk,
+    /// Some order was refused for want of memory.
+    pub refused: bool,
+}
+
+impl Server {
+    /// No message came yet.
+    pub(crate) fn new(alloc: Global) -> Result<Server, NoMemory>
+        ensures { IfOk result IsFresh }
+    {
+        Ok(Server {
+            desk: Desk::new(alloc)?,
+            tolds: Tolds::new(alloc)?,
+            talk: Talk::new(),
+            refused: false,
+        })
+    }
+
+    /// The history of the orders that it took.
+    pub(crate) fn into_history(self) -> History
+        ensures { result ≡ self.desk.lines }
+    {
+        let Server { desk, .. } = self;
+        desk.into_history()
+    }
+
+    /// What a message of a session that isn't over is answered.
+    pub(crate) fn meet(&mut self, frame: &Frame) -> Owed
+        requires { self.old.talk.over ≡ false }
+        ensures { IsMet self.old self.new (bytes_of result self.new.tolds) frame.now }
+    {
+        match self.talk.meet(frame) {
+            Met::Order(order) => self.take(&order),
+            Met::Owed(owed) => owed,
+        }
+    }
+
+    // Takes an order of worker 0.
+    fn take(&mut self, order: &Order) -> Owed
+        ensures { (unique : ℕ) → IsMetAs self.old self.new (bytes_of result self.new.tolds) unique (Ok order.now) }
+    {
+        match self.desk.take(0, order, &mut self.tolds) {
+            Ok(()) => Owed::Replies,
+            Err(NoMemory) => {
+                self.refused = true;
+                Owed::lost(order.op.kind(), order.unique)
+            }
+        }
+    }
+}
+
+// The error of an order that is refused for want of memory: an INTERRUPT may come again.
+fn without_memory(kind: Kind) -> Errno
+    ensures { result ≡ without_memory kind }
+{
+    match kind {
+        Kind::Interrupt => Errno::EAGAIN,
+        _ => Errno::ENOMEM,
+    }
+}
+
+// A reply that is an error, or nothing where no reply is owed to a message of this kind.
+fn refusal(kind: Kind, unique: u64, e: Errno) -> Owed
+    ensures { result ≡
+        if is_silent kind then Owed.Nothing else Owed.One (record { unique = unique; result = Err e }) }
+{
+    if kind.is_silent() {
+        Owed::Nothing
+    } else {
+        error_reply(unique, e)
+    }
+}
+
+// A reply that is an error.
+fn error_reply(unique: u64, e: Errno) -> Owed
+    ensures { result ≡ Owed.One (record { unique = unique; result = Err e }) }
+{
+    Owed::One(Told {
+        unique,
+        result: Err(e),
+    })
+}
