@@ -5,12 +5,12 @@ use Rattle.fl_book.specs.Legal.{step_lines}
 use Rattle.fl_book.specs.Replay.{state_after}
 use Rattle.fl_core.specs.Step.{replies_in}
 use Rattle.fl_history.specs.declared.history.Line.{Line}
-use Rattle.fl_order.specs.Kind.{is_silent, kind_of_opcode}
+use Rattle.fl_order.specs.OpKind.{is_silent, kind_of_opcode}
 use Rattle.fl_order.specs.Order.{kind_of}
 use Rattle.fl_order.specs.declared.errno.Errno.{Errno}
 use Rattle.fl_order.specs.declared.errno.Errno.TheVariants.{EAGAIN, ENOMEM, EPROTO}
-use Rattle.fl_order.specs.declared.kind.Kind.{Kind}
-use Rattle.fl_order.specs.declared.kind.Kind.TheVariants.{Init, Interrupt}
+use Rattle.fl_order.specs.declared.kind.OpKind.{OpKind}
+use Rattle.fl_order.specs.declared.kind.OpKind.TheVariants.{Init, Interrupt}
 use Rattle.fl_order.specs.declared.order.Order.{Order}
 use Rattle.fl_order.specs.declared.refusal.Refusal.{Refusal}
 use Rattle.fl_order.specs.declared.refusal.Refusal.TheVariants.{Answer, Silent, Destroy}
@@ -56,11 +56,11 @@ abbrev pub greeted : Session → ℕ → InitStep → Session
 greeted s unique step = record s { agreed = is_agreed step; replies = s.replies ++ init_spelling unique step ∷ [] }
 
 -- a message of this kind gets this error, or nothing where no reply is owed to it
-abbrev pub with_error : Session → Kind → ℕ → Errno → Session
+abbrev pub with_error : Session → OpKind → ℕ → Errno → Session
 with_error s kind unique e = if is_silent kind then s else replied s (reply_bytes unique (Err e))
 
 -- Before an INIT is agreed any other message is EPROTO, or dropped where no reply is owed to it.
-abbrev pub before_init : Session → Option Kind → List ℕ → Session
+abbrev pub before_init : Session → Option OpKind → List ℕ → Session
 before_init s (Some Init) message = greeted s (unique_of message) (init_step message)
 before_init s (Some kind) message = with_error s kind (unique_of message) EPROTO
 before_init s None message = replied s (reply_bytes (unique_of message) (Err EPROTO))
@@ -71,7 +71,7 @@ with_step s order tolds =
     record s { replies = s.replies ++ map spelling_of tolds; lines = s.lines ++ step_lines 0 order tolds }
 
 -- the error of an order that was refused for want of memory: an INTERRUPT may come again
-abbrev pub without_memory : Kind → Errno
+abbrev pub without_memory : OpKind → Errno
 without_memory Interrupt = EAGAIN
 without_memory _ = ENOMEM
 

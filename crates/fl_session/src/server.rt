@@ -1,7 +1,7 @@
 //! What a session does with each message, apart from reading and writing.
 
 ghost use Rattle.std.specs.Prelude.{◌≡◌, ℕ, List, false, IfOk, if◌then◌else◌};
-ghost use Rattle.fl_order.specs.Kind.{is_silent, kind_of_opcode};
+ghost use Rattle.fl_order.specs.OpKind.{is_silent, kind_of_opcode};
 ghost use Rattle.fl_session.specs.Session.{Session, before_init, without_memory};
 ghost use Rattle.fl_session.specs.Inside.Serving.{IsFresh, IsHeardAs, IsMet, IsMetAs};
 ghost use Rattle.fl_session.specs.Talk.{answered, bytes_of, standing, IsHeard};
@@ -10,7 +10,7 @@ ghost use Rattle.fl_wire.specs.Says.{said};
 
 use fl_book::{Desk, History};
 use fl_core::Tolds;
-use fl_order::{Answer, Errno, Kind, NoMemory, Order, Refusal, Told};
+use fl_order::{Answer, Errno, NoMemory, OpKind, Order, Refusal, Told};
 use fl_wire::{Frame, InitStep, read_init, read_order};
 use std::alloc::Global;
 
@@ -29,7 +29,7 @@ pub enum Owed {
 
 impl Owed {
     /// What is owed to an order of this kind that is refused for want of memory.
-    pub fn lost(kind: Kind, unique: u64) -> Owed
+    pub fn lost(kind: OpKind, unique: u64) -> Owed
         ensures { result ≡ if is_silent kind then Owed.Nothing
             else Owed.One (record { unique = unique; result = Err (without_memory kind) }) }
     {
@@ -83,8 +83,8 @@ impl Talk {
         ensures { (s : Session) (tolds : List Told) → standing (answered s (bytes_of result tolds)) self.new
             ≡ before_init (standing s self.old) (kind_of_opcode (opcode_of frame.now)) frame.now }
     {
-        match Kind::of_opcode(frame.opcode()) {
-            Some(Kind::Init) => {
+        match OpKind::of_opcode(frame.opcode()) {
+            Some(OpKind::Init) => {
                 let step = read_init(frame);
                 self.agreed = matches!(step, InitStep::Agreed { .. });
                 Owed::Init(frame.unique(), step)
@@ -170,17 +170,17 @@ impl Server {
 }
 
 // The error of an order that is refused for want of memory: an INTERRUPT may come again.
-fn without_memory(kind: Kind) -> Errno
+fn without_memory(kind: OpKind) -> Errno
     ensures { result ≡ without_memory kind }
 {
     match kind {
-        Kind::Interrupt => Errno::EAGAIN,
+        OpKind::Interrupt => Errno::EAGAIN,
         _ => Errno::ENOMEM,
     }
 }
 
 // A reply that is an error, or nothing where no reply is owed to a message of this kind.
-fn refusal(kind: Kind, unique: u64, e: Errno) -> Owed
+fn refusal(kind: OpKind, unique: u64, e: Errno) -> Owed
     ensures { result ≡
         if is_silent kind then Owed.Nothing else Owed.One (record { unique = unique; result = Err e }) }
 {
