@@ -10,7 +10,6 @@ mod refusals;
 mod replies;
 
 use fl_wire::{Frame, Step, next_frame};
-use std::alloc::{AllocError, Global};
 use std::fmt::Debug;
 use std::process::Abort;
 
@@ -28,11 +27,17 @@ fn whole<'a>(rt: &impl Abort, bytes: &'a [u8]) -> Frame<'a> {
 }
 
 // A message of this kind, whose unique is 5 and whose body is this.
-fn message(alloc: Global, opcode: u8, body: &[u8]) -> Result<Vec<u8>, AllocError> {
+fn message(rt: &(impl Abort + AllocGlobal), opcode: u8, body: &[u8]) -> Vec<u8> {
     let [low, high, _, _, _, _, _, _] = body.len().wrapping_add(40).to_le_bytes();
-    let mut bytes = Vec::new(alloc);
-    bytes.extend_from_slice(&[low, high, 0, 0, opcode, 0, 0, 0, 5, 0, 0, 0, 0, 0, 0, 0])?;
-    bytes.extend_from_slice(&[0; 24])?;
-    bytes.extend_from_slice(body)?;
-    Ok(bytes)
+    let head = [low, high, 0, 0, opcode, 0, 0, 0, 5, 0, 0, 0, 0, 0, 0, 0];
+    let mut bytes = Vec::new(rt.alloc());
+    add(rt, &mut bytes, &head);
+    add(rt, &mut bytes, &[0; 24]);
+    add(rt, &mut bytes, body);
+    bytes
+}
+
+// These bytes come behind others.
+fn add(rt: &impl Abort, bytes: &mut Vec<u8>, more: &[u8]) {
+    bytes.extend_from_slice(more).expect(rt, "memory");
 }

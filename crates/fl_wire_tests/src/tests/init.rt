@@ -4,7 +4,6 @@ use super::{message, same, whole};
 use fl_order::Errno;
 use fl_wire::{InitStep, read_init, write_init};
 use std::process::Abort;
-use std::test::Fail;
 
 // The messages below are laid out by hand from `fuse.h` (protocol 7.31): len, opcode, unique, nodeid,
 // uid, gid, pid, padding, and then the body. Each row is a field, or some fields of one struct.
@@ -44,20 +43,14 @@ const AGAIN_REPLY: [u8; 80] = [
 const REFUSED_REPLY: [u8; 16] = [16, 0, 0, 0, 0xb9, 0xff, 0xff, 0xff, 1, 0, 0, 0, 0, 0, 0, 0];
 
 // The reply to an INIT of this unique.
-fn replies(
-    rt: &(impl Abort + AllocGlobal),
-    unique: u64,
-    step: &InitStep,
-    reply: &[u8],
-) -> Result<(), Fail> {
+fn replies(rt: &(impl Abort + AllocGlobal), unique: u64, step: &InitStep, reply: &[u8]) {
     let mut out = Vec::new(rt.alloc());
-    write_init(unique, step, &mut out)?;
+    write_init(unique, step, &mut out).expect(rt, "memory");
     assert_eq!(rt; out.as_slice(), reply);
-    Ok(())
 }
 
 #[test]
-fn init_of_a_newer_kernel_is_agreed(rt: HostRuntime) -> Result<(), Fail> {
+fn init_of_a_newer_kernel_is_agreed(rt: HostRuntime) {
     let frame = whole(&rt, &INIT);
     same(&rt, &frame.opcode(), &26);
     same(&rt, &frame.unique(), &1);
@@ -67,33 +60,32 @@ fn init_of_a_newer_kernel_is_agreed(rt: HostRuntime) -> Result<(), Fail> {
         flags: 1026,
     };
     same(&rt, &step, &agreed);
-    replies(&rt, 1, &step, &INIT_REPLY)
+    replies(&rt, 1, &step, &INIT_REPLY);
 }
 
 // What comes of an INIT with this body.
-fn answers(rt: &(impl Abort + AllocGlobal), body: &[u8], wanted: InitStep) -> Result<(), Fail> {
-    let bytes = message(rt.alloc(), 26, body)?;
+fn answers(rt: &(impl Abort + AllocGlobal), body: &[u8], wanted: InitStep) {
+    let bytes = message(rt, 26, body);
     same(rt, &read_init(&whole(rt, &bytes)), &wanted);
-    Ok(())
 }
 
 #[test]
-fn init_of_an_older_version_is_refused(rt: HostRuntime) -> Result<(), Fail> {
+fn init_of_an_older_version_is_refused(rt: HostRuntime) {
     let refused = InitStep::Refused(Errno::EPROTO);
     let body = [7, 0, 0, 0, 30, 0, 0, 0, 0, 0, 0, 0, 0, 0, 0, 0];
-    answers(&rt, &body, refused)?;
-    replies(&rt, 1, &refused, &REFUSED_REPLY)
+    answers(&rt, &body, refused);
+    replies(&rt, 1, &refused, &REFUSED_REPLY);
 }
 
 #[test]
-fn init_of_a_higher_version_is_asked_again(rt: HostRuntime) -> Result<(), Fail> {
+fn init_of_a_higher_version_is_asked_again(rt: HostRuntime) {
     let body = [8, 0, 0, 0, 0, 0, 0, 0, 0, 0, 0, 0, 0, 0, 0, 0];
-    answers(&rt, &body, InitStep::Again)?;
-    replies(&rt, 2, &InitStep::Again, &AGAIN_REPLY)
+    answers(&rt, &body, InitStep::Again);
+    replies(&rt, 2, &InitStep::Again, &AGAIN_REPLY);
 }
 
 #[test]
-fn init_with_a_short_body_is_refused(rt: HostRuntime) -> Result<(), Fail> {
+fn init_with_a_short_body_is_refused(rt: HostRuntime) {
     let body = [7, 0, 0, 0, 31, 0, 0, 0, 0, 0, 0, 0, 0, 0, 0];
-    answers(&rt, &body, InitStep::Refused(Errno::EINVAL))
+    answers(&rt, &body, InitStep::Refused(Errno::EINVAL));
 }

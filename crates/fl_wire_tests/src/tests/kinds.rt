@@ -7,7 +7,6 @@ use super::{same, whole};
 use fl_order::OpKind;
 use fl_wire::read_order;
 use std::process::Abort;
-use std::test::Fail;
 
 // The kind has this number of `enum fuse_opcode`, and this word in a trace's lines.
 fn is_kind(rt: &impl Abort, kind: OpKind, opcode: u32, word: &str) {
@@ -56,33 +55,32 @@ fn numbers_and_words_of_no_kind(rt: HostRuntime) {
 }
 
 // The message's order is of this kind. It changes nothing, or may change something.
-fn has_kind(rt: &impl Abort, bytes: &[u8], kind: OpKind, only_reads: bool) -> Result<(), Fail> {
-    let order = read_order(&whole(rt, bytes)).ok().ok_or("an order")?;
+fn has_kind(rt: &impl Abort, bytes: &[u8], kind: Kind, only_reads: bool) {
+    let order = read_order(&whole(rt, bytes)).ok().expect(rt, "an order");
     same(rt, &order.op.kind(), &kind);
     same(rt, &order.only_reads(), &only_reads);
-    Ok(())
 }
 
 #[test]
-fn orders_that_only_read(rt: HostRuntime) -> Result<(), Fail> {
-    has_kind(&rt, &GETATTR, OpKind::Getattr, true)?;
-    has_kind(&rt, &GETLK, OpKind::Getlk, true)
+fn orders_that_only_read(rt: HostRuntime) {
+    has_kind(&rt, &GETATTR, Kind::Getattr, true);
+    has_kind(&rt, &GETLK, Kind::Getlk, true);
 }
 
 #[test]
-fn orders_of_names_and_nodes_that_change_something(rt: HostRuntime) -> Result<(), Fail> {
-    has_kind(&rt, &LOOKUP, OpKind::Lookup, false)?;
-    has_kind(&rt, &FORGET, OpKind::Forget, false)?;
-    has_kind(&rt, &UNLINK, OpKind::Unlink, false)?;
-    has_kind(&rt, &OPEN, OpKind::Open, false)?;
-    has_kind(&rt, &CREATE, OpKind::Create, false)
+fn orders_of_names_and_nodes_that_change_something(rt: HostRuntime) {
+    has_kind(&rt, &LOOKUP, Kind::Lookup, false);
+    has_kind(&rt, &FORGET, Kind::Forget, false);
+    has_kind(&rt, &UNLINK, Kind::Unlink, false);
+    has_kind(&rt, &OPEN, Kind::Open, false);
+    has_kind(&rt, &CREATE, Kind::Create, false);
 }
 
 #[test]
-fn orders_of_open_files_that_change_something(rt: HostRuntime) -> Result<(), Fail> {
-    has_kind(&rt, &RELEASE, OpKind::Release, false)?;
-    has_kind(&rt, &FLUSH, OpKind::Flush, false)?;
-    has_kind(&rt, &SETLK, OpKind::Setlk, false)?;
-    has_kind(&rt, &SETLKW, OpKind::Setlkw, false)?;
-    has_kind(&rt, &INTERRUPT, OpKind::Interrupt, false)
+fn orders_of_open_files_that_change_something(rt: HostRuntime) {
+    has_kind(&rt, &RELEASE, Kind::Release, false);
+    has_kind(&rt, &FLUSH, Kind::Flush, false);
+    has_kind(&rt, &SETLK, Kind::Setlk, false);
+    has_kind(&rt, &SETLKW, Kind::Setlkw, false);
+    has_kind(&rt, &INTERRUPT, Kind::Interrupt, false);
 }

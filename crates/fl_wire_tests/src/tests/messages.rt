@@ -4,7 +4,6 @@ use super::{same, whole};
 use fl_order::{LockAsk, Name, Op, Order};
 use fl_wire::read_order;
 use std::process::Abort;
-use std::test::Fail;
 
 // The messages below are laid out by hand from `fuse.h` (protocol 7.31): len, opcode, unique, nodeid, then
 // uid 1000, gid 100, pid 21 and padding, and then the body. Fields of a body that aren't read are no zeros.
@@ -150,15 +149,14 @@ fn is_order(rt: &impl Abort, bytes: &[u8], node: u64, op: Op) {
     same(rt, &read_order(&whole(rt, bytes)), &Ok(order));
 }
 
-fn name() -> Result<Name, Fail> {
-    Ok(Name::new(b"a").ok_or("a name")?)
+fn name(rt: &impl Abort) -> Name {
+    Name::new(b"a").expect(rt, "a name")
 }
 
 #[test]
-fn messages_with_a_name(rt: HostRuntime) -> Result<(), Fail> {
-    is_order(&rt, &LOOKUP, 1, Op::Lookup(name()?));
-    is_order(&rt, &UNLINK, 1, Op::Unlink(name()?));
-    Ok(())
+fn messages_with_a_name(rt: HostRuntime) {
+    is_order(&rt, &LOOKUP, 1, Op::Lookup(name(&rt)));
+    is_order(&rt, &UNLINK, 1, Op::Unlink(name(&rt)));
 }
 
 #[test]
@@ -212,14 +210,13 @@ fn is_superusers(rt: &impl Abort, bytes: &[u8], unique: u64, node: u64, op: Op) 
 }
 
 #[test]
-fn a_message_that_makes_a_file(rt: HostRuntime) -> Result<(), Fail> {
+fn a_message_that_makes_a_file(rt: HostRuntime) {
     let create = Op::Create {
         excl: false,
         mode: 0o644,
-        name: name()?,
+        name: name(&rt),
     };
     is_superusers(&rt, &CREATE, 2, 1, create);
-    Ok(())
 }
 
 #[test]

@@ -3,7 +3,6 @@
 use super::same;
 use fl_order::{Body, Errno, LockAsk, Name, Op, OpKind, Refusal, Shape};
 use std::process::Abort;
-use std::test::Fail;
 
 // A write lock of bytes 0 to 9.
 const ASK: LockAsk = LockAsk {
@@ -33,8 +32,8 @@ fn creation(name: Name) -> Body {
     }
 }
 
-fn name() -> Result<Name, Fail> {
-    Ok(Name::new(b"a").ok_or("a name")?)
+fn name(rt: &impl Abort) -> Name {
+    Name::new(b"a").expect(rt, "a name")
 }
 
 // The order has these parts, and they make the order.
@@ -46,17 +45,16 @@ fn has_parts(rt: &impl Abort, op: Op, kind: OpKind, body: Body) {
 }
 
 #[test]
-fn orders_of_names_and_their_parts(rt: HostRuntime) -> Result<(), Fail> {
-    let name = name()?;
+fn orders_of_names_and_their_parts(rt: HostRuntime) {
+    let name = name(&rt);
     let create = Op::Create {
         excl: true,
         mode: 0o644,
         name,
     };
-    has_parts(&rt, Op::Lookup(name), OpKind::Lookup, Body::Name(name));
-    has_parts(&rt, Op::Unlink(name), OpKind::Unlink, Body::Name(name));
-    has_parts(&rt, create, OpKind::Create, creation(name));
-    Ok(())
+    has_parts(&rt, Op::Lookup(name), Kind::Lookup, Body::Name(name));
+    has_parts(&rt, Op::Unlink(name), Kind::Unlink, Body::Name(name));
+    has_parts(&rt, create, Kind::Create, creation(name));
 }
 
 #[test]
@@ -91,13 +89,12 @@ fn is_no_order(rt: &impl Abort, kind: OpKind, body: Body) {
 }
 
 #[test]
-fn names_are_parts_of_no_other_order(rt: HostRuntime) -> Result<(), Fail> {
-    let name = name()?;
-    is_no_order(&rt, OpKind::Getlk, creation(name));
-    is_no_order(&rt, OpKind::Lookup, creation(name));
-    is_no_order(&rt, OpKind::Create, Body::Name(name));
-    is_no_order(&rt, OpKind::Forget, Body::Name(name));
-    Ok(())
+fn names_are_parts_of_no_other_order(rt: HostRuntime) {
+    let name = name(&rt);
+    is_no_order(&rt, Kind::Getlk, creation(name));
+    is_no_order(&rt, Kind::Lookup, creation(name));
+    is_no_order(&rt, Kind::Create, Body::Name(name));
+    is_no_order(&rt, Kind::Forget, Body::Name(name));
 }
 
 #[test]

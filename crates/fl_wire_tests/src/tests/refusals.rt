@@ -5,7 +5,6 @@ use super::{message, same, whole};
 use fl_order::{Errno, Refusal};
 use fl_wire::{Step, next_frame, read_order};
 use std::process::Abort;
-use std::test::Fail;
 
 // No message has this length, which stands in the first two bytes, the low one first.
 fn is_no_length(rt: &impl Abort, low: u8, high: u8, len: u32) {
@@ -30,36 +29,30 @@ fn messages_that_have_not_come_whole(rt: HostRuntime) {
 }
 
 // A message of so many zeros is refused so.
-fn is_refused(
-    rt: &(impl Abort + AllocGlobal),
-    opcode: u8,
-    len: usize,
-    refusal: Refusal,
-) -> Result<(), Fail> {
-    let body = vec![in rt.alloc(); 0; len]?;
-    let bytes = message(rt.alloc(), opcode, &body)?;
+fn is_refused(rt: &(impl Abort + AllocGlobal), opcode: u8, len: usize, refusal: Refusal) {
+    let body = vec![in rt.alloc(); 0; len].expect(rt, "memory");
+    let bytes = message(rt, opcode, &body);
     same(rt, &read_order(&whole(rt, &bytes)), &Err(refusal));
-    Ok(())
 }
 
 #[test]
-fn messages_that_say_no_order(rt: HostRuntime) -> Result<(), Fail> {
-    is_refused(&rt, 15, 0, Refusal::Answer(Errno::ENOSYS))?;
-    is_refused(&rt, 2, 0, Refusal::Silent)?;
-    is_refused(&rt, 42, 8, Refusal::Silent)?;
-    is_refused(&rt, 26, 16, Refusal::Answer(Errno::EPROTO))?;
-    is_refused(&rt, 38, 0, Refusal::Destroy)
+fn messages_that_say_no_order(rt: HostRuntime) {
+    is_refused(&rt, 15, 0, Refusal::Answer(Errno::ENOSYS));
+    is_refused(&rt, 2, 0, Refusal::Silent);
+    is_refused(&rt, 42, 8, Refusal::Silent);
+    is_refused(&rt, 26, 16, Refusal::Answer(Errno::EPROTO));
+    is_refused(&rt, 38, 0, Refusal::Destroy);
 }
 
 // A fault in the body is told, but for messages that wait for no reply.
 #[test]
-fn faults_of_kinds(rt: HostRuntime) -> Result<(), Fail> {
+fn faults_of_kinds(rt: HostRuntime) {
     let told = Refusal::Answer(Errno::EINVAL);
-    is_refused(&rt, 1, 0, told)?;
-    is_refused(&rt, 2, 7, Refusal::Silent)?;
-    is_refused(&rt, 42, 7, Refusal::Silent)?;
-    is_refused(&rt, 33, 47, told)?;
-    is_refused(&rt, 36, 7, told)
+    is_refused(&rt, 1, 0, told);
+    is_refused(&rt, 2, 7, Refusal::Silent);
+    is_refused(&rt, 42, 7, Refusal::Silent);
+    is_refused(&rt, 33, 47, told);
+    is_refused(&rt, 36, 7, told);
 }
 
 #[test]

@@ -3,7 +3,6 @@
 use fl_order::{Answer, Attr, Errno, Told};
 use fl_wire::write_told;
 use std::process::Abort;
-use std::test::Fail;
 
 // The replies below are laid out by hand from `fuse.h` (protocol 7.31): len, error, unique, and then the
 // body. The first three speak of node 3, a file with octal 644, two links, user 1000 and group 100.
@@ -77,30 +76,29 @@ fn is_sent(
     unique: u64,
     answer: Result<Answer, Errno>,
     bytes: &[u8],
-) -> Result<(), Fail> {
+) {
     let told = Told {
         unique,
         result: answer,
     };
     let mut out = Vec::new(rt.alloc());
-    write_told(&told, &mut out)?;
+    write_told(&told, &mut out).expect(rt, "memory");
     assert_eq!(rt; out.as_slice(), bytes);
-    Ok(())
 }
 
 #[test]
-fn a_reply_with_a_node(rt: HostRuntime) -> Result<(), Fail> {
-    is_sent(&rt, 5, Ok(Answer::Entry(NODE)), &ENTRY_REPLY)?;
-    is_sent(&rt, 5, Ok(Answer::Attr(NODE)), &ATTR_REPLY)
+fn a_reply_with_a_node(rt: HostRuntime) {
+    is_sent(&rt, 5, Ok(Answer::Entry(NODE)), &ENTRY_REPLY);
+    is_sent(&rt, 5, Ok(Answer::Attr(NODE)), &ATTR_REPLY);
 }
 
 #[test]
-fn a_reply_with_an_open_file(rt: HostRuntime) -> Result<(), Fail> {
-    is_sent(&rt, 5, Ok(Answer::Open(261)), &OPEN_REPLY)
+fn a_reply_with_an_open_file(rt: HostRuntime) {
+    is_sent(&rt, 5, Ok(Answer::Open(261)), &OPEN_REPLY);
 }
 
 #[test]
-fn a_reply_to_a_create(rt: HostRuntime) -> Result<(), Fail> {
+fn a_reply_to_a_create(rt: HostRuntime) {
     let attr = Attr {
         node: 2,
         mode: 0o100644,
@@ -108,23 +106,23 @@ fn a_reply_to_a_create(rt: HostRuntime) -> Result<(), Fail> {
         uid: 0,
         gid: 0,
     };
-    is_sent(&rt, 2, Ok(Answer::Made(attr, 1)), &MADE_REPLY)
+    is_sent(&rt, 2, Ok(Answer::Made(attr, 1)), &MADE_REPLY);
 }
 
 #[test]
-fn a_reply_with_a_lock(rt: HostRuntime) -> Result<(), Fail> {
+fn a_reply_with_a_lock(rt: HostRuntime) {
     let lock = Answer::Lock {
         start: 0,
         end: 9,
         kind: 1,
         pid: 11,
     };
-    is_sent(&rt, 4, Ok(lock), &LOCK_REPLY)
+    is_sent(&rt, 4, Ok(lock), &LOCK_REPLY);
 }
 
 // A reply stands behind those that were written before.
 #[test]
-fn replies_without_a_body(rt: HostRuntime) -> Result<(), Fail> {
+fn replies_without_a_body(rt: HostRuntime) {
     let done = Told {
         unique: 3,
         result: Ok(Answer::Done),
@@ -134,11 +132,10 @@ fn replies_without_a_body(rt: HostRuntime) -> Result<(), Fail> {
         result: Err(Errno::EAGAIN),
     };
     let mut out = Vec::new(rt.alloc());
-    write_told(&done, &mut out)?;
-    write_told(&refused, &mut out)?;
+    write_told(&done, &mut out).expect(&rt, "memory");
+    write_told(&refused, &mut out).expect(&rt, "memory");
     assert_eq!(rt; out.as_slice(), [
         16, 0, 0, 0, 0, 0, 0, 0, 3, 0, 0, 0, 0, 0, 0, 0, //
         16, 0, 0, 0, 0xf5, 0xff, 0xff, 0xff, 4, 0, 0, 0, 0, 0, 0, 0,
     ].as_slice());
-    Ok(())
 }
