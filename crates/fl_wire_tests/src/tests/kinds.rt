@@ -55,7 +55,7 @@ fn numbers_and_words_of_no_kind(rt: HostRuntime) {
 }
 
 // The message's order is of this kind. It changes nothing, or may change something.
-fn has_kind(rt: &impl Abort, bytes: &[u8], kind: Kind, only_reads: bool) {
+fn has_kind(rt: &impl Abort, bytes: &[u8], kind: OpKind, only_reads: bool) {
     let order = read_order(&whole(rt, bytes)).ok().expect(rt, "an order");
     same(rt, &order.op.kind(), &kind);
     same(rt, &order.only_reads(), &only_reads);
@@ -63,24 +63,24 @@ fn has_kind(rt: &impl Abort, bytes: &[u8], kind: Kind, only_reads: bool) {
 
 #[test]
 fn orders_that_only_read(rt: HostRuntime) {
-    has_kind(&rt, &GETATTR, Kind::Getattr, true);
-    has_kind(&rt, &GETLK, Kind::Getlk, true);
+    has_kind(&rt, &GETATTR, OpKind::Getattr, true);
+    has_kind(&rt, &GETLK, OpKind::Getlk, true);
 }
 
 #[test]
 fn orders_of_names_and_nodes_that_change_something(rt: HostRuntime) {
-    has_kind(&rt, &LOOKUP, Kind::Lookup, false);
-    has_kind(&rt, &FORGET, Kind::Forget, false);
-    has_kind(&rt, &UNLINK, Kind::Unlink, false);
-    has_kind(&rt, &OPEN, Kind::Open, false);
-    has_kind(&rt, &CREATE, Kind::Create, false);
+    has_kind(&rt, &LOOKUP, OpKind::Lookup, false);
+    has_kind(&rt, &FORGET, OpKind::Forget, false);
+    has_kind(&rt, &UNLINK, OpKind::Unlink, false);
+    has_kind(&rt, &OPEN, OpKind::Open, false);
+    has_kind(&rt, &CREATE, OpKind::Create, false);
 }
 
 #[test]
 fn orders_of_open_files_that_change_something(rt: HostRuntime) {
-    has_kind(&rt, &RELEASE, Kind::Release, false);
-    has_kind(&rt, &FLUSH, Kind::Flush, false);
-    has_kind(&rt, &SETLK, Kind::Setlk, false);
-    has_kind(&rt, &SETLKW, Kind::Setlkw, false);
-    has_kind(&rt, &INTERRUPT, Kind::Interrupt, false);
+    has_kind(&rt, &RELEASE, OpKind::Release, false);
+    has_kind(&rt, &FLUSH, OpKind::Flush, false);
+    has_kind(&rt, &SETLK, OpKind::Setlk, false);
+    has_kind(&rt, &SETLKW, OpKind::Setlkw, false);
+    has_kind(&rt, &INTERRUPT, OpKind::Interrupt, false);
 }

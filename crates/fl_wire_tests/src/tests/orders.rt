@@ -52,9 +52,9 @@ fn orders_of_names_and_their_parts(rt: HostRuntime) {
         mode: 0o644,
         name,
     };
-    has_parts(&rt, Op::Lookup(name), Kind::Lookup, Body::Name(name));
-    has_parts(&rt, Op::Unlink(name), Kind::Unlink, Body::Name(name));
-    has_parts(&rt, create, Kind::Create, creation(name));
+    has_parts(&rt, Op::Lookup(name), OpKind::Lookup, Body::Name(name));
+    has_parts(&rt, Op::Unlink(name), OpKind::Unlink, Body::Name(name));
+    has_parts(&rt, create, OpKind::Create, creation(name));
 }
 
 #[test]
@@ -91,10 +91,10 @@ fn is_no_order(rt: &impl Abort, kind: OpKind, body: Body) {
 #[test]
 fn names_are_parts_of_no_other_order(rt: HostRuntime) {
     let name = name(&rt);
-    is_no_order(&rt, Kind::Getlk, creation(name));
-    is_no_order(&rt, Kind::Lookup, creation(name));
-    is_no_order(&rt, Kind::Create, Body::Name(name));
-    is_no_order(&rt, Kind::Forget, Body::Name(name));
+    is_no_order(&rt, OpKind::Getlk, creation(name));
+    is_no_order(&rt, OpKind::Lookup, creation(name));
+    is_no_order(&rt, OpKind::Create, Body::Name(name));
+    is_no_order(&rt, OpKind::Forget, Body::Name(name));
 }
 
 #[test]
