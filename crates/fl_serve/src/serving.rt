@@ -1,9 +1,11 @@
 //! A whole session of the FUSE protocol with workers, over any reader and any writer.
 
-ghost use Rattle.std.specs.Prelude.{◌≡◌, ◌≤◌, ◌<◌, [], Some, length, vec_capacity, IfOk};
+ghost use Rattle.std.specs.Prelude.{◌≡◌, ◌≤◌, ◌<◌, [], false, Some, length, vec_capacity, IfOk};
 ghost use Rattle.std.specs.Io.KnownBytes.{Keeps};
 ghost use Rattle.fl_book.specs.Legal.{IsLegal};
 ghost use Rattle.fl_session.specs.Inbox.{IsUnread};
+ghost use Rattle.fl_session.specs.Talk.{bytes_of};
+ghost use Rattle.fl_serve.specs.Inside.Collecting.{HasSentLast};
 ghost use Rattle.fl_serve.specs.Serve.{IsServedBy};
 ghost use Rattle.fl_serve.specs.Shared.{HasSent};
 
@@ -162,6 +164,7 @@ fn said_goodbye<'w, W: Write, N: WriterName>(
 ) -> (&'w mut W, bool)
     ensures same { result.0.ghost_name ≡ N.name }
     ensures sent { HasSent N.start (W.contents result.0.now) [] result.1 }
+    ensures last { result.1 ≡ false → HasSentLast N.start (W.contents result.0.now) (bytes_of goodbye.now []) }
 {
     let mut shared = shared;
     shared.collect(goodbye, &[]);

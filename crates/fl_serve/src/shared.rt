@@ -75,7 +75,8 @@ impl<'a, W: Write, N: WriterName> Shared<'a, W, N> {
     /// Collects what is owed, to be sent by the next flush or before.
     #[tactic(auto, using(crate::proofs::SharedLemmas::collects))]
     pub(crate) fn collect(&mut self, owed: &Owed, tolds: &[Told])
-        ensures { Collects self.old.held self.new.held self.old.waiting self.new.waiting
+        ensures before { HasSent N.start self.old.held self.old.waiting self.old.broken }
+        ensures collected { Collects self.old.held self.new.held self.old.waiting self.new.waiting
             self.old.broken self.new.broken (bytes_of owed.now tolds.now) }
     {
         self.batch.collect(owed, tolds);
@@ -94,6 +95,8 @@ impl<'a, W: Write, N: WriterName> Shared<'a, W, N> {
     /// Gives the writer back, and says whether a write failed. What is collected and wasn't sent is lost.
     pub(crate) fn into_writer(self) -> (&'a mut W, bool)
         ensures same { result.0.ghost_name ≡ N.name }
+        ensures held { W.contents result.0.now ≡ self.entry.held }
+        ensures broken { result.1 ≡ self.entry.broken }
         ensures sent { HasSent N.start (W.contents result.0.now) self.entry.waiting result.1 }
     {
         let Shared { batch, of: _ } = self;

@@ -1,5 +1,6 @@
 -- What a message of a session comes to, and what is owed to it.
 use Rattle.std.specs.Prelude.{◌≡◌, ℕ, Bool, true, List, [], ◌∷◌, ◌++◌, map, Ok}
+use Rattle.fl_order.specs.declared.told.Answer.TheVariants.{Done}
 use Rattle.fl_order.specs.declared.told.Told.{Told}
 use Rattle.fl_session.specs.Session.{Session, with_message}
 use Rattle.fl_session.specs.declared.server.Met.{Met}
@@ -8,6 +9,7 @@ use Rattle.fl_session.specs.declared.server.Owed.{Owed}
 use Rattle.fl_session.specs.declared.server.Owed.TheVariants.{Nothing, Init, One, Replies}
 use Rattle.fl_session.specs.declared.server.Talk.{Talk}
 use Rattle.fl_wire.specs.Init.{init_spelling}
+use Rattle.fl_wire.specs.Layout.{unique_of}
 use Rattle.fl_wire.specs.Says.{said}
 use Rattle.fl_wire.specs.Spell.{spelling_of}
 
@@ -17,6 +19,10 @@ bytes_of Nothing tolds = []
 bytes_of (Init unique step) tolds = init_spelling unique step ∷ []
 bytes_of (One told) tolds = spelling_of told ∷ []
 bytes_of Replies tolds = map spelling_of tolds
+
+-- what a DESTROY is owed
+abbrev pub goodbye_to : List ℕ → Owed
+goodbye_to message = One (record { unique = unique_of message; result = Ok Done })
 
 -- a session that is this far
 abbrev pub standing : Session → Talk → Session

@@ -1,10 +1,10 @@
 //! What a session does with each message, apart from reading and writing.
 
-ghost use Rattle.std.specs.Prelude.{◌≡◌, ℕ, List, false, IfOk, if◌then◌else◌};
+ghost use Rattle.std.specs.Prelude.{◌≡◌, ℕ, List, true, false, IfOk, if◌then◌else◌};
 ghost use Rattle.fl_order.specs.OpKind.{is_silent, kind_of_opcode};
 ghost use Rattle.fl_session.specs.Session.{Session, before_init, without_memory};
 ghost use Rattle.fl_session.specs.Inside.Serving.{IsFresh, IsHeardAs, IsMet, IsMetAs};
-ghost use Rattle.fl_session.specs.Talk.{answered, bytes_of, standing, IsHeard};
+ghost use Rattle.fl_session.specs.Talk.{answered, bytes_of, goodbye_to, standing, IsHeard};
 ghost use Rattle.fl_wire.specs.Layout.{opcode_of, unique_of};
 ghost use Rattle.fl_wire.specs.Says.{said};
 
@@ -69,7 +69,8 @@ impl Talk {
     /// What a message of a session that isn't over comes to.
     pub fn meet(&mut self, frame: &Frame) -> Met
         requires { self.old.over ≡ false }
-        ensures { IsHeard result self.old self.new frame.now }
+        ensures heard { IsHeard result self.old self.new frame.now }
+        ensures ends { self.new.over ≡ true → result ≡ Met.Owed (goodbye_to frame.now) }
     {
         if self.agreed {
             self.meet_after_init(frame)
@@ -80,8 +81,9 @@ impl Talk {
 
     // The answer of the session before an INIT is agreed.
     fn meet_before_init(&mut self, frame: &Frame) -> Owed
-        ensures { (s : Session) (tolds : List Told) → standing (answered s (bytes_of result tolds)) self.new
+        ensures heard { (s : Session) (tolds : List Told) → standing (answered s (bytes_of result tolds)) self.new
             ≡ before_init (standing s self.old) (kind_of_opcode (opcode_of frame.now)) frame.now }
+        ensures live { self.new.over ≡ self.old.over }
     {
         match OpKind::of_opcode(frame.opcode()) {
             Some(OpKind::Init) => {
@@ -96,7 +98,8 @@ impl Talk {
 
     // What a message comes to after an INIT is agreed.
     fn meet_after_init(&mut self, frame: &Frame) -> Met
-        ensures { IsHeardAs result self.old self.new (unique_of frame.now) (said frame.now) }
+        ensures heard { IsHeardAs result self.old self.new (unique_of frame.now) (said frame.now) }
+        ensures ends { self.old.over ≡ false → self.new.over ≡ true → result ≡ Met.Owed (goodbye_to frame.now) }
     {
         match read_order(frame) {
             Ok(order) => Met::Order(order),

@@ -1,10 +1,12 @@
 -- The reader of a session with workers, while it is under way.
-use Rattle.std.specs.Prelude.{◌≡◌, ℕ, ◌≤◌, false, List, length, Option}
+use Rattle.std.specs.Prelude.{◌≡◌, ℕ, ◌≤◌, true, false, List, [], ◌∷◌, ◌++◌, length, Option}
 use Rattle.fl_session.specs.Inbox.{IsEnding}
 use Rattle.fl_session.specs.Served.{IsRead}
 use Rattle.fl_session.specs.Session.{Came, Session, session_of, with_message}
-use Rattle.fl_session.specs.declared.session.Fault.{Fault}
+use Rattle.fl_session.specs.Talk.{goodbye_to}
+use Rattle.fl_session.specs.declared.server.Owed.{Owed}
 use Rattle.fl_session.specs.declared.server.Talk.{Talk}
+use Rattle.fl_session.specs.declared.session.Fault.{Fault}
 
 -- a session is this far
 pub record IsThisFar (s : Session) (talk : Talk) : Type 0 where
@@ -16,16 +18,26 @@ abbrev pub Hears : Talk → Talk → List ℕ → Type 0
 Hears old new message = (s : Session) → IsThisFar s old
     → IsThisFar (with_message s (record { message = message; refused = false })) new
 
--- what was read is whole messages and a rest, and the session of these messages is this far
-pub record IsHearing (left left_now : Option (List ℕ)) (talk : Talk) (rest : List ℕ) : Type 0 where
+-- the last message is a DESTROY, to which this is owed
+pub record IsLast (came : List Came) (goodbye : Owed) : Type 0 where
+  pub front : List Came
+  pub last : Came
+  pub parts : came ≡ front ++ last ∷ []
+  pub owed : goodbye ≡ goodbye_to last.message
+
+-- What was read is whole messages and a rest, and the session of these messages is this far. Where it is over, this is
+-- owed to the last.
+pub record IsHearing (left left_now : Option (List ℕ)) (talk : Talk) (goodbye : Owed) (rest : List ℕ) : Type 0 where
   pub came : List Came
   pub is_read : IsRead left left_now came rest
   pub far : IsThisFar (session_of came) talk
+  pub over : talk.over ≡ true → IsLast came goodbye
 
--- the reader ended, with this fault
-pub record HasHeard (left left_now : Option (List ℕ)) (fault : Option Fault) : Type 0 where
+-- The reader ended, with this fault. Where the session is over, this is owed to the last message.
+pub record HasHeard (left left_now : Option (List ℕ)) (fault : Option Fault) (goodbye : Owed) : Type 0 where
   pub came : List Came
   pub rest : List ℕ
   pub is_read : IsRead left left_now came rest
   pub bounded : length rest ≤ 8192
   pub ending : IsEnding fault (session_of came).over rest left_now
+  pub over : (session_of came).over ≡ true → IsLast came goodbye

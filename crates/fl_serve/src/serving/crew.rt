@@ -64,7 +64,7 @@ pub(crate) fn run<
     requires none { (threads.items ≡ []) × (places.items ≡ []) }
     ensures all { result.1.fault ≢ Some Fault.NoMemory → length result.0.seats.items ≡ length seats.items }
     ensures heard { result.1.fault ≢ Some Fault.NoMemory
-        → HasHeard (I.remaining r.old) (I.remaining r.new) result.1.fault }
+        → HasHeard (I.remaining r.old) (I.remaining r.new) result.1.fault result.1.goodbye }
     ensures unread { result.1.fault ≡ Some Fault.NoMemory → Keeps (I.remaining r.old) (I.remaining r.new) }
 {
     let rt = crew.rt;
@@ -78,7 +78,7 @@ pub(crate) fn run<
             ensures all { result.1.fault ≢ Some Fault.NoMemory → length result.0.seats.items ≡ length seats.items }
             ensures same { result.2.ghost_name ≡ r.entry.ghost_name }
             ensures heard { result.1.fault ≢ Some Fault.NoMemory
-                → HasHeard (I.remaining r.entry.now) (I.remaining result.2.now) result.1.fault }
+                → HasHeard (I.remaining r.entry.now) (I.remaining result.2.now) result.1.fault result.1.goodbye }
             ensures unread { result.1.fault ≡ Some Fault.NoMemory
                 → Keeps (I.remaining r.entry.now) (I.remaining result.2.now) }
         {

@@ -1,8 +1,9 @@
 //! How the reader of a session with workers reads its stream.
 
-ghost use Rattle.std.specs.Prelude.{◌≡◌, ◌≢◌, Some, false};
+ghost use Rattle.std.specs.Prelude.{◌≡◌, ◌≢◌, Some, true, false};
 ghost use Rattle.fl_serve.specs.Inside.Hearing.{HasHeard, Hears};
 ghost use Rattle.fl_session.specs.Inbox.{IsUnread};
+ghost use Rattle.fl_session.specs.Talk.{goodbye_to};
 
 use crate::intake::Intake;
 use crate::shared::{Shared, WriterName};
@@ -53,7 +54,7 @@ impl<'r, 'a, 'w, R: Wait, W: Write, N: WriterName> Hearer<'r, 'a, 'w, R, W, N> {
     pub(crate) fn hear_all<I: Read>(self, r: &mut I, inbox: &mut Inbox) -> Heard
         requires unread { IsUnread inbox.old }
         requires fresh { (self.talk.agreed ≡ false) × (self.talk.over ≡ false) }
-        ensures heard { HasHeard (I.remaining r.old) (I.remaining r.new) result.fault }
+        ensures heard { HasHeard (I.remaining r.old) (I.remaining r.new) result.fault result.goodbye }
         ensures memory { result.fault ≢ Some Fault.NoMemory }
     {
         let mut hearer = self;
@@ -77,7 +78,8 @@ impl<'r, 'a, 'w, R: Wait, W: Write, N: WriterName> Hearer<'r, 'a, 'w, R, W, N> {
 
     // How the reader's part ended, with this fault.
     fn ended(self, fault: Option<Fault>) -> Heard
-        ensures { result.fault ≡ fault }
+        ensures fault { result.fault ≡ fault }
+        ensures goodbye { result.goodbye ≡ self.entry.goodbye }
     {
         Heard {
             fault,
@@ -89,7 +91,8 @@ impl<'r, 'a, 'w, R: Wait, W: Write, N: WriterName> Hearer<'r, 'a, 'w, R, W, N> {
     #[tactic(auto, using(crate::proofs::HearingLemmas::hears))]
     fn hear(&mut self, frame: &Frame)
         requires { self.old.talk.over ≡ false }
-        ensures { Hears self.old.talk self.new.talk frame.now }
+        ensures heard { Hears self.old.talk self.new.talk frame.now }
+        ensures ends { self.new.talk.over ≡ true → self.new.goodbye ≡ goodbye_to frame.now }
     {
         match self.talk.meet(frame) {
             Met::Order(order) => {

@@ -18,5 +18,5 @@ returns-then-eq-clause-served g c =
 pub returns-clause-served : goal.returns-clause-served
 returns-clause-served g c =
     let some : c.run-back.result.1.fault ≢ Some NoMemory = search rules in
-    served_by _ _ _ _ _ _ _ (c.run-back.ensures.heard some) (rw c.requires.start c.said_goodbye-w.ensures.sent)
-    c.told.ensures.ends
+    served_by _ _ _ _ _ _ _ _ (c.run-back.ensures.heard some) (rw c.requires.start c.said_goodbye-w.ensures.sent)
+    (λ whole. rw c.requires.start (c.said_goodbye-w.ensures.last whole)) c.told.ensures.ends

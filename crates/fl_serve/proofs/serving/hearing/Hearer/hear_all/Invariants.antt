@@ -7,7 +7,8 @@ use Rattle.fl_serve.proofs.serving.hearing.Hearer.hear_all.Given as goal
 abbrev pub invariant-loop-hearer : goal.invariant-loop-hearer
 invariant-loop-hearer g l = record {
   bounded : length l.inbox.rest ≤ 8192;
-  hearing : IsHearing (g.I.Read.remaining l.initial.r) (g.I.Read.remaining l.r) l.hearer.talk l.inbox.rest;
+  hearing : IsHearing (g.I.Read.remaining l.initial.r) (g.I.Read.remaining l.r) l.hearer.talk
+      l.hearer.goodbye l.inbox.rest;
 }
 
 abbrev pub decreases-loop-hearer : goal.decreases-loop-hearer
