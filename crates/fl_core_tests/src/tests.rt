@@ -22,8 +22,9 @@ mod waiting_random;
 
 use fl_book::{History, Line, Verdict, check, read_trace};
 use fl_core::{Core, Tolds};
-use fl_order::{Answer, Errno, NoMemory, Order, Told};
+use fl_order::{Answer, Errno, NoMemory, Op, Order, Told};
 use fl_ranges::{Class, Key, Kind, Range};
+use orders::{DONE, WRITE, create, lock, made, numbered, order};
 use std::alloc::Global;
 use std::process::Abort;
 
@@ -33,10 +34,14 @@ type Reply = Result<Answer, Errno>;
 // The history whose text is these pieces, one behind the other.
 fn history_of(rt: &impl Abort, alloc: Global, pieces: &[&str]) -> History {
     let mut text = Vec::new(alloc);
-    for piece in pieces {
-        assert!(rt; text.extend_from_slice(piece.as_bytes()).is_ok());
+    for piece in pieces.iter() {
+        add(rt, &mut text, piece.as_bytes());
     }
     read_trace(alloc, &text).expect(rt, "no trace")
+}
+
+fn add(rt: &impl Abort, text: &mut Vec<u8>, piece: &[u8]) {
+    text.extend_from_slice(piece).expect(rt, "no memory");
 }
 
 // The pieces are a legal history of so many lines, whose orders are answered without a step where they only read.
@@ -77,10 +82,8 @@ impl Server {
         self.core.step(order, &mut self.tolds);
         let after = self.core.answer(order);
         if order.only_reads() {
-            assert_eq!(rt; self.tolds.as_slice().len(), 1);
-            let own = self.tolds.as_slice().first().map(|told| told.result);
-            assert_answer(rt, &before, &own);
-            assert_answer(rt, &after, &own);
+            assert_answer(rt, order.unique, before, self.tolds.as_slice());
+            assert_answer(rt, order.unique, after, self.tolds.as_slice());
         } else {
             assert!(rt; before.is_none() && after.is_none());
         }
@@ -108,20 +111,27 @@ impl Server {
 
     // The order gives one reply, its own.
     fn gives(&mut self, rt: &impl Abort, order: &Order, reply: Reply) {
-        let unique = order.unique;
-        self.tells(
-            rt,
-            order,
-            &[Told {
-                unique,
-                result: reply,
-            }],
-        );
+        self.tells(rt, order, &[told(order.unique, reply)]);
     }
 
     // The order gives no reply.
     fn is_silent(&mut self, rt: &impl Abort, order: &Order) {
         self.tells(rt, order, &[]);
+    }
+
+    // The file of a number is made, and opened. It gets these numbers.
+    fn makes(&mut self, rt: &impl Abort, number: u64, node: u64, fh: u64) {
+        self.gives(rt, &create(true, numbered(rt, number)), made(node, fh));
+    }
+
+    // The owner gets a write lock of the byte.
+    fn locks(&mut self, rt: &impl Abort, node: u64, fh: u64, owner: u64, byte: u64) {
+        self.does(rt, node, lock(fh, owner, byte, WRITE));
+    }
+
+    // The order is done.
+    fn does(&mut self, rt: &impl Abort, node: u64, op: Op) {
+        self.gives(rt, &order(1, node, op), DONE);
     }
 
     // Each order of the text gives the replies behind it.
@@ -157,8 +167,17 @@ fn assert_closes(rt: &impl Abort, owner: u64, node: u64, as_wanted: bool) {
     assert!(rt; as_wanted, "owner {owner} on node {node}");
 }
 
-fn assert_answer(rt: &impl Abort, found: &Option<Reply>, wanted: &Option<Reply>) {
-    assert_eq!(rt; *found, *wanted);
+fn told(unique: u64, reply: Reply) -> Told {
+    Told {
+        unique,
+        result: reply,
+    }
+}
+
+// The order is answered so, and is told the same and nothing else.
+fn assert_answer(rt: &impl Abort, unique: u64, answer: Option<Reply>, tolds: &[Told]) {
+    let wanted = told(unique, answer.expect(rt, "no answer"));
+    assert_tolds(rt, unique, tolds, &[wanted]);
 }
 
 fn assert_told(rt: &impl Abort, found: Option<&Told>, wanted: &Told) {

@@ -1,8 +1,9 @@
 //! Full tables of nodes and open files, emptied and filled again.
 
 use super::Server;
-use super::orders::{DONE, attr, create, made, name, numbered, order, release};
+use super::orders::{attr, numbered, order, release};
 use fl_order::{Answer, Errno, Op};
+use std::alloc::Global;
 use std::process::Abort;
 
 // Makes 256 files, whose numbers begin with these.
@@ -10,34 +11,46 @@ fn fill_nodes(rt: &impl Abort, server: &mut Server, first_node: u64, first_fh: u
     for number in 0..256u64 {
         let node = first_node.wrapping_add(number);
         let fh = first_fh.wrapping_add(number);
-        server.gives(rt, &create(true, numbered(rt, number)), made(node, fh));
+        server.makes(rt, number, node, fh);
     }
 }
 
-// Opens the node so often. The numbers begin with this one.
-fn open(rt: &impl Abort, server: &mut Server, node: u64, first_fh: u64, often: u64) {
-    for number in 0..often {
-        let opened = Ok(Answer::Open(first_fh.wrapping_add(number)));
-        server.gives(rt, &order(1, node, Op::Open), opened);
+fn open(rt: &impl Abort, server: &mut Server, node: u64, fh: u64) {
+    server.gives(rt, &order(1, node, Op::Open), Ok(Answer::Open(fh)));
+}
+
+// Opens the node again and again. It gets the fhs from the first to before the end.
+fn open_all(rt: &impl Abort, server: &mut Server, node: u64, first_fh: u64, end: u64) {
+    for fh in first_fh..end {
+        open(rt, server, node, fh);
     }
 }
 
-// The last fh of a file without a name is closed, and the file is gone.
+// An fh of a file without a name is closed.
 fn close(rt: &impl Abort, server: &mut Server, node: u64, fh: u64) {
-    let getattr = order(1, node, Op::Getattr);
-    server.gives(rt, &getattr, attr(node, 0));
-    server.gives(rt, &order(1, node, release(fh, false, 0)), DONE);
-    server.gives(rt, &getattr, Err(Errno::ENOENT));
+    server.gives(rt, &order(1, node, Op::Getattr), attr(node, 0));
+    server.does(rt, node, release(fh, false, 0));
+}
+
+// The file of a number is no more linked nor known to the kernel.
+fn unlink(rt: &impl Abort, server: &mut Server, number: u64, node: u64) {
+    server.does(rt, 1, Op::Unlink(numbered(rt, number)));
+    server.is_silent(rt, &order(1, node, Op::Forget(1)));
+}
+
+// Then its only fh is closed, and the file is gone.
+fn remove(rt: &impl Abort, server: &mut Server, number: u64, node: u64, fh: u64) {
+    unlink(rt, server, number, node);
+    close(rt, server, node, fh);
+    server.gives(rt, &order(1, node, Op::Getattr), Err(Errno::ENOENT));
 }
 
 // Takes all files of `fill_nodes` away.
 fn empty_nodes(rt: &impl Abort, server: &mut Server, first_node: u64, first_fh: u64) {
     for number in 0..256u64 {
         let node = first_node.wrapping_add(number);
-        let unlink = Op::Unlink(numbered(rt, number));
-        server.gives(rt, &order(1, 1, unlink), DONE);
-        server.is_silent(rt, &order(1, node, Op::Forget(1)));
-        close(rt, server, node, first_fh.wrapping_add(number));
+        let fh = first_fh.wrapping_add(number);
+        remove(rt, server, number, node, fh);
     }
 }
 
@@ -82,9 +95,20 @@ tell 1001 err 28
 // Closes 1,024 fhs of a file without a name.
 fn close_all(rt: &impl Abort, server: &mut Server) {
     for fh in 1..1025u64 {
-        server.gives(rt, &order(1, 2, Op::Getattr), attr(2, 0));
-        server.gives(rt, &order(1, 2, release(fh, false, 0)), DONE);
+        close(rt, server, 2, fh);
     }
+}
+
+// One file, which has all fhs there are.
+fn with_open_files(rt: &impl Abort, alloc: Global) -> Server {
+    let orders = "\
+ask 0 1 1 5 6 0 create 1 420 61
+tell 1 made 2 33188 1 5 6 1
+";
+    let mut server = Server::new(rt, alloc);
+    server.goes_on(rt, alloc, orders);
+    open_all(rt, &mut server, 2, 2, 1025);
+    server
 }
 
 #[test]
@@ -120,38 +144,49 @@ tell 1002 err 2
 ask 0 1001 1 5 6 0 create 1 420 61
 tell 1001 made 3 33188 1 5 6 1025
 ";
-    let mut server = Server::new(&rt, rt.alloc());
-    server.gives(&rt, &create(true, name(&rt, b"a")), made(2, 1));
-    open(&rt, &mut server, 2, 2, 1023);
+    let again = "\
+ask 0 1 3 5 6 0 open
+tell 1 err 23
+";
+    let mut server = with_open_files(&rt, rt.alloc());
     server.goes_on(&rt, rt.alloc(), full);
     close_all(&rt, &mut server);
     server.goes_on(&rt, rt.alloc(), emptied);
-    open(&rt, &mut server, 3, 1026, 1023);
-    server.gives(&rt, &order(1, 3, Op::Open), Err(Errno::ENFILE));
+    open_all(&rt, &mut server, 3, 1026, 2049);
+    server.goes_on(&rt, rt.alloc(), again);
 }
 
-// Both tables are full.
-fn check_full(rt: &impl Abort, server: &mut Server) {
-    server.gives(rt, &create(true, name(rt, b"more")), Err(Errno::ENOSPC));
-    server.gives(rt, &create(false, numbered(rt, 0)), Err(Errno::ENFILE));
+// The fhs from the first to before the end are closed.
+fn release_all(rt: &impl Abort, server: &mut Server, node: u64, first_fh: u64, end: u64) {
+    for fh in first_fh..end {
+        server.does(rt, node, release(fh, true, 0));
+    }
 }
 
 // Both tables are filled, with numbers that begin with these, and emptied.
-fn fill_and_empty(rt: &impl Abort, server: &mut Server, node: u64, fh: u64) {
+fn fill_and_empty(rt: &impl Abort, alloc: Global, server: &mut Server, node: u64, fh: u64) {
+    let full = "\
+ask 0 1 1 5 6 0 create 1 420 6d6f7265
+tell 1 err 28
+ask 0 1 1 5 6 0 create 0 420 6161
+tell 1 err 23
+";
+    let (first, end) = (fh.wrapping_add(256), fh.wrapping_add(1024));
     fill_nodes(rt, server, node, fh);
-    open(rt, server, node, fh.wrapping_add(256), 768);
-    check_full(rt, server);
-    for number in 256..1024u64 {
-        let closed = release(fh.wrapping_add(number), true, 0);
-        server.gives(rt, &order(1, node, closed), DONE);
-    }
+    open_all(rt, server, node, first, end);
+    server.goes_on(rt, alloc, full);
+    release_all(rt, server, node, first, end);
     empty_nodes(rt, server, node, fh);
 }
 
 #[test]
 fn both_tables_are_filled_twice(rt: HostRuntime) {
+    let orders = "\
+ask 0 1 1 5 6 0 create 1 420 6d6f7265
+tell 1 made 514 33188 1 5 6 2049
+";
     let mut server = Server::new(&rt, rt.alloc());
-    fill_and_empty(&rt, &mut server, 2, 1);
-    fill_and_empty(&rt, &mut server, 258, 1025);
-    server.gives(&rt, &create(true, name(&rt, b"more")), made(514, 2049));
+    fill_and_empty(&rt, rt.alloc(), &mut server, 2, 1);
+    fill_and_empty(&rt, rt.alloc(), &mut server, 258, 1025);
+    server.goes_on(&rt, rt.alloc(), orders);
 }

@@ -1,9 +1,8 @@
 //! When a node goes, and that its numbers aren't given again.
 
-use super::orders::{name, order};
-use super::{Server, is_legal};
-use fl_order::{Answer, Attr, Op, Order};
-use std::process::Abort;
+use super::orders::name;
+use super::{Reply, Server, is_legal};
+use fl_order::{Answer, Attr, Name, Op, Order};
 
 #[test]
 fn a_node_goes_with_its_name_then_its_lookup_then_its_open_file(rt: HostRuntime) {
@@ -279,17 +278,27 @@ tell 1002 err 2
 }
 
 // A file of user 8 and group 9. Of this mode the text of an order has the permissions alone.
-fn create_by_another(rt: &impl Abort) -> Order {
-    let create = Op::Create {
-        excl: true,
-        mode: 0o107777,
-        name: name(rt, b"a"),
-    };
+fn create_by_another(name: Name) -> Order {
+    let (excl, mode) = (true, 0o107777);
     Order {
+        unique: 1,
+        node: 1,
         uid: 8,
         gid: 9,
-        ..order(1, 1, create)
+        pid: 0,
+        op: Op::Create { excl, mode, name },
     }
+}
+
+fn made_by_another() -> Reply {
+    let attr = Attr {
+        node: 2,
+        mode: 0o100777,
+        nlink: 1,
+        uid: 8,
+        gid: 9,
+    };
+    Ok(Answer::Made(attr, 1))
 }
 
 #[test]
@@ -302,14 +311,8 @@ tell 1001 entry 2 33279 1 8 9
 ask 0 1002 2 5 6 0 getattr
 tell 1002 attr 2 33279 1 8 9
 ";
-    let attr = Attr {
-        node: 2,
-        mode: 0o100777,
-        nlink: 1,
-        uid: 8,
-        gid: 9,
-    };
     let mut server = Server::new(&rt, rt.alloc());
-    server.gives(&rt, &create_by_another(&rt), Ok(Answer::Made(attr, 1)));
+    let create = create_by_another(name(&rt, b"a"));
+    server.gives(&rt, &create, made_by_another());
     server.goes_on(&rt, rt.alloc(), orders);
 }

@@ -32,7 +32,7 @@ pub(super) fn name(rt: &impl Abort, bytes: &[u8]) -> Name {
 pub(super) fn numbered(rt: &impl Abort, number: u64) -> Name {
     let high = (number / 16 % 16) as u8;
     let low = (number % 16) as u8;
-    name(rt, &[b'a' + high, b'a' + low])
+    name(rt, &[b'a'.wrapping_add(high), b'a'.wrapping_add(low)])
 }
 
 // An order that makes the file of a name, where there is none, and opens it.
@@ -41,26 +41,26 @@ pub(super) fn create(excl: bool, name: Name) -> Order {
     order(1, 1, Op::Create { excl, mode, name })
 }
 
-// A record lock request. Each owner's process has the owner's number.
-fn ask(fh: u64, owner: u32, byte: u64, kind: u32) -> LockAsk {
+// A record lock request. Each owner's process has the owner's number, which is small.
+fn ask(fh: u64, owner: u64, byte: u64, kind: u32) -> LockAsk {
     LockAsk {
         fh,
-        owner: u64::from(owner),
+        owner,
         start: byte,
         end: byte,
         kind,
-        pid: owner,
+        pid: (owner % 65_536) as u32,
         flags: 0,
     }
 }
 
 // A lock of one byte.
-pub(super) fn lock(fh: u64, owner: u32, byte: u64, kind: u32) -> Op {
+pub(super) fn lock(fh: u64, owner: u64, byte: u64, kind: u32) -> Op {
     Op::Setlk(ask(fh, owner, byte, kind))
 }
 
 // The same, and it can wait.
-pub(super) fn wait(fh: u64, owner: u32, byte: u64, kind: u32) -> Op {
+pub(super) fn wait(fh: u64, owner: u64, byte: u64, kind: u32) -> Op {
     Op::Setlkw(ask(fh, owner, byte, kind))
 }
 

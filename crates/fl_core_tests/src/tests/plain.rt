@@ -127,10 +127,14 @@ impl Plain {
     fn unlink(&mut self, node: u64, name: &Name) -> Result<Answer, Errno> {
         self.test_directory(node)?;
         let found = self.linked(name).ok_or(Errno::ENOENT)?;
-        if let Some(file) = self.files.get_mut(index(found, 2)) {
+        self.take_name(found);
+        Ok(Answer::Done)
+    }
+
+    fn take_name(&mut self, node: u64) {
+        if let Some(file) = self.files.get_mut(index(node, 2)) {
             file.name = None;
         }
-        Ok(Answer::Done)
     }
 
     fn open(&mut self, rt: &impl Abort, node: u64) -> Result<Answer, Errno> {
@@ -168,10 +172,13 @@ impl Plain {
 
     // How many fhs are open on a node.
     pub(super) fn open_on(&self, node: u64) -> usize {
-        self.opened
-            .iter()
-            .filter(|opened| **opened == Some(node))
-            .count()
+        let mut count = 0usize;
+        for opened in self.opened.iter() {
+            if *opened == Some(node) {
+                count = count.saturating_add(1);
+            }
+        }
+        count
     }
 
     // Of the fhs that are open the one of this place, and its node.

@@ -140,7 +140,12 @@ impl PlainLocks {
     }
 
     pub(super) fn is_parked(&self, unique: u64) -> bool {
-        self.parked.iter().any(|request| request.unique == unique)
+        for request in self.parked.iter() {
+            if request.unique == unique {
+                return true;
+            }
+        }
+        false
     }
 
     // An order that bears the unique of a request that waits.
@@ -262,22 +267,29 @@ impl PlainLocks {
     }
 
     fn lock_answer(&self, request: &Request) -> Answer {
-        let found = self.excluder(request);
-        let Some((byte, owner)) = found else {
-            return Answer::Lock {
+        match self.excluder(request) {
+            Some((byte, owner)) => self.lock_of(request, owner, byte),
+            None => Answer::Lock {
                 start: request.ask.start,
                 end: request.ask.end,
                 kind: UNLOCK,
                 pid: request.ask.pid,
-            };
-        };
+            },
+        }
+    }
+
+    // The owner's lock of a byte.
+    fn lock_of(&self, request: &Request, owner: u64, byte: u64) -> Answer {
         let (start, end) = self.run_round(request, owner, byte);
-        let mark = self.mark(request, owner, byte);
+        let (kind, pid) = match self.mark(request, owner, byte) {
+            Some(mark) => (mark.kind, mark.pid),
+            None => (UNLOCK, 0),
+        };
         Answer::Lock {
             start,
             end,
-            kind: mark.map_or(UNLOCK, |mark| mark.kind),
-            pid: mark.map_or(0, |mark| mark.pid),
+            kind,
+            pid,
         }
     }
 
@@ -325,28 +337,38 @@ impl PlainLocks {
             return;
         };
         self.tell(rt, order.unique, result);
+        if result.is_ok() {
+            self.take_locks(rt, order);
+        }
+    }
+
+    // What goes with a FLUSH or RELEASE that is done.
+    fn take_locks(&mut self, rt: &impl Abort, order: &Order) {
         match order.op {
-            Op::Flush { owner, .. } if result.is_ok() => {
-                self.set(&unlock_all(order.node, owner, 0));
-            }
-            Op::Release { fh, drop, owner } if result.is_ok() => {
+            Op::Flush { owner, .. } => self.set(&unlock_all(order.node, owner, 0)),
+            Op::Release { fh, drop, owner } => {
                 if drop {
                     self.set(&unlock_all(order.node, owner, 1));
                 }
-                self.close(rt, order.node, fh);
+                self.close(rt, fh);
+                self.clear(order.node);
             }
             _ => {}
         }
     }
 
-    // What goes with an fh that was closed.
-    fn close(&mut self, rt: &impl Abort, node: u64, fh: u64) {
+    // Ends those that wait through an fh that was closed.
+    fn close(&mut self, rt: &impl Abort, fh: u64) {
         for _ in 0..self.parked.len() {
             if let Some(unique) = self.first_through(fh) {
                 self.counts.closed = self.counts.closed.saturating_add(1);
                 self.end(rt, unique, Errno::EBADF);
             }
         }
+    }
+
+    // Takes all locks of a node on which no fh is open.
+    fn clear(&mut self, node: u64) {
         if self.directory.open_on(node) == 0 {
             for owner in 0..OWNERS {
                 self.set(&unlock_all(node, owner, 0));
@@ -371,15 +393,19 @@ impl PlainLocks {
             let Some((place, request)) = self.first_free() else {
                 return;
             };
-            self.take_out(request.unique);
-            self.set(&request);
-            self.tell(rt, request.unique, Ok(Answer::Done));
-            self.counts.granted = self.counts.granted.saturating_add(1);
+            self.grant(rt, &request);
             if place < last {
                 self.counts.freed_by_grants = self.counts.freed_by_grants.saturating_add(1);
             }
             last = place;
         }
+    }
+
+    fn grant(&mut self, rt: &impl Abort, request: &Request) {
+        self.take_out(request.unique);
+        self.set(request);
+        self.tell(rt, request.unique, Ok(Answer::Done));
+        self.counts.granted = self.counts.granted.saturating_add(1);
     }
 
     fn first_free(&self) -> Option<(usize, Request)> {

@@ -1,20 +1,28 @@
 //! As many waiting requests as there is room for, and waiting for more locks than there is room for.
 
-use super::Server;
-use super::orders::{DONE, READ, UNLOCK, WRITE, create, lock, made, name, numbered, order, wait};
+use super::orders::{DONE, READ, UNLOCK, lock, order, wait};
+use super::{Server, told};
 use fl_order::{Order, Told};
 use std::alloc::Global;
 use std::process::Abort;
 
-// One file, node 2, open as fh 1, whose byte 0 owner 7 has locked. 256 owners from number 1,000 on wait for a read lock
-// of that byte, each with the unique of its number.
+// The owner waits for a read lock of byte 0 of node 2, with the unique of its number.
+fn park(rt: &impl Abort, server: &mut Server, owner: u64) {
+    server.is_silent(rt, &order(owner, 2, wait(1, owner, 0, READ)));
+}
+
+// One file, node 2, open as fh 1, whose byte 0 owner 7 has locked. 256 owners from number 1,000 on wait for it.
 fn with_256(rt: &impl Abort, alloc: Global) -> Server {
+    let orders = "\
+ask 0 1 1 5 6 0 create 1 420 61
+tell 1 made 2 33188 1 5 6 1
+ask 0 2 2 5 6 0 setlk 1 7 0 0 1 7 0
+tell 2 ok
+";
     let mut server = Server::new(rt, alloc);
-    server.gives(rt, &create(true, name(rt, b"a")), made(2, 1));
-    server.gives(rt, &order(2, 2, lock(1, 7, 0, WRITE)), DONE);
-    for owner in 1000..1256u32 {
-        let asked = wait(1, owner, 0, READ);
-        server.is_silent(rt, &order(u64::from(owner), 2, asked));
+    server.goes_on(rt, alloc, orders);
+    for owner in 1000..1256u64 {
+        park(rt, &mut server, owner);
     }
     server
 }
@@ -27,28 +35,38 @@ fn unlocked(unique: u64) -> Order {
 // The uniques from the first to before the end are told that they are done.
 fn add_done(rt: &impl Abort, tolds: &mut Vec<Told>, first: u64, end: u64) {
     for unique in first..end {
-        let result = DONE;
-        assert!(rt; tolds.push(Told { unique, result }).is_ok());
+        tolds.push(told(unique, DONE)).expect(rt, "no memory");
     }
 }
 
-// Owner 7 gives its lock back, and the requests of the uniques in these bounds, 256 together, are granted in their
-// order.
-fn free(rt: &impl Abort, alloc: Global, server: &mut Server, freed: &[(u64, u64)]) {
+// Owner 7 gives its lock back, and then these requests, 256 together, are granted in this order.
+fn free(rt: &impl Abort, server: &mut Server, tolds: &[Told]) {
+    assert_eq!(rt; tolds.len(), 257);
+    server.tells(rt, &unlocked(5), tolds);
+}
+
+fn free_all(rt: &impl Abort, alloc: Global, server: &mut Server) {
     let mut tolds = Vec::new(alloc);
     add_done(rt, &mut tolds, 5, 6);
-    for (first, end) in freed {
-        add_done(rt, &mut tolds, *first, *end);
-    }
-    assert_eq!(rt; tolds.len(), 257);
-    server.tells(rt, &unlocked(5), &tolds);
+    add_done(rt, &mut tolds, 1000, 1256);
+    free(rt, server, &tolds);
 }
 
 #[test]
 fn one_unlock_frees_256_requests_in_their_order(rt: HostRuntime) {
     let mut server = with_256(&rt, rt.alloc());
-    free(&rt, rt.alloc(), &mut server, &[(1000, 1256)]);
+    free_all(&rt, rt.alloc(), &mut server);
     server.gives(&rt, &unlocked(6), DONE);
+}
+
+// All but the one of unique 1,002, which was interrupted. The one of unique 4 asked last.
+fn free_others(rt: &impl Abort, alloc: Global, server: &mut Server) {
+    let mut tolds = Vec::new(alloc);
+    add_done(rt, &mut tolds, 5, 6);
+    add_done(rt, &mut tolds, 1000, 1002);
+    add_done(rt, &mut tolds, 1003, 1256);
+    add_done(rt, &mut tolds, 4, 5);
+    free(rt, server, &tolds);
 }
 
 // With 256 requests that wait, one more is refused until another is interrupted.
@@ -75,31 +93,32 @@ tell 2 err 37
 ";
     let mut server = with_256(&rt, rt.alloc());
     server.goes_on(&rt, rt.alloc(), orders);
-    free(
-        &rt,
-        rt.alloc(),
-        &mut server,
-        &[(1000, 1002), (1003, 1256), (4, 5)],
-    );
+    free_others(&rt, rt.alloc(), &mut server);
 }
 
 // Owner 7 gets 273 runs on a file.
 fn fill_file(rt: &impl Abort, server: &mut Server, node: u64, fh: u64) {
-    let mut byte = 0u64;
-    for _ in 0..273u32 {
-        server.gives(rt, &order(1, node, lock(fh, 7, byte, WRITE)), DONE);
-        byte = byte.wrapping_add(2);
+    for run in 0..273u64 {
+        server.locks(rt, node, fh, 7, run.wrapping_mul(2));
     }
+}
+
+// One more file, on which owner 7 has 273 runs.
+fn add_file(rt: &impl Abort, server: &mut Server, node: u64, fh: u64) {
+    server.makes(rt, node, node, fh);
+    fill_file(rt, server, node, fh);
 }
 
 // Node 2 is open as fh 1. On fifteen files more, nodes 3 to 17, owner 7 has 4,095 runs together.
 fn with_runs(rt: &impl Abort, alloc: Global) -> Server {
+    let orders = "\
+ask 0 1 1 5 6 0 create 1 420 61
+tell 1 made 2 33188 1 5 6 1
+";
     let mut server = Server::new(rt, alloc);
-    server.gives(rt, &create(true, name(rt, b"a")), made(2, 1));
+    server.goes_on(rt, alloc, orders);
     for node in 3..18u64 {
-        let fh = node.wrapping_sub(1);
-        server.gives(rt, &create(true, numbered(rt, node)), made(node, fh));
-        fill_file(rt, &mut server, node, fh);
+        add_file(rt, &mut server, node, node.wrapping_sub(1));
     }
     server
 }

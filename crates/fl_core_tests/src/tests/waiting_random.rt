@@ -99,21 +99,18 @@ fn random_ask(numbers: &mut Numbers, fh: u64, kind: u32) -> LockAsk {
 // The same, but seldom one that is refused as malformed.
 fn random_lock(numbers: &mut Numbers, fh: u64) -> LockAsk {
     let kind = random_kind(numbers);
-    let asked = random_ask(numbers, fh, kind);
+    let mut asked = random_ask(numbers, fh, kind);
     match numbers.below(100) {
-        0 => LockAsk { flags: 2, ..asked },
-        1 => LockAsk { kind: 3, ..asked },
-        2 => LockAsk {
-            end: LAST + 1,
-            ..asked
-        },
-        3 => LockAsk {
-            start: 5,
-            end: 4,
-            ..asked
-        },
-        _ => asked,
+        0 => asked.flags = 2,
+        1 => asked.kind = 3,
+        2 => asked.end = LAST + 1,
+        3 => {
+            asked.start = 5;
+            asked.end = 4;
+        }
+        _ => {}
     }
+    asked
 }
 
 fn random_unlock(numbers: &mut Numbers, fh: u64) -> Op {
