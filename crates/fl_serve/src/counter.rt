@@ -60,9 +60,9 @@ pub trait Gate {
 
 /// A gate that is always open.
 #[derive(Clone, Copy, Debug)]
-pub struct Open;
+pub struct OpenGate;
 
-impl Gate for Open {
+impl Gate for OpenGate {
     fn pass(&self, _unique: u64) {}
 
     fn sent(&self, _unique: u64) {}

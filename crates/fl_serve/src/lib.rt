@@ -8,7 +8,7 @@ mod serving;
 mod shared;
 mod worker;
 
-pub use counter::{Counter, Gate, Open};
+pub use counter::{Counter, Gate, OpenGate};
 pub use fl_session::{Broken, Done, Ended, Fault, Outbox, run_one, run_session};
 pub use intake::{Closed, Intake, Job, MOST_JOBS};
 pub use serving::serve;

@@ -13,7 +13,7 @@ use crate::fault::Fault;
 use crate::status::{Status, end};
 use crate::streams::write_all;
 use fl_book::print_trace;
-use fl_serve::{Done, Open};
+use fl_serve::{Done, OpenGate};
 use std::alloc::Global;
 use std::fs;
 use std::fs::Files;
@@ -64,7 +64,7 @@ fn serve_and_print<R: Threads + Wait + Net + Files + Sync, W: Write>(
     ensures unnamed { path_bytes path.entry ≡ [] → result ≡ Err Fault.Listen }
 {
     let stream = connection(rt, path)?;
-    let done = fl_serve::serve(rt, alloc, &mut &stream, &mut &stream, workers, &Open);
+    let done = fl_serve::serve(rt, alloc, &mut &stream, &mut &stream, workers, &OpenGate);
     drop(stream);
     print_done(alloc, &done, output)
 }

@@ -1,13 +1,21 @@
 //! A session whose workers' threads can't be made.
 
 use super::*;
-use crate::counter::Open;
+use crate::counter::OpenGate;
 
 #[test]
 fn no_thread_can_be_made(rt: HostRuntime) {
     let mut input = b"not a message".as_slice();
     let mut out = Vec::new(rt.alloc());
-    let done = serve_on_stack(&rt, rt.alloc(), &mut input, &mut out, 4, &Open, usize::MAX);
+    let done = serve_on_stack(
+        &rt,
+        rt.alloc(),
+        &mut input,
+        &mut out,
+        4,
+        &OpenGate,
+        usize::MAX,
+    );
     assert_eq!(&rt; done.fault, Some(Fault::NoMemory));
     assert!(&rt; done.history.is_empty());
     assert!(&rt; !done.refused);

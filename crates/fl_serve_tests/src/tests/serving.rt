@@ -17,7 +17,7 @@ mod talker;
 mod waiting;
 
 use fl_book::{History, Line, Verdict, check};
-use fl_serve::{Done, Fault, Gate, Open, serve};
+use fl_serve::{Done, Fault, Gate, OpenGate, serve};
 use std::alloc::Global;
 use std::io::{Read, Write};
 use std::net::Net;
@@ -82,7 +82,7 @@ fn serve_bytes<R: Threads + Wait + Sync>(
 ) -> Came {
     let mut input = messages;
     let mut out = Vec::new(alloc);
-    let done = served(rt, alloc, &mut input, &mut out, workers, &Open);
+    let done = served(rt, alloc, &mut input, &mut out, workers, &OpenGate);
     Came { done, out }
 }
 

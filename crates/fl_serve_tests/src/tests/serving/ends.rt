@@ -3,7 +3,7 @@
 use super::messages::Messages;
 use super::{ended, replied, serve_bytes, served};
 use crate::tests::{MANY, count_is};
-use fl_serve::{Done, Fault, Open};
+use fl_serve::{Done, Fault, OpenGate};
 use fl_testing::{Source, bytes_after};
 use std::alloc::{AllocError, Global};
 use std::process::Abort;
@@ -76,7 +76,7 @@ fn end_by_a_read<R: Abort + Threads + Wait + Sync>(
         reads: 5,
     };
     let mut out = Vec::new(alloc);
-    let done = served(rt, alloc, &mut input, &mut out, workers, &Open);
+    let done = served(rt, alloc, &mut input, &mut out, workers, &OpenGate);
     ended(rt, alloc, &done, Some(Fault::Read), 8, workers);
     replied(rt, alloc, &out, 5, workers);
 }
@@ -105,7 +105,7 @@ fn end_by_a_destroy<R: Abort + Threads + Wait + Sync>(
         reads: MANY,
     };
     let mut out = Vec::new(alloc);
-    let done = served(rt, alloc, &mut input, &mut out, workers, &Open);
+    let done = served(rt, alloc, &mut input, &mut out, workers, &OpenGate);
     count_is(rt, input.reads, MANY - 1);
     count_is(rt, input.bytes.len(), 56);
     end_last(rt, alloc, &done, &out, workers);

@@ -4,7 +4,7 @@ use super::ends::{twenty_orders, twenty_orders_and, twenty_orders_and_a_destroy}
 use super::messages::Messages;
 use super::{ended, replied, served};
 use crate::tests::{MANY, count_is, fault_is};
-use fl_serve::{Fault, Open};
+use fl_serve::{Fault, OpenGate};
 use fl_testing::{Hiccup, Sink, Source};
 use std::alloc::Global;
 use std::io::ErrorKind;
@@ -22,7 +22,7 @@ fn sends_nothing<R: Abort + Threads + Wait + Sync>(
 ) {
     let mut input = messages.bytes.as_slice();
     let mut output = Sink::new(alloc, 16, 0, fails);
-    let done = served(rt, alloc, &mut input, &mut output, workers, &Open);
+    let done = served(rt, alloc, &mut input, &mut output, workers, &OpenGate);
     ended(rt, alloc, &done, Some(Fault::Write), 40, workers);
     assert!(rt; output.held.is_empty());
 }
@@ -51,7 +51,7 @@ fn has_fault<R: Abort + Threads + Wait + Sync>(
         reads,
     };
     let mut output = Sink::new(alloc, 16, 3, true);
-    let done = served(rt, alloc, &mut input, &mut output, 4, &Open);
+    let done = served(rt, alloc, &mut input, &mut output, 4, &OpenGate);
     fault_is(rt, done.fault, Some(fault));
     count_is(rt, output.held.len(), 48);
 }
@@ -74,7 +74,7 @@ fn stops_at<R: Abort + Threads + Wait + Sync>(
 ) {
     let mut input = messages.bytes.as_slice();
     let mut output = Hiccup::new(alloc, fails_at, ErrorKind::Other);
-    let done = served(rt, alloc, &mut input, &mut output, workers, &Open);
+    let done = served(rt, alloc, &mut input, &mut output, workers, &OpenGate);
     ended(rt, alloc, &done, Some(Fault::Write), 40, workers);
     count_is(rt, output.writes, fails_at.wrapping_add(1));
     replied(rt, alloc, &output.held, fails_at, workers);

@@ -3,7 +3,7 @@
 use super::talker::Talker;
 use super::{serve_stream, socket_pair};
 use crate::tests::fault_is;
-use fl_serve::{Done, Open};
+use fl_serve::{Done, OpenGate};
 use std::alloc::Global;
 use std::os::unix::net::UnixStream;
 use std::process::Abort;
@@ -40,7 +40,7 @@ fn an_idle_server_uses_no_processor_time(rt: HostRuntime) {
     for workers in [1, 16] {
         let (near, far) = socket_pair(&rt);
         let client = thread::spawn(&rt, move || used_in_a_second(&rt, alloc, near));
-        let done = serve_stream(&rt, alloc, far, workers, &Open);
+        let done = serve_stream(&rt, alloc, far, workers, &OpenGate);
         let used = client.expect(&rt, "a thread").join(&rt);
         has_idled(&rt, &done, used);
     }

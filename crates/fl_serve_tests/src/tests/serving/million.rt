@@ -4,7 +4,7 @@ use super::messages::{GETLK, Lock, Messages, READ, SETLK, SETLKW, UNLOCK, WRITE}
 use super::talker::{MOST_BODY, next_reply};
 use super::{asked_in, is_legal, serve_stream, socket_pair};
 use crate::tests::{count_is, fault_is};
-use fl_serve::{Done, Open};
+use fl_serve::{Done, OpenGate};
 use std::alloc::{AllocError, Global};
 use std::io::{BufReader, Write};
 use std::net::Shutdown;
@@ -172,7 +172,7 @@ fn a_million_orders(rt: HostRuntime) {
     let reads = near.try_clone().expect(&rt, "a socket");
     let sender = thread::spawn(&rt, move || send_all(&rt, alloc, near));
     let reader = thread::spawn(&rt, move || count_replies(&rt, alloc, reads));
-    let done = serve_stream(&rt, alloc, far, 4, &Open);
+    let done = serve_stream(&rt, alloc, far, 4, &OpenGate);
     sender.expect(&rt, "a thread").join(&rt);
     let counted = reader.expect(&rt, "a thread").join(&rt);
     is_whole(&rt, alloc, &done, &counted);

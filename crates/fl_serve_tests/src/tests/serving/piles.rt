@@ -4,7 +4,7 @@ use super::messages::Messages;
 use super::talker::read_replies;
 use super::{serve_stream, socket_pair};
 use crate::tests::{count_is, fault_is};
-use fl_serve::{Done, Open};
+use fl_serve::{Done, OpenGate};
 use std::alloc::Global;
 use std::io::Write;
 use std::net::Shutdown;
@@ -88,7 +88,7 @@ fn replies_pile_up(rt: HostRuntime) {
         let (writes, reads) = sides(&rt, alloc, near);
         let sender = thread::spawn(&rt, move || send_many(&rt, alloc, &writes));
         let reader = thread::spawn(&rt, move || read_late(&rt, alloc, &reads));
-        let done = serve_stream(&rt, alloc, far, workers, &Open);
+        let done = serve_stream(&rt, alloc, far, workers, &OpenGate);
         sender.expect(&rt, "a thread").join(&rt);
         let (before, replies) = reader.expect(&rt, "a thread").join(&rt);
         has_piled_up(&rt, &done, before, replies);

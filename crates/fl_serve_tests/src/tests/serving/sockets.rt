@@ -4,7 +4,7 @@ use super::messages::{GETLK, Lock, Messages, READ, SETLK, UNLOCK, WRITE, byte_lo
 use super::talker::{Talker, long_at, word_at};
 use super::{ended, serve_stream, socket_pair};
 use crate::tests::{count_is, fault_is};
-use fl_serve::{Done, Open};
+use fl_serve::{Done, OpenGate};
 use std::alloc::{AllocError, Global};
 use std::os::unix::net::UnixStream;
 use std::process::Abort;
@@ -65,7 +65,7 @@ fn a_lock_that_was_set_is_shown(rt: HostRuntime) {
     let alloc = rt.alloc();
     let (near, far) = socket_pair(&rt);
     let client = thread::spawn(&rt, move || shown_locks(&rt, alloc, near));
-    let done = serve_stream(&rt, alloc, far, 4, &Open);
+    let done = serve_stream(&rt, alloc, far, 4, &OpenGate);
     client.expect(&rt, "a thread").join(&rt);
     ended(&rt, alloc, &done, None, 600, 4);
 }
@@ -105,7 +105,7 @@ fn no_reply_stays_behind(rt: HostRuntime) {
     for workers in [1, 16] {
         let (near, far) = socket_pair(&rt);
         let client = thread::spawn(&rt, move || one_at_a_time(&rt, alloc, near));
-        let done = serve_stream(&rt, alloc, far, workers, &Open);
+        let done = serve_stream(&rt, alloc, far, workers, &OpenGate);
         let behind = client.expect(&rt, "a thread").join(&rt);
         has_all_replies(&rt, &done, behind);
     }

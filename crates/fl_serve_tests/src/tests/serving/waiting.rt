@@ -4,7 +4,7 @@ use super::messages::{SETLK, SETLKW, WRITE, byte_lock};
 use super::talker::Talker;
 use super::{asked_in, ended, serve_stream, socket_pair};
 use crate::tests::count_is;
-use fl_serve::{Done, Open};
+use fl_serve::{Done, OpenGate};
 use std::alloc::Global;
 use std::os::unix::net::UnixStream;
 use std::process::Abort;
@@ -47,7 +47,7 @@ fn requests_that_wait_have_no_reply(rt: HostRuntime) {
     for workers in [1, 16] {
         let (near, far) = socket_pair(&rt);
         let client = thread::spawn(&rt, move || ask_and_go(&rt, alloc, near));
-        let done = serve_stream(&rt, alloc, far, workers, &Open);
+        let done = serve_stream(&rt, alloc, far, workers, &OpenGate);
         let replies = client.expect(&rt, "a thread").join(&rt);
         ended(&rt, alloc, &done, None, 204, workers);
         has_no_replies(&rt, alloc, &done, replies);
