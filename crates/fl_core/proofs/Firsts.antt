@@ -63,7 +63,7 @@ not_there : (unique : ℕ) (parked : List Request) → IsNew unique parked → i
 not_there u [] new = refl
 not_there u (a ∷ parked) new = λ i. not_equal a.unique u new.0 i || not_there u parked new.1 i
 
--- no other has the unique of a request that waits
+-- no other has the unique of a parked request
 none_named : (u : ℕ) (parked : List Request) → AllByRecursion (λ (r : Request). r.unique ≢ u) parked → filter (λ (r : Request). r.unique == u) parked ≡ []
 none_named u [] all = refl
 none_named u (a ∷ parked) all = λ i. cond (not_equal a.unique u all.0 i) (a ∷ filter (λ (r : Request). r.unique == u) parked) (none_named u parked all.1 i)
@@ -197,7 +197,7 @@ told_so {p} {order} apart (waits_now ask fault c none few) =
 
 -- ---- any order
 
--- what is told by whether the order's unique is that of a request that waits
+-- what is told by whether the order's unique is that of a parked request
 abbrev told_if : Snapshot → Order → Bool → List Told
 told_if p order b =
     let reply = cond b (taken_reply order.op) (reply_to p.view p.marking order order.op) in

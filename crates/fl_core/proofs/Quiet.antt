@@ -49,7 +49,7 @@ all_without : (P : Request → Type 0) (older : List Request) (r : Request) (you
 all_without P [] r younger all = all
 all_without P (a ∷ older) r younger all = let rest = all_without P older r younger all.1 in (rest.0, (all.0, rest.1))
 
--- settling tells only those that wait
+-- settling tells only parked requests
 settled_others : {s after : Present} {tolds : List Told} (u : ℕ) → IsSettled s tolds after
     → AllByRecursion (λ (r : Request). r.unique ≢ u) s.parked → AreOthers u tolds
 settled_others u (done all) others = tt

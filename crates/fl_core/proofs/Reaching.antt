@@ -1,4 +1,4 @@
--- One pass over the requests that wait: the places of all owners are reached who pass a test.
+-- One pass over the parked requests: the places of all owners are reached who pass a test.
 use Rattle.std.proofs.Common.{◌≡◌, ◌≢◌, ℕ, ◌+◌, ◌<◌, ◌≤◌, Bool, ◌||◌, List, length, slice_index_or, set, get_or-set_same, get_or-set_other, inl, inr, ◌⊎◌, sym, ap, ◌∙◌, arith}
 use Rattle.std.proofs.lemmas.Bool.{cases_eq}
 use Rattle.fl_core.specs.Inside.Searching.{is_set, owner_at}

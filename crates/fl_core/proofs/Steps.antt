@@ -64,7 +64,7 @@ abbrev pub made_by : Effect → Snapshot → Snapshot
 made_by e p = record { view = e.view; marking = after_changes e.changes p.marking }
 
 module _ (order : Order) (p : Snapshot) where
-  -- its unique is none of a request that waits
+  -- its unique is none of a parked request
   module _ (fresh : is_parked order.unique p.view.parked ≡ false) (own : Option (Result Answer Errno))
       (own_is : own ≡ reply_to p.view p.marking order order.op) where
     abbrev ends : List Told
@@ -116,7 +116,7 @@ module _ (order : Order) (p : Snapshot) where
           ∙ made_replied order own (ends ++ rest) p all_others ∙ made_all-append ends rest (made (at_once order own) p) ∙ ap (made_all rest) read
           ∙ settled_read q apart_q ∙ sym next_is
 
-  -- its unique is that of a request that waits
+  -- its unique is that of a parked request
   module _ (taken : is_parked order.unique p.view.parked ≡ true) (waiting : AllWait p.marking p.view.parked) where
     abbrev told : List Told
     told = own_replies order (taken_reply order.op)
@@ -162,7 +162,7 @@ waiting_apart : (order : Order) (ask : Option LockAsk) (parked : List Request) �
 waiting_apart order None parked apart others = apart
 waiting_apart order (Some ask) parked apart others = apart_more parked (request_of order ask) apart others
 
--- requests that wait stay apart, where the order's unique was none of theirs
+-- parked requests stay apart, where the order's unique was none of theirs
 pub apart_after : (order : Order) (own : Option (Result Answer Errno)) (p : Snapshot) → is_parked order.unique p.view.parked ≡ false → AreApart p.view.parked
     → AreApart (made (by_reply order own) p).view.parked
 apart_after order (Some reply) p fresh apart = apart

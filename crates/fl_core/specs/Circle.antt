@@ -13,7 +13,7 @@ use Rattle.fl_core.specs.declared.parked.Request.{Request}
 
 -- ---- of any requests, with whose they are and whom each waits for
 
--- owner p waits for owner q: a request of p among those that wait does
+-- owner p waits for owner q: a parked request of p does
 pub record Waits {A : Type 0} (owner_of : A → ℕ) (hinders : A → ℕ → Bool) (waiting : List A) (p q : ℕ) : Type 0 where
   pub request : A
   pub among : Contains waiting request

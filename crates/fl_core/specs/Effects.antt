@@ -124,7 +124,7 @@ abbrev pub by_reply : Order → Option (Result Answer Errno) → View → Effect
 by_reply order None v = unanswered order order.op v
 by_reply order (Some reply) v = answered order order.op reply v
 
--- an order with its own reply, if it has one now; where its unique is that of a request that waits, it changes nothing
+-- an order with its own reply, if it has one now; where its unique is that of a parked request, it changes nothing
 abbrev pub at_once : Order → Option (Result Answer Errno) → View → Effect
 at_once order own v = if is_parked order.unique v.parked then leaving v else by_reply order own v
 

@@ -1,4 +1,4 @@
--- The replies that an order gives before any lock that came free is given to a request that waits, in words: a case for
+-- The replies that an order gives before any lock that came free is given to a parked request, in words: a case for
 -- each thing that can befall an order (POSIX.1-2017 `fcntl`, F_SETLKW; Linux `fuse.h`, FUSE_SETLKW and FUSE_INTERRUPT).
 use Rattle.std.specs.Prelude.{◌≡◌, ◌≢◌, ◌==◌, ◌≤◌, ◌<◌, ℕ, Bool, true, false, Some, None, Result, Ok, Err, List, [], ◌∷◌, ◌++◌}
 use Rattle.std.specs.Prelude.{length}
@@ -21,14 +21,14 @@ use Rattle.fl_order.specs.declared.order.Op.{Op}
 use Rattle.fl_order.specs.declared.order.Op.TheVariants.{Forget, Release, Setlkw, Interrupt}
 use Rattle.fl_order.specs.declared.order.Order.{Order}
 
--- this request is among those that wait, and has this unique
+-- this request is parked, and has this unique
 pub record IsWaiter (unique : ℕ) (parked : List Request) (r : Request) : Type 0 where
   pub older : List Request
   pub younger : List Request
   pub stands : parked ≡ older ++ r ∷ younger
   pub named : r.unique ≡ unique
 
--- no request that waits has this unique
+-- no parked request has this unique
 abbrev pub IsNew : ℕ → List Request → Type 0
 IsNew unique parked = AllByRecursion (λ (r : Request). r.unique ≢ unique) parked
 
@@ -43,7 +43,7 @@ is_alone _ = true
 abbrev pub own : Order → Result Answer Errno → Told
 own order result = record { unique = order.unique; result = result }
 
--- what an order gives whose unique is none of a request that waits
+-- what an order gives whose unique is none of a parked request
 pub data IsAnswered (p : Snapshot) (order : Order) : Op → List Told → Type 0 where
   alone : (op : Op) → is_alone op ≡ true
       → IsAnswered p order op (own_replies order (reply_to p.view p.marking order op))
@@ -54,7 +54,7 @@ pub data IsAnswered (p : Snapshot) (order : Order) : Op → List Told → Type 0
   closes : (fh : ℕ) (unlocks : Bool) (owner : ℕ) → is_open_on p.view.directory fh order.node ≡ true
       → IsAnswered p order (Release fh unlocks owner)
       (own order (Ok Done) ∷ ended_all EBADF (λ r. r.ask.fh == fh) p.view.parked)
-  -- INTERRUPT: of a request that waits, which alone is told; or of none
+  -- INTERRUPT: of a parked request, which alone is told; or of none
   interrupts : (unique : ℕ) (r : Request) → IsWaiter unique p.view.parked r
       → IsAnswered p order (Interrupt unique) (ended_with EINTR r ∷ [])
   interrupts_none : (unique : ℕ) → IsNew unique p.view.parked

@@ -117,7 +117,7 @@ directory_reply d order Open = Some (open_reply d order.node)
 directory_reply d order (Create excl mode name) = Some (create_reply d order.node order.uid order.gid excl mode name)
 directory_reply d order op = None
 
--- what an order is answered at once: one about locks or requests that wait, and any other
+-- what an order is answered at once: one about locks or parked requests, and any other
 abbrev pub reply_to : View → Marking → Order → Op → Option (Result Answer Errno)
 reply_to v m order (Release fh unlocks owner) = Some (file_reply v.directory order.node fh)
 reply_to v m order (Flush fh owner) = Some (file_reply v.directory order.node fh)
@@ -127,7 +127,7 @@ reply_to v m order (Setlkw ask) = setlkw_reply v m order.node ask
 reply_to v m order (Interrupt unique) = interrupt_reply v.parked unique
 reply_to v m order op = directory_reply v.directory order op
 
--- what an order is answered whose unique is that of a request that waits
+-- what an order is answered whose unique is that of a parked request
 abbrev pub taken_reply : Op → Option (Result Answer Errno)
 taken_reply (Forget n) = None
 taken_reply _ = Some (Err EINVAL)
@@ -142,7 +142,7 @@ abbrev pub own_replies : Order → Option (Result Answer Errno) → List Told
 own_replies order None = []
 own_replies order (Some result) = record { unique = order.unique; result = result } ∷ []
 
--- a request that waits is told an error, and goes
+-- a parked request is told an error, and goes
 abbrev pub ended_with : Errno → Request → Told
 ended_with e r = record { unique = r.unique; result = Err e }
 
@@ -176,11 +176,11 @@ ended_if (Some ending) parked = ended_all (error_of ending) (picks ending) parke
 abbrev pub ended_by : List Request → Op → Option (Result Answer Errno) → List Told
 ended_by parked op own = ended_if (ending_of op own) parked
 
--- the same, but none where the order's unique is that of a request that waits
+-- the same, but none where the order's unique is that of a parked request
 abbrev pub ended : View → Order → Option (Result Answer Errno) → List Told
 ended v order own = if is_parked order.unique v.parked then [] else ended_by v.parked order.op own
 
--- the replies that an order gives before any lock that came free is given to a request that waits
+-- the replies that an order gives before any lock that came free is given to a parked request
 abbrev pub first_told : Snapshot → Order → List Told
 first_told p order =
     let own = own_reply p.view p.marking order in

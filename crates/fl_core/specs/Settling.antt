@@ -1,4 +1,4 @@
--- Which requests that wait are answered once locks have changed.
+-- Which parked requests are answered once locks have changed.
 use Rattle.std.specs.Prelude.{◌≡◌, ℕ, zero, suc, false, not, Option, Some, None, Result, List, [], ◌∷◌, ◌++◌, length}
 use Rattle.fl_core.specs.Effects.{locked}
 use Rattle.fl_core.specs.LockRequest.{stroke_of}
@@ -11,7 +11,7 @@ use Rattle.fl_order.specs.declared.told.Told.{Told}
 use Rattle.fl_ranges.specs.Change.{after_changes}
 use Rattle.fl_ranges.specs.Marking.{Marking}
 
--- the locks, and the requests that wait in the order of asking
+-- the locks, and the parked requests in the order of asking
 pub record Present : Type 0 where
   pub marking : Marking
   pub parked : List Request

@@ -14,7 +14,7 @@ use Rattle.fl_order.specs.declared.told.Told.{Told}
 abbrev pub after_first : Snapshot → Order → Snapshot
 after_first p order = made (replied order (first_told p order)) p
 
--- the requests that wait are settled
+-- the parked requests are settled
 abbrev pub settling : Snapshot → Settled
 settling p = settled (present p.marking p.view.parked)
 
@@ -26,7 +26,7 @@ replies p order = first_told p order ++ (settling (after_first p order)).tolds
 abbrev pub replies_in : State → Order → List Told
 replies_in s order = replies (snapshot_of s) order
 
--- the locks and the requests that wait are these
+-- the locks and the parked requests are these
 abbrev pub with_present : Present → Snapshot → Snapshot
 with_present s p = record { view = record p.view { parked = s.parked }; marking = s.marking }
 
@@ -35,7 +35,7 @@ abbrev pub next : Snapshot → Order → Snapshot
 next p order = let first = after_first p order in with_present (settling first).present first
 
 -- Where the order is told an error itself, nobody else is told anything, and all is as it was before: the directory,
--- the requests that wait, and the locks.
+-- the parked requests, and the locks.
 abbrev pub ChangesNothing : Snapshot → Order → List Told → Snapshot → Type 0
 ChangesNothing before order tolds after =
     (e : Errno) → Contains tolds (own order (Err e)) → (tolds ≡ own order (Err e) ∷ []) × (after ≡ before)

@@ -1,4 +1,4 @@
--- Lock requests that wait, in the order of asking.
+-- Lock parked requests, in the order of asking.
 use Rattle.std.specs.Prelude.{◌≡◌, ◌≢◌, ℕ, ◌==◌, Bool, true, false, Option, Some, None, option_map, List, [], ◌∷◌, if◌then◌else◌}
 use Rattle.std.specs.List.{list_any, AllByRecursion}
 use Rattle.fl_ranges.specs.declared.lock.Mark.{Mark}

@@ -20,7 +20,7 @@ pub(crate) struct Wanted {
     pub kind: Kind,
 }
 
-// A mark at each place of a request that waits.
+// A mark at each place of a parked request.
 type Bits = [bool; MOST_PARKED];
 
 impl Parked {
@@ -40,8 +40,7 @@ impl Parked {
     }
 }
 
-// Copies the record locks that requests wait for, the oldest first, to the front of the room, and tells how many they
-// are.
+// Copies the record locks that requests wait for, the oldest first, to the front of the room, and tells how many they are.
 fn copy_wanted(claims: &Arena<Claim>, room: &mut [Wanted; MOST_PARKED]) -> usize
     requires chain { 0 < length claims.now.chains }
     requires few { length (items claims.now 0) ≤ MOST_PARKED }

@@ -1,4 +1,4 @@
-//! What takes orders: each is tested, answered and carried out, and requests that wait are settled.
+//! What takes orders: each is tested, answered and carried out, and parked requests are settled.
 
 ghost use Rattle.std.specs.Prelude.{◌≡◌, ◌≤◌, ◌↔◌, [], true, length, IfOk, IsSome};
 ghost use Rattle.fl_core.specs.Circle.{closes_circle};
@@ -19,7 +19,7 @@ use fl_ranges::{Key, Kind, Range};
 use std::alloc::Global;
 use std::marker::Model;
 
-/// The directory, the locks, and the requests that wait. Contracts see them as a `Snapshot`. Each request that waits
+/// The directory, the locks, and the parked requests. Contracts see them as a `Snapshot`. Each parked request
 /// conflicts with a lock that is held.
 #[derive(Drop)]
 pub struct Core {
@@ -51,7 +51,7 @@ impl Core {
         })
     }
 
-    /// Answers an order, makes its change, and answers requests that wait until each conflicts. It leaves the replies in
+    /// Answers an order, makes its change, and answers parked requests until each conflicts. It leaves the replies in
     /// `tolds`, in the place of those before.
     pub fn step(&mut self, order: &Order, tolds: &mut Tolds)
         ensures replies { tolds.new ≡ replies self.old order.now }
@@ -107,7 +107,7 @@ impl Core {
     }
 }
 
-// What an order is answered whose unique is that of a request that waits.
+// What an order is answered whose unique is that of a parked request.
 fn refusal(order: &Order) -> Option<Result<Answer, Errno>>
     ensures { result ≡ taken_reply order.now.op }
 {

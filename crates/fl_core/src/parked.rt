@@ -13,12 +13,12 @@ use fl_order::{LockAsk, NoMemory};
 use std::alloc::Global;
 use std::marker::Model;
 
-/// The most requests that wait at once.
+/// The most parked requests at once.
 pub(crate) const MOST_PARKED: usize = 256;
 
 const BUCKETS: usize = 256;
 
-/// A lock request that waits: the unique of its order, and what it asks on which node.
+/// A parked lock request: the unique of its order, and what it asks on which node.
 #[derive(Clone, Copy, Debug, PartialEq, Eq)]
 pub struct Request {
     /// The unique of its order.
@@ -33,10 +33,8 @@ pub struct Request {
 #[derive(Drop)]
 pub(crate) struct Parked {
     pub(crate) claims: Arena<Claim>,
-
-    // No request that waits has a greater unique. Those of a kernel rise, so that a new one is past all.
+    // No parked request has a greater unique. Those of a kernel rise, so that a new one is past all.
     greatest: u64,
-
     // How many wait on the nodes whose number has this remainder modulo 256.
     on_nodes: [u16; BUCKETS],
 }

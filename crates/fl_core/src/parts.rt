@@ -1,4 +1,4 @@
-//! What a core consists of, and what an order changes in it before requests that wait are settled.
+//! What a core consists of, and what an order changes in it before parked requests are settled.
 
 ghost use Rattle.std.specs.Prelude.{◌≡◌, ◌≤◌, ◌↔◌, ◌+◌, ◌++◌, true, false, length, IfOk, IsSome};
 ghost use Rattle.std.specs.List.{AllByRecursion};
@@ -26,14 +26,11 @@ use fl_ranges::{Class, Table};
 use std::alloc::Global;
 use std::marker::Model;
 
-/// The directory, the locks, and the requests that wait. Contracts see them as a `Snapshot`.
+/// The directory (names, nodes and open files), the locks that are held, and the parked requests. Contracts see a `Snapshot`.
 #[derive(Drop)]
 pub(crate) struct Parts {
-    /// Names, nodes and open files.
     pub directory: Dir,
-    /// The locks that are held.
     pub locks: Table,
-    /// The requests that wait.
     pub parked: Parked,
 }
 
@@ -85,7 +82,7 @@ impl Parts {
         ensures changed { self.new ≡ made (by_reply order.now result) self.old }
         ensures lawful { IsLawful self.old.marking → IsLawful self.new.marking }
 
-        // Only requests that wait for locks which the order touched can be free now.
+        // Only parked requests for locks which the order touched can be free now.
         ensures others { AllWait self.old.marking self.old.view.parked →
             OthersWait (touched_by order.now.node order.now.op result) self.new.marking self.new.view.parked }
     {
@@ -109,7 +106,7 @@ impl Parts {
         }
     }
 
-    /// Ends the requests that wait which the order ends, by what it was answered itself, and tells them.
+    /// Ends the parked requests which the order ends, by what it was answered itself, and tells them.
     pub(crate) fn end(
         &mut self,
         order: &Order,
@@ -126,7 +123,7 @@ impl Parts {
         }
     }
 
-    /// Answers requests that wait until each conflicts, where an order touched these locks.
+    /// Answers parked requests until each conflicts, where an order touched these locks.
     pub(crate) fn settle(&mut self, touched: Touched, tolds: &mut Tolds)
         requires others { OthersWait touched self.old.marking self.old.view.parked }
         requires room { length tolds.old + length self.old.view.parked ≤ MOST_TOLDS }
@@ -155,8 +152,7 @@ impl Parts {
         Ok(Answer::Done)
     }
 
-    // FUSE_RELEASE: the fh is closed, with `drop` the owner's whole-file lock goes, and with the last fh all locks of
-    // the node.
+    // FUSE_RELEASE: the fh is closed, with `drop` the owner's whole-file lock goes, and with the last fh all locks of the node.
     fn release(&mut self, node: u64, fh: u64, drop: bool, owner: u64) -> Result<Answer, Errno>
         ensures reply { result ≡ file_reply self.old.view.directory node fh }
         ensures view { self.new.view

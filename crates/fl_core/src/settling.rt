@@ -1,4 +1,4 @@
-//! Requests that wait, answered once locks have changed.
+//! Parked requests, answered once locks have changed.
 
 ghost use Rattle.std.specs.Prelude.{◌≡◌, ◌≤◌, ◌+◌, ◌++◌, false, None, Some, MatchOption, length};
 ghost use Rattle.std.specs.List.{AllByRecursion};
@@ -16,7 +16,7 @@ use crate::tolds::{MOST_TOLDS, Tolds};
 use fl_order::{Answer, Errno, Op, Order, Told};
 use fl_ranges::{Class, Table};
 
-/// Which locks may have gone, so that requests that wait for them may be free.
+/// Which locks may have gone, so that parked requests for them may be free.
 #[derive(Clone, Copy)]
 pub(crate) enum Touched {
     Nothing,

@@ -6,7 +6,7 @@ use fl_order::{NoMemory, Told};
 use std::alloc::Global;
 use std::marker::Model;
 
-/// The most replies that one order gives: its own, and one to each request that waits.
+/// The most replies that one order gives: its own, and one to each parked request.
 pub const MOST_TOLDS: usize = 257;
 
 /// The replies that one order gives, with room for all of them. Contracts see their list.

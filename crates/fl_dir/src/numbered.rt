@@ -54,13 +54,6 @@ impl<T: Copy> Numbered<T> {
         value_at(&self.entries, number)
     }
 
-    /// The number that comes next.
-    pub(crate) fn next(&self) -> u64
-        ensures { result ≡ self.now.next }
-    {
-        self.next
-    }
-
     /// Whether so many values are there as there may be, or all numbers are given.
     pub(crate) fn is_full(&self) -> bool
         ensures { result ≡ is_full self.now }

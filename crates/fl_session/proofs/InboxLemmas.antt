@@ -109,6 +109,26 @@ takes message rest rest_now whole parts = record {
       };
 }
 
+-- what stands behind the message that stands first
+pub drops_first : (buffer rest first : List ℕ) (from filled len : ℕ) → from ≤ filled → filled ≤ length buffer
+    → take (filled - from) (drop from buffer) ≡ rest → first_step rest ≡ Whole first → length first ≡ len
+    → take (filled - (from + len)) (drop (from + len) buffer) ≡ drop len rest
+drops_first buffer rest first from filled len order within view step long =
+    let all = ap length (whole_front rest first step) in
+    let fits : from + len ≤ filled = omega (
+      arith,
+      all,
+      long,
+      length-append first (drop (length first) rest),
+      ap length view,
+      length-take (filled - from) (drop from buffer),
+      length-drop from buffer,
+    ) in
+    let m = filled - (from + len) in
+    let split : filled - from ≡ len + m = omega arith in
+    sym (ap (drop len) (sym view) ∙ ap (λ k. drop len (take k (drop from buffer))) split
+    ∙ drop-take len m (drop from buffer) ∙ ap (take m) (drop-drop len from buffer))
+
 -- the message that stands first is taken
 pub takes_first : (buffer rest first message : List ℕ) (from filled len : ℕ) → from ≤ filled → filled ≤ length buffer
     → take (filled - from) (drop from buffer) ≡ rest → first_step rest ≡ Whole first → length first ≡ len

@@ -1,6 +1,6 @@
 //! A stream that is cut into messages.
 
-ghost use Rattle.std.specs.Prelude.{◌≡◌, ℕ, List, ◌≤◌, ◌<◌, ◌+◌, ◌-◌, take, drop, length, IfOk, OnErr};
+ghost use Rattle.std.specs.Prelude.{◌≡◌, ℕ, List, ◌≤◌, ◌<◌, ◌+◌, ◌-◌, ◌^◌, take, drop, length, IfOk, OnErr};
 ghost use Rattle.std.specs.Io.KnownBytes.{Consumes, IsAtEnd, Keeps};
 ghost use Rattle.fl_wire.specs.Cut.{first_step};
 ghost use Rattle.fl_wire.specs.Frame.{IsMessage};
@@ -52,7 +52,8 @@ impl Model for Inbox {
 impl Inbox {
     /// Nothing was read yet.
     pub fn new(alloc: Global) -> Result<Inbox, NoMemory>
-        ensures { IfOk result IsUnread }
+        ensures unread { IfOk result IsUnread }
+        ensures reads { IfOk result (λ made. made.reads ≡ 2 ^ 64 - 1) }
     {
         Ok(Inbox {
             buffer: vec![in alloc; 0; MESSAGE_BYTES]?,
@@ -73,6 +74,8 @@ impl Inbox {
     pub fn skip(&mut self, len: usize)
         requires whole { (message : List ℕ) × (first_step self.old.rest ≡ Step.Whole message) × (length message ≡ len) }
         requires some { 0 < len }
+        ensures rest { self.new.rest ≡ drop len self.old.rest }
+        ensures reads { self.new.reads ≡ self.old.reads }
         ensures shorter { length self.new.rest ≤ length self.old.rest }
         ensures less { work self.new < work self.old }
         ensures taken { (message : List ℕ) → first_step self.old.rest ≡ Step.Whole message → IsMessage message
@@ -85,6 +88,8 @@ impl Inbox {
     pub fn fill<R: Read>(&mut self, r: &mut R) -> Filled
         requires { first_step self.old.rest ≡ Step.More }
         ensures bounded { length self.new.rest ≤ 8192 }
+        ensures more { result ≡ Filled.More → length self.old.rest < length self.new.rest }
+        ensures reads { result ≡ Filled.More → self.new.reads + 1 ≡ self.old.reads }
         ensures less { result ≡ Filled.More → work self.new < work self.old }
         ensures read { ReadsOn (R.remaining r.old) (R.remaining r.new) self.old.rest self.new.rest }
         ensures end { IsEnd result self.new.rest (R.remaining r.new) }

@@ -1,6 +1,6 @@
 //! A whole session of the FUSE protocol with one worker, over any reader and any writer.
 
-ghost use Rattle.std.specs.Prelude.{◌≡◌, ℕ, Bool, false, List, [], Option, Some, IfOk};
+ghost use Rattle.std.specs.Prelude.{◌≡◌, ℕ, Bool, false, List, [], Option, None, Some, IfOk, IsSome, if◌then◌else◌};
 ghost use Rattle.std.specs.Io.KnownBytes.{Keeps};
 ghost use Rattle.fl_book.specs.Legal.{IsLegal};
 ghost use Rattle.fl_session.specs.Served.{EndsBy, IsRead, IsServed};
@@ -45,6 +45,8 @@ impl Fault {
     pub fn told(reader: Option<Fault>, broken: bool) -> Option<Fault>
         ensures ends { (came : List Came) (rest : List ℕ) (left : Option (List ℕ))
             → IsEnding reader (session_of came).over rest left → EndsBy result broken came rest left }
+        ensures reader { IsSome reader → result ≡ reader }
+        ensures writer { reader ≡ None → result ≡ (if broken then Some Fault.Write else None) }
         ensures memory { result ≡ Some Fault.NoMemory → reader ≡ Some Fault.NoMemory }
     {
         match reader {

@@ -1,4 +1,4 @@
--- What is kept beside the requests that wait, so that most orders needn't walk along them.
+-- What is kept beside the parked requests, so that most orders needn't walk along them.
 use Rattle.std.specs.Prelude.{◌≡◌, ℕ, ◌+◌, ◌%◌, ◌==◌, ◌≤◌, ◌<◌, List, [], ◌∷◌, slice_index_or, if◌then◌else◌}
 use Rattle.std.specs.List.{AllByRecursion}
 use Rattle.fl_core.specs.declared.parked.Request.{Request}

@@ -9,7 +9,7 @@ use Rattle.fl_order.specs.declared.errno.Errno.{Errno}
 use Rattle.fl_order.specs.declared.told.Answer.{Answer}
 use Rattle.fl_order.specs.declared.order.Op.{Op}
 
--- the requests that wait are these
+-- the parked requests are these
 abbrev pub with_parked : List Request → Snapshot → Snapshot
 with_parked parked p = record p { view = record p.view { parked = parked } }
 

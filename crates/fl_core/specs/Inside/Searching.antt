@@ -1,4 +1,4 @@
--- What the search for a circle keeps of the requests that wait.
+-- What the search for a circle keeps of the parked requests.
 use Rattle.std.specs.Prelude.{◌≡◌, ℕ, ◌≤◌, ◌<◌, Bool, false, ◌||◌, Option, Some, None, List, [], ◌∷◌, length, map, slice_index_or}
 use Rattle.fl_core.specs.Circle.{Wish}
 use Rattle.fl_core.specs.declared.circle.Wanted.{Wanted}

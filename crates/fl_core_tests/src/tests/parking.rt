@@ -1,4 +1,4 @@
-//! Orders that bear the unique of a request that waits.
+//! Orders that bear the unique of a parked request.
 
 use super::is_legal;
 

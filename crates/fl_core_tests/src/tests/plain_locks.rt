@@ -1,4 +1,4 @@
-//! A plain program of locks and of waiting: marks stand in a grid of bytes, and requests that wait in a list. It has no
+//! A plain program of locks and of waiting: marks stand in a grid of bytes, and parked requests in a list. It has no
 //! limits.
 
 use super::Reply;
@@ -148,7 +148,7 @@ impl PlainLocks {
         false
     }
 
-    // An order that bears the unique of a request that waits.
+    // An order that bears the unique of a parked request.
     fn refuse(&mut self, rt: &impl Abort, order: &Order) {
         self.counts.refused = self.counts.refused.saturating_add(1);
         if !matches!(order.op, Op::Forget(_)) {
@@ -357,7 +357,7 @@ impl PlainLocks {
         }
     }
 
-    // Ends those that wait through an fh that was closed.
+    // Ends parked requests that came through an fh that was closed.
     fn close(&mut self, rt: &impl Abort, fh: u64) {
         for _ in 0..self.parked.len() {
             if let Some(unique) = self.first_through(fh) {

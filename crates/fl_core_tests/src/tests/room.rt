@@ -69,7 +69,7 @@ fn free_others(rt: &impl Abort, alloc: Global, server: &mut Server) {
     free(rt, server, &tolds);
 }
 
-// With 256 requests that wait, one more is refused until another is interrupted.
+// With 256 parked requests, one more is refused until another is interrupted.
 #[test]
 fn one_request_more_than_256_is_refused(rt: HostRuntime) {
     let orders = "\

@@ -1,4 +1,4 @@
-//! Lock requests that wait, and what frees them.
+//! Lock parked requests, and what frees them.
 
 use super::is_legal;
 

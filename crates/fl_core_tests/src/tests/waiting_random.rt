@@ -121,7 +121,7 @@ fn random_unlock(numbers: &mut Numbers, fh: u64) -> Op {
     }
 }
 
-// The unique of a request that waits, or else another.
+// The unique of a parked request, or else another.
 fn random_unique(numbers: &mut Numbers, plain: &PlainLocks, other: u64) -> u64 {
     let place = numbers.below(64) as usize;
     match plain.parked.get(place) {
@@ -163,7 +163,7 @@ fn random_op(numbers: &mut Numbers, plain: &PlainLocks) -> (u64, Op) {
     (node, op)
 }
 
-// The order of a turn bears a unique of its own, but seldom that of a request that waits.
+// The order of a turn bears a unique of its own, but seldom that of a parked request.
 fn random_order(numbers: &mut Numbers, plain: &PlainLocks, turn: u64) -> Order {
     let (node, op) = random_op(numbers, plain);
     let unique = match numbers.below(40) {
@@ -197,7 +197,7 @@ fn take_turns(rt: &impl Abort, server: &mut Server, plain: &mut PlainLocks, seed
     }
 }
 
-// Closes what is open, which ends the requests that wait, the oldest first.
+// Closes what is open, which ends the parked requests, the oldest first.
 fn close_all(rt: &impl Abort, server: &mut Server, plain: &mut PlainLocks) {
     for fh in 1..plain.directory.next_fh() {
         if let Some(node) = plain.directory.node_of(fh) {

@@ -81,7 +81,7 @@ fn one_worker_takes_orders_as_they_came(rt: HostRuntime) {
     has_trace(&rt, rt.alloc(), &came.done.history, TRACE);
 }
 
-// Ten requests that wait, each of an owner of its own.
+// Ten parked requests, each of an owner of its own.
 fn wait(messages: &mut Messages) -> Result<(), AllocError> {
     for unique in 5u64..15 {
         let write = byte_lock(unique.wrapping_add(64), WRITE);
@@ -104,7 +104,7 @@ fn unlock(messages: &mut Messages) -> Result<(), AllocError> {
     messages.destroy(20)
 }
 
-// INIT, CREATE, and requests that wait, are interrupted, and are granted.
+// INIT, CREATE, and parked requests, are interrupted, and are granted.
 fn with_waiters(alloc: Global) -> Result<Messages, AllocError> {
     let mut messages = four_messages(alloc)?;
     wait(&mut messages)?;

@@ -46,7 +46,7 @@ fn all_bytes(unique: u64) -> Lock {
     }
 }
 
-// Whether the order of a unique has exactly one reply. A request that waits may have none, and so may an INTERRUPT.
+// Whether the order of a unique has exactly one reply. A parked request may have none, and so may an INTERRUPT.
 fn has_a_reply(unique: u64) -> bool {
     (3..16).contains(&(roll(unique) % 16))
 }

@@ -91,9 +91,9 @@ Done, done; bytes 0 to 4, write, pid 11; bytes 5 to 9, write, pid 12.
 < 2800000000000000060000000000000005000000000000000900000000000000010000000c000000
 ";
 
-/// Requests that wait for a file until its end. This is also the session of `examples/waiting.hex`.
+/// Parked requests for a file until its end. This is also the session of `examples/waiting.hex`.
 pub(crate) const WAITING: &str = "\
-# requests that wait
+# parked requests
 CREATE of `a`, mode octal 644.
 > 3a000000230000000200000000000000010000000000000000000000000000000000000000000000\
 00000000a481000000000000000000006100

@@ -17,7 +17,7 @@ use Rattle.fl_order.specs.declared.errno.Errno.{Errno}
 use Rattle.fl_order.specs.declared.order.Order.{Order}
 use Rattle.fl_order.specs.declared.told.Answer.{Answer}
 
--- ---- the order's unique is that of a request that waits
+-- ---- the order's unique is that of a parked request
 
 pub returns-then-has-clause-replies : goal.returns-then-has-clause-replies
 returns-then-has-clause-replies c =
