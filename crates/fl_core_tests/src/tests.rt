@@ -44,12 +44,26 @@ fn add(rt: &impl Abort, text: &mut Vec<u8>, piece: &[u8]) {
     text.extend_from_slice(piece).expect(rt, "no memory");
 }
 
-// The pieces are a legal history of so many lines, whose orders are answered without a step where they only read.
-fn is_legal(rt: &impl Abort, alloc: Global, lines: usize, pieces: &[&str]) {
-    let history = history_of(rt, alloc, pieces);
+// The text is a legal history of so many lines, whose orders are answered without a step where they only read.
+fn is_legal(rt: &(impl Abort + AllocGlobal), lines: usize, orders: &str) {
+    are_legal(rt, lines, &[orders]);
+}
+
+// So it is behind another, and the lines of both are so many.
+fn is_legal_after(rt: &(impl Abort + AllocGlobal), lines: usize, before: &str, orders: &str) {
+    are_legal(rt, lines, &[before, orders]);
+}
+
+// So are these pieces, one behind the other.
+fn are_legal(rt: &(impl Abort + AllocGlobal), lines: usize, pieces: &[&str]) {
+    let history = history_of(rt, rt.alloc(), pieces);
+    check_history(rt, rt.alloc(), lines, &history);
+}
+
+fn check_history(rt: &impl Abort, alloc: Global, lines: usize, history: &History) {
     assert_eq!(rt; history.len(), lines);
-    assert_legal(rt, &check(alloc, &history));
-    follow(rt, alloc, &history);
+    assert_legal(rt, &check(alloc, history));
+    follow(rt, alloc, history);
 }
 
 fn assert_legal(rt: &impl Abort, verdict: &Result<Verdict, NoMemory>) {
@@ -57,7 +71,9 @@ fn assert_legal(rt: &impl Abort, verdict: &Result<Verdict, NoMemory>) {
 }
 
 fn follow(rt: &impl Abort, alloc: Global, history: &History) {
-    Server::new(rt, alloc).follow(rt, history);
+    let mut server = Server::new(rt, alloc);
+    server.follow(rt, history);
+    server.end();
 }
 
 // A core, and the replies to its last order.
@@ -74,6 +90,9 @@ impl Server {
             tolds: Tolds::new(alloc).expect(rt, "no memory"),
         }
     }
+
+    // Nothing more is asked. It is proved here once, and not in each test, that a server can go.
+    fn end(self) {}
 
     // Takes an order. If it only reads, it is answered the same without a step, before it and after. If not, it isn't
     // answered so.

@@ -16,6 +16,13 @@ fn check_closers(rt: &impl Abort, server: &Server, node: u64, closers: &[u64]) {
     }
 }
 
+fn with_orders(rt: &impl Abort, alloc: Global, orders: &str) -> Server {
+    let history = history_of(rt, alloc, &[WITH_FILES, WITH_THREE, orders]);
+    let mut server = Server::new(rt, alloc);
+    server.follow(rt, &history);
+    server
+}
+
 // After these orders the closers of nodes 2, 3 and 4 are these. Node 5 isn't there.
 fn check_all(
     rt: &impl Abort,
@@ -25,15 +32,12 @@ fn check_all(
     third: &[u64],
     fourth: &[u64],
 ) {
-    let mut server = Server::new(rt, alloc);
-    server.follow(
-        rt,
-        &history_of(rt, alloc, &[WITH_FILES, WITH_THREE, orders]),
-    );
+    let server = with_orders(rt, alloc, orders);
     check_closers(rt, &server, 2, second);
     check_closers(rt, &server, 3, third);
     check_closers(rt, &server, 4, fourth);
     check_closers(rt, &server, 5, &[]);
+    server.end();
 }
 
 #[test]
