@@ -22,7 +22,7 @@ mod waiting_random;
 
 use fl_book::{History, Line, Verdict, check, read_trace};
 use fl_core::{Core, Tolds};
-use fl_order::{Answer, Errno, NoMemory, Op, Order, Told};
+use fl_order::{Answer, Errno, Op, Order, Told};
 use fl_ranges::{Class, Key, Kind, Range};
 use orders::{DONE, WRITE, create, lock, made, numbered, order};
 use std::alloc::Global;
@@ -62,12 +62,13 @@ fn are_legal(rt: &(impl Abort + AllocGlobal), lines: usize, pieces: &[&str]) {
 
 fn check_history(rt: &impl Abort, alloc: Global, lines: usize, history: &History) {
     assert_eq!(rt; history.len(), lines);
-    assert_legal(rt, &check(alloc, history));
+    let verdict = check(alloc, history).expect(rt, "no memory");
+    assert_legal(rt, &verdict);
     follow(rt, alloc, history);
 }
 
-fn assert_legal(rt: &impl Abort, verdict: &Result<Verdict, NoMemory>) {
-    assert_eq!(rt; *verdict, Ok(Verdict::Legal));
+fn assert_legal(rt: &impl Abort, verdict: &Verdict) {
+    assert_eq!(rt; *verdict, Verdict::Legal);
 }
 
 fn follow(rt: &impl Abort, alloc: Global, history: &History) {
@@ -169,7 +170,8 @@ impl Server {
                     seen = 0;
                 }
                 Line::Told(told) => {
-                    assert_told(rt, self.tolds.as_slice().get(seen), &told);
+                    let found = self.tolds.as_slice().get(seen);
+                    assert_told(rt, found.expect(rt, "no reply"), &told);
                     seen = seen.saturating_add(1);
                 }
             }
@@ -199,8 +201,8 @@ fn assert_answer(rt: &impl Abort, unique: u64, answer: Option<Reply>, tolds: &[T
     assert_tolds(rt, unique, tolds, &[wanted]);
 }
 
-fn assert_told(rt: &impl Abort, found: Option<&Told>, wanted: &Told) {
-    assert_eq!(rt; found, Some(wanted));
+fn assert_told(rt: &impl Abort, found: &Told, wanted: &Told) {
+    assert_eq!(rt; *found, *wanted);
 }
 
 fn assert_tolds(rt: &impl Abort, unique: u64, found: &[Told], wanted: &[Told]) {

@@ -7,10 +7,19 @@ use fl_ranges::Kind;
 use std::alloc::Global;
 use std::process::Abort;
 
+fn is_one_of(owner: u64, closers: &[u64]) -> bool {
+    for closer in closers.iter() {
+        if *closer == owner {
+            return true;
+        }
+    }
+    false
+}
+
 // Of the owners from 6 to 10 those whose request would close one, of either kind, are these.
 fn check_closers(rt: &impl Abort, server: &Server, node: u64, closers: &[u64]) {
     for owner in 6..11u64 {
-        let wanted = closers.contains(&owner);
+        let wanted = is_one_of(owner, closers);
         server.check_closes(rt, owner, node, Kind::Write, wanted);
         server.check_closes(rt, owner, node, Kind::Read, wanted);
     }
