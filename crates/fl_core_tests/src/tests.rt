@@ -156,7 +156,12 @@ impl Server {
 
     // Each order of the text gives the replies behind it.
     fn goes_on(&mut self, rt: &impl Abort, alloc: Global, text: &str) {
-        self.follow(rt, &history_of(rt, alloc, &[text]));
+        self.goes_on_by(rt, alloc, &[text]);
+    }
+
+    // The same of these texts, one behind the other.
+    fn goes_on_by(&mut self, rt: &impl Abort, alloc: Global, pieces: &[&str]) {
+        self.follow(rt, &history_of(rt, alloc, pieces));
     }
 
     // Each order of the history gives the replies behind it.

@@ -1,8 +1,8 @@
 //! Circles that a request would close, told without an order.
 
+use super::Server;
 use super::circles::WITH_FILES;
 use super::circles_cut::WITH_THREE;
-use super::{Server, history_of};
 use fl_ranges::Kind;
 use std::alloc::Global;
 use std::process::Abort;
@@ -26,9 +26,8 @@ fn check_closers(rt: &impl Abort, server: &Server, node: u64, closers: &[u64]) {
 }
 
 fn with_orders(rt: &impl Abort, alloc: Global, orders: &str) -> Server {
-    let history = history_of(rt, alloc, &[WITH_FILES, WITH_THREE, orders]);
     let mut server = Server::new(rt, alloc);
-    server.follow(rt, &history);
+    server.goes_on_by(rt, alloc, &[WITH_FILES, WITH_THREE, orders]);
     server
 }
 

@@ -35,12 +35,12 @@ fn check_parked(rt: &impl Abort, core: &Core, plain: &PlainLocks, unique: u64) {
 
 // A request that can wait would close a circle where the plain program says so, whether it has to wait or not.
 fn check_circle(rt: &impl Abort, core: &Core, plain: &PlainLocks, order: &Order) {
-    let Op::Setlkw(ask) = order.op else {
+    let Op::Setlkw(ask) = &order.op else {
         return;
     };
-    if let Some(range) = range_of(&ask) {
-        let wanted = plain.closes_circle(&request_of(order, &ask));
-        assert_eq!(rt; closes(core, order.node, &ask, &range), wanted);
+    if let Some(range) = range_of(ask) {
+        let wanted = plain.closes_circle(&request_of(order, ask));
+        assert_eq!(rt; closes(core, order.node, ask, &range), wanted);
     }
 }
 
