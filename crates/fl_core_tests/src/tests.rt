@@ -22,7 +22,7 @@ mod waiting_random;
 
 use fl_book::{History, Line, Verdict, check, read_trace};
 use fl_core::{Core, Tolds};
-use fl_order::{Answer, Errno, NoMemory, Op, Order, Told};
+use fl_order::{Answer, Errno, Op, Order, Told};
 use fl_ranges::{Class, Key, Kind, Range};
 use orders::{DONE, WRITE, create, lock, made, numbered, order};
 use std::alloc::Global;
@@ -44,20 +44,37 @@ fn add(rt: &impl Abort, text: &mut Vec<u8>, piece: &[u8]) {
     text.extend_from_slice(piece).expect(rt, "no memory");
 }
 
-// The pieces are a legal history of so many lines, whose orders are answered without a step where they only read.
-fn is_legal(rt: &impl Abort, alloc: Global, lines: usize, pieces: &[&str]) {
-    let history = history_of(rt, alloc, pieces);
-    assert_eq!(rt; history.len(), lines);
-    assert_legal(rt, &check(alloc, &history));
-    follow(rt, alloc, &history);
+// The text is a legal history of so many lines, whose orders are answered without a step where they only read.
+fn is_legal(rt: &(impl Abort + AllocGlobal), lines: usize, orders: &str) {
+    are_legal(rt, lines, &[orders]);
 }
 
-fn assert_legal(rt: &impl Abort, verdict: &Result<Verdict, NoMemory>) {
-    assert_eq!(rt; *verdict, Ok(Verdict::Legal));
+// So it is behind another, and the lines of both are so many.
+fn is_legal_after(rt: &(impl Abort + AllocGlobal), lines: usize, before: &str, orders: &str) {
+    are_legal(rt, lines, &[before, orders]);
+}
+
+// So are these pieces, one behind the other.
+fn are_legal(rt: &(impl Abort + AllocGlobal), lines: usize, pieces: &[&str]) {
+    let history = history_of(rt, rt.alloc(), pieces);
+    check_history(rt, rt.alloc(), lines, &history);
+}
+
+fn check_history(rt: &impl Abort, alloc: Global, lines: usize, history: &History) {
+    assert_eq!(rt; history.len(), lines);
+    let verdict = check(alloc, history).expect(rt, "no memory");
+    assert_legal(rt, &verdict);
+    follow(rt, alloc, history);
+}
+
+fn assert_legal(rt: &impl Abort, verdict: &Verdict) {
+    assert_eq!(rt; *verdict, Verdict::Legal);
 }
 
 fn follow(rt: &impl Abort, alloc: Global, history: &History) {
-    Server::new(rt, alloc).follow(rt, history);
+    let mut server = Server::new(rt, alloc);
+    server.follow(rt, history);
+    server.end();
 }
 
 // A core, and the replies to its last order.
@@ -74,6 +91,9 @@ impl Server {
             tolds: Tolds::new(alloc).expect(rt, "no memory"),
         }
     }
+
+    // Nothing more is asked. It is proved here once, and not in each test, that a server can go.
+    fn end(self) {}
 
     // Takes an order. If it only reads, it is answered the same without a step, before it and after. If not, it isn't
     // answered so.
@@ -136,7 +156,12 @@ impl Server {
 
     // Each order of the text gives the replies behind it.
     fn goes_on(&mut self, rt: &impl Abort, alloc: Global, text: &str) {
-        self.follow(rt, &history_of(rt, alloc, &[text]));
+        self.goes_on_by(rt, alloc, &[text]);
+    }
+
+    // The same of these texts, one behind the other.
+    fn goes_on_by(&mut self, rt: &impl Abort, alloc: Global, pieces: &[&str]) {
+        self.follow(rt, &history_of(rt, alloc, pieces));
     }
 
     // Each order of the history gives the replies behind it.
@@ -150,7 +175,8 @@ impl Server {
                     seen = 0;
                 }
                 Line::Told(told) => {
-                    assert_told(rt, self.tolds.as_slice().get(seen), &told);
+                    let found = self.tolds.as_slice().get(seen);
+                    assert_told(rt, found.expect(rt, "no reply"), &told);
                     seen = seen.saturating_add(1);
                 }
             }
@@ -180,8 +206,8 @@ fn assert_answer(rt: &impl Abort, unique: u64, answer: Option<Reply>, tolds: &[T
     assert_tolds(rt, unique, tolds, &[wanted]);
 }
 
-fn assert_told(rt: &impl Abort, found: Option<&Told>, wanted: &Told) {
-    assert_eq!(rt; found, Some(wanted));
+fn assert_told(rt: &impl Abort, found: &Told, wanted: &Told) {
+    assert_eq!(rt; *found, *wanted);
 }
 
 fn assert_tolds(rt: &impl Abort, unique: u64, found: &[Told], wanted: &[Told]) {

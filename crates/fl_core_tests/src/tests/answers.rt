@@ -52,7 +52,7 @@ ask 0 1002 2 5 6 0 forget 1
 ask 0 1002 2 5 6 0 getattr
 tell 1002 err 2
 ";
-    is_legal(&rt, rt.alloc(), 46, &[orders]);
+    is_legal(&rt, 46, orders);
 }
 
 // A lock is told whole, and not the bytes alone that were asked for (POSIX.1-2017 `fcntl`, F_GETLK).
@@ -70,5 +70,5 @@ tell 4 lock 2 8 1 7
 ask 0 5 2 5 6 0 getlk 1 8 8 99 1 8 0
 tell 5 lock 2 8 1 7
 ";
-    is_legal(&rt, rt.alloc(), 10, &[orders]);
+    is_legal(&rt, 10, orders);
 }

@@ -76,6 +76,7 @@ fn check_circle(rt: &impl Abort, alloc: Global, many: u64) {
     let mut server = with_row(rt, alloc, many);
     is_refused(rt, &mut server, many.saturating_sub(1), 0);
     waits(rt, &mut server, many, 0);
+    server.end();
 }
 
 // So it is where the last one of those who wait asked first.
@@ -83,6 +84,7 @@ fn check_backwards(rt: &impl Abort, alloc: Global, many: u64, last: u64) {
     let mut server = with_holders(rt, alloc, many);
     park_backwards(rt, &mut server, last);
     is_refused(rt, &mut server, last, 0);
+    server.end();
 }
 
 // Where one of them doesn't wait, the last one does, and then this one's request is refused.
@@ -91,6 +93,7 @@ fn check_gap(rt: &impl Abort, alloc: Global, many: u64, last: u64, gap: u64) {
     park(rt, &mut server, last, gap);
     waits(rt, &mut server, last, 0);
     is_refused(rt, &mut server, gap, gap.wrapping_add(1));
+    server.end();
 }
 
 // A circle of so many owners, and rows that lack the first, a middle and the last request of it.
@@ -138,7 +141,9 @@ ask 0 5 2 5 6 0 setlkw 1 300 0 0 1 300 0
 ask 0 6 2 5 6 0 setlkw 1 256 0 0 1 256 0
 tell 6 err 37
 ";
-    with_row(&rt, rt.alloc(), 256).goes_on(&rt, rt.alloc(), orders);
+    let mut server = with_row(&rt, rt.alloc(), 256);
+    server.goes_on(&rt, rt.alloc(), orders);
+    server.end();
 }
 
 // The owner of a row of 20 closes a circle with those before it.
@@ -155,6 +160,7 @@ fn each_owner_of_a_row_closes_a_circle_with_those_before(rt: HostRuntime) {
     for owner in 0..21u64 {
         check_closes(&rt, &server, owner);
     }
+    server.end();
 }
 
 // The owner gets a read lock of byte 9 of the second file.
@@ -186,6 +192,7 @@ tell 3 err 35
     let mut server = with_readers(rt, alloc);
     server.is_silent(rt, &order(5, 2, wait(1, one, 0, READ)));
     server.goes_on(rt, alloc, orders);
+    server.end();
 }
 
 #[test]

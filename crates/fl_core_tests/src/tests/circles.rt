@@ -1,6 +1,6 @@
 //! Circles of owners who wait for each other's record locks, and what looks like one.
 
-use super::is_legal;
+use super::{are_legal, is_legal_after};
 
 // Nodes 2, 3 and 4 are open as fh 1, 2 and 3, and node 4 as fh 4 too.
 pub(super) const WITH_FILES: &str = "\
@@ -36,7 +36,7 @@ tell 9 ok
 tell 4 ok
 ask 0 5 2 5 6 0 setlkw 1 8 0 0 1 8 0
 ";
-    is_legal(&rt, rt.alloc(), 26, &[WITH_FILES, orders]);
+    is_legal_after(&rt, 26, WITH_FILES, orders);
 }
 
 #[test]
@@ -53,7 +53,7 @@ ask 0 6 2 5 6 0 setlk 1 8 0 9 2 8 0
 tell 6 ok
 tell 4 ok
 ";
-    is_legal(&rt, rt.alloc(), 18, &[WITH_FILES, orders]);
+    is_legal_after(&rt, 18, WITH_FILES, orders);
 }
 
 #[test]
@@ -75,7 +75,7 @@ ask 0 9 2 5 6 0 setlk 1 8 0 0 2 8 0
 tell 9 ok
 ask 0 10 2 5 6 0 setlkw 1 9 0 0 1 9 0
 ";
-    is_legal(&rt, rt.alloc(), 23, &[WITH_FILES, orders]);
+    is_legal_after(&rt, 23, WITH_FILES, orders);
 }
 
 #[test]
@@ -97,7 +97,7 @@ ask 0 9 4 5 6 0 setlkw 4 8 5 5 0 8 0
 ask 0 10 3 5 6 0 setlkw 2 9 1 1 0 9 0
 tell 10 err 35
 ";
-    is_legal(&rt, rt.alloc(), 23, &[WITH_FILES, orders]);
+    is_legal_after(&rt, 23, WITH_FILES, orders);
 }
 
 #[test]
@@ -120,7 +120,7 @@ ask 0 10 4 5 6 0 setlkw 4 7 0 5 0 7 0
 tell 10 err 35
 ask 0 11 4 5 6 0 setlkw 4 7 0 4 0 7 0
 ";
-    is_legal(&rt, rt.alloc(), 24, &[WITH_FILES, orders]);
+    is_legal_after(&rt, 24, WITH_FILES, orders);
 }
 
 // Owner 7 has locked node 2, and 19 requests of it wait for locks of as many owners who wait for nobody.
@@ -203,7 +203,7 @@ ask 0 8 2 5 6 0 interrupt 119
 tell 119 err 4
 ask 0 6 2 5 6 0 setlkw 1 8 0 0 1 8 0
 ";
-    is_legal(&rt, rt.alloc(), 80, &[WITH_FILES, PARK_19, orders]);
+    are_legal(&rt, 80, &[WITH_FILES, PARK_19, orders]);
 }
 
 #[test]
@@ -229,7 +229,7 @@ ask 0 11 2 5 6 0 interrupt 7
 tell 7 err 4
 ask 0 12 2 5 6 0 setlkw 1 9 0 0 1 9 0
 ";
-    is_legal(&rt, rt.alloc(), 27, &[WITH_FILES, orders]);
+    is_legal_after(&rt, 27, WITH_FILES, orders);
 }
 
 #[test]
@@ -256,7 +256,7 @@ ask 0 12 2 5 6 0 setlkw 1 8 5 6 0 8 0
 ask 0 13 2 5 6 0 setlkw 1 8 5 6 1 8 0
 tell 13 err 35
 ";
-    is_legal(&rt, rt.alloc(), 28, &[WITH_FILES, orders]);
+    is_legal_after(&rt, 28, WITH_FILES, orders);
 }
 
 #[test]
@@ -277,7 +277,7 @@ ask 0 9 2 5 6 0 setlk 1 7 0 0 2 7 1
 tell 9 ok
 tell 5 ok
 ";
-    is_legal(&rt, rt.alloc(), 22, &[WITH_FILES, orders]);
+    is_legal_after(&rt, 22, WITH_FILES, orders);
 }
 
 #[test]
@@ -299,5 +299,5 @@ ask 0 10 2 5 6 0 setlk 1 7 0 0 1 7 1
 tell 10 ok
 ask 0 11 2 5 6 0 setlkw 1 8 0 0 1 8 1
 ";
-    is_legal(&rt, rt.alloc(), 23, &[WITH_FILES, orders]);
+    is_legal_after(&rt, 23, WITH_FILES, orders);
 }

@@ -1,7 +1,8 @@
 //! Circles that exist or that a request would close, and what cuts them.
 
+use super::are_legal;
 use super::circles::WITH_FILES;
-use super::is_legal;
+use std::process::Abort;
 
 // A grant closes a circle of owners 7 and 8, which nobody is told: 7 has a lock on node 2 and waits on node 3, and 8
 // the other way round.
@@ -30,7 +31,7 @@ ask 0 12 4 5 6 0 setlk 3 10 9 9 1 10 0
 tell 12 ok
 ask 0 13 4 5 6 0 setlkw 3 11 0 9 1 11 0
 ";
-    is_legal(&rt, rt.alloc(), 26, &[WITH_FILES, WITH_CIRCLE, orders]);
+    are_legal(&rt, 26, &[WITH_FILES, WITH_CIRCLE, orders]);
 }
 
 #[test]
@@ -47,7 +48,7 @@ tell 12 err 35
 ask 0 13 2 5 6 0 setlkw 1 9 0 0 0 9 0
 tell 13 err 35
 ";
-    is_legal(&rt, rt.alloc(), 28, &[WITH_FILES, WITH_CIRCLE, orders]);
+    are_legal(&rt, 28, &[WITH_FILES, WITH_CIRCLE, orders]);
 }
 
 // Owners 7, 8 and 9 have locked nodes 2, 3 and 4. 7 waits for 8 with unique 17, and 8 for 9 with unique 18 through
@@ -64,6 +65,11 @@ ask 0 18 4 5 6 0 setlkw 4 8 0 0 1 8 0
 ask 0 19 2 5 6 0 setlkw 1 9 0 0 1 9 0
 tell 19 err 35
 ";
+
+// The orders behind those are legal.
+fn is_legal_after_three(rt: &(impl Abort + AllocGlobal), lines: usize, orders: &str) {
+    are_legal(rt, lines, &[WITH_FILES, WITH_THREE, orders]);
+}
 
 #[test]
 fn a_request_waits_once_its_circle_is_cut(rt: HostRuntime) {
@@ -101,22 +107,12 @@ tell 20 ok
 tell 18 err 9
 ask 0 19 2 5 6 0 setlkw 1 9 0 0 1 9 0
 ";
-    is_legal(&rt, rt.alloc(), 21, &[WITH_FILES, WITH_THREE, interrupted]);
-    is_legal(
-        &rt,
-        rt.alloc(),
-        21,
-        &[WITH_FILES, WITH_THREE, the_next_interrupted],
-    );
-    is_legal(&rt, rt.alloc(), 22, &[WITH_FILES, WITH_THREE, flushed]);
-    is_legal(&rt, rt.alloc(), 22, &[WITH_FILES, WITH_THREE, unlocked]);
-    is_legal(&rt, rt.alloc(), 22, &[WITH_FILES, WITH_THREE, closed]);
-    is_legal(
-        &rt,
-        rt.alloc(),
-        22,
-        &[WITH_FILES, WITH_THREE, the_next_closed],
-    );
+    is_legal_after_three(&rt, 21, interrupted);
+    is_legal_after_three(&rt, 21, the_next_interrupted);
+    is_legal_after_three(&rt, 22, flushed);
+    is_legal_after_three(&rt, 22, unlocked);
+    is_legal_after_three(&rt, 22, closed);
+    is_legal_after_three(&rt, 22, the_next_closed);
 }
 
 #[test]
@@ -135,7 +131,7 @@ tell 24 err 11
 ask 0 19 2 5 6 0 setlkw 1 9 0 0 1 9 0
 tell 19 err 35
 ";
-    is_legal(&rt, rt.alloc(), 30, &[WITH_FILES, WITH_THREE, orders]);
+    is_legal_after_three(&rt, 30, orders);
 }
 
 #[test]
@@ -157,5 +153,5 @@ ask 0 25 3 5 6 0 setlkw 2 8 0 0 2 8 0
 tell 25 ok
 tell 17 ok
 ";
-    is_legal(&rt, rt.alloc(), 33, &[WITH_FILES, WITH_THREE, orders]);
+    is_legal_after_three(&rt, 33, orders);
 }

@@ -1,19 +1,34 @@
 //! Circles that a request would close, told without an order.
 
+use super::Server;
 use super::circles::WITH_FILES;
 use super::circles_cut::WITH_THREE;
-use super::{Server, history_of};
 use fl_ranges::Kind;
 use std::alloc::Global;
 use std::process::Abort;
 
+fn is_one_of(owner: u64, closers: &[u64]) -> bool {
+    for closer in closers.iter() {
+        if *closer == owner {
+            return true;
+        }
+    }
+    false
+}
+
 // Of the owners from 6 to 10 those whose request would close one, of either kind, are these.
 fn check_closers(rt: &impl Abort, server: &Server, node: u64, closers: &[u64]) {
     for owner in 6..11u64 {
-        let wanted = closers.contains(&owner);
+        let wanted = is_one_of(owner, closers);
         server.check_closes(rt, owner, node, Kind::Write, wanted);
         server.check_closes(rt, owner, node, Kind::Read, wanted);
     }
+}
+
+fn with_orders(rt: &impl Abort, alloc: Global, orders: &str) -> Server {
+    let mut server = Server::new(rt, alloc);
+    server.goes_on_by(rt, alloc, &[WITH_FILES, WITH_THREE, orders]);
+    server
 }
 
 // After these orders the closers of nodes 2, 3 and 4 are these. Node 5 isn't there.
@@ -25,15 +40,12 @@ fn check_all(
     third: &[u64],
     fourth: &[u64],
 ) {
-    let mut server = Server::new(rt, alloc);
-    server.follow(
-        rt,
-        &history_of(rt, alloc, &[WITH_FILES, WITH_THREE, orders]),
-    );
+    let server = with_orders(rt, alloc, orders);
     check_closers(rt, &server, 2, second);
     check_closers(rt, &server, 3, third);
     check_closers(rt, &server, 4, fourth);
     check_closers(rt, &server, 5, &[]);
+    server.end();
 }
 
 #[test]

@@ -1,6 +1,6 @@
 //! Each error of each order, and the first of two where both apply.
 
-use super::is_legal;
+use super::{is_legal, is_legal_after};
 
 #[test]
 fn names_are_refused_by_the_first_test(rt: HostRuntime) {
@@ -48,7 +48,7 @@ tell 1001 made 2 33188 1 5 6 2
 ask 0 1001 1 5 6 0 create 1 420 62
 tell 1001 made 3 33188 1 5 6 3
 ";
-    is_legal(&rt, rt.alloc(), 42, &[orders]);
+    is_legal(&rt, 42, orders);
 }
 
 #[test]
@@ -103,7 +103,7 @@ tell 1002 err 20
 ask 0 1001 1 5 6 0 create 1 420 2e2e2e
 tell 1001 made 4 33188 1 5 6 4
 ";
-    is_legal(&rt, rt.alloc(), 48, &[orders]);
+    is_legal(&rt, 48, orders);
 }
 
 #[test]
@@ -180,7 +180,7 @@ tell 1003 ok
 ask 0 1003 3 5 6 0 release 2 1 7
 tell 1003 ok
 ";
-    is_legal(&rt, rt.alloc(), 70, &[orders]);
+    is_legal(&rt, 70, orders);
 }
 
 // Node 2 is open as fh 1.
@@ -229,7 +229,7 @@ tell 1001 err 9
 ask 0 1001 1 5 6 0 getlk 1 7 5 9 0 7 3
 tell 1001 err 9
 ";
-    is_legal(&rt, rt.alloc(), 38, &[ONE_FILE, orders]);
+    is_legal_after(&rt, 38, ONE_FILE, orders);
 }
 
 #[test]
@@ -272,7 +272,7 @@ tell 1001 err 9
 ask 0 1001 1 5 6 0 getlk 1 7 5 9 3 7 1
 tell 1001 err 9
 ";
-    is_legal(&rt, rt.alloc(), 38, &[ONE_FILE, orders]);
+    is_legal_after(&rt, 38, ONE_FILE, orders);
 }
 
 #[test]
@@ -315,7 +315,7 @@ tell 1001 err 9
 ask 0 1001 1 5 6 0 getlk 1 7 0 9223372036854775808 0 7 0
 tell 1001 err 9
 ";
-    is_legal(&rt, rt.alloc(), 38, &[ONE_FILE, orders]);
+    is_legal_after(&rt, 38, ONE_FILE, orders);
 }
 
 #[test]
@@ -342,5 +342,5 @@ tell 1002 ok
 ask 0 1002 2 5 6 0 setlkw 1 7 5 9 0 7 1
 tell 1002 ok
 ";
-    is_legal(&rt, rt.alloc(), 22, &[ONE_FILE, orders]);
+    is_legal_after(&rt, 22, ONE_FILE, orders);
 }

@@ -90,6 +90,7 @@ tell 1001 err 28
     let mut server = Server::new(&rt, rt.alloc());
     fill_nodes(&rt, &mut server, 2, 1);
     server.goes_on(&rt, rt.alloc(), orders);
+    server.end();
 }
 
 // Closes 1,024 fhs of a file without a name.
@@ -154,6 +155,7 @@ tell 1 err 23
     server.goes_on(&rt, rt.alloc(), emptied);
     open_all(&rt, &mut server, 3, 1026, 2049);
     server.goes_on(&rt, rt.alloc(), again);
+    server.end();
 }
 
 // The fhs from the first to before the end are closed.
@@ -189,4 +191,5 @@ tell 1 made 514 33188 1 5 6 2049
     fill_and_empty(&rt, rt.alloc(), &mut server, 2, 1);
     fill_and_empty(&rt, rt.alloc(), &mut server, 258, 1025);
     server.goes_on(&rt, rt.alloc(), orders);
+    server.end();
 }

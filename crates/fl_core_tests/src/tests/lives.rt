@@ -33,7 +33,7 @@ tell 1001 made 3 33188 1 5 6 2
 ask 0 1002 2 5 6 0 getattr
 tell 1002 err 2
 ";
-    is_legal(&rt, rt.alloc(), 25, &[orders]);
+    is_legal(&rt, 25, orders);
 }
 
 #[test]
@@ -65,7 +65,7 @@ tell 1001 made 3 33188 1 5 6 2
 ask 0 1002 2 5 6 0 getattr
 tell 1002 err 2
 ";
-    is_legal(&rt, rt.alloc(), 25, &[orders]);
+    is_legal(&rt, 25, orders);
 }
 
 #[test]
@@ -97,7 +97,7 @@ tell 1001 made 3 33188 1 5 6 2
 ask 0 1002 2 5 6 0 getattr
 tell 1002 err 2
 ";
-    is_legal(&rt, rt.alloc(), 25, &[orders]);
+    is_legal(&rt, 25, orders);
 }
 
 #[test]
@@ -129,7 +129,7 @@ tell 1001 made 3 33188 1 5 6 2
 ask 0 1002 2 5 6 0 getattr
 tell 1002 err 2
 ";
-    is_legal(&rt, rt.alloc(), 25, &[orders]);
+    is_legal(&rt, 25, orders);
 }
 
 #[test]
@@ -161,7 +161,7 @@ tell 1001 made 3 33188 1 5 6 2
 ask 0 1002 2 5 6 0 getattr
 tell 1002 err 2
 ";
-    is_legal(&rt, rt.alloc(), 25, &[orders]);
+    is_legal(&rt, 25, orders);
 }
 
 #[test]
@@ -193,7 +193,7 @@ tell 1001 made 3 33188 1 5 6 2
 ask 0 1002 2 5 6 0 getattr
 tell 1002 err 2
 ";
-    is_legal(&rt, rt.alloc(), 25, &[orders]);
+    is_legal(&rt, 25, orders);
 }
 
 #[test]
@@ -243,7 +243,7 @@ tell 1003 err 2
 ask 0 1001 1 5 6 0 create 0 420 61
 tell 1001 made 4 33188 1 5 6 5
 ";
-    is_legal(&rt, rt.alloc(), 43, &[orders]);
+    is_legal(&rt, 43, orders);
 }
 
 #[test]
@@ -274,7 +274,7 @@ ask 0 1002 2 5 6 0 forget 1
 ask 0 1002 2 5 6 0 getattr
 tell 1002 err 2
 ";
-    is_legal(&rt, rt.alloc(), 24, &[orders]);
+    is_legal(&rt, 24, orders);
 }
 
 // A file of user 8 and group 9. Of this mode the text of an order has the permissions alone.
@@ -315,4 +315,5 @@ tell 1002 attr 2 33279 1 8 9
     let create = create_by_another(name(&rt, b"a"));
     server.gives(&rt, &create, made_by_another());
     server.goes_on(&rt, rt.alloc(), orders);
+    server.end();
 }

@@ -1,6 +1,6 @@
 //! Which locks go with an open file.
 
-use super::is_legal;
+use super::are_legal;
 use fl_core::laws;
 
 // Two files, of which node 2 is open as fh 1 and 2 and node 3 as fh 3, with locks of owners 7 and 8.
@@ -84,9 +84,8 @@ tell 1002 err 11
 ask 0 1002 2 5 6 0 setlk 1 8 29 30 0 8 0
 tell 1002 ok
 ";
-    is_legal(
+    are_legal(
         &rt,
-        rt.alloc(),
         48,
         &[
             LOCKED,
@@ -121,9 +120,8 @@ tell 1002 lock 0 99 2 9
 ask 0 1002 2 5 6 0 flush 1 8
 tell 1002 ok
 ";
-    is_legal(
+    are_legal(
         &rt,
-        rt.alloc(),
         52,
         &[
             LOCKED,
@@ -159,9 +157,8 @@ tell 1002 lock 0 99 2 9
 ask 0 1002 2 5 6 0 flush 2 8
 tell 1002 ok
 ";
-    is_legal(
+    are_legal(
         &rt,
-        rt.alloc(),
         52,
         &[
             LOCKED,
@@ -263,9 +260,8 @@ tell 1009 err 9
 ask 0 1009 9 5 6 0 release 1 0 8
 tell 1009 err 9
 ";
-    is_legal(
+    are_legal(
         &rt,
-        rt.alloc(),
         128,
         &[
             LOCKED,
@@ -291,9 +287,8 @@ tell 1004 lock 0 99 2 9
 ask 0 1004 4 5 6 0 setlk 4 9 0 0 1 9 1
 tell 1004 ok
 ";
-    is_legal(
+    are_legal(
         &rt,
-        rt.alloc(),
         45,
         &[LOCKED, orders, RECORD_LOCKS_BY_1, FLOCKS_BY_1, OTHER_NODE],
     );

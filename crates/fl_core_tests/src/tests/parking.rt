@@ -1,6 +1,6 @@
 //! Orders that bear the unique of a parked request.
 
-use super::is_legal;
+use super::is_legal_after;
 
 // Owner 7 has locked byte 0 of node 2, which is open as fh 1, and owner 8 waits for it with unique 3.
 const WITH_WAITER: &str = "\
@@ -48,7 +48,7 @@ tell 3 attr 2 33188 1 5 6
 ask 0 6 2 5 6 0 open
 tell 6 open 2
 ";
-    is_legal(&rt, rt.alloc(), 38, &[WITH_WAITER, orders]);
+    is_legal_after(&rt, 38, WITH_WAITER, orders);
 }
 
 #[test]
@@ -66,7 +66,7 @@ ask 0 3 2 5 6 0 forget 1
 ask 0 7 2 5 6 0 getattr
 tell 7 err 2
 ";
-    is_legal(&rt, rt.alloc(), 16, &[WITH_WAITER, orders]);
+    is_legal_after(&rt, 16, WITH_WAITER, orders);
 }
 
 #[test]
@@ -90,5 +90,5 @@ tell 3 attr 2 33188 1 5 6
 ask 0 3 2 5 6 0 getlk 1 9 0 0 1 9 0
 tell 3 lock 0 0 1 8
 ";
-    is_legal(&rt, rt.alloc(), 22, &[WITH_WAITER, orders]);
+    is_legal_after(&rt, 22, WITH_WAITER, orders);
 }

@@ -29,6 +29,29 @@ fn index(number: u64, first: u64) -> usize {
     number.wrapping_sub(first) as usize
 }
 
+// Whether no file can have the name. The names of the orders are reserved for no other reason.
+fn is_reserved(name: &[u8]) -> bool {
+    name.is_empty() || name == b"..".as_slice()
+}
+
+const ROOT: Attr = Attr {
+    node: 1,
+    mode: 0o40755,
+    nlink: 2,
+    uid: 0,
+    gid: 0,
+};
+
+fn attr_of(node: u64, file: &File) -> Attr {
+    Attr {
+        node,
+        mode: file.mode,
+        nlink: u32::from(file.name.is_some()),
+        uid: file.uid,
+        gid: file.gid,
+    }
+}
+
 impl Plain {
     pub(super) fn new(alloc: Global) -> Plain {
         Plain {
@@ -93,8 +116,7 @@ impl Plain {
 
     fn test_create(&self, node: u64, excl: bool, name: &Name) -> Result<(), Errno> {
         self.test_directory(node)?;
-        let bytes = name.as_bytes();
-        if bytes == b"".as_slice() || bytes == b"..".as_slice() {
+        if is_reserved(name.as_bytes()) {
             return Err(Errno::EINVAL);
         }
         if excl && self.linked(name).is_some() {
@@ -223,24 +245,15 @@ impl Plain {
     // The attributes of a node that lives.
     fn attr(&self, node: u64) -> Result<Attr, Errno> {
         if node == 1 {
-            return Ok(Attr {
-                node,
-                mode: 0o40755,
-                nlink: 2,
-                uid: 0,
-                gid: 0,
-            });
+            return Ok(ROOT);
         }
-        let file = self.files.get(index(node, 2)).ok_or(Errno::ENOENT)?;
-        if file.name.is_none() && file.lookups == 0 && !self.opened.contains(&Some(node)) {
-            return Err(Errno::ENOENT);
+        match self.files.get(index(node, 2)) {
+            Some(file) if self.lives(node, file) => Ok(attr_of(node, file)),
+            _ => Err(Errno::ENOENT),
         }
-        Ok(Attr {
-            node,
-            mode: file.mode,
-            nlink: u32::from(file.name.is_some()),
-            uid: file.uid,
-            gid: file.gid,
-        })
+    }
+
+    fn lives(&self, node: u64, file: &File) -> bool {
+        file.name.is_some() || file.lookups > 0 || self.open_on(node) > 0
     }
 }

@@ -121,11 +121,11 @@ impl PlainLocks {
             self.refuse(rt, order);
             return;
         }
-        match order.op {
-            Op::Getlk(ask) => self.test(rt, &request_of(order, &ask)),
-            Op::Setlk(ask) => self.lock(rt, &request_of(order, &ask), false),
-            Op::Setlkw(ask) => self.lock(rt, &request_of(order, &ask), true),
-            Op::Interrupt(unique) => self.interrupt(rt, order, unique),
+        match &order.op {
+            Op::Getlk(ask) => self.test(rt, &request_of(order, ask)),
+            Op::Setlk(ask) => self.lock(rt, &request_of(order, ask), false),
+            Op::Setlkw(ask) => self.lock(rt, &request_of(order, ask), true),
+            Op::Interrupt(unique) => self.interrupt(rt, order, *unique),
             _ => self.take_other(rt, order),
         }
         self.settle(rt);

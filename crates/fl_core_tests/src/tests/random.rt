@@ -97,14 +97,14 @@ fn random_order(numbers: &mut Numbers, names: &Names, plain: &Plain) -> Order {
 fn compare_all(rt: &impl Abort, server: &mut Server, plain: &mut Plain) {
     for node in 0..plain.next_node().saturating_add(1) {
         compare(rt, server, plain, &order(0, node, Op::Getattr));
-        for fh in 0..plain.next_fh().saturating_add(1) {
-            compare(
-                rt,
-                server,
-                plain,
-                &order(0, node, Op::Flush { fh, owner: 0 }),
-            );
-        }
+        compare_files(rt, server, plain, node);
+    }
+}
+
+fn compare_files(rt: &impl Abort, server: &mut Server, plain: &mut Plain, node: u64) {
+    for fh in 0..plain.next_fh().saturating_add(1) {
+        let flush = Op::Flush { fh, owner: 0 };
+        compare(rt, server, plain, &order(0, node, flush));
     }
 }
 
@@ -116,15 +116,20 @@ fn compare(rt: &impl Abort, server: &mut Server, plain: &mut Plain, order: &Orde
 }
 
 // As many orders as one seed gives.
-fn run(rt: &impl Abort, alloc: Global, names: &Names, seed: u64) {
+fn take_turns(rt: &impl Abort, server: &mut Server, plain: &mut Plain, names: &Names, seed: u64) {
     let mut numbers = Numbers { state: seed };
+    for _ in 0..500 {
+        let order = random_order(&mut numbers, names, plain);
+        compare(rt, server, plain, &order);
+    }
+}
+
+fn run(rt: &impl Abort, alloc: Global, names: &Names, seed: u64) {
     let mut server = Server::new(rt, alloc);
     let mut plain = Plain::new(alloc);
-    for _ in 0..500 {
-        let order = random_order(&mut numbers, names, &plain);
-        compare(rt, &mut server, &mut plain, &order);
-    }
+    take_turns(rt, &mut server, &mut plain, names, seed);
     compare_all(rt, &mut server, &mut plain);
+    server.end();
 }
 
 #[test]

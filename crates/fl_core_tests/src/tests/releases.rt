@@ -1,6 +1,6 @@
 //! Which locks go with a release.
 
-use super::is_legal;
+use super::are_legal;
 use super::locks::{
     FLOCKS_BY_1, FLOCKS_BY_2, LOCKED, OTHER_NODE, RECORD_LOCKS_BY_1, RECORD_LOCKS_BY_2,
 };
@@ -19,9 +19,8 @@ tell 1002 ok
 ask 0 1002 2 5 6 0 setlk 2 7 0 0 0 7 1
 tell 1002 err 11
 ";
-    is_legal(
+    are_legal(
         &rt,
-        rt.alloc(),
         40,
         &[LOCKED, orders, RECORD_LOCKS_BY_2, OTHER_NODE, others],
     );
@@ -41,9 +40,8 @@ tell 1002 ok
 ask 0 1002 2 5 6 0 setlk 1 7 0 0 0 7 1
 tell 1002 err 11
 ";
-    is_legal(
+    are_legal(
         &rt,
-        rt.alloc(),
         40,
         &[LOCKED, orders, RECORD_LOCKS_BY_1, OTHER_NODE, others],
     );
@@ -55,9 +53,8 @@ fn release_of_the_first_of_two_fhs_keeps_all_locks(rt: HostRuntime) {
 ask 0 1002 2 5 6 0 release 1 0 7
 tell 1002 ok
 ";
-    is_legal(
+    are_legal(
         &rt,
-        rt.alloc(),
         38,
         &[LOCKED, orders, RECORD_LOCKS_BY_2, FLOCKS_BY_2, OTHER_NODE],
     );
@@ -69,9 +66,8 @@ fn release_of_the_second_of_two_fhs_keeps_all_locks(rt: HostRuntime) {
 ask 0 1002 2 5 6 0 release 2 0 7
 tell 1002 ok
 ";
-    is_legal(
+    are_legal(
         &rt,
-        rt.alloc(),
         38,
         &[LOCKED, orders, RECORD_LOCKS_BY_1, FLOCKS_BY_1, OTHER_NODE],
     );
@@ -83,9 +79,8 @@ fn release_with_drop_by_an_owner_without_locks_keeps_all_locks(rt: HostRuntime) 
 ask 0 1002 2 5 6 0 release 1 1 9
 tell 1002 ok
 ";
-    is_legal(
+    are_legal(
         &rt,
-        rt.alloc(),
         38,
         &[LOCKED, orders, RECORD_LOCKS_BY_2, FLOCKS_BY_2, OTHER_NODE],
     );
@@ -97,9 +92,8 @@ fn release_by_owner_0_keeps_all_locks(rt: HostRuntime) {
 ask 0 1002 2 5 6 0 release 1 0 0
 tell 1002 ok
 ";
-    is_legal(
+    are_legal(
         &rt,
-        rt.alloc(),
         38,
         &[LOCKED, orders, RECORD_LOCKS_BY_2, FLOCKS_BY_2, OTHER_NODE],
     );
@@ -121,7 +115,7 @@ tell 1002 lock 0 99 2 9
 ask 0 1002 2 5 6 0 setlk 4 9 0 0 1 9 1
 tell 1002 ok
 ";
-    is_legal(&rt, rt.alloc(), 36, &[LOCKED, orders, OTHER_NODE]);
+    are_legal(&rt, 36, &[LOCKED, orders, OTHER_NODE]);
 }
 
 #[test]
@@ -140,7 +134,7 @@ tell 1002 lock 0 99 2 9
 ask 0 1002 2 5 6 0 setlk 4 9 0 0 1 9 1
 tell 1002 ok
 ";
-    is_legal(&rt, rt.alloc(), 36, &[LOCKED, orders, OTHER_NODE]);
+    are_legal(&rt, 36, &[LOCKED, orders, OTHER_NODE]);
 }
 
 #[test]
@@ -161,7 +155,7 @@ tell 1002 lock 0 99 2 9
 ask 0 1002 2 5 6 0 setlk 4 9 0 0 1 9 1
 tell 1002 ok
 ";
-    is_legal(&rt, rt.alloc(), 36, &[LOCKED, orders, OTHER_NODE]);
+    are_legal(&rt, 36, &[LOCKED, orders, OTHER_NODE]);
 }
 
 #[test]
@@ -180,5 +174,5 @@ tell 1002 lock 0 99 2 9
 ask 0 1002 2 5 6 0 setlk 4 9 0 0 1 9 1
 tell 1002 ok
 ";
-    is_legal(&rt, rt.alloc(), 36, &[LOCKED, orders, OTHER_NODE]);
+    are_legal(&rt, 36, &[LOCKED, orders, OTHER_NODE]);
 }

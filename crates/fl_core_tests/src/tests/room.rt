@@ -57,6 +57,7 @@ fn one_unlock_frees_256_requests_in_their_order(rt: HostRuntime) {
     let mut server = with_256(&rt, rt.alloc());
     free_all(&rt, rt.alloc(), &mut server);
     server.gives(&rt, &unlocked(6), DONE);
+    server.end();
 }
 
 // All but the one of unique 1,002, which was interrupted. The one of unique 4 asked last.
@@ -94,6 +95,7 @@ tell 2 err 37
     let mut server = with_256(&rt, rt.alloc());
     server.goes_on(&rt, rt.alloc(), orders);
     free_others(&rt, rt.alloc(), &mut server);
+    server.end();
 }
 
 // Owner 7 gets 273 runs on a file.
@@ -147,5 +149,7 @@ tell 12 lock 0 1 1 9
 ask 0 13 2 5 6 0 setlkw 1 10 2 2 0 10 0
 tell 13 err 37
 ";
-    with_runs(&rt, rt.alloc()).goes_on(&rt, rt.alloc(), orders);
+    let mut server = with_runs(&rt, rt.alloc());
+    server.goes_on(&rt, rt.alloc(), orders);
+    server.end();
 }

@@ -1,6 +1,6 @@
 //! Lock parked requests, and what frees them.
 
-use super::is_legal;
+use super::is_legal_after;
 
 // Node 2 is open as fh 1 and 2.
 const OPEN_TWICE: &str = "\
@@ -28,7 +28,7 @@ tell 4 ok
 ask 0 8 2 5 6 0 setlk 1 9 0 0 2 9 0
 tell 8 ok
 ";
-    is_legal(&rt, rt.alloc(), 18, &[OPEN_TWICE, orders]);
+    is_legal_after(&rt, 18, OPEN_TWICE, orders);
 }
 
 #[test]
@@ -51,7 +51,7 @@ ask 0 7 2 5 6 0 flush 1 8
 tell 7 ok
 tell 3 ok
 ";
-    is_legal(&rt, rt.alloc(), 20, &[OPEN_TWICE, orders]);
+    is_legal_after(&rt, 20, OPEN_TWICE, orders);
 }
 
 #[test]
@@ -74,7 +74,7 @@ ask 0 9 2 5 6 0 flush 1 10
 tell 9 ok
 tell 3 ok
 ";
-    is_legal(&rt, rt.alloc(), 20, &[OPEN_TWICE, orders]);
+    is_legal_after(&rt, 20, OPEN_TWICE, orders);
 }
 
 #[test]
@@ -93,7 +93,7 @@ tell 4 ok
 ask 0 7 2 5 6 0 getlk 1 10 0 9 1 10 0
 tell 7 lock 0 1 0 7
 ";
-    is_legal(&rt, rt.alloc(), 16, &[OPEN_TWICE, orders]);
+    is_legal_after(&rt, 16, OPEN_TWICE, orders);
 }
 
 #[test]
@@ -116,7 +116,7 @@ ask 0 9 2 5 6 0 setlkw 2 7 0 0 0 7 1
 tell 9 ok
 tell 5 ok
 ";
-    is_legal(&rt, rt.alloc(), 20, &[OPEN_TWICE, orders]);
+    is_legal_after(&rt, 20, OPEN_TWICE, orders);
 }
 
 #[test]
@@ -143,7 +143,7 @@ ask 0 11 3 5 6 0 flush 3 7
 tell 11 ok
 tell 6 ok
 ";
-    is_legal(&rt, rt.alloc(), 24, &[OPEN_TWICE, orders]);
+    is_legal_after(&rt, 24, OPEN_TWICE, orders);
 }
 
 #[test]
@@ -174,7 +174,7 @@ ask 0 13 2 5 6 0 release 1 0 7
 tell 13 ok
 tell 6 err 9
 ";
-    is_legal(&rt, rt.alloc(), 28, &[OPEN_TWICE, orders]);
+    is_legal_after(&rt, 28, OPEN_TWICE, orders);
 }
 
 #[test]
@@ -205,7 +205,7 @@ tell 7 ok
 ask 0 14 2 5 6 0 setlk 1 12 0 0 1 12 1
 tell 14 err 11
 ";
-    is_legal(&rt, rt.alloc(), 28, &[OPEN_TWICE, orders]);
+    is_legal_after(&rt, 28, OPEN_TWICE, orders);
 }
 
 #[test]
@@ -238,7 +238,7 @@ ask 0 13 3 5 6 0 setlk 3 7 0 0 2 7 0
 tell 13 ok
 tell 12 ok
 ";
-    is_legal(&rt, rt.alloc(), 30, &[OPEN_TWICE, orders]);
+    is_legal_after(&rt, 30, OPEN_TWICE, orders);
 }
 
 #[test]
@@ -266,7 +266,7 @@ tell 6 ok
 ask 0 12 2 5 6 0 interrupt 4
 tell 12 err 11
 ";
-    is_legal(&rt, rt.alloc(), 25, &[OPEN_TWICE, orders]);
+    is_legal_after(&rt, 25, OPEN_TWICE, orders);
 }
 
 #[test]
@@ -289,7 +289,7 @@ ask 0 9 2 5 6 0 setlkw 2 7 0 0 2 7 1
 tell 9 ok
 tell 7 ok
 ";
-    is_legal(&rt, rt.alloc(), 20, &[OPEN_TWICE, orders]);
+    is_legal_after(&rt, 20, OPEN_TWICE, orders);
 }
 
 #[test]
@@ -308,7 +308,7 @@ tell 5 ok
 ask 0 7 2 5 6 0 setlk 1 7 0 0 1 7 1
 tell 7 err 11
 ";
-    is_legal(&rt, rt.alloc(), 16, &[OPEN_TWICE, orders]);
+    is_legal_after(&rt, 16, OPEN_TWICE, orders);
 }
 
 #[test]
@@ -332,7 +332,7 @@ tell 6 ok
 ask 0 11 2 5 6 0 setlk 2 9 0 0 0 9 1
 tell 11 err 11
 ";
-    is_legal(&rt, rt.alloc(), 21, &[OPEN_TWICE, orders]);
+    is_legal_after(&rt, 21, OPEN_TWICE, orders);
 }
 
 #[test]
@@ -359,5 +359,5 @@ tell 6 ok
 ask 0 11 2 5 6 0 getlk 1 9 0 9 1 9 0
 tell 11 lock 0 9 1 7
 ";
-    is_legal(&rt, rt.alloc(), 24, &[OPEN_TWICE, orders]);
+    is_legal_after(&rt, 24, OPEN_TWICE, orders);
 }

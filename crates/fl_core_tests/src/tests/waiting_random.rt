@@ -35,12 +35,28 @@ fn check_parked(rt: &impl Abort, core: &Core, plain: &PlainLocks, unique: u64) {
 
 // A request that can wait would close a circle where the plain program says so, whether it has to wait or not.
 fn check_circle(rt: &impl Abort, core: &Core, plain: &PlainLocks, order: &Order) {
-    let Op::Setlkw(ask) = order.op else {
+    let Op::Setlkw(ask) = &order.op else {
         return;
     };
-    if ask.flags > 1 || ask.kind > WRITE || ask.start > ask.end || ask.end > LAST {
-        return;
+    if let Some(range) = range_of(ask) {
+        let wanted = plain.closes_circle(&request_of(order, ask));
+        assert_eq!(rt; closes(core, order.node, ask, &range), wanted);
     }
+}
+
+// The bytes of a request for a lock, if it isn't malformed.
+fn range_of(ask: &LockAsk) -> Option<Range> {
+    if ask.flags > 1 || ask.kind > WRITE || ask.start > ask.end || ask.end > LAST {
+        return None;
+    }
+    Some(Range {
+        start: ask.start,
+        end: ask.end,
+    })
+}
+
+// What the core says of it.
+fn closes(core: &Core, node: u64, ask: &LockAsk, range: &Range) -> bool {
     let class = match ask.flags {
         0 => Class::Record,
         _ => Class::Flock,
@@ -51,15 +67,10 @@ fn check_circle(rt: &impl Abort, core: &Core, plain: &PlainLocks, order: &Order)
     };
     let key = Key {
         class,
-        node: order.node,
+        node,
         owner: ask.owner,
     };
-    let range = Range {
-        start: ask.start,
-        end: ask.end,
-    };
-    let wanted = plain.closes_circle(&request_of(order, &ask));
-    assert_eq!(rt; core.circle(&key, &range, kind), wanted);
+    core.circle(&key, range, kind)
 }
 
 // The order gives the replies of the plain program, and leaves the same requests waiting.
@@ -177,16 +188,25 @@ fn random_order(numbers: &mut Numbers, plain: &PlainLocks, turn: u64) -> Order {
 fn run(rt: &impl Abort, alloc: Global, seed: u64, turns: u64) -> Counts {
     let mut server = Server::new(rt, alloc);
     let mut plain = PlainLocks::new(alloc);
-    for letter in [b"a", b"b"] {
-        compare(rt, &mut server, &mut plain, &create(true, name(rt, letter)));
-    }
+    make_files(rt, &mut server, &mut plain);
     take_turns(rt, &mut server, &mut plain, seed, turns);
-    for unique in 0..turns {
-        check_unique(rt, &server.core, &plain, unique);
-    }
+    check_uniques(rt, &server.core, &plain, turns);
     let counts = plain.counts;
     close_all(rt, &mut server, &mut plain);
+    server.end();
     counts
+}
+
+fn make_files(rt: &impl Abort, server: &mut Server, plain: &mut PlainLocks) {
+    compare(rt, server, plain, &create(true, name(rt, b"a")));
+    compare(rt, server, plain, &create(true, name(rt, b"b")));
+}
+
+// The uniques of all turns.
+fn check_uniques(rt: &impl Abort, core: &Core, plain: &PlainLocks, turns: u64) {
+    for unique in 0..turns {
+        check_unique(rt, core, plain, unique);
+    }
 }
 
 fn take_turns(rt: &impl Abort, server: &mut Server, plain: &mut PlainLocks, seed: u64, turns: u64) {
@@ -200,12 +220,16 @@ fn take_turns(rt: &impl Abort, server: &mut Server, plain: &mut PlainLocks, seed
 // Closes what is open, which ends the parked requests, the oldest first.
 fn close_all(rt: &impl Abort, server: &mut Server, plain: &mut PlainLocks) {
     for fh in 1..plain.directory.next_fh() {
-        if let Some(node) = plain.directory.node_of(fh) {
-            let closed = order(u64::MAX, node, release(fh, false, 0));
-            compare(rt, server, plain, &closed);
-        }
+        close(rt, server, plain, fh);
     }
     assert!(rt; plain.parked.is_empty());
+}
+
+fn close(rt: &impl Abort, server: &mut Server, plain: &mut PlainLocks, fh: u64) {
+    if let Some(node) = plain.directory.node_of(fh) {
+        let closed = order(u64::MAX, node, release(fh, false, 0));
+        compare(rt, server, plain, &closed);
+    }
 }
 
 // More than so many things happened.
