@@ -109,28 +109,32 @@ takes message rest rest_now whole parts = record {
       };
 }
 
--- the message that stands first is taken
-pub takes_first : (buffer rest first message : List ℕ) (from filled len : ℕ) → from ≤ filled → filled ≤ length buffer
+-- what stands after the message that stands first
+pub rest_after : (buffer rest first : List ℕ) (from filled len : ℕ) → from ≤ filled → filled ≤ length buffer
     → take (filled - from) (drop from buffer) ≡ rest → first_step rest ≡ Whole first → length first ≡ len
-    → first_step rest ≡ Whole message → IsMessage message
-    → Takes message rest (take (filled - (from + len)) (drop (from + len) buffer))
-takes_first buffer rest first message from filled len order within view at_first long step whole =
-    let same : first ≡ message = cc in
-    let parts = whole_front rest message step in
-    let n : length message ≡ len = ap length (sym same) ∙ long in
-    let all = ap length parts in
+    → take (filled - (from + len)) (drop (from + len) buffer) ≡ drop len rest
+rest_after buffer rest first from filled len order within view step long =
+    let all = ap length (whole_front rest first step) in
     let fits : from + len ≤ filled = omega (
       arith,
       all,
-      n,
-      length-append message (drop (length message) rest),
+      long,
+      length-append first (drop (length first) rest),
       ap length view,
       length-take (filled - from) (drop from buffer),
       length-drop from buffer,
     ) in
     let m = filled - (from + len) in
     let split : filled - from ≡ len + m = omega arith in
-    let e : drop (length message) rest ≡ take m (drop (from + len) buffer) =
-    ap (λ k. drop k rest) n ∙ ap (drop len) (sym view) ∙ ap (λ k. drop len (take k (drop from buffer))) split
-    ∙ drop-take len m (drop from buffer) ∙ ap (take m) (drop-drop len from buffer) in
-    takes message rest (take m (drop (from + len) buffer)) whole (ap (λ xs. message ++ xs) (sym e) ∙ parts)
+    sym (ap (drop len) (sym view) ∙ ap (λ k. drop len (take k (drop from buffer))) split
+    ∙ drop-take len m (drop from buffer) ∙ ap (take m) (drop-drop len from buffer))
+
+-- the message that stands first is taken
+pub takes_first : (rest rest_now first message : List ℕ) (len : ℕ) → rest_now ≡ drop len rest
+    → first_step rest ≡ Whole first → length first ≡ len → first_step rest ≡ Whole message → IsMessage message
+    → Takes message rest rest_now
+takes_first rest rest_now first message len after at_first long step whole =
+    let same : message ≡ first = cc in
+    let n : length message ≡ len = ap length same ∙ long in
+    takes message rest rest_now whole
+    (ap (λ xs. message ++ xs) (after ∙ ap (λ k. drop k rest) (sym n)) ∙ whole_front rest message step)

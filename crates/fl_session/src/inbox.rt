@@ -73,7 +73,7 @@ impl Inbox {
     pub fn skip(&mut self, len: usize)
         requires whole { (message : List ℕ) × (first_step self.old.rest ≡ Step.Whole message) × (length message ≡ len) }
         requires some { 0 < len }
-        ensures shorter { length self.new.rest ≤ length self.old.rest }
+        ensures rest { self.new.rest ≡ drop len self.old.rest }
         ensures less { work self.new < work self.old }
         ensures taken { (message : List ℕ) → first_step self.old.rest ≡ Step.Whole message → IsMessage message
             → Takes message self.old.rest self.new.rest }
@@ -85,6 +85,7 @@ impl Inbox {
     pub fn fill<R: Read>(&mut self, r: &mut R) -> Filled
         requires { first_step self.old.rest ≡ Step.More }
         ensures bounded { length self.new.rest ≤ 8192 }
+        ensures more { result ≡ Filled.More → length self.old.rest < length self.new.rest }
         ensures less { result ≡ Filled.More → work self.new < work self.old }
         ensures read { ReadsOn (R.remaining r.old) (R.remaining r.new) self.old.rest self.new.rest }
         ensures end { IsEnd result self.new.rest (R.remaining r.new) }

@@ -1,4 +1,4 @@
-use Rattle.std.proofs.Common.{◌∙◌, refl, sym, arith, ap, length}
+use Rattle.std.proofs.Common.{◌∙◌, refl, sym, arith, ap, length, length-drop}
 use Rattle.fl_session.proofs.SessionLemmas.{way_first, way_more, way_ends}
 use Rattle.fl_session.proofs.answering.answer_all.Goals as goal
 
@@ -12,7 +12,7 @@ loop-server-init g c = record {
 pub loop-server-preserved-in-Whole : goal.loop-server-preserved-in-Whole
 loop-server-preserved-in-Whole g c = record {
   same = c.answer.ensures.same ∙ c.loop-server.invariant.same;
-  bounded = omega (arith, c.skip.ensures.shorter, c.loop-server.invariant.bounded);
+  bounded = omega (arith, ap length c.skip.ensures.rest, length-drop (length c.as_bytes-len.result.now) c.loop-server.inbox.rest, c.loop-server.invariant.bounded);
   way = way_more _ _ _ _ _ _ _ _ _ c.in-Whole.frame _ _ c.loop-server-test.true
       (c.skip.ensures.taken c.in-Whole.frame (sym c.next.ensures ∙ c.in-Whole.is) c.as_bytes-len.ensures.message)
       c.answer.ensures.answered c.loop-server.invariant.way;

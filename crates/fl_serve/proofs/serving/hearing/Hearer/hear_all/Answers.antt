@@ -1,4 +1,4 @@
-use Rattle.std.proofs.Common.{◌∙◌, sym, arith, ap, length}
+use Rattle.std.proofs.Common.{◌∙◌, sym, arith, ap, length, length-drop}
 use Rattle.fl_serve.proofs.HearingLemmas.{hearing_first, hearing_more}
 use Rattle.fl_serve.proofs.serving.hearing.Hearer.hear_all.Goals as goal
 
@@ -10,7 +10,7 @@ loop-hearer-init g c = record {
 
 pub loop-hearer-preserved-in-Whole : goal.loop-hearer-preserved-in-Whole
 loop-hearer-preserved-in-Whole g c = record {
-  bounded = omega (arith, c.skip.ensures.shorter, c.loop-hearer.invariant.bounded);
+  bounded = omega (arith, ap length c.skip.ensures.rest, length-drop (length c.as_bytes-len.result.now) c.loop-hearer.inbox.rest, c.loop-hearer.invariant.bounded);
   hearing = hearing_more _ _ _ _ _ _ c.in-Whole.frame _ _ c.loop-hearer-test.true
       (c.skip.ensures.taken c.in-Whole.frame (sym c.next.ensures ∙ c.in-Whole.is) c.as_bytes-len.ensures.message)
       c.hear.ensures.heard c.hear.ensures.ends c.loop-hearer.invariant.hearing;
