@@ -3,15 +3,15 @@
 
 mod circle;
 mod claim;
-mod core;
 mod ending;
 pub mod laws;
 mod locking;
 mod parked;
 mod parts;
 mod settling;
+mod state;
 mod tolds;
 
-pub use core::Core;
 pub use parked::Request;
+pub use state::Core;
 pub use tolds::{MOST_TOLDS, Tolds};

@@ -5,14 +5,14 @@ use Rattle.fl_core.specs.Replies.{own_replies, ended_by, ending_of, reply_to}
 use Rattle.fl_core.specs.Settling.{present}
 use Rattle.fl_core.specs.State.{Snapshot}
 use Rattle.fl_core.specs.Step.{settling, replies, next, ChangesNothing}
-use Rattle.fl_core.specs.declared.core.Core.TheInside.{Inside}
+use Rattle.fl_core.specs.declared.state.Core.TheInside.{Inside}
 use Rattle.fl_core.specs.Waiting.{is_parked, AllWait, AreApart}
 use Rattle.fl_core.proofs.Effects.{is_recorded}
 use Rattle.fl_core.proofs.Quiet.{alone_quiet, step_quiet}
 use Rattle.fl_core.proofs.Settlings.{nothing_left}
 use Rattle.fl_core.proofs.Steps as steps
 use Rattle.fl_core.proofs.Waits.{nothing_touched}
-use Rattle.fl_core.proofs.core.Core.step.Goals as goal
+use Rattle.fl_core.proofs.state.Core.step.Goals as goal
 use Rattle.fl_order.specs.declared.errno.Errno.{Errno}
 use Rattle.fl_order.specs.declared.order.Order.{Order}
 use Rattle.fl_order.specs.declared.told.Answer.{Answer}
