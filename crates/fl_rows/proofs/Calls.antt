@@ -15,7 +15,7 @@ use Rattle.fl_rows.specs.Rows.{Row, row_lists, rows, runs_at, with_runs, IsRow, 
 use Rattle.fl_rows.specs.Inside.Kept.{has_number, runs_of, AreRows}
 use Rattle.fl_rows.proofs.Lists.{each_at}
 use Rattle.fl_rows.proofs.Weights.{moved_over, count_changed}
-use Rattle.fl_rows.proofs.Values.{row_at, rows_are, none_unused, number_there, runs_there, set_runs, with_some, with_none, remove_set}
+use Rattle.fl_rows.proofs.Values.{row_at, rows_are, chains_counted, none_unused, number_there, runs_there, set_runs, with_some, with_none, remove_set}
 use Rattle.fl_rows.proofs.Reading.{some_entry, entry_there}
 use Rattle.fl_rows.proofs.RowChanges.{row_added, rows_added}
 
@@ -97,7 +97,9 @@ fewer {T} old new c i t in_c size others is fits =
 module _ {K R : Type 0} (heads : Chains (Head K)) (runs : Chains R) (n : ℕ) (h : AreRows heads runs n) where
   -- a row stands before the chain of unused heads
   pub row_before : (row : Cursor) → IsRow (record { heads = heads; runs = runs }) row → row.chain < n
-  row_before row is = omega (arith, is.chain, h.kept.chains)
+  row_before row is =
+      let count = chains_counted (record { heads = heads; runs = runs }) in
+      omega (arith, is.chain, count, h.kept.chains)
 
   pub row_fits : (row : Cursor) → IsRow (record { heads = heads; runs = runs }) row → row.index ≤ length (entries heads row.chain)
   row_fits row is =

@@ -1,9 +1,11 @@
 -- What the calls that only read find.
-use Rattle.std.proofs.Common.{◌≡◌, ℕ, zero, suc, ◌+◌, ◌<◌, List, [], ◌∷◌, length, map, Option, Some, slice_get, refl, sym, ap, ◌∙◌, subst, arith}
+use Rattle.std.proofs.Common.{◌≡◌, ℕ, zero, suc, ◌+◌, ◌<◌, inl, inr, List, [], ◌∷◌, length, map, Option, Some, slice_get, refl, sym, ap, ◌∙◌, subst, arith}
 use Rattle.std.specs.Option.{option_map}
-use Rattle.std.proofs.lemmas.List.{length-map}
+use Rattle.std.proofs.lemmas.Bool.{cases_lt}
+use Rattle.std.proofs.lemmas.List.{length-map, get_or_past}
+use Rattle.std.proofs.lemmas.List.Sums.{sum_by-set}
 use Rattle.std.proofs.lemmas.Option.{none-some, slice_get-map}
-use Rattle.fl_arena.specs.Chains.{Entry, Chains, entries, items, item_count}
+use Rattle.fl_arena.specs.Chains.{Entry, Chains, entries, items, slot_at, item_count, free_count}
 use Rattle.fl_arena.specs.Cursors.{cursor_at}
 use Rattle.fl_arena.specs.declared.cursors.Cursor.{Cursor}
 use Rattle.fl_rows.specs.declared.rows.Head.{Head}
@@ -26,6 +28,23 @@ module _ {T : Type 0} where
   pub entry_there : (a : Chains T) (c i : ℕ) (x : T) → slice_get (items a c) i ≡ Some x →
       (e : Entry T) × (slice_get (entries a c) i ≡ Some e) × (e.item ≡ x)
   entry_there a c i x found = some_there (λ (e : Entry T). e.item) (entries a c) i x found
+
+  -- a slot is at an index below its chain's length, and below the number of all items
+  pub index_within : (a : Chains T) (c i slot : ℕ) → slot_at a c i ≡ Some slot → i < length (entries a c)
+  index_within a c i slot found = go (entries a c) i found
+    where
+      go : (es : List (Entry T)) (k : ℕ) → option_map (λ e. e.slot) (slice_get es k) ≡ Some slot → k < length es
+      go [] k none = absurd (none-some slot none)
+      go (e ∷ es) zero some = omega arith
+      go (e ∷ es) (suc k) some = omega (arith, go es k some)
+
+  pub index_counted : (a : Chains T) (c i slot : ℕ) → slot_at a c i ≡ Some slot → i < item_count a
+  index_counted a c i slot found =
+      let less = index_within a c i slot found in
+      elim (cases_lt c (length a.chains)) [
+        | inl within ↦ omega (arith, less, sum_by-set length a.chains c [] [] within)
+        | inr past ↦ absurd (omega (arith, less, ap length (get_or_past a.chains c [] past)))
+      ]
 
 module _ {K R : Type 0} (heads : Chains (Head K)) (runs : Chains R) (v : RowChains K R) (view : record { heads = heads; runs = runs } ≡ v) where
   -- a cursor at a row stands at its head
@@ -70,3 +89,16 @@ module _ {K R : Type 0} (heads : Chains (Head K)) (runs : Chains R) (v : RowChai
   pub free_told : (n free : ℕ) → AreRows heads runs n → item_count runs + free ≡ runs.slots → run_count v + free ≡ limit_of v
   free_told n free h total =
       subst (λ w. run_count w + free ≡ limit_of w) view (ap (λ k. k + free) (counted heads runs n h) ∙ total)
+
+  pub head_placed : (c i slot : ℕ) → slot_at heads c i ≡ Some slot → c < chain_count v → i < length (rows v c)
+  head_placed c i slot found in_chains =
+      let long : length (rows v c) ≡ length (entries v.heads c) = ap length (rows_are v c in_chains) ∙ length-map (entries v.heads c) (row_at v.runs) in
+      let same : length (entries heads c) ≡ length (entries v.heads c) = ap (λ w. length (entries w.heads c)) view in
+      omega (arith, index_within heads c i slot found, long, same)
+
+  pub run_placed : (n c i slot : ℕ) → AreRows heads runs n → slot_at runs c i ≡ Some slot → i < run_count v
+  run_placed n c i slot h found =
+      subst (λ w. i < run_count w) view (omega (arith, index_counted runs c i slot found, counted heads runs n h))
+
+  pub run_free : (n : ℕ) → AreRows heads runs n → 0 < free_count runs → run_count v < limit_of v
+  run_free n h some = subst (λ w. run_count w < limit_of w) view (omega (arith, some, counted heads runs n h))

@@ -12,7 +12,7 @@ use Rattle.fl_rows.specs.Inside.Kept.{has_number, AreKept, AreRows}
 use Rattle.fl_rows.proofs.Lists.{each_remove, each_insert, each_at}
 use Rattle.fl_rows.proofs.Weights.{none_has, one_has, number_counts, other_counts, moved_over}
 use Rattle.fl_rows.proofs.Kept.{IsOnly, is_only, kept_runs, kept_moved, chain_within, moved_to, moved_from, moved_past}
-use Rattle.fl_rows.proofs.Values.{row_at, rows_are, rows_set, rows_kept, rows_changed, set_runs, remove_set, row_removed, row_inserted}
+use Rattle.fl_rows.proofs.Values.{row_at, rows_at, rows_set, rows_kept, rows_changed, set_runs, remove_set, row_removed, row_inserted}
 
 module _ {K R : Type 0} (old new : Chains R) (m : ℕ) (others : (c : ℕ) → c ≢ m → entries new c ≡ entries old c) where
   -- heads that have runs, or have none, still do where theirs are on other chains
@@ -80,7 +80,7 @@ module _ {K R : Type 0} (heads : Chains (Head K)) (old new : Chains R) (n c i : 
       rows_set (record { heads = heads; runs = old }) (record { heads = heads; runs = new }) n c _ h.kept.chains h.kept.chains less
       (λ b apart _. rows_kept old new e.item.runs others (entries heads b) (only.elsewhere b apart))
       (rows_changed old new e.item.runs others (entries heads c) i e found refl only.here
-      ∙ ap (λ rs. set_runs rs i (items new e.item.runs)) (sym (rows_are (record { heads = heads; runs = old }) c (omega (arith, less, count)))))
+      ∙ ap (λ rs. set_runs rs i (items new e.item.runs)) (sym (rows_at (record { heads = heads; runs = old }) c (omega (arith, less, count)))))
 
   -- a row that has none any more, whose head goes to the unused ones
   pub row_gone : c < n → entries new e.item.runs ≡ [] → AreRows (moved_over heads c i n 0 e) new n
@@ -120,7 +120,7 @@ module _ {K R : Type 0} (heads : Chains (Head K)) (old new : Chains R) (n c i : 
       ∙ row_removed new (entries heads c) i
       ∙ ap (λ rs. remove rs i) (rows_changed old new e.item.runs others (entries heads c) i e found refl only.here)
       ∙ remove_set (map (row_at old) (entries heads c)) i (items new e.item.runs)
-      ∙ ap (λ rs. remove rs i) (sym (rows_are (record { heads = heads; runs = old }) c (omega (arith, less, count)))))
+      ∙ ap (λ rs. remove rs i) (sym (rows_at (record { heads = heads; runs = old }) c (omega (arith, less, count)))))
 
 -- an unused head gets a run, and goes to a row's place
 module _ {K R : Type 0} (heads : Chains (Head K)) (old new : Chains R) (n c j : ℕ) (e f : Entry (Head K)) (h : AreRows heads old n)
@@ -176,4 +176,4 @@ module _ {K R : Type 0} (heads : Chains (Head K)) (old new : Chains R) (n c j : 
       ∙ row_inserted new (entries heads c) j f
       ∙ (λ t. insert (none_here t) j (record { key = f.item.key; runs = items new (same t) }))
       ∙ ap (λ rs. insert rs j (record { key = f.item.key; runs = items new e.item.runs }))
-      (sym (rows_are (record { heads = heads; runs = old }) c (omega (arith, less, count)))))
+      (sym (rows_at (record { heads = heads; runs = old }) c (omega (arith, less, count)))))

@@ -49,17 +49,24 @@ module _ {K R : Type 0} where
   abbrev pub row_at : Chains R → Entry (Head K) → Row K R
   row_at runs e = row_of runs e.item
 
+  -- there is a chain of rows for each of heads but one
+  pub chains_counted : (v : RowChains K R) → chain_count v ≡ length v.heads.chains - 1
+  chains_counted v = long_mapped (λ es. map (row_at v.runs) es) v.heads.chains (length v.heads.chains - 1) (omega arith)
+
   -- the rows of a chain are those of its heads
+  pub rows_at : (v : RowChains K R) (c : ℕ) → c < length v.heads.chains - 1 → rows v c ≡ map (row_at v.runs) (entries v.heads c)
+  rows_at v c within = mapped_at (λ es. map (row_at v.runs) es) refl v.heads.chains (length v.heads.chains - 1) c within
+
   pub rows_are : (v : RowChains K R) (c : ℕ) → c < chain_count v → rows v c ≡ map (row_at v.runs) (entries v.heads c)
-  rows_are v c within = mapped_at (λ es. map (row_at v.runs) es) refl v.heads.chains (chain_count v) c within
+  rows_are v c within = rows_at v c (omega (arith, within, chains_counted v))
 
   -- all rows, where those of one chain have changed
   pub rows_set : (v w : RowChains K R) (n c : ℕ) (z : List (Row K R)) → length v.heads.chains ≡ n + 1 → length w.heads.chains ≡ n + 1 → c < n →
       ((b : ℕ) → b ≢ c → b < n → map (row_at w.runs) (entries w.heads b) ≡ map (row_at v.runs) (entries v.heads b)) →
       map (row_at w.runs) (entries w.heads c) ≡ z → row_lists w ≡ set (row_lists v) c z
   rows_set v w n c z long_v long_w less same is =
-      let first : chain_count v ≡ n = omega (arith, long_v) in
-      let second : chain_count w ≡ n = omega (arith, long_w) in
+      let first : length v.heads.chains - 1 ≡ n = omega (arith, long_v) in
+      let second : length w.heads.chains - 1 ≡ n = omega (arith, long_w) in
       rw (first, second) (mapped_set (λ es. map (row_at v.runs) es) (λ es. map (row_at w.runs) es) refl refl v.heads.chains w.heads.chains n c z long_v long_w
       less same is)
 

@@ -29,13 +29,13 @@ module _ {K R : Type 0} where
   abbrev pub row_of : Chains R → Head K → Row K R
   row_of runs head = record { key = head.key; runs = items runs head.runs }
 
-  -- how many chains of rows there are
-  abbrev pub chain_count : RowChains K R → ℕ
-  chain_count v = length v.heads.chains - 1
-
   -- the rows of each chain, in order
   abbrev pub row_lists : RowChains K R → List (List (Row K R))
-  row_lists v = map (λ es. map (λ e. row_of v.runs e.item) es) (take (chain_count v) v.heads.chains)
+  row_lists v = map (λ es. map (λ e. row_of v.runs e.item) es) (take (length v.heads.chains - 1) v.heads.chains)
+
+  -- how many chains of rows there are
+  abbrev pub chain_count : RowChains K R → ℕ
+  chain_count v = length (row_lists v)
 
   -- the rows of a chain
   abbrev pub rows : RowChains K R → ℕ → List (Row K R)

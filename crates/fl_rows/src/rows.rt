@@ -148,6 +148,8 @@ impl<K: Copy, R: Copy> Rows<K, R> {
     /// along its chain.
     pub fn head_place(&self, slot: usize) -> Place
         requires { slot < limit_of self.now }
+        ensures on { (c i : ℕ) → result ≡ Place.On c i → c < chain_count self.now → i < length (rows self.now c) }
+        ensures taken { result ≢ Place.Free }
     {
         self.heads.place(slot)
     }
@@ -155,6 +157,8 @@ impl<K: Copy, R: Copy> Rows<K, R> {
     /// Where the slot of a run is: on the chain that its row's head names, or free. This walks along its row.
     pub fn slot_place(&self, slot: usize) -> Place
         requires { slot < limit_of self.now }
+        ensures on { (chain index : ℕ) → result ≡ Place.On chain index → index < run_count self.now }
+        ensures free { result ≡ Place.Free → run_count self.now < limit_of self.now }
     {
         self.runs.place(slot)
     }
