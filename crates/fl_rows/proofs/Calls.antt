@@ -11,11 +11,12 @@ use Rattle.fl_arena.specs.Chains.{Entry, Chains, entries, items, slot_at, item_c
 use Rattle.fl_arena.specs.Cursors.{cursor_at, index_of, with_item, without, Shifts}
 use Rattle.fl_arena.specs.declared.cursors.Cursor.{Cursor}
 use Rattle.fl_rows.specs.declared.rows.Head.{Head}
-use Rattle.fl_rows.specs.Rows.{Row, row_lists, rows, runs_at, with_runs, IsRow, run_cursor}
+use Rattle.fl_rows.specs.Rows.{Row, limit_of, row_lists, rows, runs_at, with_runs, IsRow, run_cursor, RowChains, with_key, number_at, HasRoomOf}
 use Rattle.fl_rows.specs.Inside.Kept.{has_number, runs_of, AreRows}
 use Rattle.fl_rows.proofs.Lists.{each_at}
 use Rattle.fl_rows.proofs.Weights.{moved_over, count_changed}
-use Rattle.fl_rows.proofs.Values.{row_at, rows_are, chains_counted, none_unused, number_there, runs_there, set_runs, with_some, with_none, remove_set}
+use Rattle.fl_rows.proofs.Kept.{chain_within}
+use Rattle.fl_rows.proofs.Values.{row_at, rows_at, rows_are, rows_set, chains_counted, none_unused, number_there, runs_there, set_runs, with_some, with_none, remove_set}
 use Rattle.fl_rows.proofs.Reading.{some_entry, entry_there}
 use Rattle.fl_rows.proofs.RowChanges.{row_added, rows_added}
 
@@ -120,76 +121,116 @@ module _ {K : Type 0} where
       f es ≡ f (entries heads n) → sum_by f (with_entries heads n es).chains ≡ sum_by f heads.chains
   set_weight f heads n es within same = omega (arith, sum_by-set f heads.chains n es [] within, same)
 
-  list_weight : (w : Entry (Head K) → ℕ) (es : List (Entry (Head K))) (e f : Entry (Head K)) → slice_get es 0 ≡ Some e → w f ≡ w e →
-      sum_by w (set es 0 f) ≡ sum_by w es
-  list_weight w es e f found same =
-      omega (arith, sum_by-set w es 0 f e (slice_get_within es 0 e found), ap w (get_or_from_slice_get es 0 e e found), same)
+  list_weight : (w : Entry (Head K) → ℕ) (es : List (Entry (Head K))) (i : ℕ) (e f : Entry (Head K)) → slice_get es i ≡ Some e → w f ≡ w e →
+      sum_by w (set es i f) ≡ sum_by w es
+  list_weight w es i e f found same =
+      omega (arith, sum_by-set w es i f e (slice_get_within es i e found), ap w (get_or_from_slice_get es i e e found), same)
 
-  each_set : (P : Entry (Head K) → Type 0) (es : List (Entry (Head K))) (f : Entry (Head K)) → AllByRecursion P es → P f → AllByRecursion P (set es 0 f)
-  each_set P [] f each it = tt
-  each_set P (e ∷ es) f each it = (it, each.1)
+  each_set : (P : Entry (Head K) → Type 0) (es : List (Entry (Head K))) (i : ℕ) (f : Entry (Head K)) → AllByRecursion P es → P f →
+      AllByRecursion P (set es i f)
+  each_set P [] i f each it = tt
+  each_set P (e ∷ es) zero f each it = (it, each.1)
+  each_set P (e ∷ es) (suc i) f each it = (each.0, each_set P es i f each.1 it)
 
--- the first unused head gets another key
-module _ {K R : Type 0} (heads : Chains (Head K)) (runs : Chains R) (n : ℕ) (e f : Entry (Head K)) (h : AreRows heads runs n)
-    (found : slice_get (entries heads n) 0 ≡ Some e) (same : f.item.runs ≡ e.item.runs) where
-  in_n : n < length heads.chains
-  in_n = omega (arith, h.kept.chains)
+-- a head gets another key
+module _ {K R : Type 0} (heads : Chains (Head K)) (runs : Chains R) (n c i : ℕ) (e f : Entry (Head K)) (h : AreRows heads runs n)
+    (found : slice_get (entries heads c) i ≡ Some e) (same : f.item.runs ≡ e.item.runs) where
+  set_here : entries (with_entries heads c (set (entries heads c) i f)) c ≡ set (entries heads c) i f
+  set_here = get_or-set_same heads.chains c (set (entries heads c) i f) [] (chain_within heads c i e found)
 
-  set_here : entries (with_entries heads n (set (entries heads n) 0 f)) n ≡ set (entries heads n) 0 f
-  set_here = get_or-set_same heads.chains n (set (entries heads n) 0 f) [] in_n
+  set_there : (b : ℕ) → b ≢ c → entries (with_entries heads c (set (entries heads c) i f)) b ≡ entries heads b
+  set_there b apart = get_or-set_other heads.chains c b (set (entries heads c) i f) [] apart
 
-  set_there : (b : ℕ) → b ≢ n → entries (with_entries heads n (set (entries heads n) 0 f)) b ≡ entries heads b
-  set_there b apart = get_or-set_other heads.chains n b (set (entries heads n) 0 f) [] apart
-
-  set_first : slice_get (entries (with_entries heads n (set (entries heads n) 0 f)) n) 0 ≡ Some f
-  set_first = ap (λ es. slice_get es 0) set_here ∙ at_first (entries heads n) found
+  pub new_head : slice_get (entries (with_entries heads c (set (entries heads c) i f)) c) i ≡ Some f
+  new_head = ap (λ es. slice_get es i) set_here ∙ at_index (entries heads c) i found
     where
-      at_first : (es : List (Entry (Head K))) → slice_get es 0 ≡ Some e → slice_get (set es 0 f) 0 ≡ Some f
-      at_first [] none = absurd (none-some e none)
-      at_first (x ∷ es) some = refl
+      at_index : (es : List (Entry (Head K))) (k : ℕ) → slice_get es k ≡ Some e → slice_get (set es k f) k ≡ Some f
+      at_index [] k none = absurd (none-some e none)
+      at_index (x ∷ es) zero some = refl
+      at_index (x ∷ es) (suc k) some = at_index es k some
 
-  key_kept : AreRows (with_entries heads n (set (entries heads n) 0 f)) runs n
-  key_kept = record {
-    kept = record {
-      chains = length-set heads.chains n (set (entries heads n) 0 f) ∙ h.kept.chains;
-      few_chains = h.kept.few_chains;
-      count = set_weight length heads n (set (entries heads n) 0 f) in_n (length-set (entries heads n) 0 f) ∙ h.kept.count;
-      slots = h.kept.slots;
-      numbers = h.kept.numbers;
-      small = h.kept.small;
-      once = λ k less.
-          set_weight (λ es. sum_by (has_number k) es) heads n (set (entries heads n) 0 f) in_n
-          (list_weight (has_number k) (entries heads n) e f found (ap (λ m. cond (m == k) 1 0) same))
-          ∙ h.kept.once k less;
-      named = λ b. at_each b;
-      all =
-          set_weight (λ es. sum_by (runs_of runs) es) heads n (set (entries heads n) 0 f) in_n
-          (list_weight (runs_of runs) (entries heads n) e f found (ap (λ m. length (entries runs m)) same))
-          ∙ h.kept.all;
-    };
-    used = λ b less. rw (set_there b (λ is. omega (arith, less, is))) (h.used b less);
-    spare =
-        rw set_here (each_set (λ x. entries runs x.item.runs ≡ []) (entries heads n) f h.spare
-        (rw same (each_at (λ x. entries runs x.item.runs ≡ []) (entries heads n) 0 e h.spare found)));
-  }
-    where
-      at_each : (b : ℕ) → AllByRecursion (λ x. x.item.runs < runs.slots) (entries (with_entries heads n (set (entries heads n) 0 f)) b)
-      at_each b =
-          elim (cases_eq b n) [
-            | inl here ↦
-                rw here (rw set_here (each_set (λ x. x.item.runs < runs.slots) (entries heads n) f (h.kept.named n)
-                (rw same (each_at (λ x. x.item.runs < runs.slots) (entries heads n) 0 e (h.kept.named n) found))))
-            | inr there ↦ rw (set_there b there) (h.kept.named b)
-          ]
+  -- what depends on a head's number alone holds as before
+  at_each : (P : ℕ → Type 0) (b : ℕ) → AllByRecursion (λ x. P x.item.runs) (entries heads b) →
+      AllByRecursion (λ x. P x.item.runs) (entries (with_entries heads c (set (entries heads c) i f)) b)
+  at_each P b each =
+      elim (cases_eq b c) [
+        | inl here ↦
+            let was : AllByRecursion (λ x. P x.item.runs) (entries heads c) = subst (λ k. AllByRecursion (λ x. P x.item.runs) (entries heads k)) here each in
+            rw here (rw set_here (each_set (λ x. P x.item.runs) (entries heads c) i f was
+            (rw same (each_at (λ x. P x.item.runs) (entries heads c) i e was found))))
+        | inr there ↦ rw (set_there b there) each
+      ]
 
-  same_rows : row_lists (record { heads = with_entries heads n (set (entries heads n) 0 f); runs = runs }) ≡ row_lists (record { heads = heads; runs = runs })
-  same_rows =
-      let first : length (set heads.chains n (set (entries heads n) 0 f)) - 1 ≡ n =
-      omega (arith, length-set heads.chains n (set (entries heads n) 0 f), h.kept.chains) in
-      let second : n ≡ length heads.chains - 1 = omega (arith, h.kept.chains) in
-      ap (λ k. map (λ es. map (row_at runs) es) (take k (set heads.chains n (set (entries heads n) 0 f)))) first
-      ∙ ap (map (λ es. map (row_at runs) es)) (take_set heads.chains n (set (entries heads n) 0 f))
+  pub key_kept : AreRows (with_entries heads c (set (entries heads c) i f)) runs n
+  key_kept =
+      let in_c = chain_within heads c i e found in
+      record {
+        kept = record {
+          chains = length-set heads.chains c (set (entries heads c) i f) ∙ h.kept.chains;
+          few_chains = h.kept.few_chains;
+          count = set_weight length heads c (set (entries heads c) i f) in_c (length-set (entries heads c) i f) ∙ h.kept.count;
+          slots = h.kept.slots;
+          numbers = h.kept.numbers;
+          small = h.kept.small;
+          once = λ k less.
+              set_weight (λ es. sum_by (has_number k) es) heads c (set (entries heads c) i f) in_c
+              (list_weight (has_number k) (entries heads c) i e f found (ap (λ m. cond (m == k) 1 0) same))
+              ∙ h.kept.once k less;
+          named = λ b. at_each (λ m. m < runs.slots) b (h.kept.named b);
+          all =
+              set_weight (λ es. sum_by (runs_of runs) es) heads c (set (entries heads c) i f) in_c
+              (list_weight (runs_of runs) (entries heads c) i e f found (ap (λ m. length (entries runs m)) same))
+              ∙ h.kept.all;
+        };
+        used = λ b less. at_each (λ m. entries runs m ≢ []) b (h.used b less);
+        spare = at_each (λ m. entries runs m ≡ []) n h.spare;
+      }
+
+  -- an unused head's key is seen by nobody
+  same_rows : c ≡ n → row_lists (record { heads = with_entries heads c (set (entries heads c) i f); runs = runs })
+      ≡ row_lists (record { heads = heads; runs = runs })
+  same_rows last =
+      let first : length (set heads.chains c (set (entries heads c) i f)) - 1 ≡ c =
+      omega (arith, length-set heads.chains c (set (entries heads c) i f), h.kept.chains, last) in
+      let second : c ≡ length heads.chains - 1 = omega (arith, h.kept.chains, last) in
+      ap (λ k. map (λ es. map (row_at runs) es) (take k (set heads.chains c (set (entries heads c) i f)))) first
+      ∙ ap (map (λ es. map (row_at runs) es)) (take_set heads.chains c (set (entries heads c) i f))
       ∙ ap (λ k. map (λ es. map (row_at runs) es) (take k heads.chains)) second
+
+  -- and a row's key is its head's
+  pub key_rows : c < n → row_lists (record { heads = with_entries heads c (set (entries heads c) i f); runs = runs })
+      ≡ set (row_lists (record { heads = heads; runs = runs })) c (with_key (rows (record { heads = heads; runs = runs }) c) i f.item.key)
+  key_rows less =
+      let count : length heads.chains - 1 ≡ n = omega (arith, h.kept.chains) in
+      rows_set (record { heads = heads; runs = runs }) (record { heads = with_entries heads c (set (entries heads c) i f); runs = runs }) n c _ h.kept.chains
+      (length-set heads.chains c (set (entries heads c) i f) ∙ h.kept.chains) less
+      (λ b apart _. ap (map (row_at runs)) (set_there b apart))
+      (ap (map (row_at runs)) set_here
+      ∙ keyed (entries heads c) i found
+      ∙ ap (λ rs. with_key rs i f.item.key) (sym (rows_at (record { heads = heads; runs = runs }) c (omega (arith, less, count)))))
+    where
+      keyed : (es : List (Entry (Head K))) (k : ℕ) → slice_get es k ≡ Some e → map (row_at runs) (set es k f) ≡ with_key (map (row_at runs) es) k f.item.key
+      keyed [] k none = absurd (none-some e none)
+      keyed (x ∷ es) zero some =
+          let is : x ≡ e = cc in
+          let number : f.item.runs ≡ x.item.runs = same ∙ ap (λ y. y.item.runs) (sym is) in
+          λ t. record { key = f.item.key; runs = items runs (number t) } ∷ map (row_at runs) es
+      keyed (x ∷ es) (suc k) some = ap (λ l. row_at runs x ∷ l) (keyed es k some)
+
+  -- the numbers are as before
+  pub numbers_kept : (b k : ℕ) → number_at (entries (with_entries heads c (set (entries heads c) i f)) b) k ≡ number_at (entries heads b) k
+  numbers_kept b k =
+      elim (cases_eq b c) [
+        | inl here ↦ rw here (ap (λ es. number_at es k) set_here ∙ at_number (entries heads c) i k found)
+        | inr there ↦ ap (λ es. number_at es k) (set_there b there)
+      ]
+    where
+      at_number : (es : List (Entry (Head K))) (m k : ℕ) → slice_get es m ≡ Some e → number_at (set es m f) k ≡ number_at es k
+      at_number [] m k none = absurd (none-some e none)
+      at_number (x ∷ es) zero zero some = let is : x ≡ e = cc in same ∙ ap (λ y. y.item.runs) (sym is)
+      at_number (x ∷ es) zero (suc k) some = refl
+      at_number (x ∷ es) (suc m) zero some = refl
+      at_number (x ∷ es) (suc m) (suc k) some = at_number es m k some
 
 -- what the first unused head names
 module _ {K R : Type 0} (heads : Chains (Head K)) (old : Chains R) (n : ℕ) (head : Head K) (h : AreRows heads old n)
@@ -231,13 +272,13 @@ module _ {K R : Type 0} (heads one : Chains (Head K)) (old : Chains R) (n : ℕ)
     less = row_before heads old n h row is
 
     ready : AreRows one old n
-    ready = subst (λ a. AreRows a old n) (sym set_is) (key_kept heads old n e f h found same)
+    ready = subst (λ a. AreRows a old n) (sym set_is) (key_kept heads old n n 0 e f h found same)
 
     there : slice_get (entries one n) 0 ≡ Some f
-    there = ap (λ a. slice_get (entries a n) 0) set_is ∙ set_first heads old n e f h found same
+    there = ap (λ a. slice_get (entries a n) 0) set_is ∙ new_head heads old n n 0 e f h found same
 
     others_same : entries one row.chain ≡ entries heads row.chain
-    others_same = ap (λ a. entries a row.chain) set_is ∙ set_there heads old n e f h found same row.chain (λ x. omega (arith, less, x))
+    others_same = ap (λ a. entries a row.chain) set_is ∙ set_there heads old n n 0 e f h found same row.chain (λ x. omega (arith, less, x))
 
     row_still : row ≡ cursor_at one row.chain row.index
     row_still = is.at ∙ ap (λ (es : List (Entry (Head K))). record {
@@ -277,7 +318,7 @@ module _ {K R : Type 0} (heads one : Chains (Head K)) (old : Chains R) (n : ℕ)
           (insert (rows (record { heads = heads; runs = old }) row.chain) row.index (record { key = key; runs = run ∷ [] }))
       rows_kept_in =
           let lists : row_lists (record { heads = one; runs = old }) ≡ row_lists (record { heads = heads; runs = old }) =
-          ap (λ a. row_lists (record { heads = a; runs = old })) set_is ∙ same_rows heads old n e f h found same in
+          ap (λ a. row_lists (record { heads = a; runs = old })) set_is ∙ same_rows heads old n n 0 e f h found same refl in
           ap (λ a. row_lists (record { heads = a; runs = new })) two_is
           ∙ rows_added one old new n row.chain row.index f f ready there size others refl less fits has_run
           ∙ ap (λ ls. set ls row.chain (insert (get_or ls row.chain []) row.index (record { key = key; runs = items new head.runs }))) lists
@@ -335,3 +376,7 @@ module _ {K R : Type 0} (heads : Chains (Head K)) (old : Chains R) (n : ℕ) (h 
 
   pub without_any : (rs : List (Row K R)) (i : ℕ) → remove rs i ≡ with_runs rs i []
   without_any rs i = sym (remove_set rs i []) ∙ with_none rs i
+
+-- what a change of one chain's rows leaves of their number
+pub has_room : {K R : Type 0} (v w : RowChains K R) (c : ℕ) (z : List (Row K R)) → row_lists w ≡ set (row_lists v) c z → limit_of w ≡ limit_of v → HasRoomOf v w
+has_room v w c z is limit = record { chains = ap length is ∙ length-set (row_lists v) c z; limit = limit }

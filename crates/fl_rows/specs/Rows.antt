@@ -59,6 +59,12 @@ module _ {K R : Type 0} where
   runs_at (r ∷ rs) zero = r.runs
   runs_at (r ∷ rs) (suc i) = runs_at rs i
 
+  -- the rows once the one at an index has this key
+  abbrev pub with_key : List (Row K R) → ℕ → K → List (Row K R)
+  with_key [] i key = []
+  with_key (r ∷ rs) zero key = record r { key = key } ∷ rs
+  with_key (r ∷ rs) (suc i) key = r ∷ with_key rs i key
+
   -- the rows once the one at an index has these runs; it goes where these are none
   abbrev pub with_runs : List (Row K R) → ℕ → List R → List (Row K R)
   with_runs [] i runs = []
@@ -73,6 +79,11 @@ module _ {K R : Type 0} where
   -- the cursor at a run of a row of a chain, or at the row's end
   abbrev pub run_cursor : RowChains K R → ℕ → ℕ → ℕ → Cursor
   run_cursor v c i j = cursor_at v.runs (number_at (entries v.heads c) i) j
+
+  -- there are as many chains of rows, and there is room for as many runs
+  pub record HasRoomOf (old new : RowChains K R) : Type 0 where
+    pub chains : chain_count new ≡ chain_count old
+    pub limit : limit_of new ≡ limit_of old
 
   -- the cursor stands at a row, or at the end of the rows, of the chain that it names
   pub record IsRow (v : RowChains K R) (row : Cursor) : Type 0 where

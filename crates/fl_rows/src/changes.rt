@@ -3,8 +3,8 @@ ghost use Rattle.std.specs.Prelude.{◌≡◌, ◌≢◌, ◌↔◌, ◌+◌, �
 ghost use Rattle.std.specs.Prelude.{take, drop, ◌++◌, IsSome, IsErr, OnOk, OnErr};
 ghost use Rattle.fl_arena.specs.Chains.{entries, items, item_count, HasSizeOf};
 ghost use Rattle.fl_arena.specs.Cursors.{cursor_at};
-ghost use Rattle.fl_rows.specs.Rows.{row_lists, rows, runs_at, with_runs, spliced, pieces_of, listed, run_count};
-ghost use Rattle.fl_rows.specs.Rows.{limit_of, row_cursor, run_cursor, IsRow};
+ghost use Rattle.fl_rows.specs.Rows.{row_lists, rows, runs_at, with_key, with_runs, spliced, pieces_of, listed, run_count};
+ghost use Rattle.fl_rows.specs.Rows.{limit_of, row_cursor, run_cursor, IsRow, HasRoomOf};
 
 use crate::rows::{Head, Pieces, Rows};
 use fl_arena::{Arena, Cursor, Full};
@@ -18,7 +18,7 @@ impl<K: Copy, R: Copy> Rows<K, R> {
         ensures rows { OnOk result (row_lists self.new ≡ slice_set (row_lists self.old) row.old.chain
             (insert (rows self.old row.old.chain) row.old.index (record { key = key; runs = run ∷ [] }))) }
         ensures cursor { OnOk result (row.new ≡ row_cursor self.new row.old.chain row.old.index) }
-        ensures limit { limit_of self.new ≡ limit_of self.old }
+        ensures size { HasRoomOf self.old self.new }
         ensures err { OnErr result (self.new ≡ self.old) }
         ensures err_cursor { OnErr result (row.new ≡ row.old) }
     {
@@ -50,13 +50,29 @@ impl<K: Copy, R: Copy> Rows<K, R> {
             (with_runs (rows self.old row.old.chain) row.old.index
             (spliced (runs_at (rows self.old row.old.chain) row.old.index) at.index taken (pieces_of pieces))) }
         ensures cursor { row.new ≡ row_cursor self.new row.old.chain row.old.index }
-        ensures limit { limit_of self.new ≡ limit_of self.old }
+        ensures size { HasRoomOf self.old self.new }
     {
         splice_runs(&mut self.runs, at, taken, pieces);
         if self.runs.cursor(at.chain).slot.is_none() {
             let mut spare = self.heads.cursor(self.unused);
             self.heads.shift(row, &mut spare);
         }
+    }
+
+    /// Gives the row at the cursor another key. No cursor moves.
+    pub fn set_key(&mut self, row: &Cursor, key: K)
+        requires row { IsRow self.old row.now }
+        requires at_row { IsSome row.now.slot }
+        ensures rows { row_lists self.new ≡ slice_set (row_lists self.old) row.now.chain
+            (with_key (rows self.old row.now.chain) row.now.index key) }
+        ensures row { row.now ≡ row_cursor self.new row.now.chain row.now.index }
+        ensures runs { (c i j : ℕ) → run_cursor self.new c i j ≡ run_cursor self.old c i j }
+        ensures size { HasRoomOf self.old self.new }
+    {
+        let Some(head) = self.heads.get(row) else {
+            unreachable!()
+        };
+        self.heads.set(row, Head { key, ..head });
     }
 
     /// Takes out a row with all its runs. The cursor is then at the next row.
@@ -66,7 +82,7 @@ impl<K: Copy, R: Copy> Rows<K, R> {
         ensures rows { row_lists self.new ≡ slice_set (row_lists self.old) row.old.chain
             (remove (rows self.old row.old.chain) row.old.index) }
         ensures cursor { row.new ≡ row_cursor self.new row.old.chain row.old.index }
-        ensures limit { limit_of self.new ≡ limit_of self.old }
+        ensures size { HasRoomOf self.old self.new }
     {
         let mut run = self.first_run(row);
         clear(&mut self.runs, &mut run);

@@ -3,9 +3,9 @@ use Rattle.std.specs.Bool.{⊤}
 use Rattle.fl_arena.specs.Chains.{items, slot_at}
 use Rattle.fl_arena.specs.Cursors.{cursor_at, with_item, Shifts, IsInPlace}
 use Rattle.fl_arena.specs.declared.cursors.Cursor.{Cursor}
-use Rattle.fl_rows.specs.Rows.{rows, row_lists, IsRow}
+use Rattle.fl_rows.specs.Rows.{limit_of, rows, row_lists, IsRow}
 use Rattle.fl_rows.proofs.Reading.{free_told}
-use Rattle.fl_rows.proofs.Calls.{spare_in_place, none_held_yet, named_well, index_still, row_kept_in, rows_kept_in, head_left}
+use Rattle.fl_rows.proofs.Calls.{spare_in_place, none_held_yet, named_well, index_still, row_kept_in, rows_kept_in, head_left, has_room}
 use Rattle.fl_rows.proofs.rows.Rows.insert_row.Goals as goal
 use Rattle.fl_rows.proofs.rows.Rows.insert_row.Goals.{In-Some, After-self, After-set, After-insert}
 
@@ -90,3 +90,6 @@ returns-clause-cursor g c =
     c.shift.ensures.to_cursor
     ∙ ap (cursor_at c.shift.new.self c.args.row.now.chain) (index_still _ _ c.self.inside.runs _ c.args.row.now _ c.args.key c.self.invariant
     (first g at.In-Some) (keyed g at.After-set) (stands g at.After-self))
+
+pub returns-clause-size : goal.returns-clause-size
+returns-clause-size g c = has_room _ _ _ _ (returns-clause-rows g c) (c.insert.ensures.size.slots ∙ ap limit_of c.self.view_is)

@@ -2,11 +2,11 @@ use Rattle.std.proofs.Common.{◌≡◌, set, [], sym, ap, ◌∙◌, subst, ari
 use Rattle.std.specs.List.{remove}
 use Rattle.fl_arena.specs.Chains.{entries, items}
 use Rattle.fl_arena.specs.declared.cursors.Cursor.{Cursor}
-use Rattle.fl_rows.specs.Rows.{rows, row_lists, number_at, IsRow}
+use Rattle.fl_rows.specs.Rows.{limit_of, rows, row_lists, number_at, IsRow}
 use Rattle.fl_rows.specs.Inside.Kept.{AreRows}
 use Rattle.fl_rows.proofs.Values.{number_there}
 use Rattle.fl_rows.proofs.RowChanges.{row_gone, rows_gone}
-use Rattle.fl_rows.proofs.Calls.{shifted_is, no_entries, row_before}
+use Rattle.fl_rows.proofs.Calls.{shifted_is, no_entries, row_before, has_room}
 use Rattle.fl_rows.proofs.rows.Rows.remove_row.Goals as goal
 use Rattle.fl_rows.proofs.rows.Rows.remove_row.Goals.{After-shift}
 
@@ -34,3 +34,6 @@ returns-clause-rows g c =
     (shifted_is _ _ _ _ c.self.inside.unused 0 s c.cursor-spare.ensures.first (omega arith))
     ∙ rows_gone _ _ _ _ _ _ s.moved c.self.invariant s.was_there c.clear.ensures.size (λ d apart. c.clear.ensures.others d (λ e. apart (e ∙ chain))) less
     ∙ ap (λ w. set (row_lists w) c.args.row.now.chain (remove (rows w c.args.row.now.chain) c.args.row.now.index)) c.self.view_is
+
+pub returns-clause-size : goal.returns-clause-size
+returns-clause-size g c = has_room _ _ _ _ (returns-clause-rows g c) (c.clear.ensures.size.slots ∙ ap limit_of c.self.view_is)

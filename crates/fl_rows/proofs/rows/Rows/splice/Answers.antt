@@ -6,7 +6,7 @@ use Rattle.fl_rows.specs.Inside.Kept.{AreRows}
 use Rattle.fl_rows.proofs.Values.{counted, set_runs}
 use Rattle.fl_rows.proofs.Loops.{no_items, none_from}
 use Rattle.fl_rows.proofs.RowChanges.{row_gone, rows_gone, row_spliced, rows_spliced}
-use Rattle.fl_rows.proofs.Calls.{shifted_is, no_entries, has_first, IsSplice, is_splice, with_these, without_any}
+use Rattle.fl_rows.proofs.Calls.{shifted_is, no_entries, has_first, IsSplice, is_splice, with_these, without_any, has_room}
 use Rattle.fl_rows.proofs.rows.Rows.splice.Goals as goal
 use Rattle.fl_rows.proofs.rows.Rows.splice.Goals.{After-self}
 
@@ -92,3 +92,11 @@ returns-else-is_none-clause-rows g c =
     ∙ ap (with_runs (rows v c.args.row.now.chain) c.args.row.now.index) (sym spl))
     ∙ ap (λ w. set (row_lists w) c.args.row.now.chain (with_runs (rows w c.args.row.now.chain) c.args.row.now.index
     (spliced (runs_at (rows w c.args.row.now.chain) c.args.row.now.index) c.args.at.index c.args.taken (pieces_of c.args.pieces)))) c.self.view_is
+
+pub returns-then-is_none-clause-size : goal.returns-then-is_none-clause-size
+returns-then-is_none-clause-size g c =
+    has_room _ _ _ _ (returns-then-is_none-clause-rows g c) (c.splice_runs.ensures.size.slots ∙ ap limit_of c.self.view_is)
+
+pub returns-else-is_none-clause-size : goal.returns-else-is_none-clause-size
+returns-else-is_none-clause-size g c =
+    has_room _ _ _ _ (returns-else-is_none-clause-rows g c) (c.splice_runs.ensures.size.slots ∙ ap limit_of c.self.view_is)
