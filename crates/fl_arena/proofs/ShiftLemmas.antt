@@ -7,7 +7,8 @@ use Rattle.std.proofs.lemmas.List.{set-set, length-set}
 use Rattle.std.proofs.lemmas.Option.{slice_get_within}
 use Rattle.fl_arena.specs.Chains.{Entry, Chains, entries, items, slot_at, with_entries, free_count, HasSizeOf}
 use Rattle.fl_arena.specs.Cursors.{cursor_at, IsInPlace, index_of, without, Shifts}
-use Rattle.fl_arena.specs.Inside.Links.{alter, alter_link, with_links, with_previous, with_next, link_at, link_before, relinked, ends_with, ends_without, Spells}
+use Rattle.fl_arena.specs.Inside.Links.{alter, alter_link, with_links, with_previous, with_next, link_at, link_before, relinked}
+use Rattle.fl_arena.specs.Inside.Links.{ends_with, ends_without, Spells}
 use Rattle.fl_arena.specs.Inside.Links.{IsWithin}
 use Rattle.fl_arena.specs.declared.cursors.Cursor.{Cursor}
 use Rattle.fl_arena.specs.declared.nodes.Node.{Node}
@@ -95,7 +96,8 @@ module _ {T : Type 0} (nodes : List (Node T)) (ends : List Ends) (spare : Option
   shifted before after previous next e end f last now found back on ended other back_there on_there lasts written =
       let outside = relinked nodes before after before after in
       let freed : slice_get (set outside slot (Free spare)) slot ≡ Some (Free spare) =
-      slice_get-set_same outside slot (Free spare) (omega (arith, slice_get_within nodes slot (Taken m) read, length-relinked nodes before after before after)) in
+      slice_get-set_same outside slot (Free spare)
+      (omega (arith, slice_get_within nodes slot (Taken m) read, length-relinked nodes before after before after)) in
       let whole =
       inserted (set outside slot (Free spare)) (set ends c end) (free + 1) (without a c i) d j slot m.item spare previous next f last now
       (left before after e end found back on ended) still_within (rw still within) freed other (rw still back_there) (rw still on_there)

@@ -16,7 +16,8 @@ use Rattle.fl_rows.specs.Inside.Kept.{has_number, runs_of, AreRows}
 use Rattle.fl_rows.proofs.Lists.{each_at}
 use Rattle.fl_rows.proofs.Weights.{moved_over, count_changed}
 use Rattle.fl_rows.proofs.Kept.{chain_within}
-use Rattle.fl_rows.proofs.Values.{row_at, rows_at, rows_are, rows_set, chains_counted, none_unused, number_there, runs_there, set_runs, with_some, with_none, remove_set}
+use Rattle.fl_rows.proofs.Values.{row_at, rows_at, rows_are, rows_set, chains_counted, none_unused, number_there}
+use Rattle.fl_rows.proofs.Values.{runs_there, set_runs, with_some, with_none, remove_set}
 use Rattle.fl_rows.proofs.Reading.{some_entry, entry_there}
 use Rattle.fl_rows.proofs.RowChanges.{row_added, rows_added}
 
@@ -297,8 +298,8 @@ module _ {K R : Type 0} (heads one : Chains (Head K)) (old : Chains R) (n : ℕ)
     pub index_still : index_of one row ≡ row.index
     index_still = ap (index_of one) row_still ∙ index_at one row.chain row.index fits
 
-    module _ (two : Chains (Head K)) (new : Chains R) (run : R) (s : Shifts one two (cursor_at heads n 0) row) (size : HasSizeOf old new) (others : (d : ℕ) → d ≢ head.runs → entries new d ≡ entries old d)
-        (put : items new head.runs ≡ run ∷ []) where
+    module _ (two : Chains (Head K)) (new : Chains R) (run : R) (s : Shifts one two (cursor_at heads n 0) row) (size : HasSizeOf old new)
+        (others : (d : ℕ) → d ≢ head.runs → entries new d ≡ entries old d) (put : items new head.runs ≡ run ∷ []) where
       moved_is : s.moved ≡ f
       moved_is = let both = sym s.was_there ∙ there in cc
 

@@ -64,7 +64,8 @@ module _ {K : Type 0} where
     pub none : (m : ℕ) → m < from → sum_by (has_number m) (entries heads chain) ≡ 0
     pub named : AllByRecursion (λ e. e.item.runs < count) (entries heads chain)
 
-  pub none_numbered : (heads : Chains (Head K)) (chain count : ℕ) → ((c : ℕ) → entries heads c ≡ []) → item_count heads ≡ 0 → AreNumbered heads chain count count
+  pub none_numbered : (heads : Chains (Head K)) (chain count : ℕ) → ((c : ℕ) → entries heads c ≡ []) → item_count heads ≡ 0 →
+      AreNumbered heads chain count count
   none_numbered heads chain count empty none = record {
     others = λ c apart. empty c;
     total = omega (arith, none);
@@ -102,5 +103,6 @@ module _ {K : Type 0} where
       ∙ get_or-set_same old.chains chain (insert (entries old chain) (index_of old at) (record { slot = it.slot; item = h })) [] within
 
   -- there is a slot for one more
-  pub room_for_head : (heads : Chains (Head K)) (chain from count : ℕ) → AreNumbered heads chain (from + 1) count → heads.slots ≡ count → free_count heads ≡ 0 → ⊥
+  pub room_for_head : (heads : Chains (Head K)) (chain from count : ℕ) → AreNumbered heads chain (from + 1) count → heads.slots ≡ count →
+      free_count heads ≡ 0 → ⊥
   room_for_head heads chain from count was slots full = let total = was.total in omega (arith, total, slots, full)

@@ -74,7 +74,9 @@ module _ {K R : Type 0} (heads : Chains (Head K)) (runs : Chains R) (v : RowChai
   pub first_told : (row at : Cursor) (h : Head K) (number : ℕ) → slice_get (items heads row.chain) row.index ≡ Some h → number ≡ h.runs →
       at ≡ cursor_at runs number 0 → at ≡ run_cursor v row.chain row.index 0
   first_told row at h number found is first =
-      first ∙ ap (λ k. cursor_at runs k 0) (is ∙ sym (number_is row h found)) ∙ ap (λ w. cursor_at w.runs (number_at (entries v.heads row.chain) row.index) 0) view
+      first
+      ∙ ap (λ k. cursor_at runs k 0) (is ∙ sym (number_is row h found))
+      ∙ ap (λ w. cursor_at w.runs (number_at (entries v.heads row.chain) row.index) 0) view
 
   pub run_told : (run : Cursor) (o : Option R) → ((c i : ℕ) → run ≡ cursor_at runs c i → o ≡ slice_get (items runs c) i) → (c i j : ℕ) → c < chain_count v →
       i < length (rows v c) → run ≡ run_cursor v c i j → o ≡ slice_get (runs_at (rows v c) i) j

@@ -105,7 +105,9 @@ module _ {K R : Type 0} (old new : Chains R) (m : ℕ) (others : (c : ℕ) → c
   row_kept e other = ap (λ es. record { key = e.item.key; runs = map (λ x. x.item) es }) (others e.item.runs other)
 
   pub rows_kept : (es : List (Entry (Head K))) → sum_by (has_number m) es ≡ 0 → map (row_at new) es ≡ map (row_at old) es
-  rows_kept es none = map_same (row_at new) (row_at old) es (each_weaker (λ e. e.item.runs ≢ m) (λ e. row_at new e ≡ row_at old e) row_kept es (none_has m es none))
+  rows_kept es none =
+      map_same (row_at new) (row_at old) es
+      (each_weaker (λ e. e.item.runs ≢ m) (λ e. row_at new e ≡ row_at old e) row_kept es (none_has m es none))
 
   -- the one row whose runs they are has them
   pub rows_changed : (es : List (Entry (Head K))) (i : ℕ) (e : Entry (Head K)) → slice_get es i ≡ Some e → e.item.runs ≡ m → sum_by (has_number m) es ≡ 1 →

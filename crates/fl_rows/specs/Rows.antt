@@ -1,5 +1,6 @@
 -- What contracts see of rows: for each chain a list of rows, each a key with its runs.
-use Rattle.std.specs.Prelude.{◌≡◌, ℕ, zero, suc, ◌+◌, ◌-◌, ◌≤◌, ◌<◌, List, [], ◌∷◌, ◌++◌, map, length, take, drop, sum_by, Option, Some}
+use Rattle.std.specs.Prelude.{◌≡◌, ℕ, zero, suc, ◌+◌, ◌-◌, ◌≤◌, ◌<◌, List, [], ◌∷◌, ◌++◌, map, length}
+use Rattle.std.specs.Prelude.{take, drop, sum_by, Option, Some}
 use Rattle.std.specs.Prelude.{None, slice_index_or}
 use Rattle.fl_arena.specs.Chains.{Entry, Chains, entries, items}
 use Rattle.fl_arena.specs.Cursors.{cursor_at}

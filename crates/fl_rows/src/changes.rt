@@ -3,7 +3,8 @@ ghost use Rattle.std.specs.Prelude.{◌≡◌, ◌≢◌, ◌↔◌, ◌+◌, �
 ghost use Rattle.std.specs.Prelude.{take, drop, ◌++◌, IsSome, IsErr, OnOk, OnErr};
 ghost use Rattle.fl_arena.specs.Chains.{entries, items, item_count, HasSizeOf};
 ghost use Rattle.fl_arena.specs.Cursors.{cursor_at};
-ghost use Rattle.fl_rows.specs.Rows.{row_lists, rows, runs_at, with_key, with_runs, spliced, pieces_of, listed, run_count};
+ghost use Rattle.fl_rows.specs.Rows.{row_lists, rows, runs_at, with_key, with_runs, spliced, pieces_of};
+ghost use Rattle.fl_rows.specs.Rows.{listed, run_count};
 ghost use Rattle.fl_rows.specs.Rows.{limit_of, row_cursor, run_cursor, IsRow, HasRoomOf};
 
 use crate::rows::{Head, Pieces, Rows};

@@ -41,7 +41,9 @@ insert-requires-clause-chain g c =
 -- its key is set
 keyed : (g : _) (c : After-set g) → c.set.new.self
     ≡ with_item c.self.inside.heads (cursor_at c.self.inside.heads c.self.inside.unused 0) (record { key = c.args.key; runs = c.in-Some.head.runs })
-keyed g c = c.set.ensures.chains ∙ ap (λ (x : Cursor). with_item c.self.inside.heads x (record { key = c.args.key; runs = c.in-Some.head.runs })) c.cursor-spare.ensures.first
+keyed g c =
+    c.set.ensures.chains
+    ∙ ap (λ (x : Cursor). with_item c.self.inside.heads x (record { key = c.args.key; runs = c.in-Some.head.runs })) c.cursor-spare.ensures.first
 
 -- the row's cursor, in what is kept
 stands : (g : _) (c : After-self g) → IsRow (record { heads = c.self.inside.heads; runs = c.self.inside.runs }) c.args.row.now
@@ -70,7 +72,8 @@ invariant_of-self g c =
     let put = c.in-Ok.ensures.at_index c.in-Some.head.runs 0 here
     ∙ ap (λ xs. insert xs 0 c.args.run) (none_held_yet _ _ _ c.in-Some.head c.self.invariant (first g at.In-Some)) in
     row_kept_in _ _ c.self.inside.runs _ c.args.row.now _ c.args.key c.self.invariant (first g at.In-Some) (keyed g at.After-set)
-    (stands g at.After-self) _ _ c.args.run s c.insert.ensures.size (λ d apart. c.insert.ensures.others d (λ e. apart (e ∙ ap (λ (x : Cursor). x.chain) here))) put
+    (stands g at.After-self) _ _ c.args.run s c.insert.ensures.size
+    (λ d apart. c.insert.ensures.others d (λ e. apart (e ∙ ap (λ (x : Cursor). x.chain) here))) put
 
 pub returns-clause-rows : goal.returns-clause-rows
 returns-clause-rows g c =
@@ -80,7 +83,8 @@ returns-clause-rows g c =
     let put = c.in-Ok.ensures.at_index c.in-Some.head.runs 0 here
     ∙ ap (λ xs. insert xs 0 c.args.run) (none_held_yet _ _ _ c.in-Some.head c.self.invariant (first g at.In-Some)) in
     rows_kept_in _ _ c.self.inside.runs _ c.args.row.now _ c.args.key c.self.invariant (first g at.In-Some) (keyed g at.After-set)
-    (stands g at.After-self) _ _ c.args.run s c.insert.ensures.size (λ d apart. c.insert.ensures.others d (λ e. apart (e ∙ ap (λ (x : Cursor). x.chain) here))) put
+    (stands g at.After-self) _ _ c.args.run s c.insert.ensures.size
+    (λ d apart. c.insert.ensures.others d (λ e. apart (e ∙ ap (λ (x : Cursor). x.chain) here))) put
     ∙ ap (λ w. set (row_lists w) c.args.row.now.chain
     (insert (rows w c.args.row.now.chain) c.args.row.now.index (record { key = c.args.key; runs = c.args.run ∷ [] }))) c.self.view_is
 

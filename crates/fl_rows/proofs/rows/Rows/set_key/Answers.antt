@@ -11,7 +11,8 @@ use Rattle.fl_rows.proofs.rows.Rows.set_key.Goals as goal
 use Rattle.fl_rows.proofs.rows.Rows.set_key.Goals.{After-set, In-Some}
 
 -- the head at the cursor
-there : (g : _) (c : In-Some g) → (e : Entry (Head g.row.K.Denot)) × (slice_get (entries c.self.inside.heads c.args.row.now.chain) c.args.row.now.index ≡ Some e)
+there : (g : _) (c : In-Some g) → (e : Entry (Head g.row.K.Denot))
+    × (slice_get (entries c.self.inside.heads c.args.row.now.chain) c.args.row.now.index ≡ Some e)
     × (e.item ≡ c.in-Some.head)
 there g c =
     entry_there c.self.inside.heads c.args.row.now.chain c.args.row.now.index c.in-Some.head
