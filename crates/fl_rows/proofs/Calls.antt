@@ -5,13 +5,14 @@ use Rattle.std.specs.List.{insert, remove, AllByRecursion}
 use Rattle.std.specs.Option.{option_map}
 use Rattle.std.proofs.lemmas.Bool.{cases_eq, cases_lt}
 use Rattle.std.proofs.lemmas.List.{length-map, length-set, get_or-set_same, get_or-set_other}
+use Rattle.std.proofs.lemmas.List.Edits.{length-remove, length-insert}
 use Rattle.std.proofs.lemmas.List.Sums.{sum_by-set}
 use Rattle.std.proofs.lemmas.Option.{none-some, slice_get_within, slice_get_past, get_or_from_slice_get}
 use Rattle.fl_arena.specs.Chains.{Entry, Chains, entries, items, slot_at, item_count, with_entries, HasSizeOf}
 use Rattle.fl_arena.specs.Cursors.{cursor_at, index_of, with_item, without, Shifts}
 use Rattle.fl_arena.specs.declared.cursors.Cursor.{Cursor}
 use Rattle.fl_rows.specs.declared.rows.Head.{Head}
-use Rattle.fl_rows.specs.Rows.{Row, limit_of, row_lists, rows, runs_at, with_runs, IsRow, run_cursor, RowChains, with_key, number_at, HasRoomOf}
+use Rattle.fl_rows.specs.Rows.{Row, row_cursor, limit_of, row_lists, rows, runs_at, with_runs, IsRow, run_cursor, RowChains, with_key, number_at, HasRoomOf}
 use Rattle.fl_rows.specs.Inside.Kept.{has_number, runs_of, AreRows}
 use Rattle.fl_rows.proofs.Lists.{each_at}
 use Rattle.fl_rows.proofs.Weights.{moved_over, count_changed}
@@ -381,3 +382,49 @@ module _ {K R : Type 0} (heads : Chains (Head K)) (old : Chains R) (n : ℕ) (h 
 -- what a change of one chain's rows leaves of their number
 pub has_room : {K R : Type 0} (v w : RowChains K R) (c : ℕ) (z : List (Row K R)) → row_lists w ≡ set (row_lists v) c z → limit_of w ≡ limit_of v → HasRoomOf v w
 has_room v w c z is limit = record { chains = ap length is ∙ length-set (row_lists v) c z; limit = limit }
+
+module _ {K R : Type 0} where
+  long_removed : (rs : List (Row K R)) (i : ℕ) → i < length rs → i ≤ length (remove rs i)
+  long_removed rs i within = omega (arith, within, length-remove rs i within)
+
+  long_with : (rs : List (Row K R)) (i : ℕ) (xs : List R) → i < length rs → i ≤ length (with_runs rs i xs)
+  long_with [] i xs within = absurd (omega (arith, within))
+  long_with (r ∷ rs) zero xs within = omega arith
+  long_with (r ∷ rs) (suc i) xs within = omega (arith, long_with rs i xs (omega (arith, within)))
+
+  -- a cursor at a row stands there, or at the end, once rows of its chain have changed
+  stands_on : (v w : RowChains K R) (old new : Cursor) (z : List (Row K R)) → IsRow v old → row_lists w ≡ set (row_lists v) old.chain z →
+      new ≡ row_cursor w old.chain old.index → old.index ≤ length z → IsRow w new
+  stands_on v w old new z h is at fits =
+      subst (IsRow w) (sym at) (record {
+        chain = omega (arith, h.chain, ap length is, length-set (row_lists v) old.chain z);
+        at = refl;
+        within = rw (ap (λ ls. get_or ls old.chain []) is ∙ get_or-set_same (row_lists v) old.chain z [] h.chain) fits;
+      })
+
+  -- a cursor that has a slot is at a row
+  row_within : (v : RowChains K R) (row : Cursor) → IsRow v row → IsSome row.slot → row.index < length (rows v row.chain)
+  row_within v row h some =
+      let long : length (rows v row.chain) ≡ length (entries v.heads row.chain) =
+      ap length (rows_are v row.chain h.chain) ∙ length-map (entries v.heads row.chain) (row_at v.runs) in
+      omega (arith, long, go (entries v.heads row.chain) row.index (subst (λ (x : Cursor). IsSome x.slot) h.at some))
+    where
+      go : (es : List (Entry (Head K))) (i : ℕ) → IsSome (option_map (λ (x : Entry (Head K)). x.slot) (slice_get es i)) → i < length es
+      go [] i none = absurd (cc none)
+      go (e ∷ es) zero it = omega arith
+      go (e ∷ es) (suc i) it = omega (arith, go es i it)
+
+  pub stands_removed : (v w : RowChains K R) (old new : Cursor) → IsRow v old → IsSome old.slot →
+      row_lists w ≡ set (row_lists v) old.chain (remove (rows v old.chain) old.index) → new ≡ row_cursor w old.chain old.index → IsRow w new
+  stands_removed v w old new h some is at =
+      stands_on v w old new _ h is at (long_removed (rows v old.chain) old.index (row_within v old h some))
+
+  pub stands_with : (v w : RowChains K R) (old new : Cursor) (xs : List R) → IsRow v old → IsSome old.slot →
+      row_lists w ≡ set (row_lists v) old.chain (with_runs (rows v old.chain) old.index xs) → new ≡ row_cursor w old.chain old.index → IsRow w new
+  stands_with v w old new xs h some is at =
+      stands_on v w old new _ h is at (long_with (rows v old.chain) old.index xs (row_within v old h some))
+
+  pub stands_inserted : (v w : RowChains K R) (old new : Cursor) (r : Row K R) → IsRow v old →
+      row_lists w ≡ set (row_lists v) old.chain (insert (rows v old.chain) old.index r) → new ≡ row_cursor w old.chain old.index → IsRow w new
+  stands_inserted v w old new r h is at =
+      stands_on v w old new _ h is at (omega (arith, length-insert (rows v old.chain) old.index r h.within, h.within))

@@ -19,6 +19,7 @@ impl<K: Copy, R: Copy> Rows<K, R> {
         ensures rows { OnOk result (row_lists self.new ≡ slice_set (row_lists self.old) row.old.chain
             (insert (rows self.old row.old.chain) row.old.index (record { key = key; runs = run ∷ [] }))) }
         ensures cursor { OnOk result (row.new ≡ row_cursor self.new row.old.chain row.old.index) }
+        ensures row { OnOk result (IsRow self.new row.new) }
         ensures size { HasRoomOf self.old self.new }
         ensures err { OnErr result (self.new ≡ self.old) }
         ensures err_cursor { OnErr result (row.new ≡ row.old) }
@@ -51,6 +52,7 @@ impl<K: Copy, R: Copy> Rows<K, R> {
             (with_runs (rows self.old row.old.chain) row.old.index
             (spliced (runs_at (rows self.old row.old.chain) row.old.index) at.index taken (pieces_of pieces))) }
         ensures cursor { row.new ≡ row_cursor self.new row.old.chain row.old.index }
+        ensures row { IsRow self.new row.new }
         ensures size { HasRoomOf self.old self.new }
     {
         splice_runs(&mut self.runs, at, taken, pieces);
@@ -83,6 +85,7 @@ impl<K: Copy, R: Copy> Rows<K, R> {
         ensures rows { row_lists self.new ≡ slice_set (row_lists self.old) row.old.chain
             (remove (rows self.old row.old.chain) row.old.index) }
         ensures cursor { row.new ≡ row_cursor self.new row.old.chain row.old.index }
+        ensures row { IsRow self.new row.new }
         ensures size { HasRoomOf self.old self.new }
     {
         let mut run = self.first_run(row);

@@ -5,7 +5,7 @@ use Rattle.fl_arena.specs.Cursors.{cursor_at, with_item, Shifts, IsInPlace}
 use Rattle.fl_arena.specs.declared.cursors.Cursor.{Cursor}
 use Rattle.fl_rows.specs.Rows.{limit_of, rows, row_lists, IsRow}
 use Rattle.fl_rows.proofs.Reading.{free_told}
-use Rattle.fl_rows.proofs.Calls.{spare_in_place, none_held_yet, named_well, index_still, row_kept_in, rows_kept_in, head_left, has_room}
+use Rattle.fl_rows.proofs.Calls.{spare_in_place, none_held_yet, named_well, index_still, row_kept_in, rows_kept_in, head_left, has_room, stands_inserted}
 use Rattle.fl_rows.proofs.rows.Rows.insert_row.Goals as goal
 use Rattle.fl_rows.proofs.rows.Rows.insert_row.Goals.{In-Some, After-self, After-set, After-insert}
 
@@ -97,3 +97,6 @@ returns-clause-cursor g c =
 
 pub returns-clause-size : goal.returns-clause-size
 returns-clause-size g c = has_room _ _ _ _ (returns-clause-rows g c) (c.insert.ensures.size.slots ∙ ap limit_of c.self.view_is)
+
+pub returns-clause-row : goal.returns-clause-row
+returns-clause-row g c = stands_inserted _ _ c.args.row.now _ _ c.requires (returns-clause-rows g c) (returns-clause-cursor g c)

@@ -6,7 +6,7 @@ use Rattle.fl_rows.specs.Rows.{limit_of, rows, row_lists, number_at, IsRow}
 use Rattle.fl_rows.specs.Inside.Kept.{AreRows}
 use Rattle.fl_rows.proofs.Values.{number_there}
 use Rattle.fl_rows.proofs.RowChanges.{row_gone, rows_gone}
-use Rattle.fl_rows.proofs.Calls.{shifted_is, no_entries, row_before, has_room}
+use Rattle.fl_rows.proofs.Calls.{shifted_is, no_entries, row_before, has_room, stands_removed}
 use Rattle.fl_rows.proofs.rows.Rows.remove_row.Goals as goal
 use Rattle.fl_rows.proofs.rows.Rows.remove_row.Goals.{After-shift}
 
@@ -37,3 +37,6 @@ returns-clause-rows g c =
 
 pub returns-clause-size : goal.returns-clause-size
 returns-clause-size g c = has_room _ _ _ _ (returns-clause-rows g c) (c.clear.ensures.size.slots ∙ ap limit_of c.self.view_is)
+
+pub returns-clause-row : goal.returns-clause-row
+returns-clause-row g c = stands_removed _ _ c.args.row.now _ c.requires.row c.requires.at_row (returns-clause-rows g c) c.shift.ensures.from_cursor

@@ -1,12 +1,12 @@
 use Rattle.std.proofs.Common.{◌≡◌, ◌≢◌, ◌+◌, ◌≤◌, not, is_some, length, set, [], sym, ap, ◌∙◌, subst, arith}
 use Rattle.fl_arena.specs.Chains.{entries, items}
 use Rattle.fl_arena.specs.declared.cursors.Cursor.{Cursor}
-use Rattle.fl_rows.specs.Rows.{RowChains, rows, row_lists, runs_at, run_count, limit_of, run_cursor, with_runs, spliced, pieces_of, IsRow}
+use Rattle.fl_rows.specs.Rows.{RowChains, row_cursor, rows, row_lists, runs_at, run_count, limit_of, run_cursor, with_runs, spliced, pieces_of, IsRow}
 use Rattle.fl_rows.specs.Inside.Kept.{AreRows}
 use Rattle.fl_rows.proofs.Values.{counted, set_runs}
 use Rattle.fl_rows.proofs.Loops.{no_items, none_from}
 use Rattle.fl_rows.proofs.RowChanges.{row_gone, rows_gone, row_spliced, rows_spliced}
-use Rattle.fl_rows.proofs.Calls.{shifted_is, no_entries, has_first, IsSplice, is_splice, with_these, without_any, has_room}
+use Rattle.fl_rows.proofs.Calls.{shifted_is, no_entries, has_first, IsSplice, is_splice, with_these, without_any, has_room, stands_with}
 use Rattle.fl_rows.proofs.rows.Rows.splice.Goals as goal
 use Rattle.fl_rows.proofs.rows.Rows.splice.Goals.{After-self}
 
@@ -100,3 +100,12 @@ returns-then-is_none-clause-size g c =
 pub returns-else-is_none-clause-size : goal.returns-else-is_none-clause-size
 returns-else-is_none-clause-size g c =
     has_room _ _ _ _ (returns-else-is_none-clause-rows g c) (c.splice_runs.ensures.size.slots ∙ ap limit_of c.self.view_is)
+
+pub returns-then-is_none-clause-row : goal.returns-then-is_none-clause-row
+returns-then-is_none-clause-row g c =
+    stands_with _ _ c.args.row.now _ _ c.requires.row c.requires.at_row (returns-then-is_none-clause-rows g c) c.shift.ensures.from_cursor
+
+pub returns-else-is_none-clause-row : goal.returns-else-is_none-clause-row
+returns-else-is_none-clause-row g c =
+    stands_with _ _ c.args.row.now _ _ c.requires.row c.requires.at_row (returns-else-is_none-clause-rows g c)
+    (c.requires.row.at ∙ ap (λ w. row_cursor w c.args.row.now.chain c.args.row.now.index) (sym c.self.view_is))
