@@ -7,7 +7,8 @@ use Rattle.std.proofs.lemmas.List.{set-set, length-set}
 use Rattle.std.proofs.lemmas.Option.{slice_get_within}
 use Rattle.fl_arena.specs.Chains.{Entry, Chains, entries, items, slot_at, with_entries, free_count, HasSizeOf}
 use Rattle.fl_arena.specs.Cursors.{cursor_at, IsInPlace, index_of, without, Shifts}
-use Rattle.fl_arena.specs.Inside.Links.{alter, alter_link, with_links, with_previous, with_next, link_at, link_before, relinked, ends_with, ends_without, Spells}
+use Rattle.fl_arena.specs.Inside.Links.{alter, alter_link, with_links, with_previous, with_next, link_at, link_before, relinked}
+use Rattle.fl_arena.specs.Inside.Links.{ends_with, ends_without, Spells}
 use Rattle.fl_arena.specs.Inside.Links.{IsWithin}
 use Rattle.fl_arena.specs.declared.cursors.Cursor.{Cursor}
 use Rattle.fl_arena.specs.declared.nodes.Node.{Node}

@@ -5,7 +5,8 @@ ghost use Rattle.std.specs.Prelude.{IfSome};
 ghost use Rattle.std.specs.Option.{option_copied};
 ghost use Rattle.std.specs.List.{find, position_or_len};
 ghost use Rattle.fl_arena.specs.Chains.{entries, items, slot_at, item_count, free_count, unlinked_count, HasSizeOf};
-ghost use Rattle.fl_arena.specs.Cursors.{Tests, cursor_at, IsInPlace, index_of, item_of, with_item, without, Inserts, Shifts};
+ghost use Rattle.fl_arena.specs.Cursors.{Tests, cursor_at, IsInPlace, index_of, item_of, with_item};
+ghost use Rattle.fl_arena.specs.Cursors.{without, Inserts, Shifts};
 ghost use Rattle.fl_arena.specs.Inside.Links.{link_before};
 
 use crate::cursors::{Cursor, Full, Place};

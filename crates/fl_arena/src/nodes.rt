@@ -1,6 +1,7 @@
 //! The nodes in the slots, and the links between them.
 ghost use Rattle.std.specs.Prelude.{◌≡◌, ◌≤◌, ◌<◌, ◌^◌, length, slice_get, slice_set, Some, IfOk};
-ghost use Rattle.fl_arena.specs.Inside.Links.{alter, alter_link, with_links, with_previous, with_next, relinked, ends_with, ends_without};
+ghost use Rattle.fl_arena.specs.Inside.Links.{alter, alter_link, with_links, with_previous, with_next};
+ghost use Rattle.fl_arena.specs.Inside.Links.{relinked, ends_with, ends_without};
 ghost use Rattle.fl_arena.specs.Inside.Links.{IsTaken, IsSpare, IsWithin, AreFree};
 
 use std::alloc::{AllocError, Global};

@@ -11,6 +11,7 @@ mod locks;
 mod owners;
 mod ranges;
 mod rooms;
+mod rows;
 mod shift;
 mod strokes;
 

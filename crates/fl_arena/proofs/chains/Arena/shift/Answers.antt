@@ -6,7 +6,8 @@ use Rattle.fl_arena.specs.Inside.Links.{Spells}
 use Rattle.fl_arena.proofs.CursorLemmas.{is_at, is_taken, slot_there, linked_within, before_within}
 use Rattle.fl_arena.proofs.WalkLemmas.{spelled_is}
 use Rattle.fl_arena.proofs.CallLemmas.{spells_value, spells_own, end_read, stands}
-use Rattle.fl_arena.proofs.ShiftLemmas.{over, shifted, room_to_join, moved_entry, items_left, items_joined, joined_at, others_kept, size_kept, from_after, to_after}
+use Rattle.fl_arena.proofs.ShiftLemmas.{over, shifted, room_to_join, moved_entry, items_left, items_joined, joined_at}
+use Rattle.fl_arena.proofs.ShiftLemmas.{others_kept, size_kept, from_after, to_after}
 use Rattle.fl_arena.proofs.ShiftLemmas.{same_free}
 use Rattle.fl_arena.proofs.chains.Arena.shift.Goals as goal
 use Rattle.fl_arena.proofs.chains.Arena.shift.Goals.{After-with}

@@ -1,0 +1,9 @@
+mod Lists
+mod Weights
+mod Kept
+mod Values
+mod Reading
+mod Loops
+mod RowChanges
+mod Calls
+mod Made

@@ -1,0 +1,2 @@
+-- How rows are kept. No public clause cites this module.
+pub mod Kept
