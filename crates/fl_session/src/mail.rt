@@ -55,6 +55,7 @@ impl ReplyBuffer {
     pub fn append(&mut self, told: &Told) -> bool
         ensures done { result ≡ true → self.new ≡ self.old ++ spelling_of told.now }
         ensures full { result ≡ false → self.new ≡ self.old }
+        ensures room { self.old ≡ [] → result ≡ true }
         ensures reply { result ≡ true → IsReply (spelling_of told.now) }
     {
         if self.bytes.capacity() - self.bytes.len() < REPLY_BYTES {
