@@ -26,9 +26,9 @@ as_many seats workers each =
 
 -- the reply of the DESTROY that ended the session was written last
 says_goodbye : (came : List Came) (goodbye : Owed) (held held_now : Option (List ℕ)) → IsLast came goodbye
-    → HasSentLast held held_now (bytes_of goodbye []) → SaysGoodbye came held held_now
+    → HasSentLast held held_now (bytes_of goodbye) → SaysGoodbye came held held_now
 says_goodbye came goodbye held held_now last sent =
-    let P : Owed → Type 0 = λ owed. Appends held held_now (concat (sent.replies ++ bytes_of owed [])) in
+    let P : Owed → Type 0 = λ owed. Appends held held_now (concat (sent.replies ++ bytes_of owed)) in
     record {
       front = last.front;
       last = last.last;
@@ -41,7 +41,7 @@ says_goodbye came goodbye held held_now last sent =
 -- what a session did whose reader ended
 pub served_by : (left left_now held held_now : Option (List ℕ)) (fault : Option Fault) (goodbye : Owed) (broken : Bool)
     (done : Done) → HasHeard left left_now fault goodbye → HasSent held held_now [] broken
-    → (broken ≡ false → HasSentLast held held_now (bytes_of goodbye []))
+    → (broken ≡ false → HasSentLast held held_now (bytes_of goodbye))
     → ((came : List Came) (rest : List ℕ) (left : Option (List ℕ)) → IsEnding fault (session_of came).over rest left
     → EndsBy done.fault broken came rest left) → IsServedBy left left_now held held_now done
 served_by left left_now held held_now fault goodbye broken done heard sent last told = record {

@@ -25,20 +25,20 @@ each_told [] = All-nil IsSpelling
 each_told (t ∷ ts) = All-cons IsSpelling (spelling_of t) (map spelling_of ts) (told t) (each_told ts)
 
 -- what is owed is replies
-each_owed : (owed : Owed) (tolds : List Told) → All IsSpelling (bytes_of owed tolds)
-each_owed Nothing tolds = All-nil IsSpelling
-each_owed (Init unique step) tolds = All-cons IsSpelling _ [] (greeted unique step) (All-nil IsSpelling)
-each_owed (One t) tolds = All-cons IsSpelling _ [] (told t) (All-nil IsSpelling)
-each_owed Replies tolds = each_told tolds
+each_owed : (owed : Owed) → All IsSpelling (bytes_of owed)
+each_owed Nothing = All-nil IsSpelling
+each_owed (Init unique step) = All-cons IsSpelling _ [] (greeted unique step) (All-nil IsSpelling)
+each_owed (One t) = All-cons IsSpelling _ [] (told t) (All-nil IsSpelling)
+each_owed (Replies tolds) = each_told tolds.now
 
 -- more replies
 pub collects : (start held held_now : Option (List ℕ)) (waiting waiting_now : List ℕ) (broken broken_now : Bool)
-    (owed : Owed) (tolds : List Told) → HasSent start held waiting broken
-    → Collects held held_now waiting waiting_now broken broken_now (bytes_of owed tolds)
+    (owed : Owed) → HasSent start held waiting broken
+    → Collects held held_now waiting waiting_now broken broken_now (bytes_of owed)
     → HasSent start held_now waiting_now broken_now
-collects start held held_now waiting waiting_now broken broken_now owed tolds before more = record {
-  replies = before.replies ++ bytes_of owed tolds;
-  each = All-append IsSpelling before.replies (bytes_of owed tolds) before.each (each_owed owed tolds);
+collects start held held_now waiting waiting_now broken broken_now owed before more = record {
+  replies = before.replies ++ bytes_of owed;
+  each = All-append IsSpelling before.replies (bytes_of owed) before.each (each_owed owed);
   given = more.onward start before.replies before.given;
 }
 

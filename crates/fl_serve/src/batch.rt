@@ -21,16 +21,16 @@ pub(crate) struct Batch<'a, W> {
 
 impl<W: Write> Batch<'_, W> {
     /// Collects what is owed. Where there is no more room, what was collected before goes out.
-    pub(crate) fn collect(&mut self, owed: &Owed, tolds: &[Told])
+    pub(crate) fn collect(&mut self, owed: &Owed)
         ensures same { (writer_of self.new.out).ghost_name ≡ (writer_of self.old.out).ghost_name }
         ensures collected { Collects (W.contents (writer_of self.old.out).now) (W.contents (writer_of self.new.out).now)
-            self.old.replies self.new.replies (is_broken self.old.out) (is_broken self.new.out) (bytes_of owed.now tolds.now) }
+            self.old.replies self.new.replies (is_broken self.old.out) (is_broken self.new.out) (bytes_of owed.now) }
     {
         match owed {
             Owed::Nothing => {}
             Owed::Init(unique, step) => self.collect_init(*unique, step),
             Owed::One(told) => self.collect_one(told),
-            Owed::Replies => self.collect_all(tolds),
+            Owed::Replies(tolds) => self.collect_all(tolds),
         }
     }
 

@@ -14,7 +14,7 @@ mod hearing;
 
 use crate::counter::Gate;
 use crate::intake::Intake;
-use crate::serving::crew::{Back, Crew, Thread, run};
+use crate::serving::crew::{Back, Crew, Thread};
 use crate::shared::{Shared, WriterName};
 use fl_book::{Board, BoardName, Seat};
 use fl_core::Tolds;
@@ -139,7 +139,7 @@ fn serve_at<
         intake,
         shared: Mutex::new(Shared::<'w, W, N>::new(replies, w)),
     };
-    let (back, heard) = run(&crew, r, inbox, seats, tolds, threads, places);
+    let (back, heard) = crew.run(r, inbox, seats, tolds, threads, places);
     let Crew { board, shared, .. } = crew;
     let (w, broken) = said_goodbye(shared.into_inner(), &heard.goodbye);
     if heard.fault == Some(Fault::NoMemory) {
@@ -164,10 +164,10 @@ fn said_goodbye<'w, W: Write, N: WriterName>(
 ) -> (&'w mut W, bool)
     ensures same { result.0.ghost_name ≡ N.name }
     ensures sent { HasSent N.start (W.contents result.0.now) [] result.1 }
-    ensures last { result.1 ≡ false → HasSentLast N.start (W.contents result.0.now) (bytes_of goodbye.now []) }
+    ensures last { result.1 ≡ false → HasSentLast N.start (W.contents result.0.now) (bytes_of goodbye.now) }
 {
     let mut shared = shared;
-    shared.collect(goodbye, &[]);
+    shared.collect(goodbye);
     shared.flush();
     shared.into_writer()
 }

@@ -6,7 +6,6 @@ ghost use Rattle.fl_serve.specs.Shared.{HasSent};
 ghost use Rattle.fl_session.specs.Talk.{bytes_of};
 
 use crate::batch::Batch;
-use fl_order::Told;
 use fl_session::{Outbox, Owed, ReplyBuffer};
 use std::io::Write;
 use std::marker::{Brand, Model, PhantomData};
@@ -74,12 +73,12 @@ impl<'a, W: Write, N: WriterName> Shared<'a, W, N> {
 
     /// Collects what is owed, to be sent by the next flush or before.
     #[tactic(auto, using(crate::proofs::SharedLemmas::collects))]
-    pub(crate) fn collect(&mut self, owed: &Owed, tolds: &[Told])
+    pub(crate) fn collect(&mut self, owed: &Owed)
         ensures before { HasSent N.start self.old.held self.old.waiting self.old.broken }
         ensures collected { Collects self.old.held self.new.held self.old.waiting self.new.waiting
-            self.old.broken self.new.broken (bytes_of owed.now tolds.now) }
+            self.old.broken self.new.broken (bytes_of owed.now) }
     {
-        self.batch.collect(owed, tolds);
+        self.batch.collect(owed);
     }
 
     /// Sends what is collected.

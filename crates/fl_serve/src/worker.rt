@@ -6,7 +6,6 @@ use crate::counter::{Counter, Gate};
 use crate::intake::{Intake, Job};
 use crate::shared::{Shared, WriterName};
 use fl_core::Tolds;
-use fl_order::Told;
 use fl_session::Owed;
 use std::io::Write;
 use std::sync::{Mutex, Wait};
@@ -44,14 +43,14 @@ pub fn worker_loop<R: Wait, C: Counter, G: Gate, W: Write, N: WriterName>(
         };
         gate.pass(job.unique);
         let owed = match counter.hand_in(rt, &mut seat, &job, &mut tolds) {
-            Ok(()) => Owed::Replies,
+            Ok(()) => Owed::Replies(tolds.as_slice()),
             Err(_) => {
                 refused = true;
                 Owed::lost(job.op.kind(), job.unique)
             }
         };
-        collect(rt, shared, &owed, tolds.as_slice());
-        tell(gate, &owed, tolds.as_slice());
+        collect(rt, shared, &owed);
+        tell(gate, &owed);
     }
     Worked { seat, refused }
 }
@@ -75,10 +74,9 @@ fn collect<R: Wait, W: Write, N: WriterName>(
     rt: &R,
     shared: &Mutex<Shared<'_, W, N>>,
     owed: &Owed,
-    tolds: &[Told],
 ) {
     let mut shared = shared.lock(rt);
-    shared.collect(owed, tolds);
+    shared.collect(owed);
 }
 
 // Sends what is collected.
@@ -88,13 +86,13 @@ pub(crate) fn flush<R: Wait, W: Write, N: WriterName>(rt: &R, shared: &Mutex<Sha
 }
 
 // Tells the gate of each reply.
-fn tell<G: Gate>(gate: &G, owed: &Owed, tolds: &[Told]) {
+fn tell<G: Gate>(gate: &G, owed: &Owed) {
     match owed {
         Owed::Nothing => {}
         Owed::Init(unique, _) => gate.sent(*unique),
         Owed::One(told) => gate.sent(told.unique),
-        Owed::Replies => {
-            for told in tolds {
+        Owed::Replies(tolds) => {
+            for told in *tolds {
                 gate.sent(told.unique);
             }
         }

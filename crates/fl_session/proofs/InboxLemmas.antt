@@ -136,21 +136,8 @@ pub takes_first : (buffer rest first message : List ℕ) (from filled len : ℕ)
     → Takes message rest (take (filled - (from + len)) (drop (from + len) buffer))
 takes_first buffer rest first message from filled len order within view at_first long step whole =
     let same : first ≡ message = cc in
-    let parts = whole_front rest message step in
     let n : length message ≡ len = ap length (sym same) ∙ long in
-    let all = ap length parts in
-    let fits : from + len ≤ filled = omega (
-      arith,
-      all,
-      n,
-      length-append message (drop (length message) rest),
-      ap length view,
-      length-take (filled - from) (drop from buffer),
-      length-drop from buffer,
-    ) in
-    let m = filled - (from + len) in
-    let split : filled - from ≡ len + m = omega arith in
-    let e : drop (length message) rest ≡ take m (drop (from + len) buffer) =
-    ap (λ k. drop k rest) n ∙ ap (drop len) (sym view) ∙ ap (λ k. drop len (take k (drop from buffer))) split
-    ∙ drop-take len m (drop from buffer) ∙ ap (take m) (drop-drop len from buffer) in
-    takes message rest (take m (drop (from + len) buffer)) whole (ap (λ xs. message ++ xs) (sym e) ∙ parts)
+    let e : drop (length message) rest ≡ take (filled - (from + len)) (drop (from + len) buffer) =
+    ap (λ k. drop k rest) n ∙ sym (drops_first buffer rest first from filled len order within view at_first long) in
+    takes message rest (take (filled - (from + len)) (drop (from + len) buffer)) whole
+    (ap (λ xs. message ++ xs) (sym e) ∙ whole_front rest message step)

@@ -28,8 +28,8 @@ met_order old new talk order owed message live heard taken =
 -- the session itself answers
 pub met_owed : (old : Server) (talk : Talk) (owed : Owed) (message : List ℕ)
     → IsHeard (met.Owed owed) old.talk talk message
-    → IsMet old (record old { talk = talk }) (bytes_of owed old.tolds) message
+    → IsMet old (record old { talk = talk }) (bytes_of owed) message
 met_owed old talk owed message heard = record {
   refused = false;
-  is = λ replies. heard (session_with old replies) old.tolds false;
+  is = λ replies. heard (session_with old replies) false;
 }

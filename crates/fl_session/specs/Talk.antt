@@ -1,7 +1,6 @@
 -- What a message of a session comes to, and what is owed to it.
 use Rattle.std.specs.Prelude.{◌≡◌, ℕ, Bool, true, List, [], ◌∷◌, ◌++◌, map, Ok}
 use Rattle.fl_order.specs.declared.told.Answer.TheVariants.{Done}
-use Rattle.fl_order.specs.declared.told.Told.{Told}
 use Rattle.fl_session.specs.Session.{Session, with_message}
 use Rattle.fl_session.specs.declared.server.Met.{Met}
 use Rattle.fl_session.specs.declared.server.Met.TheVariants as met
@@ -13,12 +12,12 @@ use Rattle.fl_wire.specs.Layout.{unique_of}
 use Rattle.fl_wire.specs.Says.{said}
 use Rattle.fl_wire.specs.Spell.{spelling_of}
 
--- the bytes of each reply that is owed, where an order gets these
-abbrev pub bytes_of : Owed → List Told → List (List ℕ)
-bytes_of Nothing tolds = []
-bytes_of (Init unique step) tolds = init_spelling unique step ∷ []
-bytes_of (One told) tolds = spelling_of told ∷ []
-bytes_of Replies tolds = map spelling_of tolds
+-- the bytes of each reply that is owed
+abbrev pub bytes_of : Owed → List (List ℕ)
+bytes_of Nothing = []
+bytes_of (Init unique step) = init_spelling unique step ∷ []
+bytes_of (One told) = spelling_of told ∷ []
+bytes_of (Replies tolds) = map spelling_of tolds.now
 
 -- what a DESTROY is owed
 abbrev pub goodbye_to : List ℕ → Owed
@@ -35,6 +34,6 @@ answered s more = record s { replies = s.replies ++ more }
 -- A message of a session that isn't over is an order after an INIT is agreed, or the session itself answers it.
 abbrev pub IsHeard : Met → Talk → Talk → List ℕ → Type 0
 IsHeard (met.Order order) old new message = (old.agreed ≡ true) × (new ≡ old) × (said message ≡ Ok order)
-IsHeard (met.Owed owed) old new message = (s : Session) (tolds : List Told) (refused : Bool)
-    → standing (answered s (bytes_of owed tolds)) new
+IsHeard (met.Owed owed) old new message = (s : Session) (refused : Bool)
+    → standing (answered s (bytes_of owed)) new
     ≡ with_message (standing s old) (record { message = message; refused = refused })

@@ -3,13 +3,13 @@
 ghost use Rattle.std.specs.Prelude.{◌≡◌, false};
 ghost use Rattle.fl_session.specs.Inbox.{IsUnread};
 ghost use Rattle.fl_session.specs.Inside.Serving.{IsFresh};
-ghost use Rattle.fl_session.specs.Inside.UnderWay.{IsAnswered, HasEnded};
+ghost use Rattle.fl_session.specs.Inside.UnderWay.{HasEnded};
 
 use crate::inbox::{Filled, Inbox};
 use crate::mail::Mail;
 use crate::server::Server;
 use crate::session::Fault;
-use fl_wire::{Frame, Step};
+use fl_wire::Step;
 use std::io::{Read, Write};
 
 /// Reads and answers until the session ends, and tells the fault of its reader, if any.
@@ -30,7 +30,7 @@ pub(crate) fn answer_all<R: Read, W: Write>(
     while !server.talk.over {
         match inbox.next() {
             Step::Whole(frame) => {
-                answer(server, mail, &frame);
+                server.answer(mail, &frame);
                 let len = frame.as_bytes().len();
                 inbox.skip(len);
             }
@@ -43,16 +43,4 @@ pub(crate) fn answer_all<R: Read, W: Write>(
         }
     }
     None
-}
-
-// Answers one message of a session that isn't over.
-fn answer<W: Write>(server: &mut Server, mail: &mut Mail<'_, W>, frame: &Frame)
-    requires { server.old.talk.over ≡ false }
-    ensures same { mail.new.out.writer.ghost_name ≡ mail.old.out.writer.ghost_name }
-    ensures answered { IsAnswered server.old server.new
-        (W.contents mail.old.out.writer.now) (W.contents mail.new.out.writer.now)
-        mail.old.out.broken mail.new.out.broken frame.now }
-{
-    let owed = server.meet(frame);
-    mail.send(&owed, server.tolds.as_slice());
 }

@@ -114,17 +114,17 @@ pub(crate) struct Mail<'a, W> {
 
 impl<W: Write> Mail<'_, W> {
     /// Sends what is owed, each reply by itself.
-    pub(crate) fn send(&mut self, owed: &Owed, tolds: &[Told])
+    pub(crate) fn send(&mut self, owed: &Owed)
         ensures same { self.new.out.writer.ghost_name ≡ self.old.out.writer.ghost_name }
         ensures same_reply { self.new.reply.ghost_name ≡ self.old.reply.ghost_name }
         ensures sent { Sends (W.contents self.old.out.writer.now) (W.contents self.new.out.writer.now)
-            self.old.out.broken self.new.out.broken (bytes_of owed.now tolds.now) }
+            self.old.out.broken self.new.out.broken (bytes_of owed.now) }
     {
         match owed {
             Owed::Nothing => {}
             Owed::Init(unique, step) => self.send_init(*unique, step),
             Owed::One(told) => self.send_one(told),
-            Owed::Replies => self.send_all(tolds),
+            Owed::Replies(tolds) => self.send_all(tolds),
         }
     }
 

@@ -1,35 +1,38 @@
-//! What a session does with each message, apart from reading and writing.
+//! What a session does with each message, apart from reading it.
 
-ghost use Rattle.std.specs.Prelude.{◌≡◌, ℕ, List, true, false, IfOk, if◌then◌else◌};
+ghost use Rattle.std.specs.Prelude.{◌≡◌, ℕ, true, false, IfOk, if◌then◌else◌};
 ghost use Rattle.fl_order.specs.OpKind.{is_silent, kind_of_opcode};
 ghost use Rattle.fl_session.specs.Session.{Session, before_init, without_memory};
-ghost use Rattle.fl_session.specs.Inside.Serving.{IsFresh, IsHeardAs, IsMet, IsMetAs};
+ghost use Rattle.fl_session.specs.Inside.Serving.{IsFresh, IsHeardAs};
+ghost use Rattle.fl_session.specs.Inside.UnderWay.{IsAnswered, IsAnsweredAs};
 ghost use Rattle.fl_session.specs.Talk.{answered, bytes_of, goodbye_to, standing, IsHeard};
 ghost use Rattle.fl_wire.specs.Layout.{opcode_of, unique_of};
 ghost use Rattle.fl_wire.specs.Says.{said};
 
+use crate::mail::Mail;
 use fl_book::{Desk, History};
 use fl_core::Tolds;
 use fl_order::{Answer, Errno, NoMemory, OpKind, Order, Refusal, Told};
 use fl_wire::{Frame, InitStep, read_init, read_order};
 use std::alloc::Global;
+use std::io::Write;
 
 /// What a message is answered.
 #[derive(Clone, Copy, Debug)]
-pub enum Owed {
+pub enum Owed<'a> {
     /// No reply.
     Nothing,
     /// The reply to the INIT with this unique.
     Init(u64, InitStep),
     /// One reply.
     One(Told),
-    /// The replies of an order, none or several, which the server holds.
-    Replies,
+    /// The replies of an order, none or several.
+    Replies(&'a [Told]),
 }
 
-impl Owed {
+impl Owed<'_> {
     /// What is owed to an order of this kind that is refused for want of memory.
-    pub fn lost(kind: OpKind, unique: u64) -> Owed
+    pub fn lost(kind: OpKind, unique: u64) -> Owed<'static>
         ensures { result ≡ if is_silent kind then Owed.Nothing
             else Owed.One (record { unique = unique; result = Err (without_memory kind) }) }
     {
@@ -43,7 +46,7 @@ pub enum Met {
     /// An order, which the lock directory answers.
     Order(Order),
     /// An answer of the session itself.
-    Owed(Owed),
+    Owed(Owed<'static>),
 }
 
 /// How far a session is.
@@ -80,8 +83,8 @@ impl Talk {
     }
 
     // The answer of the session before an INIT is agreed.
-    fn meet_before_init(&mut self, frame: &Frame) -> Owed
-        ensures heard { (s : Session) (tolds : List Told) → standing (answered s (bytes_of result tolds)) self.new
+    fn meet_before_init(&mut self, frame: &Frame) -> Owed<'static>
+        ensures heard { (s : Session) → standing (answered s (bytes_of result)) self.new
             ≡ before_init (standing s self.old) (kind_of_opcode (opcode_of frame.now)) frame.now }
         ensures live { self.new.over ≡ self.old.over }
     {
@@ -147,28 +150,35 @@ impl Server {
         desk.into_history()
     }
 
-    /// What a message of a session that isn't over is answered.
-    pub(crate) fn meet(&mut self, frame: &Frame) -> Owed
+    /// Answers a message of a session that isn't over.
+    pub(crate) fn answer<W: Write>(&mut self, mail: &mut Mail<'_, W>, frame: &Frame)
         requires { self.old.talk.over ≡ false }
-        ensures { IsMet self.old self.new (bytes_of result self.new.tolds) frame.now }
+        ensures same { mail.new.out.writer.ghost_name ≡ mail.old.out.writer.ghost_name }
+        ensures answered { IsAnswered self.old self.new
+            (W.contents mail.old.out.writer.now) (W.contents mail.new.out.writer.now)
+            mail.old.out.broken mail.new.out.broken frame.now }
     {
         match self.talk.meet(frame) {
-            Met::Order(order) => self.take(&order),
-            Met::Owed(owed) => owed,
+            Met::Order(order) => self.take(mail, &order),
+            Met::Owed(owed) => mail.send(&owed),
         }
     }
 
-    // Takes an order of worker 0.
-    fn take(&mut self, order: &Order) -> Owed
-        ensures { (unique : ℕ) → IsMetAs self.old self.new (bytes_of result self.new.tolds) unique (Ok order.now) }
+    // Takes an order of worker 0, and sends its replies.
+    fn take<W: Write>(&mut self, mail: &mut Mail<'_, W>, order: &Order)
+        ensures same { mail.new.out.writer.ghost_name ≡ mail.old.out.writer.ghost_name }
+        ensures answered { (unique : ℕ) → IsAnsweredAs self.old self.new
+            (W.contents mail.old.out.writer.now) (W.contents mail.new.out.writer.now)
+            mail.old.out.broken mail.new.out.broken unique (Ok order.now) }
     {
-        match self.desk.take(0, order, &mut self.tolds) {
-            Ok(()) => Owed::Replies,
+        let owed = match self.desk.take(0, order, &mut self.tolds) {
+            Ok(()) => Owed::Replies(self.tolds.as_slice()),
             Err(NoMemory) => {
                 self.refused = true;
                 Owed::lost(order.op.kind(), order.unique)
             }
-        }
+        };
+        mail.send(&owed);
     }
 }
 
@@ -183,7 +193,7 @@ fn without_memory(kind: OpKind) -> Errno
 }
 
 // A reply that is an error, or nothing where no reply is owed to a message of this kind.
-fn refusal(kind: OpKind, unique: u64, e: Errno) -> Owed
+fn refusal(kind: OpKind, unique: u64, e: Errno) -> Owed<'static>
     ensures { result ≡
         if is_silent kind then Owed.Nothing else Owed.One (record { unique = unique; result = Err e }) }
 {
@@ -195,7 +205,7 @@ fn refusal(kind: OpKind, unique: u64, e: Errno) -> Owed
 }
 
 // A reply that is an error.
-fn error_reply(unique: u64, e: Errno) -> Owed
+fn error_reply(unique: u64, e: Errno) -> Owed<'static>
     ensures { result ≡ Owed.One (record { unique = unique; result = Err e }) }
 {
     Owed::One(Told {

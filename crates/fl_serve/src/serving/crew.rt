@@ -41,138 +41,124 @@ pub(crate) struct Back<L: BoardName> {
     pub refused: bool,
 }
 
-/// Runs a session: starts a worker at each seat, reads until the session ends, closes the intake, and joins the workers.
-/// Where a worker can't be started nothing is read.
-pub(crate) fn run<
-    L: BoardName + Send + Sync,
-    N: WriterName + Send + Sync,
-    R: Threads + Wait + Sync,
-    I: Read,
-    W: Write + Send + Drop,
-    G: Gate + Sync,
->(
-    crew: &Crew<'_, '_, L, N, R, W, G>,
-    r: &mut I,
-    inbox: Inbox,
-    seats: Vec<Seat<L>>,
-    tolds: Vec<Tolds>,
-    threads: Vec<Thread<L>>,
-    places: Vec<Seat<L>>,
-) -> (Back<L>, Heard)
-    requires unread { IsUnread inbox }
-    requires room { length seats.items ≤ vec_capacity places }
-    requires none { (threads.items ≡ []) × (places.items ≡ []) }
-    ensures all { result.1.fault ≢ Some Fault.NoMemory → length result.0.seats.items ≡ length seats.items }
-    ensures heard { result.1.fault ≢ Some Fault.NoMemory
-        → HasHeard (I.remaining r.old) (I.remaining r.new) result.1.fault result.1.goodbye }
-    ensures unread { result.1.fault ≡ Some Fault.NoMemory → Keeps (I.remaining r.old) (I.remaining r.new) }
-{
-    let rt = crew.rt;
-    let (back, heard, r) = thread::scope(
-        thread::scope_env(),
-        rt,
-        move |scope| -> (Back<L>, Heard, &mut I)
-            requires unread { IsUnread inbox }
-            requires room { length seats.items ≤ vec_capacity places }
-            requires none { (threads.items ≡ []) × (places.items ≡ []) }
-            ensures all { result.1.fault ≢ Some Fault.NoMemory → length result.0.seats.items ≡ length seats.items }
-            ensures same { result.2.ghost_name ≡ r.entry.ghost_name }
-            ensures heard { result.1.fault ≢ Some Fault.NoMemory
-                → HasHeard (I.remaining r.entry.now) (I.remaining result.2.now) result.1.fault result.1.goodbye }
-            ensures unread { result.1.fault ≡ Some Fault.NoMemory
-                → Keeps (I.remaining r.entry.now) (I.remaining result.2.now) }
-        {
-            let mut inbox = inbox;
-            let mut threads = threads;
-            let heard = if start_all(scope, crew, seats, tolds, &mut threads) {
-                Hearer::new(rt, &crew.intake, &crew.shared).hear_all(r, &mut inbox)
-            } else {
-                Heard {
-                    fault: Some(Fault::NoMemory),
-                    goodbye: Owed::Nothing,
-                }
-            };
-            crew.intake.close(rt);
-            (joined(rt, threads, places), heard, r)
-        },
-    );
-    // No effect at run time: the proof reads here what the reader has left.
-    let _ = &*r;
-    (back, heard)
-}
-
-// Starts a worker at each seat, and says whether all were started.
-fn start_all<
-    's,
-    'a: 's,
-    'w: 's,
-    E,
+impl<
+    'a,
+    'w,
     L: BoardName + Send + Sync,
     N: WriterName + Send + Sync,
     R: Threads + Wait + Sync,
     W: Write + Send + Drop,
     G: Gate + Sync,
->(
-    scope: &Scope<'s, E>,
-    crew: &'s Crew<'a, 'w, L, N, R, W, G>,
-    seats: Vec<Seat<L>>,
-    tolds: Vec<Tolds>,
-    threads: &mut Vec<Thread<L>>,
-) -> bool
-    ensures most { length threads.new.items ≤ length threads.old.items + length seats.items }
-    ensures all { result ≡ true → length threads.new.items ≡ length threads.old.items + length seats.items }
-{
-    let mut tolds = tolds;
-    for seat in seats {
-        let Some(tolds) = tolds.pop() else {
-            return false;
-        };
-        let Ok(thread) = start(scope, crew, seat, tolds) else {
-            return false;
-        };
-        if threads.push(thread).is_err() {
-            return false;
-        }
+> Crew<'a, 'w, L, N, R, W, G> {
+    /// Runs a session: starts a worker at each seat, reads until the session ends, closes the intake, and joins the workers.
+    /// Where a worker can't be started nothing is read.
+    pub(crate) fn run<I: Read>(
+        &self,
+        r: &mut I,
+        inbox: Inbox,
+        seats: Vec<Seat<L>>,
+        tolds: Vec<Tolds>,
+        threads: Vec<Thread<L>>,
+        places: Vec<Seat<L>>,
+    ) -> (Back<L>, Heard)
+        requires unread { IsUnread inbox }
+        requires room { length seats.items ≤ vec_capacity places }
+        requires none { (threads.items ≡ []) × (places.items ≡ []) }
+        ensures all { result.1.fault ≢ Some Fault.NoMemory → length result.0.seats.items ≡ length seats.items }
+        ensures heard { result.1.fault ≢ Some Fault.NoMemory
+            → HasHeard (I.remaining r.old) (I.remaining r.new) result.1.fault result.1.goodbye }
+        ensures unread { result.1.fault ≡ Some Fault.NoMemory → Keeps (I.remaining r.old) (I.remaining r.new) }
+    {
+        let rt = self.rt;
+        let (back, heard, r) = thread::scope(
+            thread::scope_env(),
+            rt,
+            move |scope| -> (Back<L>, Heard, &mut I)
+                requires unread { IsUnread inbox }
+                requires room { length seats.items ≤ vec_capacity places }
+                requires none { (threads.items ≡ []) × (places.items ≡ []) }
+                ensures all { result.1.fault ≢ Some Fault.NoMemory → length result.0.seats.items ≡ length seats.items }
+                ensures same { result.2.ghost_name ≡ r.entry.ghost_name }
+                ensures heard { result.1.fault ≢ Some Fault.NoMemory
+                    → HasHeard (I.remaining r.entry.now) (I.remaining result.2.now) result.1.fault result.1.goodbye }
+                ensures unread { result.1.fault ≡ Some Fault.NoMemory
+                    → Keeps (I.remaining r.entry.now) (I.remaining result.2.now) }
+            {
+                let mut inbox = inbox;
+                let mut threads = threads;
+                let heard = if self.start_all(scope, seats, tolds, &mut threads) {
+                    Hearer::new(rt, &self.intake, &self.shared).hear_all(r, &mut inbox)
+                } else {
+                    Heard {
+                        fault: Some(Fault::NoMemory),
+                        goodbye: Owed::Nothing,
+                    }
+                };
+                self.intake.close(rt);
+                (joined(rt, threads, places), heard, r)
+            },
+        );
+        // No effect at run time: the proof reads here what the reader has left.
+        let _ = &*r;
+        (back, heard)
     }
-    true
-}
 
-// Starts a worker.
-fn start<
-    's,
-    'a: 's,
-    'w: 's,
-    E,
-    L: BoardName + Send + Sync,
-    N: WriterName + Send + Sync,
-    R: Threads + Wait + Sync,
-    W: Write + Send + Drop,
-    G: Gate + Sync,
->(
-    scope: &Scope<'s, E>,
-    crew: &'s Crew<'a, 'w, L, N, R, W, G>,
-    seat: Seat<L>,
-    tolds: Tolds,
-) -> io::Result<Thread<L>> {
-    let builder = Builder::new().stack_size(crew.stack);
-    Ok(builder.spawn_scoped(scope, move || work(crew, seat, tolds))?)
-}
+    // Starts a worker at each seat, and says whether all were started.
+    fn start_all<'s, E>(
+        &'s self,
+        scope: &Scope<'s, E>,
+        seats: Vec<Seat<L>>,
+        tolds: Vec<Tolds>,
+        threads: &mut Vec<Thread<L>>,
+    ) -> bool
+    where
+        'a: 's,
+        'w: 's,
+        ensures most { length threads.new.items ≤ length threads.old.items + length seats.items }
+        ensures all { result ≡ true → length threads.new.items ≡ length threads.old.items + length seats.items }
+    {
+        let mut tolds = tolds;
+        for seat in seats {
+            let Some(tolds) = tolds.pop() else {
+                return false;
+            };
+            let Ok(thread) = self.start(scope, seat, tolds) else {
+                return false;
+            };
+            if threads.push(thread).is_err() {
+                return false;
+            }
+        }
+        true
+    }
 
-// What a worker does.
-fn work<L: BoardName, N: WriterName, R: Wait, W: Write, G: Gate>(
-    crew: &Crew<'_, '_, L, N, R, W, G>,
-    seat: Seat<L>,
-    tolds: Tolds,
-) -> Worked<Seat<L>> {
-    worker_loop(
-        crew.rt,
-        &crew.board,
-        crew.gate,
-        &crew.intake,
-        &crew.shared,
-        seat,
-        tolds,
-    )
+    // Starts a worker.
+    fn start<'s, E>(
+        &'s self,
+        scope: &Scope<'s, E>,
+        seat: Seat<L>,
+        tolds: Tolds,
+    ) -> io::Result<Thread<L>>
+    where
+        'a: 's,
+        'w: 's,
+    {
+        let builder = Builder::new().stack_size(self.stack);
+        Ok(builder.spawn_scoped(scope, move || self.work(seat, tolds))?)
+    }
+
+    // What a worker does.
+    fn work(&self, seat: Seat<L>, tolds: Tolds) -> Worked<Seat<L>> {
+        worker_loop(
+            self.rt,
+            &self.board,
+            self.gate,
+            &self.intake,
+            &self.shared,
+            seat,
+            tolds,
+        )
+    }
 }
 
 // Joins all workers, and puts their seats where there is room for them.

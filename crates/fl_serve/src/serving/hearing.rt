@@ -20,7 +20,7 @@ pub(crate) struct Hearer<'r, 'a, 'w, R, W: Write, N: WriterName> {
     shared: &'a Mutex<Shared<'w, W, N>>,
     talk: Talk,
     // The answer to the DESTROY that ended the session.
-    goodbye: Owed,
+    goodbye: Owed<'static>,
 }
 
 /// How the reader's part of a session ended.
@@ -29,7 +29,7 @@ pub(crate) struct Heard {
     /// Its fault, if any.
     pub fault: Option<Fault>,
     /// What is owed to the message that ended the session, if one did, once all orders are answered.
-    pub goodbye: Owed,
+    pub goodbye: Owed<'static>,
 }
 
 impl<'r, 'a, 'w, R: Wait, W: Write, N: WriterName> Hearer<'r, 'a, 'w, R, W, N> {
@@ -107,7 +107,7 @@ impl<'r, 'a, 'w, R: Wait, W: Write, N: WriterName> Hearer<'r, 'a, 'w, R, W, N> {
     // Sends an answer of the session itself.
     fn answer(&self, owed: &Owed) {
         let mut shared = self.shared.lock(self.rt);
-        shared.collect(owed, &[]);
+        shared.collect(owed);
         shared.flush();
     }
 }

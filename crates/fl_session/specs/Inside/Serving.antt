@@ -2,7 +2,6 @@
 use Rattle.std.specs.Prelude.{◌≡◌, ℕ, Bool, false, List, [], ◌++◌, Result, Ok}
 use Rattle.fl_order.specs.declared.order.Order.{Order}
 use Rattle.fl_order.specs.declared.refusal.Refusal.{Refusal}
-use Rattle.fl_order.specs.declared.told.Told.{Told}
 use Rattle.fl_session.specs.Session.{Session, with_message, after_init}
 use Rattle.fl_session.specs.Talk.{answered, bytes_of, standing}
 use Rattle.fl_session.specs.declared.server.Met.{Met}
@@ -14,8 +13,8 @@ use Rattle.fl_session.specs.declared.server.Talk.{Talk}
 -- answers it.
 abbrev pub IsHeardAs : Met → Talk → Talk → ℕ → Result Order Refusal → Type 0
 IsHeardAs (met.Order order) old new unique says = (new ≡ old) × (says ≡ Ok order)
-IsHeardAs (met.Owed owed) old new unique says = (s : Session) (tolds : List Told) (refused : Bool)
-    → standing (answered s (bytes_of owed tolds)) new ≡ after_init (standing s old) refused unique says
+IsHeardAs (met.Owed owed) old new unique says = (s : Session) (refused : Bool)
+    → standing (answered s (bytes_of owed)) new ≡ after_init (standing s old) refused unique says
 
 -- the session that a server keeps, and that got these replies
 abbrev pub session_with : Server → List (List ℕ) → Session

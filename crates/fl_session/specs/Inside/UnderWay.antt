@@ -1,8 +1,10 @@
 -- A session that is under way: what it did with its reader and its writer so far.
-use Rattle.std.specs.Prelude.{◌≡◌, ℕ, ◌≤◌, Bool, List, length, Option}
+use Rattle.std.specs.Prelude.{◌≡◌, ℕ, ◌≤◌, Bool, List, length, Option, Result}
+use Rattle.fl_order.specs.declared.order.Order.{Order}
+use Rattle.fl_order.specs.declared.refusal.Refusal.{Refusal}
 use Rattle.fl_session.specs.Inbox.{IsEnding}
 use Rattle.fl_session.specs.Inside.Sending.{IsSending, Sends}
-use Rattle.fl_session.specs.Inside.Serving.{session_with, IsMet}
+use Rattle.fl_session.specs.Inside.Serving.{session_with, IsMet, IsMetAs}
 use Rattle.fl_session.specs.Session.{Came, session_of}
 use Rattle.fl_session.specs.declared.session.Fault.{Fault}
 use Rattle.fl_session.specs.declared.server.Server.{Server}
@@ -22,6 +24,13 @@ pub record IsAnswered (old new : Server) (held held_now : Option (List ℕ)) (br
     (message : List ℕ) : Type 0 where
   pub owed : List (List ℕ)
   pub met : IsMet old new owed message
+  pub sent : Sends held held_now broken broken_now owed
+
+-- the same of a message that says this, after an INIT is agreed
+pub record IsAnsweredAs (old new : Server) (held held_now : Option (List ℕ)) (broken broken_now : Bool) (unique : ℕ)
+    (says : Result Order Refusal) : Type 0 where
+  pub owed : List (List ℕ)
+  pub met : IsMetAs old new owed unique says
   pub sent : Sends held held_now broken broken_now owed
 
 -- the session ended, with this fault of its reader

@@ -1,5 +1,5 @@
 use Rattle.std.proofs.Common.{◌≡◌, ◌+◌, length}
-use Rattle.fl_serve.proofs.serving.crew.start_all.Given as goal
+use Rattle.fl_serve.proofs.serving.crew.Crew.start_all.Given as goal
 
 -- a thread for each seat so far
 abbrev pub invariant-loop-seat : goal.invariant-loop-seat
