@@ -11,6 +11,6 @@ mod worker;
 pub use counter::{Counter, Gate, OpenGate};
 pub use fl_session::{Broken, Done, Ended, Fault, Outbox, run_one, run_session};
 pub use intake::{Closed, Intake, Job, MOST_JOBS};
-pub use serving::serve;
+pub use serving::{serve, serve_on_stack};
 pub use shared::{Shared, WriterName};
 pub use worker::{Worked, worker_loop};

@@ -57,8 +57,8 @@ pub fn serve<R: Threads + Wait + Sync, I: Read, W: Write + Send + Drop, G: Gate 
     serve_on_stack(rt, alloc, r, w, workers, gate, STACK_BYTES)
 }
 
-// The same, with this many bytes for each worker's stack.
-fn serve_on_stack<R: Threads + Wait + Sync, I: Read, W: Write + Send + Drop, G: Gate + Sync>(
+/// The same, with this many bytes for each worker's stack. Where a thread can't be made with it, that is want of memory.
+pub fn serve_on_stack<R: Threads + Wait + Sync, I: Read, W: Write + Send + Drop, G: Gate + Sync>(
     rt: &R,
     alloc: Global,
     r: &mut I,
@@ -221,6 +221,3 @@ impl<L: BoardName> Rooms<L> {
         })
     }
 }
-
-#[cfg(test)]
-mod tests;

@@ -42,15 +42,13 @@ pub fn worker_loop<R: Wait, C: Counter, G: Gate, W: Write, N: WriterName>(
             break;
         };
         gate.pass(job.unique);
-        let owed = match counter.hand_in(rt, &mut seat, &job, &mut tolds) {
-            Ok(()) => Owed::Replies(tolds.as_slice()),
+        match counter.hand_in(rt, &mut seat, &job, &mut tolds) {
+            Ok(()) => give(rt, gate, shared, &Owed::Replies(tolds.as_slice())),
             Err(_) => {
                 refused = true;
-                Owed::lost(job.op.kind(), job.unique)
+                give(rt, gate, shared, &Owed::lost(job.op.kind(), job.unique));
             }
-        };
-        collect(rt, shared, &owed);
-        tell(gate, &owed);
+        }
     }
     Worked { seat, refused }
 }
@@ -69,7 +67,17 @@ fn next_job<R: Wait, W: Write, N: WriterName>(
     intake.take(rt)
 }
 
-// Collects what is owed, with nothing of another worker's between.
+// Collects what is owed, with nothing of another worker's between, and tells the gate of each reply.
+fn give<R: Wait, G: Gate, W: Write, N: WriterName>(
+    rt: &R,
+    gate: &G,
+    shared: &Mutex<Shared<'_, W, N>>,
+    owed: &Owed,
+) {
+    collect(rt, shared, owed);
+    tell(gate, owed);
+}
+
 fn collect<R: Wait, W: Write, N: WriterName>(
     rt: &R,
     shared: &Mutex<Shared<'_, W, N>>,

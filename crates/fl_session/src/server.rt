@@ -30,9 +30,9 @@ pub enum Owed<'a> {
     Replies(&'a [Told]),
 }
 
-impl Owed<'_> {
+impl<'a> Owed<'a> {
     /// What is owed to an order of this kind that is refused for want of memory.
-    pub fn lost(kind: OpKind, unique: u64) -> Owed<'static>
+    pub fn lost(kind: OpKind, unique: u64) -> Owed<'a>
         ensures { result ≡ if is_silent kind then Owed.Nothing
             else Owed.One (record { unique = unique; result = Err (without_memory kind) }) }
     {
@@ -171,14 +171,13 @@ impl Server {
             (W.contents mail.old.out.writer.now) (W.contents mail.new.out.writer.now)
             mail.old.out.broken mail.new.out.broken unique (Ok order.now) }
     {
-        let owed = match self.desk.take(0, order, &mut self.tolds) {
-            Ok(()) => Owed::Replies(self.tolds.as_slice()),
+        match self.desk.take(0, order, &mut self.tolds) {
+            Ok(()) => mail.send(&Owed::Replies(self.tolds.as_slice())),
             Err(NoMemory) => {
                 self.refused = true;
-                Owed::lost(order.op.kind(), order.unique)
+                mail.send(&Owed::lost(order.op.kind(), order.unique));
             }
-        };
-        mail.send(&owed);
+        }
     }
 }
 
@@ -193,7 +192,7 @@ fn without_memory(kind: OpKind) -> Errno
 }
 
 // A reply that is an error, or nothing where no reply is owed to a message of this kind.
-fn refusal(kind: OpKind, unique: u64, e: Errno) -> Owed<'static>
+fn refusal<'a>(kind: OpKind, unique: u64, e: Errno) -> Owed<'a>
     ensures { result ≡
         if is_silent kind then Owed.Nothing else Owed.One (record { unique = unique; result = Err e }) }
 {
@@ -205,7 +204,7 @@ fn refusal(kind: OpKind, unique: u64, e: Errno) -> Owed<'static>
 }
 
 // A reply that is an error.
-fn error_reply(unique: u64, e: Errno) -> Owed<'static>
+fn error_reply<'a>(unique: u64, e: Errno) -> Owed<'a>
     ensures { result ≡ Owed.One (record { unique = unique; result = Err e }) }
 {
     Owed::One(Told {

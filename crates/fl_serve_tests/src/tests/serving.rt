@@ -13,6 +13,7 @@ mod messages;
 mod million;
 mod piles;
 mod sockets;
+mod stacks;
 mod talker;
 mod waiting;
 

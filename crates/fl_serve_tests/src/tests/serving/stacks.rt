@@ -1,7 +1,7 @@
 //! A session whose workers' threads can't be made.
 
-use super::*;
-use crate::counter::OpenGate;
+use fl_serve::{Fault, OpenGate, serve_on_stack};
+use std::process::Abort;
 
 #[test]
 fn no_thread_can_be_made(rt: HostRuntime) {
