@@ -22,7 +22,7 @@ hears (met.Order order) old new message live heard s far = record {
   over = rw (far.over, live, far.agreed, heard.0, heard.2, heard.1) (sym live);
 }
 hears (met.Owed owed) old new message live heard s far =
-    let same = heard s [] false ∙ ap (λ s. with_message s (record { message = message; refused = false }))
+    let same = heard s false ∙ ap (λ s. with_message s (record { message = message; refused = false }))
     (stands_there s old far) in
     record { agreed = sym (ap (λ s. s.agreed) same); over = sym (ap (λ s. s.over) same) }
 
