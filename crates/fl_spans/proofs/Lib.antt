@@ -1,0 +1,3 @@
+mod Walks
+mod Parts
+mod Marks
