@@ -1,3 +1,4 @@
 mod Walks
 mod Parts
 mod Marks
+mod Strokes

@@ -1,4 +1,12 @@
+use Rattle.std.proofs.Common.{◌≡◌, ◌+◌, length, drop, sym, ap, ◌∙◌, arith}
+use Rattle.std.specs.List.{prefix_len, position_or_len}
+use Rattle.fl_rows.specs.Rows.{spliced, pieces_of}
+use Rattle.fl_spans.specs.Row.{spans_at, with_spans}
+use Rattle.fl_spans.specs.Stroke.{after_stroke}
+use Rattle.fl_spans.specs.Inside.Walk.{reaches, begins_by, gathered, pieces_with}
+use Rattle.fl_spans.proofs.Walks.{counts_within, long_spliced}
 use Rattle.fl_spans.proofs.Marks.{stroke_are, stroke_marks}
+use Rattle.fl_spans.proofs.Strokes.{walked}
 use Rattle.fl_spans.proofs.change.stroke.Goals as goal
 
 pub returns-clause-spans : goal.returns-clause-spans
@@ -20,3 +28,7 @@ pub returns-then-free-saturating_sub-clause-marks : goal.returns-then-free-satur
 returns-then-free-saturating_sub-clause-marks g c =
     stroke_marks g.M.PartialEq.eq c.requires.exact g.met.M.Eq.laws.refl c.args.start c.args.end c.args.mark _ c.requires.spans c.requires.ordered
     c.requires.in_range
+
+pub splice-requires-clause-taken : goal.splice-requires-clause-taken
+splice-requires-clause-taken g c =
+    let x = walked g.M.PartialEq.eq c.requires.exact g.met.M.Eq.laws.refl c.args.start c.args.end c.args.mark c.requires.ordered in ?
