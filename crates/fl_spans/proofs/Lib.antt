@@ -2,3 +2,4 @@ mod Walks
 mod Parts
 mod Marks
 mod Strokes
+mod Found

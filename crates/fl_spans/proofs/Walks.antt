@@ -1,10 +1,13 @@
 -- A walk along a row, at an item and at its end.
-use Rattle.std.proofs.Common.{◌≡◌, ℕ, zero, suc, ◌+◌, ◌≤◌, Bool, true, false, not, List, [], ◌∷◌, ◌++◌, length, take, drop, Some, None, slice_get, refl}
+use Rattle.std.proofs.Common.{◌≡◌, ℕ, zero, suc, ◌+◌, ◌≤◌, Bool, true, false, not, List, [], ◌∷◌, ◌++◌, length, take, drop, Option, Some, None, slice_get, refl}
 use Rattle.std.proofs.Common.{ap, ◌∙◌, inl, inr, arith}
 use Rattle.std.specs.List.{prefix_len}
 use Rattle.std.proofs.lemmas.Bool.{cases_Bool}
 use Rattle.std.proofs.lemmas.Option.{none-some}
 use Rattle.fl_rows.specs.Rows.{spliced}
+use Rattle.fl_spans.specs.declared.span.Span.{Span}
+use Rattle.fl_spans.specs.declared.change.Change.{Change}
+use Rattle.fl_spans.specs.Inside.Walk.{begins_by, absorbed, gathered}
 
 module _ {X : Type 0} where
   -- at an item
@@ -72,3 +75,12 @@ module _ {X : Type 0} where
       let next : 1 + i ≡ suc i = omega arith in
       let both : suc i + t ≡ suc (i + t) = omega arith in
       rw next (rw both refl)
+
+module _ {M : Type 0} (same : M → M → Bool) (start end : ℕ) (mark : Option M) where
+  -- what a walk gathers, one span further, and where it ends
+  pub gathered_more : (c : Change M) (s : Span M) (ss : List (Span M)) → begins_by same end mark s ≡ true →
+      gathered same start end mark c (s ∷ ss) ≡ gathered same start end mark (absorbed same start end mark c s) ss
+  gathered_more c s ss is = rw is refl
+
+  pub gathered_end : (c : Change M) (s : Span M) (ss : List (Span M)) → begins_by same end mark s ≡ false → gathered same start end mark c (s ∷ ss) ≡ c
+  gathered_end c s ss none = rw none refl
