@@ -5,12 +5,13 @@ use Rattle.std.specs.List.{prefix_len, position_or_len}
 use Rattle.std.proofs.lemmas.Bool.{cases_lt, cases_Bool, lt-ltb, le-ltb, le-leb, lt-leb, eqb-true, eq-eqb, ne_eqb, and_parts, and_from, and_left, and_right}
 use Rattle.std.proofs.lemmas.Bool.{both_ways, or_cases}
 use Rattle.fl_rows.specs.Rows.{listed, pieces_of, spliced}
+use Rattle.fl_rows.specs.declared.rows.Pieces.{Pieces}
 use Rattle.fl_spans.specs.declared.span.Span.{Span}
 use Rattle.fl_spans.specs.declared.change.Change.{Change}
 use Rattle.fl_spans.specs.Spans.{Precedes, PrecedesNext, AreSpans}
 use Rattle.fl_spans.specs.Stroke.{before, behind, struck, touches, join, joined, after_stroke}
 use Rattle.fl_spans.specs.Inside.Walk.{is_mark, reaches, begins_by, absorbed, gathered, new_span, pieces_with}
-use Rattle.fl_spans.proofs.Walks.{count_more, count_end, spliced_more}
+use Rattle.fl_spans.proofs.Walks.{count_more, count_end, spliced_more, counts_within, long_spliced}
 use Rattle.fl_spans.proofs.Parts.{StartsFrom, AreApart, apart_of, from_less, next_from, before_cut, before_skip, before_none, behind_cut, behind_skip, behind_all}
 use Rattle.fl_spans.proofs.Parts.{behind_from, touches_first, join_apart, join_touching, is_touching, far_apart, other_marks, touching_marks, first_kept}
 use Rattle.fl_spans.proofs.Parts.{none_touching, joined_whole}
@@ -422,3 +423,24 @@ module _ {M : Type 0} (same : M → M → Bool) (exact : (a b : M) → same a b 
             ∙ spliced_more s ss i (prefix_len (begins_by same end mark) (drop i ss))
             (pieces_of (pieces_with mark (gathered same start end mark (change start None) (drop i ss))))
             ∙ ap (λ l. s ∷ l) is
+
+    -- what a walk told of the row
+    pub record Walked (ss : List (Span M)) (i t : ℕ) (ps : Pieces (Span M)) : Type 0 where
+      pub is : spliced ss i t (pieces_of ps) ≡ after_stroke same start end mark ss
+      pub within : i + t ≤ length ss
+      pub long : length (after_stroke same start end mark ss) + t ≡ length ss + length (pieces_of ps)
+
+    pub told : (ss : List (Span M)) → AreSpans ss → (i t : ℕ) (c : Change M) (ps : Pieces (Span M)) →
+        i ≡ position_or_len (reaches same start mark) ss → c ≡ gathered same start end mark (change start None) (drop i ss) →
+        t ≡ prefix_len (begins_by same end mark) (drop i ss) → ps ≡ pieces_with mark c → Walked ss i t ps
+    told ss are i t c ps first changed taken put =
+        let at_first : t ≡ prefix_len (begins_by same end mark) (drop (position_or_len (reaches same start mark) ss) ss) =
+        taken ∙ ap (λ k. prefix_len (begins_by same end mark) (drop k ss)) first in
+        let all : ps ≡ pieces_with mark (gathered same start end mark (change start None) (drop (position_or_len (reaches same start mark) ss) ss)) =
+        put ∙ ap (pieces_with mark) (changed ∙ ap (λ k. gathered same start end mark (change start None) (drop k ss)) first) in
+        let is : spliced ss i t (pieces_of ps) ≡ after_stroke same start end mark ss =
+        (λ x. spliced ss (first x) (at_first x) (pieces_of (all x))) ∙ walked ss are in
+        let within : i + t ≤ length ss =
+        rw taken (subst (λ k. k + prefix_len (begins_by same end mark) (drop k ss) ≤ length ss) (sym first)
+        (counts_within (λ s. not (reaches same start mark s)) (begins_by same end mark) ss)) in
+        record { is = is; within = within; long = ap (λ l. length l + t) (sym is) ∙ long_spliced ss i t (pieces_of ps) within }
