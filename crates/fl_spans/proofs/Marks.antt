@@ -45,10 +45,10 @@ module _ {M : Type 0} where
       elim (cases_lt s.start start) [
         | inl cut ↦ rw (before_cut start s ss cut)
             (alike (record s { end = min s.end (start - 1) }) s (before start ss ++ zs) ss b refl rest (
-              elim (cases_lt s.end b) [
-                | inl past ↦ no_more (record s { end = min s.end (start - 1) }) b (omega (arith, past)) ∙ sym (no_more s b past)
-                | inr upto ↦ ap (λ x. nat_le s.start b && x) (le-leb b (min s.end (start - 1)) (omega (arith, upto, less)) ∙ sym (le-leb b s.end upto))
-              ]))
+            elim (cases_lt s.end b) [
+              | inl past ↦ no_more (record s { end = min s.end (start - 1) }) b (omega (arith, past)) ∙ sym (no_more s b past)
+              | inr upto ↦ ap (λ x. nat_le s.start b && x) (le-leb b (min s.end (start - 1)) (omega (arith, upto, less)) ∙ sym (le-leb b s.end upto))
+            ]))
         | inr past ↦ rw (before_skip start s ss past) (rest ∙ sym (before_span s ss b (omega (arith, past, less))))
       ]
 
@@ -69,11 +69,11 @@ module _ {M : Type 0} where
       elim (cases_lt end s.end) [
         | inl cut ↦ rw (behind_cut end s ss cut)
             (alike (record s { start = max s.start (end + 1) }) s (behind end ss) ss b refl rest (
-              elim (cases_lt b s.start) [
-                | inl less ↦ not_yet (record s { start = max s.start (end + 1) }) b (omega (arith, less)) ∙ sym (not_yet s b less)
-                | inr from ↦
-                    ap (λ x. x && nat_le b s.end) (le-leb (max s.start (end + 1)) b (omega (arith, from, past)) ∙ sym (le-leb s.start b from))
-              ]))
+            elim (cases_lt b s.start) [
+              | inl less ↦ not_yet (record s { start = max s.start (end + 1) }) b (omega (arith, less)) ∙ sym (not_yet s b less)
+              | inr from ↦
+                  ap (λ x. x && nat_le b s.end) (le-leb (max s.start (end + 1)) b (omega (arith, from, past)) ∙ sym (le-leb s.start b from))
+            ]))
         | inr none ↦ rw (behind_skip end s ss none) (rest ∙ sym (behind_span s ss b (omega (arith, none, past))))
       ]
 

@@ -58,7 +58,7 @@ module _ {M : Type 0} where
         | inl less ↦ rw (before_cut start s ss less) (
           record { ordered = omega (arith, less, are.0.ordered); bounded = omega (arith, are.0.bounded) },
           before_from start (min s.end (start - 1) + 1) ss zs are.2 (from_less (min s.end (start - 1) + 1) (s.end + 1) ss (omega arith) are.1)
-          (from_less (min s.end (start - 1) + 1) start zs (omega (arith, less)) from),
+              (from_less (min s.end (start - 1) + 1) start zs (omega (arith, less)) from),
           before_with start ss zs are.2 those from,
         )
         | inr past ↦ rw (before_skip start s ss past) (before_with start ss zs are.2 those from)

@@ -64,10 +64,13 @@ module _ {M : Type 0} (same : M → M → Bool) (exact : (a b : M) → same a b 
     where
       n : Span M
       n = record { start = start; end = end; mark = m }
+
       one : Span M
       one = record { start = f.start; end = end; mark = m }
+
       own : same f.mark m ≡ true
       own = ap (same f.mark) (exact m f.mark is) ∙ itself f.mark
+
       go : (ts : List (Span M)) → join same f (join same (record { start = start; end = end; mark = m }) ts) ≡
           join same (record { start = f.start; end = end; mark = m }) ts
       go [] = join_touching same f (record { start = start; end = end; mark = m }) []
@@ -162,9 +165,9 @@ module _ {M : Type 0} (same : M → M → Bool) (exact : (a b : M) → same a b 
               ∙ gather_on a bf ss low are.2 (next_from start s ss apart from)
               ∙ ap (λ l. listed bf ++ joined same (struck a end mark ++ l)) (sym (behind_skip end s ss inside))
           | inl past ↦ elim (cases_lt end s.start) [
-              | inr upto ↦ over past upto apart
-              | inl less ↦ beyond past less apart
-            ]
+            | inr upto ↦ over past upto apart
+            | inl less ↦ beyond past less apart
+          ]
         ]
       where
         unchanged : s.end ≤ end → absorbed same start end mark (change a bf) s ≡ change a bf
@@ -212,7 +215,7 @@ module _ {M : Type 0} (same : M → M → Bool) (exact : (a b : M) → same a b 
                   (from_less (end + 2) (s.end + 1) ss (omega (arith, past)) apart.1)
                   ∙ ap (λ l. listed bf ++ l) (sym (struck_apart a end mark (record s { start = end + 1 } ∷ ss) whole
                   (λ t ts is. let e : record s { start = end + 1 } ≡ t = cc is in
-                    and_right (t.start == end + 1) (is_mark same mark t.mark) (ap (λ (x : Span M). is_mark same mark x.mark) (sym e) ∙ none))))
+                  and_right (t.start == end + 1) (is_mark same mark t.mark) (ap (λ (x : Span M). is_mark same mark x.mark) (sym e) ∙ none))))
                   ∙ ap (λ l. listed bf ++ joined same (struck a end mark ++ l)) (sym cuts)
             ]
           where
@@ -243,8 +246,8 @@ module _ {M : Type 0} (same : M → M → Bool) (exact : (a b : M) → same a b 
               | inr none ↦
                   carry_end (change a bf) s ss (rw not_in none)
                   ∙ ap (λ l. listed bf ++ l) (sym (struck_apart a end mark (s ∷ ss) are (λ t ts is.
-                    let e : s ≡ t = cc is in
-                    subst (λ (x : Span M). ((x.start == end + 1) && is_mark same mark x.mark) ≡ false) e (flipped less none))))
+                  let e : s ≡ t = cc is in
+                  subst (λ (x : Span M). ((x.start == end + 1) && is_mark same mark x.mark) ≡ false) e (flipped less none))))
                   ∙ ap (λ l. listed bf ++ joined same (struck a end mark ++ l)) (sym all)
             ]
           where
