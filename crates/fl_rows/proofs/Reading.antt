@@ -1,5 +1,5 @@
 -- What the calls that only read find.
-use Rattle.std.proofs.Common.{◌≡◌, ℕ, zero, suc, ◌+◌, ◌<◌, inl, inr, List, [], ◌∷◌, length, map, Option, Some, slice_get, refl, sym, ap, ◌∙◌, subst, arith}
+use Rattle.std.proofs.Common.{◌≡◌, ℕ, zero, suc, ◌+◌, ◌<◌, inl, inr, List, [], ◌∷◌, length, map, Option, Some, None, IsSome, unwrap_or, slice_get, refl, sym, ap, ◌∙◌, subst, arith}
 use Rattle.std.specs.Option.{option_map}
 use Rattle.std.proofs.lemmas.Bool.{cases_lt}
 use Rattle.std.proofs.lemmas.List.{length-map, get_or_past}
@@ -17,6 +17,10 @@ some_there : {X Y : Type 0} (f : X → Y) (xs : List X) (i : ℕ) (y : Y) → sl
 some_there f [] i y found = absurd (none-some y found)
 some_there f (x ∷ xs) zero y found = (x, refl, cc)
 some_there f (x ∷ xs) (suc i) y found = some_there f xs i y found
+
+pub some_slot : (o : Option ℕ) → IsSome o → o ≡ Some (unwrap_or o 0)
+some_slot None none = absurd (cc none)
+some_slot (Some s) some = refl
 
 pub some_entry : {X : Type 0} (xs : List X) (i : ℕ) → i < length xs → (x : X) × (slice_get xs i ≡ Some x)
 some_entry [] i within = absurd (omega (arith, within))
@@ -97,6 +101,10 @@ module _ {K R : Type 0} (heads : Chains (Head K)) (runs : Chains R) (v : RowChai
       let long : length (rows v c) ≡ length (entries v.heads c) = ap length (rows_are v c in_chains) ∙ length-map (entries v.heads c) (row_at v.runs) in
       let same : length (entries heads c) ≡ length (entries v.heads c) = ap (λ w. length (entries w.heads c)) view in
       omega (arith, index_within heads c i slot found, long, same)
+
+  -- a cursor with a slot stands at a row
+  pub row_there : (row : Cursor) → IsRow v row → IsSome row.slot → row.index < length (rows v row.chain)
+  row_there row is some = head_placed row.chain row.index (unwrap_or row.slot 0) (sym (ap (λ x. x.slot) (at_head row is)) ∙ some_slot row.slot some) is.chain
 
   pub run_placed : (n c i slot : ℕ) → AreRows heads runs n → slot_at runs c i ≡ Some slot → i < run_count v
   run_placed n c i slot h found =

@@ -109,7 +109,8 @@ impl<K: Copy, R: Copy> Rows<K, R> {
     pub fn first_run(&self, row: &Cursor) -> Cursor
         requires row { IsRow self.now row.now }
         requires at_row { IsSome row.now.slot }
-        ensures { result ≡ run_cursor self.now row.now.chain row.now.index 0 }
+        ensures first { result ≡ run_cursor self.now row.now.chain row.now.index 0 }
+        ensures there { row.now.index < length (rows self.now row.now.chain) }
     {
         let Some(head) = self.heads.item(row) else {
             unreachable!()

@@ -14,7 +14,7 @@ pub invariant_of-self : goal.invariant_of-self
 invariant_of-self g c =
     let s = c.shift.ensures.chains in
     let row = subst (λ w. IsRow w c.args.row.now) (sym c.self.view_is) c.requires.row in
-    let chain = ap (λ (x : Cursor). x.chain) c.first_run-run.ensures
+    let chain = ap (λ (x : Cursor). x.chain) c.first_run-run.ensures.first
     ∙ ap (λ w. number_at (entries w.heads c.args.row.now.chain) c.args.row.now.index) (sym c.self.view_is)
     ∙ number_there (entries c.self.inside.heads c.args.row.now.chain) c.args.row.now.index s.moved s.was_there in
     let less = row_before _ _ _ c.self.invariant c.args.row.now row in
@@ -26,7 +26,7 @@ pub returns-clause-rows : goal.returns-clause-rows
 returns-clause-rows g c =
     let s = c.shift.ensures.chains in
     let row = subst (λ w. IsRow w c.args.row.now) (sym c.self.view_is) c.requires.row in
-    let chain = ap (λ (x : Cursor). x.chain) c.first_run-run.ensures
+    let chain = ap (λ (x : Cursor). x.chain) c.first_run-run.ensures.first
     ∙ ap (λ w. number_at (entries w.heads c.args.row.now.chain) c.args.row.now.index) (sym c.self.view_is)
     ∙ number_there (entries c.self.inside.heads c.args.row.now.chain) c.args.row.now.index s.moved s.was_there in
     let less = row_before _ _ _ c.self.invariant c.args.row.now row in

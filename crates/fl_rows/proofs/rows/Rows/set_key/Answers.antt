@@ -1,11 +1,11 @@
-use Rattle.std.proofs.Common.{◌≡◌, ℕ, Some, IsSome, Option, None, unwrap_or, set, slice_get, sym, ap, ◌∙◌, refl, subst}
+use Rattle.std.proofs.Common.{◌≡◌, Some, set, slice_get, sym, ap, ◌∙◌, subst}
 use Rattle.std.specs.Option.{option_map}
 use Rattle.fl_arena.specs.Chains.{Entry, entries}
 use Rattle.fl_arena.specs.Cursors.{cursor_at}
 use Rattle.fl_rows.specs.declared.rows.Head.{Head}
 use Rattle.fl_rows.specs.Rows.{rows, row_lists, with_key, number_at, limit_of, IsRow, run_cursor}
 use Rattle.fl_rows.specs.Inside.Kept.{AreRows}
-use Rattle.fl_rows.proofs.Reading.{at_head, entry_there}
+use Rattle.fl_rows.proofs.Reading.{at_head, entry_there, some_slot}
 use Rattle.fl_rows.proofs.Calls.{key_kept, key_rows, numbers_kept, new_head, row_before, has_room}
 use Rattle.fl_rows.proofs.rows.Rows.set_key.Goals as goal
 use Rattle.fl_rows.proofs.rows.Rows.set_key.Goals.{After-set, In-Some}
@@ -38,10 +38,6 @@ returns-clause-row g c =
     let slot = ap (λ es. option_map (λ x. x.slot) (slice_get (entries es c.args.row.now.chain) c.args.row.now.index)) c.set.ensures.chains
     ∙ ap (option_map (λ x. x.slot)) (new_head _ _ _ _ _ e.0 _ c.self.invariant e.1 (ap (λ x. x.runs) (sym e.2))) in
     ap (λ o. record { chain = c.args.row.now.chain; index = c.args.row.now.index; slot = o }) (some_slot c.args.row.now.slot c.requires.at_row ∙ sym slot)
-  where
-    some_slot : (o : Option ℕ) → IsSome o → o ≡ Some (unwrap_or o 0)
-    some_slot None none = absurd (cc none)
-    some_slot (Some s) some = refl
 
 pub returns-clause-runs : goal.returns-clause-runs
 returns-clause-runs g c b i j =

@@ -1,0 +1,48 @@
+-- The search along spans, and where it may stop.
+use Rattle.std.proofs.Common.{◌≡◌, ℕ, zero, suc, ◌+◌, ◌<◌, ◌≤◌, Bool, true, false, ◌&&◌, nat_le, Some, None, List, [], ◌∷◌, drop, refl, sym, ap, ◌∙◌, arith}
+use Rattle.std.specs.List.{find}
+use Rattle.std.proofs.lemmas.Bool.{le-leb, lt-leb, and_from, and_left, and_right}
+use Rattle.fl_spans.specs.declared.span.Span.{Span}
+use Rattle.fl_spans.specs.Spans.{overlaps, AreSpans}
+use Rattle.fl_spans.proofs.Parts.{StartsFrom, AreApart, apart_of, next_from}
+
+module _ {M : Type 0} where
+  pub drop_are : (ss : List (Span M)) (j : ℕ) → AreSpans ss → AreSpans (drop j ss)
+  drop_are ss zero are = are
+  drop_are [] (suc j) are = tt
+  drop_are (s ∷ ss) (suc j) are = drop_are ss j are.2
+
+  module _ (start end : ℕ) (p : M → Bool) where
+    -- the span has a byte of the range, and its mark passes
+    abbrev pub passes : Span M → Bool
+    passes s = overlaps start end s && p s.mark
+
+    found_here : (s : Span M) (ss : List (Span M)) → passes s ≡ true → find passes (s ∷ ss) ≡ Some s
+    found_here s ss is = rw is refl
+
+    pub found_next : (s : Span M) (ss : List (Span M)) → passes s ≡ false → find passes (s ∷ ss) ≡ find passes ss
+    found_next s ss none = rw none refl
+
+    pub found_at : (s : Span M) (ss : List (Span M)) → s.start ≤ end → start ≤ s.end → p s.mark ≡ true → find passes (s ∷ ss) ≡ Some s
+    found_at s ss upto from is =
+        found_here s ss (and_from (overlaps start end s) (p s.mark)
+        (and_from (nat_le s.start end) (nat_le start s.end) (le-leb s.start end upto) (le-leb start s.end from)) is)
+
+    -- one whose mark fails, or one before the range
+    pub fails : (s : Span M) → p s.mark ≡ false → passes s ≡ false
+    fails s none = and_right (overlaps start end s) (p s.mark) none
+
+    pub too_early : (s : Span M) → s.end < start → passes s ≡ false
+    too_early s less =
+        and_left (overlaps start end s) (p s.mark) (and_right (nat_le s.start end) (nat_le start s.end) (lt-leb start s.end less))
+
+    too_late : (s : Span M) → end < s.start → passes s ≡ false
+    too_late s less = and_left (overlaps start end s) (p s.mark) (and_left (nat_le s.start end) (nat_le start s.end) (lt-leb s.start end less))
+
+    none_past : (ss : List (Span M)) → AreApart ss → StartsFrom (end + 1) ss → find passes ss ≡ None
+    none_past [] are from = refl
+    none_past (s ∷ ss) are from = found_next s ss (too_late s (omega (arith, from))) ∙ none_past ss are.2 (next_from (end + 1) s ss are from)
+
+    -- no span has a byte of the range, from the first that starts past it on
+    pub none_from : (s : Span M) (ss : List (Span M)) → AreSpans (s ∷ ss) → end < s.start → find passes (s ∷ ss) ≡ None
+    none_from s ss are less = none_past (s ∷ ss) (apart_of (s ∷ ss) are) (omega (arith, less))

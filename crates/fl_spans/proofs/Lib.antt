@@ -1,0 +1,5 @@
+mod Walks
+mod Parts
+mod Marks
+mod Strokes
+mod Found

@@ -1,0 +1,2 @@
+-- What a walk along a row gathers. No public clause cites this module.
+pub mod Walk

@@ -1,0 +1,4 @@
+pub mod Spans
+pub mod Row
+pub mod Stroke
+pub mod Inside
