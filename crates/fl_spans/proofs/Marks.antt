@@ -6,7 +6,7 @@ use Rattle.fl_spans.specs.declared.span.Span.{Span}
 use Rattle.fl_spans.specs.Spans.{overlaps, mark_at, IsSpan, AreSpans}
 use Rattle.fl_spans.specs.Stroke.{before, behind, struck, touches, join, joined, after_stroke}
 use Rattle.fl_spans.proofs.Parts.{StartsFrom, AreApart, apart_of, next_from, before_cut, before_skip, behind_cut, behind_skip, behind_from, behind_apart}
-use Rattle.fl_spans.proofs.Parts.{join_touching, join_apart, joined_from, joined_are, touching_marks, touching_next, before_with, from_less}
+use Rattle.fl_spans.proofs.Parts.{join_touching, join_apart, joined_are, touching_marks, touching_next, before_with, from_less}
 
 module _ {M : Type 0} where
   has : (s : Span M) (b : ℕ) → s.start ≤ b → b ≤ s.end → overlaps b b s ≡ true

@@ -1,4 +1,4 @@
-use Rattle.std.proofs.Common.{◌≡◌, ap, refl, ◌∙◌, arith}
+use Rattle.std.proofs.Common.{ap, refl, ◌∙◌, arith}
 use Rattle.fl_spans.specs.Row.{spans_at, with_spans}
 use Rattle.fl_spans.proofs.Marks.{stroke_are, stroke_marks}
 use Rattle.fl_spans.proofs.Strokes.{Walked, told}
