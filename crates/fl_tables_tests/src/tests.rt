@@ -13,7 +13,6 @@ mod ranges;
 mod rooms;
 mod rows;
 mod shift;
-mod spans;
 mod strokes;
 
 use std::fmt::Debug;
