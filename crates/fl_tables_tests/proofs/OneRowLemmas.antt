@@ -1,8 +1,11 @@
 -- One row of spans, before and after a change.
-use Rattle.std.proofs.Common.{◌≡◌, ℕ, zero, suc, ◌≤◌, List, [], ◌∷◌, length, set, Option, None, slice_get, get_or, refl, sym, ap, ◌∙◌, subst, arith}
+use Rattle.std.proofs.Common.{◌≡◌, ◌≤◌, false, List, [], ◌∷◌, length, set, Option, None, Some, Result, Ok, Err, OnOk, OnErr, slice_get, get_or, Bor, refl, sym, ap, ◌∙◌, subst, arith}
 use Rattle.std.specs.List.{insert}
+use Rattle.std.specs.Option.{is_some, option_copied}
 use Rattle.std.proofs.lemmas.List.{get_or-set_same}
-use Rattle.fl_rows.specs.Rows.{Row, RowChains, chain_count, row_lists, rows, keys, runs_at, with_runs}
+use Rattle.fl_arena.specs.declared.cursors.Cursor.{Cursor}
+use Rattle.fl_rows.specs.Rows.{Row, RowChains, chain_count, row_lists, rows, keys, runs_at, with_runs, row_cursor, HasRoomOf}
+use Rattle.fl_spans.specs.Row.{with_spans}
 use Rattle.fl_spans.specs.declared.span.Span.{Span}
 use Rattle.fl_spans.specs.Spans.{IsSpan, AreSpans}
 use Rattle.fl_tables_tests.specs.OneRow.{IsOneRow}
@@ -28,23 +31,32 @@ module _ {K M : Type 0} where
         spans = rw here one.1;
       }
 
-  -- its row has other spans
-  pub struck_row : (old new : RowChains K (Span M)) (c i : ℕ) (ss : List (Span M)) → IsOneRow old → c ≡ 0 → i ≡ 0 → chain_count new ≡ chain_count old →
-      row_lists new ≡ set (row_lists old) c (with_runs (rows old c) i ss) → AreSpans ss → IsOneRow new
-  struck_row old new c i ss was first at chains is are =
-      from_rows old new (with_runs (rows old 0) 0 ss) was chains
-      (is ∙ (λ t. set (row_lists old) (first t) (with_runs (rows old (first t)) (at t) ss))) (one_with (rows old 0) ss was.few are)
+  -- its row has other spans, or nothing was changed
+  pub struck_row : {E : Type 0} (result : Result (Unit {0}) E) (old new : RowChains K (Span M)) (row : Cursor) (ss : List (Span M)) → IsOneRow old →
+      row ≡ row_cursor old 0 0 → HasRoomOf old new → OnOk result (row_lists new ≡ with_spans old row ss) → OnErr result (new ≡ old) → AreSpans ss →
+      IsOneRow new
+  struck_row (Ok v) old new row ss was first size is same are =
+      from_rows old new (with_runs (rows old 0) 0 ss) was size.chains
+      (is ∙ (λ t. with_spans old (first t) ss)) (one_with (rows old 0) ss was.few are)
+  struck_row (Err e) old new row ss was first size is same are = subst IsOneRow (sym same) was
 
-  -- a row comes where there was none
-  pub first_row : (old new : RowChains K (Span M)) (c i : ℕ) (key : K) (s : Span M) → IsOneRow old → c ≡ 0 → i ≡ 0 →
-      slice_get (keys (rows old c)) i ≡ None → chain_count new ≡ chain_count old →
-      row_lists new ≡ set (row_lists old) c (insert (rows old c) i (record { key = key; runs = s ∷ [] })) → IsSpan s → IsOneRow new
-  first_row old new c i key s was first at none chains is span =
-      let empty : rows old 0 ≡ [] = no_rows (rows old 0) ((λ t. slice_get (keys (rows old (sym first t))) (sym at t)) ∙ none) in
-      from_rows old new (insert (rows old 0) 0 (record { key = key; runs = s ∷ [] })) was chains
-      (is ∙ (λ t. set (row_lists old) (first t) (insert (rows old (first t)) (at t) (record { key = key; runs = s ∷ [] }))))
+  -- a row comes where there was none, or nothing was changed
+  pub first_row : {E : Type 0} (result : Result (Unit {0}) E) (old new : RowChains K (Span M)) (row : Cursor) (key : Option (Bor K)) (k : K) (s : Span M) →
+      IsOneRow old → row ≡ row_cursor old 0 0 → option_copied key ≡ slice_get (keys (rows old row.chain)) row.index → is_some key ≡ false →
+      HasRoomOf old new → OnOk result (row_lists new
+      ≡ set (row_lists old) row.chain (insert (rows old row.chain) row.index (record { key = k; runs = s ∷ [] }))) → OnErr result (new ≡ old) →
+      IsSpan s → IsOneRow new
+  first_row (Ok v) old new row key k s was first is_key no_key size is same span =
+      let empty : rows old 0 ≡ [] = no_rows (rows old 0) (sym (λ t. slice_get (keys (rows old (first t).chain)) (first t).index) ∙ sym is_key ∙ no key no_key) in
+      from_rows old new (insert (rows old 0) 0 (record { key = k; runs = s ∷ [] })) was size.chains
+      (is ∙ (λ t. set (row_lists old) (first t).chain (insert (rows old (first t).chain) (first t).index (record { key = k; runs = s ∷ [] }))))
       (rw empty (omega arith, (span, tt, tt)))
     where
+      no : (key : Option (Bor K)) → is_some key ≡ false → option_copied key ≡ None
+      no None none = refl
+      no (Some k) some = absurd (cc some)
+
       no_rows : (rs : List (Row K (Span M))) → slice_get (keys rs) 0 ≡ None → rs ≡ []
       no_rows [] none = refl
       no_rows (r ∷ rs) none = absurd (cc none)
+  first_row (Err e) old new row key k s was first is_key no_key size is same span = subst IsOneRow (sym same) was

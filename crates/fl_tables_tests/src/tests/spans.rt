@@ -198,7 +198,7 @@ fn random_strokes_leave_what_a_grid_has(rt: HostRuntime) -> Result<(), Fail> {
     let mut rows = Rows::new(rt.alloc(), 1, 5, 0)?;
     let mut grid = [[None; BYTES]; ROWS];
     let mut numbers = Numbers::new(11);
-    for _ in 0..400 {
+    for _ in 0..400u32 {
         random_step(&rt, &mut rows, &mut grid, limit, &mut numbers);
         compare(&rt, &rows, &grid, limit);
     }
