@@ -1,5 +1,6 @@
 -- One row of spans, before and after a change.
-use Rattle.std.proofs.Common.{◌≡◌, ◌≤◌, false, List, [], ◌∷◌, length, set, Option, None, Some, Result, Ok, Err, OnOk, OnErr, slice_get, get_or, Bor, refl, sym, ap, ◌∙◌, subst, arith}
+use Rattle.std.proofs.Common.{◌≡◌, ◌≤◌, false, List, [], ◌∷◌, length, set, slice_get, get_or, refl, sym, ap, ◌∙◌, subst, arith}
+use Rattle.std.proofs.Common.{Option, None, Some, Result, Ok, Err, OnOk, OnErr, Bor}
 use Rattle.std.specs.List.{insert}
 use Rattle.std.specs.Option.{is_some, option_copied}
 use Rattle.std.proofs.lemmas.List.{get_or-set_same}
@@ -40,23 +41,24 @@ module _ {K M : Type 0} where
       (is ∙ (λ t. with_spans old (first t) ss)) (one_with (rows old 0) ss was.few are)
   struck_row (Err e) old new row ss was first size is same are = subst IsOneRow (sym same) was
 
+  abbrev new_row : K → Span M → Row K (Span M)
+  new_row k s = record { key = k; runs = s ∷ [] }
+
   -- a row comes where there was none, or nothing was changed
-  pub first_row : {E : Type 0} (result : Result (Unit {0}) E) (old new : RowChains K (Span M)) (row : Cursor) (key : Option (Bor K)) (k : K) (s : Span M) →
-      IsOneRow old → row ≡ row_cursor old 0 0 → option_copied key ≡ slice_get (keys (rows old row.chain)) row.index → is_some key ≡ false →
-      HasRoomOf old new → OnOk result (row_lists new
-      ≡ set (row_lists old) row.chain (insert (rows old row.chain) row.index (record { key = k; runs = s ∷ [] }))) → OnErr result (new ≡ old) →
-      IsSpan s → IsOneRow new
+  pub first_row : {E : Type 0} (result : Result (Unit {0}) E) (old new : RowChains K (Span M)) (row : Cursor) (key : Option (Bor K)) (k : K)
+      (s : Span M) → IsOneRow old → row ≡ row_cursor old 0 0 → option_copied key ≡ slice_get (keys (rows old row.chain)) row.index →
+      is_some key ≡ false → HasRoomOf old new →
+      OnOk result (row_lists new ≡ set (row_lists old) row.chain (insert (rows old row.chain) row.index (new_row k s))) →
+      OnErr result (new ≡ old) → IsSpan s → IsOneRow new
   first_row (Ok v) old new row key k s was first is_key no_key size is same span =
-      let empty : rows old 0 ≡ [] = no_rows (rows old 0) (sym (λ t. slice_get (keys (rows old (first t).chain)) (first t).index) ∙ sym is_key ∙ no key no_key) in
-      from_rows old new (insert (rows old 0) 0 (record { key = k; runs = s ∷ [] })) was size.chains
-      (is ∙ (λ t. set (row_lists old) (first t).chain (insert (rows old (first t).chain) (first t).index (record { key = k; runs = s ∷ [] }))))
+      let at_first = is_key ∙ (λ t. slice_get (keys (rows old (first t).chain)) (first t).index) in
+      let empty : rows old 0 ≡ [] = no_rows key (rows old 0) at_first no_key in
+      from_rows old new (insert (rows old 0) 0 (new_row k s)) was size.chains
+      (is ∙ (λ t. set (row_lists old) (first t).chain (insert (rows old (first t).chain) (first t).index (new_row k s))))
       (rw empty (omega arith, (span, tt, tt)))
     where
-      no : (key : Option (Bor K)) → is_some key ≡ false → option_copied key ≡ None
-      no None none = refl
-      no (Some k) some = absurd (cc some)
-
-      no_rows : (rs : List (Row K (Span M))) → slice_get (keys rs) 0 ≡ None → rs ≡ []
-      no_rows [] none = refl
-      no_rows (r ∷ rs) none = absurd (cc none)
+      no_rows : (key : Option (Bor K)) (rs : List (Row K (Span M))) → option_copied key ≡ slice_get (keys rs) 0 → is_some key ≡ false → rs ≡ []
+      no_rows key [] is no_key = refl
+      no_rows None (r ∷ rs) is no_key = absurd (cc is)
+      no_rows (Some k) (r ∷ rs) is no_key = absurd (cc no_key)
   first_row (Err e) old new row key k s was first is_key no_key size is same span = subst IsOneRow (sym same) was
