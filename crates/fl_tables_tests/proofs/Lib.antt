@@ -1,1 +1,2 @@
 mod SortedLemmas
+mod OneRowLemmas

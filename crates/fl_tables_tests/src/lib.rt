@@ -1,4 +1,4 @@
-//! Tests of the tables: the arena, the lock table and the directory.
+//! Tests of the tables: the arena, rows and spans, the lock table and the directory.
 #![tactic(auto)]
 
 #[cfg(test)]

@@ -13,6 +13,7 @@ mod ranges;
 mod rooms;
 mod rows;
 mod shift;
+mod spans;
 mod strokes;
 
 use std::fmt::Debug;

@@ -91,7 +91,7 @@ impl Grid {
     }
 }
 
-fn random_mark(numbers: &mut Numbers) -> Option<Mark> {
+pub(super) fn random_mark(numbers: &mut Numbers) -> Option<Mark> {
     match numbers.below(7) {
         0 | 1 => None,
         2 | 3 => Some(READ),
