@@ -1,31 +1,55 @@
 #!/bin/sh
-# Times a SETLK in `lockd script` where one file has 16 runs of locked bytes and where it has 4,096: 40,000 orders that
-# each set one of the runs anew, with the other kind, one run after the other. Prints microseconds an order and the ratio.
+# Times lock requests on one file by how its locks stand, beside `fcntl` on a file in memory (bench/peers/locks.c), in turns in
+# one run: one owner with 1, 16, 256 and 4,096 runs of bytes; 4,000 owners with one run each; 64 owners. `crates/locks_bench`
+# says what is asked. It proves and builds that first, with `rt`, and needs a C compiler. Prints microseconds an order of both,
+# and their ratio: the least of five runs each, less that of a run with no order. What is aimed at stands beside.
+#
+#     bench/setlk_by_runs.sh [--instructions]
+#
+# With --instructions it prints, in place of times, how many instructions an order takes, by valgrind's callgrind.
 set -eu
-. "$(dirname "$0")/../tools/built_lockd.sh"
-python3 - "$program" <<'END'
-import subprocess, sys, time
+cd "$(dirname "$0")/.."
+work=$(mktemp -d)
+trap 'rm -rf "$work"' EXIT
+trap 'exit 1' INT TERM
+(cd crates/locks_bench && rt run > /dev/null)
+cc -O2 -Wall -Wextra -o "$work/locks" bench/peers/locks.c
+python3 - crates/locks_bench/out/locks_bench "$work/locks" "${1:-}" <<'END'
+import re, subprocess, sys, time
 
-ORDERS = 40_000
+OURS, KERNEL, OPTION = sys.argv[1:]
+# Owners, runs of each, what is asked, and the greatest ratio that is aimed at.
+CASES = [(1, 1, "anew", None), (1, 16, "anew", 2), (1, 256, "anew", None), (1, 4096, "anew", 0.5),
+         (1, 16, "look", None), (1, 4096, "look", None), (4000, 1, "more", 0.5), (4000, 1, "look", None), (64, 1, "turns", None)]
 
-def script(runs, orders):
-    lines = ["ask 0 1 1 0 0 0 create 0 420 61"]
-    for i in range(runs + orders):
-        at, kind = 4 * (i % runs), i // runs % 2
-        lines.append(f"ask 0 {i + 2} 2 0 0 0 setlk 1 7 {at} {at + 2} {kind} 11 0")
-    return "\n".join(lines).encode() + b"\n"
+def run(command, owners, runs, what, orders):
+    words = [*command, str(owners), str(runs), what, str(orders)]
+    begun = time.perf_counter()
+    told = subprocess.run(words, capture_output=True, text=True, check=True)
+    seconds = time.perf_counter() - begun
+    assert told.stdout == f"{owners * runs} held, {orders} done\n", (words, told.stdout)
+    return seconds, told.stderr
 
-def seconds(text):
-    def once():
-        begun = time.perf_counter()
-        told = subprocess.run([sys.argv[1], "script"], input=text, capture_output=True, check=True).stdout
-        assert told.count(b" ok\n") == text.count(b"setlk")
-        return time.perf_counter() - begun
-    return min(once() for _ in range(3))
+def micros(owners, runs, what):
+    orders = max(8_192, 1_000_000 // max(owners, runs) // 8_192 * 8_192)
+    wants = [(program, number) for program in (OURS, KERNEL) for number in (orders, 0)]
+    best = dict.fromkeys(wants, float("inf"))
+    for _ in range(5):
+        for program, number in wants:
+            best[program, number] = min(best[program, number], run([program], owners, runs, what, number)[0])
+    return [(best[program, orders] - best[program, 0]) / orders * 1e6 for program in (OURS, KERNEL)]
 
-def micros(runs):
-    return (seconds(script(runs, ORDERS)) - seconds(script(runs, 0))) / ORDERS * 1e6
+def instructions(owners, runs, what):
+    def collected(orders):
+        valgrind = ["valgrind", "--tool=callgrind", "--callgrind-out-file=/dev/null", OURS]
+        return int(re.search(r"Collected : (\d+)", run(valgrind, owners, runs, what, orders)[1]).group(1))
+    return (collected(8_192) - collected(0)) / 8_192
 
-few, many = micros(16), micros(4096)
-print(f"16 runs: {few:.2f} us, 4096 runs: {many:.2f} us, ratio {many / few:.1f}")
+for owners, runs, what, aim in CASES:
+    case = f"{owners} owners with {runs} runs, {what}"
+    if OPTION == "--instructions":
+        print(f"{case:<34}{instructions(owners, runs, what):>12.0f} instructions")
+    else:
+        ours, kernel = micros(owners, runs, what)
+        print(f"{case:<34}{ours:>9.2f} us, fcntl {kernel:>7.2f} us, ratio {ours / kernel:.2f}" + (f" (aim {aim})" if aim else ""))
 END
