@@ -4,7 +4,7 @@ ghost use Rattle.std.specs.Prelude.{◌≡◌, ℕ, ◌+◌, ◌<◌, ◌≤◌,
 ghost use Rattle.std.specs.Prelude.{OnErr, ◌↔◌, length, map, sum_by};
 ghost use Rattle.std.specs.List.{range_with_len};
 ghost use Rattle.fl_book.specs.Legal.{IsLegal, step_lines, orders_asked};
-ghost use Rattle.fl_history.specs.declared.history.Line.{Line as Entry};
+ghost use Rattle.fl_history.specs.declared.history.Line.{Line};
 
 use crate::desk::Desk;
 use fl_core::Tolds;
@@ -146,7 +146,7 @@ impl<L: BoardName> Board<L> {
     ) -> Result<(), HandFault>
         ensures worker { seat.new.worker ≡ seat.old.worker }
         ensures count { OnOk result (seat.new.count ≡ seat.old.count + 1) }
-        ensures told { OnOk result ((before : List Entry) ×
+        ensures told { OnOk result ((before : List Line) ×
             IsLegal (before ++ step_lines seat.old.worker order.now tolds.new)) }
         ensures refused { OnErr result ((seat.new.count ≡ seat.old.count) × (tolds.new ≡ tolds.old)) }
     {

@@ -4,7 +4,7 @@ ghost use Rattle.std.specs.Prelude.{◌≡◌, ◌≢◌, ◌↔◌, ◌≤◌, 
 ghost use Rattle.std.specs.List.{slice_get};
 ghost use Rattle.fl_book.specs.Verdicts.{IsVerdict};
 ghost use Rattle.fl_history.specs.declared.history.Line.TheVariants as line;
-ghost use Rattle.fl_order.specs.declared.told.Told.{Told as Reply};
+ghost use Rattle.fl_order.specs.declared.told.Told.{Told};
 
 use fl_core::{Core, Tolds};
 use fl_history::{History, Line};
@@ -51,7 +51,7 @@ fn told_alike(history: &History, from: usize, tolds: &[Told]) -> usize
     ensures upto { result ≤ length tolds.now }
     ensures there { result ≤ length (drop from history.now) }
     ensures alike { take result (drop from history.now) ≡ map (λ told. line.Told told) (take result tolds.now) }
-    ensures no_more { (told : Reply) → slice_get tolds.now result ≡ Some told →
+    ensures no_more { (told : Told) → slice_get tolds.now result ≡ Some told →
         slice_get (drop from history.now) result ≢ Some (line.Told told) }
 {
     for i in 0..tolds.len() {

@@ -4,17 +4,17 @@ ghost use Rattle.std.specs.Prelude.{◌≡◌, ℕ, Some, None, List, ◌∷◌,
 ghost use Rattle.fl_book.specs.Legal.{step_lines};
 ghost use Rattle.fl_book.specs.Replay.{state_after, all_later, AllOthers};
 ghost use Rattle.fl_core.specs.Effects.{at_once, recorded};
-ghost use Rattle.fl_history.specs.declared.history.Line.{Line as Entry};
-ghost use Rattle.fl_order.specs.declared.told.Told.{Told as Reply};
-ghost use Rattle.fl_order.specs.declared.order.Order.{Order as Request};
+ghost use Rattle.fl_history.specs.declared.history.Line.{Line};
+ghost use Rattle.fl_order.specs.declared.told.Told.{Told};
+ghost use Rattle.fl_order.specs.declared.order.Order.{Order};
 
 /// The lines of an order and its replies are read as its own reply, or as none, and then as each other reply.
 pub fn own_reply_comes_first()
-    ensures own { (lines : List Entry) (worker : ℕ) (order : Request) (told : Reply) (tolds : List Reply) →
+    ensures own { (lines : List Line) (worker : ℕ) (order : Order) (told : Told) (tolds : List Told) →
         told.unique ≡ order.unique →
         state_after (lines ++ step_lines worker order (told ∷ tolds)) ≡
         all_later tolds (recorded (at_once order (Some told.result)) (state_after lines)) }
-    ensures none { (lines : List Entry) (worker : ℕ) (order : Request) (tolds : List Reply) →
+    ensures none { (lines : List Line) (worker : ℕ) (order : Order) (tolds : List Told) →
         AllOthers order.unique tolds →
         state_after (lines ++ step_lines worker order tolds) ≡
         all_later tolds (recorded (at_once order None) (state_after lines)) }

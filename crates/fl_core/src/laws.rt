@@ -9,11 +9,11 @@ ghost use Rattle.fl_core.specs.Replies.{first_told, is_deadlock};
 ghost use Rattle.fl_core.specs.Settling.{Present, settled, IsSettled};
 ghost use Rattle.fl_core.specs.State.{View, State, Snapshot, snapshot_of};
 ghost use Rattle.fl_core.specs.Waiting.{AllWait, AreApart, taken_out};
-ghost use Rattle.fl_core.specs.declared.parked.Request.{Request as Waiter};
-ghost use Rattle.fl_order.specs.declared.errno.Errno.{Errno as Fault};
-ghost use Rattle.fl_order.specs.declared.order.Order.{Order as Request};
-ghost use Rattle.fl_order.specs.declared.told.Told.{Told as Reply};
-ghost use Rattle.fl_ranges.specs.Marking.{Marking as Locks};
+ghost use Rattle.fl_core.specs.declared.parked.Request.{Request};
+ghost use Rattle.fl_order.specs.declared.errno.Errno.{Errno};
+ghost use Rattle.fl_order.specs.declared.order.Order.{Order};
+ghost use Rattle.fl_order.specs.declared.told.Told.{Told};
+ghost use Rattle.fl_ranges.specs.Marking.{Marking};
 
 /// What is shown of a state after an effect is the snapshot after that effect.
 pub fn effects_are_shown_alike()
@@ -22,22 +22,22 @@ pub fn effects_are_shown_alike()
 
 /// The first replies of an order are those that its case says, where no two parked requests have one unique.
 pub fn first_replies_are_those_of_the_orders_case()
-    ensures { (p : Snapshot) (order : Request) (tolds : List Reply) → AreApart p.view.parked →
+    ensures { (p : Snapshot) (order : Order) (tolds : List Told) → AreApart p.view.parked →
         (tolds ≡ first_told p order) ↔ IsFirst p order tolds }
 {}
 
 /// A lock would close a circle exactly where an owner who keeps it from being set waits for the owner who wants it,
 /// directly or through others, each of whom waits for the next; and so would the request for it.
 pub fn a_circle_is_a_row_of_owners_who_wait()
-    ensures wish { (m : Locks) (parked : List Waiter) (w : Wish) →
+    ensures wish { (m : Marking) (parked : List Request) (w : Wish) →
         (closes_circle m parked w ≡ true) ↔ IsCircle owner_of (hinders m) (wishes parked) w }
-    ensures request { (m : Locks) (parked : List Waiter) (r : Waiter) →
+    ensures request { (m : Marking) (parked : List Request) (r : Request) →
         (is_deadlock m parked (stroke_of r.node r.ask) (mark_of r.ask) ≡ true) ↔ ClosesCircle m parked r }
 {}
 
 /// Settling takes out the oldest request that conflicts with nothing, again and again, until each conflicts.
 pub fn settling_answers_the_oldest_first()
-    ensures told { (s after : Present) (tolds : List Reply) →
+    ensures told { (s after : Present) (tolds : List Told) →
         IsSettled s tolds after ↔ ((tolds ≡ (settled s).tolds) × (after ≡ (settled s).present)) }
     ensures nothing { (s : Present) → ((settled s).tolds ≡ []) ↔ AllWait s.marking s.parked }
     ensures ends { (s : Present) → AllWait (settled s).present.marking (settled s).present.parked }
@@ -45,7 +45,7 @@ pub fn settling_answers_the_oldest_first()
 
 /// A parked request that is told an error is parked no more, and that is all that changes.
 pub fn a_late_error_changes_no_lock()
-    ensures { (told : Reply) (e : Fault) (v : View) (r : Waiter) (others : List Waiter) →
+    ensures { (told : Told) (e : Errno) (v : View) (r : Request) (others : List Request) →
         taken_out told.unique v.parked ≡ Some (r, others) → told.result ≡ Err e →
         later told v ≡ leaving (record v { parked = others }) }
 {}

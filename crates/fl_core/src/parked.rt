@@ -4,8 +4,8 @@ ghost use Rattle.std.specs.Prelude.{◌≡◌, ◌==◌, ◌↔◌, ◌≤◌, �
 ghost use Rattle.std.specs.List.{AllByRecursion};
 ghost use Rattle.fl_arena.specs.Cursors.{Tests};
 ghost use Rattle.fl_core.specs.Waiting.{is_parked, taken_first};
-ghost use Rattle.fl_core.specs.declared.claim.Claim.{Claim as Wanting};
-ghost use Rattle.fl_core.specs.declared.parked.Request.{Request as Waiter};
+ghost use Rattle.fl_core.specs.declared.claim.Claim.{Claim};
+ghost use Rattle.fl_core.specs.declared.parked.Request.{Request};
 
 use crate::claim::Claim;
 use fl_arena::{Arena, Cursor};
@@ -101,7 +101,7 @@ impl Parked {
 
     /// Whether a request on this node may wait; where none may, none does.
     pub(crate) fn may_be_on(&self, node: u64) -> bool
-        ensures { result ≡ false → AllByRecursion (λ (r : Waiter). (r.node == node) ≡ false) self.now }
+        ensures { result ≡ false → AllByRecursion (λ (r : Request). (r.node == node) ≡ false) self.now }
     {
         self.on_nodes[bucket(node)] != 0
     }
@@ -126,7 +126,7 @@ impl Parked {
     /// Takes out the oldest request that passes the test.
     pub(crate) fn take_first<F: Fn(&Claim) -> bool>(&mut self, test: F) -> Option<Claim>
         requires { F.IsAlwaysCallable test }
-        ensures { (p : Waiter → Bool) → Tests F.Fn (λ (claim : Wanting). p claim.request) test → MatchOption result
+        ensures { (p : Request → Bool) → Tests F.Fn (λ (claim : Claim). p claim.request) test → MatchOption result
             ((taken_first p self.old ≡ None) × (self.new ≡ self.old))
             (λ taken. taken_first p self.old ≡ Some (taken.request, self.new)) }
     {

@@ -7,7 +7,7 @@ ghost use Rattle.fl_core.specs.LockRequest.{key_of};
 ghost use Rattle.fl_core.specs.Inside.Touched.{concerns_request, touched_by, OthersWait};
 ghost use Rattle.fl_core.specs.Settling.{granted_told, marking_granted, oldest_free, present, settled};
 ghost use Rattle.fl_core.specs.Waiting.{waits, AreApart};
-ghost use Rattle.fl_core.specs.declared.parked.Request.{Request as Waiter};
+ghost use Rattle.fl_core.specs.declared.parked.Request.{Request};
 
 use crate::claim::Claim;
 use crate::locking::{MOST_RUNS, is_excluded, key_of, store};
@@ -67,7 +67,7 @@ pub(crate) fn settle(locks: &mut Table, parked: &mut Parked, touched: Touched, t
 
 // Whether locks were touched that a request waits for; where this says no, it is so.
 fn may_concern(touched: Touched, parked: &Parked) -> bool
-    ensures { result ≡ false → AllByRecursion (λ (r : Waiter). concerns_request touched r ≡ false) parked.now }
+    ensures { result ≡ false → AllByRecursion (λ (r : Request). concerns_request touched r ≡ false) parked.now }
 {
     match touched {
         Touched::Nothing => false,

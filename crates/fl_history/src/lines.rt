@@ -4,8 +4,8 @@ ghost use Rattle.std.specs.Prelude.{◌≡◌, ℕ, ◌+◌, ◌*◌, ◌<◌, �
 ghost use Rattle.std.specs.List.{slice_get};
 ghost use Rattle.fl_history.specs.Inside.Records.{bytes_at, opened, opened_parts, asked_line};
 ghost use Rattle.fl_history.specs.Inside.Records.{Begins, IsNamed, IsThere, NamesAreThere, LeadsBack};
-ghost use Rattle.fl_history.specs.declared.records.ShortOrder.{ShortOrder as Kept};
-ghost use Rattle.fl_history.specs.declared.history.Line.TheVariants.{Asked, Told as Reply};
+ghost use Rattle.fl_history.specs.declared.records.ShortOrder.{ShortOrder};
+ghost use Rattle.fl_history.specs.declared.history.Line.TheVariants as line;
 ghost use Rattle.fl_order.specs.Name.{IsName};
 
 use crate::chunks::ChunkedVec;
@@ -112,7 +112,7 @@ impl Lines {
     /// An order more.
     pub fn push_asked(&mut self, worker: u32, order: &Order)
         requires { 0 < self.old.room }
-        ensures items { self.new.items ≡ self.old.items ++ Asked worker order.now ∷ [] }
+        ensures items { self.new.items ≡ self.old.items ++ line.Asked worker order.now ∷ [] }
         ensures room { self.new.room + 1 ≡ self.old.room }
     {
         let parts = order.op.parts();
@@ -127,7 +127,7 @@ impl Lines {
     /// A reply more.
     pub fn push_told(&mut self, told: &Told)
         requires { 0 < self.old.room }
-        ensures items { self.new.items ≡ self.old.items ++ Reply told.now ∷ [] }
+        ensures items { self.new.items ≡ self.old.items ++ line.Told told.now ∷ [] }
         ensures room { self.new.room + 1 ≡ self.old.room }
     {
         let record = keep_told(&mut self.answers, told);
@@ -142,8 +142,8 @@ fn keep_told(answers: &mut ChunkedVec<Answered>, told: &Told) -> ShortLine
     ensures answers { Begins answers.old.items answers.new.items }
     ensures room { answers.old.room ≤ answers.new.room + 1 }
     ensures there { (asks : ℕ) → IsThere asks (length answers.new.items) result }
-    ensures opened { (asks : List Kept) (names : List ℕ) →
-        opened asks answers.new.items names result ≡ Reply told.now }
+    ensures opened { (asks : List ShortOrder) (names : List ℕ) →
+        opened asks answers.new.items names result ≡ line.Told told.now }
 {
     let unique = told.unique;
     match told.result {

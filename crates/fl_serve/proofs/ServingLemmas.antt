@@ -1,17 +1,15 @@
 -- What a session with workers did.
-use Rattle.std.proofs.Common.{◌≡◌, ℕ, Bool, false, List, [], ◌++◌, Option, Some, length, map, refl, sym, ap, subst, ◌∙◌, arith}
+use Rattle.std.proofs.Common.{◌≡◌, ℕ, Bool, false, List, [], Option, Some, length, map, refl, sym, ap, ◌∙◌, arith}
 use Rattle.std.proofs.lemmas.List.{length-map}
 use Rattle.std.proofs.lemmas.List.FromFn.{length-range_with_len}
-use Rattle.std.specs.Io.KnownBytes.{Appends}
-use Rattle.std.specs.List.{concat, range_with_len}
+use Rattle.std.specs.List.{range_with_len}
 use Rattle.fl_book.specs.Seats.{Place}
-use Rattle.fl_serve.specs.Inside.Hearing.{HasHeard, IsLast}
+use Rattle.fl_serve.specs.Inside.Hearing.{HasHeard}
 use Rattle.fl_session.specs.Inbox.{IsEnding}
-use Rattle.fl_serve.specs.Inside.Collecting.{HasSentLast}
-use Rattle.fl_serve.specs.Serve.{IsServedBy, SaysGoodbye}
+use Rattle.fl_serve.specs.Serve.{IsServedBy}
 use Rattle.fl_session.specs.Served.{EndsBy, IsRead}
 use Rattle.fl_session.specs.Session.{Came, session_of}
-use Rattle.fl_serve.specs.Shared.{HasSent}
+use Rattle.fl_serve.specs.Shared.{HasSent, HasSentLast}
 use Rattle.fl_session.specs.declared.session.Fault.{Fault}
 use Rattle.fl_session.specs.declared.session.Fault.TheVariants.{NoMemory}
 use Rattle.fl_session.specs.Talk.{bytes_of}
@@ -23,20 +21,6 @@ pub as_many : (seats : List Place) (workers : ℕ) → map (λ seat. seat.worker
     → length seats ≡ workers
 as_many seats workers each =
     sym (length-map seats (λ seat. seat.worker)) ∙ ap length each ∙ length-range_with_len 0 workers
-
--- the reply of the DESTROY that ended the session was written last
-says_goodbye : (came : List Came) (goodbye : Owed) (held held_now : Option (List ℕ)) → IsLast came goodbye
-    → HasSentLast held held_now (bytes_of goodbye) → SaysGoodbye came held held_now
-says_goodbye came goodbye held held_now last sent =
-    let P : Owed → Type 0 = λ owed. Appends held held_now (concat (sent.replies ++ bytes_of owed)) in
-    record {
-      front = last.front;
-      last = last.last;
-      parts = last.parts;
-      replies = sent.replies;
-      each = sent.each;
-      written = subst P last.owed sent.written;
-    }
 
 -- what a session did whose reader ended
 pub served_by : (left left_now held held_now : Option (List ℕ)) (fault : Option Fault) (goodbye : Owed) (broken : Bool)
@@ -51,7 +35,7 @@ served_by left left_now held held_now fault goodbye broken done heard sent last 
   is_read = heard.is_read;
   bounded = heard.bounded;
   sent = sent;
-  goodbye = λ whole over. says_goodbye heard.came goodbye held held_now (heard.over over) (last whole);
+  goodbye = λ whole over. record { goodbye = goodbye; last = heard.over over; sent = last whole };
   ending = told heard.came heard.rest left_now heard.ending;
 }
 

@@ -1,23 +1,24 @@
 -- What a session with workers did.
-use Rattle.std.specs.Prelude.{◌≡◌, ℕ, ◌≤◌, Bool, true, false, List, [], ◌∷◌, ◌++◌, length, All, Option, Ok}
-use Rattle.std.specs.List.{concat}
-use Rattle.std.specs.Io.KnownBytes.{Appends}
-use Rattle.fl_order.specs.declared.told.Answer.TheVariants as answer
+use Rattle.std.specs.Prelude.{◌≡◌, ℕ, ◌≤◌, Bool, true, false, List, [], ◌∷◌, ◌++◌, length, Option}
 use Rattle.fl_session.specs.Served.{EndsBy, IsRead}
 use Rattle.fl_session.specs.Session.{Came, session_of}
-use Rattle.fl_serve.specs.Shared.{HasSent, IsSpelling}
+use Rattle.fl_session.specs.Talk.{bytes_of, goodbye_to}
+use Rattle.fl_session.specs.declared.server.Owed.{Owed}
 use Rattle.fl_session.specs.declared.session.Done.{Done}
-use Rattle.fl_wire.specs.Layout.{unique_of}
-use Rattle.fl_wire.specs.Spell.{reply_bytes}
+use Rattle.fl_serve.specs.Shared.{HasSent, HasSentLast}
 
--- A DESTROY came last, and its reply was written last, behind whole replies.
-pub record SaysGoodbye (came : List Came) (held held_now : Option (List ℕ)) : Type 0 where
+-- the last message is a DESTROY, to which this is owed
+pub record IsLast (came : List Came) (goodbye : Owed) : Type 0 where
   pub front : List Came
   pub last : Came
   pub parts : came ≡ front ++ last ∷ []
-  pub replies : List (List ℕ)
-  pub each : All IsSpelling replies
-  pub written : Appends held held_now (concat (replies ++ reply_bytes (unique_of last.message) (Ok answer.Done) ∷ []))
+  pub owed : goodbye ≡ goodbye_to last.message
+
+-- A DESTROY came last, and its reply was written last, behind whole replies.
+pub record SaysGoodbye (came : List Came) (held held_now : Option (List ℕ)) : Type 0 where
+  pub goodbye : Owed
+  pub last : IsLast came goodbye
+  pub sent : HasSentLast held held_now (bytes_of goodbye)
 
 -- What was read is whole messages and a rest of at most 8192 bytes, and no message came after one that ended the
 -- session. Whole replies were written behind what the writer held; where a write failed (`broken`), a beginning of them.

@@ -37,3 +37,9 @@ pub record HasSent (start held : Option (List ℕ)) (waiting : List ℕ) (broken
   pub replies : List (List ℕ)
   pub each : All IsSpelling replies
   pub given : IsGiven start held waiting broken replies
+
+-- all bytes of some replies were written, and of these behind them
+pub record HasSentLast (start held : Option (List ℕ)) (more : List (List ℕ)) : Type 0 where
+  pub replies : List (List ℕ)
+  pub each : All IsSpelling replies
+  pub written : Appends start held (concat (replies ++ more))

@@ -5,9 +5,8 @@ ghost use Rattle.std.specs.Io.KnownBytes.{Keeps};
 ghost use Rattle.fl_book.specs.Legal.{IsLegal};
 ghost use Rattle.fl_session.specs.Inbox.{IsUnread};
 ghost use Rattle.fl_session.specs.Talk.{bytes_of};
-ghost use Rattle.fl_serve.specs.Inside.Collecting.{HasSentLast};
 ghost use Rattle.fl_serve.specs.Serve.{IsServedBy};
-ghost use Rattle.fl_serve.specs.Shared.{HasSent};
+ghost use Rattle.fl_serve.specs.Shared.{HasSent, HasSentLast};
 
 mod crew;
 mod hearing;

@@ -1,5 +1,6 @@
-//! Sessions, their outbox and their workers.
+//! Sessions, their inbox, their outbox and their workers.
 
+mod inbox;
 mod outbox;
 mod serving;
 mod sessions;

@@ -5,7 +5,7 @@ use Rattle.std.specs.List.{flat_map, join_with_byte}
 use Rattle.std.specs.Fmt.{decimal}
 use Rattle.hex.specs.Hex.{encode_lower}
 use Rattle.fl_history.specs.declared.history.Line.{Line}
-use Rattle.fl_history.specs.declared.history.Line.TheVariants.{Asked, Told}
+use Rattle.fl_history.specs.declared.history.Line.TheVariants as line
 use Rattle.fl_order.specs.Errno.{number_of}
 use Rattle.fl_order.specs.OpKind.{word_for}
 use Rattle.fl_order.specs.Order.{kind_of, body_of}
@@ -19,7 +19,7 @@ use Rattle.fl_order.specs.declared.order.Order.{Order}
 use Rattle.fl_order.specs.declared.told.Answer.{Answer}
 use Rattle.fl_order.specs.declared.told.Answer.TheVariants.{Done, Entry, Attr, Open, Made, Lock}
 use Rattle.fl_order.specs.declared.told.Attr.{Attr as Attributes}
-use Rattle.fl_order.specs.declared.told.Told.{Told as Reply}
+use Rattle.fl_order.specs.declared.told.Told.{Told}
 
 -- words with one space between them
 abbrev pub spaced : List (List ℕ) → List ℕ
@@ -97,13 +97,13 @@ result_text (Ok answer) = answer_text answer
 result_text (Err error) = spaced (codes "err" ∷ decimal (number_of error) ∷ [])
 
 -- a reply
-abbrev pub told_text : Reply → List ℕ
+abbrev pub told_text : Told → List ℕ
 told_text t = spaced (decimal t.unique ∷ result_text t.result ∷ [])
 
 -- a line of a history, without the newline at its end
 abbrev pub line_text : Line → List ℕ
-line_text (Asked worker order) = spaced (codes "ask" ∷ asked_text worker order ∷ [])
-line_text (Told told) = spaced (codes "tell" ∷ told_text told ∷ [])
+line_text (line.Asked worker order) = spaced (codes "ask" ∷ asked_text worker order ∷ [])
+line_text (line.Told told) = spaced (codes "tell" ∷ told_text told ∷ [])
 
 -- the whole text: each line with a newline at its end
 abbrev pub text_of : List Line → List ℕ
@@ -111,8 +111,8 @@ text_of lines = flat_map (λ line. line_text line ++ 10 ∷ []) lines
 
 -- a line that can be read back: its worker is one of sixteen, and what it says can be said
 abbrev pub LineFits : Line → Type 0
-LineFits (Asked worker order) = (worker ≤ 15) × IsSayable order
-LineFits (Told told) = FitsTold told
+LineFits (line.Asked worker order) = (worker ≤ 15) × IsSayable order
+LineFits (line.Told told) = FitsTold told
 
 -- a history whose text can be read back
 abbrev pub Fits : List Line → Type 0

@@ -1,17 +1,17 @@
 //! Laws of the text, in the words of its subject. Each is the contract of an empty function.
 
 ghost use Rattle.std.specs.Prelude.{◌≡◌, ℕ, List};
-ghost use Rattle.fl_history.specs.declared.history.Line.{Line as Entry};
+ghost use Rattle.fl_history.specs.declared.history.Line.{Line};
 ghost use Rattle.fl_trace.specs.Text.{text_of, LineFits, Fits, BreaksAt};
 
 /// Two histories that can be read back never have one text.
 pub fn no_text_is_that_of_two_histories()
-    ensures { (lines others : List Entry) → Fits lines → Fits others →
+    ensures { (lines others : List Line) → Fits lines → Fits others →
         text_of lines ≡ text_of others → lines ≡ others }
 {}
 
 /// A text breaks at one line at most, and none that is the text of a history that can be read back breaks at all.
 pub fn a_text_breaks_at_one_line_at_most()
     ensures once { (text : List ℕ) (m n : ℕ) → BreaksAt LineFits text m → BreaksAt LineFits text n → m ≡ n }
-    ensures never { (lines : List Entry) (n : ℕ) → Fits lines → BreaksAt LineFits (text_of lines) n → ⊥ }
+    ensures never { (lines : List Line) (n : ℕ) → Fits lines → BreaksAt LineFits (text_of lines) n → ⊥ }
 {}

@@ -1,7 +1,7 @@
 //! The text of a history, printed line by line.
 
 ghost use Rattle.std.specs.Prelude.{◌≡◌, ◌++◌, ◌∷◌, [], ◌↔◌, IsTrue, IfOk, OnOk, string_bytes};
-ghost use Rattle.fl_history.specs.declared.history.Line.TheVariants.{Asked, Told as Reply};
+ghost use Rattle.fl_history.specs.declared.history.Line.TheVariants as line;
 ghost use Rattle.fl_order.specs.Sayable.{FitsBody, FitsTold, IsSayable};
 ghost use Rattle.fl_trace.specs.Text.{flag_text, name_text, lock_ask_text, fields_text, behind, op_text};
 ghost use Rattle.fl_trace.specs.Text.{attr_text, answer_text, result_text, line_text, text_of, LineFits, Fits};
@@ -79,7 +79,7 @@ fn push_line(alloc: Global, text: &mut String, line: &Line) -> Result<(), NoMemo
 }
 
 fn push_ask(alloc: Global, text: &mut String, worker: u32, order: &Order) -> Result<(), NoMemory>
-    ensures { OnOk result (string_bytes text.new ≡ string_bytes text.old ++ line_text (Asked worker order.now)) }
+    ensures { OnOk result (string_bytes text.new ≡ string_bytes text.old ++ line_text (line.Asked worker order.now)) }
 {
     let Order {
         unique,
@@ -164,7 +164,7 @@ fn push_lock_ask(text: &mut String, ask: &LockAsk) -> Result<(), NoMemory>
 }
 
 fn push_tell(text: &mut String, told: &Told) -> Result<(), NoMemory>
-    ensures { OnOk result (string_bytes text.new ≡ string_bytes text.old ++ line_text (Reply told.now)) }
+    ensures { OnOk result (string_bytes text.new ≡ string_bytes text.old ++ line_text (line.Told told.now)) }
 {
     let unique = told.unique;
     write!(text, "tell {unique} ")?;

@@ -1,9 +1,9 @@
 //! Lines and histories, read from their text.
 
 ghost use Rattle.std.specs.Prelude.{◌≡◌, ◌⊎◌, ℕ, ◌<◌, ◌++◌, ◌∷◌, List, length, Ok, Err, IfOk, IfSome, IsSome, IsSomeAnd, codes};
-ghost use Rattle.fl_history.specs.declared.history.Line.{Line as Entry};
+ghost use Rattle.fl_history.specs.declared.history.Line.{Line};
 ghost use Rattle.fl_history.specs.declared.history.Line.TheVariants.{Asked};
-ghost use Rattle.fl_order.specs.declared.order.Order.{Order as Request};
+ghost use Rattle.fl_order.specs.declared.order.Order.{Order};
 ghost use Rattle.fl_trace.specs.Text.{asked_text, line_text, text_of, LineFits, Fits, BreaksAt};
 
 use crate::ask::asked_order;
@@ -36,7 +36,7 @@ impl From<NoMemory> for TraceFault {
 /// it was there.
 pub fn read_trace(alloc: Global, text: &[u8]) -> Result<History, TraceFault>
     ensures read { IfOk result (λ history. Fits history × (text.now ≡ text_of history)) }
-    ensures only { (lines : List Entry) → Fits lines → text.now ≡ text_of lines →
+    ensures only { (lines : List Line) → Fits lines → text.now ≡ text_of lines →
         (result ≡ Ok lines) ⊎ (result ≡ Err TraceFault.NoMemory) }
     ensures bad { (n : ℕ) → result ≡ Err (TraceFault.BadLine n) → BreaksAt LineFits text.now n }
 {
@@ -57,7 +57,7 @@ pub fn read_trace(alloc: Global, text: &[u8]) -> Result<History, TraceFault>
 pub fn first_line(text: &[u8]) -> Option<(Line, &[u8])>
     ensures fits { IfSome result (λ read. LineFits read.0) }
     ensures spelled { IfSome result (λ read. text.now ≡ line_text read.0 ++ 10 ∷ read.1.now) }
-    ensures only { (line : Entry) (after : List ℕ) → LineFits line → text.now ≡ line_text line ++ 10 ∷ after →
+    ensures only { (line : Line) (after : List ℕ) → LineFits line → text.now ≡ line_text line ++ 10 ∷ after →
         IsSomeAnd result (λ read. (read.0 ≡ line) × (read.1.now ≡ after)) }
 {
     let (line, rest) = split_line(text)?;
@@ -68,7 +68,7 @@ pub fn first_line(text: &[u8]) -> Option<(Line, &[u8])>
 fn read_line(text: &str) -> Option<Line>
     ensures fits { IfSome result LineFits }
     ensures spelled { IfSome result (λ line. text.now ≡ line_text line) }
-    ensures only { (line : Entry) → LineFits line → text.now ≡ line_text line → IsSome result }
+    ensures only { (line : Line) → LineFits line → text.now ≡ line_text line → IsSome result }
 {
     let (word, rest) = split_word(text)?;
     match word {
@@ -81,7 +81,7 @@ fn read_line(text: &str) -> Option<Line>
 fn read_asked(text: &str) -> Option<Line>
     ensures fits { IfSome result LineFits }
     ensures spelled { IfSome result (λ line. line_text line ≡ codes "ask " ++ text.now) }
-    ensures only { (worker : ℕ) (order : Request) → LineFits (Asked worker order) →
+    ensures only { (worker : ℕ) (order : Order) → LineFits (Asked worker order) →
         text.now ≡ asked_text worker order → IsSome result }
 {
     let (worker, rest) = u32_word(text)?;

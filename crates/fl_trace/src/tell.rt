@@ -3,11 +3,11 @@
 ghost use Rattle.std.specs.Prelude.{◌≡◌, ◌++◌, ◌∷◌, ℕ, Result, IfSome, IsSome, codes};
 ghost use Rattle.fl_order.specs.Errno.{number_of};
 ghost use Rattle.fl_order.specs.Sayable.{FitsAttr, FitsAnswer, FitsResult, FitsTold};
-ghost use Rattle.fl_order.specs.declared.errno.Errno.{Errno as Fault};
+ghost use Rattle.fl_order.specs.declared.errno.Errno.{Errno};
 ghost use Rattle.fl_order.specs.declared.told.Answer.{Answer};
 ghost use Rattle.fl_order.specs.declared.told.Answer.TheVariants.{Made, Lock};
 ghost use Rattle.fl_order.specs.declared.told.Attr.{Attr as Attributes};
-ghost use Rattle.fl_order.specs.declared.told.Told.{Told as Reply};
+ghost use Rattle.fl_order.specs.declared.told.Told.{Told};
 ghost use Rattle.fl_trace.specs.Text.{attr_text, made_text, lock_text, answer_text, result_text, told_text};
 
 use crate::words::{number, split_word, u32_number, u32_word, u64_word};
@@ -37,7 +37,7 @@ const ERRORS: [Errno; 16] = [
 pub(super) fn read_told(text: &str) -> Option<Told>
     ensures fits { IfSome result FitsTold }
     ensures spelled { IfSome result (λ told. text.now ≡ told_text told) }
-    ensures only { (told : Reply) → FitsTold told → text.now ≡ told_text told → IsSome result }
+    ensures only { (told : Told) → FitsTold told → text.now ≡ told_text told → IsSome result }
 {
     let (unique, rest) = u64_word(text)?;
     let result = read_result(rest)?;
@@ -48,7 +48,7 @@ pub(super) fn read_told(text: &str) -> Option<Told>
 fn read_result(text: &str) -> Option<Result<Answer, Errno>>
     ensures fits { IfSome result FitsResult }
     ensures spelled { IfSome result (λ told. text.now ≡ result_text told) }
-    ensures only { (told : Result Answer Fault) → FitsResult told → text.now ≡ result_text told → IsSome result }
+    ensures only { (told : Result Answer Errno) → FitsResult told → text.now ≡ result_text told → IsSome result }
 {
     if text == "ok" {
         return Some(Ok(Answer::Done));
@@ -128,7 +128,7 @@ fn read_lock(text: &str) -> Option<Answer>
 // The error of a number.
 fn errno(number: u32) -> Option<Errno>
     ensures number { IfSome result (λ error. number_of error ≡ number) }
-    ensures only { (error : Fault) → number ≡ number_of error → IsSome result }
+    ensures only { (error : Errno) → number ≡ number_of error → IsSome result }
 {
     ERRORS
         .iter()

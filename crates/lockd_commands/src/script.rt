@@ -6,7 +6,7 @@ ghost use Rattle.fl_book.specs.Legal.{IsLegal, is_asked};
 ghost use Rattle.fl_trace.specs.Text.{line_text, text_of, BreaksAt};
 ghost use Rattle.lockd_commands.specs.Faults.{IsOfText, IsTold};
 ghost use Rattle.lockd_commands.specs.Script.{line_of, IsAskLine, IsTraceOf, FaultSays, IsAnswered};
-ghost use Rattle.fl_history.specs.declared.history.Line.{Line as Entry};
+ghost use Rattle.fl_history.specs.declared.history.Line.{Line};
 ghost use Rattle.lockd_commands.specs.declared.fault.Fault.{Fault};
 
 use crate::fault::Fault;
@@ -97,7 +97,7 @@ fn read_asks(alloc: Global, script: &[u8]) -> Result<Vec<AskLine>, Fault>
 fn first_ask(text: &[u8]) -> Option<(AskLine, &[u8])>
     ensures fits { IfSome result (λ read. IsAskLine (line_of read.0)) }
     ensures spelled { IfSome result (λ read. text.now ≡ line_text (line_of read.0) ++ 10 ∷ read.1.now) }
-    ensures none { IsNone result → (line : Entry) (after : List ℕ) → IsAskLine line →
+    ensures none { IsNone result → (line : Line) (after : List ℕ) → IsAskLine line →
         text.now ≡ line_text line ++ 10 ∷ after → ⊥ }
 {
     let Some((Line::Asked { worker, order }, rest)) = first_line(text) else {

@@ -1,9 +1,9 @@
 -- The reader of a session with workers, while it is under way.
-use Rattle.std.specs.Prelude.{◌≡◌, ℕ, ◌≤◌, true, false, List, [], ◌∷◌, ◌++◌, length, Option}
+use Rattle.std.specs.Prelude.{◌≡◌, ℕ, ◌≤◌, true, false, List, length, Option}
+use Rattle.fl_serve.specs.Serve.{IsLast}
 use Rattle.fl_session.specs.Inbox.{IsEnding}
 use Rattle.fl_session.specs.Served.{IsRead}
 use Rattle.fl_session.specs.Session.{Came, Session, session_of, with_message}
-use Rattle.fl_session.specs.Talk.{goodbye_to}
 use Rattle.fl_session.specs.declared.server.Owed.{Owed}
 use Rattle.fl_session.specs.declared.server.Talk.{Talk}
 use Rattle.fl_session.specs.declared.session.Fault.{Fault}
@@ -17,13 +17,6 @@ pub record IsThisFar (s : Session) (talk : Talk) : Type 0 where
 abbrev pub Hears : Talk → Talk → List ℕ → Type 0
 Hears old new message = (s : Session) → IsThisFar s old
     → IsThisFar (with_message s (record { message = message; refused = false })) new
-
--- the last message is a DESTROY, to which this is owed
-pub record IsLast (came : List Came) (goodbye : Owed) : Type 0 where
-  pub front : List Came
-  pub last : Came
-  pub parts : came ≡ front ++ last ∷ []
-  pub owed : goodbye ≡ goodbye_to last.message
 
 -- What was read is whole messages and a rest, and the session of these messages is this far. Where it is over, this is
 -- owed to the last.

@@ -2,7 +2,7 @@
 use Rattle.std.specs.Prelude.{ℕ, List, Option, Result, Ok, Err, ⊤}
 use Rattle.std.specs.Io.KnownBytes.{Appends, Keeps}
 use Rattle.fl_trace.specs.Text.{text_of}
-use Rattle.fl_history.specs.declared.history.Line.{Line as Entry}
+use Rattle.fl_history.specs.declared.history.Line.{Line}
 use Rattle.lockd_commands.specs.Serve.{IsTraced}
 use Rattle.lockd_commands.specs.declared.fault.Fault.{Fault}
 use Rattle.lockd_commands.specs.declared.fault.Fault.TheVariants.{BadLine, NoMemory, Read, Write, Cut, BadLength, Listen, Connect, BadReply}
@@ -21,11 +21,11 @@ Did old new (Err Connect) = ⊥
 Did old new (Err BadReply) = ⊥
 
 -- the text of this history was written
-abbrev pub HasWritten : List Entry → Option (List ℕ) → Option (List ℕ) → Type 0
+abbrev pub HasWritten : List Line → Option (List ℕ) → Option (List ℕ) → Type 0
 HasWritten lines old new = Appends old new (text_of lines)
 
 -- What was written of a session with this history, by how the command ended.
-abbrev pub TellsOf : List Entry → Option (List ℕ) → Option (List ℕ) → Result Unit Fault → Type 0
+abbrev pub TellsOf : List Line → Option (List ℕ) → Option (List ℕ) → Result Unit Fault → Type 0
 TellsOf lines old new (Ok done) = HasWritten lines old new
 TellsOf lines old new (Err Cut) = HasWritten lines old new
 TellsOf lines old new (Err (BadLength n)) = HasWritten lines old new

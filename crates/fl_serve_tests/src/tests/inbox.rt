@@ -1,0 +1,67 @@
+//! A stream that is cut into messages.
+
+use super::are_bytes;
+use fl_session::{Fault, Filled, Inbox};
+use fl_testing::Source;
+use fl_wire::Step;
+use std::process::Abort;
+
+// A message of 40 bytes, and one of 41 behind it.
+fn two_messages() -> [u8; 81] {
+    let mut bytes = [0; 81];
+    bytes[0] = 40;
+    bytes[40] = 41;
+    bytes[80] = 7;
+    bytes
+}
+
+// Reads once, where no whole message stands first.
+fn reads(rt: &impl Abort, inbox: &mut Inbox, source: &mut Source<'_>, wanted: Filled) {
+    let Step::More = inbox.next() else {
+        panic!(rt; "a message stands first")
+    };
+    assert_eq!(rt; inbox.fill(source), wanted);
+}
+
+// Takes the message that stands first, which is this one.
+fn takes(rt: &impl Abort, inbox: &mut Inbox, wanted: &[u8]) {
+    let Step::Whole(frame) = inbox.next() else {
+        panic!(rt; "no message stands first")
+    };
+    are_bytes(rt, frame.as_bytes(), wanted);
+    let len = frame.as_bytes().len();
+    inbox.skip(len);
+}
+
+#[test]
+fn two_messages_come_with_one_read(rt: HostRuntime) {
+    let bytes = two_messages();
+    let mut source = Source {
+        bytes: &bytes,
+        most: 100,
+        reads: 1,
+    };
+    let mut inbox = Inbox::new(rt.alloc()).expect(&rt, "no memory");
+    reads(&rt, &mut inbox, &mut source, Filled::More);
+    takes(&rt, &mut inbox, &bytes[..40]);
+    takes(&rt, &mut inbox, &bytes[40..]);
+    reads(&rt, &mut inbox, &mut source, Filled::End(Some(Fault::Read)));
+}
+
+// The second read has the end of the first message and a part of the second, and the third has the rest.
+#[test]
+fn each_message_comes_with_two_reads(rt: HostRuntime) {
+    let bytes = two_messages();
+    let mut source = Source {
+        bytes: &bytes,
+        most: 30,
+        reads: 4,
+    };
+    let mut inbox = Inbox::new(rt.alloc()).expect(&rt, "no memory");
+    reads(&rt, &mut inbox, &mut source, Filled::More);
+    reads(&rt, &mut inbox, &mut source, Filled::More);
+    takes(&rt, &mut inbox, &bytes[..40]);
+    reads(&rt, &mut inbox, &mut source, Filled::More);
+    takes(&rt, &mut inbox, &bytes[40..]);
+    reads(&rt, &mut inbox, &mut source, Filled::End(None));
+}
