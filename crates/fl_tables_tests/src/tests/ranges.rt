@@ -59,14 +59,14 @@ fn a_table_with_no_room(rt: HostRuntime) {
     has_runs(&rt, &table, 0);
 }
 
-// At which indices of node 7's chain the runs stand, of a table of three slots. The other slots are free.
+// At which indices of a chain the runs stand, of a table of three slots. The other slots are free.
 fn indices(rt: &impl Abort, table: &Table) -> [bool; 2]
     requires { table.now.limit ≡ 3 }
 {
     let mut found = [false; 2];
     for slot in 0..3 {
         match table.slot_place(slot) {
-            Place::On(7, index) if index < 2 => found[index] = true,
+            Place::On(_, index) if index < 2 => found[index] = true,
             place => same(rt, &place, &Place::Free),
         }
     }
@@ -74,12 +74,40 @@ fn indices(rt: &impl Abort, table: &Table) -> [bool; 2]
 }
 
 #[test]
-fn slots_are_free_or_on_a_chain(rt: HostRuntime) {
+fn slots_of_runs_are_free_or_on_a_chain(rt: HostRuntime) {
     let mut table = Table::new(rt.alloc(), 3).expect(&rt, "memory");
     same(&rt, &table.slot_place(0), &Place::Free);
     put(&rt, &mut table, 1, 5, 9, READ);
     put(&rt, &mut table, 1, 0, 1, READ);
     same(&rt, &indices(&rt, &table), &[true, true]);
+}
+
+// At which indices of node 7's chain keys stand, of a table of three slots. The other keys are on chain 256.
+fn heads(rt: &impl Abort, table: &Table) -> [bool; 2]
+    requires { table.now.limit ≡ 3 }
+{
+    let mut found = [false; 2];
+    for slot in 0..3 {
+        match table.head_place(slot) {
+            Place::On(7, index) if index < 2 => found[index] = true,
+            Place::On(chain, _) => same(rt, &chain, &256),
+            place => same(rt, &place, &Place::On(256, 0)),
+        }
+    }
+    found
+}
+
+#[test]
+fn a_key_is_on_its_nodes_chain_while_it_has_runs(rt: HostRuntime) {
+    let mut table = Table::new(rt.alloc(), 3).expect(&rt, "memory");
+    same(&rt, &heads(&rt, &table), &[false, false]);
+    put(&rt, &mut table, 1, 5, 9, READ);
+    put(&rt, &mut table, 1, 0, 1, READ);
+    same(&rt, &heads(&rt, &table), &[true, false]);
+    put(&rt, &mut table, 2, 20, 20, READ);
+    same(&rt, &heads(&rt, &table), &[true, true]);
+    table.erase_owner(&key(1));
+    same(&rt, &heads(&rt, &table), &[true, false]);
 }
 
 #[test]
