@@ -1,0 +1,76 @@
+-- How locks stand in rows: one row of spans for each key that has a mark.
+use Rattle.std.specs.Prelude.{◌≡◌, ◌≢◌, ℕ, ◌≤◌, Bool, true, List, [], ◌∷◌, map, if◌then◌else◌}
+use Rattle.std.specs.List.{flat_map, AllByRecursion}
+use Rattle.std.specs.Ordering.{nat_cmp, ordering_then, is_lt, eq_by_cmp}
+use Rattle.std.specs.declared.cmp.Ordering.{Ordering}
+use Rattle.fl_rows.specs.Rows.{Row, RowChains, row_lists, rows, chain_count, limit_of}
+use Rattle.fl_spans.specs.declared.span.Span.{Span}
+use Rattle.fl_spans.specs.Spans.{AreSpans}
+use Rattle.fl_ranges.specs.declared.lock.Key.{Key}
+use Rattle.fl_ranges.specs.declared.lock.Mark.{Mark}
+use Rattle.fl_ranges.specs.declared.run.Run.{Run}
+use Rattle.fl_ranges.specs.Marking.{class_number, key_cmp}
+use Rattle.fl_ranges.specs.Placing.{home}
+
+-- a key with the spans of its marks
+abbrev pub LockRow : Type 0
+LockRow = Row Key (Span Mark)
+
+-- what contracts see of all rows
+abbrev pub LockRows : Type 0
+LockRows = RowChains Key (Span Mark)
+
+-- a span of a key, as a run
+abbrev pub run_of : Key → Span Mark → Run
+run_of key s = record { key = key; start = s.start; end = s.end; mark = s.mark }
+
+-- the runs of a row
+abbrev pub runs_of : LockRow → List Run
+runs_of r = map (run_of r.key) r.runs
+
+-- the runs of rows, one row after another
+abbrev pub runs_in : List LockRow → List Run
+runs_in rs = flat_map runs_of rs
+
+-- all runs, chain after chain
+abbrev pub table_runs : LockRows → List Run
+table_runs v = flat_map runs_in (row_lists v)
+
+-- keys by node, then class, then owner
+abbrev pub place_cmp : Key → Key → Ordering
+place_cmp a b =
+    ordering_then
+    (ordering_then (nat_cmp a.node b.node) (nat_cmp (class_number a.class) (class_number b.class)))
+    (nat_cmp a.owner b.owner)
+
+-- the row of the first of two keys stands before that of the other
+abbrev pub goes_before : Key → Key → Bool
+goes_before a b = is_lt (place_cmp a b)
+
+-- each row stands before all later ones
+abbrev pub AreInOrder : List LockRow → Type 0
+AreInOrder [] = Unit {0}
+AreInOrder (r ∷ rs) = AllByRecursion (λ x. goes_before r.key x.key ≡ true) rs × AreInOrder rs
+
+-- the spans of the key's row, and none where no row is the key's
+abbrev pub spans_of : Key → List LockRow → List (Span Mark)
+spans_of key [] = []
+spans_of key (r ∷ rs) = if eq_by_cmp key_cmp r.key key then r.runs else spans_of key rs
+
+-- the node of each row's key has this chain
+abbrev pub AreOnChain : ℕ → List LockRow → Type 0
+AreOnChain c rs = AllByRecursion (λ r. home r.key.node ≡ c) rs
+
+-- the rows of a chain: each on its node's, in order, and each with spans, at least one
+pub record AreLockRows (c : ℕ) (rs : List LockRow) : Type 0 where
+  pub at_home : AreOnChain c rs
+  pub in_order : AreInOrder rs
+  pub spans : AllByRecursion (λ r. AreSpans r.runs) rs
+  pub used : AllByRecursion (λ r. r.runs ≢ []) rs
+
+-- 256 chains of such rows, and room for as many runs as the limit
+pub record IsLockTable (v : LockRows) (limit : ℕ) : Type 0 where
+  pub chains : chain_count v ≡ 256
+  pub room : limit_of v ≡ limit
+  pub small : limit ≤ 65536
+  pub kept : (c : ℕ) → AreLockRows c (rows v c)
