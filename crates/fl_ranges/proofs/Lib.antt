@@ -13,6 +13,8 @@ pub mod Elsewhere
 pub mod Changes
 pub mod Starts
 pub mod RunLists
+pub mod Each
+pub mod SpanMarks
 pub mod Counting
 pub mod Cuts
 pub mod Strokes
