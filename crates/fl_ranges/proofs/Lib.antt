@@ -16,6 +16,7 @@ pub mod RunLists
 pub mod Each
 pub mod SpanMarks
 pub mod Counting
+pub mod RowRuns
 pub mod Cuts
 pub mod Strokes
 pub mod Walks
