@@ -17,6 +17,7 @@ pub mod Each
 pub mod SpanMarks
 pub mod Counting
 pub mod RowRuns
+pub mod GivenSpans
 pub mod Cuts
 pub mod Strokes
 pub mod Walks

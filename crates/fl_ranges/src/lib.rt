@@ -3,6 +3,7 @@
 
 mod blocker;
 mod chain;
+mod find_row;
 mod held;
 pub mod laws;
 mod lock;
