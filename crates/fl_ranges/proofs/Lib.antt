@@ -18,6 +18,7 @@ pub mod SpanMarks
 pub mod Counting
 pub mod RowRuns
 pub mod GivenSpans
+pub mod RowPlaces
 pub mod Cuts
 pub mod Strokes
 pub mod Walks

@@ -1,6 +1,8 @@
 //! Locks in rows, one for each key that has a mark, in the order of keys. `Table` is to stand on them.
 ghost use Rattle.std.specs.Prelude.{◌≡◌, true, IsSome};
+ghost use Rattle.std.specs.Ordering.{eq_by_cmp};
 ghost use Rattle.fl_rows.specs.Rows.{rows, limit_of, row_cursor, IsRow};
+ghost use Rattle.fl_ranges.specs.Marking.{key_cmp};
 ghost use Rattle.fl_ranges.specs.Placing.{home};
 ghost use Rattle.fl_ranges.specs.Inside.LockRows.{goes_before, row_index, has_row, IsLockTable};
 
@@ -20,6 +22,13 @@ fn goes_before(a: &Key, b: &Key) -> bool
         .is_lt()
 }
 
+// Whether two keys are one.
+fn is_same(a: &Key, b: &Key) -> bool
+    ensures { result ≡ eq_by_cmp key_cmp a.now b.now }
+{
+    *a == *b
+}
+
 // The cursor at the first row of the key's chain that doesn't go before the key's, and whether it is the key's own.
 pub(crate) fn find_row(table: &Rows<Key, Span<Mark>>, key: &Key) -> (Cursor, bool)
     requires table { IsLockTable table.now (limit_of table.now) }
@@ -31,7 +40,7 @@ pub(crate) fn find_row(table: &Rows<Key, Span<Mark>>, key: &Key) -> (Cursor, boo
     let mut row = table.first_row(home(key.node));
     while let Some(here) = table.key(&row) {
         if !goes_before(here, key) {
-            return (row, *here == *key);
+            return (row, is_same(here, key));
         }
         table.next_row(&mut row);
     }
