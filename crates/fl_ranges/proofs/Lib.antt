@@ -19,6 +19,7 @@ pub mod Counting
 pub mod RowRuns
 pub mod GivenSpans
 pub mod RowPlaces
+pub mod RowTables
 pub mod Cuts
 pub mod Strokes
 pub mod Walks

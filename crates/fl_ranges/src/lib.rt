@@ -9,6 +9,7 @@ pub mod laws;
 mod lock;
 mod owners;
 mod plan;
+mod row_change;
 mod run;
 mod table;
 
