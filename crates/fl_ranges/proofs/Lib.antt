@@ -20,6 +20,7 @@ pub mod RowRuns
 pub mod GivenSpans
 pub mod RowPlaces
 pub mod RowTables
+pub mod RowStrokes
 pub mod Cuts
 pub mod Strokes
 pub mod Walks

@@ -24,7 +24,7 @@ too_early from to b less = grind (arith, nat_tests)
 too_late : (from to b : ℕ) → to < b → (nat_le from b && nat_le b to) ≡ false
 too_late from to b less = grind (arith, nat_tests)
 
-in_time : (from to b : ℕ) → from ≤ b → b ≤ to → (nat_le from b && nat_le b to) ≡ true
+pub in_time : (from to b : ℕ) → from ≤ b → b ≤ to → (nat_le from b && nat_le b to) ≡ true
 in_time from to b begins ends = grind (arith, nat_tests)
 
 passed_over : (s : Span Mark) (ss : List (Span Mark)) (b : ℕ) → overlaps b b s ≡ false → mark_at (s ∷ ss) b ≡ mark_at ss b
