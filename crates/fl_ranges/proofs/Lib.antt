@@ -27,3 +27,4 @@ pub mod OwnersWalk
 pub mod Places
 pub mod Sorted
 pub mod Behind
+pub mod RivalRows

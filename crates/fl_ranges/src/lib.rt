@@ -3,11 +3,13 @@
 
 mod blocker;
 mod chain;
+mod conflict;
 mod held;
 pub mod laws;
 mod lock;
 mod owners;
 mod plan;
+mod rivals;
 mod run;
 mod table;
 
