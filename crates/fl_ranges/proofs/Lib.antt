@@ -28,3 +28,5 @@ pub mod Places
 pub mod Sorted
 pub mod Behind
 pub mod RivalRows
+pub mod RivalOwners
+pub mod RivalConflicts

@@ -11,7 +11,7 @@ use Rattle.std.specs.List.{filter, find, flat_map, AllByRecursion}
 use Rattle.std.specs.Ordering.{nat_cmp, ordering_then, is_lt}
 use Rattle.fl_rows.specs.Rows.{row_lists, rows, keys, runs_at, chain_count}
 use Rattle.fl_spans.specs.declared.span.Span.{Span}
-use Rattle.fl_spans.specs.Spans.{overlaps}
+use Rattle.fl_spans.specs.Spans.{overlaps, AreSpans}
 use Rattle.fl_ranges.specs.declared.lock.Key.{Key}
 use Rattle.fl_ranges.specs.declared.lock.Kind.{Kind}
 use Rattle.fl_ranges.specs.declared.lock.Mark.{Mark}
@@ -24,6 +24,7 @@ use Rattle.fl_ranges.specs.Inside.RunList.{run_excludes}
 use Rattle.fl_ranges.specs.Inside.LockRows.{LockRow, LockRows, run_of, runs_of, runs_in, table_runs, goes_before, AreInOrder, AreOnChain, AreLockRows}
 use Rattle.fl_ranges.specs.Inside.Rivals.{are_kin, is_earlier, rows_from, class_rows, kin_owner, span_excludes}
 use Rattle.fl_ranges.proofs.Walks.{drop_here, drop_end}
+use Rattle.fl_ranges.proofs.ChainLists.{each_append}
 use Rattle.fl_ranges.proofs.Markings.{same_class}
 
 -- ---- keys
@@ -123,8 +124,8 @@ module _ (key : Key) (rs : List LockRow) (i : ℕ) where
       go : (b : Bool) → are_kin key other ≡ b → cond b (Some other.owner) None ≡ Some owner → (are_kin key other ≡ true) × (other ≡ of_owner key owner)
       go true is e =
           let class : other.class ≡ key.class =
-          same_class other.class key.class (sym (eqb-true (class_number key.class) (class_number other.class) (first_so _ _ is))) in
-          let node : other.node ≡ key.node = sym (eqb-true key.node other.node (second_so _ _ is)) in
+          same_class other.class key.class (sym (eqb-true (class_number key.class) (class_number other.class) (first_so _ (key.node == other.node) is))) in
+          let node : other.node ≡ key.node = sym (eqb-true key.node other.node (second_so (class_number key.class == class_number other.class) _ is)) in
           let same : other.owner ≡ owner = cc e in
           (is, λ i. record { class = class i; node = node i; owner = same i })
       go false is e = absurd (cc e)
@@ -273,3 +274,48 @@ module _ (key : Key) (start end : ℕ) (kind : Kind) where
       ap (λ b. cond (b && ((nat_le s.start end && nat_le start s.end) && excludes kind s.mark.kind)) (Some s) (find (span_excludes key key.owner start end kind) ss))
       (own_kin (class_number key.class) key.node key.owner)
       ∙ own_span ss
+
+-- the spans of a row of the class and node are in order
+pub kin_spans : (key : Key) (rs : List LockRow) (i owner : ℕ) → kin_owner key (slice_get (keys rs) i) ≡ Some owner →
+    AllByRecursion (λ r. AreSpans r.runs) rs → AreSpans (runs_at rs i)
+kin_spans key rs i owner found all =
+    let k = at_kin key rs i owner found in
+    subst AreSpans (sym k.spans) (each_get (λ r. AreSpans r.runs) rs i k.row k.there all)
+
+-- ---- later rows
+
+order_here : (rs : List LockRow) (i : ℕ) (r : LockRow) → slice_get rs i ≡ Some r → AreInOrder rs →
+    AllByRecursion (λ x. goes_before r.key x.key ≡ true) (drop (suc i) rs)
+order_here [] i r found order = absurd (none-some r found)
+order_here (y ∷ rs) zero r found order = let same : y ≡ r = cc found in subst (λ (z : LockRow). AllByRecursion (λ x. goes_before z.key x.key ≡ true) rs) same order.0
+order_here (y ∷ rs) (suc i) r found order = order_here rs i r found order.1
+
+module _ (key : Key) (owner : ℕ) where
+  later_owner : (k : Key) → goes_before (of_owner key owner) k ≡ true → are_kin key k ≡ true → owner < k.owner
+  later_owner k first kin =
+      let h = key_ahead (of_owner key owner) k first in
+      h.owner (eqb-true key.node k.node (second_so (class_number key.class == class_number k.class) _ kin))
+      (eqb-true (class_number key.class) (class_number k.class) (first_so _ (key.node == k.node) kin))
+
+  later_spans : (k : Key) → owner < k.owner → (ss : List (Span Mark)) → AllByRecursion (λ (r : Run). owner < r.key.owner) (map (run_of k) ss)
+  later_spans k less [] = tt
+  later_spans k less (s ∷ ss) = (less, later_spans k less ss)
+
+  later_rows : (rs : List LockRow) → AllByRecursion (λ x. goes_before (of_owner key owner) x.key ≡ true) rs →
+      AllByRecursion (λ (r : Run). owner < r.key.owner) (runs_in (class_rows key rs))
+  later_rows [] each = tt
+  later_rows (x ∷ rs) each = go (are_kin key x.key) refl (later_rows rs each.1)
+    where
+      go : (b : Bool) → are_kin key x.key ≡ b → AllByRecursion (λ (r : Run). owner < r.key.owner) (runs_in (class_rows key rs)) →
+          AllByRecursion (λ (r : Run). owner < r.key.owner) (runs_in (cond b (x ∷ class_rows key rs) []))
+      go true is rest =
+          each_append (λ r. owner < r.key.owner) (runs_of x) (runs_in (class_rows key rs))
+          (later_spans x.key (later_owner x.key each.0 is) x.runs) rest
+      go false is rest = tt
+
+  -- the runs of later rows of the class and node are of greater owners
+  pub later_runs : (rs : List LockRow) (i : ℕ) → AreInOrder rs → IsKin key rs i owner →
+      AllByRecursion (λ (r : Run). owner < r.key.owner) (runs_in (class_rows key (drop (i + 1) rs)))
+  later_runs rs i order k =
+      later_rows (drop (i + 1) rs)
+      (subst (λ (o : Key). AllByRecursion (λ x. goes_before o x.key ≡ true) (drop (i + 1) rs)) k.key_is (rw add-one (order_here rs i k.row k.there order)))

@@ -9,6 +9,7 @@ pub mod laws;
 mod lock;
 mod owners;
 mod plan;
+mod rival_owners;
 mod rivals;
 mod run;
 mod table;
