@@ -34,3 +34,6 @@ pub mod OwnersWalk
 pub mod Places
 pub mod Sorted
 pub mod Behind
+pub mod RivalRows
+pub mod RivalOwners
+pub mod RivalConflicts

@@ -5,3 +5,4 @@ pub mod RunChains
 pub mod RunPlan
 pub mod Nearest
 pub mod Owners
+pub mod Rivals

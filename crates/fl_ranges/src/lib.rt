@@ -3,12 +3,15 @@
 
 mod blocker;
 mod chain;
+mod conflict;
 mod find_row;
 mod held;
 pub mod laws;
 mod lock;
 mod owners;
 mod plan;
+mod rival_owners;
+mod rivals;
 mod row_change;
 mod run;
 mod table;

@@ -28,7 +28,7 @@ impl Table {
     }
 }
 
-fn is_after(after: Option<u64>, owner: u64) -> bool
+pub(crate) fn is_after(after: Option<u64>, owner: u64) -> bool
     ensures { result ≡ is_after after owner }
 {
     match after {
