@@ -2,12 +2,21 @@
 ghost use Rattle.std.specs.Prelude.{◌≡◌, ℕ, None};
 ghost use Rattle.fl_rows.specs.Rows.{rows, chain_count};
 ghost use Rattle.fl_ranges.specs.Inside.LockRows.{table_runs, AreLockRows};
-ghost use Rattle.fl_ranges.specs.Inside.Owners.{least_from};
+ghost use Rattle.fl_ranges.specs.Inside.Owners.{is_after, least_from};
 
 use crate::lock::{Key, Kind, Mark, Range};
-use crate::owners::is_after;
 use crate::rivals::{excluding_span, first_of_class, owner_at};
 use fl_spans::{Rows, Span};
+
+// Whether an owner is greater than the one that is given.
+fn is_after(after: Option<u64>, owner: u64) -> bool
+    ensures { result ≡ is_after after owner }
+{
+    match after {
+        None => true,
+        Some(given) => given < owner,
+    }
+}
 
 // The least owner that has a lock which excludes one of this kind, by this key, on the range, of those greater than the
 // one that is given. The rows stand in the order of their owners, so it is that of the first row that has one.
