@@ -5,6 +5,7 @@ ghost use Rattle.fl_ranges.specs.Marking.{stroke_on, stroked};
 ghost use Rattle.fl_ranges.specs.Runs.{runs, without_node};
 ghost use Rattle.fl_ranges.specs.Inside.LockRows.{row_marks, IsLockTable};
 
+use crate::chain::home;
 use crate::find_row::find_row;
 use crate::lock::{Key, LAST_BYTE, Mark, Range};
 use fl_spans::{Full, Rows, Span};
@@ -48,5 +49,24 @@ pub(crate) fn erase_owner(table: &mut Rows<Key, Span<Mark>>, key: &Key)
     let (mut row, own) = find_row(table, key);
     if own {
         table.remove_row(&mut row);
+    }
+}
+
+// All bytes of the node lose their marks, of both classes and all owners.
+pub(crate) fn erase_node(table: &mut Rows<Key, Span<Mark>>, node: u64)
+    requires table { IsLockTable table.old (limit_of table.old) }
+    ensures erased { row_marks table.new ≡ without_node node (row_marks table.old) }
+    ensures table { IsLockTable table.new (limit_of table.old) }
+{
+    let mut row = table.first_row(home(node));
+    while let Some(key) = table.key(&row) {
+        if key.node > node {
+            break;
+        }
+        if key.node == node {
+            table.remove_row(&mut row);
+        } else {
+            table.next_row(&mut row);
+        }
     }
 }
