@@ -1,16 +1,16 @@
 -- The rows of a node, taken out of its chain one after another.
 use Rattle.std.proofs.Common.{◌≡◌, ◌≢◌, ℕ, zero, suc, ◌+◌, ◌<◌, ◌≤◌, Bool, true, false, cond, ◌||◌, ◌==◌, Option, Some, None, List, [], ◌∷◌, ◌++◌, take, drop, length, set}
-use Rattle.std.proofs.Common.{remove, refl, ap, sym, ◌∙◌, subst, arith}
+use Rattle.std.proofs.Common.{remove, slice_get, get_or, refl, ap, sym, ◌∙◌, subst, arith}
 use Rattle.std.proofs.lemmas.Bool.{eqb-true, eq-eqb, false_from_ne_true}
 use Rattle.std.proofs.lemmas.Bool.Decides.{nat_tests}
-use Rattle.std.proofs.lemmas.List.{take-append-drop}
+use Rattle.std.proofs.lemmas.List.{take-append-drop, get_or-set_same}
 use Rattle.std.specs.List.{AllByRecursion}
 use Rattle.std.specs.Ordering.{nat_cmp, ordering_then, eq_by_cmp, is_lt}
 use Rattle.std.specs.FinMap.{get, same_map}
 use Rattle.fl_arena.specs.declared.cursors.Cursor.{Cursor}
 use Rattle.fl_spans.specs.declared.span.Span.{Span}
 use Rattle.fl_spans.specs.Spans.{mark_at}
-use Rattle.fl_rows.specs.Rows.{row_lists, rows, limit_of, row_cursor, HasRoomOf}
+use Rattle.fl_rows.specs.Rows.{row_lists, rows, keys, limit_of, row_cursor, HasRoomOf, IsRow}
 use Rattle.fl_ranges.specs.declared.lock.Key.{Key}
 use Rattle.fl_ranges.specs.declared.lock.Mark.{Mark}
 use Rattle.fl_ranges.specs.Marking.{class_number, key_cmp, Spot, Marking, stroked, covers}
@@ -19,9 +19,10 @@ use Rattle.fl_ranges.specs.Placing.{home}
 use Rattle.fl_ranges.specs.Inside.LockRows.{LockRow, LockRows, place_cmp, goes_before, AreInOrder, row_marks, row_index, has_row, spans_of, IsLockTable}
 use Rattle.fl_ranges.proofs.Markings.{spots_total, exact_spots, get-stroked, get-without_node}
 use Rattle.fl_ranges.proofs.Spots.{same_key, key_itself, within}
+use Rattle.fl_ranges.proofs.ChainLists.{home_less}
 use Rattle.fl_ranges.proofs.Each.{all_weaker, all_append}
 use Rattle.fl_ranges.proofs.RowRuns.{IsOther, no_spans, before_differs, keys_placed, mark_kept}
-use Rattle.fl_ranges.proofs.RowPlaces.{index_more, index_end, has_more}
+use Rattle.fl_ranges.proofs.RowPlaces.{IsHere, row_here, index_more, index_end, has_more}
 use Rattle.fl_ranges.proofs.RowStrokes.{removed_here, erased_here, erased_kept}
 
 -- the row is of another node
@@ -128,3 +129,64 @@ off_stroked node key m of = same_map spots_total exact_spots _ _ (λ q.
         ∙ ap (λ (b : Bool). cond b None (get m q)) (false_from_ne_true _ (λ own.
         let w = within (eq_by_cmp key_cmp key q.0) 0 q.1 9223372036854775807 own in
         absurd (cc (sym differ ∙ eq-eqb q.0.node node (sym (ap (λ (k : Key). k.node) (same_key key q.0 w.same)) ∙ of)))))
+
+long_remove : (rs : List LockRow) (j : ℕ) (r : LockRow) (more : List LockRow) → drop j rs ≡ r ∷ more → length (remove rs j) + 1 ≡ length rs
+long_remove [] zero r more here = absurd (cc here)
+long_remove [] (suc j) r more here = absurd (cc here)
+long_remove (x ∷ xs) zero r more here = omega arith
+long_remove (x ∷ xs) (suc j) r more here = let rest = long_remove xs j r more here in omega (arith, rest)
+
+pub within_here : (rs : List LockRow) (j : ℕ) (r : LockRow) (more : List LockRow) → drop j rs ≡ r ∷ more → j < length rs
+within_here [] zero r more here = absurd (cc here)
+within_here [] (suc j) r more here = absurd (cc here)
+within_here (x ∷ xs) zero r more here = omega arith
+within_here (x ∷ xs) (suc j) r more here = let rest = within_here xs j r more here in omega (arith, rest)
+
+module _ (v : LockRows) (table : IsLockTable v (limit_of v)) (node : ℕ) (row : Cursor) (at_row : IsRow v row) (chain : row.chain ≡ home node) (key : Key)
+    (found : slice_get (keys (rows v row.chain)) row.index ≡ Some key) where
+  pub here : IsHere (rows v (home node)) row.index key
+  here = row_here (rows v (home node)) row.index key (ap (λ (c : ℕ). slice_get (keys (rows v c)) row.index) (sym chain) ∙ found)
+
+  order : AreInOrder (rows v (home node))
+  order = (table.kept (home node)).in_order
+
+  module _ (of : key.node ≡ node) (w : LockRows) (is : row_lists w ≡ set (row_lists v) row.chain (remove (rows v row.chain) row.index)) (size : HasRoomOf v w) where
+    own_chain : home node ≡ home key.node
+    own_chain = ap home (sym of)
+
+    own_place : row_index key (rows v (home key.node)) ≡ row.index
+    own_place =
+        let h = here in
+        ap (λ (c : ℕ). row_index key (rows v c)) (sym own_chain)
+        ∙ ap (λ (k : Key). row_index k (rows v (home node))) (sym h.key_is)
+        ∙ own_index (rows v (home node)) row.index h.row (drop (row.index + 1) (rows v (home node))) order h.rest
+
+    at : row ≡ row_cursor v (home key.node) (row_index key (rows v (home key.node)))
+    at = at_row.at ∙ (λ i. row_cursor v ((chain ∙ own_chain) i) (sym own_place i))
+
+    has : has_row key (rows v (home key.node)) ≡ true
+    has =
+        let h = here in
+        ap (λ (c : ℕ). has_row key (rows v c)) (sym own_chain)
+        ∙ ap (λ (k : Key). has_row k (rows v (home node))) (sym h.key_is)
+        ∙ own_row (rows v (home node)) row.index h.row (drop (row.index + 1) (rows v (home node))) h.rest
+
+    pub gone_table : IsLockTable w (limit_of w)
+    gone_table =
+        subst (λ (n : ℕ). IsLockTable w n) (sym size.limit) (erased_kept v table key row at has w (removed_here v table key row at has w is) size)
+
+    pub gone_marks : without_node node (row_marks w) ≡ without_node node (row_marks v)
+    gone_marks = ap (without_node node) (erased_here v table key row at has w (removed_here v table key row at has w is)) ∙ off_stroked node key (row_marks v) of
+
+    pub gone_rows : rows w (home node) ≡ remove (rows v (home node)) row.index
+    gone_rows =
+        let less = home_less node in
+        let many = table.chains in
+        ap (λ (l : List (List LockRow)). get_or l (home node) []) (is ∙ (λ i. set (row_lists v) (chain i) (remove (rows v (chain i)) row.index)))
+        ∙ get_or-set_same (row_lists v) (home node) (remove (rows v (home node)) row.index) [] (omega (arith, less, many))
+
+    pub gone_long : length (rows w (home node)) + 1 ≡ length (rows v (home node))
+    gone_long =
+        let h = here in
+        ap (λ (rs : List LockRow). length rs + 1) gone_rows
+        ∙ long_remove (rows v (home node)) row.index h.row (drop (row.index + 1) (rows v (home node))) h.rest
