@@ -21,6 +21,7 @@ pub mod GivenSpans
 pub mod RowPlaces
 pub mod RowTables
 pub mod RowStrokes
+pub mod RowNodes
 pub mod Cuts
 pub mod Strokes
 pub mod Walks
