@@ -58,7 +58,7 @@ not_earlier_stays : (n m c d o p k b : ℕ) → Ahead n m c d o p → (nat_lt n 
 not_earlier_stays n m c d o p k b h e = let x = h.node in let y = h.class in grind (arith, nat_tests)
 
 module _ {A : Type 0} where
-  each_row : (P Q : A → Type 0) → ((r : A) → P r → Q r) → (rs : List A) → AllByRecursion P rs → AllByRecursion Q rs
+  pub each_row : (P Q : A → Type 0) → ((r : A) → P r → Q r) → (rs : List A) → AllByRecursion P rs → AllByRecursion Q rs
   each_row P Q f [] all = tt
   each_row P Q f (r ∷ rs) all = (f r all.0, each_row P Q f rs all.1)
 
@@ -115,6 +115,7 @@ module _ (key : Key) (rs : List LockRow) (i : ℕ) where
     pub there : slice_get rs i ≡ Some row
     pub spans : runs_at rs i ≡ row.runs
     pub key_is : row.key ≡ of_owner key owner
+    pub kin : are_kin key row.key ≡ true
     pub rest : class_rows key (drop i rs) ≡ row ∷ class_rows key (drop (i + 1) rs)
 
   kin_key : (other : Key) (owner : ℕ) → cond (are_kin key other) (Some other.owner) None ≡ Some owner →
@@ -143,6 +144,7 @@ module _ (key : Key) (rs : List LockRow) (i : ℕ) where
             there = h.there;
             spans = h.spans;
             key_is = h.key_is ∙ k.1;
+            kin = ap (are_kin key) h.key_is ∙ k.0;
             rest = ap (class_rows key) (drop_here rs i h.row h.there)
                 ∙ ap (λ b. cond b (h.row ∷ class_rows key (drop (i + 1) rs)) []) (ap (are_kin key) h.key_is ∙ k.0);
           }
@@ -290,8 +292,12 @@ order_here [] i r found order = absurd (none-some r found)
 order_here (y ∷ rs) zero r found order = let same : y ≡ r = cc found in subst (λ (z : LockRow). AllByRecursion (λ x. goes_before z.key x.key ≡ true) rs) same order.0
 order_here (y ∷ rs) (suc i) r found order = order_here rs i r found order.1
 
+pub later_order : (rs : List LockRow) (i : ℕ) (r : LockRow) → slice_get rs i ≡ Some r → AreInOrder rs →
+    AllByRecursion (λ x. goes_before r.key x.key ≡ true) (drop (i + 1) rs)
+later_order rs i r found order = rw add-one (order_here rs i r found order)
+
 module _ (key : Key) (owner : ℕ) where
-  later_owner : (k : Key) → goes_before (of_owner key owner) k ≡ true → are_kin key k ≡ true → owner < k.owner
+  pub later_owner : (k : Key) → goes_before (of_owner key owner) k ≡ true → are_kin key k ≡ true → owner < k.owner
   later_owner k first kin =
       let h = key_ahead (of_owner key owner) k first in
       h.owner (eqb-true key.node k.node (second_so (class_number key.class == class_number k.class) _ kin))
@@ -318,4 +324,4 @@ module _ (key : Key) (owner : ℕ) where
       AllByRecursion (λ (r : Run). owner < r.key.owner) (runs_in (class_rows key (drop (i + 1) rs)))
   later_runs rs i order k =
       later_rows (drop (i + 1) rs)
-      (subst (λ (o : Key). AllByRecursion (λ x. goes_before o x.key ≡ true) (drop (i + 1) rs)) k.key_is (rw add-one (order_here rs i k.row k.there order)))
+      (subst (λ (o : Key). AllByRecursion (λ x. goes_before o x.key ≡ true) (drop (i + 1) rs)) k.key_is (later_order rs i k.row k.there order))

@@ -7,6 +7,7 @@ mod conflict;
 mod held;
 pub mod laws;
 mod lock;
+mod nearest;
 mod owners;
 mod plan;
 mod rival_owners;
