@@ -1,6 +1,6 @@
 -- The rows of a class on a node stand one after another, and no other run excludes a lock of their class and node.
 use Rattle.std.proofs.Common.{◌≡◌, ◌≢◌, ℕ, zero, suc, ◌+◌, ◌<◌, ◌≤◌, Bool, true, false, cond, not, ◌&&◌, ◌||◌, ◌==◌, nat_lt, nat_le, Option, Some, None, List, [], ◌∷◌}
-use Rattle.std.proofs.Common.{◌++◌, map, length, drop, get_or, slice_get, refl, ap, sym, ◌∙◌, subst, add-one, arith}
+use Rattle.std.proofs.Common.{◌++◌, map, drop, get_or, slice_get, refl, ap, sym, ◌∙◌, subst, add-one, arith}
 use Rattle.std.proofs.lemmas.Bool.Decides.{nat_tests}
 use Rattle.std.proofs.lemmas.Bool.{false_from_ne_true, eqb-true}
 use Rattle.std.proofs.lemmas.List.{append-nil}
@@ -9,7 +9,7 @@ use Rattle.std.proofs.lemmas.Option.{none-some}
 use Rattle.std.specs.Cmp.{first_so, second_so}
 use Rattle.std.specs.List.{filter, find, flat_map, AllByRecursion}
 use Rattle.std.specs.Ordering.{nat_cmp, ordering_then, is_lt}
-use Rattle.fl_rows.specs.Rows.{row_lists, rows, keys, runs_at, chain_count}
+use Rattle.fl_rows.specs.Rows.{row_lists, rows, keys, runs_at}
 use Rattle.fl_spans.specs.declared.span.Span.{Span}
 use Rattle.fl_spans.specs.Spans.{overlaps, AreSpans}
 use Rattle.fl_ranges.specs.declared.lock.Key.{Key}
@@ -21,9 +21,9 @@ use Rattle.fl_ranges.specs.Conflict.{excludes}
 use Rattle.fl_ranges.specs.Placing.{home}
 use Rattle.fl_ranges.specs.Blocker.{of_owner}
 use Rattle.fl_ranges.specs.Inside.RunList.{run_excludes}
-use Rattle.fl_ranges.specs.Inside.LockRows.{LockRow, LockRows, run_of, runs_of, runs_in, table_runs, goes_before, AreInOrder, AreOnChain, AreLockRows}
+use Rattle.fl_ranges.specs.Inside.LockRows.{LockRow, LockRows, run_of, runs_of, runs_in, table_runs, goes_before, AreInOrder, AreLockRows}
 use Rattle.fl_ranges.specs.Inside.Rivals.{are_kin, is_earlier, rows_from, class_rows, kin_owner, span_excludes}
-use Rattle.fl_ranges.proofs.Walks.{drop_here, drop_end}
+use Rattle.fl_ranges.proofs.Walks.{drop_here}
 use Rattle.fl_ranges.proofs.ChainLists.{each_append}
 use Rattle.fl_ranges.proofs.Markings.{same_class}
 
