@@ -37,4 +37,5 @@ pub mod Sorted
 pub mod Behind
 pub mod RivalRows
 pub mod RivalOwners
+pub mod RivalNearest
 pub mod RivalConflicts

@@ -9,7 +9,6 @@ use Rattle.fl_ranges.specs.declared.lock.Kind.{Kind}
 use Rattle.fl_ranges.specs.declared.lock.Mark.{Mark}
 use Rattle.fl_ranges.specs.declared.run.Run.{Run}
 use Rattle.fl_ranges.specs.Placing.{home}
-use Rattle.fl_ranges.specs.Blocker.{of_owner}
 use Rattle.fl_ranges.specs.Inside.RunList.{run_excludes}
 use Rattle.fl_ranges.specs.Inside.LockRows.{LockRow, LockRows, run_of, runs_of, runs_in, table_runs, AreLockRows}
 use Rattle.fl_ranges.specs.Inside.Rivals.{rows_from, class_rows, kin_owner, span_excludes}

@@ -16,8 +16,7 @@ use Rattle.fl_ranges.specs.Inside.RunList.{run_excludes}
 use Rattle.fl_ranges.specs.Inside.LockRows.{LockRow, LockRows, run_of, runs_of, runs_in, table_runs, AreInOrder, AreLockRows}
 use Rattle.fl_ranges.specs.Inside.Owners.{is_after, is_less, least_with, least_from}
 use Rattle.fl_ranges.specs.Inside.Rivals.{rows_from, class_rows, kin_owner, span_excludes}
-use Rattle.fl_ranges.proofs.RunLists.{each_weaker}
-use Rattle.fl_ranges.proofs.RivalRows.{class_runs, excluding_kin, at_kin, none_kin, later_runs}
+use Rattle.fl_ranges.proofs.RivalRows.{class_runs, excluding_kin, at_kin, none_kin, each_row, later_runs}
 
 module _ (key : Key) (start end : ℕ) (kind : Kind) (after : Option ℕ) where
   least_kept : (rs : List Run) (least : Option ℕ) →
@@ -131,7 +130,7 @@ module _ (key : Key) (start end : ℕ) (kind : Kind) (after : Option ℕ) where
     least_here order past some =
         here
         ∙ ap (λ o. least_from key start end kind after o (runs_in (class_rows key (drop (i + 1) rs)))) (spans_some (of_owner key owner) (runs_at rs i) past some)
-        ∙ stays_least (runs_in (class_rows key (drop (i + 1) rs))) owner (each_weaker (λ r. owner < r.key.owner) (λ r. owner ≤ r.key.owner)
+        ∙ stays_least (runs_in (class_rows key (drop (i + 1) rs))) owner (each_row (λ (r : Run). owner < r.key.owner) (λ (r : Run). owner ≤ r.key.owner)
         (λ r less. omega (arith, less)) (runs_in (class_rows key (drop (i + 1) rs))) (later_runs key owner rs i order (at_kin key rs i owner found)))
 
   -- no row is left

@@ -1,6 +1,6 @@
 -- The rows of a class on a node stand one after another, and no other run excludes a lock of their class and node.
 use Rattle.std.proofs.Common.{◌≡◌, ◌≢◌, ℕ, zero, suc, ◌+◌, ◌<◌, ◌≤◌, Bool, true, false, cond, not, ◌&&◌, ◌||◌, ◌==◌, nat_lt, nat_le, Option, Some, None, List, [], ◌∷◌}
-use Rattle.std.proofs.Common.{◌++◌, map, length, drop, get_or, slice_get, refl, ap, sym, ◌∙◌, subst, add-one, arith}
+use Rattle.std.proofs.Common.{◌++◌, map, drop, get_or, slice_get, refl, ap, sym, ◌∙◌, subst, add-one, arith}
 use Rattle.std.proofs.lemmas.Bool.Decides.{nat_tests}
 use Rattle.std.proofs.lemmas.Bool.{false_from_ne_true, eqb-true}
 use Rattle.std.proofs.lemmas.List.{append-nil}
@@ -9,7 +9,7 @@ use Rattle.std.proofs.lemmas.Option.{none-some}
 use Rattle.std.specs.Cmp.{first_so, second_so}
 use Rattle.std.specs.List.{filter, find, flat_map, AllByRecursion}
 use Rattle.std.specs.Ordering.{nat_cmp, ordering_then, is_lt}
-use Rattle.fl_rows.specs.Rows.{row_lists, rows, keys, runs_at, chain_count}
+use Rattle.fl_rows.specs.Rows.{row_lists, rows, keys, runs_at}
 use Rattle.fl_spans.specs.declared.span.Span.{Span}
 use Rattle.fl_spans.specs.Spans.{overlaps, AreSpans}
 use Rattle.fl_ranges.specs.declared.lock.Key.{Key}
@@ -21,9 +21,9 @@ use Rattle.fl_ranges.specs.Conflict.{excludes}
 use Rattle.fl_ranges.specs.Placing.{home}
 use Rattle.fl_ranges.specs.Blocker.{of_owner}
 use Rattle.fl_ranges.specs.Inside.RunList.{run_excludes}
-use Rattle.fl_ranges.specs.Inside.LockRows.{LockRow, LockRows, run_of, runs_of, runs_in, table_runs, goes_before, AreInOrder, AreOnChain, AreLockRows}
+use Rattle.fl_ranges.specs.Inside.LockRows.{LockRow, LockRows, run_of, runs_of, runs_in, table_runs, goes_before, AreInOrder, AreLockRows}
 use Rattle.fl_ranges.specs.Inside.Rivals.{are_kin, is_earlier, rows_from, class_rows, kin_owner, span_excludes}
-use Rattle.fl_ranges.proofs.Walks.{drop_here, drop_end}
+use Rattle.fl_ranges.proofs.Walks.{drop_here}
 use Rattle.fl_ranges.proofs.ChainLists.{each_append}
 use Rattle.fl_ranges.proofs.Markings.{same_class}
 
@@ -58,7 +58,7 @@ not_earlier_stays : (n m c d o p k b : ℕ) → Ahead n m c d o p → (nat_lt n 
 not_earlier_stays n m c d o p k b h e = let x = h.node in let y = h.class in grind (arith, nat_tests)
 
 module _ {A : Type 0} where
-  each_row : (P Q : A → Type 0) → ((r : A) → P r → Q r) → (rs : List A) → AllByRecursion P rs → AllByRecursion Q rs
+  pub each_row : (P Q : A → Type 0) → ((r : A) → P r → Q r) → (rs : List A) → AllByRecursion P rs → AllByRecursion Q rs
   each_row P Q f [] all = tt
   each_row P Q f (r ∷ rs) all = (f r all.0, each_row P Q f rs all.1)
 
@@ -115,6 +115,7 @@ module _ (key : Key) (rs : List LockRow) (i : ℕ) where
     pub there : slice_get rs i ≡ Some row
     pub spans : runs_at rs i ≡ row.runs
     pub key_is : row.key ≡ of_owner key owner
+    pub kin : are_kin key row.key ≡ true
     pub rest : class_rows key (drop i rs) ≡ row ∷ class_rows key (drop (i + 1) rs)
 
   kin_key : (other : Key) (owner : ℕ) → cond (are_kin key other) (Some other.owner) None ≡ Some owner →
@@ -143,6 +144,7 @@ module _ (key : Key) (rs : List LockRow) (i : ℕ) where
             there = h.there;
             spans = h.spans;
             key_is = h.key_is ∙ k.1;
+            kin = ap (are_kin key) h.key_is ∙ k.0;
             rest = ap (class_rows key) (drop_here rs i h.row h.there)
                 ∙ ap (λ b. cond b (h.row ∷ class_rows key (drop (i + 1) rs)) []) (ap (are_kin key) h.key_is ∙ k.0);
           }
@@ -290,8 +292,12 @@ order_here [] i r found order = absurd (none-some r found)
 order_here (y ∷ rs) zero r found order = let same : y ≡ r = cc found in subst (λ (z : LockRow). AllByRecursion (λ x. goes_before z.key x.key ≡ true) rs) same order.0
 order_here (y ∷ rs) (suc i) r found order = order_here rs i r found order.1
 
+pub later_order : (rs : List LockRow) (i : ℕ) (r : LockRow) → slice_get rs i ≡ Some r → AreInOrder rs →
+    AllByRecursion (λ x. goes_before r.key x.key ≡ true) (drop (i + 1) rs)
+later_order rs i r found order = rw add-one (order_here rs i r found order)
+
 module _ (key : Key) (owner : ℕ) where
-  later_owner : (k : Key) → goes_before (of_owner key owner) k ≡ true → are_kin key k ≡ true → owner < k.owner
+  pub later_owner : (k : Key) → goes_before (of_owner key owner) k ≡ true → are_kin key k ≡ true → owner < k.owner
   later_owner k first kin =
       let h = key_ahead (of_owner key owner) k first in
       h.owner (eqb-true key.node k.node (second_so (class_number key.class == class_number k.class) _ kin))
@@ -318,4 +324,4 @@ module _ (key : Key) (owner : ℕ) where
       AllByRecursion (λ (r : Run). owner < r.key.owner) (runs_in (class_rows key (drop (i + 1) rs)))
   later_runs rs i order k =
       later_rows (drop (i + 1) rs)
-      (subst (λ (o : Key). AllByRecursion (λ x. goes_before o x.key ≡ true) (drop (i + 1) rs)) k.key_is (rw add-one (order_here rs i k.row k.there order)))
+      (subst (λ (o : Key). AllByRecursion (λ x. goes_before o x.key ≡ true) (drop (i + 1) rs)) k.key_is (later_order rs i k.row k.there order))

@@ -1,4 +1,4 @@
-use Rattle.std.proofs.Common.{rules, ◌≡◌, sym, ap, ◌∙◌}
+use Rattle.std.proofs.Common.{rules, sym, ap, ◌∙◌}
 use Rattle.std.specs.List.{find}
 use Rattle.fl_spans.specs.Row.{spans_at}
 use Rattle.fl_ranges.specs.Conflict.{excludes}

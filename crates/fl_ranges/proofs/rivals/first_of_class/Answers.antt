@@ -19,7 +19,7 @@ loop-other-preserved c =
       row = c.next_row.ensures.row;
       chain = ap (λ (k : Cursor). k.chain) on ∙ inv.chain;
       rest = rw (ap (λ (k : Cursor). k.index) on) (past_earlier key (rows v (home key.node)) i c.in-Some.other.now found
-      (sym c.is_earlier.ensures ∙ c.if-not-is_earlier.false) ∙ inv.rest);
+          (sym c.is_earlier.ensures ∙ c.if-not-is_earlier.false) ∙ inv.rest);
     }
 
 pub returns-then-not-is_earlier-clause-first : goal.returns-then-not-is_earlier-clause-first
