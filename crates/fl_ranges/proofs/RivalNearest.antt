@@ -18,9 +18,9 @@ use Rattle.fl_ranges.specs.Inside.RunList.{run_excludes}
 use Rattle.fl_ranges.specs.Inside.LockRows.{LockRow, LockRows, run_of, runs_of, runs_in, table_runs, goes_before, AreInOrder, AreLockRows}
 use Rattle.fl_ranges.specs.Inside.Nearest.{is_nearer, nearer_of, nearest_with, nearest_from}
 use Rattle.fl_ranges.specs.Inside.Rivals.{are_kin, rows_from, class_rows, kin_owner, span_excludes}
-use Rattle.fl_ranges.proofs.Walks.{drop_here}
 use Rattle.fl_ranges.proofs.BlockersRuns.{ExcludingParts, excluding_parts, excluding_all, nearest_append}
 use Rattle.fl_ranges.proofs.RivalRows.{class_runs, excluding_kin, IsKin, at_kin, none_kin, each_row, later_order, later_owner, later_runs}
+use Rattle.fl_ranges.proofs.Each.{drop_here}
 
 later_not_nearer : (x y p q : ℕ) → y ≤ x → q < p → (nat_lt x y || ((x == y) && nat_lt p q)) ≡ false
 later_not_nearer x y p q le less = grind (arith, nat_tests)

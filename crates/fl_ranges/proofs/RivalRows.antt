@@ -23,8 +23,7 @@ use Rattle.fl_ranges.specs.Blocker.{of_owner}
 use Rattle.fl_ranges.specs.Inside.RunList.{run_excludes}
 use Rattle.fl_ranges.specs.Inside.LockRows.{LockRow, LockRows, run_of, runs_of, runs_in, table_runs, goes_before, AreInOrder, AreLockRows}
 use Rattle.fl_ranges.specs.Inside.Rivals.{are_kin, is_earlier, rows_from, class_rows, kin_owner, span_excludes}
-use Rattle.fl_ranges.proofs.Walks.{drop_here}
-use Rattle.fl_ranges.proofs.ChainLists.{each_append}
+use Rattle.fl_ranges.proofs.Each.{all_append, drop_here}
 use Rattle.fl_ranges.proofs.Markings.{same_class}
 
 -- ---- keys
@@ -315,7 +314,7 @@ module _ (key : Key) (owner : ℕ) where
       go : (b : Bool) → are_kin key x.key ≡ b → AllByRecursion (λ (r : Run). owner < r.key.owner) (runs_in (class_rows key rs)) →
           AllByRecursion (λ (r : Run). owner < r.key.owner) (runs_in (cond b (x ∷ class_rows key rs) []))
       go true is rest =
-          each_append (λ r. owner < r.key.owner) (runs_of x) (runs_in (class_rows key rs))
+          all_append (λ r. owner < r.key.owner) (runs_of x) (runs_in (class_rows key rs))
           (later_spans x.key (later_owner x.key each.0 is) x.runs) rest
       go false is rest = tt
 

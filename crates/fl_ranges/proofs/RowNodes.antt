@@ -18,8 +18,7 @@ use Rattle.fl_ranges.specs.Runs.{without_node}
 use Rattle.fl_ranges.specs.Placing.{home}
 use Rattle.fl_ranges.specs.Inside.LockRows.{LockRow, LockRows, place_cmp, goes_before, AreInOrder, row_marks, row_index, has_row, spans_of, IsLockTable}
 use Rattle.fl_ranges.proofs.Markings.{spots_total, exact_spots, get-stroked, get-without_node}
-use Rattle.fl_ranges.proofs.Spots.{same_key, key_itself, within}
-use Rattle.fl_ranges.proofs.ChainLists.{home_less}
+use Rattle.fl_ranges.proofs.Spots.{same_key, key_itself, within, home_less}
 use Rattle.fl_ranges.proofs.Each.{all_weaker, all_append}
 use Rattle.fl_ranges.proofs.RowRuns.{IsOther, no_spans, before_differs, keys_placed, mark_kept}
 use Rattle.fl_ranges.proofs.RowPlaces.{IsHere, row_here, index_more, index_end, has_more}

@@ -20,8 +20,7 @@ use Rattle.fl_ranges.specs.Placing.{home}
 use Rattle.fl_ranges.specs.Inside.RunList.{meant}
 use Rattle.fl_ranges.specs.Inside.LockRows.{LockRow, LockRows, run_of, runs_of, runs_in, table_runs, row_marks, spans_of, given_spans, AreLockRows, IsLockTable}
 use Rattle.fl_ranges.proofs.Markings.{spots_total, exact_spots, get-stroked}
-use Rattle.fl_ranges.proofs.Spots.{same_key}
-use Rattle.fl_ranges.proofs.ChainLists.{home_less}
+use Rattle.fl_ranges.proofs.Spots.{same_key, home_less}
 use Rattle.fl_ranges.proofs.RowRuns.{mark_kept, runs_kept}
 use Rattle.fl_ranges.proofs.GivenSpans.{spans_given, long_given, rows_given}
 

@@ -10,6 +10,7 @@ use Rattle.fl_ranges.specs.declared.run.Run.{Run}
 use Rattle.fl_ranges.specs.Marking.{key_cmp, Spot, mark_at}
 use Rattle.fl_ranges.specs.Inside.RunList.{meant, has_spot, run_at, held_at, AreApart, overlaps}
 use Rattle.fl_ranges.proofs.Spots.{same_key, key_itself, within, is_within}
+use Rattle.fl_ranges.proofs.Each.{all_weaker}
 
 -- ---- tests, as facts
 
@@ -69,14 +70,6 @@ module _ (P : Run → Type 0) where
       go true e rest = ((e, all.0), rest)
       go false e rest = rest
 
-pub each_weaker : (P Q : Run → Type 0) → ((r : Run) → P r → Q r) → (rs : List Run) → AllByRecursion P rs → AllByRecursion Q rs
-each_weaker P Q f [] all = tt
-each_weaker P Q f (x ∷ xs) all = (f x all.0, each_weaker P Q f xs all.1)
-
-pub each_both : (P Q : Run → Type 0) (rs : List Run) → AllByRecursion P rs → AllByRecursion Q rs → AllByRecursion (λ r. P r × Q r) rs
-each_both P Q [] a b = tt
-each_both P Q (x ∷ xs) a b = ((a.0, b.0), each_both P Q xs a.1 b.1)
-
 -- ---- the run that has a spot
 
 pub run_has : (rs : List Run) (q : Spot) (r : Run) → run_at rs q ≡ Some r → has_spot q r ≡ true
@@ -112,7 +105,7 @@ pub each_found : (rs : List Run) → AreApart rs → AllByRecursion (λ r. (q : 
 each_found [] apart = tt
 each_found (x ∷ xs) apart = (
   λ q has. ap (λ b. cond b (Some x) (run_at xs q)) has,
-  each_weaker (λ r. (q : Spot) → has_spot q r ≡ true → run_at xs q ≡ Some r)
+  all_weaker (λ r. (q : Spot) → has_spot q r ≡ true → run_at xs q ≡ Some r)
       (λ r. (q : Spot) → has_spot q r ≡ true → run_at (x ∷ xs) q ≡ Some r) (found_later x xs apart.1) xs (each_found xs apart.2),
 )
 

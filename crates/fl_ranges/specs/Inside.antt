@@ -1,8 +1,6 @@
 -- How a table of locks is kept. No public clause cites these modules.
 pub mod RunList
 pub mod LockRows
-pub mod RunChains
-pub mod RunPlan
 pub mod Nearest
 pub mod Owners
 pub mod Rivals

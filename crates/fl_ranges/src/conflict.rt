@@ -1,4 +1,4 @@
-//! Whether a lock in the rows excludes one that is asked for. `Table` is to stand on it.
+//! Whether a lock in the rows excludes one that is asked for.
 ghost use Rattle.std.specs.Prelude.{◌≡◌, ℕ};
 ghost use Rattle.std.specs.List.{list_any};
 ghost use Rattle.fl_rows.specs.Rows.{rows, chain_count};

@@ -1,4 +1,4 @@
-//! Locks in rows, one for each key that has a mark, in the order of keys. `Table` is to stand on them.
+//! Locks in rows, one for each key that has a mark, in the order of keys.
 ghost use Rattle.std.specs.Prelude.{◌≡◌, true, IsSome};
 ghost use Rattle.std.specs.Ordering.{eq_by_cmp};
 ghost use Rattle.fl_rows.specs.Rows.{rows, limit_of, row_cursor, IsRow};

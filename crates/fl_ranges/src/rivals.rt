@@ -1,4 +1,4 @@
-//! The rows of a class on a node, and the locks in them that exclude one that is asked for. `Table` is to stand on these.
+//! The rows of a class on a node, and the locks in them that exclude one that is asked for.
 ghost use Rattle.std.specs.Prelude.{◌≡◌, ℕ, IsSome, slice_get, drop};
 ghost use Rattle.std.specs.List.{find};
 ghost use Rattle.fl_rows.specs.Rows.{rows, keys, chain_count, IsRow};

@@ -1,4 +1,4 @@
-//! Changes of locks in rows. `Table` is to stand on them.
+//! Changes of locks in rows.
 ghost use Rattle.std.specs.Prelude.{◌≡◌, ◌<◌, ◌↔◌, None, IsErr, OnOk, OnErr};
 ghost use Rattle.fl_rows.specs.Rows.{limit_of};
 ghost use Rattle.fl_ranges.specs.Marking.{stroke_on, stroked};

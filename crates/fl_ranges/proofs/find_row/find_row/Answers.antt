@@ -1,4 +1,4 @@
-use Rattle.std.proofs.Common.{◌≡◌, ◌+◌, false, not, drop, Some, None, slice_get, ◌∷◌, sym, ap, subst, ◌∙◌, arith}
+use Rattle.std.proofs.Common.{◌≡◌, ◌+◌, false, drop, None, slice_get, ◌∷◌, sym, ap, subst, ◌∙◌, arith}
 use Rattle.std.specs.Option.{option_copied}
 use Rattle.std.specs.Ordering.{eq_by_cmp}
 use Rattle.fl_arena.specs.declared.cursors.Cursor.{Cursor}
@@ -6,7 +6,7 @@ use Rattle.fl_rows.specs.Rows.{rows, keys, row_cursor}
 use Rattle.fl_ranges.specs.declared.lock.Key.{Key}
 use Rattle.fl_ranges.specs.Marking.{key_cmp}
 use Rattle.fl_ranges.specs.Placing.{home}
-use Rattle.fl_ranges.specs.Inside.LockRows.{LockRow, goes_before, AreInOrder, row_index, has_row}
+use Rattle.fl_ranges.specs.Inside.LockRows.{goes_before, AreInOrder, row_index, has_row}
 use Rattle.fl_ranges.proofs.RowPlaces.{IsHere, row_here, row_end, in_order_drop, index_more, index_end, has_more, has_here}
 use Rattle.fl_ranges.proofs.find_row.find_row.Goals as goal
 

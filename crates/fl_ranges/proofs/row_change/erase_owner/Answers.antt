@@ -1,4 +1,4 @@
-use Rattle.std.proofs.Common.{◌≡◌, sym, ◌∙◌}
+use Rattle.std.proofs.Common.{sym, ◌∙◌}
 use Rattle.fl_ranges.proofs.RowStrokes.{removed_here, erased_here, erased_kept, left_stroked}
 use Rattle.fl_ranges.proofs.row_change.erase_owner.Goals as goal
 

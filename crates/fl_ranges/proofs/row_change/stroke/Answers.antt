@@ -1,7 +1,6 @@
-use Rattle.std.proofs.Common.{◌≡◌, ◌↔◌, ◌<◌, Some, None, false, sym, ap, subst, ◌∙◌}
-use Rattle.std.specs.Prelude.{OnOk, OnErr, IsErr}
-use Rattle.fl_rows.specs.Rows.{rows, limit_of, run_count}
-use Rattle.fl_ranges.specs.declared.lock.Mark.{Mark}
+use Rattle.std.proofs.Common.{◌↔◌, ◌<◌, sym, ap, subst, ◌∙◌}
+use Rattle.std.specs.Prelude.{IsErr}
+use Rattle.fl_rows.specs.Rows.{limit_of}
 use Rattle.fl_ranges.specs.Marking.{stroked}
 use Rattle.fl_ranges.specs.Runs.{runs}
 use Rattle.fl_ranges.specs.Inside.LockRows.{row_marks, IsLockTable}

@@ -5,7 +5,7 @@ use Rattle.fl_ranges.specs.Inside.LockRows.{table_runs, runs_in}
 use Rattle.fl_ranges.specs.Inside.Nearest.{nearest_from}
 use Rattle.fl_ranges.specs.Inside.Rivals.{class_rows}
 use Rattle.fl_ranges.proofs.RivalNearest.{IsBestOf}
-use Rattle.fl_ranges.proofs.nearest.nearest.Given as goal
+use Rattle.fl_ranges.proofs.blocker.nearest.Given as goal
 
 abbrev pub invariant-loop-owner : goal.invariant-loop-owner
 invariant-loop-owner l = record {

@@ -8,8 +8,8 @@ use Rattle.fl_ranges.specs.Inside.Nearest.{nearest_from}
 use Rattle.fl_ranges.specs.Inside.Rivals.{class_rows, kin_owner, span_excludes}
 use Rattle.fl_ranges.proofs.RivalRows.{kin_spans}
 use Rattle.fl_ranges.proofs.RivalNearest.{nearest_class, GoesOn, nearest_next, nearest_more, nearest_stop, nearest_none}
-use Rattle.fl_ranges.proofs.nearest.nearest.Goals as goal
-use Rattle.fl_ranges.proofs.nearest.nearest.Goals.{in-Some-excluding_span+else-span-range, in_default-excluding_span}
+use Rattle.fl_ranges.proofs.blocker.nearest.Goals as goal
+use Rattle.fl_ranges.proofs.blocker.nearest.Goals.{in-Some-excluding_span+else-span-range, in_default-excluding_span}
 
 pub loop-owner-init : goal.loop-owner-init
 loop-owner-init c =

@@ -8,8 +8,8 @@ use Rattle.fl_ranges.specs.Inside.Owners.{least_from}
 use Rattle.fl_ranges.specs.Inside.Rivals.{class_rows, kin_owner, span_excludes}
 use Rattle.fl_ranges.proofs.RivalRows.{kin_spans}
 use Rattle.fl_ranges.proofs.RivalOwners.{least_class, least_before, least_next, least_here, least_none}
-use Rattle.fl_ranges.proofs.rival_owners.least_after.Goals as goal
-use Rattle.fl_ranges.proofs.rival_owners.least_after.Goals.{else-is_after-via-then-is_after+else-is_some, else-is_after-via-else-is_after}
+use Rattle.fl_ranges.proofs.owners.least_after.Goals as goal
+use Rattle.fl_ranges.proofs.owners.least_after.Goals.{else-is_after-via-then-is_after+else-is_some, else-is_after-via-else-is_after}
 
 pub loop-owner-init : goal.loop-owner-init
 loop-owner-init c =

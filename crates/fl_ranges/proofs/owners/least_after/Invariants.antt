@@ -4,7 +4,7 @@ use Rattle.fl_ranges.specs.Placing.{home}
 use Rattle.fl_ranges.specs.Inside.LockRows.{table_runs, runs_in}
 use Rattle.fl_ranges.specs.Inside.Owners.{least_from}
 use Rattle.fl_ranges.specs.Inside.Rivals.{class_rows}
-use Rattle.fl_ranges.proofs.rival_owners.least_after.Given as goal
+use Rattle.fl_ranges.proofs.owners.least_after.Given as goal
 
 abbrev pub invariant-loop-owner : goal.invariant-loop-owner
 invariant-loop-owner l = record {
