@@ -14,11 +14,12 @@ use Rattle.fl_ranges.specs.Conflict.{excludes}
 use Rattle.fl_ranges.specs.Blocker.{of_owner, IsExcluder, IsRow, IsBlocker, blocker}
 use Rattle.fl_ranges.specs.Inside.RunList.{meant, has_spot, run_at, held_at, IsWhole, AreRuns, run_excludes}
 use Rattle.fl_ranges.specs.Inside.Nearest.{is_nearer, nearer_of, nearest_with, nearest_from, lock_of}
-use Rattle.fl_ranges.proofs.RunLists.{IsAt, at_spot, spot_of, each_at, each_both, each_weaker, each_found, each_ordered, run_has, same_run}
+use Rattle.fl_ranges.proofs.RunLists.{IsAt, at_spot, spot_of, each_at, each_found, each_ordered, run_has, same_run}
 use Rattle.fl_ranges.proofs.Counting.{Held as HeldBy, get-runs, held_by, held_of}
 use Rattle.fl_ranges.proofs.Blockers.{named_words}
 use Rattle.fl_ranges.proofs.Markings.{same_class}
 use Rattle.fl_ranges.proofs.Spots.{and_and_false}
+use Rattle.fl_ranges.proofs.Each.{all_both, all_weaker}
 
 -- ---- the tests, as facts
 
@@ -72,13 +73,6 @@ record IsListed (rs : List Run) (r : Run) : Type 0 where
   pub whole : IsWhole (held_at rs) r
 
 module _ (key : Key) (start end : ℕ) (kind : Kind) where
-  -- a run that excludes the lock is on its node
-  pub excluding_node : (r : Run) → run_excludes key start end kind r ≡ true → key.node ≡ r.key.node
-  excluding_node r excluding =
-      let p = excluding_parts (class_number key.class) (class_number r.key.class) key.node r.key.node key.owner r.key.owner start end r.start r.end
-      (excludes kind r.mark.kind) excluding in
-      p.node
-
   -- ---- what is found among runs
 
   record IsNearest (best : Option Run) (rs : List Run) (r : Run) : Type 0 where
@@ -145,13 +139,6 @@ module _ (key : Key) (start end : ℕ) (kind : Kind) where
       go : (t : Bool) → run_excludes key start end kind x ≡ t → NoneExcludes (cond t (Some (nearer_of start best x)) best) xs → NoneExcludes best (x ∷ xs)
       go true is n = let none = n.no_best in absurd (cc none)
       go false is n = record { no_best = n.no_best; each = (is, n.each) }
-
-  -- runs that don't exclude the lock change nothing
-  pub nearest_past : (rs : List Run) (best : Option Run) → AllByRecursion (λ (s : Run). run_excludes key start end kind s ≡ false) rs →
-      nearest_from key start end kind best rs ≡ best
-  nearest_past [] best each = refl
-  nearest_past (x ∷ xs) best each =
-      ap (λ t. nearest_from key start end kind (cond t (Some (nearer_of start best x)) best) xs) each.0 ∙ nearest_past xs best each.1
 
   pub nearest_append : (rs ss : List Run) (best : Option Run) →
       nearest_from key start end kind best (rs ++ ss) ≡ nearest_from key start end kind (nearest_from key start end kind best rs) ss
@@ -231,11 +218,11 @@ module _ (key : Key) (start end : ℕ) (kind : Kind) where
 
     each_listed : AllByRecursion (IsListed rs) rs
     each_listed =
-        each_weaker (λ r. ((q : Spot) → has_spot q r ≡ true → run_at rs q ≡ Some r) × ((r.start ≤ r.end) × IsWhole (held_at rs) r)) (IsListed rs)
+        all_weaker (λ r. ((q : Spot) → has_spot q r ≡ true → run_at rs q ≡ Some r) × ((r.start ≤ r.end) × IsWhole (held_at rs) r)) (IsListed rs)
         (λ r f. record { found = f.0; ordered = f.1.0; whole = f.1.1 }) rs
-        (each_both (λ r. (q : Spot) → has_spot q r ≡ true → run_at rs q ≡ Some r) (λ r. (r.start ≤ r.end) × IsWhole (held_at rs) r) rs
+        (all_both (λ r. (q : Spot) → has_spot q r ≡ true → run_at rs q ≡ Some r) (λ r. (r.start ≤ r.end) × IsWhole (held_at rs) r) rs
         (each_found rs good.apart)
-        (each_both (λ r. r.start ≤ r.end) (IsWhole (held_at rs)) rs (each_ordered rs good.apart) good.whole))
+        (all_both (λ r. r.start ≤ r.end) (IsWhole (held_at rs)) rs (each_ordered rs good.apart) good.whole))
 
     -- no excluder comes before the nearest run
     none_first : (r : Run) → IsNearest None rs r → (byte owner : ℕ) (mark : Mark) → start ≤ byte → byte ≤ end →
@@ -254,8 +241,8 @@ module _ (key : Key) (start end : ℕ) (kind : Kind) where
         IsBlocker (marking_of (map meant rs)) key start end kind (lock_of r)
     named_run some r e =
         let listed = nearest_among (IsListed rs) rs None r (λ b is. absurd (cc is))
-        (each_weaker (IsListed rs) (λ s. run_excludes key start end kind s ≡ true → IsListed rs s) (λ s l h. l) rs each_listed) e in
-        let excluding = nearest_among (λ s. run_excludes key start end kind s ≡ true) rs None r (λ b is. absurd (cc is)) (each_weaker (IsListed rs)
+        (all_weaker (IsListed rs) (λ s. run_excludes key start end kind s ≡ true → IsListed rs s) (λ s l h. l) rs each_listed) e in
+        let excluding = nearest_among (λ s. run_excludes key start end kind s ≡ true) rs None r (λ b is. absurd (cc is)) (all_weaker (IsListed rs)
         (λ s. run_excludes key start end kind s ≡ true → run_excludes key start end kind s ≡ true) (λ s l h. h) rs each_listed) e in
         let p = excluding_parts (class_number key.class) (class_number r.key.class) key.node r.key.node key.owner r.key.owner start end r.start r.end
         (excludes kind r.mark.kind) excluding in

@@ -1,26 +1,22 @@
 -- A conflict that the runs show is a conflict of the marking that they mean.
-use Rattle.std.proofs.Common.{◌≡◌, ℕ, ◌≤◌, Bool, true, false, cond, not, ◌&&◌, ◌||◌, ◌==◌, nat_le, Some, List, [], ◌∷◌, map, refl, ap, sym, ◌∙◌, arith}
+use Rattle.std.proofs.Common.{◌≡◌, ℕ, ◌≤◌, Bool, true, false, cond, ◌&&◌, ◌||◌, nat_le, Some, List, [], ◌∷◌, map, refl, ap, sym, ◌∙◌, arith}
 use Rattle.std.proofs.lemmas.Bool.Decides.{nat_tests}
 use Rattle.std.specs.List.{list_any, find, AllByRecursion}
 use Rattle.std.specs.Cmp.{both_ways}
 use Rattle.std.specs.FinMap.{entries}
-use Rattle.std.proofs.lemmas.Bool.{false_from_ne_true, or_left, or_right, and_from, eqb-true}
-use Rattle.fl_arena.specs.Chains.{Chains, items}
+use Rattle.std.proofs.lemmas.Bool.{or_left, or_right, and_from}
 use Rattle.fl_ranges.specs.declared.lock.Kind.{Kind}
 use Rattle.fl_ranges.specs.declared.lock.Key.{Key}
 use Rattle.fl_ranges.specs.declared.lock.Mark.{Mark}
 use Rattle.fl_ranges.specs.declared.run.Run.{Run}
-use Rattle.fl_ranges.specs.Marking.{class_number, Spot, marking_of}
+use Rattle.fl_ranges.specs.Marking.{Spot, marking_of}
 use Rattle.fl_ranges.specs.Conflict.{are_rivals, excludes, excludes_lock}
 use Rattle.fl_ranges.specs.Inside.RunList.{meant, has_spot, run_at, AreApart, run_excludes}
-use Rattle.fl_ranges.specs.Placing.{home}
-use Rattle.fl_ranges.specs.Inside.RunChains.{all_runs, IsTable}
 use Rattle.fl_ranges.proofs.Markings.{spots_total, exact_spots}
 use Rattle.fl_ranges.proofs.Entries.{any_entry, entry_passes}
-use Rattle.fl_ranges.proofs.RunLists.{at_spot, spot_of, each_both, each_weaker, run_has, each_found, each_ordered}
+use Rattle.fl_ranges.proofs.RunLists.{at_spot, spot_of, run_has, each_found, each_ordered}
 use Rattle.fl_ranges.proofs.Counting.{get-runs, held_by, held_of}
-use Rattle.fl_ranges.proofs.ChainLists.{IsAway, before_chain, after_chain, all_around, away_before, away_after, any_among}
-use Rattle.fl_ranges.proofs.TableLemmas.{within}
+use Rattle.fl_ranges.proofs.Each.{all_both}
 
 -- a byte that two ranges share
 record Shared (from to start end : ℕ) : Type 0 where
@@ -109,7 +105,7 @@ module _ (by : ℕ → Bool) (key : Key) (start end : ℕ) (kind : Kind) where
   runs_conflict rs range apart = both_ways _ _
       (λ any.
       let p = some_passing (λ r. (r.start ≤ r.end) × ((q : Spot) → has_spot q r ≡ true → run_at rs q ≡ Some r)) excludes_so rs
-      (each_both (λ r. r.start ≤ r.end) (λ r. (q : Spot) → has_spot q r ≡ true → run_at rs q ≡ Some r) rs (each_ordered rs apart) (each_found rs apart)) any in
+      (all_both (λ r. r.start ≤ r.end) (λ r. (q : Spot) → has_spot q r ≡ true → run_at rs q ≡ Some r) rs (each_ordered rs apart) (each_found rs apart)) any in
       let w = passes (are_rivals key p.run.key) (excludes kind p.run.mark.kind) p.run.start p.run.end start end (second_passes (by p.run.key.owner) _ p.test) in
       let b = shared p.run.start p.run.end start end p.own.0 range w.begins w.ends in
       run_shows rs p.run b.byte (p.own.1 (p.run.key, b.byte) (spot_of p.run (p.run.key, b.byte) refl b.after_from b.before_to))
@@ -126,25 +122,3 @@ module _ (by : ℕ → Bool) (key : Key) (start end : ℕ) (kind : Kind) where
       (ap (λ (m : Mark). excludes kind m.kind) h.mark_is ∙ t.kinds)
       (omega (arith, at.from, t.ends))
       (omega (arith, at.upto, t.begins)))))
-
-  rival_node : (c n o : Bool) → (c && (n && o)) ≡ true → n ≡ true
-  rival_node true true o e = refl
-  rival_node true false o e = absurd (cc e)
-  rival_node false n o e = absurd (cc e)
-
-  no_clash : (rs : List Run) → AllByRecursion (IsAway (home key.node)) rs → AllByRecursion (λ r. excludes_so r ≡ false) rs
-  no_clash rs each = each_weaker (IsAway (home key.node)) (λ r. excludes_so r ≡ false) (λ r far. false_from_ne_true _ (λ is.
-      let w = passes (are_rivals key r.key) (excludes kind r.mark.kind) r.start r.end start end (second_passes (by r.key.owner) _ is) in
-      far (ap home (sym (eqb-true key.node r.key.node (rival_node (class_number key.class == class_number r.key.class) (key.node == r.key.node)
-      (not (key.owner == r.key.owner)) w.rivals)))))) rs each
-
-  -- and so does the chain of the node
-  pub table_conflict : (a : Chains Run) (limit : ℕ) (t : IsTable a limit) → start ≤ end →
-      list_any excludes_so (items a (home key.node)) ≡ list_any spot_excludes (entries (marking_of (map meant (all_runs a))))
-  table_conflict a limit t range =
-      let good = t.runs in
-      sym (ap (list_any excludes_so) (all_around a (home key.node) (within a limit t key))
-      ∙ any_among excludes_so (before_chain a (home key.node)) (items a (home key.node)) (after_chain a (home key.node))
-      (no_clash (before_chain a (home key.node)) (away_before a (home key.node) t.at_home))
-      (no_clash (after_chain a (home key.node)) (away_after a (home key.node) t.at_home)))
-      ∙ runs_conflict (all_runs a) range good.apart

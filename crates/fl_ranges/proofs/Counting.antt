@@ -18,7 +18,8 @@ use Rattle.fl_ranges.specs.Inside.RunList.{meant, has_spot, run_at, held_at, Are
 use Rattle.fl_ranges.proofs.Markings.{get-marking_of}
 use Rattle.fl_ranges.proofs.Spots.{same_spot, spot_itself}
 use Rattle.fl_ranges.proofs.Starts.{starts_counted, spots_decided}
-use Rattle.fl_ranges.proofs.RunLists.{at_spot, spot_of, each_at, each_weaker, each_both, run_has, same_run, each_found, each_ordered, mark_at-runs}
+use Rattle.fl_ranges.proofs.RunLists.{at_spot, spot_of, each_at, run_has, same_run, each_found, each_ordered, mark_at-runs}
+use Rattle.fl_ranges.proofs.Each.{all_both, all_weaker}
 
 pub get-runs : (rs : List Run) (q : Spot) → get (marking_of (map meant rs)) q ≡ held_at rs q
 get-runs rs q = get-marking_of (map meant rs) q ∙ mark_at-runs rs q
@@ -66,7 +67,7 @@ all_started : (rs : List Run) → AllByRecursion (λ r. is_member (eq_by_cmp spo
 all_started [] = tt
 all_started (r ∷ rs) = (
   or_left _ _ (spot_itself (start_of r)),
-  each_weaker (λ x. is_member (eq_by_cmp spot_cmp) (map start_of rs) (start_of x) ≡ true)
+  all_weaker (λ x. is_member (eq_by_cmp spot_cmp) (map start_of rs) (start_of x) ≡ true)
       (λ x. is_member (eq_by_cmp spot_cmp) (map start_of (r ∷ rs)) (start_of x) ≡ true)
       (λ x h. or_right _ _ h) rs (all_started rs),
 )
@@ -99,11 +100,11 @@ module _ (rs : List Run) (good : AreRuns rs) where
 
   starts_are : AllByRecursion (λ r. IsStart (marking_of (map meant rs)) (start_of r)) rs
   starts_are =
-      each_weaker (λ r. ((r.start ≤ r.end) × ((q : Spot) → has_spot q r ≡ true → run_at rs q ≡ Some r)) × IsWhole (held_at rs) r)
+      all_weaker (λ r. ((r.start ≤ r.end) × ((q : Spot) → has_spot q r ≡ true → run_at rs q ≡ Some r)) × IsWhole (held_at rs) r)
       (λ r. IsStart (marking_of (map meant rs)) (start_of r))
       (λ r h. is_start r h.0 h.1) rs
-      (each_both (λ r. (r.start ≤ r.end) × ((q : Spot) → has_spot q r ≡ true → run_at rs q ≡ Some r)) (IsWhole (held_at rs)) rs
-      (each_both (λ r. r.start ≤ r.end) (λ r. (q : Spot) → has_spot q r ≡ true → run_at rs q ≡ Some r) rs (each_ordered rs good.apart)
+      (all_both (λ r. (r.start ≤ r.end) × ((q : Spot) → has_spot q r ≡ true → run_at rs q ≡ Some r)) (IsWhole (held_at rs)) rs
+      (all_both (λ r. r.start ≤ r.end) (λ r. (q : Spot) → has_spot q r ≡ true → run_at rs q ≡ Some r) rs (each_ordered rs good.apart)
       (each_found rs good.apart)) good.whole)
 
   -- a start is where a run of the list starts

@@ -5,20 +5,17 @@ use Rattle.std.proofs.lemmas.Bool.Decides.{nat_tests}
 use Rattle.std.specs.List.{list_any}
 use Rattle.std.proofs.lemmas.Bool.{false_from_ne_true, or_left, or_right, and_from, eqb-true, eq-eqb}
 use Rattle.std.specs.Cmp.{first_so, second_so}
-use Rattle.fl_arena.specs.Chains.{Chains, items}
 use Rattle.fl_ranges.specs.declared.lock.Key.{Key}
 use Rattle.fl_ranges.specs.declared.lock.Kind.{Kind}
 use Rattle.fl_ranges.specs.declared.run.Run.{Run}
 use Rattle.fl_ranges.specs.Marking.{class_number, Marking, marking_of}
 use Rattle.fl_ranges.specs.Conflict.{excludes, excludes_by, owner_conflicts, IsOwnerConflict, IsAfter, IsAtMost, IsLeastAfter}
-use Rattle.fl_ranges.specs.Placing.{home}
-use Rattle.fl_ranges.specs.Inside.RunList.{meant, run_excludes}
-use Rattle.fl_ranges.specs.Inside.RunChains.{all_runs, IsTable}
+use Rattle.fl_ranges.specs.Inside.RunList.{meant, run_excludes, AreApart}
 use Rattle.fl_ranges.specs.Inside.Owners.{is_after, is_less, least_with, least_from}
 use Rattle.fl_ranges.proofs.Markings.{spots_total, exact_spots, same_class}
 use Rattle.fl_ranges.proofs.Entries.{any_entry, entry_passes}
 use Rattle.fl_ranges.proofs.ConflictWords.{parts, all_parts}
-use Rattle.fl_ranges.proofs.Clashes.{table_conflict}
+use Rattle.fl_ranges.proofs.Clashes.{runs_conflict}
 
 -- ---- in words
 
@@ -139,30 +136,22 @@ module _ (key : Key) (start end : ℕ) (kind : Kind) (after : Option ℕ) where
           (here _ refl (eqb-true r.key.owner o (first_so (r.key.owner == o) _ is)) (second_so (r.key.owner == o) _ is))
       go false is any rest = rest any
 
-  -- ---- in the table
-
-  has_is : (a : Chains Run) (limit : ℕ) → IsTable a limit → start ≤ end → (o : ℕ)
-      → list_any (λ r. (r.key.owner == o) && run_excludes key start end kind r) (items a (home key.node))
-      ≡ owner_conflicts (marking_of (map meant (all_runs a))) key start end kind o
-  has_is a limit t range o = table_conflict (λ x. x == o) key start end kind a limit t range
+  -- ---- in a table
 
   -- what a walk found, in the words of a call
-  pub least_found : (a : Chains Run) (limit : ℕ) → IsTable a limit → start ≤ end → (chain : ℕ) → chain ≡ home key.node → (told : Option ℕ) →
-      told ≡ least_from key start end kind after None (items a chain)
-      → (m : Marking) → marking_of (map meant (all_runs a)) ≡ m → IsLeastAfter m key start end kind after told
-  least_found a limit t range chain at told walk m meaning =
-      let is : told ≡ least_from key start end kind after None (items a (home key.node)) =
-      walk ∙ ap (λ c. least_from key start end kind after None (items a c)) at in
-      let conflict : (o : ℕ) → list_any (λ r. (r.key.owner == o) && run_excludes key start end kind r) (items a (home key.node))
-      ≡ owner_conflicts m key start end kind o = λ o. has_is a limit t range o ∙ ap (λ (n : Marking). owner_conflicts n key start end kind o) meaning in
+  pub least_found : (rs : List Run) → AreApart rs → start ≤ end → (told : Option ℕ) → told ≡ least_from key start end kind after None rs
+      → (m : Marking) → marking_of (map meant rs) ≡ m → IsLeastAfter m key start end kind after told
+  least_found rs apart range told is m meaning =
+      let conflict : (o : ℕ) → list_any (λ r. (r.key.owner == o) && run_excludes key start end kind r) rs ≡ owner_conflicts m key start end kind o =
+      λ o. runs_conflict (λ x. x == o) key start end kind rs range apart ∙ ap (λ (n : Marking). owner_conflicts n key start end kind o) meaning in
       record {
-        itself = λ o e. itself o (found (items a (home key.node)) None o (sym is ∙ e)) conflict;
+        itself = λ o e. itself o (found rs None o (sym is ∙ e)) conflict;
         least = λ o past c. subst (λ (w : Option ℕ). IsAtMost w o) (sym is)
-            (reached (items a (home key.node)) None o (is_after_words after o past) (conflict o ∙ c));
+            (reached rs None o (is_after_words after o past) (conflict o ∙ c));
       }
     where
-      itself : (o : ℕ) → (◌≡◌ {A = Option ℕ} None (Some o)) ⊎ ((is_after after o ≡ true) × Has o (items a (home key.node))) →
-          ((x : ℕ) → list_any (λ r. (r.key.owner == x) && run_excludes key start end kind r) (items a (home key.node)) ≡ owner_conflicts m key start end kind x)
+      itself : (o : ℕ) → (◌≡◌ {A = Option ℕ} None (Some o)) ⊎ ((is_after after o ≡ true) × Has o rs) →
+          ((x : ℕ) → list_any (λ r. (r.key.owner == x) && run_excludes key start end kind r) rs ≡ owner_conflicts m key start end kind x)
           → IsAfter after o × (owner_conflicts m key start end kind o ≡ true)
       itself o (inl e) conflict = absurd (cc e)
       itself o (inr h) conflict = (words_is_after after o h.0, sym (conflict o) ∙ h.1)

@@ -1,15 +1,13 @@
 -- Lists of runs: which run has a spot, in other lists of the same runs.
-use Rattle.std.proofs.Common.{◌≡◌, ℕ, ◌≤◌, Bool, true, false, cond, ◌&&◌, nat_le, Option, Some, None, List, [], ◌∷◌, ◌++◌, map, refl, ap, sym, ◌∙◌, subst}
-use Rattle.std.proofs.Common.{arith}
-use Rattle.std.proofs.lemmas.Bool.Decides.{nat_tests}
+use Rattle.std.proofs.Common.{◌≡◌, ◌≤◌, Bool, true, false, cond, Option, Some, None, List, [], ◌∷◌, ◌++◌, map, refl, ap, sym, ◌∙◌, subst}
 use Rattle.std.specs.List.{find, filter, AllByRecursion}
 use Rattle.std.specs.Option.{option_map}
 use Rattle.std.specs.Ordering.{eq_by_cmp}
-use Rattle.fl_ranges.specs.declared.lock.Key.{Key}
 use Rattle.fl_ranges.specs.declared.run.Run.{Run}
 use Rattle.fl_ranges.specs.Marking.{key_cmp, Spot, mark_at}
-use Rattle.fl_ranges.specs.Inside.RunList.{meant, has_spot, run_at, held_at, AreApart, overlaps}
+use Rattle.fl_ranges.specs.Inside.RunList.{meant, has_spot, run_at, held_at, AreApart}
 use Rattle.fl_ranges.proofs.Spots.{same_key, key_itself, within, is_within}
+use Rattle.fl_ranges.proofs.Each.{all_weaker}
 
 -- ---- tests, as facts
 
@@ -26,28 +24,6 @@ at_spot r q e =
 pub spot_of : (r : Run) (q : Spot) → r.key ≡ q.0 → r.start ≤ q.1 → q.1 ≤ r.end → has_spot q r ≡ true
 spot_of r q key from upto =
     is_within (eq_by_cmp key_cmp r.key q.0) r.start q.1 r.end (ap (eq_by_cmp key_cmp r.key) (sym key) ∙ key_itself r.key) from upto
-
-pub record IsOver (key : Key) (start end : ℕ) (r : Run) : Type 0 where
-  pub key_is : r.key ≡ key
-  pub begins : r.start ≤ end
-  pub ends : start ≤ r.end
-
-over_parts : (k : Bool) (from to start end : ℕ) → (k && (nat_le from end && nat_le start to)) ≡ true → (k ≡ true) × (from ≤ end) × (start ≤ to)
-over_parts true from to start end e = (refl, grind (arith, nat_tests), grind (arith, nat_tests))
-over_parts false from to start end e = absurd (cc e)
-
-parts_over : (k : Bool) (from to start end : ℕ) → k ≡ true → from ≤ end → start ≤ to → (k && (nat_le from end && nat_le start to)) ≡ true
-parts_over true from to start end k b e = grind (arith, nat_tests)
-parts_over false from to start end k b e = absurd (cc k)
-
-pub over : (key : Key) (start end : ℕ) (r : Run) → overlaps key start end r ≡ true → IsOver key start end r
-over key start end r e =
-    let p = over_parts (eq_by_cmp key_cmp r.key key) r.start r.end start end e in
-    record { key_is = same_key r.key key p.0; begins = p.1; ends = p.2 }
-
-pub overlapping : (key : Key) (start end : ℕ) (r : Run) → r.key ≡ key → r.start ≤ end → start ≤ r.end → overlaps key start end r ≡ true
-overlapping key start end r same begins ends =
-    parts_over (eq_by_cmp key_cmp r.key key) r.start r.end start end (ap (eq_by_cmp key_cmp r.key) (sym same) ∙ key_itself r.key) begins ends
 
 -- ---- what holds of each run
 
@@ -68,14 +44,6 @@ module _ (P : Run → Type 0) where
           AllByRecursion (λ r. (p r ≡ true) × P r) (cond b (x ∷ filter p xs) (filter p xs))
       go true e rest = ((e, all.0), rest)
       go false e rest = rest
-
-pub each_weaker : (P Q : Run → Type 0) → ((r : Run) → P r → Q r) → (rs : List Run) → AllByRecursion P rs → AllByRecursion Q rs
-each_weaker P Q f [] all = tt
-each_weaker P Q f (x ∷ xs) all = (f x all.0, each_weaker P Q f xs all.1)
-
-pub each_both : (P Q : Run → Type 0) (rs : List Run) → AllByRecursion P rs → AllByRecursion Q rs → AllByRecursion (λ r. P r × Q r) rs
-each_both P Q [] a b = tt
-each_both P Q (x ∷ xs) a b = ((a.0, b.0), each_both P Q xs a.1 b.1)
 
 -- ---- the run that has a spot
 
@@ -112,7 +80,7 @@ pub each_found : (rs : List Run) → AreApart rs → AllByRecursion (λ r. (q : 
 each_found [] apart = tt
 each_found (x ∷ xs) apart = (
   λ q has. ap (λ b. cond b (Some x) (run_at xs q)) has,
-  each_weaker (λ r. (q : Spot) → has_spot q r ≡ true → run_at xs q ≡ Some r)
+  all_weaker (λ r. (q : Spot) → has_spot q r ≡ true → run_at xs q ≡ Some r)
       (λ r. (q : Spot) → has_spot q r ≡ true → run_at (x ∷ xs) q ≡ Some r) (found_later x xs apart.1) xs (each_found xs apart.2),
 )
 

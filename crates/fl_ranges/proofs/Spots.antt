@@ -1,10 +1,11 @@
 -- Tests of keys and spots.
-use Rattle.std.proofs.Common.{◌≡◌, ℕ, ◌≤◌, Bool, true, false, ◌&&◌, nat_le, refl, ap, arith}
+use Rattle.std.proofs.Common.{◌≡◌, ℕ, ◌≤◌, ◌<◌, Bool, true, false, ◌&&◌, nat_le, refl, ap, arith}
 use Rattle.std.proofs.lemmas.Bool.Decides.{nat_tests}
 use Rattle.std.specs.Ordering.{eq_by_cmp, is_eq}
 use Rattle.std.specs.Cmp.{tied_itself, Equal-is}
 use Rattle.fl_ranges.specs.declared.lock.Key.{Key}
 use Rattle.fl_ranges.specs.Marking.{key_cmp, Spot, spot_cmp}
+use Rattle.fl_ranges.specs.Placing.{home}
 use Rattle.fl_ranges.proofs.Markings.{exact_keys, keys_total, exact_spots, spots_total}
 
 -- keys that are found equal are equal
@@ -39,3 +40,7 @@ pub and_and_false : (r c : Bool) → (r && (c && false)) ≡ true → ⊥
 and_and_false true true h = absurd (cc h)
 and_and_false true false h = absurd (cc h)
 and_and_false false c h = absurd (cc h)
+
+-- there are 256 chains
+pub home_less : (node : ℕ) → home node < 256
+home_less node = omega arith

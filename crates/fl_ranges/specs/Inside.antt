@@ -1,6 +1,6 @@
 -- How a table of locks is kept. No public clause cites these modules.
 pub mod RunList
-pub mod RunChains
-pub mod RunPlan
+pub mod LockRows
 pub mod Nearest
 pub mod Owners
+pub mod Rivals

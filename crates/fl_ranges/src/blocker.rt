@@ -1,15 +1,15 @@
-//! The lock that F_GETLK names, found among the runs.
-ghost use Rattle.std.specs.Prelude.{◌≡◌, ◌<◌, length, None, option_map};
-ghost use Rattle.fl_arena.specs.Chains.{items};
-ghost use Rattle.fl_ranges.specs.Inside.Nearest.{is_nearer, nearest_with, nearest_from, last_start, lock_of};
-ghost use Rattle.fl_ranges.specs.Inside.RunChains.{IsSorted};
+//! The lock that F_GETLK names.
+ghost use Rattle.std.specs.Prelude.{◌≡◌, ℕ, None, option_map};
+ghost use Rattle.fl_rows.specs.Rows.{rows, chain_count};
+ghost use Rattle.fl_ranges.specs.Inside.LockRows.{table_runs, AreLockRows};
+ghost use Rattle.fl_ranges.specs.Inside.Nearest.{nearest_from, lock_of};
 
-use crate::chain::{home, is_past};
 use crate::held::Held;
-use crate::lock::{Key, Kind, Range};
-use crate::run::{Run, excludes};
+use crate::lock::{Key, Kind, Mark, Range};
+use crate::rivals::{excluding_span, first_of_class, owner_at};
+use crate::run::Run;
 use crate::table::Table;
-use fl_arena::Arena;
+use fl_spans::{Rows, Span};
 
 impl Table {
     ghost use Rattle.fl_ranges.specs.Blocker.{blocker};
@@ -20,7 +20,7 @@ impl Table {
     pub fn blocker(&self, key: &Key, range: &Range, kind: Kind) -> Option<Held>
         ensures { result ≡ blocker self.now.marking key.now range.now.start range.now.end kind }
     {
-        lock_of(nearest(&self.runs, home(key.node), key, range, kind))
+        lock_of(nearest(&self.rows, key, range, kind))
     }
 }
 
@@ -37,53 +37,41 @@ fn lock_of(run: Option<Run>) -> Option<Held>
     })
 }
 
-// Whether the run's first byte in a range that begins there is less than the other's, or is the same, and the
-// run's owner is less.
-fn is_nearer(start: u64, run: &Run, other: &Run) -> bool
-    ensures { result ≡ is_nearer start run.now other.now }
-{
-    let byte = run.start.max(start);
-    let other_byte = other.start.max(start);
-    byte < other_byte || (byte == other_byte && run.key.owner < other.key.owner)
-}
-
-// The nearest run so far, once one more has been looked at.
-fn nearest_with(key: &Key, range: &Range, kind: Kind, best: Option<Run>, run: Run) -> Option<Run>
-    ensures { result ≡ nearest_with key.now range.now.start range.now.end kind best run }
-{
-    if !excludes(&run, key, range.start, range.end, kind) {
-        return best;
-    }
-    match best {
-        Some(best) if !is_nearer(range.start, &run, &best) => Some(best),
-        _ => Some(run),
-    }
-}
-
-// A run that starts past this byte isn't nearer than the nearest so far.
-fn last_start(range: &Range, best: Option<Run>) -> u64
-    ensures { result ≡ last_start range.now.start range.now.end best }
-{
-    match best {
-        None => range.end,
-        Some(best) => best.start.max(range.start),
-    }
-}
-
-// The nearest of a chain's runs that exclude a lock of this kind, by this key, on the range.
-fn nearest(runs: &Arena<Run>, chain: usize, key: &Key, range: &Range, kind: Kind) -> Option<Run>
-    requires chain { chain < length runs.now.chains }
-    requires sorted { IsSorted (items runs.now chain) }
-    ensures { result ≡ nearest_from key.now range.now.start range.now.end kind None (items runs.now chain) }
+// Of the runs that exclude a lock of this kind, by this key, on the range, that with the least first byte in the range,
+// and of those the least owner's. Rows stand in the order of their owners, so a later one is looked at up to the byte
+// before that of the nearest so far.
+fn nearest(
+    table: &Rows<Key, Span<Mark>>,
+    key: &Key,
+    range: &Range,
+    kind: Kind,
+) -> Option<Run>
+    requires chains { chain_count table.now ≡ 256 }
+    requires kept { (c : ℕ) → AreLockRows c (rows table.now c) }
+    ensures { result
+        ≡ nearest_from key.now range.now.start range.now.end kind None (table_runs table.now) }
 {
     let mut best = None;
-    let mut cursor = runs.cursor(chain);
-    while let Some(run) = runs.item(&cursor) {
-        if is_past(run, key, last_start(range, best)) {
-            break;
+    let mut last = range.end;
+    let mut row = first_of_class(table, key);
+    while let Some(owner) = owner_at(table, key, &row) {
+        let part = Range {
+            start: range.start,
+            end: last,
+        };
+        if let Some(span) = excluding_span(table, &row, owner, key, &part, kind) {
+            best = Some(Run {
+                key: Key { owner, ..*key },
+                start: span.start,
+                end: span.end,
+                mark: span.mark,
+            });
+            if span.start <= range.start {
+                break;
+            }
+            last = span.start - 1;
         }
-        best = nearest_with(key, range, kind, best, *run);
-        runs.step(&mut cursor);
+        table.next_row(&mut row);
     }
     best
 }

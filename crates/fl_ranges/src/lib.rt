@@ -3,11 +3,14 @@
 
 mod blocker;
 mod chain;
+mod conflict;
+mod find_row;
 mod held;
 pub mod laws;
 mod lock;
 mod owners;
-mod plan;
+mod rivals;
+mod row_change;
 mod run;
 mod table;
 

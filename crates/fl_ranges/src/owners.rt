@@ -1,14 +1,13 @@
 //! The owners whose locks exclude one that is asked for, one after another.
-ghost use Rattle.std.specs.Prelude.{◌≡◌, ◌<◌, length, None};
-ghost use Rattle.fl_arena.specs.Chains.{items};
-ghost use Rattle.fl_ranges.specs.Inside.Owners.{is_after, is_less, least_with, least_from};
-ghost use Rattle.fl_ranges.specs.Inside.RunChains.{IsSorted};
+ghost use Rattle.std.specs.Prelude.{◌≡◌, ℕ, None};
+ghost use Rattle.fl_rows.specs.Rows.{rows, chain_count};
+ghost use Rattle.fl_ranges.specs.Inside.LockRows.{table_runs, AreLockRows};
+ghost use Rattle.fl_ranges.specs.Inside.Owners.{is_after, least_from};
 
-use crate::chain::{home, is_past};
-use crate::lock::{Key, Kind, Range};
-use crate::run::{Run, excludes};
+use crate::lock::{Key, Kind, Mark, Range};
+use crate::rivals::{excluding_span, first_of_class, owner_at};
 use crate::table::Table;
-use fl_arena::Arena;
+use fl_spans::{Rows, Span};
 
 impl Table {
     ghost use Rattle.fl_ranges.specs.Conflict.{IsLeastAfter};
@@ -24,10 +23,11 @@ impl Table {
     ) -> Option<u64>
         ensures { IsLeastAfter self.now.marking key.now range.now.start range.now.end kind after result }
     {
-        least_after(&self.runs, home(key.node), key, range, kind, after)
+        least_after(&self.rows, key, range, kind, after)
     }
 }
 
+// Whether an owner is greater than the one that is given.
 fn is_after(after: Option<u64>, owner: u64) -> bool
     ensures { result ≡ is_after after owner }
 {
@@ -37,57 +37,28 @@ fn is_after(after: Option<u64>, owner: u64) -> bool
     }
 }
 
-fn is_less(least: Option<u64>, owner: u64) -> bool
-    ensures { result ≡ is_less least owner }
-{
-    match least {
-        None => true,
-        Some(least) => owner < least,
-    }
-}
-
-// The least owner so far, once one more run has been looked at.
-fn least_with(
-    key: &Key,
-    range: &Range,
-    kind: Kind,
-    after: Option<u64>,
-    least: Option<u64>,
-    run: &Run,
-) -> Option<u64>
-    ensures { result ≡ least_with key.now range.now.start range.now.end kind after least run.now }
-{
-    let owner = run.key.owner;
-    if excludes(run, key, range.start, range.end, kind)
-        && is_after(after, owner)
-        && is_less(least, owner)
-    {
-        return Some(owner);
-    }
-    least
-}
-
-// The least owner of a chain's runs that exclude a lock of this kind, by this key, on the range.
+// The least owner that has a lock which excludes one of this kind, by this key, on the range, of those greater than the
+// one that is given. The rows stand in the order of their owners, so it is that of the first row that has one.
 fn least_after(
-    runs: &Arena<Run>,
-    chain: usize,
+    table: &Rows<Key, Span<Mark>>,
     key: &Key,
     range: &Range,
     kind: Kind,
     after: Option<u64>,
 ) -> Option<u64>
-    requires chain { chain < length runs.now.chains }
-    requires sorted { IsSorted (items runs.now chain) }
-    ensures { result ≡ least_from key.now range.now.start range.now.end kind after None (items runs.now chain) }
+    requires chains { chain_count table.now ≡ 256 }
+    requires kept { (c : ℕ) → AreLockRows c (rows table.now c) }
+    ensures { result
+        ≡ least_from key.now range.now.start range.now.end kind after None (table_runs table.now) }
 {
-    let mut least = None;
-    let mut cursor = runs.cursor(chain);
-    while let Some(run) = runs.item(&cursor) {
-        if is_past(run, key, range.end) {
-            break;
+    let mut row = first_of_class(table, key);
+    while let Some(owner) = owner_at(table, key, &row) {
+        if is_after(after, owner)
+            && excluding_span(table, &row, owner, key, range, kind).is_some()
+        {
+            return Some(owner);
         }
-        least = least_with(key, range, kind, after, least, run);
-        runs.step(&mut cursor);
+        table.next_row(&mut row);
     }
-    least
+    None
 }

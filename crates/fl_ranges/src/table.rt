@@ -1,22 +1,23 @@
 //! The table of locks.
-ghost use Rattle.std.specs.Prelude.{◌≡◌, ◌≤◌, ◌<◌, ◌↔◌, ℕ, false, Option, Some, None, IfOk, IsErr, OnOk, OnErr};
+ghost use Rattle.std.specs.Prelude.{◌≡◌, ◌≢◌, ◌≤◌, ◌<◌, ◌↔◌, ℕ, false, Option, Some, None, IfOk, IsErr, OnOk, OnErr};
 ghost use Rattle.std.specs.FinMap as map;
 
-use crate::chain::{CHAINS, remove_node, remove_over, seek, some_excludes};
-use crate::lock::{Key, Kind, LAST_BYTE, Mark, Range};
-use crate::plan::{carry_out, pieces, plan_of};
-use crate::run::Run;
-use fl_arena::{Arena, Place};
+use crate::chain::CHAINS;
+use crate::conflict::some_excludes;
+use crate::lock::{Class, Key, Kind, LAST_BYTE, Mark, Range};
+use crate::row_change;
+use fl_arena::Place;
+use fl_spans::{Full, Rows, Span};
 use std::alloc::{AllocError, Global};
 use std::marker::Model;
 
-/// The locks that are held, as runs of bytes in a fixed number of slots.
+/// The locks that are held, as runs of bytes in a fixed number of slots: one row of runs for each key that has a mark.
 ///
 /// Contracts see how many runs there is room for, and the mark of each byte. No call but `new` takes
 /// memory.
 #[derive(Drop)]
 pub struct Table {
-    pub(crate) runs: Arena<Run>,
+    pub(crate) rows: Rows<Key, Span<Mark>>,
     limit: u32,
 }
 
@@ -25,20 +26,17 @@ pub struct Table {
 pub struct NoRoom;
 
 impl Model for Table {
-    ghost use Rattle.std.specs.Prelude.{map};
-    ghost use Rattle.fl_ranges.specs.Marking.{marking_of};
     ghost use Rattle.fl_ranges.specs.LockTable.{LockTable};
     ghost use Rattle.fl_ranges.specs.Codes.{lock_table_code};
-    ghost use Rattle.fl_ranges.specs.Inside.RunList.{meant};
-    ghost use Rattle.fl_ranges.specs.Inside.RunChains.{all_runs, IsTable};
+    ghost use Rattle.fl_ranges.specs.Inside.LockRows.{row_marks, IsLockTable};
 
     ghost Value = { LockTable };
 
     ghost coded = { lock_table_code };
 
-    ghost view = { λ t. record { limit = t.limit; marking = marking_of (map meant (all_runs t.runs)) } };
+    ghost view = { λ t. record { limit = t.limit; marking = row_marks t.rows } };
 
-    ghost invariant = { λ t. IsTable t.runs t.limit };
+    ghost invariant = { λ t. IsLockTable t.rows t.limit };
 }
 
 impl Table {
@@ -53,8 +51,14 @@ impl Table {
         ensures empty { IfOk result (λ t. t ≡ record { limit = limit; marking = map.empty }) }
         ensures lawful { IfOk result (λ t. IsLawful t.marking) }
     {
+        // No row has this key.
+        let unused = Key {
+            class: Class::Record,
+            node: 0,
+            owner: 0,
+        };
         Ok(Table {
-            runs: Arena::new(alloc, CHAINS, limit as usize)?,
+            rows: Rows::new(alloc, CHAINS, limit as usize, unused)?,
             limit,
         })
     }
@@ -98,13 +102,10 @@ impl Table {
             (self.new ≡ record self.old { marking = stroked (stroke_on key.now range.now mark) self.old.marking }) }
         ensures err { OnErr result (self.new ≡ self.old) }
     {
-        let free = self.runs.free();
-        let (plan, from) = plan_of(&self.runs, key, range.start, range.end, mark);
-        if free + plan.taken < pieces(&plan) {
-            return Err(NoRoom);
+        match row_change::stroke(&mut self.rows, key, range, mark) {
+            Ok(()) => Ok(()),
+            Err(Full) => Err(NoRoom),
         }
-        carry_out(&mut self.runs, key, &plan, from);
-        Ok(())
     }
 
     /// All bytes of the key lose their marks.
@@ -116,8 +117,7 @@ impl Table {
         // A conflict depends on the marks of its class and node alone.
         ensures elsewhere { SameElsewhere key.now self.old.marking self.new.marking }
     {
-        let from = seek(&self.runs, key, 0);
-        remove_over(&mut self.runs, key, 0, LAST_BYTE, from);
+        row_change::erase_owner(&mut self.rows, key);
     }
 
     /// All bytes of the node lose their marks, of both classes and all owners.
@@ -127,31 +127,41 @@ impl Table {
         // A conflict depends on the marks of its node alone.
         ensures elsewhere { SameOffNode node self.old.marking self.new.marking }
     {
-        remove_node(&mut self.runs, node);
+        row_change::erase_node(&mut self.rows, node);
     }
 
     /// Whether some lock that is held excludes a lock of this kind.
     pub fn clashes(&self, key: &Key, range: &Range, kind: Kind) -> bool
         ensures { result ≡ conflicts self.now.marking key.now range.now.start range.now.end kind }
     {
-        some_excludes(&self.runs, key, range.start, range.end, kind)
+        some_excludes(&self.rows, key, range, kind)
     }
 
-    /// Where a slot is: slots are numbered from 0, and each is free or holds a run, which stands on the chain
-    /// of its node's number modulo 256. This walks along its chain.
+    /// Where the slot of a run is: slots are numbered from 0, and each is free or holds a run, which stands on the chain
+    /// of its key. This walks along its chain.
     pub fn slot_place(&self, slot: usize) -> Place
         requires { slot < self.now.limit }
-        ensures on { (chain index : ℕ) → result ≡ Place.On chain index
-            → index < runs (on_chain chain self.now.marking) }
+        ensures on { (chain index : ℕ) → result ≡ Place.On chain index → index < runs self.now.marking }
         ensures free { result ≡ Place.Free → runs self.now.marking < self.now.limit }
     {
-        self.runs.place(slot)
+        self.rows.slot_place(slot)
+    }
+
+    /// Where the slot of a key is: on chain `node mod 256` where its key has runs, or else on chain 256. This walks along
+    /// its chain.
+    pub fn head_place(&self, slot: usize) -> Place
+        requires { slot < self.now.limit }
+        ensures on { (chain index : ℕ) → result ≡ Place.On chain index → chain < 256
+            → index < runs (on_chain chain self.now.marking) }
+        ensures taken { result ≢ Place.Free }
+    {
+        self.rows.head_place(slot)
     }
 
     /// How many runs there are.
     pub fn runs(&self) -> u32
         ensures { result ≡ runs self.now.marking }
     {
-        self.limit - self.runs.free() as u32
+        self.limit - self.rows.free() as u32
     }
 }

@@ -1,47 +1,100 @@
-use Rattle.std.proofs.Common.{◌≡◌, ◌+◌, Some, None, true, drop, slice_get, refl, sym, ap, ◌∙◌}
-use Rattle.std.specs.Option.{option_copied}
-use Rattle.fl_arena.specs.Chains.{items}
-use Rattle.fl_ranges.specs.Inside.RunChains.{is_past}
-use Rattle.fl_ranges.specs.Inside.Nearest.{nearest_from, last_start}
-use Rattle.fl_ranges.proofs.Walks.{on_at}
-use Rattle.fl_ranges.proofs.BlockersWalk.{nearest_more, nearest_end, nearest_stop}
+use Rattle.std.proofs.Common.{◌≡◌, ◌≤◌, Some, None, slice_get, refl, sym, ap, ◌∙◌, arith}
+use Rattle.std.specs.List.{find}
+use Rattle.fl_arena.specs.declared.cursors.Cursor.{Cursor}
+use Rattle.fl_rows.specs.Rows.{rows, keys, runs_at}
+use Rattle.fl_ranges.specs.Placing.{home}
+use Rattle.fl_ranges.specs.Inside.LockRows.{runs_in}
+use Rattle.fl_ranges.specs.Inside.Nearest.{nearest_from}
+use Rattle.fl_ranges.specs.Inside.Rivals.{class_rows, kin_owner, span_excludes}
+use Rattle.fl_ranges.proofs.RivalRows.{kin_spans}
+use Rattle.fl_ranges.proofs.RivalNearest.{nearest_class, GoesOn, nearest_next, nearest_more, nearest_stop, nearest_none}
 use Rattle.fl_ranges.proofs.blocker.nearest.Goals as goal
+use Rattle.fl_ranges.proofs.blocker.nearest.Goals.{in-Some-excluding_span+else-span-range, in_default-excluding_span}
 
-pub loop-run-preserved : goal.loop-run-preserved
-loop-run-preserved c =
+pub loop-owner-init : goal.loop-owner-init
+loop-owner-init c =
     let key = c.args.key.now in
     let range = c.args.range.now in
-    let xs = items c.args.runs.now c.args.chain in
-    let i = c.loop-run.cursor.index in
-    let at = c.loop-run.invariant.at in
-    let got = c.in-Some.ensures in
-    let found : slice_get xs i ≡ Some c.in-Some.run'.now = sym (got.at_index c.args.chain i at) in
-    let step = on_at c.args.runs.now c.args.chain c.loop-run.cursor c.step.new.cursor c.in-Some.run'.now found
-    (c.step.ensures.at_index _ _ (got.some.0 refl) at) in
-    let index = step.index in
+    let first = c.first_of_class-row.ensures in
     record {
-      at = step.at;
-      within = step.within;
-      rest = rw index (c.loop-run.invariant.rest ∙ nearest_more key range.start range.end c.args.kind c.in-Some.run'.now xs i c.loop-run.best found
-          ∙ ap (λ best. nearest_from key range.start range.end c.args.kind best (drop (i + 1) xs)) (sym c.nearest_with-best.ensures));
+      row = first.row;
+      chain = first.chain;
+      some = range.ordered;
+      best = refl;
+      rest = nearest_class key range.start range.end c.args.kind c.args.table.now c.requires.kept
+          ∙ ap (λ rs. nearest_from key range.start range.end c.args.kind None (runs_in (class_rows key rs))) (sym first.first);
     }
+
+pub excluding_span-requires-clause-spans : goal.excluding_span-requires-clause-spans
+excluding_span-requires-clause-spans c =
+    let rs = rows c.args.table.now c.loop-owner.row.chain in
+    let are = c.requires.kept c.loop-owner.row.chain in
+    kin_spans c.args.key.now rs c.loop-owner.row.index c.in-Some.owner (sym c.in-Some.ensures.owner) are.spans
+
+pub loop-owner-preserved : goal.loop-owner-preserved
+loop-owner-preserved c =
+    let v = c.args.table.now in
+    let key = c.args.key.now in
+    let range = c.args.range.now in
+    let inv = c.loop-owner.invariant in
+    let i = c.loop-owner.row.index in
+    let rs = rows v (home key.node) in
+    let on = c.next_row.ensures.next in
+    let are = c.requires.kept (home key.node) in
+    let found : kin_owner key (slice_get (keys rs) i) ≡ Some c.in-Some.owner =
+    ap (λ d. kin_owner key (slice_get (keys (rows v d)) i)) (sym inv.chain) ∙ sym c.in-Some.ensures.owner in
+    let seen : find (span_excludes key c.in-Some.owner range.start c.loop-owner.last c.args.kind) (runs_at rs i) ≡ c.excluding_span.result =
+    ap (λ d. find (span_excludes key c.in-Some.owner range.start c.loop-owner.last c.args.kind) (runs_at (rows v d) i)) (sym inv.chain)
+    ∙ sym c.excluding_span.ensures in
+    let goes : (range.start ≤ c.match-excluding_span.last)
+    × GoesOn key range.start range.end c.args.kind rs i c.in-Some.owner found c.loop-owner.last inv.some c.loop-owner.best inv.best
+    c.match-excluding_span.last c.match-excluding_span.best =
+    elim c.match-excluding_span.branch [
+      | in-Some-excluding_span+else-span-range w ↦ (
+          omega (arith, w.last-is, w.if-span-range.false),
+          rw w.last-is (rw w.best-is (nearest_more key range.start range.end c.args.kind rs i c.in-Some.owner found c.loop-owner.last inv.some
+              c.loop-owner.best inv.best are.in_order (kin_spans key rs i c.in-Some.owner found are.spans) w.in-Some-excluding_span.span
+              (seen ∙ w.in-Some-excluding_span.is) w.if-span-range.false)),
+        )
+      | in_default-excluding_span w ↦ (
+          omega (arith, w.last-is, inv.some),
+          rw w.last-is (rw w.best-is (nearest_next key range.start range.end c.args.kind rs i c.in-Some.owner found c.loop-owner.last inv.some
+              c.loop-owner.best inv.best (seen ∙ w.in_default-excluding_span.is))),
+        )
+    ] in
+    let next = goes.1 in
+    record {
+      row = c.next_row.ensures.row;
+      chain = ap (λ (k : Cursor). k.chain) on ∙ inv.chain;
+      some = goes.0;
+      best = rw (ap (λ (k : Cursor). k.index) on) next.later;
+      rest = rw (ap (λ (k : Cursor). k.index) on) (inv.rest ∙ next.rest);
+    }
+
+pub returns-then-span-range : goal.returns-then-span-range
+returns-then-span-range c =
+    let v = c.args.table.now in
+    let key = c.args.key.now in
+    let range = c.args.range.now in
+    let inv = c.loop-owner.invariant in
+    let i = c.loop-owner.row.index in
+    let rs = rows v (home key.node) in
+    let are = c.requires.kept (home key.node) in
+    let found : kin_owner key (slice_get (keys rs) i) ≡ Some c.in-Some.owner =
+    ap (λ d. kin_owner key (slice_get (keys (rows v d)) i)) (sym inv.chain) ∙ sym c.in-Some.ensures.owner in
+    let seen : find (span_excludes key c.in-Some.owner range.start c.loop-owner.last c.args.kind) (runs_at rs i) ≡ Some c.in-Some-excluding_span.span =
+    ap (λ d. find (span_excludes key c.in-Some.owner range.start c.loop-owner.last c.args.kind) (runs_at (rows v d) i)) (sym inv.chain)
+    ∙ sym c.excluding_span.ensures ∙ c.in-Some-excluding_span.is in
+    sym (inv.rest ∙ nearest_stop key range.start range.end c.args.kind rs i c.in-Some.owner found c.loop-owner.last inv.some c.loop-owner.best inv.best
+    are.in_order (kin_spans key rs i c.in-Some.owner found are.spans) c.in-Some-excluding_span.span seen c.if-span-range.true)
 
 pub returns-in_default : goal.returns-in_default
 returns-in_default c =
+    let v = c.args.table.now in
     let key = c.args.key.now in
     let range = c.args.range.now in
-    let xs = items c.args.runs.now c.args.chain in
-    let i = c.loop-run.cursor.index in
-    let none : slice_get xs i ≡ None = sym (c.item.ensures.at_index c.args.chain i c.loop-run.invariant.at) ∙ ap option_copied c.in_default.is in
-    sym (c.loop-run.invariant.rest ∙ nearest_end key range.start range.end c.args.kind xs i c.loop-run.best none)
-
-pub returns-then-is_past : goal.returns-then-is_past
-returns-then-is_past c =
-    let key = c.args.key.now in
-    let range = c.args.range.now in
-    let xs = items c.args.runs.now c.args.chain in
-    let i = c.loop-run.cursor.index in
-    let found : slice_get xs i ≡ Some c.in-Some.run'.now = sym (c.in-Some.ensures.at_index c.args.chain i c.loop-run.invariant.at) in
-    let past : is_past key (last_start range.start range.end c.loop-run.best) c.in-Some.run'.now ≡ true =
-    sym (c.if-is_past.ensures ∙ ap (λ byte. is_past key byte c.in-Some.run'.now) c.last_start.ensures) in
-    sym (c.loop-run.invariant.rest ∙ nearest_stop key range.start range.end c.args.kind c.in-Some.run'.now xs i c.loop-run.best found c.requires.sorted past)
+    let inv = c.loop-owner.invariant in
+    let i = c.loop-owner.row.index in
+    let none : kin_owner key (slice_get (keys (rows v (home key.node))) i) ≡ None =
+    ap (λ d. kin_owner key (slice_get (keys (rows v d)) i)) (sym inv.chain) ∙ sym c.owner_at.ensures.owner ∙ c.in_default.is in
+    sym (inv.rest ∙ nearest_none key range.start range.end c.args.kind (rows v (home key.node)) i c.loop-owner.best none)

@@ -1,16 +1,21 @@
 use Rattle.std.proofs.Common.{◌≡◌, ◌-◌, ◌≤◌, None, length, drop}
-use Rattle.fl_arena.specs.Chains.{items}
-use Rattle.fl_arena.specs.Cursors.{cursor_at}
+use Rattle.fl_rows.specs.Rows.{rows, IsRow}
+use Rattle.fl_ranges.specs.Placing.{home}
+use Rattle.fl_ranges.specs.Inside.LockRows.{table_runs, runs_in}
 use Rattle.fl_ranges.specs.Inside.Nearest.{nearest_from}
+use Rattle.fl_ranges.specs.Inside.Rivals.{class_rows}
+use Rattle.fl_ranges.proofs.RivalNearest.{IsBestOf}
 use Rattle.fl_ranges.proofs.blocker.nearest.Given as goal
 
-abbrev pub invariant-loop-run : goal.invariant-loop-run
-invariant-loop-run l = record {
-  at : l.cursor ≡ cursor_at l.runs l.chain l.cursor.index;
-  within : l.cursor.index ≤ length (items l.runs l.chain);
-  rest : nearest_from l.key l.range.start l.range.end l.kind None (items l.runs l.chain)
-      ≡ nearest_from l.key l.range.start l.range.end l.kind l.best (drop l.cursor.index (items l.runs l.chain));
+abbrev pub invariant-loop-owner : goal.invariant-loop-owner
+invariant-loop-owner l = record {
+  row : IsRow l.table l.row;
+  chain : l.row.chain ≡ home l.key.node;
+  some : l.range.start ≤ l.last;
+  best : IsBestOf l.key l.range.start l.range.end l.kind l.last (drop l.row.index (rows l.table (home l.key.node))) l.best;
+  rest : nearest_from l.key l.range.start l.range.end l.kind None (table_runs l.table)
+      ≡ nearest_from l.key l.range.start l.range.end l.kind l.best (runs_in (class_rows l.key (drop l.row.index (rows l.table (home l.key.node)))));
 }
 
-abbrev pub decreases-loop-run : goal.decreases-loop-run
-decreases-loop-run l = length (items l.runs l.chain) - l.cursor.index
+abbrev pub decreases-loop-owner : goal.decreases-loop-owner
+decreases-loop-owner l = length (rows l.table (home l.key.node)) - l.row.index

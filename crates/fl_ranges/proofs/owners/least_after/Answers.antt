@@ -1,48 +1,85 @@
-use Rattle.std.proofs.Common.{◌≡◌, ◌+◌, Some, None, true, drop, slice_get, refl, sym, ap, ◌∙◌}
-use Rattle.std.specs.Option.{option_copied}
-use Rattle.fl_arena.specs.Chains.{items}
-use Rattle.fl_ranges.specs.Inside.RunChains.{is_past}
+use Rattle.std.proofs.Common.{◌≡◌, ◌+◌, true, false, Some, None, is_some, drop, slice_get, sym, ap, ◌∙◌}
+use Rattle.std.specs.List.{find}
+use Rattle.fl_arena.specs.declared.cursors.Cursor.{Cursor}
+use Rattle.fl_rows.specs.Rows.{rows, keys, runs_at}
+use Rattle.fl_ranges.specs.Placing.{home}
+use Rattle.fl_ranges.specs.Inside.LockRows.{runs_in}
 use Rattle.fl_ranges.specs.Inside.Owners.{least_from}
-use Rattle.fl_ranges.proofs.Walks.{on_at}
-use Rattle.fl_ranges.proofs.OwnersWalk.{least_more, least_end, least_stop}
+use Rattle.fl_ranges.specs.Inside.Rivals.{class_rows, kin_owner, span_excludes}
+use Rattle.fl_ranges.proofs.RivalRows.{kin_spans}
+use Rattle.fl_ranges.proofs.RivalOwners.{least_class, least_before, least_next, least_here, least_none}
 use Rattle.fl_ranges.proofs.owners.least_after.Goals as goal
+use Rattle.fl_ranges.proofs.owners.least_after.Goals.{else-is_after-via-then-is_after+else-is_some, else-is_after-via-else-is_after}
 
-pub loop-run-preserved : goal.loop-run-preserved
-loop-run-preserved c =
+pub loop-owner-init : goal.loop-owner-init
+loop-owner-init c =
     let key = c.args.key.now in
     let range = c.args.range.now in
-    let after = c.args.after in
-    let xs = items c.args.runs.now c.args.chain in
-    let i = c.loop-run.cursor.index in
-    let at = c.loop-run.invariant.at in
-    let got = c.in-Some.ensures in
-    let found : slice_get xs i ≡ Some c.in-Some.run'.now = sym (got.at_index c.args.chain i at) in
-    let step = on_at c.args.runs.now c.args.chain c.loop-run.cursor c.step.new.cursor c.in-Some.run'.now found
-    (c.step.ensures.at_index _ _ (got.some.0 refl) at) in
-    let index = step.index in
+    let first = c.first_of_class-row.ensures in
     record {
-      at = step.at;
-      within = step.within;
-      rest = rw index (c.loop-run.invariant.rest ∙ least_more key range.start range.end c.args.kind after c.in-Some.run'.now xs i c.loop-run.least found
-          ∙ ap (λ least. least_from key range.start range.end c.args.kind after least (drop (i + 1) xs)) (sym c.least_with-least.ensures));
+      row = first.row;
+      chain = first.chain;
+      rest = least_class key range.start range.end c.args.kind c.args.after c.args.table.now c.requires.kept
+          ∙ ap (λ rs. least_from key range.start range.end c.args.kind c.args.after None (runs_in (class_rows key rs))) (sym first.first);
     }
 
-pub returns-in_default : goal.returns-in_default
-returns-in_default c =
-    let key = c.args.key.now in
-    let range = c.args.range.now in
-    let xs = items c.args.runs.now c.args.chain in
-    let i = c.loop-run.cursor.index in
-    let none : slice_get xs i ≡ None = sym (c.item.ensures.at_index c.args.chain i c.loop-run.invariant.at) ∙ ap option_copied c.in_default.is in
-    sym (c.loop-run.invariant.rest ∙ least_end key range.start range.end c.args.kind c.args.after xs i c.loop-run.least none)
+pub excluding_span-requires-clause-spans : goal.excluding_span-requires-clause-spans
+excluding_span-requires-clause-spans c =
+    let rs = rows c.args.table.now c.loop-owner.row.chain in
+    let are = c.requires.kept c.loop-owner.row.chain in
+    kin_spans c.args.key.now rs c.loop-owner.row.index c.in-Some.owner (sym c.in-Some.ensures.owner) are.spans
 
-pub returns-then-is_past : goal.returns-then-is_past
-returns-then-is_past c =
+pub returns-then-is_some : goal.returns-then-is_some
+returns-then-is_some c =
+    let v = c.args.table.now in
     let key = c.args.key.now in
     let range = c.args.range.now in
-    let xs = items c.args.runs.now c.args.chain in
-    let i = c.loop-run.cursor.index in
-    let found : slice_get xs i ≡ Some c.in-Some.run'.now = sym (c.in-Some.ensures.at_index c.args.chain i c.loop-run.invariant.at) in
-    let past : is_past key range.end c.in-Some.run'.now ≡ true = sym c.if-is_past.ensures in
-    sym (c.loop-run.invariant.rest
-    ∙ least_stop key range.start range.end c.args.kind c.args.after c.in-Some.run'.now xs i c.loop-run.least found c.requires.sorted past)
+    let inv = c.loop-owner.invariant in
+    let i = c.loop-owner.row.index in
+    let found : kin_owner key (slice_get (keys (rows v (home key.node))) i) ≡ Some c.in-Some.owner =
+    ap (λ d. kin_owner key (slice_get (keys (rows v d)) i)) (sym inv.chain) ∙ sym c.in-Some.ensures.owner in
+    let some : is_some (find (span_excludes key c.in-Some.owner range.start range.end c.args.kind) (runs_at (rows v (home key.node)) i)) ≡ true =
+    ap (λ d. is_some (find (span_excludes key c.in-Some.owner range.start range.end c.args.kind) (runs_at (rows v d) i))) (sym inv.chain)
+    ∙ ap is_some (sym c.excluding_span.ensures) ∙ sym c.is_some.ensures ∙ c.if-is_some.true in
+    let are = c.requires.kept (home key.node) in
+    sym (inv.rest ∙ least_here key range.start range.end c.args.kind c.args.after (rows v (home key.node)) i c.in-Some.owner found are.in_order
+    (sym c.is_after.ensures ∙ c.if-is_after.true) some)
+
+pub loop-owner-preserved : goal.loop-owner-preserved
+loop-owner-preserved c =
+    let v = c.args.table.now in
+    let key = c.args.key.now in
+    let range = c.args.range.now in
+    let inv = c.loop-owner.invariant in
+    let i = c.loop-owner.row.index in
+    let on = c.next_row.ensures.next in
+    let found : kin_owner key (slice_get (keys (rows v (home key.node))) i) ≡ Some c.in-Some.owner =
+    ap (λ d. kin_owner key (slice_get (keys (rows v d)) i)) (sym inv.chain) ∙ sym c.in-Some.ensures.owner in
+    let next : least_from key range.start range.end c.args.kind c.args.after None (runs_in (class_rows key (drop i (rows v (home key.node)))))
+    ≡ least_from key range.start range.end c.args.kind c.args.after None (runs_in (class_rows key (drop (i + 1) (rows v (home key.node))))) =
+    elim c.else-is_after.branch [
+      | else-is_after-via-then-is_after+else-is_some w ↦
+          let none : is_some (find (span_excludes key c.in-Some.owner range.start range.end c.args.kind) (runs_at (rows v (home key.node)) i)) ≡ false =
+          ap (λ d. is_some (find (span_excludes key c.in-Some.owner range.start range.end c.args.kind) (runs_at (rows v d) i))) (sym inv.chain)
+          ∙ ap is_some (sym w.excluding_span.ensures) ∙ sym w.is_some.ensures ∙ w.if-is_some.false in
+          least_next key range.start range.end c.args.kind c.args.after (rows v (home key.node)) i c.in-Some.owner found none
+      | else-is_after-via-else-is_after w ↦
+          least_before key range.start range.end c.args.kind c.args.after (rows v (home key.node)) i c.in-Some.owner found
+          (sym c.is_after.ensures ∙ w.if-is_after.false)
+    ] in
+    record {
+      row = c.next_row.ensures.row;
+      chain = ap (λ (k : Cursor). k.chain) on ∙ inv.chain;
+      rest = rw (ap (λ (k : Cursor). k.index) on) (inv.rest ∙ next);
+    }
+
+pub returns : goal.returns
+returns c =
+    let v = c.args.table.now in
+    let key = c.args.key.now in
+    let range = c.args.range.now in
+    let inv = c.loop-owner.invariant in
+    let i = c.loop-owner.row.index in
+    let none : kin_owner key (slice_get (keys (rows v (home key.node))) i) ≡ None =
+    ap (λ d. kin_owner key (slice_get (keys (rows v d)) i)) (sym inv.chain) ∙ sym c.owner_at.ensures.owner ∙ c.in_default.is in
+    sym (inv.rest ∙ least_none key range.start range.end c.args.kind c.args.after (rows v (home key.node)) i none)

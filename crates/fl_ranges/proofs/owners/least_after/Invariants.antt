@@ -1,16 +1,18 @@
-use Rattle.std.proofs.Common.{◌≡◌, ◌-◌, ◌≤◌, None, length, drop}
-use Rattle.fl_arena.specs.Chains.{items}
-use Rattle.fl_arena.specs.Cursors.{cursor_at}
+use Rattle.std.proofs.Common.{◌≡◌, ◌-◌, None, length, drop}
+use Rattle.fl_rows.specs.Rows.{rows, IsRow}
+use Rattle.fl_ranges.specs.Placing.{home}
+use Rattle.fl_ranges.specs.Inside.LockRows.{table_runs, runs_in}
 use Rattle.fl_ranges.specs.Inside.Owners.{least_from}
+use Rattle.fl_ranges.specs.Inside.Rivals.{class_rows}
 use Rattle.fl_ranges.proofs.owners.least_after.Given as goal
 
-abbrev pub invariant-loop-run : goal.invariant-loop-run
-invariant-loop-run l = record {
-  at : l.cursor ≡ cursor_at l.runs l.chain l.cursor.index;
-  within : l.cursor.index ≤ length (items l.runs l.chain);
-  rest : least_from l.key l.range.start l.range.end l.kind l.after None (items l.runs l.chain)
-      ≡ least_from l.key l.range.start l.range.end l.kind l.after l.least (drop l.cursor.index (items l.runs l.chain));
+abbrev pub invariant-loop-owner : goal.invariant-loop-owner
+invariant-loop-owner l = record {
+  row : IsRow l.table l.row;
+  chain : l.row.chain ≡ home l.key.node;
+  rest : least_from l.key l.range.start l.range.end l.kind l.after None (table_runs l.table)
+      ≡ least_from l.key l.range.start l.range.end l.kind l.after None (runs_in (class_rows l.key (drop l.row.index (rows l.table (home l.key.node)))));
 }
 
-abbrev pub decreases-loop-run : goal.decreases-loop-run
-decreases-loop-run l = length (items l.runs l.chain) - l.cursor.index
+abbrev pub decreases-loop-owner : goal.decreases-loop-owner
+decreases-loop-owner l = length (rows l.table (home l.key.node)) - l.row.index

@@ -1,0 +1,59 @@
+-- Whether a run excludes a lock, on a walk along the rows of its class on its node.
+use Rattle.std.proofs.Common.{◌≡◌, ℕ, ◌+◌, Bool, true, false, cond, ◌||◌, Some, None, is_some, List, [], ◌∷◌, map, drop, slice_get, refl, ap, sym, ◌∙◌}
+use Rattle.std.proofs.lemmas.List.Folds.{list_any-append}
+use Rattle.std.specs.List.{filter, find, list_any}
+use Rattle.fl_rows.specs.Rows.{rows, keys, runs_at}
+use Rattle.fl_spans.specs.declared.span.Span.{Span}
+use Rattle.fl_ranges.specs.declared.lock.Key.{Key}
+use Rattle.fl_ranges.specs.declared.lock.Kind.{Kind}
+use Rattle.fl_ranges.specs.declared.lock.Mark.{Mark}
+use Rattle.fl_ranges.specs.declared.run.Run.{Run}
+use Rattle.fl_ranges.specs.Placing.{home}
+use Rattle.fl_ranges.specs.Inside.RunList.{run_excludes}
+use Rattle.fl_ranges.specs.Inside.LockRows.{LockRow, LockRows, run_of, runs_of, runs_in, table_runs, AreLockRows}
+use Rattle.fl_ranges.specs.Inside.Rivals.{rows_from, class_rows, kin_owner, span_excludes}
+use Rattle.fl_ranges.proofs.RivalRows.{class_runs, excluding_kin, at_kin, none_kin}
+
+any_kept : (t : Run → Bool) (rs : List Run) → list_any t (filter t rs) ≡ list_any t rs
+any_kept t [] = refl
+any_kept t (r ∷ rs) = go (t r) refl (any_kept t rs)
+  where
+    go : (b : Bool) → t r ≡ b → list_any t (filter t rs) ≡ list_any t rs → list_any t (cond b (r ∷ filter t rs) (filter t rs)) ≡ (b || list_any t rs)
+    go true is rest = ap (λ b. b || list_any t (filter t rs)) is
+    go false is rest = rest
+
+any_span : (t : Run → Bool) (key : Key) (ss : List (Span Mark)) → list_any t (map (run_of key) ss) ≡ is_some (find (λ s. t (run_of key s)) ss)
+any_span t key [] = refl
+any_span t key (s ∷ ss) = go (t (run_of key s)) (any_span t key ss)
+  where
+    go : (b : Bool) → list_any t (map (run_of key) ss) ≡ is_some (find (λ s. t (run_of key s)) ss) →
+        (b || list_any t (map (run_of key) ss)) ≡ is_some (cond b (Some s) (find (λ s. t (run_of key s)) ss))
+    go true rest = refl
+    go false rest = rest
+
+module _ (key : Key) (start end : ℕ) (kind : Kind) where
+  -- some run of the table excludes the lock where one of these rows' does
+  pub any_class : (v : LockRows) → ((c : ℕ) → AreLockRows c (rows v c)) → list_any (run_excludes key start end kind) (table_runs v)
+      ≡ list_any (run_excludes key start end kind) (runs_in (class_rows key (rows_from key (rows v (home key.node)))))
+  any_class v kept =
+      sym (any_kept (run_excludes key start end kind) (table_runs v))
+      ∙ ap (list_any (run_excludes key start end kind)) (class_runs key (run_excludes key start end kind) (excluding_kin key start end kind) v kept)
+      ∙ any_kept (run_excludes key start end kind) (runs_in (class_rows key (rows_from key (rows v (home key.node)))))
+
+  -- one of the row at hand, or one of a later row
+  pub any_next : (rs : List LockRow) (i owner : ℕ) → kin_owner key (slice_get (keys rs) i) ≡ Some owner →
+      list_any (run_excludes key start end kind) (runs_in (class_rows key (drop i rs)))
+      ≡ (is_some (find (span_excludes key owner start end kind) (runs_at rs i))
+      || list_any (run_excludes key start end kind) (runs_in (class_rows key (drop (i + 1) rs))))
+  any_next rs i owner found =
+      let k = at_kin key rs i owner found in
+      let t = run_excludes key start end kind in
+      ap (λ l. list_any t (runs_in l)) k.rest
+      ∙ list_any-append t (runs_of k.row) (runs_in (class_rows key (drop (i + 1) rs)))
+      ∙ ap (λ b. b || list_any t (runs_in (class_rows key (drop (i + 1) rs))))
+      (any_span t k.row.key k.row.runs ∙ (λ j. is_some (find (λ s. t (run_of (k.key_is j) s)) (sym k.spans j))))
+
+  -- none is left
+  pub any_end : (rs : List LockRow) (i : ℕ) → kin_owner key (slice_get (keys rs) i) ≡ None →
+      list_any (run_excludes key start end kind) (runs_in (class_rows key (drop i rs))) ≡ false
+  any_end rs i none = ap (λ l. list_any (run_excludes key start end kind) (runs_in l)) (none_kin key rs i none)

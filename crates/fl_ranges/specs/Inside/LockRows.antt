@@ -1,0 +1,102 @@
+-- How locks stand in rows: one row of spans for each key that has a mark.
+use Rattle.std.specs.Prelude.{◌≡◌, ◌≢◌, ℕ, ◌≤◌, Bool, true, List, [], ◌∷◌, map, if◌then◌else◌}
+use Rattle.std.specs.List.{flat_map, list_any, prefix_len, AllByRecursion}
+use Rattle.std.specs.Ordering.{nat_cmp, ordering_then, is_lt, eq_by_cmp}
+use Rattle.std.specs.declared.cmp.Ordering.{Ordering}
+use Rattle.fl_rows.specs.Rows.{Row, RowChains, row_lists, rows, chain_count, limit_of, run_count}
+use Rattle.fl_spans.specs.declared.span.Span.{Span}
+use Rattle.fl_spans.specs.Spans.{AreSpans}
+use Rattle.fl_ranges.specs.declared.lock.Key.{Key}
+use Rattle.fl_ranges.specs.declared.lock.Mark.{Mark}
+use Rattle.fl_ranges.specs.declared.run.Run.{Run}
+use Rattle.fl_ranges.specs.Marking.{class_number, key_cmp, Marking, marking_of}
+use Rattle.fl_ranges.specs.Placing.{home}
+use Rattle.fl_ranges.specs.Inside.RunList.{meant}
+
+-- a key with the spans of its marks
+abbrev pub LockRow : Type 0
+LockRow = Row Key (Span Mark)
+
+-- what contracts see of all rows
+abbrev pub LockRows : Type 0
+LockRows = RowChains Key (Span Mark)
+
+-- a span of a key, as a run
+abbrev pub run_of : Key → Span Mark → Run
+run_of key s = record { key = key; start = s.start; end = s.end; mark = s.mark }
+
+-- the runs of a row
+abbrev pub runs_of : LockRow → List Run
+runs_of r = map (run_of r.key) r.runs
+
+-- the runs of rows, one row after another
+abbrev pub runs_in : List LockRow → List Run
+runs_in rs = flat_map runs_of rs
+
+-- all runs, chain after chain
+abbrev pub table_runs : LockRows → List Run
+table_runs v = flat_map runs_in (row_lists v)
+
+-- the marks that all runs give
+abbrev pub row_marks : LockRows → Marking
+row_marks v = marking_of (map meant (table_runs v))
+
+-- keys by node, then class, then owner
+abbrev pub place_cmp : Key → Key → Ordering
+place_cmp a b =
+    ordering_then
+    (ordering_then (nat_cmp a.node b.node) (nat_cmp (class_number a.class) (class_number b.class)))
+    (nat_cmp a.owner b.owner)
+
+-- the row of the first of two keys stands before that of the other
+abbrev pub goes_before : Key → Key → Bool
+goes_before a b = is_lt (place_cmp a b)
+
+-- each row stands before all later ones
+abbrev pub AreInOrder : List LockRow → Type 0
+AreInOrder [] = Unit {0}
+AreInOrder (r ∷ rs) = AllByRecursion (λ x. goes_before r.key x.key ≡ true) rs × AreInOrder rs
+
+-- the spans of the key's row, and none where no row is the key's
+abbrev pub spans_of : Key → List LockRow → List (Span Mark)
+spans_of key [] = []
+spans_of key (r ∷ rs) = if eq_by_cmp key_cmp r.key key then r.runs else spans_of key rs
+
+-- how many rows stand before the place of the key's
+abbrev pub row_index : Key → List LockRow → ℕ
+row_index key rs = prefix_len (λ r. goes_before r.key key) rs
+
+-- some row is the key's
+abbrev pub has_row : Key → List LockRow → Bool
+has_row key rs = list_any (λ r. eq_by_cmp key_cmp r.key key) rs
+
+-- a row of the key with these spans before others; none where there are no spans
+abbrev pub row_before : Key → List (Span Mark) → List LockRow → List LockRow
+row_before key [] rs = rs
+row_before key (s ∷ ss) rs = record { key = key; runs = s ∷ ss } ∷ rs
+
+-- rows in order, once the key's has these spans; it goes where these are none
+abbrev pub given_spans : Key → List (Span Mark) → List LockRow → List LockRow
+given_spans key ss [] = row_before key ss []
+given_spans key ss (r ∷ rs) =
+    if goes_before r.key key then r ∷ given_spans key ss rs else
+    if eq_by_cmp key_cmp r.key key then row_before key ss rs else row_before key ss (r ∷ rs)
+
+-- the node of each row's key has this chain
+abbrev pub AreOnChain : ℕ → List LockRow → Type 0
+AreOnChain c rs = AllByRecursion (λ r. home r.key.node ≡ c) rs
+
+-- the rows of a chain: each on its node's, in order, and each with spans, at least one
+pub record AreLockRows (c : ℕ) (rs : List LockRow) : Type 0 where
+  pub at_home : AreOnChain c rs
+  pub in_order : AreInOrder rs
+  pub spans : AllByRecursion (λ r. AreSpans r.runs) rs
+  pub used : AllByRecursion (λ r. r.runs ≢ []) rs
+
+-- 256 chains of such rows, and room for as many runs as the limit, of which there are no more
+pub record IsLockTable (v : LockRows) (limit : ℕ) : Type 0 where
+  pub chains : chain_count v ≡ 256
+  pub room : limit_of v ≡ limit
+  pub small : limit ≤ 65536
+  pub few : run_count v ≤ limit
+  pub kept : (c : ℕ) → AreLockRows c (rows v c)
