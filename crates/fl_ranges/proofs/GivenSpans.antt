@@ -47,7 +47,8 @@ one_before a b before other = go (place_cmp a b) refl
     go Greater is = ap is_lt (keys_placed.antisymm b a ∙ ap ordering_reverse is)
 
 -- behind a row, what goes before it goes before all
-pub all_behind : (key : Key) (r : LockRow) (rs : List LockRow) → goes_before key r.key ≡ true → AllByRecursion (λ (x : LockRow). goes_before r.key x.key ≡ true) rs →
+pub all_behind : (key : Key) (r : LockRow) (rs : List LockRow) → goes_before key r.key ≡ true →
+    AllByRecursion (λ (x : LockRow). goes_before r.key x.key ≡ true) rs →
     AllByRecursion (λ (x : LockRow). goes_before key x.key ≡ true) rs
 all_behind key r rs before each =
     all_weaker (λ (x : LockRow). goes_before r.key x.key ≡ true) (λ (x : LockRow). goes_before key x.key ≡ true)
@@ -98,7 +99,8 @@ module _ (key : Key) (ss : List (Span Mark)) where
   each_given P own [] each = each_row_before P own [] each
   each_given P own (r ∷ rs) each = go (each_given P own rs each.1) (goes_before r.key key) (eq_by_cmp key_cmp r.key key)
     where
-      go : AllByRecursion P (given_spans key ss rs) → (b c : Bool) → AllByRecursion P (cond b (r ∷ given_spans key ss rs) (cond c (row_before key ss rs) (row_before key ss (r ∷ rs))))
+      go : AllByRecursion P (given_spans key ss rs) → (b c : Bool) →
+          AllByRecursion P (cond b (r ∷ given_spans key ss rs) (cond c (row_before key ss rs) (row_before key ss (r ∷ rs))))
       go rest true c = (each.0, rest)
       go rest false true = each_row_before P own rs each.1
       go rest false false = each_row_before P own (r ∷ rs) each
@@ -142,7 +144,8 @@ module _ (key : Key) (ss : List (Span Mark)) where
           absurd (cc (sym (before_differs r.key key before) ∙ ap (eq_by_cmp key_cmp key) is ∙ key_itself key)))
       go rest false true before same =
           let is : r.key ≡ key = same_key r.key key same in
-          spans_before rs k (λ own. no_spans k rs (subst (λ (x : Key). AllByRecursion (IsOther x) rs) (is ∙ same_key key k own) (behind_others r.key rs order.0)))
+          spans_before rs k (λ own. no_spans k rs (subst (λ (x : Key). AllByRecursion (IsOther x) rs) (is
+          ∙ same_key key k own) (behind_others r.key rs order.0)))
           ∙ without (eq_by_cmp key_cmp key k) (eq_by_cmp key_cmp r.key k) (ap (λ (x : Key). eq_by_cmp key_cmp x k) is)
       go rest false false before same =
           let ahead = one_before r.key key before same in

@@ -123,7 +123,8 @@ on_number number apart (rs ∷ rss) on (suc c) =
     filter-append (λ (r : Run). home r.key.node == number (suc c)) (runs_in rs) (flat_map runs_in rss)
     ∙ (λ i. keeps_none (λ (r : Run). home r.key.node == number (suc c)) (runs_in rs) (runs_weaker (λ node. (home node == number (suc c)) ≡ false) rs
     (all_weaker (λ (r : LockRow). home r.key.node ≡ number 0) (λ (r : LockRow). (home r.key.node == number (suc c)) ≡ false)
-    (λ r is. false_from_ne_true _ (λ same. let no = apart 0 (suc c) (sym is ∙ eqb-true (home r.key.node) (number (suc c)) same) in omega (arith, no))) rs (on 0))) i
+    (λ r is. false_from_ne_true _ (λ same. let no = apart 0 (suc c) (sym is
+    ∙ eqb-true (home r.key.node) (number (suc c)) same) in omega (arith, no))) rs (on 0))) i
     ++ on_number (λ c. number (suc c)) (λ c d same. let next = apart (suc c) (suc d) same in omega (arith, next)) rss (λ c. on (suc c)) c i)
 
 -- there are no more rows than runs
@@ -146,7 +147,8 @@ module _ (v : LockRows) (limit : ℕ) (table : IsLockTable v limit) where
   head_on c i here t view =
       let few = few_rows (rows v c) (table.kept c).used in
       let on = ap length (on_number (λ d. d) (λ a b same. same) (row_lists v) (λ d. (table.kept d).at_home) c) in
-      let long = runs_length (filter (λ r. home r.key.node == c) (table_runs v)) (runs-filter (λ r. home r.key.node == c) (table_runs v) (table_apart v limit table)) in
+      let long = runs_length (filter (λ r. home r.key.node == c) (table_runs v)) (runs-filter (λ r. home r.key.node == c) (table_runs v)
+      (table_apart v limit table)) in
       let kept = ap runs (kept_nodes (λ n. home n == c) (table_runs v) (table_apart v limit table)) in
       let same = ap (λ (x : LockTable). runs (on_chain c x.marking)) view in
       omega (arith, here, few, on, long, kept, same)

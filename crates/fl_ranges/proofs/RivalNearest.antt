@@ -97,7 +97,8 @@ module _ (key : Key) (start end : ℕ) (kind : Kind) where
     up_to (Some b) is = let at = is.0 in let within = is.1 in omega (arith, at, within)
 
     abbrev Parts : ℕ → Span Mark → Type 0
-    Parts upto s = ExcludingParts (class_number key.class) (class_number key.class) key.node key.node key.owner owner start upto s.start s.end (excludes kind s.mark.kind)
+    Parts upto s = ExcludingParts (class_number key.class) (class_number key.class) key.node key.node key.owner owner start upto s.start s.end
+        (excludes kind s.mark.kind)
 
     parts_of : (upto : ℕ) (s : Span Mark) → span_excludes key owner start upto kind s ≡ true → Parts upto s
     parts_of upto s is = excluding_parts (class_number key.class) (class_number key.class) key.node key.node key.owner owner start upto s.start s.end
@@ -173,8 +174,11 @@ module _ (key : Key) (start end : ℕ) (kind : Kind) where
         others [] each = tt
         others (x ∷ xs) each =
             let whole = are.0 in
-            let ends = p.ends in
-            (beyond_not_nearer (max x.start start) (max s.start start) owner owner (let past = each.0 in omega (arith, past, ends, whole.ordered)), others xs each.1)
+            let ends = p.ends in (
+              beyond_not_nearer (max x.start start) (max s.start start) owner owner (let past = each.0 in omega
+                  (arith, past, ends, whole.ordered)),
+              others xs each.1,
+            )
 
     row_found : (ss : List (Span Mark)) (best : Option Run) (s : Span Mark) → AreSpans ss → IsBest owner last best →
         find (span_excludes key owner start last kind) ss ≡ Some s → IsFound ss best s

@@ -31,7 +31,8 @@ module _ (key : Key) (start end : ℕ) (kind : Kind) (after : Option ℕ) where
       go true is rest = rest (least_with key start end kind after least r)
       go false is rest =
           rest least
-          ∙ ap (λ b. least_from key start end kind after (cond (b && (is_after after r.key.owner && is_less least r.key.owner)) (Some r.key.owner) least) rs) (sym is)
+          ∙ ap (λ b. least_from key start end kind after (cond (b && (is_after after r.key.owner && is_less least r.key.owner))
+          (Some r.key.owner) least) rs) (sym is)
 
   least_append : (rs ss : List Run) (least : Option ℕ) →
       least_from key start end kind after least (rs ++ ss) ≡ least_from key start end kind after (least_from key start end kind after least rs) ss
@@ -64,7 +65,8 @@ module _ (key : Key) (start end : ℕ) (kind : Kind) (after : Option ℕ) where
   spans_none k (s ∷ ss) not_so = go (run_excludes key start end kind (run_of k s)) refl (spans_none k ss) not_so
     where
       go : (b : Bool) → run_excludes key start end kind (run_of k s) ≡ b →
-          (is_some (find (λ s. run_excludes key start end kind (run_of k s)) ss) ≡ false → least_from key start end kind after None (map (run_of k) ss) ≡ None) →
+          (is_some (find (λ s. run_excludes key start end kind (run_of k s)) ss) ≡ false →
+          least_from key start end kind after None (map (run_of k) ss) ≡ None) →
           is_some (cond b (Some s) (find (λ s. run_excludes key start end kind (run_of k s)) ss)) ≡ false →
           least_from key start end kind after None (map (run_of k) (s ∷ ss)) ≡ None
       go true is rest not_so = absurd (cc not_so)
@@ -82,7 +84,8 @@ module _ (key : Key) (start end : ℕ) (kind : Kind) (after : Option ℕ) where
   spans_some k (s ∷ ss) past some = go (run_excludes key start end kind (run_of k s)) refl (spans_some k ss past) some
     where
       go : (b : Bool) → run_excludes key start end kind (run_of k s) ≡ b →
-          (is_some (find (λ s. run_excludes key start end kind (run_of k s)) ss) ≡ true → least_from key start end kind after None (map (run_of k) ss) ≡ Some k.owner)
+          (is_some (find (λ s. run_excludes key start end kind (run_of k s)) ss) ≡ true →
+          least_from key start end kind after None (map (run_of k) ss) ≡ Some k.owner)
           → is_some (cond b (Some s) (find (λ s. run_excludes key start end kind (run_of k s)) ss)) ≡ true →
           least_from key start end kind after None (map (run_of k) (s ∷ ss)) ≡ Some k.owner
       go true is rest some =
@@ -115,21 +118,24 @@ module _ (key : Key) (start end : ℕ) (kind : Kind) (after : Option ℕ) where
         least_from key start end kind after None (runs_in (class_rows key (drop i rs)))
         ≡ least_from key start end kind after None (runs_in (class_rows key (drop (i + 1) rs)))
     least_before not_so =
-        here ∙ ap (λ o. least_from key start end kind after o (runs_in (class_rows key (drop (i + 1) rs)))) (spans_before (of_owner key owner) (runs_at rs i) not_so)
+        here ∙ ap (λ o. least_from key start end kind after o (runs_in (class_rows key (drop (i + 1) rs)))) (spans_before (of_owner key owner)
+        (runs_at rs i) not_so)
 
     -- or has no such span
     pub least_next : is_some (find (span_excludes key owner start end kind) (runs_at rs i)) ≡ false →
         least_from key start end kind after None (runs_in (class_rows key (drop i rs)))
         ≡ least_from key start end kind after None (runs_in (class_rows key (drop (i + 1) rs)))
     least_next none =
-        here ∙ ap (λ o. least_from key start end kind after o (runs_in (class_rows key (drop (i + 1) rs)))) (spans_none (of_owner key owner) (runs_at rs i) none)
+        here ∙ ap (λ o. least_from key start end kind after o (runs_in (class_rows key (drop (i + 1) rs)))) (spans_none (of_owner key owner)
+        (runs_at rs i) none)
 
     -- or has one, and then later rows are of greater owners
     pub least_here : AreInOrder rs → is_after after owner ≡ true → is_some (find (span_excludes key owner start end kind) (runs_at rs i)) ≡ true →
         least_from key start end kind after None (runs_in (class_rows key (drop i rs))) ≡ Some owner
     least_here order past some =
         here
-        ∙ ap (λ o. least_from key start end kind after o (runs_in (class_rows key (drop (i + 1) rs)))) (spans_some (of_owner key owner) (runs_at rs i) past some)
+        ∙ ap (λ o. least_from key start end kind after o (runs_in (class_rows key (drop (i + 1) rs)))) (spans_some (of_owner key owner)
+        (runs_at rs i) past some)
         ∙ stays_least (runs_in (class_rows key (drop (i + 1) rs))) owner (each_row (λ (r : Run). owner < r.key.owner) (λ (r : Run). owner ≤ r.key.owner)
         (λ r less. omega (arith, less)) (runs_in (class_rows key (drop (i + 1) rs))) (later_runs key owner rs i order (at_kin key rs i owner found)))
 

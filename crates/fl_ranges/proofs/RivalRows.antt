@@ -1,5 +1,6 @@
 -- The rows of a class on a node stand one after another, and no other run excludes a lock of their class and node.
-use Rattle.std.proofs.Common.{◌≡◌, ◌≢◌, ℕ, zero, suc, ◌+◌, ◌<◌, ◌≤◌, Bool, true, false, cond, not, ◌&&◌, ◌||◌, ◌==◌, nat_lt, nat_le, Option, Some, None, List, [], ◌∷◌}
+use Rattle.std.proofs.Common.{◌≡◌, ◌≢◌, ℕ, zero, suc, ◌+◌, ◌<◌, ◌≤◌, Bool, true, false, cond, not, ◌&&◌, ◌||◌, ◌==◌, nat_lt, nat_le, Option, Some}
+use Rattle.std.proofs.Common.{None, List, [], ◌∷◌}
 use Rattle.std.proofs.Common.{◌++◌, map, drop, get_or, slice_get, refl, ap, sym, ◌∙◌, subst, add-one, arith}
 use Rattle.std.proofs.lemmas.Bool.Decides.{nat_tests}
 use Rattle.std.proofs.lemmas.Bool.{false_from_ne_true, eqb-true}
@@ -53,7 +54,8 @@ past_stays : (n m c d o p k b : ℕ) → Ahead n m c d o p → (nat_lt n k || ((
     ((b == d) && (k == m)) ≡ false
 past_stays n m c d o p k b h e f = let x = h.node in let y = h.class in grind (arith, nat_tests)
 
-not_earlier_stays : (n m c d o p k b : ℕ) → Ahead n m c d o p → (nat_lt n k || ((n == k) && nat_lt c b)) ≡ false → (nat_lt m k || ((m == k) && nat_lt d b)) ≡ false
+not_earlier_stays : (n m c d o p k b : ℕ) → Ahead n m c d o p → (nat_lt n k || ((n == k) && nat_lt c b)) ≡ false →
+    (nat_lt m k || ((m == k) && nat_lt d b)) ≡ false
 not_earlier_stays n m c d o p k b h e = let x = h.node in let y = h.class in grind (arith, nat_tests)
 
 module _ {A : Type 0} where
@@ -272,7 +274,8 @@ module _ (key : Key) (start end : ℕ) (kind : Kind) where
   pub own_span : (ss : List (Span Mark)) → find (span_excludes key key.owner start end kind) ss ≡ None
   own_span [] = refl
   own_span (s ∷ ss) =
-      ap (λ b. cond (b && ((nat_le s.start end && nat_le start s.end) && excludes kind s.mark.kind)) (Some s) (find (span_excludes key key.owner start end kind) ss))
+      ap (λ b. cond (b && ((nat_le s.start end && nat_le start s.end) && excludes kind s.mark.kind)) (Some s) (find
+      (span_excludes key key.owner start end kind) ss))
       (own_kin (class_number key.class) key.node key.owner)
       ∙ own_span ss
 
@@ -288,7 +291,8 @@ kin_spans key rs i owner found all =
 order_here : (rs : List LockRow) (i : ℕ) (r : LockRow) → slice_get rs i ≡ Some r → AreInOrder rs →
     AllByRecursion (λ x. goes_before r.key x.key ≡ true) (drop (suc i) rs)
 order_here [] i r found order = absurd (none-some r found)
-order_here (y ∷ rs) zero r found order = let same : y ≡ r = cc found in subst (λ (z : LockRow). AllByRecursion (λ x. goes_before z.key x.key ≡ true) rs) same order.0
+order_here (y ∷ rs) zero r found order = let same : y ≡ r = cc found in subst (λ (z : LockRow). AllByRecursion
+    (λ x. goes_before z.key x.key ≡ true) rs) same order.0
 order_here (y ∷ rs) (suc i) r found order = order_here rs i r found order.1
 
 pub later_order : (rs : List LockRow) (i : ℕ) (r : LockRow) → slice_get rs i ≡ Some r → AreInOrder rs →

@@ -44,7 +44,8 @@ own_index (x ∷ xs) (suc j) r more order here =
     let rest = own_index xs j r more order.1 here in
     index_more r.key x xs (later xs j order.0 here) ∙ ap suc rest
   where
-    later : (ys : List LockRow) (i : ℕ) → AllByRecursion (λ (y : LockRow). goes_before x.key y.key ≡ true) ys → drop i ys ≡ r ∷ more → goes_before x.key r.key ≡ true
+    later : (ys : List LockRow) (i : ℕ) → AllByRecursion (λ (y : LockRow). goes_before x.key y.key ≡ true) ys → drop i ys ≡ r ∷ more →
+        goes_before x.key r.key ≡ true
     later [] zero each at = absurd (cc at)
     later [] (suc i) each at = absurd (cc at)
     later (y ∷ ys) zero each at = let is : y ≡ r = cc at in ap (λ (z : LockRow). goes_before x.key z.key) (sym is) ∙ each.0
@@ -149,7 +150,8 @@ module _ (v : LockRows) (table : IsLockTable v (limit_of v)) (node : ℕ) (row :
   order : AreInOrder (rows v (home node))
   order = (table.kept (home node)).in_order
 
-  module _ (of : key.node ≡ node) (w : LockRows) (is : row_lists w ≡ set (row_lists v) row.chain (remove (rows v row.chain) row.index)) (size : HasRoomOf v w) where
+  module _ (of : key.node ≡ node) (w : LockRows) (is : row_lists w ≡ set (row_lists v) row.chain (remove (rows v row.chain) row.index))
+      (size : HasRoomOf v w) where
     own_chain : home node ≡ home key.node
     own_chain = ap home (sym of)
 
@@ -175,7 +177,8 @@ module _ (v : LockRows) (table : IsLockTable v (limit_of v)) (node : ℕ) (row :
         subst (λ (n : ℕ). IsLockTable w n) (sym size.limit) (erased_kept v table key row at has w (removed_here v table key row at has w is) size)
 
     pub gone_marks : without_node node (row_marks w) ≡ without_node node (row_marks v)
-    gone_marks = ap (without_node node) (erased_here v table key row at has w (removed_here v table key row at has w is)) ∙ off_stroked node key (row_marks v) of
+    gone_marks = ap (without_node node) (erased_here v table key row at has w (removed_here v table key row at has w is))
+        ∙ off_stroked node key (row_marks v) of
 
     pub gone_rows : rows w (home node) ≡ remove (rows v (home node)) row.index
     gone_rows =

@@ -1,5 +1,6 @@
 -- A stroke on rows: on the row of its key, or on none.
-use Rattle.std.proofs.Common.{◌≡◌, ◌≢◌, ◌↔◌, ℕ, ◌+◌, ◌<◌, ◌≤◌, Bool, true, false, cond, ◌&&◌, nat_le, Option, Some, None, List, [], ◌∷◌, length, set, insert, remove}
+use Rattle.std.proofs.Common.{◌≡◌, ◌≢◌, ◌↔◌, ℕ, ◌+◌, ◌<◌, ◌≤◌, Bool, true, false, cond, ◌&&◌, nat_le, Option, Some, None, List, [], ◌∷◌, length, set}
+use Rattle.std.proofs.Common.{insert, remove}
 use Rattle.std.proofs.Common.{refl, ap, sym, ◌∙◌, subst, inl, inr, arith}
 use Rattle.std.specs.Prelude.{Result, Ok, Err, IsErr, OnOk, OnErr}
 use Rattle.std.proofs.lemmas.Bool.{cases_lt}
@@ -142,11 +143,13 @@ module _ (v : LockRows) (table : IsLockTable v (limit_of v)) (key : Key) where
             let few = table.few in
             (λ full. omega (arith, room, long, full), λ more. omega (arith, room, long, few, more))
 
-        pub new_stroked : (w : LockRows) → row_lists w ≡ set (row_lists v) row.chain (insert (rows v row.chain) row.index (record { key = key; runs = new ∷ [] })) →
+        pub new_stroked : (w : LockRows) → row_lists w ≡ set (row_lists v) row.chain (insert (rows v row.chain) row.index
+            (record { key = key; runs = new ∷ [] })) →
             row_marks w ≡ stroked (record { key = key; start = start; end = end; mark = Some m }) (row_marks v)
         new_stroked w is = table_stroked v (limit_of v) table key (new ∷ []) is_span start end (Some m) new_marks w (inserted w is)
 
-        pub new_kept : (w : LockRows) → row_lists w ≡ set (row_lists v) row.chain (insert (rows v row.chain) row.index (record { key = key; runs = new ∷ [] })) →
+        pub new_kept : (w : LockRows) → row_lists w ≡ set (row_lists v) row.chain (insert (rows v row.chain) row.index
+            (record { key = key; runs = new ∷ [] })) →
             HasRoomOf v w → (run_count v ≡ limit_of v → ⊥) → IsLockTable w (limit_of v)
         new_kept w is size room =
             let long : length (spans_of key (rows v (home key.node))) ≡ 0 = ap length no_spans_here in

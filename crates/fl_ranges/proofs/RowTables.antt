@@ -104,7 +104,8 @@ module _ (lists : List (List LockRow)) (kept : (c : ℕ) → AreLockRows c (get_
   -- how many runs there are afterwards
   pub long_after : length (flat_map runs_in after) + length (spans_of key (get_or lists (home key.node) [])) ≡ length (flat_map runs_in lists) + length ss
   long_after =
-      let swapped = sum_by-set (λ (rs : List LockRow). length (runs_in rs)) lists (home key.node) (given_spans key ss (get_or lists (home key.node) [])) [] inside in
+      let swapped = sum_by-set (λ (rs : List LockRow). length (runs_in rs)) lists (home key.node) (given_spans key ss (get_or lists
+      (home key.node) [])) [] inside in
       let was = length-flat_map runs_in lists in
       let is = length-flat_map runs_in after in
       let own = long_given key ss (get_or lists (home key.node) []) (kept (home key.node)).in_order in

@@ -40,12 +40,7 @@ fn lock_of(run: Option<Run>) -> Option<Held>
 // Of the runs that exclude a lock of this kind, by this key, on the range, that with the least first byte in the range,
 // and of those the least owner's. Rows stand in the order of their owners, so a later one is looked at up to the byte
 // before that of the nearest so far.
-fn nearest(
-    table: &Rows<Key, Span<Mark>>,
-    key: &Key,
-    range: &Range,
-    kind: Kind,
-) -> Option<Run>
+fn nearest(table: &Rows<Key, Span<Mark>>, key: &Key, range: &Range, kind: Kind) -> Option<Run>
     requires chains { chain_count table.now ≡ 256 }
     requires kept { (c : ℕ) → AreLockRows c (rows table.now c) }
     ensures { result

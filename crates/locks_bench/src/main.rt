@@ -10,7 +10,9 @@ use fl_order::{LockAsk, Name, Op, Order};
 use std::env;
 
 const READ: u32 = 0;
+
 const WRITE: u32 = 1;
+
 const UNLOCK: u32 = 2;
 
 // What is asked once the locks are held.
@@ -143,7 +145,11 @@ fn main(rt: HostRuntime) -> anyhow::Result<()> {
     }
     let mut done = 0u64;
     for place in 0..orders {
-        if is_done(&mut core, &order(3, 2, asked(&held, what, place)), &mut tolds) {
+        if is_done(
+            &mut core,
+            &order(3, 2, asked(&held, what, place)),
+            &mut tolds,
+        ) {
             done = done.saturating_add(1);
         }
     }

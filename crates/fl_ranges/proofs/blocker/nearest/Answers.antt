@@ -51,16 +51,16 @@ loop-owner-preserved c =
     c.match-excluding_span.last c.match-excluding_span.best =
     elim c.match-excluding_span.branch [
       | in-Some-excluding_span+else-span-range w ↦ (
-          omega (arith, w.last-is, w.if-span-range.false),
-          rw w.last-is (rw w.best-is (nearest_more key range.start range.end c.args.kind rs i c.in-Some.owner found c.loop-owner.last inv.some
-              c.loop-owner.best inv.best are.in_order (kin_spans key rs i c.in-Some.owner found are.spans) w.in-Some-excluding_span.span
-              (seen ∙ w.in-Some-excluding_span.is) w.if-span-range.false)),
-        )
+        omega (arith, w.last-is, w.if-span-range.false),
+        rw w.last-is (rw w.best-is (nearest_more key range.start range.end c.args.kind rs i c.in-Some.owner found c.loop-owner.last inv.some
+            c.loop-owner.best inv.best are.in_order (kin_spans key rs i c.in-Some.owner found are.spans) w.in-Some-excluding_span.span
+            (seen ∙ w.in-Some-excluding_span.is) w.if-span-range.false)),
+      )
       | in_default-excluding_span w ↦ (
-          omega (arith, w.last-is, inv.some),
-          rw w.last-is (rw w.best-is (nearest_next key range.start range.end c.args.kind rs i c.in-Some.owner found c.loop-owner.last inv.some
-              c.loop-owner.best inv.best (seen ∙ w.in_default-excluding_span.is))),
-        )
+        omega (arith, w.last-is, inv.some),
+        rw w.last-is (rw w.best-is (nearest_next key range.start range.end c.args.kind rs i c.in-Some.owner found c.loop-owner.last inv.some
+            c.loop-owner.best inv.best (seen ∙ w.in_default-excluding_span.is))),
+      )
     ] in
     let next = goes.1 in
     record {

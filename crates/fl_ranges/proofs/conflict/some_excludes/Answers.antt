@@ -61,7 +61,8 @@ loop-owner-preserved c =
       chain = ap (λ (k : Cursor). k.chain) on ∙ inv.chain;
       rest = rw (ap (λ (k : Cursor). k.index) on) (inv.rest
           ∙ any_next key range.start range.end c.args.kind (rows v (home key.node)) i c.in-Some.owner found
-          ∙ ap (λ b. b || list_any (run_excludes key range.start range.end c.args.kind) (runs_in (class_rows key (drop (i + 1) (rows v (home key.node)))))) none);
+          ∙ ap (λ b. b || list_any (run_excludes key range.start range.end c.args.kind) (runs_in (class_rows key (drop (i + 1) (rows v
+          (home key.node)))))) none);
     }
 
 pub returns : goal.returns

@@ -7,7 +7,8 @@ use Rattle.fl_ranges.specs.declared.lock.Key.{Key}
 use Rattle.fl_ranges.specs.Placing.{home}
 use Rattle.fl_ranges.specs.Inside.LockRows.{LockRow, AreInOrder}
 use Rattle.fl_ranges.proofs.RowPlaces.{row_end, in_order_drop}
-use Rattle.fl_ranges.proofs.RowNodes.{IsOff, here, gone_table, gone_marks, gone_rows, gone_long, off_still, off_more, off_behind, off_all, off_marks, within_here}
+use Rattle.fl_ranges.proofs.RowNodes.{IsOff, here, gone_table, gone_marks, gone_rows, gone_long, off_still, off_more, off_behind, off_all, off_marks}
+use Rattle.fl_ranges.proofs.RowNodes.{within_here}
 use Rattle.fl_ranges.proofs.row_change.erase_node.Goals as goal
 
 pub loop-key-smaller-then-key-node-2 : goal.loop-key-smaller-then-key-node-2
