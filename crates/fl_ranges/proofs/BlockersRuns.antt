@@ -73,13 +73,6 @@ record IsListed (rs : List Run) (r : Run) : Type 0 where
   pub whole : IsWhole (held_at rs) r
 
 module _ (key : Key) (start end : ℕ) (kind : Kind) where
-  -- a run that excludes the lock is on its node
-  pub excluding_node : (r : Run) → run_excludes key start end kind r ≡ true → key.node ≡ r.key.node
-  excluding_node r excluding =
-      let p = excluding_parts (class_number key.class) (class_number r.key.class) key.node r.key.node key.owner r.key.owner start end r.start r.end
-      (excludes kind r.mark.kind) excluding in
-      p.node
-
   -- ---- what is found among runs
 
   record IsNearest (best : Option Run) (rs : List Run) (r : Run) : Type 0 where
@@ -146,13 +139,6 @@ module _ (key : Key) (start end : ℕ) (kind : Kind) where
       go : (t : Bool) → run_excludes key start end kind x ≡ t → NoneExcludes (cond t (Some (nearer_of start best x)) best) xs → NoneExcludes best (x ∷ xs)
       go true is n = let none = n.no_best in absurd (cc none)
       go false is n = record { no_best = n.no_best; each = (is, n.each) }
-
-  -- runs that don't exclude the lock change nothing
-  pub nearest_past : (rs : List Run) (best : Option Run) → AllByRecursion (λ (s : Run). run_excludes key start end kind s ≡ false) rs →
-      nearest_from key start end kind best rs ≡ best
-  nearest_past [] best each = refl
-  nearest_past (x ∷ xs) best each =
-      ap (λ t. nearest_from key start end kind (cond t (Some (nearer_of start best x)) best) xs) each.0 ∙ nearest_past xs best each.1
 
   pub nearest_append : (rs ss : List Run) (best : Option Run) →
       nearest_from key start end kind best (rs ++ ss) ≡ nearest_from key start end kind (nearest_from key start end kind best rs) ss

@@ -1,23 +1,22 @@
 -- A conflict that the runs show is a conflict of the marking that they mean.
-use Rattle.std.proofs.Common.{◌≡◌, ℕ, ◌≤◌, Bool, true, false, cond, not, ◌&&◌, ◌||◌, ◌==◌, nat_le, Some, List, [], ◌∷◌, map, refl, ap, sym, ◌∙◌, arith}
+use Rattle.std.proofs.Common.{◌≡◌, ℕ, ◌≤◌, Bool, true, false, cond, ◌&&◌, ◌||◌, nat_le, Some, List, [], ◌∷◌, map, refl, ap, sym, ◌∙◌, arith}
 use Rattle.std.proofs.lemmas.Bool.Decides.{nat_tests}
 use Rattle.std.specs.List.{list_any, find, AllByRecursion}
 use Rattle.std.specs.Cmp.{both_ways}
 use Rattle.std.specs.FinMap.{entries}
-use Rattle.std.proofs.lemmas.Bool.{false_from_ne_true, or_left, or_right, and_from, eqb-true}
+use Rattle.std.proofs.lemmas.Bool.{or_left, or_right, and_from}
 use Rattle.fl_ranges.specs.declared.lock.Kind.{Kind}
 use Rattle.fl_ranges.specs.declared.lock.Key.{Key}
 use Rattle.fl_ranges.specs.declared.lock.Mark.{Mark}
 use Rattle.fl_ranges.specs.declared.run.Run.{Run}
-use Rattle.fl_ranges.specs.Marking.{class_number, Spot, marking_of}
+use Rattle.fl_ranges.specs.Marking.{Spot, marking_of}
 use Rattle.fl_ranges.specs.Conflict.{are_rivals, excludes, excludes_lock}
 use Rattle.fl_ranges.specs.Inside.RunList.{meant, has_spot, run_at, AreApart, run_excludes}
-use Rattle.fl_ranges.specs.Placing.{home}
 use Rattle.fl_ranges.proofs.Markings.{spots_total, exact_spots}
 use Rattle.fl_ranges.proofs.Entries.{any_entry, entry_passes}
 use Rattle.fl_ranges.proofs.RunLists.{at_spot, spot_of, run_has, each_found, each_ordered}
 use Rattle.fl_ranges.proofs.Counting.{get-runs, held_by, held_of}
-use Rattle.fl_ranges.proofs.Each.{all_both, all_weaker}
+use Rattle.fl_ranges.proofs.Each.{all_both}
 
 -- a byte that two ranges share
 record Shared (from to start end : ℕ) : Type 0 where

@@ -1,21 +1,19 @@
 -- Rows in order once one key's row has other spans.
-use Rattle.std.proofs.Common.{◌≡◌, ◌≢◌, ℕ, zero, suc, ◌+◌, Bool, true, false, cond, ◌||◌, Option, Some, None, List, [], ◌∷◌, ◌++◌, map, length, refl, ap, sym}
+use Rattle.std.proofs.Common.{◌≡◌, ◌≢◌, ℕ, ◌+◌, Bool, true, false, cond, List, [], ◌∷◌, map, length, refl, ap, sym}
 use Rattle.std.proofs.Common.{◌∙◌, subst, arith, length-append}
 use Rattle.std.proofs.lemmas.Bool.Decides.{nat_tests}
 use Rattle.std.proofs.lemmas.List.{length-map}
-use Rattle.std.specs.List.{insert, remove, list_any, AllByRecursion}
+use Rattle.std.specs.List.{AllByRecursion}
 use Rattle.std.specs.declared.cmp.Ordering.{Ordering}
 use Rattle.std.specs.declared.cmp.Ordering.TheVariants.{Less, Equal, Greater}
 use Rattle.std.specs.Ordering.{nat_cmp, ordering_then, eq_by_cmp, is_lt, ordering_reverse}
 use Rattle.fl_spans.specs.declared.span.Span.{Span}
 use Rattle.fl_spans.specs.Spans.{AreSpans}
-use Rattle.fl_rows.specs.Rows.{runs_at, with_runs}
 use Rattle.fl_ranges.specs.declared.lock.Key.{Key}
 use Rattle.fl_ranges.specs.declared.lock.Mark.{Mark}
-use Rattle.fl_ranges.specs.declared.run.Run.{Run}
 use Rattle.fl_ranges.specs.Marking.{class_number, key_cmp}
 use Rattle.fl_ranges.specs.Placing.{home}
-use Rattle.fl_ranges.specs.Inside.LockRows.{LockRow, run_of, runs_of, runs_in, place_cmp, goes_before, AreInOrder, spans_of, row_index, has_row, row_before}
+use Rattle.fl_ranges.specs.Inside.LockRows.{LockRow, run_of, runs_of, runs_in, place_cmp, goes_before, AreInOrder, spans_of, row_before}
 use Rattle.fl_ranges.specs.Inside.LockRows.{given_spans, AreLockRows}
 use Rattle.fl_ranges.proofs.Entries.{is_Less}
 use Rattle.fl_ranges.proofs.Markings.{same_class}

@@ -10,7 +10,6 @@ use Rattle.fl_ranges.specs.declared.lock.Kind.{Kind}
 use Rattle.fl_ranges.specs.declared.run.Run.{Run}
 use Rattle.fl_ranges.specs.Marking.{class_number, Marking, marking_of}
 use Rattle.fl_ranges.specs.Conflict.{excludes, excludes_by, owner_conflicts, IsOwnerConflict, IsAfter, IsAtMost, IsLeastAfter}
-use Rattle.fl_ranges.specs.Placing.{home}
 use Rattle.fl_ranges.specs.Inside.RunList.{meant, run_excludes, AreApart}
 use Rattle.fl_ranges.specs.Inside.Owners.{is_after, is_less, least_with, least_from}
 use Rattle.fl_ranges.proofs.Markings.{spots_total, exact_spots, same_class}

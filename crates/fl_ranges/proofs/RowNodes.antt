@@ -1,5 +1,5 @@
 -- The rows of a node, taken out of its chain one after another.
-use Rattle.std.proofs.Common.{◌≡◌, ◌≢◌, ℕ, zero, suc, ◌+◌, ◌<◌, ◌≤◌, Bool, true, false, cond, ◌||◌, ◌==◌, Option, Some, None, List, [], ◌∷◌, ◌++◌, take, drop, length, set}
+use Rattle.std.proofs.Common.{◌≡◌, ◌≢◌, ℕ, zero, suc, ◌+◌, ◌<◌, ◌≤◌, Bool, true, false, cond, ◌||◌, ◌==◌, Some, None, List, [], ◌∷◌, take, drop, length, set}
 use Rattle.std.proofs.Common.{remove, slice_get, get_or, refl, ap, sym, ◌∙◌, subst, arith}
 use Rattle.std.proofs.lemmas.Bool.{eqb-true, eq-eqb, false_from_ne_true}
 use Rattle.std.proofs.lemmas.Bool.Decides.{nat_tests}
@@ -13,15 +13,15 @@ use Rattle.fl_spans.specs.Spans.{mark_at}
 use Rattle.fl_rows.specs.Rows.{row_lists, rows, keys, limit_of, row_cursor, HasRoomOf, IsRow}
 use Rattle.fl_ranges.specs.declared.lock.Key.{Key}
 use Rattle.fl_ranges.specs.declared.lock.Mark.{Mark}
-use Rattle.fl_ranges.specs.Marking.{class_number, key_cmp, Spot, Marking, stroked, covers}
+use Rattle.fl_ranges.specs.Marking.{class_number, key_cmp, Spot, Marking, stroked}
 use Rattle.fl_ranges.specs.Runs.{without_node}
 use Rattle.fl_ranges.specs.Placing.{home}
-use Rattle.fl_ranges.specs.Inside.LockRows.{LockRow, LockRows, place_cmp, goes_before, AreInOrder, row_marks, row_index, has_row, spans_of, IsLockTable}
+use Rattle.fl_ranges.specs.Inside.LockRows.{LockRow, LockRows, goes_before, AreInOrder, row_marks, row_index, has_row, spans_of, IsLockTable}
 use Rattle.fl_ranges.proofs.Markings.{spots_total, exact_spots, get-stroked, get-without_node}
 use Rattle.fl_ranges.proofs.Spots.{same_key, key_itself, within, home_less}
 use Rattle.fl_ranges.proofs.Each.{all_weaker, all_append}
-use Rattle.fl_ranges.proofs.RowRuns.{IsOther, no_spans, before_differs, keys_placed, mark_kept}
-use Rattle.fl_ranges.proofs.RowPlaces.{IsHere, row_here, index_more, index_end, has_more}
+use Rattle.fl_ranges.proofs.RowRuns.{IsOther, no_spans, before_differs, mark_kept}
+use Rattle.fl_ranges.proofs.RowPlaces.{IsHere, row_here, index_more, index_end}
 use Rattle.fl_ranges.proofs.RowStrokes.{removed_here, erased_here, erased_kept}
 
 -- the row is of another node

@@ -1,5 +1,5 @@
 -- The place of a key's row: how a walk finds it, and what stands there after a change.
-use Rattle.std.proofs.Common.{◌≡◌, ℕ, zero, suc, ◌+◌, Bool, true, false, cond, not, ◌||◌, Some, None, List, [], ◌∷◌, drop, slice_get, refl, ap, sym, ◌∙◌, subst}
+use Rattle.std.proofs.Common.{◌≡◌, ℕ, zero, suc, ◌+◌, Bool, true, false, cond, ◌||◌, Some, None, List, [], ◌∷◌, drop, slice_get, refl, ap, sym, ◌∙◌}
 use Rattle.std.proofs.Common.{arith}
 use Rattle.std.proofs.lemmas.Option.{none-some}
 use Rattle.std.specs.List.{insert, remove, AllByRecursion}
@@ -11,7 +11,7 @@ use Rattle.fl_ranges.specs.declared.lock.Mark.{Mark}
 use Rattle.fl_ranges.specs.Marking.{key_cmp}
 use Rattle.fl_ranges.specs.Inside.LockRows.{LockRow, goes_before, AreInOrder, spans_of, row_index, has_row, row_before, given_spans}
 use Rattle.fl_ranges.proofs.Spots.{same_key}
-use Rattle.fl_ranges.proofs.RowRuns.{IsOther, no_spans, turned_key, before_differs}
+use Rattle.fl_ranges.proofs.RowRuns.{IsOther, turned_key, before_differs}
 use Rattle.fl_ranges.proofs.GivenSpans.{one_before, all_behind, behind_others}
 
 -- ---- a walk along rows

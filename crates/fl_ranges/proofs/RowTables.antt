@@ -1,9 +1,8 @@
 -- A table in rows once one key's row has other spans: it is one again, with as many runs more, and other marks of that key alone.
-use Rattle.std.proofs.Common.{◌≡◌, ◌≢◌, ◌↔◌, ℕ, ◌+◌, ◌<◌, ◌≤◌, Bool, true, false, cond, ◌&&◌, ◌==◌, nat_le, Option, Some, None, List, [], ◌∷◌, map, length, get_or}
+use Rattle.std.proofs.Common.{◌≡◌, ◌≢◌, ℕ, ◌+◌, ◌<◌, ◌≤◌, Bool, true, false, cond, ◌&&◌, ◌==◌, nat_le, Option, List, [], ◌∷◌, map, length, get_or}
 use Rattle.std.proofs.Common.{set, refl, ap, sym, ◌∙◌, subst, arith, length-append, sum_by}
-use Rattle.std.specs.Prelude.{Result, Ok, Err, IsErr, OnOk, OnErr}
 use Rattle.std.proofs.lemmas.Bool.{eqb-true, eq-eqb}
-use Rattle.std.proofs.lemmas.List.{get_or-set_same, get_or-set_other, length-set, length-map}
+use Rattle.std.proofs.lemmas.List.{get_or-set_same, get_or-set_other, length-map}
 use Rattle.std.proofs.lemmas.List.Concat.{length-flat_map}
 use Rattle.std.proofs.lemmas.List.Sums.{sum_by-cons, sum_by-set}
 use Rattle.std.specs.List.{flat_map}
@@ -11,7 +10,7 @@ use Rattle.std.specs.Ordering.{eq_by_cmp}
 use Rattle.std.specs.FinMap.{get, same_map}
 use Rattle.fl_spans.specs.declared.span.Span.{Span}
 use Rattle.fl_spans.specs.Spans.{mark_at, AreSpans}
-use Rattle.fl_rows.specs.Rows.{row_lists, rows, chain_count, limit_of, run_count, HasRoomOf}
+use Rattle.fl_rows.specs.Rows.{row_lists, rows, run_count, HasRoomOf}
 use Rattle.fl_ranges.specs.declared.lock.Key.{Key}
 use Rattle.fl_ranges.specs.declared.lock.Mark.{Mark}
 use Rattle.fl_ranges.specs.Marking.{key_cmp, Spot, Marking, stroked, marking_of}

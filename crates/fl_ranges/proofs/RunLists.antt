@@ -1,14 +1,11 @@
 -- Lists of runs: which run has a spot, in other lists of the same runs.
-use Rattle.std.proofs.Common.{◌≡◌, ℕ, ◌≤◌, Bool, true, false, cond, ◌&&◌, nat_le, Option, Some, None, List, [], ◌∷◌, ◌++◌, map, refl, ap, sym, ◌∙◌, subst}
-use Rattle.std.proofs.Common.{arith}
-use Rattle.std.proofs.lemmas.Bool.Decides.{nat_tests}
+use Rattle.std.proofs.Common.{◌≡◌, ◌≤◌, Bool, true, false, cond, Option, Some, None, List, [], ◌∷◌, ◌++◌, map, refl, ap, sym, ◌∙◌, subst}
 use Rattle.std.specs.List.{find, filter, AllByRecursion}
 use Rattle.std.specs.Option.{option_map}
 use Rattle.std.specs.Ordering.{eq_by_cmp}
-use Rattle.fl_ranges.specs.declared.lock.Key.{Key}
 use Rattle.fl_ranges.specs.declared.run.Run.{Run}
 use Rattle.fl_ranges.specs.Marking.{key_cmp, Spot, mark_at}
-use Rattle.fl_ranges.specs.Inside.RunList.{meant, has_spot, run_at, held_at, AreApart, overlaps}
+use Rattle.fl_ranges.specs.Inside.RunList.{meant, has_spot, run_at, held_at, AreApart}
 use Rattle.fl_ranges.proofs.Spots.{same_key, key_itself, within, is_within}
 use Rattle.fl_ranges.proofs.Each.{all_weaker}
 
@@ -27,28 +24,6 @@ at_spot r q e =
 pub spot_of : (r : Run) (q : Spot) → r.key ≡ q.0 → r.start ≤ q.1 → q.1 ≤ r.end → has_spot q r ≡ true
 spot_of r q key from upto =
     is_within (eq_by_cmp key_cmp r.key q.0) r.start q.1 r.end (ap (eq_by_cmp key_cmp r.key) (sym key) ∙ key_itself r.key) from upto
-
-pub record IsOver (key : Key) (start end : ℕ) (r : Run) : Type 0 where
-  pub key_is : r.key ≡ key
-  pub begins : r.start ≤ end
-  pub ends : start ≤ r.end
-
-over_parts : (k : Bool) (from to start end : ℕ) → (k && (nat_le from end && nat_le start to)) ≡ true → (k ≡ true) × (from ≤ end) × (start ≤ to)
-over_parts true from to start end e = (refl, grind (arith, nat_tests), grind (arith, nat_tests))
-over_parts false from to start end e = absurd (cc e)
-
-parts_over : (k : Bool) (from to start end : ℕ) → k ≡ true → from ≤ end → start ≤ to → (k && (nat_le from end && nat_le start to)) ≡ true
-parts_over true from to start end k b e = grind (arith, nat_tests)
-parts_over false from to start end k b e = absurd (cc k)
-
-pub over : (key : Key) (start end : ℕ) (r : Run) → overlaps key start end r ≡ true → IsOver key start end r
-over key start end r e =
-    let p = over_parts (eq_by_cmp key_cmp r.key key) r.start r.end start end e in
-    record { key_is = same_key r.key key p.0; begins = p.1; ends = p.2 }
-
-pub overlapping : (key : Key) (start end : ℕ) (r : Run) → r.key ≡ key → r.start ≤ end → start ≤ r.end → overlaps key start end r ≡ true
-overlapping key start end r same begins ends =
-    parts_over (eq_by_cmp key_cmp r.key key) r.start r.end start end (ap (eq_by_cmp key_cmp r.key) (sym same) ∙ key_itself r.key) begins ends
 
 -- ---- what holds of each run
 

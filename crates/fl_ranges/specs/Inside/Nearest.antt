@@ -29,11 +29,6 @@ nearest_from key start end kind best [] = best
 nearest_from key start end kind best (r ∷ rs) =
     nearest_from key start end kind (nearest_with key start end kind best r) rs
 
--- a run that starts past this byte isn't nearer than the nearest so far
-abbrev pub last_start : ℕ → ℕ → Option Run → ℕ
-last_start start end None = end
-last_start start end (Some best) = max best.start start
-
 -- the lock of a run
 abbrev pub lock_of : Run → Held
 lock_of r = record { owner = r.key.owner; start = r.start; end = r.end; mark = r.mark }

@@ -1,4 +1,4 @@
-use Rattle.std.proofs.Common.{◌≡◌, ◌<◌, ℕ, Option, refl, sym, subst}
+use Rattle.std.proofs.Common.{◌<◌, ℕ, refl, sym, subst}
 use Rattle.std.specs.Prelude.{IsErr}
 use Rattle.fl_rows.specs.Rows.{limit_of}
 use Rattle.fl_ranges.specs.LockTable.{LockTable}
