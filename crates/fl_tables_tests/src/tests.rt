@@ -2,6 +2,7 @@
 
 mod arena;
 mod blocker;
+mod crowd;
 mod dir;
 mod directory;
 mod grid;

@@ -127,7 +127,7 @@ fn row_start(row: &Row, byte: usize) -> usize {
 }
 
 // The last of the bytes up to which all from this one on have the same mark.
-fn row_end(row: &Row, byte: usize) -> usize {
+pub(super) fn row_end(row: &Row, byte: usize) -> usize {
     let mut last = byte;
     for at in byte..BYTES {
         if row.get(at) != row.get(byte) {

@@ -84,10 +84,15 @@ impl Grid {
         let Some(key) = self.keys.get(row) else {
             return false;
         };
-        match mark {
-            Some(mark) => table.put(key, &range, mark).is_err(),
-            None => table.erase(key, &range).is_err(),
-        }
+        stroke(table, key, &range, mark)
+    }
+}
+
+// A stroke on a table. It gives whether the stroke is refused.
+pub(super) fn stroke(table: &mut Table, key: &Key, range: &Range, mark: Option<Mark>) -> bool {
+    match mark {
+        Some(mark) => table.put(key, range, mark).is_err(),
+        None => table.erase(key, range).is_err(),
     }
 }
 
@@ -102,13 +107,7 @@ pub(super) fn random_mark(numbers: &mut Numbers) -> Option<Mark> {
 }
 
 // The bytes of a row get the mark, or lose theirs.
-pub(super) fn paint(
-    rows: &mut [Row; ROWS],
-    row: usize,
-    start: usize,
-    end: usize,
-    mark: Option<Mark>,
-) {
+pub(super) fn paint(rows: &mut [Row], row: usize, start: usize, end: usize, mark: Option<Mark>) {
     if let Some(cells) = rows.get_mut(row) {
         for (byte, cell) in cells.iter_mut().enumerate() {
             if start <= byte && byte <= end {
@@ -131,7 +130,7 @@ fn row_runs(row: &Row) -> u32 {
     count
 }
 
-pub(super) fn count_runs(rows: &[Row; ROWS]) -> u32 {
+pub(super) fn count_runs(rows: &[Row]) -> u32 {
     let mut count = 0u32;
     for row in rows.iter() {
         count = count.saturating_add(row_runs(row));

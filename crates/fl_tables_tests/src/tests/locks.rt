@@ -84,7 +84,9 @@ pub(super) fn has_no_room(
     start: u64,
     end: u64,
     mark: Mark,
-) {
+)
+    ensures { table.new.limit ≡ table.old.limit }
+{
     let told = table.put(&key(owner), &range(rt, start, end), mark);
     is(rt, &told, &Err(NoRoom));
 }

@@ -10,7 +10,7 @@ use std::alloc::Global;
 use std::process::Abort;
 
 // Who asks, on which bytes, both included, and for what kind of lock.
-type Asked = (Key, u64, u64, Kind);
+pub(super) type Asked = (Key, u64, u64, Kind);
 
 fn reads(owner: u64, start: u64, end: u64) -> Asked {
     (key(owner), start, end, Kind::Read)
@@ -26,7 +26,7 @@ fn is(rt: &impl Abort, told: &Option<u64>, wanted: &Option<u64>) {
 }
 
 // These owners and no others are in the way, told one after another.
-fn in_the_way(rt: &impl Abort, table: &Table, asked: Asked, owners: &[u64]) {
+pub(super) fn in_the_way(rt: &impl Abort, table: &Table, asked: Asked, owners: &[u64]) {
     let (key, start, end, kind) = asked;
     let range = range(rt, start, end);
     let mut after = None;

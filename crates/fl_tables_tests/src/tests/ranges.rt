@@ -1,9 +1,9 @@
 //! The edges of a lock table's room, and of its bytes.
 ghost use Rattle.std.specs.Prelude.{◌≡◌};
 
-use super::locks::{READ, WRITE, erase, has_no_room, is, key, put, range};
+use super::locks::{READ, WRITE, erase, has_no_room, is, key, put, put_as, range};
 use super::same;
-use fl_ranges::{Kind, LAST_BYTE, Mark, NoRoom, Place, Range, Table, laws};
+use fl_ranges::{Key, Kind, LAST_BYTE, Mark, NoRoom, Place, Range, Table, laws};
 use std::process::Abort;
 
 const OTHER_READ: Mark = Mark {
@@ -12,7 +12,7 @@ const OTHER_READ: Mark = Mark {
 };
 
 // The table has so many runs.
-fn has_runs(rt: &impl Abort, table: &Table, wanted: u32) {
+pub(super) fn has_runs(rt: &impl Abort, table: &Table, wanted: u32) {
     same(rt, &table.runs(), &wanted);
 }
 
@@ -82,6 +82,14 @@ fn slots_of_runs_are_free_or_on_a_chain(rt: HostRuntime) {
     same(&rt, &indices(&rt, &table), &[true, true]);
 }
 
+// The place of a key that has no run is on chain 256.
+fn is_unused(rt: &impl Abort, place: Place) {
+    match place {
+        Place::On(chain, _) => same(rt, &chain, &256),
+        Place::Free => same(rt, &place, &Place::On(256, 0)),
+    }
+}
+
 // At which indices of node 7's chain keys stand, of a table of three slots. The other keys are on chain 256.
 fn heads(rt: &impl Abort, table: &Table) -> [bool; 2]
     requires { table.now.limit ≡ 3 }
@@ -90,8 +98,7 @@ fn heads(rt: &impl Abort, table: &Table) -> [bool; 2]
     for slot in 0..3 {
         match table.head_place(slot) {
             Place::On(7, index) if index < 2 => found[index] = true,
-            Place::On(chain, _) => same(rt, &chain, &256),
-            place => same(rt, &place, &Place::On(256, 0)),
+            place => is_unused(rt, place),
         }
     }
     found
@@ -108,6 +115,55 @@ fn a_key_is_on_its_nodes_chain_while_it_has_runs(rt: HostRuntime) {
     same(&rt, &heads(&rt, &table), &[true, true]);
     table.erase_owner(&key(1));
     same(&rt, &heads(&rt, &table), &[true, false]);
+}
+
+// One of many owners, of record locks on one of 64 files.
+fn spread(owner: u64) -> Key {
+    Key {
+        node: owner % 64,
+        ..key(owner)
+    }
+}
+
+// Each of 4,096 owners writes the byte of its number, for which there is room, and for no more.
+fn fill(rt: &impl Abort, table: &mut Table)
+    ensures { table.new.limit ≡ table.old.limit }
+{
+    for owner in 0..4096u64 {
+        put_as(rt, table, spread(owner), owner, owner, WRITE);
+    }
+    has_runs(rt, table, 4096);
+    has_no_room(rt, table, 4096, 4096, 4096, WRITE);
+}
+
+// Each of these owners lets all its bytes go.
+fn clear(rt: &impl Abort, table: &mut Table)
+    ensures { table.new.limit ≡ table.old.limit }
+{
+    for owner in 0..4096u64 {
+        table.erase_owner(&spread(owner));
+    }
+    has_runs(rt, table, 0);
+}
+
+// All of 4,096 slots are free, and no key has runs.
+fn is_free(rt: &impl Abort, table: &Table)
+    requires { table.now.limit ≡ 4096 }
+{
+    for slot in 0..4096 {
+        same(rt, &table.slot_place(slot), &Place::Free);
+        is_unused(rt, table.head_place(slot));
+    }
+}
+
+#[test]
+fn room_for_4096_owners_comes_back(rt: HostRuntime) {
+    let mut table = Table::new(rt.alloc(), 4096).expect(&rt, "memory");
+    fill(&rt, &mut table);
+    clear(&rt, &mut table);
+    fill(&rt, &mut table);
+    clear(&rt, &mut table);
+    is_free(&rt, &table);
 }
 
 #[test]
