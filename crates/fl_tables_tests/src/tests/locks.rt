@@ -99,7 +99,9 @@ pub(super) fn erase(
     start: u64,
     end: u64,
     wanted: Result<(), NoRoom>,
-) {
+)
+    ensures { table.new.limit ≡ table.old.limit }
+{
     let told = table.erase(&key(owner), &range(rt, start, end));
     is(rt, &told, &wanted);
 }

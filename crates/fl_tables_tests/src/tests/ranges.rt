@@ -1,5 +1,5 @@
 //! The edges of a lock table's room, and of its bytes.
-ghost use Rattle.std.specs.Prelude.{◌≡◌};
+ghost use Rattle.std.specs.Prelude.{◌≡◌, ◌<◌, IfSome};
 
 use super::locks::{READ, WRITE, erase, has_no_room, is, key, put, put_as, range};
 use super::same;
@@ -80,6 +80,31 @@ fn slots_of_runs_are_free_or_on_a_chain(rt: HostRuntime) {
     put(&rt, &mut table, 1, 5, 9, READ);
     put(&rt, &mut table, 1, 0, 1, READ);
     same(&rt, &indices(&rt, &table), &[true, true]);
+}
+
+// The slot whose run stands at an index of its chain, of a table of three slots.
+fn slot_at(table: &Table, index: usize) -> Option<usize>
+    requires { table.now.limit ≡ 3 }
+    ensures { IfSome result (λ slot. slot < 3) }
+{
+    for slot in 0..3 {
+        match table.slot_place(slot) {
+            Place::On(_, at) if at == index => return Some(slot),
+            _ => {}
+        }
+    }
+    None
+}
+
+#[test]
+fn the_slot_of_a_run_that_goes_is_free(rt: HostRuntime) {
+    let mut table = Table::new(rt.alloc(), 3).expect(&rt, "memory");
+    put(&rt, &mut table, 1, 0, 1, READ);
+    put(&rt, &mut table, 1, 5, 9, READ);
+    put(&rt, &mut table, 1, 20, 20, READ);
+    let first = slot_at(&table, 0).expect(&rt, "a run");
+    erase(&rt, &mut table, 1, 0, 1, Ok(()));
+    same(&rt, &table.slot_place(first), &Place::Free);
 }
 
 // The place of a key that has no run is on chain 256.
