@@ -2,7 +2,7 @@
 //! goes with all its owners.
 
 use super::blocker::row_end;
-use super::grid::{BYTES, Row, count_runs, paint, random_mark, row_excludes, stroke};
+use super::grid::{BYTES, Row, count_runs, paint, random_bytes, random_mark, row_excludes, stroke};
 use super::locks::{READ, WRITE, elsewhere, erase, held, key, put_as, range, whole_file};
 use super::owners::in_the_way;
 use super::ranges::has_runs;
@@ -36,14 +36,7 @@ fn paint_within(
     is_over
 }
 
-// A byte and another from there on.
-fn random_bytes(numbers: &mut Numbers) -> (usize, usize) {
-    let start = numbers.below(16) as usize;
-    let end = start.saturating_add(numbers.below(16) as usize).min(15);
-    (start, end)
-}
-
-// The range of those bytes.
+// The range from one byte to another.
 fn bytes(rt: &impl Abort, start: usize, end: usize) -> Range {
     range(rt, start as u64, end as u64)
 }
