@@ -1,4 +1,5 @@
 //! A plain grid of bytes, which says what a lock table has to hold.
+ghost use Rattle.std.specs.Prelude.{◌≤◌};
 
 use super::locks::{OTHER_READ, OTHER_WRITE, READ, WRITE, key, range};
 use super::same;
@@ -58,8 +59,7 @@ impl Grid {
         numbers: &mut Numbers,
     ) {
         let row = numbers.below(4) as usize;
-        let start = numbers.below(16) as usize;
-        let end = start.saturating_add(numbers.below(16) as usize).min(15);
+        let (start, end) = random_bytes(numbers);
         let mark = random_mark(numbers);
         let mut rows = self.rows;
         paint(&mut rows, row, start, end, mark);
@@ -94,6 +94,16 @@ pub(super) fn stroke(table: &mut Table, key: &Key, range: &Range, mark: Option<M
         Some(mark) => table.put(key, range, mark).is_err(),
         None => table.erase(key, range).is_err(),
     }
+}
+
+// A byte of a row, and one from there on.
+pub(super) fn random_bytes(numbers: &mut Numbers) -> (usize, usize)
+    ensures ordered { result.0 ≤ result.1 }
+    ensures in_row { result.1 ≤ 15 }
+{
+    let start = numbers.below(16) as usize;
+    let end = start.saturating_add(numbers.below(16) as usize).min(15);
+    (start, end)
 }
 
 pub(super) fn random_mark(numbers: &mut Numbers) -> Option<Mark> {

@@ -2,7 +2,7 @@
 ghost use Rattle.std.specs.Prelude.{◌≡◌, ◌≤◌};
 ghost use Rattle.fl_tables_tests.specs.OneRow.{IsOneRow};
 
-use super::grid::{BYTES, ROWS, Row, count_runs, paint, random_mark};
+use super::grid::{BYTES, ROWS, Row, count_runs, paint, random_bytes, random_mark};
 use super::locks::{OTHER_READ, READ, WRITE};
 use super::same;
 use fl_ranges::{Kind, Mark};
@@ -190,12 +190,11 @@ fn random_step(
     requires { IsOneRow rows.old }
     ensures { IsOneRow rows.new }
 {
-    let start = numbers.below(16) as usize;
-    let end = start.saturating_add(numbers.below(16) as usize).min(15);
+    let (start, end) = random_bytes(numbers);
     let mark = random_mark(numbers);
     let mut changed = *grid;
     paint(&mut changed, 0, start, end, mark);
-    let is_refused = set(rows, start as u64, end.max(start) as u64, mark).is_err();
+    let is_refused = set(rows, start as u64, end as u64, mark).is_err();
     same(rt, &is_refused, &(count_runs(&changed) > limit));
     if !is_refused {
         *grid = changed;
