@@ -7,8 +7,8 @@
 # differ in these orders alone. The runs take turns, and the least time of each counts. Prints milliseconds and the ratios.
 #
 # What dominates: for each request that is visited, the table is asked of each owner that isn't reached yet, about 32,900
-# times in all. Each time it walks along all runs of the file that start before the end of what is wanted. With none waiting
-# the same walk is made once, and where each run is in the way it ends at the first.
+# times in all. Each time it walks along the rows of the file's owners up to the one that is asked about, and into that one's
+# row. With none waiting there is one such walk, and where each run is in the way it ends at the first.
 set -eu
 . "$(dirname "$0")/../tools/built_lockd.sh"
 python3 - "$program" "$work" <<'END'
