@@ -1,7 +1,9 @@
 -- The test for a circle, and a circle in words.
 use Rattle.std.proofs.Common.{◌≡◌, ◌↔◌, ℕ, zero, suc, ◌<◌, Bool, true, false, ◌&&◌, ◌||◌, ◌⊎◌, inl, inr, ⊎_elim, List, [], ◌∷◌, ◌++◌, length, map, get_or, refl, sym, subst, arith}
 use Rattle.std.specs.List.{Contains}
-use Rattle.fl_core.specs.Circle.{leads, AreInRow, IsCircle}
+use Rattle.std.specs.List.Sorted.{IsPermutation}
+use Rattle.std.proofs.lemmas.List.Sorted.{Contains-permutation, IsPermutation-sym}
+use Rattle.fl_core.specs.Circle.{leads, Waits, AreInRow, IsCircle}
 
 -- ---- a way without the first request, or by it
 
@@ -131,6 +133,32 @@ module _ {A : Type 0} (owner_of : A → ℕ) (hinders : A → ℕ → Bool) wher
           (in_words waiting (contains waiting) a (owner_of a) h),
       λ w. as_told w.first w.others a (owner_of a) w.hindered w.row,
     )
+
+    -- the same requests in another order
+    module _ (others : List A) (moved : IsPermutation waiting others) where
+      waits_there : (p q : ℕ) → Waits owner_of hinders waiting p q → Waits owner_of hinders others p q
+      waits_there p q w = record { request = w.request; among = Contains-permutation waiting others w.request moved w.among; of = w.of; hindered = w.hindered }
+
+      row_there : (p : ℕ) (xs : List ℕ) (q : ℕ) → Row p xs q → AreInRow owner_of hinders others p xs q
+      row_there p [] q w = waits_there p q w
+      row_there p (x ∷ xs) q w = (waits_there p x w.0, row_there x xs q w.1)
+
+      pub circle_there : (a : A) → IsCircle owner_of hinders waiting a → IsCircle owner_of hinders others a
+      circle_there a w = record { first = w.first; others = w.others; hindered = w.hindered; row = row_there w.first w.others (owner_of a) w.row }
+
+-- a request leads back to its owner through requests in whatever order
+pub leads_moved : {A : Type 0} (owner_of : A → ℕ) (hinders : A → ℕ → Bool) (xs ys : List A) (a : A) → IsPermutation xs ys → hinders a (owner_of a) ≡ false
+    → leads owner_of hinders xs a (owner_of a) ≡ leads owner_of hinders ys a (owner_of a)
+leads_moved owner_of hinders xs ys a moved own =
+    let here = circle_words owner_of hinders xs a own in
+    let there = circle_words owner_of hinders ys a own in
+    same_test _ _ (λ e. there.1 (circle_there owner_of hinders xs ys moved a (here.0 e)))
+    (λ e. here.1 (circle_there owner_of hinders ys xs (IsPermutation-sym xs ys moved) a (there.0 e)))
+  where
+    same_test : (b c : Bool) → (b ≡ true → c ≡ true) → (c ≡ true → b ≡ true) → b ≡ c
+    same_test true c f g = sym (f refl)
+    same_test false true f g = g refl
+    same_test false false f g = refl
 
 -- requests that mean others lead where these do
 pub leads_alike : {A B : Type 0} (f : A → B) (owner_of : B → ℕ) (hinders : B → ℕ → Bool) (rs : List A) (a : A) (q : ℕ)

@@ -1,15 +1,27 @@
 -- The search for a circle: what is reached and visited so far.
-use Rattle.std.proofs.Common.{◌≡◌, ◌≢◌, ℕ, zero, suc, ◌<◌, ◌≤◌, Bool, true, false, cond, ◌||◌, List, [], ◌∷◌, length, sum_by, get_or, set, length-set, get_or-set_other, replicate, inl, inr, ◌⊎◌, ⊎_elim, refl, sym, ap, ◌∙◌, subst, arith}
+use Rattle.std.proofs.Common.{◌≡◌, ◌≢◌, ℕ, zero, suc, ◌<◌, ◌≤◌, Bool, true, false, cond, ◌||◌, List, [], ◌∷◌, length, sum_by, get_or, slice_index_or, set, length-set, get_or-set_other, take, replicate, inl, inr, ◌⊎◌, ⊎_elim, refl, sym, ap, ◌∙◌, subst, arith}
 use Rattle.std.proofs.lemmas.Bool.{cases_eq}
-use Rattle.std.proofs.lemmas.List.{get_or-replicate, length-replicate}
+use Rattle.std.proofs.lemmas.List.{length-map, length-replicate}
 use Rattle.std.proofs.lemmas.List.Sums.{sum_by-set}
 use Rattle.fl_core.specs.Circle.{leads, Waits, AreInRow, IsCircle}
-use Rattle.fl_core.specs.Inside.Searching.{is_set, owner_at, AreReached, IsByOwner}
+use Rattle.fl_core.specs.Inside.Searching.{is_set, owners_of, IsByOwner, AreReached}
+use Rattle.std.specs.List.Sorted.{IsNonDecreasing}
+use Rattle.std.proofs.Math.ListN.{get_or-map}
+use Rattle.std.proofs.lemmas.List.Sorted.{IsNonDecreasingBy-from_default}
 use Rattle.fl_core.specs.declared.circle.Wanted.{Wanted}
 use Rattle.fl_core.proofs.Circles.{leads_directly, leads_on, circle_words}
 
 abbrev pub owner : Wanted → ℕ
 owner w = w.key.owner
+
+-- whose request stands at a place; 0 past the last
+abbrev pub owner_at : List Wanted → ℕ → ℕ
+owner_at ws i = slice_index_or (owners_of ws) i 0
+
+-- the places of one owner are all reached, or none is
+abbrev pub IsReachedByOwner : List Wanted → List Bool → Type 0
+IsReachedByOwner ws reached =
+    (i j : ℕ) → i < length ws → j < length ws → owner_at ws i ≡ owner_at ws j → is_set reached i ≡ is_set reached j
 
 or_cases : (a b c : Bool) → c ≡ (a || b) → c ≡ true → (a ≡ true) ⊎ (b ≡ true)
 or_cases true b c e h = inl refl
@@ -32,6 +44,15 @@ owner_is [] i w h e = absurd (omega arith)
 owner_is (x ∷ ws) zero w h e = ap owner e
 owner_is (x ∷ ws) (suc i) w h e = owner_is ws i w (omega arith) e
 
+-- the owners of requests in the order of owners rise
+pub rising : (ws : List Wanted) → IsByOwner ws → IsNonDecreasing (owners_of ws)
+rising [] by = λ i j d le h. absurd (omega arith)
+rising (x ∷ ws) by = IsNonDecreasingBy-from_default (λ n. n) (owners_of (x ∷ ws)) (owner x) (λ i j le h.
+    let at_i = get_or-map owner (x ∷ ws) i x in
+    let at_j = get_or-map owner (x ∷ ws) j x in
+    let up = by i j x le (omega (arith, length-map (x ∷ ws) owner, h)) in
+    omega (arith, at_i, at_j, up))
+
 -- what is left to visit gets less
 pub fewer_left : (visited : List Bool) (i : ℕ) → i < length visited → is_set visited i ≡ false
     → sum_by (λ (v : Bool). cond v 0 1) (set visited i true) < sum_by (λ (v : Bool). cond v 0 1) visited
@@ -42,14 +63,27 @@ fewer_left visited i h e =
     omega arith
 
 -- none is set at first
-none_set : (n i : ℕ) → i < n → is_set (replicate n false) i ≡ true → ⊥
-none_set n i h e = cc (sym (get_or-replicate n i false false h) ∙ e)
+pub unset : (n i : ℕ) → is_set (replicate n false) i ≡ false
+unset zero i = refl
+unset (suc n) zero = refl
+unset (suc n) (suc i) = unset n i
+
+none_set : (n i : ℕ) → is_set (replicate n false) i ≡ true → ⊥
+none_set n i e = cc (sym (unset n i) ∙ e)
+
+-- and in no part of them
+pub unset_part : (k n i : ℕ) → is_set (take k (replicate n false)) i ≡ false
+unset_part zero n i = refl
+unset_part (suc k) zero i = refl
+unset_part (suc k) (suc n) zero = refl
+unset_part (suc k) (suc n) (suc i) = unset_part k n i
 
 -- Owners that are reached are led to. Those in the way of the request are reached, and those in the way of a request that
 -- was visited; and none that was visited waits for the one who asks.
 pub record IsSearching (hinders : Wanted → ℕ → Bool) (ws : List Wanted) (asked : Wanted) (reached visited : List Bool) : Type 0 where
   pub long : length visited ≡ 256
-  pub by_owner : IsByOwner ws reached
+  pub wide : length reached ≡ length ws
+  pub by_owner : IsReachedByOwner ws reached
   pub led : (i : ℕ) → i < length ws → is_set reached i ≡ true → leads owner hinders ws asked (owner_at ws i) ≡ true
   pub start : (i : ℕ) → i < length ws → hinders asked (owner_at ws i) ≡ true → is_set reached i ≡ true
   pub clear : (i : ℕ) (w : Wanted) → i < length ws → get_or ws i w ≡ w → is_set visited i ≡ true → hinders w (owner asked) ≡ false
@@ -57,23 +91,27 @@ pub record IsSearching (hinders : Wanted → ℕ → Bool) (ws : List Wanted) (a
       → is_set reached j ≡ true
 
 module _ (hinders : Wanted → ℕ → Bool) (ws : List Wanted) (asked : Wanted) where
+  at_place : (test : ℕ → Bool) (old new : List Bool) → AreReached test (owners_of ws) old new → (i : ℕ) → i < length ws
+      → is_set new i ≡ (is_set old i || test (owner_at ws i))
+  at_place test old new more i h = more i (omega (arith, length-map ws owner, h))
+
   -- what is reached goes by owner again
-  pub goes_by_owner : (test : ℕ → Bool) (old new : List Bool) → IsByOwner ws old → AreReached test ws old new → IsByOwner ws new
-  goes_by_owner test old new by more i j h k same = more i h ∙ (λ n. by i j h k same n || test (same n)) ∙ sym (more j k)
+  goes_by_owner : (test : ℕ → Bool) (old new : List Bool) → IsReachedByOwner ws old → AreReached test (owners_of ws) old new → IsReachedByOwner ws new
+  goes_by_owner test old new by more i j h k same =
+      at_place test old new more i h ∙ (λ n. by i j h k same n || test (same n)) ∙ sym (at_place test old new more j k)
 
-  pub none_by_owner : length ws ≤ 256 → IsByOwner ws (replicate 256 false)
-  none_by_owner few = λ i j h k same. get_or-replicate 256 i false false (omega arith) ∙ sym (get_or-replicate 256 j false false (omega arith))
-
-  pub starts : (new : List Bool) → length ws ≤ 256 → AreReached (hinders asked) ws (replicate 256 false) new
+  -- where nothing was reached before
+  pub starts : (none new : List Bool) → ((i : ℕ) → is_set none i ≡ false) → length new ≡ length ws → AreReached (hinders asked) (owners_of ws) none new
       → IsSearching hinders ws asked new (replicate 256 false)
-  starts new few more = record {
+  starts none new unset wide more = record {
     long = length-replicate 256 false;
-    by_owner = goes_by_owner (hinders asked) (replicate 256 false) new (none_by_owner few) more;
+    wide = wide;
+    by_owner = goes_by_owner (hinders asked) none new (λ i j h k same. unset i ∙ sym (unset j)) more;
     led = λ i h e. leads_directly owner hinders ws asked (owner_at ws i)
-        (⊎_elim (λ old. absurd (none_set 256 i (omega arith) old)) (λ now. now) (or_cases _ _ _ (more i h) e));
-    start = λ i h e. or_right _ _ _ (more i h) e;
-    clear = λ i w h at e. absurd (none_set 256 i (omega arith) e);
-    closed = λ i j w h k at e f. absurd (none_set 256 i (omega arith) e);
+        (⊎_elim (λ old. absurd (cc (sym (unset i) ∙ old))) (λ now. now) (or_cases _ _ _ (at_place (hinders asked) none new more i h) e));
+    start = λ i h e. or_right _ _ _ (at_place (hinders asked) none new more i h) e;
+    clear = λ i w h at e. absurd (none_set 256 i e);
+    closed = λ i j w h k at e f. absurd (none_set 256 i e);
   }
 
   module _ (reached visited : List Bool) (so_far : IsSearching hinders ws asked reached visited) where
@@ -87,12 +125,13 @@ module _ (hinders : Wanted → ℕ → Bool) (ws : List Wanted) (asked : Wanted)
     finds i w h at e k = onward i w (owner asked) h at e k
 
     pub goes_on : (new : List Bool) (i : ℕ) (w : Wanted) → i < length ws → get_or ws i w ≡ w → is_set reached i ≡ true → hinders w (owner asked) ≡ false
-        → AreReached (hinders w) ws reached new → IsSearching hinders ws asked new (set visited i true)
-    goes_on new i w h at e free more = record {
+        → length new ≡ length ws → AreReached (hinders w) (owners_of ws) reached new → IsSearching hinders ws asked new (set visited i true)
+    goes_on new i w h at e free wide more = record {
+      wide = wide;
       long = length-set visited i true ∙ so_far.long;
       by_owner = goes_by_owner (hinders w) reached new so_far.by_owner more;
-      led = λ j k f. ⊎_elim (so_far.led j k) (onward i w (owner_at ws j) h at e) (or_cases _ _ _ (more j k) f);
-      start = λ j k f. or_left _ _ _ (more j k) (so_far.start j k f);
+      led = λ j k f. ⊎_elim (so_far.led j k) (onward i w (owner_at ws j) h at e) (or_cases _ _ _ (at_place (hinders w) reached new more j k) f);
+      start = λ j k f. or_left _ _ _ (at_place (hinders w) reached new more j k) (so_far.start j k f);
       clear = λ j v k there f. clear_at j v k there f (cases_eq j i);
       closed = λ j l v k m there f g. closed_at j l v k m there f g (cases_eq j i);
     }
@@ -112,9 +151,9 @@ module _ (hinders : Wanted → ℕ → Bool) (ws : List Wanted) (asked : Wanted)
 
         closed_at : (j l : ℕ) (v : Wanted) → j < length ws → l < length ws → get_or ws j v ≡ v → is_set (set visited i true) j ≡ true
             → hinders v (owner_at ws l) ≡ true → (j ≡ i) ⊎ (j ≢ i) → is_set new l ≡ true
-        closed_at j l v k m there f g (inl same) = or_right _ _ _ (more l m) (ap (λ x. hinders x (owner_at ws l)) (sym (it j v k there same)) ∙ g)
+        closed_at j l v k m there f g (inl same) = or_right _ _ _ (at_place (hinders w) reached new more l m) (ap (λ x. hinders x (owner_at ws l)) (sym (it j v k there same)) ∙ g)
         closed_at j l v k m there f g (inr other) =
-            or_left _ _ _ (more l m) (so_far.closed j l v k m there (sym (get_or-set_other visited i j true false other) ∙ f) g)
+            or_left _ _ _ (at_place (hinders w) reached new more l m) (so_far.closed j l v k m there (sym (get_or-set_other visited i j true false other) ∙ f) g)
 
     -- where a row of owners begins
     place_of : (p : ℕ) (others : List ℕ) (q : ℕ) → AreInRow owner hinders ws p others q → (i : ℕ) × (i < length ws) × (owner_at ws i ≡ p)

@@ -2,10 +2,10 @@
 
 ghost use Rattle.std.specs.Prelude.{◌≡◌, ◌+◌, ◌++◌, ◌≤◌, ◌<◌, ℕ, false, true, map, option_map, length, take, MatchOption};
 ghost use Rattle.fl_arena.specs.Chains.{items};
-ghost use Rattle.fl_ranges.specs.Conflict.{owner_conflicts};
+ghost use Rattle.std.specs.List.Sorted.{IsPermutation, IsNonDecreasing};
 ghost use Rattle.fl_core.specs.Circle.{closes_circle, hinders, leads, owner_of as owner_of_wish, wish_of, wishes};
 ghost use Rattle.fl_core.specs.Inside.Claims.{requests_of};
-ghost use Rattle.fl_core.specs.Inside.Searching.{meant, one_of, is_set, owner_at, AreTwins, IsByOwner, AreReached};
+ghost use Rattle.fl_core.specs.Inside.Searching.{meant, one_of, is_set, owners_of, IsByOwner, AreReached};
 
 use crate::claim::Claim;
 use crate::parked::{MOST_PARKED, Parked};
@@ -36,8 +36,18 @@ impl Parked {
         }
         let mut room = [*asked; MOST_PARKED];
         let count = copy_wanted(&self.claims, &mut room);
-        leads_back(locks, &room[..count], asked)
+        let wanted = &mut room[..count];
+        sort_by_owner(wanted);
+        leads_back(locks, wanted, asked)
     }
+}
+
+// Puts the least owner's first.
+fn sort_by_owner(wanted: &mut [Wanted])
+    ensures moved { IsPermutation wanted.old wanted.new }
+    ensures sorted { IsByOwner wanted.new }
+{
+    wanted.sort_unstable_by_key(|wanted| wanted.key.owner);
 }
 
 // Copies the record locks that requests wait for, the oldest first, to the front of the room, and tells how many they are.
@@ -83,35 +93,50 @@ fn wanted_of(claim: &Claim) -> Option<Wanted>
     }
 }
 
-// Whether a request waits for its own owner, through others.
+// Whether a request waits for its own owner, through others, which stand in the order of their owners.
 fn leads_back(locks: &Table, wanted: &[Wanted], asked: &Wanted) -> bool
-    requires { length wanted.now ≤ MOST_PARKED }
+    requires few { length wanted.now ≤ MOST_PARKED }
+    requires sorted { IsByOwner wanted.now }
     ensures { result
         ≡ leads owner_of_wish (hinders locks.now.marking) (map meant wanted.now) (meant asked.now) asked.now.key.owner }
 {
-    let twins = twins(wanted);
+    let room = owners_of(wanted);
+    let owners = &room[..wanted.len()];
     let mut reached = [false; MOST_PARKED];
+    let reached = &mut reached[..wanted.len()];
     let mut visited = [false; MOST_PARKED];
-    reach(locks, wanted, &twins, asked, &mut reached);
-    while let Some(place) = next(wanted, &reached, &visited) {
+    reach(locks, asked, owners, reached);
+    while let Some(place) = next(reached, &visited) {
         visited[place] = true;
         let request = &wanted[place];
-        if hinders(locks, request, asked.key.owner) {
+        if waits_for(locks, request, asked.key.owner) {
             return true;
         }
-        reach(locks, wanted, &twins, request, &mut reached);
+        reach(locks, request, owners, reached);
     }
     false
 }
 
-// A place that is reached, and wasn't visited yet.
-fn next(wanted: &[Wanted], reached: &Bits, visited: &Bits) -> Option<usize>
+// The owners of requests, at the front.
+fn owners_of(wanted: &[Wanted]) -> [u64; MOST_PARKED]
     requires { length wanted.now ≤ MOST_PARKED }
-    ensures { MatchOption result
-        ((i : ℕ) → i < length wanted.now → is_set reached.now i ≡ true → is_set visited.now i ≡ true)
-        (λ i. (i < length wanted.now) × (is_set reached.now i ≡ true) × (is_set visited.now i ≡ false)) }
+    ensures { take (length wanted.now) result ≡ owners_of wanted.now }
 {
+    let mut owners = [0; MOST_PARKED];
     for i in 0..wanted.len() {
+        owners[i] = wanted[i].key.owner;
+    }
+    owners
+}
+
+// A place that is reached, and wasn't visited yet.
+fn next(reached: &[bool], visited: &Bits) -> Option<usize>
+    requires { length reached.now ≤ MOST_PARKED }
+    ensures { MatchOption result
+        ((i : ℕ) → i < length reached.now → is_set reached.now i ≡ true → is_set visited.now i ≡ true)
+        (λ i. (i < length reached.now) × (is_set reached.now i ≡ true) × (is_set visited.now i ≡ false)) }
+{
+    for i in 0..reached.len() {
         if reached[i] && !visited[i] {
             return Some(i);
         }
@@ -119,75 +144,18 @@ fn next(wanted: &[Wanted], reached: &Bits, visited: &Bits) -> Option<usize>
     None
 }
 
-// The places of all owners are reached that keep the request waiting. The table is asked of each owner once.
-fn reach(
-    locks: &Table,
-    wanted: &[Wanted],
-    twins: &[usize; MOST_PARKED],
-    request: &Wanted,
-    reached: &mut Bits,
-)
-    requires few { length wanted.now ≤ MOST_PARKED }
-    requires twins { AreTwins wanted.now twins.now }
-    requires by_owner { IsByOwner wanted.now reached.old }
-    ensures { AreReached (hinders locks.now.marking (meant request.now)) wanted.now reached.old reached.new }
-{
-    for i in 0..wanted.len() {
-        let twin = twins[i];
-        if !reached[i] {
-            reached[i] = if twin < i {
-                reached[twin]
-            } else {
-                hinders(locks, request, wanted[i].key.owner)
-            };
-        }
-    }
-}
-
-// For each place the first one where a request of the same owner stands.
-fn twins(wanted: &[Wanted]) -> [usize; MOST_PARKED]
-    requires { length wanted.now ≤ MOST_PARKED }
-    ensures { AreTwins wanted.now result }
-{
-    let mut twins = [0; MOST_PARKED];
-    for i in 0..wanted.len() {
-        twins[i] = twin(wanted, i);
-    }
-    twins
-}
-
-fn twin(wanted: &[Wanted], place: usize) -> usize
-    requires { place < length wanted.now }
-    ensures earlier { result ≤ place }
-    ensures same { owner_at wanted.now result ≡ owner_at wanted.now place }
-{
-    for i in 0..place {
-        if wanted[i].key.owner == wanted[place].key.owner {
-            return i;
-        }
-    }
-    place
-}
+// The places of all owners are reached that keep the request waiting.
+fn reach(locks: &Table, request: &Wanted, owners: &[u64], reached: &mut [bool])
+    requires long { length reached.old ≡ length owners.now }
+    requires sorted { IsNonDecreasing owners.now }
+    ensures { AreReached (hinders locks.now.marking (meant request.now)) owners.now reached.old reached.new }
+{}
 
 // Whether a record lock of this owner keeps the request waiting.
-fn hinders(locks: &Table, wanted: &Wanted, owner: u64) -> bool
-    ensures { result ≡ hinders locks.now.marking (meant wanted.now) owner }
+fn waits_for(locks: &Table, request: &Wanted, owner: u64) -> bool
+    ensures { result ≡ hinders locks.now.marking (meant request.now) owner }
 {
-    match wanted.key.class {
-        Class::Record => excludes(locks, wanted, owner),
-        Class::Flock => false,
-    }
-}
-
-// Whether a lock of this owner excludes the one that is wanted.
-fn excludes(locks: &Table, wanted: &Wanted, owner: u64) -> bool
-    ensures { result
-        ≡ owner_conflicts locks.now.marking wanted.now.key wanted.now.range.start wanted.now.range.end wanted.now.kind
-        owner }
-{
-    let before = owner.checked_sub(1);
-    match locks.clash_owner_after(&wanted.key, &wanted.range, wanted.kind, before) {
-        Some(told) => told == owner,
-        None => false,
-    }
+    let mut reached = [false];
+    reach(locks, request, &[owner], &mut reached);
+    reached[0]
 }
