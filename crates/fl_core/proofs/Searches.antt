@@ -4,7 +4,8 @@ use Rattle.std.proofs.lemmas.Bool.{cases_eq}
 use Rattle.std.proofs.lemmas.List.{length-map, length-replicate}
 use Rattle.std.proofs.lemmas.List.Sums.{sum_by-set}
 use Rattle.fl_core.specs.Circle.{leads, Waits, AreInRow, IsCircle}
-use Rattle.fl_core.specs.Inside.Searching.{is_set, owners_of, IsByOwner, AreReached}
+use Rattle.fl_core.specs.Inside.Searching.{is_set, owners_of, IsByOwner}
+use Rattle.fl_ranges.specs.Conflict.{AreFound}
 use Rattle.std.specs.List.Sorted.{IsNonDecreasing}
 use Rattle.std.proofs.Math.ListN.{get_or-map}
 use Rattle.std.proofs.lemmas.List.Sorted.{IsNonDecreasingBy-from_default}
@@ -91,17 +92,17 @@ pub record IsSearching (hinders : Wanted → ℕ → Bool) (ws : List Wanted) (a
       → is_set reached j ≡ true
 
 module _ (hinders : Wanted → ℕ → Bool) (ws : List Wanted) (asked : Wanted) where
-  at_place : (test : ℕ → Bool) (old new : List Bool) → AreReached test (owners_of ws) old new → (i : ℕ) → i < length ws
+  at_place : (test : ℕ → Bool) (old new : List Bool) → AreFound test (owners_of ws) old new → (i : ℕ) → i < length ws
       → is_set new i ≡ (is_set old i || test (owner_at ws i))
   at_place test old new more i h = more i (omega (arith, length-map ws owner, h))
 
   -- what is reached goes by owner again
-  goes_by_owner : (test : ℕ → Bool) (old new : List Bool) → IsReachedByOwner ws old → AreReached test (owners_of ws) old new → IsReachedByOwner ws new
+  goes_by_owner : (test : ℕ → Bool) (old new : List Bool) → IsReachedByOwner ws old → AreFound test (owners_of ws) old new → IsReachedByOwner ws new
   goes_by_owner test old new by more i j h k same =
       at_place test old new more i h ∙ (λ n. by i j h k same n || test (same n)) ∙ sym (at_place test old new more j k)
 
   -- where nothing was reached before
-  pub starts : (none new : List Bool) → ((i : ℕ) → is_set none i ≡ false) → length new ≡ length ws → AreReached (hinders asked) (owners_of ws) none new
+  pub starts : (none new : List Bool) → ((i : ℕ) → is_set none i ≡ false) → length new ≡ length ws → AreFound (hinders asked) (owners_of ws) none new
       → IsSearching hinders ws asked new (replicate 256 false)
   starts none new unset wide more = record {
     long = length-replicate 256 false;
@@ -125,7 +126,7 @@ module _ (hinders : Wanted → ℕ → Bool) (ws : List Wanted) (asked : Wanted)
     finds i w h at e k = onward i w (owner asked) h at e k
 
     pub goes_on : (new : List Bool) (i : ℕ) (w : Wanted) → i < length ws → get_or ws i w ≡ w → is_set reached i ≡ true → hinders w (owner asked) ≡ false
-        → length new ≡ length ws → AreReached (hinders w) (owners_of ws) reached new → IsSearching hinders ws asked new (set visited i true)
+        → length new ≡ length ws → AreFound (hinders w) (owners_of ws) reached new → IsSearching hinders ws asked new (set visited i true)
     goes_on new i w h at e free wide more = record {
       wide = wide;
       long = length-set visited i true ∙ so_far.long;

@@ -3,9 +3,10 @@
 ghost use Rattle.std.specs.Prelude.{◌≡◌, ◌+◌, ◌++◌, ◌≤◌, ◌<◌, ℕ, false, true, map, option_map, length, take, MatchOption};
 ghost use Rattle.fl_arena.specs.Chains.{items};
 ghost use Rattle.std.specs.List.Sorted.{IsPermutation, IsNonDecreasing};
+ghost use Rattle.fl_ranges.specs.Conflict.{AreFound};
 ghost use Rattle.fl_core.specs.Circle.{closes_circle, hinders, leads, owner_of as owner_of_wish, wish_of, wishes};
 ghost use Rattle.fl_core.specs.Inside.Claims.{requests_of};
-ghost use Rattle.fl_core.specs.Inside.Searching.{meant, one_of, is_set, owners_of, IsByOwner, AreReached};
+ghost use Rattle.fl_core.specs.Inside.Searching.{meant, one_of, is_set, owners_of, IsByOwner};
 
 use crate::claim::Claim;
 use crate::parked::{MOST_PARKED, Parked};
@@ -144,12 +145,23 @@ fn next(reached: &[bool], visited: &Bits) -> Option<usize>
     None
 }
 
-// The places of all owners are reached that keep the request waiting.
+// The places of all owners are reached that keep the request waiting. The table is asked once.
 fn reach(locks: &Table, request: &Wanted, owners: &[u64], reached: &mut [bool])
     requires long { length reached.old ≡ length owners.now }
     requires sorted { IsNonDecreasing owners.now }
-    ensures { AreReached (hinders locks.now.marking (meant request.now)) owners.now reached.old reached.new }
-{}
+    ensures { AreFound (hinders locks.now.marking (meant request.now)) owners.now reached.old reached.new }
+{
+    match request.key.class {
+        Class::Record => locks.find_rivals(
+            &request.key,
+            &request.range,
+            request.kind,
+            owners,
+            reached,
+        ),
+        Class::Flock => {}
+    }
+}
 
 // Whether a record lock of this owner keeps the request waiting.
 fn waits_for(locks: &Table, request: &Wanted, owner: u64) -> bool

@@ -23,8 +23,3 @@ owners_of wanted = map (λ (w : Wanted). w.key.owner) wanted
 -- they stand in the order of their owners
 abbrev pub IsByOwner : List Wanted → Type 0
 IsByOwner wanted = IsNonDecreasingBy (λ (w : Wanted). w.key.owner) wanted
-
--- the places of owners that pass a test are reached too
-abbrev pub AreReached : (ℕ → Bool) → List ℕ → List Bool → List Bool → Type 0
-AreReached test owners old new =
-    (i : ℕ) → i < length owners → is_set new i ≡ (is_set old i || test (slice_index_or owners i 0))

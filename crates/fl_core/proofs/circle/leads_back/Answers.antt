@@ -2,7 +2,8 @@ use Rattle.std.proofs.Common.{◌≡◌, ◌∙◌, ℕ, Bool, false, List, leng
 use Rattle.std.proofs.lemmas.List.{length-take-le, length-replicate}
 use Rattle.std.specs.List.Sorted.{IsNonDecreasing}
 use Rattle.fl_core.specs.Circle.{owner_of, hinders}
-use Rattle.fl_core.specs.Inside.Searching.{meant, AreReached}
+use Rattle.fl_core.specs.Inside.Searching.{meant}
+use Rattle.fl_ranges.specs.Conflict.{AreFound}
 use Rattle.fl_core.specs.declared.circle.Wanted.{Wanted}
 use Rattle.fl_core.proofs.Circles.{leads_alike}
 use Rattle.fl_core.proofs.Searches.{rising, unset_part, starts, finds, goes_on, ends, fewer_left}
@@ -18,7 +19,7 @@ loop-place-init c =
     starts h c.args.wanted.now c.args.asked.now (take (length c.args.wanted.now) (replicate 256 false)) c.reach.new.reached
     (unset_part (length c.args.wanted.now) 256) (c.reach.auto.reached
     ∙ length-take-le (length c.args.wanted.now) (replicate 256 false) (omega (arith, length-replicate 256 false, c.requires.few)))
-    (subst (λ os. AreReached (h c.args.asked.now) os (take (length c.args.wanted.now) (replicate 256 false)) c.reach.new.reached) c.owners_of-room.ensures c.reach.ensures)
+    (subst (λ os. AreFound (h c.args.asked.now) os (take (length c.args.wanted.now) (replicate 256 false)) c.reach.new.reached) c.owners_of-room.ensures c.reach.ensures)
 
 pub returns-then-waits_for : goal.returns-then-waits_for
 returns-then-waits_for c =
@@ -42,7 +43,7 @@ loop-place-preserved c =
     c.loop-place.invariant c.reach-in-Some.new.reached c.in-Some.place c.index-wanted-place.result
     (omega (arith, c.loop-place.invariant.wide, c.in-Some.ensures.0)) (sym c.index-wanted-place.is) c.in-Some.ensures.1 (sym c.if-waits_for.ensures)
     (c.reach-in-Some.auto.reached ∙ c.loop-place.invariant.wide)
-    (subst (λ os. AreReached (h c.index-wanted-place.result) os c.loop-place.reached c.reach-in-Some.new.reached) c.owners_of-room.ensures c.reach-in-Some.ensures)
+    (subst (λ os. AreFound (h c.index-wanted-place.result) os c.loop-place.reached c.reach-in-Some.new.reached) c.owners_of-room.ensures c.reach-in-Some.ensures)
 
 pub returns : goal.returns
 returns c =
