@@ -144,9 +144,7 @@ fn look_into(
     ensures before { (k : ℕ) → k < from → slice_index_or found.new k false ≡ slice_index_or found.old k false }
     ensures behind { (k : ℕ) → end ≤ k → slice_index_or found.new k false ≡ slice_index_or found.old k false }
 {
-    if !all_set(found, from, end)
-        && excluding_span(table, row, owner, key, range, kind).is_some()
-    {
+    if !all_set(found, from, end) && excluding_span(table, row, owner, key, range, kind).is_some() {
         set_all(found, from, end);
     }
 }

@@ -1,4 +1,4 @@
-use Rattle.std.proofs.Common.{◌≡◌, ◌≢◌, ◌≤◌, ◌<◌, ℕ, true, false, slice_index_or}
+use Rattle.std.proofs.Common.{◌≡◌, ◌≤◌, ◌<◌, ℕ, slice_index_or}
 use Rattle.fl_ranges.proofs.asked.skip_same.Given as goal
 
 abbrev pub invariant-loop-place : goal.invariant-loop-place
