@@ -28,3 +28,4 @@ pub mod RivalRows
 pub mod RivalOwners
 pub mod RivalNearest
 pub mod RivalConflicts
+pub mod RivalMarks

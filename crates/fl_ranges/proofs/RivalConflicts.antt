@@ -9,9 +9,10 @@ use Rattle.fl_ranges.specs.declared.lock.Kind.{Kind}
 use Rattle.fl_ranges.specs.declared.lock.Mark.{Mark}
 use Rattle.fl_ranges.specs.declared.run.Run.{Run}
 use Rattle.fl_ranges.specs.Placing.{home}
+use Rattle.fl_ranges.specs.Blocker.{of_owner}
 use Rattle.fl_ranges.specs.Inside.RunList.{run_excludes}
 use Rattle.fl_ranges.specs.Inside.LockRows.{LockRow, LockRows, run_of, runs_of, runs_in, table_runs, AreLockRows}
-use Rattle.fl_ranges.specs.Inside.Rivals.{rows_from, class_rows, kin_owner, span_excludes}
+use Rattle.fl_ranges.specs.Inside.Rivals.{are_kin, rows_from, class_rows, kin_owner, span_excludes}
 use Rattle.fl_ranges.proofs.RivalRows.{class_runs, excluding_kin, at_kin, none_kin}
 
 any_kept : (t : Run → Bool) (rs : List Run) → list_any t (filter t rs) ≡ list_any t rs
@@ -31,29 +32,44 @@ any_span t key (s ∷ ss) = go (t (run_of key s)) (any_span t key ss)
     go true rest = refl
     go false rest = rest
 
-module _ (key : Key) (start end : ℕ) (kind : Kind) where
-  -- some run of the table excludes the lock where one of these rows' does
-  pub any_class : (v : LockRows) → ((c : ℕ) → AreLockRows c (rows v c)) → list_any (run_excludes key start end kind) (table_runs v)
-      ≡ list_any (run_excludes key start end kind) (runs_in (class_rows key (rows_from key (rows v (home key.node)))))
-  any_class v kept =
-      sym (any_kept (run_excludes key start end kind) (table_runs v))
-      ∙ ap (list_any (run_excludes key start end kind)) (class_runs key (run_excludes key start end kind) (excluding_kin key start end kind) v kept)
-      ∙ any_kept (run_excludes key start end kind) (runs_in (class_rows key (rows_from key (rows v (home key.node)))))
+-- Of a test which only runs of the class and node pass.
+module _ (key : Key) (t : Run → Bool) where
+  -- some run of the table passes where one of these rows' does
+  pub class_any : ((r : Run) → t r ≡ true → are_kin key r.key ≡ true) → (v : LockRows) → ((c : ℕ) → AreLockRows c (rows v c)) →
+      list_any t (table_runs v) ≡ list_any t (runs_in (class_rows key (rows_from key (rows v (home key.node)))))
+  class_any kin v kept =
+      sym (any_kept t (table_runs v))
+      ∙ ap (list_any t) (class_runs key t kin v kept)
+      ∙ any_kept t (runs_in (class_rows key (rows_from key (rows v (home key.node)))))
 
   -- one of the row at hand, or one of a later row
-  pub any_next : (rs : List LockRow) (i owner : ℕ) → kin_owner key (slice_get (keys rs) i) ≡ Some owner →
-      list_any (run_excludes key start end kind) (runs_in (class_rows key (drop i rs)))
-      ≡ (is_some (find (span_excludes key owner start end kind) (runs_at rs i))
-      || list_any (run_excludes key start end kind) (runs_in (class_rows key (drop (i + 1) rs))))
-  any_next rs i owner found =
+  pub next_any : (rs : List LockRow) (i owner : ℕ) → kin_owner key (slice_get (keys rs) i) ≡ Some owner →
+      list_any t (runs_in (class_rows key (drop i rs)))
+      ≡ (is_some (find (λ s. t (run_of (of_owner key owner) s)) (runs_at rs i)) || list_any t (runs_in (class_rows key (drop (i + 1) rs))))
+  next_any rs i owner found =
       let k = at_kin key rs i owner found in
-      let t = run_excludes key start end kind in
       ap (λ l. list_any t (runs_in l)) k.rest
       ∙ list_any-append t (runs_of k.row) (runs_in (class_rows key (drop (i + 1) rs)))
       ∙ ap (λ b. b || list_any t (runs_in (class_rows key (drop (i + 1) rs))))
       (any_span t k.row.key k.row.runs ∙ (λ j. is_some (find (λ s. t (run_of (k.key_is j) s)) (sym k.spans j))))
 
   -- none is left
+  pub end_any : (rs : List LockRow) (i : ℕ) → kin_owner key (slice_get (keys rs) i) ≡ None →
+      list_any t (runs_in (class_rows key (drop i rs))) ≡ false
+  end_any rs i none = ap (λ l. list_any t (runs_in l)) (none_kin key rs i none)
+
+module _ (key : Key) (start end : ℕ) (kind : Kind) where
+  -- so it is of the runs that exclude a lock
+  pub any_class : (v : LockRows) → ((c : ℕ) → AreLockRows c (rows v c)) → list_any (run_excludes key start end kind) (table_runs v)
+      ≡ list_any (run_excludes key start end kind) (runs_in (class_rows key (rows_from key (rows v (home key.node)))))
+  any_class v kept = class_any key (run_excludes key start end kind) (excluding_kin key start end kind) v kept
+
+  pub any_next : (rs : List LockRow) (i owner : ℕ) → kin_owner key (slice_get (keys rs) i) ≡ Some owner →
+      list_any (run_excludes key start end kind) (runs_in (class_rows key (drop i rs)))
+      ≡ (is_some (find (span_excludes key owner start end kind) (runs_at rs i))
+      || list_any (run_excludes key start end kind) (runs_in (class_rows key (drop (i + 1) rs))))
+  any_next rs i owner found = next_any key (run_excludes key start end kind) rs i owner found
+
   pub any_end : (rs : List LockRow) (i : ℕ) → kin_owner key (slice_get (keys rs) i) ≡ None →
       list_any (run_excludes key start end kind) (runs_in (class_rows key (drop i rs))) ≡ false
-  any_end rs i none = ap (λ l. list_any (run_excludes key start end kind) (runs_in l)) (none_kin key rs i none)
+  any_end rs i none = end_any key (run_excludes key start end kind) rs i none

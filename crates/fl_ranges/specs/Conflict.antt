@@ -1,5 +1,6 @@
 -- Which locks exclude each other (POSIX.1-2017 `fcntl`; Linux `flock(2)`).
-use Rattle.std.specs.Prelude.{◌≡◌, ◌≢◌, ℕ, ◌≤◌, ◌<◌, Bool, true, false, not, ◌&&◌, ◌==◌, nat_le, Option, Some, None}
+use Rattle.std.specs.Prelude.{◌≡◌, ◌≢◌, ℕ, ◌≤◌, ◌<◌, Bool, true, false, not, ◌&&◌, ◌||◌, ◌==◌, nat_le, Option, Some}
+use Rattle.std.specs.Prelude.{None, List, length, slice_index_or}
 use Rattle.std.specs.List.{list_any}
 use Rattle.std.specs.FinMap.{entries, get}
 use Rattle.fl_ranges.specs.declared.lock.Kind.{Kind}
@@ -70,6 +71,12 @@ pub record IsLeastAfter (m : Marking) (key : Key) (start end : ℕ) (kind : Kind
       IsAfter after owner × (owner_conflicts m key start end kind owner ≡ true)
   pub least : (owner : ℕ) → IsAfter after owner → owner_conflicts m key start end kind owner ≡ true →
       IsAtMost told owner
+
+-- the places of those owners who pass a test are set, and what was set before
+abbrev pub AreFound : (ℕ → Bool) → List ℕ → List Bool → List Bool → Type 0
+AreFound test owners old new =
+    (i : ℕ) → i < length owners
+    → slice_index_or new i false ≡ (slice_index_or old i false || test (slice_index_or owners i 0))
 
 -- no byte of a node has marks of one class of two owners, one of them write
 abbrev pub IsLawful : Marking → Type 0

@@ -1,6 +1,7 @@
 //! Locks as marks on bytes.
 #![tactic(auto)]
 
+mod asked;
 mod blocker;
 mod chain;
 mod conflict;

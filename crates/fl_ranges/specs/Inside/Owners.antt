@@ -1,5 +1,5 @@
--- How the least owner that excludes a lock is found among runs.
-use Rattle.std.specs.Prelude.{ℕ, Bool, true, ◌&&◌, nat_lt, Option, Some, None, List, [], ◌∷◌, if◌then◌else◌}
+-- How the owners that exclude a lock are found among runs.
+use Rattle.std.specs.Prelude.{ℕ, Bool, true, ◌&&◌, ◌==◌, nat_lt, Option, Some, None, List, [], ◌∷◌, if◌then◌else◌}
 use Rattle.fl_ranges.specs.declared.lock.Key.{Key}
 use Rattle.fl_ranges.specs.declared.lock.Kind.{Kind}
 use Rattle.fl_ranges.specs.declared.run.Run.{Run}
@@ -26,3 +26,7 @@ abbrev pub least_from : Key → ℕ → ℕ → Kind → Option ℕ → Option �
 least_from key start end kind after least [] = least
 least_from key start end kind after least (r ∷ rs) =
     least_from key start end kind after (least_with key start end kind after least r) rs
+
+-- a run of this owner excludes a lock of this kind, by this key, on the bytes from start to end
+abbrev pub run_excludes_by : Key → ℕ → ℕ → Kind → ℕ → Run → Bool
+run_excludes_by key start end kind owner r = (r.key.owner == owner) && run_excludes key start end kind r
