@@ -1,15 +1,14 @@
 -- Locks that are wanted, and who keeps them from being set.
-use Rattle.std.proofs.Common.{◌≡◌, ◌↔◌, ℕ, zero, suc, ◌-◌, ◌≤◌, Bool, true, false, cond, not, ◌&&◌, ◌||◌, ◌==◌, nat_le, Option, Some, None, option_map, List, [], ◌∷◌, length, refl, sym, ap, ◌∙◌, subst, arith}
+use Rattle.std.proofs.Common.{◌≡◌, ◌↔◌, ℕ, Bool, true, false, cond, not, ◌&&◌, ◌||◌, ◌==◌, nat_le, Option, Some, None, option_map, List, [], ◌∷◌, length, refl, sym, ap, ◌∙◌, subst, arith}
 use Rattle.std.proofs.lemmas.Bool.Decides.{nat_tests}
 use Rattle.std.specs.List.{list_any}
-use Rattle.std.specs.Option.{SomeIff}
 use Rattle.std.specs.FinMap.{entries}
 use Rattle.fl_ranges.specs.declared.lock.Class.TheVariants.{Record, Flock}
 use Rattle.fl_ranges.specs.declared.lock.Key.{Key}
 use Rattle.fl_ranges.specs.declared.lock.Kind.{Kind}
 use Rattle.fl_ranges.specs.declared.lock.Mark.{Mark}
 use Rattle.fl_ranges.specs.Marking.{Marking, Spot, class_number}
-use Rattle.fl_ranges.specs.Conflict.{excludes, excludes_by, owner_conflicts, IsAfter, IsAtMost, IsLeastAfter}
+use Rattle.fl_ranges.specs.Conflict.{excludes, excludes_by, owner_conflicts}
 use Rattle.fl_core.specs.Circle.{leads, IsCircle, Wish, owner_of, is_record, hinders, wish_on, wish_of, wishes, closes_circle, ClosesCircle}
 use Rattle.fl_core.specs.LockRequest.{is_flock, key_of, start_of, end_of, mark_of, stroke_of}
 use Rattle.fl_core.specs.Replies.{is_deadlock}

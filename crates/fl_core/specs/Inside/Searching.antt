@@ -1,5 +1,5 @@
 -- What the search for a circle keeps of the parked requests.
-use Rattle.std.specs.Prelude.{◌≡◌, ℕ, ◌≤◌, ◌<◌, Bool, false, ◌||◌, Option, Some, None, List, [], ◌∷◌, length, map, slice_index_or}
+use Rattle.std.specs.Prelude.{ℕ, Bool, false, Option, Some, None, List, [], ◌∷◌, map, slice_index_or}
 use Rattle.std.specs.List.Sorted.{IsNonDecreasingBy}
 use Rattle.fl_core.specs.Circle.{Wish}
 use Rattle.fl_core.specs.declared.circle.Wanted.{Wanted}

@@ -1,4 +1,4 @@
-use Rattle.std.proofs.Common.{◌≡◌, ◌∙◌, ℕ, Bool, false, List, length, take, replicate, sym, subst, arith}
+use Rattle.std.proofs.Common.{◌∙◌, ℕ, Bool, false, length, take, replicate, sym, subst, arith}
 use Rattle.std.proofs.lemmas.List.{length-take-le, length-replicate}
 use Rattle.std.specs.List.Sorted.{IsNonDecreasing}
 use Rattle.fl_core.specs.Circle.{owner_of, hinders}

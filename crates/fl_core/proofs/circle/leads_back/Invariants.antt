@@ -1,7 +1,7 @@
-use Rattle.std.specs.Prelude.{◌≡◌, cond, length, take}
+use Rattle.std.specs.Prelude.{cond}
 use Rattle.std.specs.List.{sum_by}
 use Rattle.fl_core.specs.Circle.{hinders}
-use Rattle.fl_core.specs.Inside.Searching.{meant, owners_of}
+use Rattle.fl_core.specs.Inside.Searching.{meant}
 use Rattle.fl_core.proofs.Searches.{IsSearching}
 use Rattle.fl_core.proofs.circle.leads_back.Given as goal
 
