@@ -1,14 +1,16 @@
 #!/bin/sh
-# Times a SETLKW that parks, with the INTERRUPT that ends it, where 255 lock requests wait in a row, each for a lock of the
-# next one's owner, against the same two orders where none waits, in processor time of `lockd`. The SETLKW waits for the
-# first of the row, and the last waits for an owner who doesn't wait, so the search goes along the whole row and finds no
-# circle. With 3,840 runs of other owners the row stands on one file, where one owner has these runs; on one file, where
-# each is another owner's and in the way of every request; and on 255 files. Each time is the difference of two runs that
-# differ in these orders alone. The runs take turns, and the least time of each counts. Prints milliseconds and the ratios.
+# Times the search for a circle of owners, in processor time of `lockd`, where 255 lock requests wait in a row, each for a lock of
+# the next one's owner:
+# - a SETLKW that parks, with the INTERRUPT that ends it, against the same two orders where none waits. It waits for the first of
+#   the row, and the last waits for an owner who doesn't wait, so the search goes along the whole row and finds no circle;
+# - a SETLKW that would close the circle, and is told EDEADLK;
+# - the requests of the row themselves, where the row is built from its far end, so that each one's search goes along all before.
+# With 3,840 runs of other owners the row stands on one file, where one owner has these runs; on one file, where each is
+# another owner's and in the way of every request; and on 255 files. Each time is the difference of two runs that differ in
+# these orders alone. The runs take turns, and the least time of each counts. Prints milliseconds and the ratio.
 #
-# What dominates: for each request that is visited, the table is asked of each owner that isn't reached yet, about 32,900
-# times in all. Each time it walks along the rows of the file's owners up to the one that is asked about, and into that one's
-# row. With none waiting there is one such walk, and where each run is in the way it ends at the first.
+# What dominates: for each request that is visited, the table is asked once for all owners of parked requests, and once for the
+# one who asks. Each time it walks along the rows of the file's owners, and into those of owners who are asked for.
 set -eu
 . "$(dirname "$0")/../tools/built_lockd.sh"
 python3 - "$program" "$work" <<'END'
@@ -17,7 +19,7 @@ import os, subprocess, sys
 PROGRAM, WORK = sys.argv[1:]
 ROW, RUNS, FILES = 255, 3_840, 255
 READ, WRITE = 0, 1
-FEW, OFTEN = 2, 20_000
+FEW, OFTEN = 20, 20_000
 ASKER = 9_999
 
 # The row's bytes begin here, behind those of the other runs.
@@ -69,22 +71,32 @@ def asked(files, before, times):
         orders += [wants(files, ASKER, 0), (1, ("interrupt", len(orders) + 1))]
     return orders
 
+# The last of the row's owners asks for what the first one holds.
+def closing(files, before, times):
+    return before + [wants(files, ROW, 0)] * times
+
 def compare(what, files, others):
     made = [(1, ("create", 0, 420, f"{i:03}".encode().hex())) for i in range(files)]
     none = made + others + [holds(files, place) for place in range(ROW + 1)]
-    row = none + [wants(files, place, place + 1) for place in range(ROW)]
+    requests = [wants(files, place, place + 1) for place in range(ROW)]
+    row = none + requests
     runs = {
         "none": stored("none", none),
         "none_on": stored("none_on", asked(files, none, OFTEN)),
         "row": stored("row", row),
         "row_on": stored("row_on", asked(files, row, FEW)),
+        "closed": stored("closed", closing(files, row, FEW)),
+        "built": stored("built", none + requests[::-1]),
     }
-    assert told_by(runs["row"]).count("\ntell") == len(none)
+    assert told_by(runs["row"]).count("\ntell") == told_by(runs["built"]).count("\ntell") == len(none)
     assert told_by(runs["none_on"]).count(" err 4\n") == OFTEN
     assert told_by(runs["row_on"]).count(" err 4\n") == FEW
+    assert told_by(runs["closed"]).count(" err 35\n") == FEW
     best = least(runs, 3)
     alone, behind = (best["none_on"] - best["none"]) / OFTEN, (best["row_on"] - best["row"]) / FEW
-    print(f"{what}: {alone:.4f} ms with none waiting, {behind:.2f} ms with {ROW}, ratio {behind / alone:.0f}")
+    closed, built = (best["closed"] - best["row"]) / FEW, (best["built"] - best["none"]) / ROW
+    print(f"{what}: {alone:.4f} ms with none waiting, {behind:.2f} ms with {ROW}, ratio {behind / alone:.0f}; "
+          f"told EDEADLK {closed:.2f} ms; {built:.2f} ms each where the row is built from its far end")
 
 compare("one file, runs of one owner", 1, [lock(2, 5_000, 2 * i, 2 * i, READ, "setlk") for i in range(RUNS)])
 compare("one file, each owner in the way", 1, [lock(2, 10_000 + i, 0, 2**63 - 1, READ, "setlk") for i in range(RUNS)])
