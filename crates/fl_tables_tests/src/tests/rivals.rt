@@ -78,10 +78,34 @@ fn finds_each_of_several_owners(rt: HostRuntime) {
     let mut table = Table::new(rt.alloc(), 8).expect(&rt, "memory");
     put_owners(&rt, &mut table);
     let asked = [1, 3, 4, 6, 8, 9];
-    finds_first(&rt, &table, writes(1, 9), asked, [false, true, false, true, true, false]);
-    finds_first(&rt, &table, writes(1, 3), asked, [false, true, false, false, true, false]);
-    finds_first(&rt, &table, writes(1, 1), asked, [false, false, false, false, true, false]);
-    finds_first(&rt, &table, reads(1, 9), asked, [false, false, false, false, true, false]);
+    finds_first(
+        &rt,
+        &table,
+        writes(1, 9),
+        asked,
+        [false, true, false, true, true, false],
+    );
+    finds_first(
+        &rt,
+        &table,
+        writes(1, 3),
+        asked,
+        [false, true, false, false, true, false],
+    );
+    finds_first(
+        &rt,
+        &table,
+        writes(1, 1),
+        asked,
+        [false, false, false, false, true, false],
+    );
+    finds_first(
+        &rt,
+        &table,
+        reads(1, 9),
+        asked,
+        [false, false, false, false, true, false],
+    );
     finds_first(&rt, &table, reads(1, 6), asked, NONE);
 }
 
@@ -98,8 +122,20 @@ fn finds_none_of_owners_without_such_locks(rt: HostRuntime) {
 fn finds_an_owner_at_each_of_its_places(rt: HostRuntime) {
     let mut table = Table::new(rt.alloc(), 8).expect(&rt, "memory");
     put_owners(&rt, &mut table);
-    finds_first(&rt, &table, writes(1, 9), [3, 3, 5, 5, 8, 8], [true, true, false, false, true, true]);
-    finds_first(&rt, &table, writes(1, 9), [2, 6, 6, 6, 7, 7], [false, true, true, true, false, false]);
+    finds_first(
+        &rt,
+        &table,
+        writes(1, 9),
+        [3, 3, 5, 5, 8, 8],
+        [true, true, false, false, true, true],
+    );
+    finds_first(
+        &rt,
+        &table,
+        writes(1, 9),
+        [2, 6, 6, 6, 7, 7],
+        [false, true, true, true, false, false],
+    );
     finds_first(&rt, &table, writes(1, 29), [5; COUNT], [true; COUNT]);
     finds_first(&rt, &table, writes(1, 19), [5; COUNT], NONE);
 }
@@ -110,9 +146,23 @@ fn leaves_set_what_is_set(rt: HostRuntime) {
     put_owners(&rt, &mut table);
     let asked = [2, 3, 3, 5, 6, 9];
     let before = [true, false, true, true, false, false];
-    finds(&rt, &table, writes(1, 9), asked, before, [true, true, true, true, true, false]);
+    finds(
+        &rt,
+        &table,
+        writes(1, 9),
+        asked,
+        before,
+        [true, true, true, true, true, false],
+    );
     finds(&rt, &table, reads(1, 9), asked, before, before);
-    finds(&rt, &table, writes(1, 9), asked, [true; COUNT], [true; COUNT]);
+    finds(
+        &rt,
+        &table,
+        writes(1, 9),
+        asked,
+        [true; COUNT],
+        [true; COUNT],
+    );
 }
 
 #[test]
@@ -120,9 +170,27 @@ fn finds_no_owner_who_asks(rt: HostRuntime) {
     let mut table = Table::new(rt.alloc(), 8).expect(&rt, "memory");
     put_owners(&rt, &mut table);
     let asked = [3, 3, 6, 6, 8, 8];
-    finds_first(&rt, &table, writes(3, 9), asked, [false, false, true, true, true, true]);
-    finds_first(&rt, &table, writes(6, 9), asked, [true, true, false, false, true, true]);
-    finds_first(&rt, &table, writes(8, 9), asked, [true, true, true, true, false, false]);
+    finds_first(
+        &rt,
+        &table,
+        writes(3, 9),
+        asked,
+        [false, false, true, true, true, true],
+    );
+    finds_first(
+        &rt,
+        &table,
+        writes(6, 9),
+        asked,
+        [true, true, false, false, true, true],
+    );
+    finds_first(
+        &rt,
+        &table,
+        writes(8, 9),
+        asked,
+        [true, true, true, true, false, false],
+    );
     finds_first(&rt, &table, reads(8, 9), asked, NONE);
 }
 
@@ -133,11 +201,29 @@ fn finds_no_lock_of_another_class_or_node(rt: HostRuntime) {
     put(&rt, &mut table, 4, 0, 9, READ);
     put_as(&rt, &mut table, elsewhere(2), 0, 9, WRITE);
     let asked = [1, 2, 3, 4, 5, 6];
-    finds_first(&rt, &table, writes(1, 9), asked, [false, false, false, true, false, false]);
+    finds_first(
+        &rt,
+        &table,
+        writes(1, 9),
+        asked,
+        [false, false, false, true, false, false],
+    );
     let flock = (whole_file(1), 0, 9, Kind::Write);
-    finds_first(&rt, &table, flock, asked, [false, false, true, false, false, false]);
+    finds_first(
+        &rt,
+        &table,
+        flock,
+        asked,
+        [false, false, true, false, false, false],
+    );
     let other = (elsewhere(1), 0, 9, Kind::Read);
-    finds_first(&rt, &table, other, asked, [false, true, false, false, false, false]);
+    finds_first(
+        &rt,
+        &table,
+        other,
+        asked,
+        [false, true, false, false, false, false],
+    );
 }
 
 #[test]
@@ -147,9 +233,27 @@ fn finds_the_least_and_the_greatest_owner_there_can_be(rt: HostRuntime) {
     put(&rt, &mut table, last, 0, 9, READ);
     put(&rt, &mut table, 0, 0, 9, READ);
     let asked = [0, 0, 1, last - 1, last, last];
-    finds_first(&rt, &table, writes(7, 9), asked, [true, true, false, false, true, true]);
-    finds_first(&rt, &table, writes(0, 9), asked, [false, false, false, false, true, true]);
-    finds_first(&rt, &table, writes(last, 9), asked, [true, true, false, false, false, false]);
+    finds_first(
+        &rt,
+        &table,
+        writes(7, 9),
+        asked,
+        [true, true, false, false, true, true],
+    );
+    finds_first(
+        &rt,
+        &table,
+        writes(0, 9),
+        asked,
+        [false, false, false, false, true, true],
+    );
+    finds_first(
+        &rt,
+        &table,
+        writes(last, 9),
+        asked,
+        [true, true, false, false, false, false],
+    );
 }
 
 // Whether the marks of an owner exclude the lock; those of the asker, and of owners without a row, don't.
@@ -218,8 +322,26 @@ fn compare_asker(
 fn compare(rt: &impl Abort, table: &Table, grid: &Grid, numbers: &mut Numbers, start: usize) {
     for end in start..BYTES {
         for asker in 0..ROWS {
-            compare_asker(rt, table, grid, numbers, asker as u64, start, end, Kind::Read);
-            compare_asker(rt, table, grid, numbers, asker as u64, start, end, Kind::Write);
+            compare_asker(
+                rt,
+                table,
+                grid,
+                numbers,
+                asker as u64,
+                start,
+                end,
+                Kind::Read,
+            );
+            compare_asker(
+                rt,
+                table,
+                grid,
+                numbers,
+                asker as u64,
+                start,
+                end,
+                Kind::Write,
+            );
         }
     }
 }
