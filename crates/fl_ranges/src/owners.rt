@@ -33,9 +33,9 @@ impl Table {
         least_after(&self.rows, key, range, kind, after)
     }
 
-    /// Finds those of these owners who have a lock that excludes one of this kind, in one walk along the locks of the
-    /// node: `found` is set at the place of each. What is set already stays, and isn't asked for again. The owners are in
-    /// ascending order, and an owner may stand there more than once.
+    /// Finds those of these owners who have a lock that excludes one of this kind, in one walk along the owners of the
+    /// node: `found` is set at the place of each. What is set already stays, and isn't asked for again. The owners are
+    /// in ascending order, and one may stand there more than once.
     pub fn find_rivals(
         &self,
         key: &Key,
@@ -89,8 +89,8 @@ fn least_after(
     None
 }
 
-// Sets the places of those of these owners who have a lock which excludes one of this kind, by this key, on the range. The
-// rows stand in the order of their owners too, so it is one walk along both.
+// Sets the places of those of these owners who have a lock which excludes one of this kind, by this key, on the range.
+// The rows stand in the order of their owners too, so it is one walk along both.
 fn find_among(
     table: &Rows<Key, Span<Mark>>,
     key: &Key,
@@ -140,7 +140,8 @@ fn look_into(
     requires within { end ≤ length found.old }
     ensures set { (k : ℕ) → from ≤ k → k < end → slice_index_or found.new k false
         ≡ (slice_index_or found.old k false
-        || is_some (find (span_excludes key.now owner range.now.start range.now.end kind) (spans_at table.now row.now))) }
+        || is_some (find (span_excludes key.now owner range.now.start range.now.end kind)
+        (spans_at table.now row.now))) }
     ensures before { (k : ℕ) → k < from → slice_index_or found.new k false ≡ slice_index_or found.old k false }
     ensures behind { (k : ℕ) → end ≤ k → slice_index_or found.new k false ≡ slice_index_or found.old k false }
 {

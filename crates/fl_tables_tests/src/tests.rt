@@ -11,6 +11,7 @@ mod lives;
 mod locks;
 mod owners;
 mod ranges;
+mod rivals;
 mod rooms;
 mod rows;
 mod shift;
