@@ -1,9 +1,10 @@
 #!/bin/sh
 # Times orders where 256 lock requests wait on one file, against the same orders where none waits, in processor time of
 # `lockd`: unlocks that free none of them, of bytes that nobody waits for and of the other class; one unlock that frees
-# all of them, so that it gives 257 replies; and a SETLK on another file, by text and by messages. Each time is the
-# difference of two runs that differ in these orders alone: 20,000 of them, or the one unlock that frees. The runs take
-# turns, and the least time of each counts. Prints microseconds an order and the ratios.
+# all of them, so that it gives 257 replies, also behind 3,800 runs of another owner; one that frees the younger half, while the
+# older half stays; and a SETLK on another file, by text and by messages. Each time is the difference of two runs that differ
+# in these orders alone: 20,000 of them, or the one unlock that frees. The runs take turns, and the least time of each counts.
+# Prints microseconds an order and the ratios.
 #
 # What dominates: an unlock on the same file walks along all requests that wait, and tests those of its class for a
 # conflict. An order on another file walks along none, since its unique is greater than theirs and no request waits on
@@ -62,13 +63,14 @@ def told_by(command, path):
     with open(path) as given:
         return subprocess.run([PROGRAM, command], stdin=given, capture_output=True, check=True, text=True).stdout
 
+BEHIND = 10_000
 FILES = [(1, ("create", 0, 420, "61")), (1, ("create", 0, 420, "62"))]
+RUNS = [lock(2, 5_000, 2 * i, 2 * i, READ) for i in range(3_800)]
 HELD = FILES + [lock(2, 7, 0, 99, WRITE)]
-GIVEN_BACK = [lock(2, 7, 0, 99, UNLOCK)]
 
-# A lock request of each of 256 owners, all of one byte.
-def asks(word):
-    return [lock(2, 1000 + i, 0, 0, READ, word) for i in range(WAITERS)]
+# A lock request of each of so many owners, all of one byte.
+def asks(word, byte=0, first=1000, count=WAITERS):
+    return [lock(2, first + i, byte, byte, READ, word) for i in range(count)]
 
 def compare(what, none, many):
     print(f"{what}: {none:.2f} us with none waiting, {many:.2f} us with {WAITERS}, ratio {many / none:.1f}")
@@ -86,22 +88,28 @@ def repeated(what, order, command="script"):
     compare(what, none, many)
     return none
 
-def frees_all(what, none):
+# One unlock that frees all requests but those that wait for another lock; these are older, so they are tested again and again.
+def frees(what, none, others=(), staying=0):
+    count = WAITERS - staying
+    held = FILES + list(others) + [lock(2, 7, BEHIND, BEHIND + 99, WRITE), lock(2, 8, BEHIND + 100, BEHIND + 100, WRITE)]
+    waiting = held + asks("setlkw", BEHIND + 100, 2000, staying) + asks("setlkw", BEHIND, 1000, count)
     runs = {
-        "waiting": stored("waiting", "script", HELD + asks("setlkw")),
-        "freed": stored("freed", "script", HELD + asks("setlkw") + GIVEN_BACK),
-        "files": stored("files", "script", FILES),
-        "set": stored("set", "script", FILES + asks("setlk")),
+        "waiting": stored("waiting", "script", waiting),
+        "freed": stored("freed", "script", waiting + [lock(2, 7, BEHIND, BEHIND + 99, UNLOCK)]),
+        "held": stored("held", "script", FILES + list(others)),
+        "set": stored("set", "script", FILES + list(others) + asks("setlk", BEHIND, 1000, count)),
     }
-    assert told_by(*runs["freed"]).count(" ok\n") - told_by(*runs["waiting"]).count(" ok\n") == 1 + WAITERS
-    best = least(runs, 150)
-    unlock, each = best["freed"] - best["waiting"], best["set"] - best["files"]
+    assert told_by(*runs["freed"]).count(" ok\n") - told_by(*runs["waiting"]).count(" ok\n") == 1 + count
+    best = least(runs, 40)
+    unlock, each = best["freed"] - best["waiting"], best["set"] - best["held"]
     compare(what, none, unlock)
-    print(f"{WAITERS} SETLKs of the same locks: {each:.0f} us, ratio of the unlock to these {unlock / each:.2f}")
+    print(f"{count} SETLKs of the same locks: {each:.0f} us, ratio of the unlock to these {unlock / each:.2f}")
 
 none = repeated("unlock that frees none, same class", lock(2, 7, 200, 299, UNLOCK))
 repeated("unlock that frees none, other class", lock(2, 7, 0, 0, UNLOCK, flags=1))
-frees_all("unlock that frees all", none)
+frees("unlock that frees all", none)
+frees("unlock that frees all, behind 3,800 runs", none, RUNS)
+frees("unlock that frees the younger half, behind 3,800 runs", none, RUNS, WAITERS // 2)
 repeated("SETLK on another file, text", lock(3, 7, 0, 9, WRITE))
 repeated("SETLK on another file, messages", lock(3, 7, 0, 9, WRITE), "bytes")
 END

@@ -14,12 +14,13 @@ use fl_spans::{Cursor, Rows, Span};
 fn goes_before(a: &Key, b: &Key) -> bool
     ensures { result ≡ goes_before a.now b.now }
 {
-    let class = (a.class as u8).cmp(&(b.class as u8));
-    a.node
-        .cmp(&b.node)
-        .then(class)
-        .then(a.owner.cmp(&b.owner))
-        .is_lt()
+    if a.node != b.node {
+        return a.node < b.node;
+    }
+    if a.class != b.class {
+        return (a.class as u8) < b.class as u8;
+    }
+    a.owner < b.owner
 }
 
 // Whether two keys are one.
