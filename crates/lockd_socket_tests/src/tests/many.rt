@@ -1,9 +1,9 @@
 //! A server with four workers, and a client that sends a hundred orders before it waits for a reply.
 
-use super::bytes::sessions::init;
 use super::drive::drive;
 use super::serve::{has_trace, serve};
 use super::{Came, own_path};
+use fl_testing::init;
 use lockd_commands::{Fault, Status};
 use std::alloc::{AllocError, AllocGlobal, Global};
 use std::net::Net;

@@ -1,9 +1,9 @@
 //! Clients whose server is a session.
 
-use super::super::bytes::sessions::{init, init_reply, two_locks};
 use super::super::{is, marked, own_path};
 use super::drive;
 use fl_serve::run_one;
+use fl_testing::{init, init_reply, two_locks};
 use std::alloc::{AllocGlobal, Global};
 use std::fs::Files;
 use std::net::Net;

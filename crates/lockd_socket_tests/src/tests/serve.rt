@@ -1,8 +1,8 @@
 //! Sessions that `lockd serve` serves at a path.
 
-use super::bytes::sessions::{init, init_reply, two_locks};
-use super::{Came, Command, is, marked, own_path, run, spelled};
-use lockd_commands::serve_on;
+use super::{Came, is, marked, own_path, spelled};
+use fl_testing::{init, init_reply, two_locks};
+use lockd_commands::{check_on, serve_on};
 use std::alloc::{AllocGlobal, Global};
 use std::fs::Files;
 use std::io::{Read, Write};
@@ -83,13 +83,20 @@ pub(super) fn has_trace(rt: &impl Abort, alloc: Global, trace: &[u8], wanted: us
         }
     }
     assert_eq!(rt; lines, wanted);
-    is(
-        rt,
-        "a trace",
-        &run(Command::Check, alloc, trace),
-        "legal\n",
-        "",
-    );
+    is(rt, "a trace", &checked(alloc, trace), "legal\n", "");
+}
+
+// What is said of a trace.
+fn checked(alloc: Global, trace: &[u8]) -> Came {
+    let mut input = trace;
+    let mut printed = Vec::new(alloc);
+    let mut told = Vec::new(alloc);
+    let status = check_on(alloc, &mut input, &mut printed, &mut told);
+    Came {
+        printed,
+        told,
+        status,
+    }
 }
 
 #[test]
