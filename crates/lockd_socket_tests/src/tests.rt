@@ -7,10 +7,10 @@ mod serve;
 use fl_testing::{bytes_after, lines_after};
 use lockd_commands::Status;
 use std::alloc::Global;
-use std::path::PathBuf;
+use std::fs::Files;
+use std::path::{Path, PathBuf};
 use std::process::Abort;
-use std::test::Fail;
-use std::{env, process};
+use std::{env, fs, process};
 
 // What a command wrote, and how it ended.
 #[derive(Drop)]
@@ -23,14 +23,15 @@ struct Came {
 // A command printed this, told that, and ended with 2 where something was told, and else with 0. The words are shown where
 // it didn't.
 fn is(rt: &impl Abort, what: &str, came: &Came, printed: &str, told: &str) {
-    wrote(rt, what, came, printed, told);
-    let code = if told.is_empty() { 0 } else { 2 };
-    assert_eq!(rt; came.status.exit_code(), code, "{what}");
+    is_text(rt, what, &came.printed, printed);
+    ends_so(rt, what, came, told);
 }
 
-fn wrote(rt: &impl Abort, what: &str, came: &Came, printed: &str, told: &str) {
+// It told that, and ended so.
+fn ends_so(rt: &impl Abort, what: &str, came: &Came, told: &str) {
     is_text(rt, what, &came.told, told);
-    is_text(rt, what, &came.printed, printed);
+    let code = if told.is_empty() { 0 } else { 2 };
+    assert_eq!(rt; came.status.exit_code(), code, "{what}");
 }
 
 fn is_text(rt: &impl Abort, what: &str, found: &[u8], wanted: &str) {
@@ -49,7 +50,13 @@ fn spelled(rt: &impl Abort, alloc: Global, lines: &str) -> Vec<u8> {
 }
 
 // A path of this process's own. Each test runs in a process of its own.
-fn own_path(rt: &HostRuntime) -> Result<PathBuf, Fail> {
-    let name = format!(in rt.alloc(); "lockd-test-{}", process::id(rt.process()))?;
-    Ok(env::temp_dir(rt)?.join(rt.alloc(), name.as_str())?)
+fn own_path(rt: &HostRuntime) -> Option<PathBuf> {
+    let name = format!(in rt.alloc(); "lockd-test-{}", process::id(rt.process())).ok()?;
+    let folder = env::temp_dir(rt).ok()?;
+    folder.join(rt.alloc(), name.as_str()).ok()
+}
+
+// The socket's file at a path goes.
+fn unbind(rt: &(impl Abort + Files), path: Path<'_>) {
+    assert!(rt; fs::remove_file(rt, path).is_ok());
 }

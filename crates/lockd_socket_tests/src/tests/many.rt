@@ -9,7 +9,6 @@ use std::alloc::{AllocError, AllocGlobal, Global};
 use std::net::Net;
 use std::path::Path;
 use std::process::Abort;
-use std::test::Fail;
 use std::thread;
 use std::time::{Clock, Duration};
 
@@ -35,7 +34,11 @@ fn hundred_files(alloc: Global) -> Result<String, AllocError> {
 }
 
 // Drives a server once it listens, and gives up after some 20 seconds.
-fn drive_soon<R: Net + Clock + AllocGlobal>(rt: &R, path: Path<'_>, text: &[u8]) -> Came {
+pub(super) fn drive_soon<R: Net + Clock + AllocGlobal>(
+    rt: &R,
+    path: Path<'_>,
+    text: &[u8],
+) -> Came {
     for _ in 0..20_000 {
         let came = drive(rt, path, text);
         if came.status != Status::Faulted(Fault::Connect) {
@@ -66,19 +69,18 @@ fn has_made_all(rt: &impl Abort, came: &Came) {
 }
 
 #[test]
-fn a_hundred_files_through_four_workers(rt: HostRuntime) -> Result<(), Fail> {
+fn a_hundred_files_through_four_workers(rt: HostRuntime) {
     let alloc = rt.alloc();
-    let path = own_path(&rt)?;
-    let there = own_path(&rt)?;
-    let text = hundred_files(alloc)?;
+    let path = own_path(&rt).expect(&rt, "a path");
+    let there = own_path(&rt).expect(&rt, "a path");
+    let text = hundred_files(alloc).expect(&rt, "memory");
     let client = thread::spawn(&rt, move || {
         drive_soon(&rt, there.as_path(), text.as_bytes())
-    })?;
+    });
     let served = serve(&rt, path.as_path(), 4);
-    let driven = client.join(&rt);
+    let driven = client.expect(&rt, "a thread").join(&rt);
     has_made_all(&rt, &driven);
     has_trace(&rt, alloc, &served.printed, 200);
     assert_eq!(rt; served.status, Status::Good);
     assert!(rt; served.told.is_empty());
-    Ok(())
 }

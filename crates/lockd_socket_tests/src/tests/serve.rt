@@ -1,6 +1,6 @@
 //! Sessions that `lockd serve` serves at a path.
 
-use super::{Came, is, marked, own_path, spelled};
+use super::{Came, ends_so, is, marked, own_path, spelled, unbind};
 use fl_testing::{init, init_reply, two_locks};
 use lockd_commands::{check_on, serve_on};
 use std::alloc::{AllocGlobal, Global};
@@ -11,10 +11,9 @@ use std::os::unix::net::{UnixListener, UnixStream};
 use std::path::Path;
 use std::process::Abort;
 use std::sync::Wait;
-use std::test::Fail;
+use std::thread;
 use std::thread::Threads;
 use std::time::{Clock, Duration};
-use std::{fs, thread};
 
 pub(super) fn serve<R: Threads + Wait + Net + Files + AllocGlobal + Sync>(
     rt: &R,
@@ -100,9 +99,9 @@ fn checked(alloc: Global, trace: &[u8]) -> Came {
 }
 
 #[test]
-fn sessions_over_a_socket(rt: HostRuntime) -> Result<(), Fail> {
+fn sessions_over_a_socket(rt: HostRuntime) {
     let alloc = rt.alloc();
-    let path = own_path(&rt)?;
+    let path = own_path(&rt).expect(&rt, "a path");
     let ends = [
         ("", ""),
         ("27000000\n", "bad length 39\n"),
@@ -110,27 +109,24 @@ fn sessions_over_a_socket(rt: HostRuntime) -> Result<(), Fail> {
     ];
     for (behind, told) in ends {
         let bytes = two_locks_and(&rt, alloc, behind);
-        let there = own_path(&rt)?;
-        let client = thread::spawn(&rt, move || talk(&rt, alloc, there.as_path(), &bytes))?;
+        let there = own_path(&rt).expect(&rt, "a path");
+        let client = thread::spawn(&rt, move || talk(&rt, alloc, there.as_path(), &bytes));
         let came = serve(&rt, path.as_path(), 1);
-        let replies = client.join(&rt).ok_or("a connection")?;
-        has_replies(&rt, alloc, &replies);
+        let replies = client.expect(&rt, "a thread").join(&rt);
+        has_replies(&rt, alloc, &replies.expect(&rt, "a connection"));
         has_trace(&rt, alloc, &came.printed, 6);
-        assert_eq!(&rt; str::from_utf8(&came.told)?, told);
-        let code = if told.is_empty() { 0 } else { 2 };
-        assert_eq!(&rt; came.status.exit_code(), code);
+        ends_so(&rt, behind, &came, told);
     }
-    Ok(())
 }
 
 // A path at which there is something already, which stays, one that can't be, and an empty one.
 #[test]
-fn paths_that_cannot_be_bound(rt: HostRuntime) -> Result<(), Fail> {
-    let taken = own_path(&rt)?;
-    let listener = UnixListener::bind(&rt, taken.as_path())?;
+fn paths_that_cannot_be_bound(rt: HostRuntime) {
+    let taken = own_path(&rt).expect(&rt, "a path");
+    let listener = UnixListener::bind(&rt, taken.as_path()).expect(&rt, "a socket");
     for path in [taken.as_path(), Path::new("/nowhere/at/all"), Path::new("")] {
         is(&rt, "a path", &serve(&rt, path, 4), "", "cannot listen\n");
     }
     drop(listener);
-    Ok(fs::remove_file(&rt, taken.as_path())?)
+    unbind(&rt, taken.as_path());
 }

@@ -1,14 +1,12 @@
 //! Clients that don't come to send anything: a line is bad, or nobody listens.
 
-use super::super::{is, own_path};
+use super::super::{is, own_path, unbind};
 use super::drive;
 use std::alloc::AllocGlobal;
-use std::fs;
 use std::net::Net;
 use std::os::unix::net::UnixListener;
 use std::path::Path;
 use std::process::Abort;
-use std::test::Fail;
 
 const BAD_LINES: &str = "
 recv 0
@@ -58,8 +56,8 @@ fn refuses_line(rt: &(impl Abort + Net + AllocGlobal), path: Path<'_>, line: &st
 }
 
 #[test]
-fn bad_lines(rt: HostRuntime) -> Result<(), Fail> {
-    let path = own_path(&rt)?;
+fn bad_lines(rt: HostRuntime) {
+    let path = own_path(&rt).expect(&rt, "a path");
     let mut count = 0usize;
     for line in BAD_LINES.split('\n') {
         if !line.is_empty() {
@@ -70,25 +68,23 @@ fn bad_lines(rt: HostRuntime) -> Result<(), Fail> {
     assert_eq!(rt; count, 21);
     refuses(&rt, path.as_path(), "01", "bad line 1\n");
     refuses(&rt, path.as_path(), "01\nrecv 1", "bad line 2\n");
-    Ok(())
 }
 
 #[test]
-fn nobody_listens(rt: HostRuntime) -> Result<(), Fail> {
-    let path = own_path(&rt)?;
+fn nobody_listens(rt: HostRuntime) {
+    let path = own_path(&rt).expect(&rt, "a path");
     refuses(&rt, path.as_path(), "0102\nrecv 1\n", "cannot connect\n");
     refuses(&rt, path.as_path(), "", "cannot connect\n");
     refuses(&rt, Path::new(""), "", "cannot connect\n");
     // No socket has a path of 200 bytes.
-    let long = "x".repeat(rt.alloc(), 200)?;
+    let long = "x".repeat(rt.alloc(), 200).expect(&rt, "memory");
     refuses(&rt, Path::new(long.as_str()), "", "cannot connect\n");
-    Ok(())
 }
 
 #[test]
-fn a_sockets_file_that_was_left_over(rt: HostRuntime) -> Result<(), Fail> {
-    let path = own_path(&rt)?;
-    drop(UnixListener::bind(&rt, path.as_path())?);
+fn a_sockets_file_that_was_left_over(rt: HostRuntime) {
+    let path = own_path(&rt).expect(&rt, "a path");
+    drop(UnixListener::bind(&rt, path.as_path()).expect(&rt, "a socket"));
     refuses(&rt, path.as_path(), "", "cannot connect\n");
-    Ok(fs::remove_file(&rt, path.as_path())?)
+    unbind(&rt, path.as_path());
 }

@@ -1,6 +1,6 @@
 //! What a client sends and prints, against servers whose replies are these bytes.
 
-use super::super::{Came, is, marked, own_path, spelled};
+use super::super::{Came, is, marked, own_path, spelled, unbind};
 use super::cases::stored_cases;
 use super::drive;
 use super::servers::{answer, read_one_and_go, take_nothing};
@@ -13,44 +13,44 @@ use std::os::unix::net::UnixListener;
 use std::path::Path;
 use std::process::Abort;
 use std::sync::Wait;
-use std::test::Fail;
+use std::thread;
 use std::thread::{JoinHandle, Threads};
-use std::{fs, thread};
 
 // Starts a server of one client that sends these replies.
 fn start(
-    rt: &(impl Threads + Net + Files + AllocGlobal),
+    rt: &(impl Abort + Threads + Net + Files + AllocGlobal),
     path: Path<'_>,
     replies: Vec<u8>,
-) -> Result<JoinHandle<Vec<u8>>, Fail> {
+) -> JoinHandle<Vec<u8>> {
     let alloc = rt.alloc();
-    let listener = UnixListener::bind(rt, path)?;
-    Ok(thread::spawn(rt, move || answer(alloc, &listener, &replies))?)
+    let listener = UnixListener::bind(rt, path).expect(rt, "a socket");
+    let server = thread::spawn(rt, move || answer(alloc, &listener, &replies));
+    server.expect(rt, "a thread")
 }
 
 // What comes of a client at a server that sends these replies, and all bytes that the client sends.
 fn meet(
-    rt: &(impl Threads + Wait + Net + Files + AllocGlobal),
+    rt: &(impl Abort + Threads + Wait + Net + Files + AllocGlobal),
     path: Path<'_>,
     replies: Vec<u8>,
     text: &[u8],
-) -> Result<(Came, Vec<u8>), Fail> {
-    let server = start(rt, path, replies)?;
+) -> (Came, Vec<u8>) {
+    let server = start(rt, path, replies);
     let came = drive(rt, path, text);
-    Ok((came, server.join(rt)))
+    (came, server.join(rt))
 }
 
 fn run_case(
     rt: &(impl Abort + Threads + Wait + Net + Files + AllocGlobal),
     path: Path<'_>,
     case: &str,
-) -> Result<(), Fail> {
+) {
     let alloc = rt.alloc();
     let replies = bytes_of(rt, alloc, case, "+ ");
     let text = marked(rt, alloc, "", case, "> ");
-    let (came, sent) = meet(rt, path, replies, text.as_bytes())?;
+    let (came, sent) = meet(rt, path, replies, text.as_bytes());
     is_case(rt, alloc, case, &came, &sent);
-    Ok(fs::remove_file(rt, path)?)
+    unbind(rt, path);
 }
 
 // The bytes that the lines with a mark spell.
@@ -68,15 +68,14 @@ fn is_case(rt: &impl Abort, alloc: Global, case: &str, came: &Came, sent: &[u8])
 }
 
 #[test]
-fn stored_replies(rt: HostRuntime) -> Result<(), Fail> {
-    let path = own_path(&rt)?;
+fn stored_replies(rt: HostRuntime) {
+    let path = own_path(&rt).expect(&rt, "a path");
     let mut count = 0usize;
     for case in stored_cases().split('#').skip(1) {
-        run_case(&rt, path.as_path(), case)?;
+        run_case(&rt, path.as_path(), case);
         count = count.saturating_add(1);
     }
     assert_eq!(rt; count, 10);
-    Ok(())
 }
 
 const SHORT: &str = "10000000f5ffffff0400000000000000";
@@ -87,24 +86,25 @@ fn prints(
     path: Path<'_>,
     text: &[u8],
     lines: &str,
-) -> Result<(), Fail> {
+) {
     let replies = spelled(rt, rt.alloc(), lines);
-    let (came, sent) = meet(rt, path, replies, text)?;
+    let (came, sent) = meet(rt, path, replies, text);
     is(rt, "a client that waits", &came, lines, "");
     assert!(rt; sent.is_empty());
-    Ok(fs::remove_file(rt, path)?)
+    unbind(rt, path);
 }
 
 // As many as one line can wait for, and one of 8192 bytes.
 #[test]
-fn many_replies_and_the_longest(rt: HostRuntime) -> Result<(), Fail> {
-    let path = own_path(&rt)?;
-    let line = [SHORT, "\n"].concat(rt.alloc())?;
-    let lines = line.repeat(rt.alloc(), 1000)?;
-    prints(&rt, path.as_path(), b"recv 1000\n", &lines)?;
-    let rest = "00".repeat(rt.alloc(), 8188)?;
-    let longest = ["00200000", &rest, "\n"].concat(rt.alloc())?;
-    prints(&rt, path.as_path(), b"recv 1\n", &longest)
+fn many_replies_and_the_longest(rt: HostRuntime) {
+    let path = own_path(&rt).expect(&rt, "a path");
+    let line = [SHORT, "\n"].concat(rt.alloc()).expect(&rt, "memory");
+    let lines = line.repeat(rt.alloc(), 1000).expect(&rt, "memory");
+    prints(&rt, path.as_path(), b"recv 1000\n", &lines);
+    let rest = "00".repeat(rt.alloc(), 8188).expect(&rt, "memory");
+    let longest = ["00200000", &rest, "\n"].concat(rt.alloc());
+    let longest = longest.expect(&rt, "memory");
+    prints(&rt, path.as_path(), b"recv 1\n", &longest);
 }
 
 // The client sends two bytes, of which the server reads one. It goes when so many bytes of the reply are sent.
@@ -112,32 +112,31 @@ fn breaks_off(
     rt: &(impl Abort + Threads + Wait + Net + Files + AllocGlobal),
     path: Path<'_>,
     left: usize,
-) -> Result<(), Fail> {
-    let listener = UnixListener::bind(rt, path)?;
+) {
+    let listener = UnixListener::bind(rt, path).expect(rt, "a socket");
     let reply = b"\x10\0\0\0".get(..left).unwrap_or(&[]);
-    let server = thread::spawn(rt, move || read_one_and_go(&listener, reply))?;
+    let server = thread::spawn(rt, move || read_one_and_go(&listener, reply));
     let came = drive(rt, path, b"0102\nrecv 1\n");
     is(rt, "a read that fails", &came, "", "read failed\n");
-    server.join(rt);
-    Ok(fs::remove_file(rt, path)?)
+    server.expect(rt, "a thread").join(rt);
+    unbind(rt, path);
 }
 
 #[test]
-fn a_read_of_a_reply_that_fails(rt: HostRuntime) -> Result<(), Fail> {
-    let path = own_path(&rt)?;
+fn a_read_of_a_reply_that_fails(rt: HostRuntime) {
+    let path = own_path(&rt).expect(&rt, "a path");
     for left in [0, 1, 3] {
-        breaks_off(&rt, path.as_path(), left)?;
+        breaks_off(&rt, path.as_path(), left);
     }
-    Ok(())
 }
 
 // The first reply comes when the server takes no more. The second isn't waited for.
 #[test]
-fn a_request_that_cannot_be_sent(rt: HostRuntime) -> Result<(), Fail> {
-    let path = own_path(&rt)?;
-    let listener = UnixListener::bind(&rt, path.as_path())?;
+fn a_request_that_cannot_be_sent(rt: HostRuntime) {
+    let path = own_path(&rt).expect(&rt, "a path");
+    let listener = UnixListener::bind(&rt, path.as_path()).expect(&rt, "a socket");
     let replies = spelled(&rt, rt.alloc(), TWO_REPLIES);
-    let server = thread::spawn(&rt, move || take_nothing(&listener, &replies))?;
+    let server = thread::spawn(&rt, move || take_nothing(&listener, &replies));
     let came = drive(&rt, path.as_path(), b"recv 1\n0102\nrecv 1\n");
     is(
         &rt,
@@ -146,8 +145,8 @@ fn a_request_that_cannot_be_sent(rt: HostRuntime) -> Result<(), Fail> {
         SHORT_LINE,
         "write failed\n",
     );
-    server.join(&rt);
-    Ok(fs::remove_file(&rt, path.as_path())?)
+    server.expect(&rt, "a thread").join(&rt);
+    unbind(&rt, path.as_path());
 }
 
 const SHORT_LINE: &str = "10000000f5ffffff0400000000000000\n";
@@ -171,18 +170,17 @@ fn fills_the_output(
     rt: &(impl Abort + Threads + Wait + Net + Files + AllocGlobal),
     path: Path<'_>,
     left: usize,
-) -> Result<(), Fail> {
-    let server = start(rt, path, spelled(rt, rt.alloc(), SHORT))?;
+) {
+    let server = start(rt, path, spelled(rt, rt.alloc(), SHORT));
     drive_to_full(rt, path, left);
     assert_eq!(rt; server.join(rt).as_slice(), b"\x01\x02".as_slice());
-    Ok(fs::remove_file(rt, path)?)
+    unbind(rt, path);
 }
 
 #[test]
-fn a_reply_that_cannot_be_printed(rt: HostRuntime) -> Result<(), Fail> {
-    let path = own_path(&rt)?;
+fn a_reply_that_cannot_be_printed(rt: HostRuntime) {
+    let path = own_path(&rt).expect(&rt, "a path");
     for left in [0, 1, 3] {
-        fills_the_output(&rt, path.as_path(), left)?;
+        fills_the_output(&rt, path.as_path(), left);
     }
-    Ok(())
 }
