@@ -1,11 +1,10 @@
 //! Rows of runs by key: each public call once, and where the slots are.
-ghost use Rattle.std.specs.Prelude.{◌<◌};
+ghost use Rattle.std.specs.Prelude.{◌≡◌, ◌<◌};
 ghost use Rattle.fl_rows.specs.Rows.{chain_count, limit_of, HasRoomOf};
 
 use super::same;
 use fl_rows::{Full, Pieces, Place, Rows};
 use std::process::Abort;
-use std::test::Fail;
 
 // Puts a row with one run before all others of a chain.
 fn open(rows: &mut Rows<u8, u32>, chain: usize, key: u8, run: u32) -> Result<(), Full>
@@ -103,30 +102,45 @@ fn is_run(rows: &Rows<u8, u32>, slot: usize) -> bool
     rows.slot_place(slot) != Place::Free
 }
 
-#[test]
-fn rows_come_and_go(rt: HostRuntime) -> Result<(), Fail> {
-    let mut rows = Rows::new(rt.alloc(), 2, 3, 0)?;
-    same(&rt, &first(&rows, 1), &None);
-    same(&rt, &open(&mut rows, 1, 7, 70), &Ok(()));
-    same(&rt, &add(&mut rows, 1, 71), &Ok(()));
-    rename(&mut rows, 1, 8);
-    same(&rt, &first(&rows, 1), &Some((8, 71)));
-    same(&rt, &second(&rows, 1), &Some(70));
-    same(&rt, &open(&mut rows, 1, 9, 90), &Ok(()));
-    same(&rt, &next(&rows, 1), &Some(8));
-    same(&rt, &rows.free(), &0);
-    same(&rt, &open(&mut rows, 0, 1, 10), &Err(Full));
-    close(&mut rows, 1);
-    same(&rt, &first(&rows, 1), &Some((8, 71)));
-    close(&mut rows, 1);
-    same(&rt, &first(&rows, 1), &None);
-    same(&rt, &rows.free(), &3);
-    Ok(())
+// A row of two runs comes on chain 1, and another before it, which fills three slots.
+fn come(rt: &impl Abort, rows: &mut Rows<u8, u32>)
+    requires { chain_count rows.old ≡ 2 }
+    ensures { HasRoomOf rows.old rows.new }
+{
+    same(rt, &first(rows, 1), &None);
+    same(rt, &open(rows, 1, 7, 70), &Ok(()));
+    same(rt, &add(rows, 1, 71), &Ok(()));
+    rename(rows, 1, 8);
+    same(rt, &first(rows, 1), &Some((8, 71)));
+    same(rt, &second(rows, 1), &Some(70));
+    same(rt, &open(rows, 1, 9, 90), &Ok(()));
+    same(rt, &next(rows, 1), &Some(8));
+}
+
+// There is room for no other, and they go.
+fn go(rt: &impl Abort, rows: &mut Rows<u8, u32>)
+    requires { chain_count rows.old ≡ 2 }
+    ensures { HasRoomOf rows.old rows.new }
+{
+    same(rt, &rows.free(), &0);
+    same(rt, &open(rows, 0, 1, 10), &Err(Full));
+    close(rows, 1);
+    same(rt, &first(rows, 1), &Some((8, 71)));
+    close(rows, 1);
+    same(rt, &first(rows, 1), &None);
+    same(rt, &rows.free(), &3);
 }
 
 #[test]
-fn each_slot_is_in_one_place(rt: HostRuntime) -> Result<(), Fail> {
-    let mut rows = Rows::new(rt.alloc(), 2, 3, 0)?;
+fn rows_come_and_go(rt: HostRuntime) {
+    let mut rows = Rows::new(rt.alloc(), 2, 3, 0).expect(&rt, "memory");
+    come(&rt, &mut rows);
+    go(&rt, &mut rows);
+}
+
+#[test]
+fn each_slot_is_in_one_place(rt: HostRuntime) {
+    let mut rows = Rows::new(rt.alloc(), 2, 3, 0).expect(&rt, "memory");
     same(&rt, &open(&mut rows, 1, 7, 70), &Ok(()));
     same(&rt, &open(&mut rows, 0, 9, 90), &Ok(()));
     let heads = u8::from(is_row(&rows, 0))
@@ -135,5 +149,4 @@ fn each_slot_is_in_one_place(rt: HostRuntime) -> Result<(), Fail> {
     same(&rt, &heads, &2);
     let runs = u8::from(is_run(&rows, 0)) + u8::from(is_run(&rows, 1)) + u8::from(is_run(&rows, 2));
     same(&rt, &runs, &2);
-    Ok(())
 }

@@ -6,7 +6,6 @@ use super::arena::holds;
 use super::same;
 use fl_arena::{Arena, Place};
 use std::process::Abort;
-use std::test::Fail;
 
 // Adds an item at the end of a chain, and tells the slot that it got.
 fn push(arena: &mut Arena<char>, chain: usize, item: char) -> Option<u16>
@@ -42,26 +41,48 @@ fn pass_on(arena: &mut Arena<char>, from: usize, to: usize, before: char) -> Opt
     second.slot
 }
 
+// The items of chain 0 go over to chain 2, in the slots that they have.
+fn go_over(rt: &impl Abort, arena: &mut Arena<char>, a: Option<u16>, b: Option<u16>)
+    requires chains { length arena.old.chains ≡ 3 }
+    ensures { HasSizeOf arena.old arena.new }
+{
+    same(rt, &pass_on(arena, 0, 2, 'z'), &a);
+    holds(rt, arena, 0, &['b']);
+    holds(rt, arena, 2, &['y', 'a', 'z']);
+    same(rt, &pass_on(arena, 0, 2, '-'), &b);
+    holds(rt, arena, 0, &[]);
+    holds(rt, arena, 2, &['y', 'a', 'z', 'b']);
+}
+
+// Two go on to chain 1, in the slots that they have.
+fn go_on(rt: &impl Abort, arena: &mut Arena<char>, y: Option<u16>, a: Option<u16>)
+    requires chains { length arena.old.chains ≡ 3 }
+    ensures { HasSizeOf arena.old arena.new }
+{
+    same(rt, &pass_on(arena, 2, 1, '-'), &y);
+    same(rt, &pass_on(arena, 2, 1, 'y'), &a);
+    holds(rt, arena, 1, &['a', 'y']);
+    holds(rt, arena, 2, &['z', 'b']);
+}
+
+// Two items on chain 0 and two on chain 2 fill an arena of four slots, and two of them go over twice.
+fn go_over_twice(rt: &impl Abort, arena: &mut Arena<char>)
+    requires chains { length arena.old.chains ≡ 3 }
+{
+    let a = push(arena, 0, 'a');
+    let b = push(arena, 0, 'b');
+    let y = push(arena, 2, 'y');
+    let z = push(arena, 2, 'z');
+    go_over(rt, arena, a, b);
+    go_on(rt, arena, y, a);
+    same(rt, &arena.slot_at(2, 0), &z.map(usize::from));
+    same(rt, &arena.free(), &0);
+}
+
 #[test]
-fn an_item_goes_over_in_its_slot(rt: HostRuntime) -> Result<(), Fail> {
-    let mut arena = Arena::new(rt.alloc(), 3, 4)?;
-    let a = push(&mut arena, 0, 'a');
-    let b = push(&mut arena, 0, 'b');
-    let y = push(&mut arena, 2, 'y');
-    let z = push(&mut arena, 2, 'z');
-    same(&rt, &pass_on(&mut arena, 0, 2, 'z'), &a);
-    holds(&rt, &arena, 0, &['b']);
-    holds(&rt, &arena, 2, &['y', 'a', 'z']);
-    same(&rt, &pass_on(&mut arena, 0, 2, '-'), &b);
-    holds(&rt, &arena, 0, &[]);
-    holds(&rt, &arena, 2, &['y', 'a', 'z', 'b']);
-    same(&rt, &pass_on(&mut arena, 2, 1, '-'), &y);
-    same(&rt, &pass_on(&mut arena, 2, 1, 'y'), &a);
-    holds(&rt, &arena, 1, &['a', 'y']);
-    holds(&rt, &arena, 2, &['z', 'b']);
-    same(&rt, &arena.slot_at(2, 0), &z.map(usize::from));
-    same(&rt, &arena.free(), &0);
-    Ok(())
+fn an_item_goes_over_in_its_slot(rt: HostRuntime) {
+    let mut arena = Arena::new(rt.alloc(), 3, 4).expect(&rt, "memory");
+    go_over_twice(&rt, &mut arena);
 }
 
 // Fills the arena on one chain, moves all to the other, and takes all out.
@@ -83,13 +104,12 @@ fn go_round(rt: &impl Abort, arena: &mut Arena<char>)
 }
 
 #[test]
-fn an_arena_of_moved_items_gives_all_slots_back(rt: HostRuntime) -> Result<(), Fail> {
-    let mut arena = Arena::new(rt.alloc(), 2, 3)?;
+fn an_arena_of_moved_items_gives_all_slots_back(rt: HostRuntime) {
+    let mut arena = Arena::new(rt.alloc(), 2, 3).expect(&rt, "memory");
     go_round(&rt, &mut arena);
     go_round(&rt, &mut arena);
     same(&rt, &arena.free(), &3);
     for slot in 0..3 {
         same(&rt, &arena.place(slot), &Place::Free);
     }
-    Ok(())
 }
