@@ -1,2 +1,1 @@
-mod SortedLemmas
 mod OneRowLemmas

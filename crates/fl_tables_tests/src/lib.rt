@@ -1,4 +1,4 @@
-//! Tests of the tables: the arena, rows and spans, the lock table and the directory.
+//! Tests of spans and of the lock table.
 #![tactic(auto)]
 
 #[cfg(test)]

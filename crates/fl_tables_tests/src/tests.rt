@@ -1,20 +1,12 @@
-//! Tests of the tables, by what is public of them.
+//! Tests of spans and of the lock table, by what is public of them.
 
-mod arena;
 mod blocker;
 mod crowd;
-mod dir;
-mod directory;
 mod grid;
-mod lists;
-mod lives;
 mod locks;
 mod owners;
 mod ranges;
 mod rivals;
-mod rooms;
-mod rows;
-mod shift;
 mod spans;
 mod strokes;
 

@@ -1,13 +1,15 @@
-//! What the tests of several crates need: readers and writers over memory that fail where they are told to, and numbers
-//! that only look random, and stored texts.
+//! What the tests of several crates need: readers and writers over memory that fail where they are told to, numbers that
+//! only look random, stored texts, and one session as text.
 #![tactic(auto)]
 
 mod numbers;
 mod readers;
+mod sessions;
 mod stored;
 mod writers;
 
 pub use numbers::Numbers;
 pub use readers::{Newlines, Source, Stumble};
+pub use sessions::{init, init_reply, two_locks};
 pub use stored::{bytes_after, lines_after};
 pub use writers::{Full, Hiccup, Sink};

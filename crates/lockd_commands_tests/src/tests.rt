@@ -3,19 +3,13 @@
 mod boards;
 mod bytes;
 mod check;
-mod drive;
 mod failing;
-mod many;
 mod scripts;
-mod serve;
 
-use fl_testing::{bytes_after, lines_after};
+use fl_testing::lines_after;
 use lockd_commands::{Status, bytes_on, check_on, script_on};
 use std::alloc::Global;
-use std::path::PathBuf;
 use std::process::Abort;
-use std::test::Fail;
-use std::{env, process};
 
 // A command that reads one text and writes another.
 #[derive(Clone, Copy)]
@@ -126,11 +120,6 @@ fn marked(rt: &impl Abort, alloc: Global, before: &str, case: &str, mark: &str) 
     [before, &lines].concat(alloc).expect(rt, "memory")
 }
 
-// The bytes that lines of hex spell.
-fn spelled(rt: &impl Abort, alloc: Global, lines: &str) -> Vec<u8> {
-    bytes_after(alloc, lines, "").expect(rt, "hex")
-}
-
 // Each row has words and a bad line, with `|` between them. The line is the first or the third of a text, whose others are
 // good or come behind it. Says how many rows there are.
 fn refuse_lines(rt: &impl Abort, alloc: Global, command: Command, good: &str, rows: &str) -> usize {
@@ -159,10 +148,4 @@ fn refuse(
     let text = parts.concat(alloc).expect(rt, "memory");
     let came = run(command, alloc, text.as_bytes());
     is(rt, what, &came, "", told);
-}
-
-// A path of this process's own. Each test runs in a process of its own.
-fn own_path(rt: &HostRuntime) -> Result<PathBuf, Fail> {
-    let name = format!(in rt.alloc(); "lockd-test-{}", process::id(rt.process()))?;
-    Ok(env::temp_dir(rt)?.join(rt.alloc(), name.as_str())?)
 }

@@ -30,10 +30,17 @@ fn paint_within(
     };
     paint(rows, owner, start, end, mark);
     let is_over = count_runs(rows) > limit;
-    if is_over && let Some(row) = rows.get_mut(owner) {
-        *row = before;
+    if is_over {
+        put_back(rows, owner, &before);
     }
     is_over
+}
+
+// The bytes of an owner get the marks that they had before.
+fn put_back(rows: &mut [Row], owner: usize, before: &Row) {
+    if let Some(row) = rows.get_mut(owner) {
+        *row = *before;
+    }
 }
 
 // The range from one byte to another.

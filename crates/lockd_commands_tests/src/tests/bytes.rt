@@ -1,13 +1,14 @@
 //! Sessions in lines of hex.
 
-pub(super) mod linux;
+mod linux;
 mod locks;
-pub(super) mod sessions;
+mod sessions;
 
 use super::{Command, is, refuse_lines, run, run_cases};
+use fl_testing::{init, init_reply, two_locks};
 use linux::LINUX;
 use locks::{NAMED_LOCKS, WAITING};
-use sessions::{REFUSED, WHOLE, init, init_reply, two_locks};
+use sessions::{REFUSED, WHOLE};
 use std::alloc::Global;
 use std::process::Abort;
 

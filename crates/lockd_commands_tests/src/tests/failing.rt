@@ -1,7 +1,6 @@
 //! Inputs that can't be read to their end, and outputs that can't be written to theirs.
 
-use super::bytes::sessions::init;
-use fl_testing::{Full, Newlines};
+use fl_testing::{Full, Newlines, init};
 use lockd_commands::{Fault, Status, bytes_on, script_on};
 use std::alloc::Global;
 use std::process::Abort;
