@@ -2,13 +2,13 @@
 //
 //     lockd_mount SOCKET FOLDER [--allow-other] [--count]
 //
-// It connects to the server at SOCKET, mounts FOLDER, and prints `mounted at FOLDER` once programs can open files there.
-// As root it calls mount(2), else `fusermount3` does it. --allow-other lets other users in. --count prints at the end
-// how many messages of each opcode the kernel sent.
+// It waits up to 10 seconds until a server listens at SOCKET, mounts FOLDER, and prints `mounted at FOLDER` once programs
+// can open files there. As root it calls mount(2), else `fusermount3` does it. --allow-other lets other users in.
+// --count prints at the end how many messages of each opcode the kernel sent.
 //
-// It runs until the folder is unmounted (status 0), the server ends (1), or SIGINT (130) or SIGTERM (143) comes. Then it
-// unmounts the folder where it still is mounted, and prints why on standard error. Processes that wait at the folder
-// get ECONNABORTED. What stops it otherwise is told with status 2.
+// It runs until the folder is unmounted (status 0), the server ends (1), or SIGHUP (129), SIGINT (130) or SIGTERM (143)
+// comes. Then it unmounts the folder where it still is mounted, and prints why on standard error. Processes that wait at
+// the folder get ECONNABORTED. Where it can't mount the status is 2, and at a fault later it is 3.
 //
 // Two things are changed on the way, and nothing else; docs/MOUNT.md has what was measured without them:
 // - In the reply to INIT the flag FUSE_ATOMIC_O_TRUNC is set where the kernel offers it. Built with
@@ -43,7 +43,7 @@ enum { MOST = FUSE_MIN_READ_BUFFER };
 enum end { RUNNING, UNMOUNTED, SERVER_ENDED, BAD_REPLY, DEVICE_FAILED };
 
 // Ends of the program, beside 128 and the number of a signal.
-enum { STATUS_UNMOUNTED = 0, STATUS_SERVER = 1, STATUS_FAULT = 2 };
+enum { STATUS_UNMOUNTED = 0, STATUS_SERVER = 1, STATUS_NOT_MOUNTED = 2, STATUS_FAULT = 3 };
 
 static struct {
     int device;
@@ -68,7 +68,7 @@ static void fail(const char *what, ...)
     vfprintf(stderr, what, words);
     va_end(words);
     fprintf(stderr, number ? ": %s\n" : "\n", strerror(number));
-    exit(STATUS_FAULT);
+    exit(STATUS_NOT_MOUNTED);
 }
 
 // The first end counts. The main thread waits for this signal.
@@ -249,15 +249,16 @@ static int connected(const char *path)
 {
     struct sockaddr_un address = {.sun_family = AF_UNIX};
     int server = socket(AF_UNIX, SOCK_STREAM | SOCK_CLOEXEC, 0);
-    if (strlen(path) >= sizeof address.sun_path)
-        errno = ENAMETOOLONG;
-    else {
-        memcpy(address.sun_path, path, strlen(path) + 1);
-        if (server >= 0 && !connect(server, (struct sockaddr *)&address, sizeof address))
-            return server;
+    errno = ENAMETOOLONG;
+    if (server < 0 || strlen(path) >= sizeof address.sun_path)
+        fail("cannot connect to %s", path);
+    memcpy(address.sun_path, path, strlen(path) + 1);
+    for (int tries = 0; connect(server, (struct sockaddr *)&address, sizeof address); tries++) {
+        if (tries == 100 || (errno != ENOENT && errno != ECONNREFUSED))
+            fail("cannot connect to %s", path);
+        usleep(100000);
     }
-    fail("cannot connect to %s", path);
-    return -1;
+    return server;
 }
 
 static int mounted_by_root(mode_t rootmode)
@@ -370,7 +371,7 @@ static int told(int signal)
         fprintf(stderr, "lockd_mount: /dev/fuse can't be read%s%s\n", fault ? ": " : "", name);
         return STATUS_FAULT;
     default:
-        fprintf(stderr, "lockd_mount: %s came\n", signal == SIGINT ? "SIGINT" : "SIGTERM");
+        fprintf(stderr, "lockd_mount: SIG%s came\n", sigabbrev_np(signal));
         return 128 + signal;
     }
 }
@@ -384,7 +385,7 @@ static void print_counts(void)
     fputs("\n", stderr);
 }
 
-// Waits until SIGINT or SIGTERM comes, and gives it, or until a thread tells of an end, and gives 0.
+// Waits until a signal comes that ends the program, and gives it, or until a thread tells of an end, and gives 0.
 static int ended(const sigset_t *awaited)
 {
     int signal;
@@ -402,15 +403,14 @@ static int ended(const sigset_t *awaited)
 // background with SIGINT ignored, so that is undone.
 static sigset_t blocked_signals(void)
 {
+    const int signals[] = {SIGHUP, SIGINT, SIGTERM, SIGUSR1};
     sigset_t awaited;
     sigemptyset(&awaited);
-    sigaddset(&awaited, SIGINT);
-    sigaddset(&awaited, SIGTERM);
-    sigaddset(&awaited, SIGUSR1);
+    for (size_t i = 0; i < sizeof signals / sizeof *signals; i++) {
+        sigaddset(&awaited, signals[i]);
+        signal(signals[i], SIG_DFL);
+    }
     sigprocmask(SIG_BLOCK, &awaited, NULL);
-    signal(SIGINT, SIG_DFL);
-    signal(SIGTERM, SIG_DFL);
-    signal(SIGUSR1, SIG_DFL);
     return awaited;
 }
 
@@ -431,7 +431,7 @@ int main(int argc, char **argv)
     }
     if (count != 2) {
         fputs("use: lockd_mount SOCKET FOLDER [--allow-other] [--count]\n", stderr);
-        return STATUS_FAULT;
+        return STATUS_NOT_MOUNTED;
     }
     struct stat folder;
     it.folder = realpath(words[1], NULL);
@@ -445,18 +445,16 @@ int main(int argc, char **argv)
     it.is_root = !geteuid();
     it.server = connected(words[0]);
     it.device = it.is_root ? mounted_by_root(folder.st_mode) : mounted_by_fusermount();
-    struct statx ours;
-    if (!file_system(&ours))
-        fail("%s", it.folder);
+    struct statx ours = {0};
     pthread_t threads[2];
-    errno = pthread_create(&threads[0], NULL, carry_messages, NULL);
-    if (!errno)
-        errno = pthread_create(&threads[1], NULL, carry_replies, NULL);
-    if (errno) {
-        int number = errno;
+    bool is_known = file_system(&ours);
+    int fault = is_known ? pthread_create(&threads[0], NULL, carry_messages, NULL) : errno;
+    if (!fault)
+        fault = pthread_create(&threads[1], NULL, carry_replies, NULL);
+    if (fault) {
         unmounted(&ours);
-        errno = number;
-        fail("cannot start a thread");
+        errno = fault;
+        fail("cannot serve %s", it.folder);
     }
     printf("mounted at %s\n", it.folder);
     fflush(stdout);
