@@ -420,9 +420,10 @@ def try_a_burst_of_closing_files_takes_no_lock_away(mount):
             os.close(fd)
         here.close()
         there.close()
-        fds = [os.open(path, os.O_RDWR) for _ in range(20)]
-        for fd in fds:
-            fcntl.flock(fd, SHARED)
+        fds = []
+        for _ in range(20):
+            fds.append(os.open(path, os.O_RDWR))
+            fcntl.flock(fds[-1], SHARED)
         time.sleep(0.2)
         for fd in fds[1:]:
             fcntl.flock(fd, NOT_HELD)
