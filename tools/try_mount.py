@@ -22,6 +22,9 @@ class Mount:
         command = [f"{TOOLS}/lockd_mount", self.folder, *words]
         self.running = subprocess.Popen(command, stdout=self.said, stderr=subprocess.STDOUT, env={**os.environ, "TMPDIR": WORK})
         until(lambda: "mounted at" in self.output() or self.running.poll() is not None)
+        if self.running.poll() is not None and "Operation not permitted" in self.output():
+            print(f"try_mount: not tried: {self.output()}", file=sys.stderr, end="")
+            sys.exit(77)
         assert self.running.poll() is None, self.output()
 
     def output(self):
@@ -64,6 +67,14 @@ def outcome(function, *words):
         return function(*words)
     except OSError as error:
         return name_of(error)
+
+
+def asks_the_server(pid):
+    try:
+        with open(f"/proc/{pid}/stack", encoding="ascii") as it:
+            return "fuse" in it.read()
+    except OSError:
+        return True
 
 
 def record(fd, kind, start=0, length=0, waits=False):
@@ -127,7 +138,9 @@ class Child:
         return self.answer()
 
     def waits(self):
-        return not self.pipe.poll(0.15)
+        """Whether it has no answer, once it waits for one of the file system and a moment is over."""
+        until(lambda: asks_the_server(self.pid) or self.pipe.poll(0))
+        return not self.pipe.poll(0.1)
 
     def kill(self):
         os.kill(self.pid, signal.SIGKILL)

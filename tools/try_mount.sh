@@ -2,7 +2,7 @@
 # Mounts a lock directory under this machine's kernel, in a mount namespace of its own, and has shell scripts and Python
 # lock files there. Prints a line for each that goes wrong, with why; then what `lockd check` says of the traces, and
 # `N passed, M failed`. The status is 0 where none failed, and 77, with a line, where something is missing that it wants:
-# root, /dev/fuse, a C compiler, Python 3, `unshare` and `flock`. It takes less than two minutes, and is killed then.
+# root, /dev/fuse, a right to mount, a C compiler, Python 3, `unshare` and `flock`. It takes less than two minutes, and is killed then.
 #
 #     tools/try_mount.sh [NAME ..]      (only what has one of these words in its name)
 #
@@ -29,4 +29,4 @@ fi
 status=0
 timeout -s KILL 115 $apart python3 tools/try_mount.py "$@" || status=$?
 [ "$status" -ne 137 ] || echo 'try_mount: killed after 115 seconds'
-[ "$status" -eq 0 ]
+exit "$status"
