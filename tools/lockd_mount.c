@@ -25,6 +25,7 @@
 #include <stdarg.h>
 #include <stdatomic.h>
 #include <stdbool.h>
+#include <stddef.h>
 #include <stdint.h>
 #include <stdio.h>
 #include <stdlib.h>
@@ -55,8 +56,8 @@ static struct {
     atomic_int end;
     atomic_int fault;              // the error number that goes with the end, or 0
     atomic_uint_least64_t init;    // unique of the INIT that offers FUSE_ATOMIC_O_TRUNC, or 0
-    uint64_t refused;              // replies that the kernel didn't take
-    uint64_t seen[64];             // messages by opcode; those of all greater ones in the last
+    atomic_ullong refused;         // replies that the kernel didn't take
+    atomic_ullong seen[64];        // messages by opcode; those of all greater ones in the last
 } it;
 
 static void fail(const char *what, ...)
@@ -87,9 +88,10 @@ static void *finish(enum end end, int fault)
 static void remember_init(const struct fuse_in_header *head, const char *body)
 {
     struct fuse_init_in init;
-    if (head->len < sizeof *head + FUSE_COMPAT_INIT_OUT_SIZE)
+    size_t read = offsetof(struct fuse_init_in, flags) + sizeof init.flags;
+    if (head->len < sizeof *head + read)
         return;
-    memcpy(&init, body, 16);
+    memcpy(&init, body, read);
     if (init.major == FUSE_KERNEL_VERSION && (init.flags & FUSE_ATOMIC_O_TRUNC))
         atomic_store(&it.init, head->unique);
 }
@@ -380,8 +382,8 @@ static void print_counts(void)
 {
     fputs("messages of the kernel, opcode and how many:", stderr);
     for (size_t opcode = 0; opcode < 64; opcode++)
-        if (it.seen[opcode])
-            fprintf(stderr, " %zu:%llu", opcode, (unsigned long long)it.seen[opcode]);
+        if (atomic_load(&it.seen[opcode]))
+            fprintf(stderr, " %zu:%llu", opcode, (unsigned long long)atomic_load(&it.seen[opcode]));
     fputs("\n", stderr);
 }
 
@@ -400,7 +402,7 @@ static int ended(const sigset_t *awaited)
 }
 
 // The signals that end the program are blocked in every thread, and `ended` takes them. A shell starts what is in its
-// background with SIGINT ignored, so that is undone.
+// background with SIGINT ignored, so that is undone. Where nobody reads what it prints, it has to unmount all the same.
 static sigset_t blocked_signals(void)
 {
     const int signals[] = {SIGHUP, SIGINT, SIGTERM, SIGUSR1};
@@ -411,6 +413,7 @@ static sigset_t blocked_signals(void)
         signal(signals[i], SIG_DFL);
     }
     sigprocmask(SIG_BLOCK, &awaited, NULL);
+    signal(SIGPIPE, SIG_IGN);
     return awaited;
 }
 
@@ -465,7 +468,7 @@ int main(int argc, char **argv)
         status = STATUS_FAULT;
     }
     if (it.refused)
-        fprintf(stderr, "lockd_mount: the kernel refused %llu replies\n", (unsigned long long)it.refused);
+        fprintf(stderr, "lockd_mount: the kernel refused %llu replies\n", (unsigned long long)atomic_load(&it.refused));
     if (counts)
         print_counts();
     fflush(NULL);

@@ -559,6 +559,20 @@ def try_end_by_umount():
     assert not mount.is_mounted()
 
 
+def try_end_by_a_lazy_umount():
+    mount = Mount()
+    one, two = children(f"{mount.folder}/held", 2)
+    same(one.ask("flock", "a", ALONE), "ok")
+    two.begin("flock", "a", ALONE)
+    assert two.waits()
+    subprocess.run(["umount", "-l", mount.folder], timeout=PATIENCE, check=True)
+    assert two.waits() and not mount.is_mounted()
+    same([one.ask("close", "a"), two.answer()], ["ok", "ok"])
+    assert mount.running.poll() is None
+    same(two.ask("close", "a"), "ok")
+    same(mount.end(lambda: None), (0, "legal"))
+
+
 def try_end_by_signals():
     for which, status in (signal.SIGTERM, 143), (signal.SIGINT, 130), (signal.SIGHUP, 129):
         mount = Mount()
