@@ -1,0 +1,79 @@
+#!/bin/sh
+# Times F_SETLK, set and dropped, through a mount, with 1 and 8 processes that each have a file of their own:
+#   lockd   a folder that tools/lockd_mount has mounted, with 1 and 4 workers;
+#   null    a FUSE file system in C of one thread that answers 0 to each message: the floor of any FUSE server;
+#   memory  files in /dev/shm, with no server.
+# Each process makes as many calls as the argument says (20,000 without one), four times as many in memory, and a tenth
+# goes before them that doesn't count. Each run has a mount of its own. The runs take turns, three times, and the best of
+# each figure counts. Prints pairs a second and p50 of a call, then the ratios, and what is aimed at. Wants root,
+# /dev/fuse, a C compiler and Python 3.
+#
+#     bench/mount.sh [CALLS]
+set -eu
+. "$(dirname "$0")/../tools/built_lockd.sh"
+for source in null_fuse fcntl; do
+    cc -O2 -Wall -Wextra -o "$work/$source" "bench/peers/$source.c"
+done
+unshare --mount --propagation private --pid --fork --kill-child --mount-proc \
+    python3 - "$PWD/$program" "$work" "${1:-20000}" <<'END'
+import os, shutil, subprocess, sys, tempfile, time
+
+PROGRAM, WORK, CALLS = *sys.argv[1:3], int(sys.argv[3])
+ROUNDS, LONGEST = 3, 120
+PROCESSES = 1, 8
+LOCKD = ["lockd, 1 worker", "lockd, 4 workers"]
+FILES = ["memory", "null", *LOCKD]
+
+# The command that mounts a folder.
+def server(files, folder):
+    if files == "null":
+        return [f"{WORK}/null_fuse", folder]
+    return ["tools/lockd_mount", folder, "--workers", files.split()[1], "--trace", f"{WORK}/trace"]
+
+# The best total of pairs a second, and the median of the processes' p50 in nanoseconds.
+def timed(folder, processes, calls):
+    asked = [subprocess.Popen([f"{WORK}/fcntl", str(calls), f"{folder}/{at}"], stdout=subprocess.PIPE, text=True)
+             for at in range(processes)]
+    told = [[float(word) for word in it.communicate(timeout=LONGEST)[0].split()] for it in asked]
+    return sum(it[0] for it in told), sorted(it[1] for it in told)[processes // 2]
+
+def measured(files, processes):
+    folder = tempfile.mkdtemp(dir="/dev/shm" if files == "memory" else WORK)
+    try:
+        if files == "memory":
+            return timed(folder, processes, 4 * CALLS)
+        serving = subprocess.Popen(server(files, folder), stdout=subprocess.PIPE, stderr=subprocess.DEVNULL, text=True,
+                                   env={**os.environ, "LOCKD": PROGRAM})
+        assert serving.stdout.readline().startswith("mounted")
+        found = timed(folder, processes, CALLS)
+        subprocess.run(["umount", folder], check=True, timeout=LONGEST)
+        said = serving.communicate(timeout=LONGEST)[0].split()
+        assert serving.returncode == 0 and (files == "null" or said[-1] == "legal"), said
+        return found
+    finally:
+        shutil.rmtree(folder, ignore_errors=True)
+
+runs = {}
+for _ in range(ROUNDS):
+    for files in FILES:
+        for processes in PROCESSES:
+            runs.setdefault((files, processes), []).append(measured(files, processes))
+BEST = {run: (max(rate for rate, _ in found), min(p50 for _, p50 in found)) for run, found in runs.items()}
+
+def table(title, rows):
+    print(f"\n{title:<36}" + "".join(f"{count:>8} process{'es' if count > 1 else '  '}" for count in PROCESSES))
+    for name, cells in rows:
+        print(f"{name:<36}" + "".join(f"{cell:>18}" for cell in cells))
+
+def ratio(files, peer, processes):
+    return BEST[files, processes][0] / BEST[peer, processes][0]
+
+print(f"{CALLS} calls a process, best of {ROUNDS}, {os.cpu_count()} processors, Linux {os.uname().release}")
+table("pairs of lock and unlock a second", [(it, [f"{BEST[it, count][0]:.0f}" for count in PROCESSES]) for it in FILES])
+table("p50 of a call, us", [(it, [f"{BEST[it, count][1] / 1000:.1f}" for count in PROCESSES]) for it in FILES])
+table("ratio of pairs a second", [(f"{it} / {peer}", [f"{ratio(it, peer, count):.3f}" for count in PROCESSES])
+                                  for peer in ("null", "memory") for it in FILES if it != peer and not (it == "memory")])
+print()
+for files in LOCKD:
+    print(f"aim, pairs to null, at least 0.7: " + ", ".join(f"{ratio(files, 'null', it):.2f} ({it})" for it in PROCESSES) + f", {files}")
+END

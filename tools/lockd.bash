@@ -1,0 +1,35 @@
+# Completion of `lockd` and of `tools/lockd_mount` for bash: `. tools/lockd.bash`, or put it into
+# /etc/bash_completion.d. tools/check_man compares its words with what `lockd --help` says.
+_lockd() {
+    local word=${COMP_WORDS[COMP_CWORD]} before=${COMP_WORDS[COMP_CWORD - 1]} command=${COMP_WORDS[1]}
+    local words=
+    if [ "$COMP_CWORD" -eq 1 ]; then
+        words='script check bytes serve drive help --help --version'
+    elif [ "$before" = --workers ]; then
+        words=$(seq 16)
+    else
+        case $command in
+            help) words='script check bytes serve drive' ;;
+            serve) words='--workers --help' ;;
+            script | check | bytes | drive) words='--help' ;;
+        esac
+    fi
+    mapfile -t COMPREPLY < <(compgen -W "$words" -- "$word")
+    # Where no word fits, bash goes on with names of files, such as the socket's.
+}
+complete -o default -F _lockd lockd
+
+_lockd_mount() {
+    local word=${COMP_WORDS[COMP_CWORD]} before=${COMP_WORDS[COMP_CWORD - 1]}
+    case $before in
+        --workers) mapfile -t COMPREPLY < <(compgen -W "$(seq 16)" -- "$word") ;;
+        --trace) mapfile -t COMPREPLY < <(compgen -f -- "$word") ;;
+        *)
+            case $word in
+                -*) mapfile -t COMPREPLY < <(compgen -W '--workers --allow-other --count --trace' -- "$word") ;;
+                *) mapfile -t COMPREPLY < <(compgen -d -- "$word") ;;
+            esac
+            ;;
+    esac
+}
+complete -F _lockd_mount lockd_mount

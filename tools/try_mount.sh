@@ -1,0 +1,32 @@
+#!/bin/sh
+# Mounts a lock directory under this machine's kernel, in a mount namespace of its own, and has shell scripts and Python
+# lock files there. Prints a line for each that goes wrong, with why; then what `lockd check` says of the traces, and
+# `N passed, M failed`. The status is 0 where none failed, and 77, with a line, where something is missing that it wants:
+# root, /dev/fuse, a right to mount, a C compiler, Python 3, `unshare` and `flock`. It takes less than two minutes, and is killed then.
+#
+#     tools/try_mount.sh [NAME ..]      (only what has one of these words in its name)
+#
+# LOCKD names another program to take as `lockd`. Else it is built where it isn't.
+set -eu
+cd "$(dirname "$0")/.."
+skip() {
+    echo "try_mount: not tried: $1" >&2
+    exit 77
+}
+[ "$(id -u)" -eq 0 ] || skip 'it wants root'
+[ -c /dev/fuse ] || skip 'there is no /dev/fuse'
+for it in cc python3 unshare flock timeout; do
+    command -v "$it" > /dev/null || skip "there is no $it"
+done
+apart='unshare --mount --propagation private --pid --fork --kill-child --mount-proc'
+$apart true 2> /dev/null || skip 'there can be no mount namespace here'
+LOCKD=${LOCKD:-$PWD/crates/lockd/out/lockd}
+export LOCKD
+if [ ! -x "$LOCKD" ]; then
+    (cd crates/lockd && rt run < stdin > /dev/null)
+fi
+# All processes are in a namespace of their own, so that none is left. The one that runs out of time is killed.
+status=0
+timeout -s KILL 115 $apart python3 tools/try_mount.py "$@" || status=$?
+[ "$status" -ne 137 ] || echo 'try_mount: killed after 115 seconds'
+exit "$status"
