@@ -1,4 +1,4 @@
-use Rattle.std.proofs.Common.{◌≡◌, ◌∙◌, ◌<◌, false, Option, Some, None, is_some, option_map, slice_get, get_or, List, length, map, remove, refl, ap, sym, subst, arith}
+use Rattle.std.proofs.Common.{◌≡◌, ◌∙◌, false, Option, Some, None, is_some, option_map, slice_get, map, remove, refl, ap, sym, subst}
 use Rattle.std.proofs.lemmas.List.Folds.{find_at}
 use Rattle.std.specs.List.{find, position_or_len}
 use Rattle.fl_arena.specs.Chains.{items}
