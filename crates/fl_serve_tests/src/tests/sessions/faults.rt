@@ -6,6 +6,9 @@ use super::{is_traced, spelled};
 use fl_serve::{Done, Fault, run_one, run_session};
 use fl_testing::{Sink, Source};
 use std::alloc::Global;
+use std::io::{Read, Write};
+use std::net::Shutdown;
+use std::os::unix::net::UnixStream;
 use std::process::Abort;
 
 // Its messages.
@@ -37,6 +40,33 @@ fn a_byte_at_a_time(rt: HostRuntime) {
     let done = run_one(rt.alloc(), &mut input, &mut output);
     is_sent(&rt, &output.held, &replies(&rt, rt.alloc()), 272);
     is_whole(&rt, rt.alloc(), &done, None);
+}
+
+// Sends these bytes, and no more.
+fn send(rt: &impl Abort, stream: &UnixStream, bytes: &[u8]) {
+    let mut writer = stream;
+    writer.write_all(bytes).expect(rt, "a write");
+    stream.shutdown(Shutdown::Write).expect(rt, "a socket");
+}
+
+// All bytes that come up to the stream's end.
+fn received(rt: &impl Abort, alloc: Global, stream: &UnixStream) -> Vec<u8> {
+    let mut bytes = Vec::new(alloc);
+    let mut reader = stream;
+    reader.read_to_end(&mut bytes).expect(rt, "a read");
+    bytes
+}
+
+// What is sent and what comes back fits into the socket's room.
+#[test]
+fn over_a_socket(rt: HostRuntime) {
+    let (near, far) = UnixStream::pair(&rt).expect(&rt, "a socket");
+    send(&rt, &near, &stream(&rt, rt.alloc()));
+    let done = run_one(rt.alloc(), &mut &far, &mut &far);
+    is_whole(&rt, rt.alloc(), &done, None);
+    drop(far);
+    let sent = received(&rt, rt.alloc(), &near);
+    is_sent(&rt, &sent, &replies(&rt, rt.alloc()), 272);
 }
 
 // Where the last whole message of so many bytes ends, and its reply.
