@@ -3,11 +3,11 @@
 ghost use Rattle.std.specs.Prelude.{◌≡◌, ℕ, ◌+◌, ◌<◌, ◌≤◌, ◌++◌, List, All, IfOk, IfErr, IfSome, IsSome, IsErr, OnOk};
 ghost use Rattle.std.specs.Prelude.{OnErr, ◌↔◌, length, map, sum_by};
 ghost use Rattle.std.specs.List.{range_with_len};
-ghost use Rattle.fl_book.specs.Legal.{IsLegal, step_lines, orders_asked};
+ghost use Rattle.fl_desk.specs.Legal.{IsLegal, step_lines, orders_asked};
 ghost use Rattle.fl_history.specs.declared.history.Line.{Line};
 
-use crate::desk::Desk;
 use fl_core::Tolds;
+use fl_desk::Desk;
 use fl_history::History;
 use fl_order::{NoMemory, Order};
 use std::alloc::{AllocError, Global};

@@ -1,14 +1,10 @@
-//! The book of the lock directory: a desk that takes orders one after another, a board at which workers hand them
-//! in, and the judge of a history.
+//! The book of the lock directory: a board at which workers hand orders in. It offers the desk, the judge and the text of a
+//! history too.
 #![tactic(auto)]
 
 mod board;
-mod desk;
-mod judge;
-pub mod laws;
 
 pub use board::{Board, BoardName, CloseFault, HandFault, OpenFault, Seat};
-pub use desk::{Desk, MOST_LINES};
+pub use fl_desk::{Desk, MOST_LINES, Verdict, check, laws};
 pub use fl_history::{History, Line};
 pub use fl_trace::{TraceFault, first_line, has_text, print_trace, read_trace};
-pub use judge::{Verdict, check};

@@ -2,7 +2,7 @@
 use Rattle.std.proofs.Common.{◌≡◌, ℕ, Bool, false, List, [], Option, Some, refl, sym, ap, subst, ◌∙◌, arith}
 use Rattle.std.proofs.lemmas.List.Elements.{All-nil}
 use Rattle.std.proofs.KnownBytes.{Appends-nil}
-use Rattle.fl_book.specs.Legal.{IsLegal, nothing}
+use Rattle.fl_desk.specs.Legal.{IsLegal, nothing}
 use Rattle.fl_history.specs.declared.history.Line.{Line}
 use Rattle.fl_wire.specs.Spell.{IsReply}
 use Rattle.fl_session.specs.Served.{IsRead, IsServed, EndsBy}

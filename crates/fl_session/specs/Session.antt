@@ -1,8 +1,8 @@
 -- A session: its messages, what is answered to them, and the lines that they give (Linux `fuse.h`, protocol 7.31).
 use Rattle.std.specs.Prelude.{ℕ, Bool, true, false, List, [], ◌∷◌, ◌++◌, map, fold, Option, None, Some, Result, Ok, Err}
 use Rattle.std.specs.Prelude.{if◌then◌else◌}
-use Rattle.fl_book.specs.Legal.{step_lines}
-use Rattle.fl_book.specs.Replay.{state_after}
+use Rattle.fl_desk.specs.Legal.{step_lines}
+use Rattle.fl_desk.specs.Replay.{state_after}
 use Rattle.fl_core.specs.Step.{replies_in}
 use Rattle.fl_history.specs.declared.history.Line.{Line}
 use Rattle.fl_order.specs.OpKind.{is_silent, kind_of_opcode}

@@ -10,8 +10,9 @@ ghost use Rattle.fl_wire.specs.Layout.{opcode_of, unique_of};
 ghost use Rattle.fl_wire.specs.Says.{said};
 
 use crate::mail::Mail;
-use fl_book::{Desk, History};
 use fl_core::Tolds;
+use fl_desk::Desk;
+use fl_history::History;
 use fl_order::{Answer, Errno, NoMemory, OpKind, Order, Refusal, Told};
 use fl_wire::{Frame, InitStep, read_init, read_order};
 use std::alloc::Global;

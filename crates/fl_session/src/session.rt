@@ -2,7 +2,7 @@
 
 ghost use Rattle.std.specs.Prelude.{◌≡◌, ℕ, Bool, false, List, [], Option, None, Some, IfOk, IsSome, if◌then◌else◌};
 ghost use Rattle.std.specs.Io.KnownBytes.{Keeps};
-ghost use Rattle.fl_book.specs.Legal.{IsLegal};
+ghost use Rattle.fl_desk.specs.Legal.{IsLegal};
 ghost use Rattle.fl_session.specs.Served.{EndsBy, IsRead, IsServed};
 ghost use Rattle.fl_session.specs.Session.{Came, session_of};
 ghost use Rattle.fl_session.specs.Inbox.{IsEnding, IsUnread};
@@ -14,7 +14,7 @@ use crate::inbox::Inbox;
 use crate::mail::{Mail, ReplyBuffer};
 use crate::outbox::Outbox;
 use crate::server::Server;
-use fl_book::History;
+use fl_history::History;
 use fl_order::NoMemory;
 use std::alloc::Global;
 use std::io::{Read, Write};

@@ -3,7 +3,7 @@ use Rattle.std.proofs.Common.{◌≡◌, ℕ, ◌+◌, ◌<◌, List, [], ◌∷
 use Rattle.std.proofs.lemmas.Grind.{flat_map-append}
 use Rattle.std.proofs.lemmas.List.{take_more, map-append, length-map}
 use Rattle.std.proofs.lemmas.List.Elements.{All-cons, All-append, filter-append}
-use Rattle.fl_book.specs.Legal.{is_asked}
+use Rattle.fl_desk.specs.Legal.{is_asked}
 use Rattle.fl_history.specs.declared.history.Line.{Line}
 use Rattle.fl_history.specs.declared.history.Line.TheVariants.{Told}
 use Rattle.fl_order.specs.declared.told.Told.{Told as Reply}

@@ -3,10 +3,10 @@ use Rattle.std.specs.Prelude.{◌≡◌, ℕ, List, [], ◌∷◌, ◌++◌, cod
 use Rattle.std.specs.Fmt.{decimal}
 use Rattle.std.specs.Io.KnownBytes.{Appends}
 use Rattle.fl_trace.specs.Text.{text_of, Fits}
-use Rattle.fl_book.specs.Verdicts.{IsVerdict}
+use Rattle.fl_desk.specs.Verdicts.{IsVerdict}
 use Rattle.fl_history.specs.declared.history.Line.{Line}
-use Rattle.fl_book.specs.declared.judge.Verdict.{Verdict}
-use Rattle.fl_book.specs.declared.judge.Verdict.TheVariants.{Legal, Differs}
+use Rattle.fl_desk.specs.declared.judge.Verdict.{Verdict}
+use Rattle.fl_desk.specs.declared.judge.Verdict.TheVariants.{Legal, Differs}
 use Rattle.fl_trace.specs.declared.read.TraceFault.{TraceFault}
 use Rattle.fl_trace.specs.declared.read.TraceFault.TheVariants as trace
 use Rattle.lockd_commands.specs.declared.fault.Fault.{Fault}

@@ -1,7 +1,7 @@
 -- Scripts: ask lines, taken at a desk in their order.
 use Rattle.std.specs.Prelude.{◌≡◌, ℕ, true, List, filter, Option, IfSome}
 use Rattle.std.specs.Io.KnownBytes.{Appends}
-use Rattle.fl_book.specs.Legal.{IsLegal, is_asked}
+use Rattle.fl_desk.specs.Legal.{IsLegal, is_asked}
 use Rattle.fl_trace.specs.Text.{text_of, LineFits, Fits, BreaksAt}
 use Rattle.fl_history.specs.declared.history.Line.{Line}
 use Rattle.fl_history.specs.declared.history.Line.TheVariants.{Asked}

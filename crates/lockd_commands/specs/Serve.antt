@@ -2,7 +2,7 @@
 pub mod Inside
 use Rattle.std.specs.Prelude.{◌≡◌, ℕ, List, Option, ⊤}
 use Rattle.std.specs.Io.KnownBytes.{Appends}
-use Rattle.fl_book.specs.Legal.{IsLegal}
+use Rattle.fl_desk.specs.Legal.{IsLegal}
 use Rattle.fl_trace.specs.Text.{text_of}
 use Rattle.fl_history.specs.declared.history.Line.{Line}
 use Rattle.lockd_commands.specs.declared.fault.Fault.{Fault}

@@ -3,8 +3,8 @@
 ghost use Rattle.std.specs.Prelude.{◌≡◌, ◌≢◌, ◌⊎◌, ℕ, string_bytes, IfSome, IfOk, OnOk, IfErr};
 ghost use Rattle.std.specs.Io.KnownBytes.{Keeps};
 ghost use Rattle.fl_trace.specs.Text.{text_of, BreaksAt, LineFits, Fits};
-ghost use Rattle.fl_book.specs.Verdicts.{IsVerdict};
-ghost use Rattle.fl_book.specs.declared.judge.Verdict.TheVariants as said;
+ghost use Rattle.fl_desk.specs.Verdicts.{IsVerdict};
+ghost use Rattle.fl_desk.specs.declared.judge.Verdict.TheVariants as said;
 ghost use Rattle.lockd_commands.specs.Check.{verdict_text, IsJudged};
 ghost use Rattle.lockd_commands.specs.Faults.{IsOfText, IsTold};
 ghost use Rattle.lockd_commands.specs.declared.fault.Fault.{Fault};

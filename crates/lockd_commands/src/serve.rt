@@ -3,7 +3,7 @@
 ghost use Rattle.std.specs.Prelude.{◌≡◌, ◌≢◌, ◌⊎◌, ◌≤◌, ◌<◌, [], Err, IfErr};
 ghost use Rattle.std.specs.Io.KnownBytes.{Keeps};
 ghost use Rattle.std.specs.Path.{path_bytes};
-ghost use Rattle.fl_book.specs.Legal.{IsLegal};
+ghost use Rattle.fl_desk.specs.Legal.{IsLegal};
 ghost use Rattle.lockd_commands.specs.Serve.{IsTraced, IsOfSession};
 ghost use Rattle.lockd_commands.specs.Serve.Inside.{Did, TellsOf};
 ghost use Rattle.lockd_commands.specs.Faults.{IsOfServe, IsTold};

@@ -1,5 +1,5 @@
-use Rattle.fl_book.proofs.Histories.{taken_kept}
-use Rattle.fl_book.proofs.desk.Desk.take.Goals as goal
+use Rattle.fl_desk.proofs.Histories.{taken_kept}
+use Rattle.fl_desk.proofs.desk.Desk.take.Goals as goal
 
 pub invariant_of-self-2 : goal.invariant_of-self-2
 invariant_of-self-2 c =

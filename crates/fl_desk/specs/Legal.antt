@@ -1,6 +1,6 @@
 -- Which histories are those of one thread: each order is answered as the sequential lock directory answers then.
 use Rattle.std.specs.Prelude.{◌≡◌, ℕ, Bool, true, false, List, [], ◌∷◌, ◌++◌, map, count_by}
-use Rattle.fl_book.specs.Replay.{state_after}
+use Rattle.fl_desk.specs.Replay.{state_after}
 use Rattle.fl_core.specs.Step.{replies_in}
 use Rattle.fl_history.specs.declared.history.Line.{Line}
 use Rattle.fl_history.specs.declared.history.Line.TheVariants as line

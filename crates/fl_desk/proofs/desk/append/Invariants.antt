@@ -1,6 +1,6 @@
 use Rattle.std.proofs.Common.{◌≡◌, ◌≤◌, ◌+◌, ◌++◌, length, take}
-use Rattle.fl_book.specs.Legal.{step_lines}
-use Rattle.fl_book.proofs.desk.append.Given as goal
+use Rattle.fl_desk.specs.Legal.{step_lines}
+use Rattle.fl_desk.proofs.desk.append.Given as goal
 
 -- the order and the replies so far are there, and there is room for the rest
 abbrev pub invariant-loop-told : goal.invariant-loop-told

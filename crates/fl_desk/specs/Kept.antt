@@ -3,8 +3,8 @@ use Rattle.std.specs.Prelude.{◌≡◌, ℕ, List, []}
 use Rattle.fl_history.specs.declared.history.Line.{Line}
 use Rattle.fl_ranges.specs.Conflict.{IsLawful}
 use Rattle.fl_core.specs.State.{Snapshot, opening, snapshot_of}
-use Rattle.fl_book.specs.Replay.{state_after}
-use Rattle.fl_book.specs.Legal.{IsLegal}
+use Rattle.fl_desk.specs.Replay.{state_after}
+use Rattle.fl_desk.specs.Legal.{IsLegal}
 
 -- the history so far, what is there now, and for how many more lines memory is there
 pub record Book : Type 0 where

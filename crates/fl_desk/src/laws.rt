@@ -1,8 +1,8 @@
 //! Laws of the definitions, in the words of their subject. Each is the contract of an empty function.
 
 ghost use Rattle.std.specs.Prelude.{◌≡◌, ℕ, Some, None, List, ◌∷◌, ◌++◌};
-ghost use Rattle.fl_book.specs.Legal.{step_lines};
-ghost use Rattle.fl_book.specs.Replay.{state_after, all_later, AllOthers};
+ghost use Rattle.fl_desk.specs.Legal.{step_lines};
+ghost use Rattle.fl_desk.specs.Replay.{state_after, all_later, AllOthers};
 ghost use Rattle.fl_core.specs.Effects.{at_once, recorded};
 ghost use Rattle.fl_history.specs.declared.history.Line.{Line};
 ghost use Rattle.fl_order.specs.declared.told.Told.{Told};

@@ -1,8 +1,8 @@
 use Rattle.std.proofs.Common.{◌∙◌, length, drop, sym, refl, arith}
 use Rattle.std.proofs.lemmas.List.{length-drop}
 use Rattle.std.proofs.lemmas.Option.{slice_get_past}
-use Rattle.fl_book.proofs.Verdicts.{told_stands, told_differs, get_dropped}
-use Rattle.fl_book.proofs.judge.told_alike.Goals as goal
+use Rattle.fl_desk.proofs.Verdicts.{told_stands, told_differs, get_dropped}
+use Rattle.fl_desk.proofs.judge.told_alike.Goals as goal
 
 pub loop-i-preserved : goal.loop-i-preserved
 loop-i-preserved c =

@@ -5,7 +5,7 @@ use Rattle.fl_history.specs.declared.history.Line.{Line}
 use Rattle.fl_history.specs.contracts.history.Line.{the_row}
 use Rattle.fl_core.specs.State.{Snapshot}
 use Rattle.fl_core.specs.Codes.{snapshot_code}
-use Rattle.fl_book.specs.Kept.{Book}
+use Rattle.fl_desk.specs.Kept.{Book}
 
 -- a book, as its three parts
 abbrev pub book_code : Coded Book

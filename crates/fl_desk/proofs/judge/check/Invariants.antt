@@ -1,6 +1,6 @@
 use Rattle.std.proofs.Common.{◌≤◌, ◌-◌, length, take}
-use Rattle.fl_book.specs.Kept.{IsKept}
-use Rattle.fl_book.proofs.judge.check.Given as goal
+use Rattle.fl_desk.specs.Kept.{IsKept}
+use Rattle.fl_desk.proofs.judge.check.Given as goal
 
 abbrev pub invariant-loop-at : goal.invariant-loop-at
 invariant-loop-at l = record {

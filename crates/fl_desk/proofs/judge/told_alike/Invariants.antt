@@ -1,6 +1,6 @@
 use Rattle.std.proofs.Common.{◌≡◌, ◌≤◌, length, map, take, drop}
 use Rattle.fl_history.specs.declared.history.Line.TheVariants as line
-use Rattle.fl_book.proofs.judge.told_alike.Given as goal
+use Rattle.fl_desk.proofs.judge.told_alike.Given as goal
 
 abbrev pub invariant-loop-i : goal.invariant-loop-i
 invariant-loop-i l = record {

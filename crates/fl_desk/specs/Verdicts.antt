@@ -1,8 +1,8 @@
 -- What a judge says of a history.
 use Rattle.std.specs.Prelude.{ℕ, ◌+◌, ◌-◌, ◌≤◌, List, ◌++◌, length, take}
-use Rattle.fl_book.specs.Legal.{IsLegal}
-use Rattle.fl_book.specs.declared.judge.Verdict.{Verdict}
-use Rattle.fl_book.specs.declared.judge.Verdict.TheVariants.{Legal, Differs}
+use Rattle.fl_desk.specs.Legal.{IsLegal}
+use Rattle.fl_desk.specs.declared.judge.Verdict.{Verdict}
+use Rattle.fl_desk.specs.declared.judge.Verdict.TheVariants.{Legal, Differs}
 use Rattle.fl_history.specs.declared.history.Line.{Line}
 
 -- some legal history begins with these lines

@@ -1,10 +1,10 @@
 //! The desk: takes orders one after another, and keeps their history.
 
 ghost use Rattle.std.specs.Prelude.{◌≡◌, ◌≤◌, ◌+◌, ◌++◌, length, IfOk, IsOk, OnOk, OnErr};
-ghost use Rattle.fl_book.specs.Replay.{state_after};
+ghost use Rattle.fl_desk.specs.Replay.{state_after};
 ghost use Rattle.fl_core.specs.Step.{replies_in};
-ghost use Rattle.fl_book.specs.Legal.{IsLegal, step_lines};
-ghost use Rattle.fl_book.specs.Kept.{IsKept, opening_book};
+ghost use Rattle.fl_desk.specs.Legal.{IsLegal, step_lines};
+ghost use Rattle.fl_desk.specs.Kept.{IsKept, opening_book};
 
 use fl_core::{Core, MOST_TOLDS, Tolds};
 use fl_history::{History, Lines};
@@ -24,8 +24,8 @@ pub struct Desk {
 }
 
 impl Model for Desk {
-    ghost use Rattle.fl_book.specs.Kept.{Book, IsKept};
-    ghost use Rattle.fl_book.specs.BookCode.{book_code};
+    ghost use Rattle.fl_desk.specs.Kept.{Book, IsKept};
+    ghost use Rattle.fl_desk.specs.BookCode.{book_code};
 
     ghost Value = { Book };
 

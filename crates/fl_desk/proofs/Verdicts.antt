@@ -5,9 +5,9 @@ use Rattle.std.proofs.lemmas.Option.{none-some, slice_get_within}
 use Rattle.std.proofs.Math.Seq.{take-append-add}
 use Rattle.std.proofs.lemmas.List.{append_cancel_left, length-append, map-append, take_all, take-append-drop, length-drop, length-take-le}
 use Rattle.std.proofs.Math.Numerals.{add-one}
-use Rattle.fl_book.specs.Legal.{IsLegal, nothing, step, step_lines}
-use Rattle.fl_book.specs.Replay.{state_after}
-use Rattle.fl_book.specs.Verdicts.{IsBeginning, DiffersAt}
+use Rattle.fl_desk.specs.Legal.{IsLegal, nothing, step, step_lines}
+use Rattle.fl_desk.specs.Replay.{state_after}
+use Rattle.fl_desk.specs.Verdicts.{IsBeginning, DiffersAt}
 use Rattle.fl_core.specs.Step.{replies_in}
 use Rattle.fl_history.specs.declared.history.Line.{Line}
 use Rattle.fl_history.specs.declared.history.Line.TheVariants as line

@@ -1,8 +1,8 @@
 use Rattle.std.proofs.Common.{sym, ap, ◌∙◌, subst}
 use Rattle.fl_core.specs.State.{snapshot_of}
-use Rattle.fl_book.specs.Replay.{state_after}
-use Rattle.fl_book.specs.Legal.{IsLegal, nothing}
-use Rattle.fl_book.proofs.desk.Desk.new.Goals as goal
+use Rattle.fl_desk.specs.Replay.{state_after}
+use Rattle.fl_desk.specs.Legal.{IsLegal, nothing}
+use Rattle.fl_desk.proofs.desk.Desk.new.Goals as goal
 
 pub invariant_of-result : goal.invariant_of-result
 invariant_of-result c = record {

@@ -4,9 +4,9 @@ use Rattle.std.proofs.lemmas.Bool.Decides.{nat_tests}
 use Rattle.std.proofs.lemmas.List.Sums.{fold-append}
 use Rattle.std.specs.List.{fold}
 use Rattle.std.proofs.lemmas.Bool.{eq-eqb, ne_eqb}
-use Rattle.fl_book.specs.Replay.{unread, read_line, state_at_end, state_after, all_later, AllOthers}
-use Rattle.fl_book.specs.Legal.{step, step_lines}
-use Rattle.fl_book.specs.Kept.{IsKept}
+use Rattle.fl_desk.specs.Replay.{unread, read_line, state_at_end, state_after, all_later, AllOthers}
+use Rattle.fl_desk.specs.Legal.{step, step_lines}
+use Rattle.fl_desk.specs.Kept.{IsKept}
 use Rattle.fl_core.specs.State.{View, State, Snapshot, snapshot_of}
 use Rattle.fl_core.specs.Effects.{Effect, at_once, later, followed_by, told_first, replied, recorded}
 use Rattle.fl_core.specs.Step.{replies}

@@ -3,11 +3,11 @@ use Rattle.std.proofs.lemmas.List.{length-drop}
 use Rattle.std.proofs.lemmas.Option.{get_or_from_slice_get}
 use Rattle.fl_core.specs.State.{Snapshot}
 use Rattle.fl_core.specs.Step.{replies, replies_in}
-use Rattle.fl_book.specs.Legal.{nothing}
-use Rattle.fl_book.specs.Replay.{state_after}
-use Rattle.fl_book.proofs.Histories.{taken_kept}
-use Rattle.fl_book.proofs.Verdicts.{due_order, due_reply, whole_step}
-use Rattle.fl_book.proofs.judge.check.Goals as goal
+use Rattle.fl_desk.specs.Legal.{nothing}
+use Rattle.fl_desk.specs.Replay.{state_after}
+use Rattle.fl_desk.proofs.Histories.{taken_kept}
+use Rattle.fl_desk.proofs.Verdicts.{due_order, due_reply, whole_step}
+use Rattle.fl_desk.proofs.judge.check.Goals as goal
 
 pub loop-at-init : goal.loop-at-init
 loop-at-init c = record { within = omega arith; kept = record { legal = nothing; stands = c.in_ok-core.ensures.opening; lawful = c.in_ok-core.ensures.lawful } }

@@ -1,0 +1,5 @@
+pub mod Replay
+pub mod Legal
+pub mod Kept
+pub mod BookCode
+pub mod Verdicts
