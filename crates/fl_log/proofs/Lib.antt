@@ -1,0 +1,2 @@
+mod Prefixes
+mod Adding
