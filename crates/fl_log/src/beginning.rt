@@ -1,6 +1,6 @@
 //! Beginnings of a log.
 
-ghost use Rattle.std.specs.Prelude.{◌≡◌, ◌+◌, ◌<◌, ◌≤◌, ◌↔◌, ◌++◌, ◌∷◌, [], true, length, MatchBool};
+ghost use Rattle.std.specs.Prelude.{◌≡◌, ◌+◌, ◌<◌, ◌≤◌, ◌↔◌, ◌++◌, ◌∷◌, [], true, length, nat_eq, MatchBool};
 ghost use mathlib.Core.List.{IsPrefix};
 ghost use Rattle.fl_log.specs.Counting.{IsLonger};
 
@@ -75,7 +75,7 @@ impl<L: LogName> Beginning<L> {
     /// Whether another beginning of the log is as long, and so the same.
     pub fn is(&self, other: &Beginning<L>) -> bool
         ensures same { (result ≡ true) ↔ (self.now ≡ other.now) }
-        ensures length { (result ≡ true) ↔ (length self.now ≡ length other.now) }
+        ensures length { result ≡ nat_eq (length self.now) (length other.now) }
     {
         let mut both = self.seen.again();
         both.learn(&other.seen);

@@ -6,7 +6,7 @@ ghost use Rattle.fl_log.specs.Counting.{counter_of};
 use crate::ask::Ask;
 use crate::beginning::Beginning;
 use logbook::{Gain, Plain, Play, Rule, Seen, Start, Word};
-use std::marker::{Brand, PhantomData};
+use std::marker::{Brand, Model, PhantomData};
 
 /// Which log it is, for contracts. A call picks it where it names a log that was made.
 pub trait LogName {
@@ -66,12 +66,22 @@ impl Plain<Ask, Ask, u64> for Adding {
     ghost state = { λ ask. None };
 }
 
-/// A log with no asks, which has no name yet.
+/// A log with no asks, which has no name yet. Contracts see which log it is.
 pub struct FreshLog {
     length: Word<Ask, u64, Counting>,
     seen: Seen<Ask, u64, Counting>,
-    pub ghost empty: { seen.log ≡ [] },
-    pub ghost counted: { length ≡ counter_of seen.book },
+}
+
+impl Model for FreshLog {
+    ghost use Rattle.std.specs.Prelude.{◌≡◌, []};
+    ghost use Rattle.logbook.specs.Pages.{Book};
+    ghost use Rattle.fl_log.specs.Counting.{counter_of};
+
+    ghost Value = { Book };
+
+    ghost view = { λ f. f.seen.book };
+
+    ghost invariant = { λ f. (f.seen.log ≡ []) × (f.length ≡ counter_of f.seen.book) };
 }
 
 impl FreshLog {
@@ -86,7 +96,7 @@ impl FreshLog {
 
     /// The log under a name, and its beginning that has no asks.
     pub fn named<L: LogName>(self) -> (Log<L>, Beginning<L>)
-        requires { self.seen.book ≡ L.log }
+        requires { self ≡ L.log }
         ensures { result.1 ≡ [] }
     {
         let FreshLog { length, seen } = self;
