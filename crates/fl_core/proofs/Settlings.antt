@@ -1,9 +1,9 @@
 -- Settling as a function, and in words.
 use Rattle.std.proofs.Common.{◌≡◌, ◌↔◌, ℕ, zero, suc, Bool, true, false, cond, not, Option, Some, None, List, [], ◌∷◌, ◌++◌, append_assoc, append-nil, length, refl, sym, ap, ◌∙◌, subst, arith}
 use Rattle.fl_core.specs.declared.parked.Request.{Request}
-use Rattle.fl_core.specs.Waiting.{waits, taken_first, AllWait}
+use Rattle.fl_core.specs.Waiting.{waits, taken_first, AllWait, AreApart}
 use Rattle.fl_core.specs.Settling.{Present, Settled, present, granted_told, marking_granted, oldest_free, with_told, answered_first, settled_within, settled, IsSettled, done, one}
-use Rattle.fl_core.proofs.Taken.{keep}
+use Rattle.fl_core.proofs.Taken.{keep, apart_without}
 use Rattle.fl_order.specs.declared.told.Told.{Told}
 use Rattle.fl_ranges.specs.Marking.{Marking}
 
@@ -143,6 +143,14 @@ left_wait (one older r younger stands all free rest) = left_wait rest
 
 pub nothing_left : (s : Present) → AllWait (settled s).present.marking (settled s).present.parked
 nothing_left s = left_wait (is_settled s)
+
+-- and no two have one unique, if that was so before
+left_apart : {s after : Present} {tolds : List Told} → IsSettled s tolds after → AreApart s.parked → AreApart after.parked
+left_apart (done all) apart = apart
+left_apart (one older r younger stands all free rest) apart = left_apart rest (apart_without older r younger (subst AreApart stands apart)).1
+
+pub settled_apart : (s : Present) → AreApart s.parked → AreApart (settled s).present.parked
+settled_apart s = left_apart (is_settled s)
 
 -- so far tolds were given, and what is left to do ends alike
 pub record IsSettling (s t : Present) (given told : List Told) : Type 0 where

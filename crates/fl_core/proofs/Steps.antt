@@ -4,7 +4,7 @@ use Rattle.std.specs.List.{filter, AllByRecursion}
 use Rattle.fl_core.specs.Effects.{Effect, leaving, answered, unanswered, request_of, waited_for, with_waiter, by_reply, at_once, replied, made}
 use Rattle.fl_core.specs.Inside.Parts.{left_by, left_if, with_parked}
 use Rattle.fl_core.specs.Inside.Touched.{concerns_request, OthersWait}
-use Rattle.fl_core.specs.Replies.{taken_reply, reply_to, own_reply, own_replies, ended_with, ended_all, ending_of, error_of, picks, ended_if, ended_by, ended, first_told}
+use Rattle.fl_core.specs.Replies.{at_once_unless, taken_reply, reply_to, own_reply, own_replies, ended_with, ended_all, ending_of, error_of, picks, ended_if, ended_by, ended, first_told}
 use Rattle.fl_core.specs.Settling.{Settled, present}
 use Rattle.fl_core.specs.State.{Snapshot}
 use Rattle.fl_core.specs.Step.{after_first, settling, replies, with_present, next}
@@ -15,13 +15,13 @@ use Rattle.fl_core.specs.declared.settling.Touched.{Touched}
 use Rattle.fl_core.proofs.Effects.{made_all, made_all-append, made_replied, AreOthers}
 use Rattle.fl_core.proofs.Readings.{settled_read, ended_read}
 use Rattle.fl_core.proofs.Settlings.{settled_none}
-use Rattle.fl_core.proofs.Taken.{all_passing, apart_more, apart_passing, none_of, one_longer}
+use Rattle.fl_core.proofs.Taken.{all_more, all_passing, apart_more, apart_passing, none_of, one_longer}
 use Rattle.fl_order.specs.Order.{only_reads}
 use Rattle.fl_order.specs.declared.errno.Errno.{Errno}
 use Rattle.fl_order.specs.declared.errno.Errno.TheVariants.{EINVAL}
 use Rattle.fl_order.specs.declared.order.Op.{Op}
 use Rattle.fl_order.specs.declared.order.LockAsk.{LockAsk}
-use Rattle.fl_order.specs.declared.order.Op.TheVariants.{Getattr, Getlk, Setlkw}
+use Rattle.fl_order.specs.declared.order.Op.TheVariants.{Getattr, Getlk, Setlkw, Interrupt}
 use Rattle.fl_order.specs.declared.order.Order.{Order}
 use Rattle.fl_order.specs.declared.told.Answer.{Answer}
 use Rattle.fl_order.specs.declared.told.Told.{Told}
@@ -63,89 +63,137 @@ ends_alike order p (Some reply) = refl
 abbrev pub made_by : Effect → Snapshot → Snapshot
 made_by e p = record { view = e.view; marking = after_changes e.changes p.marking }
 
-module _ (order : Order) (p : Snapshot) where
-  -- its unique is none of a parked request
-  module _ (fresh : is_parked order.unique p.view.parked ≡ false) (own : Option (Result Answer Errno))
-      (own_is : own ≡ reply_to p.view p.marking order order.op) where
-    abbrev ends : List Told
-    ends = ended_by p.view.parked order.op own
+waiting_apart : (order : Order) (ask : Option LockAsk) (parked : List Request) → AreApart parked
+    → AllByRecursion (λ (r : Request). r.unique ≢ order.unique) parked → AreApart (with_waiter order ask parked)
+waiting_apart order None parked apart others = apart
+waiting_apart order (Some ask) parked apart others = apart_more parked (request_of order ask) apart others
 
-    first_is : first_told p order ≡ own_replies order own ++ ends
-    first_is =
-        (λ i. own_replies order (cond (fresh i) (taken_reply order.op) (reply_to p.view p.marking order order.op))
-        ++ cond (fresh i) [] (ended_by p.view.parked order.op (cond (fresh i) (taken_reply order.op) (reply_to p.view p.marking order order.op))))
-        ∙ ap (λ o. own_replies order o ++ ended_by p.view.parked order.op o) (sym own_is)
+-- parked requests stay apart, where the order's unique was none of theirs
+apart_after : (order : Order) (own : Option (Result Answer Errno)) (p : Snapshot) → is_parked order.unique p.view.parked ≡ false → AreApart p.view.parked
+    → AreApart (made (by_reply order own) p).view.parked
+apart_after order (Some reply) p fresh apart = apart
+apart_after order None p fresh apart = waiting_apart order (waited_for order.op) p.view.parked apart (none_of order.unique p.view.parked fresh)
 
-    changed_is : made (at_once order own) p ≡ made (by_reply order own) p
-    changed_is = ap (λ b. made_by (cond b (leaving p.view) (by_reply order own p.view)) p) fresh
+apart_left : (parked : List Request) (ending : Option Ending) → AreApart parked → AreApart (left_if ending parked)
+apart_left parked None apart = apart
+apart_left parked (Some ending) apart = apart_passing _ parked apart
 
-    module _ (s q : Snapshot) (s_is : s ≡ made (by_reply order own) p) (q_is : q ≡ with_parked (left_by s.view.parked order.op own) s)
-        (apart_s : AreApart s.view.parked) (apart_q : AreApart q.view.parked)
-        (waiting : own ≡ None → AllWait q.marking q.view.parked) where
-      abbrev rest : List Told
-      rest = (settling q).tolds
+-- a lock request with no reply of its own conflicts
+excluded : (e : Option Errno) (b : Bool) (wait : Option (Result Answer Errno)) (room : Result Answer Errno)
+    → at_once_unless e (cond b wait (Some room)) ≡ None → b ≡ true
+excluded None true wait room is = refl
+excluded e b wait room is = absurd (cc is)
 
-      ends_are : ended_by s.view.parked order.op own ≡ ends
-      ends_are = ap (λ (t : Snapshot). ended_by t.view.parked order.op own) s_is ∙ ends_alike order p own
+-- an order with no reply of its own leaves requests that wait
+left_waiting : (order : Order) (p : Snapshot) → AllWait p.marking p.view.parked → (op : Op) → reply_to p.view p.marking order op ≡ None
+    → AllWait p.marking (left_by (with_waiter order (waited_for op) p.view.parked) op None)
+left_waiting order p all (Setlkw ask) none =
+    all_more (λ r. waits p.marking r ≡ true) p.view.parked (request_of order ask) all (excluded _ _ _ _ none)
+left_waiting order p all (Interrupt unique) none = all_passing (λ r. waits p.marking r ≡ true) _ p.view.parked all
+left_waiting order p all op none = all
 
-      others : own ≡ None → AreOthers order.unique ends
-      others none = ended_apart order.unique p.view.parked (none_of order.unique p.view.parked fresh) (ending_of order.op own)
+-- the requests that an order ends go
+abbrev pub after_ends : Order → Option (Result Answer Errno) → Snapshot → Snapshot
+after_ends order own s = with_parked (left_by s.view.parked order.op own) s
 
-      read : made_all ends (made (at_once order own) p) ≡ q
-      read =
-          ap (made_all ends) (changed_is ∙ sym s_is) ∙ ap (λ xs. made_all xs s) (sym ends_are) ∙ ends_read s apart_s (ending_of order.op own) ∙ sym q_is
+-- what was there before an order, after its own change, and before settling, where its unique is none of a parked request
+pub record IsFresh (order : Order) (own : Option (Result Answer Errno)) (p s q : Snapshot) : Type 0 where
+  pub fresh : is_parked order.unique p.view.parked ≡ false
+  pub own_is : own ≡ reply_to p.view p.marking order order.op
+  pub s_is : s ≡ made (by_reply order own) p
+  pub q_is : q ≡ after_ends order own s
+  pub all : AllWait p.marking p.view.parked
+  pub apart : AreApart p.view.parked
 
-      after_is : after_first p order ≡ q
-      after_is = ap (λ xs. made (replied order xs) p) first_is ∙ made_replied order own ends p others ∙ read
+module _ (order : Order) (own : Option (Result Answer Errno)) (p s q : Snapshot) (k : IsFresh order own p s q) where
+  abbrev ends : List Told
+  ends = ended_by p.view.parked order.op own
 
-      pub replies_are : replies p order ≡ (own_replies order own ++ ended_by s.view.parked order.op own) ++ rest
-      replies_are = (λ i. first_is i ++ (settling (after_is i)).tolds) ∙ ap (λ xs. (own_replies order own ++ xs) ++ rest) (sym ends_are)
+  first_is : first_told p order ≡ own_replies order own ++ ends
+  first_is =
+      (λ i. own_replies order (cond (k.fresh i) (taken_reply order.op) (reply_to p.view p.marking order order.op))
+      ++ cond (k.fresh i) [] (ended_by p.view.parked order.op (cond (k.fresh i) (taken_reply order.op) (reply_to p.view p.marking order order.op))))
+      ∙ ap (λ o. own_replies order o ++ ended_by p.view.parked order.op o) (sym k.own_is)
 
-      pub next_is : next p order ≡ with_present (settling q).present q
-      next_is = ap (λ (t : Snapshot). with_present (settling t).present t) after_is
+  changed_is : made (at_once order own) p ≡ made (by_reply order own) p
+  changed_is = ap (λ b. made_by (cond b (leaving p.view) (by_reply order own p.view)) p) k.fresh
 
-      none_left : own ≡ None → rest ≡ []
-      none_left none = ap (λ (r : Settled). r.tolds) (settled_none q.marking q.view.parked (waiting none))
+  apart_s : AreApart s.view.parked
+  apart_s = subst (λ (t : Snapshot). AreApart t.view.parked) (sym k.s_is) (apart_after order own p k.fresh k.apart)
 
-      all_others : own ≡ None → AreOthers order.unique (ends ++ rest)
-      all_others none = subst (AreOthers order.unique) (sym (ap (λ xs. ends ++ xs) (none_left none) ∙ append-nil ends)) (others none)
+  pub apart_q : AreApart q.view.parked
+  apart_q = subst (λ (t : Snapshot). AreApart t.view.parked) (sym k.q_is) (apart_left s.view.parked (ending_of order.op own) apart_s)
 
-      pub step_read : made (replied order (replies p order)) p ≡ next p order
-      step_read =
-          ap (λ xs. made (replied order xs) p) ((λ i. first_is i ++ (settling (after_is i)).tolds) ∙ append_assoc (own_replies order own) ends rest)
-          ∙ made_replied order own (ends ++ rest) p all_others ∙ made_all-append ends rest (made (at_once order own) p) ∙ ap (made_all rest) read
-          ∙ settled_read q apart_q ∙ sym next_is
+  pub waiting : own ≡ None → AllWait q.marking q.view.parked
+  waiting none =
+      subst (λ (t : Snapshot). AllWait t.marking t.view.parked)
+      (sym (k.q_is ∙ ap (after_ends order own) k.s_is ∙ ap (λ o. after_ends order o (made (by_reply order o) p)) none))
+      (left_waiting order p k.all order.op (sym k.own_is ∙ none))
 
-  -- its unique is that of a parked request
-  module _ (taken : is_parked order.unique p.view.parked ≡ true) (waiting : AllWait p.marking p.view.parked) where
-    abbrev told : List Told
-    told = own_replies order (taken_reply order.op)
+  abbrev rest : List Told
+  rest = (settling q).tolds
 
-    first_refused : first_told p order ≡ told
-    first_refused =
-        (λ i. own_replies order (cond (taken i) (taken_reply order.op) (reply_to p.view p.marking order order.op))
-        ++ cond (taken i) [] (ended_by p.view.parked order.op (cond (taken i) (taken_reply order.op) (reply_to p.view p.marking order order.op))))
-        ∙ append-nil told
+  ends_are : ended_by s.view.parked order.op own ≡ ends
+  ends_are = ap (λ (t : Snapshot). ended_by t.view.parked order.op own) k.s_is ∙ ends_alike order p own
 
-    nothing_changed : made (replied order told) p ≡ p
-    nothing_changed =
-        ap (λ xs. made (replied order xs) p) (sym (append-nil told)) ∙ made_replied order (taken_reply order.op) [] p (λ none. tt)
-        ∙ ap (λ b. made_by (cond b (leaving p.view) (by_reply order (taken_reply order.op) p.view)) p) taken
+  others : own ≡ None → AreOthers order.unique ends
+  others none = ended_apart order.unique p.view.parked (none_of order.unique p.view.parked k.fresh) (ending_of order.op own)
 
-    after_refused : after_first p order ≡ p
-    after_refused = ap (λ xs. made (replied order xs) p) first_refused ∙ nothing_changed
+  read : made_all ends (made (at_once order own) p) ≡ q
+  read =
+      ap (made_all ends) (changed_is ∙ sym k.s_is) ∙ ap (λ xs. made_all xs s) (sym ends_are) ∙ ends_read s apart_s (ending_of order.op own) ∙ sym k.q_is
 
-    abbrev settled_refused : settling p ≡ record { present = present p.marking p.view.parked; tolds = [] }
-    settled_refused = settled_none p.marking p.view.parked waiting
+  after_is : after_first p order ≡ q
+  after_is = ap (λ xs. made (replied order xs) p) first_is ∙ made_replied order own ends p others ∙ read
 
-    pub refused_replies : replies p order ≡ told
-    refused_replies = (λ i. first_refused i ++ (settling (after_refused i)).tolds) ∙ ap (λ (r : Settled). told ++ r.tolds) settled_refused ∙ append-nil told
+  pub replies_are : replies p order ≡ (own_replies order own ++ ended_by s.view.parked order.op own) ++ rest
+  replies_are = (λ i. first_is i ++ (settling (after_is i)).tolds) ∙ ap (λ xs. (own_replies order own ++ xs) ++ rest) (sym ends_are)
 
-    pub refused_next : next p order ≡ p
-    refused_next = ap (λ (t : Snapshot). with_present (settling t).present t) after_refused ∙ ap (λ (r : Settled). with_present r.present p) settled_refused
+  pub next_is : next p order ≡ with_present (settling q).present q
+  next_is = ap (λ (t : Snapshot). with_present (settling t).present t) after_is
 
-    pub refused_read : made (replied order (replies p order)) p ≡ next p order
-    refused_read = ap (λ xs. made (replied order xs) p) refused_replies ∙ nothing_changed ∙ sym refused_next
+  none_left : own ≡ None → rest ≡ []
+  none_left none = ap (λ (r : Settled). r.tolds) (settled_none q.marking q.view.parked (waiting none))
+
+  all_others : own ≡ None → AreOthers order.unique (ends ++ rest)
+  all_others none = subst (AreOthers order.unique) (sym (ap (λ xs. ends ++ xs) (none_left none) ∙ append-nil ends)) (others none)
+
+  pub step_read : made (replied order (replies p order)) p ≡ next p order
+  step_read =
+      ap (λ xs. made (replied order xs) p) ((λ i. first_is i ++ (settling (after_is i)).tolds) ∙ append_assoc (own_replies order own) ends rest)
+      ∙ made_replied order own (ends ++ rest) p all_others ∙ made_all-append ends rest (made (at_once order own) p) ∙ ap (made_all rest) read
+      ∙ settled_read q apart_q ∙ sym next_is
+
+-- its unique is that of a parked request
+module _ (order : Order) (p : Snapshot) (taken : is_parked order.unique p.view.parked ≡ true) (waiting : AllWait p.marking p.view.parked) where
+  abbrev told : List Told
+  told = own_replies order (taken_reply order.op)
+
+  first_refused : first_told p order ≡ told
+  first_refused =
+      (λ i. own_replies order (cond (taken i) (taken_reply order.op) (reply_to p.view p.marking order order.op))
+      ++ cond (taken i) [] (ended_by p.view.parked order.op (cond (taken i) (taken_reply order.op) (reply_to p.view p.marking order order.op))))
+      ∙ append-nil told
+
+  nothing_changed : made (replied order told) p ≡ p
+  nothing_changed =
+      ap (λ xs. made (replied order xs) p) (sym (append-nil told)) ∙ made_replied order (taken_reply order.op) [] p (λ none. tt)
+      ∙ ap (λ b. made_by (cond b (leaving p.view) (by_reply order (taken_reply order.op) p.view)) p) taken
+
+  after_refused : after_first p order ≡ p
+  after_refused = ap (λ xs. made (replied order xs) p) first_refused ∙ nothing_changed
+
+  abbrev settled_refused : settling p ≡ record { present = present p.marking p.view.parked; tolds = [] }
+  settled_refused = settled_none p.marking p.view.parked waiting
+
+  pub refused_replies : replies p order ≡ told
+  refused_replies = (λ i. first_refused i ++ (settling (after_refused i)).tolds) ∙ ap (λ (r : Settled). told ++ r.tolds) settled_refused ∙ append-nil told
+
+  pub refused_next : next p order ≡ p
+  refused_next = ap (λ (t : Snapshot). with_present (settling t).present t) after_refused ∙ ap (λ (r : Settled). with_present r.present p) settled_refused
+
+  pub refused_read : made (replied order (replies p order)) p ≡ next p order
+  refused_read = ap (λ xs. made (replied order xs) p) refused_replies ∙ nothing_changed ∙ sym refused_next
 
 one_at_most : (order : Order) (ask : Option LockAsk) (parked : List Request) → length (with_waiter order ask parked) ≤ suc (length parked)
 one_at_most order None parked = omega arith
@@ -156,21 +204,6 @@ pub room_left : (order : Order) (own : Option (Result Answer Errno)) (p : Snapsh
     → length (own_replies order own) + length (made (by_reply order own) p).view.parked ≤ 257
 room_left order (Some reply) p few = omega (arith, few)
 room_left order None p few = omega (arith, few, one_at_most order (waited_for order.op) p.view.parked)
-
-waiting_apart : (order : Order) (ask : Option LockAsk) (parked : List Request) → AreApart parked
-    → AllByRecursion (λ (r : Request). r.unique ≢ order.unique) parked → AreApart (with_waiter order ask parked)
-waiting_apart order None parked apart others = apart
-waiting_apart order (Some ask) parked apart others = apart_more parked (request_of order ask) apart others
-
--- parked requests stay apart, where the order's unique was none of theirs
-pub apart_after : (order : Order) (own : Option (Result Answer Errno)) (p : Snapshot) → is_parked order.unique p.view.parked ≡ false → AreApart p.view.parked
-    → AreApart (made (by_reply order own) p).view.parked
-apart_after order (Some reply) p fresh apart = apart
-apart_after order None p fresh apart = waiting_apart order (waited_for order.op) p.view.parked apart (none_of order.unique p.view.parked fresh)
-
-pub apart_left : (parked : List Request) (ending : Option Ending) → AreApart parked → AreApart (left_if ending parked)
-apart_left parked None apart = apart
-apart_left parked (Some ending) apart = apart_passing _ parked apart
 
 -- those that an order leaves still wait, but for the locks that it touched
 pub others_left : (t : Touched) (m : Marking) (parked : List Request) (ending : Option Ending) → OthersWait t m parked → OthersWait t m (left_if ending parked)

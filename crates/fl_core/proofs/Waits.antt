@@ -40,10 +40,6 @@ pub others_kept : (t : Touched) (m : Marking) (parked : List Request) → AllWai
 others_kept t m [] all = tt
 others_kept t m (r ∷ parked) all = ((λ apart. all.0), others_kept t m parked all.1)
 
-pub nothing_touched : (m : Marking) (parked : List Request) → OthersWait Nothing m parked → AllWait m parked
-nothing_touched m [] all = tt
-nothing_touched m (r ∷ parked) all = (all.0 refl, nothing_touched m parked all.1)
-
 -- all wait where no lock was touched that one of them waits for
 pub none_concerned : (t : Touched) (m : Marking) (parked : List Request) → AllByRecursion (λ (r : Request). concerns_request t r ≡ false) parked
     → OthersWait t m parked → AllWait m parked

@@ -2,12 +2,13 @@
 
 ghost use Rattle.std.specs.Prelude.{◌≡◌, ◌↔◌, true, Some, Err, [], List};
 ghost use Rattle.fl_core.specs.Circle.{Wish, owner_of, hinders, wishes, closes_circle, IsCircle, ClosesCircle};
-ghost use Rattle.fl_core.specs.Effects.{Effect, later, leaving, recorded, made};
+ghost use Rattle.fl_core.specs.Effects.{Effect, later, leaving, replied, recorded, made};
 ghost use Rattle.fl_core.specs.First.{IsFirst};
 ghost use Rattle.fl_core.specs.LockRequest.{mark_of, stroke_of};
 ghost use Rattle.fl_core.specs.Replies.{first_told, is_deadlock};
 ghost use Rattle.fl_core.specs.Settling.{Present, settled, IsSettled};
 ghost use Rattle.fl_core.specs.State.{View, State, Snapshot, snapshot_of};
+ghost use Rattle.fl_core.specs.Step.{next, replies};
 ghost use Rattle.fl_core.specs.Waiting.{AllWait, AreApart, taken_out};
 ghost use Rattle.fl_core.specs.declared.parked.Request.{Request};
 ghost use Rattle.fl_order.specs.declared.errno.Errno.{Errno};
@@ -48,4 +49,15 @@ pub fn a_late_error_changes_no_lock()
     ensures { (told : Told) (e : Errno) (v : View) (r : Request) (others : List Request) →
         taken_out told.unique v.parked ≡ Some (r, others) → told.result ≡ Err e →
         later told v ≡ leaving (record v { parked = others }) }
+{}
+
+/// What is there after an order is what its replies alone give, from each state that shows what was there before. Each
+/// parked request waits then, and no two have one unique, if that held before.
+pub fn a_step_is_what_its_replies_give()
+    ensures read { (p : Snapshot) (order : Order) (s : State) → AllWait p.marking p.view.parked →
+        AreApart p.view.parked → snapshot_of s ≡ p →
+        snapshot_of (recorded (replied order (replies p order)) s) ≡ next p order }
+    ensures waiting { (p : Snapshot) (order : Order) → AllWait (next p order).marking (next p order).view.parked }
+    ensures apart { (p : Snapshot) (order : Order) → AllWait p.marking p.view.parked → AreApart p.view.parked →
+        AreApart (next p order).view.parked }
 {}

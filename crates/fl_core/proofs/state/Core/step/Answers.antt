@@ -1,21 +1,15 @@
-use Rattle.std.proofs.Common.{◌≡◌, ◌++◌, ◌≤◌, ◌∙◌, true, false, Option, None, Result, length, sym, subst, ap, arith}
-use Rattle.fl_core.specs.Effects.{by_reply, replied, made}
+use Rattle.std.proofs.Common.{◌≡◌, ◌++◌, ◌≤◌, ◌∙◌, true, length, sym, subst, ap, arith}
+use Rattle.fl_core.specs.Effects.{by_reply, replied, recorded, made}
 use Rattle.fl_core.specs.Inside.Touched.{touched_by, OthersWait}
 use Rattle.fl_core.specs.Replies.{own_replies, ended_by, ending_of, reply_to}
-use Rattle.fl_core.specs.Settling.{present}
-use Rattle.fl_core.specs.State.{Snapshot}
-use Rattle.fl_core.specs.Step.{settling, replies, next, ChangesNothing}
+use Rattle.fl_core.specs.State.{Snapshot, snapshot_of}
+use Rattle.fl_core.specs.Step.{settling, ChangesNothing}
 use Rattle.fl_core.specs.declared.state.Core.TheInside.{Inside}
 use Rattle.fl_core.specs.Waiting.{is_parked, AllWait, AreApart}
-use Rattle.fl_core.proofs.Effects.{is_recorded}
+use Rattle.fl_core.proofs.Nexts.{next_read, next_waits, next_apart}
 use Rattle.fl_core.proofs.Quiet.{alone_quiet, step_quiet}
-use Rattle.fl_core.proofs.Settlings.{nothing_left}
 use Rattle.fl_core.proofs.Steps as steps
-use Rattle.fl_core.proofs.Waits.{nothing_touched}
 use Rattle.fl_core.proofs.state.Core.step.Goals as goal
-use Rattle.fl_order.specs.declared.errno.Errno.{Errno}
-use Rattle.fl_order.specs.declared.order.Order.{Order}
-use Rattle.fl_order.specs.declared.told.Answer.{Answer}
 
 -- ---- the order's unique is that of a parked request
 
@@ -70,49 +64,37 @@ settle-requires-clause-others c =
     subst (λ t. OthersWait t q.marking q.view.parked) (sym c.touched_by.ensures) others_q
 
 -- what is known of the parts before the order, after its own step, and before settling
-record Known (order : Order) (p s q : Snapshot) (own : Option (Result Answer Errno)) : Type 0 where
-  pub fresh : is_parked order.unique p.view.parked ≡ false
-  pub own_is : own ≡ reply_to p.view p.marking order order.op
-  pub s_is : s ≡ made (by_reply order own) p
-  pub apart_s : AreApart s.view.parked
-  pub apart_q : AreApart q.view.parked
-  pub waiting : own ≡ None → AllWait q.marking q.view.parked
-
-known : (c : goal.After-settle) → Known c.args.order.now c.args.self.now c.take-own.new.self c.end.new.self c.take-own.result
+known : (c : goal.After-settle) → steps.IsFresh c.args.order.now c.take-own.result c.args.self.now c.take-own.new.self c.end.new.self
 known c =
     let order = c.args.order.now in
-    let p : Snapshot = c.args.self.now in
-    let own = c.take-own.result in
-    let s : Snapshot = c.take-own.new.self in
-    let q : Snapshot = c.end.new.self in
-    let t = touched_by order.node order.op own in
-    let fresh : is_parked order.unique p.view.parked ≡ false = ap (λ (t : Snapshot). is_parked order.unique t.view.parked) (sym c.self.view_is)
-    ∙ ap (λ (i : Inside). is_parked order.unique i.parts.view.parked) (sym c.self-inside.view_is) ∙ sym c.has.ensures.found ∙ c.if-has.false in
-    let s_is : s ≡ made (by_reply order own) p = c.take-own.ensures.changed ∙ ap (made (by_reply order own)) c.self.view_is in
-    let apart_p : AreApart p.view.parked = subst (λ (t : Snapshot). AreApart t.view.parked) c.self.view_is c.self.invariant.1 in
-    let apart_s : AreApart s.view.parked = subst (λ (t : Snapshot). AreApart t.view.parked) (sym s_is) (steps.apart_after order own p fresh apart_p) in
-    let others : OthersWait t q.marking q.view.parked =
-    subst (λ (r : Snapshot). OthersWait t r.marking r.view.parked) (sym c.end.ensures.parked)
-    (steps.others_left t s.marking s.view.parked (ending_of order.op own) (c.take-own.ensures.others c.self.invariant.0)) in
     record {
-      fresh = fresh;
+      fresh = ap (λ (t : Snapshot). is_parked order.unique t.view.parked) (sym c.self.view_is)
+          ∙ ap (λ (i : Inside). is_parked order.unique i.parts.view.parked) (sym c.self-inside.view_is) ∙ sym c.has.ensures.found ∙ c.if-has.false;
       own_is = c.take-own.ensures.reply ∙ ap (λ (t : Snapshot). reply_to t.view t.marking order order.op) c.self.view_is;
-      s_is = s_is;
-      apart_s = apart_s;
-      apart_q = subst (λ (t : Snapshot). AreApart t.view.parked) (sym c.end.ensures.parked) (steps.apart_left s.view.parked (ending_of order.op own) apart_s);
-      waiting = λ none. nothing_touched q.marking q.view.parked
-          (subst (λ t. OthersWait t q.marking q.view.parked) (ap (touched_by order.node order.op) none) others);
+      s_is = c.take-own.ensures.changed ∙ ap (made (by_reply order c.take-own.result)) c.self.view_is;
+      q_is = c.end.ensures.parked;
+      all = subst (λ (t : Snapshot). AllWait t.marking t.view.parked) c.self.view_is c.self.invariant.0;
+      apart = subst (λ (t : Snapshot). AreApart t.view.parked) c.self.view_is c.self.invariant.1;
     }
 
-pub returns-clause-replies : goal.returns-clause-replies
-returns-clause-replies c =
+-- what is told by then
+told : (c : goal.After-settle) → c.settle.new.tolds
+    ≡ (own_replies c.args.order.now c.take-own.result ++ ended_by c.take-own.new.self.view.parked c.args.order.now.op c.take-own.result)
+    ++ (settling c.end.new.self).tolds
+told c =
     let order = c.args.order.now in
     let own = c.take-own.result in
     let s : Snapshot = c.take-own.new.self in
-    let q : Snapshot = c.end.new.self in
-    let k = known c in
-    c.settle.ensures.tolds ∙ ap (λ xs. xs ++ (settling q).tolds) (c.end.ensures.tolds ∙ ap (λ xs. xs ++ ended_by s.view.parked order.op own) c.tell-2.ensures)
-    ∙ sym (steps.replies_are order c.args.self.now k.fresh own k.own_is s q k.s_is c.end.ensures.parked k.apart_s k.apart_q k.waiting)
+    c.settle.ensures.tolds
+    ∙ ap (λ xs. xs ++ (settling c.end.new.self).tolds)
+    (c.end.ensures.tolds ∙ ap (λ xs. xs ++ ended_by s.view.parked order.op own) c.tell-2.ensures)
+
+pub returns-clause-replies : goal.returns-clause-replies
+returns-clause-replies c = told c ∙ sym (steps.replies_are c.args.order.now c.take-own.result c.args.self.now c.take-own.new.self c.end.new.self (known c))
+
+pub returns-clause-next : goal.returns-clause-next
+returns-clause-next c =
+    c.settle.ensures.present ∙ sym (steps.next_is c.args.order.now c.take-own.result c.args.self.now c.take-own.new.self c.end.new.self (known c))
 
 pub returns-clause-an_error_changes_nothing : goal.returns-clause-an_error_changes_nothing
 returns-clause-an_error_changes_nothing c =
@@ -122,39 +104,24 @@ returns-clause-an_error_changes_nothing c =
     let s : Snapshot = c.take-own.new.self in
     let q : Snapshot = c.end.new.self in
     let k = known c in
-    let waiting : AllWait p.marking p.view.parked = subst (λ (t : Snapshot). AllWait t.marking t.view.parked) c.self.view_is c.self.invariant.0 in
-    let told_is = c.settle.ensures.tolds
-    ∙ ap (λ xs. xs ++ (settling q).tolds) (c.end.ensures.tolds ∙ ap (λ xs. xs ++ ended_by s.view.parked order.op own) c.tell-2.ensures) in
-    subst (λ xs. ChangesNothing p order xs c.settle.new.self) (sym told_is)
+    subst (λ xs. ChangesNothing p order xs c.settle.new.self) (sym (told c))
     (subst (λ (t : Snapshot). ChangesNothing p order ((own_replies order own ++ ended_by s.view.parked order.op own) ++ (settling q).tolds) t)
-    (sym c.settle.ensures.present)
-    (step_quiet order p k.fresh waiting own s q k.s_is c.end.ensures.parked k.waiting))
-
-pub returns-clause-next : goal.returns-clause-next
-returns-clause-next c =
-    let k = known c in
-    c.settle.ensures.present
-    ∙ sym (steps.next_is c.args.order.now c.args.self.now k.fresh c.take-own.result k.own_is c.take-own.new.self c.end.new.self k.s_is
-    c.end.ensures.parked k.apart_s k.apart_q k.waiting)
+    (sym c.settle.ensures.present) (step_quiet order p k.fresh k.all own s q k.s_is k.q_is (steps.waiting order own p s q k)))
 
 pub returns-clause-recorded : goal.returns-clause-recorded
-returns-clause-recorded c =
+returns-clause-recorded c s stands =
     let order = c.args.order.now in
-    let p : Snapshot = c.args.self.now in
     let k = known c in
-    let read : made (replied order (replies p order)) p ≡ next p order =
-    steps.step_read order p k.fresh c.take-own.result k.own_is c.take-own.new.self c.end.new.self k.s_is c.end.ensures.parked k.apart_s
-    k.apart_q k.waiting in
-    is_recorded order p c.settle.new.self c.settle.new.tolds
-    (returns-clause-next c ∙ sym read ∙ ap (λ xs. made (replied order xs) p) (sym (returns-clause-replies c)))
+    subst (λ xs. snapshot_of (recorded (replied order xs) s) ≡ c.settle.new.self) (sym (returns-clause-replies c))
+    (next_read c.args.self.now order s k.all k.apart stands ∙ sym (returns-clause-next c))
 
 pub invariant_of-self : goal.invariant_of-self
 invariant_of-self c =
-    let q : Snapshot = c.end.new.self in (
-      subst (λ (t : Snapshot). AllWait t.marking t.view.parked) (sym c.settle.ensures.present)
-          (nothing_left (present q.marking q.view.parked)),
-      c.settle.ensures.apart (known c).apart_q,
-    )
+    let order = c.args.order.now in
+    let p : Snapshot = c.args.self.now in
+    let k = known c in
+    subst (λ (t : Snapshot). AllWait t.marking t.view.parked × AreApart t.view.parked) (sym (returns-clause-next c))
+    (next_waits p order, next_apart p order k.all k.apart)
 
 pub returns-clause-waiting : goal.returns-clause-waiting
 returns-clause-waiting c = (invariant_of-self c).0
