@@ -1,6 +1,5 @@
 -- A legal history with one more order is legal, and what is there after it is what the history gives.
-use Rattle.std.proofs.Common.{◌≡◌, ◌≢◌, ℕ, true, false, cond, ◌==◌, Some, None, List, [], ◌∷◌, ◌++◌, map, append_assoc, refl, ap, sym, ◌∙◌, arith}
-use Rattle.std.proofs.lemmas.Bool.Decides.{nat_tests}
+use Rattle.std.proofs.Common.{◌≡◌, ℕ, cond, Some, None, List, [], ◌∷◌, ◌++◌, map, append_assoc, refl, ap, sym, ◌∙◌}
 use Rattle.std.proofs.lemmas.List.Sums.{fold-append}
 use Rattle.std.specs.List.{fold}
 use Rattle.std.proofs.lemmas.Bool.{eq-eqb, ne_eqb}
@@ -9,7 +8,9 @@ use Rattle.fl_desk.specs.Legal.{step, step_lines}
 use Rattle.fl_desk.specs.Kept.{IsKept}
 use Rattle.fl_core.specs.State.{View, State, Snapshot, snapshot_of}
 use Rattle.fl_core.specs.Effects.{Effect, at_once, later, followed_by, told_first, replied, recorded}
-use Rattle.fl_core.specs.Step.{replies}
+use Rattle.fl_core.specs.Step.{next, replies}
+use Rattle.fl_core.specs.Waiting.{AllWait, AreApart}
+use Rattle.fl_desk.specs.Leading.{LeadsTo}
 use Rattle.fl_history.specs.declared.history.Line.{Line}
 use Rattle.fl_history.specs.declared.history.Line.TheVariants as line
 use Rattle.fl_order.specs.declared.told.Told.{Told}
@@ -85,3 +86,15 @@ taken_kept lines given new present after worker order tolds shown kept given_is 
       stands = sym (goes (state_after lines) (sym kept.stands)) ∙ ap snapshot_of (sym (read_step lines worker order tolds) ∙ ap state_after (sym all));
       lawful = lawful kept.lawful;
     }
+
+-- one order more leads on, where what its replies give is what is there after it
+pub leads_on : (lines : List Line) (p : Snapshot) (worker : ℕ) (order : Order) → LeadsTo lines p
+    → ((s : State) → snapshot_of s ≡ p → snapshot_of (recorded (replied order (replies p order)) s) ≡ next p order)
+    → AllWait (next p order).marking (next p order).view.parked → AreApart (next p order).view.parked
+    → LeadsTo (lines ++ step_lines worker order (replies p order)) (next p order)
+leads_on lines p worker order leads read waiting apart = record {
+  legal = step lines worker order leads.legal (ap (λ (q : Snapshot). lines ++ step_lines worker order (replies q order)) leads.stands);
+  stands = sym (read (state_after lines) (sym leads.stands)) ∙ ap snapshot_of (sym (read_step lines worker order (replies p order)));
+  waiting = waiting;
+  apart = apart;
+}

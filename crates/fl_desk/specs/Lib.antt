@@ -3,3 +3,4 @@ pub mod Legal
 pub mod Kept
 pub mod BookCode
 pub mod Verdicts
+pub mod Leading

@@ -2,7 +2,7 @@
 
 ghost use Rattle.std.specs.Prelude.{◌≡◌, ◌≤◌, ◌+◌, ◌++◌, length, IfOk, IsOk, OnOk, OnErr};
 ghost use Rattle.fl_desk.specs.Replay.{state_after};
-ghost use Rattle.fl_core.specs.Step.{replies_in};
+ghost use Rattle.fl_core.specs.Step.{next, replies_in};
 ghost use Rattle.fl_desk.specs.Legal.{IsLegal, step_lines};
 ghost use Rattle.fl_desk.specs.Kept.{IsKept, opening_book};
 
@@ -47,11 +47,21 @@ impl Desk {
         })
     }
 
+    /// Makes room for the lines of one order: the next `take` succeeds, and takes no memory. A refusal changes no line.
+    pub fn ready(&mut self) -> Result<(), NoMemory>
+        ensures same { (self.new.lines ≡ self.old.lines) × (self.new.present ≡ self.old.present) }
+        ensures room { OnOk result (MOST_LINES ≤ self.new.room) }
+        ensures succeeds { MOST_LINES ≤ self.old.room → IsOk result }
+    {
+        Ok(self.lines.reserve(MOST_LINES)?)
+    }
+
     /// Takes an order of a worker: records it, answers it, and hands out the replies that it records.
     /// A refusal changes nothing, and doesn't come where there is room for `MOST_LINES` lines more.
     pub fn take(&mut self, worker: u32, order: &Order, tolds: &mut Tolds) -> Result<(), NoMemory>
         ensures replies { OnOk result (tolds.new ≡ replies_in (state_after self.old.lines) order.now) }
         ensures lines { OnOk result (self.new.lines ≡ self.old.lines ++ step_lines worker order.now tolds.new) }
+        ensures next { OnOk result (self.new.present ≡ next self.old.present order.now) }
         ensures refused { OnErr result
             ((self.new.lines ≡ self.old.lines) × (self.new.present ≡ self.old.present) × (tolds.new ≡ tolds.old)) }
         ensures succeeds { MOST_LINES ≤ self.old.room → IsOk result }

@@ -1,12 +1,27 @@
 //! Laws of the definitions, in the words of their subject. Each is the contract of an empty function.
 
-ghost use Rattle.std.specs.Prelude.{◌≡◌, ℕ, Some, None, List, ◌∷◌, ◌++◌};
+ghost use Rattle.std.specs.Prelude.{◌≡◌, ℕ, Some, None, List, [], ◌∷◌, ◌++◌};
+ghost use Rattle.fl_desk.specs.Leading.{LeadsTo};
 ghost use Rattle.fl_desk.specs.Legal.{step_lines};
 ghost use Rattle.fl_desk.specs.Replay.{state_after, all_later, AllOthers};
 ghost use Rattle.fl_core.specs.Effects.{at_once, recorded};
+ghost use Rattle.fl_core.specs.State.{Snapshot, opening, snapshot_of};
+ghost use Rattle.fl_core.specs.Step.{next, replies};
 ghost use Rattle.fl_history.specs.declared.history.Line.{Line};
 ghost use Rattle.fl_order.specs.declared.told.Told.{Told};
 ghost use Rattle.fl_order.specs.declared.order.Order.{Order};
+
+use fl_core::laws::a_step_is_what_its_replies_give;
+
+/// No lines lead to the opening. Lines with one order more, and the replies that it gets in what the lines lead to, lead to what
+/// is there after it.
+pub fn an_order_leads_on()
+    ensures nothing { LeadsTo [] (snapshot_of opening) }
+    ensures step { (lines : List Line) (p : Snapshot) (worker : ℕ) (order : Order) → LeadsTo lines p →
+        LeadsTo (lines ++ step_lines worker order (replies p order)) (next p order) }
+{
+    a_step_is_what_its_replies_give();
+}
 
 /// The lines of an order and its replies are read as its own reply, or as none, and then as each other reply.
 pub fn own_reply_comes_first()

@@ -1,6 +1,6 @@
-use Rattle.std.proofs.Common.{◌≡◌, ◌+◌, ◌≤◌, All, map, vec_len, vec_capacity}
+use Rattle.std.proofs.Common.{◌≡◌, ◌+◌, ◌≤◌, [], All, map, vec_len, vec_capacity}
 use Rattle.std.specs.List.{range_with_len}
-use Rattle.fl_book.proofs.board.Board.new.Given as goal
+use Rattle.fl_book.proofs.board.seats_of.Given as goal
 
 abbrev pub invariant-loop-worker : goal.invariant-loop-worker
 invariant-loop-worker g l =
@@ -9,4 +9,4 @@ invariant-loop-worker g l =
     × (vec_len l.seats ≡ l.worker)
     × (l.workers ≤ vec_capacity l.seats)
     × (map (λ seat. seat.worker) l.seats.items ≡ range_with_len 0 l.worker)
-    × All (λ seat. seat.count ≡ 0) l.seats.items
+    × All (λ seat. (seat.count ≡ 0) × (seat.own ≡ []) × (seat.seen ≡ [])) l.seats.items

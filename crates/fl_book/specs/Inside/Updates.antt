@@ -1,0 +1,19 @@
+-- What is published.
+use Rattle.std.specs.Prelude.{cond, nat_eq, List, length}
+use Rattle.std.specs.List.{fold}
+use Rattle.fl_log.specs.declared.ask.Ask.{Ask}
+use Rattle.fl_order.specs.declared.order.Order.{Order}
+
+-- an order, with the asks before it and with it
+pub record Extension : Type 0 where
+  pub order : Order
+  pub before : List Ask
+  pub after : List Ask
+
+-- a copy of the asks before it takes the order; any other stays
+abbrev pub extended : List Ask → Extension → List Ask
+extended asks e = cond (nat_eq (length asks) (length e.before)) e.after asks
+
+-- what is published once all that waits is
+abbrev pub in_the_end : List Ask → List Extension → List Ask
+in_the_end asks waiting = fold extended asks waiting
