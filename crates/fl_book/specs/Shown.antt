@@ -1,5 +1,5 @@
 -- What workers at one board know of its one history.
-use Rattle.std.specs.Prelude.{◌≡◌, ℕ, ◌+◌, ◌≤◌, Some, Result, List, ◌++◌}
+use Rattle.std.specs.Prelude.{◌≡◌, ◌+◌, ◌≤◌, Some, Result, List, ◌++◌}
 use mathlib.Core.List.{IsPrefix}
 use Rattle.fl_book.specs.Seats.{Place, orders_by}
 use Rattle.fl_core.specs.Replies.{own_replies}
