@@ -1,3 +1,1 @@
 pub mod Boards
-pub mod Histories
-pub mod Counts

@@ -1,27 +1,22 @@
-//! The board: workers with seats hand in orders under one lock, and look without it. One history of all orders is kept.
+//! The board: workers with seats hand in orders under one lock, and one history of them all is kept.
 
-ghost use Rattle.std.specs.Prelude.{◌≡◌, ℕ, ◌<◌, ◌≤◌, ◌↔◌, ◌⊎◌, [], true, Err, List, All, IfOk, IfErr, IfSome, IsSome, OnOk, OnErr};
-ghost use Rattle.std.specs.Prelude.{length, map, sum_by};
+ghost use Rattle.std.specs.Prelude.{◌≡◌, ℕ, ◌+◌, ◌<◌, ◌≤◌, ◌++◌, List, All, IfOk, IfErr, IfSome, IsSome, IsErr, OnOk};
+ghost use Rattle.std.specs.Prelude.{OnErr, ◌↔◌, length, map, sum_by};
 ghost use Rattle.std.specs.List.{range_with_len};
-ghost use Rattle.fl_book.specs.Shown.{HasAllOf, HaveMet, IsHandedIn, IsShown};
-ghost use Rattle.fl_desk.specs.Legal.{IsLegal, orders_asked};
-ghost use Rattle.fl_order.specs.Order.{only_reads};
+ghost use Rattle.fl_desk.specs.Legal.{IsLegal, step_lines, orders_asked};
+ghost use Rattle.fl_history.specs.declared.history.Line.{Line};
 
-use crate::publisher::Publisher;
-use crate::seat::{NoView, Seat};
-use crate::shared::{Shared, are_apart};
 use fl_core::Tolds;
 use fl_desk::Desk;
 use fl_history::History;
-use fl_log::{Beginning, FreshLog, LogName};
-use fl_order::{Answer, Errno, NoMemory, Order};
+use fl_order::{NoMemory, Order};
 use std::alloc::{AllocError, Global};
-use std::marker::Brand;
-use std::sync::ledger::{Blank, Ledger, Share};
+use std::marker::{Brand, Model};
+use std::sync::ledger::{Blank, Book, Ledger, Share};
 use std::sync::{Mutex, Wait};
 
-/// The name of one board in contracts: a ledger with a part for each of its workers, and the log of its orders.
-pub trait BoardName: Ledger + LogName {
+/// The name of one board in contracts: a ledger with a part for each of its workers.
+pub trait BoardName: Ledger {
     ghost workers: { ℕ };
 }
 
@@ -29,13 +24,32 @@ impl BoardName for Brand {
     ghost workers = { 0 };
 }
 
-/// A board of 1 to 16 workers.
+/// A board of 1 to 16 workers. Under its lock lies one desk, with the ledger's book, whose total is the number of
+/// orders in the desk's history.
 #[derive(Drop)]
-pub struct Board<L: BoardName, R: Wait + Drop> {
-    shared: Mutex<Shared<L, R>>,
+pub struct Board<L: BoardName> {
+    shared: Mutex<Counted<L>>,
     workers: usize,
     ghost all: { workers ≡ L.workers },
     ghost some: { (0 < workers) × (workers ≤ 16) },
+}
+
+/// A worker's place at a board. Contracts see it as its worker and as how many orders were taken through it.
+#[derive(Drop)]
+pub struct Seat<L: BoardName> {
+    worker: u32,
+    share: Share<L>,
+}
+
+impl<L: BoardName> Model for Seat<L> {
+    ghost use Rattle.std.specs.Prelude.{◌≡◌};
+    ghost use Rattle.fl_book.specs.Seats.{Place};
+
+    ghost Value = { Place };
+
+    ghost view = { λ s. record { worker = s.worker; count = s.share.amount } };
+
+    ghost invariant = { λ s. s.share.parts ≡ 1 };
 }
 
 /// Why no board is there.
@@ -43,8 +57,6 @@ pub struct Board<L: BoardName, R: Wait + Drop> {
 pub enum OpenFault {
     /// Want of memory.
     NoMemory,
-    /// A worker got no reader of what is published.
-    NoReader,
 }
 
 /// Why an order is refused.
@@ -52,24 +64,15 @@ pub enum OpenFault {
 pub enum HandFault {
     /// Want of memory.
     NoMemory,
-    /// The history is shorter than what the worker handed in or was shown, or has 2^62 orders.
-    NoView,
 }
 
 /// Why a board is not closed. Board and seats come back.
 #[derive(Drop)]
-pub enum CloseFault<L: BoardName, R: Wait + Drop> {
+pub enum CloseFault<L: BoardName> {
     /// There are fewer seats than were made.
     NotAll {
         /// The board, as it was.
-        board: Board<L, R>,
-        /// The seats that were handed back.
-        seats: Vec<Seat<L>>,
-    },
-    /// The history is shorter than what some worker handed in or was shown, or two seats are of one worker.
-    NoView {
-        /// The board.
-        board: Board<L, R>,
+        board: Board<L>,
         /// The seats that were handed back.
         seats: Vec<Seat<L>>,
     },
@@ -87,145 +90,130 @@ impl From<AllocError> for OpenFault {
     }
 }
 
-impl<L: BoardName, R: Wait + Drop> Board<L, R> {
-    /// A board, and a seat for each of 1 to 16 workers: the seat at place i is worker i's. `rt` waits for readers.
+impl From<NoMemory> for HandFault {
+    fn from(_e: NoMemory) -> HandFault {
+        HandFault::NoMemory
+    }
+}
+
+impl<L: BoardName> Seat<L> {
+    /// Its worker, from 0.
+    pub fn worker(&self) -> u32
+        ensures { result ≡ self.now.worker }
+    {
+        self.worker
+    }
+}
+
+impl<L: BoardName> Board<L> {
+    /// A board, and a seat for each of 1 to 16 workers: the seat at place i is worker i's.
     pub fn new(
         alloc: Global,
-        rt: R,
         blank: Blank,
-        log: FreshLog,
         workers: u32,
-    ) -> Result<(Board<L, R>, Vec<Seat<L>>), OpenFault>
+    ) -> Result<(Board<L>, Vec<Seat<L>>), OpenFault>
         requires named { (blank.name ≡ L.name) × (blank.parts ≡ L.parts) }
-        requires log { log ≡ L.log }
         requires parts { (workers ≡ L.parts) × (L.workers ≡ L.parts) }
         requires workers { (0 < workers) × (workers ≤ 16) }
         ensures workers { IfOk result (λ made. map (λ seat. seat.worker) made.1.items ≡ range_with_len 0 workers) }
-        ensures fresh { IfOk result (λ made.
-            All (λ seat. (seat.count ≡ 0) × (seat.own ≡ []) × (seat.seen ≡ [])) made.1.items) }
+        ensures counts { IfOk result (λ made. All (λ seat. seat.count ≡ 0) made.1.items) }
     {
-        let (log, none) = log.named::<L>();
-        let publisher = Publisher::new(alloc, rt, &none, workers as usize)?;
-        let (book, rest) = blank.open::<L>();
-        let seats = seats_of(alloc, &publisher, &none, rest, workers)?;
-        let shared = Shared {
+        let (book, mut rest) = blank.open::<L>();
+        let mut seats = Vec::with_capacity(alloc, workers as usize)?;
+        for worker in 0..workers {
+            let share = rest.split_off(1, 0);
+            seats.push_reserved(Seat { worker, share });
+        }
+        let counted = Counted {
             desk: Desk::new(alloc)?,
             book,
-            log,
-            all: none,
-            publisher,
         };
         let board = Board {
-            shared: Mutex::new(shared),
+            shared: Mutex::new(counted),
             workers: workers as usize,
         };
         Ok((board, seats))
     }
 
     /// Takes an order of the seat's worker, as `Desk::take` does: records it, answers it, and hands out the replies
-    /// that it records. A refusal changes no line, lock, count or seat.
-    pub fn hand_in<W: Wait>(
+    /// that it records. A refusal changes no line, lock or count.
+    pub fn hand_in<R: Wait>(
         &self,
-        rt: &W,
+        rt: &R,
         seat: &mut Seat<L>,
         order: &Order,
         tolds: &mut Tolds,
     ) -> Result<(), HandFault>
         ensures worker { seat.new.worker ≡ seat.old.worker }
-        ensures handed { OnOk result (IsHandedIn seat.old order.now tolds.new seat.new) }
-        ensures refused { OnErr result ((seat.new ≡ seat.old) × (tolds.new ≡ tolds.old)) }
+        ensures count { OnOk result (seat.new.count ≡ seat.old.count + 1) }
+        ensures told { OnOk result ((before : List Line) ×
+            IsLegal (before ++ step_lines seat.old.worker order.now tolds.new)) }
+        ensures refused { OnErr result ((seat.new.count ≡ seat.old.count) × (tolds.new ≡ tolds.old)) }
     {
-        let mut shared = self.shared.lock(rt);
-        shared.hand_in(seat, order, tolds)
+        let mut counted = self.shared.lock(rt);
+        counted.hand_in(seat, order, tolds)
     }
 
-    /// What an order that only reads, GETLK or GETATTR, is answered after some beginning of the history, which the worker is
-    /// shown. It waits for nobody, takes no memory, and is no line of the history.
-    pub fn look(&self, seat: &mut Seat<L>, order: &Order) -> Result<Result<Answer, Errno>, NoView>
-        requires { only_reads order.now.op ≡ true }
-        ensures same { (seat.new.worker ≡ seat.old.worker) × (seat.new.count ≡ seat.old.count) × (seat.new.own ≡ seat.old.own) }
-        ensures shown { IfOk result (λ answer. IsShown seat.old order.now answer seat.new) }
-        ensures refused { OnErr result (seat.new ≡ seat.old) }
-    {
-        seat.look(order)
-    }
-
-    /// Shows two workers all that both handed in and were shown: looks of either show the orders of both from now on.
-    pub fn meet<W: Wait>(
-        &self,
-        rt: &W,
-        one: &mut Seat<L>,
-        other: &mut Seat<L>,
-    ) -> Result<(), NoView>
-        ensures one { (one.new.worker ≡ one.old.worker) × (one.new.count ≡ one.old.count) × (one.new.own ≡ one.old.own) }
-        ensures other { (other.new.worker ≡ other.old.worker) × (other.new.count ≡ other.old.count) × (other.new.own ≡ other.old.own) }
-        ensures met { OnOk result (HaveMet one.old other.old one.new other.new) }
-        ensures refused { OnErr result ((one.new ≡ one.old) × (other.new ≡ other.old)) }
-    {
-        let shared = self.shared.lock(rt);
-        shared.meet(one, other)
-    }
-
-    /// The history of all that was handed in, where no seat is missing. It begins with all that was handed in and shown
-    /// through each seat, and has as many orders of each worker as its seat's count.
-    pub fn close(self, seats: Vec<Seat<L>>) -> Result<History, CloseFault<L, R>>
+    /// The history of all that was handed in, where no seat is missing.
+    pub fn close(self, seats: Vec<Seat<L>>) -> Result<History, CloseFault<L>>
         requires { L.workers ≡ L.parts }
         ensures legal { IfOk result IsLegal }
         ensures counted { IfOk result (λ history. orders_asked history ≡ sum_by (λ seat. seat.count) seats.items) }
-        ensures each { IfOk result (λ history. All (λ seat. HasAllOf history seat) seats.items) }
-        ensures not_all { (result ≡ Err (CloseFault.NotAll self seats)) ↔ (length seats.items < L.workers) }
-        ensures back { IfErr result (λ fault. (fault ≡ CloseFault.NotAll self seats)
-            ⊎ ((board : _) × (fault ≡ CloseFault.NoView board seats))) }
+        ensures not_all { IsErr result ↔ (length seats.items < L.workers) }
+        ensures back { IfErr result (λ fault. fault ≡ CloseFault.NotAll self seats) }
     {
         if seats.len() < self.workers {
             return Err(CloseFault::NotAll { board: self, seats });
         }
-        let Board { shared, workers } = self;
-        let shared = shared.into_inner();
-        if !shared.begins_with(&seats) || !are_apart(&seats) {
-            let board = Board {
-                shared: Mutex::new(shared),
-                workers,
-            };
-            return Err(CloseFault::NoView { board, seats });
-        }
-        let Some(mut whole) = merged(seats) else {
+        let Board { shared, workers: _ } = self;
+        let Some(mut all) = merged(seats) else {
             unreachable!();
         };
-        Ok(shared.into_history(&mut whole))
+        Ok(shared.into_inner().into_history(&mut all))
     }
 }
 
-// A seat for each worker, with a part of the ledger.
-fn seats_of<L: BoardName, R: Wait + Drop>(
-    alloc: Global,
-    publisher: &Publisher<L, R>,
-    none: &Beginning<L>,
-    parts: Share<L>,
-    workers: u32,
-) -> Result<Vec<Seat<L>>, OpenFault>
-    requires none { none.now ≡ [] }
-    requires parts { (parts.parts ≡ workers) × (parts.amount ≡ 0) }
-    ensures workers { IfOk result (λ seats. map (λ seat. seat.worker) seats.items ≡ range_with_len 0 workers) }
-    ensures fresh { IfOk result (λ seats.
-        All (λ seat. (seat.count ≡ 0) × (seat.own ≡ []) × (seat.seen ≡ [])) seats.items) }
-{
-    let mut rest = parts;
-    let mut seats = Vec::with_capacity(alloc, workers as usize)?;
-    for worker in 0..workers {
-        let share = rest.split_off(1, 0);
-        let Ok(reader) = publisher.reader() else {
-            return Err(OpenFault::NoReader);
-        };
-        seats.push_reserved(Seat {
-            worker,
-            share,
-            reader,
-            own: none.again(),
-            seen: none.again(),
-        });
+// What lies under the lock.
+#[derive(Drop)]
+struct Counted<L: BoardName> {
+    desk: Desk,
+    book: Book<L>,
+    ghost counted: { book.total ≡ orders_asked desk.lines },
+}
+
+impl<L: BoardName> Counted<L> {
+    // Takes an order, and counts it.
+    #[tactic(auto, using(crate::proofs::Boards::step_asks_one_order))]
+    fn hand_in(
+        &mut self,
+        seat: &mut Seat<L>,
+        order: &Order,
+        tolds: &mut Tolds,
+    ) -> Result<(), HandFault>
+        ensures worker { seat.new.worker ≡ seat.old.worker }
+        ensures count { OnOk result (seat.new.count ≡ seat.old.count + 1) }
+        ensures lines { OnOk result
+            (self.new.desk.lines ≡ self.old.desk.lines ++ step_lines seat.old.worker order.now tolds.new) }
+        ensures legal { IsLegal self.new.desk.lines }
+        ensures refused { OnErr result ((seat.new.count ≡ seat.old.count) × (tolds.new ≡ tolds.old) ×
+            (self.new.desk.lines ≡ self.old.desk.lines) × (self.new.desk.present ≡ self.old.desk.present)) }
+    {
+        let Counted { desk, book } = self;
+        desk.take(seat.worker, order, tolds)?;
+        book.add(&mut seat.share, 1);
+        Ok(())
     }
-    Ok(seats)
+
+    // The history, for the whole of the ledger.
+    fn into_history(self, all: &mut Share<L>) -> History
+        requires { all.old.parts ≡ L.parts }
+        ensures legal { IsLegal result }
+        ensures counted { orders_asked result ≡ all.old.amount }
+    {
+        let Counted { desk, mut book } = self;
+        book.audit(all);
+        desk.into_history()
+    }
 }
 
 // The shares of all seats as one.
@@ -236,10 +224,10 @@ fn merged<L: BoardName>(seats: Vec<Seat<L>>) -> Option<Share<L>>
     ensures amount { IfSome result (λ all. all.amount ≡ sum_by (λ seat. seat.count) seats.items) }
 {
     let mut seats = seats;
-    let Seat { share, .. } = seats.pop()?;
+    let Seat { worker: _, share } = seats.pop()?;
     let mut all = share;
     while let Some(seat) = seats.pop() {
-        let Seat { share, .. } = seat;
+        let Seat { worker: _, share } = seat;
         all.merge(share);
     }
     Some(all)

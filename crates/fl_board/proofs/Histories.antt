@@ -1,0 +1,41 @@
+-- The history that asks make.
+use Rattle.std.proofs.Common.{◌≡◌, ℕ, List, [], ◌∷◌, ◌++◌, refl, ap, sym, ◌∙◌, subst, append_assoc}
+use Rattle.std.proofs.lemmas.List.{append-nil}
+use Rattle.std.proofs.lemmas.List.Sums.{fold-append}
+use Rattle.std.specs.List.{fold}
+use mathlib.Core.List.{IsPrefix}
+use Rattle.fl_board.specs.Inside.Asks.{stepped, present_after, lines_in, lines_from, history_of}
+use Rattle.fl_core.specs.State.{Snapshot, opening, snapshot_of}
+use Rattle.fl_core.specs.Step.{next, replies}
+use Rattle.fl_desk.specs.Leading.{LeadsTo}
+use Rattle.fl_desk.specs.Legal.{step_lines}
+use Rattle.fl_history.specs.declared.history.Line.{Line}
+use Rattle.fl_log.specs.declared.ask.Ask.{Ask}
+use Rattle.fl_order.specs.declared.order.Order.{Order}
+
+-- one ask more
+pub present_more : (asks : List Ask) (ask : Ask) → present_after (asks ++ ask ∷ []) ≡ stepped (present_after asks) ask
+present_more asks ask = fold-append stepped (snapshot_of opening) asks (ask ∷ [])
+
+lines_append : (p : Snapshot) (xs ys : List Ask) → lines_from p (xs ++ ys) ≡ lines_from p xs ++ lines_from (fold stepped p xs) ys
+lines_append p [] ys = refl
+lines_append p (x ∷ xs) ys =
+    ap (λ l. lines_in p x ++ l) (lines_append (stepped p x) xs ys)
+    ∙ sym (append_assoc (lines_in p x) (lines_from (stepped p x) xs) (lines_from (fold stepped (stepped p x) xs) ys))
+
+pub history_more : (asks : List Ask) (ask : Ask) → history_of (asks ++ ask ∷ []) ≡ history_of asks ++ lines_in (present_after asks) ask
+history_more asks ask =
+    lines_append (snapshot_of opening) asks (ask ∷ []) ∙ ap (λ l. history_of asks ++ l) (append-nil (lines_in (present_after asks) ask))
+
+-- a beginning of the asks makes a beginning of the history
+pub history_begins : (xs ys : List Ask) → IsPrefix xs ys → IsPrefix (history_of xs) (history_of ys)
+history_begins xs ys p = (lines_from (present_after xs) p.0, sym (lines_append (snapshot_of opening) xs p.0) ∙ ap history_of p.1)
+
+-- asks lead on
+pub asks_from : ((lines : List Line) (p : Snapshot) (worker : ℕ) (order : Order) → LeadsTo lines p
+    → LeadsTo (lines ++ step_lines worker order (replies p order)) (next p order))
+    → (lines : List Line) (p : Snapshot) (asks : List Ask) → LeadsTo lines p → LeadsTo (lines ++ lines_from p asks) (fold stepped p asks)
+asks_from law lines p [] leads = subst (λ (l : List Line). LeadsTo l p) (sym (append-nil lines)) leads
+asks_from law lines p (ask ∷ asks) leads =
+    subst (λ (l : List Line). LeadsTo l (fold stepped (stepped p ask) asks)) (append_assoc lines (lines_in p ask) (lines_from (stepped p ask) asks))
+    (asks_from law (lines ++ lines_in p ask) (stepped p ask) asks (law lines p ask.worker ask.order leads))

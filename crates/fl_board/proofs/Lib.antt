@@ -1,0 +1,3 @@
+pub mod Boards
+pub mod Histories
+pub mod Counts

@@ -1,0 +1,21 @@
+use Rattle.std.proofs.Common.{◌≡◌, ◌∙◌, sym, subst, All, refl, inr, sum_by, List}
+use Rattle.fl_board.specs.Inside.Asks.{AreApart, HasMostOf, history_of}
+use Rattle.fl_board.specs.Seats.{Place}
+use Rattle.fl_board.proofs.Counts.{has_all}
+use Rattle.fl_desk.specs.Legal.{orders_asked}
+use Rattle.fl_history.specs.declared.history.Line.{Line}
+use Rattle.fl_board.proofs.board.Board.close.Goals as goal
+
+pub returns-then-not-begins_with-clause-back : goal.returns-then-not-begins_with-clause-back
+returns-then-not-begins_with-clause-back g c = inr (_, refl)
+
+pub returns-clause-each : goal.returns-clause-each
+returns-clause-each g c =
+    let seats = c.args.seats.items in
+    let apart : AreApart seats = subst AreApart c.deref-else-not-begins_with.ensures.value (c.if-not-are_apart.ensures refl) in
+    let most : All (λ (p : Place). HasMostOf (history_of c.into_inner-shared.result) p) seats =
+    subst (λ (l : List Place). All (λ (p : Place). HasMostOf (history_of c.into_inner-shared.result) p) l) c.deref.ensures.value
+    (c.if-not-begins_with.ensures refl) in
+    let history = c.into_history.ensures in
+    let total : orders_asked c.into_history.result ≡ sum_by (λ (p : Place). p.count) seats = history.counted ∙ c.in-Some.ensures.amount in
+    has_all c.into_history.result seats apart (subst (λ (l : List Line). All (λ (p : Place). HasMostOf l p) seats) (sym history.lines) most) total

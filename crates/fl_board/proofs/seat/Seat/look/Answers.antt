@@ -1,0 +1,19 @@
+use Rattle.std.proofs.Common.{rules, ◌≡◌, Some, refl, ap, sym, ◌∙◌}
+use Rattle.fl_core.specs.Replies.{own_replies}
+use Rattle.fl_core.specs.State.{Snapshot}
+use Rattle.fl_core.specs.Step.{replies}
+use Rattle.fl_board.specs.Inside.Asks.{present_after}
+use Rattle.fl_board.proofs.seat.Seat.look.Goals as goal
+
+pub returns-clause-shown : goal.returns-clause-shown
+returns-clause-shown g c =
+    let shown = c.in-Some.shown in
+    let leads = c.asks_lead.ensures shown in
+    let most = c.if-not-begins.ensures refl in
+    let told : replies (present_after shown) c.args.order.now ≡ own_replies c.args.order.now (Some c.in-Some.answer) = search rules in
+    rw (← c.self.view_is) (record {
+      legal = leads.legal;
+      had = most.had;
+      saw = most.saw;
+      answer = ap (λ (p : Snapshot). replies p c.args.order.now) (sym leads.stands) ∙ told;
+    })

@@ -1,0 +1,66 @@
+use Rattle.std.proofs.Common.{rules, ◌≡◌, ◌+◌, ◌∷◌, [], ◌++◌, refl, ap, sym, ◌∙◌, subst, arith}
+use Rattle.fl_core.specs.State.{Snapshot}
+use Rattle.fl_core.specs.Step.{next, replies, replies_in}
+use Rattle.fl_desk.specs.Legal.{step_lines, orders_asked}
+use Rattle.fl_desk.specs.Replay.{state_after}
+use Rattle.fl_log.specs.declared.ask.Ask.{Ask}
+use Rattle.fl_board.specs.Inside.Asks.{HasMostOf, history_of, present_after}
+use Rattle.fl_board.specs.Seats.{Place, orders_by}
+use Rattle.fl_board.proofs.Boards.{step_asks_one_order}
+use Rattle.fl_board.proofs.Counts.{one_more_by}
+use Rattle.fl_board.proofs.Histories.{history_more, present_more}
+use Rattle.fl_board.proofs.shared.Shared.hand_in.Goals as goal
+
+pub invariant_of-self-2 : goal.invariant_of-self-2
+invariant_of-self-2 g c =
+    let was = c.self.inside.all in
+    let order = c.args.order.now in
+    let worker = c.seat.inside.worker in
+    let ask : Ask = record { worker = worker; order = order } in
+    let all : c.add.new.self ≡ was ++ ask ∷ [] = search rules in
+    let taken : c.take.new.self.lines ≡ history_of was ++ step_lines worker order c.take.new.tolds = search rules in
+    let told : c.take.new.tolds ≡ replies_in (state_after (history_of was)) order = search rules in
+    let stepped : c.take.new.self.present ≡ next (present_after was) order = search rules in
+    let leads = c.asks_lead.ensures was in
+    let answered : c.take.new.tolds ≡ replies (present_after was) order = told ∙ ap (λ (p : Snapshot). replies p order) (sym leads.stands) in (
+      search rules,
+      taken ∙ ap (λ t. history_of was ++ step_lines worker order t) answered ∙ sym (history_more was ask) ∙ ap history_of (sym all),
+      stepped ∙ sym (present_more was ask) ∙ ap present_after (sym all),
+      c.add-3.ensures.total ∙ ap (λ n. n + 1) (c.self.invariant.3 ∙ ap orders_asked c.self.invariant.1)
+          ∙ sym (ap orders_asked taken ∙ step_asks_one_order (history_of was) worker order c.take.new.tolds),
+    )
+
+pub invariant_of-seat : goal.invariant_of-seat
+invariant_of-seat g c =
+    let was = c.self.inside.all in
+    let order = c.args.order.now in
+    let worker = c.seat.inside.worker in
+    let ask : Ask = record { worker = worker; order = order } in
+    let own : c.again-3.result ≡ was ++ ask ∷ [] = search rules in
+    let most = subst (λ (p : Place). HasMostOf (history_of was) p) (sym c.seat.view_is) (c.if-not-begins.ensures refl) in
+    let more : orders_by worker (history_of c.again-3.result) ≡ orders_by worker (history_of was) + 1 =
+    ap (λ asks. orders_by worker (history_of asks)) own ∙ ap (orders_by worker) (history_more was ask)
+    ∙ one_more_by worker (history_of was) order (replies (present_after was) order) in
+    (c.add-3.ensures.parts ∙ c.seat.invariant.0, omega (arith, c.add-3.ensures.amount, most.count, more))
+
+pub returns-clause-handed : goal.returns-clause-handed
+returns-clause-handed g c =
+    let was = c.self.inside.all in
+    let order = c.args.order.now in
+    let worker = c.seat.inside.worker in
+    let ask : Ask = record { worker = worker; order = order } in
+    let own : c.again-3.result ≡ was ++ ask ∷ [] = search rules in
+    let told : c.take.new.tolds ≡ replies_in (state_after (history_of was)) order = search rules in
+    let answered : c.take.new.tolds ≡ replies (present_after was) order =
+    told ∙ ap (λ (p : Snapshot). replies p order) (sym (c.asks_lead.ensures was).stands) in
+    let most = subst (λ (p : Place). HasMostOf (history_of was) p) (sym c.seat.view_is) (c.if-not-begins.ensures refl) in
+    rw (← c.seat.view_is) (record {
+      before = history_of was;
+      own = ap history_of own ∙ history_more was ask ∙ ap (λ t. history_of was ++ step_lines worker order t) (sym answered);
+      legal = (c.asks_lead.ensures c.again-3.result).legal;
+      had = most.had;
+      saw = most.saw;
+      seen = refl;
+      count = c.add-3.ensures.amount;
+      recorded = (invariant_of-seat g c).1;
+    })

@@ -1,0 +1,40 @@
+-- What asks come to, one after another.
+use Rattle.std.specs.Prelude.{◌≢◌, ◌≤◌, List, [], ◌∷◌, ◌++◌}
+use Rattle.std.specs.List.{fold, AllPairs}
+use mathlib.Core.List.{IsPrefix}
+use Rattle.fl_board.specs.Seats.{Place, orders_by}
+use Rattle.fl_core.specs.State.{Snapshot, opening, snapshot_of}
+use Rattle.fl_core.specs.Step.{next, replies}
+use Rattle.fl_desk.specs.Legal.{step_lines}
+use Rattle.fl_history.specs.declared.history.Line.{Line}
+use Rattle.fl_log.specs.declared.ask.Ask.{Ask}
+
+-- what is there after an ask
+abbrev pub stepped : Snapshot → Ask → Snapshot
+stepped p ask = next p ask.order
+
+-- what is there after these asks
+abbrev pub present_after : List Ask → Snapshot
+present_after asks = fold stepped (snapshot_of opening) asks
+
+-- the lines of an ask
+abbrev pub lines_in : Snapshot → Ask → List Line
+lines_in p ask = step_lines ask.worker ask.order (replies p ask.order)
+
+abbrev pub lines_from : Snapshot → List Ask → List Line
+lines_from p [] = []
+lines_from p (ask ∷ asks) = lines_in p ask ++ lines_from (stepped p ask) asks
+
+-- the history that these asks make
+abbrev pub history_of : List Ask → List Line
+history_of asks = lines_from (snapshot_of opening) asks
+
+-- the lines begin with all that the worker handed in and was shown, and have as many orders of it at least
+pub record HasMostOf (lines : List Line) (place : Place) : Type 0 where
+  pub had : IsPrefix place.own lines
+  pub saw : IsPrefix place.seen lines
+  pub count : place.count ≤ orders_by place.worker lines
+
+-- no two are of one worker
+abbrev pub AreApart : List Place → Type 0
+AreApart places = AllPairs (λ (a b : Place). a.worker ≢ b.worker) places

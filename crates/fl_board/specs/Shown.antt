@@ -1,0 +1,49 @@
+-- What workers at one board know of its one history.
+use Rattle.std.specs.Prelude.{◌≡◌, ◌+◌, ◌≤◌, Some, Result, List, ◌++◌}
+use mathlib.Core.List.{IsPrefix}
+use Rattle.fl_board.specs.Seats.{Place, orders_by}
+use Rattle.fl_core.specs.Replies.{own_replies}
+use Rattle.fl_core.specs.Step.{replies_in}
+use Rattle.fl_desk.specs.Legal.{IsLegal, step_lines}
+use Rattle.fl_desk.specs.Replay.{state_after}
+use Rattle.fl_history.specs.declared.history.Line.{Line}
+use Rattle.fl_order.specs.declared.errno.Errno.{Errno}
+use Rattle.fl_order.specs.declared.order.Order.{Order}
+use Rattle.fl_order.specs.declared.told.Answer.{Answer}
+use Rattle.fl_order.specs.declared.told.Told.{Told}
+
+-- The order stands with these replies at the end of a legal history, behind all that the worker had handed in and was shown
+-- before. One order more was handed in, and the history has as many of this worker at least.
+pub record IsHandedIn (old : Place) (order : Order) (tolds : List Told) (new : Place) : Type 0 where
+  pub before : List Line
+  pub own : new.own ≡ before ++ step_lines old.worker order tolds
+  pub legal : IsLegal new.own
+  pub had : IsPrefix old.own before
+  pub saw : IsPrefix old.seen before
+  pub seen : new.seen ≡ old.seen
+  pub count : new.count ≡ old.count + 1
+  pub recorded : new.count ≤ orders_by old.worker new.own
+
+-- A legal history was shown, which begins with all that the worker had handed in and was shown before. The result is what the
+-- order is answered there.
+pub record IsShown (old : Place) (order : Order) (result : Result Answer Errno) (new : Place) : Type 0 where
+  pub legal : IsLegal new.seen
+  pub had : IsPrefix old.own new.seen
+  pub saw : IsPrefix old.seen new.seen
+  pub answer : replies_in (state_after new.seen) order ≡ own_replies order (Some result)
+
+-- Two workers were shown one legal history, which begins with all that both had handed in and were shown before.
+pub record HaveMet (one other one_now other_now : Place) : Type 0 where
+  pub legal : IsLegal one_now.seen
+  pub same : other_now.seen ≡ one_now.seen
+  pub one_had : IsPrefix one.own one_now.seen
+  pub one_saw : IsPrefix one.seen one_now.seen
+  pub other_had : IsPrefix other.own one_now.seen
+  pub other_saw : IsPrefix other.seen one_now.seen
+
+-- The history begins with all that the worker handed in and was shown, and its orders of this worker are those that were handed
+-- in, as many.
+pub record HasAllOf (lines : List Line) (place : Place) : Type 0 where
+  pub had : IsPrefix place.own lines
+  pub saw : IsPrefix place.seen lines
+  pub count : orders_by place.worker lines ≡ place.count

@@ -1,0 +1,246 @@
+//! The board: workers with seats hand in orders under one lock, and look without it. One history of all orders is kept.
+
+ghost use Rattle.std.specs.Prelude.{◌≡◌, ℕ, ◌<◌, ◌≤◌, ◌↔◌, ◌⊎◌, [], true, Err, List, All, IfOk, IfErr, IfSome, IsSome, OnOk, OnErr};
+ghost use Rattle.std.specs.Prelude.{length, map, sum_by};
+ghost use Rattle.std.specs.List.{range_with_len};
+ghost use Rattle.fl_board.specs.Shown.{HasAllOf, HaveMet, IsHandedIn, IsShown};
+ghost use Rattle.fl_desk.specs.Legal.{IsLegal, orders_asked};
+ghost use Rattle.fl_order.specs.Order.{only_reads};
+
+use crate::publisher::Publisher;
+use crate::seat::{NoView, Seat};
+use crate::shared::{Shared, are_apart};
+use fl_core::Tolds;
+use fl_desk::Desk;
+use fl_history::History;
+use fl_log::{Beginning, FreshLog, LogName};
+use fl_order::{Answer, Errno, NoMemory, Order};
+use std::alloc::{AllocError, Global};
+use std::marker::Brand;
+use std::sync::ledger::{Blank, Ledger, Share};
+use std::sync::{Mutex, Wait};
+
+/// The name of one board in contracts: a ledger with a part for each of its workers, and the log of its orders.
+pub trait BoardName: Ledger + LogName {
+    ghost workers: { ℕ };
+}
+
+impl BoardName for Brand {
+    ghost workers = { 0 };
+}
+
+/// A board of 1 to 16 workers.
+#[derive(Drop)]
+pub struct Board<L: BoardName, R: Wait + Drop> {
+    shared: Mutex<Shared<L, R>>,
+    workers: usize,
+    ghost all: { workers ≡ L.workers },
+    ghost some: { (0 < workers) × (workers ≤ 16) },
+}
+
+/// Why no board is there.
+#[derive(Clone, Copy, Debug, PartialEq, Eq)]
+pub enum OpenFault {
+    /// Want of memory.
+    NoMemory,
+    /// A worker got no reader of what is published.
+    NoReader,
+}
+
+/// Why an order is refused.
+#[derive(Clone, Copy, Debug, PartialEq, Eq)]
+pub enum HandFault {
+    /// Want of memory.
+    NoMemory,
+    /// The history is shorter than what the worker handed in or was shown, or has 2^62 orders.
+    NoView,
+}
+
+/// Why a board is not closed. Board and seats come back.
+#[derive(Drop)]
+pub enum CloseFault<L: BoardName, R: Wait + Drop> {
+    /// There are fewer seats than were made.
+    NotAll {
+        /// The board, as it was.
+        board: Board<L, R>,
+        /// The seats that were handed back.
+        seats: Vec<Seat<L>>,
+    },
+    /// The history is shorter than what some worker handed in or was shown, or two seats are of one worker.
+    NoView {
+        /// The board.
+        board: Board<L, R>,
+        /// The seats that were handed back.
+        seats: Vec<Seat<L>>,
+    },
+}
+
+impl From<NoMemory> for OpenFault {
+    fn from(_e: NoMemory) -> OpenFault {
+        OpenFault::NoMemory
+    }
+}
+
+impl From<AllocError> for OpenFault {
+    fn from(_e: AllocError) -> OpenFault {
+        OpenFault::NoMemory
+    }
+}
+
+impl<L: BoardName, R: Wait + Drop> Board<L, R> {
+    /// A board, and a seat for each of 1 to 16 workers: the seat at place i is worker i's. `rt` waits for readers.
+    pub fn new(
+        alloc: Global,
+        rt: R,
+        blank: Blank,
+        log: FreshLog,
+        workers: u32,
+    ) -> Result<(Board<L, R>, Vec<Seat<L>>), OpenFault>
+        requires named { (blank.name ≡ L.name) × (blank.parts ≡ L.parts) }
+        requires log { log ≡ L.log }
+        requires parts { (workers ≡ L.parts) × (L.workers ≡ L.parts) }
+        requires workers { (0 < workers) × (workers ≤ 16) }
+        ensures workers { IfOk result (λ made. map (λ seat. seat.worker) made.1.items ≡ range_with_len 0 workers) }
+        ensures fresh { IfOk result (λ made.
+            All (λ seat. (seat.count ≡ 0) × (seat.own ≡ []) × (seat.seen ≡ [])) made.1.items) }
+    {
+        let (log, none) = log.named::<L>();
+        let publisher = Publisher::new(alloc, rt, &none, workers as usize)?;
+        let (book, rest) = blank.open::<L>();
+        let seats = seats_of(alloc, &publisher, &none, rest, workers)?;
+        let shared = Shared {
+            desk: Desk::new(alloc)?,
+            book,
+            log,
+            all: none,
+            publisher,
+        };
+        let board = Board {
+            shared: Mutex::new(shared),
+            workers: workers as usize,
+        };
+        Ok((board, seats))
+    }
+
+    /// Takes an order of the seat's worker, as `Desk::take` does: records it, answers it, and hands out the replies
+    /// that it records. A refusal changes no line, lock, count or seat.
+    pub fn hand_in<W: Wait>(
+        &self,
+        rt: &W,
+        seat: &mut Seat<L>,
+        order: &Order,
+        tolds: &mut Tolds,
+    ) -> Result<(), HandFault>
+        ensures worker { seat.new.worker ≡ seat.old.worker }
+        ensures handed { OnOk result (IsHandedIn seat.old order.now tolds.new seat.new) }
+        ensures refused { OnErr result ((seat.new ≡ seat.old) × (tolds.new ≡ tolds.old)) }
+    {
+        let mut shared = self.shared.lock(rt);
+        shared.hand_in(seat, order, tolds)
+    }
+
+    /// What an order that only reads, GETLK or GETATTR, is answered after some beginning of the history, which the worker is
+    /// shown. It waits for nobody, takes no memory, and is no line of the history.
+    pub fn look(&self, seat: &mut Seat<L>, order: &Order) -> Result<Result<Answer, Errno>, NoView>
+        requires { only_reads order.now.op ≡ true }
+        ensures same { (seat.new.worker ≡ seat.old.worker) × (seat.new.count ≡ seat.old.count) × (seat.new.own ≡ seat.old.own) }
+        ensures shown { IfOk result (λ answer. IsShown seat.old order.now answer seat.new) }
+        ensures refused { OnErr result (seat.new ≡ seat.old) }
+    {
+        seat.look(order)
+    }
+
+    /// Shows two workers all that both handed in and were shown: looks of either show the orders of both from now on.
+    pub fn meet<W: Wait>(
+        &self,
+        rt: &W,
+        one: &mut Seat<L>,
+        other: &mut Seat<L>,
+    ) -> Result<(), NoView>
+        ensures one { (one.new.worker ≡ one.old.worker) × (one.new.count ≡ one.old.count) × (one.new.own ≡ one.old.own) }
+        ensures other { (other.new.worker ≡ other.old.worker) × (other.new.count ≡ other.old.count) × (other.new.own ≡ other.old.own) }
+        ensures met { OnOk result (HaveMet one.old other.old one.new other.new) }
+        ensures refused { OnErr result ((one.new ≡ one.old) × (other.new ≡ other.old)) }
+    {
+        let shared = self.shared.lock(rt);
+        shared.meet(one, other)
+    }
+
+    /// The history of all that was handed in, where no seat is missing. It begins with all that was handed in and shown
+    /// through each seat, and has as many orders of each worker as its seat's count.
+    pub fn close(self, seats: Vec<Seat<L>>) -> Result<History, CloseFault<L, R>>
+        requires { L.workers ≡ L.parts }
+        ensures legal { IfOk result IsLegal }
+        ensures counted { IfOk result (λ history. orders_asked history ≡ sum_by (λ seat. seat.count) seats.items) }
+        ensures each { IfOk result (λ history. All (λ seat. HasAllOf history seat) seats.items) }
+        ensures not_all { (result ≡ Err (CloseFault.NotAll self seats)) ↔ (length seats.items < L.workers) }
+        ensures back { IfErr result (λ fault. (fault ≡ CloseFault.NotAll self seats)
+            ⊎ ((board : _) × (fault ≡ CloseFault.NoView board seats))) }
+    {
+        if seats.len() < self.workers {
+            return Err(CloseFault::NotAll { board: self, seats });
+        }
+        let Board { shared, workers } = self;
+        let shared = shared.into_inner();
+        if !shared.begins_with(&seats) || !are_apart(&seats) {
+            let board = Board {
+                shared: Mutex::new(shared),
+                workers,
+            };
+            return Err(CloseFault::NoView { board, seats });
+        }
+        let Some(mut whole) = merged(seats) else {
+            unreachable!();
+        };
+        Ok(shared.into_history(&mut whole))
+    }
+}
+
+// A seat for each worker, with a part of the ledger.
+fn seats_of<L: BoardName, R: Wait + Drop>(
+    alloc: Global,
+    publisher: &Publisher<L, R>,
+    none: &Beginning<L>,
+    parts: Share<L>,
+    workers: u32,
+) -> Result<Vec<Seat<L>>, OpenFault>
+    requires none { none.now ≡ [] }
+    requires parts { (parts.parts ≡ workers) × (parts.amount ≡ 0) }
+    ensures workers { IfOk result (λ seats. map (λ seat. seat.worker) seats.items ≡ range_with_len 0 workers) }
+    ensures fresh { IfOk result (λ seats.
+        All (λ seat. (seat.count ≡ 0) × (seat.own ≡ []) × (seat.seen ≡ [])) seats.items) }
+{
+    let mut rest = parts;
+    let mut seats = Vec::with_capacity(alloc, workers as usize)?;
+    for worker in 0..workers {
+        let share = rest.split_off(1, 0);
+        let Ok(reader) = publisher.reader() else {
+            return Err(OpenFault::NoReader);
+        };
+        seats.push_reserved(Seat {
+            worker,
+            share,
+            reader,
+            own: none.again(),
+            seen: none.again(),
+        });
+    }
+    Ok(seats)
+}
+
+// The shares of all seats as one.
+fn merged<L: BoardName>(seats: Vec<Seat<L>>) -> Option<Share<L>>
+    requires { 0 < L.parts }
+    ensures some { 0 < length seats.items → IsSome result }
+    ensures parts { IfSome result (λ all. (all.parts ≡ length seats.items) × (all.parts ≤ L.parts)) }
+    ensures amount { IfSome result (λ all. all.amount ≡ sum_by (λ seat. seat.count) seats.items) }
+{
+    let mut seats = seats;
+    let Seat { share, .. } = seats.pop()?;
+    let mut all = share;
+    while let Some(seat) = seats.pop() {
+        let Seat { share, .. } = seat;
+        all.merge(share);
+    }
+    Some(all)
+}

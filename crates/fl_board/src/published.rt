@@ -1,0 +1,140 @@
+//! The copies of the directory that looks read.
+
+ghost use Rattle.std.specs.Prelude.{◌≡◌, ◌↔◌, [], true, Some, IfOk, IfSome, IsSome};
+ghost use Rattle.fl_board.specs.Inside.Asks.{present_after};
+ghost use Rattle.fl_core.specs.Replies.{own_replies};
+ghost use Rattle.fl_core.specs.Step.{next, replies};
+ghost use Rattle.fl_order.specs.Order.{only_reads};
+
+use fl_core::{Core, Tolds};
+use fl_log::{Beginning, LogName};
+use fl_order::{Answer, Errno, NoMemory, Order};
+use left_right::{Absorb, ReadHandle};
+use std::alloc::{AllocError, Global};
+use std::marker::Model;
+
+/// An order, with the beginnings of the log before it and with it.
+#[derive(Drop)]
+pub struct Update<L: LogName> {
+    order: Order,
+    before: Beginning<L>,
+    after: Beginning<L>,
+}
+
+impl<L: LogName> Model for Update<L> {
+    ghost use Rattle.std.specs.Prelude.{◌≡◌};
+    ghost use Rattle.fl_board.specs.Inside.Asks.{present_after};
+    ghost use Rattle.fl_board.specs.Inside.Updates.{Extension};
+    ghost use Rattle.fl_core.specs.Step.{next};
+
+    ghost Value = { Extension };
+
+    ghost view = { λ u. record { order = u.order; before = u.before; after = u.after } };
+
+    ghost invariant = { λ u. present_after u.after ≡ next (present_after u.before) u.order };
+}
+
+impl<L: LogName> Update<L> {
+    pub(crate) fn new(order: Order, before: Beginning<L>, after: Beginning<L>) -> Update<L>
+        requires { present_after after ≡ next (present_after before) order }
+        ensures { (result.before ≡ before) × (result.after ≡ after) × (result.order ≡ order) }
+    {
+        Update {
+            order,
+            before,
+            after,
+        }
+    }
+}
+
+/// A copy of the directory. Contracts see it as the asks that led to it.
+#[derive(Drop)]
+pub struct Published<L: LogName> {
+    core: Core,
+    asks: Beginning<L>,
+    // Room for the replies of an order that it takes.
+    tolds: Tolds,
+}
+
+impl<L: LogName> Model for Published<L> {
+    ghost use Rattle.std.specs.Prelude.{◌≡◌, List};
+    ghost use Rattle.fl_board.specs.Inside.Asks.{present_after};
+    ghost use Rattle.fl_log.specs.declared.ask.Ask.{Ask};
+
+    ghost Value = { List Ask };
+
+    ghost view = { λ p. p.asks };
+
+    ghost invariant = { λ p. p.core ≡ present_after p.asks };
+}
+
+impl<L: LogName> Published<L> {
+    /// The directory as it opens.
+    pub(crate) fn new(alloc: Global, none: &Beginning<L>) -> Result<Published<L>, NoMemory>
+        requires { none.now ≡ [] }
+        ensures { IfOk result (λ published. published ≡ []) }
+    {
+        Ok(Published {
+            core: Core::new(alloc)?,
+            asks: none.again(),
+            tolds: Tolds::new(alloc)?,
+        })
+    }
+
+    // The asks that led to it.
+    fn asks(&self) -> Beginning<L>
+        ensures { result ≡ self.now }
+    {
+        self.asks.again()
+    }
+
+    // What an order that only reads is answered.
+    fn answer(&self, order: &Order) -> Option<Result<Answer, Errno>>
+        ensures reads { IsSome result ↔ (only_reads order.now.op ≡ true) }
+        ensures replies { IsSome result → replies (present_after self.now) order.now ≡ own_replies order.now result }
+    {
+        self.core.answer(order)
+    }
+}
+
+impl<L: LogName> Absorb<Update<L>> for Published<L> {
+    ghost use Rattle.fl_board.specs.Inside.Updates.{extended};
+
+    type State = Beginning<L>;
+
+    ghost state = { λ p. p };
+
+    ghost applied = { extended };
+
+    ghost never_fails = { Unit {0} };
+
+    fn absorb_first(
+        &mut self,
+        operation: &Update<L>,
+        _other: &Published<L>,
+    ) -> Result<(), AllocError> {
+        if self.asks.is(&operation.before) {
+            self.core.step(&operation.order, &mut self.tolds);
+            self.asks = operation.after.again();
+        }
+        Ok(())
+    }
+}
+
+/// What an order that only reads is answered by what is published, and the asks that led to that. None where no copy could be
+/// entered.
+pub(crate) fn glance<L: LogName>(
+    reader: &mut ReadHandle<Published<L>>,
+    order: &Order,
+) -> Option<(Beginning<L>, Result<Answer, Errno>)>
+    requires { only_reads order.now.op ≡ true }
+    ensures { IfSome result (λ shown. replies (present_after shown.0) order.now ≡ own_replies order.now (Some shown.1)) }
+{
+    let guard = reader.enter()?;
+    let published: &Published<L> = &guard;
+    let asks = published.asks();
+    let Some(answer) = published.answer(order) else {
+        unreachable!();
+    };
+    Some((asks, answer))
+}

@@ -1,0 +1,102 @@
+//! The writer of what looks read.
+
+ghost use Rattle.std.specs.Prelude.{◌≡◌, ◌<◌, ◌^◌, [], IfOk, MatchResult};
+ghost use Rattle.fl_board.specs.Inside.Asks.{present_after};
+
+use crate::published::{Published, Update};
+use fl_log::{Beginning, LogName};
+use fl_order::{NoMemory, Op, Order};
+use left_right::{Absorb, ReadHandle, WriteHandle};
+use std::alloc::{AllocError, Global};
+use std::marker::Model;
+use std::sync::Wait;
+
+/// The writer. Contracts see it as the asks that lead to what is published, once all that waits is.
+pub(crate) struct Publisher<L: LogName, R: Wait + Drop>
+where
+    Published<L>: Absorb<Update<L>, State = Beginning<L>>,
+{
+    writer: WriteHandle<Published<L>, Update<L>, R>,
+}
+
+impl<L: LogName, R: Wait + Drop> Model for Publisher<L, R>
+where
+    Published<L>: Absorb<Update<L>, State = Beginning<L>>,
+{
+    ghost use Rattle.std.specs.Prelude.{List};
+    ghost use Rattle.fl_board.specs.Inside.Updates.{in_the_end};
+    ghost use Rattle.fl_log.specs.declared.ask.Ask.{Ask};
+    ghost use Rattle.left_right.specs.Handles.{published, pending};
+
+    ghost Value = { List Ask };
+
+    ghost view = { λ p. in_the_end (published p.writer) (pending p.writer) };
+}
+
+impl<L: LogName, R: Wait + Drop> Drop for Publisher<L, R> {
+    fn drop(self) {
+        let Self { writer: _writer } = self;
+    }
+}
+
+impl<L: LogName, R: Wait + Drop> Publisher<L, R> {
+    /// A writer of the directory as it opens, with a place for so many readers.
+    pub(crate) fn new(
+        alloc: Global,
+        rt: R,
+        none: &Beginning<L>,
+        readers: usize,
+    ) -> Result<Publisher<L, R>, NoMemory>
+        requires none { none.now ≡ [] }
+        requires readers { (0 < readers) × (readers < 2 ^ 32) }
+        ensures { IfOk result (λ publisher. publisher ≡ []) }
+    {
+        let first = Published::new(alloc, none)?;
+        let second = Published::new(alloc, none)?;
+        let mut publisher = Publisher {
+            writer: WriteHandle::new(alloc, rt, first, second, readers)?,
+        };
+        // The writer's list of updates grows to the size that it keeps, so that no later update wants memory.
+        publisher.add(nothing(none))?;
+        publisher.publish();
+        publisher.add(nothing(none))?;
+        publisher.publish();
+        Ok(publisher)
+    }
+
+    /// A reader of what is published.
+    pub(crate) fn reader(&self) -> Result<ReadHandle<Published<L>>, AllocError> {
+        self.writer.handle()
+    }
+
+    /// Keeps an update to be published. A refusal changes nothing.
+    pub(crate) fn add(&mut self, update: Update<L>) -> Result<(), AllocError>
+        requires { update.before ≡ self.old }
+        ensures { MatchResult result (λ _. self.new ≡ update.after) (λ _. self.new ≡ self.old) }
+    {
+        self.writer.append(update).map_err(|_| AllocError)
+    }
+
+    /// Publishes all updates, once no reader is in the copy that was published before the last one.
+    pub(crate) fn publish(&mut self)
+        ensures { self.new ≡ self.old }
+    {
+        let _ = self.writer.publish();
+    }
+}
+
+// An update that changes nothing: it asks for the root's attributes.
+fn nothing<L: LogName>(none: &Beginning<L>) -> Update<L>
+    requires { none.now ≡ [] }
+    ensures { (result.before ≡ []) × (result.after ≡ []) }
+{
+    let order = Order {
+        unique: 0,
+        node: 1,
+        uid: 0,
+        gid: 0,
+        pid: 0,
+        op: Op::Getattr,
+    };
+    Update::new(order, none.again(), none.again())
+}

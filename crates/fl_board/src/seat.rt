@@ -1,0 +1,82 @@
+//! A worker's place at a board.
+
+ghost use Rattle.std.specs.Prelude.{◌≡◌, true, IfOk, OnErr};
+ghost use Rattle.fl_board.specs.Inside.Asks.{HasMostOf, history_of};
+ghost use Rattle.fl_board.specs.Shown.{IsShown};
+ghost use Rattle.fl_order.specs.Order.{only_reads};
+
+use crate::asks::asks_lead;
+use crate::board::BoardName;
+use crate::published::{Published, glance};
+use fl_log::Beginning;
+use fl_order::{Answer, Errno, Order};
+use left_right::ReadHandle;
+use std::marker::Model;
+use std::sync::ledger::Share;
+
+/// Nothing could be shown to a worker: it can't enter what is published, or what is published is shorter than what the worker
+/// handed in or was shown.
+#[derive(Clone, Copy, Debug, PartialEq, Eq)]
+pub struct NoView;
+
+/// A worker's place at a board. Contracts see it as its worker, how many orders were handed in through it, the history up to
+/// the last of these, and the longest history that was shown through it.
+#[derive(Drop)]
+pub struct Seat<L: BoardName> {
+    pub(crate) worker: u32,
+    pub(crate) share: Share<L>,
+    pub(crate) reader: ReadHandle<Published<L>>,
+    pub(crate) own: Beginning<L>,
+    pub(crate) seen: Beginning<L>,
+}
+
+impl<L: BoardName> Model for Seat<L> {
+    ghost use Rattle.std.specs.Prelude.{◌≡◌, ◌≤◌};
+    ghost use Rattle.fl_board.specs.Inside.Asks.{history_of};
+    ghost use Rattle.fl_board.specs.Seats.{Place, orders_by};
+
+    ghost Value = { Place };
+
+    ghost view = { λ s. record {
+      worker = s.worker;
+      count = s.share.amount;
+      own = history_of s.own;
+      seen = history_of s.seen;
+    } };
+
+    ghost invariant = { λ s. (s.share.parts ≡ 1) × (s.share.amount ≤ orders_by s.worker (history_of s.own)) };
+}
+
+impl<L: BoardName> Seat<L> {
+    /// Its worker, from 0.
+    pub fn worker(&self) -> u32
+        ensures { result ≡ self.now.worker }
+    {
+        self.worker
+    }
+
+    // What an order that only reads is answered by what is published.
+    pub(crate) fn look(&mut self, order: &Order) -> Result<Result<Answer, Errno>, NoView>
+        requires { only_reads order.now.op ≡ true }
+        ensures same { (self.new.worker ≡ self.old.worker) × (self.new.count ≡ self.old.count) × (self.new.own ≡ self.old.own) }
+        ensures shown { IfOk result (λ answer. IsShown self.old order.now answer self.new) }
+        ensures refused { OnErr result (self.new ≡ self.old) }
+    {
+        asks_lead();
+        let Some((shown, answer)) = glance(&mut self.reader, order) else {
+            return Err(NoView);
+        };
+        if !self.begins(&shown) {
+            return Err(NoView);
+        }
+        self.seen = shown;
+        Ok(answer)
+    }
+
+    // Whether a history begins with all that was handed in and shown through it.
+    pub(crate) fn begins(&self, asks: &Beginning<L>) -> bool
+        ensures { result ≡ true → HasMostOf (history_of asks.now) self.now }
+    {
+        self.own.begins(asks) && self.seen.begins(asks)
+    }
+}

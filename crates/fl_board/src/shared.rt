@@ -1,0 +1,166 @@
+//! What lies under a board's lock.
+
+ghost use Rattle.std.specs.Prelude.{◌≡◌, ◌≢◌, true, false, All, OnOk, OnErr};
+ghost use Rattle.fl_board.specs.Inside.Asks.{AreApart, HasMostOf, history_of};
+ghost use Rattle.fl_board.specs.Shown.{HaveMet, IsHandedIn};
+ghost use Rattle.fl_desk.specs.Legal.{IsLegal, orders_asked};
+
+use crate::asks::asks_lead;
+use crate::board::{BoardName, HandFault};
+use crate::published::Update;
+use crate::publisher::Publisher;
+use crate::seat::{NoView, Seat};
+use fl_core::Tolds;
+use fl_desk::Desk;
+use fl_history::History;
+use fl_log::{Ask, Beginning, Log, MOST_ASKS};
+use fl_order::Order;
+use std::marker::Model;
+use std::sync::Wait;
+use std::sync::ledger::{Book, Share};
+
+/// One desk; the ledger's book, whose total is the number of orders in the desk's history; the log of what was handed in, and
+/// all of it; and what is published. Contracts see it as the asks that were handed in.
+#[derive(Drop)]
+pub(crate) struct Shared<L: BoardName, R: Wait + Drop> {
+    pub desk: Desk,
+    pub book: Book<L>,
+    pub log: Log<L>,
+    pub all: Beginning<L>,
+    pub publisher: Publisher<L, R>,
+}
+
+impl<L: BoardName, R: Wait + Drop> Model for Shared<L, R> {
+    ghost use Rattle.std.specs.Prelude.{◌≡◌, List};
+    ghost use Rattle.fl_board.specs.Inside.Asks.{history_of, present_after};
+    ghost use Rattle.fl_desk.specs.Legal.{orders_asked};
+    ghost use Rattle.fl_log.specs.declared.ask.Ask.{Ask};
+
+    ghost Value = { List Ask };
+
+    ghost view = { λ s. s.all };
+
+    ghost invariant = { λ s. (s.publisher ≡ s.all) × (s.desk.lines ≡ history_of s.all)
+        × (s.desk.present ≡ present_after s.all) × (s.book.total ≡ orders_asked s.desk.lines) };
+}
+
+impl<L: BoardName, R: Wait + Drop> Shared<L, R> {
+    /// Takes an order of the seat's worker, counts it, and publishes it.
+    pub(crate) fn hand_in(
+        &mut self,
+        seat: &mut Seat<L>,
+        order: &Order,
+        tolds: &mut Tolds,
+    ) -> Result<(), HandFault>
+        ensures worker { seat.new.worker ≡ seat.old.worker }
+        ensures handed { OnOk result (IsHandedIn seat.old order.now tolds.new seat.new) }
+        ensures all { OnOk result (history_of self.new ≡ seat.new.own) }
+        ensures refused { OnErr result ((seat.new ≡ seat.old) × (tolds.new ≡ tolds.old) × (self.new ≡ self.old)) }
+    {
+        let Shared {
+            desk,
+            book,
+            log,
+            all,
+            publisher,
+        } = self;
+        asks_lead();
+        if desk.ready().is_err() {
+            return Err(HandFault::NoMemory);
+        }
+        if !seat.begins(all) || all.len() >= MOST_ASKS {
+            return Err(HandFault::NoView);
+        }
+        let mut next = all.again();
+        let ask = Ask {
+            worker: seat.worker,
+            order: *order,
+        };
+        if !next.add(log, ask) {
+            return Err(HandFault::NoView);
+        }
+        let update = Update::new(*order, all.again(), next.again());
+        if publisher.add(update).is_err() {
+            return Err(HandFault::NoMemory);
+        }
+        if desk.take(seat.worker, order, tolds).is_err() {
+            unreachable!();
+        }
+        book.add(&mut seat.share, 1);
+        publisher.publish();
+        seat.own = next.again();
+        *all = next;
+        Ok(())
+    }
+
+    /// Shows two workers all that was handed in.
+    pub(crate) fn meet(&self, one: &mut Seat<L>, other: &mut Seat<L>) -> Result<(), NoView>
+        ensures one { (one.new.worker ≡ one.old.worker) × (one.new.count ≡ one.old.count) × (one.new.own ≡ one.old.own) }
+        ensures other { (other.new.worker ≡ other.old.worker) × (other.new.count ≡ other.old.count) × (other.new.own ≡ other.old.own) }
+        ensures met { OnOk result (HaveMet one.old other.old one.new other.new) }
+        ensures refused { OnErr result ((one.new ≡ one.old) × (other.new ≡ other.old)) }
+    {
+        asks_lead();
+        if !one.begins(&self.all) || !other.begins(&self.all) {
+            return Err(NoView);
+        }
+        one.seen = self.all.again();
+        other.seen = self.all.again();
+        Ok(())
+    }
+
+    /// Whether the history begins with all that was handed in and shown through each seat.
+    pub(crate) fn begins_with(&self, seats: &[Seat<L>]) -> bool
+        ensures { result ≡ true → All (λ seat. HasMostOf (history_of self.now) seat) seats.now }
+    {
+        for seat in seats {
+            if !seat.begins(&self.all) {
+                return false;
+            }
+        }
+        true
+    }
+
+    /// The history, for the whole of the ledger.
+    pub(crate) fn into_history(self, whole: &mut Share<L>) -> History
+        requires { whole.old.parts ≡ L.parts }
+        ensures lines { result ≡ history_of self }
+        ensures legal { IsLegal result }
+        ensures counted { orders_asked result ≡ whole.old.amount }
+    {
+        let Shared {
+            desk,
+            mut book,
+            log: _log,
+            all: _all,
+            publisher: _publisher,
+        } = self;
+        book.audit(whole);
+        desk.into_history()
+    }
+}
+
+/// Whether no two seats are of one worker.
+pub(crate) fn are_apart<L: BoardName>(seats: &[Seat<L>]) -> bool
+    ensures { result ≡ true → AreApart seats.now }
+{
+    for i in 0..seats.len() {
+        let seat = &seats[i];
+        if has_worker(&seats[..i], seat.worker) {
+            return false;
+        }
+    }
+    true
+}
+
+// Whether one of the seats is this worker's.
+fn has_worker<L: BoardName>(seats: &[Seat<L>], worker: u32) -> bool
+    ensures { result ≡ false → All (λ seat. seat.worker ≢ worker) seats.now }
+{
+    for seat in seats {
+        if seat.worker == worker {
+            return true;
+        }
+    }
+    false
+}

@@ -1,6 +1,0 @@
-use Rattle.std.proofs.Common.{All, take}
-use Rattle.fl_book.specs.Inside.Asks.{HasMostOf, history_of}
-use Rattle.fl_book.proofs.shared.Shared.begins_with.Given as goal
-
-abbrev pub invariant-loop-seat : goal.invariant-loop-seat
-invariant-loop-seat g l = All (λ x. HasMostOf (history_of l.self) x) (take l.seat-index l.seats)

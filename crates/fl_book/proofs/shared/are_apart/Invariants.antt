@@ -1,6 +1,0 @@
-use Rattle.std.proofs.Common.{take}
-use Rattle.fl_book.specs.Inside.Asks.{AreApart}
-use Rattle.fl_book.proofs.shared.are_apart.Given as goal
-
-abbrev pub invariant-loop-i : goal.invariant-loop-i
-invariant-loop-i g l = AreApart (take l.i l.seats)
