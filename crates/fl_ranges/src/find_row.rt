@@ -30,8 +30,8 @@ fn is_same(a: &Key, b: &Key) -> bool
     *a == *b
 }
 
-// Where the walk to a key's place begins: at its chain's last row where that doesn't stand behind the key's, as what is the
-// greatest so far comes last, and else at the first.
+// Where the walk to a key's place begins: at its chain's last row where that stands before it, since what is greater than all
+// before comes last, and else at the first.
 fn walk_start(table: &Rows<Key, Span<Mark>>, key: &Key) -> Cursor
     requires table { IsLockTable table.now (limit_of table.now) }
     ensures row { IsRow table.now result }
@@ -44,15 +44,33 @@ fn walk_start(table: &Rows<Key, Span<Mark>>, key: &Key) -> Cursor
     let chain = home(key.node);
     let last = table.last_row(chain);
     if let Some(here) = table.key(&last) {
-        if !goes_before(key, here) {
+        if goes_before(here, key) {
             return last;
         }
     }
     table.first_row(chain)
 }
 
-// The cursor at the first row of the key's chain that doesn't go before the key's, and whether it is the key's own.
+// The cursor at the first row of the key's chain that doesn't go before the key's, and whether it is the key's own. It looks
+// at the last row first.
 pub(crate) fn find_row(table: &Rows<Key, Span<Mark>>, key: &Key) -> (Cursor, bool)
+    requires table { IsLockTable table.now (limit_of table.now) }
+    ensures at { result.0 ≡ row_cursor table.now (home key.now.node) (row_index key.now (rows table.now (home key.now.node))) }
+    ensures row { IsRow table.now result.0 }
+    ensures own { result.1 ≡ has_row key.now (rows table.now (home key.now.node)) }
+    ensures at_row { result.1 ≡ true → IsSome result.0.slot }
+{
+    let last = table.last_row(home(key.node));
+    if let Some(here) = table.key(&last) {
+        if is_same(here, key) {
+            return (last, true);
+        }
+    }
+    walk_to_row(table, key)
+}
+
+// The same, by a walk along the rows.
+fn walk_to_row(table: &Rows<Key, Span<Mark>>, key: &Key) -> (Cursor, bool)
     requires table { IsLockTable table.now (limit_of table.now) }
     ensures at { result.0 ≡ row_cursor table.now (home key.now.node) (row_index key.now (rows table.now (home key.now.node))) }
     ensures row { IsRow table.now result.0 }
