@@ -53,6 +53,7 @@ fn walk_start(table: &Rows<Key, Span<Mark>>, key: &Key) -> Cursor
 
 // The cursor at the first row of the key's chain that doesn't go before the key's, and whether it is the key's own. It looks
 // at the last row first.
+#[inline(always)]
 pub(crate) fn find_row(table: &Rows<Key, Span<Mark>>, key: &Key) -> (Cursor, bool)
     requires table { IsLockTable table.now (limit_of table.now) }
     ensures at { result.0 ≡ row_cursor table.now (home key.now.node) (row_index key.now (rows table.now (home key.now.node))) }
