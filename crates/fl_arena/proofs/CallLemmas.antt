@@ -1,5 +1,5 @@
 -- Each call of the arena, from what it read to what it wrote.
-use Rattle.std.proofs.Common.{◌≡◌, ℕ, zero, suc, ◌+◌, ◌-◌, ◌<◌, ◌≤◌, ◌^◌, List, [], length, set, get_or, replicate, sum_by, IfSome, Option, Some, None}
+use Rattle.std.proofs.Common.{◌≡◌, ℕ, zero, suc, ◌+◌, ◌-◌, ◌<◌, ◌≤◌, ◌^◌, List, [], ◌∷◌, length, set, get_or, replicate, sum_by, IfSome, Option, Some, None}
 use Rattle.std.proofs.Common.{slice_get, refl, sym, ◌∙◌, ap, subst, arith, add-one}
 use Rattle.std.specs.List.{insert, remove}
 use Rattle.std.proofs.lemmas.List.{length-replicate}
@@ -182,3 +182,20 @@ module _ {T : Type 0} where
   pub within_slots : (nodes : List (Node T)) (ends : List Ends) (spare : Option ℕ) (free : ℕ) (a : Chains T) → Spells nodes ends spare free a →
       (c i : ℕ) (link : Option ℕ) → link ≡ slot_at a c i → IfSome link (λ slot. slot < a.slots)
   within_slots nodes ends spare free a h c i link e = rw (e, h.slots) (linked_within nodes ends spare free a h c i)
+
+  -- the last slot of a chain, where it has one
+  last_link : (es : List (Entry T)) → link_before es (length es) ≡ link_at es (length es - 1)
+  last_link [] = refl
+  last_link (e ∷ es) = ap (link_at (e ∷ es)) (omega arith)
+
+  pub last_slot : (nodes : List (Node T)) (ends : List Ends) (spare : Option ℕ) (free : ℕ) (a : Chains T) → Spells nodes ends spare free a →
+      (c : ℕ) (e : Ends) → slice_get ends c ≡ Some e → e.last ≡ slot_at a c (length (entries a c) - 1)
+  last_slot nodes ends spare free a h c e found = (h.each c e found).last ∙ last_link (entries a c)
+
+  pub last_read : (nodes : List (Node T)) (ends : List Ends) (spare : Option ℕ) (free : ℕ) (a : Chains T) → Spells nodes ends spare free a →
+      (c : ℕ) (e : Ends) → slice_get ends c ≡ Some e → (i : ℕ) → i ≡ e.len - 1 →
+      record { chain = c; index = i; slot = e.last } ≡ cursor_at a c (length (entries a c) - 1)
+  last_read nodes ends spare free a h c e found i is =
+      let index : i ≡ length (entries a c) - 1 = is ∙ ap (λ n. n - 1) (h.each c e found).len in
+      let slot = last_slot nodes ends spare free a h c e found in
+      λ t. record { chain = c; index = index t; slot = slot t }

@@ -1,5 +1,5 @@
 //! The arena.
-ghost use Rattle.std.specs.Prelude.{◌≡◌, ◌≢◌, ◌↔◌, ◌+◌, ◌<◌, ◌≤◌, ◌^◌, ℕ, Bool, [], length, drop, replicate, insert};
+ghost use Rattle.std.specs.Prelude.{◌≡◌, ◌≢◌, ◌↔◌, ◌+◌, ◌-◌, ◌<◌, ◌≤◌, ◌^◌, ℕ, Bool, [], length, drop, replicate, insert};
 ghost use Rattle.std.specs.Prelude.{remove, slice_get, slice_set, Some, IsSome, IsNone, IsErr, OnOk, OnErr, IfOk};
 ghost use Rattle.std.specs.Prelude.{IfSome};
 ghost use Rattle.std.specs.Option.{option_copied};
@@ -69,6 +69,20 @@ impl<T: Copy> Arena<T> {
             chain,
             index: 0,
             slot: self.ends[chain].first,
+        }
+    }
+
+    /// The cursor at the last item of the chain, or at its end where it has no item.
+    pub fn last(&self, chain: usize) -> Cursor
+        requires { chain < length self.now.chains }
+        ensures last { result ≡ cursor_at self.now chain (length (entries self.now chain) - 1) }
+        ensures in_range { IfSome result.slot (λ slot. slot < self.now.slots) }
+    {
+        let ends = self.ends[chain];
+        Cursor {
+            chain,
+            index: ends.len.saturating_sub(1),
+            slot: ends.last,
         }
     }
 

@@ -1,5 +1,5 @@
 -- The place of a key's row: how a walk finds it, and what stands there after a change.
-use Rattle.std.proofs.Common.{◌≡◌, ℕ, zero, suc, ◌+◌, Bool, true, false, cond, ◌||◌, Some, None, List, [], ◌∷◌, drop, slice_get, refl, ap, sym, ◌∙◌}
+use Rattle.std.proofs.Common.{◌≡◌, ℕ, zero, suc, ◌+◌, Bool, true, false, cond, ◌||◌, Some, None, List, [], ◌∷◌, drop, slice_get, refl, ap, sym, ◌∙◌, subst}
 use Rattle.std.proofs.Common.{arith}
 use Rattle.std.proofs.lemmas.Option.{none-some}
 use Rattle.std.specs.List.{insert, remove, AllByRecursion}
@@ -10,9 +10,9 @@ use Rattle.fl_ranges.specs.declared.lock.Key.{Key}
 use Rattle.fl_ranges.specs.declared.lock.Mark.{Mark}
 use Rattle.fl_ranges.specs.Marking.{key_cmp}
 use Rattle.fl_ranges.specs.Inside.LockRows.{LockRow, goes_before, AreInOrder, spans_of, row_index, has_row, row_before, given_spans}
-use Rattle.fl_ranges.proofs.Spots.{same_key}
+use Rattle.fl_ranges.proofs.Spots.{same_key, key_itself}
 use Rattle.fl_ranges.proofs.RowRuns.{IsOther, turned_key, before_differs}
-use Rattle.fl_ranges.proofs.GivenSpans.{one_before, all_behind, behind_others}
+use Rattle.fl_ranges.proofs.GivenSpans.{before_both, one_before, all_behind, behind_others}
 
 -- ---- a walk along rows
 
@@ -63,6 +63,72 @@ has_here key r rs order before = go (eq_by_cmp key_cmp r.key key) refl
     go : (b : Bool) → eq_by_cmp key_cmp r.key key ≡ b → (b || has_row key rs) ≡ b
     go true same = refl
     go false other = none_has key rs (behind_others key rs (all_behind key r rs (one_before r.key key before other) order.0))
+
+-- ---- the rows before one that doesn't stand behind the key's
+
+-- what goes before a key goes before another one that doesn't
+up_to : (a b key : Key) → goes_before a b ≡ true → goes_before key b ≡ false → goes_before a key ≡ true
+up_to a b key before past = go (eq_by_cmp key_cmp key b) refl
+  where
+    go : (same : Bool) → eq_by_cmp key_cmp key b ≡ same → goes_before a key ≡ true
+    go true is = ap (goes_before a) (same_key key b is) ∙ before
+    go false is = before_both a b key before (one_before key b past is)
+
+before_at : (key : Key) (rs : List LockRow) (j : ℕ) (other : Key) → AllByRecursion (λ (x : LockRow). goes_before key x.key ≡ true) rs →
+    slice_get (keys rs) j ≡ Some other → goes_before key other ≡ true
+before_at key [] j other each found = absurd (none-some other found)
+before_at key (r ∷ rs) zero other each found = let is : r.key ≡ other = cc in sym (ap (goes_before key) is) ∙ each.0
+before_at key (r ∷ rs) (suc j) other each found = before_at key rs j other each.1 found
+
+-- the place of the key's row is found from there on too
+pub record IsSkipped (key : Key) (rs : List LockRow) (j : ℕ) : Type 0 where
+  pub index : row_index key rs ≡ j + row_index key (drop j rs)
+  pub own : has_row key rs ≡ has_row key (drop j rs)
+
+pub skipped : (key : Key) (rs : List LockRow) (j : ℕ) (other : Key) → AreInOrder rs → slice_get (keys rs) j ≡ Some other →
+    goes_before key other ≡ false → IsSkipped key rs j
+skipped key [] j other order found past = absurd (none-some other found)
+skipped key (r ∷ rs) zero other order found past = record { index = omega arith; own = refl }
+skipped key (r ∷ rs) (suc j) other order found past =
+    let rest = skipped key rs j other order.1 found past in
+    let before : goes_before r.key key ≡ true = up_to r.key other key (before_at r.key rs j other order.0 found) past in
+    record {
+      index = omega (arith, index_more key r rs before, rest.index);
+      own = has_more key r rs before ∙ rest.own;
+    }
+
+-- what goes before the key isn't behind it
+pub not_behind : (a key : Key) → goes_before a key ≡ true → goes_before key a ≡ false
+not_behind a key before = go (goes_before key a) refl
+  where
+    go : (b : Bool) → goes_before key a ≡ b → goes_before key a ≡ false
+    go false is = is
+    go true is = absurd (cc (sym (before_differs a a (before_both a key a before is)) ∙ key_itself a))
+
+-- nor is the key behind itself
+pub not_itself : (key : Key) → goes_before key key ≡ false
+not_itself key = go (goes_before key key) refl
+  where
+    go : (b : Bool) → goes_before key key ≡ b → goes_before key key ≡ false
+    go false is = is
+    go true is = absurd (cc (sym (before_differs key key is) ∙ key_itself key))
+
+-- the row of the key itself
+pub record IsOwnRow (key : Key) (rs : List LockRow) (j : ℕ) : Type 0 where
+  pub index : row_index key rs ≡ j
+  pub own : has_row key rs ≡ true
+
+pub own_row : (key : Key) (rs : List LockRow) (j : ℕ) → AreInOrder rs → slice_get (keys rs) j ≡ Some key → IsOwnRow key rs j
+own_row key rs j order found =
+    let past = skipped key rs j key order found (not_itself key) in
+    let h = row_here rs j key found in
+    let before : goes_before h.row.key key ≡ false = ap (λ (k : Key). goes_before k key) h.key_is ∙ not_itself key in
+    let here = in_order_drop rs j order in
+    record {
+      index = omega (arith, past.index, ap (row_index key) h.rest ∙ index_end key h.row (drop (j + 1) rs) before);
+      own = past.own ∙ ap (has_row key) h.rest ∙ has_here key h.row (drop (j + 1) rs) (subst AreInOrder h.rest here) before
+          ∙ ap (λ (k : Key). eq_by_cmp key_cmp k key) h.key_is ∙ key_itself key;
+    }
 
 -- ---- a change at the place
 

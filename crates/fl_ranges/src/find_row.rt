@@ -1,5 +1,5 @@
 //! Locks in rows, one for each key that has a mark, in the order of keys.
-ghost use Rattle.std.specs.Prelude.{◌≡◌, true, IsSome};
+ghost use Rattle.std.specs.Prelude.{◌≡◌, ◌+◌, true, IsSome, drop};
 ghost use Rattle.std.specs.Ordering.{eq_by_cmp};
 ghost use Rattle.fl_rows.specs.Rows.{rows, limit_of, row_cursor, IsRow};
 ghost use Rattle.fl_ranges.specs.Marking.{key_cmp};
@@ -30,7 +30,30 @@ fn is_same(a: &Key, b: &Key) -> bool
     *a == *b
 }
 
-// The cursor at the first row of the key's chain that doesn't go before the key's, and whether it is the key's own.
+// Where the walk to a key's place begins: at its chain's last row where that stands before it, since what is greater than all
+// before comes last, and else at the first.
+fn walk_start(table: &Rows<Key, Span<Mark>>, key: &Key) -> Cursor
+    requires table { IsLockTable table.now (limit_of table.now) }
+    ensures row { IsRow table.now result }
+    ensures chain { result.chain ≡ home key.now.node }
+    ensures index { let rs = rows table.now (home key.now.node) in
+        row_index key.now rs ≡ result.index + row_index key.now (drop result.index rs) }
+    ensures own { let rs = rows table.now (home key.now.node) in
+        has_row key.now rs ≡ has_row key.now (drop result.index rs) }
+{
+    let chain = home(key.node);
+    let last = table.last_row(chain);
+    if let Some(here) = table.key(&last) {
+        if goes_before(here, key) {
+            return last;
+        }
+    }
+    table.first_row(chain)
+}
+
+// The cursor at the first row of the key's chain that doesn't go before the key's, and whether it is the key's own. It looks
+// at the last row first.
+#[inline(always)]
 pub(crate) fn find_row(table: &Rows<Key, Span<Mark>>, key: &Key) -> (Cursor, bool)
     requires table { IsLockTable table.now (limit_of table.now) }
     ensures at { result.0 ≡ row_cursor table.now (home key.now.node) (row_index key.now (rows table.now (home key.now.node))) }
@@ -38,7 +61,24 @@ pub(crate) fn find_row(table: &Rows<Key, Span<Mark>>, key: &Key) -> (Cursor, boo
     ensures own { result.1 ≡ has_row key.now (rows table.now (home key.now.node)) }
     ensures at_row { result.1 ≡ true → IsSome result.0.slot }
 {
-    let mut row = table.first_row(home(key.node));
+    let last = table.last_row(home(key.node));
+    if let Some(here) = table.key(&last) {
+        if is_same(here, key) {
+            return (last, true);
+        }
+    }
+    walk_to_row(table, key)
+}
+
+// The same, by a walk along the rows.
+fn walk_to_row(table: &Rows<Key, Span<Mark>>, key: &Key) -> (Cursor, bool)
+    requires table { IsLockTable table.now (limit_of table.now) }
+    ensures at { result.0 ≡ row_cursor table.now (home key.now.node) (row_index key.now (rows table.now (home key.now.node))) }
+    ensures row { IsRow table.now result.0 }
+    ensures own { result.1 ≡ has_row key.now (rows table.now (home key.now.node)) }
+    ensures at_row { result.1 ≡ true → IsSome result.0.slot }
+{
+    let mut row = walk_start(table, key);
     while let Some(here) = table.key(&row) {
         if !goes_before(here, key) {
             return (row, is_same(here, key));

@@ -1,5 +1,5 @@
 //! The rows, and what only reads them.
-ghost use Rattle.std.specs.Prelude.{◌≡◌, ◌+◌, ◌<◌, ◌≤◌, ℕ, [], IfOk, IsSome, slice_get, length, replicate, ◌≢◌, sum_by};
+ghost use Rattle.std.specs.Prelude.{◌≡◌, ◌+◌, ◌-◌, ◌<◌, ◌≤◌, ℕ, [], IfOk, IsSome, slice_get, length, replicate, ◌≢◌, sum_by};
 ghost use Rattle.std.specs.Option.{option_copied};
 ghost use Rattle.std.specs.List.{AllByRecursion};
 ghost use Rattle.fl_arena.specs.Chains.{entries, item_count, HasSizeOf};
@@ -83,6 +83,15 @@ impl<K: Copy, R: Copy> Rows<K, R> {
         ensures row { IsRow self.now result }
     {
         self.heads.cursor(chain)
+    }
+
+    /// The cursor at the last row of the chain, or at its end where it has no row.
+    pub fn last_row(&self, chain: usize) -> Cursor
+        requires { chain < chain_count self.now }
+        ensures last { result ≡ row_cursor self.now chain (length (rows self.now chain) - 1) }
+        ensures row { IsRow self.now result }
+    {
+        self.heads.last(chain)
     }
 
     /// The key of the row at the cursor, or none at the end.

@@ -2,7 +2,7 @@ use Rattle.std.proofs.Common.{◌≡◌, ◌+◌, ◌-◌, length, drop}
 use Rattle.fl_rows.specs.Rows.{rows, IsRow}
 use Rattle.fl_ranges.specs.Placing.{home}
 use Rattle.fl_ranges.specs.Inside.LockRows.{row_index, has_row}
-use Rattle.fl_ranges.proofs.find_row.find_row.Given as goal
+use Rattle.fl_ranges.proofs.find_row.walk_to_row.Given as goal
 
 abbrev pub invariant-loop-here : goal.invariant-loop-here
 invariant-loop-here l = record {
