@@ -6,7 +6,7 @@ use mathlib.Core.List.{IsPrefix}
 use prog.Atomic.{either}
 use Rattle.logbook.specs.Pages.{Cell, cell, keeps, no_nib, step, Moves, Goes, View}
 use Rattle.fl_log.specs.declared.ask.Ask.{Ask}
-use Rattle.fl_log.specs.Counting.{IsCounted, IsAdded}
+use Rattle.fl_log.specs.Inside.Counting.{IsCounted, IsAdded}
 use Rattle.fl_log.proofs.Prefixes.{is_whole}
 
 -- clients see nothing of the log, and trade nothing

@@ -2,7 +2,7 @@
 
 ghost use Rattle.std.specs.Prelude.{◌≡◌, ◌+◌, ◌<◌, ◌≤◌, ◌↔◌, ◌++◌, ◌∷◌, [], true, length, nat_eq, MatchBool};
 ghost use mathlib.Core.List.{IsPrefix};
-ghost use Rattle.fl_log.specs.Counting.{IsLonger};
+ghost use Rattle.fl_log.specs.Longer.{IsLonger};
 
 use crate::ask::Ask;
 use crate::log::{Adding, Counting, Log, LogName, NoTrade};

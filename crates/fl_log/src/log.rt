@@ -1,7 +1,7 @@
 //! A log, under a name that its beginnings share.
 
 ghost use Rattle.std.specs.Prelude.{◌≡◌, []};
-ghost use Rattle.fl_log.specs.Counting.{counter_of};
+ghost use Rattle.fl_log.specs.Inside.Counting.{counter_of};
 
 use crate::ask::Ask;
 use crate::beginning::Beginning;
@@ -25,7 +25,7 @@ pub(crate) struct Counting;
 impl Rule<Ask, u64> for Counting {
     ghost use Rattle.std.specs.Prelude.{[]};
     ghost use base.Fml.{ftrue};
-    ghost use Rattle.fl_log.specs.Counting.{IsCounted};
+    ghost use Rattle.fl_log.specs.Inside.Counting.{IsCounted};
 
     ghost holds = { λ cells log. IsCounted cells log };
 
@@ -53,7 +53,7 @@ impl Gain<Ask, u64> for NoTrade {
 pub(crate) struct Adding;
 
 impl Play<Ask, u64> for Adding {
-    ghost use Rattle.fl_log.specs.Counting.{IsAdded};
+    ghost use Rattle.fl_log.specs.Inside.Counting.{IsAdded};
 
     ghost then = { IsAdded };
 }
@@ -75,7 +75,7 @@ pub struct FreshLog {
 impl Model for FreshLog {
     ghost use Rattle.std.specs.Prelude.{◌≡◌, []};
     ghost use Rattle.logbook.specs.Pages.{Book};
-    ghost use Rattle.fl_log.specs.Counting.{counter_of};
+    ghost use Rattle.fl_log.specs.Inside.Counting.{counter_of};
 
     ghost Value = { Book };
 

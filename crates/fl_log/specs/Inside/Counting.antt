@@ -1,6 +1,5 @@
 -- What the word of a log has, and how it changes.
-use Rattle.std.specs.Prelude.{ℕ, ◌≡◌, ◌==◌, ◌<◌, true, List, [], ◌∷◌, ◌++◌, length, MatchBool}
-use mathlib.Core.List.{IsPrefix}
+use Rattle.std.specs.Prelude.{ℕ, ◌≡◌, ◌==◌, true, List, [], ◌∷◌, ◌++◌, length, MatchBool}
 use Rattle.logbook.specs.Pages.{Cell, Step, View, Book, Named}
 use Rattle.fl_log.specs.declared.ask.Ask.{Ask}
 
@@ -16,7 +15,3 @@ counter_of book = record { tracked = true; key = 0; book = book }
 -- that the word had.
 abbrev pub IsAdded : Step Ask → View Ask ℕ → ℕ → View Ask ℕ → Type 0
 IsAdded s before found after = MatchBool (found == s.old) (after.0 ≡ before.0 ++ s.ask ∷ []) (length after.0 ≡ found)
-
--- a log begins with these asks, and goes on
-abbrev pub IsLonger : List Ask → List Ask → Type 0
-IsLonger asks log = IsPrefix asks log × (length asks < length log)
