@@ -1,0 +1,5 @@
+//! Tests of a board whose workers look without its lock.
+#![tactic(auto)]
+
+#[cfg(test)]
+mod tests;

@@ -1,0 +1,110 @@
+//! What a look shows.
+
+ghost use Rattle.std.specs.Prelude.{◌≡◌};
+
+use super::{create, order, take, upto};
+use fl_board::{Board, BoardName, FreshLog, Seat};
+use fl_core::Tolds;
+use fl_desk::{Verdict, check};
+use fl_history::History;
+use fl_order::{Answer, Attr, Errno, Op};
+use std::alloc::Global;
+use std::marker::Brand;
+use std::process::Abort;
+use std::sync::Wait;
+use std::sync::ledger::Blank;
+
+// Who would keep owner 8 from a write lock on byte 0.
+fn who_locks<L: BoardName, R: Wait + Abort>(
+    rt: &R,
+    board: &Board<L, &R>,
+    seat: &mut Seat<L>,
+) -> Result<Answer, Errno> {
+    let ask = order(90, 2, Op::Getlk(upto(8, 0)));
+    board.look(seat, &ask).ok().expect(rt, "a view")
+}
+
+// The attributes of node 2.
+fn attributes<L: BoardName, R: Wait + Abort>(
+    rt: &R,
+    board: &Board<L, &R>,
+    seat: &mut Seat<L>,
+) -> Result<Answer, Errno> {
+    let ask = order(91, 2, Op::Getattr);
+    board.look(seat, &ask).ok().expect(rt, "a view")
+}
+
+// What the second of two seats was shown before the first one's orders, and what both were shown once they met.
+#[derive(Drop)]
+struct Views {
+    before: Result<Answer, Errno>,
+    unknown: Result<Answer, Errno>,
+    first: Result<Answer, Errno>,
+    second: Result<Answer, Errno>,
+    known: Result<Answer, Errno>,
+    history: History,
+}
+
+fn looked<L: BoardName, R: Wait + Abort>(
+    rt: &R,
+    alloc: Global,
+    blank: Blank,
+    log: FreshLog,
+) -> Views
+    requires named { (blank.name ≡ L.name) × (blank.parts ≡ L.parts) }
+    requires log { log ≡ L.log }
+    requires parts { (2 ≡ L.parts) × (L.workers ≡ L.parts) }
+{
+    let (board, mut seats) = Board::<L, &R>::new(alloc, rt, blank, log, 2)
+        .ok()
+        .expect(rt, "a board");
+    let mut tolds = Tolds::new(alloc).expect(rt, "memory");
+    let mut two = seats.pop().expect(rt, "a seat");
+    let mut one = seats.pop().expect(rt, "a seat");
+    let before = who_locks(rt, &board, &mut two);
+    let unknown = attributes(rt, &board, &mut two);
+    take(rt, &board, &mut one, &create(rt), &mut tolds);
+    let lock = order(2, 2, Op::Setlk(upto(7, 9)));
+    take(rt, &board, &mut one, &lock, &mut tolds);
+    let first = who_locks(rt, &board, &mut one);
+    let met = board.meet(rt, &mut one, &mut two).is_ok();
+    assert!(rt; met);
+    let second = who_locks(rt, &board, &mut two);
+    let known = attributes(rt, &board, &mut two);
+    seats.push(two).expect(rt, "memory");
+    seats.push(one).expect(rt, "memory");
+    Views {
+        before,
+        unknown,
+        first,
+        second,
+        known,
+        history: board.close(seats).ok().expect(rt, "all seats"),
+    }
+}
+
+#[test]
+fn a_lock_is_shown_to_both_seats(rt: HostRuntime) {
+    let told = looked::<Brand, _>(&rt, rt.alloc(), Blank::new(2), FreshLog::new());
+    let locked = Answer::Lock {
+        start: 0,
+        end: 9,
+        kind: 1,
+        pid: 11,
+    };
+    let attr = Attr {
+        node: 2,
+        mode: 33_188,
+        nlink: 1,
+        uid: 0,
+        gid: 0,
+    };
+    assert!(rt; told.before == Err(Errno::EBADF));
+    assert!(rt; told.unknown == Err(Errno::ENOENT));
+    assert!(rt; told.first == Ok(locked));
+    assert!(rt; told.second == Ok(locked));
+    assert!(rt; told.known == Ok(Answer::Attr(attr)));
+    // Looks are no lines: two orders, with a reply each.
+    assert!(rt; told.history.len() == 4);
+    assert!(rt; check(rt.alloc(), &told.history) == Ok(Verdict::Legal));
+}
