@@ -1,5 +1,7 @@
 //! Tests of looks, by what is public of a board.
 
+ghost use Rattle.std.specs.Prelude.{◌≡◌};
+
 mod looks;
 mod watched;
 
@@ -9,7 +11,9 @@ use fl_order::{LockAsk, Name, Op, Order};
 use std::process::Abort;
 use std::sync::Wait;
 
-fn order(unique: u64, node: u64, op: Op) -> Order {
+fn order(unique: u64, node: u64, op: Op) -> Order
+    ensures { result.op ≡ op }
+{
     Order {
         unique,
         node,
