@@ -2,29 +2,20 @@
 
 ghost use Rattle.std.specs.Prelude.{◌≡◌, ◌<◌, ◌≤◌};
 
-use super::lines::{is_line, order};
-use super::same;
-use fl_book::{Board, BoardName, CloseFault, History, Line, Seat, Verdict, check};
+use super::{create, order, take};
+use fl_board::{Board, BoardName, CloseFault, FreshLog, Seat};
 use fl_core::Tolds;
-use fl_order::{Answer, Errno, LockAsk, Name, Op, Order};
+use fl_desk::{Verdict, check};
+use fl_history::{History, Line};
+use fl_order::{Answer, Errno, LockAsk, Op, Order, Told};
 use std::alloc::{AllocError, Global};
+use std::fmt::Debug;
 use std::marker::Brand;
 use std::process::Abort;
 use std::sync::Wait;
 use std::sync::ledger::Blank;
 use std::thread;
 use std::thread::{JoinHandle, Scope, Threads};
-
-// Makes one file, with one open file.
-fn create(rt: &impl Abort) -> Order {
-    let name = Name::new(b"a").expect(rt, "a name");
-    let op = Op::Create {
-        excl: false,
-        mode: 420,
-        name,
-    };
-    order(1, 1, op)
-}
 
 // A lock of the worker's own owner on one byte of that file.
 fn ask(worker: u32, byte: u64, kind: u32) -> LockAsk {
@@ -44,7 +35,12 @@ fn unique(worker: u32, place: u64) -> u64 {
     2 + u64::from(worker) * 100_000 + place % 100_000
 }
 
-// What the workers of a session hand in.
+// What was told is what is wanted.
+fn same<T: Debug + PartialEq>(rt: &impl Abort, told: &T, wanted: &T) {
+    assert_eq!(rt; *told, *wanted);
+}
+
+// What the workers of a board hand in.
 #[derive(Clone, Copy)]
 enum Orders {
     Locks,
@@ -83,12 +79,12 @@ fn mixed(worker: u32, place: u64) -> Op {
     }
 }
 
-// What the threads of a session share.
+// What the threads of a board share.
 #[derive(Drop)]
-struct Crew<'a, L: BoardName, R> {
+struct Crew<'a, L: BoardName, R: Wait> {
     rt: &'a R,
     alloc: Global,
-    board: Board<L>,
+    board: Board<L, &'a R>,
     orders: Orders,
     // How many each worker hands in.
     many: u64,
@@ -160,23 +156,22 @@ fn history_of<L: BoardName + Send + Sync, R: Threads + Wait + Sync + Abort>(
     rt: &R,
     alloc: Global,
     blank: Blank,
+    log: FreshLog,
     workers: u32,
     orders: Orders,
     many: u64,
 ) -> History
     requires named { (blank.name ≡ L.name) × (blank.parts ≡ L.parts) }
+    requires log { log ≡ L.log }
     requires parts { (workers ≡ L.parts) × (L.workers ≡ L.parts) }
     requires workers { (0 < workers) × (workers ≤ 16) }
 {
-    let (board, mut seats) = Board::<L>::new(alloc, blank, workers)
+    let (board, mut seats) = Board::<L, &R>::new(alloc, rt, blank, log, workers)
         .ok()
         .expect(rt, "a board");
     let mut tolds = Tolds::new(alloc).expect(rt, "memory");
     let first = seats.get_mut(0).expect(rt, "a seat");
-    board
-        .hand_in(rt, first, &create(rt), &mut tolds)
-        .ok()
-        .expect(rt, "memory");
+    take(rt, &board, first, &create(rt), &mut tolds);
     let crew = Crew {
         rt,
         alloc,
@@ -203,7 +198,7 @@ fn handed_in(rt: &impl Abort, history: &History, orders: Orders) -> [u64; 16] {
         worker: 0,
         order: create(rt),
     };
-    is_line(rt, history, 0, &first);
+    same(rt, &history.line(0), &first);
     for at in 1..history.len() {
         if let Line::Asked { worker, order } = history.line(at) {
             let place = places.get_mut(worker as usize).expect(rt, "a worker");
@@ -248,7 +243,7 @@ fn count(history: &History, wanted: Result<Answer, Errno>) -> usize {
 
 #[test]
 fn two_seats_in_two_threads(rt: HostRuntime) {
-    let history = history_of::<Brand, _>(&rt, rt.alloc(), Blank::new(2), 2, Orders::Locks, 100);
+    let history = history_of::<Brand, _>(&rt, rt.alloc(), Blank::new(2), FreshLog::new(), 2, Orders::Locks, 100);
     has_all(&rt, rt.alloc(), &history, 2, Orders::Locks, 100);
     same(&rt, &history.len(), &402);
     // Each byte is locked by the one that comes first.
@@ -260,7 +255,7 @@ fn two_seats_in_two_threads(rt: HostRuntime) {
 fn mixed_orders_of_any_number_of_seats(rt: HostRuntime) {
     for (workers, many) in [(1, 10_000), (4, 2_500), (16, 625)] {
         let blank = Blank::new(u64::from(workers));
-        let history = history_of::<Brand, _>(&rt, rt.alloc(), blank, workers, Orders::Mixed, many);
+        let history = history_of::<Brand, _>(&rt, rt.alloc(), blank, FreshLog::new(), workers, Orders::Mixed, many);
         has_all(
             &rt,
             rt.alloc(),
@@ -279,43 +274,38 @@ fn mixed_orders_of_any_number_of_seats(rt: HostRuntime) {
 }
 
 // A board of two seats, one of which is kept back at first.
-fn closed_late<L: BoardName, R: Wait + Abort>(rt: &R, alloc: Global, blank: Blank) -> History
+fn closed_late<L: BoardName, R: Wait + Abort>(
+    rt: &R,
+    alloc: Global,
+    blank: Blank,
+    log: FreshLog,
+) -> History
     requires named { (blank.name ≡ L.name) × (blank.parts ≡ L.parts) }
+    requires log { log ≡ L.log }
     requires parts { (2 ≡ L.parts) × (L.workers ≡ L.parts) }
 {
-    let (board, mut seats) = Board::<L>::new(alloc, blank, 2).ok().expect(rt, "a board");
+    let (board, mut seats) = Board::<L, &R>::new(alloc, rt, blank, log, 2)
+        .ok()
+        .expect(rt, "a board");
     let mut tolds = Tolds::new(alloc).expect(rt, "memory");
     let first = seats.get_mut(0).expect(rt, "a seat");
-    board
-        .hand_in(rt, first, &create(rt), &mut tolds)
-        .ok()
-        .expect(rt, "memory");
+    take(rt, &board, first, &create(rt), &mut tolds);
     let second = seats.pop().expect(rt, "a second seat");
     let Err(CloseFault::NotAll { board, seats }) = board.close(seats) else {
         panic!(rt; "a seat is missing")
     };
     let (mut seats, mut second) = (seats, second);
     let first = seats.get_mut(0).expect(rt, "a seat");
-    board
-        .hand_in(rt, first, &made(Orders::Locks, 0, 0), &mut tolds)
-        .ok()
-        .expect(rt, "memory");
-    board
-        .hand_in(
-            rt,
-            &mut second,
-            &order(3, 2, Op::Setlk(ask(1, 0, 1))),
-            &mut tolds,
-        )
-        .ok()
-        .expect(rt, "memory");
+    take(rt, &board, first, &made(Orders::Locks, 0, 0), &mut tolds);
+    let other = order(3, 2, Op::Setlk(ask(1, 0, 1)));
+    take(rt, &board, &mut second, &other, &mut tolds);
     seats.push(second).expect(rt, "memory");
     board.close(seats).ok().expect(rt, "all seats")
 }
 
 #[test]
 fn a_board_goes_on_where_a_seat_is_missing(rt: HostRuntime) {
-    let history = closed_late::<Brand, _>(&rt, rt.alloc(), Blank::new(2));
+    let history = closed_late::<Brand, _>(&rt, rt.alloc(), Blank::new(2), FreshLog::new());
     same(
         &rt,
         &check(rt.alloc(), &history).expect(&rt, "memory"),
@@ -323,9 +313,9 @@ fn a_board_goes_on_where_a_seat_is_missing(rt: HostRuntime) {
     );
     same(&rt, &history.len(), &6);
     // The second seat's lock is refused: the two seats have one directory.
-    let last = Line::Told(fl_order::Told {
+    let last = Line::Told(Told {
         unique: 3,
         result: Err(Errno::EAGAIN),
     });
-    is_line(&rt, &history, 5, &last);
+    same(&rt, &history.line(5), &last);
 }
