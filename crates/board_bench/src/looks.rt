@@ -183,13 +183,5 @@ pub(crate) fn looked<R: Threads + Wait + Sync>(
         return Err(anyhow!("0 to 15 threads"));
     }
     let blank = Blank::new(u64::from(threads) + 1);
-    at_a_board::<Brand, R>(
-        rt,
-        alloc,
-        blank,
-        FreshLog::new(),
-        threads,
-        looks,
-        beside,
-    )
+    at_a_board::<Brand, R>(rt, alloc, blank, FreshLog::new(), threads, looks, beside)
 }

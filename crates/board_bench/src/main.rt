@@ -182,15 +182,7 @@ fn handed_in<R: Threads + Wait + Sync>(
         return Err(anyhow!("0 to 16 threads"));
     }
     let blank = Blank::new(u64::from(threads));
-    at_a_board::<Brand, R>(
-        rt,
-        alloc,
-        blank,
-        FreshLog::new(),
-        threads,
-        &first,
-        orders,
-    )
+    at_a_board::<Brand, R>(rt, alloc, blank, FreshLog::new(), threads, &first, orders)
 }
 
 fn main(rt: HostRuntime) -> anyhow::Result<()> {

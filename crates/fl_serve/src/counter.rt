@@ -32,11 +32,7 @@ pub trait Counter {
         ensures refused { OnErr result ((count seat.new ≡ count seat.old) × (tolds.new ≡ tolds.old)) };
 
     /// What an order that only reads is answered, without taking it. It waits for nobody.
-    fn look(
-        &self,
-        seat: &mut Self::Seat,
-        order: &Order,
-    ) -> Result<Result<Answer, Errno>, NoView>
+    fn look(&self, seat: &mut Self::Seat, order: &Order) -> Result<Result<Answer, Errno>, NoView>
         requires { only_reads order.now.op ≡ true }
         ensures kept { (worker seat.new ≡ worker seat.old) × (count seat.new ≡ count seat.old) };
 }
@@ -58,11 +54,7 @@ impl<L: BoardName, P: Wait + Drop> Counter for Board<L, P> {
         Board::hand_in(self, rt, seat, order, tolds)
     }
 
-    fn look(
-        &self,
-        seat: &mut Seat<L>,
-        order: &Order,
-    ) -> Result<Result<Answer, Errno>, NoView> {
+    fn look(&self, seat: &mut Seat<L>, order: &Order) -> Result<Result<Answer, Errno>, NoView> {
         seat.look(order)
     }
 }

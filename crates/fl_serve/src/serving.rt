@@ -147,12 +147,14 @@ fn serve_at<
     if heard.fault == Some(Fault::NoMemory) {
         return (Done::nothing(alloc, Fault::NoMemory), w);
     }
-    (closed(alloc, board, back, Fault::told(heard.fault, broken)), w)
+    let told = Fault::told(heard.fault, broken);
+    (closed(alloc, board, back, told), w)
 }
 
 // Why a session has no board.
 fn unopened(fault: OpenFault) -> Fault
-    ensures { (result ≡ Fault.NoMemory) ⊎ (result ≡ Fault.NoReader) }
+    ensures { ((fault ≡ OpenFault.NoMemory) × (result ≡ Fault.NoMemory))
+        ⊎ ((fault ≡ OpenFault.NoReader) × (result ≡ Fault.NoReader)) }
 {
     match fault {
         OpenFault::NoMemory => Fault::NoMemory,

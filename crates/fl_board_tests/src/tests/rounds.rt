@@ -19,7 +19,9 @@ use std::thread::{JoinHandle, Scope, Threads};
 
 // How many threads there are, how many seats each one has, and how many rounds its seats go.
 const THREADS: u32 = 4;
+
 const SEATS: u32 = 4;
+
 const ROUNDS: u64 = 200;
 
 // What the threads share.
@@ -36,7 +38,10 @@ type Row<L> = VecDeque<(Seat<L>, u64)>;
 // A number that only looks random.
 fn roll(worker: u32, round: u64) -> u64 {
     let of_worker = u64::from(worker).wrapping_mul(0xbf58_476d_1ce4_e5b9);
-    round.wrapping_mul(0x9e37_79b9_7f4a_7c15).wrapping_add(of_worker) >> 40
+    round
+        .wrapping_mul(0x9e37_79b9_7f4a_7c15)
+        .wrapping_add(of_worker)
+        >> 40
 }
 
 // A lock, or an unlock, of one of eight bytes by the worker's own owner.
@@ -47,7 +52,11 @@ fn ask(worker: u32, round: u64) -> LockAsk {
         owner: u64::from(worker),
         start: byte,
         end: byte,
-        kind: if roll(worker, round) / 32 % 2 == 0 { 1 } else { 2 },
+        kind: if roll(worker, round) / 32 % 2 == 0 {
+            1
+        } else {
+            2
+        },
         pid: 11,
         flags: 0,
     }
@@ -70,11 +79,7 @@ fn hand_in<L: BoardName, R: Wait + Abort>(
 }
 
 // The seat looks, and is shown something.
-fn look<L: BoardName, R: Wait + Abort>(
-    shared: &Shared<'_, L, R>,
-    seat: &mut Seat<L>,
-    round: u64,
-) {
+fn look<L: BoardName, R: Wait + Abort>(shared: &Shared<'_, L, R>, seat: &mut Seat<L>, round: u64) {
     let order = asked(seat.worker(), round, Op::Getattr);
     let shown = shared.board.look(seat, &order).is_ok();
     assert!(shared.rt; shown);
@@ -192,7 +197,9 @@ fn closed<L: BoardName + Send + Sync, R: Threads + Wait + Sync + Abort>(
     counts[0] = 1;
     let mut back = Vec::new(alloc);
     while let Some((seat, count)) = row.pop_front() {
-        let its = counts.get_mut(seat.worker() as usize).expect(rt, "a worker");
+        let its = counts
+            .get_mut(seat.worker() as usize)
+            .expect(rt, "a worker");
         *its = its.saturating_add(count);
         back.push(seat).expect(rt, "memory");
     }
@@ -216,7 +223,12 @@ fn counted(rt: &impl Abort, history: &History) -> [u64; 16] {
 
 #[test]
 fn sixteen_seats_hand_in_look_and_meet(rt: HostRuntime) {
-    let Closed { history, counts } = closed::<Brand, _>(&rt, rt.alloc(), Blank::new(16), FreshLog::new());
+    let Closed { history, counts } = closed::<Brand, _>(
+        &rt,
+        rt.alloc(),
+        Blank::new(16),
+        FreshLog::new(),
+    );
     assert!(rt; check(rt.alloc(), &history) == Ok(Verdict::Legal));
     assert_eq!(rt; counted(&rt, &history), counts);
     let mut all = 0u64;

@@ -243,7 +243,15 @@ fn count(history: &History, wanted: Result<Answer, Errno>) -> usize {
 
 #[test]
 fn two_seats_in_two_threads(rt: HostRuntime) {
-    let history = history_of::<Brand, _>(&rt, rt.alloc(), Blank::new(2), FreshLog::new(), 2, Orders::Locks, 100);
+    let history = history_of::<Brand, _>(
+        &rt,
+        rt.alloc(),
+        Blank::new(2),
+        FreshLog::new(),
+        2,
+        Orders::Locks,
+        100,
+    );
     has_all(&rt, rt.alloc(), &history, 2, Orders::Locks, 100);
     same(&rt, &history.len(), &402);
     // Each byte is locked by the one that comes first.
@@ -255,7 +263,15 @@ fn two_seats_in_two_threads(rt: HostRuntime) {
 fn mixed_orders_of_any_number_of_seats(rt: HostRuntime) {
     for (workers, many) in [(1, 10_000), (4, 2_500), (16, 625)] {
         let blank = Blank::new(u64::from(workers));
-        let history = history_of::<Brand, _>(&rt, rt.alloc(), blank, FreshLog::new(), workers, Orders::Mixed, many);
+        let history = history_of::<Brand, _>(
+            &rt,
+            rt.alloc(),
+            blank,
+            FreshLog::new(),
+            workers,
+            Orders::Mixed,
+            many,
+        );
         has_all(
             &rt,
             rt.alloc(),

@@ -1,4 +1,4 @@
-use Rattle.std.proofs.Common.{rules, ◌≡◌, ◌≢◌, Some, false, inl, refl}
+use Rattle.std.proofs.Common.{rules, ◌≡◌, ◌≢◌, Some, false, inl, inr, ⊎_elim, refl}
 use Rattle.std.proofs.KnownBytes.{Keeps-refl}
 use Rattle.fl_serve.proofs.ServingLemmas.{served_by, unserved}
 use Rattle.fl_serve.proofs.SharedLemmas.{starts}
@@ -7,7 +7,7 @@ use Rattle.fl_serve.proofs.serving.serve_at.Goals as goal
 
 pub returns-in_Err-clause-served : goal.returns-in_Err-clause-served
 returns-in_Err-clause-served g c = unserved _ _ _ _ false _ _ (c.nothing.ensures.read _ _ (Keeps-refl _)) (starts _)
-    c.nothing.ensures.fault c.nothing.ensures.history c.unopened.ensures
+    c.nothing.ensures.fault c.nothing.ensures.history (⊎_elim (λ m. inl m.1) (λ r. inr r.1) c.unopened.ensures)
 
 pub returns-then-eq-clause-served : goal.returns-then-eq-clause-served
 returns-then-eq-clause-served g c =

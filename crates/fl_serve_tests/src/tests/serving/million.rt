@@ -170,7 +170,9 @@ fn has_all(rt: &impl Abort, lines: usize, asked: usize, counted: &Counted) {
     count_is(
         rt,
         counted.all,
-        lines.saturating_sub(asked).saturating_add(reads.saturating_add(1)),
+        lines
+            .saturating_sub(asked)
+            .saturating_add(reads.saturating_add(1)),
     );
 }
 
