@@ -3,7 +3,7 @@
 use super::super::{MANY, are_bytes, count_is, fault_is};
 use super::traced::two_locks;
 use super::{is_traced, spelled};
-use fl_serve::{Done, Fault, run_one, run_session};
+use fl_session::{Done, Fault, run_one, run_session};
 use fl_testing::{Sink, Source};
 use std::alloc::Global;
 use std::io::{Read, Write};

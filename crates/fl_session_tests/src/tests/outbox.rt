@@ -1,7 +1,7 @@
 //! Replies through an outbox whose writer breaks.
 
 use super::are_bytes;
-use fl_serve::{Broken, Outbox};
+use fl_session::{Broken, Outbox};
 use fl_testing::Sink;
 use std::alloc::Global;
 use std::process::Abort;

@@ -3,7 +3,7 @@
 
 use super::super::{count_is, fault_is};
 use super::faults::{is_sent, replies, sent_after, stream};
-use fl_serve::{Fault, run_one, run_session};
+use fl_session::{Fault, run_one, run_session};
 use fl_testing::{Hiccup, Stumble};
 use std::alloc::Global;
 use std::io::ErrorKind;

@@ -8,9 +8,10 @@ mod waiting;
 
 use super::are_bytes;
 use around::AROUND_AN_INIT;
-use fl_book::{History, print_trace};
-use fl_serve::run_one;
+use fl_history::History;
+use fl_session::run_one;
 use fl_testing::{bytes_after, lines_after};
+use fl_trace::print_trace;
 use std::alloc::Global;
 use std::process::Abort;
 use traced::{TRACED, two_locks};
