@@ -17,6 +17,7 @@ use crate::serving::crew::{Back, Crew, Thread};
 use crate::shared::{Shared, WriterName};
 use fl_board::{Board, BoardName, FreshLog, OpenFault, Seat};
 use fl_core::Tolds;
+use fl_order::NoMemory;
 use fl_session::{Done, Fault, Inbox, Owed, ReplyBuffer};
 use std::alloc::Global;
 use std::io::{Read, Write};
@@ -232,10 +233,7 @@ impl<L: BoardName, R: Wait + Drop> Rooms<L, R> {
         ensures unread { IfOk result (λ rooms. IsUnread rooms.inbox) }
         ensures none { IfOk result (λ rooms. (rooms.threads.items ≡ []) × (rooms.places.items ≡ []) × (rooms.replies ≡ [])) }
     {
-        let mut tolds = Vec::with_capacity(alloc, workers as usize)?;
-        for _ in 0..workers {
-            tolds.push(Tolds::new(alloc)?)?;
-        }
+        let tolds = rooms_for_replies(alloc, workers)?;
         let intake = Intake::new(alloc)?;
         let inbox = Inbox::new(alloc)?;
         let replies = ReplyBuffer::with_bytes(alloc, BATCH_BYTES)?;
@@ -253,4 +251,13 @@ impl<L: BoardName, R: Wait + Drop> Rooms<L, R> {
             places,
         })
     }
+}
+
+// Room for the replies of an order, for each worker.
+fn rooms_for_replies(alloc: Global, workers: u32) -> Result<Vec<Tolds>, NoMemory> {
+    let mut tolds = Vec::with_capacity(alloc, workers as usize)?;
+    for _ in 0..workers {
+        tolds.push(Tolds::new(alloc)?)?;
+    }
+    Ok(tolds)
 }
