@@ -117,9 +117,8 @@ all_taken lines at p all run = subst (IsQuietRun (snapshot_of opening)) (take_al
 -- ---- of legal histories
 
 module _ (leads_on : (lines : List Line) (p : Snapshot) (worker : ℕ) (order : Order) → LeadsTo lines p →
-        LeadsTo (lines ++ step_lines worker order (replies p order)) (next p order))
+    LeadsTo (lines ++ step_lines worker order (replies p order)) (next p order))
     (leads : (lines : List Line) → IsLegal lines → LeadsTo lines (snapshot_of (state_after lines))) where
-
   abbrev present_of : List Line → Snapshot
   present_of lines = snapshot_of (state_after lines)
 

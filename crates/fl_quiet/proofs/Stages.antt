@@ -111,9 +111,10 @@ asker_lone (Some owner) parked quiet s there is =
 -- one more, of an owner that has none of the others
 lone_pushed : (ws : List Wish) (w : Wish) → AreLone ws → ((s : Wish) → Contains ws s → owner_of w ≢ owner_of s) → AreLone (ws ++ w ∷ [])
 lone_pushed [] w lone others = (tt, tt)
-lone_pushed (x ∷ ws) w lone others =
-    (pushed_none (owner_of x) ws lone.0 (others x (0, omega arith, refl)),
-    lone_pushed ws w lone.1 (λ s i. others s (suc i.0, omega (arith, i.1), i.2)))
+lone_pushed (x ∷ ws) w lone others = (
+  pushed_none (owner_of x) ws lone.0 (others x (0, omega arith, refl)),
+  lone_pushed ws w lone.1 (λ s i. others s (suc i.0, omega (arith, i.1), i.2)),
+)
   where
     pushed_none : (owner : ℕ) (ws : List Wish) → NoneOf owner ws → owner_of w ≢ owner → NoneOf owner (ws ++ w ∷ [])
     pushed_none owner [] none other = (other, tt)

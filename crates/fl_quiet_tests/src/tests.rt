@@ -2,7 +2,6 @@
 
 mod plain;
 mod random;
-mod refused;
 mod traces;
 
 use fl_desk::{Verdict, check};

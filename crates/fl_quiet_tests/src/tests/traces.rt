@@ -108,37 +108,97 @@ ask 0 3 2 0 0 0 setlkw 1 8 0 0 1 12 0
 
 #[test]
 fn each_asking_counts_whatever_it_is_answered(rt: HostRuntime) {
-    after_one_waits(&rt, 7, "ask 0 4 2 0 0 0 setlk 1 8 5 5 0 12 0\ntell 4 ok\n", false);
-    after_one_waits(&rt, 7, "ask 0 4 2 0 0 0 setlk 1 8 0 0 0 12 0\ntell 4 err 11\n", false);
-    after_one_waits(&rt, 7, "ask 0 4 2 0 0 0 setlk 9 8 5 5 1 12 0\ntell 4 err 9\n", false);
-    after_one_waits(&rt, 7, "ask 0 4 2 0 0 0 setlkw 1 8 5 4 1 12 0\ntell 4 err 22\n", false);
-    after_one_waits(&rt, 7, "ask 0 3 2 0 0 0 setlk 1 8 5 5 1 12 0\ntell 3 err 22\n", false);
+    after_one_waits(
+        &rt,
+        7,
+        "ask 0 4 2 0 0 0 setlk 1 8 5 5 0 12 0\ntell 4 ok\n",
+        false,
+    );
+    after_one_waits(
+        &rt,
+        7,
+        "ask 0 4 2 0 0 0 setlk 1 8 0 0 0 12 0\ntell 4 err 11\n",
+        false,
+    );
+    after_one_waits(
+        &rt,
+        7,
+        "ask 0 4 2 0 0 0 setlk 9 8 5 5 1 12 0\ntell 4 err 9\n",
+        false,
+    );
+    after_one_waits(
+        &rt,
+        7,
+        "ask 0 4 2 0 0 0 setlkw 1 8 5 4 1 12 0\ntell 4 err 22\n",
+        false,
+    );
+    after_one_waits(
+        &rt,
+        7,
+        "ask 0 3 2 0 0 0 setlk 1 8 5 5 1 12 0\ntell 3 err 22\n",
+        false,
+    );
 }
 
 #[test]
 fn what_asks_for_no_record_lock_does_not_count(rt: HostRuntime) {
-    after_one_waits(&rt, 7, "ask 0 4 2 0 0 0 setlk 1 8 5 5 1 12 1\ntell 4 ok\n", true);
-    after_one_waits(&rt, 7, "ask 0 4 2 0 0 0 setlk 1 8 5 5 2 12 0\ntell 4 ok\n", true);
-    after_one_waits(&rt, 7, "ask 0 4 2 0 0 0 setlkw 1 8 5 5 3 12 0\ntell 4 err 22\n", true);
-    after_one_waits(&rt, 7, "ask 0 4 2 0 0 0 getlk 1 8 5 5 1 12 0\ntell 4 lock 5 5 2 12\n", true);
-    after_one_waits(&rt, 7, "ask 0 4 2 0 0 0 setlk 1 9 5 5 1 13 0\ntell 4 ok\n", true);
+    after_one_waits(
+        &rt,
+        7,
+        "ask 0 4 2 0 0 0 setlk 1 8 5 5 1 12 1\ntell 4 ok\n",
+        true,
+    );
+    after_one_waits(
+        &rt,
+        7,
+        "ask 0 4 2 0 0 0 setlk 1 8 5 5 2 12 0\ntell 4 ok\n",
+        true,
+    );
+    after_one_waits(
+        &rt,
+        7,
+        "ask 0 4 2 0 0 0 setlkw 1 8 5 5 3 12 0\ntell 4 err 22\n",
+        true,
+    );
+    after_one_waits(
+        &rt,
+        7,
+        "ask 0 4 2 0 0 0 getlk 1 8 5 5 1 12 0\ntell 4 lock 5 5 2 12\n",
+        true,
+    );
+    after_one_waits(
+        &rt,
+        7,
+        "ask 0 4 2 0 0 0 setlk 1 9 5 5 1 13 0\ntell 4 ok\n",
+        true,
+    );
 }
 
 #[test]
 fn an_owner_asks_again_once_it_is_answered(rt: HostRuntime) {
-    after_one_waits(&rt, 10, "\
+    after_one_waits(
+        &rt,
+        10,
+        "\
 ask 0 4 2 0 0 0 setlk 1 7 0 0 2 11 0
 tell 4 ok
 tell 3 ok
 ask 0 5 2 0 0 0 setlk 1 8 5 5 1 12 0
 tell 5 ok
-", true);
-    after_one_waits(&rt, 9, "\
+",
+        true,
+    );
+    after_one_waits(
+        &rt,
+        9,
+        "\
 ask 0 4 2 0 0 0 interrupt 3
 tell 3 err 4
 ask 0 5 2 0 0 0 setlk 1 8 5 5 1 12 0
 tell 5 ok
-", true);
+",
+        true,
+    );
 }
 
 // A whole-file request that waits holds its owner back from nothing.
