@@ -55,7 +55,7 @@ impl Parked {
 fn is_wish_of(claim: &Claim, owner: u64) -> bool
     ensures { result ≡ is_waiting owner (claim.now.request ∷ []) }
 {
-    claim.key.owner == owner && wanted_of(claim).is_some()
+    matches!(wanted_of(claim), Some(wanted) if wanted.key.owner == owner)
 }
 
 // Puts the least owner's first.
