@@ -32,7 +32,7 @@ use Rattle.fl_ranges.specs.declared.lock.Key.{Key}
 use Rattle.fl_ranges.specs.declared.lock.Kind.{Kind}
 use Rattle.fl_ranges.specs.declared.lock.Kind.TheVariants.{Read, Write}
 use Rattle.fl_ranges.specs.declared.lock.Mark.{Mark}
-use Rattle.fl_ranges.specs.Change.{Change, cleared, after_changes}
+use Rattle.fl_ranges.specs.Change.{Change, cleared, after_change, after_changes}
 use Rattle.fl_ranges.specs.Conflict.{owner_conflicts}
 use Rattle.fl_ranges.specs.Marking.{Marking, Stroke, stroked}
 use Rattle.fl_ranges.specs.Runs.{without_node}
@@ -102,7 +102,7 @@ module _ (count : Counts) where
   -- a lock request that is answered so
   gains_locked : (node : ℕ) (ask : LockAsk) (reply : Result Answer Errno) (m : Marking)
       → GainsAtMost (asker_of ask) m (after_changes (locked node ask reply) m)
-  gains_locked node ask (Err e) m w q other h = h
+  gains_locked node ask (Err e) m = λ w q other h. h
   gains_locked node ask (Ok answer) m = go (is_flock ask) refl (nat_lt ask.kind 2) refl
     where
       go : (flock : Bool) → is_flock ask ≡ flock → (b : Bool) → nat_lt ask.kind 2 ≡ b → GainsAtMost (asker_of ask) m (stroked (stroke_of node ask) m)
@@ -112,25 +112,29 @@ module _ (count : Counts) where
       go false f false e =
           gains_by_unlock (asker_of ask) m (stroke_of node ask) (no_mark (ask.kind == 0) (ask.kind == 1) _ _ (sym (below_two ask.kind) ∙ e))
 
+  gains_unlocked : (class : Class) (node owner : ℕ) (m : Marking) → GainsAtMost None m (after_change (unlocked class node owner) m)
+  gains_unlocked class node owner m = gains_by_unlock None m
+      (record { key = record { class = class; node = node; owner = owner }; start = 0; end = 9223372036854775807; mark = None }) refl
+
   gains_released : (keeps unlocks : Bool) (node owner : ℕ) (m : Marking)
       → GainsAtMost None m (after_changes (cond keeps [] (cleared node ∷ []) ++ dropped unlocks node owner) m)
-  gains_released true false node owner m w q other h = h
-  gains_released true true node owner m = gains_by_unlock None m _ refl
+  gains_released true false node owner m = λ w q other h. h
+  gains_released true true node owner m = gains_unlocked Flock node owner m
   gains_released false false node owner m = gains_by_clear None m node
-  gains_released false true node owner m w q other h =
-      gains_by_unlock None m _ refl w q other (gains_by_clear None (after_changes (dropped true node owner) m) node w q other h)
+  gains_released false true node owner m = λ w q other h.
+      gains_unlocked Flock node owner m w q other (gains_by_clear None (after_changes (dropped true node owner) m) node w q other h)
 
   -- an order that is answered so
   gains_answered : (order : Order) (op : Op) (reply : Result Answer Errno) (d : Listing) (m : Marking)
       → GainsAtMost (asked_by op) m (after_changes (locks_answered order op reply d) m)
   gains_answered order (Release fh unlocks owner) (Ok answer) d m =
       gains_released (has_open_file (without_file d fh) order.node) unlocks order.node owner m
-  gains_answered order (Release fh unlocks owner) (Err e) d m w q other h = h
-  gains_answered order (Flush fh owner) (Ok answer) d m = gains_by_unlock None m _ refl
-  gains_answered order (Flush fh owner) (Err e) d m w q other h = h
+  gains_answered order (Release fh unlocks owner) (Err e) d m = λ w q other h. h
+  gains_answered order (Flush fh owner) (Ok answer) d m = gains_unlocked Record order.node owner m
+  gains_answered order (Flush fh owner) (Err e) d m = λ w q other h. h
   gains_answered order (Setlk ask) reply d m = gains_locked order.node ask reply m
   gains_answered order (Setlkw ask) reply d m = gains_locked order.node ask reply m
-  gains_answered order op reply d m w q other h = h
+  gains_answered order op reply d m = λ w q other h. h
 
   -- ---- the stages
 
