@@ -1,12 +1,13 @@
 //! The search for a circle of owners, each of whom waits for a lock that the next one holds.
 
-ghost use Rattle.std.specs.Prelude.{◌≡◌, ◌+◌, ◌++◌, ◌≤◌, ◌<◌, ℕ, false, true, map, option_map, length, take, MatchOption};
+ghost use Rattle.std.specs.Prelude.{◌≡◌, ◌+◌, ◌++◌, ◌∷◌, [], ◌≤◌, ◌<◌, ℕ, false, true, map, option_map, length, take, MatchOption};
 ghost use Rattle.fl_arena.specs.Chains.{items};
 ghost use Rattle.std.specs.List.Sorted.{IsPermutation, IsNonDecreasing};
 ghost use Rattle.fl_ranges.specs.Conflict.{AreFound};
 ghost use Rattle.fl_core.specs.Circle.{closes_circle, hinders, leads, owner_of as owner_of_wish, wish_of, wishes};
 ghost use Rattle.fl_core.specs.Inside.Claims.{requests_of};
 ghost use Rattle.fl_core.specs.Inside.Searching.{meant, one_of, is_set, owners_of, IsByOwner};
+ghost use Rattle.fl_core.specs.Stages.{is_waiting};
 
 use crate::claim::Claim;
 use crate::parked::{MOST_PARKED, Parked};
@@ -41,6 +42,20 @@ impl Parked {
         sort_by_owner(wanted);
         leads_back(locks, wanted, asked)
     }
+
+    /// Whether a request of this owner for a record lock waits.
+    pub(crate) fn has_wish_of(&self, owner: u64) -> bool
+        ensures { result ≡ is_waiting owner self.now }
+    {
+        let cursor = self.claims.first_where(0, |claim| is_wish_of(claim, owner));
+        self.claims.item(&cursor).is_some()
+    }
+}
+
+fn is_wish_of(claim: &Claim, owner: u64) -> bool
+    ensures { result ≡ is_waiting owner (claim.now.request ∷ []) }
+{
+    matches!(wanted_of(claim), Some(wanted) if wanted.key.owner == owner)
 }
 
 // Puts the least owner's first.

@@ -6,7 +6,8 @@ ghost use Rattle.fl_core.specs.Effects.{Effect, later, leaving, replied, recorde
 ghost use Rattle.fl_core.specs.First.{IsFirst};
 ghost use Rattle.fl_core.specs.LockRequest.{mark_of, stroke_of};
 ghost use Rattle.fl_core.specs.Replies.{first_told, is_deadlock};
-ghost use Rattle.fl_core.specs.Settling.{Present, settled, IsSettled};
+ghost use Rattle.fl_core.specs.Settling.{Present, present, settled, IsSettled};
+ghost use Rattle.fl_core.specs.Stages.{IsTakenInStages};
 ghost use Rattle.fl_core.specs.State.{View, State, Snapshot, snapshot_of};
 ghost use Rattle.fl_core.specs.Step.{next, replies};
 ghost use Rattle.fl_core.specs.Waiting.{AllWait, AreApart, taken_out};
@@ -15,6 +16,8 @@ ghost use Rattle.fl_order.specs.declared.errno.Errno.{Errno};
 ghost use Rattle.fl_order.specs.declared.order.Order.{Order};
 ghost use Rattle.fl_order.specs.declared.told.Told.{Told};
 ghost use Rattle.fl_ranges.specs.Marking.{Marking};
+
+use fl_ranges::laws::a_change_counts_where_it_speaks;
 
 /// What is shown of a state after an effect is the snapshot after that effect.
 pub fn effects_are_shown_alike()
@@ -61,3 +64,13 @@ pub fn a_step_is_what_its_replies_give()
     ensures apart { (p : Snapshot) (order : Order) → AllWait p.marking p.view.parked → AreApart p.view.parked →
         AreApart (next p order).view.parked }
 {}
+
+/// An order is taken in stages: its own change, in which nobody gains a lock but the owner who asks for a record lock, or
+/// its request is parked; and then requests leave or are granted, and nobody gains but the owner of one that is granted.
+pub fn an_order_is_taken_in_stages()
+    ensures { (p : Snapshot) (order : Order) → AllWait p.marking p.view.parked → AreApart p.view.parked →
+        IsTakenInStages order (present p.marking p.view.parked)
+        (present (next p order).marking (next p order).view.parked) }
+{
+    a_change_counts_where_it_speaks();
+}

@@ -5,6 +5,7 @@ ghost use Rattle.fl_core.specs.Circle.{closes_circle};
 ghost use Rattle.fl_core.specs.State.{State, opening, snapshot_of};
 ghost use Rattle.fl_core.specs.Effects.{replied, recorded};
 ghost use Rattle.fl_core.specs.Replies.{own_replies, taken_reply};
+ghost use Rattle.fl_core.specs.Stages.{is_waiting};
 ghost use Rattle.fl_core.specs.Step.{next, replies, ChangesNothing};
 ghost use Rattle.fl_core.specs.Waiting.{AllWait, AreApart};
 ghost use Rattle.fl_order.specs.Order.{only_reads};
@@ -104,6 +105,13 @@ impl Core {
             kind,
         };
         self.parts.parked.close_circle(&self.parts.locks, &asked)
+    }
+
+    /// Whether a request of this owner for a record lock is parked.
+    pub fn is_waiting(&self, owner: u64) -> bool
+        ensures { result ≡ is_waiting owner self.now.view.parked }
+    {
+        self.parts.parked.has_wish_of(owner)
     }
 }
 
