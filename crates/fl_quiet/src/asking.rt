@@ -1,4 +1,4 @@
-//! Whether a history is quiet.
+//! Who asks while it waits: whether a history is quiet.
 
 ghost use Rattle.std.specs.Prelude.{◌≡◌, ◌↔◌, true, IfOk};
 ghost use Rattle.fl_core.specs.Stages.{asks_record_lock, asked_by, is_waiting};
