@@ -77,10 +77,14 @@ fn command<'a>(alloc: Global) -> Result<Command<'a>, Error> {
     );
     let quiet = Arg::new(alloc, "quiet")
         .long("quiet")
-        .help("Prints after legal whether the trace is quiet: no owner asks for a record lock while it waits for one")
+        .help(
+            "Prints after legal whether the trace is quiet: no owner asks for a record lock while it waits for one",
+        )
         .action(ArgAction::SetTrue);
     let check = Command::new(alloc, "check")
-        .about("Judges the trace on standard input and prints legal, or differs and a line's number")
+        .about(
+            "Judges the trace on standard input and prints legal, or differs and a line's number",
+        )
         .arg(quiet)?;
     let workers = Arg::new(alloc, "workers")
         .long("workers")

@@ -130,6 +130,12 @@ const QUIET_AND_NOT: &str = "\
 
 #[test]
 fn quiet_traces_and_others(rt: HostRuntime) {
-    let found = run_cases(&rt, rt.alloc(), Command::CheckQuiet, ("", ""), QUIET_AND_NOT);
+    let found = run_cases(
+        &rt,
+        rt.alloc(),
+        Command::CheckQuiet,
+        ("", ""),
+        QUIET_AND_NOT,
+    );
     assert_eq!(rt; found, 4);
 }
