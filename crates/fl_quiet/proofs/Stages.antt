@@ -117,29 +117,31 @@ lone_pushed (x ∷ ws) w lone others = (
 )
   where
     pushed_none : (owner : ℕ) (ws : List Wish) → NoneOf owner ws → owner_of w ≢ owner → NoneOf owner (ws ++ w ∷ [])
-    pushed_none owner [] none other = (other, tt)
-    pushed_none owner (y ∷ ws) none other = (none.0, pushed_none owner ws none.1 other)
+    pushed_none owner [] all other = (other, tt)
+    pushed_none owner (y ∷ ws) all other = (all.0, pushed_none owner ws all.1 other)
 
 -- of a request among others
 all_of : (P : Wish → Type 0) (older : List Request) (r : Request) (younger : List Request) (w : Wish) → wish_of r ≡ Some w
     → AllByRecursion P (wishes (older ++ r ∷ younger)) → P w
 all_of P [] r younger w wants all = (subst (λ o. AllByRecursion P (cons_option o (wishes younger))) wants all).0
-all_of P (a ∷ older) r younger w wants all = go (wish_of a) all
+all_of P (a ∷ older) r younger w wants all = go (wish_of a) (all_of P older r younger w wants) all
   where
-    go : (o : Option Wish) → AllByRecursion P (cons_option o (wishes (older ++ r ∷ younger))) → P w
-    go None all = all_of P older r younger w wants all
-    go (Some v) all = all_of P older r younger w wants all.1
+    go : (o : Option Wish) → (AllByRecursion P (wishes (older ++ r ∷ younger)) → P w)
+        → AllByRecursion P (cons_option o (wishes (older ++ r ∷ younger))) → P w
+    go None rest all = rest all
+    go (Some v) rest all = rest all.1
 
 -- the owner of one that leaves has none of the others
 lone_without : (older : List Request) (r : Request) (younger : List Request) (w : Wish) → wish_of r ≡ Some w
     → AreLone (wishes (older ++ r ∷ younger)) → NoneOf (owner_of w) (wishes (older ++ younger))
 lone_without [] r younger w wants lone = (subst (λ o. AreLone (cons_option o (wishes younger))) wants lone).0
-lone_without (a ∷ older) r younger w wants lone = go (wish_of a) lone
+lone_without (a ∷ older) r younger w wants lone = go (wish_of a) (lone_without older r younger w wants) lone
   where
-    go : (o : Option Wish) → AreLone (cons_option o (wishes (older ++ r ∷ younger))) → NoneOf (owner_of w) (cons_option o (wishes (older ++ younger)))
-    go None lone = lone_without older r younger w wants lone
-    go (Some v) lone =
-        (λ is. all_of (λ (u : Wish). owner_of u ≢ owner_of v) older r younger w wants lone.0 (sym is), lone_without older r younger w wants lone.1)
+    go : (o : Option Wish) → (AreLone (wishes (older ++ r ∷ younger)) → NoneOf (owner_of w) (wishes (older ++ younger)))
+        → AreLone (cons_option o (wishes (older ++ r ∷ younger))) → NoneOf (owner_of w) (cons_option o (wishes (older ++ younger)))
+    go None rest lone = rest lone
+    go (Some v) rest lone =
+        (λ is. all_of (λ (u : Wish). owner_of u ≢ owner_of v) older r younger w wants lone.0 (sym is), rest lone.1)
 
 -- ---- what each stage keeps
 
@@ -196,8 +198,8 @@ own_none : (m : Marking) (w : Wish) → hinders m w (owner_of w) ≡ true → �
 own_none m w h = go (is_record w.key.class) (no_entry w.key w.start w.end w.kind (entries m)) h
   where
     go : (b : Bool) {c : Bool} → c ≡ false → (b && c) ≡ true → ⊥
-    go true no h = cc (no, h)
-    go false no h = cc h
+    go true clear h = cc (clear, h)
+    go false clear h = cc h
 
 parked_sound : (before after : Present) (r : Request) (w : Wish) → wish_of r ≡ Some w → ((s : Wish) → Contains (wishes before.parked) s → owner_of w ≢ owner_of s)
     → (ClosesCircle before.marking before.parked r → ⊥) → after.marking ≡ before.marking → wishes after.parked ≡ wishes before.parked ++ w ∷ []
