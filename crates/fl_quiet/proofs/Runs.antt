@@ -1,6 +1,6 @@
 -- The orders of lines are taken one after another, as `quiet` takes them.
-use Rattle.std.proofs.Common.{◌≡◌, ℕ, zero, ◌+◌, ◌<◌, ◌≤◌, false, true, Some, None, List, [], ◌∷◌, ◌++◌, map, length, take, drop, get_or, slice_get}
-use Rattle.std.proofs.Common.{append_assoc, append-nil, refl, ap, sym, ◌∙◌, subst, arith}
+use Rattle.std.proofs.Common.{◌≡◌, ℕ, ◌+◌, ◌≤◌, false, true, Some, List, [], ◌∷◌, ◌++◌, map, length, take, drop, slice_get}
+use Rattle.std.proofs.Common.{append_assoc, refl, ap, sym, ◌∙◌, subst, arith}
 use Rattle.std.proofs.Math.Numerals.{add-one}
 use Rattle.std.proofs.Math.Seq.{take-suc, split_at}
 use Rattle.std.proofs.lemmas.List.{take_all}
@@ -20,7 +20,7 @@ use Rattle.fl_history.specs.declared.history.Line.{Line}
 use Rattle.fl_history.specs.declared.history.Line.TheVariants as line
 use Rattle.fl_order.specs.declared.order.Order.{Order}
 use Rattle.fl_order.specs.declared.told.Told.{Told}
-use Rattle.fl_quiet.specs.Quiet.{asks_while_waiting, IsQuiet, HasNoCircle, HasNoCircles}
+use Rattle.fl_quiet.specs.Quiet.{asks_while_waiting, IsQuiet, HasNoCircles}
 use Rattle.fl_quiet.proofs.Stages.{IsSound, step_sound}
 
 -- ---- orders are taken one after another, and replies aren't looked at

@@ -2,15 +2,15 @@
 -- don't wait in a circle.
 use Rattle.std.proofs.Common.{◌≡◌, ◌≢◌, ℕ, zero, suc, ◌<◌, Bool, true, false, ◌&&◌, ◌||◌, not, ◌==◌, nat_le, cond, ◌⊎◌, inl, inr, ⊎_elim, Option, Some, None, option_map, List, [], ◌∷◌, ◌++◌}
 use Rattle.std.proofs.Common.{slice_index_or, length, refl, ap, sym, ◌∙◌, subst, arith}
-use Rattle.std.specs.List.{Contains, AllByRecursion, filter, filter_map, cons_option, list_any}
+use Rattle.std.specs.List.{Contains, AllByRecursion, filter, cons_option, list_any}
 use Rattle.std.proofs.lemmas.Bool.{eq-eqb, eqb-true}
 use Rattle.std.proofs.lemmas.List.{append-nil}
 use Rattle.std.proofs.lemmas.List.Elements.{filter_map-append}
 use Rattle.std.proofs.lemmas.Option.{none-some}
 use Rattle.std.specs.FinMap.{entries}
-use Rattle.fl_core.specs.Circle.{Wish, owner_of, hinders, wish_of, wishes, AreInRow, IsCircle, ClosesCircle, is_record}
+use Rattle.fl_core.specs.Circle.{Wish, owner_of, hinders, wish_of, wishes, AreInRow, ClosesCircle, is_record}
 use Rattle.fl_core.specs.Settling.{Present}
-use Rattle.fl_core.specs.Stages.{asked_by, is_waiting, wanted_by, GainsAtMost, OwnStage, changes, parks, LaterStage, leave, granted, AreLater, none, more, IsTakenInStages}
+use Rattle.fl_core.specs.Stages.{asked_by, wanted_by, GainsAtMost, OwnStage, changes, parks, LaterStage, leave, granted, AreLater, none, more, IsTakenInStages}
 use Rattle.fl_core.specs.declared.parked.Request.{Request}
 use Rattle.fl_order.specs.declared.order.Order.{Order}
 use Rattle.fl_quiet.specs.Quiet.{asks_while_waiting}

@@ -1,8 +1,7 @@
-use Rattle.std.proofs.Common.{◌≡◌, ◌∙◌, true, false, Some, refl, sym, ap, arith}
-use Rattle.fl_quiet.proofs.Runs.{IsQuietRun, asked_more, told_more, found, all_taken, runs_quiet, run_is_quiet}
+use Rattle.std.proofs.Common.{◌∙◌, Some, refl, sym, ap, arith}
+use Rattle.fl_quiet.proofs.Runs.{asked_more, told_more, found, all_taken, runs_quiet, run_is_quiet}
 use Rattle.fl_quiet.proofs.asking.quiet.Goals.{in-Asked+else-asks_while_waiting, in_default}
 use Rattle.fl_quiet.proofs.asking.quiet.Goals as goal
-use Rattle.fl_core.specs.State.{opening, snapshot_of}
 use Rattle.fl_history.specs.declared.history.Line.{Line}
 
 pub loop-at-init : goal.loop-at-init
@@ -24,15 +23,15 @@ pub returns-then-asks_while_waiting-clause-exact : goal.returns-then-asks_while_
 returns-then-asks_while_waiting-clause-exact c = λ legal. (
   λ never. absurd (cc never),
   λ quiet. absurd (found c.args.history.now c.loop-at.at c.in-Asked.worker c.in-Asked.order c.loop-at.core
-    (c.line.ensures ∙ ap (λ (l : Line). Some l) c.in-Asked.is) c.loop-at.invariant (sym c.asks_while_waiting.ensures ∙ c.if-asks_while_waiting.true)
-    (runs_quiet c.an_order_leads_on.ensures.step c.a_legal_history_goes_on_by_orders.ensures.leads c.args.history.now legal quiet)),
+      (c.line.ensures ∙ ap (λ (l : Line). Some l) c.in-Asked.is) c.loop-at.invariant (sym c.asks_while_waiting.ensures ∙ c.if-asks_while_waiting.true)
+      (runs_quiet c.an_order_leads_on.ensures.step c.a_legal_history_goes_on_by_orders.ensures.leads c.args.history.now legal quiet)),
 )
 
 pub returns-clause-exact : goal.returns-clause-exact
 returns-clause-exact c = λ legal. (
   λ _. run_is_quiet c.an_order_leads_on.ensures.step c.a_legal_history_goes_on_by_orders.ensures.leads
-    c.a_legal_history_goes_on_by_orders.ensures.asked c.args.history.now legal
-    (all_taken c.args.history.now c.loop-at.at c.loop-at.core (omega (arith, c.len-at-end.ensures.len, c.loop-at-test.false)) c.loop-at.invariant),
+      c.a_legal_history_goes_on_by_orders.ensures.asked c.args.history.now legal
+      (all_taken c.args.history.now c.loop-at.at c.loop-at.core (omega (arith, c.len-at-end.ensures.len, c.loop-at-test.false)) c.loop-at.invariant),
   λ _. refl,
 )
 
