@@ -17,8 +17,6 @@ ghost use Rattle.fl_order.specs.declared.order.Order.{Order};
 ghost use Rattle.fl_order.specs.declared.told.Told.{Told};
 ghost use Rattle.fl_ranges.specs.Marking.{Marking};
 
-use fl_ranges::laws::a_change_counts_where_it_speaks;
-
 /// What is shown of a state after an effect is the snapshot after that effect.
 pub fn effects_are_shown_alike()
     ensures { (effect : View → Effect) (s : State) → snapshot_of (recorded effect s) ≡ made effect (snapshot_of s) }
@@ -65,12 +63,11 @@ pub fn a_step_is_what_its_replies_give()
         AreApart (next p order).view.parked }
 {}
 
-/// An order is taken in stages: its own change, in which nobody gains a lock but the owner who asks for a record lock, or
-/// its request is parked; and then requests leave or are granted, and nobody gains but the owner of one that is granted.
+/// An order is taken in stages: its own change, or its request is parked; then requests leave, or are granted.
 pub fn an_order_is_taken_in_stages()
     ensures { (p : Snapshot) (order : Order) → AllWait p.marking p.view.parked → AreApart p.view.parked →
         IsTakenInStages order (present p.marking p.view.parked)
         (present (next p order).marking (next p order).view.parked) }
 {
-    a_change_counts_where_it_speaks();
+    fl_ranges::laws::a_change_counts_where_it_speaks();
 }

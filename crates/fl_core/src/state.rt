@@ -11,7 +11,6 @@ ghost use Rattle.fl_core.specs.Waiting.{AllWait, AreApart};
 ghost use Rattle.fl_order.specs.Order.{only_reads};
 ghost use Rattle.fl_ranges.specs.Conflict.{IsLawful};
 
-use crate::circle::Wanted;
 use crate::parts::Parts;
 use crate::settling::touched_by;
 use crate::tolds::{MOST_TOLDS, Tolds};
@@ -99,12 +98,8 @@ impl Core {
         ensures { result ≡ closes_circle self.now.marking self.now.view.parked
             (record { key = key.now; start = range.now.start; end = range.now.end; kind = kind }) }
     {
-        let asked = Wanted {
-            key: *key,
-            range: *range,
-            kind,
-        };
-        self.parts.parked.close_circle(&self.parts.locks, &asked)
+        let locks = &self.parts.locks;
+        self.parts.parked.close_circle(locks, key, range, kind)
     }
 
     /// Whether a request of this owner for a record lock is parked.
