@@ -11,7 +11,8 @@ _lockd() {
         case $command in
             help) words='script check bytes serve drive' ;;
             serve) words='--workers --help' ;;
-            script | check | bytes | drive) words='--help' ;;
+            check) words='--quiet --help' ;;
+            script | bytes | drive) words='--help' ;;
         esac
     fi
     mapfile -t COMPREPLY < <(compgen -W "$words" -- "$word")

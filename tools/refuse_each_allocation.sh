@@ -1,6 +1,6 @@
 #!/bin/sh
-# Runs `lockd script` and `lockd bytes` on stored examples, once for each of their allocations, and refuses that one.
-# Each run must end with status 2, `no memory` on standard error and nothing on standard output, or else print all that
+# Runs `lockd script`, `lockd check --quiet` and `lockd bytes` on stored examples, once for each of their allocations,
+# and refuses that one. Each run must end with status 2, `no memory` on standard error and nothing on standard output, or else print all that
 # it prints otherwise. A session may refuse an order in place of that. It then answers ENOMEM, or EAGAIN where the order
 # is an INTERRUPT, or nothing where it is a FORGET, and goes on as if the order had never come. Wants a C compiler and
 # the GNU C library.
@@ -39,14 +39,14 @@ with_refusal() {
 # each line.
 most=160
 
-# Refuses each allocation of one command on one input. The orders in the lines that are named behind are those that may
-# be refused, and each of them has to be.
+# Refuses each allocation of one command, with its option, on one input. The orders in the lines that are named behind
+# are those that may be refused, and each of them has to be.
 refuse_each() {
     command=$1
     input=$2
     what=$3
     shift 3
-    ASKED="$work/asked" LD_PRELOAD="$work/refuse.so" "$program" "$command" < "$input" > "$work/wanted"
+    ASKED="$work/asked" LD_PRELOAD="$work/refuse.so" "$program" $command < "$input" > "$work/wanted"
     count=$(cat "$work/asked")
     for line in "$@"; do
         with_refusal "$input" "$line" > "$work/refused.$line"
@@ -57,7 +57,7 @@ refuse_each() {
     number=$((count > most ? count - most + 1 : 1))
     while [ "$number" -le "$count" ]; do
         status=0
-        REFUSE=$number LD_PRELOAD="$work/refuse.so" "$program" "$command" < "$input" > "$work/out" 2> "$work/err" ||
+        REFUSE=$number LD_PRELOAD="$work/refuse.so" "$program" $command < "$input" > "$work/out" 2> "$work/err" ||
             status=$?
         if [ "$status" -eq 2 ] && [ "$(cat "$work/err")" = "no memory" ] && [ ! -s "$work/out" ]; then
             no_memory=$((no_memory + 1))
@@ -108,6 +108,7 @@ filled() {
 
 refuse_each script crates/lockd/stdin "script"
 cmp "$work/wanted" crates/lockd/stdout
+refuse_each "check --quiet" crates/lockd/stdout "check --quiet"
 refuse_each bytes examples/two_locks.hex "bytes, two locks" 2
 waiting=examples/waiting.hex
 refuse_each bytes "$waiting" "bytes, waiting" 2

@@ -1,7 +1,7 @@
 -- Locks that are wanted, and who keeps them from being set.
 use Rattle.std.proofs.Common.{◌≡◌, ◌↔◌, ℕ, Bool, true, false, cond, not, ◌&&◌, ◌||◌, ◌==◌, nat_le, Option, Some, None, option_map, List, [], ◌∷◌, length, refl, sym, ap, ◌∙◌, subst, arith}
 use Rattle.std.proofs.lemmas.Bool.Decides.{nat_tests}
-use Rattle.std.specs.List.{list_any}
+use Rattle.std.specs.List.{list_any, cons_option}
 use Rattle.std.specs.FinMap.{entries}
 use Rattle.fl_ranges.specs.declared.lock.Class.TheVariants.{Record, Flock}
 use Rattle.fl_ranges.specs.declared.lock.Key.{Key}
@@ -12,6 +12,7 @@ use Rattle.fl_ranges.specs.Conflict.{excludes, excludes_by, owner_conflicts}
 use Rattle.fl_core.specs.Circle.{leads, IsCircle, Wish, owner_of, is_record, hinders, wish_on, wish_of, wishes, closes_circle, ClosesCircle}
 use Rattle.fl_core.specs.LockRequest.{is_flock, key_of, start_of, end_of, mark_of, stroke_of}
 use Rattle.fl_core.specs.Replies.{is_deadlock}
+use Rattle.fl_core.specs.Stages.{is_waiting}
 use Rattle.fl_core.specs.declared.parked.Request.{Request}
 use Rattle.fl_core.proofs.Circles.{circle_words}
 
@@ -101,3 +102,20 @@ deadlock_is m parked r false f (Some mark) e =
 pub deadlock_words : (m : Marking) (parked : List Request) (r : Request)
     → (is_deadlock m parked (stroke_of r.node r.ask) (mark_of r.ask) ≡ true) ↔ ClosesCircle m parked r
 deadlock_words m parked r = deadlock_is m parked r (is_flock r.ask) refl (mark_of r.ask) refl
+
+-- ---- an owner waits where one of the requests is its own
+
+abbrev is_of : ℕ → Wish → Bool
+is_of owner w = owner_of w == owner
+
+pub waiting_each : (owner : ℕ) (parked : List Request) → list_any (λ (r : Request). is_waiting owner (r ∷ [])) parked ≡ is_waiting owner parked
+waiting_each owner [] = refl
+waiting_each owner (r ∷ parked) = ap (λ b. is_waiting owner (r ∷ []) || b) (waiting_each owner parked) ∙ first (wish_of r)
+  where
+    either : (b c : Bool) → ((b || false) || c) ≡ (b || c)
+    either true c = refl
+    either false c = refl
+
+    first : (w : Option Wish) → (list_any (is_of owner) (cons_option w []) || is_waiting owner parked) ≡ list_any (is_of owner) (cons_option w (wishes parked))
+    first None = refl
+    first (Some w) = either (is_of owner w) (is_waiting owner parked)

@@ -6,6 +6,7 @@ pub mod Inside
 pub mod LockRequest
 pub mod Replies
 pub mod Settling
+pub mod Stages
 pub mod State
 pub mod Step
 pub mod Waiting

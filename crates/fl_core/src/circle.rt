@@ -1,12 +1,13 @@
 //! The search for a circle of owners, each of whom waits for a lock that the next one holds.
 
-ghost use Rattle.std.specs.Prelude.{◌≡◌, ◌+◌, ◌++◌, ◌≤◌, ◌<◌, ℕ, false, true, map, option_map, length, take, MatchOption};
+ghost use Rattle.std.specs.Prelude.{◌≡◌, ◌+◌, ◌++◌, ◌∷◌, [], ◌≤◌, ◌<◌, ℕ, false, true, map, option_map, length, take, MatchOption};
 ghost use Rattle.fl_arena.specs.Chains.{items};
 ghost use Rattle.std.specs.List.Sorted.{IsPermutation, IsNonDecreasing};
 ghost use Rattle.fl_ranges.specs.Conflict.{AreFound};
 ghost use Rattle.fl_core.specs.Circle.{closes_circle, hinders, leads, owner_of as owner_of_wish, wish_of, wishes};
 ghost use Rattle.fl_core.specs.Inside.Claims.{requests_of};
 ghost use Rattle.fl_core.specs.Inside.Searching.{meant, one_of, is_set, owners_of, IsByOwner};
+ghost use Rattle.fl_core.specs.Stages.{is_waiting};
 
 use crate::claim::Claim;
 use crate::parked::{MOST_PARKED, Parked};
@@ -21,34 +22,39 @@ pub(crate) struct Wanted {
     pub kind: Kind,
 }
 
-// A mark at each place of a parked request.
-type Bits = [bool; MOST_PARKED];
-
 impl Parked {
-    /// Whether a request would close a circle if it waited. Requests for whole-file locks never do.
-    pub(crate) fn close_circle(&self, locks: &Table, asked: &Wanted) -> bool
-        ensures { result ≡ closes_circle locks.now.marking self.now (meant asked.now) }
+    /// Whether a request for this lock would close a circle if it waited. Requests for whole-file locks never do.
+    pub(crate) fn close_circle(&self, locks: &Table, key: &Key, range: &Range, kind: Kind) -> bool
+        ensures { result ≡ closes_circle locks.now.marking self.now
+            (record { key = key.now; start = range.now.start; end = range.now.end; kind = kind }) }
     {
-        if let Class::Flock = asked.key.class {
+        if let Class::Flock = key.class {
             return false;
         }
         if self.is_empty() {
             return false;
         }
-        let mut room = [*asked; MOST_PARKED];
+        let asked = Wanted {
+            key: *key,
+            range: *range,
+            kind,
+        };
+        let mut room = [asked; MOST_PARKED];
         let count = copy_wanted(&self.claims, &mut room);
         let wanted = &mut room[..count];
-        sort_by_owner(wanted);
-        leads_back(locks, wanted, asked)
+        wanted.sort_unstable_by_key(|wanted| wanted.key.owner);
+        leads_back(locks, wanted, &asked)
     }
-}
 
-// Puts the least owner's first.
-fn sort_by_owner(wanted: &mut [Wanted])
-    ensures moved { IsPermutation wanted.old wanted.new }
-    ensures sorted { IsByOwner wanted.new }
-{
-    wanted.sort_unstable_by_key(|wanted| wanted.key.owner);
+    /// Whether a request of this owner for a record lock waits.
+    pub(crate) fn has_wish_of(&self, owner: u64) -> bool
+        ensures { result ≡ is_waiting owner self.now }
+    {
+        let cursor = self.claims.first_where(0, |claim| {
+            matches!(wanted_of(claim), Some(wanted) if wanted.key.owner == owner)
+        });
+        self.claims.item(&cursor).is_some()
+    }
 }
 
 // Copies the record locks that requests wait for, the oldest first, to the front of the room, and tells how many they are.
@@ -131,7 +137,7 @@ fn owners_of(wanted: &[Wanted]) -> [u64; MOST_PARKED]
 }
 
 // A place that is reached, and wasn't visited yet.
-fn next(reached: &[bool], visited: &Bits) -> Option<usize>
+fn next(reached: &[bool], visited: &[bool; MOST_PARKED]) -> Option<usize>
     requires { length reached.now ≤ MOST_PARKED }
     ensures { MatchOption result
         ((i : ℕ) → i < length reached.now → is_set reached.now i ≡ true → is_set visited.now i ≡ true)

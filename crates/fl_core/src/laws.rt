@@ -6,7 +6,8 @@ ghost use Rattle.fl_core.specs.Effects.{Effect, later, leaving, replied, recorde
 ghost use Rattle.fl_core.specs.First.{IsFirst};
 ghost use Rattle.fl_core.specs.LockRequest.{mark_of, stroke_of};
 ghost use Rattle.fl_core.specs.Replies.{first_told, is_deadlock};
-ghost use Rattle.fl_core.specs.Settling.{Present, settled, IsSettled};
+ghost use Rattle.fl_core.specs.Settling.{Present, present, settled, IsSettled};
+ghost use Rattle.fl_core.specs.Stages.{IsTakenInStages};
 ghost use Rattle.fl_core.specs.State.{View, State, Snapshot, snapshot_of};
 ghost use Rattle.fl_core.specs.Step.{next, replies};
 ghost use Rattle.fl_core.specs.Waiting.{AllWait, AreApart, taken_out};
@@ -61,3 +62,12 @@ pub fn a_step_is_what_its_replies_give()
     ensures apart { (p : Snapshot) (order : Order) → AllWait p.marking p.view.parked → AreApart p.view.parked →
         AreApart (next p order).view.parked }
 {}
+
+/// An order is taken in stages: its own change, or its request is parked; then requests leave, or are granted.
+pub fn an_order_is_taken_in_stages()
+    ensures { (p : Snapshot) (order : Order) → AllWait p.marking p.view.parked → AreApart p.view.parked →
+        IsTakenInStages order (present p.marking p.view.parked)
+        (present (next p order).marking (next p order).view.parked) }
+{
+    fl_ranges::laws::a_change_counts_where_it_speaks();
+}

@@ -12,7 +12,6 @@ ghost use Rattle.fl_core.specs.Replies.{room_reply, set_reply, setlk_reply, setl
 ghost use Rattle.fl_core.specs.Inside.Touched.{WaitsNow};
 ghost use Rattle.fl_core.specs.Waiting.{is_excluded};
 
-use crate::circle::Wanted;
 use crate::claim::Claim;
 use crate::parked::{Parked, Request};
 use fl_dir::Dir;
@@ -129,14 +128,7 @@ fn is_deadlock(locks: &Table, parked: &Parked, key: &Key, range: &Range, mark: O
 {
     match mark {
         None => false,
-        Some(mark) => {
-            let asked = Wanted {
-                key: *key,
-                range: *range,
-                kind: mark.kind,
-            };
-            parked.close_circle(locks, &asked)
-        }
+        Some(mark) => parked.close_circle(locks, key, range, mark.kind),
     }
 }
 

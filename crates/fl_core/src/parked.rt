@@ -87,10 +87,7 @@ impl Parked {
         ensures found { result ≡ is_parked unique self.now }
         ensures few { length self.now ≤ MOST_PARKED }
     {
-        if self.claims.free() == MOST_PARKED {
-            return false;
-        }
-        if unique > self.greatest {
+        if self.claims.free() == MOST_PARKED || unique > self.greatest {
             return false;
         }
         let cursor = self

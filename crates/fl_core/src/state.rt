@@ -5,12 +5,12 @@ ghost use Rattle.fl_core.specs.Circle.{closes_circle};
 ghost use Rattle.fl_core.specs.State.{State, opening, snapshot_of};
 ghost use Rattle.fl_core.specs.Effects.{replied, recorded};
 ghost use Rattle.fl_core.specs.Replies.{own_replies, taken_reply};
+ghost use Rattle.fl_core.specs.Stages.{is_waiting};
 ghost use Rattle.fl_core.specs.Step.{next, replies, ChangesNothing};
 ghost use Rattle.fl_core.specs.Waiting.{AllWait, AreApart};
 ghost use Rattle.fl_order.specs.Order.{only_reads};
 ghost use Rattle.fl_ranges.specs.Conflict.{IsLawful};
 
-use crate::circle::Wanted;
 use crate::parts::Parts;
 use crate::settling::touched_by;
 use crate::tolds::{MOST_TOLDS, Tolds};
@@ -98,12 +98,15 @@ impl Core {
         ensures { result ≡ closes_circle self.now.marking self.now.view.parked
             (record { key = key.now; start = range.now.start; end = range.now.end; kind = kind }) }
     {
-        let asked = Wanted {
-            key: *key,
-            range: *range,
-            kind,
-        };
-        self.parts.parked.close_circle(&self.parts.locks, &asked)
+        let locks = &self.parts.locks;
+        self.parts.parked.close_circle(locks, key, range, kind)
+    }
+
+    /// Whether a request of this owner for a record lock is parked.
+    pub fn is_waiting(&self, owner: u64) -> bool
+        ensures { result ≡ is_waiting owner self.now.view.parked }
+    {
+        self.parts.parked.has_wish_of(owner)
     }
 }
 

@@ -82,7 +82,7 @@ behind before tail legal all =
 -- ---- where a history differs
 
 -- a reply where an order is due
-no_order : (before rest : List Line) (told : Told) → IsLegal before → IsLegal (before ++ line.Told told ∷ rest) → ⊥
+pub no_order : (before rest : List Line) (told : Told) → IsLegal before → IsLegal (before ++ line.Told told ∷ rest) → ⊥
 unfolding given
 no_order before rest told legal all = go (asks (line.Told told ∷ rest)) (behind before (line.Told told ∷ rest) legal all)
   where
@@ -91,7 +91,7 @@ no_order before rest told legal all = go (asks (line.Told told ∷ rest)) (behin
     go (a ∷ xs) e = cc e
 
 -- what stands behind an order is its replies first
-replies_first : (before rest : List Line) (worker : ℕ) (order : Order) → IsLegal before → IsLegal (before ++ line.Asked worker order ∷ rest)
+pub replies_first : (before rest : List Line) (worker : ℕ) (order : Order) → IsLegal before → IsLegal (before ++ line.Asked worker order ∷ rest)
     → (more : List Line) × (rest ≡ map (λ told. line.Told told) (replies_in (state_after before) order) ++ more)
 unfolding asks given
 replies_first before rest worker order legal all =

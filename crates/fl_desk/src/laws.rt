@@ -1,13 +1,14 @@
 //! Laws of the definitions, in the words of their subject. Each is the contract of an empty function.
 
 ghost use Rattle.std.specs.Prelude.{◌≡◌, ℕ, Some, None, List, [], ◌∷◌, ◌++◌};
-ghost use Rattle.fl_desk.specs.Leading.{LeadsTo};
-ghost use Rattle.fl_desk.specs.Legal.{step_lines};
+ghost use Rattle.fl_desk.specs.Leading.{LeadsTo, GoesOn};
+ghost use Rattle.fl_desk.specs.Legal.{IsLegal, step_lines};
 ghost use Rattle.fl_desk.specs.Replay.{state_after, all_later, AllOthers};
 ghost use Rattle.fl_core.specs.Effects.{at_once, recorded};
 ghost use Rattle.fl_core.specs.State.{Snapshot, opening, snapshot_of};
 ghost use Rattle.fl_core.specs.Step.{next, replies};
 ghost use Rattle.fl_history.specs.declared.history.Line.{Line};
+ghost use Rattle.fl_history.specs.declared.history.Line.TheVariants as line;
 ghost use Rattle.fl_order.specs.declared.told.Told.{Told};
 ghost use Rattle.fl_order.specs.declared.order.Order.{Order};
 
@@ -34,3 +35,15 @@ pub fn own_reply_comes_first()
         state_after (lines ++ step_lines worker order tolds) ≡
         all_later tolds (recorded (at_once order None) (state_after lines)) }
 {}
+
+/// A legal history goes order by order: it leads to its state; behind a legal beginning come an order and its replies, or
+/// nothing; and what stands before an order is legal itself.
+pub fn a_legal_history_goes_on_by_orders()
+    ensures leads { (lines : List Line) → IsLegal lines → LeadsTo lines (snapshot_of (state_after lines)) }
+    ensures next { (before rest : List Line) (p : Snapshot) → LeadsTo before p → IsLegal (before ++ rest) →
+        GoesOn p rest }
+    ensures asked { (before rest : List Line) (worker : ℕ) (order : Order) →
+        IsLegal (before ++ line.Asked worker order ∷ rest) → IsLegal before }
+{
+    a_step_is_what_its_replies_give();
+}

@@ -14,7 +14,7 @@ use Rattle.fl_ranges.proofs.Spots.{same_key, within}
 use Rattle.fl_ranges.proofs.ConflictWords.{conflict_words}
 
 -- two tests that pass one with the other are one
-same_test : (b c : Bool) → (b ≡ true → c ≡ true) → (c ≡ true → b ≡ true) → b ≡ c
+pub same_test : (b c : Bool) → (b ≡ true → c ≡ true) → (c ≡ true → b ≡ true) → b ≡ c
 same_test true c to from = sym (to refl)
 same_test false true to from = from refl
 same_test false false to from = refl

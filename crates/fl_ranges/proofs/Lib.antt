@@ -23,6 +23,7 @@ pub mod RowNodes
 pub mod TableCalls
 pub mod Clashes
 pub mod OwnerConflicts
+pub mod Speaking
 pub mod Places
 pub mod RivalRows
 pub mod RivalOwners

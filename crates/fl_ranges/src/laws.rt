@@ -1,6 +1,6 @@
 //! Laws of the definitions, in the words of their subject. Each is the contract of an empty function.
 
-ghost use Rattle.std.specs.Prelude.{◌≡◌, ◌↔◌, ◌==◌, ◌≤◌, ℕ, Option, Some, None, true, false, List, length};
+ghost use Rattle.std.specs.Prelude.{◌≡◌, ◌≢◌, ◌↔◌, ◌==◌, ◌≤◌, ℕ, Option, Some, None, true, false, List, length};
 ghost use Rattle.std.specs.Prelude.{if◌then◌else◌};
 ghost use Rattle.std.specs.List.{Contains, IsDistinct};
 ghost use Rattle.std.specs.Ordering.{eq_by_cmp};
@@ -8,7 +8,7 @@ ghost use Rattle.std.specs.FinMap.{get};
 ghost use Rattle.fl_ranges.specs.declared.lock.Key.{Key as Holder};
 ghost use Rattle.fl_ranges.specs.declared.lock.Kind.{Kind as Sharing};
 ghost use Rattle.fl_ranges.specs.declared.held.Held.{Held as Lock};
-ghost use Rattle.fl_ranges.specs.Marking.{Spot, spot_cmp, Marking, Stroke, marking_of, mark_at};
+ghost use Rattle.fl_ranges.specs.Marking.{Spot, spot_cmp, Marking, Stroke, stroked, marking_of, mark_at};
 ghost use Rattle.fl_ranges.specs.Conflict.{conflicts, owner_conflicts, IsConflict, IsOwnerConflict};
 ghost use Rattle.fl_ranges.specs.Runs.{runs, IsStart, without_node};
 ghost use Rattle.fl_ranges.specs.Change.{Change, marking_after, last_said};
@@ -60,4 +60,21 @@ pub fn blocker_is_the_first_lock_that_excludes()
 /// no mark where none does.
 pub fn last_change_counts()
     ensures { (changes : List Change) (spot : Spot) → get (marking_after changes) spot ≡ last_said changes spot }
+{}
+
+/// A stroke leaves every conflict with another owner than its own as it was, and every conflict of another class. One
+/// that takes marks away makes nobody conflict, and neither does a node that loses its marks.
+pub fn a_change_counts_where_it_speaks()
+    ensures others { (m : Marking) (s : Stroke) (key : Holder) (start end : ℕ) (kind : Sharing) (owner : ℕ) →
+        owner ≢ s.key.owner →
+        owner_conflicts (stroked s m) key start end kind owner ≡ owner_conflicts m key start end kind owner }
+    ensures class { (m : Marking) (s : Stroke) (key : Holder) (start end : ℕ) (kind : Sharing) (owner : ℕ) →
+        key.class ≢ s.key.class →
+        owner_conflicts (stroked s m) key start end kind owner ≡ owner_conflicts m key start end kind owner }
+    ensures unlocked { (m : Marking) (s : Stroke) (key : Holder) (start end : ℕ) (kind : Sharing) (owner : ℕ) →
+        s.mark ≡ None → owner_conflicts (stroked s m) key start end kind owner ≡ true →
+        owner_conflicts m key start end kind owner ≡ true }
+    ensures cleared { (m : Marking) (node : ℕ) (key : Holder) (start end : ℕ) (kind : Sharing) (owner : ℕ) →
+        owner_conflicts (without_node node m) key start end kind owner ≡ true →
+        owner_conflicts m key start end kind owner ≡ true }
 {}

@@ -54,7 +54,9 @@ fn run<T: Threads + Wait + Net + Files + Sync>(
     match asked {
         Asked::Script => script_on(alloc, &mut input, &mut output, &mut faults),
         Asked::Bytes => bytes_on(alloc, &mut input, &mut output, &mut faults),
-        Asked::Check => check_on(alloc, &mut input, &mut output, &mut faults),
+        Asked::Check(tells_quiet) => {
+            check_on(alloc, *tells_quiet, &mut input, &mut output, &mut faults)
+        }
         Asked::Version => version_on(&mut output, &mut faults),
         Asked::Serve(socket, workers) => {
             let path = Path::new(socket.as_str());

@@ -22,8 +22,8 @@ pub enum Asked {
     Script,
     /// Answers messages in lines of hex and prints their replies.
     Bytes,
-    /// Judges a trace.
-    Check,
+    /// Judges a trace, and says whether it is quiet where that is asked.
+    Check(bool),
     /// Serves a socket at this path, with so many workers.
     Serve(String, u32),
     /// Sends messages to the socket at this path and prints its replies.
@@ -44,7 +44,7 @@ pub fn read_words(alloc: Global, words: &[String]) -> Result<Asked, Refusal>
     };
     match matches.subcommand() {
         Some(("bytes", _)) => Ok(Asked::Bytes),
-        Some(("check", _)) => Ok(Asked::Check),
+        Some(("check", options)) => Ok(Asked::Check(options.get_flag("quiet"))),
         Some(("serve", options)) => {
             let workers = options.get_one::<u32>("workers").unwrap_or(DEFAULT_WORKERS);
             let socket = socket_of(alloc, options)?;
@@ -75,9 +75,17 @@ fn command<'a>(alloc: Global) -> Result<Command<'a>, Error> {
     let bytes = Command::new(alloc, "bytes").about(
         "Serves the messages on standard input, lines of hex, and prints each reply as one",
     );
-    let check = Command::new(alloc, "check").about(
-        "Judges the trace on standard input and prints legal, or differs and a line's number",
-    );
+    let quiet = Arg::new(alloc, "quiet")
+        .long("quiet")
+        .help(
+            "Prints after legal whether the trace is quiet: no owner asks for a record lock while it waits for one",
+        )
+        .action(ArgAction::SetTrue);
+    let check = Command::new(alloc, "check")
+        .about(
+            "Judges the trace on standard input and prints legal, or differs and a line's number",
+        )
+        .arg(quiet)?;
     let workers = Arg::new(alloc, "workers")
         .long("workers")
         .value_name("N")

@@ -16,6 +16,7 @@ use std::process::Abort;
 enum Command {
     Bytes,
     Check,
+    CheckQuiet,
     Script,
 }
 
@@ -30,7 +31,8 @@ struct Came {
 fn run(command: Command, alloc: Global, text: &[u8]) -> Came {
     match command {
         Command::Bytes => run_bytes(alloc, text),
-        Command::Check => run_check(alloc, text),
+        Command::Check => run_check(alloc, false, text),
+        Command::CheckQuiet => run_check(alloc, true, text),
         Command::Script => run_script(alloc, text),
     }
 }
@@ -47,11 +49,11 @@ fn run_bytes(alloc: Global, text: &[u8]) -> Came {
     }
 }
 
-fn run_check(alloc: Global, text: &[u8]) -> Came {
+fn run_check(alloc: Global, tells_quiet: bool, text: &[u8]) -> Came {
     let mut input = text;
     let mut printed = Vec::new(alloc);
     let mut told = Vec::new(alloc);
-    let status = check_on(alloc, &mut input, &mut printed, &mut told);
+    let status = check_on(alloc, tells_quiet, &mut input, &mut printed, &mut told);
     Came {
         printed,
         told,

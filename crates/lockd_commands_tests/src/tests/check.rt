@@ -73,10 +73,10 @@ fn stored_traces(rt: HostRuntime) {
     is(&rt, "no newline", &came, "", "bad line 1\n");
 }
 
-fn differs(rt: &impl Abort, alloc: Global, case: &str) {
+fn differs(rt: &impl Abort, alloc: Global, command: Command, case: &str) {
     let trace = marked(rt, alloc, "", case, "> ");
     let printed = marked(rt, alloc, "", case, "< ");
-    let came = run(Command::Check, alloc, trace.as_bytes());
+    let came = run(command, alloc, trace.as_bytes());
     wrote(rt, case, &came, &printed, "");
     assert_eq!(rt; came.status, Status::Different, "{case}");
     assert_eq!(rt; came.status.exit_code(), 1);
@@ -86,8 +86,56 @@ fn differs(rt: &impl Abort, alloc: Global, case: &str) {
 fn traces_that_differ(rt: HostRuntime) {
     let mut count = 0usize;
     for case in TRACES_THAT_DIFFER.split('#').skip(1) {
-        differs(&rt, rt.alloc(), case);
+        differs(&rt, rt.alloc(), Command::Check, case);
+        differs(&rt, rt.alloc(), Command::CheckQuiet, case);
         count = count.saturating_add(1);
     }
     assert_eq!(rt; count, 5);
+}
+
+// With the option a second line says whether the trace is quiet.
+const QUIET_AND_NOT: &str = "\
+# nothing
+< legal
+< quiet
+# a conflict is told at once
+> ask 0 1 1 0 0 0 create 0 420 61
+> tell 1 made 2 33188 1 0 0 1
+> ask 0 2 2 0 0 0 setlk 1 7 0 9 1 11 0
+> tell 2 ok
+> ask 0 3 2 0 0 0 setlk 1 8 9 9 0 12 0
+> tell 3 err 11
+< legal
+< quiet
+# two requests of one owner wait
+> ask 0 1 1 0 0 0 create 0 420 61
+> tell 1 made 2 33188 1 0 0 1
+> ask 0 2 2 0 0 0 setlk 1 7 0 0 1 11 0
+> tell 2 ok
+> ask 0 3 2 0 0 0 setlk 1 8 1 1 1 12 0
+> tell 3 ok
+> ask 0 4 2 0 0 0 setlk 1 9 5 5 1 13 0
+> tell 4 ok
+> ask 0 5 2 0 0 0 setlkw 1 7 5 5 1 11 0
+> ask 0 6 2 0 0 0 setlkw 1 7 1 1 1 11 0
+> ask 0 7 2 0 0 0 setlkw 1 8 0 0 1 12 0
+> tell 7 err 35
+< legal
+< not quiet
+# a bad line
+> ask 0 1 1 0 0 0 open
+> x
+! bad line 2
+";
+
+#[test]
+fn quiet_traces_and_others(rt: HostRuntime) {
+    let found = run_cases(
+        &rt,
+        rt.alloc(),
+        Command::CheckQuiet,
+        ("", ""),
+        QUIET_AND_NOT,
+    );
+    assert_eq!(rt; found, 4);
 }

@@ -90,7 +90,7 @@ fn checked(alloc: Global, trace: &[u8]) -> Came {
     let mut input = trace;
     let mut printed = Vec::new(alloc);
     let mut told = Vec::new(alloc);
-    let status = check_on(alloc, &mut input, &mut printed, &mut told);
+    let status = check_on(alloc, false, &mut input, &mut printed, &mut told);
     Came {
         printed,
         told,

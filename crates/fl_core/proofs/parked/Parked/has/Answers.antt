@@ -9,6 +9,8 @@ use Rattle.fl_core.proofs.Chain.{some_copied, any_found}
 use Rattle.fl_core.proofs.Claims.{all_requests, any_request}
 use Rattle.fl_core.proofs.Counts.{none_past}
 use Rattle.fl_core.proofs.parked.Parked.has.Goals as goal
+use Rattle.fl_core.proofs.parked.Parked.has.Goals.{then-free-eq-MOST_PARKED-via-then-free-eq-MOST_PARKED}
+use Rattle.fl_core.proofs.parked.Parked.has.Goals.{then-free-eq-MOST_PARKED-via-else-free-eq-MOST_PARKED+then-unique-self}
 
 pub returns-clause-found : goal.returns-clause-found
 returns-clause-found c =
@@ -27,26 +29,22 @@ nothing [] unique e = refl
 nothing (r ∷ parked) unique e = absurd (omega arith)
 
 pub returns-then-free-eq-MOST_PARKED-clause-found : goal.returns-then-free-eq-MOST_PARKED-clause-found
-returns-then-free-eq-MOST_PARKED-clause-found c =
-    nothing c.args.self.now c.args.unique
-    (omega (
-      arith,
-      all_requests c.self.inside.claims c.self.invariant.0,
-      c.free.ensures.total,
-      c.self.invariant.1,
-      ap length c.self.view_is,
-      c.if-free-eq-MOST_PARKED.true,
-    ))
+returns-then-free-eq-MOST_PARKED-clause-found c = elim c.then-free-eq-MOST_PARKED.branch [
+  | then-free-eq-MOST_PARKED-via-then-free-eq-MOST_PARKED w ↦
+      nothing c.args.self.now c.args.unique
+      (omega (
+        arith,
+        all_requests c.self.inside.claims c.self.invariant.0,
+        c.free.ensures.total,
+        c.self.invariant.1,
+        ap length c.self.view_is,
+        w.if-free-eq-MOST_PARKED.true,
+      ))
+  | then-free-eq-MOST_PARKED-via-else-free-eq-MOST_PARKED+then-unique-self w ↦
+      sym (ap (is_parked c.args.unique) (sym c.self.view_is)
+      ∙ none_past c.args.unique c.self.inside.greatest (requests_of c.self.inside.claims) c.self.invariant.2 w.if-unique-self.true)
+]
 
 pub returns-then-free-eq-MOST_PARKED-clause-few : goal.returns-then-free-eq-MOST_PARKED-clause-few
 returns-then-free-eq-MOST_PARKED-clause-few c =
-    omega (arith, all_requests c.self.inside.claims c.self.invariant.0, c.free.ensures.total, c.self.invariant.1, ap length c.self.view_is)
-
-pub returns-then-unique-self-clause-found : goal.returns-then-unique-self-clause-found
-returns-then-unique-self-clause-found c =
-    sym (ap (is_parked c.args.unique) (sym c.self.view_is)
-    ∙ none_past c.args.unique c.self.inside.greatest (requests_of c.self.inside.claims) c.self.invariant.2 c.if-unique-self.true)
-
-pub returns-then-unique-self-clause-few : goal.returns-then-unique-self-clause-few
-returns-then-unique-self-clause-few c =
     omega (arith, all_requests c.self.inside.claims c.self.invariant.0, c.free.ensures.total, c.self.invariant.1, ap length c.self.view_is)
