@@ -11,14 +11,9 @@ mod lives;
 mod locks;
 mod orders;
 mod parking;
-mod plain;
-mod plain_circles;
-mod plain_locks;
-mod random;
 mod releases;
 mod room;
 mod waiting;
-mod waiting_random;
 
 use fl_book::{History, Line, Verdict, check, read_trace};
 use fl_core::{Core, Tolds};
