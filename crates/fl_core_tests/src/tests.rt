@@ -6,6 +6,7 @@ mod circles;
 mod circles_cut;
 mod circles_told;
 mod errors;
+mod full;
 mod limits;
 mod lives;
 mod locks;
