@@ -169,7 +169,7 @@ fn scoped<L: BoardName + Send + Sync, R: Threads + Wait + Sync + Abort>(
 
 // What a board came to, and how many orders each worker handed in.
 #[derive(Drop)]
-struct Closed {
+struct Outcome {
     history: History,
     counts: [u64; 16],
 }
@@ -179,7 +179,7 @@ fn closed<L: BoardName + Send + Sync, R: Threads + Wait + Sync + Abort>(
     alloc: Global,
     blank: Blank,
     log: FreshLog,
-) -> Closed
+) -> Outcome
     requires named { (blank.name ≡ L.name) × (blank.parts ≡ L.parts) }
     requires log { log ≡ L.log }
     requires parts { (16 ≡ L.parts) × (L.workers ≡ L.parts) }
@@ -203,7 +203,7 @@ fn closed<L: BoardName + Send + Sync, R: Threads + Wait + Sync + Abort>(
         *its = its.saturating_add(count);
         back.push(seat).expect(rt, "memory");
     }
-    Closed {
+    Outcome {
         history: board.close(back).ok().expect(rt, "all seats"),
         counts,
     }
@@ -223,7 +223,7 @@ fn counted(rt: &impl Abort, history: &History) -> [u64; 16] {
 
 #[test]
 fn sixteen_seats_hand_in_look_and_meet(rt: HostRuntime) {
-    let Closed { history, counts } = closed::<Brand, _>(
+    let Outcome { history, counts } = closed::<Brand, _>(
         &rt,
         rt.alloc(),
         Blank::new(16),
