@@ -6,51 +6,7 @@
 # the GNU C library.
 set -eu
 . "$(dirname "$0")/../tools/built_lockd.sh"
-cat > "$work/refuse.c" <<'C'
-#include <stddef.h>
-#include <stdio.h>
-#include <stdlib.h>
-#include <sys/syscall.h>
-#include <unistd.h>
-
-void *__libc_malloc(size_t size);
-void *__libc_realloc(void *old, size_t size);
-
-static unsigned long asked;
-static unsigned long refused;
-
-__attribute__((constructor)) static void begin(void)
-{
-    const char *number = getenv("REFUSE");
-    refused = number ? strtoul(number, NULL, 10) : 0;
-    asked = 0;
-}
-
-// A program with threads ends by this call, and runs no destructors.
-void _exit(int status)
-{
-    const char *path = getenv("ASKED");
-    unsigned long count = asked;
-    FILE *file = path ? fopen(path, "w") : NULL;
-    if (file) {
-        fprintf(file, "%lu\n", count);
-        fclose(file);
-    }
-    syscall(SYS_exit_group, status);
-    __builtin_unreachable();
-}
-
-void *malloc(size_t size)
-{
-    return ++asked == refused ? NULL : __libc_malloc(size);
-}
-
-void *realloc(void *old, size_t size)
-{
-    return ++asked == refused ? NULL : __libc_realloc(old, size);
-}
-C
-cc -shared -fPIC -O1 -fno-builtin -o "$work/refuse.so" "$work/refuse.c"
+cc -shared -fPIC -O1 -fno-builtin -o "$work/refuse.so" tools/refuse.c
 
 # What the program prints in a session, of which each line on standard input is a message.
 session() {

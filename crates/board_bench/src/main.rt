@@ -1,11 +1,14 @@
 //! Lock requests handed in at a board from as many threads as the first argument says, or at a desk without a lock
-//! where it is 0; the second says how many. `bench/board.sh` times it.
+//! where it is 0; the second says how many. With a third one the threads look instead, as often: `looks`, or `beside` while
+//! one thread more hands in. `bench/board.sh` and `bench/looks.sh` time it.
 #![tactic(auto)]
 
 ghost use Rattle.std.specs.Prelude.{◌≡◌, ◌<◌, ◌≤◌};
 
+mod looks;
+
 use anyhow::anyhow;
-use fl_book::{Board, BoardName, Desk, Seat};
+use fl_book::{Board, BoardName, Desk, FreshLog, Seat};
 use fl_core::Tolds;
 use fl_order::{LockAsk, Name, Op, Order};
 use std::alloc::Global;
@@ -63,10 +66,10 @@ fn at_a_desk(alloc: Global, first: &Order, orders: u64) -> anyhow::Result<usize>
 
 // What the threads share: the board, and how many orders each of them hands in.
 #[derive(Drop)]
-struct Crew<'a, L: BoardName, R> {
+struct Crew<'a, L: BoardName, R: Wait> {
     rt: &'a R,
     alloc: Global,
-    board: Board<L>,
+    board: Board<L, &'a R>,
     orders: u64,
 }
 
@@ -128,15 +131,17 @@ fn at_a_board<L: BoardName + Send + Sync, R: Threads + Wait + Sync>(
     rt: &R,
     alloc: Global,
     blank: Blank,
+    log: FreshLog,
     workers: u32,
     first: &Order,
     orders: u64,
 ) -> anyhow::Result<usize>
     requires named { (blank.name ≡ L.name) × (blank.parts ≡ L.parts) }
+    requires log { log ≡ L.log }
     requires parts { (workers ≡ L.parts) × (L.workers ≡ L.parts) }
     requires workers { (0 < workers) × (workers ≤ 16) }
 {
-    let (board, mut seats) = Board::<L>::new(alloc, blank, workers)
+    let (board, mut seats) = Board::<L, &R>::new(alloc, rt, blank, log, workers)
         .ok()
         .ok_or(anyhow!("a board"))?;
     let mut tolds = Tolds::new(alloc)?;
@@ -162,24 +167,36 @@ fn at_a_board<L: BoardName + Send + Sync, R: Threads + Wait + Sync>(
     Ok(history.len())
 }
 
+// How many lines the history has once all orders were handed in.
+fn handed_in<R: Threads + Wait + Sync>(
+    rt: &R,
+    alloc: Global,
+    threads: u32,
+    orders: u64,
+) -> anyhow::Result<usize> {
+    let first = create();
+    if threads == 0 {
+        return at_a_desk(alloc, &first, orders);
+    }
+    if threads > 16 {
+        return Err(anyhow!("0 to 16 threads"));
+    }
+    let blank = Blank::new(u64::from(threads));
+    at_a_board::<Brand, R>(rt, alloc, blank, FreshLog::new(), threads, &first, orders)
+}
+
 fn main(rt: HostRuntime) -> anyhow::Result<()> {
     let alloc = rt.alloc();
     let words: Vec<String> = env::args(&rt)?.collect(alloc)?;
-    let workers = words.get(1).map_or(Ok(2), |word| word.parse::<u32>())?;
-    let orders = words.get(2).map_or(Ok(1000), |word| word.parse::<u64>())?;
-    let first = create();
-    let lines = match workers {
-        0 => at_a_desk(alloc, &first, orders)?,
-        1..=16 => at_a_board::<Brand, _>(
-            &rt,
-            alloc,
-            Blank::new(u64::from(workers)),
-            workers,
-            &first,
-            orders,
-        )?,
-        _ => return Err(anyhow!("0 to 16 workers")),
+    let threads = words.get(1).map_or(Ok(2), |word| word.parse::<u32>())?;
+    let times = words.get(2).map_or(Ok(1000), |word| word.parse::<u64>())?;
+    let Some(mode) = words.get(3) else {
+        let lines = handed_in(&rt, alloc, threads, times)?;
+        println!(rt; "{lines} lines")?;
+        return Ok(());
     };
+    let beside = mode.as_str() == "beside";
+    let lines = looks::looked(&rt, alloc, threads, times, beside)?;
     println!(rt; "{lines} lines")?;
     Ok(())
 }

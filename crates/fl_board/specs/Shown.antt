@@ -24,6 +24,12 @@ pub record IsHandedIn (old : Place) (order : Order) (tolds : List Told) (new : P
   pub count : new.count ≡ old.count + 1
   pub recorded : new.count ≤ orders_by old.worker new.own
 
+-- it is the same worker's, who handed in the same
+pub record KeepsHanded (old new : Place) : Type 0 where
+  pub worker : new.worker ≡ old.worker
+  pub count : new.count ≡ old.count
+  pub own : new.own ≡ old.own
+
 -- A legal history was shown, which begins with all that the worker had handed in and was shown before. The result is what the
 -- order is answered there.
 pub record IsShown (old : Place) (order : Order) (result : Result Answer Errno) (new : Place) : Type 0 where

@@ -3,7 +3,7 @@
 ghost use Rattle.std.specs.Prelude.{◌≡◌, ℕ, ◌<◌, ◌≤◌, ◌↔◌, ◌⊎◌, [], true, Err, List, All, IfOk, IfErr, IfSome, IsSome, OnOk, OnErr};
 ghost use Rattle.std.specs.Prelude.{length, map, sum_by};
 ghost use Rattle.std.specs.List.{range_with_len};
-ghost use Rattle.fl_board.specs.Shown.{HasAllOf, HaveMet, IsHandedIn, IsShown};
+ghost use Rattle.fl_board.specs.Shown.{HasAllOf, HaveMet, IsHandedIn, IsShown, KeepsHanded};
 ghost use Rattle.fl_desk.specs.Legal.{IsLegal, orders_asked};
 ghost use Rattle.fl_order.specs.Order.{only_reads};
 
@@ -139,11 +139,10 @@ impl<L: BoardName, R: Wait + Drop> Board<L, R> {
         shared.hand_in(seat, order, tolds)
     }
 
-    /// What an order that only reads, GETLK or GETATTR, is answered after some beginning of the history, which the worker is
-    /// shown. It waits for nobody, takes no memory, and is no line of the history.
+    /// As `Seat::look`: it needs nothing of the board but what is published.
     pub fn look(&self, seat: &mut Seat<L>, order: &Order) -> Result<Result<Answer, Errno>, NoView>
         requires { only_reads order.now.op ≡ true }
-        ensures same { (seat.new.worker ≡ seat.old.worker) × (seat.new.count ≡ seat.old.count) × (seat.new.own ≡ seat.old.own) }
+        ensures same { KeepsHanded seat.old seat.new }
         ensures shown { IfOk result (λ answer. IsShown seat.old order.now answer seat.new) }
         ensures refused { OnErr result (seat.new ≡ seat.old) }
     {
@@ -157,8 +156,8 @@ impl<L: BoardName, R: Wait + Drop> Board<L, R> {
         one: &mut Seat<L>,
         other: &mut Seat<L>,
     ) -> Result<(), NoView>
-        ensures one { (one.new.worker ≡ one.old.worker) × (one.new.count ≡ one.old.count) × (one.new.own ≡ one.old.own) }
-        ensures other { (other.new.worker ≡ other.old.worker) × (other.new.count ≡ other.old.count) × (other.new.own ≡ other.old.own) }
+        ensures one { KeepsHanded one.old one.new }
+        ensures other { KeepsHanded other.old other.new }
         ensures met { OnOk result (HaveMet one.old other.old one.new other.new) }
         ensures refused { OnErr result ((one.new ≡ one.old) × (other.new ≡ other.old)) }
     {

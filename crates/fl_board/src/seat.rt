@@ -2,7 +2,7 @@
 
 ghost use Rattle.std.specs.Prelude.{◌≡◌, true, IfOk, OnErr};
 ghost use Rattle.fl_board.specs.Inside.Asks.{HasMostOf, history_of};
-ghost use Rattle.fl_board.specs.Shown.{IsShown};
+ghost use Rattle.fl_board.specs.Shown.{IsShown, KeepsHanded};
 ghost use Rattle.fl_order.specs.Order.{only_reads};
 
 use crate::asks::asks_lead;
@@ -55,10 +55,11 @@ impl<L: BoardName> Seat<L> {
         self.worker
     }
 
-    // What an order that only reads is answered by what is published.
-    pub(crate) fn look(&mut self, order: &Order) -> Result<Result<Answer, Errno>, NoView>
+    /// What an order that only reads, GETLK or GETATTR, is answered after some beginning of the history, which the worker is
+    /// shown. It waits for nobody, takes no memory, and is no line of the history.
+    pub fn look(&mut self, order: &Order) -> Result<Result<Answer, Errno>, NoView>
         requires { only_reads order.now.op ≡ true }
-        ensures same { (self.new.worker ≡ self.old.worker) × (self.new.count ≡ self.old.count) × (self.new.own ≡ self.old.own) }
+        ensures same { KeepsHanded self.old self.new }
         ensures shown { IfOk result (λ answer. IsShown self.old order.now answer self.new) }
         ensures refused { OnErr result (self.new ≡ self.old) }
     {

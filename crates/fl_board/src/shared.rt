@@ -2,7 +2,7 @@
 
 ghost use Rattle.std.specs.Prelude.{◌≡◌, ◌≢◌, true, false, All, OnOk, OnErr};
 ghost use Rattle.fl_board.specs.Inside.Asks.{AreApart, HasMostOf, history_of};
-ghost use Rattle.fl_board.specs.Shown.{HaveMet, IsHandedIn};
+ghost use Rattle.fl_board.specs.Shown.{HaveMet, IsHandedIn, KeepsHanded};
 ghost use Rattle.fl_desk.specs.Legal.{IsLegal, orders_asked};
 
 use crate::asks::asks_lead;
@@ -95,8 +95,8 @@ impl<L: BoardName, R: Wait + Drop> Shared<L, R> {
 
     /// Shows two workers all that was handed in.
     pub(crate) fn meet(&self, one: &mut Seat<L>, other: &mut Seat<L>) -> Result<(), NoView>
-        ensures one { (one.new.worker ≡ one.old.worker) × (one.new.count ≡ one.old.count) × (one.new.own ≡ one.old.own) }
-        ensures other { (other.new.worker ≡ other.old.worker) × (other.new.count ≡ other.old.count) × (other.new.own ≡ other.old.own) }
+        ensures one { KeepsHanded one.old one.new }
+        ensures other { KeepsHanded other.old other.new }
         ensures met { OnOk result (HaveMet one.old other.old one.new other.new) }
         ensures refused { OnErr result ((one.new ≡ one.old) × (other.new ≡ other.old)) }
     {

@@ -1,8 +1,10 @@
-//! Tests of looks, by what is public of a board.
+//! Tests of a board and of looks, by what is public of it.
 
 ghost use Rattle.std.specs.Prelude.{◌≡◌};
 
 mod looks;
+mod rounds;
+mod threads;
 mod watched;
 
 use fl_board::{Board, BoardName, Seat};

@@ -1,4 +1,4 @@
-//! Tests of the book: the desk, the board, histories and their text, and the judge.
+//! Tests of the book: the desk, histories and their text, and the judge.
 #![tactic(auto)]
 
 #[cfg(test)]

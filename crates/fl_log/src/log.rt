@@ -67,6 +67,7 @@ impl Plain<Ask, Ask, u64> for Adding {
 }
 
 /// A log with no asks, which has no name yet. Contracts see which log it is.
+#[derive(Drop)]
 pub struct FreshLog {
     length: Word<Ask, u64, Counting>,
     seen: Seen<Ask, u64, Counting>,

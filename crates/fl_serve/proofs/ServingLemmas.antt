@@ -1,17 +1,17 @@
 -- What a session with workers did.
-use Rattle.std.proofs.Common.{◌≡◌, ℕ, Bool, false, List, [], Option, Some, length, map, refl, sym, ap, ◌∙◌, arith}
+use Rattle.std.proofs.Common.{◌≡◌, ℕ, ◌⊎◌, inl, inr, ⊎_elim, Bool, false, List, [], Option, Some, length, map, refl, sym, ap, ◌∙◌, arith}
 use Rattle.std.proofs.lemmas.List.{length-map}
 use Rattle.std.proofs.lemmas.List.FromFn.{length-range_with_len}
 use Rattle.std.specs.List.{range_with_len}
-use Rattle.fl_book.specs.Seats.{Place}
+use Rattle.fl_board.specs.Seats.{Place}
 use Rattle.fl_serve.specs.Inside.Hearing.{HasHeard}
 use Rattle.fl_session.specs.Inbox.{IsEnding}
-use Rattle.fl_serve.specs.Serve.{IsServedBy}
+use Rattle.fl_serve.specs.Serve.{HasNoHistory, IsServedBy}
 use Rattle.fl_session.specs.Served.{EndsBy, IsRead}
 use Rattle.fl_session.specs.Session.{Came, session_of}
 use Rattle.fl_serve.specs.Shared.{HasSent, HasSentLast}
 use Rattle.fl_session.specs.declared.session.Fault.{Fault}
-use Rattle.fl_session.specs.declared.session.Fault.TheVariants.{NoMemory}
+use Rattle.fl_session.specs.declared.session.Fault.TheVariants.{NoMemory, NoReader}
 use Rattle.fl_session.specs.Talk.{bytes_of}
 use Rattle.fl_session.specs.declared.server.Owed.{Owed}
 use Rattle.fl_session.specs.declared.session.Done.{Done}
@@ -26,9 +26,10 @@ as_many seats workers each =
 pub served_by : (left left_now held held_now : Option (List ℕ)) (fault : Option Fault) (goodbye : Owed) (broken : Bool)
     (done : Done) → HasHeard left left_now fault goodbye → HasSent held held_now [] broken
     → (broken ≡ false → HasSentLast held held_now (bytes_of goodbye))
-    → ((came : List Came) (rest : List ℕ) (left : Option (List ℕ)) → IsEnding fault (session_of came).over rest left
-    → EndsBy done.fault broken came rest left) → IsServedBy left left_now held held_now done
-served_by left left_now held held_now fault goodbye broken done heard sent last told = record {
+    → (told : Option Fault) → ((came : List Came) (rest : List ℕ) (left : Option (List ℕ))
+    → IsEnding fault (session_of came).over rest left → EndsBy told broken came rest left)
+    → (done.fault ≡ told) ⊎ HasNoHistory done → IsServedBy left left_now held held_now done
+served_by left left_now held held_now fault goodbye broken done heard sent last told ends closed = record {
   came = heard.came;
   rest = heard.rest;
   broken = broken;
@@ -36,14 +37,15 @@ served_by left left_now held held_now fault goodbye broken done heard sent last 
   bounded = heard.bounded;
   sent = sent;
   goodbye = λ whole over. record { goodbye = goodbye; last = heard.over over; sent = last whole };
-  ending = told heard.came heard.rest left_now heard.ending;
+  ending = ⊎_elim (λ same. inl (rw same (ends heard.came heard.rest left_now heard.ending))) inr closed;
 }
 
--- what a session did that had no memory
-pub unserved : (left left_now held held_now : Option (List ℕ)) (broken : Bool) (done : Done)
+-- what a session did that had no memory, or no reader
+pub unserved : (left left_now held held_now : Option (List ℕ)) (broken : Bool) (done : Done) (fault : Fault)
     → IsRead left left_now [] []
-    → HasSent held held_now [] broken → done.fault ≡ Some NoMemory → IsServedBy left left_now held held_now done
-unserved left left_now held held_now broken done unread sent told = record {
+    → HasSent held held_now [] broken → done.fault ≡ Some fault → done.history ≡ []
+    → (fault ≡ NoMemory) ⊎ (fault ≡ NoReader) → IsServedBy left left_now held held_now done
+unserved left left_now held held_now broken done fault unread sent told none why = record {
   came = [];
   rest = [];
   broken = broken;
@@ -51,5 +53,6 @@ unserved left left_now held held_now broken done unread sent told = record {
   bounded = omega arith;
   sent = sent;
   goodbye = λ whole over. cc;
-  ending = rw told (refl, refl);
+  ending = ⊎_elim (λ memory. inl (rw (told, memory) (refl, refl)))
+      (λ reader. inr (record { fault = told ∙ ap Some reader; history = none })) why;
 }

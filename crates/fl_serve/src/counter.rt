@@ -1,10 +1,11 @@
-//! What a worker needs: a counter at which it hands orders in, and a gate that is told of them.
+//! What a worker needs: a counter at which it hands orders in and looks, and a gate that is told of them.
 
-ghost use Rattle.std.specs.Prelude.{◌≡◌, ℕ, ◌+◌, OnOk, OnErr};
+ghost use Rattle.std.specs.Prelude.{◌≡◌, ℕ, ◌+◌, true, OnOk, OnErr};
+ghost use Rattle.fl_order.specs.Order.{only_reads};
 
-use fl_book::{Board, BoardName, HandFault, Seat};
+use fl_board::{Board, BoardName, HandFault, NoView, Seat};
 use fl_core::Tolds;
-use fl_order::Order;
+use fl_order::{Answer, Errno, Order};
 use std::sync::Wait;
 
 /// Where workers hand in orders, each at its seat.
@@ -29,9 +30,14 @@ pub trait Counter {
         ensures own { worker seat.new ≡ worker seat.old }
         ensures taken { OnOk result (count seat.new ≡ count seat.old + 1) }
         ensures refused { OnErr result ((count seat.new ≡ count seat.old) × (tolds.new ≡ tolds.old)) };
+
+    /// What an order that only reads is answered, without taking it. It waits for nobody.
+    fn look(&self, seat: &mut Self::Seat, order: &Order) -> Result<Result<Answer, Errno>, NoView>
+        requires { only_reads order.now.op ≡ true }
+        ensures kept { (worker seat.new ≡ worker seat.old) × (count seat.new ≡ count seat.old) };
 }
 
-impl<L: BoardName> Counter for Board<L> {
+impl<L: BoardName, P: Wait + Drop> Counter for Board<L, P> {
     type Seat = Seat<L>;
 
     ghost count = { λ seat. seat.count };
@@ -46,6 +52,10 @@ impl<L: BoardName> Counter for Board<L> {
         tolds: &mut Tolds,
     ) -> Result<(), HandFault> {
         Board::hand_in(self, rt, seat, order, tolds)
+    }
+
+    fn look(&self, seat: &mut Seat<L>, order: &Order) -> Result<Result<Answer, Errno>, NoView> {
+        seat.look(order)
     }
 }
 

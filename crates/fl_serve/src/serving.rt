@@ -1,11 +1,11 @@
 //! A whole session of the FUSE protocol with workers, over any reader and any writer.
 
-ghost use Rattle.std.specs.Prelude.{◌≡◌, ◌≤◌, ◌<◌, [], false, Some, length, vec_capacity, IfOk};
+ghost use Rattle.std.specs.Prelude.{◌≡◌, ◌≢◌, ◌≤◌, ◌<◌, ◌⊎◌, [], false, Some, length, vec_capacity, IfOk};
 ghost use Rattle.std.specs.Io.KnownBytes.{Keeps};
 ghost use Rattle.fl_desk.specs.Legal.{IsLegal};
 ghost use Rattle.fl_session.specs.Inbox.{IsUnread};
 ghost use Rattle.fl_session.specs.Talk.{bytes_of};
-ghost use Rattle.fl_serve.specs.Serve.{IsServedBy};
+ghost use Rattle.fl_serve.specs.Serve.{HasNoHistory, IsServedBy};
 ghost use Rattle.fl_serve.specs.Shared.{HasSent, HasSentLast};
 
 mod crew;
@@ -15,7 +15,7 @@ use crate::counter::Gate;
 use crate::intake::Intake;
 use crate::serving::crew::{Back, Crew, Thread};
 use crate::shared::{Shared, WriterName};
-use fl_book::{Board, BoardName, Seat};
+use fl_board::{Board, BoardName, FreshLog, OpenFault, Seat};
 use fl_core::Tolds;
 use fl_order::NoMemory;
 use fl_session::{Done, Fault, Inbox, Owed, ReplyBuffer};
@@ -34,7 +34,7 @@ const STACK_BYTES: usize = 2 << 20;
 const BATCH_BYTES: usize = 672;
 
 /// Serves a whole session with 1 to 16 workers. The reader, which is the caller's thread, answers what is no order; each
-/// order goes to a worker, which hands it in at one board and sends all its replies, each whole. Replies that are ready go
+/// order goes to a worker, which looks for it at one board or hands it in there, and sends all its replies, each whole. Replies that are ready go
 /// out together. All memory but that of the history is made, and all workers are started, before the first read. At the
 /// stream's end, at a fault of the reader and at a DESTROY the orders that were read are finished, and only then is a
 /// DESTROY answered. After a write that failed it goes on, and writes no more; the reader's fault is told before the
@@ -73,8 +73,9 @@ pub fn serve_on_stack<R: Threads + Wait + Sync, I: Read, W: Write + Send + Drop,
         → (result.history ≡ []) × Keeps (I.remaining r.old) (I.remaining r.new) }
 {
     let blank = Blank::new(u64::from(workers));
+    let log = FreshLog::new();
     let staff = Staff { workers, stack };
-    let (done, w) = serve_at::<Brand, Brand, R, I, W, G>(rt, alloc, blank, r, w, gate, staff);
+    let (done, w) = serve_at::<Brand, Brand, R, I, W, G>(rt, alloc, blank, log, r, w, gate, staff);
     // No effect at run time: the proof reads here what the writer holds.
     let _ = &*w;
     done
@@ -100,12 +101,14 @@ fn serve_at<
     rt: &R,
     alloc: Global,
     blank: Blank,
+    log: FreshLog,
     r: &mut I,
     w: &'w mut W,
     gate: &G,
     staff: Staff,
 ) -> (Done, &'w mut W)
     requires named { (blank.name ≡ L.name) × (blank.parts ≡ L.parts) }
+    requires log { log ≡ L.log }
     requires parts { (staff.workers ≡ L.parts) × (L.workers ≡ L.parts) }
     requires workers { (0 < staff.workers) × (staff.workers ≤ 16) }
     requires start { W.contents w.old ≡ N.start }
@@ -117,8 +120,9 @@ fn serve_at<
     ensures nothing { result.0.fault ≡ Some Fault.NoMemory
         → (result.0.history ≡ []) × Keeps (I.remaining r.old) (I.remaining r.new) }
 {
-    let Ok(rooms) = Rooms::<L>::new(alloc, blank, staff.workers) else {
-        return (Done::no_memory(alloc), w);
+    let rooms = match Rooms::<L, &R>::new(alloc, rt, blank, log, staff.workers) {
+        Ok(rooms) => rooms,
+        Err(fault) => return (Done::nothing(alloc, unopened(fault)), w),
     };
     let Rooms {
         board,
@@ -142,18 +146,44 @@ fn serve_at<
     let Crew { board, shared, .. } = crew;
     let (w, broken) = said_goodbye(shared.into_inner(), &heard.goodbye);
     if heard.fault == Some(Fault::NoMemory) {
-        return (Done::no_memory(alloc), w);
+        return (Done::nothing(alloc, Fault::NoMemory), w);
     }
+    let told = Fault::told(heard.fault, broken);
+    (closed(alloc, board, back, told), w)
+}
+
+// Why a session has no board.
+fn unopened(fault: OpenFault) -> Fault
+    ensures { ((fault ≡ OpenFault.NoMemory) × (result ≡ Fault.NoMemory))
+        ⊎ ((fault ≡ OpenFault.NoReader) × (result ≡ Fault.NoReader)) }
+{
+    match fault {
+        OpenFault::NoMemory => Fault::NoMemory,
+        OpenFault::NoReader => Fault::NoReader,
+    }
+}
+
+// What a session came to whose workers gave all seats back, with this fault. Where the board can't tell the history, it is
+// told as want of a reader.
+fn closed<L: BoardName, R: Wait + Drop>(
+    alloc: Global,
+    board: Board<L, R>,
+    back: Back<L>,
+    fault: Option<Fault>,
+) -> Done
+    requires { L.workers ≡ L.parts }
+    ensures legal { IsLegal result.history }
+    ensures fault { (result.fault ≡ fault) ⊎ HasNoHistory result }
+{
     let Back { seats, refused } = back;
-    let Ok(history) = board.close(seats) else {
-        unreachable!()
-    };
-    let done = Done {
-        history,
-        fault: Fault::told(heard.fault, broken),
-        refused,
-    };
-    (done, w)
+    match board.close(seats) {
+        Ok(history) => Done {
+            history,
+            fault,
+            refused,
+        },
+        Err(_) => Done::nothing(alloc, Fault::NoReader),
+    }
 }
 
 // Sends what is owed last, and gives the writer back.
@@ -172,8 +202,8 @@ fn said_goodbye<'w, W: Write, N: WriterName>(
 }
 
 // All that a session has before its first read.
-struct Rooms<L: BoardName> {
-    board: Board<L>,
+struct Rooms<L: BoardName, R: Wait + Drop> {
+    board: Board<L, R>,
     seats: Vec<Seat<L>>,
     // For each worker.
     tolds: Vec<Tolds>,
@@ -185,10 +215,17 @@ struct Rooms<L: BoardName> {
     places: Vec<Seat<L>>,
 }
 
-impl<L: BoardName> Rooms<L> {
+impl<L: BoardName, R: Wait + Drop> Rooms<L, R> {
     #[tactic(auto, using(crate::proofs::ServingLemmas::as_many))]
-    fn new(alloc: Global, blank: Blank, workers: u32) -> Result<Rooms<L>, NoMemory>
+    fn new(
+        alloc: Global,
+        rt: R,
+        blank: Blank,
+        log: FreshLog,
+        workers: u32,
+    ) -> Result<Rooms<L, R>, OpenFault>
         requires named { (blank.name ≡ L.name) × (blank.parts ≡ L.parts) }
+        requires log { log ≡ L.log }
         requires parts { (workers ≡ L.parts) × (L.workers ≡ L.parts) }
         requires workers { (0 < workers) × (workers ≤ 16) }
         ensures seats { IfOk result (λ rooms. length rooms.seats.items ≡ L.workers) }
@@ -196,18 +233,13 @@ impl<L: BoardName> Rooms<L> {
         ensures unread { IfOk result (λ rooms. IsUnread rooms.inbox) }
         ensures none { IfOk result (λ rooms. (rooms.threads.items ≡ []) × (rooms.places.items ≡ []) × (rooms.replies ≡ [])) }
     {
-        let mut tolds = Vec::with_capacity(alloc, workers as usize)?;
-        for _ in 0..workers {
-            tolds.push(Tolds::new(alloc)?)?;
-        }
+        let tolds = rooms_for_replies(alloc, workers)?;
         let intake = Intake::new(alloc)?;
         let inbox = Inbox::new(alloc)?;
         let replies = ReplyBuffer::with_bytes(alloc, BATCH_BYTES)?;
         let threads = Vec::with_capacity(alloc, workers as usize)?;
         let places = Vec::with_capacity(alloc, workers as usize)?;
-        let Ok((board, seats)) = Board::<L>::new(alloc, blank, workers) else {
-            return Err(NoMemory);
-        };
+        let (board, seats) = Board::<L, R>::new(alloc, rt, blank, log, workers)?;
         Ok(Rooms {
             board,
             seats,
@@ -219,4 +251,13 @@ impl<L: BoardName> Rooms<L> {
             places,
         })
     }
+}
+
+// Room for the replies of an order, for each worker.
+fn rooms_for_replies(alloc: Global, workers: u32) -> Result<Vec<Tolds>, NoMemory> {
+    let mut tolds = Vec::with_capacity(alloc, workers as usize)?;
+    for _ in 0..workers {
+        tolds.push(Tolds::new(alloc)?)?;
+    }
+    Ok(tolds)
 }

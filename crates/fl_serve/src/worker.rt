@@ -1,11 +1,13 @@
 //! What a worker of a session does.
 
-ghost use Rattle.std.specs.Prelude.{◌≡◌, ◌≤◌};
+ghost use Rattle.std.specs.Prelude.{◌≡◌, ◌≤◌, true, IfSome, IsSome};
+ghost use Rattle.fl_order.specs.Order.{only_reads};
 
 use crate::counter::{Counter, Gate};
 use crate::intake::{Intake, Job};
 use crate::shared::{Shared, WriterName};
 use fl_core::Tolds;
+use fl_order::{Order, Told};
 use fl_session::Owed;
 use std::io::Write;
 use std::sync::{Mutex, Wait};
@@ -15,13 +17,13 @@ use std::sync::{Mutex, Wait};
 pub struct Worked<S> {
     /// Its seat.
     pub seat: S,
-    /// Some order was refused for want of memory.
+    /// Some order was refused.
     pub refused: bool,
 }
 
-/// Takes orders until the intake is closed and empty. It hands each in at its seat, which it gives back at the end, and
-/// gives all replies that it is handed out to be sent; of an order that is refused, the reply that says so, if one is owed.
-/// Before it waits for an order it sends what is collected.
+/// Takes orders until the intake is closed and empty. It looks for those that only read, and hands in all others, and those
+/// for which nothing could be shown, at its seat, which it gives back at the end. It gives all replies to be sent; of an
+/// order that is refused, the reply that says so, if one is owed. Before it waits for an order it sends what is collected.
 pub fn worker_loop<R: Wait, C: Counter, G: Gate, W: Write, N: WriterName>(
     rt: &R,
     counter: &C,
@@ -42,6 +44,10 @@ pub fn worker_loop<R: Wait, C: Counter, G: Gate, W: Write, N: WriterName>(
             break;
         };
         gate.pass(job.unique);
+        if let Some(told) = looked(counter, &mut seat, &job) {
+            give(rt, gate, shared, &Owed::One(told));
+            continue;
+        }
         match counter.hand_in(rt, &mut seat, &job, &mut tolds) {
             Ok(()) => give(rt, gate, shared, &Owed::Replies(tolds.as_slice())),
             Err(_) => {
@@ -51,6 +57,23 @@ pub fn worker_loop<R: Wait, C: Counter, G: Gate, W: Write, N: WriterName>(
         }
     }
     Worked { seat, refused }
+}
+
+// The reply to an order that only reads, for which something could be shown. None of it is handed in.
+fn looked<C: Counter>(counter: &C, seat: &mut C::Seat, order: &Order) -> Option<Told>
+    ensures own { C.worker seat.new ≡ C.worker seat.old }
+    ensures count { C.count seat.new ≡ C.count seat.old }
+    ensures reads { IsSome result → only_reads order.now.op ≡ true }
+    ensures unique { IfSome result (λ told. told.unique ≡ order.now.unique) }
+{
+    if !order.only_reads() {
+        return None;
+    }
+    let result = counter.look(seat, order).ok()?;
+    Some(Told {
+        unique: order.unique,
+        result,
+    })
 }
 
 // The next order. Where none is there, what is collected is sent first, and a worker looks for a while before it sleeps.

@@ -1,4 +1,4 @@
-//! Tests of sessions: over memory and over sockets, with one worker and with several.
+//! Tests of sessions with workers, over memory and over sockets.
 #![tactic(auto)]
 
 #[cfg(test)]

@@ -1,9 +1,6 @@
-//! Sessions, their inbox, their outbox and their workers.
+//! Sessions with workers.
 
-mod inbox;
-mod outbox;
 mod serving;
-mod sessions;
 
 use fl_serve::Fault;
 use std::process::Abort;

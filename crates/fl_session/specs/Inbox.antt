@@ -6,7 +6,7 @@ use Rattle.fl_wire.specs.declared.cut.Step.TheVariants as step
 use Rattle.fl_session.specs.Served.{IsRead}
 use Rattle.fl_session.specs.Session.{Came, session_of}
 use Rattle.fl_session.specs.declared.session.Fault.{Fault}
-use Rattle.fl_session.specs.declared.session.Fault.TheVariants.{Cut, BadLength, Read, Write, NoMemory}
+use Rattle.fl_session.specs.declared.session.Fault.TheVariants.{Cut, BadLength, Read, Write, NoMemory, NoReader}
 use Rattle.fl_session.specs.declared.inbox.Filled.{Filled}
 use Rattle.fl_session.specs.declared.inbox.Filled.TheVariants.{More, End}
 
@@ -43,6 +43,7 @@ IsEnding (Some (BadLength n)) over rest left = (over ≡ false) × (first_step r
 IsEnding (Some Read) over rest left = (over ≡ false) × (first_step rest ≡ step.More)
 IsEnding (Some Write) over rest left = ⊥
 IsEnding (Some NoMemory) over rest left = ⊥
+IsEnding (Some NoReader) over rest left = ⊥
 
 -- where no more bytes come, so ends the reader's part of a session that isn't over
 abbrev pub IsEnd : Filled → List ℕ → Option (List ℕ) → Type 0

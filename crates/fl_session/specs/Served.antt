@@ -9,7 +9,7 @@ use Rattle.fl_wire.specs.declared.cut.Step.TheVariants.{Bad, More}
 use Rattle.fl_session.specs.Session.{Came, Session, session_of}
 use Rattle.fl_session.specs.declared.session.Done.{Done}
 use Rattle.fl_session.specs.declared.session.Fault.{Fault}
-use Rattle.fl_session.specs.declared.session.Fault.TheVariants.{Cut, BadLength, Read, Write, NoMemory}
+use Rattle.fl_session.specs.declared.session.Fault.TheVariants.{Cut, BadLength, Read, Write, NoMemory, NoReader}
 
 -- these bytes begin those, and aren't all of them
 pub record IsProperPrefix (front whole : List ℕ) : Type 0 where
@@ -37,6 +37,7 @@ EndsBy (Some Cut) broken came rest left =
 EndsBy (Some (BadLength n)) broken came rest left = ((session_of came).over ≡ false) × (first_step rest ≡ Bad n)
 EndsBy (Some Read) broken came rest left = ((session_of came).over ≡ false) × (first_step rest ≡ More)
 EndsBy (Some NoMemory) broken came rest left = (came ≡ []) × (rest ≡ [])
+EndsBy (Some NoReader) broken came rest left = ⊥
 
 -- What was read is these messages and a rest, and no message came after one that ended the session.
 pub record IsRead (left left_now : Option (List ℕ)) (came : List Came) (rest : List ℕ) : Type 0 where

@@ -38,6 +38,10 @@ pub enum Fault {
     /// Want of memory, before anything was read.
     #[error("no memory")]
     NoMemory,
+    /// A worker got no reader of what the board publishes, or the history is shorter than what a worker handed in or was
+    /// shown. Only a session with workers ends so.
+    #[error("no reader")]
+    NoReader,
 }
 
 impl Fault {
@@ -68,18 +72,18 @@ pub struct Done {
 }
 
 impl Done {
-    /// What a session comes to that has no memory, and reads nothing.
+    /// What a session comes to that ends with this fault and keeps no history.
     #[tactic(auto, using(crate::proofs::InboxLemmas::nothing_read, crate::proofs::ServedLemmas::nothing_legal))]
-    pub fn no_memory(alloc: Global) -> Done
+    pub fn nothing(alloc: Global, fault: Fault) -> Done
         ensures history { result.history ≡ [] }
         ensures legal { IsLegal result.history }
-        ensures fault { result.fault ≡ Some Fault.NoMemory }
+        ensures fault { result.fault ≡ Some fault }
         ensures refused { result.refused ≡ false }
         ensures read { (left left_now : Option (List ℕ)) → Keeps left left_now → IsRead left left_now [] [] }
     {
         Done {
             history: History::new(alloc),
-            fault: Some(Fault::NoMemory),
+            fault: Some(fault),
             refused: false,
         }
     }
@@ -113,7 +117,7 @@ pub fn run_session<R: Read, W: Write>(alloc: Global, r: &mut R, w: &mut W) -> En
 {
     let Ok((mut inbox, server, reply)) = memory(alloc) else {
         return Ended {
-            done: Done::no_memory(alloc),
+            done: Done::nothing(alloc, Fault::NoMemory),
             broken: false,
         };
     };

@@ -32,6 +32,7 @@ pub did_not_begin : (left old : Option (List ℕ)) (text : List ℕ) (fault : Fa
 did_not_begin left old text (command.BadLine n) read bad =
     (read_as left text (λ text. text_says text ≡ Err n) read bad, Keeps-refl old)
 did_not_begin left old text command.NoMemory read bad = printed_none old
+did_not_begin left old text command.NoReader read bad = absurd bad
 did_not_begin left old text command.Read read bad = absurd bad
 did_not_begin left old text command.Write read bad = absurd bad
 did_not_begin left old text command.Cut read bad = absurd bad
@@ -109,6 +110,8 @@ did_stop input old new left left_now held held_now text lines command.BadReply r
     cut_short input old new left left_now held held_now text lines command.BadReply read said (stop (λ e. absurd (cc e)))
 did_stop input old new left left_now held held_now text lines command.NoMemory read said stop =
     stopped_printed old new left left_now held held_now lines command.NoMemory (stop (λ e. absurd (cc e)))
+did_stop input old new left left_now held held_now text lines command.NoReader read said stop =
+    absurd (stop (λ e. absurd (cc e))).why
 did_stop input old new left left_now held held_now text lines command.Read read said stop =
     stopped_printed old new left left_now held held_now lines command.Read (stop (λ e. absurd (cc e)))
 did_stop input old new left left_now held held_now text lines command.Write read said stop =

@@ -20,6 +20,7 @@ fault_of (session.BadLength n) = command.BadLength n
 fault_of session.Read = command.Read
 fault_of session.Write = command.Write
 fault_of session.NoMemory = command.NoMemory
+fault_of session.NoReader = command.NoReader
 
 -- A session over this stream, no write of which failed and whose fault is this one, and the lines that are printed for
 -- it: one for each of its replies.

@@ -3,12 +3,13 @@ use Rattle.std.specs.Prelude.{◌≡◌, ℕ, List, [], ◌∷◌, ◌++◌, cod
 use Rattle.std.specs.Fmt.{decimal}
 use Rattle.std.specs.Io.KnownBytes.{Appends}
 use Rattle.lockd_commands.specs.declared.fault.Fault.{Fault}
-use Rattle.lockd_commands.specs.declared.fault.Fault.TheVariants.{BadLine, NoMemory, Listen, Read, Write, Cut, BadLength, Connect, BadReply}
+use Rattle.lockd_commands.specs.declared.fault.Fault.TheVariants.{BadLine, NoMemory, NoReader, Listen, Read, Write, Cut, BadLength, Connect, BadReply}
 
 -- the text of a fault
 abbrev pub fault_text : Fault → List ℕ
 fault_text (BadLine n) = codes "bad line " ++ decimal n
 fault_text NoMemory = codes "no memory"
+fault_text NoReader = codes "no reader"
 fault_text Listen = codes "cannot listen"
 fault_text Read = codes "read failed"
 fault_text Write = codes "write failed"
@@ -49,6 +50,7 @@ IsOfBytes fault = ⊥
 -- a fault of a server
 abbrev pub IsOfServe : Fault → Type 0
 IsOfServe NoMemory = ⊤
+IsOfServe NoReader = ⊤
 IsOfServe Listen = ⊤
 IsOfServe Read = ⊤
 IsOfServe Write = ⊤

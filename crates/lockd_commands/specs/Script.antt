@@ -7,7 +7,7 @@ use Rattle.fl_history.specs.declared.history.Line.{Line}
 use Rattle.fl_history.specs.declared.history.Line.TheVariants.{Asked}
 use Rattle.lockd_commands.specs.declared.fault.Fault.{Fault}
 use Rattle.lockd_commands.specs.declared.script.AskLine.{AskLine}
-use Rattle.lockd_commands.specs.declared.fault.Fault.TheVariants.{BadLine, NoMemory, Listen, Read, Write, Cut, BadLength, Connect, BadReply}
+use Rattle.lockd_commands.specs.declared.fault.Fault.TheVariants.{BadLine, NoMemory, NoReader, Listen, Read, Write, Cut, BadLength, Connect, BadReply}
 
 -- an ask line that can be read back
 abbrev pub IsAskLine : Line → Type 0
@@ -29,6 +29,7 @@ pub record IsTraceOf (script trace : List ℕ) : Type 0 where
 abbrev pub FaultSays : List ℕ → Fault → Type 0
 FaultSays script (BadLine n) = BreaksAt IsAskLine script n
 FaultSays script NoMemory = Unit {0}
+FaultSays script NoReader = ⊥
 FaultSays script Listen = ⊥
 FaultSays script Read = ⊥
 FaultSays script Write = ⊥

@@ -6,7 +6,7 @@ use Rattle.fl_desk.specs.Legal.{IsLegal}
 use Rattle.fl_trace.specs.Text.{text_of}
 use Rattle.fl_history.specs.declared.history.Line.{Line}
 use Rattle.lockd_commands.specs.declared.fault.Fault.{Fault}
-use Rattle.lockd_commands.specs.declared.fault.Fault.TheVariants.{Cut, BadLength, Read}
+use Rattle.lockd_commands.specs.declared.fault.Fault.TheVariants.{NoMemory, NoReader, Listen, Cut, BadLength, Read}
 
 -- the trace of a legal history was written
 pub record IsTraced (old new : Option (List ℕ)) : Type 0 where
@@ -20,3 +20,10 @@ IsOfSession Cut = ⊤
 IsOfSession (BadLength n) = ⊤
 IsOfSession Read = ⊤
 IsOfSession fault = ⊥
+
+-- a fault at which there is no trace: nobody came, or nothing was served
+abbrev pub IsOfNoSession : Fault → Type 0
+IsOfNoSession Listen = ⊤
+IsOfNoSession NoMemory = ⊤
+IsOfNoSession NoReader = ⊤
+IsOfNoSession fault = ⊥

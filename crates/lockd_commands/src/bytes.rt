@@ -89,7 +89,10 @@ fn print_session(alloc: Global, stream: &[u8]) -> Result<Printed, Fault>
     let Ended { done, broken } = run_session(alloc, &mut rest, &mut sent);
     match done.fault {
         Some(fl_serve::Fault::Read) => Err(Fault::Read),
-        Some(fl_serve::Fault::Write | fl_serve::Fault::NoMemory) => Err(Fault::NoMemory),
+        // One worker at a desk needs no reader, so that fault doesn't come.
+        Some(fl_serve::Fault::Write | fl_serve::Fault::NoMemory | fl_serve::Fault::NoReader) => Err(
+            Fault::NoMemory,
+        ),
         _ if broken => Err(Fault::NoMemory),
         fault => {
             let lines = print_replies(alloc, &sent)?;

@@ -19,6 +19,8 @@ pub enum Fault {
     BadLine(usize),
     /// Want of memory.
     NoMemory,
+    /// A worker got no reader of what the board publishes, or the board couldn't tell its history.
+    NoReader,
     /// No connection came at the socket's path: it can't be bound, or accepting failed.
     Listen,
     /// The input can't be read.
@@ -45,6 +47,7 @@ impl Display for Fault {
         match self {
             Fault::BadLine(n) => write!(f, "bad line {n}"),
             Fault::NoMemory => f.write_str("no memory"),
+            Fault::NoReader => f.write_str("no reader"),
             Fault::Listen => f.write_str("cannot listen"),
             Fault::Read => f.write_str("read failed"),
             Fault::Write => f.write_str("write failed"),
@@ -113,6 +116,7 @@ impl From<fl_serve::Fault> for Fault {
             fl_serve::Fault::Read => Fault::Read,
             fl_serve::Fault::Write => Fault::Write,
             fl_serve::Fault::NoMemory => Fault::NoMemory,
+            fl_serve::Fault::NoReader => Fault::NoReader,
         }
     }
 }

@@ -4,7 +4,7 @@ ghost use Rattle.std.specs.Prelude.{◌≡◌, ◌≢◌, ◌⊎◌, ◌≤◌, 
 ghost use Rattle.std.specs.Io.KnownBytes.{Keeps};
 ghost use Rattle.std.specs.Path.{path_bytes};
 ghost use Rattle.fl_desk.specs.Legal.{IsLegal};
-ghost use Rattle.lockd_commands.specs.Serve.{IsTraced, IsOfSession};
+ghost use Rattle.lockd_commands.specs.Serve.{IsTraced, IsOfNoSession, IsOfSession};
 ghost use Rattle.lockd_commands.specs.Serve.Inside.{Did, TellsOf};
 ghost use Rattle.lockd_commands.specs.Faults.{IsOfServe, IsTold};
 ghost use Rattle.lockd_commands.specs.declared.fault.Fault.{Fault};
@@ -41,7 +41,7 @@ pub fn serve_on<R: Threads + Wait + Net + Files + Sync, W: Write, F: Write>(
     ensures good { result ≡ Status.Good → IsTraced (W.contents output.old) (W.contents output.new) }
     ensures traced { (fault : Fault) → result ≡ Status.Faulted fault → IsOfSession fault
         → IsTraced (W.contents output.old) (W.contents output.new) }
-    ensures kept { (fault : Fault) → result ≡ Status.Faulted fault → (fault ≡ Fault.Listen) ⊎ (fault ≡ Fault.NoMemory)
+    ensures kept { (fault : Fault) → result ≡ Status.Faulted fault → IsOfNoSession fault
         → Keeps (W.contents output.old) (W.contents output.new) }
     ensures faulted { (fault : Fault) → result ≡ Status.Faulted fault →
         IsOfServe fault × IsTold fault (F.contents faults.old) (F.contents faults.new) }
@@ -75,8 +75,8 @@ fn print_done<W: Write>(alloc: Global, done: &Done, output: &mut W) -> Result<()
     ensures did { Did (W.contents output.old) (W.contents output.new) result }
     ensures tells { TellsOf done.now.history (W.contents output.old) (W.contents output.new) result }
 {
-    if done.fault == Some(fl_serve::Fault::NoMemory) {
-        return Err(Fault::NoMemory);
+    if let Some(fault @ (fl_serve::Fault::NoMemory | fl_serve::Fault::NoReader)) = done.fault {
+        return Err(Fault::from(fault));
     }
     let trace = print_trace(alloc, &done.history)?;
     write_all(output, trace.as_bytes())?;

@@ -1,7 +1,8 @@
 //! Lock requests on one file, for `bench/setlk_by_runs.sh` to time. The first two arguments say how many owners hold locks
 //! and how many runs of bytes each of them has; the third says what is then asked, and the fourth how often:
 //! `anew`, each run in turn is set with the other kind; `more`, one owner more sets a run behind all others, and drops it;
-//! `look`, that owner asks for a write lock there; `turns`, each owner in turn drops its first run, and then sets it again.
+//! `amid`, the same by an owner whose number is amid the others'; `look`, the owner of `more` asks for a write lock there;
+//! `turns`, each owner in turn drops its first run, and then sets it again.
 #![tactic(auto)]
 
 use anyhow::anyhow;
@@ -20,6 +21,7 @@ const UNLOCK: u32 = 2;
 enum What {
     Anew,
     More,
+    Amid,
     Look,
     Turns,
 }
@@ -71,15 +73,27 @@ fn lock(owner: u64, run: u64, kind: u32) -> LockAsk {
     }
 }
 
-// The owner of a run: owners are numbered from 1 on, and each has its runs in a row.
+// The number of an owner, who is counted from 0. It is even, and later ones have greater numbers.
+fn number(owner: u64) -> u64 {
+    owner.saturating_add(1).saturating_mul(2)
+}
+
+// The owner of a run: each has its runs in a row.
 fn owner_of(held: &Held, run: u64) -> u64 {
-    run.checked_div(held.runs).unwrap_or(0).saturating_add(1)
+    number(run.checked_div(held.runs).unwrap_or(0))
+}
+
+// A write lock of one owner more behind all others, and then its unlock.
+fn more(held: &Held, owner: u64, place: u64) -> Op {
+    let kind = if place % 2 == 0 { WRITE } else { UNLOCK };
+    Op::Setlk(lock(owner, total(held), kind))
 }
 
 // What is asked at a place, counted from 0.
 fn asked(held: &Held, what: What, place: u64) -> Op {
     let all = total(held);
-    let behind = held.owners.saturating_add(1);
+    let behind = number(held.owners);
+    let amid = number(held.owners / 2).saturating_sub(1);
     match what {
         What::Anew => {
             let run = place.checked_rem(all).unwrap_or(0);
@@ -87,17 +101,15 @@ fn asked(held: &Held, what: What, place: u64) -> Op {
             let kind = if round % 2 == 0 { WRITE } else { READ };
             Op::Setlk(lock(owner_of(held, run), run, kind))
         }
-        What::More => {
-            let kind = if place % 2 == 0 { WRITE } else { UNLOCK };
-            Op::Setlk(lock(behind, all, kind))
-        }
+        What::More => more(held, behind, place),
+        What::Amid => more(held, amid, place),
         What::Look => Op::Getlk(lock(behind, all, WRITE)),
         What::Turns => {
             let turn = place.checked_rem(held.owners).unwrap_or(0);
             let round = place.checked_div(held.owners).unwrap_or(0);
             let kind = if round % 2 == 0 { UNLOCK } else { READ };
             let run = turn.saturating_mul(held.runs);
-            Op::Setlk(lock(turn.saturating_add(1), run, kind))
+            Op::Setlk(lock(number(turn), run, kind))
         }
     }
 }
@@ -115,6 +127,7 @@ fn what_of(word: &str) -> Option<What> {
     match word {
         "anew" => Some(What::Anew),
         "more" => Some(What::More),
+        "amid" => Some(What::Amid),
         "look" => Some(What::Look),
         "turns" => Some(What::Turns),
         _ => None,
@@ -131,7 +144,7 @@ fn main(rt: HostRuntime) -> anyhow::Result<()> {
     let what = words
         .get(3)
         .map_or(Some(What::Anew), |word| what_of(word))
-        .ok_or(anyhow!("anew, more, look or turns"))?;
+        .ok_or(anyhow!("anew, more, amid, look or turns"))?;
     let orders = words.get(4).map_or(Ok(1000), |word| word.parse::<u64>())?;
     let mut core = Core::new(alloc)?;
     let mut tolds = Tolds::new(alloc)?;

@@ -2,9 +2,7 @@
 
 use super::is_legal;
 
-#[test]
-fn orders_that_only_read_are_answered_as_by_a_step(rt: HostRuntime) {
-    let orders = "\
+const ORDERS_THAT_ONLY_READ_ARE_ANSWERED_AS_BY_A_STEP: &str = "\
 ask 0 1002 2 5 6 0 getattr
 tell 1002 err 2
 ask 0 1001 1 5 6 0 getattr
@@ -52,13 +50,9 @@ ask 0 1002 2 5 6 0 forget 1
 ask 0 1002 2 5 6 0 getattr
 tell 1002 err 2
 ";
-    is_legal(&rt, 46, orders);
-}
 
 // A lock is told whole, and not the bytes alone that were asked for (POSIX.1-2017 `fcntl`, F_GETLK).
-#[test]
-fn getlk_tells_a_lock_past_the_bytes_asked_for(rt: HostRuntime) {
-    let orders = "\
+const GETLK_TELLS_A_LOCK_PAST_THE_BYTES_ASKED_FOR: &str = "\
 ask 0 1 1 5 6 0 create 1 420 61
 tell 1 made 2 33188 1 5 6 1
 ask 0 2 2 5 6 0 setlk 1 7 2 8 1 7 0
@@ -70,5 +64,9 @@ tell 4 lock 2 8 1 7
 ask 0 5 2 5 6 0 getlk 1 8 8 99 1 8 0
 tell 5 lock 2 8 1 7
 ";
-    is_legal(&rt, 10, orders);
+
+#[test]
+fn reads_are_answered_without_a_change(rt: HostRuntime) {
+    is_legal(&rt, 46, ORDERS_THAT_ONLY_READ_ARE_ANSWERED_AS_BY_A_STEP);
+    is_legal(&rt, 10, GETLK_TELLS_A_LOCK_PAST_THE_BYTES_ASKED_FOR);
 }

@@ -14,9 +14,7 @@ ask 0 1004 4 5 6 0 open
 tell 1004 open 4
 ";
 
-#[test]
-fn an_owner_is_not_made_to_wait_for_one_who_waits_for_it(rt: HostRuntime) {
-    let orders = "\
+const AN_OWNER_IS_NOT_MADE_TO_WAIT_FOR_ONE_WHO_WAITS_FOR_IT: &str = "\
 ask 0 2 2 5 6 0 setlk 1 7 0 0 1 7 0
 tell 2 ok
 ask 0 3 3 5 6 0 setlk 2 8 0 0 1 8 0
@@ -36,12 +34,8 @@ tell 9 ok
 tell 4 ok
 ask 0 5 2 5 6 0 setlkw 1 8 0 0 1 8 0
 ";
-    is_legal_after(&rt, 26, WITH_FILES, orders);
-}
 
-#[test]
-fn two_readers_do_not_both_wait_to_write(rt: HostRuntime) {
-    let orders = "\
+const TWO_READERS_DO_NOT_BOTH_WAIT_TO_WRITE: &str = "\
 ask 0 2 2 5 6 0 setlk 1 7 0 9 0 7 0
 tell 2 ok
 ask 0 3 2 5 6 0 setlk 1 8 0 9 0 8 0
@@ -53,12 +47,8 @@ ask 0 6 2 5 6 0 setlk 1 8 0 9 2 8 0
 tell 6 ok
 tell 4 ok
 ";
-    is_legal_after(&rt, 18, WITH_FILES, orders);
-}
 
-#[test]
-fn each_owner_in_the_way_is_followed(rt: HostRuntime) {
-    let orders = "\
+const EACH_OWNER_IN_THE_WAY_IS_FOLLOWED: &str = "\
 ask 0 2 2 5 6 0 setlk 1 7 0 0 0 7 0
 tell 2 ok
 ask 0 3 2 5 6 0 setlk 1 8 0 0 0 8 0
@@ -75,12 +65,8 @@ ask 0 9 2 5 6 0 setlk 1 8 0 0 2 8 0
 tell 9 ok
 ask 0 10 2 5 6 0 setlkw 1 9 0 0 1 9 0
 ";
-    is_legal_after(&rt, 23, WITH_FILES, orders);
-}
 
-#[test]
-fn each_request_of_an_owner_is_followed(rt: HostRuntime) {
-    let orders = "\
+const EACH_REQUEST_OF_AN_OWNER_IS_FOLLOWED: &str = "\
 ask 0 2 2 5 6 0 setlk 1 7 0 0 1 7 0
 tell 2 ok
 ask 0 3 3 5 6 0 setlk 2 8 1 1 1 8 0
@@ -97,12 +83,8 @@ ask 0 9 4 5 6 0 setlkw 4 8 5 5 0 8 0
 ask 0 10 3 5 6 0 setlkw 2 9 1 1 0 9 0
 tell 10 err 35
 ";
-    is_legal_after(&rt, 23, WITH_FILES, orders);
-}
 
-#[test]
-fn an_owner_who_waits_may_close_a_circle_by_another_request(rt: HostRuntime) {
-    let orders = "\
+const AN_OWNER_WHO_WAITS_MAY_CLOSE_A_CIRCLE_BY_ANOTHER_REQUEST: &str = "\
 ask 0 2 2 5 6 0 setlk 1 7 0 0 1 7 0
 tell 2 ok
 ask 0 3 3 5 6 0 setlk 2 8 0 0 1 8 0
@@ -120,8 +102,6 @@ ask 0 10 4 5 6 0 setlkw 4 7 0 5 0 7 0
 tell 10 err 35
 ask 0 11 4 5 6 0 setlkw 4 7 0 4 0 7 0
 ";
-    is_legal_after(&rt, 24, WITH_FILES, orders);
-}
 
 // Owner 7 has locked node 2, and 19 requests of it wait for locks of as many owners who wait for nobody.
 const PARK_19: &str = "\
@@ -186,9 +166,7 @@ tell 3 ok
 ask 0 118 3 5 6 0 setlkw 2 7 36 36 1 7 0
 ";
 
-#[test]
-fn the_last_of_20_requests_leads_back(rt: HostRuntime) {
-    let orders = "\
+const THE_LAST_OF_20_REQUESTS_LEADS_BACK: &str = "\
 ask 0 3 4 5 6 0 setlk 3 8 0 0 1 8 0
 tell 3 ok
 ask 0 4 2 5 6 0 setlkw 1 8 0 0 1 8 0
@@ -203,12 +181,8 @@ ask 0 8 2 5 6 0 interrupt 119
 tell 119 err 4
 ask 0 6 2 5 6 0 setlkw 1 8 0 0 1 8 0
 ";
-    are_legal(&rt, 80, &[WITH_FILES, PARK_19, orders]);
-}
 
-#[test]
-fn a_request_that_closes_two_circles_waits_once_both_are_cut(rt: HostRuntime) {
-    let orders = "\
+const A_REQUEST_THAT_CLOSES_TWO_CIRCLES_WAITS_ONCE_BOTH_ARE_CUT: &str = "\
 ask 0 2 2 5 6 0 setlk 1 7 0 0 0 7 0
 tell 2 ok
 ask 0 3 2 5 6 0 setlk 1 8 0 0 0 8 0
@@ -229,12 +203,8 @@ ask 0 11 2 5 6 0 interrupt 7
 tell 7 err 4
 ask 0 12 2 5 6 0 setlkw 1 9 0 0 1 9 0
 ";
-    is_legal_after(&rt, 27, WITH_FILES, orders);
-}
 
-#[test]
-fn read_locks_that_do_not_conflict_close_no_circle(rt: HostRuntime) {
-    let orders = "\
+const READ_LOCKS_THAT_DO_NOT_CONFLICT_CLOSE_NO_CIRCLE: &str = "\
 ask 0 2 2 5 6 0 setlk 1 7 0 0 1 7 0
 tell 2 ok
 ask 0 3 3 5 6 0 setlk 2 8 0 0 0 8 0
@@ -256,12 +226,8 @@ ask 0 12 2 5 6 0 setlkw 1 8 5 6 0 8 0
 ask 0 13 2 5 6 0 setlkw 1 8 5 6 1 8 0
 tell 13 err 35
 ";
-    is_legal_after(&rt, 28, WITH_FILES, orders);
-}
 
-#[test]
-fn whole_file_locks_are_waited_for_in_a_circle(rt: HostRuntime) {
-    let orders = "\
+const WHOLE_FILE_LOCKS_ARE_WAITED_FOR_IN_A_CIRCLE: &str = "\
 ask 0 2 2 5 6 0 setlk 1 7 0 0 1 7 1
 tell 2 ok
 ask 0 3 3 5 6 0 setlk 2 8 0 0 1 8 1
@@ -277,12 +243,8 @@ ask 0 9 2 5 6 0 setlk 1 7 0 0 2 7 1
 tell 9 ok
 tell 5 ok
 ";
-    is_legal_after(&rt, 22, WITH_FILES, orders);
-}
 
-#[test]
-fn whole_file_locks_are_no_part_of_a_circle(rt: HostRuntime) {
-    let orders = "\
+const WHOLE_FILE_LOCKS_ARE_NO_PART_OF_A_CIRCLE: &str = "\
 ask 0 2 2 5 6 0 setlk 1 7 0 0 1 7 0
 tell 2 ok
 ask 0 3 3 5 6 0 setlk 2 8 0 0 1 8 1
@@ -299,5 +261,59 @@ ask 0 10 2 5 6 0 setlk 1 7 0 0 1 7 1
 tell 10 ok
 ask 0 11 2 5 6 0 setlkw 1 8 0 0 1 8 1
 ";
-    is_legal_after(&rt, 23, WITH_FILES, orders);
+
+#[test]
+fn requests_that_would_close_a_circle_are_refused(rt: HostRuntime) {
+    is_legal_after(
+        &rt,
+        26,
+        WITH_FILES,
+        AN_OWNER_IS_NOT_MADE_TO_WAIT_FOR_ONE_WHO_WAITS_FOR_IT,
+    );
+    is_legal_after(&rt, 18, WITH_FILES, TWO_READERS_DO_NOT_BOTH_WAIT_TO_WRITE);
+    is_legal_after(&rt, 23, WITH_FILES, EACH_OWNER_IN_THE_WAY_IS_FOLLOWED);
+    is_legal_after(&rt, 23, WITH_FILES, EACH_REQUEST_OF_AN_OWNER_IS_FOLLOWED);
+    is_legal_after(
+        &rt,
+        24,
+        WITH_FILES,
+        AN_OWNER_WHO_WAITS_MAY_CLOSE_A_CIRCLE_BY_ANOTHER_REQUEST,
+    );
+}
+
+#[test]
+fn each_circle_of_many_requests_is_found(rt: HostRuntime) {
+    are_legal(
+        &rt,
+        80,
+        &[WITH_FILES, PARK_19, THE_LAST_OF_20_REQUESTS_LEADS_BACK],
+    );
+    is_legal_after(
+        &rt,
+        27,
+        WITH_FILES,
+        A_REQUEST_THAT_CLOSES_TWO_CIRCLES_WAITS_ONCE_BOTH_ARE_CUT,
+    );
+}
+
+#[test]
+fn locks_that_do_not_conflict_and_whole_file_locks_are_no_part_of_a_circle(rt: HostRuntime) {
+    is_legal_after(
+        &rt,
+        28,
+        WITH_FILES,
+        READ_LOCKS_THAT_DO_NOT_CONFLICT_CLOSE_NO_CIRCLE,
+    );
+    is_legal_after(
+        &rt,
+        22,
+        WITH_FILES,
+        WHOLE_FILE_LOCKS_ARE_WAITED_FOR_IN_A_CIRCLE,
+    );
+    is_legal_after(
+        &rt,
+        23,
+        WITH_FILES,
+        WHOLE_FILE_LOCKS_ARE_NO_PART_OF_A_CIRCLE,
+    );
 }

@@ -19,9 +19,7 @@ tell 7 ok
 tell 4 ok
 ";
 
-#[test]
-fn a_request_that_leads_into_a_circle_of_others_waits(rt: HostRuntime) {
-    let orders = "\
+const A_REQUEST_THAT_LEADS_INTO_A_CIRCLE_OF_OTHERS_WAITS: &str = "\
 ask 0 8 2 5 6 0 setlkw 1 9 0 0 1 9 0
 ask 0 9 3 5 6 0 setlkw 2 9 0 0 0 9 0
 ask 0 10 4 5 6 0 setlk 3 9 0 0 1 9 0
@@ -31,12 +29,8 @@ ask 0 12 4 5 6 0 setlk 3 10 9 9 1 10 0
 tell 12 ok
 ask 0 13 4 5 6 0 setlkw 3 11 0 9 1 11 0
 ";
-    are_legal(&rt, 26, &[WITH_FILES, WITH_CIRCLE, orders]);
-}
 
-#[test]
-fn an_owner_in_a_circle_waits_for_one_who_is_not(rt: HostRuntime) {
-    let orders = "\
+const AN_OWNER_IN_A_CIRCLE_WAITS_FOR_ONE_WHO_IS_NOT: &str = "\
 ask 0 8 4 5 6 0 setlk 3 9 0 0 1 9 0
 tell 8 ok
 ask 0 9 4 5 6 0 setlkw 3 7 0 0 1 7 0
@@ -48,8 +42,6 @@ tell 12 err 35
 ask 0 13 2 5 6 0 setlkw 1 9 0 0 0 9 0
 tell 13 err 35
 ";
-    are_legal(&rt, 28, &[WITH_FILES, WITH_CIRCLE, orders]);
-}
 
 // Owners 7, 8 and 9 have locked nodes 2, 3 and 4. 7 waits for 8 with unique 17, and 8 for 9 with unique 18 through
 // fh 4. A request of 9 for node 2, unique 19, would close the circle.
@@ -115,9 +107,7 @@ ask 0 19 2 5 6 0 setlkw 1 9 0 0 1 9 0
     is_legal_after_three(&rt, 22, the_next_closed);
 }
 
-#[test]
-fn what_cuts_no_circle_leaves_it_refused(rt: HostRuntime) {
-    let orders = "\
+const WHAT_CUTS_NO_CIRCLE_LEAVES_IT_REFUSED: &str = "\
 ask 0 20 2 5 6 0 flush 1 8
 tell 20 ok
 ask 0 21 3 5 6 0 flush 2 7
@@ -131,12 +121,8 @@ tell 24 err 11
 ask 0 19 2 5 6 0 setlkw 1 9 0 0 1 9 0
 tell 19 err 35
 ";
-    is_legal_after_three(&rt, 30, orders);
-}
 
-#[test]
-fn requests_that_need_not_wait_are_no_part_of_a_circle(rt: HostRuntime) {
-    let orders = "\
+const REQUESTS_THAT_NEED_NOT_WAIT_ARE_NO_PART_OF_A_CIRCLE: &str = "\
 ask 0 20 2 5 6 0 setlkw 1 9 0 0 2 9 0
 tell 20 ok
 ask 0 21 2 5 6 0 setlkw 1 9 1 9 1 9 0
@@ -153,5 +139,31 @@ ask 0 25 3 5 6 0 setlkw 2 8 0 0 2 8 0
 tell 25 ok
 tell 17 ok
 ";
-    is_legal_after_three(&rt, 33, orders);
+
+#[test]
+fn circles_of_others_keep_nobody_from_waiting(rt: HostRuntime) {
+    are_legal(
+        &rt,
+        26,
+        &[
+            WITH_FILES,
+            WITH_CIRCLE,
+            A_REQUEST_THAT_LEADS_INTO_A_CIRCLE_OF_OTHERS_WAITS,
+        ],
+    );
+    are_legal(
+        &rt,
+        28,
+        &[
+            WITH_FILES,
+            WITH_CIRCLE,
+            AN_OWNER_IN_A_CIRCLE_WAITS_FOR_ONE_WHO_IS_NOT,
+        ],
+    );
+}
+
+#[test]
+fn circles_that_are_not_cut_stay_refused(rt: HostRuntime) {
+    is_legal_after_three(&rt, 30, WHAT_CUTS_NO_CIRCLE_LEAVES_IT_REFUSED);
+    is_legal_after_three(&rt, 33, REQUESTS_THAT_NEED_NOT_WAIT_ARE_NO_PART_OF_A_CIRCLE);
 }

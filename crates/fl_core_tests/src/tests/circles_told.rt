@@ -48,26 +48,22 @@ fn check_all(
     server.end();
 }
 
-#[test]
-fn circles_are_told_without_an_order(rt: HostRuntime) {
-    check_all(&rt, rt.alloc(), "", &[8, 9], &[9], &[]);
-}
-
-#[test]
-fn a_circle_is_told_no_more_once_it_is_cut(rt: HostRuntime) {
-    let orders = "\
+// Owner 7 waits no more, and a request of owner 9 for its node closes no circle.
+const CUT: &str = "\
 ask 0 20 2 5 6 0 interrupt 17
 tell 17 err 4
 ";
-    check_all(&rt, rt.alloc(), orders, &[], &[9], &[]);
-}
 
-#[test]
-fn a_request_that_waits_instead_closes_circles_of_others(rt: HostRuntime) {
-    let orders = "\
+// Such a request waits, and others would now close circles with it.
+const CUT_AND_ASKED: &str = "\
 ask 0 20 2 5 6 0 interrupt 17
 tell 17 err 4
 ask 0 21 2 5 6 0 setlkw 1 9 0 0 1 9 0
 ";
-    check_all(&rt, rt.alloc(), orders, &[], &[7, 9], &[7]);
+
+#[test]
+fn circles_are_told_without_an_order_until_they_are_cut(rt: HostRuntime) {
+    check_all(&rt, rt.alloc(), "", &[8, 9], &[9], &[]);
+    check_all(&rt, rt.alloc(), CUT, &[], &[9], &[]);
+    check_all(&rt, rt.alloc(), CUT_AND_ASKED, &[], &[7, 9], &[7]);
 }

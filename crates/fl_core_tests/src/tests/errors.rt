@@ -2,9 +2,7 @@
 
 use super::{is_legal, is_legal_after};
 
-#[test]
-fn names_are_refused_by_the_first_test(rt: HostRuntime) {
-    let orders = "\
+const NAMES_ARE_REFUSED_BY_THE_FIRST_TEST: &str = "\
 ask 0 1001 1 5 6 0 create 1 420 61
 tell 1001 made 2 33188 1 5 6 1
 ask 0 1003 3 5 6 0 lookup 61
@@ -48,12 +46,8 @@ tell 1001 made 2 33188 1 5 6 2
 ask 0 1001 1 5 6 0 create 1 420 62
 tell 1001 made 3 33188 1 5 6 3
 ";
-    is_legal(&rt, 42, orders);
-}
 
-#[test]
-fn reserved_names_are_refused_before_other_tests(rt: HostRuntime) {
-    let orders = "\
+const RESERVED_NAMES_ARE_REFUSED_BEFORE_OTHER_TESTS: &str = "\
 ask 0 1001 1 5 6 0 create 1 420 61
 tell 1001 made 2 33188 1 5 6 1
 ask 0 1001 1 5 6 0 create 0 420 61
@@ -103,12 +97,8 @@ tell 1002 err 20
 ask 0 1001 1 5 6 0 create 1 420 2e2e2e
 tell 1001 made 4 33188 1 5 6 4
 ";
-    is_legal(&rt, 48, orders);
-}
 
-#[test]
-fn nodes_and_files_are_refused_by_the_first_test(rt: HostRuntime) {
-    let orders = "\
+const NODES_AND_FILES_ARE_REFUSED_BY_THE_FIRST_TEST: &str = "\
 ask 0 1001 1 5 6 0 create 1 420 61
 tell 1001 made 2 33188 1 5 6 1
 ask 0 1001 1 5 6 0 create 1 420 62
@@ -180,8 +170,6 @@ tell 1003 ok
 ask 0 1003 3 5 6 0 release 2 1 7
 tell 1003 ok
 ";
-    is_legal(&rt, 70, orders);
-}
 
 // Node 2 is open as fh 1.
 const ONE_FILE: &str = "\
@@ -189,9 +177,7 @@ ask 0 1001 1 5 6 0 create 1 420 61
 tell 1001 made 2 33188 1 5 6 1
 ";
 
-#[test]
-fn unknown_lock_flags_are_refused_after_the_fh(rt: HostRuntime) {
-    let orders = "\
+const UNKNOWN_LOCK_FLAGS_ARE_REFUSED_AFTER_THE_FH: &str = "\
 ask 0 1002 2 5 6 0 setlk 1 7 5 9 0 7 2
 tell 1002 err 22
 ask 0 1002 2 5 6 0 setlkw 1 7 5 9 0 7 2
@@ -229,12 +215,8 @@ tell 1001 err 9
 ask 0 1001 1 5 6 0 getlk 1 7 5 9 0 7 3
 tell 1001 err 9
 ";
-    is_legal_after(&rt, 38, ONE_FILE, orders);
-}
 
-#[test]
-fn unknown_lock_types_are_refused_after_the_fh(rt: HostRuntime) {
-    let orders = "\
+const UNKNOWN_LOCK_TYPES_ARE_REFUSED_AFTER_THE_FH: &str = "\
 ask 0 1002 2 5 6 0 setlk 1 7 5 9 3 7 0
 tell 1002 err 22
 ask 0 1002 2 5 6 0 setlkw 1 7 5 9 3 7 0
@@ -272,12 +254,8 @@ tell 1001 err 9
 ask 0 1001 1 5 6 0 getlk 1 7 5 9 3 7 1
 tell 1001 err 9
 ";
-    is_legal_after(&rt, 38, ONE_FILE, orders);
-}
 
-#[test]
-fn ranges_that_end_before_their_start_or_too_far_are_refused_after_the_fh(rt: HostRuntime) {
-    let orders = "\
+const RANGES_THAT_END_BEFORE_THEIR_START_OR_TOO_FAR_ARE_REFUSED_AFTER_THE_FH: &str = "\
 ask 0 1002 2 5 6 0 setlk 1 7 5 4 0 7 0
 tell 1002 err 22
 ask 0 1002 2 5 6 0 setlkw 1 7 5 4 0 7 0
@@ -315,12 +293,8 @@ tell 1001 err 9
 ask 0 1001 1 5 6 0 getlk 1 7 0 9223372036854775808 0 7 0
 tell 1001 err 9
 ";
-    is_legal_after(&rt, 38, ONE_FILE, orders);
-}
 
-#[test]
-fn no_unlock_and_no_whole_file_lock_is_tested(rt: HostRuntime) {
-    let orders = "\
+const NO_UNLOCK_AND_NO_WHOLE_FILE_LOCK_IS_TESTED: &str = "\
 ask 0 1002 2 5 6 0 getlk 1 7 5 9 2 7 0
 tell 1002 err 22
 ask 0 1002 2 5 6 0 getlk 9 7 5 9 2 7 0
@@ -342,5 +316,38 @@ tell 1002 ok
 ask 0 1002 2 5 6 0 setlkw 1 7 5 9 0 7 1
 tell 1002 ok
 ";
-    is_legal_after(&rt, 22, ONE_FILE, orders);
+
+#[test]
+fn names_nodes_and_files_are_refused_by_the_first_test_that_fails(rt: HostRuntime) {
+    is_legal(&rt, 42, NAMES_ARE_REFUSED_BY_THE_FIRST_TEST);
+    is_legal(&rt, 48, RESERVED_NAMES_ARE_REFUSED_BEFORE_OTHER_TESTS);
+    is_legal(&rt, 70, NODES_AND_FILES_ARE_REFUSED_BY_THE_FIRST_TEST);
+}
+
+#[test]
+fn lock_requests_are_refused_by_the_first_test_that_fails(rt: HostRuntime) {
+    is_legal_after(
+        &rt,
+        38,
+        ONE_FILE,
+        UNKNOWN_LOCK_FLAGS_ARE_REFUSED_AFTER_THE_FH,
+    );
+    is_legal_after(
+        &rt,
+        38,
+        ONE_FILE,
+        UNKNOWN_LOCK_TYPES_ARE_REFUSED_AFTER_THE_FH,
+    );
+    is_legal_after(
+        &rt,
+        38,
+        ONE_FILE,
+        RANGES_THAT_END_BEFORE_THEIR_START_OR_TOO_FAR_ARE_REFUSED_AFTER_THE_FH,
+    );
+    is_legal_after(
+        &rt,
+        22,
+        ONE_FILE,
+        NO_UNLOCK_AND_NO_WHOLE_FILE_LOCK_IS_TESTED,
+    );
 }

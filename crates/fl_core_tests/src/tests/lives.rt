@@ -4,9 +4,7 @@ use super::orders::name;
 use super::{Reply, Server, is_legal};
 use fl_order::{Answer, Attr, Name, Op, Order};
 
-#[test]
-fn a_node_goes_with_its_name_then_its_lookup_then_its_open_file(rt: HostRuntime) {
-    let orders = "\
+const NAME_THEN_LOOKUP_THEN_OPEN_FILE: &str = "\
 ask 0 1001 1 5 6 0 create 1 420 61
 tell 1001 made 2 33188 1 5 6 1
 ask 0 1001 1 5 6 0 unlink 61
@@ -33,12 +31,8 @@ tell 1001 made 3 33188 1 5 6 2
 ask 0 1002 2 5 6 0 getattr
 tell 1002 err 2
 ";
-    is_legal(&rt, 25, orders);
-}
 
-#[test]
-fn a_node_goes_with_its_name_then_its_open_file_then_its_lookup(rt: HostRuntime) {
-    let orders = "\
+const NAME_THEN_OPEN_FILE_THEN_LOOKUP: &str = "\
 ask 0 1001 1 5 6 0 create 1 420 61
 tell 1001 made 2 33188 1 5 6 1
 ask 0 1001 1 5 6 0 unlink 61
@@ -65,12 +59,8 @@ tell 1001 made 3 33188 1 5 6 2
 ask 0 1002 2 5 6 0 getattr
 tell 1002 err 2
 ";
-    is_legal(&rt, 25, orders);
-}
 
-#[test]
-fn a_node_goes_with_its_lookup_then_its_name_then_its_open_file(rt: HostRuntime) {
-    let orders = "\
+const LOOKUP_THEN_NAME_THEN_OPEN_FILE: &str = "\
 ask 0 1001 1 5 6 0 create 1 420 61
 tell 1001 made 2 33188 1 5 6 1
 ask 0 1002 2 5 6 0 forget 1
@@ -97,12 +87,8 @@ tell 1001 made 3 33188 1 5 6 2
 ask 0 1002 2 5 6 0 getattr
 tell 1002 err 2
 ";
-    is_legal(&rt, 25, orders);
-}
 
-#[test]
-fn a_node_goes_with_its_lookup_then_its_open_file_then_its_name(rt: HostRuntime) {
-    let orders = "\
+const LOOKUP_THEN_OPEN_FILE_THEN_NAME: &str = "\
 ask 0 1001 1 5 6 0 create 1 420 61
 tell 1001 made 2 33188 1 5 6 1
 ask 0 1002 2 5 6 0 forget 1
@@ -129,12 +115,8 @@ tell 1001 made 3 33188 1 5 6 2
 ask 0 1002 2 5 6 0 getattr
 tell 1002 err 2
 ";
-    is_legal(&rt, 25, orders);
-}
 
-#[test]
-fn a_node_goes_with_its_open_file_then_its_name_then_its_lookup(rt: HostRuntime) {
-    let orders = "\
+const OPEN_FILE_THEN_NAME_THEN_LOOKUP: &str = "\
 ask 0 1001 1 5 6 0 create 1 420 61
 tell 1001 made 2 33188 1 5 6 1
 ask 0 1002 2 5 6 0 release 1 0 0
@@ -161,12 +143,8 @@ tell 1001 made 3 33188 1 5 6 2
 ask 0 1002 2 5 6 0 getattr
 tell 1002 err 2
 ";
-    is_legal(&rt, 25, orders);
-}
 
-#[test]
-fn a_node_goes_with_its_open_file_then_its_lookup_then_its_name(rt: HostRuntime) {
-    let orders = "\
+const OPEN_FILE_THEN_LOOKUP_THEN_NAME: &str = "\
 ask 0 1001 1 5 6 0 create 1 420 61
 tell 1001 made 2 33188 1 5 6 1
 ask 0 1002 2 5 6 0 release 1 0 0
@@ -193,12 +171,8 @@ tell 1001 made 3 33188 1 5 6 2
 ask 0 1002 2 5 6 0 getattr
 tell 1002 err 2
 ";
-    is_legal(&rt, 25, orders);
-}
 
-#[test]
-fn a_name_is_free_while_its_old_node_lives(rt: HostRuntime) {
-    let orders = "\
+const A_NAME_IS_FREE_WHILE_ITS_OLD_NODE_LIVES: &str = "\
 ask 0 1001 1 5 6 0 create 0 420 61
 tell 1001 made 2 33188 1 5 6 1
 ask 0 1001 1 5 6 0 unlink 61
@@ -243,12 +217,8 @@ tell 1003 err 2
 ask 0 1001 1 5 6 0 create 0 420 61
 tell 1001 made 4 33188 1 5 6 5
 ";
-    is_legal(&rt, 43, orders);
-}
 
-#[test]
-fn lookups_are_counted_and_forgotten(rt: HostRuntime) {
-    let orders = "\
+const LOOKUPS_ARE_COUNTED_AND_FORGOTTEN: &str = "\
 ask 0 1001 1 5 6 0 create 1 420 61
 tell 1001 made 2 33188 1 5 6 1
 ask 0 1002 2 5 6 0 release 1 0 0
@@ -274,7 +244,21 @@ ask 0 1002 2 5 6 0 forget 1
 ask 0 1002 2 5 6 0 getattr
 tell 1002 err 2
 ";
-    is_legal(&rt, 24, orders);
+
+#[test]
+fn a_node_goes_with_the_last_of_its_name_its_lookups_and_its_open_files(rt: HostRuntime) {
+    is_legal(&rt, 25, NAME_THEN_LOOKUP_THEN_OPEN_FILE);
+    is_legal(&rt, 25, NAME_THEN_OPEN_FILE_THEN_LOOKUP);
+    is_legal(&rt, 25, LOOKUP_THEN_NAME_THEN_OPEN_FILE);
+    is_legal(&rt, 25, LOOKUP_THEN_OPEN_FILE_THEN_NAME);
+    is_legal(&rt, 25, OPEN_FILE_THEN_NAME_THEN_LOOKUP);
+    is_legal(&rt, 25, OPEN_FILE_THEN_LOOKUP_THEN_NAME);
+}
+
+#[test]
+fn names_and_lookups_come_again_and_node_numbers_do_not(rt: HostRuntime) {
+    is_legal(&rt, 43, A_NAME_IS_FREE_WHILE_ITS_OLD_NODE_LIVES);
+    is_legal(&rt, 24, LOOKUPS_ARE_COUNTED_AND_FORGOTTEN);
 }
 
 // A file of user 8 and group 9. Of this mode the text of an order has the permissions alone.

@@ -98,9 +98,7 @@ tell 1002 ok
     );
 }
 
-#[test]
-fn flush_by_the_first_fh_takes_the_owners_record_locks_on_the_node(rt: HostRuntime) {
-    let orders = "\
+const FLUSH_BY_THE_FIRST_FH: &str = "\
 ask 0 1002 2 5 6 0 flush 1 7
 tell 1002 ok
 ask 0 1002 2 5 6 0 getlk 1 9 0 99 1 9 0
@@ -108,7 +106,8 @@ tell 1002 lock 40 49 1 8
 ask 0 1002 2 5 6 0 getlk 1 9 0 39 1 9 0
 tell 1002 lock 0 39 2 9
 ";
-    let others = "\
+
+const FLUSH_BY_THE_FIRST_FH_OF_OTHERS: &str = "\
 ask 0 1002 2 5 6 0 flush 1 9
 tell 1002 ok
 ask 0 1002 2 5 6 0 getlk 1 9 0 99 1 9 0
@@ -120,24 +119,8 @@ tell 1002 lock 0 99 2 9
 ask 0 1002 2 5 6 0 flush 1 8
 tell 1002 ok
 ";
-    are_legal(
-        &rt,
-        52,
-        &[
-            LOCKED,
-            orders,
-            FLOCKS_BY_1,
-            OTHER_NODE,
-            others,
-            FLOCKS_BY_2,
-            OTHER_NODE,
-        ],
-    );
-}
 
-#[test]
-fn flush_by_the_second_fh_takes_the_owners_record_locks_on_the_node(rt: HostRuntime) {
-    let orders = "\
+const FLUSH_BY_THE_SECOND_FH: &str = "\
 ask 0 1002 2 5 6 0 flush 2 7
 tell 1002 ok
 ask 0 1002 2 5 6 0 getlk 1 9 0 99 1 9 0
@@ -145,7 +128,8 @@ tell 1002 lock 40 49 1 8
 ask 0 1002 2 5 6 0 getlk 1 9 0 39 1 9 0
 tell 1002 lock 0 39 2 9
 ";
-    let others = "\
+
+const FLUSH_BY_THE_SECOND_FH_OF_OTHERS: &str = "\
 ask 0 1002 2 5 6 0 flush 2 9
 tell 1002 ok
 ask 0 1002 2 5 6 0 getlk 1 9 0 99 1 9 0
@@ -157,24 +141,8 @@ tell 1002 lock 0 99 2 9
 ask 0 1002 2 5 6 0 flush 2 8
 tell 1002 ok
 ";
-    are_legal(
-        &rt,
-        52,
-        &[
-            LOCKED,
-            orders,
-            FLOCKS_BY_1,
-            OTHER_NODE,
-            others,
-            FLOCKS_BY_2,
-            OTHER_NODE,
-        ],
-    );
-}
 
-#[test]
-fn what_is_refused_changes_no_lock(rt: HostRuntime) {
-    let orders = "\
+const WHAT_IS_REFUSED_CHANGES_NO_LOCK: &str = "\
 ask 0 1002 2 5 6 0 flush 3 7
 tell 1002 err 9
 ask 0 1002 2 5 6 0 release 3 1 7
@@ -260,23 +228,8 @@ tell 1009 err 9
 ask 0 1009 9 5 6 0 release 1 0 8
 tell 1009 err 9
 ";
-    are_legal(
-        &rt,
-        128,
-        &[
-            LOCKED,
-            orders,
-            RECORD_LOCKS_BY_1,
-            RECORD_LOCKS_BY_2,
-            FLOCKS_BY_2,
-            OTHER_NODE,
-        ],
-    );
-}
 
-#[test]
-fn names_and_lookups_change_no_lock(rt: HostRuntime) {
-    let orders = "\
+const NAMES_AND_LOOKUPS_CHANGE_NO_LOCK: &str = "\
 ask 0 1001 1 5 6 0 unlink 61
 tell 1001 ok
 ask 0 1002 2 5 6 0 forget 1
@@ -287,9 +240,56 @@ tell 1004 lock 0 99 2 9
 ask 0 1004 4 5 6 0 setlk 4 9 0 0 1 9 1
 tell 1004 ok
 ";
+
+#[test]
+fn locks_go_with_a_flush_and_with_nothing_else(rt: HostRuntime) {
+    are_legal(
+        &rt,
+        52,
+        &[
+            LOCKED,
+            FLUSH_BY_THE_FIRST_FH,
+            FLOCKS_BY_1,
+            OTHER_NODE,
+            FLUSH_BY_THE_FIRST_FH_OF_OTHERS,
+            FLOCKS_BY_2,
+            OTHER_NODE,
+        ],
+    );
+    are_legal(
+        &rt,
+        52,
+        &[
+            LOCKED,
+            FLUSH_BY_THE_SECOND_FH,
+            FLOCKS_BY_1,
+            OTHER_NODE,
+            FLUSH_BY_THE_SECOND_FH_OF_OTHERS,
+            FLOCKS_BY_2,
+            OTHER_NODE,
+        ],
+    );
+    are_legal(
+        &rt,
+        128,
+        &[
+            LOCKED,
+            WHAT_IS_REFUSED_CHANGES_NO_LOCK,
+            RECORD_LOCKS_BY_1,
+            RECORD_LOCKS_BY_2,
+            FLOCKS_BY_2,
+            OTHER_NODE,
+        ],
+    );
     are_legal(
         &rt,
         45,
-        &[LOCKED, orders, RECORD_LOCKS_BY_1, FLOCKS_BY_1, OTHER_NODE],
+        &[
+            LOCKED,
+            NAMES_AND_LOOKUPS_CHANGE_NO_LOCK,
+            RECORD_LOCKS_BY_1,
+            FLOCKS_BY_1,
+            OTHER_NODE,
+        ],
     );
 }

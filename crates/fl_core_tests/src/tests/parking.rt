@@ -11,9 +11,7 @@ tell 2 ok
 ask 0 3 2 5 6 0 setlkw 1 8 0 0 1 8 0
 ";
 
-#[test]
-fn an_order_with_the_unique_of_a_waiting_request_is_refused(rt: HostRuntime) {
-    let orders = "\
+const AN_ORDER_WITH_THE_UNIQUE_OF_A_WAITING_REQUEST_IS_REFUSED: &str = "\
 ask 0 3 1 5 6 0 lookup 61
 tell 3 err 22
 ask 0 3 2 5 6 0 getattr
@@ -48,12 +46,8 @@ tell 3 attr 2 33188 1 5 6
 ask 0 6 2 5 6 0 open
 tell 6 open 2
 ";
-    is_legal_after(&rt, 38, WITH_WAITER, orders);
-}
 
-#[test]
-fn a_forget_with_the_unique_of_a_waiting_request_does_nothing(rt: HostRuntime) {
-    let orders = "\
+const A_FORGET_WITH_THE_UNIQUE_OF_A_WAITING_REQUEST_DOES_NOTHING: &str = "\
 ask 0 3 2 5 6 0 forget 1
 ask 0 4 1 5 6 0 unlink 61
 tell 4 ok
@@ -66,12 +60,8 @@ ask 0 3 2 5 6 0 forget 1
 ask 0 7 2 5 6 0 getattr
 tell 7 err 2
 ";
-    is_legal_after(&rt, 16, WITH_WAITER, orders);
-}
 
-#[test]
-fn orders_that_only_read_are_answered_so_beside_waiting_requests(rt: HostRuntime) {
-    let orders = "\
+const ORDERS_THAT_ONLY_READ_ARE_ANSWERED_SO_BESIDE_WAITING_REQUESTS: &str = "\
 ask 0 3 2 5 6 0 getattr
 tell 3 err 22
 ask 0 3 2 5 6 0 getlk 1 9 0 0 1 9 0
@@ -90,5 +80,25 @@ tell 3 attr 2 33188 1 5 6
 ask 0 3 2 5 6 0 getlk 1 9 0 0 1 9 0
 tell 3 lock 0 0 1 8
 ";
-    is_legal_after(&rt, 22, WITH_WAITER, orders);
+
+#[test]
+fn the_unique_of_a_waiting_request_is_refused(rt: HostRuntime) {
+    is_legal_after(
+        &rt,
+        38,
+        WITH_WAITER,
+        AN_ORDER_WITH_THE_UNIQUE_OF_A_WAITING_REQUEST_IS_REFUSED,
+    );
+    is_legal_after(
+        &rt,
+        16,
+        WITH_WAITER,
+        A_FORGET_WITH_THE_UNIQUE_OF_A_WAITING_REQUEST_DOES_NOTHING,
+    );
+    is_legal_after(
+        &rt,
+        22,
+        WITH_WAITER,
+        ORDERS_THAT_ONLY_READ_ARE_ANSWERED_SO_BESIDE_WAITING_REQUESTS,
+    );
 }

@@ -10,9 +10,7 @@ ask 0 1002 2 5 6 0 open
 tell 1002 open 2
 ";
 
-#[test]
-fn unlocking_frees_the_oldest_and_the_second_still_waits(rt: HostRuntime) {
-    let orders = "\
+const UNLOCKING_FREES_THE_OLDEST_AND_THE_SECOND_STILL_WAITS: &str = "\
 ask 0 2 2 5 6 0 setlk 1 7 0 0 1 7 0
 tell 2 ok
 ask 0 3 2 5 6 0 setlkw 1 8 0 0 1 8 0
@@ -28,12 +26,8 @@ tell 4 ok
 ask 0 8 2 5 6 0 setlk 1 9 0 0 2 9 0
 tell 8 ok
 ";
-    is_legal_after(&rt, 18, OPEN_TWICE, orders);
-}
 
-#[test]
-fn all_that_are_free_are_told_the_oldest_first(rt: HostRuntime) {
-    let orders = "\
+const ALL_THAT_ARE_FREE_ARE_TOLD_THE_OLDEST_FIRST: &str = "\
 ask 0 2 2 5 6 0 setlk 1 7 0 9 1 7 0
 tell 2 ok
 ask 0 9 2 5 6 0 setlkw 1 8 0 9 0 8 0
@@ -51,12 +45,8 @@ ask 0 7 2 5 6 0 flush 1 8
 tell 7 ok
 tell 3 ok
 ";
-    is_legal_after(&rt, 20, OPEN_TWICE, orders);
-}
 
-#[test]
-fn a_new_request_passes_those_that_wait(rt: HostRuntime) {
-    let orders = "\
+const A_NEW_REQUEST_PASSES_THOSE_THAT_WAIT: &str = "\
 ask 0 2 2 5 6 0 setlk 1 7 0 0 0 7 0
 tell 2 ok
 ask 0 3 2 5 6 0 setlkw 1 8 0 9 1 8 0
@@ -74,12 +64,8 @@ ask 0 9 2 5 6 0 flush 1 10
 tell 9 ok
 tell 3 ok
 ";
-    is_legal_after(&rt, 20, OPEN_TWICE, orders);
-}
 
-#[test]
-fn a_grant_that_turns_write_into_read_frees_an_older_request(rt: HostRuntime) {
-    let orders = "\
+const A_GRANT_THAT_TURNS_WRITE_INTO_READ_FREES_AN_OLDER_REQUEST: &str = "\
 ask 0 2 2 5 6 0 setlk 1 7 0 0 1 7 0
 tell 2 ok
 ask 0 3 2 5 6 0 setlk 1 8 1 1 1 8 0
@@ -93,12 +79,8 @@ tell 4 ok
 ask 0 7 2 5 6 0 getlk 1 10 0 9 1 10 0
 tell 7 lock 0 1 0 7
 ";
-    is_legal_after(&rt, 16, OPEN_TWICE, orders);
-}
 
-#[test]
-fn a_lock_that_turns_write_into_read_frees_requests_at_once(rt: HostRuntime) {
-    let orders = "\
+const A_LOCK_THAT_TURNS_WRITE_INTO_READ_FREES_REQUESTS_AT_ONCE: &str = "\
 ask 0 2 2 5 6 0 setlk 1 7 0 9 1 7 0
 tell 2 ok
 ask 0 3 2 5 6 0 setlk 1 7 0 0 1 7 1
@@ -116,12 +98,8 @@ ask 0 9 2 5 6 0 setlkw 2 7 0 0 0 7 1
 tell 9 ok
 tell 5 ok
 ";
-    is_legal_after(&rt, 20, OPEN_TWICE, orders);
-}
 
-#[test]
-fn each_class_and_each_file_waits_for_itself(rt: HostRuntime) {
-    let orders = "\
+const EACH_CLASS_AND_EACH_FILE_WAITS_FOR_ITSELF: &str = "\
 ask 0 2 1 5 6 0 create 1 420 62
 tell 2 made 3 33188 1 5 6 3
 ask 0 3 2 5 6 0 setlk 1 7 0 9 1 7 0
@@ -143,12 +121,8 @@ ask 0 11 3 5 6 0 flush 3 7
 tell 11 ok
 tell 6 ok
 ";
-    is_legal_after(&rt, 24, OPEN_TWICE, orders);
-}
 
-#[test]
-fn flush_frees_requests_and_ends_none(rt: HostRuntime) {
-    let orders = "\
+const FLUSH_FREES_REQUESTS_AND_ENDS_NONE: &str = "\
 ask 0 2 2 5 6 0 setlk 1 7 0 9 1 7 0
 tell 2 ok
 ask 0 3 2 5 6 0 setlk 2 8 20 29 1 8 0
@@ -174,12 +148,8 @@ ask 0 13 2 5 6 0 release 1 0 7
 tell 13 ok
 tell 6 err 9
 ";
-    is_legal_after(&rt, 28, OPEN_TWICE, orders);
-}
 
-#[test]
-fn release_ends_those_of_its_fh_before_it_frees_any(rt: HostRuntime) {
-    let orders = "\
+const RELEASE_ENDS_THOSE_OF_ITS_FH_BEFORE_IT_FREES_ANY: &str = "\
 ask 0 2 2 5 6 0 setlk 1 7 0 9 1 7 0
 tell 2 ok
 ask 0 3 2 5 6 0 setlk 2 7 0 0 1 7 1
@@ -205,12 +175,8 @@ tell 7 ok
 ask 0 14 2 5 6 0 setlk 1 12 0 0 1 12 1
 tell 14 err 11
 ";
-    is_legal_after(&rt, 28, OPEN_TWICE, orders);
-}
 
-#[test]
-fn the_last_release_ends_all_requests_of_the_node(rt: HostRuntime) {
-    let orders = "\
+const THE_LAST_RELEASE_ENDS_ALL_REQUESTS_OF_THE_NODE: &str = "\
 ask 0 1 1 5 6 0 create 1 420 62
 tell 1 made 3 33188 1 5 6 3
 ask 0 2 2 5 6 0 release 2 0 7
@@ -238,12 +204,8 @@ ask 0 13 3 5 6 0 setlk 3 7 0 0 2 7 0
 tell 13 ok
 tell 12 ok
 ";
-    is_legal_after(&rt, 30, OPEN_TWICE, orders);
-}
 
-#[test]
-fn an_interrupt_ends_the_request_that_it_names(rt: HostRuntime) {
-    let orders = "\
+const AN_INTERRUPT_ENDS_THE_REQUEST_THAT_IT_NAMES: &str = "\
 ask 0 2 2 5 6 0 interrupt 99
 tell 2 err 11
 ask 0 3 2 5 6 0 setlk 1 7 0 0 1 7 0
@@ -266,12 +228,8 @@ tell 6 ok
 ask 0 12 2 5 6 0 interrupt 4
 tell 12 err 11
 ";
-    is_legal_after(&rt, 25, OPEN_TWICE, orders);
-}
 
-#[test]
-fn unlocking_never_waits(rt: HostRuntime) {
-    let orders = "\
+const UNLOCKING_NEVER_WAITS: &str = "\
 ask 0 2 2 5 6 0 setlk 1 7 0 9 1 7 0
 tell 2 ok
 ask 0 3 2 5 6 0 setlk 1 7 0 0 1 7 1
@@ -289,12 +247,8 @@ ask 0 9 2 5 6 0 setlkw 2 7 0 0 2 7 1
 tell 9 ok
 tell 7 ok
 ";
-    is_legal_after(&rt, 20, OPEN_TWICE, orders);
-}
 
-#[test]
-fn a_whole_file_lock_waits_whatever_its_range(rt: HostRuntime) {
-    let orders = "\
+const A_WHOLE_FILE_LOCK_WAITS_WHATEVER_ITS_RANGE: &str = "\
 ask 0 2 2 5 6 0 setlkw 1 8 5 4 1 8 1
 tell 2 ok
 ask 0 3 2 5 6 0 setlkw 1 8 5 4 2 8 1
@@ -308,12 +262,8 @@ tell 5 ok
 ask 0 7 2 5 6 0 setlk 1 7 0 0 1 7 1
 tell 7 err 11
 ";
-    is_legal_after(&rt, 16, OPEN_TWICE, orders);
-}
 
-#[test]
-fn a_whole_file_lock_stays_until_its_change_is_granted(rt: HostRuntime) {
-    let orders = "\
+const A_WHOLE_FILE_LOCK_STAYS_UNTIL_ITS_CHANGE_IS_GRANTED: &str = "\
 ask 0 3 2 5 6 0 setlk 1 7 0 0 0 7 1
 tell 3 ok
 ask 0 4 2 5 6 0 setlk 2 8 0 0 0 8 1
@@ -332,12 +282,8 @@ tell 6 ok
 ask 0 11 2 5 6 0 setlk 2 9 0 0 0 9 1
 tell 11 err 11
 ";
-    is_legal_after(&rt, 21, OPEN_TWICE, orders);
-}
 
-#[test]
-fn a_record_lock_stays_until_its_change_is_granted(rt: HostRuntime) {
-    let orders = "\
+const A_RECORD_LOCK_STAYS_UNTIL_ITS_CHANGE_IS_GRANTED: &str = "\
 ask 0 2 2 5 6 0 setlk 1 7 0 9 0 7 0
 tell 2 ok
 ask 0 3 2 5 6 0 setlk 2 8 5 5 0 8 0
@@ -359,5 +305,84 @@ tell 6 ok
 ask 0 11 2 5 6 0 getlk 1 9 0 9 1 9 0
 tell 11 lock 0 9 1 7
 ";
-    is_legal_after(&rt, 24, OPEN_TWICE, orders);
+
+#[test]
+fn what_is_free_is_granted_the_oldest_first(rt: HostRuntime) {
+    is_legal_after(
+        &rt,
+        18,
+        OPEN_TWICE,
+        UNLOCKING_FREES_THE_OLDEST_AND_THE_SECOND_STILL_WAITS,
+    );
+    is_legal_after(
+        &rt,
+        20,
+        OPEN_TWICE,
+        ALL_THAT_ARE_FREE_ARE_TOLD_THE_OLDEST_FIRST,
+    );
+    is_legal_after(&rt, 20, OPEN_TWICE, A_NEW_REQUEST_PASSES_THOSE_THAT_WAIT);
+    is_legal_after(
+        &rt,
+        16,
+        OPEN_TWICE,
+        A_GRANT_THAT_TURNS_WRITE_INTO_READ_FREES_AN_OLDER_REQUEST,
+    );
+    is_legal_after(
+        &rt,
+        20,
+        OPEN_TWICE,
+        A_LOCK_THAT_TURNS_WRITE_INTO_READ_FREES_REQUESTS_AT_ONCE,
+    );
+    is_legal_after(
+        &rt,
+        24,
+        OPEN_TWICE,
+        EACH_CLASS_AND_EACH_FILE_WAITS_FOR_ITSELF,
+    );
+}
+
+#[test]
+fn waiting_ends_with_its_fh_its_node_or_an_interrupt(rt: HostRuntime) {
+    is_legal_after(&rt, 28, OPEN_TWICE, FLUSH_FREES_REQUESTS_AND_ENDS_NONE);
+    is_legal_after(
+        &rt,
+        28,
+        OPEN_TWICE,
+        RELEASE_ENDS_THOSE_OF_ITS_FH_BEFORE_IT_FREES_ANY,
+    );
+    is_legal_after(
+        &rt,
+        30,
+        OPEN_TWICE,
+        THE_LAST_RELEASE_ENDS_ALL_REQUESTS_OF_THE_NODE,
+    );
+    is_legal_after(
+        &rt,
+        25,
+        OPEN_TWICE,
+        AN_INTERRUPT_ENDS_THE_REQUEST_THAT_IT_NAMES,
+    );
+}
+
+#[test]
+fn what_waits_and_what_stays_meanwhile(rt: HostRuntime) {
+    is_legal_after(&rt, 20, OPEN_TWICE, UNLOCKING_NEVER_WAITS);
+    is_legal_after(
+        &rt,
+        16,
+        OPEN_TWICE,
+        A_WHOLE_FILE_LOCK_WAITS_WHATEVER_ITS_RANGE,
+    );
+    is_legal_after(
+        &rt,
+        21,
+        OPEN_TWICE,
+        A_WHOLE_FILE_LOCK_STAYS_UNTIL_ITS_CHANGE_IS_GRANTED,
+    );
+    is_legal_after(
+        &rt,
+        24,
+        OPEN_TWICE,
+        A_RECORD_LOCK_STAYS_UNTIL_ITS_CHANGE_IS_GRANTED,
+    );
 }

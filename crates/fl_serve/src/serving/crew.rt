@@ -10,7 +10,7 @@ use crate::intake::Intake;
 use crate::serving::hearing::{Heard, Hearer};
 use crate::shared::{Shared, WriterName};
 use crate::worker::{Worked, worker_loop};
-use fl_book::{Board, BoardName, Seat};
+use fl_board::{Board, BoardName, Seat};
 use fl_core::Tolds;
 use fl_session::{Fault, Inbox, Owed};
 use std::io::{Read, Write};
@@ -20,12 +20,12 @@ use std::{io, thread};
 
 /// What the reader and the workers of a session share.
 #[derive(Drop)]
-pub(crate) struct Crew<'a, 'w, L: BoardName, N: WriterName, R, W: Write, G> {
+pub(crate) struct Crew<'a, 'w, L: BoardName, N: WriterName, R: Wait, W: Write, G> {
     pub rt: &'a R,
     pub gate: &'a G,
     /// Bytes of a worker's stack.
     pub stack: usize,
-    pub board: Board<L>,
+    pub board: Board<L, &'a R>,
     pub intake: Intake,
     pub shared: Mutex<Shared<'w, W, N>>,
 }
@@ -37,7 +37,7 @@ pub(crate) type Thread<L> = JoinHandle<Worked<Seat<L>>>;
 #[derive(Drop)]
 pub(crate) struct Back<L: BoardName> {
     pub seats: Vec<Seat<L>>,
-    /// Some order was refused for want of memory.
+    /// Some order was refused.
     pub refused: bool,
 }
 

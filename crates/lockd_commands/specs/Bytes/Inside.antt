@@ -14,6 +14,7 @@ use Rattle.fl_session.specs.declared.session.Fault.TheVariants as session
 abbrev pub TextSays : List ℕ → Fault → Type 0
 TextSays text (command.BadLine n) = hex_stream text ≡ Err n
 TextSays text command.NoMemory = ⊤
+TextSays text command.NoReader = ⊥
 TextSays text command.Listen = ⊥
 TextSays text command.Read = ⊥
 TextSays text command.Write = ⊥
@@ -35,6 +36,7 @@ Did left old new (Err command.Cut) = IsPrinted left old new (Some session.Cut)
 Did left old new (Err (command.BadLength n)) = IsPrinted left old new (Some (session.BadLength n))
 Did left old new (Err (command.BadLine n)) = IfSome left (λ text. hex_stream text ≡ Err n) × Keeps old new
 Did left old new (Err command.NoMemory) = Keeps old new
+Did left old new (Err command.NoReader) = ⊥
 Did left old new (Err command.Listen) = ⊥
 Did left old new (Err command.Read) = Keeps old new
 Did left old new (Err command.Write) = IfSome left (λ text. IsOk (hex_stream text))
@@ -48,3 +50,4 @@ IsOfStream (session.BadLength n) = ⊤
 IsOfStream session.Read = ⊥
 IsOfStream session.Write = ⊥
 IsOfStream session.NoMemory = ⊥
+IsOfStream session.NoReader = ⊥

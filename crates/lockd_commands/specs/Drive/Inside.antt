@@ -19,6 +19,7 @@ said_by (action.Receive n) = Waits n
 abbrev pub TextFaults : List ℕ → Fault → Type 0
 TextFaults text (command.BadLine n) = text_says text ≡ Err n
 TextFaults text command.NoMemory = ⊤
+TextFaults text command.NoReader = ⊥
 TextFaults text command.Read = ⊥
 TextFaults text command.Write = ⊥
 TextFaults text command.Cut = ⊥
@@ -45,6 +46,7 @@ abbrev pub IsWhy : Fault → List ℕ → Option (List ℕ) → Type 0
 IsWhy command.Cut behind left = IsPart behind × IsAtEnd left
 IsWhy command.BadReply behind left = (length behind ≡ 4) × (16 ≤ len_of behind → 8192 < len_of behind)
 IsWhy command.NoMemory behind left = ⊤
+IsWhy command.NoReader behind left = ⊥
 IsWhy command.Read behind left = ⊤
 IsWhy command.Write behind left = ⊥
 IsWhy command.Listen behind left = ⊥
@@ -114,6 +116,7 @@ Did left old new (Err (command.BadLine n)) = IfSome left (λ text. text_says tex
 Did left old new (Err command.Listen) = ⊥
 Did left old new (Err command.Connect) = IfSome left (λ text. IsOk (text_says text)) × Keeps old new
 Did left old new (Err command.NoMemory) = HasPrinted old new
+Did left old new (Err command.NoReader) = ⊥
 Did left old new (Err command.Read) = HasPrinted old new
 Did left old new (Err command.Write) = IfSome left (λ text. IsOk (text_says text))
 Did left old new (Err (command.BadLength n)) = ⊥

@@ -5,7 +5,7 @@ use Rattle.fl_trace.specs.Text.{text_of}
 use Rattle.fl_history.specs.declared.history.Line.{Line}
 use Rattle.lockd_commands.specs.Serve.{IsTraced}
 use Rattle.lockd_commands.specs.declared.fault.Fault.{Fault}
-use Rattle.lockd_commands.specs.declared.fault.Fault.TheVariants.{BadLine, NoMemory, Read, Write, Cut, BadLength, Listen, Connect, BadReply}
+use Rattle.lockd_commands.specs.declared.fault.Fault.TheVariants.{BadLine, NoMemory, NoReader, Read, Write, Cut, BadLength, Listen, Connect, BadReply}
 
 -- What was done, by how the command ended: only after a session is anything printed.
 abbrev pub Did : Option (List ℕ) → Option (List ℕ) → Result Unit Fault → Type 0
@@ -15,6 +15,7 @@ Did old new (Err (BadLength n)) = IsTraced old new
 Did old new (Err Read) = IsTraced old new
 Did old new (Err Write) = ⊤
 Did old new (Err NoMemory) = Keeps old new
+Did old new (Err NoReader) = Keeps old new
 Did old new (Err Listen) = Keeps old new
 Did old new (Err (BadLine n)) = ⊥
 Did old new (Err Connect) = ⊥
@@ -32,4 +33,5 @@ TellsOf lines old new (Err (BadLength n)) = HasWritten lines old new
 TellsOf lines old new (Err Read) = HasWritten lines old new
 TellsOf lines old new (Err Write) = ⊤
 TellsOf lines old new (Err NoMemory) = Keeps old new
+TellsOf lines old new (Err NoReader) = Keeps old new
 TellsOf lines old new (Err fault) = ⊥

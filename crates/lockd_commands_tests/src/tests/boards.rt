@@ -6,7 +6,9 @@ use super::scripts::files::{names_and_nodes, open_files_and_locks};
 use super::scripts::limits::{all_files_open, full_directory, longest_name, no_room_for_locks};
 use super::scripts::locks::locks_and_files;
 use super::scripts::waiting::requests_that_wait;
-use fl_book::{Board, BoardName, History, Line, Seat, Verdict, check, print_trace, read_trace};
+use fl_book::{
+    Board, BoardName, FreshLog, History, Line, Seat, Verdict, check, print_trace, read_trace,
+};
 use fl_core::Tolds;
 use fl_order::Order;
 use std::alloc::Global;
@@ -42,7 +44,7 @@ fn spread(rt: &impl Abort, alloc: Global, trace: &str) -> Vec<u8> {
 // Hands in an order at its worker's seat.
 fn hand_in<L: BoardName, R: Abort + Wait>(
     rt: &R,
-    board: &Board<L>,
+    board: &Board<L, &R>,
     seat: &mut Seat<L>,
     order: &Order,
     tolds: &mut Tolds,
@@ -54,7 +56,7 @@ fn hand_in<L: BoardName, R: Abort + Wait>(
 // Hands in the orders of a history.
 fn hand_in_all<L: BoardName, R: Abort + Wait>(
     rt: &R,
-    board: &Board<L>,
+    board: &Board<L, &R>,
     seats: &mut [Seat<L>],
     tolds: &mut Tolds,
     wanted: &History,
@@ -72,13 +74,15 @@ fn history_of_a_board<L: BoardName, R: Abort + Wait>(
     rt: &R,
     alloc: Global,
     blank: Blank,
+    log: FreshLog,
     wanted: &History,
 ) -> History
     requires named { (blank.name ≡ L.name) × (blank.parts ≡ L.parts) }
+    requires log { log ≡ L.log }
     requires parts { (16 ≡ L.parts) × (L.workers ≡ L.parts) }
 {
     let mut tolds = Tolds::new(alloc).expect(rt, "memory");
-    let (board, mut seats) = Board::<L>::new(alloc, blank, 16).expect(rt, "memory");
+    let (board, mut seats) = Board::<L, &R>::new(alloc, rt, blank, log, 16).expect(rt, "memory");
     hand_in_all(rt, &board, &mut seats, &mut tolds, wanted);
     board.close(seats).ok().expect(rt, "all seats")
 }
@@ -87,7 +91,13 @@ fn history_of_a_board<L: BoardName, R: Abort + Wait>(
 fn board_answers<R: Abort + Wait>(rt: &R, alloc: Global, trace: &str) {
     let wanted = spread(rt, alloc, trace);
     let asked = read_trace(alloc, &wanted).expect(rt, "a trace");
-    let history = history_of_a_board::<Brand, _>(rt, alloc, Blank::new(16), &asked);
+    let history = history_of_a_board::<Brand, _>(
+        rt,
+        alloc,
+        Blank::new(16),
+        FreshLog::new(),
+        &asked,
+    );
     is_wanted(rt, alloc, &history, &wanted);
 }
 

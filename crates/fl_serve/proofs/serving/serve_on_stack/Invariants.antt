@@ -6,5 +6,8 @@ ghosts-serve_at-L-BoardName g a = record { workers = a.blank.parts }
 abbrev pub ghosts-serve_at-L-Ledger : goal.ghosts-serve_at-L-Ledger
 ghosts-serve_at-L-Ledger g a = record { name = a.blank.name; parts = a.blank.parts }
 
+abbrev pub ghosts-serve_at-L-LogName : goal.ghosts-serve_at-L-LogName
+ghosts-serve_at-L-LogName g a = record { log = a.log }
+
 abbrev pub ghosts-serve_at-N-WriterName : goal.ghosts-serve_at-N-WriterName
 ghosts-serve_at-N-WriterName g a = record { name = a.w.ghost_name; start = g.W.Write.contents a.w.now }

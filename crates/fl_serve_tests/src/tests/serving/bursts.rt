@@ -43,7 +43,7 @@ fn fill(rt: &impl Abort, burst: &mut Messages, from: u64, size: u32) {
     burst.bytes.clear();
     for at in 0..size {
         let unique = from.saturating_add(u64::from(at));
-        burst.getattr(unique, 1).expect(rt, "memory");
+        burst.seek(unique).expect(rt, "memory");
     }
 }
 

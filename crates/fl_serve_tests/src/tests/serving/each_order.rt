@@ -11,7 +11,7 @@ use std::thread::Threads;
 fn thousand_orders(alloc: Global) -> Result<Messages, AllocError> {
     let mut messages = Messages::with_init(alloc)?;
     for unique in 2..1002 {
-        messages.getattr(unique, 1)?;
+        messages.seek(unique)?;
     }
     Ok(messages)
 }

@@ -14,7 +14,7 @@ use std::thread::Threads;
 pub(super) fn twenty_orders(alloc: Global) -> Result<Messages, AllocError> {
     let mut messages = Messages::with_init(alloc)?;
     for unique in 2..22 {
-        messages.getattr(unique, 1)?;
+        messages.seek(unique)?;
     }
     Ok(messages)
 }
@@ -121,8 +121,8 @@ pub(super) fn end_last(rt: &impl Abort, alloc: Global, done: &Done, out: &[u8], 
 // Twenty orders, a DESTROY, and orders behind it.
 fn orders_behind_a_destroy(alloc: Global) -> Result<Messages, AllocError> {
     let mut messages = twenty_orders_and_a_destroy(alloc)?;
-    messages.getattr(23, 1)?;
-    messages.getattr(24, 1)?;
+    messages.seek(23)?;
+    messages.seek(24)?;
     Ok(messages)
 }
 

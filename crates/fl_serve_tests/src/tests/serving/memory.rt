@@ -98,7 +98,6 @@ fn interrupt(messages: &mut Messages) -> Result<(), AllocError> {
 
 // Unlocks by which others are granted, and DESTROY.
 fn unlock(messages: &mut Messages) -> Result<(), AllocError> {
-    messages.lock(GETLK, 17, 2, &byte_lock(8, WRITE))?;
     messages.lock(SETLK, 18, 2, &byte_lock(7, UNLOCK))?;
     messages.lock(SETLK, 19, 2, &byte_lock(69, UNLOCK))?;
     messages.destroy(20)
@@ -124,7 +123,7 @@ fn is_line(rt: &impl Abort, found: &Line, wanted: &Line) {
     assert_eq!(rt; *found, *wanted);
 }
 
-// What one worker sends and records is what a session without workers sends and records.
+// What one worker sends and records is what a session without workers sends and records, where no order only reads.
 #[test]
 fn one_worker_sends_the_same_bytes(rt: HostRuntime) {
     let messages = with_waiters(rt.alloc()).expect(&rt, "memory");
@@ -135,6 +134,28 @@ fn one_worker_sends_the_same_bytes(rt: HostRuntime) {
     are_bytes(&rt, &out, &alone);
     fault_is(&rt, done.fault, None);
     are_alike(&rt, &done.history, &wanted.history);
+}
+
+// The four messages, and then a GETLK and a GETATTR.
+fn with_looks(alloc: Global) -> Result<Messages, AllocError> {
+    let mut messages = four_messages(alloc)?;
+    messages.lock(GETLK, 5, 2, &byte_lock(8, WRITE))?;
+    messages.getattr(6, 2)?;
+    Ok(messages)
+}
+
+// A worker is shown all that it handed in. What it looks for is answered as a session without workers answers it, and is
+// no line of the history.
+#[test]
+fn looks_are_answered_and_are_no_lines(rt: HostRuntime) {
+    let messages = with_looks(rt.alloc()).expect(&rt, "memory");
+    let Came { done, out } = serve_bytes(&rt, rt.alloc(), &messages.bytes, 1);
+    let mut alone = Vec::new(rt.alloc());
+    let mut input = messages.bytes.as_slice();
+    let wanted = run_one(rt.alloc(), &mut input, &mut alone);
+    are_bytes(&rt, &out, &alone);
+    count_is(&rt, wanted.history.len(), 10);
+    has_trace(&rt, rt.alloc(), &done.history, TRACE);
 }
 
 // A lock of an open file that isn't there.
@@ -195,7 +216,8 @@ fn are_answered<R: Abort + Threads + Wait + Sync>(
     workers: u32,
 ) {
     let came = serve_bytes(rt, alloc, &messages.bytes, workers);
-    ended(rt, alloc, &came.done, None, 1000, workers);
+    // GETATTR is no line.
+    ended(rt, alloc, &came.done, None, 800, workers);
     let found = sorted(rt, alloc, &came.out);
     are_replies(rt, &found, wanted);
 }

@@ -86,6 +86,12 @@ impl Messages {
         self.name(name)
     }
 
+    /// LOOKUP in the root, of a name of 15 letters that no file has. Its message is as long as that of a GETATTR.
+    pub(super) fn seek(&mut self, unique: u64) -> Result<(), AllocError> {
+        let letters = u64::from_le_bytes(*b"aaaaaaaa");
+        self.longs(&[pair(56, 1), unique, 1, 0, 0, letters, letters >> 8])
+    }
+
     pub(super) fn getattr(&mut self, unique: u64, node: u64) -> Result<(), AllocError> {
         self.longs(&[pair(56, 3), unique, node, 0, 0, 0, 0])
     }

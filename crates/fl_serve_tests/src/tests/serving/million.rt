@@ -48,18 +48,23 @@ fn all_bytes(unique: u64) -> Lock {
 
 // Whether the order of a unique has exactly one reply. A parked request may have none, and so may an INTERRUPT.
 fn has_a_reply(unique: u64) -> bool {
-    (3..16).contains(&(roll(unique) % 16))
+    (2..16).contains(&(roll(unique) % 16))
+}
+
+// Whether the order of a unique only reads. Half of them do.
+fn only_reads(unique: u64) -> bool {
+    roll(unique) % 16 >= 8
 }
 
 // SETLK, GETLK, LOOKUP or GETATTR, or another order, of the unique's own.
 fn put_order(messages: &mut Messages, unique: u64) -> Result<(), AllocError> {
     match roll(unique) % 16 {
-        0..3 => put_waiting(messages, unique),
-        3..7 => messages.lock(SETLK, unique, 2, &asked(unique, WRITE)),
-        7..11 => messages.lock(SETLK, unique, 2, &asked(unique, UNLOCK)),
-        11..13 => messages.lock(GETLK, unique, 2, &asked(unique, READ)),
-        13 => messages.lookup(unique, roll(unique) / 16 % 2),
-        14 => messages.lock(SETLK, unique, 2, &all_bytes(unique)),
+        0..2 => put_waiting(messages, unique),
+        2..4 => messages.lock(SETLK, unique, 2, &asked(unique, WRITE)),
+        4..6 => messages.lock(SETLK, unique, 2, &asked(unique, UNLOCK)),
+        6 => messages.lookup(unique, roll(unique) / 16 % 2),
+        7 => messages.lock(SETLK, unique, 2, &all_bytes(unique)),
+        8..12 => messages.lock(GETLK, unique, 2, &asked(unique, READ)),
         _ => messages.getattr(unique, 2),
     }
 }
@@ -145,23 +150,45 @@ fn count_replies(rt: &impl Abort, alloc: Global, stream: UnixStream) -> Counted 
     counted
 }
 
-// The CREATE and all orders are in the history, and each line of it that isn't one of them is a reply. The INIT's reply is
-// no line.
+// How many orders only read.
+fn reads() -> usize {
+    let mut reads = 0usize;
+    for unique in FIRST..FIRST + ORDERS {
+        if only_reads(unique) {
+            reads = reads.saturating_add(1);
+        }
+    }
+    reads
+}
+
+// The CREATE and all orders but those that only read are in the history, and each line of it that isn't one of them is a
+// reply. The INIT's reply and those to orders that only read are no lines.
 fn has_all(rt: &impl Abort, lines: usize, asked: usize, counted: &Counted) {
+    let reads = reads();
     count_is(rt, counted.wrong(), 0);
-    count_is(rt, asked, 1_000_001);
+    count_is(rt, asked.saturating_add(reads), 1_000_001);
     count_is(
         rt,
         counted.all,
-        lines.saturating_sub(asked).saturating_add(1),
+        lines
+            .saturating_sub(asked)
+            .saturating_add(reads.saturating_add(1)),
     );
+}
+
+// No order in the history only reads.
+fn has_no_reads(rt: &impl Abort, asked: &[u64]) {
+    for unique in asked {
+        assert!(rt; *unique < FIRST || !only_reads(*unique));
+    }
 }
 
 // The session ended with the stream, with all orders and a legal history.
 fn is_whole(rt: &impl Abort, alloc: Global, done: &Done, counted: &Counted) {
     fault_is(rt, done.fault, None);
-    let asked = asked_in(rt, alloc, &done.history).len();
-    has_all(rt, done.history.len(), asked, counted);
+    let asked = asked_in(rt, alloc, &done.history);
+    has_no_reads(rt, &asked);
+    has_all(rt, done.history.len(), asked.len(), counted);
     is_legal(rt, alloc, &done.history);
 }
 

@@ -15,10 +15,10 @@ use std::sync::atomic::{AtomicU64, Ordering};
 use std::thread;
 use std::time::{Clock, Duration};
 
-// More than the buffers of the socket hold, of orders and of replies.
+// LOOKUPs of a file: more than the buffers of the socket hold, of orders and of replies.
 const MANY: u64 = 10_000;
 
-// One of a client's threads: its stream, and how many orders went out.
+// One of a client's threads: its stream, and how many LOOKUPs went out.
 #[derive(Drop)]
 struct Side {
     stream: UnixStream,
@@ -35,21 +35,22 @@ fn sides(rt: &impl Abort, alloc: Global, stream: UnixStream) -> (Side, Side) {
     (Side { stream, sent }, reads)
 }
 
-// Sends INIT and 10,000 orders, and counts those that went out.
+// Sends INIT, CREATE and 10,000 LOOKUPs, and counts those that went out.
 fn send_many(rt: &impl Abort, alloc: Global, side: &Side) {
     let mut out = &side.stream;
     let mut message = Messages::with_init(alloc).expect(rt, "memory");
+    message.create(2, 0).expect(rt, "memory");
     out.write_all(&message.bytes).expect(rt, "a write");
-    for unique in 2..MANY + 2 {
+    for unique in 3..MANY + 3 {
         message.bytes.clear();
-        message.getattr(unique, 1).expect(rt, "memory");
+        message.lookup(unique, 0).expect(rt, "memory");
         out.write_all(&message.bytes).expect(rt, "a write");
         side.sent.fetch_add(1, Ordering::SeqCst);
     }
     side.stream.shutdown(Shutdown::Write).expect(rt, "a socket");
 }
 
-// Waits until no more went out for a while, and says how many orders did.
+// Waits until no more went out for a while, and says how many LOOKUPs did.
 fn stands_still(clock: &impl Clock, sent: &AtomicU64) -> u64 {
     let mut before = 0;
     for _ in 0..200 {
@@ -63,7 +64,7 @@ fn stands_still(clock: &impl Clock, sent: &AtomicU64) -> u64 {
     before
 }
 
-// Reads only when the sender stands still, and says how many orders went out by then, and how many replies came.
+// Reads only when the sender stands still, and says how many LOOKUPs went out by then, and how many replies came.
 fn read_late<R: Abort + Clock>(rt: &R, alloc: Global, side: &Side) -> (u64, usize) {
     let before = stands_still(rt, &side.sent);
     let mut reads = &side.stream;
@@ -72,12 +73,12 @@ fn read_late<R: Abort + Clock>(rt: &R, alloc: Global, side: &Side) -> (u64, usiz
     (before, read_replies(rt, alloc, &mut reads).len())
 }
 
-// Some orders went out before any reply was read, and not all; all have a reply.
+// Some LOOKUPs went out before any reply was read, and not all; all have a reply.
 fn has_piled_up(rt: &impl Abort, done: &Done, before: u64, replies: usize) {
     assert!(rt; 0 < before && before < MANY, "{before}");
-    count_is(rt, replies, 10_001);
+    count_is(rt, replies, 10_002);
     fault_is(rt, done.fault, None);
-    count_is(rt, done.history.len(), 20_000);
+    count_is(rt, done.history.len(), 20_002);
 }
 
 #[test]

@@ -67,7 +67,8 @@ fn a_lock_that_was_set_is_shown(rt: HostRuntime) {
     let client = thread::spawn(&rt, move || shown_locks(&rt, alloc, near));
     let done = serve_stream(&rt, alloc, far, 4, &OpenGate);
     client.expect(&rt, "a thread").join(&rt);
-    ended(&rt, alloc, &done, None, 600, 4);
+    // GETLK is no line.
+    ended(&rt, alloc, &done, None, 400, 4);
 }
 
 // A lock, a GETATTR or an unlock of the file that was made first.
@@ -96,7 +97,8 @@ fn one_at_a_time(rt: &impl Abort, alloc: Global, stream: UnixStream) -> usize {
 fn has_all_replies(rt: &impl Abort, done: &Done, behind: usize) {
     count_is(rt, behind, 0);
     fault_is(rt, done.fault, None);
-    count_is(rt, done.history.len(), 20_002);
+    // The 3,333 GETATTR are no lines.
+    count_is(rt, done.history.len(), 13_336);
 }
 
 #[test]

@@ -5,3 +5,6 @@ ghosts-history_of_a_board-L-BoardName g a = record { workers = a.blank.parts }
 
 abbrev pub ghosts-history_of_a_board-L-Ledger : goal.ghosts-history_of_a_board-L-Ledger
 ghosts-history_of_a_board-L-Ledger g a = record { name = a.blank.name; parts = a.blank.parts }
+
+abbrev pub ghosts-history_of_a_board-L-LogName : goal.ghosts-history_of_a_board-L-LogName
+ghosts-history_of_a_board-L-LogName g a = record { log = a.log }

@@ -1,7 +1,0 @@
-use Rattle.fl_book_tests.proofs.tests.board.two_seats_in_two_threads.Given as goal
-
-abbrev pub ghosts-history_of-L-BoardName : goal.ghosts-history_of-L-BoardName
-ghosts-history_of-L-BoardName g a = record { workers = a.blank.parts }
-
-abbrev pub ghosts-history_of-L-Ledger : goal.ghosts-history_of-L-Ledger
-ghosts-history_of-L-Ledger g a = record { name = a.blank.name; parts = a.blank.parts }

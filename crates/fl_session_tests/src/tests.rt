@@ -1,0 +1,26 @@
+//! Sessions with one worker, their inbox and their outbox.
+
+mod inbox;
+mod outbox;
+mod sessions;
+
+use fl_session::Fault;
+use std::process::Abort;
+
+// More reads or writes than any session of the tests has.
+const MANY: usize = 1000;
+
+// These are the bytes that are wanted.
+fn are_bytes(rt: &impl Abort, found: &[u8], wanted: &[u8]) {
+    assert_eq!(rt; found, wanted);
+}
+
+// There are as many as are wanted.
+fn count_is(rt: &impl Abort, found: usize, wanted: usize) {
+    assert_eq!(rt; found, wanted);
+}
+
+// A session ended with the fault that is wanted.
+fn fault_is(rt: &impl Abort, found: Option<Fault>, wanted: Option<Fault>) {
+    assert_eq!(rt; found, wanted);
+}

@@ -1,0 +1,85 @@
+//! Sessions with one worker, over memory.
+
+mod around;
+mod faults;
+mod once;
+mod traced;
+mod waiting;
+
+use super::are_bytes;
+use around::AROUND_AN_INIT;
+use fl_history::History;
+use fl_session::run_one;
+use fl_testing::{bytes_after, lines_after};
+use fl_trace::print_trace;
+use std::alloc::Global;
+use std::process::Abort;
+use traced::{TRACED, two_locks};
+use waiting::{BEGINNING, REQUESTS_THAT_WAIT};
+
+// The bytes that the lines with a mark spell in two texts, of which the first comes before the second.
+fn spelled(rt: &impl Abort, alloc: Global, before: &str, case: &str, mark: &str) -> Vec<u8> {
+    let mut bytes = bytes_after(alloc, before, mark).expect(rt, "hex");
+    let behind = bytes_after(alloc, case, mark).expect(rt, "hex");
+    bytes.extend_from_slice(&behind).expect(rt, "memory");
+    bytes
+}
+
+// The messages of a session get its replies, and it ends with the stream. Gives its history.
+fn answers(rt: &impl Abort, alloc: Global, before: &str, case: &str) -> History {
+    let stream = spelled(rt, alloc, before, case, "> ");
+    let replies = spelled(rt, alloc, before, case, "< ");
+    let mut input = stream.as_slice();
+    let mut output = Vec::new(alloc);
+    let done = run_one(alloc, &mut input, &mut output);
+    assert_eq!(rt; done.fault, None, "{case}");
+    assert!(rt; !done.refused, "{case}");
+    assert_eq!(rt; output, replies, "{case}");
+    done.history
+}
+
+// Runs each session in a stored text behind what comes before, and says how many there are. It begins with a line of `# `
+// and a title.
+fn all_answer(rt: &impl Abort, alloc: Global, before: &str, cases: &str) -> usize {
+    let mut count = 0usize;
+    for case in cases.split('#').skip(1) {
+        answers(rt, alloc, before, case);
+        count = count.saturating_add(1);
+    }
+    count
+}
+
+// A history has the trace that stands in the text of a session.
+fn is_traced(rt: &impl Abort, alloc: Global, history: &History, case: &str) {
+    let trace = print_trace(alloc, history).expect(rt, "memory");
+    let wanted = lines_after(alloc, case, "= ").expect(rt, "memory");
+    are_bytes(rt, trace.as_bytes(), wanted.as_bytes());
+}
+
+// The same of sessions whose traces stand beside, for those too.
+fn all_are_traced(rt: &impl Abort, alloc: Global, cases: &str) -> usize {
+    let mut count = 0usize;
+    for case in cases.split('#').skip(1) {
+        let history = answers(rt, alloc, "", case);
+        is_traced(rt, alloc, &history, case);
+        count = count.saturating_add(1);
+    }
+    count
+}
+
+#[test]
+fn sessions_and_their_traces(rt: HostRuntime) {
+    assert_eq!(rt; all_are_traced(&rt, rt.alloc(), two_locks()), 1);
+    assert_eq!(rt; all_are_traced(&rt, rt.alloc(), TRACED), 3);
+}
+
+#[test]
+fn before_and_after_an_init(rt: HostRuntime) {
+    assert_eq!(rt; all_answer(&rt, rt.alloc(), "", AROUND_AN_INIT), 8);
+}
+
+#[test]
+fn sessions_with_waiters(rt: HostRuntime) {
+    let found = all_answer(&rt, rt.alloc(), BEGINNING, REQUESTS_THAT_WAIT);
+    assert_eq!(rt; found, 9);
+}
