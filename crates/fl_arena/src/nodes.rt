@@ -22,6 +22,13 @@ pub(crate) enum Node<T> {
     Taken(Member<T>),
 }
 
+// A slot takes 24 bytes beside its item, and a chain 16.
+const _: () = prove!(size_of::<Node<[u64; 3]>>() == 48);
+
+const _: () = prove!(size_of::<Node<[u64; 4]>>() == 56);
+
+const _: () = prove!(size_of::<Ends>() == 16);
+
 // The ends of a chain, and how many items it has.
 #[derive(Clone, Copy)]
 pub(crate) struct Ends {

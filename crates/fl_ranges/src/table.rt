@@ -11,6 +11,11 @@ use fl_spans::{Full, Rows, Span};
 use std::alloc::{AllocError, Global};
 use std::marker::Model;
 
+// With 24 bytes beside its item, a slot of a head takes 56 bytes, and one of a run 48.
+const _: () = prove!(size_of::<Key>() == 24);
+
+const _: () = prove!(size_of::<Span<Mark>>() == 24);
+
 /// The locks that are held, as runs of bytes in a fixed number of slots: one row of runs for each key that has a mark.
 ///
 /// Contracts see how many runs there is room for, and the mark of each byte. No call but `new` takes

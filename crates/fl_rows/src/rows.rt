@@ -21,6 +21,9 @@ pub struct Head<K> {
     pub runs: u16,
 }
 
+// A head takes 8 bytes beside its key.
+const _: () = prove!(size_of::<Head<[u64; 3]>>() == 32);
+
 /// What is put into a row at one place: at most three runs, in this order.
 #[derive(Clone, Copy)]
 pub struct Pieces<R> {
