@@ -40,6 +40,12 @@ fn same<T: Debug + PartialEq>(rt: &impl Abort, told: &T, wanted: &T) {
     assert_eq!(rt; *told, *wanted);
 }
 
+// This is a history's line at a place, from 0.
+fn is_line(rt: &impl Abort, history: &History, at: usize, line: &Line) {
+    assert!(rt; at < history.len());
+    same(rt, &history.line(at), line);
+}
+
 // What the workers of a board hand in.
 #[derive(Clone, Copy)]
 enum Orders {
@@ -198,7 +204,7 @@ fn handed_in(rt: &impl Abort, history: &History, orders: Orders) -> [u64; 16] {
         worker: 0,
         order: create(rt),
     };
-    same(rt, &history.line(0), &first);
+    is_line(rt, history, 0, &first);
     for at in 1..history.len() {
         if let Line::Asked { worker, order } = history.line(at) {
             let place = places.get_mut(worker as usize).expect(rt, "a worker");
@@ -333,5 +339,5 @@ fn a_board_goes_on_where_a_seat_is_missing(rt: HostRuntime) {
         unique: 3,
         result: Err(Errno::EAGAIN),
     });
-    same(&rt, &history.line(5), &last);
+    is_line(&rt, &history, 5, &last);
 }
