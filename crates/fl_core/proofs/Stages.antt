@@ -1,13 +1,13 @@
 -- An order is taken in stages.
 use Rattle.std.proofs.Common.{◌≡◌, ◌≢◌, ℕ, ◌==◌, nat_lt, Bool, true, false, cond, not, ◌&&◌, ◌||◌, Option, Some, None, option_map, Result, Ok, Err, List, [], ◌∷◌, ◌++◌, refl, sym, ap, ◌∙◌, subst, arith}
 use Rattle.std.proofs.lemmas.Bool.Decides.{nat_tests}
-use Rattle.fl_core.specs.Circle.{Wish, owner_of, is_record, hinders, ClosesCircle}
-use Rattle.fl_core.specs.Effects.{locked, flushed, unlocked, dropped, released, cleared_on, locks_answered, request_of, waited_for, with_waiter, by_reply, made}
+use Rattle.fl_core.specs.Circle.{owner_of, is_record}
+use Rattle.fl_core.specs.Effects.{locked, unlocked, dropped, locks_answered, request_of, waited_for, with_waiter, by_reply, made}
 use Rattle.fl_core.specs.Inside.Parts.{left_if}
 use Rattle.fl_core.specs.LockRequest.{is_flock, key_of, start_of, end_of, mark_of, stroke_of}
-use Rattle.fl_core.specs.Replies.{at_once_unless, is_deadlock, picks, reply_to, wait_reply, room_reply}
-use Rattle.fl_core.specs.Settling.{Present, present, settled, IsSettled, done, one, grant_reply}
-use Rattle.fl_core.specs.Stages.{asks_record_lock, asker_of, asked_by, wanted_by, GainsAtMost, OwnStage, changes, parks, LaterStage, leave, granted, AreLater, none, more}
+use Rattle.fl_core.specs.Replies.{at_once_unless, is_deadlock, picks, reply_to}
+use Rattle.fl_core.specs.Settling.{Present, present, IsSettled, done, one, grant_reply}
+use Rattle.fl_core.specs.Stages.{asker_of, asked_by, wanted_by, GainsAtMost, OwnStage, changes, parks, leave, granted, AreLater, none, more}
 use Rattle.fl_core.specs.Stages.{IsTakenInStages}
 use Rattle.fl_core.specs.State.{Snapshot}
 use Rattle.fl_core.specs.Step.{next}
@@ -32,7 +32,7 @@ use Rattle.fl_ranges.specs.declared.lock.Key.{Key}
 use Rattle.fl_ranges.specs.declared.lock.Kind.{Kind}
 use Rattle.fl_ranges.specs.declared.lock.Kind.TheVariants.{Read, Write}
 use Rattle.fl_ranges.specs.declared.lock.Mark.{Mark}
-use Rattle.fl_ranges.specs.Change.{Change, cleared, after_change, after_changes}
+use Rattle.fl_ranges.specs.Change.{cleared, after_change, after_changes}
 use Rattle.fl_ranges.specs.Conflict.{owner_conflicts}
 use Rattle.fl_ranges.specs.Marking.{Marking, Stroke, stroked}
 use Rattle.fl_ranges.specs.Runs.{without_node}

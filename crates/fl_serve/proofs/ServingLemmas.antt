@@ -1,5 +1,5 @@
 -- What a session with workers did.
-use Rattle.std.proofs.Common.{◌≡◌, ℕ, ◌⊎◌, inl, inr, ⊎_elim, Bool, false, List, [], Option, Some, length, map, refl, sym, ap, ◌∙◌, arith}
+use Rattle.std.proofs.Common.{◌≡◌, ℕ, ◌⊎◌, inl, inr, ⊎_elim, Bool, false, List, [], Option, Some, length, map, refl, sym, ap, subst, ◌∙◌, arith}
 use Rattle.std.proofs.lemmas.List.{length-map}
 use Rattle.std.proofs.lemmas.List.FromFn.{length-range_with_len}
 use Rattle.std.specs.List.{range_with_len}
@@ -53,6 +53,7 @@ unserved left left_now held held_now broken done fault unread sent told none why
   bounded = omega arith;
   sent = sent;
   goodbye = λ whole over. cc;
-  ending = ⊎_elim (λ memory. inl (rw (told, memory) (refl, refl)))
+  ending = ⊎_elim (λ memory. inl
+      (subst (λ fault. EndsBy fault broken [] [] left_now) (sym (told ∙ ap Some memory)) (refl, refl)))
       (λ reader. inr (record { fault = told ∙ ap Some reader; history = none })) why;
 }

@@ -5,8 +5,8 @@ use Rattle.fl_serve.proofs.SharedLemmas.{starts}
 use Rattle.fl_session.specs.declared.session.Fault.TheVariants.{NoMemory}
 use Rattle.fl_serve.proofs.serving.serve_at.Goals as goal
 
-pub returns-in_Err-clause-served : goal.returns-in_Err-clause-served
-returns-in_Err-clause-served g c = unserved _ _ _ _ false _ _ (c.nothing.ensures.read _ _ (Keeps-refl _)) (starts _)
+pub returns-in-Err-clause-served : goal.returns-in-Err-clause-served
+returns-in-Err-clause-served g c = unserved _ _ _ _ false _ _ (c.nothing.ensures.read _ _ (Keeps-refl _)) (starts _)
     c.nothing.ensures.fault c.nothing.ensures.history (⊎_elim (λ m. inl m.1) (λ r. inr r.1) c.unopened.ensures)
 
 pub returns-then-eq-clause-served : goal.returns-then-eq-clause-served
@@ -20,4 +20,4 @@ pub returns-clause-served : goal.returns-clause-served
 returns-clause-served g c =
     let some : c.run-back.result.1.fault ≢ Some NoMemory = search rules in
     served_by _ _ _ _ _ _ _ _ (c.run-back.ensures.heard some) (rw c.requires.start c.said_goodbye-w.ensures.sent)
-    (λ whole. rw c.requires.start (c.said_goodbye-w.ensures.last whole)) _ c.told.ensures.ends c.closed.ensures.fault
+    (λ whole. rw c.requires.start (c.said_goodbye-w.ensures.last whole)) _ c.told-told.ensures.ends c.closed.ensures.fault
