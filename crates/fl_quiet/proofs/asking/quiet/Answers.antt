@@ -27,6 +27,9 @@ returns-then-asks_while_waiting-clause-exact c = λ legal. (
       (runs_quiet c.an_order_leads_on.ensures.step c.a_legal_history_goes_on_by_orders.ensures.leads c.args.history.now legal quiet)),
 )
 
+pub returns-then-asks_while_waiting-clause-no_circle : goal.returns-then-asks_while_waiting-clause-no_circle
+returns-then-asks_while_waiting-clause-no_circle c = λ never. absurd (cc never)
+
 pub returns-clause-exact : goal.returns-clause-exact
 returns-clause-exact c = λ legal. (
   λ _. run_is_quiet c.an_order_leads_on.ensures.step c.a_legal_history_goes_on_by_orders.ensures.leads
