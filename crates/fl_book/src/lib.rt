@@ -1,4 +1,4 @@
-//! The book of the lock directory: the names of the desk, the judge, the board and the text of a history in one place.
+//! The book of the lock directory: the names of the desk, the judges, the board and the text of a history in one place.
 #![tactic(auto)]
 
 pub use fl_board::{
@@ -6,4 +6,5 @@ pub use fl_board::{
 };
 pub use fl_desk::{Desk, MOST_LINES, Verdict, check, laws};
 pub use fl_history::{History, Line};
+pub use fl_quiet::quiet;
 pub use fl_trace::{TraceFault, first_line, has_text, print_trace, read_trace};

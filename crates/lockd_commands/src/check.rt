@@ -12,8 +12,7 @@ ghost use Rattle.lockd_commands.specs.declared.fault.Fault.{Fault};
 use crate::fault::Fault;
 use crate::status::{Status, end};
 use crate::streams::{read_all, write_all};
-use fl_book::{History, Verdict, check, read_trace};
-use fl_quiet::quiet;
+use fl_book::{History, Verdict, check, quiet, read_trace};
 use std::alloc::Global;
 use std::io::{Read, Write};
 
