@@ -1,6 +1,7 @@
 //! Looks at a board from several threads, or answers of a core that no other thread has.
 
-ghost use Rattle.std.specs.Prelude.{◌≡◌, ◌<◌, ◌≤◌};
+ghost use Rattle.std.specs.Prelude.{◌≡◌, ◌+◌, ◌<◌, ◌≤◌, true};
+ghost use Rattle.fl_order.specs.Order.{only_reads};
 
 use crate::{create, lock, order};
 use anyhow::anyhow;
@@ -16,7 +17,9 @@ use std::thread;
 use std::thread::{JoinHandle, Scope, Threads};
 
 // Who would keep owner 100 from a write lock on byte 0.
-fn ask() -> Order {
+fn ask() -> Order
+    ensures { only_reads result.op ≡ true }
+{
     let ask = LockAsk {
         fh: 1,
         owner: 100,

@@ -18,7 +18,9 @@ use std::sync::ledger::Blank;
 use std::thread::{JoinHandle, Scope, Threads};
 use std::{env, thread};
 
-fn order(unique: u64, node: u64, op: Op) -> Order {
+fn order(unique: u64, node: u64, op: Op) -> Order
+    ensures { result.op ≡ op }
+{
     Order {
         unique,
         node,

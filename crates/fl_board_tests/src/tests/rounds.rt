@@ -62,7 +62,10 @@ fn ask(worker: u32, round: u64) -> LockAsk {
     }
 }
 
-fn asked(worker: u32, round: u64, op: Op) -> Order {
+// An order of a worker's for the file.
+fn asked(worker: u32, round: u64, op: Op) -> Order
+    ensures { result.op ≡ op }
+{
     order(1_000 + u64::from(worker) * 10_000 + round % 10_000, 2, op)
 }
 
@@ -149,8 +152,8 @@ fn run<'s, 'a: 's, E, L: BoardName + Send + Sync, R: Threads + Wait + Sync + Abo
     let mut all = VecDeque::new(shared.alloc);
     for thread in threads {
         let mut row = thread.join(shared.rt);
-        while let Some(one) = row.pop_front() {
-            all.push_back(one).ok()?;
+        for _ in 0..SEATS {
+            all.push_back(row.pop_front()?).ok()?;
         }
     }
     Some(all)
@@ -196,7 +199,8 @@ fn closed<L: BoardName + Send + Sync, R: Threads + Wait + Sync + Abort>(
     let mut counts = [0u64; 16];
     counts[0] = 1;
     let mut back = Vec::new(alloc);
-    while let Some((seat, count)) = row.pop_front() {
+    for _ in 0..16 {
+        let (seat, count) = row.pop_front().expect(rt, "a seat");
         let its = counts
             .get_mut(seat.worker() as usize)
             .expect(rt, "a worker");
