@@ -34,12 +34,15 @@ fn answers(rt: &impl Abort, alloc: Global, what: &str, trace: &str, quiet: bool)
     let came = run(Command::Script, alloc, &script);
     is(rt, what, &came, trace, "");
     let judged = run(Command::CheckQuiet, alloc, trace.as_bytes());
-    let verdict = if quiet {
+    is(rt, what, &judged, verdict(quiet), "");
+}
+
+fn verdict(quiet: bool) -> &'static str {
+    if quiet {
         "legal\nquiet\n"
     } else {
         "legal\nnot quiet\n"
-    };
-    is(rt, what, &judged, verdict, "");
+    }
 }
 
 // Runs the scripts of the traces in a stored text, which are all quiet or all not, and says how many there are. A line of
