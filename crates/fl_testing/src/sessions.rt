@@ -2,15 +2,23 @@
 //! The fields of each message stand in the order of `fuse.h`: of a request len, opcode, unique, nodeid, uid, gid, pid,
 //! padding and the body; of a reply len, error, unique and the body.
 
+ghost use Rattle.std.specs.Prelude.{◌≡◌, ◌+◌, ◌*◌, length};
+
 /// An INIT 7.31 that asks for no readahead and no flags.
-pub fn init() -> &'static str {
+pub fn init() -> &'static str
+    // 56 bytes in hex, as its first field says, and a newline.
+    ensures { length result.now ≡ 2 * 56 + 1 }
+{
     "\
 380000001a0000000100000000000000000000000000000000000000000000000000000000000000\
 070000001f0000000000000000000000\n"
 }
 
 /// Its reply: 7, 31, 0, 0, 16 and 12 requests, writes of 4096 bytes, times by the nanosecond.
-pub fn init_reply() -> &'static str {
+pub fn init_reply() -> &'static str
+    // 80 bytes in hex, as its first field says, and a newline.
+    ensures { length result.now ≡ 2 * 80 + 1 }
+{
     "\
 50000000000000000100000000000000070000001f000000000000000000000010000c0000100000\
 01000000000000000000000000000000000000000000000000000000000000000000000000000000\n"
