@@ -3,6 +3,7 @@
 //! padding and the body; of a reply len, error, unique and the body.
 
 ghost use Rattle.std.specs.Prelude.{◌≡◌, ◌+◌, ◌*◌, length};
+ghost use Rattle.std.specs.Str.Lines.{lines};
 
 /// An INIT 7.31 that asks for no readahead and no flags.
 pub fn init() -> &'static str
@@ -25,7 +26,9 @@ pub fn init_reply() -> &'static str
 }
 
 /// What goes on from that INIT.
-pub fn two_locks() -> &'static str {
+pub fn two_locks() -> &'static str
+    ensures { length (lines result.now) ≡ 10 }
+{
     "\
 # a read lock under another's write lock
 CREATE of `a`, mode octal 644; SETLK of a write lock on bytes 0 to 9 by owner 7, pid 11; SETLK of a read lock on byte 9

@@ -44,7 +44,7 @@ pub fn lines_after(alloc: Global, text: &str, mark: &str) -> Result<String, Allo
 /// The bytes that are spelled in hex by the lines that begin with a mark, all in a row.
 pub fn bytes_after(alloc: Global, text: &str, mark: &str) -> Result<Vec<u8>, FromHexError>
     ensures { IfOk result (λ bytes. decode_of (flat_map (λ line.
-        if bytes_eq (take (length mark.now) line) mark.now then drop (length mark.now) line ++ [] else [])
+        if bytes_eq (take (length mark.now) line) mark.now then drop (length mark.now) line else [])
         (lines text.now)) ≡ Ok bytes.items) }
 {
     let digits = marked(alloc, text, mark, "")?;

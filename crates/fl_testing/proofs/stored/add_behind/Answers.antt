@@ -1,4 +1,4 @@
-use Rattle.std.proofs.Common.{◌≡◌, ◌++◌, sym, ap, ◌∙◌, string_bytes}
+use Rattle.std.proofs.Common.{◌++◌, sym, ap, ◌∙◌, string_bytes}
 use Rattle.std.proofs.lemmas.List.{append-nil, append_assoc}
 use Rattle.fl_testing.proofs.Marks.{stripped, not_stripped}
 use Rattle.fl_testing.proofs.stored.add_behind.Goals as goal
