@@ -137,6 +137,10 @@ fn limits_at_a_board(rt: HostRuntime) {
     board_answers(&rt, alloc, &full_directory(&rt, alloc));
     board_answers(&rt, alloc, &all_files_open(&rt, alloc));
     board_answers(&rt, alloc, &no_room_for_locks(&rt, alloc));
-    board_answers(&rt, alloc, &no_room_to_wait(&rt, alloc));
     board_answers(&rt, alloc, &longest_name(&rt, alloc));
+}
+
+#[test]
+fn requests_that_wait_at_a_board(rt: HostRuntime) {
+    board_answers(&rt, rt.alloc(), &no_room_to_wait(&rt, rt.alloc()));
 }
