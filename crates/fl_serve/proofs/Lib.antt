@@ -1,4 +1,2 @@
-pub mod BatchLemmas
 pub mod HearingLemmas
 pub mod ServingLemmas
-pub mod SharedLemmas

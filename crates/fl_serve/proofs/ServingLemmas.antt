@@ -1,6 +1,8 @@
 -- What a session with workers did.
 use Rattle.std.proofs.Common.{◌≡◌, ℕ, ◌⊎◌, inl, inr, ⊎_elim, Bool, false, List, [], Option, Some, length, map, refl, sym, ap, subst, ◌∙◌, arith}
+use Rattle.std.proofs.KnownBytes.{Appends-nil}
 use Rattle.std.proofs.lemmas.List.{length-map}
+use Rattle.std.proofs.lemmas.List.Elements.{All-nil}
 use Rattle.std.proofs.lemmas.List.FromFn.{length-range_with_len}
 use Rattle.std.specs.List.{range_with_len}
 use Rattle.fl_board.specs.Seats.{Place}
@@ -9,7 +11,8 @@ use Rattle.fl_session.specs.Inbox.{IsEnding}
 use Rattle.fl_serve.specs.Serve.{HasNoHistory, IsServedBy}
 use Rattle.fl_session.specs.Served.{EndsBy, IsRead}
 use Rattle.fl_session.specs.Session.{Came, session_of}
-use Rattle.fl_serve.specs.Shared.{HasSent, HasSentLast}
+use Rattle.fl_workers.specs.Shared.{HasSent, HasSentLast, IsSpelling}
+use Rattle.fl_wire.specs.Spell.{IsReply}
 use Rattle.fl_session.specs.declared.session.Fault.{Fault}
 use Rattle.fl_session.specs.declared.session.Fault.TheVariants.{NoMemory, NoReader}
 use Rattle.fl_session.specs.Talk.{bytes_of}
@@ -21,6 +24,14 @@ pub as_many : (seats : List Place) (workers : ℕ) → map (λ seat. seat.worker
     → length seats ≡ workers
 as_many seats workers each =
     sym (length-map seats (λ seat. seat.worker)) ∙ ap length each ∙ length-range_with_len 0 workers
+
+-- nothing was sent
+pub nothing_sent : (start : Option (List ℕ)) → HasSent start start [] false
+nothing_sent start = record {
+  replies = [];
+  each = All-nil IsSpelling;
+  given = record { sent = []; written = Appends-nil start; are_given = refl; framed = All-nil IsReply };
+}
 
 -- what a session did whose reader ended
 pub served_by : (left left_now held held_now : Option (List ℕ)) (fault : Option Fault) (goodbye : Owed) (broken : Bool)

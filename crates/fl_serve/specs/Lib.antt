@@ -1,3 +1,2 @@
 pub mod Inside
 pub mod Serve
-pub mod Shared

@@ -6,7 +6,7 @@ use Rattle.fl_session.specs.Talk.{bytes_of, goodbye_to}
 use Rattle.fl_session.specs.declared.server.Owed.{Owed}
 use Rattle.fl_session.specs.declared.session.Done.{Done}
 use Rattle.fl_session.specs.declared.session.Fault.TheVariants.{NoReader}
-use Rattle.fl_serve.specs.Shared.{HasSent, HasSentLast}
+use Rattle.fl_workers.specs.Shared.{HasSent, HasSentLast}
 
 -- the last message is a DESTROY, to which this is owed
 pub record IsLast (came : List Came) (goodbye : Owed) : Type 0 where

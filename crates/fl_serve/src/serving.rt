@@ -1,24 +1,20 @@
 //! A whole session of the FUSE protocol with workers, over any reader and any writer.
 
-ghost use Rattle.std.specs.Prelude.{◌≡◌, ◌≢◌, ◌≤◌, ◌<◌, ◌⊎◌, [], false, Some, length, vec_capacity, IfOk};
+ghost use Rattle.std.specs.Prelude.{◌≡◌, ◌≢◌, ◌≤◌, ◌<◌, ◌⊎◌, [], Some, length, vec_capacity, IfOk};
 ghost use Rattle.std.specs.Io.KnownBytes.{Keeps};
 ghost use Rattle.fl_desk.specs.Legal.{IsLegal};
 ghost use Rattle.fl_session.specs.Inbox.{IsUnread};
-ghost use Rattle.fl_session.specs.Talk.{bytes_of};
 ghost use Rattle.fl_serve.specs.Serve.{HasNoHistory, IsServedBy};
-ghost use Rattle.fl_serve.specs.Shared.{HasSent, HasSentLast};
 
 mod crew;
 mod hearing;
 
-use crate::counter::Gate;
-use crate::intake::Intake;
 use crate::serving::crew::{Back, Crew, Thread};
-use crate::shared::{Shared, WriterName};
 use fl_board::{Board, BoardName, FreshLog, OpenFault, Seat};
 use fl_core::Tolds;
 use fl_order::NoMemory;
-use fl_session::{Done, Fault, Inbox, Owed, ReplyBuffer};
+use fl_session::{Done, Fault, Inbox, ReplyBuffer};
+use fl_workers::{Gate, Intake, Shared, WriterName};
 use std::alloc::Global;
 use std::io::{Read, Write};
 use std::marker::Brand;
@@ -144,7 +140,7 @@ fn serve_at<
     };
     let (back, heard) = crew.run(r, inbox, seats, tolds, threads, places);
     let Crew { board, shared, .. } = crew;
-    let (w, broken) = said_goodbye(shared.into_inner(), &heard.goodbye);
+    let (w, broken) = shared.into_inner().close(&heard.goodbye);
     if heard.fault == Some(Fault::NoMemory) {
         return (Done::nothing(alloc, Fault::NoMemory), w);
     }
@@ -184,21 +180,6 @@ fn closed<L: BoardName, R: Wait + Drop>(
         },
         Err(_) => Done::nothing(alloc, Fault::NoReader),
     }
-}
-
-// Sends what is owed last, and gives the writer back.
-fn said_goodbye<'w, W: Write, N: WriterName>(
-    shared: Shared<'w, W, N>,
-    goodbye: &Owed,
-) -> (&'w mut W, bool)
-    ensures same { result.0.ghost_name ≡ N.name }
-    ensures sent { HasSent N.start (W.contents result.0.now) [] result.1 }
-    ensures last { result.1 ≡ false → HasSentLast N.start (W.contents result.0.now) (bytes_of goodbye.now) }
-{
-    let mut shared = shared;
-    shared.collect(goodbye);
-    shared.flush();
-    shared.into_writer()
 }
 
 // All that a session has before its first read.

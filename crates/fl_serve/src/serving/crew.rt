@@ -5,14 +5,11 @@ ghost use Rattle.std.specs.Io.KnownBytes.{Keeps};
 ghost use Rattle.fl_serve.specs.Inside.Hearing.{HasHeard};
 ghost use Rattle.fl_session.specs.Inbox.{IsUnread};
 
-use crate::counter::Gate;
-use crate::intake::Intake;
 use crate::serving::hearing::{Heard, Hearer};
-use crate::shared::{Shared, WriterName};
-use crate::worker::{Worked, worker_loop};
 use fl_board::{Board, BoardName, Seat};
 use fl_core::Tolds;
 use fl_session::{Fault, Inbox, Owed};
+use fl_workers::{Gate, Intake, Shared, Worked, WriterName, worker_loop};
 use std::io::{Read, Write};
 use std::sync::{Mutex, Wait};
 use std::thread::{Builder, JoinHandle, Scope, Threads};

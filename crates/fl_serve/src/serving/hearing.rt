@@ -5,10 +5,9 @@ ghost use Rattle.fl_serve.specs.Inside.Hearing.{HasHeard, Hears};
 ghost use Rattle.fl_session.specs.Inbox.{IsUnread};
 ghost use Rattle.fl_session.specs.Talk.{goodbye_to};
 
-use crate::intake::Intake;
-use crate::shared::{Shared, WriterName};
 use fl_session::{Fault, Filled, Inbox, Met, Owed, Talk};
 use fl_wire::{Frame, Step};
+use fl_workers::{Intake, Shared, WriterName};
 use std::io::{Read, Write};
 use std::sync::{Mutex, Wait};
 

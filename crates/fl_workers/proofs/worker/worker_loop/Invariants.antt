@@ -1,5 +1,5 @@
 use Rattle.std.proofs.Common.{◌≡◌, ◌≤◌}
-use Rattle.fl_serve.proofs.worker.worker_loop.Given as goal
+use Rattle.fl_workers.proofs.worker.worker_loop.Given as goal
 
 -- it is this worker's seat, and nothing that was taken through it is forgotten
 abbrev pub invariant-loop : goal.invariant-loop

@@ -1,6 +1,6 @@
 -- Replies that are collected, and go out together.
 use Rattle.std.specs.Prelude.{ℕ, Bool, List, ◌++◌, Option}
-use Rattle.fl_serve.specs.Shared.{IsGiven}
+use Rattle.fl_workers.specs.Shared.{IsGiven}
 
 -- these replies are given after others, whatever those were
 pub record Collects (held held_now : Option (List ℕ)) (waiting waiting_now : List ℕ) (broken broken_now : Bool)

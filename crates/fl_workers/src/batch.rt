@@ -3,7 +3,7 @@
 ghost use Rattle.std.specs.Prelude.{◌≡◌, [], ◌∷◌, map};
 ghost use Rattle.fl_wire.specs.Init.{init_spelling};
 ghost use Rattle.fl_wire.specs.Spell.{spelling_of};
-ghost use Rattle.fl_serve.specs.Inside.Collecting.{Collects};
+ghost use Rattle.fl_workers.specs.Collecting.{Collects};
 ghost use Rattle.fl_session.specs.Outbox.{is_broken, writer_of};
 ghost use Rattle.fl_session.specs.Talk.{bytes_of};
 

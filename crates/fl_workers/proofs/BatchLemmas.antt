@@ -5,9 +5,9 @@ use Rattle.std.proofs.lemmas.List.Folds.{concat-append}
 use Rattle.std.specs.List.{concat}
 use Rattle.std.proofs.KnownBytes.{Appends-trans, Appends-kept}
 use Rattle.fl_wire.specs.Spell.{IsReply}
-use Rattle.fl_serve.specs.Inside.Collecting.{Collects}
+use Rattle.fl_workers.specs.Collecting.{Collects}
 use Rattle.fl_session.specs.Outbox.{IsSentBy}
-use Rattle.fl_serve.specs.Shared.{IsGiven}
+use Rattle.fl_workers.specs.Shared.{IsGiven}
 
 -- no reply more
 given_none : (start held : Option (List ℕ)) (waiting : List ℕ) (broken : Bool) (replies : List (List ℕ))

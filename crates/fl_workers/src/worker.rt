@@ -111,7 +111,7 @@ fn collect<R: Wait, W: Write, N: WriterName>(
 }
 
 // Sends what is collected.
-pub(crate) fn flush<R: Wait, W: Write, N: WriterName>(rt: &R, shared: &Mutex<Shared<'_, W, N>>) {
+fn flush<R: Wait, W: Write, N: WriterName>(rt: &R, shared: &Mutex<Shared<'_, W, N>>) {
     let mut shared = shared.lock(rt);
     shared.flush();
 }

@@ -1,7 +1,7 @@
 use Rattle.std.proofs.Common.{◌≡◌, map, take}
 use Rattle.fl_wire.specs.Spell.{spelling_of}
-use Rattle.fl_serve.specs.Inside.Collecting.{Collects}
-use Rattle.fl_serve.proofs.batch.Batch.collect_all.Given as goal
+use Rattle.fl_workers.specs.Collecting.{Collects}
+use Rattle.fl_workers.proofs.batch.Batch.collect_all.Given as goal
 
 -- the replies so far are collected
 abbrev pub invariant-loop-told : goal.invariant-loop-told

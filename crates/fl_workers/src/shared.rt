@@ -1,8 +1,8 @@
 //! The replies of a session whose workers share one writer.
 
 ghost use Rattle.std.specs.Prelude.{◌≡◌, [], false};
-ghost use Rattle.fl_serve.specs.Inside.Collecting.{Collects};
-ghost use Rattle.fl_serve.specs.Shared.{HasSent};
+ghost use Rattle.fl_workers.specs.Collecting.{Collects};
+ghost use Rattle.fl_workers.specs.Shared.{HasSent, HasSentLast};
 ghost use Rattle.fl_session.specs.Talk.{bytes_of};
 
 use crate::batch::Batch;
@@ -39,7 +39,7 @@ pub struct Shared<'a, W: Write, N: WriterName> {
 impl<'a, W: Write, N: WriterName> Model for Shared<'a, W, N> {
     ghost use Rattle.std.specs.Prelude.{◌≡◌};
     ghost use Rattle.fl_session.specs.Outbox.{is_broken, writer_of};
-    ghost use Rattle.fl_serve.specs.Shared.{Outgoing, HasSent};
+    ghost use Rattle.fl_workers.specs.Shared.{Outgoing, HasSent};
 
     ghost Value = { Outgoing };
 
@@ -56,7 +56,7 @@ impl<'a, W: Write, N: WriterName> Model for Shared<'a, W, N> {
 impl<'a, W: Write, N: WriterName> Shared<'a, W, N> {
     /// Nothing was sent yet.
     #[tactic(auto, using(crate::proofs::SharedLemmas::starts))]
-    pub(crate) fn new(replies: ReplyBuffer, writer: &'a mut W) -> Shared<'a, W, N>
+    pub fn new(replies: ReplyBuffer, writer: &'a mut W) -> Shared<'a, W, N>
         requires empty { replies ≡ [] }
         requires start { W.contents writer.old ≡ N.start }
         requires named { writer.ghost_name ≡ N.name }
@@ -73,7 +73,7 @@ impl<'a, W: Write, N: WriterName> Shared<'a, W, N> {
 
     /// Collects what is owed, to be sent by the next flush or before.
     #[tactic(auto, using(crate::proofs::SharedLemmas::collects))]
-    pub(crate) fn collect(&mut self, owed: &Owed)
+    pub fn collect(&mut self, owed: &Owed)
         ensures before { HasSent N.start self.old.held self.old.waiting self.old.broken }
         ensures collected { Collects self.old.held self.new.held self.old.waiting self.new.waiting
             self.old.broken self.new.broken (bytes_of owed.now) }
@@ -83,7 +83,7 @@ impl<'a, W: Write, N: WriterName> Shared<'a, W, N> {
 
     /// Sends what is collected.
     #[tactic(auto, using(crate::proofs::SharedLemmas::flushes))]
-    pub(crate) fn flush(&mut self)
+    pub fn flush(&mut self)
         ensures none { self.new.waiting ≡ [] }
         ensures sent { Collects self.old.held self.new.held self.old.waiting self.new.waiting
             self.old.broken self.new.broken [] }
@@ -91,8 +91,20 @@ impl<'a, W: Write, N: WriterName> Shared<'a, W, N> {
         self.batch.flush();
     }
 
-    /// Gives the writer back, and says whether a write failed. What is collected and wasn't sent is lost.
-    pub(crate) fn into_writer(self) -> (&'a mut W, bool)
+    /// Sends what is owed last, gives the writer back, and says whether a write failed.
+    pub fn close(self, goodbye: &Owed) -> (&'a mut W, bool)
+        ensures same { result.0.ghost_name ≡ N.name }
+        ensures sent { HasSent N.start (W.contents result.0.now) [] result.1 }
+        ensures last { result.1 ≡ false → HasSentLast N.start (W.contents result.0.now) (bytes_of goodbye.now) }
+    {
+        let mut shared = self;
+        shared.collect(goodbye);
+        shared.flush();
+        shared.into_writer()
+    }
+
+    // Gives the writer back, and says whether a write failed. What is collected and wasn't sent is lost.
+    fn into_writer(self) -> (&'a mut W, bool)
         ensures same { result.0.ghost_name ≡ N.name }
         ensures held { W.contents result.0.now ≡ self.entry.held }
         ensures broken { result.1 ≡ self.entry.broken }

@@ -1,5 +1,5 @@
-use Rattle.fl_serve.proofs.BatchLemmas.{Collects-one, Collects-next}
-use Rattle.fl_serve.proofs.batch.Batch.collect_one.Goals as goal
+use Rattle.fl_workers.proofs.BatchLemmas.{Collects-one, Collects-next}
+use Rattle.fl_workers.proofs.batch.Batch.collect_one.Goals as goal
 
 pub returns-then-not-append-clause-collected : goal.returns-then-not-append-clause-collected
 returns-then-not-append-clause-collected g c = Collects-next _ _ _ _ _ _ _ _ _

@@ -1,0 +1,2 @@
+pub mod BatchLemmas
+pub mod SharedLemmas

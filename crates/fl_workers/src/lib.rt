@@ -1,0 +1,13 @@
+//! What the workers of a session do with its orders, and how they share one writer.
+#![tactic(auto)]
+
+mod batch;
+mod counter;
+mod intake;
+mod shared;
+mod worker;
+
+pub use counter::{Counter, Gate, OpenGate};
+pub use intake::{Closed, Intake, Job, MOST_JOBS};
+pub use shared::{Shared, WriterName};
+pub use worker::{Worked, worker_loop};
