@@ -1,2 +1,4 @@
+pub mod AskedLemmas
 pub mod HearingLemmas
 pub mod ServingLemmas
+pub mod WorkingLemmas

@@ -2,6 +2,8 @@
 
 ghost use Rattle.std.specs.Prelude.{◌≡◌, ℕ, ◌+◌, true, OnOk, OnErr};
 ghost use Rattle.fl_order.specs.Order.{only_reads};
+ghost use Rattle.fl_workers.specs.Asked.{Orders, asked_by};
+ghost use Rattle.fl_workers.specs.Worked.{IsAskedLast};
 
 use fl_board::{Board, BoardName, HandFault, NoView, Seat};
 use fl_core::Tolds;
@@ -19,6 +21,9 @@ pub trait Counter {
     /// The number of the worker whose place a seat is.
     ghost worker: { Self.Seat → ℕ };
 
+    /// The orders of the seat's worker in the history up to the last that was taken through it.
+    ghost asked: { Self.Seat → Orders };
+
     /// Takes an order, and hands out its replies. A refusal hands out nothing.
     fn hand_in<R: Wait>(
         &self,
@@ -28,13 +33,16 @@ pub trait Counter {
         tolds: &mut Tolds,
     ) -> Result<(), HandFault>
         ensures own { worker seat.new ≡ worker seat.old }
-        ensures taken { OnOk result (count seat.new ≡ count seat.old + 1) }
-        ensures refused { OnErr result ((count seat.new ≡ count seat.old) × (tolds.new ≡ tolds.old)) };
+        ensures taken { OnOk result
+            ((count seat.new ≡ count seat.old + 1) × IsAskedLast (asked seat.old) order.now (asked seat.new)) }
+        ensures refused { OnErr result
+            ((count seat.new ≡ count seat.old) × (asked seat.new ≡ asked seat.old) × (tolds.new ≡ tolds.old)) };
 
     /// What an order that only reads is answered, without taking it. It waits for nobody.
     fn look(&self, seat: &mut Self::Seat, order: &Order) -> Result<Result<Answer, Errno>, NoView>
         requires { only_reads order.now.op ≡ true }
-        ensures kept { (worker seat.new ≡ worker seat.old) × (count seat.new ≡ count seat.old) };
+        ensures own { worker seat.new ≡ worker seat.old }
+        ensures kept { (count seat.new ≡ count seat.old) × (asked seat.new ≡ asked seat.old) };
 }
 
 impl<L: BoardName, P: Wait + Drop> Counter for Board<L, P> {
@@ -43,6 +51,8 @@ impl<L: BoardName, P: Wait + Drop> Counter for Board<L, P> {
     ghost count = { λ seat. seat.count };
 
     ghost worker = { λ seat. seat.worker };
+
+    ghost asked = { λ seat. asked_by seat.worker seat.own };
 
     fn hand_in<R: Wait>(
         &self,

@@ -3,11 +3,9 @@
 
 mod batch;
 mod counter;
-mod intake;
 mod shared;
 mod worker;
 
 pub use counter::{Counter, Gate, OpenGate};
-pub use intake::{Closed, Intake, Job, MOST_JOBS};
 pub use shared::{Shared, WriterName};
-pub use worker::{Worked, worker_loop};
+pub use worker::{Worked, handle_all, worker_loop};
