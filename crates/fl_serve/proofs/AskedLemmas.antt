@@ -75,7 +75,7 @@ handed_is_asked weight lines (p ∷ posts) counted has =
       sum_by-cons (λ (q : Place). sum_by weight (asked_by q.worker lines)) p.place places,
       ap (sum_by weight) here,
       handed_is_asked weight lines posts (All-tail IsCounted p posts counted)
-      (All-tail (HasAllOf lines) p.place places has),
+          (All-tail (HasAllOf lines) p.place places has),
     )
 
 -- ---- the workers of a range, and those above
@@ -95,29 +95,29 @@ one_or_above : (weight : Weight) (k : ℕ) (l : Line)
 one_or_above weight k (line.Told told) = refl
 one_or_above weight k (line.Asked asker order) = ⊎_elim
     (λ is. ⊎_elim
-      (λ same. ⊎_elim (λ more. absurd (omega (arith, same.1, more.1)))
-        (λ no_more. rw (is.0, same.0, no_more.0) (omega arith)) (leb_tells (k + 1) asker))
-      (λ other. ⊎_elim (λ more. rw (is.0, other.0, more.0) (omega arith))
-        (λ no_more. absurd (other.1 (omega (arith, is.1, no_more.1)))) (leb_tells (k + 1) asker))
-      (eqb_tells asker k))
+    (λ same. ⊎_elim (λ more. absurd (omega (arith, same.1, more.1)))
+    (λ no_more. rw (is.0, same.0, no_more.0) (omega arith)) (leb_tells (k + 1) asker))
+    (λ other. ⊎_elim (λ more. rw (is.0, other.0, more.0) (omega arith))
+    (λ no_more. absurd (other.1 (omega (arith, is.1, no_more.1)))) (leb_tells (k + 1) asker))
+    (eqb_tells asker k))
     (λ not. ⊎_elim
-      (λ same. absurd (omega (arith, not.1, same.1)))
-      (λ other. ⊎_elim (λ more. absurd (omega (arith, not.1, more.1)))
-        (λ no_more. rw (not.0, other.0, no_more.0) (omega arith)) (leb_tells (k + 1) asker))
-      (eqb_tells asker k))
+    (λ same. absurd (omega (arith, not.1, same.1)))
+    (λ other. ⊎_elim (λ more. absurd (omega (arith, not.1, more.1)))
+    (λ no_more. rw (not.0, other.0, no_more.0) (omega arith)) (leb_tells (k + 1) asker))
+    (eqb_tells asker k))
     (leb_tells k asker)
 
 those_or_above : (weight : Weight) (k : ℕ) (lines : List Line)
     → sum_by weight (above k lines) ≡ sum_by weight (asked_by k lines) + sum_by weight (above (k + 1) lines)
 those_or_above weight k [] = refl
 those_or_above weight k (l ∷ lines) = omega (
-    arith,
-    sum_by-append weight (order_above k l) (above k lines),
-    sum_by-append weight (order_asked_by k l) (asked_by k lines),
-    sum_by-append weight (order_above (k + 1) l) (above (k + 1) lines),
-    one_or_above weight k l,
-    those_or_above weight k lines,
-  )
+  arith,
+  sum_by-append weight (order_above k l) (above k lines),
+  sum_by-append weight (order_asked_by k l) (asked_by k lines),
+  sum_by-append weight (order_above (k + 1) l) (above (k + 1) lines),
+  one_or_above weight k l,
+  those_or_above weight k lines,
+)
 
 range_or_above : (weight : Weight) (lines : List Line) (k n : ℕ) (places : List Place)
     → map (λ (p : Place). p.worker) places ≡ range_with_len k n
@@ -158,21 +158,25 @@ as_many [] = refl
 as_many (line.Told told ∷ lines) =
     omega (arith, as_many lines, sum_by-cons (λ k. one_if (is_asked k)) (line.Told told) lines)
 as_many (line.Asked asker order ∷ lines) =
-    omega (arith, as_many lines, sum_by-cons (λ k. one_if (is_asked k)) (line.Asked asker order) lines,
-    sum_by-cons ones order (asked lines))
+    omega (
+      arith,
+      as_many lines,
+      sum_by-cons (λ k. one_if (is_asked k)) (line.Asked asker order) lines,
+      sum_by-cons ones order (asked lines),
+    )
 
 counted_at : (lines : List Line) (places : List Place) → All (HasAllOf lines) places
     → asked_at ones lines places ≡ sum_by (λ (p : Place). p.count) places
 counted_at lines [] has = refl
 counted_at lines (p ∷ places) has = omega (
-    arith,
-    sum_by-cons (λ (q : Place). sum_by ones (asked_by q.worker lines)) p places,
-    sum_by-cons (λ (q : Place). q.count) p places,
-    (All-head (HasAllOf lines) p places has).count,
-    as_many_by p.worker lines,
-    weighs_its_length (asked_by p.worker lines),
-    counted_at lines places (All-tail (HasAllOf lines) p places has),
-  )
+  arith,
+  sum_by-cons (λ (q : Place). sum_by ones (asked_by q.worker lines)) p places,
+  sum_by-cons (λ (q : Place). q.count) p places,
+  (All-head (HasAllOf lines) p places has).count,
+  as_many_by p.worker lines,
+  weighs_its_length (asked_by p.worker lines),
+  counted_at lines places (All-tail (HasAllOf lines) p places has),
+)
 
 weighs_nothing : (weight : Weight) (orders : Orders) → length orders ≡ 0 → sum_by weight orders ≡ 0
 weighs_nothing weight [] none = refl

@@ -50,15 +50,15 @@ asked_as_said workers came put orders places any fault done said is did whose al
   looked = did.looked;
   refused = did.refused;
   each = λ weight. omega (
-      arith,
-      ap (sum_by weight) said,
-      is weight,
-      did.each weight,
-      all_is_handed_in weight done.history did.posts places workers did.at did.handed all.each whose all.counted,
-      sum_by-append weight (asked done.history ++ did.looked) did.refused,
-      sum_by-append weight (asked done.history) did.looked,
-      sum_by-append weight did.looked did.refused,
-    );
+    arith,
+    ap (sum_by weight) said,
+    is weight,
+    did.each weight,
+    all_is_handed_in weight done.history did.posts places workers did.at did.handed all.each whose all.counted,
+    sum_by-append weight (asked done.history ++ did.looked) did.refused,
+    sum_by-append weight (asked done.history) did.looked,
+    sum_by-append weight did.looked did.refused,
+  );
   reads = did.reads;
   none = λ e. did.none (sym all.refused ∙ e);
 }
@@ -75,17 +75,17 @@ pub served_by : (workers : ℕ) (left left_now held held_now : Option (List ℕ)
     → HasAll places any told done ⊎ HasNoHistory done → IsServedBy left left_now held held_now done
 served_by workers left left_now held held_now fault put goodbye broken any orders places done heard sent last told ends
     is did whose closed = record {
-  came = heard.came;
-  rest = heard.rest;
-  broken = broken;
-  is_read = heard.is_read;
-  bounded = heard.bounded;
-  sent = sent;
-  goodbye = λ whole over. record { goodbye = goodbye; last = heard.over over; sent = last whole };
-  ending = ⊎_elim (λ all. inl (rw all.fault (ends heard.came heard.rest left_now heard.ending))) inr closed;
-  orders = ⊎_elim
-      (λ all. inl (asked_as_said workers heard.came put orders places any told done heard.put is did whose all)) inr closed;
-}
+      came = heard.came;
+      rest = heard.rest;
+      broken = broken;
+      is_read = heard.is_read;
+      bounded = heard.bounded;
+      sent = sent;
+      goodbye = λ whole over. record { goodbye = goodbye; last = heard.over over; sent = last whole };
+      ending = ⊎_elim (λ all. inl (rw all.fault (ends heard.came heard.rest left_now heard.ending))) inr closed;
+      orders = ⊎_elim
+          (λ all. inl (asked_as_said workers heard.came put orders places any told done heard.put is did whose all)) inr closed;
+    }
 
 -- what a session did that had no memory, or no reader
 pub unserved : (left left_now held held_now : Option (List ℕ)) (broken : Bool) (done : Done) (fault : Fault)
@@ -104,10 +104,10 @@ unserved left left_now held held_now broken done fault unread sent told none why
       (subst (λ fault. EndsBy fault broken [] [] left_now) (sym (told ∙ ap Some memory)) (refl, refl)))
       (λ reader. inr (record { fault = told ∙ ap Some reader; history = none })) why;
   orders = inl (record {
-        looked = [];
-        refused = [];
-        each = λ weight. sym (ap (λ history. sum_by weight (asked history ++ [] ++ [])) none);
-        reads = All-nil (λ (order : Order). only_reads order.op ≡ true);
-        none = λ _. refl;
-      });
+    looked = [];
+    refused = [];
+    each = λ weight. sym (ap (λ history. sum_by weight (asked history ++ [] ++ [])) none);
+    reads = All-nil (λ (order : Order). only_reads order.op ≡ true);
+    none = λ _. refl;
+  });
 }

@@ -63,17 +63,17 @@ one_back ends ends_now places places_now any more before end place so_far fresh 
       handed = All-push IsCounted so_far.posts post so_far.handed
           (record { counted = did.counted; among = did.among });
       each = λ weight. omega (
-          arith,
-          ap (weight_taken weight) is_end,
-          sum_by_push (λ (e : TakeSide). sum_by weight e.taken) ends end,
-          ap (sum_by weight) (did.is ∙ ap (λ l. l ++ did.took) fresh),
-          so_far.each weight,
-          did.each weight,
-          three weight did.handed did.looked did.refused,
-          sum_by_push (λ (p : Post). sum_by weight p.handed) so_far.posts post,
-          sum_by-append weight so_far.looked so_far.refused,
-          four weight so_far.looked did.looked so_far.refused did.refused,
-        );
+        arith,
+        ap (weight_taken weight) is_end,
+        sum_by_push (λ (e : TakeSide). sum_by weight e.taken) ends end,
+        ap (sum_by weight) (did.is ∙ ap (λ l. l ++ did.took) fresh),
+        so_far.each weight,
+        did.each weight,
+        three weight did.handed did.looked did.refused,
+        sum_by_push (λ (p : Post). sum_by weight p.handed) so_far.posts post,
+        sum_by-append weight so_far.looked so_far.refused,
+        four weight so_far.looked did.looked so_far.refused did.refused,
+      );
       reads = All-append Reads so_far.looked did.looked so_far.reads did.reads;
       none = λ all. let neither = both_false any more all in
           no_more so_far.refused did.refused (so_far.none neither.0) (did.none neither.1);
@@ -124,23 +124,28 @@ rest_done orders rest front places places_now place place_now any more so_far wa
       refused = so_far.refused ++ did.refused;
       at = map-append (λ (p : Post). p.place) split.0 (post ∷ []) ∙ ap (λ l. l ++ place_now ∷ []) split.3 ∙ sym now;
       handed = All-push IsCounted split.0 post (All_front split.0 split.1 counted) (record {
-            counted = omega (arith, length-append split.1.handed did.handed, last.counted,
-                ap (λ (p : Place). p.count) split.4, did.counted);
-            among = did.among split.1.handed
-                (subst (λ (p : Place). Sublistᴰ split.1.handed (asked_by p.worker p.own)) split.4 last.among);
-          });
-      each = λ weight. omega (
+        counted = omega (
           arith,
-          so_far.each weight,
-          did.each weight,
-          three weight did.handed did.looked did.refused,
-          ap (handed_at weight) split.2,
-          sum_by_push (λ (p : Post). sum_by weight p.handed) split.0 split.1,
-          sum_by_push (λ (p : Post). sum_by weight p.handed) split.0 post,
-          sum_by-append weight split.1.handed did.handed,
-          sum_by-append weight so_far.looked so_far.refused,
-          four weight so_far.looked did.looked so_far.refused did.refused,
+          length-append split.1.handed did.handed,
+          last.counted,
+          ap (λ (p : Place). p.count) split.4,
+          did.counted,
         );
+        among = did.among split.1.handed
+            (subst (λ (p : Place). Sublistᴰ split.1.handed (asked_by p.worker p.own)) split.4 last.among);
+      });
+      each = λ weight. omega (
+        arith,
+        so_far.each weight,
+        did.each weight,
+        three weight did.handed did.looked did.refused,
+        ap (handed_at weight) split.2,
+        sum_by_push (λ (p : Post). sum_by weight p.handed) split.0 split.1,
+        sum_by_push (λ (p : Post). sum_by weight p.handed) split.0 post,
+        sum_by-append weight split.1.handed did.handed,
+        sum_by-append weight so_far.looked so_far.refused,
+        four weight so_far.looked did.looked so_far.refused did.refused,
+      );
       reads = All-append Reads so_far.looked did.looked so_far.reads did.reads;
       none = λ all. let neither = both_false any more all in
           no_more so_far.refused did.refused (so_far.none neither.0) (did.none neither.1);

@@ -3,7 +3,7 @@
 
 mod serving;
 
-pub use fl_session::{Broken, Done, Ended, Fault, Outbox, run_one, run_session};
 pub use fl_intake::{Closed, Intake, Job, MOST_JOBS, NotAll, PutEnd, TakeEnd};
+pub use fl_session::{Broken, Done, Ended, Fault, Outbox, run_one, run_session};
 pub use fl_workers::{Counter, Gate, OpenGate, Shared, Worked, WriterName, worker_loop};
 pub use serving::{serve, serve_on_stack};

@@ -35,8 +35,11 @@ pub handed_in_last : (old new : Place) (order : Order) (tolds : List Told) → n
     → IsHandedIn old order tolds new → IsAskedLast (asked_by old.worker old.own) order (asked_by new.worker new.own)
 handed_in_last old new order tolds same handed = record {
   before = asked_by old.worker handed.before;
-  had = (asked_by old.worker handed.had.0, sym (asked_more old.worker old.own handed.had.0)
-      ∙ ap (asked_by old.worker) handed.had.1);
+  had = (
+    asked_by old.worker handed.had.0,
+    sym (asked_more old.worker old.own handed.had.0)
+        ∙ ap (asked_by old.worker) handed.had.1,
+  );
   now = (λ i. asked_by (same i) (handed.own i)) ∙ asked_more old.worker handed.before (step_lines old.worker order tolds)
       ∙ ap (λ l. asked_by old.worker handed.before ++ l) (step_asks_one old.worker order tolds);
 }

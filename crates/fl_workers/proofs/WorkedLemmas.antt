@@ -95,17 +95,17 @@ worked_then xs ys a b c k m n any more first second = record {
   looked = first.looked ++ second.looked;
   refused = first.refused ++ second.refused;
   each = λ weight. omega (
-      arith,
-      sum_by-append weight xs ys,
-      first.each weight,
-      second.each weight,
-      three weight first.handed first.looked first.refused,
-      three weight second.handed second.looked second.refused,
-      three weight (first.handed ++ second.handed) (first.looked ++ second.looked) (first.refused ++ second.refused),
-      sum_by-append weight first.handed second.handed,
-      sum_by-append weight first.looked second.looked,
-      sum_by-append weight first.refused second.refused,
-    );
+    arith,
+    sum_by-append weight xs ys,
+    first.each weight,
+    second.each weight,
+    three weight first.handed first.looked first.refused,
+    three weight second.handed second.looked second.refused,
+    three weight (first.handed ++ second.handed) (first.looked ++ second.looked) (first.refused ++ second.refused),
+    sum_by-append weight first.handed second.handed,
+    sum_by-append weight first.looked second.looked,
+    sum_by-append weight first.refused second.refused,
+  );
   counted = omega (arith, first.counted, second.counted, length-append first.handed second.handed);
   among = λ before among. subst (λ l. Sublistᴰ l c) (append_assoc before first.handed second.handed)
       (second.among (before ++ first.handed) (first.among before among));
@@ -128,10 +128,10 @@ pub took_more : (taken before after a b c : Orders) (k m n : ℕ) (any more : Bo
     → TookAndWorked taken before a b k m any → after ≡ before ++ order ∷ [] → HasWorked (order ∷ []) b c m n more
     → TookAndWorked taken after a c k n (any || more)
 took_more taken before after a b c k m n any more order so_far next one = (
-    so_far.0 ++ order ∷ [],
-    next ∙ ap (λ l. l ++ order ∷ []) so_far.1 ∙ append_assoc taken so_far.0 (order ∷ []),
-    worked_then so_far.0 (order ∷ []) a b c k m n any more so_far.2 one,
-  )
+  so_far.0 ++ order ∷ [],
+  next ∙ ap (λ l. l ++ order ∷ []) so_far.1 ∙ append_assoc taken so_far.0 (order ∷ []),
+  worked_then so_far.0 (order ∷ []) a b c k m n any more so_far.2 one,
+)
 
 -- of a seat at which nothing was handed in before
 pub has_done : (taken taken_now asked asked_now : Orders) (count count_now : ℕ) (any : Bool) → count ≡ 0
@@ -157,6 +157,6 @@ pub handled_more : (orders done rest rest_now a b c : Orders) (k m n : ℕ) (any
     → HasWorked (order ∷ []) b c m n more
     → (orders ≡ (done ++ order ∷ []) ++ rest_now) × HasWorked (done ++ order ∷ []) a c k n (any || more)
 handled_more orders done rest rest_now a b c k m n any more order so_far next one = (
-    so_far.0 ∙ ap (λ l. done ++ l) next ∙ sym (append_assoc done (order ∷ []) rest_now),
-    worked_then done (order ∷ []) a b c k m n any more so_far.1 one,
-  )
+  so_far.0 ∙ ap (λ l. done ++ l) next ∙ sym (append_assoc done (order ∷ []) rest_now),
+  worked_then done (order ∷ []) a b c k m n any more so_far.1 one,
+)

@@ -44,7 +44,7 @@ pub(crate) struct AtSeat {
 impl<L: BoardName> Promise<Worked<Seat<L>>> for AtSeat {
     ghost use Rattle.std.specs.Prelude.{◌≡◌};
     ghost use Rattle.fl_intake.specs.Ends.{weight_taken};
-ghost use Rattle.fl_workers.specs.Asked.{asked_by};
+    ghost use Rattle.fl_workers.specs.Asked.{asked_by};
     ghost use Rattle.fl_workers.specs.Worked.{HasDone};
 
     ghost kept_by = { λ p r. (r.seat.worker ≡ p.worker) × (r.end.of ≡ p.end.value.of)

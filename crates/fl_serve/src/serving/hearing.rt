@@ -81,7 +81,7 @@ impl<'r, 'a, 'w, R: Wait, W: Write, N: WriterName> Hearer<'r, 'a, 'w, R, W, N> {
                 Step::Bad(len) => return hearer.ended(Some(Fault::BadLength(len))),
                 Step::More => {
                     // Nobody sleeps for long over orders that are left, while the reader waits.
-                    hearer.intake.wake_for_rest();
+                    hearer.intake.call_one_more();
                     if let Filled::End(fault) = inbox.fill(r) {
                         return hearer.ended(fault);
                     }

@@ -22,10 +22,17 @@ pub handed_in-requires : goal.handed_in-requires
 handed_in-requires g c =
     let some : c.run-back.result.1.fault ≢ Some NoMemory = search rules in
     let worked = c.run-back.ensures.worked some in
-    record { some = omega (arith, ap length worked.whose, ap length c.in-Ok.ensures.seats,
-          length-map c.run-back.result.0.seats.items (λ (s : Place). s.worker),
-          length-map c.in-Ok.rooms.posts.seats.items (λ (s : Place). s.worker), length-range_with_len 0 c.args.staff.workers,
-          c.requires.workers.0) }
+    record {
+      some = omega (
+        arith,
+        ap length worked.whose,
+        ap length c.in-Ok.ensures.seats,
+        length-map c.run-back.result.0.seats.items (λ (s : Place). s.worker),
+        length-map c.in-Ok.rooms.posts.seats.items (λ (s : Place). s.worker),
+        length-range_with_len 0 c.args.staff.workers,
+        c.requires.workers.0,
+      );
+    }
 
 pub returns-clause-served : goal.returns-clause-served
 returns-clause-served g c =

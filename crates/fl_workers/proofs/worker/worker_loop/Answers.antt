@@ -9,9 +9,11 @@ loop-init g c = (search rules, search rules, took_none _ _ _)
 pub loop-preserved : goal.loop-preserved
 loop-preserved g c =
     let i = c.loop.invariant in
-    let took = c.next_job.ensures.taken ∙ ap (λ r. c.loop.end.taken ++ option_to_list r) c.in-Some-next_job.is in
-    (search rules, search rules,
-    took_more _ _ _ _ _ _ _ _ _ _ _ c.in-Some-next_job.job i.2 took c.handle-refused.ensures.did)
+    let took = c.next_job.ensures.taken ∙ ap (λ r. c.loop.end.taken ++ option_to_list r) c.in-Some-next_job.is in (
+      search rules,
+      search rules,
+      took_more _ _ _ _ _ _ _ _ _ _ _ c.in-Some-next_job.job i.2 took c.handle-refused.ensures.did,
+    )
 
 pub returns-clause-did : goal.returns-clause-did
 returns-clause-did g c = has_done _ _ _ _ _ _ _ c.requires.fresh c.loop.invariant.2

@@ -14,15 +14,14 @@ loop-seat-preserved g c =
     let threads = c.push_reserved.ensures.items in
     let of = c.args.self.now.intake in
     let popped = c.pop.ensures.items ∙ ap (λ r. c.pop.new.self.items ++ option_to_list r) c.in-Some-pop.is in
-    let ends = All-pop (IsFresh of) _ _ _ popped i.4 in
-    (
+    let ends = All-pop (IsFresh of) _ _ _ popped i.4 in (
       search rules,
       search rules,
       moves (λ t. t.promise.worker) (λ (s : Place). s.worker) _ _ c.in-Some-start.thread _ _ c.in-Some.seat _ i.2 threads
-      steps c.in-Some-start.ensures.whose,
+          steps c.in-Some-start.ensures.whose,
       All-tail (λ (s : Place). s.count ≡ 0) _ _ (subst (All (λ (s : Place). s.count ≡ 0)) steps i.3),
       ends.0,
       subst (All (λ t. IsFresh of t.promise.end.value)) (sym threads)
-      (All-push (λ t. IsFresh of t.promise.end.value) c.loop-seat.threads.items c.in-Some-start.thread i.5
-      (subst (IsFresh of) (sym c.in-Some-start.ensures.end) ends.1)),
+          (All-push (λ t. IsFresh of t.promise.end.value) c.loop-seat.threads.items c.in-Some-start.thread i.5
+          (subst (IsFresh of) (sym c.in-Some-start.ensures.end) ends.1)),
     )
