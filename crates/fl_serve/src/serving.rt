@@ -1,11 +1,14 @@
 //! A whole session of the FUSE protocol with workers, over any reader and any writer.
 
-ghost use Rattle.std.specs.Prelude.{◌≡◌, ◌≤◌, ◌<◌, ◌+◌, ◌⊎◌, ◌||◌, ℕ, Bool, [], All, false, Some, length, map, sum_by, IfOk};
+ghost use Rattle.std.specs.Prelude.{◌≡◌, ◌≢◌, ◌≤◌, ◌<◌, ◌+◌, ◌⊎◌, ◌||◌, ℕ, Bool, List, [], All, Option, false, Some};
+ghost use Rattle.std.specs.Prelude.{length, map, sum_by, IfOk};
 ghost use Rattle.std.specs.List.{range_with_len};
 ghost use Rattle.std.specs.Io.KnownBytes.{Keeps};
 ghost use Rattle.fl_desk.specs.Legal.{IsLegal};
 ghost use Rattle.fl_session.specs.Inbox.{IsUnread};
+ghost use Rattle.fl_intake.specs.Ends.{weight_taken};
 ghost use Rattle.fl_intake.specs.Often.{Weight};
+ghost use Rattle.fl_serve.specs.Inside.Hearing.{HasHeard};
 ghost use Rattle.fl_serve.specs.Inside.Working.{HasAll, HaveDone, IsFresh};
 ghost use Rattle.fl_serve.specs.Serve.{HasNoHistory, IsServedBy};
 
@@ -18,7 +21,7 @@ use fl_board::{Board, BoardName, FreshLog, OpenFault, Seat};
 use fl_core::Tolds;
 use fl_intake::{Intake, Job, PutEnd};
 use fl_order::NoMemory;
-use fl_session::{Done, Fault, Inbox, ReplyBuffer};
+use fl_session::{Done, Fault, Inbox, Owed, ReplyBuffer};
 use fl_workers::{Gate, Shared, WriterName, handle_all};
 use std::alloc::Global;
 use std::io::{Read, Write};
@@ -143,26 +146,60 @@ fn serve_at<
         shared: Mutex::new(Shared::<'w, W, N>::new(replies, w)),
     };
     let (back, heard) = crew.run(r, inbox, put, posts);
+    if heard.fault == Some(Fault::NoMemory) {
+        let Crew { shared, .. } = crew;
+        let (w, _) = shared.into_inner().close(&Owed::Nothing);
+        return (Done::nothing(alloc, Fault::NoMemory), w);
+    }
+    finished(alloc, crew, back, heard, tolds)
+}
+
+// Hands in what no worker took, says goodbye, and closes the board of a session whose workers came back.
+fn finished<
+    'w,
+    L: BoardName,
+    N: WriterName,
+    R: Threads + Wait + Sync,
+    W: Write + Send + Drop,
+    G: Gate + Sync,
+>(
+    alloc: Global,
+    crew: Crew<'_, 'w, L, N, R, W, G>,
+    back: Back<L>,
+    heard: Heard,
+    tolds: Tolds,
+) -> (Done, &'w mut W)
+    requires parts { L.workers ≡ L.parts }
+    requires mine { (heard.put.of ≡ crew.intake) × All (λ end. end.of ≡ crew.intake) back.ends.items }
+    requires all { heard.put.takers ≤ length back.ends.items }
+    requires some { 0 < length back.seats.items }
+    requires whose { map (λ seat. seat.worker) back.seats.items ≡ range_with_len 0 heard.put.takers }
+    requires did { HaveDone (λ weight. weight_taken weight back.ends.items) back.seats.items back.refused }
+    ensures writer { result.1.ghost_name ≡ N.name }
+    ensures legal { IsLegal result.0.history }
+    ensures served { (left left_now : Option (List ℕ))
+        → HasHeard left left_now heard.fault heard.put.put heard.goodbye
+        → IsServedBy left left_now N.start (W.contents result.1.now) result.0 }
+    ensures memory { heard.fault ≢ Some Fault.NoMemory → result.0.fault ≢ Some Fault.NoMemory }
+{
     let Crew {
+        rt,
+        gate,
         board,
         intake,
         shared,
         ..
     } = crew;
-    let Heard {
-        put,
-        fault,
-        goodbye,
-    } = heard;
-    if fault == Some(Fault::NoMemory) {
-        let (w, _) = shared.into_inner().close(&goodbye);
-        return (Done::nothing(alloc, Fault::NoMemory), w);
-    }
     let Back {
         seats,
         ends,
         refused,
     } = back;
+    let Heard {
+        put,
+        fault,
+        goodbye,
+    } = heard;
     let Ok(left) = intake.finish(rt, put, ends) else {
         unreachable!()
     };

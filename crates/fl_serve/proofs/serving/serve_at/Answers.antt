@@ -18,27 +18,26 @@ returns-then-eq-clause-served g c =
     (rw c.requires.start c.close.ensures.sent) c.nothing-then-eq.ensures.fault c.nothing-then-eq.ensures.history
     (inl refl)
 
-pub handed_in-requires : goal.handed_in-requires
-handed_in-requires g c =
+pub finished-requires : goal.finished-requires
+finished-requires g c =
     let some : c.run-back.result.1.fault ≢ Some NoMemory = search rules in
     let worked = c.run-back.ensures.worked some in
+    let rooms = c.in-Ok.ensures in
+    let workers = ap length worked.whose in
+    let seats = ap length rooms.seats in
+    let back = length-map c.run-back.result.0.seats.items (λ (s : Place). s.worker) in
+    let there = length-map c.in-Ok.rooms.posts.seats.items (λ (s : Place). s.worker) in
+    let range = length-range_with_len 0 c.args.staff.workers in
     record {
-      some = omega (
-        arith,
-        ap length worked.whose,
-        ap length c.in-Ok.ensures.seats,
-        length-map c.run-back.result.0.seats.items (λ (s : Place). s.worker),
-        length-map c.in-Ok.rooms.posts.seats.items (λ (s : Place). s.worker),
-        length-range_with_len 0 c.args.staff.workers,
-        c.requires.workers.0,
-      );
+      parts = search rules;
+      mine = search rules;
+      all = omega (arith, worked.all, workers, seats, back, there, range, search rules);
+      some = omega (arith, workers, seats, back, there, range, c.requires.workers.0);
+      whose = search rules;
+      did = worked.did;
     }
 
 pub returns-clause-served : goal.returns-clause-served
 returns-clause-served g c =
     let some : c.run-back.result.1.fault ≢ Some NoMemory = search rules in
-    let worked = c.run-back.ensures.worked some in
-    served_by c.args.staff.workers _ _ _ _ _ _ _ _ _ _ _ _ (c.run-back.ensures.heard some)
-    (rw c.requires.start c.close.ensures.sent) (λ whole. rw c.requires.start (c.close.ensures.last whole)) _
-    c.told-told.ensures.ends c.in-Ok-finish.ensures.left (c.handed_in-seats.ensures.did _ _ worked.did)
-    (c.handed_in-seats.ensures.whose ∙ worked.whose ∙ c.in-Ok.ensures.seats) c.closed.ensures.told
+    rw c.requires.start (c.finished.ensures.served _ _ (c.run-back.ensures.heard some))
