@@ -82,7 +82,7 @@ impl Intake {
     pub fn put<R: Wait>(&self, rt: &R, end: &mut PutEnd, job: Job) -> Result<(), Closed>
         requires end { end.old.of ≡ self.now }
         ensures of { (end.new.of ≡ end.old.of) × (end.new.takers ≡ end.old.takers) }
-        ensures open { end.new.closed ≡ end.old.closed }
+        ensures state { end.new.closed ≡ end.old.closed }
         ensures put { MatchResult result (λ _. end.new.put ≡ end.old.put ++ job ∷ [])
             (λ closed. (closed.job ≡ job) × (end.new ≡ end.old)) }
         ensures closed { IsErr result ↔ (end.old.closed ≡ true) }
@@ -104,7 +104,7 @@ impl Intake {
     fn put_if_room<R: Wait>(&self, rt: &R, end: &mut PutEnd, job: &Job) -> bool
         requires end { end.old.of ≡ self.now }
         ensures of { (end.new.of ≡ end.old.of) × (end.new.takers ≡ end.old.takers) }
-        ensures open { end.new.closed ≡ end.old.closed }
+        ensures state { end.new.closed ≡ end.old.closed }
         ensures done { result ≡ true → end.new.put ≡ end.old.put ++ job.now ∷ [] }
         ensures full { result ≡ false → end.new ≡ end.old }
     {
