@@ -24,4 +24,4 @@ returns-clause-did g c =
       | in-Some+in_default w ↦ ap (λ (e : TakeSide). e.taken) w.end-is ∙ w.next_job.ensures.taken
         ∙ ap (λ r. c.loop.end.taken ++ option_to_list r) w.in_default.is ∙ append-nil c.loop.end.taken ] in
     let i = c.loop.invariant.2 in
-    has_done _ _ _ _ _ _ _ _ c.requires.fresh (i.0, same ∙ i.1, i.2)
+    has_done _ _ _ _ _ _ _ c.requires.fresh (i.0, same ∙ i.1, i.2)
