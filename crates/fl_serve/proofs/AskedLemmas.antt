@@ -1,5 +1,5 @@
 -- What a history asks for all of its workers is what it asks.
-use Rattle.std.proofs.Common.{◌≡◌, ℕ, suc, ◌+◌, ◌≤◌, ◌==◌, Bool, true, false, List, [], ◌∷◌, ◌++◌, All, length, map, sum_by, refl, sym, ap, ◌∙◌, subst, arith, append-nil, append_assoc, length-append, ⊎_elim}
+use Rattle.std.proofs.Common.{◌≡◌, ℕ, zero, suc, ◌+◌, ◌≤◌, ◌==◌, Bool, true, false, List, [], ◌∷◌, ◌++◌, All, length, map, sum_by, refl, sym, ap, ◌∙◌, subst, arith, append-nil, append_assoc, length-append, ⊎_elim}
 use Rattle.std.proofs.lemmas.Bool.Decides.{eqb_tells, leb_tells}
 use Rattle.std.proofs.lemmas.List.Elements.{All-head, All-tail}
 use Rattle.std.proofs.lemmas.List.Sums.{sum_by-append, sum_by-cons}
@@ -52,11 +52,21 @@ asked_on worker own lines begins =
     rw (← append-nil (asked_by worker own), ← begins.1, asked_more worker own begins.0)
     (sublist.append (sublist.refl (asked_by worker own)) (sublist.nil-sublist (asked_by worker begins.0)))
 
+shorter : {xs ys : Orders} → Sublistᴰ xs ys → length xs ≤ length ys
+shorter sublist.slnil = omega arith
+shorter (sublist.cons s) = let less = shorter s in omega (arith, less)
+shorter (sublist.cons-cons e s) = let less = shorter s in omega (arith, less)
+
+all_of : {xs ys : Orders} → Sublistᴰ xs ys → length ys ≤ length xs → xs ≡ ys
+all_of sublist.slnil long = refl
+all_of (sublist.cons s) long = absurd (omega (arith, shorter s, long))
+all_of (sublist.cons-cons e s) long = λ i. e i ∷ all_of s (omega (arith, long)) i
+
 handed_is : (lines : List Line) (post : Post) → IsCounted post → HasAllOf lines post.place
     → post.handed ≡ asked_by post.place.worker lines
-handed_is lines post counted has = sublist.eq_of_length
+handed_is lines post counted has = all_of
     (sublist.trans counted.among (asked_on post.place.worker post.place.own lines has.had))
-    (counted.counted ∙ sym has.count ∙ sym (as_many_by post.place.worker lines))
+    (omega (arith, counted.counted, has.count, as_many_by post.place.worker lines))
 
 -- what the lines ask for the workers of these places, weighed
 abbrev asked_at : Weight → List Line → List Place → ℕ
@@ -80,15 +90,12 @@ handed_is_asked weight lines (p ∷ posts) counted has =
 
 -- ---- the workers of a range, and those above
 
-order_above : ℕ → Line → Orders
+abbrev order_above : ℕ → Line → Orders
 order_above k (line.Asked asker order) = if leb k asker then order ∷ [] else []
 order_above k (line.Told told) = []
 
-above : ℕ → List Line → Orders
+abbrev above : ℕ → List Line → Orders
 above k lines = flat_map (order_above k) lines
-
-weigh_if : (weight : Weight) (order : Order) (b : Bool) → ℕ
-weigh_if weight order b = sum_by weight (if b then order ∷ [] else [])
 
 one_or_above : (weight : Weight) (k : ℕ) (l : Line)
     → sum_by weight (order_above k l) ≡ sum_by weight (order_asked_by k l) + sum_by weight (order_above (k + 1) l)
@@ -122,9 +129,12 @@ those_or_above weight k (l ∷ lines) = omega (
 range_or_above : (weight : Weight) (lines : List Line) (k n : ℕ) (places : List Place)
     → map (λ (p : Place). p.worker) places ≡ range_with_len k n
     → sum_by weight (above k lines) ≡ asked_at weight lines places + sum_by weight (above (k + n) lines)
-range_or_above weight lines k 0 [] each = ap (λ n. sum_by weight (above n lines)) (omega arith)
+range_or_above weight lines k zero [] each = omega (arith, ap (λ m. sum_by weight (above m lines)) (no_more k))
+  where
+    no_more : (k : ℕ) → k ≡ k + zero
+    no_more k = omega arith
 range_or_above weight lines k (suc n) [] each = absurd (nil≢cons each)
-range_or_above weight lines k 0 (p ∷ places) each = absurd (nil≢cons (sym each))
+range_or_above weight lines k zero (p ∷ places) each = absurd (nil≢cons (sym each))
 range_or_above weight lines k (suc n) (p ∷ places) each =
     omega (
       arith,
@@ -146,7 +156,7 @@ above_none (line.Asked asker order ∷ lines) = ⊎_elim
 
 -- ---- each order is some worker's
 
-ones : Weight
+abbrev ones : Weight
 ones order = 1
 
 weighs_its_length : (orders : Orders) → sum_by ones orders ≡ length orders

@@ -79,7 +79,7 @@ hearing_first left talk put goodbye inbox agreed live none unread = record {
   came = [];
   is_read = unread.unread left;
   far = record { agreed = sym agreed; over = sym live };
-  put = none;
+  said = none;
   over = λ over. cc;
 }
 
@@ -97,8 +97,8 @@ hearing_more left left_now old new put put_now goodbye goodbye_now message rest 
       is_read = takes.onward left left_now before.came false (before.far.over ∙ live) before.is_read;
       far = subst (λ s. IsThisFar s new) (sym (fold-append with_message opening_session before.came (c ∷ [])))
           (heard (session_of before.came) before.far);
-      put = puts (session_of before.came) before.far
-          ∙ ap (λ l. l ++ order_said (session_of before.came) message) before.put
+      said = puts (session_of before.came) before.far
+          ∙ ap (λ l. l ++ order_said (session_of before.came) message) before.said
           ∙ sym (said_one_more before.came c);
       over = λ over. record { front = before.came; last = c; parts = refl; owed = ends over };
     }

@@ -60,7 +60,7 @@ asked_as_said workers came put orders places any fault done said is did whose al
     sum_by-append weight did.looked did.refused,
   );
   reads = did.reads;
-  none = λ e. did.none (sym all.refused ∙ e);
+  none = λ e. did.none (sym all.tells ∙ e);
 }
 
 -- what a session did whose reader ended
@@ -82,9 +82,9 @@ served_by workers left left_now held held_now fault put goodbye broken any order
       bounded = heard.bounded;
       sent = sent;
       goodbye = λ whole over. record { goodbye = goodbye; last = heard.over over; sent = last whole };
-      ending = ⊎_elim (λ all. inl (rw all.fault (ends heard.came heard.rest left_now heard.ending))) inr closed;
+      ending = ⊎_elim (λ all. inl (rw all.told (ends heard.came heard.rest left_now heard.ending))) inr closed;
       orders = ⊎_elim
-          (λ all. inl (asked_as_said workers heard.came put orders places any told done heard.put is did whose all)) inr closed;
+          (λ all. inl (asked_as_said workers heard.came put orders places any told done heard.said is did whose all)) inr closed;
     }
 
 -- what a session did that had no memory, or no reader

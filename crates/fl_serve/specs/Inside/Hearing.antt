@@ -34,7 +34,7 @@ pub record IsHearing (left left_now : Option (List ℕ)) (talk : Talk) (put : Or
   pub came : List Came
   pub is_read : IsRead left left_now came rest
   pub far : IsThisFar (session_of came) talk
-  pub put : put ≡ said_in came
+  pub said : put ≡ said_in came
   pub over : talk.over ≡ true → IsLast came goodbye
 
 -- The reader ended, with this fault, and put the orders of the messages. Where the session is over, this is owed to the last.
@@ -45,5 +45,5 @@ pub record HasHeard (left left_now : Option (List ℕ)) (fault : Option Fault) (
   pub is_read : IsRead left left_now came rest
   pub bounded : length rest ≤ 8192
   pub ending : IsEnding fault (session_of came).over rest left_now
-  pub put : put ≡ said_in came
+  pub said : put ≡ said_in came
   pub over : (session_of came).over ≡ true → IsLast came goodbye

@@ -49,7 +49,7 @@ pub record HaveWorked (places back : List Place) (ends : List TakeSide) (any : B
 
 -- What came of a session: its history has all that was handed in at these places, and no other order.
 pub record HasAll (places : List Place) (refused : Bool) (fault : Option Fault) (done : Done) : Type 0 where
-  pub fault : done.fault ≡ fault
-  pub refused : done.refused ≡ refused
+  pub told : done.fault ≡ fault
+  pub tells : done.refused ≡ refused
   pub each : All (HasAllOf done.history) places
   pub counted : orders_asked done.history ≡ sum_by (λ place. place.count) places

@@ -67,7 +67,7 @@ impl<'r, 'a, 'w, R: Wait, W: Write, N: WriterName> Hearer<'r, 'a, 'w, R, W, N> {
         requires unread { IsUnread inbox.old }
         requires fresh { (self.talk.agreed ≡ false) × (self.talk.over ≡ false) × (self.put.put ≡ []) }
         ensures heard { HasHeard (I.remaining r.old) (I.remaining r.new) result.fault result.put.put result.goodbye }
-        ensures same { (result.put.of ≡ self.put.of) × (result.put.takers ≡ self.put.takers) }
+        ensures same { (result.put.of ≡ self.entry.put.of) × (result.put.takers ≡ self.entry.put.takers) }
         ensures memory { result.fault ≢ Some Fault.NoMemory }
     {
         let mut hearer = self;

@@ -1,5 +1,5 @@
 use Rattle.std.proofs.Common.{rules, ◌≡◌, All, ap, ◌∙◌, sym, subst, ◌++◌}
-use Rattle.std.specs.Prelude.{option_to_list}
+use Rattle.std.specs.Prelude.{Some, option_to_list}
 use Rattle.std.specs.declared.thread.PromisedHandle.{PromisedHandle}
 use Rattle.std.proofs.lemmas.List.Elements.{All-head, All-tail, All-pop, All-push}
 use Rattle.fl_board.specs.Seats.{Place}
@@ -14,7 +14,7 @@ loop-seat-preserved g c =
     let threads = c.push_reserved.ensures.items in
     let of = c.args.self.now.intake in
     let popped = c.pop.ensures.items ∙ ap (λ r. c.pop.new.self.items ++ option_to_list r) c.in-Some-pop.is in
-    let ends = All-pop (IsFresh of) _ _ _ popped i.4 in (
+    let ends = All-pop (IsFresh of) _ _ (Some c.in-Some-pop.end) popped i.4 in (
       search rules,
       search rules,
       moves (λ t. t.promise.worker) (λ (s : Place). s.worker) _ _ c.in-Some-start.thread _ _ c.in-Some.seat _ i.2 threads
