@@ -1,6 +1,5 @@
 //! Random orders through a core. A plain program says which replies they get.
 
-mod orders;
 mod plain;
 mod plain_circles;
 mod plain_locks;
@@ -8,14 +7,36 @@ mod random;
 mod waiting_random;
 
 use fl_core::{Core, Tolds};
-use fl_order::{Answer, Errno, Order, Told};
+use fl_order::{Answer, Errno, Name, Op, Order, Told};
 use std::alloc::Global;
 use std::process::Abort;
+
+const READ: u32 = 0;
+
+const WRITE: u32 = 1;
+
+const UNLOCK: u32 = 2;
 
 // What an order is answered.
 type Reply = Result<Answer, Errno>;
 
-// A core, and the replies to its last order.
+// An order of user 5 and group 6.
+fn order(unique: u64, node: u64, op: Op) -> Order {
+    Order {
+        unique,
+        node,
+        uid: 5,
+        gid: 6,
+        pid: 0,
+        op,
+    }
+}
+
+fn name(rt: &impl Abort, bytes: &[u8]) -> Name {
+    Name::new(bytes).expect(rt, "no name")
+}
+
+// A core, and room for the replies to an order.
 #[derive(Drop)]
 struct Server {
     core: Core,
@@ -33,48 +54,11 @@ impl Server {
     // Nothing more is asked. It is proved here once, and not in each test, that a server can go.
     fn end(self) {}
 
-    // Takes an order. If it only reads, it is answered the same without a step, before it and after. If not, it isn't
-    // answered so.
-    fn take(&mut self, rt: &impl Abort, order: &Order) {
-        let before = self.core.answer(order);
-        self.core.step(order, &mut self.tolds);
-        let after = self.core.answer(order);
-        if order.only_reads() {
-            assert_answer(rt, order.unique, before, self.tolds.as_slice());
-            assert_answer(rt, order.unique, after, self.tolds.as_slice());
-        } else {
-            assert!(rt; before.is_none() && after.is_none());
-        }
-    }
-
     // The order gives these replies.
-    fn tells(&mut self, rt: &impl Abort, order: &Order, tolds: &[Told]) {
-        self.take(rt, order);
-        assert_tolds(rt, order.unique, self.tolds.as_slice(), tolds);
+    fn tells(&mut self, rt: &impl Abort, order: &Order, wanted: &[Told]) {
+        self.core.step(order, &mut self.tolds);
+        assert_tolds(rt, order.unique, self.tolds.as_slice(), wanted);
     }
-
-    // The order gives one reply, its own.
-    fn gives(&mut self, rt: &impl Abort, order: &Order, reply: Reply) {
-        self.tells(rt, order, &[told(order.unique, reply)]);
-    }
-
-    // The order gives no reply.
-    fn is_silent(&mut self, rt: &impl Abort, order: &Order) {
-        self.tells(rt, order, &[]);
-    }
-}
-
-fn told(unique: u64, reply: Reply) -> Told {
-    Told {
-        unique,
-        result: reply,
-    }
-}
-
-// The order is answered so, and is told the same and nothing else.
-fn assert_answer(rt: &impl Abort, unique: u64, answer: Option<Reply>, tolds: &[Told]) {
-    let wanted = told(unique, answer.expect(rt, "no answer"));
-    assert_tolds(rt, unique, tolds, &[wanted]);
 }
 
 fn assert_tolds(rt: &impl Abort, unique: u64, found: &[Told], wanted: &[Told]) {

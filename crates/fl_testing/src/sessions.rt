@@ -2,22 +2,33 @@
 //! The fields of each message stand in the order of `fuse.h`: of a request len, opcode, unique, nodeid, uid, gid, pid,
 //! padding and the body; of a reply len, error, unique and the body.
 
+ghost use Rattle.std.specs.Prelude.{◌≡◌, ◌+◌, ◌*◌, length};
+ghost use Rattle.std.specs.Str.Lines.{lines};
+
 /// An INIT 7.31 that asks for no readahead and no flags.
-pub fn init() -> &'static str {
+pub fn init() -> &'static str
+    // 56 bytes in hex, as its first field says, and a newline.
+    ensures { length result.now ≡ 2 * 56 + 1 }
+{
     "\
 380000001a0000000100000000000000000000000000000000000000000000000000000000000000\
 070000001f0000000000000000000000\n"
 }
 
 /// Its reply: 7, 31, 0, 0, 16 and 12 requests, writes of 4096 bytes, times by the nanosecond.
-pub fn init_reply() -> &'static str {
+pub fn init_reply() -> &'static str
+    // 80 bytes in hex, as its first field says, and a newline.
+    ensures { length result.now ≡ 2 * 80 + 1 }
+{
     "\
 50000000000000000100000000000000070000001f000000000000000000000010000c0000100000\
 01000000000000000000000000000000000000000000000000000000000000000000000000000000\n"
 }
 
 /// What goes on from that INIT.
-pub fn two_locks() -> &'static str {
+pub fn two_locks() -> &'static str
+    ensures { length (lines result.now) ≡ 10 }
+{
     "\
 # a read lock under another's write lock
 CREATE of `a`, mode octal 644; SETLK of a write lock on bytes 0 to 9 by owner 7, pid 11; SETLK of a read lock on byte 9

@@ -1,9 +1,8 @@
 //! A plain program of locks and of waiting: marks stand in a grid of bytes, and parked requests in a list. It has no
 //! limits.
 
-use super::Reply;
-use super::orders::{READ, UNLOCK, WRITE};
 use super::plain::Plain;
+use super::{READ, Reply, UNLOCK, WRITE};
 use fl_core::Request;
 use fl_order::{Answer, Errno, LockAsk, Op, Order, Told};
 use std::alloc::Global;

@@ -1,9 +1,8 @@
 //! Random orders on names, nodes and open files, beside a plain directory.
 
-use super::Server;
-use super::orders::{name, order};
 use super::plain::Plain;
-use fl_order::{Name, Op, Order};
+use super::{Server, name, order};
+use fl_order::{Name, Op, Order, Told};
 use fl_testing::Numbers;
 use std::alloc::Global;
 use std::process::Abort;
@@ -109,9 +108,10 @@ fn compare_files(rt: &impl Abort, server: &mut Server, plain: &mut Plain, node: 
 }
 
 fn compare(rt: &impl Abort, server: &mut Server, plain: &mut Plain, order: &Order) {
+    let unique = order.unique;
     match plain.reply(rt, order) {
-        Some(reply) => server.gives(rt, order, reply),
-        None => server.is_silent(rt, order),
+        Some(result) => server.tells(rt, order, &[Told { unique, result }]),
+        None => server.tells(rt, order, &[]),
     }
 }
 

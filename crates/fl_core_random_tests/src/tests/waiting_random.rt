@@ -1,8 +1,7 @@
 //! Random orders on locks, many of which wait, beside a plain program of locks.
 
-use super::Server;
-use super::orders::{READ, UNLOCK, WRITE, create, name, order, release};
 use super::plain_locks::{Counts, LAST, OWNERS, PlainLocks, request_of};
+use super::{READ, Server, UNLOCK, WRITE, name, order};
 use fl_core::Core;
 use fl_order::{Errno, LockAsk, Op, Order};
 use fl_ranges::{Class, Key, Kind, Range};
@@ -155,7 +154,11 @@ fn random_file_op(numbers: &mut Numbers, plain: &PlainLocks, fh: u64) -> Op {
     let owner = numbers.below(OWNERS);
     match numbers.below(13) {
         0..=2 => Op::Flush { fh, owner },
-        3 => release(fh, numbers.below(2) == 0, owner),
+        3 => Op::Release {
+            fh,
+            drop: numbers.below(2) == 0,
+            owner,
+        },
         4..=8 => Op::Interrupt(random_unique(numbers, plain, 7)),
         9 => Op::Getattr,
         _ => Op::Getlk(random_lock(numbers, fh)),
@@ -198,8 +201,17 @@ fn run(rt: &impl Abort, alloc: Global, seed: u64, turns: u64) -> Counts {
 }
 
 fn make_files(rt: &impl Abort, server: &mut Server, plain: &mut PlainLocks) {
-    compare(rt, server, plain, &create(true, name(rt, b"a")));
-    compare(rt, server, plain, &create(true, name(rt, b"b")));
+    make(rt, server, plain, b"a");
+    make(rt, server, plain, b"b");
+}
+
+fn make(rt: &impl Abort, server: &mut Server, plain: &mut PlainLocks, bytes: &[u8]) {
+    let op = Op::Create {
+        excl: true,
+        mode: 0o644,
+        name: name(rt, bytes),
+    };
+    compare(rt, server, plain, &order(1, 1, op));
 }
 
 // The uniques of all turns.
@@ -227,8 +239,12 @@ fn close_all(rt: &impl Abort, server: &mut Server, plain: &mut PlainLocks) {
 
 fn close(rt: &impl Abort, server: &mut Server, plain: &mut PlainLocks, fh: u64) {
     if let Some(node) = plain.directory.node_of(fh) {
-        let closed = order(u64::MAX, node, release(fh, false, 0));
-        compare(rt, server, plain, &closed);
+        let op = Op::Release {
+            fh,
+            drop: false,
+            owner: 0,
+        };
+        compare(rt, server, plain, &order(u64::MAX, node, op));
     }
 }
 

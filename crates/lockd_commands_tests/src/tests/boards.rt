@@ -3,9 +3,11 @@
 ghost use Rattle.std.specs.Prelude.{◌≡◌};
 
 use super::scripts::files::{names_and_nodes, open_files_and_locks};
-use super::scripts::limits::{all_files_open, full_directory, longest_name, no_room_for_locks};
+use super::scripts::limits::{
+    all_files_open, full_directory, longest_name, no_room_for_locks, no_room_to_wait,
+};
 use super::scripts::locks::locks_and_files;
-use super::scripts::waiting::requests_that_wait;
+use super::scripts::waiting::{an_owner_waits_twice, requests_that_wait};
 use fl_book::{
     Board, BoardName, FreshLog, History, Line, Seat, Verdict, check, print_trace, read_trace,
 };
@@ -125,7 +127,8 @@ fn stored_scripts_at_a_board(rt: HostRuntime) {
     assert_eq!(rt; board_answers_all(&rt, alloc, locks_and_files()), 12);
     assert_eq!(rt; board_answers_all(&rt, alloc, names_and_nodes()), 3);
     assert_eq!(rt; board_answers_all(&rt, alloc, open_files_and_locks()), 3);
-    assert_eq!(rt; board_answers_all(&rt, alloc, requests_that_wait()), 10);
+    assert_eq!(rt; board_answers_all(&rt, alloc, requests_that_wait()), 9);
+    assert_eq!(rt; board_answers_all(&rt, alloc, an_owner_waits_twice()), 1);
 }
 
 #[test]
@@ -135,4 +138,9 @@ fn limits_at_a_board(rt: HostRuntime) {
     board_answers(&rt, alloc, &all_files_open(&rt, alloc));
     board_answers(&rt, alloc, &no_room_for_locks(&rt, alloc));
     board_answers(&rt, alloc, &longest_name(&rt, alloc));
+}
+
+#[test]
+fn requests_that_wait_at_a_board(rt: HostRuntime) {
+    board_answers(&rt, rt.alloc(), &no_room_to_wait(&rt, rt.alloc()));
 }

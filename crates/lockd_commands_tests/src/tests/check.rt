@@ -93,35 +93,11 @@ fn traces_that_differ(rt: HostRuntime) {
     assert_eq!(rt; count, 5);
 }
 
-// With the option a second line says whether the trace is quiet.
-const QUIET_AND_NOT: &str = "\
+// With the option a second line says whether the trace is quiet. What it says of the worked traces stands with their scripts.
+const WITH_THE_OPTION: &str = "\
 # nothing
 < legal
 < quiet
-# a conflict is told at once
-> ask 0 1 1 0 0 0 create 0 420 61
-> tell 1 made 2 33188 1 0 0 1
-> ask 0 2 2 0 0 0 setlk 1 7 0 9 1 11 0
-> tell 2 ok
-> ask 0 3 2 0 0 0 setlk 1 8 9 9 0 12 0
-> tell 3 err 11
-< legal
-< quiet
-# two requests of one owner wait
-> ask 0 1 1 0 0 0 create 0 420 61
-> tell 1 made 2 33188 1 0 0 1
-> ask 0 2 2 0 0 0 setlk 1 7 0 0 1 11 0
-> tell 2 ok
-> ask 0 3 2 0 0 0 setlk 1 8 1 1 1 12 0
-> tell 3 ok
-> ask 0 4 2 0 0 0 setlk 1 9 5 5 1 13 0
-> tell 4 ok
-> ask 0 5 2 0 0 0 setlkw 1 7 5 5 1 11 0
-> ask 0 6 2 0 0 0 setlkw 1 7 1 1 1 11 0
-> ask 0 7 2 0 0 0 setlkw 1 8 0 0 1 12 0
-> tell 7 err 35
-< legal
-< not quiet
 # a bad line
 > ask 0 1 1 0 0 0 open
 > x
@@ -129,13 +105,13 @@ const QUIET_AND_NOT: &str = "\
 ";
 
 #[test]
-fn quiet_traces_and_others(rt: HostRuntime) {
+fn stored_traces_with_the_option(rt: HostRuntime) {
     let found = run_cases(
         &rt,
         rt.alloc(),
         Command::CheckQuiet,
         ("", ""),
-        QUIET_AND_NOT,
+        WITH_THE_OPTION,
     );
-    assert_eq!(rt; found, 4);
+    assert_eq!(rt; found, 2);
 }

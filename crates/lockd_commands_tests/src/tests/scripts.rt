@@ -9,11 +9,11 @@ pub(super) mod waiting;
 use super::{Command, is, refuse_lines, run};
 use bad_lines::BAD_LINES;
 use files::{names_and_nodes, open_files_and_locks};
-use limits::{all_files_open, full_directory, longest_name, no_room_for_locks};
+use limits::{all_files_open, full_directory, longest_name, no_room_for_locks, no_room_to_wait};
 use locks::locks_and_files;
 use std::alloc::Global;
 use std::process::Abort;
-use waiting::requests_that_wait;
+use waiting::{an_owner_waits_twice, requests_that_wait};
 
 // The ask lines of a trace.
 fn asks_of(rt: &impl Abort, alloc: Global, trace: &str) -> Vec<u8> {
@@ -28,20 +28,30 @@ fn asks_of(rt: &impl Abort, alloc: Global, trace: &str) -> Vec<u8> {
     script
 }
 
-// A script is the ask lines of the trace that is wanted for it.
-fn answers(rt: &impl Abort, alloc: Global, what: &str, trace: &str) {
+// A script is the ask lines of the trace that is wanted for it. That trace is legal, and it is quiet or not.
+fn answers(rt: &impl Abort, alloc: Global, what: &str, trace: &str, quiet: bool) {
     let script = asks_of(rt, alloc, trace);
     let came = run(Command::Script, alloc, &script);
     is(rt, what, &came, trace, "");
+    let judged = run(Command::CheckQuiet, alloc, trace.as_bytes());
+    is(rt, what, &judged, verdict(quiet), "");
 }
 
-// Runs the scripts of the traces in a stored text, and says how many there are. A line of `# ` and a title stands before
-// each.
-fn all_answer(rt: &impl Abort, alloc: Global, traces: &str) -> usize {
+fn verdict(quiet: bool) -> &'static str {
+    if quiet {
+        "legal\nquiet\n"
+    } else {
+        "legal\nnot quiet\n"
+    }
+}
+
+// Runs the scripts of the traces in a stored text, which are all quiet or all not, and says how many there are. A line of
+// `# ` and a title stands before each.
+fn all_answer(rt: &impl Abort, alloc: Global, traces: &str, quiet: bool) -> usize {
     let mut count = 0usize;
     for case in traces.split('#') {
         if let Some((what, trace)) = case.split_once('\n') {
-            answers(rt, alloc, what, trace);
+            answers(rt, alloc, what, trace, quiet);
             count = count.saturating_add(1);
         }
     }
@@ -51,11 +61,12 @@ fn all_answer(rt: &impl Abort, alloc: Global, traces: &str) -> usize {
 #[test]
 fn stored_scripts(rt: HostRuntime) {
     let alloc = rt.alloc();
-    answers(&rt, alloc, "an empty script", "");
-    assert_eq!(rt; all_answer(&rt, alloc, locks_and_files()), 12);
-    assert_eq!(rt; all_answer(&rt, alloc, names_and_nodes()), 3);
-    assert_eq!(rt; all_answer(&rt, alloc, open_files_and_locks()), 3);
-    assert_eq!(rt; all_answer(&rt, alloc, requests_that_wait()), 10);
+    answers(&rt, alloc, "an empty script", "", true);
+    assert_eq!(rt; all_answer(&rt, alloc, locks_and_files(), true), 12);
+    assert_eq!(rt; all_answer(&rt, alloc, names_and_nodes(), true), 3);
+    assert_eq!(rt; all_answer(&rt, alloc, open_files_and_locks(), true), 3);
+    assert_eq!(rt; all_answer(&rt, alloc, requests_that_wait(), true), 9);
+    assert_eq!(rt; all_answer(&rt, alloc, an_owner_waits_twice(), false), 1);
 }
 
 #[test]
@@ -66,15 +77,42 @@ fn scripts_that_reach_a_limit(rt: HostRuntime) {
         alloc,
         "no more nodes, then files",
         &full_directory(&rt, alloc),
+        true,
     );
     answers(
         &rt,
         alloc,
         "no more open files",
         &all_files_open(&rt, alloc),
+        true,
     );
-    answers(&rt, alloc, "4,096 runs", &no_room_for_locks(&rt, alloc));
-    answers(&rt, alloc, "a name of 255 bytes", &longest_name(&rt, alloc));
+    answers(
+        &rt,
+        alloc,
+        "4,096 runs",
+        &no_room_for_locks(&rt, alloc),
+        true,
+    );
+    answers(
+        &rt,
+        alloc,
+        "a name of 255 bytes",
+        &longest_name(&rt, alloc),
+        true,
+    );
+}
+
+// The owner of one of the 256 requests that wait asks for another lock.
+#[test]
+fn a_script_with_256_requests_that_wait(rt: HostRuntime) {
+    let alloc = rt.alloc();
+    answers(
+        &rt,
+        alloc,
+        "256 requests wait",
+        &no_room_to_wait(&rt, alloc),
+        false,
+    );
 }
 
 const GOOD: &str = "ask 0 1 1 0 0 0 create 0 420 61\n";

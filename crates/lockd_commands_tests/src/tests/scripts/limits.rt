@@ -1,4 +1,4 @@
-//! The limits of the directory, and the traces that are wanted of scripts that reach them.
+//! The limits, and the traces that are wanted of scripts that reach them.
 
 use std::alloc::Global;
 use std::io::Write;
@@ -101,6 +101,50 @@ ask 0 4101 2 0 0 0 setlk 1 7 0 16383 1 11 0
 tell 4101 ok
 ask 0 4102 2 0 0 0 getlk 1 8 9 9 0 12 0
 tell 4102 lock 0 16383 1 11
+";
+
+/// 256 requests wait, and no more can. An interrupt makes room for one. One that would close a circle is told so, whether there
+/// is room or not. Closing the file ends them all.
+pub(crate) fn no_room_to_wait(rt: &impl Abort, alloc: Global) -> String {
+    let mut trace = String::new(alloc);
+    push_filled(rt, &mut trace, ONE_FILE, &[1]);
+    push_filled(rt, &mut trace, ONE_LOCK, &[]);
+    for unique in 3..259u32 {
+        push_filled(rt, &mut trace, ONE_WAITS, &[unique, 1000 + unique]);
+    }
+    push_filled(rt, &mut trace, ALL_WAIT, &[]);
+    for unique in 3..258u32 {
+        push_filled(rt, &mut trace, ENDED, &[unique]);
+    }
+    push_filled(rt, &mut trace, ENDED, &[263]);
+    trace
+}
+
+const ONE_LOCK: &str = "\
+ask 0 2 2 0 0 0 setlk 1 7 0 0 1 11 0
+tell 2 ok
+";
+
+const ONE_WAITS: &str = "\
+ask 0 A 2 0 0 0 setlkw 1 B 0 0 1 12 0
+";
+
+const ALL_WAIT: &str = "\
+ask 0 259 2 0 0 0 setlk 1 1003 5 5 1 12 0
+tell 259 ok
+ask 0 260 2 0 0 0 setlkw 1 7 5 5 1 11 0
+tell 260 err 35
+ask 0 261 2 0 0 0 setlkw 1 2000 0 0 1 12 0
+tell 261 err 37
+ask 0 262 2 0 0 0 interrupt 258
+tell 258 err 4
+ask 0 263 2 0 0 0 setlkw 1 2000 0 0 1 12 0
+ask 0 264 2 0 0 0 release 1 0 0
+tell 264 ok
+";
+
+const ENDED: &str = "\
+tell A err 9
 ";
 
 /// A name of 255 bytes.

@@ -130,6 +130,12 @@ ask 0 6 2 0 0 0 setlkw 1 8 2 2 1 12 0
 ask 0 7 2 0 0 0 setlkw 1 10 1 1 1 14 0
 ask 0 8 2 0 0 0 setlkw 1 9 0 0 1 13 0
 tell 8 err 35
+"
+}
+
+/// An owner has two requests that wait.
+pub(crate) fn an_owner_waits_twice() -> &'static str {
+    "\
 # a circle goes through the second of an owner's two requests
 ask 0 1 1 0 0 0 create 0 420 61
 tell 1 made 2 33188 1 0 0 1

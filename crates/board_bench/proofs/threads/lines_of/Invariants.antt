@@ -1,4 +1,4 @@
-use Rattle.board_bench.proofs.looks.looked.Given as goal
+use Rattle.board_bench.proofs.threads.lines_of.Given as goal
 
 abbrev pub ghosts-at_a_board-L-BoardName : goal.ghosts-at_a_board-L-BoardName
 ghosts-at_a_board-L-BoardName g a = record { workers = a.blank.parts }

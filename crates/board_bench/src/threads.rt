@@ -1,13 +1,11 @@
-//! Looks at a board from several threads, or answers of a core that no other thread has.
+//! Threads at a board, which hand orders in or look.
 
-ghost use Rattle.std.specs.Prelude.{◌≡◌, ◌+◌, ◌<◌, ◌≤◌, true};
-ghost use Rattle.fl_order.specs.Order.{only_reads};
+ghost use Rattle.std.specs.Prelude.{◌≡◌, ◌<◌, ◌≤◌};
 
-use crate::{create, lock, order};
+use crate::{ask, create, lock};
 use anyhow::anyhow;
 use fl_book::{Board, BoardName, FreshLog, Seat};
-use fl_core::{Core, Tolds};
-use fl_order::{LockAsk, Op, Order};
+use fl_core::Tolds;
 use std::alloc::Global;
 use std::marker::Brand;
 use std::sync::Wait;
@@ -16,44 +14,56 @@ use std::sync::ledger::Blank;
 use std::thread;
 use std::thread::{JoinHandle, Scope, Threads};
 
-// Who would keep owner 100 from a write lock on byte 0.
-fn ask() -> Order
-    ensures { only_reads result.op ≡ true }
+/// What each thread does.
+#[derive(Clone, Copy)]
+pub(crate) enum Task {
+    /// It hands orders in.
+    HandsIn,
+    /// It looks.
+    Looks,
+    /// It looks, while one thread more hands in.
+    LooksBeside,
+}
+
+// How many workers look and how often each, and how many orders each of the others hands in at most.
+#[derive(Clone, Copy)]
+struct Plan {
+    lookers: u32,
+    looks: u64,
+    orders: u64,
+}
+
+// The plan of threads that do their task so often, all together.
+fn plan_of(threads: u32, task: Task, times: u64) -> Plan
+    requires { 0 < threads }
 {
-    let ask = LockAsk {
-        fh: 1,
-        owner: 100,
-        start: 0,
-        end: 0,
-        kind: 1,
-        pid: 11,
-        flags: 0,
-    };
-    order(1, 2, Op::Getlk(ask))
-}
-
-// A core answers, so many times.
-fn at_a_core(alloc: Global, looks: u64) -> anyhow::Result<usize> {
-    let mut core = Core::new(alloc)?;
-    let mut tolds = Tolds::new(alloc)?;
-    core.step(&create(), &mut tolds);
-    let ask = ask();
-    let mut answers = 0usize;
-    for _ in 0..looks {
-        if core.answer(&ask).is_some() {
-            answers = answers.wrapping_add(1);
-        }
+    let each = times / u64::from(threads);
+    match task {
+        Task::HandsIn => Plan {
+            lookers: 0,
+            looks: 0,
+            orders: each,
+        },
+        Task::Looks => Plan {
+            lookers: threads,
+            looks: each,
+            orders: 0,
+        },
+        Task::LooksBeside => Plan {
+            lookers: threads,
+            looks: each,
+            orders: u64::MAX,
+        },
     }
-    Ok(answers)
 }
 
-// What the threads share: the board, how often each of them looks, and how many of them still do.
+// What the threads share: the board, the plan, and how many of them still look.
 #[derive(Drop)]
 struct Crew<'a, L: BoardName, R: Wait> {
     rt: &'a R,
     alloc: Global,
     board: Board<L, &'a R>,
-    looks: u64,
+    plan: Plan,
     looking: AtomicU32,
 }
 
@@ -61,7 +71,7 @@ struct Crew<'a, L: BoardName, R: Wait> {
 fn look<L: BoardName, R: Wait>(crew: &Crew<'_, L, R>, seat: Seat<L>) -> Seat<L> {
     let mut seat = seat;
     let ask = ask();
-    for _ in 0..crew.looks {
+    for _ in 0..crew.plan.looks {
         if seat.look(&ask).is_err() {
             break;
         }
@@ -70,14 +80,19 @@ fn look<L: BoardName, R: Wait>(crew: &Crew<'_, L, R>, seat: Seat<L>) -> Seat<L> 
     seat
 }
 
-// Hands orders in until no thread looks any more.
+// Others look, and none does any more.
+fn is_left_alone<L: BoardName, R: Wait>(crew: &Crew<'_, L, R>) -> bool {
+    crew.plan.lookers > 0 && crew.looking.load(Ordering::SeqCst) == 0
+}
+
+// Hands in the orders of the seat's worker, up to one that is refused, or until nobody looks any more.
 fn hand_in<L: BoardName, R: Wait>(crew: &Crew<'_, L, R>, seat: Seat<L>) -> Seat<L> {
     let mut seat = seat;
     let Ok(mut tolds) = Tolds::new(crew.alloc) else {
         return seat;
     };
-    for place in 0..u64::MAX {
-        if crew.looking.load(Ordering::SeqCst) == 0 {
+    for place in 0..crew.plan.orders {
+        if is_left_alone(crew) {
             break;
         }
         let order = lock(seat.worker(), place);
@@ -92,30 +107,33 @@ fn hand_in<L: BoardName, R: Wait>(crew: &Crew<'_, L, R>, seat: Seat<L>) -> Seat<
     seat
 }
 
+// The first workers look, and the others hand in.
+fn work<L: BoardName, R: Wait>(crew: &Crew<'_, L, R>, seat: Seat<L>) -> Seat<L> {
+    if seat.worker() < crew.plan.lookers {
+        look(crew, seat)
+    } else {
+        hand_in(crew, seat)
+    }
+}
+
 fn start<'s, 'a: 's, E, L: BoardName + Send + Sync, R: Threads + Wait + Sync>(
     scope: &Scope<'s, E>,
     crew: &'s Crew<'a, L, R>,
     seat: Seat<L>,
 ) -> Option<JoinHandle<Seat<L>>> {
-    scope.spawn(move || look(crew, seat)).ok()
+    scope.spawn(move || work(crew, seat)).ok()
 }
 
-// The last seat is this thread's own, which hands in or waits.
 fn run<'s, 'a: 's, E, L: BoardName + Send + Sync, R: Threads + Wait + Sync>(
     scope: &Scope<'s, E>,
     crew: &'s Crew<'a, L, R>,
     seats: Vec<Seat<L>>,
-    beside: bool,
 ) -> Option<Vec<Seat<L>>> {
-    let mut seats = seats;
-    let own = seats.pop()?;
     let mut threads = Vec::new(crew.alloc);
     for seat in seats {
         threads.push(start(scope, crew, seat)?).ok()?;
     }
-    let own = if beside { hand_in(crew, own) } else { own };
     let mut back = Vec::new(crew.alloc);
-    back.push(own).ok()?;
     for thread in threads {
         back.push(thread.join(crew.rt)).ok()?;
     }
@@ -125,12 +143,11 @@ fn run<'s, 'a: 's, E, L: BoardName + Send + Sync, R: Threads + Wait + Sync>(
 fn scoped<L: BoardName + Send + Sync, R: Threads + Wait + Sync>(
     crew: &Crew<'_, L, R>,
     seats: Vec<Seat<L>>,
-    beside: bool,
 ) -> Option<Vec<Seat<L>>> {
     thread::scope(
         thread::scope_env(),
         crew.rt,
-        |scope| run(scope, crew, seats, beside),
+        |scope| run(scope, crew, seats),
     )
 }
 
@@ -139,16 +156,15 @@ fn at_a_board<L: BoardName + Send + Sync, R: Threads + Wait + Sync>(
     alloc: Global,
     blank: Blank,
     log: FreshLog,
-    threads: u32,
-    looks: u64,
-    beside: bool,
+    workers: u32,
+    plan: Plan,
 ) -> anyhow::Result<usize>
     requires named { (blank.name ≡ L.name) × (blank.parts ≡ L.parts) }
     requires log { log ≡ L.log }
-    requires parts { (threads + 1 ≡ L.parts) × (L.workers ≡ L.parts) }
-    requires threads { (0 < threads) × (threads ≤ 15) }
+    requires parts { (workers ≡ L.parts) × (L.workers ≡ L.parts) }
+    requires workers { (0 < workers) × (workers ≤ 16) }
 {
-    let (board, mut seats) = Board::<L, &R>::new(alloc, rt, blank, log, threads + 1)
+    let (board, mut seats) = Board::<L, &R>::new(alloc, rt, blank, log, workers)
         .ok()
         .ok_or(anyhow!("a board"))?;
     let mut tolds = Tolds::new(alloc)?;
@@ -161,30 +177,31 @@ fn at_a_board<L: BoardName + Send + Sync, R: Threads + Wait + Sync>(
         rt,
         alloc,
         board,
-        looks: looks / u64::from(threads),
-        looking: AtomicU32::new(threads),
+        plan,
+        looking: AtomicU32::new(plan.lookers),
     };
-    let back = scoped(&crew, seats, beside).ok_or(anyhow!("threads"))?;
+    let back = scoped(&crew, seats).ok_or(anyhow!("threads"))?;
     let Crew { board, .. } = crew;
     let history = board.close(back).ok().ok_or(anyhow!("all seats"))?;
     Ok(history.len())
 }
 
-/// So many looks of these threads together, beside one that hands in or not: how many lines the history has. With no
-/// thread, so many answers of a core.
-pub(crate) fn looked<R: Threads + Wait + Sync>(
+/// So many threads do their task so often, all together: how many lines the history has.
+pub(crate) fn lines_of<R: Threads + Wait + Sync>(
     rt: &R,
     alloc: Global,
     threads: u32,
-    looks: u64,
-    beside: bool,
-) -> anyhow::Result<usize> {
-    if threads == 0 {
-        return at_a_core(alloc, looks);
-    }
+    task: Task,
+    times: u64,
+) -> anyhow::Result<usize>
+    requires { 0 < threads }
+{
     if threads > 15 {
         return Err(anyhow!("0 to 15 threads"));
     }
-    let blank = Blank::new(u64::from(threads) + 1);
-    at_a_board::<Brand, R>(rt, alloc, blank, FreshLog::new(), threads, looks, beside)
+    let beside = matches!(task, Task::LooksBeside);
+    let workers = threads + u32::from(beside);
+    let blank = Blank::new(u64::from(workers));
+    let plan = plan_of(threads, task, times);
+    at_a_board::<Brand, R>(rt, alloc, blank, FreshLog::new(), workers, plan)
 }

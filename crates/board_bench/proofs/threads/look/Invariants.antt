@@ -1,5 +1,5 @@
 use Rattle.std.proofs.Common.{◌≡◌, true}
-use Rattle.board_bench.proofs.looks.look.Given as goal
+use Rattle.board_bench.proofs.threads.look.Given as goal
 use Rattle.fl_order.specs.Order.{only_reads}
 
 -- what is asked only reads
