@@ -3,9 +3,6 @@
 ghost use Rattle.std.specs.Prelude.{◌≡◌};
 
 mod looks;
-mod rounds;
-mod threads;
-mod watched;
 
 use fl_board::{Board, BoardName, Seat};
 use fl_core::Tolds;
