@@ -3,6 +3,7 @@
 ghost use Rattle.std.specs.Prelude.{◌≡◌};
 
 mod looks;
+mod missing;
 
 use fl_board::{Board, BoardName, Seat};
 use fl_core::Tolds;
