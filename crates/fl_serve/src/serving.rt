@@ -155,14 +155,7 @@ fn serve_at<
 }
 
 // Hands in what no worker took, says goodbye, and closes the board of a session whose workers came back.
-fn finished<
-    'w,
-    L: BoardName,
-    N: WriterName,
-    R: Threads + Wait + Sync,
-    W: Write + Send + Drop,
-    G: Gate + Sync,
->(
+fn finished<'w, L: BoardName, N: WriterName, R: Wait, W: Write, G: Gate>(
     alloc: Global,
     crew: Crew<'_, 'w, L, N, R, W, G>,
     back: Back<L>,

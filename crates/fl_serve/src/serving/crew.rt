@@ -125,6 +125,8 @@ impl<
                 ensures unread { result.1.fault ≡ Some Fault.NoMemory
                     → Keeps (I.remaining r.entry.now) (I.remaining result.2.now) }
             {
+                // Taken whole, so that what its type keeps is known here.
+                let posts = posts;
                 let Posts {
                     seats,
                     ends,

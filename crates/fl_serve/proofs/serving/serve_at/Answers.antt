@@ -14,8 +14,8 @@ returns-in-Err-clause-served g c = unserved _ _ _ _ false _ _ (c.nothing.ensures
 pub returns-then-eq-clause-served : goal.returns-then-eq-clause-served
 returns-then-eq-clause-served g c =
     let none : c.run-back.result.1.fault ≡ Some NoMemory = search rules in
-    unserved _ _ _ _ c.close.result.1 _ _ (c.nothing-then-eq.ensures.read _ _ (c.run-back.ensures.unread none))
-    (rw c.requires.start c.close.ensures.sent) c.nothing-then-eq.ensures.fault c.nothing-then-eq.ensures.history
+    unserved _ _ _ _ c.close-w.result.1 _ _ (c.nothing-then-eq.ensures.read _ _ (c.run-back.ensures.unread none))
+    (rw c.requires.start c.close-w.ensures.sent) c.nothing-then-eq.ensures.fault c.nothing-then-eq.ensures.history
     (inl refl)
 
 pub finished-requires : goal.finished-requires
@@ -31,7 +31,7 @@ finished-requires g c =
     record {
       parts = search rules;
       mine = search rules;
-      all = omega (arith, worked.all, workers, seats, back, there, range, search rules);
+      all = omega (arith, worked.all, workers, seats, back, there, range, c.run-back.ensures.put.1, rooms.put.1);
       some = omega (arith, workers, seats, back, there, range, c.requires.workers.0);
       whose = search rules;
       did = worked.did;

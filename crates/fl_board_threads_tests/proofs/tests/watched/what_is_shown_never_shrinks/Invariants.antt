@@ -1,4 +1,4 @@
-use Rattle.fl_board_tests.proofs.tests.watched.what_is_shown_never_shrinks.Given as goal
+use Rattle.fl_board_threads_tests.proofs.tests.watched.what_is_shown_never_shrinks.Given as goal
 
 abbrev pub ghosts-watched-L-BoardName : goal.ghosts-watched-L-BoardName
 ghosts-watched-L-BoardName g a = record { workers = a.blank.parts }

@@ -1,4 +1,4 @@
-use Rattle.fl_board_tests.proofs.tests.threads.a_board_goes_on_where_a_seat_is_missing.Given as goal
+use Rattle.fl_board_tests.proofs.tests.missing.a_board_goes_on_where_a_seat_is_missing.Given as goal
 
 abbrev pub ghosts-closed_late-L-BoardName : goal.ghosts-closed_late-L-BoardName
 ghosts-closed_late-L-BoardName g a = record { workers = a.blank.parts }

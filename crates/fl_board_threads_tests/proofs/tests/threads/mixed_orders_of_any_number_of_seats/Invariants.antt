@@ -1,4 +1,4 @@
-use Rattle.fl_board_tests.proofs.tests.threads.mixed_orders_of_any_number_of_seats.Given as goal
+use Rattle.fl_board_threads_tests.proofs.tests.threads.mixed_orders_of_any_number_of_seats.Given as goal
 
 abbrev pub ghosts-history_of-L-BoardName : goal.ghosts-history_of-L-BoardName
 ghosts-history_of-L-BoardName g a = record { workers = a.blank.parts }
