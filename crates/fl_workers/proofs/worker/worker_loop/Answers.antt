@@ -20,8 +20,9 @@ loop-preserved g c =
 pub returns-clause-did : goal.returns-clause-did
 returns-clause-did g c =
     let same : c.match-next.end.taken ≡ c.loop.end.taken = elim c.match-next.branch [
-      in-None w ↦ ap (λ (e : TakeSide). e.taken) w.end-is
+      | in-None w ↦ ap (λ (e : TakeSide). e.taken) w.end-is
       | in-Some+in_default w ↦ ap (λ (e : TakeSide). e.taken) w.end-is ∙ w.next_job.ensures.taken
-        ∙ ap (λ r. c.loop.end.taken ++ option_to_list r) w.in_default.is ∙ append-nil c.loop.end.taken ] in
+          ∙ ap (λ r. c.loop.end.taken ++ option_to_list r) w.in_default.is ∙ append-nil c.loop.end.taken
+    ] in
     let i = c.loop.invariant.2 in
     has_done _ _ _ _ _ _ _ c.requires.fresh (i.0, same ∙ i.1, i.2)
