@@ -1,7 +1,7 @@
 -- What the workers of a session have done together.
 use Rattle.std.proofs.Common.{◌≡◌, ℕ, ◌+◌, Bool, true, false, true≢false, List, [], ◌∷◌, ◌++◌, All, length, map, sum_by, refl, sym, ap, ◌∙◌, subst, arith, append_assoc, length-append}
 use Rattle.std.specs.Prelude.{◌||◌}
-use Rattle.std.proofs.lemmas.List.{map-append}
+use Rattle.std.proofs.lemmas.List.{length-map, map-append}
 use Rattle.std.proofs.lemmas.List.Elements.{All-append, All-cons, All-head, All-nil, All-push, All-tail}
 use Rattle.std.proofs.lemmas.List.Sums.{sum_by-append, sum_by_push}
 use mathlib.Core.List.{Sublistᴰ, nil≢cons, head-eq_of_cons-eq, tail-eq_of_cons-eq}
@@ -10,7 +10,7 @@ use Rattle.fl_intake.specs.Ends.{TakeSide, weight_taken}
 use Rattle.fl_intake.specs.Often.{Weight}
 use Rattle.fl_order.specs.Order.{only_reads}
 use Rattle.fl_order.specs.declared.order.Order.{Order}
-use Rattle.fl_serve.specs.Inside.Working.{HaveDone, IsCounted, Post, handed_at}
+use Rattle.fl_serve.specs.Inside.Working.{HaveDone, HaveWorked, IsCounted, Post, handed_at}
 use Rattle.fl_workers.specs.Asked.{Orders, asked_by}
 use Rattle.fl_workers.specs.Worked.{HasDone, HasWorked}
 
@@ -78,6 +78,17 @@ one_back ends ends_now places places_now any more before end place so_far fresh 
       none = λ all. let neither = both_false any more all in
           no_more so_far.refused did.refused (so_far.none neither.0) (did.none neither.1);
     }
+
+-- all workers came back, who were started by these threads
+pub all_back : {X : Type 0} (f : X → ℕ) (threads : List X) (places back : List Place) (ends : List TakeSide) (any : Bool)
+    → map (λ (p : Place). p.worker) back ≡ map f threads → map f threads ≡ map (λ (p : Place). p.worker) places
+    → length ends ≡ length threads → HaveDone (λ weight. weight_taken weight ends) back any
+    → HaveWorked places back ends any
+all_back f threads places back ends any joined started all did = record {
+  whose = joined ∙ started;
+  all = all ∙ sym (length-map threads f) ∙ ap length started ∙ length-map places (λ (p : Place). p.worker);
+  did = did;
+}
 
 -- ---- orders that no worker took
 
