@@ -13,20 +13,20 @@ use Rattle.fl_intake.specs.Inside.Conserved.{knows, AreSpent, IsConserved, IsTol
 use Rattle.fl_intake.specs.Often.{Weight}
 
 -- An end that put and took nothing, if it has no share.
-IsSpent : Known → Type 0
+abbrev IsSpent : Known → Type 0
 IsSpent end = end.shares ≡ 0 → (end.put ≡ []) × (end.taken ≡ [])
 
-pub shares_of : Known → ℕ
+abbrev pub shares_of : Known → ℕ
 shares_of end = end.shares
 
-pub taken_of : Known → List Order
+abbrev pub taken_of : Known → List Order
 taken_of end = end.taken
 
 -- what an end put, and what it took, weighed
-pub put_by : Weight → Known → ℕ
+abbrev pub put_by : Weight → Known → ℕ
 put_by weight end = sum_by weight end.put
 
-pub taken_by : Weight → Known → ℕ
+abbrev pub taken_by : Weight → Known → ℕ
 taken_by weight end = sum_by weight end.taken
 
 -- a sum over all ends, where one of them has changed
@@ -53,7 +53,7 @@ none_spent at end e = absurd (some-ne-none end (sym e))
 
 -- an end with a share
 has_share : (end : Known) → 0 < end.shares → IsSpent end
-has_share end some none = absurd (omega arith)
+has_share end owned none = absurd (omega arith)
 
 -- where no end has a share, nothing was put or taken
 nothing_done : (f : Known → ℕ) → ((end : Known) → end.put ≡ [] → end.taken ≡ [] → f end ≡ 0)
@@ -96,7 +96,7 @@ tells at end inside ends kept here = record {
 
 pub puts : (room at : ℕ) (end : Known) (order : Order) → room ≤ 64 → 0 < end.shares
     → Pushes IsConserved room at end order (λ new. new ≡ knows end.shares (end.put ++ order ∷ []) end.taken)
-puts room at end order small some inside ends short kept here =
+puts room at end order small owned inside ends short kept here =
     let new = knows end.shares (end.put ++ order ∷ []) end.taken in (
       new,
       record {
@@ -109,14 +109,14 @@ puts room at end order small some inside ends short kept here =
           sum_by-append weight inside (order ∷ []),
           kept.weighs weight,
         );
-        spent = spent_set ends at new (has_share new some) kept.spent;
+        spent = spent_set ends at new (has_share new owned) kept.spent;
         room = omega (arith, length-append inside (order ∷ []));
       },
       refl,
     )
 
 -- each order weighs 1
-each : Weight
+abbrev each : Weight
 each _ = 1
 
 how_many : (xs : List Order) → sum_by each xs ≡ length xs
@@ -124,7 +124,7 @@ how_many [] = refl
 how_many (x ∷ xs) = omega (arith, sum_by-cons each x xs, how_many xs)
 
 pub takes : (at : ℕ) (end : Known) → 0 < end.shares → Pops IsConserved at end (HasTaken end)
-takes at end some order inside ends kept here =
+takes at end owned order inside ends kept here =
     let new = knows end.shares end.put (end.taken ++ order ∷ []) in (
       new,
       record {
@@ -138,7 +138,7 @@ takes at end some order inside ends kept here =
           sum_by-cons weight order [],
           kept.weighs weight,
         );
-        spent = spent_set ends at new (has_share new some) kept.spent;
+        spent = spent_set ends at new (has_share new owned) kept.spent;
         room = let most = kept.room in omega arith;
       },
       record {
@@ -175,7 +175,7 @@ shares_out at end two inside ends kept here =
 
 pub joins : (at : ℕ) (end : Known) (at' : ℕ) (other : Known) → 0 < end.shares → Merges IsConserved at end at' other
     (knows (end.shares + other.shares) (end.put ++ other.put) (end.taken ++ other.taken)) (knows 0 [] [])
-joins at end at' other some inside ends kept here apart here' =
+joins at end at' other owned inside ends kept here apart here' =
     let both = knows (end.shares + other.shares) (end.put ++ other.put) (end.taken ++ other.taken) in
     let gone = knows 0 [] [] in
     let joined = set ends at both in

@@ -4,8 +4,8 @@ use Rattle.atomic_table.specs.Seated.{TableId}
 use Rattle.fl_order.specs.declared.order.Order.{Order}
 use Rattle.fl_intake.specs.Often.{Weight}
 
--- The end that puts: the intake that it is of, how many ends take, the orders that were put through it, the oldest first, and
--- whether it is closed.
+-- The end that puts: the intake that it is of, how many ends take, the orders that were put through it, the oldest
+-- first, and whether it is closed.
 pub record PutSide : Type 0 where
   pub of : TableId
   pub takers : ℕ

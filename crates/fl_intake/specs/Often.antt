@@ -6,7 +6,7 @@ use Rattle.fl_order.specs.declared.order.Order.{Order}
 abbrev pub Weight : Type 0
 Weight = Order → ℕ
 
--- Whatever weight orders are given, both lists weigh as much. So each order stands in both as often: that weight which is 1 for
--- it and 0 for others counts it.
+-- Whatever weight orders are given, both lists weigh as much. So each order stands in both as often: a weight of 1 for
+-- it and of 0 for others counts it.
 abbrev pub AreAsOften : List Order → List Order → Type 0
 AreAsOften xs ys = (weight : Weight) → sum_by weight xs ≡ sum_by weight ys

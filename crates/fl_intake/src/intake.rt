@@ -53,8 +53,8 @@ impl Intake {
     /// An open intake with room for 64 jobs, the end that puts, and 1 to 16 ends that take.
     pub fn new(alloc: Global, takers: u32) -> Result<(Intake, PutEnd, Vec<TakeEnd>), NoMemory>
         requires takers { (0 < takers) × (takers ≤ 16) }
-        ensures put { IfOk result (λ made.
-            made.1 ≡ record { of = made.0; takers = takers; put = []; closed = false }) }
+        ensures put { IfOk result (λ made. (made.1.of ≡ made.0) × (made.1.takers ≡ takers)
+            × (made.1.put ≡ []) × (made.1.closed ≡ false)) }
         ensures takes { IfOk result (λ made. All (λ end. (end.of ≡ made.0) × (end.taken ≡ [])) made.2.items) }
         ensures takers { IfOk result (λ made. length made.2.items ≡ takers) }
     {
@@ -81,7 +81,8 @@ impl Intake {
     /// Puts a job behind the others, and waits while 64 are inside. Where its end is closed it hands the job back.
     pub fn put<R: Wait>(&self, rt: &R, end: &mut PutEnd, job: Job) -> Result<(), Closed>
         requires end { end.old.of ≡ self.now }
-        ensures same { (end.new.of ≡ end.old.of) × (end.new.takers ≡ end.old.takers) × (end.new.closed ≡ end.old.closed) }
+        ensures of { (end.new.of ≡ end.old.of) × (end.new.takers ≡ end.old.takers) }
+        ensures state { end.new.closed ≡ end.old.closed }
         ensures put { MatchResult result (λ _. end.new.put ≡ end.old.put ++ job ∷ [])
             (λ closed. (closed.job ≡ job) × (end.new ≡ end.old)) }
         ensures closed { IsErr result ↔ (end.old.closed ≡ true) }
@@ -102,7 +103,8 @@ impl Intake {
     // Puts a job, if there is room. The queue takes it by value: this is the one copy on the way in that is ours.
     fn put_if_room<R: Wait>(&self, rt: &R, end: &mut PutEnd, job: &Job) -> bool
         requires end { end.old.of ≡ self.now }
-        ensures same { (end.new.of ≡ end.old.of) × (end.new.takers ≡ end.old.takers) × (end.new.closed ≡ end.old.closed) }
+        ensures of { (end.new.of ≡ end.old.of) × (end.new.takers ≡ end.old.takers) }
+        ensures state { end.new.closed ≡ end.old.closed }
         ensures done { result ≡ true → end.new.put ≡ end.old.put ++ job.now ∷ [] }
         ensures full { result ≡ false → end.new ≡ end.old }
     {
@@ -165,7 +167,8 @@ impl Intake {
     /// No more jobs may come through this end. Those inside are still taken. It waits for nobody.
     pub fn close(&self, end: &mut PutEnd)
         requires end { end.old.of ≡ self.now }
-        ensures closed { end.new ≡ record { of = end.old.of; takers = end.old.takers; put = end.old.put; closed = true } }
+        ensures same { (end.new.of ≡ end.old.of) × (end.new.takers ≡ end.old.takers) × (end.new.put ≡ end.old.put) }
+        ensures closed { end.new.closed ≡ true }
     {
         end.closed = true;
         self.waking.close();

@@ -15,8 +15,8 @@ abbrev pub AreSpent : List Known → Type 0
 AreSpent ends =
     (at : ℕ) (end : Known) → get_elem? ends at ≡ some end → end.shares ≡ 0 → (end.put ≡ []) × (end.taken ≡ [])
 
--- Whatever weight orders are given, those that were put weigh as much as those that were taken and those inside. All ends
--- together have 17 shares, and at most 64 orders are inside.
+-- Whatever weight orders are given, those that were put weigh as much as those that were taken and those inside. All
+-- ends together have 17 shares, and at most 64 orders are inside.
 pub record IsConserved (inside : List Order) (ends : List Known) : Type 0 where
   pub shares : sum_by (λ end. end.shares) ends ≡ 17
   pub weighs : (weight : Weight) → sum_by (λ end. sum_by weight end.put) ends
@@ -28,7 +28,8 @@ pub record IsConserved (inside : List Order) (ends : List Known) : Type 0 where
 pub record IsTold (end : Known) (inside : List Order) : Type 0 where
   pub shares : end.shares ≤ 17
   pub room : length inside ≤ 64
-  pub whole : end.shares ≡ 17 → (weight : Weight) → sum_by weight end.put ≡ sum_by weight end.taken + sum_by weight inside
+  pub whole : end.shares ≡ 17 → (weight : Weight)
+      → sum_by weight end.put ≡ sum_by weight end.taken + sum_by weight inside
 
 -- An end has taken one order more. With all shares it knows that there was one that was put and not taken.
 pub record HasTaken (old : Known) (order : Order) (new : Known) : Type 0 where
