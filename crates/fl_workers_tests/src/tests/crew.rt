@@ -37,7 +37,8 @@ pub(super) fn worked<R: Threads + Wait + Clock + Abort + Sync>(
         tally,
         workers: of_workers(workers),
     };
-    worked_at::<Brand, R>(rt, alloc, staff, gate, orders, out)
+    let (came, _) = worked_at::<Brand, R>(rt, alloc, staff, gate, orders, out);
+    came
 }
 
 // So many workers, of which there are 1 to 16.
@@ -66,7 +67,7 @@ fn worked_at<'w, N: WriterName + Send + Sync, R: Threads + Wait + Clock + Abort 
     gate: &Watch,
     orders: &[Job],
     out: &'w mut Vec<u8>,
-) -> Came
+) -> (Came, &'w mut Vec<u8>)
     requires start { Some out.old.items ≡ N.start }
     requires named { out.ghost_name ≡ N.name }
     requires workers { (0 < staff.workers) × (staff.workers ≤ 16) }
@@ -91,11 +92,11 @@ fn worked_at<'w, N: WriterName + Send + Sync, R: Threads + Wait + Clock + Abort 
         ..
     } = crew;
     let left = intake.finish(rt, put, ends).ok().expect(rt, "all ends");
-    let (_, broken) = shared.into_inner().close(&Owed::Nothing);
+    let (out, broken) = shared.into_inner().close(&Owed::Nothing);
     assert!(rt; !broken);
     let mut came = came.into_inner();
     came.left = left.len();
-    came
+    (came, out)
 }
 
 // What the workers share.
@@ -143,7 +144,11 @@ impl<'a, 'w, N: WriterName + Send + Sync, R: Threads + Wait + Clock + Abort + Sy
         requires { All (λ end. end.of ≡ self.now.intake) ends.items }
         ensures { All (λ end. end.of ≡ self.now.intake) result.items }
     {
-        thread::map_vec(self.rt, ends, &|end| self.work(end)).expect(self.rt, "memory")
+        let work = move |end: TakeEnd| -> TakeEnd
+            requires { end.of ≡ self.now.intake }
+            ensures { result.of ≡ self.entry.now.intake }
+        { self.work(end) };
+        thread::map_vec(self.rt, ends, &work).expect(self.rt, "memory")
     }
 
     // What a worker does at a seat of its own.

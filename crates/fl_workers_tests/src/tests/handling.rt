@@ -22,7 +22,8 @@ pub(super) fn handled<R: Wait + Abort>(
     orders: Vec<Job>,
     out: &mut Vec<u8>,
 ) -> Came {
-    handled_at::<Brand, R>(rt, alloc, tally, orders, out)
+    let (came, _) = handled_at::<Brand, R>(rt, alloc, tally, orders, out);
+    came
 }
 
 // The same, with a writer of this name.
@@ -32,7 +33,7 @@ fn handled_at<'w, N: WriterName, R: Wait + Abort>(
     tally: Tally,
     orders: Vec<Job>,
     out: &'w mut Vec<u8>,
-) -> Came
+) -> (Came, &'w mut Vec<u8>)
     requires start { Some out.old.items ≡ N.start }
     requires named { out.ghost_name ≡ N.name }
 {
@@ -41,9 +42,9 @@ fn handled_at<'w, N: WriterName, R: Wait + Abort>(
     let shared = Mutex::new(Shared::<'w, Vec<u8>, N>::new(replies, out));
     let mut seat = Seat::new(rt, alloc, 0);
     let refused = handle_all(rt, &tally, &OpenGate, &shared, &mut seat, tolds, orders);
-    let (_, broken) = shared.into_inner().close(&Owed::Nothing);
+    let (out, broken) = shared.into_inner().close(&Owed::Nothing);
     assert!(rt; !broken);
     let mut came = Came::new(alloc);
     came.keep(rt, &seat, refused);
-    came
+    (came, out)
 }
