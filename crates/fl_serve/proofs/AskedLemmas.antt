@@ -6,7 +6,7 @@ use Rattle.std.proofs.lemmas.List.Sums.{sum_by-append, sum_by-cons}
 use Rattle.std.specs.List.{range_with_len}
 use Rattle.std.specs.Prelude.{cond, flat_map, leb, if◌then◌else◌}
 use mathlib.Core.List.{IsPrefix, Sublistᴰ, nil≢cons, head-eq_of_cons-eq, tail-eq_of_cons-eq}
-use mathlib.Core.List.Defs.SublistD as sublist
+use mathlib.Core.List.Sublistᴰ as sublist
 use Rattle.fl_board.specs.Seats.{Place, is_asked_by, orders_by}
 use Rattle.fl_board.specs.Shown.{HasAllOf}
 use Rattle.fl_desk.specs.Legal.{is_asked, orders_asked}

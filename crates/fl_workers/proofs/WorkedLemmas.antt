@@ -4,7 +4,7 @@ use Rattle.std.specs.Prelude.{◌||◌, sum_by}
 use Rattle.std.proofs.lemmas.List.Elements.{All-append, All-cons, All-nil}
 use Rattle.std.proofs.lemmas.List.Sums.{sum_by-append}
 use mathlib.Core.List.{IsPrefix, Sublistᴰ}
-use mathlib.Core.List.Defs.SublistD as sublist
+use mathlib.Core.List.Sublistᴰ as sublist
 use Rattle.fl_intake.specs.Often.{Weight}
 use Rattle.fl_order.specs.Order.{only_reads}
 use Rattle.fl_order.specs.declared.order.Order.{Order}
