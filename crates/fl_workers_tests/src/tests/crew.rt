@@ -11,7 +11,7 @@ use fl_intake::{Intake, Job, PutEnd, TakeEnd};
 use fl_session::{Owed, ReplyBuffer};
 use fl_workers::{Shared, Worked, WriterName, worker_loop};
 use std::alloc::Global;
-use std::marker::Brand;
+use std::marker::{Brand, PhantomData};
 use std::process::Abort;
 use std::sync::atomic::{AtomicU64, Ordering};
 use std::sync::{Mutex, Wait};
@@ -126,17 +126,19 @@ impl<'a, 'w, N: WriterName + Send + Sync, R: Threads + Wait + Clock + Abort + Sy
         ensures ends { All (λ end. end.of ≡ self.now.intake) result.0.items }
         ensures put { result.1.of ≡ self.now.intake }
     {
-        thread::join(
+        // A closure that holds a value with a lifetime keeps its clauses where its result names a type parameter.
+        let ((ends, _), (put, _)) = thread::join(
             self.rt,
-            move || -> Vec<TakeEnd>
+            move || -> (Vec<TakeEnd>, PhantomData<N>)
                 requires { All (λ end. end.of ≡ self.now.intake) ends.items }
-                ensures { All (λ end. end.of ≡ self.entry.now.intake) result.items }
-            { self.work_all(ends) },
-            move || -> PutEnd
+                ensures { All (λ end. end.of ≡ self.entry.now.intake) result.0.items }
+            { (self.work_all(ends), PhantomData) },
+            move || -> (PutEnd, PhantomData<N>)
                 requires { put.of ≡ self.now.intake }
-                ensures { result.of ≡ self.entry.now.intake }
-            { self.put_all(put, orders) },
-        )
+                ensures { result.0.of ≡ self.entry.now.intake }
+            { (self.put_all(put, orders), PhantomData) },
+        );
+        (ends, put)
     }
 
     // A worker for each end, each in a thread of its own.
