@@ -16,8 +16,6 @@ pub(super) struct Came {
     pub refused: bool,
     /// How many seats there were.
     pub seats: u64,
-    /// How many orders were left in the intake.
-    pub left: usize,
 }
 
 impl Came {
@@ -28,7 +26,6 @@ impl Came {
             looked: Vec::new(alloc),
             refused: false,
             seats: 0,
-            left: 0,
         }
     }
 

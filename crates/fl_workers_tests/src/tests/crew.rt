@@ -11,7 +11,7 @@ use fl_intake::{Intake, Job, PutEnd, TakeEnd};
 use fl_session::{Owed, ReplyBuffer};
 use fl_workers::{Shared, Worked, WriterName, worker_loop};
 use std::alloc::Global;
-use std::marker::{Brand, PhantomData};
+use std::marker::Brand;
 use std::process::Abort;
 use std::sync::atomic::{AtomicU64, Ordering};
 use std::sync::{Mutex, Wait};
@@ -84,19 +84,11 @@ fn worked_at<'w, N: WriterName + Send + Sync, R: Threads + Wait + Clock + Abort 
         started: AtomicU64::new(0),
         came: Mutex::new(Came::new(alloc)),
     };
-    let (ends, put) = crew.run(put, ends, orders);
-    let Crew {
-        intake,
-        shared,
-        came,
-        ..
-    } = crew;
-    let left = intake.finish(rt, put, ends).ok().expect(rt, "all ends");
+    crew.run(put, ends, orders);
+    let Crew { shared, came, .. } = crew;
     let (out, broken) = shared.into_inner().close(&Owed::Nothing);
     assert!(rt; !broken);
-    let mut came = came.into_inner();
-    came.left = left.len();
-    (came, out)
+    (came.into_inner(), out)
 }
 
 // What the workers share.
@@ -119,38 +111,28 @@ impl<'a, 'w, N: WriterName + Send + Sync, R: Threads + Wait + Clock + Abort + Sy
     N,
     R,
 > {
-    // Puts all orders while a worker for each end takes them, and gives all ends back.
-    fn run(&self, put: PutEnd, ends: Vec<TakeEnd>, orders: &[Job]) -> (Vec<TakeEnd>, PutEnd)
+    // Puts all orders while a worker for each end takes them.
+    fn run(&self, put: PutEnd, ends: Vec<TakeEnd>, orders: &[Job])
         requires put { put.of ≡ self.now.intake }
         requires ends { All (λ end. end.of ≡ self.now.intake) ends.items }
-        ensures ends { All (λ end. end.of ≡ self.now.intake) result.0.items }
-        ensures put { result.1.of ≡ self.now.intake }
     {
-        // A closure that holds a value with a lifetime keeps its clauses where its result names a type parameter.
-        let ((ends, _), (put, _)) = thread::join(
-            self.rt,
-            move || -> (Vec<TakeEnd>, PhantomData<N>)
-                requires { All (λ end. end.of ≡ self.now.intake) ends.items }
-                ensures { All (λ end. end.of ≡ self.entry.now.intake) result.0.items }
-            { (self.work_all(ends), PhantomData) },
-            move || -> (PutEnd, PhantomData<N>)
-                requires { put.of ≡ self.now.intake }
-                ensures { result.0.of ≡ self.entry.now.intake }
-            { (self.put_all(put, orders), PhantomData) },
-        );
-        (ends, put)
+        let work = move ||
+            requires { All (λ end. end.of ≡ self.now.intake) ends.items }
+        { self.work_all(ends) };
+        let bring = move ||
+            requires { put.of ≡ self.now.intake }
+        { self.put_all(put, orders) };
+        thread::join(self.rt, work, bring);
     }
 
     // A worker for each end, each in a thread of its own.
-    fn work_all(&self, ends: Vec<TakeEnd>) -> Vec<TakeEnd>
+    fn work_all(&self, ends: Vec<TakeEnd>)
         requires { All (λ end. end.of ≡ self.now.intake) ends.items }
-        ensures { All (λ end. end.of ≡ self.now.intake) result.items }
     {
         let work = move |end: TakeEnd| -> TakeEnd
             requires { end.of ≡ self.now.intake }
-            ensures { result.of ≡ self.entry.now.intake }
         { self.work(end) };
-        thread::map_vec(self.rt, ends, &work).expect(self.rt, "memory")
+        let _ = thread::map_vec(self.rt, ends, &work).expect(self.rt, "memory");
     }
 
     // What a worker does at a seat of its own.
@@ -181,9 +163,8 @@ impl<'a, 'w, N: WriterName + Send + Sync, R: Threads + Wait + Clock + Abort + Sy
     }
 
     // Puts all orders, and closes the intake.
-    fn put_all(&self, put: PutEnd, orders: &[Job]) -> PutEnd
+    fn put_all(&self, put: PutEnd, orders: &[Job])
         requires { put.of ≡ self.now.intake }
-        ensures { result.of ≡ self.now.intake }
     {
         let mut put = put;
         let mut bursts = Bursts::new();
@@ -195,7 +176,6 @@ impl<'a, 'w, N: WriterName + Send + Sync, R: Threads + Wait + Clock + Abort + Sy
             }
         }
         self.intake.close(&mut put);
-        put
     }
 
     // Waits until all orders so far were taken. Behind each other burst it does as whoever reads, and behind each eighth it

@@ -46,11 +46,9 @@ fn has_each(rt: &impl Abort, came: Came, workers: u32) {
         looked,
         refused,
         seats,
-        left,
     } = came;
     handed.sort_unstable();
     are_in_a_row(rt, &handed);
-    assert_eq!(rt; left, 0, "{workers} workers");
     assert_eq!(rt; seats, u64::from(workers));
     assert!(rt; looked.is_empty() && !refused);
 }
