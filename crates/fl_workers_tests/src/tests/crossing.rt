@@ -10,11 +10,7 @@ use std::process::Abort;
 
 // Both were handed in and answered, the second one first.
 fn has_crossed(rt: &impl Abort, alloc: Global, came: Came, out: &[u8]) {
-    let Came {
-        mut handed,
-        left,
-        ..
-    } = came;
+    let Came { mut handed, .. } = came;
     handed.sort_unstable();
     are_uniques(rt, &handed, &[FIRST, FIRST + 1]);
     are_replies(rt, &replies(rt, alloc, out), &[(FIRST + 1, 2), (FIRST, 2)]);
