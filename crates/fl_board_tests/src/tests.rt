@@ -3,9 +3,7 @@
 ghost use Rattle.std.specs.Prelude.{◌≡◌};
 
 mod looks;
-mod rounds;
-mod threads;
-mod watched;
+mod missing;
 
 use fl_board::{Board, BoardName, Seat};
 use fl_core::Tolds;

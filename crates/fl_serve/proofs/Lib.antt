@@ -1,4 +1,4 @@
-pub mod BatchLemmas
+pub mod AskedLemmas
 pub mod HearingLemmas
 pub mod ServingLemmas
-pub mod SharedLemmas
+pub mod WorkingLemmas

@@ -1,15 +1,26 @@
 -- What a session with workers did.
-use Rattle.std.proofs.Common.{◌≡◌, ℕ, ◌⊎◌, inl, inr, ⊎_elim, Bool, false, List, [], Option, Some, length, map, refl, sym, ap, subst, ◌∙◌, arith}
+use Rattle.std.proofs.Common.{◌≡◌, ℕ, ◌+◌, ◌⊎◌, inl, inr, ⊎_elim, Bool, true, false, List, [], ◌++◌, Option, Some, length, map, sum_by, refl, sym, ap, subst, ◌∙◌, arith}
+use Rattle.std.proofs.KnownBytes.{Appends-nil}
 use Rattle.std.proofs.lemmas.List.{length-map}
+use Rattle.std.proofs.lemmas.List.Elements.{All-nil}
 use Rattle.std.proofs.lemmas.List.FromFn.{length-range_with_len}
+use Rattle.std.proofs.lemmas.List.Sums.{sum_by-append}
 use Rattle.std.specs.List.{range_with_len}
 use Rattle.fl_board.specs.Seats.{Place}
 use Rattle.fl_serve.specs.Inside.Hearing.{HasHeard}
 use Rattle.fl_session.specs.Inbox.{IsEnding}
-use Rattle.fl_serve.specs.Serve.{HasNoHistory, IsServedBy}
+use Rattle.fl_intake.specs.Often.{Weight}
+use Rattle.fl_order.specs.Order.{only_reads}
+use Rattle.fl_order.specs.declared.order.Order.{Order}
+use Rattle.fl_serve.proofs.AskedLemmas.{all_is_handed_in}
+use Rattle.fl_serve.specs.Inside.Working.{HasAll, HaveDone}
+use Rattle.fl_serve.specs.Said.{said_in}
+use Rattle.fl_serve.specs.Serve.{HasNoHistory, IsAsked, IsServedBy}
+use Rattle.fl_workers.specs.Asked.{Orders, asked}
 use Rattle.fl_session.specs.Served.{EndsBy, IsRead}
 use Rattle.fl_session.specs.Session.{Came, session_of}
-use Rattle.fl_serve.specs.Shared.{HasSent, HasSentLast}
+use Rattle.fl_workers.specs.Shared.{HasSent, HasSentLast, IsSpelling}
+use Rattle.fl_wire.specs.Spell.{IsReply}
 use Rattle.fl_session.specs.declared.session.Fault.{Fault}
 use Rattle.fl_session.specs.declared.session.Fault.TheVariants.{NoMemory, NoReader}
 use Rattle.fl_session.specs.Talk.{bytes_of}
@@ -22,23 +33,59 @@ pub as_many : (seats : List Place) (workers : ℕ) → map (λ seat. seat.worker
 as_many seats workers each =
     sym (length-map seats (λ seat. seat.worker)) ∙ ap length each ∙ length-range_with_len 0 workers
 
+-- nothing was sent
+pub nothing_sent : (start : Option (List ℕ)) → HasSent start start [] false
+nothing_sent start = record {
+  replies = [];
+  each = All-nil IsSpelling;
+  given = record { sent = []; written = Appends-nil start; are_given = refl; framed = All-nil IsReply };
+}
+
+-- a session whose orders were put, and handed in, looked for or refused
+pub asked_as_said : (workers : ℕ) (came : List Came) (put : Orders) (orders : Weight → ℕ) (places : List Place)
+    (any : Bool) (fault : Option Fault) (done : Done) → put ≡ said_in came
+    → ((weight : Weight) → sum_by weight put ≡ orders weight) → HaveDone orders places any
+    → map (λ (p : Place). p.worker) places ≡ range_with_len 0 workers → HasAll places any fault done → IsAsked came done
+asked_as_said workers came put orders places any fault done said is did whose all = record {
+  looked = did.looked;
+  refused = did.refused;
+  each = λ weight. omega (
+    arith,
+    ap (sum_by weight) said,
+    is weight,
+    did.each weight,
+    all_is_handed_in weight done.history did.posts places workers did.at did.handed all.each whose all.counted,
+    sum_by-append weight (asked done.history ++ did.looked) did.refused,
+    sum_by-append weight (asked done.history) did.looked,
+    sum_by-append weight did.looked did.refused,
+  );
+  reads = did.reads;
+  none = λ e. did.none (sym all.tells ∙ e);
+}
+
 -- what a session did whose reader ended
-pub served_by : (left left_now held held_now : Option (List ℕ)) (fault : Option Fault) (goodbye : Owed) (broken : Bool)
-    (done : Done) → HasHeard left left_now fault goodbye → HasSent held held_now [] broken
+pub served_by : (workers : ℕ) (left left_now held held_now : Option (List ℕ)) (fault : Option Fault) (put : Orders)
+    (goodbye : Owed) (broken any : Bool) (orders : Weight → ℕ) (places : List Place) (done : Done)
+    → HasHeard left left_now fault put goodbye → HasSent held held_now [] broken
     → (broken ≡ false → HasSentLast held held_now (bytes_of goodbye))
     → (told : Option Fault) → ((came : List Came) (rest : List ℕ) (left : Option (List ℕ))
     → IsEnding fault (session_of came).over rest left → EndsBy told broken came rest left)
-    → (done.fault ≡ told) ⊎ HasNoHistory done → IsServedBy left left_now held held_now done
-served_by left left_now held held_now fault goodbye broken done heard sent last told ends closed = record {
-  came = heard.came;
-  rest = heard.rest;
-  broken = broken;
-  is_read = heard.is_read;
-  bounded = heard.bounded;
-  sent = sent;
-  goodbye = λ whole over. record { goodbye = goodbye; last = heard.over over; sent = last whole };
-  ending = ⊎_elim (λ same. inl (rw same (ends heard.came heard.rest left_now heard.ending))) inr closed;
-}
+    → ((weight : Weight) → sum_by weight put ≡ orders weight) → HaveDone orders places any
+    → map (λ (p : Place). p.worker) places ≡ range_with_len 0 workers
+    → HasAll places any told done ⊎ HasNoHistory done → IsServedBy left left_now held held_now done
+served_by workers left left_now held held_now fault put goodbye broken any orders places done heard sent last told ends
+    is did whose closed = record {
+      came = heard.came;
+      rest = heard.rest;
+      broken = broken;
+      is_read = heard.is_read;
+      bounded = heard.bounded;
+      sent = sent;
+      goodbye = λ whole over. record { goodbye = goodbye; last = heard.over over; sent = last whole };
+      ending = ⊎_elim (λ all. inl (rw all.told (ends heard.came heard.rest left_now heard.ending))) inr closed;
+      orders = ⊎_elim
+          (λ all. inl (asked_as_said workers heard.came put orders places any told done heard.said is did whose all)) inr closed;
+    }
 
 -- what a session did that had no memory, or no reader
 pub unserved : (left left_now held held_now : Option (List ℕ)) (broken : Bool) (done : Done) (fault : Fault)
@@ -56,4 +103,11 @@ unserved left left_now held held_now broken done fault unread sent told none why
   ending = ⊎_elim (λ memory. inl
       (subst (λ fault. EndsBy fault broken [] [] left_now) (sym (told ∙ ap Some memory)) (refl, refl)))
       (λ reader. inr (record { fault = told ∙ ap Some reader; history = none })) why;
+  orders = inl (record {
+    looked = [];
+    refused = [];
+    each = λ weight. sym (ap (λ history. sum_by weight (asked history ++ [] ++ [])) none);
+    reads = All-nil (λ (order : Order). only_reads order.op ≡ true);
+    none = λ _. refl;
+  });
 }

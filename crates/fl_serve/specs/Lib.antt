@@ -1,3 +1,3 @@
 pub mod Inside
+pub mod Said
 pub mod Serve
-pub mod Shared

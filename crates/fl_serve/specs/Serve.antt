@@ -1,12 +1,16 @@
 -- What a session with workers did.
-use Rattle.std.specs.Prelude.{◌≡◌, ℕ, ◌≤◌, ◌⊎◌, Bool, true, false, List, [], ◌∷◌, ◌++◌, length, Option, Some}
+use Rattle.std.specs.Prelude.{◌≡◌, ℕ, ◌≤◌, ◌⊎◌, Bool, true, false, List, [], ◌∷◌, ◌++◌, All, length, Option, Some}
+use Rattle.fl_intake.specs.Often.{AreAsOften}
+use Rattle.fl_order.specs.Order.{only_reads}
 use Rattle.fl_session.specs.Served.{EndsBy, IsRead}
 use Rattle.fl_session.specs.Session.{Came, session_of}
 use Rattle.fl_session.specs.Talk.{bytes_of, goodbye_to}
 use Rattle.fl_session.specs.declared.server.Owed.{Owed}
 use Rattle.fl_session.specs.declared.session.Done.{Done}
 use Rattle.fl_session.specs.declared.session.Fault.TheVariants.{NoReader}
-use Rattle.fl_serve.specs.Shared.{HasSent, HasSentLast}
+use Rattle.fl_serve.specs.Said.{said_in}
+use Rattle.fl_workers.specs.Asked.{Orders, asked}
+use Rattle.fl_workers.specs.Shared.{HasSent, HasSentLast}
 
 -- the last message is a DESTROY, to which this is owed
 pub record IsLast (came : List Came) (goodbye : Owed) : Type 0 where
@@ -21,6 +25,15 @@ pub record SaysGoodbye (came : List Came) (held held_now : Option (List ℕ)) : 
   pub last : IsLast came goodbye
   pub sent : HasSentLast held held_now (bytes_of goodbye)
 
+-- The orders that the messages say are, each as often, those that the history asks, some that were looked for, which only
+-- read, and some that were refused, of which there is none where no refusal is told.
+pub record IsAsked (came : List Came) (done : Done) : Type 0 where
+  pub looked : Orders
+  pub refused : Orders
+  pub each : AreAsOften (said_in came) (asked done.history ++ looked ++ refused)
+  pub reads : All (λ order. only_reads order.op ≡ true) looked
+  pub none : done.refused ≡ false → refused ≡ []
+
 -- a worker got no reader, or the board couldn't tell the history
 pub record HasNoHistory (done : Done) : Type 0 where
   pub fault : done.fault ≡ Some NoReader
@@ -29,7 +42,7 @@ pub record HasNoHistory (done : Done) : Type 0 where
 -- What was read is whole messages and a rest of at most 8192 bytes, and no message came after one that ended the
 -- session. Whole replies were written behind what the writer held; where a write failed (`broken`), a beginning of them.
 -- Where none failed, the last of them answers the DESTROY that ended the session, if one did. The fault is that of the end,
--- or the history couldn't be told.
+-- or the history couldn't be told. Else the history asks what the messages say.
 pub record IsServedBy (left left_now held held_now : Option (List ℕ)) (done : Done) : Type 0 where
   pub came : List Came
   pub rest : List ℕ
@@ -39,3 +52,4 @@ pub record IsServedBy (left left_now held held_now : Option (List ℕ)) (done : 
   pub sent : HasSent held held_now [] broken
   pub goodbye : broken ≡ false → (session_of came).over ≡ true → SaysGoodbye came held held_now
   pub ending : EndsBy done.fault broken came rest left_now ⊎ HasNoHistory done
+  pub orders : IsAsked came done ⊎ HasNoHistory done

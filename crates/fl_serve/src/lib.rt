@@ -1,16 +1,9 @@
 //! A session of the FUSE protocol with workers, over any reader and any writer.
 #![tactic(auto)]
 
-mod batch;
-mod counter;
-mod intake;
 mod serving;
-mod shared;
-mod worker;
 
-pub use counter::{Counter, Gate, OpenGate};
+pub use fl_intake::{Closed, Intake, Job, MOST_JOBS, NotAll, PutEnd, TakeEnd};
 pub use fl_session::{Broken, Done, Ended, Fault, Outbox, run_one, run_session};
-pub use intake::{Closed, Intake, Job, MOST_JOBS};
+pub use fl_workers::{Counter, Gate, OpenGate, Shared, Worked, WriterName, worker_loop};
 pub use serving::{serve, serve_on_stack};
-pub use shared::{Shared, WriterName};
-pub use worker::{Worked, worker_loop};

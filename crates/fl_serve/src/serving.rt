@@ -1,24 +1,28 @@
 //! A whole session of the FUSE protocol with workers, over any reader and any writer.
 
-ghost use Rattle.std.specs.Prelude.{◌≡◌, ◌≢◌, ◌≤◌, ◌<◌, ◌⊎◌, [], false, Some, length, vec_capacity, IfOk};
+ghost use Rattle.std.specs.Prelude.{◌≡◌, ◌≢◌, ◌≤◌, ◌<◌, ◌+◌, ◌⊎◌, ◌||◌, ℕ, Bool, List, [], All, Option, false, Some};
+ghost use Rattle.std.specs.Prelude.{length, map, sum_by, IfOk};
+ghost use Rattle.std.specs.List.{range_with_len};
 ghost use Rattle.std.specs.Io.KnownBytes.{Keeps};
 ghost use Rattle.fl_desk.specs.Legal.{IsLegal};
 ghost use Rattle.fl_session.specs.Inbox.{IsUnread};
-ghost use Rattle.fl_session.specs.Talk.{bytes_of};
+ghost use Rattle.fl_intake.specs.Ends.{weight_taken};
+ghost use Rattle.fl_intake.specs.Often.{Weight};
+ghost use Rattle.fl_serve.specs.Inside.Hearing.{HasHeard};
+ghost use Rattle.fl_serve.specs.Inside.Working.{HasAll, HaveDone, IsFresh};
 ghost use Rattle.fl_serve.specs.Serve.{HasNoHistory, IsServedBy};
-ghost use Rattle.fl_serve.specs.Shared.{HasSent, HasSentLast};
 
 mod crew;
 mod hearing;
 
-use crate::counter::Gate;
-use crate::intake::Intake;
-use crate::serving::crew::{Back, Crew, Thread};
-use crate::shared::{Shared, WriterName};
+use crate::serving::crew::{Back, Crew, Posts};
+use crate::serving::hearing::Heard;
 use fl_board::{Board, BoardName, FreshLog, OpenFault, Seat};
 use fl_core::Tolds;
+use fl_intake::{Intake, Job, PutEnd};
 use fl_order::NoMemory;
 use fl_session::{Done, Fault, Inbox, Owed, ReplyBuffer};
+use fl_workers::{Gate, Shared, WriterName, handle_all};
 use std::alloc::Global;
 use std::io::{Read, Write};
 use std::marker::Brand;
@@ -126,13 +130,12 @@ fn serve_at<
     };
     let Rooms {
         board,
-        seats,
-        tolds,
         intake,
+        put,
+        posts,
+        tolds,
         inbox,
         replies,
-        threads,
-        places,
     } = rooms;
     let crew = Crew {
         rt,
@@ -142,14 +145,61 @@ fn serve_at<
         intake,
         shared: Mutex::new(Shared::<'w, W, N>::new(replies, w)),
     };
-    let (back, heard) = crew.run(r, inbox, seats, tolds, threads, places);
-    let Crew { board, shared, .. } = crew;
-    let (w, broken) = said_goodbye(shared.into_inner(), &heard.goodbye);
+    let (back, heard) = crew.run(r, inbox, put, posts);
     if heard.fault == Some(Fault::NoMemory) {
+        let Crew { shared, .. } = crew;
+        let (w, _) = shared.into_inner().close(&Owed::Nothing);
         return (Done::nothing(alloc, Fault::NoMemory), w);
     }
-    let told = Fault::told(heard.fault, broken);
-    (closed(alloc, board, back, told), w)
+    finished(alloc, crew, back, heard, tolds)
+}
+
+// Hands in what no worker took, says goodbye, and closes the board of a session whose workers came back.
+fn finished<'w, L: BoardName, N: WriterName, R: Wait, W: Write, G: Gate>(
+    alloc: Global,
+    crew: Crew<'_, 'w, L, N, R, W, G>,
+    back: Back<L>,
+    heard: Heard,
+    tolds: Tolds,
+) -> (Done, &'w mut W)
+    requires parts { L.workers ≡ L.parts }
+    requires mine { (heard.put.of ≡ crew.intake) × All (λ end. end.of ≡ crew.intake) back.ends.items }
+    requires all { heard.put.takers ≤ length back.ends.items }
+    requires some { 0 < length back.seats.items }
+    requires whose { map (λ seat. seat.worker) back.seats.items ≡ range_with_len 0 heard.put.takers }
+    requires did { HaveDone (λ weight. weight_taken weight back.ends.items) back.seats.items back.refused }
+    ensures writer { result.1.ghost_name ≡ N.name }
+    ensures legal { IsLegal result.0.history }
+    ensures served { (left left_now : Option (List ℕ))
+        → HasHeard left left_now heard.fault heard.put.put heard.goodbye
+        → IsServedBy left left_now N.start (W.contents result.1.now) result.0 }
+    ensures memory { heard.fault ≢ Some Fault.NoMemory → result.0.fault ≢ Some Fault.NoMemory }
+{
+    let Crew {
+        rt,
+        gate,
+        board,
+        intake,
+        shared,
+        ..
+    } = crew;
+    let Back {
+        seats,
+        ends,
+        refused,
+    } = back;
+    let Heard {
+        put,
+        fault,
+        goodbye,
+    } = heard;
+    let Ok(left) = intake.finish(rt, put, ends) else {
+        unreachable!()
+    };
+    let (seats, more) = handed_in(rt, &board, gate, &shared, seats, tolds, left);
+    let (w, broken) = shared.into_inner().close(&goodbye);
+    let told = Fault::told(fault, broken);
+    (closed(alloc, board, seats, refused | more, told), w)
 }
 
 // Why a session has no board.
@@ -163,19 +213,44 @@ fn unopened(fault: OpenFault) -> Fault
     }
 }
 
+// Hands in, at the last seat, the orders that no worker took, or looks for them. Tells whether one was refused.
+fn handed_in<L: BoardName, N: WriterName, P: Wait + Drop, R: Wait, W: Write, G: Gate>(
+    rt: &R,
+    board: &Board<L, P>,
+    gate: &G,
+    shared: &Mutex<Shared<'_, W, N>>,
+    seats: Vec<Seat<L>>,
+    tolds: Tolds,
+    left: Vec<Job>,
+) -> (Vec<Seat<L>>, bool)
+    requires some { 0 < length seats.items }
+    ensures whose { map (λ seat. seat.worker) result.0.items ≡ map (λ seat. seat.worker) seats.items }
+    ensures did { (orders : Weight → ℕ) (any : Bool) → HaveDone orders seats.items any
+        → HaveDone (λ weight. orders weight + sum_by weight left.items) result.0.items (any || result.1) }
+{
+    let mut seats = seats;
+    let Some(seat) = seats.pop() else {
+        unreachable!()
+    };
+    let mut seat = seat;
+    let refused = handle_all(rt, board, gate, shared, &mut seat, tolds, left);
+    seats.push_reserved(seat);
+    (seats, refused)
+}
+
 // What a session came to whose workers gave all seats back, with this fault. Where the board can't tell the history, it is
 // told as want of a reader.
 fn closed<L: BoardName, R: Wait + Drop>(
     alloc: Global,
     board: Board<L, R>,
-    back: Back<L>,
+    seats: Vec<Seat<L>>,
+    refused: bool,
     fault: Option<Fault>,
 ) -> Done
     requires { L.workers ≡ L.parts }
     ensures legal { IsLegal result.history }
-    ensures fault { (result.fault ≡ fault) ⊎ HasNoHistory result }
+    ensures told { HasAll seats.items refused fault result ⊎ HasNoHistory result }
 {
-    let Back { seats, refused } = back;
     match board.close(seats) {
         Ok(history) => Done {
             history,
@@ -186,33 +261,16 @@ fn closed<L: BoardName, R: Wait + Drop>(
     }
 }
 
-// Sends what is owed last, and gives the writer back.
-fn said_goodbye<'w, W: Write, N: WriterName>(
-    shared: Shared<'w, W, N>,
-    goodbye: &Owed,
-) -> (&'w mut W, bool)
-    ensures same { result.0.ghost_name ≡ N.name }
-    ensures sent { HasSent N.start (W.contents result.0.now) [] result.1 }
-    ensures last { result.1 ≡ false → HasSentLast N.start (W.contents result.0.now) (bytes_of goodbye.now) }
-{
-    let mut shared = shared;
-    shared.collect(goodbye);
-    shared.flush();
-    shared.into_writer()
-}
-
 // All that a session has before its first read.
 struct Rooms<L: BoardName, R: Wait + Drop> {
     board: Board<L, R>,
-    seats: Vec<Seat<L>>,
-    // For each worker.
-    tolds: Vec<Tolds>,
     intake: Intake,
+    put: PutEnd,
+    posts: Posts<L>,
+    // For the orders that no worker takes.
+    tolds: Tolds,
     inbox: Inbox,
     replies: ReplyBuffer,
-    // Room for each worker's thread, and for each seat that comes back.
-    threads: Vec<Thread<L>>,
-    places: Vec<Seat<L>>,
 }
 
 impl<L: BoardName, R: Wait + Drop> Rooms<L, R> {
@@ -228,27 +286,41 @@ impl<L: BoardName, R: Wait + Drop> Rooms<L, R> {
         requires log { log ≡ L.log }
         requires parts { (workers ≡ L.parts) × (L.workers ≡ L.parts) }
         requires workers { (0 < workers) × (workers ≤ 16) }
-        ensures seats { IfOk result (λ rooms. length rooms.seats.items ≡ L.workers) }
-        ensures room { IfOk result (λ rooms. length rooms.seats.items ≤ vec_capacity rooms.places) }
+        ensures seats { IfOk result (λ rooms.
+            map (λ seat. seat.worker) rooms.posts.seats.items ≡ range_with_len 0 workers) }
+        ensures ends { IfOk result (λ rooms. All (IsFresh rooms.intake) rooms.posts.ends.items) }
+        ensures put { IfOk result (λ rooms. (rooms.put.of ≡ rooms.intake) × (rooms.put.takers ≡ workers)
+            × (rooms.put.closed ≡ false) × (rooms.put.put ≡ [])) }
         ensures unread { IfOk result (λ rooms. IsUnread rooms.inbox) }
-        ensures none { IfOk result (λ rooms. (rooms.threads.items ≡ []) × (rooms.places.items ≡ []) × (rooms.replies ≡ [])) }
+        ensures none { IfOk result (λ rooms. rooms.replies ≡ []) }
     {
-        let tolds = rooms_for_replies(alloc, workers)?;
-        let intake = Intake::new(alloc)?;
+        let tolds = Tolds::new(alloc)?;
+        let (intake, put, ends) = Intake::new(alloc, workers)?;
         let inbox = Inbox::new(alloc)?;
         let replies = ReplyBuffer::with_bytes(alloc, BATCH_BYTES)?;
+        let each = rooms_for_replies(alloc, workers)?;
         let threads = Vec::with_capacity(alloc, workers as usize)?;
-        let places = Vec::with_capacity(alloc, workers as usize)?;
+        let back = Back {
+            seats: Vec::with_capacity(alloc, workers as usize)?,
+            ends: Vec::with_capacity(alloc, workers as usize)?,
+            refused: false,
+        };
         let (board, seats) = Board::<L, R>::new(alloc, rt, blank, log, workers)?;
+        let posts = Posts {
+            seats,
+            ends,
+            tolds: each,
+            threads,
+            back,
+        };
         Ok(Rooms {
             board,
-            seats,
-            tolds,
             intake,
+            put,
+            posts,
+            tolds,
             inbox,
             replies,
-            threads,
-            places,
         })
     }
 }

@@ -108,3 +108,45 @@ fn a_lock_is_shown_to_both_seats(rt: HostRuntime) {
     assert!(rt; told.history.len() == 4);
     assert!(rt; check(rt.alloc(), &told.history) == Ok(Verdict::Legal));
 }
+
+// The last byte that owner 7 is shown to lock. It is given the seat alone, and so has no right to wait.
+fn last_locked<L: BoardName>(seat: &mut Seat<L>) -> Option<u64> {
+    let ask = order(90, 2, Op::Getlk(upto(8, 0)));
+    match seat.look(&ask) {
+        Ok(Ok(Answer::Lock { end, .. })) => Some(end),
+        _ => None,
+    }
+}
+
+// A seat hands in locks that grow, and is shown each one as soon as it is handed in.
+fn shown_each<L: BoardName, R: Wait + Abort>(
+    rt: &R,
+    alloc: Global,
+    blank: Blank,
+    log: FreshLog,
+) -> History
+    requires named { (blank.name ≡ L.name) × (blank.parts ≡ L.parts) }
+    requires log { log ≡ L.log }
+    requires parts { (1 ≡ L.parts) × (L.workers ≡ L.parts) }
+{
+    let (board, mut seats) = Board::<L, &R>::new(alloc, rt, blank, log, 1)
+        .ok()
+        .expect(rt, "a board");
+    let mut tolds = Tolds::new(alloc).expect(rt, "memory");
+    let mut seat = seats.pop().expect(rt, "a seat");
+    take(rt, &board, &mut seat, &create(rt), &mut tolds);
+    for last in 0..20u64 {
+        let lock = order(last.saturating_add(2), 2, Op::Setlk(upto(7, last)));
+        take(rt, &board, &mut seat, &lock, &mut tolds);
+        assert!(rt; last_locked(&mut seat) == Some(last));
+    }
+    seats.push(seat).expect(rt, "memory");
+    board.close(seats).ok().expect(rt, "all seats")
+}
+
+#[test]
+fn a_seat_without_the_right_to_wait_is_shown_each_order(rt: HostRuntime) {
+    let history = shown_each::<Brand, _>(&rt, rt.alloc(), Blank::new(1), FreshLog::new());
+    assert!(rt; history.len() == 42);
+    assert!(rt; check(rt.alloc(), &history) == Ok(Verdict::Legal));
+}

@@ -1,9 +1,13 @@
 -- The reader of a session with workers, while it is under way.
-use Rattle.std.specs.Prelude.{◌≡◌, ℕ, ◌≤◌, true, false, List, length, Option}
+use Rattle.std.specs.Prelude.{◌≡◌, ℕ, ◌≤◌, true, false, List, [], ◌∷◌, ◌++◌, length, Option}
+use Rattle.fl_serve.specs.Said.{said_in}
+use Rattle.fl_workers.specs.Asked.{Orders}
 use Rattle.fl_serve.specs.Serve.{IsLast}
 use Rattle.fl_session.specs.Inbox.{IsEnding}
 use Rattle.fl_session.specs.Served.{IsRead}
 use Rattle.fl_session.specs.Session.{Came, Session, session_of, with_message}
+use Rattle.fl_session.specs.declared.server.Met.{Met}
+use Rattle.fl_session.specs.declared.server.Met.TheVariants as met
 use Rattle.fl_session.specs.declared.server.Owed.{Owed}
 use Rattle.fl_session.specs.declared.server.Talk.{Talk}
 use Rattle.fl_session.specs.declared.session.Fault.{Fault}
@@ -18,19 +22,28 @@ abbrev pub Hears : Talk → Talk → List ℕ → Type 0
 Hears old new message = (s : Session) → IsThisFar s old
     → IsThisFar (with_message s (record { message = message; refused = false })) new
 
--- What was read is whole messages and a rest, and the session of these messages is this far. Where it is over, this is
--- owed to the last.
-pub record IsHearing (left left_now : Option (List ℕ)) (talk : Talk) (goodbye : Owed) (rest : List ℕ) : Type 0 where
+-- an order is put behind the others, and an answer of the session itself puts none
+abbrev pub IsPutAs : Met → Orders → Orders → Type 0
+IsPutAs (met.Order order) put put_now = put_now ≡ put ++ order ∷ []
+IsPutAs (met.Owed owed) put put_now = put_now ≡ put
+
+-- What was read is whole messages and a rest, the session of these messages is this far, and their orders were put. Where it is
+-- over, this is owed to the last.
+pub record IsHearing (left left_now : Option (List ℕ)) (talk : Talk) (put : Orders) (goodbye : Owed)
+    (rest : List ℕ) : Type 0 where
   pub came : List Came
   pub is_read : IsRead left left_now came rest
   pub far : IsThisFar (session_of came) talk
+  pub said : put ≡ said_in came
   pub over : talk.over ≡ true → IsLast came goodbye
 
--- The reader ended, with this fault. Where the session is over, this is owed to the last message.
-pub record HasHeard (left left_now : Option (List ℕ)) (fault : Option Fault) (goodbye : Owed) : Type 0 where
+-- The reader ended, with this fault, and put the orders of the messages. Where the session is over, this is owed to the last.
+pub record HasHeard (left left_now : Option (List ℕ)) (fault : Option Fault) (put : Orders) (goodbye : Owed)
+    : Type 0 where
   pub came : List Came
   pub rest : List ℕ
   pub is_read : IsRead left left_now came rest
   pub bounded : length rest ≤ 8192
   pub ending : IsEnding fault (session_of came).over rest left_now
+  pub said : put ≡ said_in came
   pub over : (session_of came).over ≡ true → IsLast came goodbye

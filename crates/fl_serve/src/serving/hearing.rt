@@ -1,14 +1,16 @@
 //! How the reader of a session with workers reads its stream.
 
-ghost use Rattle.std.specs.Prelude.{◌≡◌, ◌≢◌, Some, true, false};
-ghost use Rattle.fl_serve.specs.Inside.Hearing.{HasHeard, Hears};
+ghost use Rattle.std.specs.Prelude.{◌≡◌, ◌≢◌, ◌++◌, [], Some, true, false};
+ghost use Rattle.fl_serve.specs.Said.{order_said};
+ghost use Rattle.fl_serve.specs.Inside.Hearing.{HasHeard, Hears, IsThisFar};
 ghost use Rattle.fl_session.specs.Inbox.{IsUnread};
+ghost use Rattle.fl_session.specs.Session.{Session};
 ghost use Rattle.fl_session.specs.Talk.{goodbye_to};
 
-use crate::intake::Intake;
-use crate::shared::{Shared, WriterName};
+use fl_intake::{Intake, PutEnd};
 use fl_session::{Fault, Filled, Inbox, Met, Owed, Talk};
 use fl_wire::{Frame, Step};
+use fl_workers::{Shared, WriterName};
 use std::io::{Read, Write};
 use std::sync::{Mutex, Wait};
 
@@ -18,14 +20,19 @@ pub(crate) struct Hearer<'r, 'a, 'w, R, W: Write, N: WriterName> {
     rt: &'r R,
     intake: &'a Intake,
     shared: &'a Mutex<Shared<'w, W, N>>,
+    put: PutEnd,
     talk: Talk,
     // The answer to the DESTROY that ended the session.
     goodbye: Owed<'static>,
+    ghost mine: { put.of ≡ intake.now },
+    ghost open: { put.closed ≡ false },
 }
 
 /// How the reader's part of a session ended.
-#[derive(Clone, Copy, Debug)]
+#[derive(Drop)]
 pub(crate) struct Heard {
+    /// The end at which it put its orders.
+    pub put: PutEnd,
     /// Its fault, if any.
     pub fault: Option<Fault>,
     /// What is owed to the message that ended the session, if one did, once all orders are answered.
@@ -38,13 +45,18 @@ impl<'r, 'a, 'w, R: Wait, W: Write, N: WriterName> Hearer<'r, 'a, 'w, R, W, N> {
         rt: &'r R,
         intake: &'a Intake,
         shared: &'a Mutex<Shared<'w, W, N>>,
+        put: PutEnd,
     ) -> Hearer<'r, 'a, 'w, R, W, N>
-        ensures { (result.talk.agreed ≡ false) × (result.talk.over ≡ false) }
+        requires mine { put.of ≡ intake.now }
+        requires open { put.closed ≡ false }
+        ensures put { result.put ≡ put }
+        ensures fresh { (result.talk.agreed ≡ false) × (result.talk.over ≡ false) }
     {
         Hearer {
             rt,
             intake,
             shared,
+            put,
             talk: Talk::new(),
             goodbye: Owed::Nothing,
         }
@@ -53,8 +65,9 @@ impl<'r, 'a, 'w, R: Wait, W: Write, N: WriterName> Hearer<'r, 'a, 'w, R, W, N> {
     /// Reads until the session ends: orders go to the intake, and other messages are answered at once.
     pub(crate) fn hear_all<I: Read>(self, r: &mut I, inbox: &mut Inbox) -> Heard
         requires unread { IsUnread inbox.old }
-        requires fresh { (self.talk.agreed ≡ false) × (self.talk.over ≡ false) }
-        ensures heard { HasHeard (I.remaining r.old) (I.remaining r.new) result.fault result.goodbye }
+        requires fresh { (self.talk.agreed ≡ false) × (self.talk.over ≡ false) × (self.put.put ≡ []) }
+        ensures heard { HasHeard (I.remaining r.old) (I.remaining r.new) result.fault result.put.put result.goodbye }
+        ensures same { (result.put.of ≡ self.entry.put.of) × (result.put.takers ≡ self.entry.put.takers) }
         ensures memory { result.fault ≢ Some Fault.NoMemory }
     {
         let mut hearer = self;
@@ -67,6 +80,8 @@ impl<'r, 'a, 'w, R: Wait, W: Write, N: WriterName> Hearer<'r, 'a, 'w, R, W, N> {
                 }
                 Step::Bad(len) => return hearer.ended(Some(Fault::BadLength(len))),
                 Step::More => {
+                    // Nobody sleeps for long over orders that are left, while the reader waits.
+                    hearer.intake.call_one_more();
                     if let Filled::End(fault) = inbox.fill(r) {
                         return hearer.ended(fault);
                     }
@@ -79,11 +94,14 @@ impl<'r, 'a, 'w, R: Wait, W: Write, N: WriterName> Hearer<'r, 'a, 'w, R, W, N> {
     // How the reader's part ended, with this fault.
     fn ended(self, fault: Option<Fault>) -> Heard
         ensures fault { result.fault ≡ fault }
+        ensures put { result.put ≡ self.entry.put }
         ensures goodbye { result.goodbye ≡ self.entry.goodbye }
     {
+        let Hearer { put, goodbye, .. } = self;
         Heard {
+            put,
             fault,
-            goodbye: self.goodbye,
+            goodbye,
         }
     }
 
@@ -91,13 +109,17 @@ impl<'r, 'a, 'w, R: Wait, W: Write, N: WriterName> Hearer<'r, 'a, 'w, R, W, N> {
     #[tactic(auto, using(crate::proofs::HearingLemmas::hears))]
     fn hear(&mut self, frame: &Frame)
         requires { self.old.talk.over ≡ false }
+        ensures same { (self.new.put.of ≡ self.old.put.of) × (self.new.put.takers ≡ self.old.put.takers) }
         ensures heard { Hears self.old.talk self.new.talk frame.now }
+        ensures put { (s : Session) → IsThisFar s self.old.talk
+            → self.new.put.put ≡ self.old.put.put ++ order_said s frame.now }
         ensures ends { self.new.talk.over ≡ true → self.new.goodbye ≡ goodbye_to frame.now }
     {
         match self.talk.meet(frame) {
             Met::Order(order) => {
-                // Nobody closes the intake before the reader has ended.
-                let _ = self.intake.put(self.rt, order);
+                let Ok(()) = self.intake.put(self.rt, &mut self.put, order) else {
+                    unreachable!()
+                };
             }
             Met::Owed(owed) if self.talk.over => self.goodbye = owed,
             Met::Owed(owed) => self.answer(&owed),

@@ -1,0 +1,2 @@
+-- The rule of the queue. No contract of a public function cites these definitions.
+pub mod Conserved

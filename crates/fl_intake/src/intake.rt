@@ -1,0 +1,246 @@
+//! The intake: what is put at one end is taken at 1 to 16 others.
+
+ghost use Rattle.std.specs.Prelude.{◌≡◌, ◌<◌, ◌≤◌, ◌+◌, ◌++◌, ◌∷◌, ◌↔◌, [], All, true, false, length, sum_by};
+ghost use Rattle.std.specs.Prelude.{vec_capacity, IfErr, IfOk, IsErr, MatchResult, option_to_list};
+ghost use Rattle.crossbeam_queue.specs.Passes.{view, IsPassOf};
+ghost use Rattle.fl_intake.specs.Ends.{weight_taken};
+ghost use Rattle.fl_intake.specs.Often.{Weight};
+
+use crate::ends::{Closed, Job, PutEnd, TakeEnd};
+use crate::rule::{EndPass, OrderQueue, Putting, Sharing, Taking};
+use crate::waking::Waking;
+use fl_order::{NoMemory, Op, Order};
+use std::alloc::Global;
+use std::marker::Model;
+use std::sync::Wait;
+
+/// The most jobs that wait for a worker.
+pub const MOST_JOBS: usize = 64;
+
+/// A queue of at most 64 jobs, the oldest first, which can be closed. Contracts see which one it is.
+#[derive(Drop)]
+pub struct Intake {
+    queue: OrderQueue,
+    waking: Waking,
+}
+
+impl Model for Intake {
+    ghost use Rattle.std.specs.Prelude.{◌≡◌};
+    ghost use Rattle.atomic_table.specs.Seated.{TableId, table_id_coded};
+    ghost use Rattle.crossbeam_queue.specs.Passes.{ruled_capacity};
+
+    ghost Value = { TableId };
+
+    ghost coded = { table_id_coded };
+
+    ghost view = { λ i. i.queue.table.shared.table_id };
+
+    ghost invariant = { λ i. ruled_capacity i.queue ≡ 64 };
+}
+
+/// Ends that take are missing. All comes back.
+#[derive(Drop)]
+pub struct NotAll {
+    /// The intake, as it was.
+    pub intake: Intake,
+    /// Its end that puts.
+    pub put: PutEnd,
+    /// The ends that take which were handed back.
+    pub takes: Vec<TakeEnd>,
+}
+
+impl Intake {
+    /// An open intake with room for 64 jobs, the end that puts, and 1 to 16 ends that take.
+    pub fn new(alloc: Global, takers: u32) -> Result<(Intake, PutEnd, Vec<TakeEnd>), NoMemory>
+        requires takers { (0 < takers) × (takers ≤ 16) }
+        ensures put { IfOk result (λ made. (made.1.of ≡ made.0) × (made.1.takers ≡ takers)
+            × (made.1.put ≡ []) × (made.1.closed ≡ false)) }
+        ensures takes { IfOk result (λ made. All (λ end. (end.of ≡ made.0) × (end.taken ≡ [])) made.2.items) }
+        ensures takers { IfOk result (λ made. length made.2.items ≡ takers) }
+    {
+        let room = Vec::with_capacity(alloc, MOST_JOBS)?;
+        let mut takes = Vec::with_capacity(alloc, takers as usize)?;
+        let (queue, mut pass) = OrderQueue::ruled(alloc, MOST_JOBS)?;
+        for _ in 0..takers {
+            let share = queue.another::<Sharing>(&mut pass);
+            takes.push_reserved(TakeEnd { pass: share });
+        }
+        let put = PutEnd {
+            pass,
+            takers,
+            closed: false,
+            room,
+        };
+        let intake = Intake {
+            queue,
+            waking: Waking::new(takers),
+        };
+        Ok((intake, put, takes))
+    }
+
+    /// Puts a job behind the others, and waits while 64 are inside. Where its end is closed it hands the job back.
+    pub fn put<R: Wait>(&self, rt: &R, end: &mut PutEnd, job: Job) -> Result<(), Closed>
+        requires end { end.old.of ≡ self.now }
+        ensures of { (end.new.of ≡ end.old.of) × (end.new.takers ≡ end.old.takers) }
+        ensures state { end.new.closed ≡ end.old.closed }
+        ensures put { MatchResult result (λ _. end.new.put ≡ end.old.put ++ job ∷ [])
+            (λ closed. (closed.job ≡ job) × (end.new ≡ end.old)) }
+        ensures closed { IsErr result ↔ (end.old.closed ≡ true) }
+    {
+        if end.closed {
+            return Err(Closed { job });
+        }
+        for _ in rt.forever() {
+            if self.put_if_room(rt, end, &job) {
+                self.waking.count_put();
+                return Ok(());
+            }
+            self.waking.wait_for_room(rt);
+        }
+        unreachable!()
+    }
+
+    // Puts a job, if there is room. The queue takes it by value: this is the one copy on the way in that is ours.
+    fn put_if_room<R: Wait>(&self, rt: &R, end: &mut PutEnd, job: &Job) -> bool
+        requires end { end.old.of ≡ self.now }
+        ensures of { (end.new.of ≡ end.old.of) × (end.new.takers ≡ end.old.takers) }
+        ensures state { end.new.closed ≡ end.old.closed }
+        ensures done { result ≡ true → end.new.put ≡ end.old.put ++ job.now ∷ [] }
+        ensures full { result ≡ false → end.new ≡ end.old }
+    {
+        self.queue
+            .push_as::<Putting, R>(rt, &mut end.pass, *job)
+            .is_ok()
+    }
+
+    /// Takes the oldest job, and waits while there is none. Once the intake is closed and empty there comes none.
+    pub fn take<R: Wait>(&self, rt: &R, end: &mut TakeEnd) -> Option<Job>
+        requires end { end.old.of ≡ self.now }
+        ensures same { end.new.of ≡ end.old.of }
+        ensures taken { end.new.taken ≡ end.old.taken ++ option_to_list result }
+    {
+        let mut slept = false;
+        for _ in rt.forever() {
+            // Whoever closes puts nothing afterwards. So where it is closed before this try, the try misses no job.
+            let closed = self.waking.is_closed();
+            let job = self.take_now(rt, end);
+            if job.is_some() {
+                if slept {
+                    self.waking.call_one_more();
+                }
+                return job;
+            }
+            if closed {
+                return None;
+            }
+            self.waking.sleep(rt);
+            slept = true;
+        }
+        unreachable!()
+    }
+
+    /// Takes the oldest job, if there is one. It doesn't sleep.
+    pub fn take_now<R: Wait>(&self, rt: &R, end: &mut TakeEnd) -> Option<Job>
+        requires end { end.old.of ≡ self.now }
+        ensures same { end.new.of ≡ end.old.of }
+        ensures taken { end.new.taken ≡ end.old.taken ++ option_to_list result }
+    {
+        let job = self.queue.pop_as::<Taking, R>(rt, &mut end.pass);
+        if job.is_some() {
+            self.waking.count_taken();
+        }
+        job
+    }
+
+    /// Looks for a job for some 70 microseconds, where no other worker does. It doesn't sleep. Whoever has looked has to call
+    /// `take` next, since nobody is woken for a job that comes while it looks.
+    pub fn look(&self) {
+        self.waking.look();
+    }
+
+    /// Wakes one more worker, where jobs are inside and one sleeps, for the case that those awake are held up. Whoever puts
+    /// calls it before it does anything else that may take long, as a read: no `put` comes then that wakes one.
+    pub fn call_one_more(&self) {
+        self.waking.call_one_more();
+    }
+
+    /// No more jobs may come through this end. Those inside are still taken. It waits for nobody.
+    pub fn close(&self, end: &mut PutEnd)
+        requires end { end.old.of ≡ self.now }
+        ensures same { (end.new.of ≡ end.old.of) × (end.new.takers ≡ end.old.takers) × (end.new.put ≡ end.old.put) }
+        ensures closed { end.new.closed ≡ true }
+    {
+        end.closed = true;
+        self.waking.close();
+    }
+
+    /// The jobs that are left inside, the oldest first, where no end that takes is missing. What was put is, each as often,
+    /// what was taken and what is left.
+    pub fn finish<R: Wait>(
+        self,
+        rt: &R,
+        put: PutEnd,
+        takes: Vec<TakeEnd>,
+    ) -> Result<Vec<Job>, NotAll>
+        requires put { put.of ≡ self }
+        requires takes { All (λ end. end.of ≡ self) takes.items }
+        ensures left { IfOk result (λ left. (weight : Weight)
+            → sum_by weight put.put ≡ weight_taken weight takes.items + sum_by weight left.items) }
+        ensures missing { IsErr result ↔ (length takes.items < put.takers) }
+        ensures back { IfErr result (λ back. back ≡ record { intake = self; put = put; takes = takes }) }
+    {
+        if takes.len() < put.takers as usize {
+            return Err(NotAll {
+                intake: self,
+                put,
+                takes,
+            });
+        }
+        let Intake {
+            queue,
+            waking: _waking,
+        } = self;
+        let PutEnd { pass, room, .. } = put;
+        let pass = merged(&queue, pass, takes);
+        Ok(drained(rt, &queue, pass, room))
+    }
+}
+
+// A pass that knows what all of these know.
+fn merged(queue: &OrderQueue, pass: EndPass, takes: Vec<TakeEnd>) -> EndPass
+    requires pass { IsPassOf queue.now pass × (0 < (view pass).shares) }
+    requires takes { All (λ end. end.of ≡ queue.now.table.shared.table_id) takes.items }
+    ensures pass { IsPassOf queue.now result }
+    ensures shares { (view result).shares ≡ (view pass).shares + length takes.items }
+    ensures put { (weight : Weight) → sum_by weight (view result).put ≡ sum_by weight (view pass).put }
+    ensures taken { (weight : Weight) → sum_by weight (view result).taken
+        ≡ sum_by weight (view pass).taken + weight_taken weight takes.items }
+{
+    let mut pass = pass;
+    for end in takes {
+        let TakeEnd { pass: other } = end;
+        queue.absorb::<Sharing>(&mut pass, other);
+    }
+    pass
+}
+
+// Takes out what is inside, by a pass that knows all that was put and taken.
+fn drained<R: Wait>(rt: &R, queue: &OrderQueue, pass: EndPass, room: Vec<Job>) -> Vec<Job>
+    requires pass { IsPassOf queue.now pass × (17 ≤ (view pass).shares) }
+    requires room { (room.items ≡ []) × (64 ≤ vec_capacity room) }
+    ensures left { (weight : Weight) → sum_by weight (view pass).put
+        ≡ sum_by weight (view pass).taken + sum_by weight result.items }
+{
+    let mut pass = pass;
+    let mut room = room;
+    queue.learn_as::<Taking>(&mut pass);
+    for _ in rt.forever() {
+        let Some(job) = queue.pop_as::<Taking, R>(rt, &mut pass) else {
+            return room;
+        };
+        // The prover has to be told of the op's type.
+        let op: Op = job.op;
+        room.push_reserved(Order { op, ..job });
+    }
+    unreachable!()
+}

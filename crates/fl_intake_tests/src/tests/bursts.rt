@@ -1,0 +1,118 @@
+//! Orders that come in bursts.
+
+ghost use Rattle.std.specs.Prelude.{◌≡◌, ◌<◌, ◌≤◌};
+
+use super::crew::{Crew, Putter, run};
+use super::order;
+use fl_intake::{Intake, PutEnd};
+use std::alloc::Global;
+use std::process::Abort;
+use std::sync::Wait;
+use std::sync::atomic::AtomicU64;
+use std::thread::Threads;
+
+const ORDERS: u64 = 10_000;
+
+// Puts a burst of orders, whose uniques go on from this one.
+fn burst<R: Wait + Abort>(rt: &R, crew: &Crew, put: &mut PutEnd, from: u64, size: u64)
+    requires { put.old.of ≡ crew.now.intake }
+    ensures { put.new.of ≡ crew.now.intake }
+{
+    for at in 0..size {
+        let job = order(from.saturating_add(at));
+        assert!(rt; crew.intake.put(rt, put, job).is_ok());
+    }
+    crew.intake.call_one_more();
+}
+
+// Bursts of 1 to 64, of which each other one is awaited, so that workers sleep.
+struct Growing;
+
+impl Putter for Growing {
+    fn put_all<R: Wait + Abort>(&self, rt: &R, crew: &Crew, put: &mut PutEnd) {
+        let mut from = 0u64;
+        let mut size = 1u64;
+        for _ in rt.forever() {
+            let size_now = size.min(ORDERS.saturating_sub(from));
+            if size_now == 0 {
+                break;
+            }
+            burst(rt, crew, put, from, size_now);
+            from = from.saturating_add(size_now);
+            if size % 2 == 0 {
+                assert!(rt; crew.await_come(from));
+            }
+            size = size % 64 + 1;
+        }
+    }
+}
+
+// Bursts of as many orders as there are workers, each held until all have come.
+struct Held {
+    size: u64,
+}
+
+impl Putter for Held {
+    fn put_all<R: Wait + Abort>(&self, rt: &R, crew: &Crew, put: &mut PutEnd) {
+        let mut from = 0u64;
+        for _ in 0..100 {
+            burst(rt, crew, put, from, self.size);
+            from = from.saturating_add(self.size);
+            assert!(rt; crew.await_come(from));
+        }
+    }
+}
+
+// These are the uniques from 0 on, in some order.
+fn are_first(rt: &impl Abort, uniques: Vec<u64>, many: u64) {
+    let mut uniques = uniques;
+    uniques.sort_unstable();
+    assert_eq!(rt; uniques.len() as u64, many);
+    let mut wanted = 0u64;
+    for unique in uniques {
+        assert_eq!(rt; unique, wanted);
+        wanted = wanted.saturating_add(1);
+    }
+}
+
+// All that is put is taken by so many workers, each order once, and none is left.
+fn goes_through<R: Threads + Wait + Sync + Abort, P: Putter>(
+    rt: &R,
+    alloc: Global,
+    workers: u32,
+    held: u64,
+    putter: &P,
+    many: u64,
+)
+    requires { (0 < workers) × (workers ≤ 16) }
+{
+    let (intake, put, ends) = Intake::new(alloc, workers).expect(rt, "memory");
+    let crew = Crew {
+        alloc,
+        intake,
+        come: AtomicU64::new(0),
+        held,
+    };
+    let (put, ends, uniques) = run(rt, &crew, put, ends, putter);
+    are_first(rt, uniques, many);
+    let Crew { intake, .. } = crew;
+    let left = intake.finish(rt, put, ends).ok().expect(rt, "all ends");
+    assert!(rt; left.is_empty());
+}
+
+#[test]
+fn each_order_is_taken_once(rt: HostRuntime) {
+    let alloc = rt.alloc();
+    goes_through(&rt, alloc, 1, 0, &Growing, ORDERS);
+    goes_through(&rt, alloc, 2, 0, &Growing, ORDERS);
+    goes_through(&rt, alloc, 4, 0, &Growing, ORDERS);
+    goes_through(&rt, alloc, 16, 0, &Growing, ORDERS);
+}
+
+#[test]
+fn held_orders_hold_up_no_other(rt: HostRuntime) {
+    let alloc = rt.alloc();
+    goes_through(&rt, alloc, 2, 2, &Held { size: 2 }, 200);
+    goes_through(&rt, alloc, 4, 4, &Held { size: 4 }, 400);
+    goes_through(&rt, alloc, 16, 16, &Held { size: 16 }, 1_600);
+}

@@ -1,0 +1,34 @@
+//! What nobody took.
+
+use super::order;
+use fl_intake::{Intake, NotAll};
+use fl_order::Order;
+use std::alloc::Global;
+use std::process::Abort;
+
+fn are_uniques(rt: &impl Abort, orders: &[Order], wanted: &[u64]) {
+    assert_eq!(rt; orders.len(), wanted.len());
+    for at in 0..wanted.len() {
+        let found = orders.get(at).map(|order| order.unique);
+        assert_eq!(rt; found, wanted.get(at).copied());
+    }
+}
+
+// Three jobs are put, and none is taken. No end of those that take is there at first.
+#[test]
+fn what_nobody_took_is_left(rt: HostRuntime) {
+    let alloc: Global = rt.alloc();
+    let (intake, mut put, takes) = Intake::new(alloc, 2).expect(&rt, "memory");
+    assert!(rt; intake.put(&rt, &mut put, order(7)).is_ok());
+    assert!(rt; intake.put(&rt, &mut put, order(8)).is_ok());
+    assert!(rt; intake.put(&rt, &mut put, order(9)).is_ok());
+    intake.close(&mut put);
+    let Err(closed) = intake.put(&rt, &mut put, order(10)) else {
+        unreachable!()
+    };
+    assert_eq!(rt; closed.job, order(10));
+    let missing = intake.finish(&rt, put, Vec::new(alloc));
+    let NotAll { intake, put, .. } = missing.err().expect(&rt, "not all");
+    let left = intake.finish(&rt, put, takes).ok().expect(&rt, "all");
+    are_uniques(&rt, left.as_slice(), &[7, 8, 9]);
+}

@@ -1,0 +1,25 @@
+-- Which orders the messages of a session say.
+use Rattle.std.specs.Prelude.{ℕ, List, [], ◌∷◌, ◌++◌, Result, Ok, Err, if◌then◌else◌}
+use Rattle.fl_order.specs.declared.order.Order.{Order}
+use Rattle.fl_order.specs.declared.refusal.Refusal.{Refusal}
+use Rattle.fl_session.specs.Session.{Came, Session, opening_session, with_message}
+use Rattle.fl_wire.specs.Says.{said}
+use Rattle.fl_workers.specs.Asked.{Orders}
+
+-- the order that was read, if it is one
+abbrev pub order_read : Result Order Refusal → Orders
+order_read (Ok order) = order ∷ []
+order_read (Err refusal) = []
+
+-- the order that a message says to a session that is this far: after the INIT that was agreed, and before a DESTROY
+abbrev pub order_said : Session → List ℕ → Orders
+order_said s message = if s.over then [] else if s.agreed then order_read (said message) else []
+
+-- the orders that these messages say to a session that is this far
+abbrev pub said_from : Session → List Came → Orders
+said_from s [] = []
+said_from s (c ∷ came) = order_said s c.message ++ said_from (with_message s c) came
+
+-- the orders that the messages of a session say
+abbrev pub said_in : List Came → Orders
+said_in came = said_from opening_session came

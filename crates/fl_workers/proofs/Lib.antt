@@ -1,0 +1,4 @@
+pub mod AskedLemmas
+pub mod BatchLemmas
+pub mod SharedLemmas
+pub mod WorkedLemmas

@@ -1,0 +1,4 @@
+pub mod Asked
+pub mod Collecting
+pub mod Shared
+pub mod Worked

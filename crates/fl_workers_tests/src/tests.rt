@@ -1,0 +1,16 @@
+//! Workers of a session, whose orders are answered in memory.
+
+mod came;
+mod crew;
+mod crossing;
+mod handling;
+mod left;
+mod looks;
+mod orders;
+mod refusals;
+mod tally;
+mod thousands;
+mod watch;
+
+// Bytes of replies that go out together: those of some 40 replies without a body.
+const BATCH_BYTES: usize = 672;

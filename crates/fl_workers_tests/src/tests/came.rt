@@ -1,0 +1,74 @@
+//! What came of orders, and what is wanted of them.
+
+use super::orders::{Reply, replies};
+use super::tally::Seat;
+use std::alloc::Global;
+use std::process::Abort;
+
+/// What came of orders at all seats.
+#[derive(Drop)]
+pub(super) struct Came {
+    /// The uniques of those that were handed in, one seat behind the other.
+    pub handed: Vec<u64>,
+    /// The uniques of those that were looked for and shown.
+    pub looked: Vec<u64>,
+    /// Some worker told that one was refused.
+    pub refused: bool,
+    /// How many seats there were.
+    pub seats: u64,
+}
+
+impl Came {
+    /// Of no seat.
+    pub(super) fn new(alloc: Global) -> Came {
+        Came {
+            handed: Vec::new(alloc),
+            looked: Vec::new(alloc),
+            refused: false,
+            seats: 0,
+        }
+    }
+
+    /// Adds what came of the orders at one seat more.
+    pub(super) fn keep(&mut self, rt: &impl Abort, seat: &Seat, refused: bool) {
+        for order in &seat.orders {
+            self.handed.push(order.unique).expect(rt, "memory");
+        }
+        for unique in &seat.looks {
+            self.looked.push(*unique).expect(rt, "memory");
+        }
+        self.refused |= refused;
+        self.seats = self.seats.saturating_add(1);
+    }
+}
+
+/// What is wanted of orders that one worker took, the oldest first.
+#[derive(Clone, Copy)]
+pub(super) struct Wanted<'a> {
+    pub handed: &'a [u64],
+    pub looked: &'a [u64],
+    pub refused: bool,
+    pub replies: &'a [Reply],
+}
+
+/// That came which is wanted, with these bytes.
+pub(super) fn is_wanted(
+    rt: &impl Abort,
+    alloc: Global,
+    came: &Came,
+    out: &[u8],
+    wanted: &Wanted<'_>,
+) {
+    are_uniques(rt, &came.handed, wanted.handed);
+    are_uniques(rt, &came.looked, wanted.looked);
+    assert_eq!(rt; came.refused, wanted.refused);
+    are_replies(rt, &replies(rt, alloc, out), wanted.replies);
+}
+
+pub(super) fn are_uniques(rt: &impl Abort, found: &[u64], wanted: &[u64]) {
+    assert_eq!(rt; found, wanted);
+}
+
+pub(super) fn are_replies(rt: &impl Abort, found: &[Reply], wanted: &[Reply]) {
+    assert_eq!(rt; found, wanted);
+}

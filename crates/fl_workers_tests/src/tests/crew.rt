@@ -1,0 +1,223 @@
+//! Workers in threads of their own, which take orders from an intake while this thread puts them.
+
+ghost use Rattle.std.specs.Prelude.{◌≡◌, ◌<◌, ◌≤◌, All, Some};
+
+use super::BATCH_BYTES;
+use super::came::Came;
+use super::tally::{Seat, Tally};
+use super::watch::Watch;
+use fl_core::Tolds;
+use fl_intake::{Intake, Job, PutEnd, TakeEnd};
+use fl_session::{Owed, ReplyBuffer};
+use fl_workers::{Shared, Worked, WriterName, worker_loop};
+use std::alloc::Global;
+use std::marker::Brand;
+use std::process::Abort;
+use std::sync::atomic::{AtomicU64, Ordering};
+use std::sync::{Mutex, Wait};
+use std::thread;
+use std::thread::Threads;
+use std::time::{Clock, Duration};
+
+// The most orders that are put together.
+const MOST_TOGETHER: u64 = 64;
+
+/// Puts all orders in bursts, each as soon as the one before was taken, and has so many workers hand them in. It puts the
+/// replies behind what was there.
+pub(super) fn worked<R: Threads + Wait + Clock + Abort + Sync>(
+    rt: &R,
+    alloc: Global,
+    tally: Tally,
+    gate: &Watch,
+    workers: u32,
+    orders: &[Job],
+    out: &mut Vec<u8>,
+) -> Came {
+    let staff = Staff {
+        tally,
+        workers: of_workers(workers),
+    };
+    let (came, _) = worked_at::<Brand, R>(rt, alloc, staff, gate, orders, out);
+    came
+}
+
+// So many workers, of which there are 1 to 16.
+fn of_workers(workers: u32) -> u32
+    ensures { (0 < result) × (result ≤ 16) }
+{
+    if workers == 0 || workers > 16 {
+        1
+    } else {
+        workers
+    }
+}
+
+// How many workers there are, and where they hand in.
+#[derive(Clone, Copy)]
+struct Staff {
+    tally: Tally,
+    workers: u32,
+}
+
+// The same, with a writer of this name.
+fn worked_at<'w, N: WriterName + Send + Sync, R: Threads + Wait + Clock + Abort + Sync>(
+    rt: &R,
+    alloc: Global,
+    staff: Staff,
+    gate: &Watch,
+    orders: &[Job],
+    out: &'w mut Vec<u8>,
+) -> (Came, &'w mut Vec<u8>)
+    requires start { Some out.old.items ≡ N.start }
+    requires named { out.ghost_name ≡ N.name }
+    requires workers { (0 < staff.workers) × (staff.workers ≤ 16) }
+{
+    let replies = ReplyBuffer::with_bytes(alloc, BATCH_BYTES).expect(rt, "memory");
+    let (intake, put, ends) = Intake::new(alloc, staff.workers).expect(rt, "memory");
+    let crew = Crew {
+        rt,
+        alloc,
+        tally: staff.tally,
+        gate,
+        intake,
+        shared: Mutex::new(Shared::<'w, Vec<u8>, N>::new(replies, out)),
+        started: AtomicU64::new(0),
+        came: Mutex::new(Came::new(alloc)),
+    };
+    crew.run(put, ends, orders);
+    let Crew { shared, came, .. } = crew;
+    let (out, broken) = shared.into_inner().close(&Owed::Nothing);
+    assert!(rt; !broken);
+    (came.into_inner(), out)
+}
+
+// What the workers share.
+#[derive(Drop)]
+struct Crew<'a, 'w, N: WriterName, R: Wait> {
+    rt: &'a R,
+    alloc: Global,
+    tally: Tally,
+    gate: &'a Watch,
+    intake: Intake,
+    shared: Mutex<Shared<'w, Vec<u8>, N>>,
+    // How many workers were started.
+    started: AtomicU64,
+    came: Mutex<Came>,
+}
+
+impl<'a, 'w, N: WriterName + Send + Sync, R: Threads + Wait + Clock + Abort + Sync> Crew<
+    'a,
+    'w,
+    N,
+    R,
+> {
+    // Puts all orders while a worker for each end takes them.
+    fn run(&self, put: PutEnd, ends: Vec<TakeEnd>, orders: &[Job])
+        requires put { put.of ≡ self.now.intake }
+        requires ends { All (λ end. end.of ≡ self.now.intake) ends.items }
+    {
+        let work = move ||
+            requires { All (λ end. end.of ≡ self.now.intake) ends.items }
+        { self.work_all(ends) };
+        let bring = move ||
+            requires { put.of ≡ self.now.intake }
+        { self.put_all(put, orders) };
+        thread::join(self.rt, work, bring);
+    }
+
+    // A worker for each end, each in a thread of its own.
+    fn work_all(&self, ends: Vec<TakeEnd>)
+        requires { All (λ end. end.of ≡ self.now.intake) ends.items }
+    {
+        let work = move |end: TakeEnd| -> TakeEnd
+            requires { end.of ≡ self.now.intake }
+        { self.work(end) };
+        let _ = thread::map_vec(self.rt, ends, &work).expect(self.rt, "memory");
+    }
+
+    // What a worker does at a seat of its own.
+    fn work(&self, end: TakeEnd) -> TakeEnd
+        requires { end.of ≡ self.now.intake }
+        ensures { result.of ≡ self.now.intake }
+    {
+        let worker = self.started.fetch_add(1, Ordering::SeqCst);
+        let seat = Seat::new(self.rt, self.alloc, worker);
+        let tolds = Tolds::new(self.alloc).expect(self.rt, "memory");
+        let Worked { seat, end, refused } = worker_loop(
+            self.rt,
+            &self.tally,
+            self.gate,
+            &self.intake,
+            &self.shared,
+            seat,
+            end,
+            tolds,
+        );
+        self.keep(&seat, refused);
+        end
+    }
+
+    fn keep(&self, seat: &Seat, refused: bool) {
+        let mut came = self.came.lock(self.rt);
+        came.keep(self.rt, seat, refused);
+    }
+
+    // Puts all orders, and closes the intake.
+    fn put_all(&self, put: PutEnd, orders: &[Job])
+        requires { put.of ≡ self.now.intake }
+    {
+        let mut put = put;
+        let mut bursts = Bursts::new();
+        for order in orders {
+            let is_in = self.intake.put(self.rt, &mut put, *order).is_ok();
+            assert!(self.rt; is_in);
+            if bursts.is_over() {
+                self.wait(&bursts);
+            }
+        }
+        self.intake.close(&mut put);
+    }
+
+    // Waits until all orders so far were taken. Behind each other burst it does as whoever reads, and behind each eighth it
+    // stays away for so long that all workers fall asleep.
+    fn wait(&self, bursts: &Bursts) {
+        if bursts.size % 2 == 0 {
+            self.intake.call_one_more();
+        }
+        self.gate.wait_for_orders(bursts.put);
+        if bursts.size % 8 == 0 {
+            thread::sleep(self.rt, Duration::from_millis(1));
+        }
+    }
+}
+
+// Bursts of 1, 2 and so on up to the most, and again.
+#[derive(Drop)]
+struct Bursts {
+    // How many orders were put.
+    put: u64,
+    // Of how many the burst is, and how many of these are still to come.
+    size: u64,
+    to_come: u64,
+}
+
+impl Bursts {
+    fn new() -> Bursts {
+        Bursts {
+            put: 0,
+            size: 0,
+            to_come: 0,
+        }
+    }
+
+    // Counts one order more, and says whether its burst is over.
+    fn is_over(&mut self) -> bool {
+        self.put = self.put.saturating_add(1);
+        if self.to_come == 0 {
+            self.size = self.size % MOST_TOGETHER + 1;
+            self.to_come = self.size;
+        }
+        self.to_come = self.to_come.saturating_sub(1);
+        self.to_come == 0
+    }
+}

@@ -1,0 +1,50 @@
+//! Orders that are handled at one seat, with no intake.
+
+ghost use Rattle.std.specs.Prelude.{◌≡◌, Some};
+
+use super::BATCH_BYTES;
+use super::came::Came;
+use super::tally::{Seat, Tally};
+use fl_core::Tolds;
+use fl_intake::Job;
+use fl_session::{Owed, ReplyBuffer};
+use fl_workers::{OpenGate, Shared, WriterName, handle_all};
+use std::alloc::Global;
+use std::marker::Brand;
+use std::process::Abort;
+use std::sync::{Mutex, Wait};
+
+/// Handles all orders at one seat, and puts the replies behind what was there.
+pub(super) fn handled<R: Wait + Abort>(
+    rt: &R,
+    alloc: Global,
+    tally: Tally,
+    orders: Vec<Job>,
+    out: &mut Vec<u8>,
+) -> Came {
+    let (came, _) = handled_at::<Brand, R>(rt, alloc, tally, orders, out);
+    came
+}
+
+// The same, with a writer of this name.
+fn handled_at<'w, N: WriterName, R: Wait + Abort>(
+    rt: &R,
+    alloc: Global,
+    tally: Tally,
+    orders: Vec<Job>,
+    out: &'w mut Vec<u8>,
+) -> (Came, &'w mut Vec<u8>)
+    requires start { Some out.old.items ≡ N.start }
+    requires named { out.ghost_name ≡ N.name }
+{
+    let replies = ReplyBuffer::with_bytes(alloc, BATCH_BYTES).expect(rt, "memory");
+    let tolds = Tolds::new(alloc).expect(rt, "memory");
+    let shared = Mutex::new(Shared::<'w, Vec<u8>, N>::new(replies, out));
+    let mut seat = Seat::new(rt, alloc, 0);
+    let refused = handle_all(rt, &tally, &OpenGate, &shared, &mut seat, tolds, orders);
+    let (out, broken) = shared.into_inner().close(&Owed::Nothing);
+    assert!(rt; !broken);
+    let mut came = Came::new(alloc);
+    came.keep(rt, &seat, refused);
+    (came, out)
+}

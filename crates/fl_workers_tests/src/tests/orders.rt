@@ -1,0 +1,80 @@
+//! Orders that are handed in, and replies that are read. The layout of a reply is that of `struct fuse_out_header`.
+
+use fl_history::Line;
+use fl_intake::Job;
+use fl_order::{Name, Op, Order};
+use fl_trace::read_trace;
+use std::alloc::Global;
+use std::process::Abort;
+
+/// The unique of a reply, and the number of its error, 0 where it has none.
+pub(super) type Reply = (u64, u32);
+
+/// The unique of the first order.
+pub(super) const FIRST: u64 = 2;
+
+// One order more.
+fn push(rt: &impl Abort, orders: &mut Vec<Job>, order: &Order) {
+    // The prover has to be told of the op's type.
+    let op: Op = order.op;
+    orders.push(Order { op, ..*order }).expect(rt, "memory");
+}
+
+/// The orders that the lines of a trace ask.
+pub(super) fn asked(rt: &impl Abort, alloc: Global, trace: &str) -> Vec<Job> {
+    let history = read_trace(alloc, trace.as_bytes()).expect(rt, "a trace");
+    let mut orders = Vec::new(alloc);
+    for at in 0..history.len() {
+        if let Line::Asked { worker: _, order } = history.line(at) {
+            push(rt, &mut orders, &order);
+        }
+    }
+    orders
+}
+
+/// So many LOOKUPs of a name that no file has. Their uniques stand in a row, from the first on.
+pub(super) fn lookups(rt: &impl Abort, alloc: Global, many: u64) -> Vec<Job> {
+    let name = Name::new(b"a").expect(rt, "a name");
+    let mut orders = Vec::new(alloc);
+    for at in 0..many {
+        let order = Order {
+            unique: at.saturating_add(FIRST),
+            node: 1,
+            uid: 0,
+            gid: 0,
+            pid: 0,
+            op: Op::Lookup(name),
+        };
+        push(rt, &mut orders, &order);
+    }
+    orders
+}
+
+// The number in 4 bytes at a place.
+fn word_at(bytes: &[u8], at: usize) -> u32 {
+    match bytes.get(at..) {
+        Some([a, b, c, d, ..]) => u32::from_le_bytes([*a, *b, *c, *d]),
+        _ => 0,
+    }
+}
+
+// The first two fields of a reply are its length and its error, negative.
+fn reply_at_front(bytes: &[u8]) -> Reply {
+    let unique = u64::from(word_at(bytes, 12)) << 32 | u64::from(word_at(bytes, 8));
+    (unique, 0u32.wrapping_sub(word_at(bytes, 4)))
+}
+
+/// The replies that these bytes are, as they stand there.
+pub(super) fn replies(rt: &impl Abort, alloc: Global, bytes: &[u8]) -> Vec<Reply> {
+    let mut replies = Vec::new(alloc);
+    let mut rest = bytes;
+    for _ in 0..bytes.len() {
+        if rest.is_empty() {
+            break;
+        }
+        replies.push(reply_at_front(rest)).expect(rt, "memory");
+        let behind = rest.get(word_at(rest, 0) as usize..);
+        rest = behind.expect(rt, "a whole reply");
+    }
+    replies
+}
