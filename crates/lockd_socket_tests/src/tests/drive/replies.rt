@@ -3,7 +3,7 @@
 use super::super::{Came, is, marked, own_path, spelled, unbind};
 use super::cases::stored_cases;
 use super::drive;
-use super::servers::{Manner, serve_one};
+use super::servers::{answer, read_one_and_go, take_nothing};
 use fl_testing::{Full, bytes_after};
 use lockd_commands::{Fault, Status, drive_on};
 use std::alloc::{AllocGlobal, Global};
@@ -16,34 +16,28 @@ use std::sync::Wait;
 use std::thread;
 use std::thread::{JoinHandle, Threads};
 
-// Starts a server of one client that treats it so, with these replies.
+// Starts a server of one client that sends these replies.
 fn start(
     rt: &(impl Abort + Threads + Net + Files + AllocGlobal),
     path: Path<'_>,
-    manner: Manner,
     replies: Vec<u8>,
 ) -> JoinHandle<Vec<u8>> {
     let alloc = rt.alloc();
     let listener = UnixListener::bind(rt, path).expect(rt, "a socket");
-    let server = thread::spawn(rt, move || {
-        serve_one(alloc, &listener, manner, &replies)
-    });
+    let server = thread::spawn(rt, move || answer(alloc, &listener, &replies));
     server.expect(rt, "a thread")
 }
 
-// What comes of a client at such a server, and the bytes that the server took. The socket's file goes.
+// What comes of a client at a server that sends these replies, and all bytes that the client sends.
 fn meet(
     rt: &(impl Abort + Threads + Wait + Net + Files + AllocGlobal),
     path: Path<'_>,
-    manner: Manner,
     replies: Vec<u8>,
     text: &[u8],
 ) -> (Came, Vec<u8>) {
-    let server = start(rt, path, manner, replies);
+    let server = start(rt, path, replies);
     let came = drive(rt, path, text);
-    let taken = server.join(rt);
-    unbind(rt, path);
-    (came, taken)
+    (came, server.join(rt))
 }
 
 fn run_case(
@@ -54,8 +48,9 @@ fn run_case(
     let alloc = rt.alloc();
     let replies = bytes_of(rt, alloc, case, "+ ");
     let text = marked(rt, alloc, "", case, "> ");
-    let (came, sent) = meet(rt, path, Manner::Answers, replies, text.as_bytes());
+    let (came, sent) = meet(rt, path, replies, text.as_bytes());
     is_case(rt, alloc, case, &came, &sent);
+    unbind(rt, path);
 }
 
 // The bytes that the lines with a mark spell.
@@ -93,9 +88,10 @@ fn prints(
     lines: &str,
 ) {
     let replies = spelled(rt, rt.alloc(), lines);
-    let (came, sent) = meet(rt, path, Manner::Answers, replies, text);
+    let (came, sent) = meet(rt, path, replies, text);
     is(rt, "a client that waits", &came, lines, "");
     assert!(rt; sent.is_empty());
+    unbind(rt, path);
 }
 
 // As many as one line can wait for, and one of 8192 bytes.
@@ -111,35 +107,26 @@ fn many_replies_and_the_longest(rt: HostRuntime) {
     prints(&rt, path.as_path(), b"recv 1\n", &longest);
 }
 
-// A client fails at a server of this manner, which has these replies: so much is printed, and this is told.
-fn fails(
+// The client sends two bytes, of which the server reads one. It goes when so many bytes of the reply are sent.
+fn breaks_off(
     rt: &(impl Abort + Threads + Wait + Net + Files + AllocGlobal),
     path: Path<'_>,
-    manner: Manner,
-    replies: &str,
-    text: &[u8],
-    printed: &str,
-    told: &str,
+    left: usize,
 ) {
-    let replies = spelled(rt, rt.alloc(), replies);
-    let (came, _) = meet(rt, path, manner, replies, text);
-    is(rt, "a client that fails", &came, printed, told);
+    let listener = UnixListener::bind(rt, path).expect(rt, "a socket");
+    let reply = b"\x10\0\0\0".get(..left).unwrap_or(&[]);
+    let server = thread::spawn(rt, move || read_one_and_go(&listener, reply));
+    let came = drive(rt, path, b"0102\nrecv 1\n");
+    is(rt, "a read that fails", &came, "", "read failed\n");
+    server.expect(rt, "a thread").join(rt);
+    unbind(rt, path);
 }
 
-// The client sends two bytes, of which the server reads one. It goes when so many bytes of the reply are sent.
 #[test]
 fn a_read_of_a_reply_that_fails(rt: HostRuntime) {
     let path = own_path(&rt).expect(&rt, "a path");
-    for reply in ["", "10", "100000"] {
-        fails(
-            &rt,
-            path.as_path(),
-            Manner::ReadsOneAndGoes,
-            reply,
-            b"0102\nrecv 1\n",
-            "",
-            "read failed\n",
-        );
+    for left in [0, 1, 3] {
+        breaks_off(&rt, path.as_path(), left);
     }
 }
 
@@ -147,15 +134,19 @@ fn a_read_of_a_reply_that_fails(rt: HostRuntime) {
 #[test]
 fn a_request_that_cannot_be_sent(rt: HostRuntime) {
     let path = own_path(&rt).expect(&rt, "a path");
-    fails(
+    let listener = UnixListener::bind(&rt, path.as_path()).expect(&rt, "a socket");
+    let replies = spelled(&rt, rt.alloc(), TWO_REPLIES);
+    let server = thread::spawn(&rt, move || take_nothing(&listener, &replies));
+    let came = drive(&rt, path.as_path(), b"recv 1\n0102\nrecv 1\n");
+    is(
         &rt,
-        path.as_path(),
-        Manner::TakesNothing,
-        TWO_REPLIES,
-        b"recv 1\n0102\nrecv 1\n",
+        "a write that fails",
+        &came,
         SHORT_LINE,
         "write failed\n",
     );
+    server.expect(&rt, "a thread").join(&rt);
+    unbind(&rt, path.as_path());
 }
 
 const SHORT_LINE: &str = "10000000f5ffffff0400000000000000\n";
@@ -180,7 +171,7 @@ fn fills_the_output(
     path: Path<'_>,
     left: usize,
 ) {
-    let server = start(rt, path, Manner::Answers, spelled(rt, rt.alloc(), SHORT));
+    let server = start(rt, path, spelled(rt, rt.alloc(), SHORT));
     drive_to_full(rt, path, left);
     assert_eq!(rt; server.join(rt).as_slice(), b"\x01\x02".as_slice());
     unbind(rt, path);

@@ -5,34 +5,9 @@ use std::io::{Read, Write};
 use std::net::Shutdown;
 use std::os::unix::net::UnixListener;
 
-/// How a server treats its client.
-#[derive(Clone, Copy)]
-pub(super) enum Manner {
-    /// It sends its replies and closes its side, and takes all bytes that come.
-    Answers,
-    /// It reads one byte, sends its replies, and goes.
-    ReadsOneAndGoes,
-    /// It takes no more bytes, and then sends its replies.
-    TakesNothing,
-}
-
-/// Serves the client so, and gives the bytes that came where it took all.
-pub(super) fn serve_one(
-    alloc: Global,
-    listener: &UnixListener,
-    manner: Manner,
-    replies: &[u8],
-) -> Vec<u8> {
-    match manner {
-        Manner::Answers => return answer(alloc, listener, replies),
-        Manner::ReadsOneAndGoes => read_one_and_go(listener, replies),
-        Manner::TakesNothing => take_nothing(listener, replies),
-    }
-    Vec::new(alloc)
-}
-
-// A client that goes before it has read all replies ends both.
-fn answer(alloc: Global, listener: &UnixListener, replies: &[u8]) -> Vec<u8> {
+/// Sends these replies and closes its side, and gives all bytes that come. A client that goes before it has read all
+/// replies ends both.
+pub(super) fn answer(alloc: Global, listener: &UnixListener, replies: &[u8]) -> Vec<u8> {
     let mut sent = Vec::new(alloc);
     if let Ok((stream, _)) = listener.accept() {
         let mut near = &stream;
@@ -43,8 +18,8 @@ fn answer(alloc: Global, listener: &UnixListener, replies: &[u8]) -> Vec<u8> {
     sent
 }
 
-// Where more than one byte came, the client's next read fails.
-fn read_one_and_go(listener: &UnixListener, reply: &[u8]) {
+/// Reads one byte, sends these, and goes. Where more than one byte came, the client's next read fails.
+pub(super) fn read_one_and_go(listener: &UnixListener, reply: &[u8]) {
     if let Ok((stream, _)) = listener.accept() {
         let mut near = &stream;
         let mut byte = [0];
@@ -53,7 +28,8 @@ fn read_one_and_go(listener: &UnixListener, reply: &[u8]) {
     }
 }
 
-fn take_nothing(listener: &UnixListener, replies: &[u8]) {
+/// Takes no more bytes, and then sends these replies.
+pub(super) fn take_nothing(listener: &UnixListener, replies: &[u8]) {
     if let Ok((stream, _)) = listener.accept() {
         let mut near = &stream;
         let _ = stream.shutdown(Shutdown::Read);
