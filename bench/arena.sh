@@ -1,19 +1,19 @@
 #!/bin/sh
 # Times a million inserts, steps and removes on one chain of 1,000 items, by the arena and by a plain
 # array-backed list in Rust, and prints both times in seconds and their ratio. It proves and builds
-# crates/arena_bench first, with `rt`, and needs `rustc` for the other.
+# bench/programs/arena_bench first, with `rt`, and needs `rustc` for the other.
 set -eu
 top=$(cd "$(dirname "$0")/.." && pwd)
 work=$(mktemp -d)
 trap 'rm -rf "$work"' EXIT
-(cd "$top/crates/arena_bench" && rt run >/dev/null 2>&1)
+program=$("$top/tools/build_bench" arena_bench)
 rustc -O -o "$work/list" "$top/bench/arena_list.rs"
 seconds() {
     python3 -c 'import subprocess, sys, time
 best = min((lambda t: (subprocess.run(sys.argv[1:], stdout=subprocess.DEVNULL, check=True), time.perf_counter() - t)[1])(time.perf_counter()) for _ in range(5))
 print(f"{best:.4f}")' "$@"
 }
-arena=$(seconds "$top/crates/arena_bench/out/arena_bench")
+arena=$(seconds "$program")
 list=$(seconds "$work/list")
 echo "arena $arena s"
 echo "list  $list s"

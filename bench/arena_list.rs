@@ -1,4 +1,4 @@
-// The same work as crates/arena_bench does, on a plain array-backed list.
+// The same work as bench/programs/arena_bench does, on a plain array-backed list.
 use std::hint::black_box;
 
 fn main() {

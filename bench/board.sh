@@ -1,12 +1,12 @@
 #!/bin/sh
 # Times 200,000 lock requests, each a lock set or dropped on the worker's own byte, handed in at a board by 1, 2 and 4 threads
 # in turn with a desk, which has no lock. Prints orders a second and the ratios to the desk: what the lock costs one thread,
-# and what is lost where several wait for it. It proves and builds crates/board_bench first, with `rt`. The runs take turns,
+# and what is lost where several wait for it. It proves and builds bench/programs/board_bench first, with `rt`. The runs take turns,
 # and the least time of each counts, less that of a run with no order.
 set -eu
 cd "$(dirname "$0")/.."
-(cd crates/board_bench && rt run > /dev/null)
-python3 - crates/board_bench/out/board_bench <<'END'
+program=$(tools/build_bench board_bench)
+python3 - "$program" <<'END'
 import subprocess, sys, time
 
 PROGRAM = sys.argv[1]

@@ -3,37 +3,23 @@
 # for each how many bytes an order and its reply take, how many orders a second a desk takes, and how long the longest
 # took: of a million SETLKs (each lock is dropped by the next), GETLKs (each finds a lock) and LOOKUPs of one name of 8
 # bytes, in turn, three times each; then of ten million SETLKs here. A rate is the best of the three. It proves and builds
-# bench/history_bench.rs in a copy of each tree, with `rt`, which takes long where a tree has no proved libraries yet.
+# bench/programs/history_bench over each tree, with `rt`, which takes long where a tree has no proved libraries yet.
 set -eu
 top=$(cd "$(dirname "$0")/.." && pwd)
 other=$(cd "$1" && pwd)
-work=$(mktemp -d)
-trap 'rm -rf "$work"' EXIT
-build() {
-    mkdir -p "$work/$2/crates/history_bench/src" "$work/$2/crates/history_bench/specs" "$work/$2/crates/history_bench/proofs"
-    # an older tree has the history and its text in fl_book
-    grep -E '^fl_(wire|arena|ranges|dir|core|history|trace|book)( [a-z_=A-Z0-9+]*)*:' "$1/crates.txt" > "$work/$2/crates.txt"
-    for crate in $(sed 's/[ :].*//' "$work/$2/crates.txt"); do
-        cp -a "$1/crates/$crate" "$work/$2/crates/"
-    done
-    echo 'history_bench: fl_book fl_core fl_order anyhow' >> "$work/$2/crates.txt"
-    cp "$top/bench/history_bench.rs" "$work/$2/crates/history_bench/src/main.rt"
-    (cd "$work/$2/crates/history_bench" && rt run < /dev/null > /dev/null)
-}
-build "$top" here
-build "$other" before
-python3 - "$work" <<'END'
+here=$("$top/tools/build_bench" history_bench)
+before=$("$top/tools/build_bench" history_bench "$other")
+python3 - "$here" "$before" <<'END'
 import os, subprocess, sys, time
 
 MILLION = 1_000_000
 
-def program(tree):
-    return f"{sys.argv[1]}/{tree}/crates/history_bench/out/history_bench"
+PROGRAMS = {"here": sys.argv[1], "before": sys.argv[2]}
 
 # Seconds, the most memory in bytes, and the longest order in microseconds.
 def run(tree, kind, orders):
     begun = time.monotonic()
-    process = subprocess.Popen([program(tree), kind, str(orders)], stdout=subprocess.PIPE)
+    process = subprocess.Popen([PROGRAMS[tree], kind, str(orders)], stdout=subprocess.PIPE)
     lines, longest = process.stdout.read().split()
     _, status, usage = os.wait4(process.pid, 0)
     assert status == 0 and int(lines) == 2 * orders + 4, (status, lines)

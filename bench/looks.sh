@@ -2,12 +2,12 @@
 # Times looks: GETLKs that find a lock's owner in nobody's way, answered by what a board publishes. Prints looks a second by 1, 2
 # and 4 threads, alone and beside one more thread that hands lock requests in without a pause; what one costs beside the
 # answer of a core that no other thread has; and what an order costs that one thread hands in, beside a desk. It proves and
-# builds crates/board_bench first, with `rt`. The runs take turns, and the least time of each counts, less that of a run with
+# builds bench/programs/board_bench first, with `rt`. The runs take turns, and the least time of each counts, less that of a run with
 # no look.
 set -eu
 cd "$(dirname "$0")/.."
-(cd crates/board_bench && rt run > /dev/null)
-python3 - crates/board_bench/out/board_bench <<'END'
+program=$(tools/build_bench board_bench)
+python3 - "$program" <<'END'
 import subprocess, sys, time
 
 PROGRAM = sys.argv[1]

@@ -1,6 +1,6 @@
 #!/bin/sh
 # Times lock requests on one file by how its locks stand, beside `fcntl` on a file in memory (bench/peers/locks.c), in turns in
-# one run: one owner with 1, 16, 256 and 4,096 runs of bytes; 4,000 owners with one run each; 64 owners. `crates/locks_bench`
+# one run: one owner with 1, 16, 256 and 4,096 runs of bytes; 4,000 owners with one run each; 64 owners. `bench/programs/locks_bench`
 # says what is asked. It proves and builds that first, with `rt`, and needs a C compiler. Prints microseconds an order of both,
 # and their ratio: the least of five runs each, less that of a run with no order. What is aimed at stands beside.
 #
@@ -12,9 +12,9 @@ cd "$(dirname "$0")/.."
 work=$(mktemp -d)
 trap 'rm -rf "$work"' EXIT
 trap 'exit 1' INT TERM
-(cd crates/locks_bench && rt run > /dev/null)
+program=$(tools/build_bench locks_bench)
 cc -O2 -Wall -Wextra -o "$work/locks" bench/peers/locks.c
-python3 - crates/locks_bench/out/locks_bench "$work/locks" "${1:-}" <<'END'
+python3 - "$program" "$work/locks" "${1:-}" <<'END'
 import re, subprocess, sys, time
 
 OURS, KERNEL, OPTION = sys.argv[1:]

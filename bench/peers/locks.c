@@ -1,4 +1,4 @@
-// The locks of crates/locks_bench, set and asked for by `fcntl` on a file in memory: each owner is an open file of its own
+// The locks of bench/programs/locks_bench, set and asked for by `fcntl` on a file in memory: each owner is an open file of its own
 // (F_OFD_SETLK). It takes the same four arguments, and prints the same line.
 //
 //     locks OWNERS RUNS anew|more|look|turns ORDERS
