@@ -5,5 +5,5 @@ use Rattle.lockd_cli.specs.declared.options.Asked.TheVariants.{Serve}
 
 -- a server is asked for 1 to 16 workers
 abbrev pub HasWorkers : Asked → Type 0
-HasWorkers (Serve socket workers) = (1 ≤ workers) × (workers ≤ 16)
+HasWorkers (Serve socket workers trace) = (1 ≤ workers) × (workers ≤ 16)
 HasWorkers asked = ⊤

@@ -5,6 +5,6 @@ mod options;
 mod refusal;
 mod version;
 
-pub use options::{Asked, read_words};
+pub use options::{Asked, Trace, WhenFull, read_words};
 pub use refusal::Refusal;
 pub use version::{VERSION, print_version};

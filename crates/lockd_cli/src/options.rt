@@ -5,12 +5,16 @@ ghost use Rattle.lockd_cli.specs.Workers.{HasWorkers};
 
 use crate::refusal::Refusal;
 use crate::version::VERSION;
+use clap::builder::ValueParser;
 use clap::error::ErrorKind;
 use clap::{Arg, ArgAction, ArgMatches, Command, Error};
 use std::alloc::Global;
 
 // The most workers of a server.
 const MOST_WORKERS: u32 = 16;
+
+// What may be said of a trace that can't be written; the first where nothing is.
+const WHEN_FULL: &[&str] = &["go-on", "refuse"];
 
 // Its workers where none are said, as the option's default has them.
 const DEFAULT_WORKERS: u32 = 4;
@@ -24,12 +28,32 @@ pub enum Asked {
     Bytes,
     /// Judges a trace, and says whether it is quiet where that is asked.
     Check(bool),
-    /// Serves a socket at this path, with so many workers.
-    Serve(String, u32),
+    /// Serves a socket at this path, with so many workers, and with its trace there.
+    Serve(String, u32, Trace),
     /// Sends messages to the socket at this path and prints its replies.
     Drive(String),
     /// Prints the program's version.
     Version,
+}
+
+/// Where the trace of a server goes.
+#[derive(Debug, Drop)]
+pub enum Trace {
+    /// To standard output, once the session is over. Memory grows with each order until then.
+    Printed,
+    /// Nowhere. Memory doesn't grow.
+    Nowhere,
+    /// To a new file at this path, as orders come. Memory doesn't grow.
+    File(String, WhenFull),
+}
+
+/// What becomes of orders once the trace's file can't be written.
+#[derive(Clone, Copy, Debug, PartialEq, Eq)]
+pub enum WhenFull {
+    /// They go on, and the rest of the trace is lost.
+    GoOn,
+    /// They are refused until it can be written again.
+    Refuse,
 }
 
 /// What the words of a command line ask for; the first is the program's name. A word that no command takes, a count of
@@ -48,7 +72,8 @@ pub fn read_words(alloc: Global, words: &[String]) -> Result<Asked, Refusal>
         Some(("serve", options)) => {
             let workers = options.get_one::<u32>("workers").unwrap_or(DEFAULT_WORKERS);
             let socket = socket_of(alloc, options)?;
-            Ok(Asked::Serve(socket, workers.clamp(1, MOST_WORKERS)))
+            let trace = trace_of(alloc, options)?;
+            Ok(Asked::Serve(socket, workers.clamp(1, MOST_WORKERS), trace))
         }
         Some(("drive", options)) => Ok(Asked::Drive(socket_of(alloc, options)?)),
         _ => Ok(Asked::Script),
@@ -59,6 +84,21 @@ pub fn read_words(alloc: Global, words: &[String]) -> Result<Asked, Refusal>
 fn socket_of(alloc: Global, options: &ArgMatches<'_>) -> Result<String, Refusal> {
     let socket = options.get_str("SOCKET").unwrap_or("");
     Ok(String::from_str(alloc, socket)?)
+}
+
+// Where the options send the trace. A file named none is ./none.
+fn trace_of(alloc: Global, options: &ArgMatches<'_>) -> Result<Trace, Refusal> {
+    let Some(trace) = options.get_str("trace") else {
+        return Ok(Trace::Printed);
+    };
+    if trace == "none" {
+        return Ok(Trace::Nowhere);
+    }
+    let full = match options.get_str("trace-full") {
+        Some("refuse") => WhenFull::Refuse,
+        _ => WhenFull::GoOn,
+    };
+    Ok(Trace::File(String::from_str(alloc, trace)?, full))
 }
 
 fn socket_argument<'a>(alloc: Global) -> Arg<'a> {
@@ -93,12 +133,32 @@ fn command<'a>(alloc: Global) -> Result<Command<'a>, Error> {
         .default_value("4")
         .action(ArgAction::Set)
         .value_parser(clap::value_parser!(u32).range(1..=16));
+    let trace = Arg::new(alloc, "trace")
+        .long("trace")
+        .value_name("FILE|none")
+        .help(
+            "Writes the trace to a new file as orders come, or keeps none; else it is printed at the end, and memory grows until then",
+        )
+        .action(ArgAction::Set)
+        .value_parser(ValueParser::NonEmptyString);
+    let full = Arg::new(alloc, "trace-full")
+        .long("trace-full")
+        .value_name("go-on|refuse")
+        .help(
+            "What becomes of orders when the trace's file can't be written: they go on without it, or are refused",
+        )
+        .default_value("go-on")
+        .action(ArgAction::Set)
+        .value_parser(WHEN_FULL)
+        .requires_arg("trace")?;
     let serve = Command::new(alloc, "serve")
         .about(
             "Serves the first connection to a Unix stream socket, and prints the trace of the session",
         )
         .arg(socket_argument(alloc))?
-        .arg(workers)?;
+        .arg(workers)?
+        .arg(trace)?
+        .arg(full)?;
     let drive = Command::new(alloc, "drive")
         .about(
             "Sends the lines of hex on standard input to a server, and prints its replies: `recv N` waits for N",
