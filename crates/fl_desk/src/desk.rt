@@ -1,13 +1,15 @@
 //! The desk: takes orders one after another, and keeps their history.
 
-ghost use Rattle.std.specs.Prelude.{◌≡◌, ◌≤◌, ◌+◌, ◌++◌, length, IfOk, IsOk, OnOk, OnErr};
+ghost use Rattle.std.specs.Prelude.{◌≡◌, ◌≤◌, ◌+◌, ◌++◌, [], length, IfOk, IsOk, OnOk, OnErr};
 ghost use Rattle.fl_desk.specs.Replay.{state_after};
+ghost use Rattle.fl_core.specs.State.{opening, snapshot_of};
 ghost use Rattle.fl_core.specs.Step.{next, replies_in};
 ghost use Rattle.fl_desk.specs.Legal.{IsLegal, step_lines};
 ghost use Rattle.fl_desk.specs.Kept.{IsKept, opening_book};
 
 use fl_core::{Core, MOST_TOLDS, Tolds};
 use fl_history::{History, Lines};
+use fl_keeper::Keeper;
 use fl_order::{NoMemory, Order, Told};
 use std::alloc::Global;
 use std::marker::Model;
@@ -15,15 +17,15 @@ use std::marker::Model;
 /// The most lines that one order gives: its own, and one for each reply.
 pub const MOST_LINES: usize = 1 + MOST_TOLDS;
 
-/// A desk that takes orders one after another, and keeps their history. Contracts see it as a `Book`: its
-/// lines, what is there now, and for how many more lines memory is there.
+/// A desk that takes orders one after another, and keeps their history where its keeper puts the lines: in memory, if nothing
+/// else is said. Contracts see it as a `Book`: its lines, what is there now, and for how many more lines there is room.
 #[derive(Drop)]
-pub struct Desk {
-    lines: Lines,
+pub struct Desk<K: Keeper = Lines> {
+    kept: K,
     present: Core,
 }
 
-impl Model for Desk {
+impl<K: Keeper> Model for Desk<K> {
     ghost use Rattle.fl_desk.specs.Kept.{Book, IsKept};
     ghost use Rattle.fl_desk.specs.BookCode.{book_code};
 
@@ -31,20 +33,24 @@ impl Model for Desk {
 
     ghost coded = { book_code };
 
-    ghost view = { λ d. record { lines = d.lines.items; present = d.present; room = d.lines.room } };
+    ghost view = { λ d. record { lines = K.lines d.kept; present = d.present; room = K.room d.kept } };
 
-    ghost invariant = { λ d. IsKept d.lines.items d.present };
+    ghost invariant = { λ d. IsKept (K.lines d.kept) d.present };
 }
 
-impl Desk {
-    /// A desk that has taken no order.
-    pub fn new(alloc: Global) -> Result<Desk, NoMemory>
-        ensures { IfOk result (λ desk. desk ≡ opening_book) }
+impl<K: Keeper> Desk<K> {
+    /// A desk that has taken no order, whose lines go to this keeper, which has none so far. Where it is refused, the keeper is
+    /// let go.
+    pub fn over(alloc: Global, kept: K) -> Result<Desk<K>, NoMemory>
+    where
+        K: Drop,
+        requires none { K.lines kept ≡ [] }
+        ensures lines { IfOk result (λ desk. desk.lines ≡ []) }
+        ensures present { IfOk result (λ desk. desk.present ≡ snapshot_of opening) }
+        ensures room { IfOk result (λ desk. desk.room ≡ K.room kept) }
     {
-        Ok(Desk {
-            lines: Lines::new(alloc),
-            present: Core::new(alloc)?,
-        })
+        let present = Core::new(alloc)?;
+        Ok(Desk { kept, present })
     }
 
     /// Makes room for the lines of one order: the next `take` succeeds, and takes no memory. A refusal changes no line.
@@ -53,7 +59,7 @@ impl Desk {
         ensures room { OnOk result (MOST_LINES ≤ self.new.room) }
         ensures succeeds { MOST_LINES ≤ self.old.room → IsOk result }
     {
-        Ok(self.lines.reserve(MOST_LINES)?)
+        self.kept.reserve(MOST_LINES)
     }
 
     /// Takes an order of a worker: records it, answers it, and hands out the replies that it records.
@@ -67,10 +73,37 @@ impl Desk {
         ensures succeeds { MOST_LINES ≤ self.old.room → IsOk result }
         ensures kept { IsKept self.new.lines self.new.present }
     {
-        self.lines.reserve(MOST_LINES)?;
-        self.present.step(order, tolds);
-        append(&mut self.lines, worker, order, tolds.as_slice());
+        let Desk { kept, present } = self;
+        kept.reserve(MOST_LINES)?;
+        present.step(order, tolds);
+        append(kept, worker, order, tolds.as_slice());
         Ok(())
+    }
+
+    /// No order is at hand: what its keeper holds back may go on now. Neither lines nor what is there change.
+    pub fn pause(&mut self)
+        ensures lines { self.new.lines ≡ self.old.lines }
+        ensures present { self.new.present ≡ self.old.present }
+    {
+        self.kept.pause();
+    }
+
+    /// Its keeper, with the lines of all that it took.
+    pub fn into_kept(self) -> K
+        ensures lines { K.lines result ≡ self.lines }
+        ensures legal { IsLegal (K.lines result) }
+    {
+        let Desk { kept, present: _ } = self;
+        kept
+    }
+}
+
+impl Desk {
+    /// A desk that has taken no order.
+    pub fn new(alloc: Global) -> Result<Desk, NoMemory>
+        ensures { IfOk result (λ desk. desk ≡ opening_book) }
+    {
+        Desk::over(alloc, Lines::new(alloc))
     }
 
     /// The history of all that it took.
@@ -78,18 +111,17 @@ impl Desk {
         ensures lines { result ≡ self.lines }
         ensures legal { IsLegal result }
     {
-        let Desk { lines, present: _ } = self;
-        History::of(lines)
+        History::of(self.into_kept())
     }
 }
 
 // Adds an order and its replies to the lines.
-fn append(lines: &mut Lines, worker: u32, order: &Order, tolds: &[Told])
-    requires { 1 + length tolds.now ≤ lines.old.room }
-    ensures { lines.new.items ≡ lines.old.items ++ step_lines worker order.now tolds.now }
+fn append<K: Keeper>(kept: &mut K, worker: u32, order: &Order, tolds: &[Told])
+    requires { 1 + length tolds.now ≤ K.room kept.old }
+    ensures { K.lines kept.new ≡ K.lines kept.old ++ step_lines worker order.now tolds.now }
 {
-    lines.push_asked(worker, order);
+    kept.push_asked(worker, order);
     for told in tolds {
-        lines.push_told(told);
+        kept.push_told(told);
     }
 }
