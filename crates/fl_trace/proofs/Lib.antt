@@ -7,3 +7,4 @@ pub mod FirstWords
 pub mod Reading
 pub mod Newlines
 pub mod Places
+pub mod Numbers

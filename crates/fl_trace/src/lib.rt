@@ -3,10 +3,12 @@
 
 mod ask;
 pub mod laws;
+mod line;
 mod print;
 mod read;
 mod tell;
 mod words;
 
+pub use line::{LINE_ROOM, push_asked, push_told};
 pub use print::{has_text, print_trace};
 pub use read::{TraceFault, first_line, read_trace};

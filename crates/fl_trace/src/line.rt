@@ -1,0 +1,272 @@
+//! The text of one line, behind bytes that have room for it. Nothing here asks for memory, and nothing fails.
+
+ghost use Rattle.std.specs.Prelude.{◌≡◌, ◌+◌, ◌*◌, ◌≤◌, ◌<◌, ◌++◌, ◌∷◌, [], length, map, vec_capacity};
+ghost use Rattle.std.specs.Fmt.{decimal};
+ghost use Rattle.fl_history.specs.declared.history.Line.TheVariants as line;
+ghost use Rattle.fl_order.specs.OpKind.{word_for};
+ghost use Rattle.fl_trace.specs.Text.{spaced, flag_text, name_text, lock_ask_text, fields_text, behind};
+ghost use Rattle.fl_trace.specs.Text.{op_text, attr_text, answer_text, result_text, line_text};
+
+use fl_order::{Answer, Attr, Body, Errno, LockAsk, Name, Op, OpKind, Order, Told};
+use itoa::Buffer;
+
+/// So many bytes of room are enough for the text of any line and its newline.
+pub const LINE_ROOM: usize = 700;
+
+/// Puts the line of an order, and its newline, behind what is there.
+pub fn push_asked(text: &mut Vec<u8>, worker: u32, order: &Order)
+    requires room { length text.old.items + 700 ≤ vec_capacity text.old }
+    ensures bytes { text.new.items ≡ text.old.items ++ (line_text (line.Asked worker order.now) ++ 10 ∷ []) }
+    ensures few { length text.new.items ≤ length text.old.items + 700 }
+    ensures capacity { vec_capacity text.old ≤ vec_capacity text.new }
+{
+    let Order {
+        unique,
+        node,
+        uid,
+        gid,
+        pid,
+        op,
+    } = order;
+    push(text, b"ask");
+    push_numbers(
+        text,
+        &[
+            u64::from(worker),
+            *unique,
+            *node,
+            u64::from(*uid),
+            u64::from(*gid),
+            u64::from(*pid),
+        ],
+    );
+    push_op(text, op);
+    push(text, b"\n");
+}
+
+/// Puts the line of a reply, and its newline, behind what is there.
+pub fn push_told(text: &mut Vec<u8>, told: &Told)
+    requires room { length text.old.items + 700 ≤ vec_capacity text.old }
+    ensures bytes { text.new.items ≡ text.old.items ++ (line_text (line.Told told.now) ++ 10 ∷ []) }
+    ensures few { length text.new.items ≤ length text.old.items + 700 }
+    ensures capacity { vec_capacity text.old ≤ vec_capacity text.new }
+{
+    push(text, b"tell");
+    push_numbers(text, &[told.unique]);
+    push_result(text, &told.result);
+    push(text, b"\n");
+}
+
+// Bytes behind those that are there.
+fn push(text: &mut Vec<u8>, bytes: &[u8])
+    requires room { length text.old.items + length bytes.now ≤ vec_capacity text.old }
+    ensures bytes { text.new.items ≡ text.old.items ++ bytes.now }
+    ensures few { length text.new.items ≤ length text.old.items + length bytes.now }
+    ensures capacity { vec_capacity text.old ≤ vec_capacity text.new }
+{
+    let _ = text.extend_from_slice(bytes);
+}
+
+// A space and a number.
+fn push_number(text: &mut Vec<u8>, number: u64)
+    requires room { length text.old.items + 21 ≤ vec_capacity text.old }
+    ensures bytes { text.new.items ≡ text.old.items ++ 32 ∷ decimal number }
+    ensures few { length text.new.items ≤ length text.old.items + 21 }
+    ensures capacity { vec_capacity text.old ≤ vec_capacity text.new }
+{
+    let mut buffer = Buffer::new();
+    push(text, b" ");
+    push(text, buffer.format(number).as_bytes());
+}
+
+// Numbers, with a space in front of each.
+fn push_numbers(text: &mut Vec<u8>, numbers: &[u64])
+    requires some { 0 < length numbers.now }
+    requires room { length text.old.items + 21 * length numbers.now ≤ vec_capacity text.old }
+    ensures bytes { text.new.items ≡ text.old.items ++ 32 ∷ spaced (map decimal numbers.now) }
+    ensures few { length text.new.items ≤ length text.old.items + 21 * length numbers.now }
+    ensures capacity { vec_capacity text.old ≤ vec_capacity text.new }
+{
+    for number in numbers {
+        push_number(text, *number);
+    }
+}
+
+// A space, and a yes or no.
+fn push_flag(text: &mut Vec<u8>, flag: bool)
+    requires room { length text.old.items + 2 ≤ vec_capacity text.old }
+    ensures bytes { text.new.items ≡ text.old.items ++ 32 ∷ flag_text flag }
+    ensures few { length text.new.items ≤ length text.old.items + 2 }
+    ensures capacity { vec_capacity text.old ≤ vec_capacity text.new }
+{
+    if flag {
+        push(text, b" 1");
+    } else {
+        push(text, b" 0");
+    }
+}
+
+// A space and a name.
+fn push_name(text: &mut Vec<u8>, name: &Name)
+    requires room { length text.old.items + 511 ≤ vec_capacity text.old }
+    ensures bytes { text.new.items ≡ text.old.items ++ 32 ∷ name_text name.now }
+    ensures few { length text.new.items ≤ length text.old.items + 511 }
+    ensures capacity { vec_capacity text.old ≤ vec_capacity text.new }
+{
+    let bytes = name.as_bytes();
+    if bytes.is_empty() {
+        push(text, b" -");
+        return;
+    }
+    let mut digits = [0; 510];
+    let digits = &mut digits[..2 * bytes.len()];
+    let _ = hex::encode_to_slice(bytes, digits);
+    push(text, b" ");
+    push(text, digits);
+}
+
+// A space, and the word of a kind.
+fn push_word(text: &mut Vec<u8>, kind: OpKind)
+    requires room { length text.old.items + 13 ≤ vec_capacity text.old }
+    ensures bytes { text.new.items ≡ text.old.items ++ 32 ∷ word_for kind }
+    ensures few { length text.new.items ≤ length text.old.items + 13 }
+    ensures capacity { vec_capacity text.old ≤ vec_capacity text.new }
+{
+    push(text, b" ");
+    push(text, kind.word().as_bytes());
+}
+
+// A space, and what is asked.
+fn push_op(text: &mut Vec<u8>, op: &Op)
+    requires room { length text.old.items + 560 ≤ vec_capacity text.old }
+    ensures bytes { text.new.items ≡ text.old.items ++ 32 ∷ op_text op.now }
+    ensures few { length text.new.items ≤ length text.old.items + 560 }
+    ensures capacity { vec_capacity text.old ≤ vec_capacity text.new }
+{
+    let (kind, body) = op.parts();
+    push_word(text, kind);
+    push_fields(text, &body);
+}
+
+// The fields with the space in front of them, where there are any.
+fn push_fields(text: &mut Vec<u8>, body: &Body)
+    requires room { length text.old.items + 540 ≤ vec_capacity text.old }
+    ensures bytes { text.new.items ≡ text.old.items ++ behind (fields_text body.now) }
+    ensures few { length text.new.items ≤ length text.old.items + 540 }
+    ensures capacity { vec_capacity text.old ≤ vec_capacity text.new }
+{
+    match body {
+        Body::Lock(ask) => push_lock_ask(text, ask),
+        Body::Create { excl, mode, name } => {
+            push_flag(text, *excl);
+            push_number(text, u64::from(*mode));
+            push_name(text, name);
+        }
+        Body::Name(name) => push_name(text, name),
+        Body::Number(n) => push_number(text, *n),
+        Body::Flush { fh, owner } => push_numbers(text, &[*fh, *owner]),
+        Body::Release { fh, drop, owner } => {
+            push_number(text, *fh);
+            push_flag(text, *drop);
+            push_number(text, *owner);
+        }
+        Body::Getattr | Body::Open => (),
+    }
+}
+
+// A space, and what a lock request asks for.
+fn push_lock_ask(text: &mut Vec<u8>, ask: &LockAsk)
+    requires room { length text.old.items + 147 ≤ vec_capacity text.old }
+    ensures bytes { text.new.items ≡ text.old.items ++ 32 ∷ lock_ask_text ask.now }
+    ensures few { length text.new.items ≤ length text.old.items + 147 }
+    ensures capacity { vec_capacity text.old ≤ vec_capacity text.new }
+{
+    let LockAsk {
+        fh,
+        owner,
+        start,
+        end,
+        kind,
+        pid,
+        flags,
+    } = *ask;
+    let (kind, pid, flags) = (u64::from(kind), u64::from(pid), u64::from(flags));
+    push_numbers(text, &[fh, owner, start, end, kind, pid, flags]);
+}
+
+// A space, and an answer or the number of an error.
+fn push_result(text: &mut Vec<u8>, result_told: &Result<Answer, Errno>)
+    requires room { length text.old.items + 150 ≤ vec_capacity text.old }
+    ensures bytes { text.new.items ≡ text.old.items ++ 32 ∷ result_text result_told.now }
+    ensures few { length text.new.items ≤ length text.old.items + 150 }
+    ensures capacity { vec_capacity text.old ≤ vec_capacity text.new }
+{
+    match result_told {
+        Ok(answer) => push_answer(text, answer),
+        Err(error) => {
+            push(text, b" err");
+            push_number(text, u64::from(error.number()));
+        }
+    }
+}
+
+// A space and an answer.
+fn push_answer(text: &mut Vec<u8>, answer: &Answer)
+    requires room { length text.old.items + 150 ≤ vec_capacity text.old }
+    ensures bytes { text.new.items ≡ text.old.items ++ 32 ∷ answer_text answer.now }
+    ensures few { length text.new.items ≤ length text.old.items + 150 }
+    ensures capacity { vec_capacity text.old ≤ vec_capacity text.new }
+{
+    match answer {
+        Answer::Done => push(text, b" ok"),
+        Answer::Entry(attr) => {
+            push(text, b" entry");
+            push_attr(text, attr);
+        }
+        Answer::Attr(attr) => {
+            push(text, b" attr");
+            push_attr(text, attr);
+        }
+        Answer::Open(fh) => {
+            push(text, b" open");
+            push_number(text, *fh);
+        }
+        Answer::Made(attr, fh) => {
+            push(text, b" made");
+            push_attr(text, attr);
+            push_number(text, *fh);
+        }
+        Answer::Lock {
+            start,
+            end,
+            kind,
+            pid,
+        } => {
+            push(text, b" lock");
+            push_numbers(text, &[*start, *end, u64::from(*kind), u64::from(*pid)]);
+        }
+    }
+}
+
+// A space, and a node's attributes.
+fn push_attr(text: &mut Vec<u8>, attr: &Attr)
+    requires room { length text.old.items + 105 ≤ vec_capacity text.old }
+    ensures bytes { text.new.items ≡ text.old.items ++ 32 ∷ attr_text attr.now }
+    ensures few { length text.new.items ≤ length text.old.items + 105 }
+    ensures capacity { vec_capacity text.old ≤ vec_capacity text.new }
+{
+    let Attr {
+        node,
+        mode,
+        nlink,
+        uid,
+        gid,
+    } = *attr;
+    let (mode, nlink, uid, gid) = (
+        u64::from(mode),
+        u64::from(nlink),
+        u64::from(uid),
+        u64::from(gid),
+    );
+    push_numbers(text, &[node, mode, nlink, uid, gid]);
+}
