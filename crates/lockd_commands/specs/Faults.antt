@@ -3,7 +3,7 @@ use Rattle.std.specs.Prelude.{◌≡◌, ℕ, List, [], ◌∷◌, ◌++◌, cod
 use Rattle.std.specs.Fmt.{decimal}
 use Rattle.std.specs.Io.KnownBytes.{Appends}
 use Rattle.lockd_commands.specs.declared.fault.Fault.{Fault}
-use Rattle.lockd_commands.specs.declared.fault.Fault.TheVariants.{BadLine, NoMemory, NoReader, Listen, Read, Write, Cut, BadLength, Connect, BadReply}
+use Rattle.lockd_commands.specs.declared.fault.Fault.TheVariants.{BadLine, NoMemory, NoReader, Listen, Read, Write, Cut, BadLength, Connect, BadReply, Trace, TraceFailed}
 
 -- the text of a fault
 abbrev pub fault_text : Fault → List ℕ
@@ -17,6 +17,8 @@ fault_text Cut = codes "cut"
 fault_text (BadLength n) = codes "bad length " ++ decimal n
 fault_text Connect = codes "cannot connect"
 fault_text BadReply = codes "bad reply"
+fault_text Trace = codes "cannot trace"
+fault_text TraceFailed = codes "trace failed"
 
 -- these bytes were written, or a beginning of them where a write failed
 pub record IsBegun (bytes : List ℕ) (old new : Option (List ℕ)) : Type 0 where
@@ -36,6 +38,12 @@ IsOfText NoMemory = ⊤
 IsOfText Read = ⊤
 IsOfText Write = ⊤
 IsOfText fault = ⊥
+
+-- two faults were told, one behind the other
+pub record AreBothTold (first second : Fault) (old new : Option (List ℕ)) : Type 0 where
+  pub between : Option (List ℕ)
+  pub before : IsTold first old between
+  pub behind : IsTold second between new
 
 -- a fault of a session from bytes to bytes
 abbrev pub IsOfBytes : Fault → Type 0
@@ -57,6 +65,12 @@ IsOfServe Write = ⊤
 IsOfServe Cut = ⊤
 IsOfServe (BadLength n) = ⊤
 IsOfServe fault = ⊥
+
+-- a fault of a server whose trace goes to a file: the server's, or the file's
+abbrev pub IsOfTraced : Fault → Type 0
+IsOfTraced Trace = ⊤
+IsOfTraced TraceFailed = ⊤
+IsOfTraced fault = IsOfServe fault
 
 -- a fault of a client
 abbrev pub IsOfDrive : Fault → Type 0

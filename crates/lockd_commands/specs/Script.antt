@@ -7,7 +7,7 @@ use Rattle.fl_history.specs.declared.history.Line.{Line}
 use Rattle.fl_history.specs.declared.history.Line.TheVariants.{Asked}
 use Rattle.lockd_commands.specs.declared.fault.Fault.{Fault}
 use Rattle.lockd_commands.specs.declared.script.AskLine.{AskLine}
-use Rattle.lockd_commands.specs.declared.fault.Fault.TheVariants.{BadLine, NoMemory, NoReader, Listen, Read, Write, Cut, BadLength, Connect, BadReply}
+use Rattle.lockd_commands.specs.declared.fault.Fault.TheVariants.{BadLine, NoMemory, NoReader, Listen, Read, Write, Cut, BadLength, Connect, BadReply, Trace, TraceFailed}
 
 -- an ask line that can be read back
 abbrev pub IsAskLine : Line → Type 0
@@ -37,6 +37,8 @@ FaultSays script Cut = ⊥
 FaultSays script (BadLength n) = ⊥
 FaultSays script Connect = ⊥
 FaultSays script BadReply = ⊥
+FaultSays script Trace = ⊥
+FaultSays script TraceFailed = ⊥
 
 -- a script was read, and its trace was written
 pub record IsAnswered (left old new : Option (List ℕ)) : Type 0 where

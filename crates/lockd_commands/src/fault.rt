@@ -35,6 +35,10 @@ pub enum Fault {
     Connect,
     /// A reply says a length that none has, outside 16 to 8192 bytes.
     BadReply,
+    /// A file is at the trace's path already, or none can be made there.
+    Trace,
+    /// The trace's file lacks lines: it can't be written.
+    TraceFailed,
 }
 
 impl Display for Fault {
@@ -55,6 +59,8 @@ impl Display for Fault {
             Fault::BadLength(n) => write!(f, "bad length {n}"),
             Fault::Connect => f.write_str("cannot connect"),
             Fault::BadReply => f.write_str("bad reply"),
+            Fault::Trace => f.write_str("cannot trace"),
+            Fault::TraceFailed => f.write_str("trace failed"),
         }
     }
 }

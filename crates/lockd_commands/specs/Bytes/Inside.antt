@@ -22,6 +22,8 @@ TextSays text command.Cut = ⊥
 TextSays text (command.BadLength n) = ⊥
 TextSays text command.Connect = ⊥
 TextSays text command.BadReply = ⊥
+TextSays text command.Trace = ⊥
+TextSays text command.TraceFailed = ⊥
 
 -- these bytes are whole replies, one after another
 pub record AreReplies (bytes : List ℕ) : Type 0 where
@@ -42,6 +44,8 @@ Did left old new (Err command.Read) = Keeps old new
 Did left old new (Err command.Write) = IfSome left (λ text. IsOk (hex_stream text))
 Did left old new (Err command.Connect) = ⊥
 Did left old new (Err command.BadReply) = ⊥
+Did left old new (Err command.Trace) = ⊥
+Did left old new (Err command.TraceFailed) = ⊥
 
 -- a fault of a stream, and not of what reads or writes it
 abbrev pub IsOfStream : SessionFault → Type 0

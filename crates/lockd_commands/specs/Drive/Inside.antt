@@ -27,6 +27,8 @@ TextFaults text (command.BadLength n) = ⊥
 TextFaults text command.Listen = ⊥
 TextFaults text command.Connect = ⊥
 TextFaults text command.BadReply = ⊥
+TextFaults text command.Trace = ⊥
+TextFaults text command.TraceFailed = ⊥
 
 -- the bytes that a line sends
 abbrev pub sent : Said → List ℕ
@@ -51,6 +53,8 @@ IsWhy command.Read behind left = ⊤
 IsWhy command.Write behind left = ⊥
 IsWhy command.Listen behind left = ⊥
 IsWhy command.Connect behind left = ⊥
+IsWhy command.Trace behind left = ⊥
+IsWhy command.TraceFailed behind left = ⊥
 IsWhy (command.BadLine n) behind left = ⊥
 IsWhy (command.BadLength n) behind left = ⊥
 
@@ -114,6 +118,8 @@ Did left old new (Err command.Cut) = IsCutShort left old new
 Did left old new (Err command.BadReply) = IsCutShort left old new
 Did left old new (Err (command.BadLine n)) = IfSome left (λ text. text_says text ≡ Err n) × Keeps old new
 Did left old new (Err command.Listen) = ⊥
+Did left old new (Err command.Trace) = ⊥
+Did left old new (Err command.TraceFailed) = ⊥
 Did left old new (Err command.Connect) = IfSome left (λ text. IsOk (text_says text)) × Keeps old new
 Did left old new (Err command.NoMemory) = HasPrinted old new
 Did left old new (Err command.NoReader) = ⊥

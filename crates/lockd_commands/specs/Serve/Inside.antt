@@ -5,7 +5,7 @@ use Rattle.fl_trace.specs.Text.{text_of}
 use Rattle.fl_history.specs.declared.history.Line.{Line}
 use Rattle.lockd_commands.specs.Serve.{IsTraced}
 use Rattle.lockd_commands.specs.declared.fault.Fault.{Fault}
-use Rattle.lockd_commands.specs.declared.fault.Fault.TheVariants.{BadLine, NoMemory, NoReader, Read, Write, Cut, BadLength, Listen, Connect, BadReply}
+use Rattle.lockd_commands.specs.declared.fault.Fault.TheVariants.{BadLine, NoMemory, NoReader, Read, Write, Cut, BadLength, Listen, Connect, BadReply, Trace, TraceFailed}
 
 -- What was done, by how the command ended: only after a session is anything printed.
 abbrev pub Did : Option (List ℕ) → Option (List ℕ) → Result Unit Fault → Type 0
@@ -20,6 +20,8 @@ Did old new (Err Listen) = Keeps old new
 Did old new (Err (BadLine n)) = ⊥
 Did old new (Err Connect) = ⊥
 Did old new (Err BadReply) = ⊥
+Did old new (Err Trace) = ⊥
+Did old new (Err TraceFailed) = ⊥
 
 -- the text of this history was written
 abbrev pub HasWritten : List Line → Option (List ℕ) → Option (List ℕ) → Type 0
