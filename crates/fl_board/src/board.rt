@@ -12,7 +12,8 @@ use crate::seat::{NoView, Seat};
 use crate::shared::{Shared, are_apart};
 use fl_core::Tolds;
 use fl_desk::Desk;
-use fl_history::History;
+use fl_history::{History, Lines};
+use fl_keeper::Keeper;
 use fl_log::{Beginning, FreshLog, LogName};
 use fl_order::{Answer, Errno, NoMemory, Order};
 use std::alloc::{AllocError, Global};
@@ -29,10 +30,10 @@ impl BoardName for Brand {
     ghost workers = { 0 };
 }
 
-/// A board of 1 to 16 workers.
+/// A board of 1 to 16 workers, whose lines go to a keeper: they stay in memory, if nothing else is said.
 #[derive(Drop)]
-pub struct Board<L: BoardName, R: Wait + Drop> {
-    shared: Mutex<Shared<L, R>>,
+pub struct Board<L: BoardName, R: Wait + Drop, K: Keeper = Lines> {
+    shared: Mutex<Shared<L, R, K>>,
     workers: usize,
     ghost all: { workers ≡ L.workers },
     ghost some: { (0 < workers) × (workers ≤ 16) },
@@ -58,18 +59,18 @@ pub enum HandFault {
 
 /// Why a board is not closed. Board and seats come back.
 #[derive(Drop)]
-pub enum CloseFault<L: BoardName, R: Wait + Drop> {
+pub enum CloseFault<L: BoardName, R: Wait + Drop, K: Keeper = Lines> {
     /// There are fewer seats than were made.
     NotAll {
         /// The board, as it was.
-        board: Board<L, R>,
+        board: Board<L, R, K>,
         /// The seats that were handed back.
         seats: Vec<Seat<L>>,
     },
     /// The history is shorter than what some worker handed in or was shown, or two seats are of one worker.
     NoView {
         /// The board.
-        board: Board<L, R>,
+        board: Board<L, R, K>,
         /// The seats that were handed back.
         seats: Vec<Seat<L>>,
     },
@@ -87,15 +88,20 @@ impl From<AllocError> for OpenFault {
     }
 }
 
-impl<L: BoardName, R: Wait + Drop> Board<L, R> {
-    /// A board, and a seat for each of 1 to 16 workers: the seat at place i is worker i's. `rt` waits for readers.
-    pub fn new(
+impl<L: BoardName, R: Wait + Drop, K: Keeper> Board<L, R, K> {
+    /// A board whose lines go to this keeper, which has none so far, and a seat for each of 1 to 16 workers: the seat at
+    /// place i is worker i's. `rt` waits for readers. Where it is refused, the keeper is let go.
+    pub fn over(
         alloc: Global,
         rt: R,
+        kept: K,
         blank: Blank,
         log: FreshLog,
         workers: u32,
-    ) -> Result<(Board<L, R>, Vec<Seat<L>>), OpenFault>
+    ) -> Result<(Board<L, R, K>, Vec<Seat<L>>), OpenFault>
+    where
+        K: Drop,
+        requires none { K.lines kept ≡ [] }
         requires named { (blank.name ≡ L.name) × (blank.parts ≡ L.parts) }
         requires log { log ≡ L.log }
         requires parts { (workers ≡ L.parts) × (L.workers ≡ L.parts) }
@@ -109,7 +115,7 @@ impl<L: BoardName, R: Wait + Drop> Board<L, R> {
         let (book, rest) = blank.open::<L>();
         let seats = seats_of(alloc, &publisher, &none, rest, workers)?;
         let shared = Shared {
-            desk: Desk::new(alloc)?,
+            desk: Desk::over(alloc, kept)?,
             book,
             log,
             all: none,
@@ -165,13 +171,19 @@ impl<L: BoardName, R: Wait + Drop> Board<L, R> {
         shared.meet(one, other)
     }
 
-    /// The history of all that was handed in, where no seat is missing. It begins with all that was handed in and shown
-    /// through each seat, and has as many orders of each worker as its seat's count.
-    pub fn close(self, seats: Vec<Seat<L>>) -> Result<History, CloseFault<L, R>>
+    /// No order is at hand: what the keeper of its lines holds back may go on now. No line, lock, count or seat changes.
+    pub fn pause<W: Wait>(&self, rt: &W) {
+        let mut shared = self.shared.lock(rt);
+        shared.pause();
+    }
+
+    /// The keeper of its lines, which are the history of all that was handed in, where no seat is missing. It begins with all
+    /// that was handed in and shown through each seat, and has as many orders of each worker as its seat's count.
+    pub fn into_kept(self, seats: Vec<Seat<L>>) -> Result<K, CloseFault<L, R, K>>
         requires { L.workers ≡ L.parts }
-        ensures legal { IfOk result IsLegal }
-        ensures counted { IfOk result (λ history. orders_asked history ≡ sum_by (λ seat. seat.count) seats.items) }
-        ensures each { IfOk result (λ history. All (λ seat. HasAllOf history seat) seats.items) }
+        ensures legal { IfOk result (λ kept. IsLegal (K.lines kept)) }
+        ensures counted { IfOk result (λ kept. orders_asked (K.lines kept) ≡ sum_by (λ seat. seat.count) seats.items) }
+        ensures each { IfOk result (λ kept. All (λ seat. HasAllOf (K.lines kept) seat) seats.items) }
         ensures not_all { (result ≡ Err (CloseFault.NotAll self seats)) ↔ (length seats.items < L.workers) }
         ensures back { IfErr result (λ fault. (fault ≡ CloseFault.NotAll self seats)
             ⊎ ((board : _) × (fault ≡ CloseFault.NoView board seats))) }
@@ -191,7 +203,45 @@ impl<L: BoardName, R: Wait + Drop> Board<L, R> {
         let Some(mut whole) = merged(seats) else {
             unreachable!();
         };
-        Ok(shared.into_history(&mut whole))
+        Ok(shared.into_kept(&mut whole))
+    }
+}
+
+impl<L: BoardName, R: Wait + Drop> Board<L, R> {
+    /// A board, and a seat for each of 1 to 16 workers: the seat at place i is worker i's. `rt` waits for readers.
+    pub fn new(
+        alloc: Global,
+        rt: R,
+        blank: Blank,
+        log: FreshLog,
+        workers: u32,
+    ) -> Result<(Board<L, R>, Vec<Seat<L>>), OpenFault>
+        requires named { (blank.name ≡ L.name) × (blank.parts ≡ L.parts) }
+        requires log { log ≡ L.log }
+        requires parts { (workers ≡ L.parts) × (L.workers ≡ L.parts) }
+        requires workers { (0 < workers) × (workers ≤ 16) }
+        ensures workers { IfOk result (λ made. map (λ seat. seat.worker) made.1.items ≡ range_with_len 0 workers) }
+        ensures fresh { IfOk result (λ made.
+            All (λ seat. (seat.count ≡ 0) × (seat.own ≡ []) × (seat.seen ≡ [])) made.1.items) }
+    {
+        Board::over(alloc, rt, Lines::new(alloc), blank, log, workers)
+    }
+
+    /// The history of all that was handed in, where no seat is missing. It begins with all that was handed in and shown
+    /// through each seat, and has as many orders of each worker as its seat's count.
+    pub fn close(self, seats: Vec<Seat<L>>) -> Result<History, CloseFault<L, R>>
+        requires { L.workers ≡ L.parts }
+        ensures legal { IfOk result IsLegal }
+        ensures counted { IfOk result (λ history. orders_asked history ≡ sum_by (λ seat. seat.count) seats.items) }
+        ensures each { IfOk result (λ history. All (λ seat. HasAllOf history seat) seats.items) }
+        ensures not_all { (result ≡ Err (CloseFault.NotAll self seats)) ↔ (length seats.items < L.workers) }
+        ensures back { IfErr result (λ fault. (fault ≡ CloseFault.NotAll self seats)
+            ⊎ ((board : _) × (fault ≡ CloseFault.NoView board seats))) }
+    {
+        match self.into_kept(seats) {
+            Ok(lines) => Ok(History::of(lines)),
+            Err(fault) => Err(fault),
+        }
     }
 }
 

@@ -12,7 +12,7 @@ use crate::publisher::Publisher;
 use crate::seat::{NoView, Seat};
 use fl_core::Tolds;
 use fl_desk::Desk;
-use fl_history::History;
+use fl_keeper::Keeper;
 use fl_log::{Ask, Beginning, Log, MOST_ASKS};
 use fl_order::Order;
 use std::marker::Model;
@@ -22,15 +22,15 @@ use std::sync::ledger::{Book, Share};
 /// One desk; the ledger's book, whose total is the number of orders in the desk's history; the log of what was handed in, and
 /// all of it; and what is published. Contracts see it as the asks that were handed in.
 #[derive(Drop)]
-pub(crate) struct Shared<L: BoardName, R: Wait + Drop> {
-    pub desk: Desk,
+pub(crate) struct Shared<L: BoardName, R: Wait + Drop, K: Keeper> {
+    pub desk: Desk<K>,
     pub book: Book<L>,
     pub log: Log<L>,
     pub all: Beginning<L>,
     pub publisher: Publisher<L, R>,
 }
 
-impl<L: BoardName, R: Wait + Drop> Model for Shared<L, R> {
+impl<L: BoardName, R: Wait + Drop, K: Keeper> Model for Shared<L, R, K> {
     ghost use Rattle.std.specs.Prelude.{◌≡◌, List};
     ghost use Rattle.fl_board.specs.Inside.Asks.{history_of, present_after};
     ghost use Rattle.fl_desk.specs.Legal.{orders_asked};
@@ -44,7 +44,7 @@ impl<L: BoardName, R: Wait + Drop> Model for Shared<L, R> {
         × (s.desk.present ≡ present_after s.all) × (s.book.total ≡ orders_asked s.desk.lines) };
 }
 
-impl<L: BoardName, R: Wait + Drop> Shared<L, R> {
+impl<L: BoardName, R: Wait + Drop, K: Keeper> Shared<L, R, K> {
     /// Takes an order of the seat's worker, counts it, and publishes it.
     pub(crate) fn hand_in(
         &mut self,
@@ -121,12 +121,19 @@ impl<L: BoardName, R: Wait + Drop> Shared<L, R> {
         true
     }
 
-    /// The history, for the whole of the ledger.
-    pub(crate) fn into_history(self, whole: &mut Share<L>) -> History
+    /// No order is at hand: what the desk's keeper holds back may go on now.
+    pub(crate) fn pause(&mut self)
+        ensures { self.new ≡ self.old }
+    {
+        self.desk.pause();
+    }
+
+    /// The desk's keeper, for the whole of the ledger.
+    pub(crate) fn into_kept(self, whole: &mut Share<L>) -> K
         requires { whole.old.parts ≡ L.parts }
-        ensures lines { result ≡ history_of self }
-        ensures legal { IsLegal result }
-        ensures counted { orders_asked result ≡ whole.old.amount }
+        ensures lines { K.lines result ≡ history_of self }
+        ensures legal { IsLegal (K.lines result) }
+        ensures counted { orders_asked (K.lines result) ≡ whole.old.amount }
     {
         let Shared {
             desk,
@@ -136,7 +143,7 @@ impl<L: BoardName, R: Wait + Drop> Shared<L, R> {
             publisher: _publisher,
         } = self;
         book.audit(whole);
-        desk.into_history()
+        desk.into_kept()
     }
 }
 

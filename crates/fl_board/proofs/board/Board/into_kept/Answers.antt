@@ -4,7 +4,7 @@ use Rattle.fl_board.specs.Seats.{Place}
 use Rattle.fl_board.proofs.Counts.{has_all}
 use Rattle.fl_desk.specs.Legal.{orders_asked}
 use Rattle.fl_history.specs.declared.history.Line.{Line}
-use Rattle.fl_board.proofs.board.Board.close.Goals as goal
+use Rattle.fl_board.proofs.board.Board.into_kept.Goals as goal
 
 pub returns-then-not-begins_with-clause-back : goal.returns-then-not-begins_with-clause-back
 returns-then-not-begins_with-clause-back g c = inr (_, refl)
@@ -16,6 +16,7 @@ returns-clause-each g c =
     let most : All (λ (p : Place). HasMostOf (history_of c.into_inner-shared.result) p) seats =
     subst (λ (l : List Place). All (λ (p : Place). HasMostOf (history_of c.into_inner-shared.result) p) l) c.deref.ensures.value
     (c.if-not-begins_with.ensures refl) in
-    let history = c.into_history.ensures in
-    let total : orders_asked c.into_history.result ≡ sum_by (λ (p : Place). p.count) seats = history.counted ∙ c.in-Some.ensures.amount in
-    has_all c.into_history.result seats apart (subst (λ (l : List Line). All (λ (p : Place). HasMostOf l p) seats) (sym history.lines) most) total
+    let kept = g.K.Keeper.lines c.into_kept.result in
+    let history = c.into_kept.ensures in
+    let total : orders_asked kept ≡ sum_by (λ (p : Place). p.count) seats = history.counted ∙ c.in-Some.ensures.amount in
+    has_all kept seats apart (subst (λ (l : List Line). All (λ (p : Place). HasMostOf l p) seats) (sym history.lines) most) total
