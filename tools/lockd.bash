@@ -7,10 +7,14 @@ _lockd() {
         words='script check bytes serve drive help --help --version'
     elif [ "$before" = --workers ]; then
         words=$(seq 16)
+    elif [ "$before" = --trace-full ]; then
+        words='go-on refuse'
+    elif [ "$before" = --trace ]; then
+        words='none'
     else
         case $command in
             help) words='script check bytes serve drive' ;;
-            serve) words='--workers --help' ;;
+            serve) words='--workers --trace --trace-full --help' ;;
             check) words='--quiet --help' ;;
             script | bytes | drive) words='--help' ;;
         esac

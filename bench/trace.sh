@@ -1,0 +1,54 @@
+#!/bin/sh
+# Times `lockd serve` by where its trace goes: nowhere, to a file, or printed at the end; with 1 and 4 workers and 64 messages under way.
+# Prints pairs of SETLK and unlock a second while the session runs and their ratios to `--trace none`; how much memory the
+# process had at most, beside that of a session with a tenth of the messages; and what `lockd check` says of each trace.
+# The runs take turns, three times, and the best of each figure counts. It builds the client of bench/peers.sh, by a C compiler.
+#
+#     bench/trace.sh [MESSAGES]
+set -eu
+. "$(dirname "$0")/../tools/built_lockd.sh"
+cc -O2 -Wall -Wextra -o "$work/client" bench/peers/client.c
+python3 - "$program" "$work" "${1:-1000000}" <<'END'
+import itertools, os, subprocess, sys
+
+PROGRAM, WORK, MESSAGES = *sys.argv[1:3], int(sys.argv[3])
+ROUNDS, LONGEST = 3, 300
+NUMBER = itertools.count()
+MODES = {"none": lambda file: ["--trace", "none"], "file": lambda file: ["--trace", file], "printed": lambda file: []}
+
+# Pairs a second, and the most memory of the server in megabytes. The trace is judged, if there is one.
+def measured(mode, workers, messages):
+    number = next(NUMBER)
+    socket, file = f"{WORK}/socket{number}", f"{WORK}/trace{number}"
+    output = open(file, "wb") if mode == "printed" else subprocess.DEVNULL
+    serving = subprocess.Popen([PROGRAM, "serve", socket, "--workers", str(workers), *MODES[mode](file)], stdout=output)
+    try:
+        asked = [f"{WORK}/client", "fuse", socket, "64", str(messages)]
+        told = subprocess.run(asked, stdout=subprocess.PIPE, text=True, timeout=LONGEST, check=True).stdout
+        _, status, usage = os.wait4(serving.pid, 0)
+    finally:
+        serving.poll() is None and serving.kill()
+    if status:
+        sys.exit(f"{mode}: the server ended with status {status}")
+    if mode != "none":
+        with open(file, "rb") as trace:
+            verdict = subprocess.run([PROGRAM, "check"], stdin=trace, stdout=subprocess.PIPE, text=True).stdout
+        if verdict != "legal\n":
+            sys.exit(f"{mode}: {verdict}")
+        os.remove(file)
+    return float(told.split()[0]), usage.ru_maxrss / 1000
+
+best = {}
+for _ in range(ROUNDS):
+    for workers in 1, 4:
+        for mode in MODES:
+            pairs, memory = measured(mode, workers, MESSAGES)
+            _, before = measured(mode, workers, MESSAGES // 10)
+            old = best.get((mode, workers), (0, 0, 0))
+            best[mode, workers] = max(old[0], pairs), memory, before
+for workers in 1, 4:
+    for mode in MODES:
+        pairs, memory, before = best[mode, workers]
+        print(f"{workers} workers, trace {mode}: {pairs:.0f} pairs a second, ratio {pairs / best['none', workers][0]:.2f} (to none); "
+              f"{memory:.1f} MB, {before:.1f} with a tenth of the messages")
+END
