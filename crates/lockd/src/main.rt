@@ -6,8 +6,11 @@ ghost use Rattle.std.specs.Prelude.{IfOk};
 ghost use Rattle.lockd_cli.specs.Workers.{HasWorkers};
 
 use descriptors::hold_closed_streams;
-use lockd_cli::{Asked, Refusal, print_version, read_words};
-use lockd_commands::{Fault, Status, bytes_on, check_on, drive_on, script_on, serve_on};
+use lockd_cli::{Asked, Refusal, Trace, WhenFull, print_version, read_words};
+use lockd_commands::{
+    Fault, Status, WhenWriterFails, bytes_on, check_on, drive_on, script_on, serve_on,
+    serve_traced_on, serve_untraced_on,
+};
 use std::fs::Files;
 use std::io::Write;
 use std::net::Net;
@@ -42,6 +45,8 @@ fn run<T: Threads + Wait + Net + Files + Sync>(
     threads: &T,
     asked: &Asked,
 ) -> Status
+where
+    T::File: Send,
     requires workers { HasWorkers asked.now }
 {
     if matches!(asked, Asked::Serve(..) | Asked::Drive(_)) {
@@ -58,14 +63,32 @@ fn run<T: Threads + Wait + Net + Files + Sync>(
             check_on(alloc, *tells_quiet, &mut input, &mut output, &mut faults)
         }
         Asked::Version => version_on(&mut output, &mut faults),
-        Asked::Serve(socket, workers) => {
+        Asked::Serve(socket, workers, trace) => {
             let path = Path::new(socket.as_str());
-            serve_on(threads, alloc, path, *workers, &mut output, &mut faults)
+            match trace {
+                Trace::Printed => {
+                    serve_on(threads, alloc, path, *workers, &mut output, &mut faults)
+                }
+                Trace::Nowhere => serve_untraced_on(threads, alloc, path, *workers, &mut faults),
+                Trace::File(file, full) => {
+                    let file = Path::new(file.as_str());
+                    let full = when_full(*full);
+                    serve_traced_on(threads, alloc, path, file, full, *workers, &mut faults)
+                }
+            }
         }
         Asked::Drive(socket) => {
             let path = Path::new(socket.as_str());
             drive_on(rt, alloc, path, &mut input, &mut output, &mut faults)
         }
+    }
+}
+
+// What orders come to when the trace's file can't be written.
+fn when_full(asked: WhenFull) -> WhenWriterFails {
+    match asked {
+        WhenFull::GoOn => WhenWriterFails::GoOn,
+        WhenFull::Refuse => WhenWriterFails::Refuse,
     }
 }
 
