@@ -1,6 +1,6 @@
 //! Lines that go to a writer as their text, and wait in memory only until then.
 
-ghost use Rattle.std.specs.Prelude.{◌≡◌, ◌+◌, ◌≤◌, ◌<◌, ◌++◌, ◌∷◌, [], false, IsTrue, IfOk, OnOk, IsOk};
+ghost use Rattle.std.specs.Prelude.{◌≡◌, ◌↔◌, ◌+◌, ◌≤◌, ◌<◌, ◌++◌, ◌∷◌, [], false, IsTrue, IfOk, OnOk, IsOk};
 ghost use Rattle.std.specs.Io.KnownBytes.{Keeps};
 ghost use Rattle.fl_stream.specs.Streams.{IsBlank, Wrote, IsBegun, IsStreamed};
 ghost use Rattle.fl_stream.specs.declared.manner.WhenWriterFails.TheVariants as manner;
@@ -64,10 +64,14 @@ impl<W: Write> Streamed<W> {
     where
         W: Drop,
         requires blank { IsBlank (W.contents writer) }
-        ensures lines { IfOk result (λ stream. stream.lines ≡ []) }
-        ensures manner { IfOk result (λ stream. stream.manner ≡ manner) }
-        ensures whole { IfOk result (λ stream. stream.broken ≡ false) }
-        ensures room { IfOk result (λ stream. 2048 ≤ stream.room) }
+        ensures { IfOk result (λ stream. stream ≡ record {
+          lines = [];
+          held = W.contents writer;
+          unsent = [];
+          room = 2048;
+          broken = false;
+          manner = manner;
+        }) }
     {
         Ok(Streamed {
             past: Past::new(),
@@ -97,6 +101,7 @@ impl<W: Write> Streamed<W> {
     /// Whether the writer holds the text of all lines.
     #[tactic(auto, using(crate::proofs::Streaming::begun, crate::proofs::Streaming::all_sent))]
     pub fn is_whole(&self) -> bool
+        ensures value { IsTrue result ↔ (self.now.broken ≡ false) × (self.now.unsent ≡ []) }
         ensures all { IsTrue result → Wrote W.contents self.now.held (text_of self.now.lines) }
         ensures begun { IsBegun W.contents self.now.held self.now.lines }
     {
@@ -134,6 +139,9 @@ impl<W: Write> Streamed<W> {
         requires room { 0 < self.old.room }
         ensures lines { self.new.lines ≡ self.old.lines ++ line.now ∷ [] }
         ensures room { self.old.room ≤ self.new.room + 1 }
+        ensures held { self.new.held ≡ self.old.held }
+        ensures broken { self.new.broken ≡ self.old.broken }
+        ensures manner { self.new.manner ≡ self.old.manner }
     {
         self.past = self.past.and(line);
         if !self.broken {
