@@ -9,6 +9,6 @@ mod read;
 mod tell;
 mod words;
 
-pub use line::{LINE_ROOM, push_asked, push_told};
+pub use line::{LINE_ROOM, push_line};
 pub use print::{has_text, print_trace};
 pub use read::{TraceFault, first_line, read_trace};

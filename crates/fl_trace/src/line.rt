@@ -7,17 +7,32 @@ ghost use Rattle.fl_order.specs.OpKind.{word_for};
 ghost use Rattle.fl_trace.specs.Text.{spaced, flag_text, name_text, lock_ask_text, fields_text, behind};
 ghost use Rattle.fl_trace.specs.Text.{op_text, attr_text, answer_text, result_text, line_text};
 
+use fl_history::Line;
 use fl_order::{Answer, Attr, Body, Errno, LockAsk, Name, Op, OpKind, Order, Told};
 use itoa::Buffer;
 
 /// So many bytes of room are enough for the text of any line and its newline.
 pub const LINE_ROOM: usize = 700;
 
-/// Puts the line of an order, and its newline, behind what is there.
-pub fn push_asked(text: &mut Vec<u8>, worker: u32, order: &Order)
+/// Puts the text of a line, and its newline, behind what is there: the very text that `print_trace` gives it.
+pub fn push_line(text: &mut Vec<u8>, line: &Line)
     requires room { length text.old.items + 700 ≤ vec_capacity text.old }
-    ensures bytes { text.new.items ≡ text.old.items ++ (line_text (line.Asked worker order.now) ++ 10 ∷ []) }
+    ensures bytes { text.new.items ≡ text.old.items ++ (line_text line.now ++ 10 ∷ []) }
     ensures few { length text.new.items ≤ length text.old.items + 700 }
+    ensures capacity { vec_capacity text.old ≤ vec_capacity text.new }
+{
+    match line {
+        Line::Asked { worker, order } => push_asked(text, *worker, order),
+        Line::Told(told) => push_told(text, told),
+    }
+    push(text, b"\n");
+}
+
+// The line of an order.
+fn push_asked(text: &mut Vec<u8>, worker: u32, order: &Order)
+    requires room { length text.old.items + 690 ≤ vec_capacity text.old }
+    ensures bytes { text.new.items ≡ text.old.items ++ line_text (line.Asked worker order.now) }
+    ensures few { length text.new.items ≤ length text.old.items + 690 }
     ensures capacity { vec_capacity text.old ≤ vec_capacity text.new }
 {
     let Order {
@@ -41,20 +56,18 @@ pub fn push_asked(text: &mut Vec<u8>, worker: u32, order: &Order)
         ],
     );
     push_op(text, op);
-    push(text, b"\n");
 }
 
-/// Puts the line of a reply, and its newline, behind what is there.
-pub fn push_told(text: &mut Vec<u8>, told: &Told)
-    requires room { length text.old.items + 700 ≤ vec_capacity text.old }
-    ensures bytes { text.new.items ≡ text.old.items ++ (line_text (line.Told told.now) ++ 10 ∷ []) }
-    ensures few { length text.new.items ≤ length text.old.items + 700 }
+// The line of a reply.
+fn push_told(text: &mut Vec<u8>, told: &Told)
+    requires room { length text.old.items + 690 ≤ vec_capacity text.old }
+    ensures bytes { text.new.items ≡ text.old.items ++ line_text (line.Told told.now) }
+    ensures few { length text.new.items ≤ length text.old.items + 690 }
     ensures capacity { vec_capacity text.old ≤ vec_capacity text.new }
 {
     push(text, b"tell");
     push_numbers(text, &[told.unique]);
     push_result(text, &told.result);
-    push(text, b"\n");
 }
 
 // Bytes behind those that are there.

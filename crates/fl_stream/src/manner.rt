@@ -1,0 +1,10 @@
+//! What a stream does without its writer.
+
+/// What a stream does when a write fails.
+#[derive(Clone, Copy, Debug, PartialEq, Eq)]
+pub enum WhenWriterFails {
+    /// Orders go on, and the rest of the trace is lost: nothing more is written.
+    GoOn,
+    /// No order is taken while there is no room for its lines. What isn't written is kept, and tried again.
+    Refuse,
+}

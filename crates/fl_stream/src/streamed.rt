@@ -1,0 +1,253 @@
+//! Lines that go to a writer as their text, and wait in memory only until then.
+
+ghost use Rattle.std.specs.Prelude.{◌≡◌, ◌↔◌, ◌+◌, ◌≤◌, ◌<◌, ◌++◌, ◌∷◌, [], false, IsTrue, IfOk, OnOk, IsOk};
+ghost use Rattle.std.specs.Io.KnownBytes.{Keeps};
+ghost use Rattle.fl_stream.specs.Streams.{IsBlank, Wrote, IsBegun, IsStreamed};
+ghost use Rattle.fl_stream.specs.declared.manner.WhenWriterFails.TheVariants as manner;
+ghost use Rattle.fl_trace.specs.Text.{text_of};
+
+use crate::manner::WhenWriterFails;
+use crate::writing::send;
+use fl_history::Line;
+use fl_keeper::Keeper;
+use fl_order::{NoMemory, Order, Told};
+use fl_past::Past;
+use fl_trace::{LINE_ROOM, push_line};
+use std::alloc::Global;
+use std::io::Write;
+use std::marker::Model;
+
+/// So many lines at the most find room one after another before their text is written.
+const MOST_LINES: usize = 2048;
+
+/// Lines that go to a writer as their text, as `print_trace` spells it. The text waits in a room of some 1.4 megabytes,
+/// made once, and is written when that is full, and when it is told to pause or to flush. Contracts see all lines so far,
+/// what the writer holds, the text that waits, for how many more lines there is room, and whether it is broken: it goes on
+/// without its writer, and writes nothing more.
+#[derive(Drop)]
+pub struct Streamed<W: Write> {
+    past: Past<Line>,
+    // The text of lines, as far as it isn't written.
+    unsent: Vec<u8>,
+    // For how many more lines there is room behind it.
+    room: usize,
+    writer: W,
+    broken: bool,
+    manner: WhenWriterFails,
+}
+
+impl<W: Write> Model for Streamed<W> {
+    ghost use Rattle.std.specs.Prelude.{◌≤◌, ◌+◌, ◌*◌, length, vec_capacity};
+    ghost use Rattle.fl_stream.specs.Streams.{Stream, IsStreamed};
+
+    ghost Value = { Stream };
+
+    ghost view = { λ s. record {
+      lines = s.past.items;
+      held = W.contents s.writer;
+      unsent = s.unsent.items;
+      room = s.room;
+      broken = s.broken;
+      manner = s.manner;
+    } };
+
+    ghost invariant = { λ s.
+        IsStreamed W.contents (W.contents s.writer) s.unsent.items s.broken s.manner s.past.items
+        × (length s.unsent.items + 700 * s.room ≤ vec_capacity s.unsent)
+        × (1433600 ≤ vec_capacity s.unsent) };
+}
+
+impl<W: Write> Streamed<W> {
+    /// No lines, before a writer that has nothing yet. The room is made here, and never grows.
+    #[tactic(auto, using(crate::proofs::Streaming::starts))]
+    pub fn new(alloc: Global, writer: W, manner: WhenWriterFails) -> Result<Streamed<W>, NoMemory>
+    where
+        W: Drop,
+        requires blank { IsBlank (W.contents writer) }
+        ensures { IfOk result (λ stream. stream ≡ record {
+          lines = [];
+          held = W.contents writer;
+          unsent = [];
+          room = 2048;
+          broken = false;
+          manner = manner;
+        }) }
+    {
+        Ok(Streamed {
+            past: Past::new(),
+            unsent: Vec::with_capacity(alloc, MOST_LINES * LINE_ROOM)?,
+            room: MOST_LINES,
+            writer,
+            broken: false,
+            manner,
+        })
+    }
+
+    /// Writes what waits, and says whether the writer holds the text of all lines. Where it is broken nothing is written.
+    pub fn flush(&mut self) -> bool
+        ensures lines { self.new.lines ≡ self.old.lines }
+        ensures manner { self.new.manner ≡ self.old.manner }
+        ensures all { IsTrue result → Wrote W.contents self.new.held (text_of self.new.lines) }
+        ensures begun { IsBegun W.contents self.new.held self.new.lines }
+        ensures stays { IsTrue self.old.broken → IsTrue self.new.broken }
+        ensures silent { IsTrue self.old.broken → Keeps self.old.held self.new.held }
+    {
+        self.write_waiting();
+        let flushed = self.flush_writer();
+        let whole = self.is_whole();
+        flushed && whole
+    }
+
+    /// Whether the writer holds the text of all lines.
+    #[tactic(auto, using(crate::proofs::Streaming::begun, crate::proofs::Streaming::all_sent))]
+    pub fn is_whole(&self) -> bool
+        ensures value { IsTrue result ↔ (self.now.broken ≡ false) × (self.now.unsent ≡ []) }
+        ensures all { IsTrue result → Wrote W.contents self.now.held (text_of self.now.lines) }
+        ensures begun { IsBegun W.contents self.now.held self.now.lines }
+    {
+        !self.broken && self.unsent.is_empty()
+    }
+
+    /// Whether a write failed and it goes on without its writer. If not, all that isn't written waits.
+    pub fn is_broken(&self) -> bool
+        ensures value { result ≡ self.now.broken }
+        ensures kept { let s = self.now in IsStreamed W.contents s.held s.unsent s.broken s.manner s.lines }
+    {
+        self.broken
+    }
+
+    /// The writer. It holds the text of a beginning of all lines, which is all of them after a `flush` that said so.
+    #[tactic(auto, using(crate::proofs::Streaming::begun))]
+    pub fn into_writer(self) -> W
+        ensures held { W.contents result ≡ self.held }
+        ensures begun { IsBegun W.contents (W.contents result) self.lines }
+    {
+        let Streamed {
+            past: _,
+            unsent: _,
+            room: _,
+            writer,
+            broken: _,
+            manner: _,
+        } = self;
+        writer
+    }
+
+    // A line more, whose text waits.
+    #[tactic(auto, using(crate::proofs::Streaming::line_waits, crate::proofs::Streaming::line_lost))]
+    fn push(&mut self, line: &Line)
+        requires room { 0 < self.old.room }
+        ensures lines { self.new.lines ≡ self.old.lines ++ line.now ∷ [] }
+        ensures room { self.old.room ≤ self.new.room + 1 }
+        ensures held { self.new.held ≡ self.old.held }
+        ensures broken { self.new.broken ≡ self.old.broken }
+        ensures manner { self.new.manner ≡ self.old.manner }
+    {
+        self.past = self.past.and(line);
+        if !self.broken {
+            push_line(&mut self.unsent, line);
+            self.room -= 1;
+        }
+    }
+
+    // Writes what waits. Where a write fails, all that it left waits on, or is lost, as its manner is.
+    fn write_waiting(&mut self)
+        ensures lines { self.new.lines ≡ self.old.lines }
+        ensures manner { self.new.manner ≡ self.old.manner }
+        ensures goes_on { self.new.manner ≡ manner.GoOn → 2048 ≤ self.new.room }
+        ensures stays { IsTrue self.old.broken → IsTrue self.new.broken }
+        ensures silent { IsTrue self.old.broken → Keeps self.old.held self.new.held }
+    {
+        if !self.send() && self.manner == WhenWriterFails::GoOn {
+            self.give_up();
+        }
+        self.count_room();
+    }
+
+    #[tactic(auto, using(crate::proofs::Streaming::moved_on, crate::proofs::Streaming::kept_broken))]
+    fn send(&mut self) -> bool
+        ensures lines { self.new.lines ≡ self.old.lines }
+        ensures manner { self.new.manner ≡ self.old.manner }
+        ensures broken { self.new.broken ≡ self.old.broken }
+        ensures all { IsTrue result → self.new.unsent ≡ [] }
+        ensures silent { IsTrue self.old.broken → Keeps self.old.held self.new.held }
+    {
+        send(&mut self.writer, &mut self.unsent)
+    }
+
+    #[tactic(auto, using(crate::proofs::Streaming::kept_on))]
+    fn flush_writer(&mut self) -> bool
+        ensures lines { self.new.lines ≡ self.old.lines }
+        ensures manner { self.new.manner ≡ self.old.manner }
+        ensures broken { self.new.broken ≡ self.old.broken }
+        ensures held { Keeps self.old.held self.new.held }
+    {
+        self.writer.flush().is_ok()
+    }
+
+    // Nothing more is written, and what waits is lost.
+    #[tactic(auto, using(crate::proofs::Streaming::breaks))]
+    fn give_up(&mut self)
+        requires { self.old.manner ≡ manner.GoOn }
+        ensures lines { self.new.lines ≡ self.old.lines }
+        ensures manner { self.new.manner ≡ self.old.manner }
+        ensures broken { IsTrue self.new.broken }
+        ensures none { self.new.unsent ≡ [] }
+        ensures held { self.new.held ≡ self.old.held }
+    {
+        self.broken = true;
+        self.unsent.clear();
+    }
+
+    // Finds for how many more lines there is room.
+    fn count_room(&mut self)
+        ensures lines { self.new.lines ≡ self.old.lines }
+        ensures manner { self.new.manner ≡ self.old.manner }
+        ensures broken { self.new.broken ≡ self.old.broken }
+        ensures held { self.new.held ≡ self.old.held }
+        ensures all { self.old.unsent ≡ [] → 2048 ≤ self.new.room }
+    {
+        self.room = (self.unsent.capacity() - self.unsent.len()) / LINE_ROOM;
+    }
+}
+
+impl<W: Write> Keeper for Streamed<W> {
+    ghost lines = { λ s. s.lines };
+
+    ghost room = { λ s. s.room };
+
+    // Where it goes on without its writer, no order is refused.
+    fn reserve(&mut self, count: usize) -> Result<(), NoMemory>
+        requires few { count ≤ 2048 }
+        ensures lines { self.new.lines ≡ self.old.lines }
+        ensures room { OnOk result (count ≤ self.new.room) }
+        ensures succeeds { count ≤ self.old.room → IsOk result }
+        ensures goes_on { self.old.manner ≡ manner.GoOn → IsOk result }
+    {
+        if self.room < count {
+            self.count_room();
+        }
+        if self.room < count {
+            self.write_waiting();
+        }
+        if self.room < count {
+            return Err(NoMemory);
+        }
+        Ok(())
+    }
+
+    fn push_asked(&mut self, worker: u32, order: &Order) {
+        self.push(&Line::Asked {
+            worker,
+            order: *order,
+        });
+    }
+
+    fn push_told(&mut self, told: &Told) {
+        self.push(&Line::Told(*told));
+    }
+
+    fn pause(&mut self) {
+        self.write_waiting();
+    }
+}
