@@ -7,6 +7,7 @@ ghost use Rattle.fl_workers.specs.Worked.{IsAskedLast};
 
 use fl_board::{Board, BoardName, HandFault, NoView, Seat};
 use fl_core::Tolds;
+use fl_keeper::Keeper;
 use fl_order::{Answer, Errno, Order};
 use std::sync::Wait;
 
@@ -43,9 +44,13 @@ pub trait Counter {
         requires { only_reads order.now.op ≡ true }
         ensures own { worker seat.new ≡ worker seat.old }
         ensures kept { (count seat.new ≡ count seat.old) × (asked seat.new ≡ asked seat.old) };
+
+    /// A worker has no order at hand and is about to sleep: what the counter holds back of what it keeps may go on now. It
+    /// concerns no seat.
+    fn pause<R: Wait>(&self, rt: &R);
 }
 
-impl<L: BoardName, P: Wait + Drop> Counter for Board<L, P> {
+impl<L: BoardName, P: Wait + Drop, K: Keeper> Counter for Board<L, P, K> {
     type Seat = Seat<L>;
 
     ghost count = { λ seat. seat.count };
@@ -66,6 +71,10 @@ impl<L: BoardName, P: Wait + Drop> Counter for Board<L, P> {
 
     fn look(&self, seat: &mut Seat<L>, order: &Order) -> Result<Result<Answer, Errno>, NoView> {
         seat.look(order)
+    }
+
+    fn pause<R: Wait>(&self, rt: &R) {
+        Board::pause(self, rt);
     }
 }
 

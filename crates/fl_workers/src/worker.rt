@@ -26,7 +26,8 @@ pub struct Worked<S> {
 
 /// Takes orders until the intake is closed and empty. It looks for those that only read, and hands in all others, and those
 /// for which nothing could be shown, at its seat. Seat and end come back. It gives all replies to be sent; of an
-/// order that is refused, the reply that says so, if one is owed. Before it waits for an order it sends what is collected.
+/// order that is refused, the reply that says so, if one is owed. Before it waits for an order it sends what is collected, and
+/// before it sleeps it tells the counter.
 pub fn worker_loop<R: Wait, C: Counter, G: Gate, W: Write, N: WriterName>(
     rt: &R,
     counter: &C,
@@ -48,7 +49,7 @@ pub fn worker_loop<R: Wait, C: Counter, G: Gate, W: Write, N: WriterName>(
     let mut tolds = tolds;
     let mut refused = false;
     for _ in rt.forever() {
-        let Some(job) = next_job(rt, intake, &mut end, shared) else {
+        let Some(job) = next_job(rt, counter, intake, &mut end, shared) else {
             break;
         };
         refused |= handle(rt, counter, gate, shared, &mut seat, &mut tolds, &job);
@@ -127,9 +128,11 @@ fn looked<C: Counter>(counter: &C, seat: &mut C::Seat, order: &Order) -> Option<
     })
 }
 
-// The next order. Where none is there, what is collected is sent first, and a worker looks for a while before it sleeps.
-fn next_job<R: Wait, W: Write, N: WriterName>(
+// The next order. Where none is there, what is collected is sent first, and a worker looks for a while before it sleeps. Where
+// none came then either, the counter is told before it sleeps.
+fn next_job<R: Wait, C: Counter, W: Write, N: WriterName>(
     rt: &R,
+    counter: &C,
     intake: &Intake,
     end: &mut TakeEnd,
     shared: &Mutex<Shared<'_, W, N>>,
@@ -143,6 +146,10 @@ fn next_job<R: Wait, W: Write, N: WriterName>(
     }
     flush(rt, shared);
     intake.look();
+    if let Some(job) = intake.take_now(rt, end) {
+        return Some(job);
+    }
+    counter.pause(rt);
     intake.take(rt, end)
 }
 

@@ -90,4 +90,6 @@ impl Counter for Tally {
         }
         seat.core.answer(order).ok_or(NoView)
     }
+
+    fn pause<R: Wait>(&self, _rt: &R) {}
 }
