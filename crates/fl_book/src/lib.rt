@@ -1,4 +1,4 @@
-//! The book of the lock directory: the names of the desk, the judges, the board and the text of a history in one place.
+//! The book of the lock directory: the names of the desk, the judges, the board, where lines go and their text in one place.
 #![tactic(auto)]
 
 pub use fl_board::{
@@ -6,5 +6,7 @@ pub use fl_board::{
 };
 pub use fl_desk::{Desk, MOST_LINES, Verdict, check, laws};
 pub use fl_history::{History, Line};
+pub use fl_keeper::{Forgetful, Keeper};
 pub use fl_quiet::quiet;
+pub use fl_stream::{Streamed, WhenWriterFails};
 pub use fl_trace::{TraceFault, first_line, has_text, print_trace, read_trace};

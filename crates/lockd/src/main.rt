@@ -2,14 +2,14 @@
 //! function of `lockd_commands`.
 #![tactic(auto)]
 
-ghost use Rattle.std.specs.Prelude.{IfOk};
+ghost use Rattle.std.specs.Prelude.{◌≤◌, IfOk};
 ghost use Rattle.lockd_cli.specs.Workers.{HasWorkers};
 
 use descriptors::hold_closed_streams;
 use lockd_cli::{Asked, Refusal, Trace, WhenFull, print_version, read_words};
 use lockd_commands::{
     Fault, Status, WhenWriterFails, bytes_on, check_on, drive_on, script_on, serve_on,
-    serve_traced_on, serve_untraced_on,
+    serve_traced_on, serve_untraced_on, trace_at,
 };
 use std::fs::Files;
 use std::io::Write;
@@ -18,7 +18,7 @@ use std::path::Path;
 use std::process::ExitCode;
 use std::sync::Wait;
 use std::thread::Threads;
-use std::{env, io};
+use std::{env, fs, io};
 
 mod descriptors;
 
@@ -45,8 +45,6 @@ fn run<T: Threads + Wait + Net + Files + Sync>(
     threads: &T,
     asked: &Asked,
 ) -> Status
-where
-    T::File: Send,
     requires workers { HasWorkers asked.now }
 {
     if matches!(asked, Asked::Serve(..) | Asked::Drive(_)) {
@@ -72,8 +70,7 @@ where
                 Trace::Nowhere => serve_untraced_on(threads, alloc, path, *workers, &mut faults),
                 Trace::File(file, full) => {
                     let file = Path::new(file.as_str());
-                    let full = when_full(*full);
-                    serve_traced_on(threads, alloc, path, file, full, *workers, &mut faults)
+                    serve_to_file(rt, threads, path, *workers, file, *full, &mut faults)
                 }
             }
         }
@@ -82,6 +79,30 @@ where
             drive_on(rt, alloc, path, &mut input, &mut output, &mut faults)
         }
     }
+}
+
+// `lockd serve --trace FILE`: the trace's file is made before the server listens. Where no session is served it is taken away again.
+fn serve_to_file<T: Threads + Wait + Net + Files + Sync, F: Write>(
+    rt: &HostRuntime,
+    threads: &T,
+    path: Path<'_>,
+    workers: u32,
+    file: Path<'_>,
+    full: WhenFull,
+    faults: &mut F,
+) -> Status
+    requires workers { (1 ≤ workers) × (workers ≤ 16) }
+{
+    let trace = match trace_at(rt, file, faults) {
+        Ok(trace) => trace,
+        Err(status) => return status,
+    };
+    let full = when_full(full);
+    let (status, _trace) = serve_traced_on(threads, rt.alloc(), path, trace, full, workers, faults);
+    if let Status::Faulted(Fault::Listen | Fault::NoMemory) = status {
+        let _ = fs::remove_file(rt, file);
+    }
+    status
 }
 
 // What orders come to when the trace's file can't be written.

@@ -1,8 +1,9 @@
 -- What came of a session over a socket.
 pub mod Inside
-use Rattle.std.specs.Prelude.{◌≡◌, ℕ, List, Option, ⊤}
+use Rattle.std.specs.Prelude.{◌≡◌, ℕ, List, Option, Some, IfSome, ⊤}
 use Rattle.std.specs.Io.KnownBytes.{Appends}
 use Rattle.fl_desk.specs.Legal.{IsLegal}
+use Rattle.fl_stream.specs.Streams.{IsBegun, Wrote}
 use Rattle.fl_trace.specs.Text.{text_of}
 use Rattle.fl_history.specs.declared.history.Line.{Line}
 use Rattle.lockd_commands.specs.declared.fault.Fault.{Fault}
@@ -13,6 +14,24 @@ pub record IsTraced (old new : Option (List ℕ)) : Type 0 where
   pub lines : List Line
   pub legal : IsLegal lines
   pub written : Appends old new (text_of lines)
+
+-- a writer came back, to which the trace of a legal history was written, and nothing else
+pub record HasTrace {W : Type 0} (contents : W → Option (List ℕ)) (writer : Option W) : Type 0 where
+  pub one : W
+  pub back : writer ≡ Some one
+  pub lines : List Line
+  pub legal : IsLegal lines
+  pub wrote : Wrote contents (contents one) (text_of lines)
+
+-- a beginning of the trace of a legal history was written, which may end within a line
+pub record IsTraceBegun {W : Type 0} (contents : W → Option (List ℕ)) (held : Option (List ℕ)) : Type 0 where
+  pub lines : List Line
+  pub legal : IsLegal lines
+  pub begun : IsBegun contents held lines
+
+-- to a writer that came back such a beginning was written
+abbrev pub HasBegun : {W : Type 0} → (W → Option (List ℕ)) → Option W → Type 0
+HasBegun contents writer = IfSome writer (λ w. IsTraceBegun contents (contents w))
 
 -- a fault of a session that was served: the stream's, or of reading it
 abbrev pub IsOfSession : Fault → Type 0

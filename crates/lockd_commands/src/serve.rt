@@ -9,6 +9,10 @@ ghost use Rattle.lockd_commands.specs.Serve.Inside.{Did, TellsOf};
 ghost use Rattle.lockd_commands.specs.Faults.{IsOfServe, IsTold};
 ghost use Rattle.lockd_commands.specs.declared.fault.Fault.{Fault};
 
+mod traced;
+
+pub use traced::{serve_traced_on, serve_untraced_on, trace_at};
+
 use crate::fault::Fault;
 use crate::status::{Status, end};
 use crate::streams::write_all;

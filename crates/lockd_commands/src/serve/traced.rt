@@ -1,9 +1,13 @@
 //! `lockd serve` with no history in memory: its trace goes to a file, or nowhere.
 
-ghost use Rattle.std.specs.Prelude.{◌≡◌, ◌≢◌, ◌⊎◌, ◌≤◌, ◌<◌, [], true, Err, IfErr, OnOk, OnErr, IsTrue};
+ghost use Rattle.std.specs.Prelude.{◌≡◌, ◌≢◌, ◌⊎◌, ◌≤◌, ◌<◌, [], Err, None, Some, IfErr, IfOk, IfSome, IsOk, IsSome};
 ghost use Rattle.std.specs.Io.KnownBytes.{Keeps};
 ghost use Rattle.std.specs.Path.{path_bytes};
-ghost use Rattle.lockd_commands.specs.Faults.{AreBothTold, IsOfServe, IsOfTrace, IsTold};
+ghost use Rattle.fl_desk.specs.Legal.{IsLegal};
+ghost use Rattle.fl_session.specs.declared.session.Fault.{Fault as SessionFault};
+ghost use Rattle.fl_stream.specs.Streams.{IsBlank};
+ghost use Rattle.lockd_commands.specs.Faults.{AreBothTold, IsOfServe, IsOfTraced, IsTold};
+ghost use Rattle.lockd_commands.specs.Serve.{HasBegun, HasTrace};
 ghost use Rattle.lockd_commands.specs.declared.fault.Fault.{Fault};
 
 use super::connection;
@@ -12,15 +16,16 @@ use crate::status::{Status, end};
 use fl_book::{Forgetful, Keeper, Streamed, WhenWriterFails};
 use fl_serve::{Kept, OpenGate, serve_over};
 use std::alloc::Global;
-use std::fs;
 use std::fs::{Files, OpenOptions};
 use std::io::Write;
 use std::net::Net;
+use std::os::unix::net::UnixStream;
 use std::path::Path;
 use std::sync::Wait;
 use std::thread::Threads;
 
-/// `lockd serve --trace none`: as `serve_on`, and keeps no line of the session. Nothing is printed.
+/// `lockd serve --trace none`: as `serve_on`, and keeps no line of the session, so that memory doesn't grow. Nothing is
+/// printed.
 pub fn serve_untraced_on<R: Threads + Wait + Net + Files + Sync, F: Write>(
     rt: &R,
     alloc: Global,
@@ -35,6 +40,156 @@ pub fn serve_untraced_on<R: Threads + Wait + Net + Files + Sync, F: Write>(
     ensures unnamed { path_bytes path.entry ≡ [] → result ≡ Status.Faulted Fault.Listen }
     ensures ended { result ≢ Status.Different }
 {
-    let done = served(rt, alloc, path, workers, Forgetful::new());
-    end(faults, done.map(|_| ()))
+    end(faults, serve_untraced(rt, alloc, path, workers))
+}
+
+/// `lockd serve --trace FILE`, over any writer that has nothing yet: as `serve_on`, but the trace goes to this writer as orders
+/// come, and memory doesn't grow. When it can't be written, orders go on without a trace or are refused, as `full`
+/// says. Then it is told that the trace failed, behind a fault of the session if there is one. Nothing is printed. The writer
+/// comes back where a session was served, with the text of a beginning of its history.
+pub fn serve_traced_on<R: Threads + Wait + Net + Files + Sync, W: Write + Send + Drop, F: Write>(
+    rt: &R,
+    alloc: Global,
+    path: Path<'_>,
+    trace: W,
+    full: WhenWriterFails,
+    workers: u32,
+    faults: &mut F,
+) -> (Status, Option<W>)
+    requires workers { (0 < workers) × (workers ≤ 16) }
+    requires blank { IsBlank (W.contents trace) }
+    ensures good { result.0 ≡ Status.Good → HasTrace W.contents result.1 }
+    ensures begun { HasBegun W.contents result.1 }
+    ensures faulted { (fault : Fault) → result.0 ≡ Status.Faulted fault → IsOfTraced fault
+        × (IsTold fault (F.contents faults.old) (F.contents faults.new)
+        ⊎ AreBothTold fault Fault.TraceFailed (F.contents faults.old) (F.contents faults.new)) }
+    ensures quiet { result.0 ≡ Status.Good → Keeps (F.contents faults.old) (F.contents faults.new) }
+    ensures ended { result.0 ≢ Status.Different }
+{
+    match serve_traced(rt, alloc, path, trace, full, workers) {
+        Ok(kept) => ended(faults, kept),
+        Err(fault) => (end(faults, Err(fault)), None),
+    }
+}
+
+/// A new file for a trace at a path. Where a file is there already, or none can be made, it is told that the server can't trace.
+pub fn trace_at<R: Files, F: Write>(
+    rt: &R,
+    path: Path<'_>,
+    faults: &mut F,
+) -> Result<R::File, Status>
+    ensures told { IfErr result (λ status. (status ≡ Status.Faulted Fault.Trace)
+        × IsTold Fault.Trace (F.contents faults.old) (F.contents faults.new)) }
+{
+    let made = OpenOptions::new().write(true).create_new(true).open(rt, path);
+    match made {
+        Ok(file) => Ok(file),
+        Err(_) => Err(end(faults, Err(Fault::Trace))),
+    }
+}
+
+// Serves a session, of which no line is kept.
+fn serve_untraced<R: Threads + Wait + Net + Files + Sync>(
+    rt: &R,
+    alloc: Global,
+    path: Path<'_>,
+    workers: u32,
+) -> Result<(), Fault>
+    requires workers { (0 < workers) × (workers ≤ 16) }
+    ensures of { IfErr result IsOfServe }
+    ensures unnamed { path_bytes path.entry ≡ [] → result ≡ Err Fault.Listen }
+{
+    let connected = connection(rt, path)?;
+    let kept = serve_over(
+        rt,
+        alloc,
+        &mut &connected,
+        &mut &connected,
+        workers,
+        &OpenGate,
+        Forgetful::new(),
+    );
+    told_of(kept.fault)
+}
+
+// Serves a session whose trace goes to this writer.
+fn serve_traced<R: Threads + Wait + Net + Files + Sync, W: Write + Send + Drop>(
+    rt: &R,
+    alloc: Global,
+    path: Path<'_>,
+    trace: W,
+    full: WhenWriterFails,
+    workers: u32,
+) -> Result<Kept<Streamed<W>>, Fault>
+    requires workers { (0 < workers) × (workers ≤ 16) }
+    requires blank { IsBlank (W.contents trace) }
+    ensures of { IfErr result IsOfServe }
+    ensures legal { IfOk result (λ kept. IfSome kept.keeper (λ stream. IsLegal stream.lines)) }
+    ensures back { IfOk result (λ kept. IsSome kept.keeper
+        ⊎ (kept.fault ≡ Some SessionFault.NoMemory) ⊎ (kept.fault ≡ Some SessionFault.NoReader)) }
+{
+    let stream = Streamed::new(alloc, trace, full)?;
+    let connected = connection(rt, path)?;
+    Ok(serve_over(
+        rt,
+        alloc,
+        &mut &connected,
+        &mut &connected,
+        workers,
+        &OpenGate,
+        stream,
+    ))
+}
+
+// How a session ended.
+fn told_of(fault: Option<fl_serve::Fault>) -> Result<(), Fault>
+    ensures of { IfErr result IsOfServe }
+    ensures none { IsOk result → fault ≡ None }
+{
+    match fault {
+        None => Ok(()),
+        Some(fault) => Err(Fault::from(fault)),
+    }
+}
+
+// Ends a command whose trace went to a writer: tells the session's fault, and that the trace failed.
+fn ended<W: Write + Drop, F: Write>(
+    faults: &mut F,
+    kept: Kept<Streamed<W>>,
+) -> (Status, Option<W>)
+    requires legal { IfSome kept.keeper (λ stream. IsLegal stream.lines) }
+    requires back { IsSome kept.keeper
+        ⊎ (kept.fault ≡ Some SessionFault.NoMemory) ⊎ (kept.fault ≡ Some SessionFault.NoReader) }
+    ensures good { result.0 ≡ Status.Good → HasTrace W.contents result.1 }
+    ensures begun { HasBegun W.contents result.1 }
+    ensures faulted { (fault : Fault) → result.0 ≡ Status.Faulted fault → IsOfTraced fault
+        × (IsTold fault (F.contents faults.old) (F.contents faults.new)
+        ⊎ AreBothTold fault Fault.TraceFailed (F.contents faults.old) (F.contents faults.new)) }
+    ensures quiet { result.0 ≡ Status.Good → Keeps (F.contents faults.old) (F.contents faults.new) }
+    ensures ended { result.0 ≢ Status.Different }
+{
+    let Kept { keeper, fault, .. } = kept;
+    let status = end(faults, told_of(fault));
+    let Some(stream) = keeper else {
+        return (status, None);
+    };
+    let mut stream = stream;
+    let whole = stream.flush();
+    let trace = Some(stream.into_writer());
+    if whole {
+        return (status, trace);
+    }
+    tell(faults, Fault::TraceFailed);
+    (failed(status), trace)
+}
+
+// How a command ended whose trace failed besides.
+fn failed(status: Status) -> Status
+    ensures good { status ≡ Status.Good → result ≡ Status.Faulted Fault.TraceFailed }
+    ensures faulted { status ≢ Status.Good → result ≡ status }
+{
+    match status {
+        Status::Good => Status::Faulted(Fault::TraceFailed),
+        faulted => faulted,
+    }
 }
