@@ -15,7 +15,7 @@ pub use bytes::bytes_on;
 pub use check::check_on;
 pub use drive::drive_on;
 pub use fault::Fault;
-pub use script::script_on;
 pub use fl_book::WhenWriterFails;
+pub use script::script_on;
 pub use serve::{serve_on, serve_traced_on, serve_untraced_on, trace_at};
 pub use status::Status;

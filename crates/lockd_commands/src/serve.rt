@@ -11,8 +11,6 @@ ghost use Rattle.lockd_commands.specs.declared.fault.Fault.{Fault};
 
 mod traced;
 
-pub use traced::{serve_traced_on, serve_untraced_on, trace_at};
-
 use crate::fault::Fault;
 use crate::status::{Status, end};
 use crate::streams::write_all;
@@ -28,6 +26,7 @@ use std::os::unix::net::{UnixListener, UnixStream};
 use std::path::Path;
 use std::sync::Wait;
 use std::thread::Threads;
+pub use traced::{serve_traced_on, serve_untraced_on, trace_at};
 
 /// `lockd serve`: listens at a path with a Unix stream socket, serves the first connection with 1 to 16 workers, and
 /// writes the trace of the session once it is over. The socket's file is taken away when the connection is there, and no

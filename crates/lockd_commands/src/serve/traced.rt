@@ -81,7 +81,10 @@ pub fn trace_at<R: Files, F: Write>(
     ensures told { IfErr result (λ status. (status ≡ Status.Faulted Fault.Trace)
         × IsTold Fault.Trace (F.contents faults.old) (F.contents faults.new)) }
 {
-    let made = OpenOptions::new().write(true).create_new(true).open(rt, path);
+    let made = OpenOptions::new()
+        .write(true)
+        .create_new(true)
+        .open(rt, path);
     match made {
         Ok(file) => Ok(file),
         Err(_) => Err(end(faults, Err(Fault::Trace))),
@@ -153,10 +156,7 @@ fn told_of(fault: Option<fl_serve::Fault>) -> Result<(), Fault>
 }
 
 // Ends a command whose trace went to a writer: tells the session's fault, and that the trace failed.
-fn ended<W: Write + Drop, F: Write>(
-    faults: &mut F,
-    kept: Kept<Streamed<W>>,
-) -> (Status, Option<W>)
+fn ended<W: Write + Drop, F: Write>(faults: &mut F, kept: Kept<Streamed<W>>) -> (Status, Option<W>)
     requires legal { IfSome kept.keeper (λ stream. IsLegal stream.lines) }
     requires back { IsSome kept.keeper
         ⊎ (kept.fault ≡ Some SessionFault.NoMemory) ⊎ (kept.fault ≡ Some SessionFault.NoReader) }
