@@ -2,6 +2,7 @@
 
 ghost use Rattle.std.specs.Prelude.{◌≡◌};
 
+mod crew;
 mod rounds;
 mod threads;
 mod watched;
@@ -36,17 +37,26 @@ fn create(rt: &impl Abort) -> Order {
     order(1, 1, op)
 }
 
-// A write lock of an owner on the bytes up to the last.
-fn upto(owner: u64, last: u64) -> LockAsk {
+// A lock of an owner on the bytes `start` to `end` of that file, or an unlock.
+fn lock(owner: u64, start: u64, end: u64, kind: u32) -> LockAsk {
     LockAsk {
         fh: 1,
         owner,
-        start: 0,
-        end: last,
-        kind: 1,
+        start,
+        end,
+        kind,
         pid: 11,
         flags: 0,
     }
+}
+
+// A number that only looks random.
+fn roll(worker: u32, round: u64) -> u64 {
+    let of_worker = u64::from(worker).wrapping_mul(0xbf58_476d_1ce4_e5b9);
+    round
+        .wrapping_mul(0x9e37_79b9_7f4a_7c15)
+        .wrapping_add(of_worker)
+        >> 40
 }
 
 // Hands in an order, which is taken.

@@ -1,4 +1,4 @@
-use Rattle.fl_board_threads_tests.proofs.tests.rounds.sixteen_seats_hand_in_look_and_meet.Given as goal
+use Rattle.fl_board_threads_tests.proofs.tests.crew.history_of.Given as goal
 
 abbrev pub ghosts-closed-L-BoardName : goal.ghosts-closed-L-BoardName
 ghosts-closed-L-BoardName g a = record { workers = a.blank.parts }
