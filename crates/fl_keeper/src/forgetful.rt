@@ -50,8 +50,7 @@ impl Keeper for Forgetful {
     }
 
     fn push_told(&mut self, told: &Told) {
-        let line = Line::Told(*told);
-        self.past = self.past.and(&line);
+        self.past = self.past.and(&Line::Told(*told));
     }
 
     fn pause(&mut self) {}

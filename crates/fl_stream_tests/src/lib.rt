@@ -1,0 +1,5 @@
+//! Tests of `fl_stream`, of the keeper of `fl_keeper` that keeps nothing, and of the text of a line, by what is public.
+#![tactic(auto)]
+
+#[cfg(test)]
+mod tests;
