@@ -1,12 +1,15 @@
 -- What a session with workers did.
-use Rattle.std.proofs.Common.{◌≡◌, ℕ, ◌+◌, ◌⊎◌, inl, inr, ⊎_elim, Bool, true, false, List, [], ◌++◌, Option, Some, length, map, sum_by, refl, sym, ap, subst, ◌∙◌, arith}
+use Rattle.std.proofs.Common.{◌≡◌, ℕ, ◌+◌, ◌⊎◌, inl, inr, ⊎_elim, Bool, true, false, List, [], ◌++◌, Option, Some, None, length, map, sum_by, refl, sym, ap, subst, ◌∙◌, arith}
 use Rattle.std.proofs.KnownBytes.{Appends-nil}
 use Rattle.std.proofs.lemmas.List.{length-map}
 use Rattle.std.proofs.lemmas.List.Elements.{All-nil}
 use Rattle.std.proofs.lemmas.List.FromFn.{length-range_with_len}
 use Rattle.std.proofs.lemmas.List.Sums.{sum_by-append}
 use Rattle.std.specs.List.{range_with_len}
+use Rattle.std.specs.Prelude.{IfSome}
 use Rattle.fl_board.specs.Seats.{Place}
+use Rattle.fl_desk.specs.Legal.{IsLegal, nothing}
+use Rattle.fl_history.specs.declared.history.Line.{Line}
 use Rattle.fl_serve.specs.Inside.Hearing.{HasHeard}
 use Rattle.fl_session.specs.Inbox.{IsEnding}
 use Rattle.fl_intake.specs.Often.{Weight}
@@ -14,6 +17,7 @@ use Rattle.fl_order.specs.Order.{only_reads}
 use Rattle.fl_order.specs.declared.order.Order.{Order}
 use Rattle.fl_serve.proofs.AskedLemmas.{all_is_handed_in}
 use Rattle.fl_serve.specs.Inside.Working.{HasAll, HaveDone}
+use Rattle.fl_serve.specs.Kept.{lines_kept}
 use Rattle.fl_serve.specs.Said.{said_in}
 use Rattle.fl_serve.specs.Serve.{HasNoHistory, IsAsked, IsServedBy}
 use Rattle.fl_workers.specs.Asked.{Orders, asked}
@@ -111,3 +115,9 @@ unserved left left_now held held_now broken done fault unread sent told none why
     none = λ _. refl;
   });
 }
+
+-- the lines of a keeper are legal, and no lines where there is none
+pub kept_legal : {K : Type 0} (lines : K → List Line) (keeper : Option K) → IfSome keeper (λ k. IsLegal (lines k))
+    → IsLegal (lines_kept lines keeper)
+kept_legal lines None legal = nothing
+kept_legal lines (Some keeper) legal = legal

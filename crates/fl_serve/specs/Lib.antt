@@ -1,3 +1,4 @@
 pub mod Inside
+pub mod Kept
 pub mod Said
 pub mod Serve

@@ -1,7 +1,7 @@
 //! A whole session of the FUSE protocol with workers, over any reader and any writer.
 
 ghost use Rattle.std.specs.Prelude.{◌≡◌, ◌≢◌, ◌≤◌, ◌<◌, ◌+◌, ◌⊎◌, ◌||◌, ℕ, Bool, List, [], All, Option, false, Some};
-ghost use Rattle.std.specs.Prelude.{length, map, sum_by, IfOk};
+ghost use Rattle.std.specs.Prelude.{length, map, sum_by, IfOk, IfSome, IsSome, None};
 ghost use Rattle.std.specs.List.{range_with_len};
 ghost use Rattle.std.specs.Io.KnownBytes.{Keeps};
 ghost use Rattle.fl_desk.specs.Legal.{IsLegal};
@@ -10,16 +10,20 @@ ghost use Rattle.fl_intake.specs.Ends.{weight_taken};
 ghost use Rattle.fl_intake.specs.Often.{Weight};
 ghost use Rattle.fl_serve.specs.Inside.Hearing.{HasHeard};
 ghost use Rattle.fl_serve.specs.Inside.Working.{HasAll, HaveDone, IsFresh};
+ghost use Rattle.fl_serve.specs.Kept.{came_to};
 ghost use Rattle.fl_serve.specs.Serve.{HasNoHistory, IsServedBy};
 
 mod crew;
 mod hearing;
 
+use crate::kept::Kept;
 use crate::serving::crew::{Back, Crew, Posts};
 use crate::serving::hearing::Heard;
 use fl_board::{Board, BoardName, FreshLog, OpenFault, Seat};
 use fl_core::Tolds;
+use fl_history::Lines;
 use fl_intake::{Intake, Job, PutEnd};
+use fl_keeper::Keeper;
 use fl_order::NoMemory;
 use fl_session::{Done, Fault, Inbox, Owed, ReplyBuffer};
 use fl_workers::{Gate, Shared, WriterName, handle_all};
@@ -76,13 +80,37 @@ pub fn serve_on_stack<R: Threads + Wait + Sync, I: Read, W: Write + Send + Drop,
     ensures nothing { result.fault ≡ Some Fault.NoMemory
         → (result.history ≡ []) × Keeps (I.remaining r.old) (I.remaining r.new) }
 {
-    let blank = Blank::new(u64::from(workers));
-    let log = FreshLog::new();
     let staff = Staff { workers, stack };
-    let (done, w) = serve_at::<Brand, Brand, R, I, W, G>(rt, alloc, blank, log, r, w, gate, staff);
-    // No effect at run time: the proof reads here what the writer holds.
-    let _ = &*w;
-    done
+    kept_on_stack(rt, alloc, r, w, gate, staff, Lines::new(alloc)).into_done(alloc)
+}
+
+/// The same, whose lines go to this keeper, which has none so far. It comes back with the history, but at `NoMemory` and
+/// `NoReader`: there it was let go. Before a worker sleeps the keeper may let go on what it holds back.
+pub fn serve_over<R, I: Read, W: Write + Send + Drop, G: Gate + Sync, K: Keeper + Send + Drop>(
+    rt: &R,
+    alloc: Global,
+    r: &mut I,
+    w: &mut W,
+    workers: u32,
+    gate: &G,
+    keeper: K,
+) -> Kept<K>
+where
+    R: Threads + Wait + Sync,
+    requires workers { (0 < workers) × (workers ≤ 16) }
+    requires none { K.lines keeper ≡ [] }
+    ensures legal { IfSome result.keeper (λ keeper. IsLegal (K.lines keeper)) }
+    ensures served { IsServedBy (I.remaining r.old) (I.remaining r.new) (W.contents w.old) (W.contents w.new)
+        (came_to K.lines result.keeper result.fault result.refused) }
+    ensures back { IsSome result.keeper ⊎ (result.fault ≡ Some Fault.NoMemory) ⊎ (result.fault ≡ Some Fault.NoReader) }
+    ensures nothing { result.fault ≡ Some Fault.NoMemory
+        → (result.keeper ≡ None) × Keeps (I.remaining r.old) (I.remaining r.new) }
+{
+    let staff = Staff {
+        workers,
+        stack: STACK_BYTES,
+    };
+    kept_on_stack(rt, alloc, r, w, gate, staff, keeper)
 }
 
 // How many workers there are, and how many bytes each one's stack has.
@@ -90,6 +118,37 @@ pub fn serve_on_stack<R: Threads + Wait + Sync, I: Read, W: Write + Send + Drop,
 struct Staff {
     workers: u32,
     stack: usize,
+}
+
+// The same, with workers and stacks as they are said.
+fn kept_on_stack<R, I: Read, W: Write + Send + Drop, G: Gate + Sync, K: Keeper + Send + Drop>(
+    rt: &R,
+    alloc: Global,
+    r: &mut I,
+    w: &mut W,
+    gate: &G,
+    staff: Staff,
+    keeper: K,
+) -> Kept<K>
+where
+    R: Threads + Wait + Sync,
+    requires workers { (0 < staff.workers) × (staff.workers ≤ 16) }
+    requires none { K.lines keeper ≡ [] }
+    ensures legal { IfSome result.keeper (λ keeper. IsLegal (K.lines keeper)) }
+    ensures served { IsServedBy (I.remaining r.old) (I.remaining r.new) (W.contents w.old) (W.contents w.new)
+        (came_to K.lines result.keeper result.fault result.refused) }
+    ensures back { IsSome result.keeper ⊎ (result.fault ≡ Some Fault.NoMemory) ⊎ (result.fault ≡ Some Fault.NoReader) }
+    ensures nothing { result.fault ≡ Some Fault.NoMemory
+        → (result.keeper ≡ None) × Keeps (I.remaining r.old) (I.remaining r.new) }
+{
+    let blank = Blank::new(u64::from(staff.workers));
+    let log = FreshLog::new();
+    let (kept, w) = serve_at::<Brand, Brand, R, I, W, G, K>(
+        rt, alloc, blank, log, r, w, gate, staff, keeper,
+    );
+    // No effect at run time: the proof reads here what the writer holds.
+    let _ = &*w;
+    kept
 }
 
 // The same at a board of this name, and with a writer of that name.
@@ -101,6 +160,7 @@ fn serve_at<
     I: Read,
     W: Write + Send + Drop,
     G: Gate + Sync,
+    K: Keeper + Send + Drop,
 >(
     rt: &R,
     alloc: Global,
@@ -110,23 +170,27 @@ fn serve_at<
     w: &'w mut W,
     gate: &G,
     staff: Staff,
-) -> (Done, &'w mut W)
+    keeper: K,
+) -> (Kept<K>, &'w mut W)
     requires named { (blank.name ≡ L.name) × (blank.parts ≡ L.parts) }
     requires log { log ≡ L.log }
     requires parts { (staff.workers ≡ L.parts) × (L.workers ≡ L.parts) }
     requires workers { (0 < staff.workers) × (staff.workers ≤ 16) }
+    requires none { K.lines keeper ≡ [] }
     requires start { W.contents w.old ≡ N.start }
     requires writer { w.ghost_name ≡ N.name }
     ensures writer { result.1.ghost_name ≡ w.entry.ghost_name }
-    ensures legal { IsLegal result.0.history }
+    ensures legal { IfSome result.0.keeper (λ keeper. IsLegal (K.lines keeper)) }
     ensures served { IsServedBy (I.remaining r.old) (I.remaining r.new) (W.contents w.old) (W.contents result.1.now)
-        result.0 }
+        (came_to K.lines result.0.keeper result.0.fault result.0.refused) }
+    ensures back { IsSome result.0.keeper
+        ⊎ (result.0.fault ≡ Some Fault.NoMemory) ⊎ (result.0.fault ≡ Some Fault.NoReader) }
     ensures nothing { result.0.fault ≡ Some Fault.NoMemory
-        → (result.0.history ≡ []) × Keeps (I.remaining r.old) (I.remaining r.new) }
+        → (result.0.keeper ≡ None) × Keeps (I.remaining r.old) (I.remaining r.new) }
 {
-    let rooms = match Rooms::<L, &R>::new(alloc, rt, blank, log, staff.workers) {
+    let rooms = match Rooms::<L, &R, K>::new(alloc, rt, keeper, blank, log, staff.workers) {
         Ok(rooms) => rooms,
-        Err(fault) => return (Done::nothing(alloc, unopened(fault)), w),
+        Err(fault) => return (Kept::nothing(alloc, unopened(fault)), w),
     };
     let Rooms {
         board,
@@ -149,19 +213,19 @@ fn serve_at<
     if heard.fault == Some(Fault::NoMemory) {
         let Crew { shared, .. } = crew;
         let (w, _) = shared.into_inner().close(&Owed::Nothing);
-        return (Done::nothing(alloc, Fault::NoMemory), w);
+        return (Kept::nothing(alloc, Fault::NoMemory), w);
     }
     finished(alloc, crew, back, heard, tolds)
 }
 
 // Hands in what no worker took, says goodbye, and closes the board of a session whose workers came back.
-fn finished<'w, L: BoardName, N: WriterName, R: Wait, W: Write, G: Gate>(
+fn finished<'w, L: BoardName, N: WriterName, R: Wait, W: Write, G: Gate, K: Keeper + Drop>(
     alloc: Global,
-    crew: Crew<'_, 'w, L, N, R, W, G>,
+    crew: Crew<'_, 'w, L, N, R, W, G, K>,
     back: Back<L>,
     heard: Heard,
     tolds: Tolds,
-) -> (Done, &'w mut W)
+) -> (Kept<K>, &'w mut W)
     requires parts { L.workers ≡ L.parts }
     requires mine { (heard.put.of ≡ crew.intake) × All (λ end. end.of ≡ crew.intake) back.ends.items }
     requires all { heard.put.takers ≤ length back.ends.items }
@@ -169,10 +233,12 @@ fn finished<'w, L: BoardName, N: WriterName, R: Wait, W: Write, G: Gate>(
     requires whose { map (λ seat. seat.worker) back.seats.items ≡ range_with_len 0 heard.put.takers }
     requires did { HaveDone (λ weight. weight_taken weight back.ends.items) back.seats.items back.refused }
     ensures writer { result.1.ghost_name ≡ N.name }
-    ensures legal { IsLegal result.0.history }
+    ensures legal { IfSome result.0.keeper (λ keeper. IsLegal (K.lines keeper)) }
     ensures served { (left left_now : Option (List ℕ))
         → HasHeard left left_now heard.fault heard.put.put heard.goodbye
-        → IsServedBy left left_now N.start (W.contents result.1.now) result.0 }
+        → IsServedBy left left_now N.start (W.contents result.1.now)
+        (came_to K.lines result.0.keeper result.0.fault result.0.refused) }
+    ensures back { IsSome result.0.keeper ⊎ (result.0.fault ≡ Some Fault.NoReader) }
     ensures memory { heard.fault ≢ Some Fault.NoMemory → result.0.fault ≢ Some Fault.NoMemory }
 {
     let Crew {
@@ -214,9 +280,9 @@ fn unopened(fault: OpenFault) -> Fault
 }
 
 // Hands in, at the last seat, the orders that no worker took, or looks for them. Tells whether one was refused.
-fn handed_in<L: BoardName, N: WriterName, P: Wait + Drop, R: Wait, W: Write, G: Gate>(
+fn handed_in<L: BoardName, N: WriterName, P: Wait + Drop, R: Wait, W: Write, G: Gate, K: Keeper>(
     rt: &R,
-    board: &Board<L, P>,
+    board: &Board<L, P, K>,
     gate: &G,
     shared: &Mutex<Shared<'_, W, N>>,
     seats: Vec<Seat<L>>,
@@ -240,30 +306,32 @@ fn handed_in<L: BoardName, N: WriterName, P: Wait + Drop, R: Wait, W: Write, G: 
 
 // What a session came to whose workers gave all seats back, with this fault. Where the board can't tell the history, it is
 // told as want of a reader.
-fn closed<L: BoardName, R: Wait + Drop>(
+fn closed<L: BoardName, R: Wait + Drop, K: Keeper + Drop>(
     alloc: Global,
-    board: Board<L, R>,
+    board: Board<L, R, K>,
     seats: Vec<Seat<L>>,
     refused: bool,
     fault: Option<Fault>,
-) -> Done
+) -> Kept<K>
     requires { L.workers ≡ L.parts }
-    ensures legal { IsLegal result.history }
-    ensures told { HasAll seats.items refused fault result ⊎ HasNoHistory result }
+    ensures legal { IfSome result.keeper (λ keeper. IsLegal (K.lines keeper)) }
+    ensures told { HasAll seats.items refused fault (came_to K.lines result.keeper result.fault result.refused)
+        ⊎ HasNoHistory (came_to K.lines result.keeper result.fault result.refused) }
+    ensures back { IsSome result.keeper ⊎ (result.fault ≡ Some Fault.NoReader) }
 {
-    match board.close(seats) {
-        Ok(history) => Done {
-            history,
+    match board.into_kept(seats) {
+        Ok(keeper) => Kept {
+            keeper: Some(keeper),
             fault,
             refused,
         },
-        Err(_) => Done::nothing(alloc, Fault::NoReader),
+        Err(_) => Kept::nothing(alloc, Fault::NoReader),
     }
 }
 
 // All that a session has before its first read.
-struct Rooms<L: BoardName, R: Wait + Drop> {
-    board: Board<L, R>,
+struct Rooms<L: BoardName, R: Wait + Drop, K: Keeper> {
+    board: Board<L, R, K>,
     intake: Intake,
     put: PutEnd,
     posts: Posts<L>,
@@ -273,15 +341,17 @@ struct Rooms<L: BoardName, R: Wait + Drop> {
     replies: ReplyBuffer,
 }
 
-impl<L: BoardName, R: Wait + Drop> Rooms<L, R> {
+impl<L: BoardName, R: Wait + Drop, K: Keeper + Drop> Rooms<L, R, K> {
     #[tactic(auto, using(crate::proofs::ServingLemmas::as_many))]
     fn new(
         alloc: Global,
         rt: R,
+        keeper: K,
         blank: Blank,
         log: FreshLog,
         workers: u32,
-    ) -> Result<Rooms<L, R>, OpenFault>
+    ) -> Result<Rooms<L, R, K>, OpenFault>
+        requires none { K.lines keeper ≡ [] }
         requires named { (blank.name ≡ L.name) × (blank.parts ≡ L.parts) }
         requires log { log ≡ L.log }
         requires parts { (workers ≡ L.parts) × (L.workers ≡ L.parts) }
@@ -305,7 +375,7 @@ impl<L: BoardName, R: Wait + Drop> Rooms<L, R> {
             ends: Vec::with_capacity(alloc, workers as usize)?,
             refused: false,
         };
-        let (board, seats) = Board::<L, R>::new(alloc, rt, blank, log, workers)?;
+        let (board, seats) = Board::<L, R, K>::over(alloc, rt, keeper, blank, log, workers)?;
         let posts = Posts {
             seats,
             ends,

@@ -14,6 +14,7 @@ use core::thread::Stack;
 use fl_board::{Board, BoardName, Seat};
 use fl_core::Tolds;
 use fl_intake::{Intake, PutEnd, TakeEnd};
+use fl_keeper::Keeper;
 use fl_session::{Fault, Inbox, Owed};
 use fl_workers::{Gate, Shared, Worked, WriterName, worker_loop};
 use std::io::{Read, Write};
@@ -24,12 +25,12 @@ use std::thread::{Promise, PromisedHandle, Scope, Threads};
 
 /// What the reader and the workers of a session share.
 #[derive(Drop)]
-pub(crate) struct Crew<'a, 'w, L: BoardName, N: WriterName, R: Wait, W: Write, G> {
+pub(crate) struct Crew<'a, 'w, L: BoardName, N: WriterName, R: Wait, W: Write, G, K: Keeper> {
     pub rt: &'a R,
     pub gate: &'a G,
     /// Bytes of a worker's stack.
     pub stack: usize,
-    pub board: Board<L, &'a R>,
+    pub board: Board<L, &'a R, K>,
     pub intake: Intake,
     pub shared: Mutex<Shared<'w, W, N>>,
 }
@@ -85,7 +86,8 @@ impl<
     R: Threads + Wait + Sync,
     W: Write + Send + Drop,
     G: Gate + Sync,
-> Crew<'a, 'w, L, N, R, W, G> {
+    K: Keeper + Send + Drop,
+> Crew<'a, 'w, L, N, R, W, G, K> {
     /// Runs a session: starts a worker at each seat, reads until the session ends, closes the intake, and joins the workers.
     /// Where a worker can't be started nothing is read.
     pub(crate) fn run<I: Read>(

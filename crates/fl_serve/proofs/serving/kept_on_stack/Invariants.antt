@@ -1,4 +1,4 @@
-use Rattle.fl_serve.proofs.serving.serve_on_stack.Given as goal
+use Rattle.fl_serve.proofs.serving.kept_on_stack.Given as goal
 
 abbrev pub ghosts-serve_at-L-BoardName : goal.ghosts-serve_at-L-BoardName
 ghosts-serve_at-L-BoardName g a = record { workers = a.blank.parts }
