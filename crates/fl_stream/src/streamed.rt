@@ -2,6 +2,7 @@
 
 ghost use Rattle.std.specs.Prelude.{◌≡◌, ◌↔◌, ◌+◌, ◌≤◌, ◌<◌, ◌++◌, ◌∷◌, [], false, IsTrue, IfOk, OnOk, IsOk};
 ghost use Rattle.std.specs.Io.KnownBytes.{Keeps};
+ghost use Rattle.fl_history.specs.declared.history.Line.TheVariants as line;
 ghost use Rattle.fl_stream.specs.Streams.{IsBlank, Wrote, IsBegun, IsStreamed};
 ghost use Rattle.fl_stream.specs.declared.manner.WhenWriterFails.TheVariants as manner;
 ghost use Rattle.fl_trace.specs.Text.{text_of};
@@ -21,9 +22,9 @@ use std::marker::Model;
 const MOST_LINES: usize = 2048;
 
 /// Lines that go to a writer as their text, as `print_trace` spells it. The text waits in a room of some 1.4 megabytes,
-/// made once, and is written when that is full, and when it is told to pause or to flush. Contracts see all lines so far,
-/// what the writer holds, the text that waits, for how many more lines there is room, and whether it is broken: it goes on
-/// without its writer, and writes nothing more.
+/// made once. It is written where that is full, and where it is told to pause or to flush. Contracts see all lines so
+/// far, what the writer holds, the text that waits, the room for more lines, what it does when a write fails, and
+/// whether it is broken: then it goes on without its writer, and writes nothing more.
 #[derive(Drop)]
 pub struct Streamed<W: Write> {
     past: Past<Line>,
@@ -83,7 +84,7 @@ impl<W: Write> Streamed<W> {
         })
     }
 
-    /// Writes what waits, and says whether the writer holds the text of all lines. Where it is broken nothing is written.
+    /// Writes what waits, and says whether the writer holds the text of all lines. A broken stream writes nothing.
     pub fn flush(&mut self) -> bool
         ensures lines { self.new.lines ≡ self.old.lines }
         ensures manner { self.new.manner ≡ self.old.manner }
@@ -220,9 +221,11 @@ impl<W: Write> Keeper for Streamed<W> {
     fn reserve(&mut self, count: usize) -> Result<(), NoMemory>
         requires few { count ≤ 2048 }
         ensures lines { self.new.lines ≡ self.old.lines }
+        ensures manner { self.new.manner ≡ self.old.manner }
         ensures room { OnOk result (count ≤ self.new.room) }
         ensures succeeds { count ≤ self.old.room → IsOk result }
         ensures goes_on { self.old.manner ≡ manner.GoOn → IsOk result }
+        ensures silent { IsTrue self.old.broken → Keeps self.old.held self.new.held }
     {
         if self.room < count {
             self.count_room();
@@ -236,18 +239,37 @@ impl<W: Write> Keeper for Streamed<W> {
         Ok(())
     }
 
-    fn push_asked(&mut self, worker: u32, order: &Order) {
+    fn push_asked(&mut self, worker: u32, order: &Order)
+        requires room { 0 < self.old.room }
+        ensures lines { self.new.lines ≡ self.old.lines ++ line.Asked worker order.now ∷ [] }
+        ensures room { self.old.room ≤ self.new.room + 1 }
+        ensures held { self.new.held ≡ self.old.held }
+        ensures broken { self.new.broken ≡ self.old.broken }
+        ensures manner { self.new.manner ≡ self.old.manner }
+    {
         self.push(&Line::Asked {
             worker,
             order: *order,
         });
     }
 
-    fn push_told(&mut self, told: &Told) {
+    fn push_told(&mut self, told: &Told)
+        requires room { 0 < self.old.room }
+        ensures lines { self.new.lines ≡ self.old.lines ++ line.Told told.now ∷ [] }
+        ensures room { self.old.room ≤ self.new.room + 1 }
+        ensures held { self.new.held ≡ self.old.held }
+        ensures broken { self.new.broken ≡ self.old.broken }
+        ensures manner { self.new.manner ≡ self.old.manner }
+    {
         self.push(&Line::Told(*told));
     }
 
-    fn pause(&mut self) {
+    fn pause(&mut self)
+        ensures lines { self.new.lines ≡ self.old.lines }
+        ensures manner { self.new.manner ≡ self.old.manner }
+        ensures stays { IsTrue self.old.broken → IsTrue self.new.broken }
+        ensures silent { IsTrue self.old.broken → Keeps self.old.held self.new.held }
+    {
         self.write_waiting();
     }
 }

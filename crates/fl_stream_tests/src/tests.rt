@@ -57,6 +57,9 @@ fn holds(rt: &impl Abort, held: &[u8], wanted: &[u8]) {
     assert_eq!(rt; *held, *wanted);
 }
 
+// What may go to another thread.
+fn may_go<T: Send>(_sent: &T) {}
+
 // Hands a line to a keeper, and says whether it took it.
 fn hand<K: Keeper>(kept: &mut K, line: &Line) -> bool {
     if kept.reserve(1).is_err() {

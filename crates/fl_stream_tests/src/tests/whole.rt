@@ -1,6 +1,6 @@
 //! Writers that take all of it.
 
-use super::{LINES, TRACE, count_is, first_line, hand_all, hand_often, history_of, holds};
+use super::{LINES, TRACE, count_is, first_line, hand_all, hand_often, history_of, holds, may_go};
 use fl_keeper::Forgetful;
 use fl_stream::{Streamed, WhenWriterFails};
 use fl_testing::{Hiccup, Sink};
@@ -13,6 +13,7 @@ fn a_writer_holds_the_text_of_all_lines(rt: HostRuntime) {
     let history = history_of(&rt, alloc, TRACE);
     let made = Streamed::new(alloc, Vec::new(alloc), WhenWriterFails::GoOn);
     let mut stream = made.expect(&rt, "no memory");
+    may_go(&stream);
     count_is(&rt, hand_all(&mut stream, &history), LINES);
     assert!(rt; stream.flush());
     assert!(rt; stream.is_whole() && !stream.is_broken());
@@ -61,6 +62,7 @@ fn lines_are_written_when_the_room_is_full(rt: HostRuntime) {
 fn lines_are_forgotten_without_memory(rt: HostRuntime) {
     let history = history_of(&rt, rt.alloc(), TRACE);
     let mut forgetful = Forgetful::new();
+    may_go(&forgetful);
     count_is(&rt, hand_all(&mut forgetful, &history), LINES);
     count_is(&rt, size_of::<Forgetful>(), 0);
 }
