@@ -12,7 +12,8 @@ use std::alloc::Global;
 /// What a session came to whose lines went to a keeper.
 #[derive(Drop)]
 pub struct Kept<K> {
-    /// Where the orders that it took and their replies went. It is there but at `NoMemory` and `NoReader`: there it was let go.
+    /// Where its lines went: the orders that it took and their replies. It is there but at `NoMemory` and `NoReader`, where it
+    /// was let go.
     pub keeper: Option<K>,
     /// Why it ended early, if it did: the reader's fault before the writer's.
     pub fault: Option<Fault>,

@@ -84,8 +84,8 @@ pub fn serve_on_stack<R: Threads + Wait + Sync, I: Read, W: Write + Send + Drop,
     kept_on_stack(rt, alloc, r, w, gate, staff, Lines::new(alloc)).into_done(alloc)
 }
 
-/// The same, whose lines go to this keeper, which has none so far. It comes back with the history, but at `NoMemory` and
-/// `NoReader`: there it was let go. Before a worker sleeps the keeper may let go on what it holds back.
+/// As `serve`, but its lines go to this keeper, which has none so far. The keeper comes back with them, but at `NoMemory` and
+/// `NoReader`, where it is let go. It is told before a worker sleeps that no order is at hand.
 pub fn serve_over<R, I: Read, W: Write + Send + Drop, G: Gate + Sync, K: Keeper + Send + Drop>(
     rt: &R,
     alloc: Global,

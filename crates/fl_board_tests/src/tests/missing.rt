@@ -6,7 +6,7 @@ use super::{create, order, take, upto};
 use fl_board::{Board, BoardName, CloseFault, FreshLog};
 use fl_core::Tolds;
 use fl_desk::{Verdict, check};
-use fl_history::{History, Line};
+use fl_history::{History, Line, Lines};
 use fl_order::{Errno, Op, Told};
 use std::alloc::Global;
 use std::marker::Brand;
@@ -56,4 +56,37 @@ fn a_board_goes_on_where_a_seat_is_missing(rt: HostRuntime) {
         result: Err(Errno::EAGAIN),
     });
     assert!(rt; history.line(5) == last);
+}
+
+// A board of one seat over a keeper. The seat is kept back at first.
+fn kept_late<L: BoardName, R: Wait + Abort>(
+    rt: &R,
+    alloc: Global,
+    blank: Blank,
+    log: FreshLog,
+) -> Lines
+    requires named { (blank.name ≡ L.name) × (blank.parts ≡ L.parts) }
+    requires log { log ≡ L.log }
+    requires parts { (1 ≡ L.parts) × (L.workers ≡ L.parts) }
+{
+    let (board, mut seats) = Board::<L, &R>::over(alloc, rt, Lines::new(alloc), blank, log, 1)
+        .ok()
+        .expect(rt, "a board");
+    let mut tolds = Tolds::new(alloc).expect(rt, "memory");
+    let seat = seats.get_mut(0).expect(rt, "a seat");
+    take(rt, &board, seat, &create(rt), &mut tolds);
+    board.pause(rt);
+    let Err(CloseFault::NotAll { board, seats: none }) = board.into_kept(Vec::new(alloc)) else {
+        panic!(rt; "a seat is missing")
+    };
+    assert!(rt; none.is_empty());
+    board.into_kept(seats).ok().expect(rt, "all seats")
+}
+
+#[test]
+fn a_keeper_comes_back_with_all_seats(rt: HostRuntime) {
+    let lines = kept_late::<Brand, _>(&rt, rt.alloc(), Blank::new(1), FreshLog::new());
+    let history = History::of(lines);
+    assert!(rt; check(rt.alloc(), &history) == Ok(Verdict::Legal));
+    assert!(rt; history.len() == 2);
 }
