@@ -1,5 +1,5 @@
 -- What is told of a fault, and which faults each command can end with.
-use Rattle.std.specs.Prelude.{◌≡◌, ℕ, List, [], ◌∷◌, ◌++◌, codes, Option, ⊤}
+use Rattle.std.specs.Prelude.{◌≡◌, ◌⊎◌, ℕ, List, [], ◌∷◌, ◌++◌, codes, Option, ⊤}
 use Rattle.std.specs.Fmt.{decimal}
 use Rattle.std.specs.Io.KnownBytes.{Appends}
 use Rattle.lockd_commands.specs.declared.fault.Fault.{Fault}
@@ -66,11 +66,9 @@ IsOfServe Cut = ⊤
 IsOfServe (BadLength n) = ⊤
 IsOfServe fault = ⊥
 
--- a fault of a server whose trace goes to a file: the server's, or the file's
+-- a fault of a server whose trace goes to a writer: the server's, or that the trace failed
 abbrev pub IsOfTraced : Fault → Type 0
-IsOfTraced Trace = ⊤
-IsOfTraced TraceFailed = ⊤
-IsOfTraced fault = IsOfServe fault
+IsOfTraced fault = IsOfServe fault ⊎ (fault ≡ TraceFailed)
 
 -- a fault of a client
 abbrev pub IsOfDrive : Fault → Type 0

@@ -169,27 +169,34 @@ fn ended<W: Write + Drop, F: Write>(faults: &mut F, kept: Kept<Streamed<W>>) -> 
     ensures ended { result.0 ≢ Status.Different }
 {
     let Kept { keeper, fault, .. } = kept;
-    let status = end(faults, told_of(fault));
+    let done = told_of(fault);
     let Some(stream) = keeper else {
-        return (status, None);
+        return (end(faults, done), None);
     };
     let mut stream = stream;
     let whole = stream.flush();
     let trace = Some(stream.into_writer());
     if whole {
-        return (status, trace);
+        return (end(faults, done), trace);
     }
-    tell(faults, Fault::TraceFailed);
-    (failed(status), trace)
+    (end_untraced(faults, done), trace)
 }
 
-// How a command ended whose trace failed besides.
-fn failed(status: Status) -> Status
-    ensures good { status ≡ Status.Good → result ≡ Status.Faulted Fault.TraceFailed }
-    ensures faulted { status ≢ Status.Good → result ≡ status }
+// Ends a command whose trace failed: tells the fault by which it gave up besides, if it did, and then that.
+fn end_untraced<F: Write>(faults: &mut F, done: Result<(), Fault>) -> Status
+    requires of { IfErr done IsOfServe }
+    ensures good { result ≢ Status.Good }
+    ensures faulted { (fault : Fault) → result ≡ Status.Faulted fault → IsOfTraced fault
+        × (IsTold fault (F.contents faults.old) (F.contents faults.new)
+        ⊎ AreBothTold fault Fault.TraceFailed (F.contents faults.old) (F.contents faults.new)) }
+    ensures ended { result ≢ Status.Different }
 {
-    match status {
-        Status::Good => Status::Faulted(Fault::TraceFailed),
-        faulted => faulted,
+    match done {
+        Ok(()) => end(faults, Err(Fault::TraceFailed)),
+        Err(fault) => {
+            tell(faults, fault);
+            tell(faults, Fault::TraceFailed);
+            Status::Faulted(fault)
+        }
     }
 }
