@@ -8,3 +8,4 @@ pub mod Reading
 pub mod Newlines
 pub mod Places
 pub mod Numbers
+pub mod Digits

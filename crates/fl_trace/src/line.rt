@@ -9,7 +9,6 @@ ghost use Rattle.fl_trace.specs.Text.{op_text, attr_text, answer_text, result_te
 
 use fl_history::Line;
 use fl_order::{Answer, Attr, Body, Errno, LockAsk, Name, Op, OpKind, Order, Told};
-use itoa::Buffer;
 
 /// So many bytes of room are enough for the text of any line and its newline.
 pub const LINE_ROOM: usize = 700;
@@ -87,9 +86,23 @@ fn push_number(text: &mut Vec<u8>, number: u64)
     ensures few { length text.new.items ≤ length text.old.items + 21 }
     ensures capacity { vec_capacity text.old ≤ vec_capacity text.new }
 {
-    let mut buffer = Buffer::new();
     push(text, b" ");
-    push(text, buffer.format(number).as_bytes());
+    push_digits(text, number);
+}
+
+// The digits of a number, the first one first.
+#[tactic(auto, using(crate::proofs::Digits::last_digit, crate::proofs::Digits::one_fewer, crate::proofs::Digits::one_digit))]
+fn push_digits(text: &mut Vec<u8>, number: u64)
+    requires room { length text.old.items + length (decimal number) ≤ vec_capacity text.old }
+    ensures bytes { text.new.items ≡ text.old.items ++ decimal number }
+    ensures capacity { vec_capacity text.old ≤ vec_capacity text.new }
+{
+    if number < 10 {
+        text.push_reserved(b'0' + (number % 10) as u8);
+        return;
+    }
+    push_digits(text, number / 10);
+    text.push_reserved(b'0' + (number % 10) as u8);
 }
 
 // Numbers, with a space in front of each.
