@@ -3,7 +3,7 @@
 use super::lines::{is_line, order, take};
 use super::same;
 use super::traces::{LOCKS, is_text, read};
-use fl_book::{Desk, History, Line, Lines, laws};
+use fl_book::{Desk, History, Line, laws};
 use fl_core::Tolds;
 use fl_order::{Answer, Attr, Errno, LockAsk, Name, Op, Told};
 use std::alloc::Global;
@@ -39,28 +39,6 @@ fn a_desk_answers_and_records(rt: HostRuntime) {
     let history = asked_again(&rt, rt.alloc(), &trace);
     same(&rt, &history.len(), &10);
     is_text(&rt, &history, LOCKS);
-}
-
-// A desk over a keeper takes one order, and rests.
-fn kept(rt: &impl Abort, alloc: Global) -> Lines {
-    let mut desk = Desk::over(alloc, Lines::new(alloc)).expect(rt, "memory");
-    let mut tolds = Tolds::new(alloc).expect(rt, "memory");
-    desk.ready().expect(rt, "memory");
-    desk.take(3, &order(1, 1, Op::Getattr), &mut tolds)
-        .expect(rt, "memory");
-    desk.pause();
-    desk.into_kept()
-}
-
-#[test]
-fn a_desk_over_a_keeper(rt: HostRuntime) {
-    let history = History::of(kept(&rt, rt.alloc()));
-    same(&rt, &history.len(), &2);
-    let asked = Line::Asked {
-        worker: 3,
-        order: order(1, 1, Op::Getattr),
-    };
-    is_line(&rt, &history, 0, &asked);
 }
 
 // What another place doesn't ask, with names of any length.
