@@ -7,6 +7,7 @@ mod each_order;
 mod ends;
 mod failures;
 mod idle;
+mod keepers;
 mod late;
 mod memory;
 mod messages;
