@@ -1,12 +1,16 @@
 //! What a keeper is handed, and what a writer holds then.
 
+ghost use Rattle.fl_stream.specs.Streams.{IsBlank};
+
 mod failing;
 mod whole;
 
 use fl_history::{History, Line};
 use fl_keeper::Keeper;
+use fl_stream::{Streamed, WhenWriterFails};
 use fl_trace::read_trace;
 use std::alloc::Global;
+use std::io::Write;
 use std::process::Abort;
 
 // A line for each kind of order and of answer, which need not be legal together.
@@ -55,6 +59,83 @@ fn count_is(rt: &impl Abort, found: usize, wanted: usize) {
 
 fn holds(rt: &impl Abort, held: &[u8], wanted: &[u8]) {
     assert_eq!(rt; *held, *wanted);
+}
+
+// What became of a stream: how many lines it took, whether the last flush said that all is written, and whether it broke.
+#[derive(Clone, Copy, Debug, PartialEq, Eq)]
+struct Course {
+    taken: usize,
+    flushed: bool,
+    broken: bool,
+}
+
+fn course_is(rt: &impl Abort, found: &Course, wanted: &Course) {
+    assert_eq!(rt; *found, *wanted);
+}
+
+// All lines were taken and are written.
+fn is_written(rt: &impl Abort, found: &Course) {
+    let wanted = Course {
+        taken: LINES,
+        flushed: true,
+        broken: false,
+    };
+    course_is(rt, found, &wanted);
+}
+
+// All lines were taken, and the writer lacks some.
+fn is_given_up(rt: &impl Abort, found: &Course) {
+    let wanted = Course {
+        taken: LINES,
+        flushed: false,
+        broken: true,
+    };
+    course_is(rt, found, &wanted);
+}
+
+// Hands all lines of a history to a stream over this writer, and gives the writer back.
+fn streamed<W: Write + Drop>(
+    rt: &impl Abort,
+    writer: W,
+    manner: WhenWriterFails,
+    history: &History,
+    alloc: Global,
+) -> (Course, W)
+    requires { IsBlank (W.contents writer) }
+{
+    let made = Streamed::new(alloc, writer, manner);
+    let mut stream = made.expect(rt, "no memory");
+    let taken = hand_all(&mut stream, history);
+    finished(stream, taken)
+}
+
+// Hands one line so many times to a stream over this writer, and gives the writer back.
+fn streamed_often<W: Write + Drop>(
+    rt: &impl Abort,
+    writer: W,
+    manner: WhenWriterFails,
+    times: usize,
+    alloc: Global,
+) -> (Course, W)
+    requires { IsBlank (W.contents writer) }
+{
+    let line = first_line(rt, alloc);
+    let made = Streamed::new(alloc, writer, manner);
+    let mut stream = made.expect(rt, "no memory");
+    let taken = hand_often(&mut stream, &line, times);
+    finished(stream, taken)
+}
+
+fn finished<W: Write>(stream: Streamed<W>, taken: usize) -> (Course, W) {
+    let mut stream = stream;
+    let flushed = stream.flush() && stream.is_whole();
+    let broken = stream.is_broken();
+    let course = Course {
+        taken,
+        flushed,
+        broken,
+    };
+    (course, stream.into_writer())
 }
 
 // What may go to another thread.

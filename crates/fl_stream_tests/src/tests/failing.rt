@@ -1,23 +1,27 @@
 //! Writers that fail.
 
-use super::{LINES, TRACE, count_is, first_line, hand_all, hand_often, history_of, holds};
+use super::{
+    Course, LINES, TRACE, count_is, course_is, history_of, holds, is_given_up, is_written,
+    streamed, streamed_often,
+};
 use fl_history::History;
-use fl_stream::{Streamed, WhenWriterFails};
+use fl_stream::WhenWriterFails;
 use fl_testing::{Hiccup, Sink};
 use std::alloc::Global;
 use std::io::ErrorKind;
 use std::process::Abort;
 
+// The bytes are so many at least, and the trace begins with them.
+fn begins(rt: &impl Abort, held: &[u8], least: usize) {
+    assert!(rt; held.len() >= least && TRACE.as_bytes().starts_with(held));
+}
+
 // A writer takes so many writes of seven bytes and nothing behind them. It holds them, and each line was taken.
 fn goes_on(rt: &impl Abort, alloc: Global, history: &History, writes: usize) {
     let sink = Sink::new(alloc, 7, writes, false);
-    let made = Streamed::new(alloc, sink, WhenWriterFails::GoOn);
-    let mut stream = made.expect(rt, "no memory");
-    count_is(rt, hand_all(&mut stream, history), LINES);
-    let flushed = stream.flush();
-    assert!(rt; !flushed && stream.is_broken() && !stream.is_whole());
-    let held = stream.into_writer().held;
-    assert!(rt; held.len() >= writes && TRACE.as_bytes().starts_with(&held));
+    let (course, sink) = streamed(rt, sink, WhenWriterFails::GoOn, history, alloc);
+    is_given_up(rt, &course);
+    begins(rt, &sink.held, writes);
 }
 
 #[test]
@@ -31,14 +35,10 @@ fn orders_go_on_without_the_writer(rt: HostRuntime) {
 // The write at this place fails, and no write comes behind it.
 fn stops(rt: &impl Abort, alloc: Global, history: &History, fails_at: usize) {
     let hiccup = Hiccup::new(alloc, fails_at, ErrorKind::Other);
-    let made = Streamed::new(alloc, hiccup, WhenWriterFails::GoOn);
-    let mut stream = made.expect(rt, "no memory");
-    count_is(rt, hand_all(&mut stream, history), LINES);
-    let flushed = stream.flush();
-    assert!(rt; !flushed && stream.is_broken());
-    let writer = stream.into_writer();
-    count_is(rt, writer.writes, fails_at.saturating_add(1));
-    assert!(rt; TRACE.as_bytes().starts_with(&writer.held));
+    let (course, hiccup) = streamed(rt, hiccup, WhenWriterFails::GoOn, history, alloc);
+    is_given_up(rt, &course);
+    begins(rt, &hiccup.held, fails_at);
+    count_is(rt, hiccup.writes, fails_at.saturating_add(1));
 }
 
 #[test]
@@ -52,12 +52,9 @@ fn nothing_is_written_behind_a_write_that_failed(rt: HostRuntime) {
 // The write at this place fails, and the next ones don't: nothing is lost.
 fn catches_up(rt: &impl Abort, alloc: Global, history: &History, fails_at: usize) {
     let hiccup = Hiccup::new(alloc, fails_at, ErrorKind::Other);
-    let made = Streamed::new(alloc, hiccup, WhenWriterFails::Refuse);
-    let mut stream = made.expect(rt, "no memory");
-    count_is(rt, hand_all(&mut stream, history), LINES);
-    let flushed = stream.flush();
-    assert!(rt; flushed && !stream.is_broken());
-    holds(rt, &stream.into_writer().held, TRACE.as_bytes());
+    let (course, hiccup) = streamed(rt, hiccup, WhenWriterFails::Refuse, history, alloc);
+    is_written(rt, &course);
+    holds(rt, &hiccup.held, TRACE.as_bytes());
 }
 
 #[test]
@@ -71,25 +68,26 @@ fn what_a_write_left_is_written_by_the_next(rt: HostRuntime) {
 // The room gets full once, where the first write fails: one line is refused, and the next is taken.
 #[test]
 fn a_full_room_refuses_until_a_write_succeeds(rt: HostRuntime) {
-    let alloc = rt.alloc();
-    let line = first_line(&rt, alloc);
-    let hiccup = Hiccup::new(alloc, 0, ErrorKind::Other);
-    let made = Streamed::new(alloc, hiccup, WhenWriterFails::Refuse);
-    let mut stream = made.expect(&rt, "no memory");
-    count_is(&rt, hand_often(&mut stream, &line, 40_000), 39_999);
-    assert!(rt; stream.flush());
-    count_is(&rt, stream.into_writer().held.len(), 39_999 * 43);
+    let hiccup = Hiccup::new(rt.alloc(), 0, ErrorKind::Other);
+    let (course, hiccup) = streamed_often(&rt, hiccup, WhenWriterFails::Refuse, 40_000, rt.alloc());
+    let wanted = Course {
+        taken: 39_999,
+        flushed: true,
+        broken: false,
+    };
+    course_is(&rt, &course, &wanted);
+    count_is(&rt, hiccup.held.len(), 39_999 * 43);
 }
 
 #[test]
 fn a_full_room_is_given_up_without_the_writer(rt: HostRuntime) {
-    let alloc = rt.alloc();
-    let line = first_line(&rt, alloc);
-    let hiccup = Hiccup::new(alloc, 0, ErrorKind::Other);
-    let made = Streamed::new(alloc, hiccup, WhenWriterFails::GoOn);
-    let mut stream = made.expect(&rt, "no memory");
-    count_is(&rt, hand_often(&mut stream, &line, 40_000), 40_000);
-    let flushed = stream.flush();
-    assert!(rt; !flushed && stream.is_broken());
-    count_is(&rt, stream.into_writer().held.len(), 0);
+    let hiccup = Hiccup::new(rt.alloc(), 0, ErrorKind::Other);
+    let (course, hiccup) = streamed_often(&rt, hiccup, WhenWriterFails::GoOn, 40_000, rt.alloc());
+    let wanted = Course {
+        taken: 40_000,
+        flushed: false,
+        broken: true,
+    };
+    course_is(&rt, &course, &wanted);
+    count_is(&rt, hiccup.held.len(), 0);
 }
