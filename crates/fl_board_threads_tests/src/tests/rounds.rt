@@ -35,7 +35,7 @@ fn asked(worker: u32, round: u64) -> Op {
     Op::Setlk(lock(u64::from(worker), byte, byte, kind))
 }
 
-// The history has as many orders of each worker as were counted.
+// The history has as many orders of each worker as were counted, more than a hundred in all.
 fn is_counted(rt: &impl Abort, history: &History, counts: &Counts) {
     let mut found = [0u64; 16];
     for at in 0..history.len() {
@@ -47,6 +47,8 @@ fn is_counted(rt: &impl Abort, history: &History, counts: &Counts) {
     for (worker, its) in found.iter().enumerate() {
         assert_eq!(rt; *its, counts.of_worker(worker), "of worker {worker}");
     }
+    // An order has a line, and each of these its reply.
+    assert!(rt; history.len() > 200);
 }
 
 // Four threads with four seats each.
@@ -60,6 +62,4 @@ fn sixteen_seats_hand_in_look_and_meet(rt: HostRuntime) {
     let counts = Counts::new(&rt, rt.alloc());
     let history = history_of(&rt, rt.alloc(), 16, &counts, plan);
     is_counted(&rt, &history, &counts);
-    // An order has a line, and each of these its reply.
-    assert!(rt; history.len() > 200);
 }

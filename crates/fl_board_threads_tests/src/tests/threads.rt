@@ -120,24 +120,30 @@ fn count(history: &History, wanted: Result<Answer, Errno>) -> usize {
     count
 }
 
+// Each of 100 bytes is locked by the one that comes first.
+fn is_locked_once(rt: &impl Abort, history: &History) {
+    assert_eq!(rt; history.len(), 402);
+    assert_eq!(rt; count(history, Ok(Answer::Done)), 100);
+    assert_eq!(rt; count(history, Err(Errno::EAGAIN)), 100);
+}
+
 #[test]
 fn two_seats_in_two_threads(rt: HostRuntime) {
     let history = history_with(&rt, rt.alloc(), 2, Orders::Locks, 100);
-    same(&rt, &history.len(), &402);
-    // Each byte is locked by the one that comes first.
-    same(&rt, &count(&history, Ok(Answer::Done)), &100);
-    same(&rt, &count(&history, Err(Errno::EAGAIN)), &100);
+    is_locked_once(&rt, &history);
+}
+
+// Where there is more than one worker, some requests wait.
+fn has_waited(rt: &impl Abort, history: &History, workers: u32) {
+    if workers > 1 {
+        assert!(rt; count(history, Err(Errno::EINTR)) > 0);
+    }
 }
 
 #[test]
 fn mixed_orders_of_any_number_of_seats(rt: HostRuntime) {
     for (workers, many) in [(1, 10_000), (4, 2_500), (16, 625)] {
         let history = history_with(&rt, rt.alloc(), workers, Orders::Mixed, many);
-        if workers > 1 {
-            assert!(rt;
-                count(&history, Err(Errno::EINTR)) > 0,
-                "some requests wait"
-            );
-        }
+        has_waited(&rt, &history, workers);
     }
 }

@@ -5,7 +5,9 @@ ghost use Rattle.fl_order.specs.Order.{only_reads};
 
 use super::crew::{Counts, Job, Plan, Step, history_of};
 use super::{lock, order};
+use fl_history::History;
 use fl_order::{Answer, Errno, Op, Order};
+use std::process::Abort;
 
 /// How many bytes are locked in the end.
 pub(super) const LOCKS: u64 = 200;
@@ -44,6 +46,11 @@ pub(super) fn locked(shown: Result<Answer, Errno>) -> u64 {
     }
 }
 
+// The CREATE and all locks, and their replies.
+fn has_all_locks(rt: &impl Abort, history: &History) {
+    assert!(rt; history.len() == 402);
+}
+
 // All locks are shown, since the one that looks on ends only then.
 #[test]
 fn what_is_shown_never_shrinks(rt: HostRuntime) {
@@ -54,5 +61,5 @@ fn what_is_shown_never_shrinks(rt: HostRuntime) {
     };
     let counts = Counts::new(&rt, rt.alloc());
     let history = history_of(&rt, rt.alloc(), 2, &counts, plan);
-    assert!(rt; history.len() == 402);
+    has_all_locks(&rt, &history);
 }

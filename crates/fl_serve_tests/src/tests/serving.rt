@@ -3,6 +3,7 @@
 ghost use Rattle.std.specs.Prelude.{◌<◌, ◌≤◌};
 
 mod bursts;
+mod clients;
 mod each_order;
 mod ends;
 mod failures;

@@ -1,15 +1,14 @@
 //! Orders that come together, as many as there are workers, each of which has to find a worker of its own.
 
+use super::clients::{Client, session};
 use super::messages::Messages;
 use super::talker::Talker;
-use super::{serve_stream, socket_pair};
 use crate::tests::{count_is, fault_is};
 use fl_serve::{Done, Gate};
 use std::alloc::Global;
 use std::os::unix::net::UnixStream;
 use std::process::Abort;
 use std::sync::atomic::{AtomicBool, AtomicU64, Ordering};
-use std::thread;
 use std::thread::yield_now;
 
 // Holds each order until all of its burst have come. Uniques begin at 2.
@@ -47,8 +46,8 @@ fn fill(rt: &impl Abort, burst: &mut Messages, from: u64, size: u32) {
     }
 }
 
-// Sends 100 bursts, each as soon as all replies to the one before have come, so that a worker looks and others sleep.
-fn send_bursts(rt: &impl Abort, alloc: Global, stream: UnixStream, size: u32) {
+/// Sends 100 bursts, each as soon as all replies to the one before have come, so that a worker looks and others sleep.
+pub(super) fn send_bursts(rt: &impl Abort, alloc: Global, stream: UnixStream, size: u32) -> usize {
     let mut talker = Talker::start(rt, alloc, stream);
     let mut burst = talker.messages();
     let mut from = 2u64;
@@ -60,7 +59,7 @@ fn send_bursts(rt: &impl Abort, alloc: Global, stream: UnixStream, size: u32) {
         }
         from = from.saturating_add(u64::from(size));
     }
-    talker.close(rt);
+    talker.end(rt)
 }
 
 fn has_met(rt: &impl Abort, done: &Done, gate: &Meeting, workers: u32) {
@@ -72,17 +71,13 @@ fn has_met(rt: &impl Abort, done: &Done, gate: &Meeting, workers: u32) {
 
 #[test]
 fn no_order_waits_for_a_worker_while_another_sleeps(rt: HostRuntime) {
-    let alloc = rt.alloc();
     for workers in [2, 4, 16] {
         let gate = Meeting {
             size: u64::from(workers),
             come: AtomicU64::new(0),
             given_up: AtomicBool::new(false),
         };
-        let (near, far) = socket_pair(&rt);
-        let client = thread::spawn(&rt, move || send_bursts(&rt, alloc, near, workers));
-        let done = serve_stream(&rt, alloc, far, workers, &gate);
-        client.expect(&rt, "a thread").join(&rt);
-        has_met(&rt, &done, &gate, workers);
+        let met = session(&rt, rt.alloc(), Client::Bursts(workers), workers, &gate);
+        has_met(&rt, &met.done, &gate, workers);
     }
 }

@@ -1,16 +1,18 @@
 //! A long session of mixed orders over a socket.
 
+use super::clients::{Client, Met, session};
 use super::messages::{GETLK, Lock, Messages, READ, SETLK, SETLKW, UNLOCK, WRITE};
 use super::talker::{MOST_BODY, next_reply};
-use super::{asked_in, is_legal, serve_stream, socket_pair};
+use super::{asked_in, is_legal};
 use crate::tests::{count_is, fault_is};
-use fl_serve::{Done, OpenGate};
+use fl_serve::OpenGate;
 use std::alloc::{AllocError, Global};
 use std::io::{BufReader, Write};
 use std::net::Shutdown;
 use std::os::unix::net::UnixStream;
 use std::process::Abort;
 use std::thread;
+use std::thread::Threads;
 
 // How many orders there are, and the unique of the first.
 const ORDERS: u64 = 1_000_000;
@@ -90,8 +92,8 @@ fn put_orders(messages: &mut Messages, from: u64, orders: u64) -> Result<(), All
 }
 
 // Sends INIT, CREATE and all orders, many together.
-fn send_all(rt: &impl Abort, alloc: Global, stream: UnixStream) {
-    let mut out = &stream;
+fn send_all(rt: &impl Abort, alloc: Global, stream: &UnixStream) {
+    let mut out = stream;
     let mut messages = Messages::with_init(alloc).expect(rt, "memory");
     messages.create(2, 0).expect(rt, "memory");
     for part in 0..ORDERS / TOGETHER {
@@ -132,7 +134,7 @@ impl Counted {
 }
 
 // Counts replies up to the stream's end.
-fn count_replies(rt: &impl Abort, alloc: Global, stream: UnixStream) -> Counted {
+fn count_replies(rt: &impl Abort, alloc: Global, stream: &UnixStream) -> Counted {
     let of_unique = vec![in alloc; 0; (FIRST + ORDERS) as usize];
     let mut counted = Counted {
         of_unique: of_unique.expect(rt, "memory"),
@@ -150,6 +152,21 @@ fn count_replies(rt: &impl Abort, alloc: Global, stream: UnixStream) -> Counted 
     counted
 }
 
+/// Sends all orders in one thread, and counts the replies in another. Each order has as many as it may.
+pub(super) fn send_and_count<R: Abort + Threads + Sync>(
+    rt: &R,
+    alloc: Global,
+    stream: &UnixStream,
+) -> usize {
+    let ((), counted) = thread::join(
+        rt,
+        || send_all(rt, alloc, stream),
+        || count_replies(rt, alloc, stream),
+    );
+    count_is(rt, counted.wrong(), 0);
+    counted.all
+}
+
 // How many orders only read.
 fn reads() -> usize {
     let mut reads = 0usize;
@@ -163,13 +180,12 @@ fn reads() -> usize {
 
 // The CREATE and all orders but those that only read are in the history, and each line of it that isn't one of them is a
 // reply. The INIT's reply and those to orders that only read are no lines.
-fn has_all(rt: &impl Abort, lines: usize, asked: usize, counted: &Counted) {
+fn has_all(rt: &impl Abort, lines: usize, asked: usize, replies: usize) {
     let reads = reads();
-    count_is(rt, counted.wrong(), 0);
     count_is(rt, asked.saturating_add(reads), 1_000_001);
     count_is(
         rt,
-        counted.all,
+        replies,
         lines
             .saturating_sub(asked)
             .saturating_add(reads.saturating_add(1)),
@@ -184,23 +200,17 @@ fn has_no_reads(rt: &impl Abort, asked: &[u64]) {
 }
 
 // The session ended with the stream, with all orders and a legal history.
-fn is_whole(rt: &impl Abort, alloc: Global, done: &Done, counted: &Counted) {
-    fault_is(rt, done.fault, None);
-    let asked = asked_in(rt, alloc, &done.history);
+fn is_whole(rt: &impl Abort, alloc: Global, met: &Met) {
+    let history = &met.done.history;
+    fault_is(rt, met.done.fault, None);
+    let asked = asked_in(rt, alloc, history);
     has_no_reads(rt, &asked);
-    has_all(rt, done.history.len(), asked.len(), counted);
-    is_legal(rt, alloc, &done.history);
+    has_all(rt, history.len(), asked.len(), met.replies);
+    is_legal(rt, alloc, history);
 }
 
 #[test]
 fn a_million_orders(rt: HostRuntime) {
-    let alloc = rt.alloc();
-    let (near, far) = socket_pair(&rt);
-    let reads = near.try_clone().expect(&rt, "a socket");
-    let sender = thread::spawn(&rt, move || send_all(&rt, alloc, near));
-    let reader = thread::spawn(&rt, move || count_replies(&rt, alloc, reads));
-    let done = serve_stream(&rt, alloc, far, 4, &OpenGate);
-    sender.expect(&rt, "a thread").join(&rt);
-    let counted = reader.expect(&rt, "a thread").join(&rt);
-    is_whole(&rt, alloc, &done, &counted);
+    let met = session(&rt, rt.alloc(), Client::SendsAMillion, 4, &OpenGate);
+    is_whole(&rt, rt.alloc(), &met);
 }

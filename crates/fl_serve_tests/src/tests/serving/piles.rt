@@ -1,43 +1,26 @@
 //! A client that doesn't read its replies for a long time.
 
+use super::clients::{Client, Met, session};
 use super::messages::Messages;
 use super::talker::read_replies;
-use super::{serve_stream, socket_pair};
 use crate::tests::{count_is, fault_is};
-use fl_serve::{Done, OpenGate};
+use fl_serve::OpenGate;
 use std::alloc::Global;
 use std::io::Write;
 use std::net::Shutdown;
 use std::os::unix::net::UnixStream;
 use std::process::Abort;
-use std::sync::Arc;
 use std::sync::atomic::{AtomicU64, Ordering};
 use std::thread;
+use std::thread::Threads;
 use std::time::{Clock, Duration};
 
 // LOOKUPs of a file: more than the buffers of the socket hold, of orders and of replies.
 const MANY: u64 = 10_000;
 
-// One of a client's threads: its stream, and how many LOOKUPs went out.
-#[derive(Drop)]
-struct Side {
-    stream: UnixStream,
-    sent: Arc<AtomicU64>,
-}
-
-// The sides that send and read.
-fn sides(rt: &impl Abort, alloc: Global, stream: UnixStream) -> (Side, Side) {
-    let sent = Arc::new(alloc, AtomicU64::new(0)).expect(rt, "memory");
-    let reads = Side {
-        stream: stream.try_clone().expect(rt, "a socket"),
-        sent: Arc::try_clone(&sent).expect(rt, "an Arc"),
-    };
-    (Side { stream, sent }, reads)
-}
-
 // Sends INIT, CREATE and 10,000 LOOKUPs, and counts those that went out.
-fn send_many(rt: &impl Abort, alloc: Global, side: &Side) {
-    let mut out = &side.stream;
+fn send_many(rt: &impl Abort, alloc: Global, stream: &UnixStream, sent: &AtomicU64) {
+    let mut out = stream;
     let mut message = Messages::with_init(alloc).expect(rt, "memory");
     message.create(2, 0).expect(rt, "memory");
     out.write_all(&message.bytes).expect(rt, "a write");
@@ -45,9 +28,9 @@ fn send_many(rt: &impl Abort, alloc: Global, side: &Side) {
         message.bytes.clear();
         message.lookup(unique, 0).expect(rt, "memory");
         out.write_all(&message.bytes).expect(rt, "a write");
-        side.sent.fetch_add(1, Ordering::SeqCst);
+        sent.fetch_add(1, Ordering::SeqCst);
     }
-    side.stream.shutdown(Shutdown::Write).expect(rt, "a socket");
+    stream.shutdown(Shutdown::Write).expect(rt, "a socket");
 }
 
 // Waits until no more went out for a while, and says how many LOOKUPs did.
@@ -64,34 +47,47 @@ fn stands_still(clock: &impl Clock, sent: &AtomicU64) -> u64 {
     before
 }
 
-// Reads only when the sender stands still, and says how many LOOKUPs went out by then, and how many replies came.
-fn read_late<R: Abort + Clock>(rt: &R, alloc: Global, side: &Side) -> (u64, usize) {
-    let before = stands_still(rt, &side.sent);
-    let mut reads = &side.stream;
+// Reads only when the sender stands still, when some LOOKUPs went out, and not all. Says how many replies came.
+fn read_late<R: Abort + Clock>(
+    rt: &R,
+    alloc: Global,
+    stream: &UnixStream,
+    sent: &AtomicU64,
+) -> usize {
+    let before = stands_still(rt, sent);
+    assert!(rt; 0 < before && before < MANY, "{before}");
+    let mut reads = stream;
     let most = Some(Duration::from_secs(20));
     reads.set_read_timeout(most).expect(rt, "a socket");
-    (before, read_replies(rt, alloc, &mut reads).len())
+    read_replies(rt, alloc, &mut reads).len()
 }
 
-// Some LOOKUPs went out before any reply was read, and not all; all have a reply.
-fn has_piled_up(rt: &impl Abort, done: &Done, before: u64, replies: usize) {
-    assert!(rt; 0 < before && before < MANY, "{before}");
-    count_is(rt, replies, 10_002);
-    fault_is(rt, done.fault, None);
-    count_is(rt, done.history.len(), 20_002);
+/// Sends orders in one thread, and reads the replies in another.
+pub(super) fn pile_up<R: Abort + Threads + Clock + Sync>(
+    rt: &R,
+    alloc: Global,
+    stream: &UnixStream,
+) -> usize {
+    let sent = AtomicU64::new(0);
+    let ((), replies) = thread::join(
+        rt,
+        || send_many(rt, alloc, stream, &sent),
+        || read_late(rt, alloc, stream, &sent),
+    );
+    replies
+}
+
+// All orders have a reply.
+fn has_piled_up(rt: &impl Abort, met: &Met) {
+    count_is(rt, met.replies, 10_002);
+    fault_is(rt, met.done.fault, None);
+    count_is(rt, met.done.history.len(), 20_002);
 }
 
 #[test]
 fn replies_pile_up(rt: HostRuntime) {
-    let alloc = rt.alloc();
     for workers in [1, 4] {
-        let (near, far) = socket_pair(&rt);
-        let (writes, reads) = sides(&rt, alloc, near);
-        let sender = thread::spawn(&rt, move || send_many(&rt, alloc, &writes));
-        let reader = thread::spawn(&rt, move || read_late(&rt, alloc, &reads));
-        let done = serve_stream(&rt, alloc, far, workers, &OpenGate);
-        sender.expect(&rt, "a thread").join(&rt);
-        let (before, replies) = reader.expect(&rt, "a thread").join(&rt);
-        has_piled_up(&rt, &done, before, replies);
+        let met = session(&rt, rt.alloc(), Client::ReadsLate, workers, &OpenGate);
+        has_piled_up(&rt, &met);
     }
 }

@@ -1,14 +1,14 @@
 //! Sessions over a socket with clients that wait for their replies.
 
+use super::clients::{Client, Met, session};
+use super::ended;
 use super::messages::{GETLK, Lock, Messages, READ, SETLK, UNLOCK, WRITE, byte_lock};
 use super::talker::{Talker, long_at, word_at};
-use super::{ended, serve_stream, socket_pair};
 use crate::tests::{count_is, fault_is};
-use fl_serve::{Done, OpenGate};
+use fl_serve::OpenGate;
 use std::alloc::{AllocError, Global};
 use std::os::unix::net::UnixStream;
 use std::process::Abort;
-use std::thread;
 
 // Makes a file, and says which node and which fh it has.
 fn make(rt: &impl Abort, talker: &mut Talker, name: u64) -> (u64, u64) {
@@ -41,15 +41,15 @@ fn set_and_get(rt: &impl Abort, talker: &mut Talker, node: u64, fh: u64) {
     talker.ask(rt, &get, 4);
 }
 
-// In each of 100 new files the lock that was set is shown to another owner.
-fn shown_locks(rt: &impl Abort, alloc: Global, stream: UnixStream) {
+/// In each of 100 new files the lock that was set is shown to another owner.
+pub(super) fn shown_locks(rt: &impl Abort, alloc: Global, stream: UnixStream) -> usize {
     let mut talker = Talker::start(rt, alloc, stream);
     for name in 0..100 {
         let (node, fh) = make(rt, &mut talker, name);
         set_and_get(rt, &mut talker, node, fh);
         is_shown(rt, talker.body.as_slice());
     }
-    talker.close(rt);
+    talker.end(rt)
 }
 
 // What is shown is a write lock of bytes 0 to 9 by the process 11.
@@ -62,13 +62,9 @@ fn is_shown(rt: &impl Abort, shown: &[u8]) {
 
 #[test]
 fn a_lock_that_was_set_is_shown(rt: HostRuntime) {
-    let alloc = rt.alloc();
-    let (near, far) = socket_pair(&rt);
-    let client = thread::spawn(&rt, move || shown_locks(&rt, alloc, near));
-    let done = serve_stream(&rt, alloc, far, 4, &OpenGate);
-    client.expect(&rt, "a thread").join(&rt);
+    let met = session(&rt, rt.alloc(), Client::Looks, 4, &OpenGate);
     // GETLK is no line.
-    ended(&rt, alloc, &done, None, 400, 4);
+    ended(&rt, rt.alloc(), &met.done, None, 400, 4);
 }
 
 // A lock, a GETATTR or an unlock of the file that was made first.
@@ -80,8 +76,8 @@ fn put_order(message: &mut Messages, unique: u64) -> Result<(), AllocError> {
     }
 }
 
-// Sends 10,000 orders, each when the reply before it came, and says how many more replies come.
-fn one_at_a_time(rt: &impl Abort, alloc: Global, stream: UnixStream) -> usize {
+/// Sends 10,000 orders, each when the reply before it came, and says how many more replies come.
+pub(super) fn one_at_a_time(rt: &impl Abort, alloc: Global, stream: UnixStream) -> usize {
     let mut talker = Talker::start(rt, alloc, stream);
     make(rt, &mut talker, 0);
     let mut message = talker.messages();
@@ -90,25 +86,20 @@ fn one_at_a_time(rt: &impl Abort, alloc: Global, stream: UnixStream) -> usize {
         put_order(&mut message, unique).expect(rt, "memory");
         talker.ask(rt, &message, unique);
     }
-    talker.close(rt);
-    talker.rest(rt)
+    talker.end(rt)
 }
 
-fn has_all_replies(rt: &impl Abort, done: &Done, behind: usize) {
-    count_is(rt, behind, 0);
-    fault_is(rt, done.fault, None);
+fn has_all_replies(rt: &impl Abort, met: &Met) {
+    count_is(rt, met.replies, 0);
+    fault_is(rt, met.done.fault, None);
     // The 3,333 GETATTR are no lines.
-    count_is(rt, done.history.len(), 13_336);
+    count_is(rt, met.done.history.len(), 13_336);
 }
 
 #[test]
 fn no_reply_stays_behind(rt: HostRuntime) {
-    let alloc = rt.alloc();
     for workers in [1, 16] {
-        let (near, far) = socket_pair(&rt);
-        let client = thread::spawn(&rt, move || one_at_a_time(&rt, alloc, near));
-        let done = serve_stream(&rt, alloc, far, workers, &OpenGate);
-        let behind = client.expect(&rt, "a thread").join(&rt);
-        has_all_replies(&rt, &done, behind);
+        let met = session(&rt, rt.alloc(), Client::SendsOneByOne, workers, &OpenGate);
+        has_all_replies(&rt, &met);
     }
 }

@@ -1,7 +1,14 @@
 //! A session whose workers' threads can't be made.
 
-use fl_serve::{Fault, OpenGate, serve_on_stack};
+use crate::tests::{count_is, fault_is};
+use fl_serve::{Done, Fault, OpenGate, serve_on_stack};
 use std::process::Abort;
+
+fn has_not_begun(rt: &impl Abort, done: &Done) {
+    fault_is(rt, done.fault, Some(Fault::NoMemory));
+    assert!(rt; done.history.is_empty());
+    assert!(rt; !done.refused);
+}
 
 #[test]
 fn no_thread_can_be_made(rt: HostRuntime) {
@@ -16,9 +23,7 @@ fn no_thread_can_be_made(rt: HostRuntime) {
         &OpenGate,
         usize::MAX,
     );
-    assert_eq!(&rt; done.fault, Some(Fault::NoMemory));
-    assert!(&rt; done.history.is_empty());
-    assert!(&rt; !done.refused);
-    assert_eq!(&rt; input.len(), 13);
-    assert!(&rt; out.is_empty());
+    has_not_begun(&rt, &done);
+    count_is(&rt, input.len(), 13);
+    count_is(&rt, out.len(), 0);
 }

@@ -122,13 +122,9 @@ impl Talker {
         self.granted(rt, unique);
     }
 
-    /// Sends no more.
-    pub(super) fn close(&self, rt: &impl Abort) {
+    /// Sends no more, and says how many replies come up to the stream's end.
+    pub(super) fn end(&mut self, rt: &impl Abort) -> usize {
         self.stream.shutdown(Shutdown::Write).expect(rt, "a socket");
-    }
-
-    /// How many replies come up to the stream's end.
-    pub(super) fn rest(&mut self, rt: &impl Abort) -> usize {
         read_replies(rt, self.alloc, &mut self.replies).len()
     }
 }
