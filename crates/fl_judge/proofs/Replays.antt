@@ -1,0 +1,136 @@
+-- What a replay leads up to, line by line.
+use Rattle.std.proofs.Common.{◌≡◌, ◌≢◌, ℕ, zero, suc, ◌+◌, Bool, true, false, Option, Some, None, List, [], ◌∷◌, ◌++◌, drop, slice_get}
+use Rattle.std.proofs.Common.{append_assoc, ap, sym, ◌∙◌, subst}
+use Rattle.std.proofs.lemmas.List.{append-nil}
+use Rattle.std.proofs.lemmas.Option.{none-some}
+use Rattle.std.proofs.Math.Numerals.{add-one}
+use Rattle.std.proofs.Math.Seq.{drop-nil}
+use Rattle.fl_core.specs.State.{Snapshot}
+use Rattle.fl_core.specs.Step.{next, replies}
+use Rattle.fl_desk.specs.Leading.{LeadsTo, GoesOn, ends, goes}
+use Rattle.fl_desk.specs.Legal.{IsLegal, step_lines}
+use Rattle.fl_desk.specs.Verdicts.{IsBeginning}
+use Rattle.fl_history.specs.declared.history.Line.{Line}
+use Rattle.fl_history.specs.declared.history.Line.TheVariants as line
+use Rattle.fl_judge.specs.declared.replay.Replay.{Replay}
+use Rattle.fl_judge.specs.Inside.Heard.{told_lines, BeginsWith, due_lines, LeadsUpTo, GoesOnAlike}
+use Rattle.fl_order.specs.declared.order.Order.{Order}
+use Rattle.fl_order.specs.declared.told.Told.{Told}
+
+-- ---- what is left of a list from a place on
+
+pub none_left : {A : Type 0} (xs : List A) (k : ℕ) → slice_get xs k ≡ None → drop k xs ≡ []
+none_left [] k e = drop-nil k
+none_left (x ∷ xs) zero e = absurd (none-some x (sym e))
+none_left (x ∷ xs) (suc k) e = none_left xs k e
+
+same_some : {A : Type 0} (x y : A) → ◌≡◌ {A = Option A} (Some x) (Some y) → x ≡ y
+same_some x y e = cc e
+
+pub left_from : {A : Type 0} (xs : List A) (k : ℕ) (x : A) → slice_get xs k ≡ Some x → drop k xs ≡ x ∷ drop (suc k) xs
+left_from [] k x e = absurd (none-some x e)
+left_from (y ∷ xs) zero x e = ap (λ z. z ∷ xs) (same_some y x e)
+left_from (y ∷ xs) (suc k) x e = left_from xs k x e
+
+-- ---- one line more
+
+-- a line, and what stands behind it
+behind : (lines rest : List Line) (l : Line) → (lines ++ l ∷ []) ++ rest ≡ lines ++ l ∷ rest
+behind lines rest l = append_assoc lines (l ∷ []) rest
+
+same_head : {A : Type 0} (x y : A) (xs ys : List A) → x ∷ xs ≡ y ∷ ys → x ≡ y
+same_head x y xs ys e = cc e
+
+same_tail : {A : Type 0} (x y : A) (xs ys : List A) → x ∷ xs ≡ y ∷ ys → xs ≡ ys
+same_tail x y xs ys e = cc e
+
+-- no line is heard
+pub opens : (r : Replay) → LeadsTo [] r.core → r.tolds ≡ [] → LeadsUpTo [] r
+opens r leads none =
+    let e : due_lines r ≡ [] = ap (λ t. told_lines (drop r.told t)) none ∙ ap told_lines (drop-nil r.told) in
+    record {
+      leads = subst (λ l. LeadsTo l r.core) (sym e) leads;
+      due = λ rest legal. (rest, sym (ap (λ l. l ++ rest) e));
+    }
+
+-- the reply that is due
+pub told_on : (before after : Replay) (due : Told) → slice_get before.tolds before.told ≡ Some due → after.core ≡ before.core → after.tolds ≡ before.tolds
+    → after.told ≡ before.told + 1 → (lines : List Line) → LeadsUpTo lines before → LeadsUpTo (lines ++ line.Told due ∷ []) after
+told_on before after due is core tolds told lines up =
+    let l = line.Told due in
+    let e : due_lines before ≡ l ∷ due_lines after =
+    ap told_lines (left_from before.tolds before.told due is ∙ (λ i. due ∷ drop (sym (told ∙ add-one before.told) i) (sym tolds i))) in
+    record {
+      leads = subst (λ p. LeadsTo ((lines ++ l ∷ []) ++ due_lines after) p) (sym core)
+          (subst (λ ls. LeadsTo ls before.core) (ap (λ d. lines ++ d) e ∙ sym (behind lines (due_lines after) l)) up.leads);
+      due = λ rest legal.
+          let w = up.due (l ∷ rest) (subst IsLegal (behind lines rest l) legal) in
+          (w.0, same_tail l l rest (due_lines after ++ w.0) (w.1 ∙ ap (λ d. d ++ w.0) e));
+    }
+
+-- another line stands where a reply is due
+pub told_wrong : (before : Replay) (due : Told) (l : Line) → slice_get before.tolds before.told ≡ Some due → l ≢ line.Told due
+    → (lines : List Line) → LeadsUpTo lines before → IsBeginning (lines ++ l ∷ []) → ⊥
+told_wrong before due l is other lines up b =
+    let w = up.due (l ∷ b.rest) (subst IsLegal (behind lines b.rest l) b.legal) in
+    other (same_head l (line.Told due) b.rest (told_lines (drop (suc before.told) before.tolds) ++ w.0)
+    (w.1 ∙ ap (λ t. told_lines t ++ w.0) (left_from before.tolds before.told due is)))
+
+-- where no reply is due, the lines are legal
+pub all_told : (r : Replay) (lines : List Line) → slice_get r.tolds r.told ≡ None → LeadsUpTo lines r → LeadsTo lines r.core
+all_told r lines none up =
+    subst (λ l. LeadsTo l r.core) (ap (λ t. lines ++ told_lines t) (none_left r.tolds r.told none) ∙ append-nil lines) up.leads
+
+abbrev GoesByOrders : Type 0
+GoesByOrders = (before rest : List Line) (p : Snapshot) → LeadsTo before p → IsLegal (before ++ rest) → GoesOn p rest
+
+abbrev LeadsOn : Type 0
+LeadsOn = (lines : List Line) (p : Snapshot) (worker : ℕ) (order : Order) → LeadsTo lines p →
+    LeadsTo (lines ++ step_lines worker order (replies p order)) (next p order)
+
+-- a reply stands where an order is due
+pub order_wrong : GoesByOrders → (before : Replay) (told : Told) → slice_get before.tolds before.told ≡ None
+    → (lines : List Line) → LeadsUpTo lines before → IsBeginning (lines ++ line.Told told ∷ []) → ⊥
+order_wrong goes_on before told none lines up b =
+    no_order (goes_on lines (line.Told told ∷ b.rest) before.core (all_told before lines none up) (subst IsLegal (behind lines b.rest (line.Told told)) b.legal))
+  where
+    no_order : GoesOn before.core (line.Told told ∷ b.rest) → ⊥
+    no_order (ends e) = cc e
+    no_order (goes worker order rest e) = cc e
+
+-- what stands behind an order in what the lines lead to
+replies_next : (p : Snapshot) (worker : ℕ) (order : Order) (rest : List Line) → GoesOn p (line.Asked worker order ∷ rest)
+    → BeginsWith (told_lines (replies p order)) rest
+replies_next p worker order rest (ends e) = absurd (cc e)
+replies_next p worker order rest (goes w o more e) =
+    let head : line.Asked worker order ≡ line.Asked w o = same_head (line.Asked worker order) (line.Asked w o) rest (told_lines (replies p o) ++ more) e in
+    let same : o ≡ order = cc head in
+    (more, same_tail (line.Asked worker order) (line.Asked w o) rest (told_lines (replies p o) ++ more) e ∙ ap (λ x. told_lines (replies p x) ++ more) same)
+
+-- an order
+pub order_on : LeadsOn → GoesByOrders → (before after : Replay) (worker : ℕ) (order : Order) → slice_get before.tolds before.told ≡ None
+    → after.core ≡ next before.core order → after.tolds ≡ replies before.core order → after.told ≡ 0
+    → (lines : List Line) → LeadsUpTo lines before → LeadsUpTo (lines ++ line.Asked worker order ∷ []) after
+order_on leads_on goes_on before after worker order none core tolds told lines up =
+    let l = line.Asked worker order in
+    let so_far = all_told before lines none up in
+    let e : due_lines after ≡ told_lines (replies before.core order) = λ i. told_lines (drop (told i) (tolds i)) in
+    record {
+      leads = subst (λ p. LeadsTo ((lines ++ l ∷ []) ++ due_lines after) p) (sym core)
+          (subst (λ ls. LeadsTo ls (next before.core order)) (sym (behind lines (due_lines after) l ∙ ap (λ d. lines ++ l ∷ d) e))
+          (leads_on lines before.core worker order so_far));
+      due = λ rest legal.
+          let w = replies_next before.core worker order rest
+          (goes_on lines (l ∷ rest) before.core so_far (subst IsLegal (behind lines rest l) legal)) in
+          (w.0, w.1 ∙ ap (λ d. d ++ w.0) (sym e));
+    }
+
+-- ---- in the words of `take`
+
+pub alike : (before after : Replay) (l : Line) (b : Bool) → b ≡ true → ((lines : List Line) → LeadsUpTo lines before → LeadsUpTo (lines ++ l ∷ []) after)
+    → GoesOnAlike before l b after
+alike before after l b is on = subst (λ b. GoesOnAlike before l b after) (sym is) on
+
+pub unlike : (before after : Replay) (l : Line) (b : Bool) → b ≡ false → ((lines : List Line) → LeadsUpTo lines before → IsBeginning (lines ++ l ∷ []) → ⊥)
+    → GoesOnAlike before l b after
+unlike before after l b is wrong = subst (λ b. GoesOnAlike before l b after) (sym is) wrong

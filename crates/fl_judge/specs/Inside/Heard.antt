@@ -1,0 +1,50 @@
+-- What is always so of a judge, and of the lines that it heard.
+use Rattle.std.specs.Prelude.{◌≡◌, ℕ, ◌-◌, ◌^◌, ◌≤◌, Bool, true, false, Option, Some, None, List, [], ◌∷◌, ◌++◌, length, map, take, drop}
+use Rattle.fl_desk.specs.Leading.{LeadsTo}
+use Rattle.fl_desk.specs.Legal.{IsLegal}
+use Rattle.fl_desk.specs.Verdicts.{IsBeginning}
+use Rattle.fl_history.specs.declared.history.Line.{Line}
+use Rattle.fl_history.specs.declared.history.Line.TheVariants as line
+use Rattle.fl_judge.specs.declared.replay.Replay.{Replay}
+use Rattle.fl_order.specs.declared.told.Told.{Told}
+
+-- replies, as lines
+abbrev pub told_lines : List Told → List Line
+told_lines tolds = map (λ told. line.Told told) tolds
+
+-- lines begin with these
+abbrev pub BeginsWith : List Line → List Line → Type 0
+BeginsWith first lines = (more : List Line) × (lines ≡ first ++ more)
+
+-- the replies of the last order that weren't heard yet
+abbrev pub due_lines : Replay → List Line
+due_lines r = told_lines (drop r.told r.tolds)
+
+-- The lines lack only the replies that are due: with these they lead to what is there, and a legal history that begins
+-- with the lines goes on by these.
+pub record LeadsUpTo (lines : List Line) (r : Replay) : Type 0 where
+  pub leads : LeadsTo (lines ++ due_lines r) r.core
+  pub due : (rest : List Line) → IsLegal (lines ++ rest) → BeginsWith (due_lines r) rest
+
+-- Behind lines that a replay led up to comes one more: either it leads up to that too, or no legal history begins with them.
+abbrev pub GoesOnAlike : Replay → Line → Bool → Replay → Type 0
+GoesOnAlike before l true after = (lines : List Line) → LeadsUpTo lines before → LeadsUpTo (lines ++ l ∷ []) after
+GoesOnAlike before l false after = (lines : List Line) → LeadsUpTo lines before → IsBeginning (lines ++ l ∷ []) → ⊥
+
+-- the lines before this one, counted from 1, are a beginning of a legal history, and the lines with it aren't
+pub record DiffersIn (lines : List Line) (n : ℕ) : Type 0 where
+  pub from : 1 ≤ n
+  pub within : n ≤ length lines
+  pub before : IsBeginning (take (n - 1) lines)
+  pub wrong : IsBeginning (take n lines) → ⊥
+
+-- what is known of the lines, where they differ and where they don't
+abbrev pub Stands : List Line → Replay → Option ℕ → Type 0
+Stands lines r None = LeadsUpTo lines r
+Stands lines r (Some n) = DiffersIn lines n
+
+-- so many lines were heard, not too many, and that is known of them
+pub record IsHeard (lines : List Line) (heard : ℕ) (r : Replay) (differs : Option ℕ) : Type 0 where
+  pub count : heard ≡ length lines
+  pub few : heard ≤ 2 ^ 63
+  pub stands : Stands lines r differs

@@ -1,0 +1,89 @@
+//! The judge: what it says of the lines that it heard.
+
+ghost use Rattle.std.specs.Prelude.{◌≡◌, ◌↔◌, ◌<◌, ◌^◌, ◌++◌, ◌∷◌, [], true, length, IfOk};
+ghost use Rattle.fl_desk.specs.Verdicts.{IsBeginning, IsVerdict};
+
+use crate::replay::Replay;
+use fl_desk::Verdict;
+use fl_history::Line;
+use fl_order::NoMemory;
+use fl_past::Past;
+use std::alloc::Global;
+use std::marker::Model;
+
+/// A judge of a history, which hears its lines one after another. It takes the orders anew, and compares the replies. Its
+/// memory is that of one directory and one list of replies, however many lines it hears. Contracts see it as the list of
+/// the lines that it heard.
+#[derive(Drop)]
+pub struct Judge {
+    replay: Replay,
+    heard: usize,
+    differs: Option<usize>,
+    past: Past<Line>,
+}
+
+impl Model for Judge {
+    ghost use Rattle.std.specs.Prelude.{List};
+    ghost use Rattle.fl_history.specs.declared.history.Line.{Line};
+
+    ghost Value = { List Line };
+
+    ghost use Rattle.fl_judge.specs.Inside.Heard.{IsHeard};
+
+    ghost view = { λ j. j.past.items };
+
+    ghost invariant = { λ j. IsHeard j.past.items j.heard j.replay j.differs };
+}
+
+impl Judge {
+    /// A judge that has heard no line.
+    pub fn new(alloc: Global) -> Result<Judge, NoMemory>
+        ensures { IfOk result (λ judge. judge ≡ []) }
+    {
+        Ok(Judge {
+            replay: Replay::new(alloc)?,
+            heard: 0,
+            differs: None,
+            past: Past::new(),
+        })
+    }
+
+    /// Hears one line more. It takes no memory.
+    pub fn hear(&mut self, line: &Line)
+        requires { length self.old < 2 ^ 63 }
+        ensures { self.new ≡ self.old ++ line.now ∷ [] }
+    {
+        self.past = self.past.and(line);
+        self.heard += 1;
+        if self.differs.is_none() && !self.replay.take(line) {
+            self.differs = Some(self.heard);
+        }
+    }
+
+    /// How many lines it heard.
+    pub fn heard(&self) -> usize
+        ensures { result ≡ length self.now }
+    {
+        self.heard
+    }
+
+    /// What is to be said of all lines that it heard, as `check` says it of a history of them.
+    pub fn verdict(&self) -> Verdict
+        ensures { IsVerdict self.now result }
+    {
+        if let Some(n) = self.differs {
+            Verdict::Differs(n)
+        } else if self.replay.due().is_some() {
+            Verdict::Differs(self.heard + 1)
+        } else {
+            Verdict::Legal
+        }
+    }
+
+    /// Whether some legal history begins with the lines that it heard.
+    pub fn begins(&self) -> bool
+        ensures { (result ≡ true) ↔ IsBeginning self.now }
+    {
+        self.differs.is_none()
+    }
+}

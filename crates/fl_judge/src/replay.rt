@@ -1,0 +1,78 @@
+//! The orders of a history, taken anew one after another, and what comes next in it.
+
+ghost use Rattle.std.specs.Prelude.{◌≡◌, ◌↔◌, ◌+◌, ◌^◌, ◌<◌, true, Some, IsSome, IfOk, []};
+ghost use Rattle.std.specs.List.{slice_get};
+ghost use Rattle.fl_history.specs.declared.history.Line.TheVariants as line;
+ghost use Rattle.fl_judge.specs.Inside.Heard.{LeadsUpTo, GoesOnAlike};
+
+use fl_core::{Core, Tolds};
+use fl_desk::laws::{a_legal_history_goes_on_by_orders, an_order_leads_on};
+use fl_history::Line;
+use fl_order::{NoMemory, Told};
+use std::alloc::Global;
+
+// The directory after the last order that was heard, the replies that it gives, and how many of them were heard.
+#[derive(Drop)]
+pub(crate) struct Replay {
+    core: Core,
+    tolds: Tolds,
+    told: usize,
+}
+
+impl Replay {
+    // Nothing is heard.
+    pub(crate) fn new(alloc: Global) -> Result<Replay, NoMemory>
+        ensures { IfOk result (λ replay. LeadsUpTo [] replay) }
+    {
+        an_order_leads_on();
+        Ok(Replay {
+            core: Core::new(alloc)?,
+            tolds: Tolds::new(alloc)?,
+            told: 0,
+        })
+    }
+
+    // One line more, if a legal history may go on by it. What it was told stays, where none does.
+    pub(crate) fn take(&mut self, line: &Line) -> bool
+        ensures { GoesOnAlike self.old line.now result self.new }
+    {
+        an_order_leads_on();
+        a_legal_history_goes_on_by_orders();
+        if let Some(due) = self.due() {
+            let alike = is_told(line, &due);
+            if alike {
+                self.told += 1;
+            }
+            return alike;
+        }
+        let Line::Asked { worker: _, order } = line else {
+            return false;
+        };
+        self.core.step(order, &mut self.tolds);
+        self.told = 0;
+        true
+    }
+
+    // The reply that has to come next, if one has.
+    pub(crate) fn due(&self) -> Option<Told>
+        ensures is { result ≡ slice_get self.now.tolds self.now.told }
+        ensures few { IsSome result → self.now.told + 1 < 2 ^ 64 }
+    {
+        let replies = self.tolds.as_slice();
+        if self.told < replies.len() {
+            Some(replies[self.told])
+        } else {
+            None
+        }
+    }
+}
+
+// Whether a line is this reply.
+fn is_told(entry: &Line, told: &Told) -> bool
+    ensures { (result ≡ true) ↔ (entry.now ≡ line.Told told.now) }
+{
+    match entry {
+        Line::Told(other) => *other == *told,
+        Line::Asked { .. } => false,
+    }
+}

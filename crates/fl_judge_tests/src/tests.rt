@@ -1,0 +1,108 @@
+//! What a judge says while it hears. A table of orders and their replies is a trace, as `docs/TRACE.md` says.
+
+use fl_desk::Verdict;
+use fl_history::{History, Line};
+use fl_judge::Judge;
+use fl_trace::read_trace;
+use std::process::Abort;
+
+const LEGAL: Verdict = Verdict::Legal;
+
+// A write lock of owner 7 keeps owner 8 from a read lock, which waits until the write lock is given back.
+const A_LOCK_IS_WAITED_FOR: &str = "\
+ask 0 1 1 0 0 0 create 0 420 61
+tell 1 made 2 33188 1 0 0 1
+ask 0 2 2 0 0 0 setlk 1 7 0 9 1 11 0
+tell 2 ok
+ask 1 3 2 0 0 0 setlkw 1 8 9 9 0 12 0
+ask 0 4 2 0 0 0 setlk 1 7 0 9 2 11 0
+tell 4 ok
+tell 3 ok
+";
+
+// The trace of a text.
+fn read(rt: &(impl Abort + AllocGlobal), text: &str) -> History {
+    read_trace(rt.alloc(), text.as_bytes()).expect(rt, "a trace")
+}
+
+// So a judge says of the lines of a text, after each of them; and some legal history begins with so many of them.
+fn is_heard(rt: &(impl Abort + AllocGlobal), text: &str, wanted: &[Verdict], beginning: usize) {
+    let history = read(rt, text);
+    assert_eq!(rt; history.len(), wanted.len());
+    let mut judge = Judge::new(rt.alloc()).expect(rt, "memory");
+    assert!(rt; judge.verdict() == LEGAL && judge.begins());
+    for (at, verdict) in wanted.iter().enumerate() {
+        hear(rt, &mut judge, &history.line(at));
+        says(rt, &judge, at.saturating_add(1), verdict, at < beginning);
+    }
+}
+
+fn hear(rt: &impl Abort, judge: &mut Judge, line: &Line) {
+    assert!(rt; judge.heard() < 1000);
+    judge.hear(line);
+}
+
+// A judge that heard so many lines says this of them, and whether some legal history begins with them.
+fn says(rt: &impl Abort, judge: &Judge, heard: usize, verdict: &Verdict, begins: bool) {
+    assert_eq!(rt; judge.heard(), heard);
+    assert_eq!(rt; judge.verdict(), *verdict);
+    assert_eq!(rt; judge.begins(), begins);
+}
+
+#[test]
+fn lines_are_legal_where_no_reply_is_missing(rt: HostRuntime) {
+    let wanted = [
+        Verdict::Differs(2),
+        LEGAL,
+        Verdict::Differs(4),
+        LEGAL,
+        LEGAL,
+        Verdict::Differs(7),
+        Verdict::Differs(8),
+        LEGAL,
+    ];
+    is_heard(&rt, A_LOCK_IS_WAITED_FOR, &wanted, 8);
+}
+
+#[test]
+fn lines_that_differed_differ_for_ever(rt: HostRuntime) {
+    let another_reply = "\
+ask 0 1 2 0 0 0 getattr
+tell 1 err 2
+ask 0 2 2 0 0 0 getattr
+tell 2 err 9
+ask 0 3 2 0 0 0 getattr
+tell 3 err 2
+";
+    let wanted = [
+        Verdict::Differs(2),
+        LEGAL,
+        Verdict::Differs(4),
+        Verdict::Differs(4),
+        Verdict::Differs(4),
+        Verdict::Differs(4),
+    ];
+    is_heard(&rt, another_reply, &wanted, 3);
+}
+
+#[test]
+fn a_reply_is_owed_once_and_before_the_next_order(rt: HostRuntime) {
+    let twice = "\
+ask 0 1 2 0 0 0 getattr
+tell 1 err 2
+tell 1 err 2
+";
+    let late = "\
+ask 0 1 2 0 0 0 getattr
+ask 0 2 2 0 0 0 getattr
+tell 1 err 2
+tell 2 err 2
+";
+    is_heard(
+        &rt,
+        twice,
+        &[Verdict::Differs(2), LEGAL, Verdict::Differs(3)],
+        2,
+    );
+    is_heard(&rt, late, &[Verdict::Differs(2); 4], 1);
+}
