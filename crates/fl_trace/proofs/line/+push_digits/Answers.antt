@@ -19,8 +19,15 @@ push_digits-requires t c =
 pub push_reserved-requires-2 : goal.push_reserved-requires-2
 push_reserved-requires-2 t c =
     let some : 10 ≤ c.args.number = omega (arith, c.if-number-lt10.false) in
-    omega (arith, c.push_digits.new.text.ok, c.push_digits.ensures.capacity, ap length c.push_digits.ensures.bytes,
-    length-append c.args.text.now.items (decimal (c.args.number / 10)), c.requires.room, one_fewer c.args.number some (omega arith))
+    omega (
+      arith,
+      c.push_digits.new.text.ok,
+      c.push_digits.ensures.capacity,
+      ap length c.push_digits.ensures.bytes,
+      length-append c.args.text.now.items (decimal (c.args.number / 10)),
+      c.requires.room,
+      one_fewer c.args.number some (omega arith),
+    )
 
 pub returns-clause-bytes : goal.returns-clause-bytes
 returns-clause-bytes t c =
