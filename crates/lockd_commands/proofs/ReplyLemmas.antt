@@ -10,7 +10,7 @@ use Rattle.hex.specs.Hex.{encode_lower}
 use Rattle.fl_wire.specs.Layout.{len_of, number_at}
 use Rattle.lockd_commands.specs.Bytes.{IsSession}
 use Rattle.lockd_commands.specs.Bytes.Inside.{AreReplies}
-use Rattle.lockd_commands.specs.Hex.{hex_lines}
+use Rattle.lockd_hex.specs.Lines.{hex_lines}
 use Rattle.fl_session.specs.Served.{IsServed}
 use Rattle.fl_wire.specs.Spell.{IsReply}
 use Rattle.fl_session.specs.declared.session.Done.{Done}

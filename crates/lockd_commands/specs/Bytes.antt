@@ -3,24 +3,13 @@ pub mod Inside
 use Rattle.std.specs.Prelude.{◌≡◌, ℕ, false, List, [], All, Option, Some, None, IfSome, IsOk, Result, Ok, Err, ⊤}
 use Rattle.std.specs.List.{concat}
 use Rattle.std.specs.Io.KnownBytes.{Appends, Keeps}
-use Rattle.lockd_commands.specs.Hex.{hex_stream, hex_lines}
+use Rattle.lockd_commands.specs.Hex.{hex_stream}
+use Rattle.lockd_hex.specs.Lines.{hex_lines}
 use Rattle.fl_session.specs.Served.{IsServed}
 use Rattle.fl_wire.specs.Spell.{IsReply}
 use Rattle.fl_session.specs.Session.{session_of}
-use Rattle.lockd_commands.specs.declared.fault.Fault.{Fault}
-use Rattle.lockd_commands.specs.declared.fault.Fault.TheVariants as command
 use Rattle.fl_session.specs.declared.session.Done.{Done}
 use Rattle.fl_session.specs.declared.session.Fault.{Fault as SessionFault}
-use Rattle.fl_session.specs.declared.session.Fault.TheVariants as session
-
--- a session's fault as a command tells it
-abbrev pub fault_of : SessionFault → Fault
-fault_of session.Cut = command.Cut
-fault_of (session.BadLength n) = command.BadLength n
-fault_of session.Read = command.Read
-fault_of session.Write = command.Write
-fault_of session.NoMemory = command.NoMemory
-fault_of session.NoReader = command.NoReader
 
 -- A session over this stream, no write of which failed and whose fault is this one, and the lines that are printed for
 -- it: one for each of its replies.

@@ -8,10 +8,6 @@ use Rattle.fl_history.specs.declared.history.Line.{Line}
 use Rattle.fl_quiet.specs.Quiet.{IsQuiet}
 use Rattle.fl_desk.specs.declared.judge.Verdict.{Verdict}
 use Rattle.fl_desk.specs.declared.judge.Verdict.TheVariants.{Legal, Differs}
-use Rattle.fl_trace.specs.declared.read.TraceFault.{TraceFault}
-use Rattle.fl_trace.specs.declared.read.TraceFault.TheVariants as trace
-use Rattle.lockd_commands.specs.declared.fault.Fault.{Fault}
-use Rattle.lockd_commands.specs.declared.fault.Fault.TheVariants as command
 
 -- the line that says a verdict
 abbrev pub verdict_text : Verdict → List ℕ
@@ -46,8 +42,3 @@ pub record IsJudged (asked : Bool) (left old new : Option (List ℕ)) (verdict :
   pub told : Option Bool
   pub says : SaysQuiet asked verdict lines told
   pub written : Appends old new (answer_text verdict told)
-
--- a trace's fault as a command tells it
-abbrev pub trace_fault : TraceFault → Fault
-trace_fault (trace.BadLine n) = command.BadLine n
-trace_fault trace.NoMemory = command.NoMemory

@@ -1,35 +1,7 @@
--- What is told of a fault, and which faults each command can end with.
-use Rattle.std.specs.Prelude.{◌≡◌, ◌⊎◌, ℕ, List, [], ◌∷◌, ◌++◌, codes, Option, ⊤}
-use Rattle.std.specs.Fmt.{decimal}
-use Rattle.std.specs.Io.KnownBytes.{Appends}
-use Rattle.lockd_commands.specs.declared.fault.Fault.{Fault}
-use Rattle.lockd_commands.specs.declared.fault.Fault.TheVariants.{BadLine, NoMemory, NoReader, Listen, Read, Write, Cut, BadLength, Connect, BadReply, Trace, TraceFailed}
-
--- the text of a fault
-abbrev pub fault_text : Fault → List ℕ
-fault_text (BadLine n) = codes "bad line " ++ decimal n
-fault_text NoMemory = codes "no memory"
-fault_text NoReader = codes "no reader"
-fault_text Listen = codes "cannot listen"
-fault_text Read = codes "read failed"
-fault_text Write = codes "write failed"
-fault_text Cut = codes "cut"
-fault_text (BadLength n) = codes "bad length " ++ decimal n
-fault_text Connect = codes "cannot connect"
-fault_text BadReply = codes "bad reply"
-fault_text Trace = codes "cannot trace"
-fault_text TraceFailed = codes "trace failed"
-
--- these bytes were written, or a beginning of them where a write failed
-pub record IsBegun (bytes : List ℕ) (old new : Option (List ℕ)) : Type 0 where
-  pub part : List ℕ
-  pub rest : List ℕ
-  pub parts : bytes ≡ part ++ rest
-  pub written : Appends old new part
-
--- a fault was told: its text as one line, or a beginning of it where that couldn't be written
-abbrev pub IsTold : Fault → Option (List ℕ) → Option (List ℕ) → Type 0
-IsTold fault old new = IsBegun (fault_text fault ++ 10 ∷ []) old new
+-- Which faults each command can end with.
+use Rattle.std.specs.Prelude.{◌≡◌, ◌⊎◌, ⊤}
+use Rattle.lockd_faults.specs.declared.fault.Fault.{Fault}
+use Rattle.lockd_faults.specs.declared.fault.Fault.TheVariants.{BadLine, NoMemory, NoReader, Listen, Read, Write, Cut, BadLength, TraceFailed}
 
 -- a fault of a command from lines of a trace to text
 abbrev pub IsOfText : Fault → Type 0
@@ -38,12 +10,6 @@ IsOfText NoMemory = ⊤
 IsOfText Read = ⊤
 IsOfText Write = ⊤
 IsOfText fault = ⊥
-
--- two faults were told, one behind the other
-pub record AreBothTold (first second : Fault) (old new : Option (List ℕ)) : Type 0 where
-  pub between : Option (List ℕ)
-  pub before : IsTold first old between
-  pub behind : IsTold second between new
 
 -- a fault of a session from bytes to bytes
 abbrev pub IsOfBytes : Fault → Type 0
@@ -69,14 +35,3 @@ IsOfServe fault = ⊥
 -- a fault of a server whose trace goes to a writer: the server's, or that the trace failed
 abbrev pub IsOfTraced : Fault → Type 0
 IsOfTraced fault = IsOfServe fault ⊎ (fault ≡ TraceFailed)
-
--- a fault of a client
-abbrev pub IsOfDrive : Fault → Type 0
-IsOfDrive (BadLine n) = ⊤
-IsOfDrive NoMemory = ⊤
-IsOfDrive Read = ⊤
-IsOfDrive Write = ⊤
-IsOfDrive Cut = ⊤
-IsOfDrive Connect = ⊤
-IsOfDrive BadReply = ⊤
-IsOfDrive fault = ⊥

@@ -5,9 +5,9 @@ use Rattle.fl_desk.specs.Legal.{IsLegal, is_asked}
 use Rattle.fl_trace.specs.Text.{text_of, LineFits, Fits, BreaksAt}
 use Rattle.fl_history.specs.declared.history.Line.{Line}
 use Rattle.fl_history.specs.declared.history.Line.TheVariants.{Asked}
-use Rattle.lockd_commands.specs.declared.fault.Fault.{Fault}
+use Rattle.lockd_faults.specs.declared.fault.Fault.{Fault}
 use Rattle.lockd_commands.specs.declared.script.AskLine.{AskLine}
-use Rattle.lockd_commands.specs.declared.fault.Fault.TheVariants.{BadLine, NoMemory, NoReader, Listen, Read, Write, Cut, BadLength, Connect, BadReply, Trace, TraceFailed}
+use Rattle.lockd_faults.specs.declared.fault.Fault.TheVariants.{BadLine, NoMemory, NoReader, Listen, Read, Write, Cut, BadLength, Connect, BadReply, Trace, TraceFailed}
 
 -- an ask line that can be read back
 abbrev pub IsAskLine : Line → Type 0

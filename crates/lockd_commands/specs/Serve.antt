@@ -6,8 +6,8 @@ use Rattle.fl_desk.specs.Legal.{IsLegal}
 use Rattle.fl_stream.specs.Streams.{IsBegun, Wrote}
 use Rattle.fl_trace.specs.Text.{text_of}
 use Rattle.fl_history.specs.declared.history.Line.{Line}
-use Rattle.lockd_commands.specs.declared.fault.Fault.{Fault}
-use Rattle.lockd_commands.specs.declared.fault.Fault.TheVariants.{NoMemory, NoReader, Listen, Cut, BadLength, Read}
+use Rattle.lockd_faults.specs.declared.fault.Fault.{Fault}
+use Rattle.lockd_faults.specs.declared.fault.Fault.TheVariants.{NoMemory, NoReader, Listen, Cut, BadLength, Read}
 
 -- the trace of a legal history was written
 pub record IsTraced (old new : Option (List ℕ)) : Type 0 where

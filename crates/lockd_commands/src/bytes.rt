@@ -4,16 +4,15 @@ ghost use Rattle.std.specs.Prelude.{◌≡◌, ◌≢◌, ◌⊎◌, ℕ, None, 
 ghost use Rattle.std.specs.Io.KnownBytes.{Keeps};
 ghost use Rattle.lockd_commands.specs.Bytes.{IsPrinted, IsSession};
 ghost use Rattle.lockd_commands.specs.Bytes.Inside.{Did, IsOfStream};
-ghost use Rattle.lockd_commands.specs.Faults.{IsOfBytes, IsTold};
+ghost use Rattle.lockd_commands.specs.Faults.{IsOfBytes};
 ghost use Rattle.lockd_commands.specs.Hex.{hex_stream};
-ghost use Rattle.lockd_commands.specs.declared.fault.Fault.{Fault};
+ghost use Rattle.lockd_faults.specs.Faults.{IsTold};
+ghost use Rattle.lockd_faults.specs.declared.fault.Fault.{Fault};
 ghost use Rattle.fl_session.specs.declared.session.Fault.{Fault as SessionFault};
 
-use crate::fault::Fault;
-use crate::status::{Status, end};
-use crate::streams::{read_all, write_all};
 use fl_serve::{Ended, run_session};
 use hex_text::read_stream;
+use lockd_faults::{Fault, Status, end, read_all, write_all};
 use replies::print_replies;
 use std::alloc::Global;
 use std::io::{Read, Write};

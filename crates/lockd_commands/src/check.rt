@@ -6,13 +6,12 @@ ghost use Rattle.fl_trace.specs.Text.{text_of, BreaksAt, LineFits, Fits};
 ghost use Rattle.fl_desk.specs.Verdicts.{IsVerdict};
 ghost use Rattle.fl_desk.specs.declared.judge.Verdict.TheVariants as said;
 ghost use Rattle.lockd_commands.specs.Check.{answer_text, SaysQuiet, IsJudged};
-ghost use Rattle.lockd_commands.specs.Faults.{IsOfText, IsTold};
-ghost use Rattle.lockd_commands.specs.declared.fault.Fault.{Fault};
+ghost use Rattle.lockd_commands.specs.Faults.{IsOfText};
+ghost use Rattle.lockd_faults.specs.Faults.{IsTold};
+ghost use Rattle.lockd_faults.specs.declared.fault.Fault.{Fault};
 
-use crate::fault::Fault;
-use crate::status::{Status, end};
-use crate::streams::{read_all, write_all};
 use fl_book::{History, Verdict, check, quiet, read_trace};
+use lockd_faults::{Fault, Status, end, read_all, write_all};
 use std::alloc::Global;
 use std::io::{Read, Write};
 

@@ -4,17 +4,16 @@ ghost use Rattle.std.specs.Prelude.{◌≡◌, ◌≢◌, ℕ, ◌++◌, ◌∷�
 ghost use Rattle.std.specs.Io.KnownBytes.{Keeps, Appends};
 ghost use Rattle.fl_desk.specs.Legal.{IsLegal, is_asked};
 ghost use Rattle.fl_trace.specs.Text.{line_text, text_of, BreaksAt};
-ghost use Rattle.lockd_commands.specs.Faults.{IsOfText, IsTold};
+ghost use Rattle.lockd_commands.specs.Faults.{IsOfText};
 ghost use Rattle.lockd_commands.specs.Script.{line_of, IsAskLine, IsTraceOf, FaultSays, IsAnswered};
 ghost use Rattle.fl_history.specs.declared.history.Line.{Line};
-ghost use Rattle.lockd_commands.specs.declared.fault.Fault.{Fault};
+ghost use Rattle.lockd_faults.specs.Faults.{IsTold};
+ghost use Rattle.lockd_faults.specs.declared.fault.Fault.{Fault};
 
-use crate::fault::Fault;
-use crate::status::{Status, end};
-use crate::streams::{read_all, write_all};
 use fl_book::{Desk, History, Line, first_line, print_trace};
 use fl_core::Tolds;
 use fl_order::Order;
+use lockd_faults::{Fault, Status, end, read_all, write_all};
 use std::alloc::Global;
 use std::io::{Read, Write};
 

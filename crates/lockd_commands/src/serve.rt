@@ -6,16 +6,15 @@ ghost use Rattle.std.specs.Path.{path_bytes};
 ghost use Rattle.fl_desk.specs.Legal.{IsLegal};
 ghost use Rattle.lockd_commands.specs.Serve.{IsTraced, IsOfNoSession, IsOfSession};
 ghost use Rattle.lockd_commands.specs.Serve.Inside.{Did, TellsOf};
-ghost use Rattle.lockd_commands.specs.Faults.{IsOfServe, IsTold};
-ghost use Rattle.lockd_commands.specs.declared.fault.Fault.{Fault};
+ghost use Rattle.lockd_commands.specs.Faults.{IsOfServe};
+ghost use Rattle.lockd_faults.specs.Faults.{IsTold};
+ghost use Rattle.lockd_faults.specs.declared.fault.Fault.{Fault};
 
 mod traced;
 
-use crate::fault::Fault;
-use crate::status::{Status, end};
-use crate::streams::write_all;
 use fl_book::print_trace;
 use fl_serve::{Done, OpenGate};
+use lockd_faults::{Fault, Status, end, write_all};
 use std::alloc::Global;
 use std::fs;
 use std::fs::Files;

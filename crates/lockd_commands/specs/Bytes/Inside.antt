@@ -5,8 +5,8 @@ use Rattle.std.specs.Io.KnownBytes.{Keeps}
 use Rattle.fl_wire.specs.Spell.{IsReply}
 use Rattle.lockd_commands.specs.Bytes.{IsPrinted}
 use Rattle.lockd_commands.specs.Hex.{hex_stream}
-use Rattle.lockd_commands.specs.declared.fault.Fault.{Fault}
-use Rattle.lockd_commands.specs.declared.fault.Fault.TheVariants as command
+use Rattle.lockd_faults.specs.declared.fault.Fault.{Fault}
+use Rattle.lockd_faults.specs.declared.fault.Fault.TheVariants as command
 use Rattle.fl_session.specs.declared.session.Fault.{Fault as SessionFault}
 use Rattle.fl_session.specs.declared.session.Fault.TheVariants as session
 

@@ -4,8 +4,8 @@ use Rattle.std.specs.Io.KnownBytes.{Appends, Keeps}
 use Rattle.fl_trace.specs.Text.{text_of}
 use Rattle.fl_history.specs.declared.history.Line.{Line}
 use Rattle.lockd_commands.specs.Serve.{IsTraced}
-use Rattle.lockd_commands.specs.declared.fault.Fault.{Fault}
-use Rattle.lockd_commands.specs.declared.fault.Fault.TheVariants.{BadLine, NoMemory, NoReader, Read, Write, Cut, BadLength, Listen, Connect, BadReply, Trace, TraceFailed}
+use Rattle.lockd_faults.specs.declared.fault.Fault.{Fault}
+use Rattle.lockd_faults.specs.declared.fault.Fault.TheVariants.{BadLine, NoMemory, NoReader, Read, Write, Cut, BadLength, Listen, Connect, BadReply, Trace, TraceFailed}
 
 -- What was done, by how the command ended: only after a session is anything printed.
 abbrev pub Did : Option (List ℕ) → Option (List ℕ) → Result Unit Fault → Type 0

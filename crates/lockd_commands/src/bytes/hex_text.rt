@@ -1,13 +1,10 @@
 //! Texts of hex lines.
-ghost use Rattle.std.specs.Prelude.{◌==◌, ◌≡◌, ◌⊎◌, ◌<◌, [], ◌∷◌, length, IsErr, IfSome, IfOk, IfErr};
-ghost use Rattle.std.specs.List.{position_from};
-ghost use Rattle.hex.specs.Hex.{decode_of};
+ghost use Rattle.std.specs.Prelude.{◌≡◌, Ok, IfOk, IfErr};
 ghost use Rattle.lockd_commands.specs.Bytes.Inside.{TextSays};
-ghost use Rattle.lockd_commands.specs.Hex.{hex_stream, lines_of};
-ghost use Rattle.lockd_commands.specs.declared.fault.Fault.TheVariants.{BadLine, NoMemory};
+ghost use Rattle.lockd_commands.specs.Hex.{hex_stream};
 
-use crate::fault::Fault;
-use hex::FromHexError;
+use lockd_faults::Fault;
+use lockd_hex::{read_line, split_line};
 use std::alloc::Global;
 
 /// The bytes that a text of hex lines spells, one after another.
@@ -28,35 +25,4 @@ pub(crate) fn read_stream(alloc: Global, text: &[u8]) -> Result<Vec<u8>, Fault>
         number += 1;
     }
     Ok(stream)
-}
-
-/// The first line of a text without its newline, and the text after it; none where there is no newline.
-pub(crate) fn split_line(text: &[u8]) -> Option<(&[u8], &[u8])>
-    ensures first { IfSome result (λ parts. lines_of text.now ≡ parts.0.now ∷ lines_of parts.1.now) }
-    ensures shorter { IfSome result (λ parts. length parts.1.now < length text.now) }
-    ensures none { result ≡ None → lines_of text.now ≡ text.now ∷ [] }
-{
-    let end = first_newline(text)?;
-    Some((&text[..end], &text[end + 1..]))
-}
-
-// Where the first newline stands.
-fn first_newline(text: &[u8]) -> Option<usize>
-    ensures place { result ≡ position_from (λ c. c == 10) 0 text.now }
-    ensures inside { IfSome result (λ end. end < length text.now) }
-{
-    text.iter().position(|byte| *byte == b'\n')
-}
-
-/// The bytes of the line of this number.
-pub(crate) fn read_line(alloc: Global, line: &[u8], number: usize) -> Result<Vec<u8>, Fault>
-    ensures spelled { IfOk result (λ bytes. decode_of line.now ≡ Ok bytes.items) }
-    ensures error { IfErr result (λ fault. (fault ≡ NoMemory)
-        ⊎ ((fault ≡ BadLine number) × IsErr (decode_of line.now))) }
-{
-    match hex::decode(alloc, line) {
-        Ok(bytes) => Ok(bytes),
-        Err(FromHexError::OutOfMemory) => Err(Fault::NoMemory),
-        Err(_) => Err(Fault::BadLine(number)),
-    }
 }

@@ -1,15 +1,15 @@
 //! Replies that stand one after another, as lines of hex.
-ghost use Rattle.std.specs.Prelude.{◌≡◌, ◌≤◌, ◌++◌, [], ◌∷◌, All, ℕ, List, length, IfOk, IfErr, OnOk};
+ghost use Rattle.std.specs.Prelude.{◌≡◌, ◌≤◌, ◌++◌, All, ℕ, List, length, IfOk, IfErr};
 ghost use Rattle.std.specs.List.{concat};
-ghost use Rattle.hex.specs.Hex.{encode_lower};
 ghost use Rattle.fl_wire.specs.Spell.{IsReply};
 ghost use Rattle.fl_wire.specs.Layout.{len_of};
 ghost use Rattle.lockd_commands.specs.Bytes.Inside.{AreReplies};
-ghost use Rattle.lockd_commands.specs.Hex.{hex_lines};
-ghost use Rattle.lockd_commands.specs.declared.fault.Fault.TheVariants.{NoMemory};
+ghost use Rattle.lockd_faults.specs.declared.fault.Fault.TheVariants.{NoMemory};
+ghost use Rattle.lockd_hex.specs.Lines.{hex_lines};
 
-use crate::fault::Fault;
 use byteorder::{ByteOrder, LittleEndian};
+use lockd_faults::Fault;
+use lockd_hex::push_line;
 use std::alloc::Global;
 
 /// Each of the replies in these bytes, as a line of lower case hex.
@@ -39,15 +39,4 @@ fn first_reply(replies: &[u8]) -> (&[u8], &[u8])
 {
     let len = LittleEndian::read_u32(replies) as usize;
     (&replies[..len], &replies[len..])
-}
-
-/// Appends a reply as a line of hex.
-pub(crate) fn push_line(alloc: Global, lines: &mut Vec<u8>, reply: &[u8]) -> Result<(), Fault>
-    ensures line { OnOk result (lines.new.items ≡ lines.old.items ++ (encode_lower reply.now ++ 10 ∷ [])) }
-    ensures error { IfErr result (λ fault. fault ≡ NoMemory) }
-{
-    let digits = hex::encode(alloc, reply)?;
-    lines.extend_from_slice(digits.as_bytes())?;
-    lines.push(b'\n')?;
-    Ok(())
 }

@@ -1,0 +1,4 @@
+pub mod DriveLemmas
+pub mod ExchangeLemmas
+pub mod FillLemmas
+pub mod ActionLemmas
