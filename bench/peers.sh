@@ -106,7 +106,7 @@ table("ratio of a round trip", ["p50", "p99"],
        for server in LOCKD for peer in PEERS])
 print()
 if "redis" in SERVERS:
-    aim("pairs to redis, 64 under way", "at least 1", lambda server: ratio(server, "redis", 64))
-aim("pairs to echo together, 64 under way", "at least 0.5", lambda server: ratio(server, "echo together", 64))
-aim("p50 of a round trip to echo each", "at most 1.5", lambda server: BEST[server, 1][1] / BEST["echo each", 1][1])
+    aim("pairs to redis, 64 under way", "at least 2", lambda server: ratio(server, "redis", 64))
+aim("pairs to echo together, 64 under way", "at least 0.6", lambda server: ratio(server, "echo together", 64))
+aim("p50 of a round trip to echo each", "at most 1.2", lambda server: BEST[server, 1][1] / BEST["echo each", 1][1])
 END

@@ -1,7 +1,8 @@
 #!/bin/sh
-# Serves a session of some thousand orders, once for each of the server's allocations, and refuses that one. Each run must end with
-# status 2, `no memory` on standard error and no trace, or else answer each order: at most one is refused, and all behind it are
-# answered as if it had never come. The trace is then legal, and has each order that changes something and wasn't refused.
+# Serves a session of some thousand orders, with 1 worker and with 2, once for each of the server's allocations, and refuses that one.
+# Each run must end with status 2, `no memory` on standard error and no trace, or else answer each order: at most one is refused, and
+# all behind it are answered as if it had never come. The trace is then legal, and has each order that wasn't refused; with 2 workers
+# those that change something alone.
 # Wants a C compiler, the GNU C library and Python 3.
 set -eu
 . "$(dirname "$0")/../tools/built_lockd.sh"
@@ -41,8 +42,8 @@ def ask(stream, sent):
     stream.recv(size - 16, socket.MSG_WAITALL)
     return -error
 
-def session(stream):
-    """How many orders were taken that are lines, and how many orders were refused."""
+def session(stream, workers):
+    """How many orders were taken that are lines, and how many orders were refused. One worker looks nothing up."""
     ask(stream, message(INIT, 1, 0, struct.pack("<IIII", 7, 31, 0, 2)))
     taken = refused = 0
     for is_line, sent in asks():
@@ -52,22 +53,22 @@ def session(stream):
         else:
             # Without its file a lock is refused, and that is an answer.
             assert error in (0, errno.EBADF), error
-            taken += is_line
+            taken += is_line or workers == 1
     return taken, refused
 
-def run(number, asked=None):
+def run(workers, number, asked=None):
     env = {**os.environ, "LD_PRELOAD": f"{WORK}/refuse.so", "REFUSE": str(number)}
     if asked:
         env["ASKED"] = asked
     if os.path.exists(SOCKET):
         os.unlink(SOCKET)
-    server = subprocess.Popen([PROGRAM, "serve", SOCKET, "--workers", "1"], env=env, stdout=subprocess.PIPE, stderr=subprocess.PIPE)
+    server = subprocess.Popen([PROGRAM, "serve", SOCKET, "--workers", str(workers)], env=env, stdout=subprocess.PIPE, stderr=subprocess.PIPE)
     taken = refused = None
     with socket.socket(socket.AF_UNIX) as stream:
         while server.poll() is None:
             if stream.connect_ex(SOCKET) == 0:
                 try:
-                    taken, refused = session(stream)
+                    taken, refused = session(stream, workers)
                 except (BrokenPipeError, ConnectionResetError):
                     pass
                 break
@@ -79,19 +80,23 @@ def is_legal(trace):
     told = subprocess.run([PROGRAM, "check"], input=trace, capture_output=True, text=True, check=True)
     return told.stdout == "legal\n"
 
-status, out, err, taken, refused = run(0, f"{WORK}/asked")
-assert (status, err, refused) == (0, "", 0) and is_legal(out), (status, err, refused)
-count = int(open(f"{WORK}/asked").read())
-without = orders = failed = 0
-for number in range(1, count + 1):
-    status, out, err, taken, refused = run(number)
-    if (status, out, err) == (2, "", "no memory\n"):
-        without += 1
-    elif status == 0 and not err and refused <= 1 and is_legal(out) and out.count("ask ") == taken:
-        orders += refused
-    else:
-        print(f"allocation {number} refused: status {status}, {err!r}, {taken} taken, {refused} refused")
-        failed += 1
-print(f"{count} allocations refused in turn: {without} ended with no memory, {orders} refused an order, {failed} wrongly")
-sys.exit(failed > 0 or orders == 0)
+def tries(workers):
+    """Whether each allocation of a server with so many workers was refused as it should."""
+    status, out, err, taken, refused = run(workers, 0, f"{WORK}/asked")
+    assert (status, err, refused) == (0, "", 0) and is_legal(out), (status, err, refused)
+    count = int(open(f"{WORK}/asked").read())
+    without = orders = failed = 0
+    for number in range(1, count + 1):
+        status, out, err, taken, refused = run(workers, number)
+        if (status, out, err) == (2, "", "no memory\n"):
+            without += 1
+        elif status == 0 and not err and refused <= 1 and is_legal(out) and out.count("ask ") == taken:
+            orders += refused
+        else:
+            print(f"allocation {number} refused: status {status}, {err!r}, {taken} taken, {refused} refused")
+            failed += 1
+    print(f"{workers} workers, {count} allocations refused in turn: {without} ended with no memory, {orders} refused an order, {failed} wrongly")
+    return not failed and orders > 0
+
+sys.exit(not all([tries(1), tries(2)]))
 END

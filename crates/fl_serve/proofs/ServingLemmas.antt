@@ -17,7 +17,7 @@ use Rattle.fl_order.specs.Order.{only_reads}
 use Rattle.fl_order.specs.declared.order.Order.{Order}
 use Rattle.fl_serve.proofs.AskedLemmas.{all_is_handed_in}
 use Rattle.fl_serve.specs.Inside.Working.{HasAll, HaveDone}
-use Rattle.fl_serve.specs.Kept.{lines_kept}
+use Rattle.fl_session.specs.Kept.{lines_kept}
 use Rattle.fl_serve.specs.Said.{said_in}
 use Rattle.fl_serve.specs.Serve.{HasNoHistory, IsAsked, IsServedBy}
 use Rattle.fl_workers.specs.Asked.{Orders, asked}
@@ -115,9 +115,3 @@ unserved left left_now held held_now broken done fault unread sent told none why
     none = λ _. refl;
   });
 }
-
--- the lines of a keeper are legal, and no lines where there is none
-pub kept_legal : {K : Type 0} (lines : K → List Line) (keeper : Option K) → IfSome keeper (λ k. IsLegal (lines k))
-    → IsLegal (lines_kept lines keeper)
-kept_legal lines None legal = nothing
-kept_legal lines (Some keeper) legal = legal

@@ -10,13 +10,12 @@ ghost use Rattle.fl_intake.specs.Ends.{weight_taken};
 ghost use Rattle.fl_intake.specs.Often.{Weight};
 ghost use Rattle.fl_serve.specs.Inside.Hearing.{HasHeard};
 ghost use Rattle.fl_serve.specs.Inside.Working.{HasAll, HaveDone, IsFresh};
-ghost use Rattle.fl_serve.specs.Kept.{came_to};
+ghost use Rattle.fl_session.specs.Kept.{came_to};
 ghost use Rattle.fl_serve.specs.Serve.{HasNoHistory, IsServedBy};
 
 mod crew;
 mod hearing;
 
-use crate::kept::Kept;
 use crate::serving::crew::{Back, Crew, Posts};
 use crate::serving::hearing::Heard;
 use fl_board::{Board, BoardName, FreshLog, OpenFault, Seat};
@@ -25,7 +24,7 @@ use fl_history::Lines;
 use fl_intake::{Intake, Job, PutEnd};
 use fl_keeper::Keeper;
 use fl_order::NoMemory;
-use fl_session::{Done, Fault, Inbox, Owed, ReplyBuffer};
+use fl_session::{Done, Fault, Inbox, Kept, Owed, ReplyBuffer};
 use fl_workers::{Gate, Shared, WriterName, handle_all};
 use std::alloc::Global;
 use std::io::{Read, Write};

@@ -1,8 +1,9 @@
 -- A stream that is cut into messages: what is read, and what is taken of it.
-use Rattle.std.proofs.Common.{◌≡◌, ℕ, ◌+◌, ◌-◌, ◌≤◌, Bool, true, false, nat_lt, if◌then◌else◌, List, [], ◌∷◌, ◌++◌, length, take, drop, map, Option, refl, sym, zero, suc, ap, subst, ◌∙◌, arith, append_assoc, length-append, length-drop, length-take, take-add, drop-drop}
+use Rattle.std.proofs.Common.{◌≡◌, ℕ, ◌+◌, ◌-◌, ◌≤◌, Bool, true, false, nat_lt, if◌then◌else◌, List, [], ◌∷◌, ◌++◌, length, take, drop, map, Option, refl, sym, zero, suc, ap, subst, ◌∙◌, arith, append_assoc, append-nil, length-append, length-drop, length-take, take-add, drop-drop}
 use Rattle.std.specs.List.{concat}
 use Rattle.std.proofs.lemmas.List.{drop-take, map-append, same_from_push}
 use Rattle.std.proofs.lemmas.List.Elements.{All-nil, All-push}
+use Rattle.std.proofs.lemmas.List.Folds.{concat-append}
 use Rattle.std.proofs.KnownBytes.{Consumes-nil, Consumes-trans, Consumes-kept, Keeps-refl}
 use Rattle.std.specs.Io.KnownBytes.{Consumes, Keeps}
 use Rattle.fl_wire.specs.Cut.{first_step}
@@ -10,10 +11,15 @@ use Rattle.fl_wire.specs.Frame.{IsMessage}
 use Rattle.fl_wire.specs.Layout.{len_of}
 use Rattle.fl_wire.specs.Stream.{IsCut}
 use Rattle.fl_wire.specs.declared.cut.Step.TheVariants.{Whole, More, Bad}
-use Rattle.fl_session.proofs.SendLemmas.{concat_one}
 use Rattle.fl_session.specs.Inbox.{IsUnread, Inflow, ReadsOn, Takes}
 use Rattle.fl_session.specs.Served.{IsRead}
 use Rattle.fl_session.specs.Session.{Came, session_of}
+
+-- one list more
+concat_one : (messages : List (List ℕ)) (message : List ℕ)
+    → concat (messages ++ message ∷ []) ≡ concat messages ++ message
+concat_one messages message = concat-append messages (message ∷ [])
+    ∙ ap (λ bytes. concat messages ++ bytes) (append-nil message)
 
 -- nothing was read
 pub nothing_read : (left left_now : Option (List ℕ)) → Keeps left left_now → IsRead left left_now [] []

@@ -11,7 +11,7 @@ use Rattle.fl_session.specs.declared.server.Talk.{Talk}
 use Rattle.fl_wire.specs.Layout.{unique_of}
 
 -- an order is taken
-pub met_order : (old new : Server) (talk : Talk) (order : Order) (owed : List (List ℕ)) (message : List ℕ)
+pub met_order : {K : Type 0} (old new : Server K) (talk : Talk) (order : Order) (owed : List (List ℕ)) (message : List ℕ)
     → old.talk.over ≡ false → IsHeard (met.Order order) old.talk talk message
     → IsMetAs (record old { talk = talk }) new owed (unique_of message) (Ok order)
     → IsMet old new owed message
@@ -26,7 +26,7 @@ met_order old new talk order owed message live heard taken =
     }
 
 -- the session itself answers
-pub met_owed : (old : Server) (talk : Talk) (owed : Owed) (message : List ℕ)
+pub met_owed : {K : Type 0} (old : Server K) (talk : Talk) (owed : Owed) (message : List ℕ)
     → IsHeard (met.Owed owed) old.talk talk message
     → IsMet old (record old { talk = talk }) (bytes_of owed) message
 met_owed old talk owed message heard = record {

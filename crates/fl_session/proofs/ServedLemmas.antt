@@ -1,13 +1,16 @@
 -- What a whole session did.
-use Rattle.std.proofs.Common.{◌≡◌, ℕ, Bool, false, List, [], Option, Some, refl, sym, ap, subst, ◌∙◌, arith}
+use Rattle.std.proofs.Common.{◌≡◌, ℕ, Bool, true, false, List, [], Option, None, Some, refl, sym, ap, subst, append-nil, ◌∙◌, arith}
 use Rattle.std.proofs.lemmas.List.Elements.{All-nil}
 use Rattle.std.proofs.KnownBytes.{Appends-nil}
 use Rattle.fl_desk.specs.Legal.{IsLegal, nothing}
 use Rattle.fl_history.specs.declared.history.Line.{Line}
 use Rattle.fl_wire.specs.Spell.{IsReply}
-use Rattle.fl_session.specs.Served.{IsRead, IsServed, EndsBy}
+use Rattle.fl_session.specs.Collecting.{AreGiven}
+use Rattle.fl_session.specs.Served.{AreSent, IsRead, IsServed, EndsBy}
 use Rattle.fl_session.specs.Session.{Came, session_of}
 use Rattle.fl_session.specs.Inbox.{IsEnding}
+use Rattle.fl_session.specs.Kept.{lines_kept}
+use Rattle.std.specs.Prelude.{IfSome}
 use Rattle.fl_session.specs.Inside.UnderWay.{HasEnded}
 use Rattle.fl_session.specs.declared.session.Done.{Done}
 use Rattle.fl_session.specs.declared.session.Fault.{Fault}
@@ -18,9 +21,16 @@ use Rattle.fl_session.specs.declared.server.Server.{Server}
 pub nothing_legal : (history : List Line) → history ≡ [] → IsLegal history
 nothing_legal history none = subst IsLegal (sym none) nothing
 
+-- where nothing waits, all bytes of the replies were written, or a beginning of them
+all_sent : (broken : Bool) (sent : List ℕ) (replies : List (List ℕ)) → AreGiven broken sent [] replies
+    → AreSent broken sent replies
+all_sent true sent replies given = given
+all_sent false sent replies given = sym (append-nil sent) ∙ given
+
 -- a session that ended is served
-pub served : (left left_now held held_now : Option (List ℕ)) (broken : Bool) (server : Server) (fault : Option Fault)
-    (done : Done) → HasEnded left left_now held held_now broken server fault → done.history ≡ server.desk.lines
+pub served : {K : Type 0} (left left_now held held_now : Option (List ℕ)) (broken : Bool) (server : Server K)
+    (fault : Option Fault) (done : Done) → HasEnded left left_now held held_now [] broken server fault
+    → done.history ≡ server.desk.lines
     → ((came : List Came) (rest : List ℕ) (left : Option (List ℕ)) → IsEnding fault (session_of came).over rest left
     → EndsBy done.fault broken came rest left) → done.refused ≡ server.refused
     → IsServed left left_now held held_now broken done
@@ -30,14 +40,14 @@ served left left_now held held_now broken server fault done ended history told r
     record {
       came = way.came;
       rest = ended.rest;
-      sent = way.sending.sent;
+      sent = way.given.sent;
       is_read = way.is_read;
       bounded = ended.bounded;
       history = history ∙ ap (λ s. s.lines) way.stands;
       refused = refused ∙ ap (λ s. s.refused) way.stands;
-      framed = way.sending.framed;
-      written = way.sending.written;
-      are_sent = way.sending.are_sent;
+      framed = way.given.framed;
+      written = way.given.written;
+      are_sent = all_sent broken way.given.sent (session_of way.came).replies way.given.are_given;
       ending = told way.came ended.rest left_now (subst P (ap (λ s. s.over) way.stands) ended.ending);
     }
 
@@ -57,3 +67,9 @@ unserved left held done history fault refused unread = record {
   are_sent = refl;
   ending = rw fault (refl, refl);
 }
+
+-- the lines of a keeper are legal, and no lines where there is none
+pub kept_legal : {K : Type 0} (lines : K → List Line) (keeper : Option K) → IfSome keeper (λ k. IsLegal (lines k))
+    → IsLegal (lines_kept lines keeper)
+kept_legal lines None legal = nothing
+kept_legal lines (Some keeper) legal = legal

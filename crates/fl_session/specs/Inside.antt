@@ -1,4 +1,3 @@
 -- What a session keeps while it is under way. No contract of a public function cites these definitions.
-pub mod Sending
 pub mod Serving
 pub mod UnderWay

@@ -1,5 +1,7 @@
+pub mod Collecting
 pub mod Inbox
 pub mod Inside
+pub mod Kept
 pub mod Outbox
 pub mod Served
 pub mod Session

@@ -1,41 +1,46 @@
 //! How a session reads its stream, and answers one message after another.
 
-ghost use Rattle.std.specs.Prelude.{◌≡◌, false};
+ghost use Rattle.std.specs.Prelude.{◌≡◌, ℕ, Option, List, [], false};
 ghost use Rattle.fl_session.specs.Inbox.{IsUnread};
 ghost use Rattle.fl_session.specs.Inside.Serving.{IsFresh};
-ghost use Rattle.fl_session.specs.Inside.UnderWay.{HasEnded};
+ghost use Rattle.fl_session.specs.Inside.UnderWay.{HasEnded, Rests};
+ghost use Rattle.fl_session.specs.Outbox.{is_broken, writer_of};
 
+use crate::batch::Batch;
 use crate::inbox::{Filled, Inbox};
-use crate::mail::Mail;
 use crate::server::Server;
 use crate::session::Fault;
+use fl_keeper::Keeper;
 use fl_wire::Step;
 use std::io::{Read, Write};
 
-/// Reads and answers until the session ends, and tells the fault of its reader, if any.
-pub(crate) fn answer_all<R: Read, W: Write>(
+/// Reads and answers until the session ends, and tells the fault of its reader, if any. Replies that didn't go out yet
+/// are left in the batch.
+pub(crate) fn answer_all<R: Read, W: Write, K: Keeper>(
     r: &mut R,
     inbox: &mut Inbox,
-    server: &mut Server,
-    mail: &mut Mail<'_, W>,
+    server: &mut Server<K>,
+    batch: &mut Batch<'_, W>,
 ) -> Option<Fault>
     requires unread { IsUnread inbox.old }
     requires fresh { IsFresh server.old }
-    requires whole { mail.old.out.broken ≡ false }
-    ensures same { mail.new.out.writer.ghost_name ≡ mail.old.out.writer.ghost_name }
+    requires whole { is_broken batch.old.out ≡ false }
+    requires empty { batch.old.replies ≡ [] }
+    ensures same { (writer_of batch.new.out).ghost_name ≡ (writer_of batch.old.out).ghost_name }
     ensures ended { HasEnded (R.remaining r.old) (R.remaining r.new)
-        (W.contents mail.old.out.writer.now) (W.contents mail.new.out.writer.now)
-        mail.new.out.broken server.new result }
+        (W.contents (writer_of batch.old.out).now) (W.contents (writer_of batch.new.out).now)
+        batch.new.replies (is_broken batch.new.out) server.new result }
 {
     while !server.talk.over {
         match inbox.next() {
             Step::Whole(frame) => {
-                server.answer(mail, &frame);
+                server.answer(batch, &frame);
                 let len = frame.as_bytes().len();
                 inbox.skip(len);
             }
             Step::Bad(len) => return Some(Fault::BadLength(len)),
             Step::More => {
+                rest(server, batch);
                 if let Filled::End(fault) = inbox.fill(r) {
                     return fault;
                 }
@@ -43,4 +48,17 @@ pub(crate) fn answer_all<R: Read, W: Write>(
         }
     }
     None
+}
+
+// No whole message is at hand, and the next read may wait for one: what is collected goes out, and then what the keeper
+// holds back.
+fn rest<W: Write, K: Keeper>(server: &mut Server<K>, batch: &mut Batch<'_, W>)
+    ensures same { (writer_of batch.new.out).ghost_name ≡ (writer_of batch.old.out).ghost_name }
+    ensures over { server.new.talk.over ≡ server.old.talk.over }
+    ensures rests { Rests server.old server.new
+        (W.contents (writer_of batch.old.out).now) (W.contents (writer_of batch.new.out).now)
+        batch.old.replies batch.new.replies (is_broken batch.old.out) (is_broken batch.new.out) }
+{
+    batch.flush();
+    server.desk.pause();
 }

@@ -3,14 +3,18 @@
 #![tactic(auto)]
 
 mod answering;
+mod batch;
 mod inbox;
-mod mail;
+mod kept;
 mod outbox;
+mod reply_buffer;
 mod server;
 mod session;
 
+pub use batch::Batch;
 pub use inbox::{Filled, Inbox};
-pub use mail::ReplyBuffer;
+pub use kept::Kept;
 pub use outbox::{Broken, Outbox};
+pub use reply_buffer::ReplyBuffer;
 pub use server::{Met, Owed, Talk};
-pub use session::{Done, Ended, Fault, run_one, run_session};
+pub use session::{Done, Ended, Fault, run_one, run_over, run_session};

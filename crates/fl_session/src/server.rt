@@ -1,18 +1,19 @@
 //! What a session does with each message, apart from reading it.
 
-ghost use Rattle.std.specs.Prelude.{◌≡◌, ℕ, true, false, IfOk, if◌then◌else◌};
+ghost use Rattle.std.specs.Prelude.{◌≡◌, ℕ, [], true, false, IfOk, if◌then◌else◌};
 ghost use Rattle.fl_order.specs.OpKind.{is_silent, kind_of_opcode};
 ghost use Rattle.fl_session.specs.Session.{Session, before_init, without_memory};
 ghost use Rattle.fl_session.specs.Inside.Serving.{IsFresh, IsHeardAs};
 ghost use Rattle.fl_session.specs.Inside.UnderWay.{IsAnswered, IsAnsweredAs};
+ghost use Rattle.fl_session.specs.Outbox.{is_broken, writer_of};
 ghost use Rattle.fl_session.specs.Talk.{answered, bytes_of, goodbye_to, standing, IsHeard};
 ghost use Rattle.fl_wire.specs.Layout.{opcode_of, unique_of};
 ghost use Rattle.fl_wire.specs.Says.{said};
 
-use crate::mail::Mail;
+use crate::batch::Batch;
 use fl_core::Tolds;
 use fl_desk::Desk;
-use fl_history::History;
+use fl_keeper::Keeper;
 use fl_order::{Answer, Errno, NoMemory, OpKind, Order, Refusal, Told};
 use fl_wire::{Frame, InitStep, read_init, read_order};
 use std::alloc::Global;
@@ -120,63 +121,59 @@ impl Talk {
     }
 }
 
-/// The lock directory of a session, and how far the session is.
+/// The lock directory of a session, and how far the session is. Its lines go to a keeper.
 #[derive(Drop)]
-pub(crate) struct Server {
-    pub desk: Desk,
+pub(crate) struct Server<K: Keeper> {
+    pub desk: Desk<K>,
     pub tolds: Tolds,
     pub talk: Talk,
     /// Some order was refused for want of memory.
     pub refused: bool,
 }
 
-impl Server {
-    /// No message came yet.
-    pub(crate) fn new(alloc: Global) -> Result<Server, NoMemory>
+impl<K: Keeper> Server<K> {
+    /// No message came yet, and the keeper has no line.
+    pub(crate) fn new(alloc: Global, keeper: K) -> Result<Server<K>, NoMemory>
+    where
+        K: Drop,
+        requires none { K.lines keeper ≡ [] }
         ensures { IfOk result IsFresh }
     {
         Ok(Server {
-            desk: Desk::new(alloc)?,
+            desk: Desk::over(alloc, keeper)?,
             tolds: Tolds::new(alloc)?,
             talk: Talk::new(),
             refused: false,
         })
     }
 
-    /// The history of the orders that it took.
-    pub(crate) fn into_history(self) -> History
-        ensures { result ≡ self.desk.lines }
-    {
-        let Server { desk, .. } = self;
-        desk.into_history()
-    }
-
     /// Answers a message of a session that isn't over.
-    pub(crate) fn answer<W: Write>(&mut self, mail: &mut Mail<'_, W>, frame: &Frame)
+    pub(crate) fn answer<W: Write>(&mut self, batch: &mut Batch<'_, W>, frame: &Frame)
         requires { self.old.talk.over ≡ false }
-        ensures same { mail.new.out.writer.ghost_name ≡ mail.old.out.writer.ghost_name }
+        ensures same { (writer_of batch.new.out).ghost_name ≡ (writer_of batch.old.out).ghost_name }
         ensures answered { IsAnswered self.old self.new
-            (W.contents mail.old.out.writer.now) (W.contents mail.new.out.writer.now)
-            mail.old.out.broken mail.new.out.broken frame.now }
+            (W.contents (writer_of batch.old.out).now) (W.contents (writer_of batch.new.out).now)
+            batch.old.replies batch.new.replies (is_broken batch.old.out) (is_broken batch.new.out) frame.now }
     {
         match self.talk.meet(frame) {
-            Met::Order(order) => self.take(mail, &order),
-            Met::Owed(owed) => mail.send(&owed),
+            Met::Order(order) => self.take(batch, &order),
+            Met::Owed(owed) => batch.collect(&owed),
         }
     }
 
-    // Takes an order of worker 0, and sends its replies.
-    fn take<W: Write>(&mut self, mail: &mut Mail<'_, W>, order: &Order)
-        ensures same { mail.new.out.writer.ghost_name ≡ mail.old.out.writer.ghost_name }
+    // Takes an order of worker 0, and collects its replies.
+    fn take<W: Write>(&mut self, batch: &mut Batch<'_, W>, order: &Order)
+        ensures same { (writer_of batch.new.out).ghost_name ≡ (writer_of batch.old.out).ghost_name }
         ensures answered { (unique : ℕ) → IsAnsweredAs self.old self.new
-            (W.contents mail.old.out.writer.now) (W.contents mail.new.out.writer.now)
-            mail.old.out.broken mail.new.out.broken unique (Ok order.now) }
+            (W.contents (writer_of batch.old.out).now) (W.contents (writer_of batch.new.out).now)
+            batch.old.replies batch.new.replies (is_broken batch.old.out) (is_broken batch.new.out)
+            unique (Ok order.now) }
     {
         match self.desk.take(0, order, &mut self.tolds) {
-            Ok(()) => mail.send(&Owed::Replies(self.tolds.as_slice())),
+            Ok(()) => batch.collect(&Owed::Replies(self.tolds.as_slice())),
             Err(NoMemory) => {
                 self.refused = true;
-                mail.send(&Owed::lost(order.op.kind(), order.unique));
+                batch.collect(&Owed::lost(order.op.kind(), order.unique));
             }
         }
     }

@@ -1,24 +1,32 @@
 //! A whole session of the FUSE protocol with one worker, over any reader and any writer.
 
-ghost use Rattle.std.specs.Prelude.{◌≡◌, ℕ, Bool, false, List, [], Option, None, Some, IfOk, IsSome, if◌then◌else◌};
+ghost use Rattle.std.specs.Prelude.{◌≡◌, ◌⊎◌, ℕ, Bool, false, List, [], Option, None, Some, IfOk, IfSome, IsSome, if◌then◌else◌};
 ghost use Rattle.std.specs.Io.KnownBytes.{Keeps};
 ghost use Rattle.fl_desk.specs.Legal.{IsLegal};
+ghost use Rattle.fl_session.specs.Kept.{came_to};
 ghost use Rattle.fl_session.specs.Served.{EndsBy, IsRead, IsServed};
 ghost use Rattle.fl_session.specs.Session.{Came, session_of};
 ghost use Rattle.fl_session.specs.Inbox.{IsEnding, IsUnread};
 ghost use Rattle.fl_session.specs.Inside.Serving.{IsFresh};
 ghost use Rattle.fl_session.specs.Inside.UnderWay.{HasEnded};
+ghost use Rattle.fl_session.specs.Outbox.{is_broken, writer_of};
 
 use crate::answering::answer_all;
+use crate::batch::Batch;
 use crate::inbox::Inbox;
-use crate::mail::{Mail, ReplyBuffer};
+use crate::kept::Kept;
 use crate::outbox::Outbox;
+use crate::reply_buffer::ReplyBuffer;
 use crate::server::Server;
-use fl_history::History;
+use fl_history::{History, Lines};
+use fl_keeper::Keeper;
 use fl_order::NoMemory;
 use std::alloc::Global;
 use std::io::{Read, Write};
 use thiserror::Error;
+
+// The most bytes of replies that go out together.
+const BATCH_BYTES: usize = 4096;
 
 /// Why a session ended before its stream did. Its text is the line on standard error.
 #[derive(Clone, Copy, Debug, PartialEq, Eq, Error)]
@@ -99,9 +107,10 @@ pub struct Ended {
     pub broken: bool,
 }
 
-/// Serves a whole session: each message is answered when it is whole, and each reply goes out by itself. Its
-/// memory for reading and for a reply is made before the first read. A read that fails ends it, and so does a
-/// DESTROY after an INIT is agreed. After a write that failed it goes on, and writes no more.
+/// Serves a whole session in this thread: each message is answered when it is whole. Replies are collected, and go out
+/// together where their room is full, before each read, and at the end. All memory but that of the history is made before
+/// the first read. A read that fails ends the session, and so does a DESTROY after an INIT is agreed. After a write that
+/// failed it goes on, and writes no more.
 pub fn run_one<R: Read, W: Write>(alloc: Global, r: &mut R, w: &mut W) -> Done
     ensures { (broken : Bool)
         × IsServed (R.remaining r.old) (R.remaining r.new) (W.contents w.old) (W.contents w.new) broken result }
@@ -115,55 +124,102 @@ pub fn run_session<R: Read, W: Write>(alloc: Global, r: &mut R, w: &mut W) -> En
     ensures { IsServed (R.remaining r.old) (R.remaining r.new) (W.contents w.old) (W.contents w.new)
         result.broken result.done }
 {
-    let Ok((mut inbox, server, reply)) = memory(alloc) else {
-        return Ended {
-            done: Done::nothing(alloc, Fault::NoMemory),
-            broken: false,
-        };
+    let (kept, broken) = run_over(alloc, r, w, Lines::new(alloc));
+    let done = kept.into_done(alloc);
+    Ended { done, broken }
+}
+
+/// The same, but its lines go to this keeper, which has none so far. The keeper comes back with them, but at `NoMemory`,
+/// where it is let go and nothing was read. It is told before each read that no order is at hand.
+pub fn run_over<R: Read, W: Write, K: Keeper + Drop>(
+    alloc: Global,
+    r: &mut R,
+    w: &mut W,
+    keeper: K,
+) -> (Kept<K>, bool)
+    requires none { K.lines keeper ≡ [] }
+    ensures served { IsServed (R.remaining r.old) (R.remaining r.new) (W.contents w.old) (W.contents w.new)
+        result.1 (came_to K.lines result.0.keeper result.0.fault result.0.refused) }
+    ensures legal { IfSome result.0.keeper (λ keeper. IsLegal (K.lines keeper)) }
+    ensures back { IsSome result.0.keeper ⊎ (result.0.fault ≡ Some Fault.NoMemory) }
+    ensures nothing { result.0.fault ≡ Some Fault.NoMemory
+        → (result.0.keeper ≡ None) × Keeps (R.remaining r.old) (R.remaining r.new) }
+{
+    let Ok((mut inbox, server, replies)) = memory(alloc, keeper) else {
+        return (Kept::nothing(alloc, Fault::NoMemory), false);
     };
-    let (server, fault, broken) = run(r, w, &mut inbox, server, reply);
-    let refused = server.refused;
-    let done = Done {
-        history: server.into_history(),
+    let (server, fault, broken) = run(r, w, &mut inbox, server, replies);
+    let Server { desk, refused, .. } = server;
+    let kept = Kept {
+        keeper: Some(desk.into_kept()),
         fault: Fault::told(fault, broken),
         refused,
     };
-    Ended { done, broken }
+    (kept, broken)
 }
 
 // Runs a session with this memory, and tells what its server keeps, its reader's fault, and whether a write
 // failed.
-fn run<R: Read, W: Write>(
+fn run<R: Read, W: Write, K: Keeper>(
     r: &mut R,
     w: &mut W,
     inbox: &mut Inbox,
-    mut server: Server,
-    mut reply: ReplyBuffer,
-) -> (Server, Option<Fault>, bool)
+    mut server: Server<K>,
+    replies: ReplyBuffer,
+) -> (Server<K>, Option<Fault>, bool)
     requires unread { IsUnread inbox.old }
     requires fresh { IsFresh server }
-    ensures { HasEnded (R.remaining r.old) (R.remaining r.new) (W.contents w.old) (W.contents w.new)
+    requires empty { replies ≡ [] }
+    ensures { HasEnded (R.remaining r.old) (R.remaining r.new) (W.contents w.old) (W.contents w.new) []
         result.2 result.0 result.1 }
 {
-    let mut mail = Mail {
-        reply: &mut reply,
+    let mut batch = Batch {
+        replies,
         out: Outbox::new(w),
     };
-    let fault = answer_all(r, inbox, &mut server, &mut mail);
-    let Mail { reply: _, out } = mail;
+    let fault = answer_to_the_end(r, inbox, &mut server, &mut batch);
+    let Batch { replies, out } = batch;
+    // Here, since the proof finds no more what the writer holds where something is dropped behind it.
+    drop(replies);
     let Outbox { writer, broken } = out;
     // No effect at run time: the proof reads here what the writer holds.
     let _ = &*writer;
     (server, fault, broken)
 }
 
-// The memory of a session: a room for a message, the lock directory, and a buffer for a reply.
-fn memory(alloc: Global) -> Result<(Inbox, Server, ReplyBuffer), NoMemory>
+// Answers all messages, sends what is left of their replies, and tells the reader's fault.
+fn answer_to_the_end<R: Read, W: Write, K: Keeper>(
+    r: &mut R,
+    inbox: &mut Inbox,
+    server: &mut Server<K>,
+    batch: &mut Batch<'_, W>,
+) -> Option<Fault>
+    requires unread { IsUnread inbox.old }
+    requires fresh { IsFresh server.old }
+    requires whole { is_broken batch.old.out ≡ false }
+    requires empty { batch.old.replies ≡ [] }
+    ensures same { (writer_of batch.new.out).ghost_name ≡ (writer_of batch.old.out).ghost_name }
+    ensures ended { HasEnded (R.remaining r.old) (R.remaining r.new)
+        (W.contents (writer_of batch.old.out).now) (W.contents (writer_of batch.new.out).now)
+        [] (is_broken batch.new.out) server.new result }
+{
+    let fault = answer_all(r, inbox, server, batch);
+    batch.flush();
+    fault
+}
+
+// The memory of a session: a room for a message, the lock directory, and a room for replies.
+fn memory<K: Keeper + Drop>(
+    alloc: Global,
+    keeper: K,
+) -> Result<(Inbox, Server<K>, ReplyBuffer), NoMemory>
+    requires none { K.lines keeper ≡ [] }
     ensures unread { IfOk result (λ made. IsUnread made.0) }
     ensures fresh { IfOk result (λ made. IsFresh made.1) }
+    ensures empty { IfOk result (λ made. made.2 ≡ []) }
 {
     let inbox = Inbox::new(alloc)?;
-    let server = Server::new(alloc)?;
-    let reply = ReplyBuffer::new(alloc)?;
-    Ok((inbox, server, reply))
+    let server = Server::new(alloc, keeper)?;
+    let replies = ReplyBuffer::with_bytes(alloc, BATCH_BYTES)?;
+    Ok((inbox, server, replies))
 }

@@ -1,4 +1,3 @@
 pub mod AskedLemmas
-pub mod BatchLemmas
 pub mod SharedLemmas
 pub mod WorkedLemmas

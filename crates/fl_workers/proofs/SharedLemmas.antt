@@ -5,11 +5,11 @@ use Rattle.std.proofs.KnownBytes.{Appends-nil}
 use Rattle.std.specs.Io.KnownBytes.{Appends}
 use Rattle.std.specs.List.{concat}
 use Rattle.fl_order.specs.declared.told.Told.{Told}
-use Rattle.fl_workers.specs.Collecting.{Collects}
+use Rattle.fl_session.specs.Collecting.{Collects, IsGiven}
 use Rattle.fl_session.specs.Talk.{bytes_of}
 use Rattle.fl_session.specs.declared.server.Owed.{Owed}
 use Rattle.fl_session.specs.declared.server.Owed.TheVariants.{Nothing, Init, One, Replies}
-use Rattle.fl_workers.specs.Shared.{IsSpelling, told, greeted, HasSent, HasSentLast, IsGiven}
+use Rattle.fl_workers.specs.Shared.{IsSpelling, told, greeted, HasSent, HasSentLast}
 use Rattle.fl_wire.specs.Spell.{spelling_of, IsReply}
 
 -- before the first reply

@@ -1,4 +1,3 @@
 pub mod Asked
-pub mod Collecting
 pub mod Shared
 pub mod Worked

@@ -1,11 +1,11 @@
 -- What workers who share one writer have sent.
-use Rattle.std.specs.Prelude.{◌≡◌, ℕ, Bool, true, false, List, ◌++◌, All, Option}
+use Rattle.std.specs.Prelude.{ℕ, Bool, List, ◌++◌, All, Option}
 use Rattle.std.specs.List.{concat}
 use Rattle.std.specs.Io.KnownBytes.{Appends}
 use Rattle.fl_order.specs.declared.told.Told.{Told}
-use Rattle.fl_session.specs.Served.{IsProperPrefix}
+use Rattle.fl_session.specs.Collecting.{IsGiven}
 use Rattle.fl_wire.specs.Init.{init_spelling}
-use Rattle.fl_wire.specs.Spell.{spelling_of, IsReply}
+use Rattle.fl_wire.specs.Spell.{spelling_of}
 use Rattle.fl_wire.specs.declared.init.InitStep.{InitStep}
 
 -- these are the bytes of some reply, to an order or to an INIT
@@ -19,20 +19,7 @@ pub record Outgoing : Type 0 where
   pub waiting : List ℕ
   pub broken : Bool
 
--- These bytes and those that wait are all bytes of the replies. Where a write failed, these are a beginning of them.
-abbrev pub AreGiven : Bool → List ℕ → List ℕ → List (List ℕ) → Type 0
-AreGiven false sent waiting replies = sent ++ waiting ≡ concat replies
-AreGiven true sent waiting replies = IsProperPrefix sent (concat replies)
-
--- These replies, each of which says its own length, were written behind what the writer held at the start, all but the
--- bytes that wait; where a write failed, a beginning of them.
-pub record IsGiven (start held : Option (List ℕ)) (waiting : List ℕ) (broken : Bool) (replies : List (List ℕ)) : Type 0 where
-  pub sent : List ℕ
-  pub written : Appends start held sent
-  pub are_given : AreGiven broken sent waiting replies
-  pub framed : All IsReply replies
-
--- the same of some replies
+-- some replies were given, each that to an order or to an INIT
 pub record HasSent (start held : Option (List ℕ)) (waiting : List ℕ) (broken : Bool) : Type 0 where
   pub replies : List (List ℕ)
   pub each : All IsSpelling replies

@@ -1,7 +1,6 @@
 //! What the workers of a session do with its orders, and how they share one writer.
 #![tactic(auto)]
 
-mod batch;
 mod counter;
 mod shared;
 mod worker;

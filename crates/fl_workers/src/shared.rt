@@ -1,12 +1,11 @@
 //! The replies of a session whose workers share one writer.
 
 ghost use Rattle.std.specs.Prelude.{◌≡◌, [], false};
-ghost use Rattle.fl_workers.specs.Collecting.{Collects};
+ghost use Rattle.fl_session.specs.Collecting.{Collects};
 ghost use Rattle.fl_workers.specs.Shared.{HasSent, HasSentLast};
 ghost use Rattle.fl_session.specs.Talk.{bytes_of};
 
-use crate::batch::Batch;
-use fl_session::{Outbox, Owed, ReplyBuffer};
+use fl_session::{Batch, Outbox, Owed, ReplyBuffer};
 use std::io::Write;
 use std::marker::{Brand, Model, PhantomData};
 

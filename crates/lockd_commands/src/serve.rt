@@ -1,9 +1,10 @@
 //! `lockd serve`: one session over a socket, with workers.
 
-ghost use Rattle.std.specs.Prelude.{◌≡◌, ◌≢◌, ◌⊎◌, ◌≤◌, ◌<◌, [], Err, IfErr};
+ghost use Rattle.std.specs.Prelude.{◌≡◌, ◌≢◌, ◌⊎◌, ◌≤◌, ◌<◌, [], Err, Some, IfErr, IfSome, IsSome};
 ghost use Rattle.std.specs.Io.KnownBytes.{Keeps};
 ghost use Rattle.std.specs.Path.{path_bytes};
 ghost use Rattle.fl_desk.specs.Legal.{IsLegal};
+ghost use Rattle.fl_session.specs.declared.session.Fault.{Fault as SessionFault};
 ghost use Rattle.lockd_commands.specs.Serve.{IsTraced, IsOfNoSession, IsOfSession};
 ghost use Rattle.lockd_commands.specs.Serve.Inside.{Did, TellsOf};
 ghost use Rattle.lockd_commands.specs.Faults.{IsOfServe};
@@ -12,8 +13,8 @@ ghost use Rattle.lockd_faults.specs.declared.fault.Fault.{Fault};
 
 mod traced;
 
-use fl_book::print_trace;
-use fl_serve::{Done, OpenGate};
+use fl_book::{Keeper, Lines, print_trace};
+use fl_serve::{Done, Kept, OpenGate, run_over, serve_over};
 use lockd_faults::{Fault, Status, end, write_all};
 use std::alloc::Global;
 use std::fs;
@@ -66,9 +67,32 @@ fn serve_and_print<R: Threads + Wait + Net + Files + Sync, W: Write>(
     ensures unnamed { path_bytes path.entry ≡ [] → result ≡ Err Fault.Listen }
 {
     let stream = connection(rt, path)?;
-    let done = fl_serve::serve(rt, alloc, &mut &stream, &mut &stream, workers, &OpenGate);
+    let done = served(rt, alloc, &stream, workers, Lines::new(alloc)).into_done(alloc);
     drop(stream);
     print_done(alloc, &done, output)
+}
+
+// Serves a session over a connection, whose lines go to this keeper. One worker serves it all in this thread.
+fn served<R: Threads + Wait + Sync, K: Keeper + Send + Drop>(
+    rt: &R,
+    alloc: Global,
+    stream: &UnixStream,
+    workers: u32,
+    keeper: K,
+) -> Kept<K>
+    requires workers { (0 < workers) × (workers ≤ 16) }
+    requires none { K.lines keeper ≡ [] }
+    ensures legal { IfSome result.keeper (λ keeper. IsLegal (K.lines keeper)) }
+    ensures back { IsSome result.keeper
+        ⊎ (result.fault ≡ Some SessionFault.NoMemory) ⊎ (result.fault ≡ Some SessionFault.NoReader) }
+{
+    let mut r = stream;
+    let mut w = stream;
+    if workers == 1 {
+        let (kept, _) = run_over(alloc, &mut r, &mut w, keeper);
+        return kept;
+    }
+    serve_over(rt, alloc, &mut r, &mut w, workers, &OpenGate, keeper)
 }
 
 // Writes the trace of a session, and then tells its fault.

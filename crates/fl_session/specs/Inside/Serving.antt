@@ -17,7 +17,7 @@ IsHeardAs (met.Owed owed) old new unique says = (s : Session) (refused : Bool)
     → standing (answered s (bytes_of owed)) new ≡ after_init (standing s old) refused unique says
 
 -- the session that a server keeps, and that got these replies
-abbrev pub session_with : Server → List (List ℕ) → Session
+abbrev pub session_with : {K : Type 0} → Server K → List (List ℕ) → Session
 session_with server replies =
     record {
       agreed = server.talk.agreed;
@@ -28,20 +28,20 @@ session_with server replies =
     }
 
 -- no message came yet
-pub record IsFresh (server : Server) : Type 0 where
+pub record IsFresh {K : Type 0} (server : Server K) : Type 0 where
   pub agreed : server.talk.agreed ≡ false
   pub over : server.talk.over ≡ false
   pub refused : server.refused ≡ false
   pub lines : server.desk.lines ≡ []
 
 -- a message is answered, whatever was answered before
-pub record IsMet (old new : Server) (owed : List (List ℕ)) (message : List ℕ) : Type 0 where
+pub record IsMet {K : Type 0} (old new : Server K) (owed : List (List ℕ)) (message : List ℕ) : Type 0 where
   pub refused : Bool
   pub is : (replies : List (List ℕ)) → session_with new (replies ++ owed)
       ≡ with_message (session_with old replies) (record { message = message; refused = refused })
 
 -- the same of a message that says this, after an INIT is agreed
-pub record IsMetAs (old new : Server) (owed : List (List ℕ)) (unique : ℕ) (says : Result Order Refusal) : Type 0 where
+pub record IsMetAs {K : Type 0} (old new : Server K) (owed : List (List ℕ)) (unique : ℕ) (says : Result Order Refusal) : Type 0 where
   pub refused : Bool
   pub is : (replies : List (List ℕ)) → session_with new (replies ++ owed)
       ≡ after_init (session_with old replies) refused unique says

@@ -1,7 +1,9 @@
 //! Sessions with one worker, over memory.
 
 mod around;
+mod collected;
 mod faults;
+mod keepers;
 mod once;
 mod traced;
 mod waiting;

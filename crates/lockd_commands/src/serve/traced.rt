@@ -11,9 +11,9 @@ ghost use Rattle.lockd_commands.specs.Serve.{HasBegun, HasTrace};
 ghost use Rattle.lockd_faults.specs.Faults.{AreBothTold, IsTold};
 ghost use Rattle.lockd_faults.specs.declared.fault.Fault.{Fault};
 
-use super::connection;
+use super::{connection, served};
 use fl_book::{Forgetful, Keeper, Streamed, WhenWriterFails};
-use fl_serve::{Kept, OpenGate, serve_over};
+use fl_serve::Kept;
 use lockd_faults::{Fault, Status, end, tell};
 use std::alloc::Global;
 use std::fs::{Files, OpenOptions};
@@ -103,15 +103,7 @@ fn serve_untraced<R: Threads + Wait + Net + Files + Sync>(
     ensures unnamed { path_bytes path.entry ≡ [] → result ≡ Err Fault.Listen }
 {
     let connected = connection(rt, path)?;
-    let kept = serve_over(
-        rt,
-        alloc,
-        &mut &connected,
-        &mut &connected,
-        workers,
-        &OpenGate,
-        Forgetful::new(),
-    );
+    let kept = served(rt, alloc, &connected, workers, Forgetful::new());
     told_of(kept.fault)
 }
 
@@ -133,15 +125,7 @@ fn serve_traced<R: Threads + Wait + Net + Files + Sync, W: Write + Send + Drop>(
 {
     let stream = Streamed::new(alloc, trace, full)?;
     let connected = connection(rt, path)?;
-    Ok(serve_over(
-        rt,
-        alloc,
-        &mut &connected,
-        &mut &connected,
-        workers,
-        &OpenGate,
-        stream,
-    ))
+    Ok(served(rt, alloc, &connected, workers, stream))
 }
 
 // How a session ended.

@@ -4,7 +4,7 @@ use Rattle.std.proofs.lemmas.List.{length-map}
 use Rattle.std.proofs.lemmas.List.FromFn.{length-range_with_len}
 use Rattle.fl_board.specs.Seats.{Place}
 use Rattle.fl_serve.proofs.ServingLemmas.{nothing_sent, served_by, unserved}
-use Rattle.fl_serve.specs.Kept.{lines_kept}
+use Rattle.fl_session.specs.Kept.{lines_kept}
 use Rattle.fl_session.specs.declared.session.Fault.TheVariants.{NoMemory}
 use Rattle.fl_serve.proofs.serving.serve_at.Goals as goal
 

@@ -6,11 +6,11 @@ use Rattle.fl_session.proofs.answering.answer_all.Given as goal
 -- what was read so far is answered, but for what is left in the inbox
 abbrev pub invariant-loop-server : goal.invariant-loop-server
 invariant-loop-server g l = record {
-  same : l.mail.out.writer.ghost_name ≡ l.initial.mail.out.writer.ghost_name;
+  same : l.batch.out.writer.ghost_name ≡ l.initial.batch.out.writer.ghost_name;
   bounded : length l.inbox.rest ≤ 8192;
   way : IsUnderWay (g.R.Read.remaining l.initial.r) (g.R.Read.remaining l.r)
-      (g.W.Write.contents l.initial.mail.out.writer.now) (g.W.Write.contents l.mail.out.writer.now) l.mail.out.broken
-      l.server l.inbox.rest;
+      (g.W.Write.contents l.initial.batch.out.writer.now) (g.W.Write.contents l.batch.out.writer.now) l.batch.replies
+      l.batch.out.broken l.server l.inbox.rest;
 }
 
 abbrev pub decreases-loop-server : goal.decreases-loop-server

@@ -1,10 +1,10 @@
 //! The worked session with one read or one write that is interrupted. It isn't tried again: the session takes it as any
 //! other that fails.
 
-use super::super::{count_is, fault_is};
+use super::super::{MANY, count_is, fault_is};
 use super::faults::{is_sent, replies, sent_after, stream};
 use fl_session::{Fault, run_one, run_session};
-use fl_testing::{Hiccup, Stumble};
+use fl_testing::{Hiccup, Source, Stumble};
 use std::alloc::Global;
 use std::io::ErrorKind;
 use std::process::Abort;
@@ -35,9 +35,14 @@ fn a_read_is_interrupted_once(rt: HostRuntime) {
     }
 }
 
-// So many replies go out, each with a write, before the write that is interrupted, and no write comes behind it.
+// So many replies go out, each with a write, since a read gives 29 bytes, before the write that is interrupted. No write
+// comes behind it.
 fn ends_by_the_write(rt: &impl Abort, alloc: Global, stream: &[u8], writes: usize) -> Vec<u8> {
-    let mut input = stream;
+    let mut input = Source {
+        bytes: stream,
+        most: 29,
+        reads: MANY,
+    };
     let mut output = Hiccup::new(alloc, writes, ErrorKind::Interrupted);
     let ended = run_session(alloc, &mut input, &mut output);
     fault_is(rt, ended.done.fault, Some(Fault::Write));

@@ -10,12 +10,12 @@ returns-in-Order-clause-answered g c =
       owed = taken.owed;
       met = met_order c.args.self.now c.take.new.self c.meet.new.self c.in-Order.order taken.owed c.args.frame.now c.requires
           c.in-Order.ensures.heard taken.met;
-      sent = taken.sent;
+      collected = taken.collected;
     }
 
 pub returns-in-Owed-clause-answered : goal.returns-in-Owed-clause-answered
 returns-in-Owed-clause-answered g c = record {
   owed = bytes_of c.in-Owed.owed;
   met = met_owed c.args.self.now c.meet.new.self c.in-Owed.owed c.args.frame.now c.in-Owed.ensures.heard;
-  sent = c.send.ensures.sent;
+  collected = c.collect.ensures.collected;
 }

@@ -1,0 +1,13 @@
+use Rattle.std.proofs.Common.{ap, refl}
+use Rattle.std.proofs.KnownBytes.{Keeps-refl}
+use Rattle.fl_session.proofs.ServedLemmas.{served, unserved}
+use Rattle.fl_session.specs.Kept.{lines_kept}
+use Rattle.fl_session.proofs.session.run_over.Goals as goal
+
+pub returns-in_default-clause-served : goal.returns-in_default-clause-served
+returns-in_default-clause-served g c = unserved _ _ _ (ap (lines_kept g.K.Keeper.lines) c.nothing.ensures.keeper)
+    c.nothing.ensures.fault c.nothing.ensures.refused (c.nothing.ensures.read _ _ (Keeps-refl _))
+
+pub returns-clause-served : goal.returns-clause-served
+returns-clause-served g c = served _ _ _ _ _ _ _ _ c.run-server.ensures c.into_kept.ensures.lines c.told.ensures.ends
+    refl

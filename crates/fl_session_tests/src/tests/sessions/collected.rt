@@ -1,0 +1,118 @@
+//! Replies that are collected: when they go out, and with how many writes.
+
+use super::super::{are_bytes, count_is, fault_is};
+use super::faults::{replies, stream};
+use super::spelled;
+use super::traced::two_locks;
+use fl_session::run_one;
+use fl_testing::Hiccup;
+use std::alloc::Global;
+use std::cell::Cell;
+use std::io;
+use std::io::{ErrorKind, Read, Write};
+use std::process::Abort;
+
+// What comes back to a client.
+#[derive(Drop)]
+struct Told<'a> {
+    bytes: &'a Cell<usize>,
+    held: Vec<u8>,
+    writes: usize,
+}
+
+impl Write for Told<'_> {
+    fn write(&mut self, buf: &[u8]) -> io::Result<usize> {
+        self.held.extend_from_slice(buf)?;
+        self.bytes.set(self.held.len());
+        self.writes = self.writes.saturating_add(1);
+        Ok(buf.len())
+    }
+
+    fn flush(&mut self) -> io::Result<()> {
+        Ok(())
+    }
+}
+
+// The messages of a client that sends none before each reply to those before has come. Where one is late, a read fails.
+#[derive(Drop)]
+struct Asked<'a> {
+    told: &'a Cell<usize>,
+    messages: &'a [u8],
+    sent: usize,
+}
+
+// How long the next message of the worked session is, and how many bytes of replies come before it.
+fn next_message(sent: usize) -> (usize, usize) {
+    match sent {
+        0 => (56, 0),
+        1 => (58, 80),
+        2 => (88, 240),
+        3 => (88, 256),
+        _ => (0, 272),
+    }
+}
+
+impl Read for Asked<'_> {
+    fn read(&mut self, buf: &mut [u8]) -> io::Result<usize> {
+        let (len, owed) = next_message(self.sent);
+        if self.told.get() != owed {
+            return Err(io::Error::from(ErrorKind::TimedOut));
+        }
+        let n = len.min(self.messages.len()).min(buf.len());
+        buf[..n].copy_from_slice(&self.messages[..n]);
+        self.messages = &self.messages[n..];
+        self.sent = self.sent.saturating_add(1);
+        Ok(n)
+    }
+}
+
+#[test]
+fn no_reply_stays_behind_while_its_client_waits(rt: HostRuntime) {
+    let messages = stream(&rt, rt.alloc());
+    let bytes = Cell::new(0);
+    let mut input = Asked {
+        told: &bytes,
+        messages: &messages,
+        sent: 0,
+    };
+    let mut output = Told {
+        bytes: &bytes,
+        held: Vec::new(rt.alloc()),
+        writes: 0,
+    };
+    let done = run_one(rt.alloc(), &mut input, &mut output);
+    fault_is(&rt, done.fault, None);
+    count_is(&rt, output.writes, 4);
+    are_bytes(&rt, &output.held, &replies(&rt, rt.alloc()));
+}
+
+// The first bytes of the worked session, and then those from a place up to another as often as is said.
+fn repeated(alloc: Global, bytes: &[u8], from: usize, to: usize, count: usize) -> Option<Vec<u8>> {
+    let mut all = Vec::new(alloc);
+    all.extend_from_slice(bytes.get(..from)?).ok()?;
+    for _ in 0..count {
+        all.extend_from_slice(bytes.get(from..to)?).ok()?;
+    }
+    Some(all)
+}
+
+// So many messages, the last of which set one lock again and again, come with one read. Says with how many writes their
+// replies went out.
+fn writes_for(rt: &impl Abort, alloc: Global, locks: usize) -> usize {
+    let messages = spelled(rt, alloc, "", two_locks(), "> ");
+    let replies = spelled(rt, alloc, "", two_locks(), "< ");
+    let stream = repeated(alloc, &messages, 114, 202, locks).expect(rt, "memory");
+    let wanted = repeated(alloc, &replies, 240, 256, locks).expect(rt, "memory");
+    let mut input = stream.as_slice();
+    let mut output = Hiccup::new(alloc, usize::MAX, ErrorKind::Other);
+    let done = run_one(alloc, &mut input, &mut output);
+    fault_is(rt, done.fault, None);
+    are_bytes(rt, &output.held, &wanted);
+    output.writes
+}
+
+#[test]
+fn replies_to_what_one_read_gave_go_out_together(rt: HostRuntime) {
+    count_is(&rt, writes_for(&rt, rt.alloc(), 0), 1);
+    count_is(&rt, writes_for(&rt, rt.alloc(), 64), 1);
+}

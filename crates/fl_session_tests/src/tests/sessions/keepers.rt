@@ -1,0 +1,82 @@
+//! A session whose lines go to a keeper of the caller's.
+
+use super::super::{MANY, count_is, fault_is};
+use super::faults::stream;
+use super::is_traced;
+use super::traced::two_locks;
+use fl_history::{History, Lines};
+use fl_keeper::Keeper;
+use fl_order::{NoMemory, Order, Told};
+use fl_session::{Kept, run_over};
+use fl_testing::Source;
+use std::alloc::Global;
+use std::process::Abort;
+
+// Lines in memory, and how often it was told that no order is at hand.
+#[derive(Drop)]
+struct Noted {
+    lines: Lines,
+    pauses: usize,
+}
+
+impl Keeper for Noted {
+    ghost lines = { λ noted. noted.lines.items };
+
+    ghost room = { λ noted. noted.lines.room };
+
+    fn reserve(&mut self, count: usize) -> Result<(), NoMemory> {
+        Ok(self.lines.reserve(count)?)
+    }
+
+    fn push_asked(&mut self, worker: u32, order: &Order) {
+        self.lines.push_asked(worker, order);
+    }
+
+    fn push_told(&mut self, told: &Told) {
+        self.lines.push_told(told);
+    }
+
+    fn pause(&mut self) {
+        self.pauses = self.pauses.saturating_add(1);
+    }
+}
+
+// It is told once before each read.
+fn is_told(rt: &impl Abort, input: &Source<'_>, pauses: usize) {
+    count_is(rt, MANY - input.reads.min(MANY), pauses);
+}
+
+// The worked session comes in pieces of at most so many bytes. Its lines are with the keeper, which is told as often as
+// is said.
+fn keeps(rt: &impl Abort, alloc: Global, most: usize, pauses: usize) {
+    let messages = stream(rt, alloc);
+    let mut input = Source {
+        bytes: &messages,
+        most,
+        reads: MANY,
+    };
+    let mut output: Vec<u8> = Vec::new(alloc);
+    let noted = Noted {
+        lines: Lines::new(alloc),
+        pauses: 0,
+    };
+    let (kept, broken) = run_over(alloc, &mut input, &mut output, noted);
+    let Kept {
+        keeper,
+        fault,
+        refused,
+    } = kept;
+    assert!(rt; !broken && !refused);
+    fault_is(rt, fault, None);
+    let noted = keeper.expect(rt, "a keeper");
+    count_is(rt, noted.pauses, pauses);
+    is_told(rt, &input, pauses);
+    is_traced(rt, alloc, &History::of(noted.lines), two_locks());
+}
+
+// All at once and the stream's end; and 290 bytes in 29 pieces of 10 bytes, and the end.
+#[test]
+fn a_keeper_is_told_before_each_read(rt: HostRuntime) {
+    keeps(&rt, rt.alloc(), MANY, 2);
+    keeps(&rt, rt.alloc(), 10, 30);
+}
