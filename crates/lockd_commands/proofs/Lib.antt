@@ -6,3 +6,4 @@ pub mod ReplyLemmas
 pub mod ScriptLemmas
 pub mod ActionLemmas
 pub mod WriteLemmas
+pub mod CheckLemmas

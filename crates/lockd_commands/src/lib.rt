@@ -12,7 +12,7 @@ mod status;
 mod streams;
 
 pub use bytes::bytes_on;
-pub use check::check_on;
+pub use check::{CheckOptions, check_on};
 pub use drive::drive_on;
 pub use fault::Fault;
 pub use fl_book::WhenWriterFails;
