@@ -1,5 +1,5 @@
 -- What an audit says, as `check` says it.
-use Rattle.std.proofs.Common.{◌≡◌, ◌↔◌, ℕ, Bool, true, false, Option, Some, None, List, [], ◌++◌, refl, sym, subst, append-nil}
+use Rattle.std.proofs.Common.{◌≡◌, ◌↔◌, ℕ, Bool, true, false, Option, List, [], refl, sym, subst, append-nil}
 use Rattle.std.specs.Io.KnownBytes.{Appends}
 use Rattle.fl_audit.specs.Audit.{IsFinding, IsAudited}
 use Rattle.fl_audit.specs.declared.finding.Audited.{Audited}
