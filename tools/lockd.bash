@@ -15,7 +15,7 @@ _lockd() {
         case $command in
             help) words='script check bytes serve drive' ;;
             serve) words='--workers --trace --trace-full --help' ;;
-            check) words='--quiet --help' ;;
+            check) words='--quiet --cut --help' ;;
             script | bytes | drive) words='--help' ;;
         esac
     fi

@@ -1,2 +1,3 @@
+pub mod Quiets
 pub mod Replays
 pub mod Verdicts

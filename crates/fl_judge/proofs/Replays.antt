@@ -1,11 +1,12 @@
 -- What a replay leads up to, line by line.
-use Rattle.std.proofs.Common.{◌≡◌, ◌≢◌, ℕ, zero, suc, ◌+◌, Bool, true, false, Option, Some, None, List, [], ◌∷◌, ◌++◌, drop, slice_get}
+use Rattle.std.proofs.Common.{◌≡◌, ◌≢◌, ◌↔◌, ℕ, zero, suc, ◌+◌, Bool, true, false, not, ◌&&◌, Option, Some, None, List, [], ◌∷◌, ◌++◌, drop, slice_get}
 use Rattle.std.proofs.Common.{append_assoc, ap, sym, ◌∙◌, subst}
 use Rattle.std.proofs.lemmas.List.{append-nil}
 use Rattle.std.proofs.lemmas.Option.{none-some}
 use Rattle.std.proofs.Math.Numerals.{add-one}
 use Rattle.std.proofs.Math.Seq.{drop-nil}
 use Rattle.fl_core.specs.State.{Snapshot}
+use Rattle.fl_core.specs.Stages.{asked_by}
 use Rattle.fl_core.specs.Step.{next, replies}
 use Rattle.fl_desk.specs.Leading.{LeadsTo, GoesOn, ends, goes}
 use Rattle.fl_desk.specs.Legal.{IsLegal, step_lines}
@@ -16,6 +17,8 @@ use Rattle.fl_judge.specs.declared.replay.Replay.{Replay}
 use Rattle.fl_judge.specs.Inside.Heard.{told_lines, BeginsWith, due_lines, LeadsUpTo, GoesOnAlike}
 use Rattle.fl_order.specs.declared.order.Order.{Order}
 use Rattle.fl_order.specs.declared.told.Told.{Told}
+use Rattle.fl_judge.proofs.Quiets.{quiet_nothing, quiet_told, quiet_asked}
+use Rattle.fl_quiet.specs.Quiet.{asks_while_waiting, IsQuiet}
 
 -- ---- what is left of a list from a place on
 
@@ -45,18 +48,19 @@ same_tail : {A : Type 0} (x y : A) (xs ys : List A) → x ∷ xs ≡ y ∷ ys �
 same_tail x y xs ys e = cc e
 
 -- no line is heard
-pub opens : (r : Replay) → LeadsTo [] r.core → r.tolds ≡ [] → LeadsUpTo [] r
-opens r leads none =
+pub opens : (r : Replay) → LeadsTo [] r.core → r.tolds ≡ [] → r.quiet ≡ true → LeadsUpTo [] r
+opens r leads none quiet =
     let e : due_lines r ≡ [] = ap (λ t. told_lines (drop r.told t)) none ∙ ap told_lines (drop-nil r.told) in
     record {
       leads = subst (λ l. LeadsTo l r.core) (sym e) leads;
       due = λ rest legal. (rest, sym (ap (λ l. l ++ rest) e));
+      quiet = quiet_nothing r.quiet quiet;
     }
 
 -- the reply that is due
 pub told_on : (before after : Replay) (due : Told) → slice_get before.tolds before.told ≡ Some due → after.core ≡ before.core → after.tolds ≡ before.tolds
-    → after.told ≡ before.told + 1 → (lines : List Line) → LeadsUpTo lines before → LeadsUpTo (lines ++ line.Told due ∷ []) after
-told_on before after due is core tolds told lines up =
+    → after.told ≡ before.told + 1 → after.quiet ≡ before.quiet → (lines : List Line) → LeadsUpTo lines before → LeadsUpTo (lines ++ line.Told due ∷ []) after
+told_on before after due is core tolds told quiet lines up =
     let l = line.Told due in
     let e : due_lines before ≡ l ∷ due_lines after =
     ap told_lines (left_from before.tolds before.told due is ∙ (λ i. due ∷ drop (sym (told ∙ add-one before.told) i) (sym tolds i))) in
@@ -66,6 +70,7 @@ told_on before after due is core tolds told lines up =
       due = λ rest legal.
           let w = up.due (l ∷ rest) (subst IsLegal (behind lines rest l) legal) in
           (w.0, same_tail l l rest (due_lines after ++ w.0) (w.1 ∙ ap (λ d. d ++ w.0) e));
+      quiet = subst (λ q. (q ≡ true) ↔ IsQuiet (lines ++ l ∷ [])) (sym quiet) (quiet_told lines due before.quiet up.quiet);
     }
 
 -- another line stands where a reply is due
@@ -110,8 +115,9 @@ replies_next p worker order rest (goes w o more e) =
 -- an order
 pub order_on : LeadsOn → GoesByOrders → (before after : Replay) (worker : ℕ) (order : Order) → slice_get before.tolds before.told ≡ None
     → after.core ≡ next before.core order → after.tolds ≡ replies before.core order → after.told ≡ 0
+    → after.quiet ≡ (before.quiet && not (asks_while_waiting (asked_by order.op) before.core.view.parked))
     → (lines : List Line) → LeadsUpTo lines before → LeadsUpTo (lines ++ line.Asked worker order ∷ []) after
-order_on leads_on goes_on before after worker order none core tolds told lines up =
+order_on leads_on goes_on before after worker order none core tolds told quiet lines up =
     let l = line.Asked worker order in
     let so_far = all_told before lines none up in
     let e : due_lines after ≡ told_lines (replies before.core order) = λ i. told_lines (drop (told i) (tolds i)) in
@@ -123,6 +129,9 @@ order_on leads_on goes_on before after worker order none core tolds told lines u
           let w = replies_next before.core worker order rest
           (goes_on lines (l ∷ rest) before.core so_far (subst IsLegal (behind lines rest l) legal)) in
           (w.0, w.1 ∙ ap (λ d. d ++ w.0) (sym e));
+      quiet = subst (λ q. (q ≡ true) ↔ IsQuiet (lines ++ l ∷ [])) (sym quiet)
+          (quiet_asked lines worker order before.quiet (asks_while_waiting (asked_by order.op) before.core.view.parked) up.quiet
+          (ap (λ (p : Snapshot). asks_while_waiting (asked_by order.op) p.view.parked) so_far.stands));
     }
 
 -- ---- in the words of `take`

@@ -1,5 +1,5 @@
 -- What is said of the lines that were heard.
-use Rattle.std.proofs.Common.{◌≡◌, ℕ, suc, ◌+◌, ◌-◌, ◌^◌, ◌<◌, ◌≤◌, Bool, true, false, not, Option, Some, None, List, [], ◌∷◌, ◌++◌, length, take, drop, slice_get}
+use Rattle.std.proofs.Common.{◌≡◌, ◌↔◌, ℕ, suc, ◌+◌, ◌-◌, ◌^◌, ◌<◌, ◌≤◌, Bool, true, false, not, Option, Some, None, List, [], ◌∷◌, ◌++◌, length, take, drop, slice_get}
 use Rattle.std.proofs.Common.{append_assoc, refl, ap, sym, ◌∙◌, subst, arith}
 use Rattle.std.proofs.lemmas.List.{append-nil, length-append, take-append-drop, take-append-le, take_all}
 use Rattle.std.specs.Option.{is_some}
@@ -11,6 +11,7 @@ use Rattle.fl_judge.specs.declared.replay.Replay.{Replay}
 use Rattle.fl_judge.specs.Inside.Heard.{told_lines, due_lines, LeadsUpTo, GoesOnAlike, DiffersIn, Stands, IsHeard}
 use Rattle.fl_judge.proofs.Replays.{left_from, all_told}
 use Rattle.fl_order.specs.declared.told.Told.{Told}
+use Rattle.fl_quiet.specs.Quiet.{IsQuiet}
 
 -- what a beginning begins with is one
 shorter : (n : ℕ) (lines : List Line) → IsBeginning lines → IsBeginning (take n lines)
@@ -102,6 +103,22 @@ begins_exactly lines now r (Some n) false same e d = (λ never. absurd (cc never
 up_to : (lines : List Line) (r : Replay) (o : Option ℕ) → is_some o ≡ false → Stands lines r o → LeadsUpTo lines r
 up_to lines r None e up = up
 up_to lines r (Some n) e d = absurd (cc e)
+
+-- lines that don't differ are a beginning, and the replay knows whether they are quiet
+pub quiet_then : (lines now : List Line) (r : Replay) (o : Option ℕ) → lines ≡ now → is_some o ≡ false → Stands lines r o
+    → (r.quiet ≡ true) ↔ (IsBeginning now × IsQuiet now)
+quiet_then lines now r o same e stands =
+    let up = up_to lines r o e stands in (
+      λ quiet. (subst IsBeginning same (begins lines r up), subst IsQuiet same (up.quiet.0 quiet)),
+      λ so. up.quiet.1 (subst IsQuiet (sym same) so.1),
+    )
+
+-- those that do are none
+pub quiet_else : (lines now : List Line) (r : Replay) (o : Option ℕ) (b : Bool) → lines ≡ now → is_some o ≡ true → is_some o ≡ not b → Stands lines r o
+    → (b ≡ true) ↔ (IsBeginning now × IsQuiet now)
+quiet_else lines now r None b same e is stands = absurd (cc e)
+quiet_else lines now r (Some n) true same e is d = absurd (cc is)
+quiet_else lines now r (Some n) false same e is d = (λ never. absurd (cc never), λ so. absurd (differs lines n d (subst IsBeginning (sym same) so.0)))
 
 counted : (heard : ℕ) (lines : List Line) (l : Line) → heard ≡ length lines → heard + 1 ≡ length (lines ++ l ∷ [])
 counted heard lines l e = omega (arith, e, length-append lines (l ∷ []))

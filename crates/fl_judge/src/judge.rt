@@ -2,12 +2,14 @@
 
 ghost use Rattle.std.specs.Prelude.{◌≡◌, ◌↔◌, ◌<◌, ◌^◌, ◌++◌, ◌∷◌, [], true, length, IfOk};
 ghost use Rattle.fl_desk.specs.Verdicts.{IsBeginning, IsVerdict};
+ghost use Rattle.fl_quiet.specs.Quiet.{IsQuiet, HasNoCircles};
 
 use crate::replay::Replay;
 use fl_desk::Verdict;
 use fl_history::Line;
 use fl_order::NoMemory;
 use fl_past::Past;
+use fl_quiet::laws::quiet_histories_have_no_circle;
 use std::alloc::Global;
 use std::marker::Model;
 
@@ -85,5 +87,20 @@ impl Judge {
         ensures { (result ≡ true) ↔ IsBeginning self.now }
     {
         self.differs.is_none()
+    }
+
+    /// Whether some legal history begins with the lines that it heard, and they are quiet: no owner asks for a record lock
+    /// while it waits for one, as `fl_quiet` says. Then owners never wait in a circle.
+    pub fn quiet(&self) -> bool
+        ensures exact { (result ≡ true) ↔ (IsBeginning self.now × IsQuiet self.now) }
+        ensures no_circle { result ≡ true → HasNoCircles self.now }
+    {
+        quiet_histories_have_no_circle();
+        let Judge {
+            replay,
+            differs,
+            ..
+        } = self;
+        differs.is_none() && replay.quiet
     }
 }

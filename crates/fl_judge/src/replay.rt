@@ -1,6 +1,6 @@
 //! The orders of a history, taken anew one after another, and what comes next in it.
 
-ghost use Rattle.std.specs.Prelude.{◌≡◌, ◌↔◌, ◌+◌, ◌^◌, ◌<◌, true, Some, IsSome, IfOk, []};
+ghost use Rattle.std.specs.Prelude.{◌≡◌, ◌↔◌, ◌+◌, ◌^◌, ◌<◌, ◌&&◌, not, true, Some, IsSome, IfOk, []};
 ghost use Rattle.std.specs.List.{slice_get};
 ghost use Rattle.fl_history.specs.declared.history.Line.TheVariants as line;
 ghost use Rattle.fl_judge.specs.Inside.Heard.{LeadsUpTo, GoesOnAlike};
@@ -9,14 +9,17 @@ use fl_core::{Core, Tolds};
 use fl_desk::laws::{a_legal_history_goes_on_by_orders, an_order_leads_on};
 use fl_history::Line;
 use fl_order::{NoMemory, Told};
+use fl_quiet::asks_while_waiting;
 use std::alloc::Global;
 
-// The directory after the last order that was heard, the replies that it gives, and how many of them were heard.
+// The directory after the last order that was heard, the replies that it gives, how many of them were heard, and whether
+// no owner asked so far for a record lock while it waited for one.
 #[derive(Drop)]
 pub(crate) struct Replay {
     core: Core,
     tolds: Tolds,
     told: usize,
+    pub(crate) quiet: bool,
 }
 
 impl Replay {
@@ -29,6 +32,7 @@ impl Replay {
             core: Core::new(alloc)?,
             tolds: Tolds::new(alloc)?,
             told: 0,
+            quiet: true,
         })
     }
 
@@ -48,6 +52,8 @@ impl Replay {
         let Line::Asked { worker: _, order } = line else {
             return false;
         };
+        let asks = asks_while_waiting(&self.core, order);
+        self.quiet = stays_quiet(self.quiet, asks);
         self.core.step(order, &mut self.tolds);
         self.told = 0;
         true
@@ -65,6 +71,13 @@ impl Replay {
             None
         }
     }
+}
+
+// Whether lines are quiet with an order more, whose owner asks while it waits or doesn't.
+fn stays_quiet(quiet: bool, asks: bool) -> bool
+    ensures { result ≡ (quiet && not asks) }
+{
+    quiet && !asks
 }
 
 // Whether a line is this reply.

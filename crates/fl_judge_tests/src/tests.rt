@@ -106,3 +106,38 @@ tell 2 err 2
     );
     is_heard(&rt, late, &[Verdict::Differs(2); 4], 1);
 }
+
+// Owner 8 waits for byte 0, which owner 7 has, and asks for another one; then one reply is wrong.
+const AN_OWNER_ASKS_WHILE_IT_WAITS: &str = "\
+ask 0 1 1 0 0 0 create 0 420 61
+tell 1 made 2 33188 1 0 0 1
+ask 0 2 2 0 0 0 setlk 1 7 0 0 1 11 0
+tell 2 ok
+ask 0 3 2 0 0 0 setlkw 1 8 0 0 1 12 0
+ask 0 4 2 0 0 0 getlk 1 8 5 5 0 12 0
+tell 4 lock 5 5 2 12
+ask 0 5 2 0 0 0 setlk 1 8 5 5 0 12 0
+tell 5 ok
+ask 0 6 2 0 0 0 setlk 1 9 6 6 0 13 0
+tell 6 ok
+";
+
+// After so many lines of a text a judge says last that they are quiet; it hears so many.
+fn is_quiet_for(rt: &(impl Abort + AllocGlobal), text: &str, quiet: usize, all: usize) {
+    let history = read(rt, text);
+    assert_eq!(rt; history.len(), all);
+    let mut judge = Judge::new(rt.alloc()).expect(rt, "memory");
+    assert!(rt; judge.quiet());
+    for at in 0..all {
+        hear(rt, &mut judge, &history.line(at));
+        assert_eq!(rt; judge.quiet(), at < quiet);
+    }
+}
+
+#[test]
+fn lines_are_quiet_until_an_owner_asks_while_it_waits(rt: HostRuntime) {
+    is_quiet_for(&rt, AN_OWNER_ASKS_WHILE_IT_WAITS, 7, 11);
+    is_quiet_for(&rt, A_LOCK_IS_WAITED_FOR, 8, 8);
+    let differs = "ask 0 1 2 0 0 0 getattr\ntell 1 ok\nask 0 2 2 0 0 0 getattr\n";
+    is_quiet_for(&rt, differs, 1, 3);
+}

@@ -39,8 +39,9 @@ pub fn quiet(alloc: Global, history: &History) -> Result<bool, NoMemory>
     Ok(true)
 }
 
-// Whether the order asks for a record lock whose owner waits for one.
-fn asks_while_waiting(core: &Core, order: &Order) -> bool
+/// Whether an order asks by SETLK or SETLKW for a record lock of type read or write, while a record request of the same owner
+/// is parked in the directory.
+pub fn asks_while_waiting(core: &Core, order: &Order) -> bool
     ensures { result ≡ asks_while_waiting (asked_by order.now.op) core.now.view.parked }
 {
     match order.op {

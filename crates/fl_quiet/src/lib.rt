@@ -4,4 +4,4 @@
 mod asking;
 pub mod laws;
 
-pub use asking::quiet;
+pub use asking::{asks_while_waiting, quiet};

@@ -9,3 +9,4 @@ pub mod Newlines
 pub mod Places
 pub mod Numbers
 pub mod Digits
+pub mod Lengths

@@ -1,8 +1,9 @@
 //! Laws of the text, in the words of its subject. Each is the contract of an empty function.
 
-ghost use Rattle.std.specs.Prelude.{◌≡◌, ℕ, List};
+ghost use Rattle.std.specs.Prelude.{◌≡◌, ℕ, ◌<◌, List, length};
+ghost use Rattle.std.specs.Str.Iter.{LacksByte};
 ghost use Rattle.fl_history.specs.declared.history.Line.{Line};
-ghost use Rattle.fl_trace.specs.Text.{text_of, LineFits, Fits, BreaksAt};
+ghost use Rattle.fl_trace.specs.Text.{text_of, line_text, LineFits, Fits, BreaksAt};
 
 /// Two histories that can be read back never have one text.
 pub fn no_text_is_that_of_two_histories()
@@ -14,4 +15,10 @@ pub fn no_text_is_that_of_two_histories()
 pub fn a_text_breaks_at_one_line_at_most()
     ensures once { (text : List ℕ) (m n : ℕ) → BreaksAt LineFits text m → BreaksAt LineFits text n → m ≡ n }
     ensures never { (lines : List Line) (n : ℕ) → Fits lines → BreaksAt LineFits (text_of lines) n → ⊥ }
+{}
+
+/// The text of a line that can be read back has no newline, and with the newline behind it `LINE_ROOM` bytes at most.
+pub fn a_line_is_short()
+    ensures short { (line : Line) → LineFits line → length (line_text line) < 700 }
+    ensures lacks { (line : Line) → LineFits line → LacksByte 10 (line_text line) }
 {}

@@ -8,8 +8,8 @@ ghost use Rattle.lockd_cli.specs.Workers.{HasWorkers};
 use descriptors::hold_closed_streams;
 use lockd_cli::{Asked, Refusal, Trace, WhenFull, print_version, read_words};
 use lockd_commands::{
-    Fault, Status, WhenWriterFails, bytes_on, check_on, drive_on, script_on, serve_on,
-    serve_traced_on, serve_untraced_on, trace_at,
+    CheckOptions, Fault, Status, WhenWriterFails, bytes_on, check_on, drive_on, script_on,
+    serve_on, serve_traced_on, serve_untraced_on, trace_at,
 };
 use std::fs::Files;
 use std::io::Write;
@@ -57,8 +57,12 @@ fn run<T: Threads + Wait + Net + Files + Sync>(
     match asked {
         Asked::Script => script_on(alloc, &mut input, &mut output, &mut faults),
         Asked::Bytes => bytes_on(alloc, &mut input, &mut output, &mut faults),
-        Asked::Check(tells_quiet) => {
-            check_on(alloc, *tells_quiet, &mut input, &mut output, &mut faults)
+        Asked::Check { quiet, cut } => {
+            let options = CheckOptions {
+                tells_quiet: *quiet,
+                cut: *cut,
+            };
+            check_on(alloc, options, &mut input, &mut output, &mut faults)
         }
         Asked::Version => version_on(&mut output, &mut faults),
         Asked::Serve(socket, workers, trace) => {

@@ -26,8 +26,14 @@ pub enum Asked {
     Script,
     /// Answers messages in lines of hex and prints their replies.
     Bytes,
-    /// Judges a trace, and says whether it is quiet where that is asked.
-    Check(bool),
+    /// Judges a trace. It says whether the trace is quiet where that is asked, and takes one that may be cut off where that
+    /// is said.
+    Check {
+        /// Whether it is asked if the trace is quiet.
+        quiet: bool,
+        /// Whether the trace may be cut off.
+        cut: bool,
+    },
     /// Serves a socket at this path, with so many workers, and with its trace there.
     Serve(String, u32, Trace),
     /// Sends messages to the socket at this path and prints its replies.
@@ -68,7 +74,10 @@ pub fn read_words(alloc: Global, words: &[String]) -> Result<Asked, Refusal>
     };
     match matches.subcommand() {
         Some(("bytes", _)) => Ok(Asked::Bytes),
-        Some(("check", options)) => Ok(Asked::Check(options.get_flag("quiet"))),
+        Some(("check", options)) => Ok(Asked::Check {
+            quiet: options.get_flag("quiet"),
+            cut: options.get_flag("cut"),
+        }),
         Some(("serve", options)) => {
             let workers = options.get_one::<u32>("workers").unwrap_or(DEFAULT_WORKERS);
             let socket = socket_of(alloc, options)?;
@@ -121,11 +130,18 @@ fn command<'a>(alloc: Global) -> Result<Command<'a>, Error> {
             "Prints after legal whether the trace is quiet: no owner asks for a record lock while it waits for one",
         )
         .action(ArgAction::SetTrue);
+    let cut = Arg::new(alloc, "cut")
+        .long("cut")
+        .help(
+            "Takes the trace of a killed server: drops what follows the last newline, and prints begins, with status 0, where only replies are missing at the end; --quiet prints nothing after begins",
+        )
+        .action(ArgAction::SetTrue);
     let check = Command::new(alloc, "check")
         .about(
             "Judges the trace on standard input and prints legal, or differs and a line's number",
         )
-        .arg(quiet)?;
+        .arg(quiet)?
+        .arg(cut)?;
     let workers = Arg::new(alloc, "workers")
         .long("workers")
         .value_name("N")

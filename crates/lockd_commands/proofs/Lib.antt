@@ -1,3 +1,4 @@
 pub mod HexLemmas
 pub mod ReplyLemmas
 pub mod ScriptLemmas
+pub mod CheckLemmas

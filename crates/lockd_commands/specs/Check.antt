@@ -3,42 +3,59 @@ use Rattle.std.specs.Prelude.{◌≡◌, ◌↔◌, ℕ, Bool, true, false, List
 use Rattle.std.specs.Fmt.{decimal}
 use Rattle.std.specs.Io.KnownBytes.{Appends}
 use Rattle.fl_trace.specs.Text.{text_of, Fits}
-use Rattle.fl_desk.specs.Verdicts.{IsVerdict}
+use Rattle.fl_audit.specs.Audit.{judged_part, IsFinding}
+use Rattle.fl_audit.specs.declared.finding.AuditFault.{AuditFault}
+use Rattle.fl_audit.specs.declared.finding.AuditFault.TheVariants as audits
+use Rattle.fl_audit.specs.declared.finding.Finding.{Finding}
+use Rattle.fl_audit.specs.declared.finding.Finding.TheVariants.{Legal, Begins, Differs}
 use Rattle.fl_history.specs.declared.history.Line.{Line}
 use Rattle.fl_quiet.specs.Quiet.{IsQuiet}
-use Rattle.fl_desk.specs.declared.judge.Verdict.{Verdict}
-use Rattle.fl_desk.specs.declared.judge.Verdict.TheVariants.{Legal, Differs}
+use Rattle.lockd_commands.specs.declared.check.CheckOptions.{CheckOptions}
+use Rattle.lockd_faults.specs.declared.fault.Fault.{Fault}
+use Rattle.lockd_faults.specs.declared.fault.Fault.TheVariants as command
 
--- the line that says a verdict
-abbrev pub verdict_text : Verdict → List ℕ
-verdict_text Legal = codes "legal" ++ 10 ∷ []
-verdict_text (Differs n) = codes "differs " ++ (decimal n ++ 10 ∷ [])
+-- the line that says what is found
+abbrev pub finding_text : Finding → List ℕ
+finding_text Legal = codes "legal" ++ 10 ∷ []
+finding_text Begins = codes "begins" ++ 10 ∷ []
+finding_text (Differs n) = codes "differs " ++ (decimal n ++ 10 ∷ [])
 
 -- the line that says whether a history is quiet
 abbrev pub quiet_text : Bool → List ℕ
 quiet_text true = codes "quiet" ++ 10 ∷ []
 quiet_text false = codes "not quiet" ++ 10 ∷ []
 
--- the verdict's line, and behind `legal` the one that says whether the history is quiet, if that is told
-abbrev pub answer_text : Verdict → Option Bool → List ℕ
-answer_text Legal (Some quiet) = verdict_text Legal ++ quiet_text quiet
-answer_text verdict told = verdict_text verdict
+-- what is found, and behind `legal` the line that says whether the history is quiet, if that is told
+abbrev pub answer_text : Finding → Option Bool → List ℕ
+answer_text Legal (Some quiet) = finding_text Legal ++ quiet_text quiet
+answer_text finding told = finding_text finding
+
+-- what is told of it: where that is asked and the history is legal, whether it is quiet
+abbrev pub quiet_told : Bool → Finding → Bool → Option Bool
+quiet_told true Legal quiet = Some quiet
+quiet_told asked finding quiet = None
 
 -- it is told where it is asked and the history is legal, and then it is right
-abbrev pub SaysQuiet : Bool → Verdict → List Line → Option Bool → Type 0
+abbrev pub SaysQuiet : Bool → Finding → List Line → Option Bool → Type 0
 SaysQuiet true Legal lines None = ⊥
 SaysQuiet true Legal lines (Some quiet) = (quiet ≡ true) ↔ IsQuiet lines
-SaysQuiet asked verdict lines told = told ≡ None
+SaysQuiet asked finding lines told = told ≡ None
 
--- the trace of a history was read, and the verdict on this history was written, and whether it is quiet, where that is
--- asked and it is legal
-pub record IsJudged (asked : Bool) (left old new : Option (List ℕ)) (verdict : Verdict) : Type 0 where
+-- What is judged of all that was left to read is the trace of a history. What is found of this history was written, and
+-- whether it is quiet, where that is asked and it is legal.
+pub record IsJudged (options : CheckOptions) (left old new : Option (List ℕ)) (finding : Finding) : Type 0 where
   pub trace : List ℕ
   pub lines : List Line
-  pub read : IfSome left (λ bytes. bytes ≡ trace)
+  pub read : IfSome left (λ bytes. judged_part options.cut bytes ≡ trace)
   pub spelled : trace ≡ text_of lines
   pub fits : Fits lines
-  pub judged : IsVerdict lines verdict
+  pub judged : IsFinding options.cut lines finding
   pub told : Option Bool
-  pub says : SaysQuiet asked verdict lines told
-  pub written : Appends old new (answer_text verdict told)
+  pub says : SaysQuiet options.tells_quiet finding lines told
+  pub written : Appends old new (answer_text finding told)
+
+-- a fault of an audit as a command tells it
+abbrev pub audit_fault : AuditFault → Fault
+audit_fault (audits.BadLine n) = command.BadLine n
+audit_fault audits.NoMemory = command.NoMemory
+audit_fault audits.Read = command.Read

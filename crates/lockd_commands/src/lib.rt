@@ -7,7 +7,7 @@ mod script;
 mod serve;
 
 pub use bytes::bytes_on;
-pub use check::check_on;
+pub use check::{CheckOptions, check_on};
 pub use fl_book::WhenWriterFails;
 pub use lockd_drive::drive_on;
 pub use lockd_faults::{Fault, Status};

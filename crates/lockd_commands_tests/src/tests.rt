@@ -3,11 +3,13 @@
 mod boards;
 mod bytes;
 mod check;
+mod cut;
 mod failing;
+mod pieces;
 mod scripts;
 
 use fl_testing::lines_after;
-use lockd_commands::{Status, bytes_on, check_on, script_on};
+use lockd_commands::{CheckOptions, Status, bytes_on, check_on, script_on};
 use std::alloc::Global;
 use std::process::Abort;
 
@@ -17,6 +19,8 @@ enum Command {
     Bytes,
     Check,
     CheckQuiet,
+    CheckCut,
+    CheckCutQuiet,
     Script,
 }
 
@@ -31,8 +35,10 @@ struct Came {
 fn run(command: Command, alloc: Global, text: &[u8]) -> Came {
     match command {
         Command::Bytes => run_bytes(alloc, text),
-        Command::Check => run_check(alloc, false, text),
-        Command::CheckQuiet => run_check(alloc, true, text),
+        Command::Check => run_check(alloc, PLAIN, text),
+        Command::CheckQuiet => run_check(alloc, QUIET, text),
+        Command::CheckCut => run_check(alloc, CUT, text),
+        Command::CheckCutQuiet => run_check(alloc, CUT_QUIET, text),
         Command::Script => run_script(alloc, text),
     }
 }
@@ -49,11 +55,31 @@ fn run_bytes(alloc: Global, text: &[u8]) -> Came {
     }
 }
 
-fn run_check(alloc: Global, tells_quiet: bool, text: &[u8]) -> Came {
+const PLAIN: CheckOptions = CheckOptions {
+    tells_quiet: false,
+    cut: false,
+};
+
+const QUIET: CheckOptions = CheckOptions {
+    tells_quiet: true,
+    cut: false,
+};
+
+const CUT: CheckOptions = CheckOptions {
+    tells_quiet: false,
+    cut: true,
+};
+
+const CUT_QUIET: CheckOptions = CheckOptions {
+    tells_quiet: true,
+    cut: true,
+};
+
+fn run_check(alloc: Global, options: CheckOptions, text: &[u8]) -> Came {
     let mut input = text;
     let mut printed = Vec::new(alloc);
     let mut told = Vec::new(alloc);
-    let status = check_on(alloc, tells_quiet, &mut input, &mut printed, &mut told);
+    let status = check_on(alloc, options, &mut input, &mut printed, &mut told);
     Came {
         printed,
         told,

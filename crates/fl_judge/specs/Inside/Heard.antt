@@ -1,5 +1,5 @@
 -- What is always so of a judge, and of the lines that it heard.
-use Rattle.std.specs.Prelude.{◌≡◌, ℕ, ◌-◌, ◌^◌, ◌≤◌, Bool, true, false, Option, Some, None, List, [], ◌∷◌, ◌++◌, length, map, take, drop}
+use Rattle.std.specs.Prelude.{◌≡◌, ◌↔◌, ℕ, ◌-◌, ◌^◌, ◌≤◌, Bool, true, false, Option, Some, None, List, [], ◌∷◌, ◌++◌, length, map, take, drop}
 use Rattle.fl_desk.specs.Leading.{LeadsTo}
 use Rattle.fl_desk.specs.Legal.{IsLegal}
 use Rattle.fl_desk.specs.Verdicts.{IsBeginning}
@@ -7,6 +7,7 @@ use Rattle.fl_history.specs.declared.history.Line.{Line}
 use Rattle.fl_history.specs.declared.history.Line.TheVariants as line
 use Rattle.fl_judge.specs.declared.replay.Replay.{Replay}
 use Rattle.fl_order.specs.declared.told.Told.{Told}
+use Rattle.fl_quiet.specs.Quiet.{IsQuiet}
 
 -- replies, as lines
 abbrev pub told_lines : List Told → List Line
@@ -21,10 +22,11 @@ abbrev pub due_lines : Replay → List Line
 due_lines r = told_lines (drop r.told r.tolds)
 
 -- The lines lack only the replies that are due: with these they lead to what is there, and a legal history that begins
--- with the lines goes on by these.
+-- with the lines goes on by these. It knows whether they are quiet.
 pub record LeadsUpTo (lines : List Line) (r : Replay) : Type 0 where
   pub leads : LeadsTo (lines ++ due_lines r) r.core
   pub due : (rest : List Line) → IsLegal (lines ++ rest) → BeginsWith (due_lines r) rest
+  pub quiet : (r.quiet ≡ true) ↔ IsQuiet lines
 
 -- Behind lines that a replay led up to comes one more: either it leads up to that too, or no legal history begins with them.
 abbrev pub GoesOnAlike : Replay → Line → Bool → Replay → Type 0

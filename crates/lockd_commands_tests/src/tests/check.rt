@@ -28,6 +28,23 @@ const TRACES: &str = "\
 > ask 0 1 1 0 0 0 open
 > x
 ! bad line 2
+# a bad line far behind a difference
+> tell 1 ok
+> ask 0 1 1 0 0 0 open
+> tell 1 ok
+> x
+> tell 1 ok
+! bad line 4
+";
+
+/// The trace of three orders, each with its reply.
+pub(super) const THE_LAST_REPLY: &str = "\
+ask 0 1 1 0 0 0 create 0 420 61
+tell 1 made 2 33188 1 0 0 1
+ask 0 2 2 0 0 0 setlk 1 7 0 9 1 11 0
+tell 2 ok
+ask 0 3 2 0 0 0 setlk 1 8 9 9 0 12 0
+tell 3 err 11
 ";
 
 // The line that differs first is told, and the status is 1.
@@ -68,7 +85,7 @@ const TRACES_THAT_DIFFER: &str = "\
 #[test]
 fn stored_traces(rt: HostRuntime) {
     let found = run_cases(&rt, rt.alloc(), Command::Check, ("", ""), TRACES);
-    assert_eq!(rt; found, 5);
+    assert_eq!(rt; found, 6);
     let came = run(Command::Check, rt.alloc(), b"ask 0 1 1 0 0 0 open");
     is(&rt, "no newline", &came, "", "bad line 1\n");
 }

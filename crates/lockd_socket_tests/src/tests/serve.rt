@@ -2,7 +2,7 @@
 
 use super::{Came, ends_so, is, marked, own_path, spelled, unbind};
 use fl_testing::{init, init_reply, two_locks};
-use lockd_commands::{check_on, serve_on};
+use lockd_commands::{CheckOptions, check_on, serve_on};
 use std::alloc::{AllocGlobal, Global};
 use std::fs::Files;
 use std::io::{Read, Write};
@@ -90,7 +90,11 @@ fn checked(alloc: Global, trace: &[u8]) -> Came {
     let mut input = trace;
     let mut printed = Vec::new(alloc);
     let mut told = Vec::new(alloc);
-    let status = check_on(alloc, false, &mut input, &mut printed, &mut told);
+    let options = CheckOptions {
+        tells_quiet: false,
+        cut: false,
+    };
+    let status = check_on(alloc, options, &mut input, &mut printed, &mut told);
     Came {
         printed,
         told,

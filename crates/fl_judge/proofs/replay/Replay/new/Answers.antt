@@ -1,4 +1,4 @@
-use Rattle.std.proofs.Common.{[], subst, sym}
+use Rattle.std.proofs.Common.{[], refl, subst, sym}
 use Rattle.fl_core.specs.State.{Snapshot}
 use Rattle.fl_desk.specs.Leading.{LeadsTo}
 use Rattle.fl_judge.proofs.Replays.{opens}
@@ -6,4 +6,4 @@ use Rattle.fl_judge.proofs.replay.Replay.new.Goals as goal
 
 pub returns : goal.returns
 returns c =
-    opens _ (subst (λ (p : Snapshot). LeadsTo [] p) (sym c.in_ok-new.ensures.opening) c.an_order_leads_on.ensures.nothing) c.in_ok-new-2.ensures
+    opens _ (subst (λ (p : Snapshot). LeadsTo [] p) (sym c.in_ok-new.ensures.opening) c.an_order_leads_on.ensures.nothing) c.in_ok-new-2.ensures refl

@@ -1,4 +1,4 @@
-use Rattle.std.proofs.Common.{◌∙◌, ◌+◌, [], ◌∷◌, ◌++◌, refl, sym, subst, arith}
+use Rattle.std.proofs.Common.{◌∙◌, ◌&&◌, not, ap, ◌+◌, [], ◌∷◌, ◌++◌, refl, sym, subst, arith}
 use Rattle.fl_desk.specs.Verdicts.{IsBeginning}
 use Rattle.fl_history.specs.declared.history.Line.{Line}
 use Rattle.fl_judge.specs.declared.replay.Replay.{Replay}
@@ -11,10 +11,10 @@ overflow_add-self c = omega (arith, c.in-Some.ensures.few refl)
 
 pub returns-then-alike : goal.returns-then-alike
 returns-then-alike c =
-    let after : Replay = record { core = c.args.self.now.core; tolds = c.args.self.now.tolds; told = c.args.self.now.told + 1 } in
+    let after : Replay = record { core = c.args.self.now.core; tolds = c.args.self.now.tolds; told = c.args.self.now.told + 1; quiet = c.args.self.now.quiet } in
     alike c.args.self.now after c.args.line.now c.is_told-alike.result c.if-alike.true
     (λ lines up. subst (λ (l : Line). LeadsUpTo (lines ++ l ∷ []) after) (sym (c.is_told-alike.ensures.0 c.if-alike.true))
-    (told_on c.args.self.now after c.in-Some.due (sym c.due.ensures.is ∙ c.in-Some.is) refl refl refl lines up))
+    (told_on c.args.self.now after c.in-Some.due (sym c.due.ensures.is ∙ c.in-Some.is) refl refl refl refl lines up))
 
 pub returns-else-alike : goal.returns-else-alike
 returns-else-alike c =
@@ -29,7 +29,8 @@ returns-in_default-line c = λ lines up b.
 
 pub returns : goal.returns
 returns c =
-    let after : Replay = record { core = c.step.new.self; tolds = c.step.new.tolds; told = 0 } in
+    let after : Replay = record { core = c.step.new.self; tolds = c.step.new.tolds; told = 0; quiet = c.stays_quiet-self.result } in
     λ lines up. subst (λ (l : Line). LeadsUpTo (lines ++ l ∷ []) after) (sym c.in-Asked.is)
     (order_on c.an_order_leads_on.ensures.step c.a_legal_history_goes_on_by_orders.ensures.next c.args.self.now after c.in-Asked.worker c.in-Asked.order
-    (sym c.due.ensures.is ∙ c.in_default.is) c.step.ensures.next c.step.ensures.replies refl lines up)
+    (sym c.due.ensures.is ∙ c.in_default.is) c.step.ensures.next c.step.ensures.replies refl
+    (c.stays_quiet-self.ensures ∙ ap (λ asks. c.args.self.now.quiet && not asks) c.asks_while_waiting-asks.ensures) lines up)

@@ -1,0 +1,4 @@
+pub mod Newlines
+pub mod Following
+pub mod Hearing
+pub mod Listening

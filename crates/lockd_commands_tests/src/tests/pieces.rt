@@ -1,0 +1,138 @@
+//! Traces that come in pieces, with lines that are too long, and that can't be read to their end.
+
+use super::check::THE_LAST_REPLY;
+use super::{CUT, Came, PLAIN, QUIET, is};
+use fl_testing::{Source, Stumble};
+use lockd_commands::{CheckOptions, Fault, Status, check_on};
+use std::alloc::Global;
+use std::io::{ErrorKind, Read};
+use std::process::Abort;
+
+fn check<R: Read>(alloc: Global, options: CheckOptions, input: &mut R) -> Came {
+    let mut printed = Vec::new(alloc);
+    let mut told = Vec::new(alloc);
+    let status = check_on(alloc, options, input, &mut printed, &mut told);
+    Came {
+        printed,
+        told,
+        status,
+    }
+}
+
+// The text in pieces of so many bytes.
+fn in_pieces(alloc: Global, options: CheckOptions, text: &[u8], most: usize) -> Came {
+    let mut input = Source {
+        bytes: text,
+        most,
+        reads: usize::MAX,
+    };
+    check(alloc, options, &mut input)
+}
+
+#[test]
+fn pieces_of_each_size(rt: HostRuntime) {
+    let text = THE_LAST_REPLY.as_bytes();
+    for most in [1, 2, 7, 31, 32, 33, 100, 1000] {
+        let came = in_pieces(rt.alloc(), QUIET, text, most);
+        is(&rt, "a whole trace", &came, "legal\nquiet\n", "");
+        let came = in_pieces(rt.alloc(), PLAIN, &text[..40], most);
+        is(&rt, "no newline", &came, "", "bad line 2\n");
+        let came = in_pieces(rt.alloc(), CUT, &text[..40], most);
+        is(&rt, "cut off", &came, "begins\n", "");
+    }
+}
+
+// A good line, then a text, so many bytes more, and an end.
+fn long_line(rt: &impl Abort, alloc: Global, text: &[u8], more: usize, end: &[u8]) -> Vec<u8> {
+    let mut trace = Vec::new(alloc);
+    add(
+        rt,
+        &mut trace,
+        b"ask 0 1 1 0 0 0 create 0 420 61\ntell 1 made 2 33188 1 0 0 1\n",
+    );
+    add(rt, &mut trace, text);
+    for _ in 0..more {
+        add(rt, &mut trace, b"1");
+    }
+    add(rt, &mut trace, end);
+    trace
+}
+
+fn add(rt: &impl Abort, text: &mut Vec<u8>, piece: &[u8]) {
+    text.extend_from_slice(piece).expect(rt, "memory");
+}
+
+// A line of so many bytes more than a good beginning is bad, however it comes. Where it has no newline it may be cut off.
+fn is_too_long(rt: &impl Abort, alloc: Global, more: usize, most: usize) {
+    let ended = long_line(
+        rt,
+        alloc,
+        b"ask 0 2 2 0 0 0 setlk ",
+        more,
+        b"\ntell 1 ok\nx\n",
+    );
+    let open = long_line(rt, alloc, b"ask 0 2 2 0 0 0 setlk ", more, b"");
+    for options in [PLAIN, QUIET, CUT] {
+        let came = in_pieces(alloc, options, &ended, most);
+        is(rt, "too long", &came, "", "bad line 3\n");
+    }
+    let came = in_pieces(alloc, PLAIN, &open, most);
+    is(rt, "too long, and no newline", &came, "", "bad line 3\n");
+    let came = in_pieces(alloc, CUT, &open, most);
+    is(rt, "too long, and cut off", &came, "legal\n", "");
+}
+
+#[test]
+fn lines_that_are_too_long(rt: HostRuntime) {
+    for more in [677, 678, 679, 1500] {
+        is_too_long(&rt, rt.alloc(), more, 1);
+        is_too_long(&rt, rt.alloc(), more, 700);
+    }
+    for more in [65_000, 65_536, 200_000] {
+        is_too_long(&rt, rt.alloc(), more, 4096);
+        is_too_long(&rt, rt.alloc(), more, usize::MAX);
+    }
+}
+
+// A read that fails is told, whatever came before, and nothing is printed.
+fn fails(rt: &impl Abort, alloc: Global, text: &[u8], reads: usize) {
+    for options in [PLAIN, QUIET, CUT] {
+        let mut input = Source {
+            bytes: text,
+            most: 8,
+            reads,
+        };
+        let came = check(alloc, options, &mut input);
+        is(rt, "read failed", &came, "", "read failed\n");
+        assert!(rt; came.status == Status::Faulted(Fault::Read));
+    }
+}
+
+#[test]
+fn a_read_that_fails(rt: HostRuntime) {
+    for reads in [0, 1, 4, 5, 20] {
+        fails(&rt, rt.alloc(), THE_LAST_REPLY.as_bytes(), reads);
+    }
+    fails(&rt, rt.alloc(), b"tell 1 ok\n", 2);
+    fails(&rt, rt.alloc(), b"x\n", 1);
+}
+
+fn is_tried_again(rt: &impl Abort, alloc: Global, fails_at: usize) {
+    let mut input = Stumble {
+        bytes: THE_LAST_REPLY.as_bytes(),
+        most: 50,
+        reads: 0,
+        fails_at,
+        kind: ErrorKind::Interrupted,
+    };
+    let came = check(alloc, QUIET, &mut input);
+    is(rt, "interrupted", &came, "legal\nquiet\n", "");
+    assert!(rt; input.reads > fails_at);
+}
+
+#[test]
+fn a_read_that_is_interrupted(rt: HostRuntime) {
+    for fails_at in [0, 1, 3] {
+        is_tried_again(&rt, rt.alloc(), fails_at);
+    }
+}
