@@ -1,4 +1,3 @@
 pub mod AskedLemmas
-pub mod HearingLemmas
 pub mod ServingLemmas
 pub mod WorkingLemmas

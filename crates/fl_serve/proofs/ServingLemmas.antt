@@ -10,7 +10,7 @@ use Rattle.std.specs.Prelude.{IfSome}
 use Rattle.fl_board.specs.Seats.{Place}
 use Rattle.fl_desk.specs.Legal.{IsLegal, nothing}
 use Rattle.fl_history.specs.declared.history.Line.{Line}
-use Rattle.fl_serve.specs.Inside.Hearing.{HasHeard}
+use Rattle.fl_hearing.specs.Heard.{HasHeard}
 use Rattle.fl_session.specs.Inbox.{IsEnding}
 use Rattle.fl_intake.specs.Often.{Weight}
 use Rattle.fl_order.specs.Order.{only_reads}
@@ -18,7 +18,7 @@ use Rattle.fl_order.specs.declared.order.Order.{Order}
 use Rattle.fl_serve.proofs.AskedLemmas.{all_is_handed_in}
 use Rattle.fl_serve.specs.Inside.Working.{HasAll, HaveDone}
 use Rattle.fl_serve.specs.Kept.{lines_kept}
-use Rattle.fl_serve.specs.Said.{said_in}
+use Rattle.fl_hearing.specs.Said.{said_in}
 use Rattle.fl_serve.specs.Serve.{HasNoHistory, IsAsked, IsServedBy}
 use Rattle.fl_workers.specs.Asked.{Orders, asked}
 use Rattle.fl_session.specs.Served.{EndsBy, IsRead}
@@ -90,6 +90,13 @@ served_by workers left left_now held held_now fault put goodbye broken any order
       orders = ⊎_elim
           (λ all. inl (asked_as_said workers heard.came put orders places any told done heard.said is did whose all)) inr closed;
     }
+
+-- what was heard, by other names
+pub heard_as : (left before now : Option (List ℕ)) (fault told : Option Fault) (put all : Orders) (goodbye owed : Owed)
+    → now ≡ before → told ≡ fault → all ≡ put → owed ≡ goodbye → HasHeard left before fault put goodbye
+    → HasHeard left now told all owed
+heard_as left before now fault told put all goodbye owed same_left same_fault same_put same_owed heard =
+    rw (same_left, same_fault, same_put, same_owed) heard
 
 -- what a session did that had no memory, or no reader
 pub unserved : (left left_now held held_now : Option (List ℕ)) (broken : Bool) (done : Done) (fault : Fault)

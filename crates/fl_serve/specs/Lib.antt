@@ -1,4 +1,3 @@
 pub mod Inside
 pub mod Kept
-pub mod Said
 pub mod Serve

@@ -8,19 +8,18 @@ ghost use Rattle.fl_desk.specs.Legal.{IsLegal};
 ghost use Rattle.fl_session.specs.Inbox.{IsUnread};
 ghost use Rattle.fl_intake.specs.Ends.{weight_taken};
 ghost use Rattle.fl_intake.specs.Often.{Weight};
-ghost use Rattle.fl_serve.specs.Inside.Hearing.{HasHeard};
+ghost use Rattle.fl_hearing.specs.Heard.{HasHeard};
 ghost use Rattle.fl_serve.specs.Inside.Working.{HasAll, HaveDone, IsFresh};
 ghost use Rattle.fl_serve.specs.Kept.{came_to};
 ghost use Rattle.fl_serve.specs.Serve.{HasNoHistory, IsServedBy};
 
 mod crew;
-mod hearing;
 
 use crate::kept::Kept;
 use crate::serving::crew::{Back, Crew, Posts};
-use crate::serving::hearing::Heard;
 use fl_board::{Board, BoardName, FreshLog, OpenFault, Seat};
 use fl_core::Tolds;
+use fl_hearing::Heard;
 use fl_history::Lines;
 use fl_intake::{Intake, Job, PutEnd};
 use fl_keeper::Keeper;

@@ -4,15 +4,15 @@ ghost use Rattle.std.specs.Prelude.{◌≡◌, ◌≢◌, ◌≤◌, [], All, If
 ghost use Rattle.std.specs.Io.KnownBytes.{Keeps};
 ghost use Rattle.fl_intake.specs.Ends.{weight_taken};
 ghost use Rattle.fl_workers.specs.Asked.{asked_by};
-ghost use Rattle.fl_serve.specs.Inside.Hearing.{HasHeard};
+ghost use Rattle.fl_hearing.specs.Heard.{HasHeard};
 ghost use Rattle.fl_serve.specs.Inside.Working.{HaveDone, HaveWorked, IsFresh};
 ghost use Rattle.fl_workers.specs.Worked.{HasDone};
 ghost use Rattle.fl_session.specs.Inbox.{IsUnread};
 
-use crate::serving::hearing::{Heard, Hearer};
 use core::thread::Stack;
 use fl_board::{Board, BoardName, Seat};
 use fl_core::Tolds;
+use fl_hearing::{Heard, hear_all};
 use fl_intake::{Intake, PutEnd, TakeEnd};
 use fl_keeper::Keeper;
 use fl_session::{Fault, Inbox, Owed};
@@ -139,7 +139,7 @@ impl<
                 let mut inbox = inbox;
                 let mut threads = threads;
                 let heard = if self.start_all(scope, seats, ends, tolds, &mut threads) {
-                    Hearer::new(rt, &self.intake, &self.shared, put).hear_all(r, &mut inbox)
+                    hear_all(rt, &self.intake, &self.shared, put, r, &mut inbox)
                 } else {
                     Heard {
                         put,

@@ -1,7 +1,7 @@
 use Rattle.std.proofs.Common.{◌≡◌, ◌≤◌, length}
-use Rattle.fl_serve.specs.Inside.Hearing.{IsHearing}
+use Rattle.fl_hearing.specs.Inside.Hearing.{IsHearing}
 use Rattle.fl_session.specs.Inbox.{work}
-use Rattle.fl_serve.proofs.serving.hearing.Hearer.hear_all.Given as goal
+use Rattle.fl_hearing.proofs.hearing.Hearer.hear_all.Given as goal
 
 -- what was read so far is heard, but for what is left in the inbox
 abbrev pub invariant-loop-hearer : goal.invariant-loop-hearer

@@ -1,6 +1,6 @@
 use Rattle.std.proofs.Common.{rules, ◌∙◌, sym, arith, ap, length}
-use Rattle.fl_serve.proofs.HearingLemmas.{hearing_first, hearing_more}
-use Rattle.fl_serve.proofs.serving.hearing.Hearer.hear_all.Goals as goal
+use Rattle.fl_hearing.proofs.HearingLemmas.{hearing_first, hearing_more}
+use Rattle.fl_hearing.proofs.hearing.Hearer.hear_all.Goals as goal
 
 pub loop-hearer-init : goal.loop-hearer-init
 loop-hearer-init g c = record {

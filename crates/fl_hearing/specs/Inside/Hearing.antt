@@ -1,16 +1,14 @@
 -- The reader of a session with workers, while it is under way.
-use Rattle.std.specs.Prelude.{◌≡◌, ℕ, ◌≤◌, true, false, List, [], ◌∷◌, ◌++◌, length, Option}
-use Rattle.fl_serve.specs.Said.{said_in}
+use Rattle.std.specs.Prelude.{◌≡◌, ℕ, true, false, List, [], ◌∷◌, ◌++◌, Option}
+use Rattle.fl_hearing.specs.Heard.{IsLast}
+use Rattle.fl_hearing.specs.Said.{said_in}
 use Rattle.fl_workers.specs.Asked.{Orders}
-use Rattle.fl_serve.specs.Serve.{IsLast}
-use Rattle.fl_session.specs.Inbox.{IsEnding}
 use Rattle.fl_session.specs.Served.{IsRead}
 use Rattle.fl_session.specs.Session.{Came, Session, session_of, with_message}
 use Rattle.fl_session.specs.declared.server.Met.{Met}
 use Rattle.fl_session.specs.declared.server.Met.TheVariants as met
 use Rattle.fl_session.specs.declared.server.Owed.{Owed}
 use Rattle.fl_session.specs.declared.server.Talk.{Talk}
-use Rattle.fl_session.specs.declared.session.Fault.{Fault}
 
 -- a session is this far
 pub record IsThisFar (s : Session) (talk : Talk) : Type 0 where
@@ -36,14 +34,3 @@ pub record IsHearing (left left_now : Option (List ℕ)) (talk : Talk) (put : Or
   pub far : IsThisFar (session_of came) talk
   pub said : put ≡ said_in came
   pub over : talk.over ≡ true → IsLast came goodbye
-
--- The reader ended, with this fault, and put the orders of the messages. Where the session is over, this is owed to the last.
-pub record HasHeard (left left_now : Option (List ℕ)) (fault : Option Fault) (put : Orders) (goodbye : Owed)
-    : Type 0 where
-  pub came : List Came
-  pub rest : List ℕ
-  pub is_read : IsRead left left_now came rest
-  pub bounded : length rest ≤ 8192
-  pub ending : IsEnding fault (session_of came).over rest left_now
-  pub said : put ≡ said_in came
-  pub over : (session_of came).over ≡ true → IsLast came goodbye

@@ -1,8 +1,9 @@
 //! How the reader of a session with workers reads its stream.
 
 ghost use Rattle.std.specs.Prelude.{◌≡◌, ◌≢◌, ◌++◌, [], Some, true, false};
-ghost use Rattle.fl_serve.specs.Said.{order_said};
-ghost use Rattle.fl_serve.specs.Inside.Hearing.{HasHeard, Hears, IsThisFar};
+ghost use Rattle.fl_hearing.specs.Heard.{HasHeard};
+ghost use Rattle.fl_hearing.specs.Inside.Hearing.{Hears, IsThisFar};
+ghost use Rattle.fl_hearing.specs.Said.{order_said};
 ghost use Rattle.fl_session.specs.Inbox.{IsUnread};
 ghost use Rattle.fl_session.specs.Session.{Session};
 ghost use Rattle.fl_session.specs.Talk.{goodbye_to};
@@ -14,9 +15,41 @@ use fl_workers::{Shared, WriterName};
 use std::io::{Read, Write};
 use std::sync::{Mutex, Wait};
 
-/// The reader of a session with workers: where its orders go and its own answers, and how far the session is.
+/// How the reader's part of a session ended.
 #[derive(Drop)]
-pub(crate) struct Hearer<'r, 'a, 'w, R, W: Write, N: WriterName> {
+pub struct Heard {
+    /// The end at which it put its orders.
+    pub put: PutEnd,
+    /// Its fault, if any.
+    pub fault: Option<Fault>,
+    /// What is owed to the message that ended the session, if one did, once all orders are answered.
+    pub goodbye: Owed<'static>,
+}
+
+/// Reads until the session ends: orders go to the intake, and other messages are answered at once, through the writer that the
+/// workers share. It ends at the stream's end, at a fault of the stream and at a DESTROY, which it leaves to be answered.
+pub fn hear_all<R: Wait, I: Read, W: Write, N: WriterName>(
+    rt: &R,
+    intake: &Intake,
+    shared: &Mutex<Shared<'_, W, N>>,
+    put: PutEnd,
+    r: &mut I,
+    inbox: &mut Inbox,
+) -> Heard
+    requires mine { put.of ≡ intake.now }
+    requires open { put.closed ≡ false }
+    requires none { put.put ≡ [] }
+    requires unread { IsUnread inbox.old }
+    ensures heard { HasHeard (I.remaining r.old) (I.remaining r.new) result.fault result.put.put result.goodbye }
+    ensures same { (result.put.of ≡ put.of) × (result.put.takers ≡ put.takers) }
+    ensures memory { result.fault ≢ Some Fault.NoMemory }
+{
+    Hearer::new(rt, intake, shared, put).hear_all(r, inbox)
+}
+
+// The reader of a session with workers: where its orders go and its own answers, and how far the session is.
+#[derive(Drop)]
+struct Hearer<'r, 'a, 'w, R, W: Write, N: WriterName> {
     rt: &'r R,
     intake: &'a Intake,
     shared: &'a Mutex<Shared<'w, W, N>>,
@@ -28,20 +61,9 @@ pub(crate) struct Hearer<'r, 'a, 'w, R, W: Write, N: WriterName> {
     ghost open: { put.closed ≡ false },
 }
 
-/// How the reader's part of a session ended.
-#[derive(Drop)]
-pub(crate) struct Heard {
-    /// The end at which it put its orders.
-    pub put: PutEnd,
-    /// Its fault, if any.
-    pub fault: Option<Fault>,
-    /// What is owed to the message that ended the session, if one did, once all orders are answered.
-    pub goodbye: Owed<'static>,
-}
-
 impl<'r, 'a, 'w, R: Wait, W: Write, N: WriterName> Hearer<'r, 'a, 'w, R, W, N> {
-    /// No message came yet.
-    pub(crate) fn new(
+    // No message came yet.
+    fn new(
         rt: &'r R,
         intake: &'a Intake,
         shared: &'a Mutex<Shared<'w, W, N>>,
@@ -62,8 +84,8 @@ impl<'r, 'a, 'w, R: Wait, W: Write, N: WriterName> Hearer<'r, 'a, 'w, R, W, N> {
         }
     }
 
-    /// Reads until the session ends: orders go to the intake, and other messages are answered at once.
-    pub(crate) fn hear_all<I: Read>(self, r: &mut I, inbox: &mut Inbox) -> Heard
+    // Reads until the session ends.
+    fn hear_all<I: Read>(self, r: &mut I, inbox: &mut Inbox) -> Heard
         requires unread { IsUnread inbox.old }
         requires fresh { (self.talk.agreed ≡ false) × (self.talk.over ≡ false) × (self.put.put ≡ []) }
         ensures heard { HasHeard (I.remaining r.old) (I.remaining r.new) result.fault result.put.put result.goodbye }

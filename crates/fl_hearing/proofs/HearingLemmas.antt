@@ -3,11 +3,11 @@ use Rattle.std.proofs.Common.{◌≡◌, ℕ, Bool, true, false, true≢false, L
 use Rattle.std.specs.Prelude.{Result, Ok, Err, fold}
 use Rattle.fl_order.specs.declared.order.Order.{Order}
 use Rattle.fl_order.specs.declared.refusal.Refusal.{Refusal}
-use Rattle.fl_serve.specs.Said.{order_said, said_from, said_in}
+use Rattle.fl_hearing.specs.Said.{order_said, said_from, said_in}
 use Rattle.fl_wire.specs.Says.{said}
 use Rattle.fl_workers.specs.Asked.{Orders}
 use Rattle.std.proofs.lemmas.Grind.{fold-append}
-use Rattle.fl_serve.specs.Inside.Hearing.{HasHeard, Hears, IsHearing, IsPutAs, IsThisFar}
+use Rattle.fl_hearing.specs.Inside.Hearing.{Hears, IsHearing, IsPutAs, IsThisFar}
 use Rattle.fl_session.specs.Inbox.{Inflow, IsUnread, Takes}
 use Rattle.fl_session.specs.Talk.{IsHeard, goodbye_to, standing}
 use Rattle.fl_session.specs.Session.{Came, Session, session_of, with_message, opening_session}
@@ -15,7 +15,6 @@ use Rattle.fl_session.specs.declared.server.Met.{Met}
 use Rattle.fl_session.specs.declared.server.Met.TheVariants as met
 use Rattle.fl_session.specs.declared.server.Owed.{Owed}
 use Rattle.fl_session.specs.declared.server.Talk.{Talk}
-use Rattle.fl_session.specs.declared.session.Fault.{Fault}
 
 -- a session that is this far stands there
 stands_there : (s : Session) (talk : Talk) → IsThisFar s talk → standing s talk ≡ s
@@ -103,10 +102,3 @@ hearing_more left left_now old new put put_now goodbye goodbye_now message rest 
           ∙ sym (said_one_more before.came c);
       over = λ over. record { front = before.came; last = c; parts = refl; owed = ends over };
     }
-
--- what was heard, by other names
-pub heard_as : (left before now : Option (List ℕ)) (fault told : Option Fault) (put all : Orders) (goodbye owed : Owed)
-    → now ≡ before → told ≡ fault → all ≡ put → owed ≡ goodbye → HasHeard left before fault put goodbye
-    → HasHeard left now told all owed
-heard_as left before now fault told put all goodbye owed same_left same_fault same_put same_owed heard =
-    rw (same_left, same_fault, same_put, same_owed) heard

@@ -1,7 +1,7 @@
 use Rattle.std.proofs.Common.{refl, subst, sym}
-use Rattle.fl_serve.proofs.HearingLemmas.{puts}
-use Rattle.fl_serve.specs.Inside.Hearing.{IsPutAs}
-use Rattle.fl_serve.proofs.serving.hearing.Hearer.hear.Goals as goal
+use Rattle.fl_hearing.proofs.HearingLemmas.{puts}
+use Rattle.fl_hearing.specs.Inside.Hearing.{IsPutAs}
+use Rattle.fl_hearing.proofs.hearing.Hearer.hear.Goals as goal
 
 pub returns-in-Owed-clause-put : goal.returns-in-Owed-clause-put
 returns-in-Owed-clause-put g c = let put = c.args.self.now.put.put in
