@@ -1,7 +1,7 @@
 //! A whole session of the FUSE protocol with workers, over any reader and any writer.
 
 ghost use Rattle.std.specs.Prelude.{◌≡◌, ◌≢◌, ◌≤◌, ◌<◌, ◌+◌, ◌⊎◌, ◌||◌, ℕ, Bool, List, [], All, Option, false, Some};
-ghost use Rattle.std.specs.Prelude.{length, map, sum_by, IfOk, IfSome, IsSome, None};
+ghost use Rattle.std.specs.Prelude.{length, map, sum_by, vec_capacity, IfOk, IfSome, IsSome, None};
 ghost use Rattle.std.specs.List.{range_with_len};
 ghost use Rattle.std.specs.Io.KnownBytes.{Keeps};
 ghost use Rattle.fl_desk.specs.Legal.{IsLegal};
@@ -16,12 +16,12 @@ ghost use Rattle.fl_serve.specs.Serve.{HasNoHistory, IsServedBy};
 mod crew;
 
 use crate::kept::Kept;
-use crate::serving::crew::{Back, Crew, Posts};
+use crate::serving::crew::{Back, Crew, Posts, Thread};
 use fl_board::{Board, BoardName, FreshLog, OpenFault, Seat};
 use fl_core::Tolds;
 use fl_hearing::Heard;
 use fl_history::Lines;
-use fl_intake::{Intake, Job, PutEnd};
+use fl_intake::{Intake, Job, PutEnd, TakeEnd};
 use fl_keeper::Keeper;
 use fl_order::NoMemory;
 use fl_session::{Done, Fault, Inbox, Owed, ReplyBuffer};
@@ -363,18 +363,19 @@ impl<L: BoardName, R: Wait + Drop, K: Keeper + Drop> Rooms<L, R, K> {
         ensures unread { IfOk result (λ rooms. IsUnread rooms.inbox) }
         ensures none { IfOk result (λ rooms. rooms.replies ≡ []) }
     {
-        let tolds = Tolds::new(alloc)?;
-        let (intake, put, ends) = Intake::new(alloc, workers)?;
-        let inbox = Inbox::new(alloc)?;
-        let replies = ReplyBuffer::with_bytes(alloc, BATCH_BYTES)?;
-        let each = rooms_for_replies(alloc, workers)?;
-        let threads = Vec::with_capacity(alloc, workers as usize)?;
-        let back = Back {
-            seats: Vec::with_capacity(alloc, workers as usize)?,
-            ends: Vec::with_capacity(alloc, workers as usize)?,
-            refused: false,
-        };
+        let stock = Stock::<L>::new(alloc, workers)?;
         let (board, seats) = Board::<L, R, K>::over(alloc, rt, keeper, blank, log, workers)?;
+        let Stock {
+            intake,
+            put,
+            ends,
+            tolds,
+            inbox,
+            replies,
+            each,
+            threads,
+            back,
+        } = stock;
         let posts = Posts {
             seats,
             ends,
@@ -390,6 +391,49 @@ impl<L: BoardName, R: Wait + Drop, K: Keeper + Drop> Rooms<L, R, K> {
             tolds,
             inbox,
             replies,
+        })
+    }
+}
+
+// What a session has before its first read beside its board: its intake with all ends, and memory for all that is to come.
+#[derive(Drop)]
+struct Stock<L: BoardName> {
+    intake: Intake,
+    put: PutEnd,
+    ends: Vec<TakeEnd>,
+    // For the orders that no worker takes.
+    tolds: Tolds,
+    inbox: Inbox,
+    replies: ReplyBuffer,
+    // For the replies of an order, for each worker.
+    each: Vec<Tolds>,
+    threads: Vec<Thread<L>>,
+    back: Back<L>,
+}
+
+impl<L: BoardName> Stock<L> {
+    fn new(alloc: Global, workers: u32) -> Result<Stock<L>, NoMemory>
+        requires workers { (0 < workers) × (workers ≤ 16) }
+        ensures ends { IfOk result (λ stock. All (IsFresh stock.intake) stock.ends.items) }
+        ensures put { IfOk result (λ stock. (stock.put.of ≡ stock.intake) × (stock.put.takers ≡ workers)
+            × (stock.put.closed ≡ false) × (stock.put.put ≡ [])) }
+        ensures unread { IfOk result (λ stock. IsUnread stock.inbox) }
+        ensures none { IfOk result (λ stock. (stock.replies ≡ []) × (stock.threads.items ≡ [])
+            × (stock.back.seats.items ≡ []) × (stock.back.ends.items ≡ [])) }
+        ensures room { IfOk result (λ stock. (workers ≤ vec_capacity stock.threads)
+            × (workers ≤ vec_capacity stock.back.seats) × (workers ≤ vec_capacity stock.back.ends)) }
+    {
+        let (intake, put, ends) = Intake::new(alloc, workers)?;
+        Ok(Stock {
+            intake,
+            put,
+            ends,
+            tolds: Tolds::new(alloc)?,
+            inbox: Inbox::new(alloc)?,
+            replies: ReplyBuffer::with_bytes(alloc, BATCH_BYTES)?,
+            each: rooms_for_replies(alloc, workers)?,
+            threads: Vec::with_capacity(alloc, workers as usize)?,
+            back: Back::with_room(alloc, workers)?,
         })
     }
 }

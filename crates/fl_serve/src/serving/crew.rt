@@ -1,6 +1,6 @@
 //! The workers of a session, from start to join.
 
-ghost use Rattle.std.specs.Prelude.{◌≡◌, ◌≢◌, ◌≤◌, [], All, IfSome, true, false, Some, length, map, vec_capacity};
+ghost use Rattle.std.specs.Prelude.{◌≡◌, ◌≢◌, ◌≤◌, [], All, IfOk, IfSome, true, false, Some, length, map, vec_capacity};
 ghost use Rattle.std.specs.Io.KnownBytes.{Keeps};
 ghost use Rattle.fl_intake.specs.Ends.{weight_taken};
 ghost use Rattle.fl_workers.specs.Asked.{asked_by};
@@ -15,8 +15,10 @@ use fl_core::Tolds;
 use fl_hearing::{Heard, hear_all};
 use fl_intake::{Intake, PutEnd, TakeEnd};
 use fl_keeper::Keeper;
+use fl_order::NoMemory;
 use fl_session::{Fault, Inbox, Owed};
 use fl_workers::{Gate, Shared, Worked, WriterName, worker_loop};
+use std::alloc::Global;
 use std::io::{Read, Write};
 use std::snapshot::Snapshot;
 use std::sync::{Mutex, Wait};
@@ -62,6 +64,20 @@ pub(crate) struct Back<L: BoardName> {
     pub ends: Vec<TakeEnd>,
     /// Some order was refused.
     pub refused: bool,
+}
+
+impl<L: BoardName> Back<L> {
+    /// Nothing came back yet, and there is room for all that these workers give back.
+    pub(crate) fn with_room(alloc: Global, workers: u32) -> Result<Back<L>, NoMemory>
+        ensures none { IfOk result (λ back. (back.seats.items ≡ []) × (back.ends.items ≡ [])) }
+        ensures room { IfOk result (λ back. (workers ≤ vec_capacity back.seats) × (workers ≤ vec_capacity back.ends)) }
+    {
+        Ok(Back {
+            seats: Vec::with_capacity(alloc, workers as usize)?,
+            ends: Vec::with_capacity(alloc, workers as usize)?,
+            refused: false,
+        })
+    }
 }
 
 /// What each worker gets, and room for their threads and for what they give back.
