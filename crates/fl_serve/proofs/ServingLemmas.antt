@@ -16,7 +16,8 @@ use Rattle.fl_intake.specs.Often.{Weight}
 use Rattle.fl_order.specs.Order.{only_reads}
 use Rattle.fl_order.specs.declared.order.Order.{Order}
 use Rattle.fl_serve.proofs.AskedLemmas.{all_is_handed_in}
-use Rattle.fl_serve.specs.Inside.Working.{HasAll, HaveDone}
+use Rattle.fl_crew.specs.Working.{HaveDone}
+use Rattle.fl_serve.specs.Inside.Closing.{HasAll}
 use Rattle.fl_serve.specs.Kept.{lines_kept}
 use Rattle.fl_hearing.specs.Said.{said_in}
 use Rattle.fl_serve.specs.Serve.{HasNoHistory, IsAsked, IsServedBy}
@@ -90,13 +91,6 @@ served_by workers left left_now held held_now fault put goodbye broken any order
       orders = ⊎_elim
           (λ all. inl (asked_as_said workers heard.came put orders places any told done heard.said is did whose all)) inr closed;
     }
-
--- what was heard, by other names
-pub heard_as : (left before now : Option (List ℕ)) (fault told : Option Fault) (put all : Orders) (goodbye owed : Owed)
-    → now ≡ before → told ≡ fault → all ≡ put → owed ≡ goodbye → HasHeard left before fault put goodbye
-    → HasHeard left now told all owed
-heard_as left before now fault told put all goodbye owed same_left same_fault same_put same_owed heard =
-    rw (same_left, same_fault, same_put, same_owed) heard
 
 -- what a session did that had no memory, or no reader
 pub unserved : (left left_now held held_now : Option (List ℕ)) (broken : Bool) (done : Done) (fault : Fault)

@@ -9,23 +9,22 @@ ghost use Rattle.fl_session.specs.Inbox.{IsUnread};
 ghost use Rattle.fl_intake.specs.Ends.{weight_taken};
 ghost use Rattle.fl_intake.specs.Often.{Weight};
 ghost use Rattle.fl_hearing.specs.Heard.{HasHeard};
-ghost use Rattle.fl_serve.specs.Inside.Working.{HasAll, HaveDone, IsFresh};
+ghost use Rattle.fl_crew.specs.Working.{HaveDone, IsFresh};
+ghost use Rattle.fl_serve.specs.Inside.Closing.{HasAll};
 ghost use Rattle.fl_serve.specs.Kept.{came_to};
 ghost use Rattle.fl_serve.specs.Serve.{HasNoHistory, IsServedBy};
 
-mod crew;
-
 use crate::kept::Kept;
-use crate::serving::crew::{Back, Crew, Posts, Thread};
 use fl_board::{Board, BoardName, FreshLog, OpenFault, Seat};
 use fl_core::Tolds;
+use fl_crew::{Back, Crew, Posts, Thread, handed_in};
 use fl_hearing::Heard;
 use fl_history::Lines;
-use fl_intake::{Intake, Job, PutEnd, TakeEnd};
+use fl_intake::{Intake, PutEnd, TakeEnd};
 use fl_keeper::Keeper;
 use fl_order::NoMemory;
 use fl_session::{Done, Fault, Inbox, Owed, ReplyBuffer};
-use fl_workers::{Gate, Shared, WriterName, handle_all};
+use fl_workers::{Gate, Shared, WriterName};
 use std::alloc::Global;
 use std::io::{Read, Write};
 use std::marker::Brand;
@@ -276,31 +275,6 @@ fn unopened(fault: OpenFault) -> Fault
         OpenFault::NoMemory => Fault::NoMemory,
         OpenFault::NoReader => Fault::NoReader,
     }
-}
-
-// Hands in, at the last seat, the orders that no worker took, or looks for them. Tells whether one was refused.
-fn handed_in<L: BoardName, N: WriterName, P: Wait + Drop, R: Wait, W: Write, G: Gate, K: Keeper>(
-    rt: &R,
-    board: &Board<L, P, K>,
-    gate: &G,
-    shared: &Mutex<Shared<'_, W, N>>,
-    seats: Vec<Seat<L>>,
-    tolds: Tolds,
-    left: Vec<Job>,
-) -> (Vec<Seat<L>>, bool)
-    requires some { 0 < length seats.items }
-    ensures whose { map (λ seat. seat.worker) result.0.items ≡ map (λ seat. seat.worker) seats.items }
-    ensures did { (orders : Weight → ℕ) (any : Bool) → HaveDone orders seats.items any
-        → HaveDone (λ weight. orders weight + sum_by weight left.items) result.0.items (any || result.1) }
-{
-    let mut seats = seats;
-    let Some(seat) = seats.pop() else {
-        unreachable!()
-    };
-    let mut seat = seat;
-    let refused = handle_all(rt, board, gate, shared, &mut seat, tolds, left);
-    seats.push_reserved(seat);
-    (seats, refused)
 }
 
 // What a session came to whose workers gave all seats back, with this fault. Where the board can't tell the history, it is

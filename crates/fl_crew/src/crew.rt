@@ -1,11 +1,12 @@
 //! The workers of a session, from start to join.
 
-ghost use Rattle.std.specs.Prelude.{◌≡◌, ◌≢◌, ◌≤◌, [], All, IfOk, IfSome, true, false, Some, length, map, vec_capacity};
+ghost use Rattle.std.specs.Prelude.{◌≡◌, ◌≢◌, ◌≤◌, ◌<◌, ◌+◌, ◌||◌, ℕ, Bool, [], All, IfOk, IfSome, true, false, Some, length, map, sum_by, vec_capacity};
+ghost use Rattle.fl_intake.specs.Often.{Weight};
 ghost use Rattle.std.specs.Io.KnownBytes.{Keeps};
 ghost use Rattle.fl_intake.specs.Ends.{weight_taken};
 ghost use Rattle.fl_workers.specs.Asked.{asked_by};
 ghost use Rattle.fl_hearing.specs.Heard.{HasHeard};
-ghost use Rattle.fl_serve.specs.Inside.Working.{HaveDone, HaveWorked, IsFresh};
+ghost use Rattle.fl_crew.specs.Working.{HaveDone, HaveWorked, IsFresh};
 ghost use Rattle.fl_workers.specs.Worked.{HasDone};
 ghost use Rattle.fl_session.specs.Inbox.{IsUnread};
 
@@ -13,11 +14,11 @@ use core::thread::Stack;
 use fl_board::{Board, BoardName, Seat};
 use fl_core::Tolds;
 use fl_hearing::{Heard, hear_all};
-use fl_intake::{Intake, PutEnd, TakeEnd};
+use fl_intake::{Intake, Job, PutEnd, TakeEnd};
 use fl_keeper::Keeper;
 use fl_order::NoMemory;
 use fl_session::{Fault, Inbox, Owed};
-use fl_workers::{Gate, Shared, Worked, WriterName, worker_loop};
+use fl_workers::{Gate, Shared, Worked, WriterName, handle_all, worker_loop};
 use std::alloc::Global;
 use std::io::{Read, Write};
 use std::snapshot::Snapshot;
@@ -27,7 +28,7 @@ use std::thread::{Promise, PromisedHandle, Scope, Threads};
 
 /// What the reader and the workers of a session share.
 #[derive(Drop)]
-pub(crate) struct Crew<'a, 'w, L: BoardName, N: WriterName, R: Wait, W: Write, G, K: Keeper> {
+pub struct Crew<'a, 'w, L: BoardName, N: WriterName, R: Wait, W: Write, G, K: Keeper> {
     pub rt: &'a R,
     pub gate: &'a G,
     /// Bytes of a worker's stack.
@@ -39,9 +40,11 @@ pub(crate) struct Crew<'a, 'w, L: BoardName, N: WriterName, R: Wait, W: Write, G
 
 /// Whose seat comes back, and with which end, as it was.
 #[derive(Drop)]
-pub(crate) struct AtSeat {
-    worker: u32,
-    end: Snapshot<TakeEnd>,
+pub struct AtSeat {
+    /// Whose seat.
+    pub worker: u32,
+    /// The end, as it was.
+    pub end: Snapshot<TakeEnd>,
 }
 
 impl<L: BoardName> Promise<Worked<Seat<L>>> for AtSeat {
@@ -55,11 +58,11 @@ impl<L: BoardName> Promise<Worked<Seat<L>>> for AtSeat {
 }
 
 /// A worker that was started.
-pub(crate) type Thread<L> = PromisedHandle<Worked<Seat<L>>, AtSeat>;
+pub type Thread<L> = PromisedHandle<Worked<Seat<L>>, AtSeat>;
 
 /// What the workers gave back.
 #[derive(Drop)]
-pub(crate) struct Back<L: BoardName> {
+pub struct Back<L: BoardName> {
     pub seats: Vec<Seat<L>>,
     pub ends: Vec<TakeEnd>,
     /// Some order was refused.
@@ -68,7 +71,7 @@ pub(crate) struct Back<L: BoardName> {
 
 impl<L: BoardName> Back<L> {
     /// Nothing came back yet, and there is room for all that these workers give back.
-    pub(crate) fn with_room(alloc: Global, workers: u32) -> Result<Back<L>, NoMemory>
+    pub fn with_room(alloc: Global, workers: u32) -> Result<Back<L>, NoMemory>
         ensures none { IfOk result (λ back. (back.seats.items ≡ []) × (back.ends.items ≡ [])) }
         ensures room { IfOk result (λ back. (workers ≤ vec_capacity back.seats) × (workers ≤ vec_capacity back.ends)) }
     {
@@ -82,7 +85,7 @@ impl<L: BoardName> Back<L> {
 
 /// What each worker gets, and room for their threads and for what they give back.
 #[derive(Drop)]
-pub(crate) struct Posts<L: BoardName> {
+pub struct Posts<L: BoardName> {
     pub seats: Vec<Seat<L>>,
     pub ends: Vec<TakeEnd>,
     pub tolds: Vec<Tolds>,
@@ -106,7 +109,7 @@ impl<
 > Crew<'a, 'w, L, N, R, W, G, K> {
     /// Runs a session: starts a worker at each seat, reads until the session ends, closes the intake, and joins the workers.
     /// Where a worker can't be started nothing is read.
-    pub(crate) fn run<I: Read>(
+    pub fn run<I: Read>(
         &self,
         r: &mut I,
         inbox: Inbox,
@@ -292,4 +295,37 @@ fn joined<L: BoardName, R: Threads>(
         back.refused |= refused;
     }
     back
+}
+
+/// Hands in, at the last seat, the orders that no worker took, or looks for them. Tells whether one was refused.
+pub fn handed_in<
+    L: BoardName,
+    N: WriterName,
+    P: Wait + Drop,
+    R: Wait,
+    W: Write,
+    G: Gate,
+    K: Keeper,
+>(
+    rt: &R,
+    board: &Board<L, P, K>,
+    gate: &G,
+    shared: &Mutex<Shared<'_, W, N>>,
+    seats: Vec<Seat<L>>,
+    tolds: Tolds,
+    left: Vec<Job>,
+) -> (Vec<Seat<L>>, bool)
+    requires some { 0 < length seats.items }
+    ensures whose { map (λ seat. seat.worker) result.0.items ≡ map (λ seat. seat.worker) seats.items }
+    ensures did { (orders : Weight → ℕ) (any : Bool) → HaveDone orders seats.items any
+        → HaveDone (λ weight. orders weight + sum_by weight left.items) result.0.items (any || result.1) }
+{
+    let mut seats = seats;
+    let Some(seat) = seats.pop() else {
+        unreachable!()
+    };
+    let mut seat = seat;
+    let refused = handle_all(rt, board, gate, shared, &mut seat, tolds, left);
+    seats.push_reserved(seat);
+    (seats, refused)
 }

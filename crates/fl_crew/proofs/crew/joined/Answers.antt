@@ -3,9 +3,9 @@ use Rattle.std.specs.declared.thread.PromisedHandle.{PromisedHandle}
 use Rattle.std.proofs.lemmas.List.Elements.{All-head, All-tail, All-push}
 use Rattle.fl_board.specs.Seats.{Place}
 use Rattle.fl_intake.specs.Ends.{TakeSide}
-use Rattle.fl_serve.specs.Inside.Working.{IsFresh}
-use Rattle.fl_serve.proofs.WorkingLemmas.{moves, none_back, one_back}
-use Rattle.fl_serve.proofs.serving.crew.joined.Goals as goal
+use Rattle.fl_crew.specs.Working.{IsFresh}
+use Rattle.fl_crew.proofs.WorkingLemmas.{moves, none_back, one_back}
+use Rattle.fl_crew.proofs.crew.joined.Goals as goal
 
 pub loop-thread-init : goal.loop-thread-init
 loop-thread-init g c = (

@@ -3,9 +3,9 @@ use Rattle.std.specs.Prelude.{Some, option_to_list}
 use Rattle.std.specs.declared.thread.PromisedHandle.{PromisedHandle}
 use Rattle.std.proofs.lemmas.List.Elements.{All-head, All-tail, All-pop, All-push}
 use Rattle.fl_board.specs.Seats.{Place}
-use Rattle.fl_serve.specs.Inside.Working.{IsFresh}
-use Rattle.fl_serve.proofs.WorkingLemmas.{moves}
-use Rattle.fl_serve.proofs.serving.crew.Crew.start_all.Goals as goal
+use Rattle.fl_crew.specs.Working.{IsFresh}
+use Rattle.fl_crew.proofs.WorkingLemmas.{moves}
+use Rattle.fl_crew.proofs.crew.Crew.start_all.Goals as goal
 
 pub loop-seat-preserved : goal.loop-seat-preserved
 loop-seat-preserved g c =

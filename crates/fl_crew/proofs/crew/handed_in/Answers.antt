@@ -1,5 +1,5 @@
-use Rattle.fl_serve.proofs.WorkingLemmas.{rest_done, same_last}
-use Rattle.fl_serve.proofs.serving.handed_in.Goals as goal
+use Rattle.fl_crew.proofs.WorkingLemmas.{rest_done, same_last}
+use Rattle.fl_crew.proofs.crew.handed_in.Goals as goal
 
 pub returns : goal.returns
 returns g c =

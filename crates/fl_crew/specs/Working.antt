@@ -1,15 +1,11 @@
--- The workers of a session, while it is under way.
-use Rattle.std.specs.Prelude.{◌≡◌, ℕ, ◌+◌, Bool, true, false, List, [], ◌++◌, All, Option, length, map, sum_by}
+-- What the workers of a session did together.
+use Rattle.std.specs.Prelude.{◌≡◌, ℕ, ◌+◌, Bool, true, false, List, [], ◌++◌, All, length, map, sum_by}
 use mathlib.Core.List.{Sublistᴰ}
 use Rattle.atomic_table.specs.Seated.{TableId}
 use Rattle.fl_board.specs.Seats.{Place}
-use Rattle.fl_board.specs.Shown.{HasAllOf}
-use Rattle.fl_desk.specs.Legal.{orders_asked}
 use Rattle.fl_intake.specs.Ends.{TakeSide, weight_taken}
 use Rattle.fl_intake.specs.Often.{Weight}
 use Rattle.fl_order.specs.Order.{only_reads}
-use Rattle.fl_session.specs.declared.session.Done.{Done}
-use Rattle.fl_session.specs.declared.session.Fault.{Fault}
 use Rattle.fl_workers.specs.Asked.{Orders, asked_by}
 
 -- the end is this intake's, and took nothing
@@ -46,10 +42,3 @@ pub record HaveWorked (places back : List Place) (ends : List TakeSide) (any : B
   pub whose : map (λ place. place.worker) back ≡ map (λ place. place.worker) places
   pub all : length ends ≡ length places
   pub did : HaveDone (λ weight. weight_taken weight ends) back any
-
--- What came of a session: its history has all that was handed in at these places, and no other order.
-pub record HasAll (places : List Place) (refused : Bool) (fault : Option Fault) (done : Done) : Type 0 where
-  pub told : done.fault ≡ fault
-  pub tells : done.refused ≡ refused
-  pub each : All (HasAllOf done.history) places
-  pub counted : orders_asked done.history ≡ sum_by (λ place. place.count) places

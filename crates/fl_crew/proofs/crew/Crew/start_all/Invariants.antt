@@ -1,6 +1,6 @@
 use Rattle.std.proofs.Common.{◌≡◌, ◌+◌, ◌≤◌, ◌++◌, All, length, map, vec_capacity}
-use Rattle.fl_serve.specs.Inside.Working.{IsFresh}
-use Rattle.fl_serve.proofs.serving.crew.Crew.start_all.Given as goal
+use Rattle.fl_crew.specs.Working.{IsFresh}
+use Rattle.fl_crew.proofs.crew.Crew.start_all.Given as goal
 
 -- a thread for each seat so far, in their order, and fresh seats and ends for the others
 abbrev pub invariant-loop-seat : goal.invariant-loop-seat

@@ -1,16 +1,19 @@
 -- What the workers of a session have done together.
-use Rattle.std.proofs.Common.{◌≡◌, ℕ, ◌+◌, Bool, true, false, true≢false, List, [], ◌∷◌, ◌++◌, All, length, map, sum_by, refl, sym, ap, ◌∙◌, subst, arith, append_assoc, length-append}
+use Rattle.std.proofs.Common.{◌≡◌, ℕ, ◌+◌, Bool, true, false, true≢false, List, [], ◌∷◌, ◌++◌, All, Option, length, map, sum_by, refl, sym, ap, ◌∙◌, subst, arith, append_assoc, length-append}
 use Rattle.std.specs.Prelude.{◌||◌}
 use Rattle.std.proofs.lemmas.List.{length-map, map-append}
 use Rattle.std.proofs.lemmas.List.Elements.{All-append, All-cons, All-head, All-nil, All-push, All-tail}
 use Rattle.std.proofs.lemmas.List.Sums.{sum_by-append, sum_by_push}
 use mathlib.Core.List.{Sublistᴰ, nil≢cons, head-eq_of_cons-eq, tail-eq_of_cons-eq}
 use Rattle.fl_board.specs.Seats.{Place}
+use Rattle.fl_hearing.specs.Heard.{HasHeard}
 use Rattle.fl_intake.specs.Ends.{TakeSide, weight_taken}
 use Rattle.fl_intake.specs.Often.{Weight}
 use Rattle.fl_order.specs.Order.{only_reads}
 use Rattle.fl_order.specs.declared.order.Order.{Order}
-use Rattle.fl_serve.specs.Inside.Working.{HaveDone, HaveWorked, IsCounted, Post, handed_at}
+use Rattle.fl_crew.specs.Working.{HaveDone, HaveWorked, IsCounted, Post, handed_at}
+use Rattle.fl_session.specs.declared.server.Owed.{Owed}
+use Rattle.fl_session.specs.declared.session.Fault.{Fault}
 use Rattle.fl_workers.specs.Asked.{Orders, asked_by}
 use Rattle.fl_workers.specs.Worked.{HasDone, HasWorked}
 
@@ -184,3 +187,10 @@ same_last places places_now front place place_now was now same =
     let name = λ (p : Place). p.worker in
     ap (map name) now ∙ map-append name front (place_now ∷ []) ∙ (λ i. map name front ++ same i ∷ [])
     ∙ sym (ap (map name) was ∙ map-append name front (place ∷ []))
+
+-- what was heard, by other names
+pub heard_as : (left before now : Option (List ℕ)) (fault told : Option Fault) (put all : Orders) (goodbye owed : Owed)
+    → now ≡ before → told ≡ fault → all ≡ put → owed ≡ goodbye → HasHeard left before fault put goodbye
+    → HasHeard left now told all owed
+heard_as left before now fault told put all goodbye owed same_left same_fault same_put same_owed heard =
+    rw (same_left, same_fault, same_put, same_owed) heard

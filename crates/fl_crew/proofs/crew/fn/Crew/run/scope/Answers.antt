@@ -1,9 +1,9 @@
 use Rattle.std.proofs.Common.{rules, ◌∙◌, ap}
 use Rattle.fl_hearing.specs.declared.hearing.Heard.{Heard}
-use Rattle.fl_serve.proofs.ServingLemmas.{heard_as}
-use Rattle.fl_serve.proofs.WorkingLemmas.{all_back}
-use Rattle.fl_serve.proofs.serving.crew.fn.Crew.run.scope.Goals.{then-start_all, else-start_all}
-use Rattle.fl_serve.proofs.serving.crew.fn.Crew.run.scope.Goals as goal
+use Rattle.fl_crew.proofs.WorkingLemmas.{heard_as}
+use Rattle.fl_crew.proofs.WorkingLemmas.{all_back}
+use Rattle.fl_crew.proofs.crew.fn.Crew.run.scope.Goals.{then-start_all, else-start_all}
+use Rattle.fl_crew.proofs.crew.fn.Crew.run.scope.Goals as goal
 
 pub returns : goal.returns
 returns g c = record {
