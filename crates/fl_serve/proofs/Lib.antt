@@ -1,4 +1,2 @@
 pub mod AskedLemmas
-pub mod HearingLemmas
 pub mod ServingLemmas
-pub mod WorkingLemmas

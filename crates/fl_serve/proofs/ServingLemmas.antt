@@ -10,15 +10,16 @@ use Rattle.std.specs.Prelude.{IfSome}
 use Rattle.fl_board.specs.Seats.{Place}
 use Rattle.fl_desk.specs.Legal.{IsLegal, nothing}
 use Rattle.fl_history.specs.declared.history.Line.{Line}
-use Rattle.fl_serve.specs.Inside.Hearing.{HasHeard}
+use Rattle.fl_hearing.specs.Heard.{HasHeard}
 use Rattle.fl_session.specs.Inbox.{IsEnding}
 use Rattle.fl_intake.specs.Often.{Weight}
 use Rattle.fl_order.specs.Order.{only_reads}
 use Rattle.fl_order.specs.declared.order.Order.{Order}
 use Rattle.fl_serve.proofs.AskedLemmas.{all_is_handed_in}
-use Rattle.fl_serve.specs.Inside.Working.{HasAll, HaveDone}
+use Rattle.fl_crew.specs.Working.{HaveDone}
+use Rattle.fl_serve.specs.Inside.Closing.{HasAll}
 use Rattle.fl_session.specs.Kept.{lines_kept}
-use Rattle.fl_serve.specs.Said.{said_in}
+use Rattle.fl_hearing.specs.Said.{said_in}
 use Rattle.fl_serve.specs.Serve.{HasNoHistory, IsAsked, IsServedBy}
 use Rattle.fl_workers.specs.Asked.{Orders, asked}
 use Rattle.fl_session.specs.Served.{EndsBy, IsRead}

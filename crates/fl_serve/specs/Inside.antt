@@ -1,3 +1,2 @@
 -- What a session with workers keeps while it is under way. No contract of a public function cites these definitions.
-pub mod Hearing
-pub mod Working
+pub mod Closing

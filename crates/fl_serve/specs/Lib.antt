@@ -1,3 +1,2 @@
 pub mod Inside
-pub mod Said
 pub mod Serve

@@ -1,23 +1,17 @@
 -- What a session with workers did.
-use Rattle.std.specs.Prelude.{◌≡◌, ℕ, ◌≤◌, ◌⊎◌, Bool, true, false, List, [], ◌∷◌, ◌++◌, All, length, Option, Some}
+use Rattle.std.specs.Prelude.{◌≡◌, ℕ, ◌≤◌, ◌⊎◌, Bool, true, false, List, [], ◌++◌, All, length, Option, Some}
+use Rattle.fl_hearing.specs.Heard.{IsLast}
+use Rattle.fl_hearing.specs.Said.{said_in}
 use Rattle.fl_intake.specs.Often.{AreAsOften}
 use Rattle.fl_order.specs.Order.{only_reads}
 use Rattle.fl_session.specs.Served.{EndsBy, IsRead}
 use Rattle.fl_session.specs.Session.{Came, session_of}
-use Rattle.fl_session.specs.Talk.{bytes_of, goodbye_to}
+use Rattle.fl_session.specs.Talk.{bytes_of}
 use Rattle.fl_session.specs.declared.server.Owed.{Owed}
 use Rattle.fl_session.specs.declared.session.Done.{Done}
 use Rattle.fl_session.specs.declared.session.Fault.TheVariants.{NoReader}
-use Rattle.fl_serve.specs.Said.{said_in}
 use Rattle.fl_workers.specs.Asked.{Orders, asked}
 use Rattle.fl_workers.specs.Shared.{HasSent, HasSentLast}
-
--- the last message is a DESTROY, to which this is owed
-pub record IsLast (came : List Came) (goodbye : Owed) : Type 0 where
-  pub front : List Came
-  pub last : Came
-  pub parts : came ≡ front ++ last ∷ []
-  pub owed : goodbye ≡ goodbye_to last.message
 
 -- A DESTROY came last, and its reply was written last, behind whole replies.
 pub record SaysGoodbye (came : List Came) (held held_now : Option (List ℕ)) : Type 0 where

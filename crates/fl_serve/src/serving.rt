@@ -1,31 +1,29 @@
 //! A whole session of the FUSE protocol with workers, over any reader and any writer.
 
 ghost use Rattle.std.specs.Prelude.{◌≡◌, ◌≢◌, ◌≤◌, ◌<◌, ◌+◌, ◌⊎◌, ◌||◌, ℕ, Bool, List, [], All, Option, false, Some};
-ghost use Rattle.std.specs.Prelude.{length, map, sum_by, IfOk, IfSome, IsSome, None};
+ghost use Rattle.std.specs.Prelude.{length, map, sum_by, vec_capacity, IfOk, IfSome, IsSome, None};
 ghost use Rattle.std.specs.List.{range_with_len};
 ghost use Rattle.std.specs.Io.KnownBytes.{Keeps};
 ghost use Rattle.fl_desk.specs.Legal.{IsLegal};
 ghost use Rattle.fl_session.specs.Inbox.{IsUnread};
 ghost use Rattle.fl_intake.specs.Ends.{weight_taken};
 ghost use Rattle.fl_intake.specs.Often.{Weight};
-ghost use Rattle.fl_serve.specs.Inside.Hearing.{HasHeard};
-ghost use Rattle.fl_serve.specs.Inside.Working.{HasAll, HaveDone, IsFresh};
+ghost use Rattle.fl_hearing.specs.Heard.{HasHeard};
+ghost use Rattle.fl_crew.specs.Working.{HaveDone, IsFresh};
+ghost use Rattle.fl_serve.specs.Inside.Closing.{HasAll};
 ghost use Rattle.fl_session.specs.Kept.{came_to};
 ghost use Rattle.fl_serve.specs.Serve.{HasNoHistory, IsServedBy};
 
-mod crew;
-mod hearing;
-
-use crate::serving::crew::{Back, Crew, Posts};
-use crate::serving::hearing::Heard;
 use fl_board::{Board, BoardName, FreshLog, OpenFault, Seat};
 use fl_core::Tolds;
+use fl_crew::{Back, Crew, Posts, Thread, handed_in};
+use fl_hearing::Heard;
 use fl_history::Lines;
-use fl_intake::{Intake, Job, PutEnd};
+use fl_intake::{Intake, PutEnd, TakeEnd};
 use fl_keeper::Keeper;
 use fl_order::NoMemory;
 use fl_session::{Done, Fault, Inbox, Kept, Owed, ReplyBuffer};
-use fl_workers::{Gate, Shared, WriterName, handle_all};
+use fl_workers::{Gate, Shared, WriterName};
 use std::alloc::Global;
 use std::io::{Read, Write};
 use std::marker::Brand;
@@ -278,31 +276,6 @@ fn unopened(fault: OpenFault) -> Fault
     }
 }
 
-// Hands in, at the last seat, the orders that no worker took, or looks for them. Tells whether one was refused.
-fn handed_in<L: BoardName, N: WriterName, P: Wait + Drop, R: Wait, W: Write, G: Gate, K: Keeper>(
-    rt: &R,
-    board: &Board<L, P, K>,
-    gate: &G,
-    shared: &Mutex<Shared<'_, W, N>>,
-    seats: Vec<Seat<L>>,
-    tolds: Tolds,
-    left: Vec<Job>,
-) -> (Vec<Seat<L>>, bool)
-    requires some { 0 < length seats.items }
-    ensures whose { map (λ seat. seat.worker) result.0.items ≡ map (λ seat. seat.worker) seats.items }
-    ensures did { (orders : Weight → ℕ) (any : Bool) → HaveDone orders seats.items any
-        → HaveDone (λ weight. orders weight + sum_by weight left.items) result.0.items (any || result.1) }
-{
-    let mut seats = seats;
-    let Some(seat) = seats.pop() else {
-        unreachable!()
-    };
-    let mut seat = seat;
-    let refused = handle_all(rt, board, gate, shared, &mut seat, tolds, left);
-    seats.push_reserved(seat);
-    (seats, refused)
-}
-
 // What a session came to whose workers gave all seats back, with this fault. Where the board can't tell the history, it is
 // told as want of a reader.
 fn closed<L: BoardName, R: Wait + Drop, K: Keeper + Drop>(
@@ -363,18 +336,19 @@ impl<L: BoardName, R: Wait + Drop, K: Keeper + Drop> Rooms<L, R, K> {
         ensures unread { IfOk result (λ rooms. IsUnread rooms.inbox) }
         ensures none { IfOk result (λ rooms. rooms.replies ≡ []) }
     {
-        let tolds = Tolds::new(alloc)?;
-        let (intake, put, ends) = Intake::new(alloc, workers)?;
-        let inbox = Inbox::new(alloc)?;
-        let replies = ReplyBuffer::with_bytes(alloc, BATCH_BYTES)?;
-        let each = rooms_for_replies(alloc, workers)?;
-        let threads = Vec::with_capacity(alloc, workers as usize)?;
-        let back = Back {
-            seats: Vec::with_capacity(alloc, workers as usize)?,
-            ends: Vec::with_capacity(alloc, workers as usize)?,
-            refused: false,
-        };
+        let stock = Stock::<L>::new(alloc, workers)?;
         let (board, seats) = Board::<L, R, K>::over(alloc, rt, keeper, blank, log, workers)?;
+        let Stock {
+            intake,
+            put,
+            ends,
+            tolds,
+            inbox,
+            replies,
+            each,
+            threads,
+            back,
+        } = stock;
         let posts = Posts {
             seats,
             ends,
@@ -390,6 +364,49 @@ impl<L: BoardName, R: Wait + Drop, K: Keeper + Drop> Rooms<L, R, K> {
             tolds,
             inbox,
             replies,
+        })
+    }
+}
+
+// What a session has before its first read beside its board: its intake with all ends, and memory for all that is to come.
+#[derive(Drop)]
+struct Stock<L: BoardName> {
+    intake: Intake,
+    put: PutEnd,
+    ends: Vec<TakeEnd>,
+    // For the orders that no worker takes.
+    tolds: Tolds,
+    inbox: Inbox,
+    replies: ReplyBuffer,
+    // For the replies of an order, for each worker.
+    each: Vec<Tolds>,
+    threads: Vec<Thread<L>>,
+    back: Back<L>,
+}
+
+impl<L: BoardName> Stock<L> {
+    fn new(alloc: Global, workers: u32) -> Result<Stock<L>, NoMemory>
+        requires workers { (0 < workers) × (workers ≤ 16) }
+        ensures ends { IfOk result (λ stock. All (IsFresh stock.intake) stock.ends.items) }
+        ensures put { IfOk result (λ stock. (stock.put.of ≡ stock.intake) × (stock.put.takers ≡ workers)
+            × (stock.put.closed ≡ false) × (stock.put.put ≡ [])) }
+        ensures unread { IfOk result (λ stock. IsUnread stock.inbox) }
+        ensures none { IfOk result (λ stock. (stock.replies ≡ []) × (stock.threads.items ≡ [])
+            × (stock.back.seats.items ≡ []) × (stock.back.ends.items ≡ [])) }
+        ensures room { IfOk result (λ stock. (workers ≤ vec_capacity stock.threads)
+            × (workers ≤ vec_capacity stock.back.seats) × (workers ≤ vec_capacity stock.back.ends)) }
+    {
+        let (intake, put, ends) = Intake::new(alloc, workers)?;
+        Ok(Stock {
+            intake,
+            put,
+            ends,
+            tolds: Tolds::new(alloc)?,
+            inbox: Inbox::new(alloc)?,
+            replies: ReplyBuffer::with_bytes(alloc, BATCH_BYTES)?,
+            each: rooms_for_replies(alloc, workers)?,
+            threads: Vec::with_capacity(alloc, workers as usize)?,
+            back: Back::with_room(alloc, workers)?,
         })
     }
 }

@@ -211,6 +211,8 @@ fn is_whole(rt: &impl Abort, alloc: Global, met: &Met) {
 
 #[test]
 fn a_million_orders(rt: HostRuntime) {
-    let met = session(&rt, rt.alloc(), Client::SendsAMillion, 4, &OpenGate);
-    is_whole(&rt, rt.alloc(), &met);
+    for workers in [1, 4, 16] {
+        let met = session(&rt, rt.alloc(), Client::SendsAMillion, workers, &OpenGate);
+        is_whole(&rt, rt.alloc(), &met);
+    }
 }

@@ -1,0 +1,26 @@
+use Rattle.std.proofs.Common.{rules, ◌∙◌, ap}
+use Rattle.fl_hearing.specs.declared.hearing.Heard.{Heard}
+use Rattle.fl_crew.proofs.WorkingLemmas.{heard_as}
+use Rattle.fl_crew.proofs.WorkingLemmas.{all_back}
+use Rattle.fl_crew.proofs.crew.fn.Crew.run.scope.Goals.{then-start_all, else-start_all}
+use Rattle.fl_crew.proofs.crew.fn.Crew.run.scope.Goals as goal
+
+pub returns : goal.returns
+returns g c = record {
+  put = search rules;
+  ends = c.joined.ensures.ends;
+  worked = λ live. elim c.if-start_all.branch [
+    | then-start_all w ↦ all_back (λ (t : _). t.promise.worker) _ _ _ _ _ c.joined.ensures.whose
+        (c.start_all.ensures.whose w.if-start_all.true) c.joined.ensures.all c.joined.ensures.did
+    | else-start_all w ↦ absurd (live (ap (λ (h : Heard). h.fault) w.heard-is))
+  ];
+  same = search rules;
+  heard = λ live. elim c.if-start_all.branch [
+    | then-start_all w ↦ heard_as _ _ _ _ _ _ _ _ _ (ap g.I.Read.remaining w.r-is)
+        (ap (λ (h : Heard). h.fault) w.heard-is)
+        (c.close.ensures.same.2 ∙ ap (λ (h : Heard). h.put.put) w.heard-is)
+        (ap (λ (h : Heard). h.goodbye) w.heard-is) w.hear_all-heard.ensures.heard
+    | else-start_all w ↦ absurd (live (ap (λ (h : Heard). h.fault) w.heard-is))
+  ];
+  unread = search rules;
+}

@@ -1,0 +1,40 @@
+use Rattle.std.proofs.Common.{rules, ◌≡◌, All, ap, ◌∙◌, sym, subst, []}
+use Rattle.std.specs.declared.thread.PromisedHandle.{PromisedHandle}
+use Rattle.std.proofs.lemmas.List.Elements.{All-head, All-tail, All-push}
+use Rattle.fl_board.specs.Seats.{Place}
+use Rattle.fl_intake.specs.Ends.{TakeSide}
+use Rattle.fl_crew.specs.Working.{IsFresh}
+use Rattle.fl_crew.proofs.WorkingLemmas.{moves, none_back, one_back}
+use Rattle.fl_crew.proofs.crew.joined.Goals as goal
+
+pub loop-thread-init : goal.loop-thread-init
+loop-thread-init g c = (
+  search rules,
+  search rules,
+  search rules,
+  search rules,
+  search rules,
+  search rules,
+  none_back _ _ c.requires.none.1 c.requires.none.0,
+)
+
+pub loop-thread-preserved : goal.loop-thread-preserved
+loop-thread-preserved g c =
+    let i = c.loop-thread.invariant in
+    let steps = c.in-Some.ensures.steps.0 in
+    let seats = c.push_reserved.ensures.items in
+    let ends = c.push_reserved-in-loop-thread.ensures.items in
+    let all = subst (All (λ t. IsFresh c.args.intake.now t.promise.end.value)) steps i.4 in
+    let here = All-head (λ t. IsFresh c.args.intake.now t.promise.end.value) _ _ all in
+    let kept = c.join-seat.ensures in (
+      search rules,
+      search rules,
+      search rules,
+      moves (λ (s : Place). s.worker) (λ t. t.promise.worker) _ _ c.join-seat.result.seat _ _ c.in-Some.thread _ i.3
+          seats steps kept.0,
+      All-tail (λ t. IsFresh c.args.intake.now t.promise.end.value) _ _ all,
+      subst (All (λ (e : TakeSide). e.of ≡ c.args.intake.now)) (sym ends)
+          (All-push (λ (e : TakeSide). e.of ≡ c.args.intake.now) c.loop-thread.back.ends.items c.join-seat.result.end i.5
+          (kept.1 ∙ here.0)),
+      one_back _ _ _ _ _ _ _ c.join-seat.result.end c.join-seat.result.seat i.6 here.1 kept.2 ends seats,
+    )

@@ -1,0 +1,44 @@
+-- What the workers of a session did together.
+use Rattle.std.specs.Prelude.{◌≡◌, ℕ, ◌+◌, Bool, true, false, List, [], ◌++◌, All, length, map, sum_by}
+use mathlib.Core.List.{Sublistᴰ}
+use Rattle.atomic_table.specs.Seated.{TableId}
+use Rattle.fl_board.specs.Seats.{Place}
+use Rattle.fl_intake.specs.Ends.{TakeSide, weight_taken}
+use Rattle.fl_intake.specs.Often.{Weight}
+use Rattle.fl_order.specs.Order.{only_reads}
+use Rattle.fl_workers.specs.Asked.{Orders, asked_by}
+
+-- the end is this intake's, and took nothing
+abbrev pub IsFresh : TableId → TakeSide → Type 0
+IsFresh of end = (end.of ≡ of) × (end.taken ≡ [])
+
+-- a worker's place, and the orders that were handed in there
+pub record Post : Type 0 where
+  pub place : Place
+  pub handed : Orders
+
+-- they are as many as its count, and stand in this order among those of its worker
+pub record IsCounted (post : Post) : Type 0 where
+  pub counted : length post.handed ≡ post.place.count
+  pub among : Sublistᴰ post.handed (asked_by post.place.worker post.place.own)
+
+-- what was handed in at all of them, weighed
+abbrev pub handed_at : Weight → List Post → ℕ
+handed_at weight posts = sum_by (λ post. sum_by weight post.handed) posts
+
+-- What weighs this was, each as often, handed in at these places, looked for or refused.
+pub record HaveDone (orders : Weight → ℕ) (places : List Place) (any : Bool) : Type 0 where
+  pub posts : List Post
+  pub looked : Orders
+  pub refused : Orders
+  pub at : map (λ post. post.place) posts ≡ places
+  pub handed : All IsCounted posts
+  pub each : (weight : Weight) → orders weight ≡ handed_at weight posts + sum_by weight (looked ++ refused)
+  pub reads : All (λ order. only_reads order.op ≡ true) looked
+  pub none : any ≡ false → refused ≡ []
+
+-- all workers came back, in their order, each with its end
+pub record HaveWorked (places back : List Place) (ends : List TakeSide) (any : Bool) : Type 0 where
+  pub whose : map (λ place. place.worker) back ≡ map (λ place. place.worker) places
+  pub all : length ends ≡ length places
+  pub did : HaveDone (λ weight. weight_taken weight ends) back any

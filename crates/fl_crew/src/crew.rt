@@ -1,0 +1,331 @@
+//! The workers of a session, from start to join.
+
+ghost use Rattle.std.specs.Prelude.{◌≡◌, ◌≢◌, ◌≤◌, ◌<◌, ◌+◌, ◌||◌, ℕ, Bool, [], All, IfOk, IfSome, true, false, Some, length, map, sum_by, vec_capacity};
+ghost use Rattle.fl_intake.specs.Often.{Weight};
+ghost use Rattle.std.specs.Io.KnownBytes.{Keeps};
+ghost use Rattle.fl_intake.specs.Ends.{weight_taken};
+ghost use Rattle.fl_workers.specs.Asked.{asked_by};
+ghost use Rattle.fl_hearing.specs.Heard.{HasHeard};
+ghost use Rattle.fl_crew.specs.Working.{HaveDone, HaveWorked, IsFresh};
+ghost use Rattle.fl_workers.specs.Worked.{HasDone};
+ghost use Rattle.fl_session.specs.Inbox.{IsUnread};
+
+use core::thread::Stack;
+use fl_board::{Board, BoardName, Seat};
+use fl_core::Tolds;
+use fl_hearing::{Heard, hear_all};
+use fl_intake::{Intake, Job, PutEnd, TakeEnd};
+use fl_keeper::Keeper;
+use fl_order::NoMemory;
+use fl_session::{Fault, Inbox, Owed};
+use fl_workers::{Gate, Shared, Worked, WriterName, handle_all, worker_loop};
+use std::alloc::Global;
+use std::io::{Read, Write};
+use std::snapshot::Snapshot;
+use std::sync::{Mutex, Wait};
+use std::thread;
+use std::thread::{Promise, PromisedHandle, Scope, Threads};
+
+/// What the reader and the workers of a session share.
+#[derive(Drop)]
+pub struct Crew<'a, 'w, L: BoardName, N: WriterName, R: Wait, W: Write, G, K: Keeper> {
+    pub rt: &'a R,
+    pub gate: &'a G,
+    /// Bytes of a worker's stack.
+    pub stack: usize,
+    pub board: Board<L, &'a R, K>,
+    pub intake: Intake,
+    pub shared: Mutex<Shared<'w, W, N>>,
+}
+
+/// Whose seat comes back, and with which end, as it was.
+#[derive(Drop)]
+pub struct AtSeat {
+    /// Whose seat.
+    pub worker: u32,
+    /// The end, as it was.
+    pub end: Snapshot<TakeEnd>,
+}
+
+impl<L: BoardName> Promise<Worked<Seat<L>>> for AtSeat {
+    ghost use Rattle.std.specs.Prelude.{◌≡◌};
+    ghost use Rattle.fl_intake.specs.Ends.{weight_taken};
+    ghost use Rattle.fl_workers.specs.Asked.{asked_by};
+    ghost use Rattle.fl_workers.specs.Worked.{HasDone};
+
+    ghost kept_by = { λ p r. (r.seat.worker ≡ p.worker) × (r.end.of ≡ p.end.value.of)
+        × HasDone p.end.value.taken r.end.taken (asked_by r.seat.worker r.seat.own) r.seat.count r.refused };
+}
+
+/// A worker that was started.
+pub type Thread<L> = PromisedHandle<Worked<Seat<L>>, AtSeat>;
+
+/// What the workers gave back.
+#[derive(Drop)]
+pub struct Back<L: BoardName> {
+    pub seats: Vec<Seat<L>>,
+    pub ends: Vec<TakeEnd>,
+    /// Some order was refused.
+    pub refused: bool,
+}
+
+impl<L: BoardName> Back<L> {
+    /// Nothing came back yet, and there is room for all that these workers give back.
+    pub fn with_room(alloc: Global, workers: u32) -> Result<Back<L>, NoMemory>
+        ensures none { IfOk result (λ back. (back.seats.items ≡ []) × (back.ends.items ≡ [])) }
+        ensures room { IfOk result (λ back. (workers ≤ vec_capacity back.seats) × (workers ≤ vec_capacity back.ends)) }
+    {
+        Ok(Back {
+            seats: Vec::with_capacity(alloc, workers as usize)?,
+            ends: Vec::with_capacity(alloc, workers as usize)?,
+            refused: false,
+        })
+    }
+}
+
+/// What each worker gets, and room for their threads and for what they give back.
+#[derive(Drop)]
+pub struct Posts<L: BoardName> {
+    pub seats: Vec<Seat<L>>,
+    pub ends: Vec<TakeEnd>,
+    pub tolds: Vec<Tolds>,
+    pub threads: Vec<Thread<L>>,
+    pub back: Back<L>,
+    ghost fresh: { All (λ seat. seat.count ≡ 0) seats.items },
+    ghost none: { (threads.items ≡ []) × (back.seats.items ≡ []) × (back.ends.items ≡ []) },
+    ghost room: { (length seats.items ≤ vec_capacity threads) × (length seats.items ≤ vec_capacity back.seats)
+        × (length seats.items ≤ vec_capacity back.ends) },
+}
+
+impl<
+    'a,
+    'w,
+    L: BoardName + Send + Sync,
+    N: WriterName + Send + Sync,
+    R: Threads + Wait + Sync,
+    W: Write + Send + Drop,
+    G: Gate + Sync,
+    K: Keeper + Send + Drop,
+> Crew<'a, 'w, L, N, R, W, G, K> {
+    /// Runs a session: starts a worker at each seat, reads until the session ends, closes the intake, and joins the workers.
+    /// Where a worker can't be started nothing is read.
+    pub fn run<I: Read>(
+        &self,
+        r: &mut I,
+        inbox: Inbox,
+        put: PutEnd,
+        posts: Posts<L>,
+    ) -> (Back<L>, Heard)
+        requires unread { IsUnread inbox }
+        requires put { (put.of ≡ self.now.intake) × (put.closed ≡ false) × (put.put ≡ []) }
+        requires ends { All (IsFresh self.now.intake) posts.ends.items }
+        ensures put { (result.1.put.of ≡ self.now.intake) × (result.1.put.takers ≡ put.takers) }
+        ensures ends { All (λ end. end.of ≡ self.now.intake) result.0.ends.items }
+        ensures worked { result.1.fault ≢ Some Fault.NoMemory
+            → HaveWorked posts.seats.items result.0.seats.items result.0.ends.items result.0.refused }
+        ensures heard { result.1.fault ≢ Some Fault.NoMemory
+            → HasHeard (I.remaining r.old) (I.remaining r.new) result.1.fault result.1.put.put result.1.goodbye }
+        ensures unread { result.1.fault ≡ Some Fault.NoMemory → Keeps (I.remaining r.old) (I.remaining r.new) }
+    {
+        let rt = self.rt;
+        let (back, heard, r) = thread::scope(
+            thread::scope_env(),
+            rt,
+            move |scope| -> (Back<L>, Heard, &mut I)
+                requires unread { IsUnread inbox }
+                requires put { (put.of ≡ self.now.intake) × (put.closed ≡ false) × (put.put ≡ []) }
+                requires ends { All (IsFresh self.now.intake) posts.ends.items }
+                ensures put { (result.1.put.of ≡ self.entry.now.intake) × (result.1.put.takers ≡ put.takers) }
+                ensures ends { All (λ end. end.of ≡ self.entry.now.intake) result.0.ends.items }
+                ensures worked { result.1.fault ≢ Some Fault.NoMemory
+                    → HaveWorked posts.seats.items result.0.seats.items result.0.ends.items result.0.refused }
+                ensures same { result.2.ghost_name ≡ r.entry.ghost_name }
+                ensures heard { result.1.fault ≢ Some Fault.NoMemory
+                    → HasHeard (I.remaining r.entry.now) (I.remaining result.2.now) result.1.fault result.1.put.put
+                    result.1.goodbye }
+                ensures unread { result.1.fault ≡ Some Fault.NoMemory
+                    → Keeps (I.remaining r.entry.now) (I.remaining result.2.now) }
+            {
+                // Taken whole, so that what its type keeps is known here.
+                let posts = posts;
+                let Posts {
+                    seats,
+                    ends,
+                    tolds,
+                    threads,
+                    back,
+                } = posts;
+                let mut inbox = inbox;
+                let mut threads = threads;
+                let heard = if self.start_all(scope, seats, ends, tolds, &mut threads) {
+                    hear_all(rt, &self.intake, &self.shared, put, r, &mut inbox)
+                } else {
+                    Heard {
+                        put,
+                        fault: Some(Fault::NoMemory),
+                        goodbye: Owed::Nothing,
+                    }
+                };
+                let mut heard = heard;
+                self.intake.close(&mut heard.put);
+                (joined(rt, &self.intake, threads, back), heard, r)
+            },
+        );
+        // No effect at run time: the proof reads here what the reader has left.
+        let _ = &*r;
+        (back, heard)
+    }
+
+    // Starts a worker at each seat, and says whether all were started.
+    fn start_all<'s, E>(
+        &'s self,
+        scope: &Scope<'s, E>,
+        seats: Vec<Seat<L>>,
+        ends: Vec<TakeEnd>,
+        tolds: Vec<Tolds>,
+        threads: &mut Vec<Thread<L>>,
+    ) -> bool
+    where
+        'a: 's,
+        'w: 's,
+        requires fresh { All (λ seat. seat.count ≡ 0) seats.items }
+        requires ends { All (IsFresh self.now.intake) ends.items }
+        requires none { threads.old.items ≡ [] }
+        requires room { length seats.items ≤ vec_capacity threads.old }
+        ensures most { length threads.new.items ≤ length seats.items }
+        ensures whose { result ≡ true
+            → map (λ t. t.promise.worker) threads.new.items ≡ map (λ seat. seat.worker) seats.items }
+        ensures ends { All (λ t. IsFresh self.now.intake t.promise.end.value) threads.new.items }
+    {
+        let mut ends = ends;
+        let mut tolds = tolds;
+        for seat in seats {
+            let Some(end) = ends.pop() else {
+                return false;
+            };
+            let Some(tolds) = tolds.pop() else {
+                return false;
+            };
+            let Some(thread) = self.start(scope, seat, end, tolds) else {
+                return false;
+            };
+            threads.push_reserved(thread);
+        }
+        true
+    }
+
+    // Starts a worker, where a thread can be made.
+    fn start<'s, E>(
+        &'s self,
+        scope: &Scope<'s, E>,
+        seat: Seat<L>,
+        end: TakeEnd,
+        tolds: Tolds,
+    ) -> Option<Thread<L>>
+    where
+        'a: 's,
+        'w: 's,
+        requires fresh { seat.count ≡ 0 }
+        requires end { end.of ≡ self.now.intake }
+        ensures whose { IfSome result (λ t. t.promise.worker ≡ seat.worker) }
+        ensures end { IfSome result (λ t. t.promise.end.value ≡ end) }
+    {
+        let at = AtSeat {
+            worker: seat.worker(),
+            end: Snapshot::of(&end),
+        };
+        let stack = Stack::new().stack_size(self.stack);
+        stack
+            .spawn_scoped_with(
+                scope,
+                at,
+                move || -> Worked<Seat<L>>
+                    requires { (seat.count ≡ 0) × (end.of ≡ self.now.intake) }
+                    ensures { (result.seat.worker ≡ seat.worker) × (result.end.of ≡ end.of)
+                        × HasDone end.taken result.end.taken (asked_by result.seat.worker result.seat.own) result.seat.count
+                        result.refused }
+                { self.work(seat, end, tolds) },
+            )
+            .ok()
+    }
+
+    // What a worker does.
+    fn work(&self, seat: Seat<L>, end: TakeEnd, tolds: Tolds) -> Worked<Seat<L>>
+        requires fresh { seat.count ≡ 0 }
+        requires end { end.of ≡ self.now.intake }
+        ensures own { result.seat.worker ≡ seat.worker }
+        ensures end { result.end.of ≡ self.now.intake }
+        ensures did { HasDone end.taken result.end.taken (asked_by result.seat.worker result.seat.own) result.seat.count
+            result.refused }
+    {
+        worker_loop(
+            self.rt,
+            &self.board,
+            self.gate,
+            &self.intake,
+            &self.shared,
+            seat,
+            end,
+            tolds,
+        )
+    }
+}
+
+// Joins all workers.
+fn joined<L: BoardName, R: Threads>(
+    rt: &R,
+    intake: &Intake,
+    threads: Vec<Thread<L>>,
+    back: Back<L>,
+) -> Back<L>
+    requires none { (back.seats.items ≡ []) × (back.ends.items ≡ []) }
+    requires room { (length threads.items ≤ vec_capacity back.seats) × (length threads.items ≤ vec_capacity back.ends) }
+    requires fresh { All (λ t. IsFresh intake.now t.promise.end.value) threads.items }
+    ensures all { length result.ends.items ≡ length threads.items }
+    ensures whose { map (λ seat. seat.worker) result.seats.items ≡ map (λ t. t.promise.worker) threads.items }
+    ensures ends { All (λ end. end.of ≡ intake.now) result.ends.items }
+    ensures did { HaveDone (λ weight. weight_taken weight result.ends.items) result.seats.items result.refused }
+{
+    let mut back = back;
+    back.refused = false;
+    for thread in threads {
+        let Worked { seat, end, refused } = thread.join(rt);
+        back.seats.push_reserved(seat);
+        back.ends.push_reserved(end);
+        back.refused |= refused;
+    }
+    back
+}
+
+/// Hands in, at the last seat, the orders that no worker took, or looks for them. Tells whether one was refused.
+pub fn handed_in<
+    L: BoardName,
+    N: WriterName,
+    P: Wait + Drop,
+    R: Wait,
+    W: Write,
+    G: Gate,
+    K: Keeper,
+>(
+    rt: &R,
+    board: &Board<L, P, K>,
+    gate: &G,
+    shared: &Mutex<Shared<'_, W, N>>,
+    seats: Vec<Seat<L>>,
+    tolds: Tolds,
+    left: Vec<Job>,
+) -> (Vec<Seat<L>>, bool)
+    requires some { 0 < length seats.items }
+    ensures whose { map (λ seat. seat.worker) result.0.items ≡ map (λ seat. seat.worker) seats.items }
+    ensures did { (orders : Weight → ℕ) (any : Bool) → HaveDone orders seats.items any
+        → HaveDone (λ weight. orders weight + sum_by weight left.items) result.0.items (any || result.1) }
+{
+    let mut seats = seats;
+    let Some(seat) = seats.pop() else {
+        unreachable!()
+    };
+    let mut seat = seat;
+    let refused = handle_all(rt, board, gate, shared, &mut seat, tolds, left);
+    seats.push_reserved(seat);
+    (seats, refused)
+}

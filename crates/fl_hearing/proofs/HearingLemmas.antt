@@ -1,0 +1,104 @@
+-- What the reader of a session with workers heard.
+use Rattle.std.proofs.Common.{◌≡◌, ℕ, Bool, true, false, true≢false, List, [], ◌∷◌, ◌++◌, Option, refl, sym, ap, subst, ◌∙◌, append_assoc, append-nil}
+use Rattle.std.specs.Prelude.{Result, Ok, Err, fold}
+use Rattle.fl_order.specs.declared.order.Order.{Order}
+use Rattle.fl_order.specs.declared.refusal.Refusal.{Refusal}
+use Rattle.fl_hearing.specs.Said.{order_said, said_from, said_in}
+use Rattle.fl_wire.specs.Says.{said}
+use Rattle.fl_workers.specs.Asked.{Orders}
+use Rattle.std.proofs.lemmas.Grind.{fold-append}
+use Rattle.fl_hearing.specs.Inside.Hearing.{Hears, IsHearing, IsPutAs, IsThisFar}
+use Rattle.fl_session.specs.Inbox.{Inflow, IsUnread, Takes}
+use Rattle.fl_session.specs.Talk.{IsHeard, goodbye_to, standing}
+use Rattle.fl_session.specs.Session.{Came, Session, session_of, with_message, opening_session}
+use Rattle.fl_session.specs.declared.server.Met.{Met}
+use Rattle.fl_session.specs.declared.server.Met.TheVariants as met
+use Rattle.fl_session.specs.declared.server.Owed.{Owed}
+use Rattle.fl_session.specs.declared.server.Talk.{Talk}
+
+-- a session that is this far stands there
+stands_there : (s : Session) (talk : Talk) → IsThisFar s talk → standing s talk ≡ s
+stands_there s talk far = rw (← far.agreed, ← far.over) refl
+
+-- a message is heard
+pub hears : (result : Met) (old new : Talk) (message : List ℕ) → old.over ≡ false → IsHeard result old new message
+    → Hears old new message
+hears (met.Order order) old new message live heard s far = record {
+  agreed = rw (far.over, live, far.agreed, heard.0, heard.2, heard.1) (sym heard.0);
+  over = rw (far.over, live, far.agreed, heard.0, heard.2, heard.1) (sym live);
+}
+hears (met.Owed owed) old new message live heard s far =
+    let same = heard s false ∙ ap (λ s. with_message s (record { message = message; refused = false }))
+    (stands_there s old far) in
+    record { agreed = sym (ap (λ s. s.agreed) same); over = sym (ap (λ s. s.over) same) }
+
+-- ---- the order that a message says
+
+said_order : (order : Order) (old new : Talk) (message : List ℕ) → old.over ≡ false
+    → IsHeard (met.Order order) old new message → (s : Session) → IsThisFar s old → order_said s message ≡ order ∷ []
+said_order order old new message live heard s far = rw (far.over, live, far.agreed, heard.0, heard.2) refl
+
+-- a message that the session itself answers says none
+said_none : (owed : Owed) (old new : Talk) (message : List ℕ) → old.over ≡ false
+    → IsHeard (met.Owed owed) old new message → (s : Session) → IsThisFar s old → order_said s message ≡ []
+said_none owed old new message live heard s far = go old.agreed (said message) refl refl
+  where
+    go : (agreed : Bool) (it : Result Order Refusal) → old.agreed ≡ agreed → said message ≡ it
+        → order_said s message ≡ []
+    go false it before is = rw (far.over, live, far.agreed, before) refl
+    go true (Err refusal) after is = rw (far.over, live, far.agreed, after, is) refl
+    go true (Ok order) after is =
+        let refused : (with_message (standing opening_session old) (record { message = message; refused = true })).refused
+        ≡ true = rw (live, after, is) refl in
+        absurd (true≢false (sym refused ∙ sym (ap (λ (s : Session). s.refused) (heard opening_session true))))
+
+-- what a message says is put
+pub puts : (result : Met) (old new : Talk) (message : List ℕ) (put put_now : Orders) → old.over ≡ false
+    → IsHeard result old new message → IsPutAs result put put_now → (s : Session) → IsThisFar s old
+    → put_now ≡ put ++ order_said s message
+puts (met.Order order) old new message put put_now live heard is_put s far =
+    is_put ∙ ap (λ l. put ++ l) (sym (said_order order old new message live heard s far))
+puts (met.Owed owed) old new message put put_now live heard is_put s far =
+    is_put ∙ sym (append-nil put) ∙ ap (λ l. put ++ l) (sym (said_none owed old new message live heard s far))
+
+said_more : (s : Session) (xs ys : List Came) → said_from s (xs ++ ys) ≡ said_from s xs ++ said_from (fold with_message s xs) ys
+said_more s [] ys = refl
+said_more s (x ∷ xs) ys = ap (λ l. order_said s x.message ++ l) (said_more (with_message s x) xs ys)
+    ∙ sym (append_assoc (order_said s x.message) (said_from (with_message s x) xs)
+    (said_from (fold with_message (with_message s x) xs) ys))
+
+said_one_more : (came : List Came) (c : Came) → said_in (came ++ c ∷ []) ≡ said_in came ++ order_said (session_of came) c.message
+said_one_more came c = said_more opening_session came (c ∷ [])
+    ∙ ap (λ l. said_in came ++ l) (append-nil (order_said (session_of came) c.message))
+
+-- nothing is heard yet
+pub hearing_first : (left : Option (List ℕ)) (talk : Talk) (put : Orders) (goodbye : Owed) (inbox : Inflow)
+    → talk.agreed ≡ false → talk.over ≡ false → put ≡ [] → IsUnread inbox
+    → IsHearing left left talk put goodbye inbox.rest
+hearing_first left talk put goodbye inbox agreed live none unread = record {
+  came = [];
+  is_read = unread.unread left;
+  far = record { agreed = sym agreed; over = sym live };
+  said = none;
+  over = λ over. cc;
+}
+
+-- one message more is heard
+pub hearing_more : (left left_now : Option (List ℕ)) (old new : Talk) (put put_now : Orders) (goodbye goodbye_now : Owed)
+    (message rest rest_now : List ℕ)
+    → old.over ≡ false → Takes message rest rest_now → Hears old new message
+    → ((s : Session) → IsThisFar s old → put_now ≡ put ++ order_said s message)
+    → (new.over ≡ true → goodbye_now ≡ goodbye_to message)
+    → IsHearing left left_now old put goodbye rest → IsHearing left left_now new put_now goodbye_now rest_now
+hearing_more left left_now old new put put_now goodbye goodbye_now message rest rest_now live takes heard puts ends before =
+    let c : Came = record { message = message; refused = false } in
+    record {
+      came = before.came ++ c ∷ [];
+      is_read = takes.onward left left_now before.came false (before.far.over ∙ live) before.is_read;
+      far = subst (λ s. IsThisFar s new) (sym (fold-append with_message opening_session before.came (c ∷ [])))
+          (heard (session_of before.came) before.far);
+      said = puts (session_of before.came) before.far
+          ∙ ap (λ l. l ++ order_said (session_of before.came) message) before.said
+          ∙ sym (said_one_more before.came c);
+      over = λ over. record { front = before.came; last = c; parts = refl; owed = ends over };
+    }

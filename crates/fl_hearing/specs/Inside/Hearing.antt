@@ -1,0 +1,36 @@
+-- The reader of a session with workers, while it is under way.
+use Rattle.std.specs.Prelude.{◌≡◌, ℕ, true, false, List, [], ◌∷◌, ◌++◌, Option}
+use Rattle.fl_hearing.specs.Heard.{IsLast}
+use Rattle.fl_hearing.specs.Said.{said_in}
+use Rattle.fl_workers.specs.Asked.{Orders}
+use Rattle.fl_session.specs.Served.{IsRead}
+use Rattle.fl_session.specs.Session.{Came, Session, session_of, with_message}
+use Rattle.fl_session.specs.declared.server.Met.{Met}
+use Rattle.fl_session.specs.declared.server.Met.TheVariants as met
+use Rattle.fl_session.specs.declared.server.Owed.{Owed}
+use Rattle.fl_session.specs.declared.server.Talk.{Talk}
+
+-- a session is this far
+pub record IsThisFar (s : Session) (talk : Talk) : Type 0 where
+  pub agreed : s.agreed ≡ talk.agreed
+  pub over : s.over ≡ talk.over
+
+-- a message takes a session from there to here, whatever is answered to it
+abbrev pub Hears : Talk → Talk → List ℕ → Type 0
+Hears old new message = (s : Session) → IsThisFar s old
+    → IsThisFar (with_message s (record { message = message; refused = false })) new
+
+-- an order is put behind the others, and an answer of the session itself puts none
+abbrev pub IsPutAs : Met → Orders → Orders → Type 0
+IsPutAs (met.Order order) put put_now = put_now ≡ put ++ order ∷ []
+IsPutAs (met.Owed owed) put put_now = put_now ≡ put
+
+-- What was read is whole messages and a rest, the session of these messages is this far, and their orders were put. Where it is
+-- over, this is owed to the last.
+pub record IsHearing (left left_now : Option (List ℕ)) (talk : Talk) (put : Orders) (goodbye : Owed)
+    (rest : List ℕ) : Type 0 where
+  pub came : List Came
+  pub is_read : IsRead left left_now came rest
+  pub far : IsThisFar (session_of came) talk
+  pub said : put ≡ said_in came
+  pub over : talk.over ≡ true → IsLast came goodbye
