@@ -4,6 +4,7 @@
 cd "$(dirname "$0")/.."
 program=${LOCKD:-crates/lockd/out/lockd}
 [ -n "${LOCKD:-}" ] || (cd crates/lockd && rt run < stdin > /dev/null)
+[ -x "$program" ] || { echo "not tried: there is no program at $program" >&2; exit 77; }
 work=$(mktemp -d)
 trap 'rm -rf "$work"' EXIT
 trap 'exit 1' INT TERM
