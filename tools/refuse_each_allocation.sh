@@ -1,10 +1,11 @@
 #!/bin/sh
-# Runs `lockd script`, `lockd check --quiet` and `lockd bytes` on stored examples, once for each of their allocations,
+# Runs `lockd script`, `lockd check` and `lockd bytes` on stored examples, once for each of their allocations,
 # and refuses that one. Each run must end with status 2, `no memory` on standard error and nothing on standard output, or else print all that
 # it prints otherwise. A session may refuse an order in place of that. It then answers ENOMEM, or EAGAIN where the order
 # is an INTERRUPT, or nothing where it is a FORGET, and goes on as if the order had never come. Wants a C compiler and
 # the GNU C library.
 set -eu
+command -v cc > /dev/null || { echo "refuse_each_allocation: not tried: there is no C compiler" >&2; exit 77; }
 . "$(dirname "$0")/../tools/built_lockd.sh"
 cc -shared -fPIC -O1 -fno-builtin -o "$work/refuse.so" tools/refuse.c
 
@@ -109,6 +110,11 @@ filled() {
 refuse_each script crates/lockd/stdin "script"
 cmp "$work/wanted" crates/lockd/stdout
 refuse_each "check --quiet" crates/lockd/stdout "check --quiet"
+for example in a_lock_is_waited_for a_file_lives_while_it_is_open; do
+    refuse_each script "examples/$example.txt" "script, $example"
+    cp "$work/wanted" "$work/trace"
+    refuse_each check "$work/trace" "check, $example"
+done
 refuse_each bytes examples/two_locks.hex "bytes, two locks" 2
 waiting=examples/waiting.hex
 refuse_each bytes "$waiting" "bytes, waiting" 2

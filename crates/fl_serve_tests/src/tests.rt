@@ -5,9 +5,6 @@ mod serving;
 use fl_serve::Fault;
 use std::process::Abort;
 
-// More reads or writes than any session of the tests has.
-const MANY: usize = 1000;
-
 // These are the bytes that are wanted.
 fn are_bytes(rt: &impl Abort, found: &[u8], wanted: &[u8]) {
     assert_eq!(rt; found, wanted);

@@ -6,10 +6,12 @@ mod numbers;
 mod readers;
 mod sessions;
 mod stored;
+mod trouble;
 mod writers;
 
 pub use numbers::Numbers;
-pub use readers::{Newlines, Source, Stumble};
+pub use readers::{Newlines, Source};
 pub use sessions::{init, init_reply, two_locks};
 pub use stored::{bytes_after, lines_after};
-pub use writers::{Full, Hiccup, Sink};
+pub use trouble::Trouble;
+pub use writers::{Full, Sink};

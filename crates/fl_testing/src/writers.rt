@@ -1,98 +1,76 @@
-//! Writers over memory, which take a few bytes at a time and fail at a chosen write.
+//! Writers over memory, which take a few bytes at a time and fail where they are told to.
 
-ghost use Rattle.std.specs.Prelude.{◌≡◌, []};
+ghost use Rattle.std.specs.Prelude.{◌≡◌, ◌-◌, ◌^◌, [], true, length, min, IfOk, IfSome, IsErrAnd, IsNone, Ok, Some};
+ghost use Rattle.std.specs.Io.{WritesAtMost};
+ghost use Rattle.std.specs.Io.KnownBytes.{WriteAppends};
+ghost use Rattle.std.specs.IoError.{error_kind};
+ghost use Rattle.fl_testing.specs.Trouble.{Meets};
 
+use crate::trouble::Trouble;
 use std::alloc::Global;
 use std::io;
 use std::io::{ErrorKind, Write};
 
-/// Keeps what is written, at most `most` bytes with a write, and after this many writes fails, or takes nothing.
+/// Keeps what is written, at most `most` bytes with a write, but for the writes that fail or take nothing.
 #[derive(Drop)]
 pub struct Sink {
     /// All bytes that were written.
     pub held: Vec<u8>,
     /// The most bytes that a write takes.
     pub most: usize,
-    /// How many more writes take bytes.
+    /// How many writes there were, those that failed too.
     pub writes: usize,
-    /// Whether the writes behind them fail; else they take nothing.
-    pub fails: bool,
+    /// Which writes fail.
+    pub trouble: Trouble,
 }
 
 impl Sink {
     /// A writer that holds nothing yet.
-    pub fn new(alloc: Global, most: usize, writes: usize, fails: bool) -> Sink
+    pub fn new(alloc: Global, most: usize, trouble: Trouble) -> Sink
         ensures empty { result.held.items ≡ [] }
-        ensures fields { (result.most ≡ most) × (result.writes ≡ writes) × (result.fails ≡ fails) }
+        ensures fields { (result.most ≡ most) × (result.writes ≡ 0) × (result.trouble ≡ trouble) }
     {
         Sink {
             held: Vec::new(alloc),
             most,
-            writes,
-            fails,
+            writes: 0,
+            trouble,
         }
+    }
+
+    /// A writer that holds nothing yet. It fails at one write, behind so many, and takes all bytes of the others.
+    pub fn failing_once(alloc: Global, after: usize, kind: ErrorKind) -> Sink
+        ensures empty { result.held.items ≡ [] }
+        ensures fields { (result.most ≡ 2 ^ 64 - 1) × (result.writes ≡ 0) × (result.trouble.after ≡ after)
+            × (result.trouble.once ≡ true) × (result.trouble.kind ≡ Some kind) }
+    {
+        Sink::new(alloc, usize::MAX, Trouble::once(after, Some(kind)))
     }
 }
 
 impl Write for Sink {
-    fn write(&mut self, buf: &[u8]) -> io::Result<usize> {
-        if self.writes == 0 {
-            return if self.fails {
-                Err(io::Error::from(ErrorKind::Interrupted))
-            } else {
-                Ok(0)
+    ghost contents = { λ s. Some s.held.items };
+
+    fn write(&mut self, buf: &[u8]) -> io::Result<usize>
+        ensures bound { WritesAtMost result buf.now }
+        ensures bytes { WriteAppends (Some self.old.held.items) (Some self.new.held.items) result buf.now }
+        ensures fails { Meets self.old.trouble self.old.writes →
+            IfSome self.old.trouble.kind (λ kind. IsErrAnd result (λ e. error_kind e ≡ kind)) }
+        ensures takes_nothing { Meets self.old.trouble self.old.writes → IsNone self.old.trouble.kind → result ≡ Ok 0 }
+        ensures takes { (Meets self.old.trouble self.old.writes → ⊥) →
+            IfOk result (λ n. n ≡ min self.old.most (length buf.now)) }
+    {
+        let calls = self.writes;
+        self.writes = calls.saturating_add(1);
+        if self.trouble.meets(calls) {
+            return match self.trouble.kind {
+                Some(kind) => Err(io::Error::from(kind)),
+                None => Ok(0),
             };
         }
-        self.writes -= 1;
         let n = self.most.min(buf.len());
-        match self.held.extend_from_slice(&buf[..n]) {
-            Ok(()) => Ok(n),
-            Err(_) => Err(io::Error::from(ErrorKind::OutOfMemory)),
-        }
-    }
-
-    fn flush(&mut self) -> io::Result<()> {
-        Ok(())
-    }
-}
-
-/// Fails at one write, and takes all bytes of the others.
-#[derive(Drop)]
-pub struct Hiccup {
-    /// All bytes that were written.
-    pub held: Vec<u8>,
-    /// How many writes there were, the one that failed too.
-    pub writes: usize,
-    /// How many writes came before the one that fails.
-    pub fails_at: usize,
-    /// How it fails.
-    pub kind: ErrorKind,
-}
-
-impl Hiccup {
-    /// A writer that holds nothing yet.
-    pub fn new(alloc: Global, fails_at: usize, kind: ErrorKind) -> Hiccup
-        ensures empty { result.held.items ≡ [] }
-        ensures fields { (result.writes ≡ 0) × (result.fails_at ≡ fails_at) × (result.kind ≡ kind) }
-    {
-        Hiccup {
-            held: Vec::new(alloc),
-            writes: 0,
-            fails_at,
-            kind,
-        }
-    }
-}
-
-impl Write for Hiccup {
-    fn write(&mut self, buf: &[u8]) -> io::Result<usize> {
-        let at = self.writes;
-        self.writes = at.saturating_add(1);
-        if at == self.fails_at {
-            return Err(io::Error::from(self.kind));
-        }
-        self.held.extend_from_slice(buf)?;
-        Ok(buf.len())
+        self.held.extend_from_slice(&buf[..n])?;
+        Ok(n)
     }
 
     fn flush(&mut self) -> io::Result<()> {

@@ -9,6 +9,7 @@ mod looks;
 mod orders;
 mod refusals;
 mod tally;
+mod thirds;
 mod thousands;
 mod watch;
 

@@ -2,7 +2,7 @@
 
 use super::are_bytes;
 use fl_session::{Fault, Filled, Inbox};
-use fl_testing::Source;
+use fl_testing::{Source, Trouble};
 use fl_wire::Step;
 use std::process::Abort;
 
@@ -36,11 +36,7 @@ fn takes(rt: &impl Abort, inbox: &mut Inbox, wanted: &[u8]) {
 #[test]
 fn two_messages_come_with_one_read(rt: HostRuntime) {
     let bytes = two_messages();
-    let mut source = Source {
-        bytes: &bytes,
-        most: 100,
-        reads: 1,
-    };
+    let mut source = Source::new(&bytes, 100, Trouble::behind(1, None));
     let mut inbox = Inbox::new(rt.alloc()).expect(&rt, "no memory");
     reads(&rt, &mut inbox, &mut source, Filled::More);
     takes(&rt, &mut inbox, &bytes[..40]);
@@ -52,11 +48,7 @@ fn two_messages_come_with_one_read(rt: HostRuntime) {
 #[test]
 fn each_message_comes_with_two_reads(rt: HostRuntime) {
     let bytes = two_messages();
-    let mut source = Source {
-        bytes: &bytes,
-        most: 30,
-        reads: 4,
-    };
+    let mut source = Source::new(&bytes, 30, Trouble::behind(4, None));
     let mut inbox = Inbox::new(rt.alloc()).expect(&rt, "no memory");
     reads(&rt, &mut inbox, &mut source, Filled::More);
     reads(&rt, &mut inbox, &mut source, Filled::More);

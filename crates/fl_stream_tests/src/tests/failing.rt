@@ -6,7 +6,7 @@ use super::{
 };
 use fl_history::History;
 use fl_stream::WhenWriterFails;
-use fl_testing::{Hiccup, Sink};
+use fl_testing::{Sink, Trouble};
 use std::alloc::Global;
 use std::io::ErrorKind;
 use std::process::Abort;
@@ -18,7 +18,7 @@ fn begins(rt: &impl Abort, held: &[u8], least: usize) {
 
 // A writer takes so many writes of seven bytes and nothing behind them. It holds them, and each line was taken.
 fn goes_on(rt: &impl Abort, alloc: Global, history: &History, writes: usize) {
-    let sink = Sink::new(alloc, 7, writes, false);
+    let sink = Sink::new(alloc, 7, Trouble::behind(writes, None));
     let (course, sink) = streamed(rt, sink, WhenWriterFails::GoOn, history, alloc);
     is_given_up(rt, &course);
     begins(rt, &sink.held, writes);
@@ -34,11 +34,11 @@ fn orders_go_on_without_the_writer(rt: HostRuntime) {
 
 // The write at this place fails, and no write comes behind it.
 fn stops(rt: &impl Abort, alloc: Global, history: &History, fails_at: usize) {
-    let hiccup = Hiccup::new(alloc, fails_at, ErrorKind::Other);
-    let (course, hiccup) = streamed(rt, hiccup, WhenWriterFails::GoOn, history, alloc);
+    let sink = Sink::failing_once(alloc, fails_at, ErrorKind::Other);
+    let (course, sink) = streamed(rt, sink, WhenWriterFails::GoOn, history, alloc);
     is_given_up(rt, &course);
-    begins(rt, &hiccup.held, fails_at);
-    count_is(rt, hiccup.writes, fails_at.saturating_add(1));
+    begins(rt, &sink.held, fails_at);
+    count_is(rt, sink.writes, fails_at.saturating_add(1));
 }
 
 #[test]
@@ -51,10 +51,10 @@ fn nothing_is_written_behind_a_write_that_failed(rt: HostRuntime) {
 
 // The write at this place fails, and the next ones don't: nothing is lost.
 fn catches_up(rt: &impl Abort, alloc: Global, history: &History, fails_at: usize) {
-    let hiccup = Hiccup::new(alloc, fails_at, ErrorKind::Other);
-    let (course, hiccup) = streamed(rt, hiccup, WhenWriterFails::Refuse, history, alloc);
+    let sink = Sink::failing_once(alloc, fails_at, ErrorKind::Other);
+    let (course, sink) = streamed(rt, sink, WhenWriterFails::Refuse, history, alloc);
     is_written(rt, &course);
-    holds(rt, &hiccup.held, TRACE.as_bytes());
+    holds(rt, &sink.held, TRACE.as_bytes());
 }
 
 #[test]
@@ -68,26 +68,26 @@ fn what_a_write_left_is_written_by_the_next(rt: HostRuntime) {
 // The room gets full once, where the first write fails: one line is refused, and the next is taken.
 #[test]
 fn a_full_room_refuses_until_a_write_succeeds(rt: HostRuntime) {
-    let hiccup = Hiccup::new(rt.alloc(), 0, ErrorKind::Other);
-    let (course, hiccup) = streamed_often(&rt, hiccup, WhenWriterFails::Refuse, 40_000, rt.alloc());
+    let sink = Sink::failing_once(rt.alloc(), 0, ErrorKind::Other);
+    let (course, sink) = streamed_often(&rt, sink, WhenWriterFails::Refuse, 40_000, rt.alloc());
     let wanted = Course {
         taken: 39_999,
         flushed: true,
         broken: false,
     };
     course_is(&rt, &course, &wanted);
-    count_is(&rt, hiccup.held.len(), 39_999 * 43);
+    count_is(&rt, sink.held.len(), 39_999 * 43);
 }
 
 #[test]
 fn a_full_room_is_given_up_without_the_writer(rt: HostRuntime) {
-    let hiccup = Hiccup::new(rt.alloc(), 0, ErrorKind::Other);
-    let (course, hiccup) = streamed_often(&rt, hiccup, WhenWriterFails::GoOn, 40_000, rt.alloc());
+    let sink = Sink::failing_once(rt.alloc(), 0, ErrorKind::Other);
+    let (course, sink) = streamed_often(&rt, sink, WhenWriterFails::GoOn, 40_000, rt.alloc());
     let wanted = Course {
         taken: 40_000,
         flushed: false,
         broken: true,
     };
     course_is(&rt, &course, &wanted);
-    count_is(&rt, hiccup.held.len(), 0);
+    count_is(&rt, sink.held.len(), 0);
 }

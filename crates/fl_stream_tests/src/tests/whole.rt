@@ -6,7 +6,7 @@ use super::{
 };
 use fl_keeper::Forgetful;
 use fl_stream::{Streamed, WhenWriterFails};
-use fl_testing::{Hiccup, Sink};
+use fl_testing::{Sink, Trouble};
 use std::io::ErrorKind;
 use std::mem::size_of;
 
@@ -22,7 +22,7 @@ fn a_writer_holds_the_text_of_all_lines(rt: HostRuntime) {
 #[test]
 fn a_byte_with_a_write_is_enough(rt: HostRuntime) {
     let history = history_of(&rt, rt.alloc(), TRACE);
-    let sink = Sink::new(rt.alloc(), 1, 10_000, false);
+    let sink = Sink::new(rt.alloc(), 1, Trouble::none());
     let (course, sink) = streamed(&rt, sink, WhenWriterFails::Refuse, &history, rt.alloc());
     is_written(&rt, &course);
     holds(&rt, &sink.held, TRACE.as_bytes());
@@ -31,10 +31,10 @@ fn a_byte_with_a_write_is_enough(rt: HostRuntime) {
 #[test]
 fn a_write_that_is_interrupted_is_tried_again(rt: HostRuntime) {
     let history = history_of(&rt, rt.alloc(), TRACE);
-    let hiccup = Hiccup::new(rt.alloc(), 3, ErrorKind::Interrupted);
-    let (course, hiccup) = streamed(&rt, hiccup, WhenWriterFails::GoOn, &history, rt.alloc());
+    let sink = Sink::failing_once(rt.alloc(), 3, ErrorKind::Interrupted);
+    let (course, sink) = streamed(&rt, sink, WhenWriterFails::GoOn, &history, rt.alloc());
     is_written(&rt, &course);
-    holds(&rt, &hiccup.held, TRACE.as_bytes());
+    holds(&rt, &sink.held, TRACE.as_bytes());
 }
 
 #[test]

@@ -2,6 +2,7 @@
 
 mod linux;
 mod locks;
+mod longest;
 mod sessions;
 
 use super::{Command, is, refuse_lines, run, run_cases};

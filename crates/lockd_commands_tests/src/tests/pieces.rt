@@ -2,7 +2,7 @@
 
 use super::check::THE_LAST_REPLY;
 use super::{CUT, Came, PLAIN, QUIET, is};
-use fl_testing::{Source, Stumble};
+use fl_testing::{Source, Trouble};
 use lockd_commands::{CheckOptions, Fault, Status, check_on};
 use std::alloc::Global;
 use std::io::{ErrorKind, Read};
@@ -21,11 +21,7 @@ fn check<R: Read>(alloc: Global, options: CheckOptions, input: &mut R) -> Came {
 
 // The text in pieces of so many bytes.
 fn in_pieces(alloc: Global, options: CheckOptions, text: &[u8], most: usize) -> Came {
-    let mut input = Source {
-        bytes: text,
-        most,
-        reads: usize::MAX,
-    };
+    let mut input = Source::new(text, most, Trouble::none());
     check(alloc, options, &mut input)
 }
 
@@ -97,11 +93,7 @@ fn lines_that_are_too_long(rt: HostRuntime) {
 // A read that fails is told, whatever came before, and nothing is printed.
 fn fails(rt: &impl Abort, alloc: Global, text: &[u8], reads: usize) {
     for options in [PLAIN, QUIET, CUT] {
-        let mut input = Source {
-            bytes: text,
-            most: 8,
-            reads,
-        };
+        let mut input = Source::new(text, 8, Trouble::behind(reads, None));
         let came = check(alloc, options, &mut input);
         is(rt, "read failed", &came, "", "read failed\n");
         assert!(rt; came.status == Status::Faulted(Fault::Read));
@@ -118,13 +110,8 @@ fn a_read_that_fails(rt: HostRuntime) {
 }
 
 fn is_tried_again(rt: &impl Abort, alloc: Global, fails_at: usize) {
-    let mut input = Stumble {
-        bytes: THE_LAST_REPLY.as_bytes(),
-        most: 50,
-        reads: 0,
-        fails_at,
-        kind: ErrorKind::Interrupted,
-    };
+    let trouble = Trouble::once(fails_at, Some(ErrorKind::Interrupted));
+    let mut input = Source::new(THE_LAST_REPLY.as_bytes(), 50, trouble);
     let came = check(alloc, QUIET, &mut input);
     is(rt, "interrupted", &came, "legal\nquiet\n", "");
     assert!(rt; input.reads > fails_at);

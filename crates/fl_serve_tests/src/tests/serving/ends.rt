@@ -2,9 +2,9 @@
 
 use super::messages::Messages;
 use super::{ended, replied, serve_bytes, served};
-use crate::tests::{MANY, count_is};
+use crate::tests::count_is;
 use fl_serve::{Done, Fault, OpenGate};
-use fl_testing::{Source, bytes_after};
+use fl_testing::{Source, Trouble, bytes_after};
 use std::alloc::{AllocError, Global};
 use std::process::Abort;
 use std::sync::Wait;
@@ -70,11 +70,7 @@ fn end_by_a_read<R: Abort + Threads + Wait + Sync>(
     messages: &[u8],
     workers: u32,
 ) {
-    let mut input = Source {
-        bytes: messages,
-        most: 59,
-        reads: 5,
-    };
+    let mut input = Source::new(messages, 59, Trouble::behind(5, None));
     let mut out = Vec::new(alloc);
     let done = served(rt, alloc, &mut input, &mut out, workers, &OpenGate);
     ended(rt, alloc, &done, Some(Fault::Read), 8, workers);
@@ -99,14 +95,11 @@ fn end_by_a_destroy<R: Abort + Threads + Wait + Sync>(
     messages: &[u8],
     workers: u32,
 ) {
-    let mut input = Source {
-        bytes: messages,
-        most: messages.len().saturating_sub(56),
-        reads: MANY,
-    };
+    let most = messages.len().saturating_sub(56);
+    let mut input = Source::new(messages, most, Trouble::none());
     let mut out = Vec::new(alloc);
     let done = served(rt, alloc, &mut input, &mut out, workers, &OpenGate);
-    count_is(rt, input.reads, MANY - 1);
+    count_is(rt, input.reads, 1);
     count_is(rt, input.bytes.len(), 56);
     end_last(rt, alloc, &done, &out, workers);
 }

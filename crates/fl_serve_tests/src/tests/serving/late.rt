@@ -3,9 +3,8 @@
 use super::ends::{end_last, twenty_orders_and_a_destroy};
 use super::messages::Messages;
 use super::served;
-use crate::tests::MANY;
 use fl_serve::Gate;
-use fl_testing::Source;
+use fl_testing::{Source, Trouble};
 use std::alloc::Global;
 use std::io;
 use std::io::Read;
@@ -67,12 +66,9 @@ fn waits_for_all<R: Abort + Threads + Wait + Sync>(
         all_read: &all_read,
         given_up: AtomicBool::new(false),
     };
+    let most = messages.bytes.len().saturating_sub(40);
     let mut input = Watched {
-        source: Source {
-            bytes: &messages.bytes,
-            most: messages.bytes.len().saturating_sub(40),
-            reads: MANY,
-        },
+        source: Source::new(&messages.bytes, most, Trouble::none()),
         all_read: &all_read,
     };
     let mut out = Vec::new(alloc);

@@ -5,7 +5,7 @@ use super::faults::{replies, stream};
 use super::spelled;
 use super::traced::two_locks;
 use fl_session::run_one;
-use fl_testing::Hiccup;
+use fl_testing::{Sink, Trouble};
 use std::alloc::Global;
 use std::cell::Cell;
 use std::io;
@@ -104,7 +104,7 @@ fn writes_for(rt: &impl Abort, alloc: Global, locks: usize) -> usize {
     let stream = repeated(alloc, &messages, 114, 202, locks).expect(rt, "memory");
     let wanted = repeated(alloc, &replies, 240, 256, locks).expect(rt, "memory");
     let mut input = stream.as_slice();
-    let mut output = Hiccup::new(alloc, usize::MAX, ErrorKind::Other);
+    let mut output = Sink::new(alloc, usize::MAX, Trouble::none());
     let done = run_one(alloc, &mut input, &mut output);
     fault_is(rt, done.fault, None);
     are_bytes(rt, &output.held, &wanted);

@@ -1,12 +1,12 @@
 //! The worked session, a few bytes at a time, cut off, and with reads and writes that fail.
 
-use super::super::{MANY, are_bytes, count_is, fault_is};
+use super::super::{are_bytes, count_is, fault_is};
 use super::traced::two_locks;
 use super::{is_traced, spelled};
 use fl_session::{Done, Fault, run_one, run_session};
-use fl_testing::{Sink, Source};
+use fl_testing::{Sink, Source, Trouble};
 use std::alloc::Global;
-use std::io::{Read, Write};
+use std::io::{ErrorKind, Read, Write};
 use std::net::Shutdown;
 use std::os::unix::net::UnixStream;
 use std::process::Abort;
@@ -31,12 +31,8 @@ fn is_whole(rt: &impl Abort, alloc: Global, done: &Done, fault: Option<Fault>) {
 #[test]
 fn a_byte_at_a_time(rt: HostRuntime) {
     let stream = stream(&rt, rt.alloc());
-    let mut input = Source {
-        bytes: &stream,
-        most: 1,
-        reads: MANY,
-    };
-    let mut output = Sink::new(rt.alloc(), 1, MANY, true);
+    let mut input = Source::new(&stream, 1, Trouble::none());
+    let mut output = Sink::new(rt.alloc(), 1, Trouble::none());
     let done = run_one(rt.alloc(), &mut input, &mut output);
     is_sent(&rt, &output.held, &replies(&rt, rt.alloc()), 272);
     is_whole(&rt, rt.alloc(), &done, None);
@@ -106,11 +102,7 @@ fn cut_after_each_byte(rt: HostRuntime) {
 }
 
 fn ends_by_a_read(rt: &impl Abort, alloc: Global, stream: &[u8], reads: usize) -> Vec<u8> {
-    let mut input = Source {
-        bytes: stream,
-        most: 29,
-        reads,
-    };
+    let mut input = Source::new(stream, 29, Trouble::behind(reads, None));
     let mut output = Vec::new(alloc);
     let done = run_one(alloc, &mut input, &mut output);
     fault_is(rt, done.fault, Some(Fault::Read));
@@ -144,10 +136,14 @@ fn each_write_fails_or_takes_nothing(rt: HostRuntime) {
     let stream = stream(&rt, rt.alloc());
     let replies = replies(&rt, rt.alloc());
     for writes in 0..41 {
-        let mut fails = Sink::new(rt.alloc(), 7, writes, true);
+        let mut fails = Sink::new(
+            rt.alloc(),
+            7,
+            Trouble::behind(writes, Some(ErrorKind::Interrupted)),
+        );
         ends_by_a_write(&rt, rt.alloc(), &stream, &mut fails);
         is_a_part(&rt, &fails.held, &replies);
-        let mut takes_nothing = Sink::new(rt.alloc(), 7, writes, false);
+        let mut takes_nothing = Sink::new(rt.alloc(), 7, Trouble::behind(writes, None));
         ends_by_a_write(&rt, rt.alloc(), &stream, &mut takes_nothing);
         is_a_part(&rt, &takes_nothing.held, &replies);
     }
@@ -181,11 +177,7 @@ fn ends_before(rt: &impl Abort, alloc: Global, end: &str, fault: Option<Fault>) 
     let mut bytes = spelled(rt, alloc, INIT, end, "> ");
     let behind = stream(rt, alloc);
     bytes.extend_from_slice(&behind).expect(rt, "memory");
-    let mut input = Source {
-        bytes: &bytes,
-        most: first.len(),
-        reads: MANY,
-    };
+    let mut input = Source::new(&bytes, first.len(), Trouble::none());
     let mut output: Vec<u8> = Vec::new(alloc);
     let done = run_one(alloc, &mut input, &mut output);
     fault_is(rt, done.fault, fault);
@@ -194,7 +186,7 @@ fn ends_before(rt: &impl Abort, alloc: Global, end: &str, fault: Option<Fault>) 
 
 // One read was made, and these bytes are left.
 fn is_left(rt: &impl Abort, input: &Source<'_>, left: &[u8]) {
-    count_is(rt, input.reads, MANY - 1);
+    count_is(rt, input.reads, 1);
     are_bytes(rt, input.bytes, left);
 }
 
@@ -213,7 +205,7 @@ fn nothing_is_read_behind_the_end(rt: HostRuntime) {
 fn is_cut_and_broken(rt: &impl Abort, alloc: Global, writes: usize, broken: bool) {
     let stream = stream(rt, alloc);
     let mut input = stream.get(..289).unwrap_or(&[]);
-    let mut output = Sink::new(alloc, 200, writes, true);
+    let mut output = Sink::new(alloc, 200, Trouble::behind(writes, Some(ErrorKind::Other)));
     let ended = run_session(alloc, &mut input, &mut output);
     fault_is(rt, ended.done.fault, Some(Fault::Cut));
     assert_eq!(rt; ended.broken, broken);

@@ -8,7 +8,7 @@ use fl_history::{History, Lines};
 use fl_keeper::Keeper;
 use fl_order::{NoMemory, Order, Told};
 use fl_session::{Kept, run_over};
-use fl_testing::Source;
+use fl_testing::{Source, Trouble};
 use std::alloc::Global;
 use std::process::Abort;
 
@@ -43,18 +43,14 @@ impl Keeper for Noted {
 
 // It is told once before each read.
 fn is_told(rt: &impl Abort, input: &Source<'_>, pauses: usize) {
-    count_is(rt, MANY - input.reads.min(MANY), pauses);
+    count_is(rt, input.reads, pauses);
 }
 
 // The worked session comes in pieces of at most so many bytes. Its lines are with the keeper, which is told as often as
 // is said.
 fn keeps(rt: &impl Abort, alloc: Global, most: usize, pauses: usize) {
     let messages = stream(rt, alloc);
-    let mut input = Source {
-        bytes: &messages,
-        most,
-        reads: MANY,
-    };
+    let mut input = Source::new(&messages, most, Trouble::none());
     let mut output: Vec<u8> = Vec::new(alloc);
     let noted = Noted {
         lines: Lines::new(alloc),

@@ -1,23 +1,21 @@
 //! The worked session with one read or one write that is interrupted. It isn't tried again: the session takes it as any
 //! other that fails.
 
-use super::super::{MANY, count_is, fault_is};
+use super::super::{count_is, fault_is};
 use super::faults::{is_sent, replies, sent_after, stream};
 use fl_session::{Fault, run_one, run_session};
-use fl_testing::{Hiccup, Source, Stumble};
+use fl_testing::{Sink, Source, Trouble};
 use std::alloc::Global;
 use std::io::ErrorKind;
 use std::process::Abort;
 
 // So many reads of 29 bytes come before the one that is interrupted, and none behind it.
 fn ends_by_the_read(rt: &impl Abort, alloc: Global, stream: &[u8], reads: usize) -> Vec<u8> {
-    let mut input = Stumble {
-        bytes: stream,
-        most: 29,
-        reads: 0,
-        fails_at: reads,
-        kind: ErrorKind::Interrupted,
-    };
+    let mut input = Source::new(
+        stream,
+        29,
+        Trouble::once(reads, Some(ErrorKind::Interrupted)),
+    );
     let mut output = Vec::new(alloc);
     let done = run_one(alloc, &mut input, &mut output);
     fault_is(rt, done.fault, Some(Fault::Read));
@@ -38,12 +36,8 @@ fn a_read_is_interrupted_once(rt: HostRuntime) {
 // So many replies go out, each with a write, since a read gives 29 bytes, before the write that is interrupted. No write
 // comes behind it.
 fn ends_by_the_write(rt: &impl Abort, alloc: Global, stream: &[u8], writes: usize) -> Vec<u8> {
-    let mut input = Source {
-        bytes: stream,
-        most: 29,
-        reads: MANY,
-    };
-    let mut output = Hiccup::new(alloc, writes, ErrorKind::Interrupted);
+    let mut input = Source::new(stream, 29, Trouble::none());
+    let mut output = Sink::failing_once(alloc, writes, ErrorKind::Interrupted);
     let ended = run_session(alloc, &mut input, &mut output);
     fault_is(rt, ended.done.fault, Some(Fault::Write));
     assert!(rt; ended.broken);

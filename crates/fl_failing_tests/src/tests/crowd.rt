@@ -1,0 +1,88 @@
+//! A session with several workers of which each third order is refused.
+
+use super::refusing::{Came, Refusals, served_refusing};
+use super::sessions::CROWD;
+use super::whole::{Reply, replies};
+use super::{count_is, is_legal, stream_of};
+use fl_book::{History, Line};
+use std::alloc::Global;
+use std::process::Abort;
+use std::sync::Wait;
+use std::thread::Threads;
+
+// The uniques of the orders that were taken.
+fn taken_in(rt: &impl Abort, alloc: Global, history: &History) -> Vec<u64> {
+    let mut uniques = Vec::new(alloc);
+    for at in 0..history.len() {
+        if let Line::Asked { worker: _, order } = history.line(at) {
+            uniques.push(order.unique).expect(rt, "memory");
+        }
+    }
+    uniques
+}
+
+// What an order is told: a LOOKUP ENOENT, a SETLK EBADF, an INTERRUPT EAGAIN, and a FORGET nothing. Where it is refused, the first
+// two are told ENOMEM.
+fn told(unique: u64, taken: bool) -> Option<u32> {
+    match (unique % 4, taken) {
+        (0, true) => Some(2),
+        (1, true) => Some(9),
+        (2, _) => Some(11),
+        (3, _) => None,
+        _ => Some(12),
+    }
+}
+
+// The reply to the INIT, and to each order what it is told, by their uniques.
+fn wanted(rt: &impl Abort, alloc: Global, taken: &[u64]) -> Vec<Reply> {
+    let mut wanted = Vec::new(alloc);
+    wanted.push((1, 0)).expect(rt, "memory");
+    for unique in 2..26 {
+        if let Some(error) = told(unique, taken.contains(&unique)) {
+            wanted.push((unique, error)).expect(rt, "memory");
+        }
+    }
+    wanted
+}
+
+fn are_replies(rt: &impl Abort, found: &[Reply], wanted: &[Reply]) {
+    assert_eq!(rt; found, wanted);
+}
+
+// Of 24 orders so many are taken. Those that aren't are no lines and are told so.
+fn came_so(rt: &impl Abort, alloc: Global, came: &Came, orders: usize) {
+    is_legal(rt, alloc, &came.history);
+    let taken = taken_in(rt, alloc, &came.history);
+    count_is(rt, taken.len(), orders);
+    let mut found = replies(rt, alloc, &came.out);
+    found.sort_unstable();
+    are_replies(rt, &found, &wanted(rt, alloc, &taken));
+    assert_eq!(rt; came.refused, orders < 24);
+}
+
+fn refuse<R: Abort + Threads + Wait + Sync>(
+    rt: &R,
+    alloc: Global,
+    refusals: Refusals,
+    workers: u32,
+    orders: usize,
+) {
+    let stream = stream_of(rt, alloc, CROWD);
+    let came = served_refusing(rt, alloc, &stream, refusals, workers);
+    came_so(rt, alloc, &came, orders);
+}
+
+#[test]
+fn refused_orders_are_told_so_and_are_no_lines(rt: HostRuntime) {
+    for workers in [1, 2, 4, 16] {
+        let none = Refusals {
+            first: u64::MAX,
+            step: 1,
+        };
+        refuse(&rt, rt.alloc(), none, workers, 24);
+        let each_third = Refusals { first: 2, step: 3 };
+        refuse(&rt, rt.alloc(), each_third, workers, 16);
+        let all = Refusals { first: 0, step: 1 };
+        refuse(&rt, rt.alloc(), all, workers, 0);
+    }
+}

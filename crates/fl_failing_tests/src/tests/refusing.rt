@@ -1,0 +1,212 @@
+//! A keeper that refuses orders, and sessions of one worker of which each order is refused in turn.
+
+ghost use Rattle.std.specs.Prelude.{min};
+
+use super::sessions::ORDERS;
+use super::whole::{long_at, place_of, word_at};
+use super::{Alone, are_alike, are_bytes, fault_is, of_workers, run_alone, stream_of};
+use fl_book::{History, Keeper, Lines};
+use fl_order::{NoMemory, Order, Told};
+use fl_serve::{Kept, OpenGate, serve_over};
+use std::alloc::Global;
+use std::process::Abort;
+use std::sync::Wait;
+use std::thread::Threads;
+
+/// Which orders find no memory.
+#[derive(Clone, Copy)]
+pub(super) struct Refusals {
+    /// The first, from 0.
+    pub first: u64,
+    /// How many orders there are from one to the next.
+    pub step: u64,
+}
+
+// Lines in memory, for which room is refused to some orders. It is asked for again behind each order that was taken.
+#[derive(Drop)]
+struct Refusing {
+    lines: Lines,
+    // For how many more lines there is room.
+    room: usize,
+    // How many orders came.
+    orders: u64,
+    refusals: Refusals,
+}
+
+impl Keeper for Refusing {
+    ghost lines = { λ kept. kept.lines.items };
+
+    ghost room = { λ kept. min kept.room kept.lines.room };
+
+    fn reserve(&mut self, count: usize) -> Result<(), NoMemory> {
+        if count <= self.room {
+            return Ok(self.lines.reserve(count)?);
+        }
+        let order = self.orders;
+        self.orders = order.wrapping_add(1);
+        if order >= self.refusals.first
+            && (order - self.refusals.first) % self.refusals.step.max(1) == 0
+        {
+            return Err(NoMemory);
+        }
+        self.lines.reserve(count)?;
+        self.room = count;
+        Ok(())
+    }
+
+    fn push_asked(&mut self, worker: u32, order: &Order) {
+        self.room -= 1;
+        self.lines.push_asked(worker, order);
+    }
+
+    fn push_told(&mut self, told: &Told) {
+        self.room -= 1;
+        self.lines.push_told(told);
+    }
+
+    fn pause(&mut self) {}
+}
+
+/// What a session came to some of whose orders were refused.
+#[derive(Drop)]
+pub(super) struct Came {
+    pub history: History,
+    pub out: Vec<u8>,
+    pub refused: bool,
+}
+
+/// Serves a stream to its end with so many workers, while some orders find no memory.
+pub(super) fn served_refusing<R: Abort + Threads + Wait + Sync>(
+    rt: &R,
+    alloc: Global,
+    stream: &[u8],
+    refusals: Refusals,
+    workers: u32,
+) -> Came {
+    let mut input = stream;
+    let mut out = Vec::new(alloc);
+    let keeper = Refusing {
+        lines: Lines::new(alloc),
+        room: 0,
+        orders: 0,
+        refusals,
+    };
+    let workers = of_workers(workers);
+    let kept = serve_over(rt, alloc, &mut input, &mut out, workers, &OpenGate, keeper);
+    let Kept {
+        keeper,
+        fault,
+        refused,
+    } = kept;
+    fault_is(rt, fault, None);
+    let Refusing { lines, .. } = keeper.expect(rt, "a keeper");
+    Came {
+        history: History::of(lines),
+        out,
+        refused,
+    }
+}
+
+// Adds what an order is told that finds no memory: nothing to a FORGET, EAGAIN to an INTERRUPT, and ENOMEM to any other.
+fn add_refusal(rt: &impl Abort, out: &mut Vec<u8>, message: &[u8]) {
+    let error = match word_at(message, 4) {
+        2 => return,
+        36 => 11u32,
+        _ => 12u32,
+    };
+    let added = [
+        out.extend_from_slice(&16u32.to_le_bytes()),
+        out.extend_from_slice(&0u32.wrapping_sub(error).to_le_bytes()),
+        out.extend_from_slice(&long_at(message, 8).to_le_bytes()),
+    ];
+    assert!(rt; added.iter().all(|it| it.is_ok()));
+}
+
+// A stream without one of its messages.
+#[derive(Drop)]
+struct Without {
+    before: Vec<u8>,
+    message: Vec<u8>,
+    rest: Vec<u8>,
+}
+
+fn copied(rt: &impl Abort, alloc: Global, bytes: &[u8]) -> Vec<u8> {
+    let mut copy = Vec::new(alloc);
+    copy.extend_from_slice(bytes).expect(rt, "memory");
+    copy
+}
+
+fn split_at_message(rt: &impl Abort, alloc: Global, stream: &[u8], number: usize) -> Without {
+    let (before, from) = stream.split_at(place_of(rt, stream, number));
+    let (message, behind) = from.split_at(place_of(rt, from, 1));
+    let mut rest = copied(rt, alloc, before);
+    rest.extend_from_slice(behind).expect(rt, "memory");
+    Without {
+        before: copied(rt, alloc, before),
+        message: copied(rt, alloc, message),
+        rest,
+    }
+}
+
+// The replies of a stream without one of its messages, with what that one is told in its place, and the history without it.
+fn wanted(rt: &impl Abort, alloc: Global, stream: &[u8], number: usize) -> Alone {
+    let parts = split_at_message(rt, alloc, stream, number);
+    let before = run_alone(alloc, &parts.before);
+    let Alone { done, out } = run_alone(alloc, &parts.rest);
+    let mut all = copied(rt, alloc, &before.out);
+    add_refusal(rt, &mut all, &parts.message);
+    let behind = out.get(before.out.len()..).unwrap_or(&[]);
+    all.extend_from_slice(behind).expect(rt, "memory");
+    Alone { done, out: all }
+}
+
+fn came_so(rt: &impl Abort, alloc: Global, came: &Came, wanted: &Alone, refused: bool) {
+    are_bytes(rt, &came.out, &wanted.out);
+    are_alike(rt, alloc, &came.history, &wanted.done.history);
+    assert_eq!(rt; came.refused, refused);
+}
+
+// One worker's order of this number, from 0, is refused.
+fn refuse<R: Abort + Threads + Wait + Sync>(rt: &R, alloc: Global, stream: &[u8], first: u64) {
+    let refusals = Refusals {
+        first,
+        step: u64::MAX,
+    };
+    let came = served_refusing(rt, alloc, stream, refusals, 1);
+    let number = (first as usize).saturating_add(1);
+    came_so(rt, alloc, &came, &wanted(rt, alloc, stream, number), true);
+}
+
+fn refuse_none<R: Abort + Threads + Wait + Sync>(rt: &R, alloc: Global, stream: &[u8]) {
+    let refusals = Refusals {
+        first: u64::MAX,
+        step: 1,
+    };
+    let came = served_refusing(rt, alloc, stream, refusals, 1);
+    came_so(rt, alloc, &came, &run_alone(alloc, stream), false);
+}
+
+// Says how many orders were refused.
+fn refuse_each<R: Abort + Threads + Wait + Sync>(rt: &R, alloc: Global, stream: &[u8]) -> u64 {
+    refuse_none(rt, alloc, stream);
+    let mut order = 0;
+    for _ in 0..stream.len() {
+        let number = (order as usize).saturating_add(1);
+        if place_of(rt, stream, number) == stream.len() {
+            break;
+        }
+        refuse(rt, alloc, stream, order);
+        order = order.saturating_add(1);
+    }
+    order
+}
+
+#[test]
+fn each_order_is_refused_in_turn(rt: HostRuntime) {
+    let mut count = 0u64;
+    for case in ORDERS.split('#').skip(1) {
+        let stream = stream_of(&rt, rt.alloc(), case);
+        count = count.saturating_add(refuse_each(&rt, rt.alloc(), &stream));
+    }
+    assert_eq!(rt; count, 27);
+}

@@ -1,0 +1,142 @@
+"""What the scripts share that try the built program: the program, a server with a client of it, messages, and how tries are run.
+
+A message's layout is that of `fuse.h` (protocol 7.31).
+"""
+import os
+import socket
+import struct
+import subprocess
+import sys
+import tempfile
+import time
+
+TOP = os.path.dirname(os.path.dirname(os.path.realpath(__file__)))
+PROGRAM = os.path.realpath(os.environ.get("LOCKD", f"{TOP}/crates/lockd/out/lockd"))
+PATIENCE = 20
+NOT_TRIED = 77
+
+
+def message(opcode, unique, node, body):
+    return struct.pack("<IIQQIIII", 40 + len(body), opcode, unique, node, 0, 0, 0, 0) + body
+
+
+INIT = message(26, 1, 0, struct.pack("<IIII", 7, 31, 0, 0))
+CREATE = message(35, 2, 1, struct.pack("<IIII", 0, 0o644, 0, 0) + b"a\0")
+
+
+def lock(opcode, unique, owner, byte, kind):
+    """GETLK, SETLK or SETLKW of one byte of the first file."""
+    return message(opcode, unique, 2, struct.pack("<QQQQIIII", 1, owner, byte, byte, kind, 11, 0, 0))
+
+
+def setlk(unique):
+    """A write lock on byte 0 of the first file, or its unlock, in turn."""
+    return lock(32, unique, 7, 0, 1 + unique % 2)
+
+
+def take(client, size):
+    """So many bytes from the server, or all up to its end."""
+    found = b""
+    while len(found) < size:
+        more = client.recv(size - len(found))
+        if not more:
+            break
+        found += more
+    return found
+
+
+def replies(bytes_):
+    """The uniques and error numbers of whole replies, in their order. A rest that is no whole reply is refused."""
+    found, at = [], 0
+    while at < len(bytes_):
+        assert at + 16 <= len(bytes_), "a cut reply"
+        size, error, unique = struct.unpack_from("<IiQ", bytes_, at)
+        assert 16 <= size <= 8192 and at + size <= len(bytes_), size
+        found.append((unique, -error))
+        at += size
+    return found
+
+
+def wait_until(is_so):
+    last = time.monotonic() + PATIENCE
+    while not is_so() and time.monotonic() < last:
+        time.sleep(0.01)
+
+
+def run(*words, text=b"", **how):
+    return subprocess.run([PROGRAM, *words], input=text, capture_output=True, timeout=PATIENCE, **how)
+
+
+def judged(trace):
+    return run("check", text=trace).stdout.decode()
+
+
+class Server:
+    """A server with these options, and a folder of its own."""
+
+    def __init__(self, *options, workers=1, printed=subprocess.PIPE, before=None, env=None, program=PROGRAM):
+        self.folder = tempfile.TemporaryDirectory(prefix="try-lockd-")
+        os.chmod(self.folder.name, 0o777)
+        self.path, self.file = f"{self.folder.name}/socket", f"{self.folder.name}/trace"
+        words = [program, "serve", self.path, "--workers", str(workers), *(it.format(file=self.file) for it in options)]
+        self.serving = subprocess.Popen(words, stdout=printed, stderr=subprocess.PIPE, preexec_fn=before, env=env)
+
+    def listens(self):
+        """Waits until it does: its file is there a moment before."""
+        wait_until(lambda: os.path.exists(self.path) or self.serving.poll() is not None)
+        time.sleep(0.1)
+
+    def connect(self):
+        """A connection, once it listens."""
+        last = time.monotonic() + PATIENCE
+        while True:
+            client = socket.socket(socket.AF_UNIX)
+            client.settimeout(PATIENCE)
+            try:
+                client.connect(self.path)
+                return client
+            except (FileNotFoundError, ConnectionRefusedError):
+                client.close()
+                if time.monotonic() > last or self.serving.poll() is not None:
+                    raise
+                time.sleep(0.01)
+
+    def session(self, count):
+        """A session with so many locks and unlocks, 64 at a time. Gives the error numbers of their replies."""
+        errors = []
+        with self.connect() as client:
+            client.sendall(INIT + CREATE)
+            take(client, 80 + 160)
+            for first in range(3, 3 + count, 64):
+                uniques = range(first, min(first + 64, 3 + count))
+                client.sendall(b"".join(map(setlk, uniques)))
+                errors += [error for _, error in replies(take(client, 16 * len(uniques)))]
+        return errors
+
+    def ended(self):
+        """What it printed, what it told, and its status."""
+        printed, told = self.serving.communicate(timeout=PATIENCE)
+        return printed, told.decode(), self.serving.returncode
+
+    def traced(self):
+        with open(self.file, "rb") as file:
+            return file.read()
+
+
+def main(script, names):
+    """Runs each function `try_..` of a script, prints how each ended, and ends with `N passed, M failed`. The status is 1 where M isn't
+    0, and 77 where there is no program."""
+    if not os.access(PROGRAM, os.X_OK):
+        print(f"{script}: not tried: there is no program at {PROGRAM}", file=sys.stderr)
+        return NOT_TRIED
+    failed = 0
+    tries = {name: it for name, it in names.items() if name.startswith("try_")}
+    for name, it in tries.items():
+        try:
+            said = it()
+            print(f"{name}: passed" if said is None else f"{name}: {said}")
+        except (AssertionError, OSError, subprocess.SubprocessError, struct.error) as error:
+            failed += 1
+            print(f"{name}: FAILED: {type(error).__name__} {error}")
+    print(f"{len(tries) - failed} passed, {failed} failed")
+    return 1 if failed else 0
