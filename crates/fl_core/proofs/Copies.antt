@@ -7,7 +7,7 @@ use Rattle.std.specs.List.{cons_option, filter_map}
 use Rattle.fl_arena.specs.Chains.{Chains, items}
 use Rattle.fl_arena.specs.Cursors.{cursor_at}
 use Rattle.fl_arena.specs.declared.cursors.Cursor.{Cursor}
-use Rattle.fl_core.specs.Circle.{Wish, wish_of, wishes}
+use Rattle.fl_core.specs.Waiting.{Wish, wish_of, wishes}
 use Rattle.fl_core.specs.Inside.Claims.{request_in, requests_of}
 use Rattle.fl_core.specs.Inside.Searching.{meant, one_of}
 use Rattle.fl_core.specs.declared.circle.Wanted.{Wanted}

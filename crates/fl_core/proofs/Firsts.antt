@@ -130,7 +130,7 @@ no_deadlock p order ask none = only_false _ (λ d. none ((deadlock_words p.marki
 
 lock_answered : (p : Snapshot) (order : Order) (ask : LockAsk) (e : Option Errno) (conflict deadlock full : Bool)
     → ask_error p.view.directory order.node ask ≡ e
-    → waits p.marking (request_of order ask) ≡ conflict → deadlocks p order ask ≡ deadlock → nat_le 256 (length p.view.parked) ≡ full
+    → waits p.marking p.view.parked (request_of order ask) ≡ conflict → deadlocks p order ask ≡ deadlock → nat_le 256 (length p.view.parked) ≡ full
     → IsAnswered p order (Setlkw ask) (lock_told p order ask e conflict deadlock full)
 lock_answered p order ask (Some e) conflict deadlock full fault c d f = fails ask e fault
 lock_answered p order ask None false deadlock full fault c d f = is_free ask fault c
@@ -139,10 +139,10 @@ lock_answered p order ask None true false true fault c d f = is_one_too_many ask
 lock_answered p order ask None true false false fault c d f = waits_now ask fault c (no_circle p order ask d) (below (length p.view.parked) f)
 
 lock_is : (p : Snapshot) (order : Order) (ask : LockAsk) (e : Option Errno) (conflict deadlock full : Bool) → ask_error p.view.directory order.node ask ≡ e
-    → waits p.marking (request_of order ask) ≡ conflict → deadlocks p order ask ≡ deadlock → nat_le 256 (length p.view.parked) ≡ full
+    → waits p.marking p.view.parked (request_of order ask) ≡ conflict → deadlocks p order ask ≡ deadlock → nat_le 256 (length p.view.parked) ≡ full
     → told_of p order (Setlkw ask) ≡ lock_told p order ask e conflict deadlock full
 lock_is p order ask e conflict deadlock full fault c d f =
-    append-nil (lock_told p order ask (ask_error p.view.directory order.node ask) (waits p.marking (request_of order ask)) (deadlocks p order ask)
+    append-nil (lock_told p order ask (ask_error p.view.directory order.node ask) (waits p.marking p.view.parked (request_of order ask)) (deadlocks p order ask)
     (nat_le 256 (length p.view.parked)))
     ∙ (λ i. lock_told p order ask (fault i) (c i) (d i) (f i))
 

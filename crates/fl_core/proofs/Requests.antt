@@ -3,7 +3,7 @@ use Rattle.std.proofs.Common.{◌≡◌, ◌∙◌, ℕ, Option, Bool, cond, nat
 use Rattle.fl_core.specs.Effects.{locked}
 use Rattle.fl_core.specs.Replies.{ask_error, at_once_unless, is_deadlock, room_reply, setlkw_reply}
 use Rattle.fl_core.specs.State.{View}
-use Rattle.fl_core.specs.Waiting.{is_excluded}
+use Rattle.fl_core.specs.Waiting.{must_wait}
 use Rattle.fl_core.specs.LockRequest.{key_of, start_of, end_of, mark_of, stroke_of}
 use Rattle.fl_order.specs.declared.errno.Errno.{Errno}
 use Rattle.fl_order.specs.declared.errno.Errno.TheVariants.{EDEADLK, ENOLCK}
@@ -27,7 +27,7 @@ set_marking (Err e) m n s node ask is ok err = err
 
 -- a SETLKW by its tests
 pub setlkw_is : (v : View) (m : Marking) (node : ℕ) (ask : LockAsk) (e : Option Errno) (conflict deadlock full : Bool) → ask_error v.directory node ask ≡ e
-    → is_excluded m (stroke_of node ask) (mark_of ask) ≡ conflict
+    → must_wait m v.parked (stroke_of node ask) (mark_of ask) ≡ conflict
     → is_deadlock m v.parked (stroke_of node ask) (mark_of ask) ≡ deadlock → nat_le 256 (length v.parked) ≡ full
     → setlkw_reply v m node ask ≡ at_once_unless e
     (cond conflict (cond deadlock (Some (Err EDEADLK)) (cond full (Some (Err ENOLCK)) None)) (Some (room_reply m (stroke_of node ask))))

@@ -1,46 +1,61 @@
 -- Settling as a function, and in words.
-use Rattle.std.proofs.Common.{◌≡◌, ◌↔◌, ℕ, zero, suc, Bool, true, false, cond, not, Option, Some, None, List, [], ◌∷◌, ◌++◌, append_assoc, append-nil, length, refl, sym, ap, ◌∙◌, subst, arith}
+use Rattle.std.proofs.Common.{◌≡◌, ◌↔◌, ℕ, zero, suc, Bool, true, false, cond, Option, Some, None, List, [], ◌∷◌, ◌++◌, append_assoc, append-nil, length, refl, sym, ap, ◌∙◌, subst, arith}
 use Rattle.fl_core.specs.declared.parked.Request.{Request}
-use Rattle.fl_core.specs.Waiting.{waits, taken_first, AllWait, AreApart}
-use Rattle.fl_core.specs.Settling.{Present, Settled, present, granted_told, marking_granted, oldest_free, with_told, answered_first, settled_within, settled, IsSettled, done, one}
+use Rattle.fl_core.specs.Waiting.{waits, AllBehind, AllWait, AreApart}
+use Rattle.fl_core.specs.Settling.{Present, Settled, present, granted_told, marking_granted, free_behind, oldest_free, with_told, answered_first, settled_within, settled, IsSettled, done, one}
 use Rattle.fl_core.proofs.Taken.{keep, apart_without}
 use Rattle.fl_order.specs.declared.told.Told.{Told}
 use Rattle.fl_ranges.specs.Marking.{Marking}
 
--- where the oldest request stands that doesn't wait
-pub record IsOldest (m : Marking) (parked : List Request) (r : Request) (others : List Request) : Type 0 where
+-- each of the requests waits; these are older than all
+abbrev pub WaitBehind : Marking → List Request → List Request → Type 0
+WaitBehind m before parked = AllBehind (λ older r. waits m older r ≡ true) before parked
+
+-- where the oldest request stands that doesn't wait; these are older than all
+pub record IsOldest (m : Marking) (before parked : List Request) (r : Request) (others : List Request) : Type 0 where
   pub older : List Request
   pub younger : List Request
   pub stands : parked ≡ older ++ r ∷ younger
   pub left : others ≡ older ++ younger
-  pub all : AllWait m older
-  pub free : waits m r ≡ false
+  pub all : WaitBehind m before older
+  pub free : waits m (before ++ older) r ≡ false
 
-pub none_free : (m : Marking) (parked : List Request) → oldest_free m parked ≡ None → AllWait m parked
-unfolding taken_first
-none_free m [] e = tt
-none_free m (a ∷ parked) e = go (waits m a) refl (oldest_free m parked) refl e (none_free m parked)
+none_behind : (m : Marking) (before parked : List Request) → free_behind m before parked ≡ None → WaitBehind m before parked
+unfolding free_behind
+none_behind m before [] e = tt
+none_behind m before (a ∷ parked) e =
+    go (waits m before a) refl (free_behind m (before ++ a ∷ []) parked) refl e (none_behind m (before ++ a ∷ []) parked)
   where
-    go : (b : Bool) → waits m a ≡ b → (o : Option (Request × List Request)) → oldest_free m parked ≡ o → cond (not b) (Some (a, parked)) (keep a o) ≡ None
-        → (oldest_free m parked ≡ None → AllWait m parked) → AllWait m (a ∷ parked)
+    go : (b : Bool) → waits m before a ≡ b → (o : Option (Request × List Request)) → free_behind m (before ++ a ∷ []) parked ≡ o
+        → cond b (keep a o) (Some (a, parked)) ≡ None
+        → (free_behind m (before ++ a ∷ []) parked ≡ None → WaitBehind m (before ++ a ∷ []) parked) → WaitBehind m before (a ∷ parked)
     go true c None o e f = (c, f o)
     go true c (Some p) o e f = absurd (cc e)
     go false c x o e f = absurd (cc e)
 
-pub all_wait : (m : Marking) (parked : List Request) → AllWait m parked → oldest_free m parked ≡ None
-unfolding taken_first
-all_wait m [] all = refl
-all_wait m (a ∷ parked) all = λ i. cond (not (all.0 i)) (Some (a, parked)) (keep a (all_wait m parked all.1 i))
+pub none_free : (m : Marking) (parked : List Request) → oldest_free m parked ≡ None → AllWait m parked
+none_free m parked e = none_behind m [] parked e
 
-pub is_oldest : (m : Marking) (parked : List Request) (r : Request) (others : List Request) → oldest_free m parked ≡ Some (r, others)
-    → IsOldest m parked r others
-unfolding taken_first
-is_oldest m [] r others e = absurd (cc e)
-is_oldest m (a ∷ parked) r others e = go (waits m a) refl (oldest_free m parked) refl e (is_oldest m parked)
+wait_behind : (m : Marking) (before parked : List Request) → WaitBehind m before parked → free_behind m before parked ≡ None
+unfolding free_behind
+wait_behind m before [] all = refl
+wait_behind m before (a ∷ parked) all =
+    λ i. cond (all.0 i) (keep a (wait_behind m (before ++ a ∷ []) parked all.1 i)) (Some (a, parked))
+
+pub all_wait : (m : Marking) (parked : List Request) → AllWait m parked → oldest_free m parked ≡ None
+all_wait m parked all = wait_behind m [] parked all
+
+oldest_behind : (m : Marking) (before parked : List Request) (r : Request) (others : List Request) → free_behind m before parked ≡ Some (r, others)
+    → IsOldest m before parked r others
+unfolding free_behind
+oldest_behind m before [] r others e = absurd (cc e)
+oldest_behind m before (a ∷ parked) r others e =
+    go (waits m before a) refl (free_behind m (before ++ a ∷ []) parked) refl e (oldest_behind m (before ++ a ∷ []) parked)
   where
-    go : (b : Bool) → waits m a ≡ b → (o : Option (Request × List Request)) → oldest_free m parked ≡ o
-        → cond (not b) (Some (a, parked)) (keep a o) ≡ Some (r, others)
-        → ((k : Request) (l : List Request) → oldest_free m parked ≡ Some (k, l) → IsOldest m parked k l) → IsOldest m (a ∷ parked) r others
+    go : (b : Bool) → waits m before a ≡ b → (o : Option (Request × List Request)) → free_behind m (before ++ a ∷ []) parked ≡ o
+        → cond b (keep a o) (Some (a, parked)) ≡ Some (r, others)
+        → ((k : Request) (l : List Request) → free_behind m (before ++ a ∷ []) parked ≡ Some (k, l) → IsOldest m (before ++ a ∷ []) parked k l)
+        → IsOldest m before (a ∷ parked) r others
     go true c None o e f = absurd (cc e)
     go true c (Some p) o e f =
         let w = f p.0 p.1 o in
@@ -53,19 +68,33 @@ is_oldest m (a ∷ parked) r others e = go (waits m a) refl (oldest_free m parke
           stands = ap (λ xs. a ∷ xs) w.stands ∙ ap (λ k. a ∷ (w.older ++ k ∷ w.younger)) asks;
           left = sym lefts ∙ ap (λ xs. a ∷ xs) w.left;
           all = (c, w.all);
-          free = ap (waits m) (sym asks) ∙ w.free;
+          free = ap (waits m (before ++ a ∷ w.older)) (sym asks) ∙ ap (λ xs. waits m xs p.0) (sym (append_assoc before (a ∷ []) w.older)) ∙ w.free;
         }
     go false c x o e f =
         let both : ◌≡◌ {A = Request × List Request} (a, parked) (r, others) = cc in
-        let asks : a ≡ r = ap (λ (p : Request × List Request). p.0) both in
-        let lefts : parked ≡ others = ap (λ (p : Request × List Request). p.1) both in
-        record { older = []; younger = parked; stands = ap (λ k. k ∷ parked) asks; left = sym lefts; all = tt; free = ap (waits m) (sym asks) ∙ c }
+        let asks : a ≡ r = ap (λ (q : Request × List Request). q.0) both in
+        let lefts : parked ≡ others = ap (λ (q : Request × List Request). q.1) both in
+        record {
+          older = [];
+          younger = parked;
+          stands = ap (λ k. k ∷ parked) asks;
+          left = sym lefts;
+          all = tt;
+          free = ap (waits m (before ++ [])) (sym asks) ∙ ap (λ xs. waits m xs a) (append-nil before) ∙ c;
+        }
 
-oldest_is : (m : Marking) (older : List Request) (r : Request) (younger : List Request) → AllWait m older → waits m r ≡ false
-    → oldest_free m (older ++ r ∷ younger) ≡ Some (r, older ++ younger)
-unfolding taken_first
-oldest_is m [] r younger all free = ap (λ b. cond (not b) (Some (r, younger)) (keep r (oldest_free m younger))) free
-oldest_is m (a ∷ older) r younger all free = λ i. cond (not (all.0 i)) (Some (a, older ++ r ∷ younger)) (keep a (oldest_is m older r younger all.1 free i))
+pub is_oldest : (m : Marking) (parked : List Request) (r : Request) (others : List Request) → oldest_free m parked ≡ Some (r, others)
+    → IsOldest m [] parked r others
+is_oldest m parked r others e = oldest_behind m [] parked r others e
+
+oldest_is : (m : Marking) (before older : List Request) (r : Request) (younger : List Request) → WaitBehind m before older
+    → waits m (before ++ older) r ≡ false → free_behind m before (older ++ r ∷ younger) ≡ Some (r, older ++ younger)
+unfolding free_behind
+oldest_is m before [] r younger all free =
+    ap (λ b. cond b (keep r (free_behind m (before ++ r ∷ []) younger)) (Some (r, younger))) (ap (λ xs. waits m xs r) (sym (append-nil before)) ∙ free)
+oldest_is m before (a ∷ older) r younger all free =
+    λ i. cond (all.0 i) (keep a (oldest_is m (before ++ a ∷ []) older r younger all.1
+    (ap (λ xs. waits m xs r) (append_assoc before (a ∷ []) older) ∙ free) i)) (Some (a, older ++ r ∷ younger))
 
 -- the two laws by which settling computes
 pub settled_none : (m : Marking) (parked : List Request) → AllWait m parked → settled (present m parked) ≡ record { present = present m parked; tolds = [] }
@@ -77,7 +106,7 @@ shorter : (older : List Request) (r : Request) (younger : List Request) → leng
 shorter [] r younger = refl
 shorter (a ∷ older) r younger = ap suc (shorter older r younger)
 
-pub one_shorter : {m : Marking} {parked : List Request} {r : Request} {others : List Request} → IsOldest m parked r others → length parked ≡ suc (length others)
+pub one_shorter : {m : Marking} {parked : List Request} {r : Request} {others : List Request} → IsOldest m [] parked r others → length parked ≡ suc (length others)
 one_shorter {r = r} w = ap length w.stands ∙ shorter w.older r w.younger ∙ ap (λ xs. suc (length xs)) (sym w.left)
 
 settled_one : (m : Marking) (parked : List Request) (r : Request) (others : List Request) → oldest_free m parked ≡ Some (r, others)
@@ -119,7 +148,7 @@ is_settled s = sound (length s.parked) s.marking s.parked refl
 complete : {s after : Present} {tolds : List Told} → IsSettled s tolds after → settled s ≡ record { present = after; tolds = tolds }
 complete (done {m} {parked} all) = settled_none m parked all
 complete (one {m} {parked} {tolds} {after} older r younger stands all free rest) =
-    settled_first m parked r (older ++ younger) (ap (oldest_free m) stands ∙ oldest_is m older r younger all free)
+    settled_first m parked r (older ++ younger) (ap (oldest_free m) stands ∙ oldest_is m [] older r younger all free)
     ∙ ap (with_told (granted_told m r)) (complete rest)
 
 pub settling_told : (s after : Present) (tolds : List Told) → IsSettled s tolds after ↔ ((tolds ≡ (settled s).tolds) × (after ≡ (settled s).present))

@@ -1,7 +1,7 @@
 -- An order is taken in stages.
 use Rattle.std.proofs.Common.{◌≡◌, ◌≢◌, ℕ, ◌==◌, nat_lt, Bool, true, false, cond, not, ◌&&◌, ◌||◌, Option, Some, None, option_map, Result, Ok, Err, List, [], ◌∷◌, ◌++◌, refl, sym, ap, ◌∙◌, subst, arith}
 use Rattle.std.proofs.lemmas.Bool.Decides.{nat_tests}
-use Rattle.fl_core.specs.Circle.{owner_of, is_record}
+use Rattle.fl_core.specs.Circle.{is_record}
 use Rattle.fl_core.specs.Effects.{locked, unlocked, dropped, locks_answered, request_of, waited_for, with_waiter, by_reply, made}
 use Rattle.fl_core.specs.Inside.Parts.{left_if}
 use Rattle.fl_core.specs.LockRequest.{is_flock, key_of, start_of, end_of, mark_of, stroke_of}
@@ -11,7 +11,7 @@ use Rattle.fl_core.specs.Stages.{asker_of, asked_by, wanted_by, GainsAtMost, Own
 use Rattle.fl_core.specs.Stages.{IsTakenInStages}
 use Rattle.fl_core.specs.State.{Snapshot}
 use Rattle.fl_core.specs.Step.{next}
-use Rattle.fl_core.specs.Waiting.{is_parked, AllWait, AreApart}
+use Rattle.fl_core.specs.Waiting.{owner_of, is_parked, AllWait, AreApart}
 use Rattle.fl_core.specs.declared.ending.Ending.{Ending}
 use Rattle.fl_core.specs.declared.parked.Request.{Request}
 use Rattle.fl_core.proofs.Settlings.{is_settled}
@@ -86,18 +86,18 @@ pub record Counts : Type 0 where
 
 module _ (count : Counts) where
   gains_by_other : (g : Option ℕ) (m : Marking) (s : Stroke) → g ≡ Some s.key.owner → GainsAtMost g m (stroked s m)
-  gains_by_other g m s is w q other h = raised (is_record w.key.class) _ _
-      (λ _ k. sym (count.others m s w.key w.start w.end w.kind q (λ same. other (is ∙ ap (λ n. Some n) (sym same)))) ∙ k) h
+  gains_by_other g m s is w q other h = raised (is_record w.wish.key.class) _ _
+      (λ _ k. sym (count.others m s w.wish.key w.wish.start w.wish.end w.wish.kind q (λ same. other (is ∙ ap (λ n. Some n) (sym same)))) ∙ k) h
 
   gains_by_flock : (g : Option ℕ) (m : Marking) (s : Stroke) → s.key.class ≡ Flock → GainsAtMost g m (stroked s m)
-  gains_by_flock g m s is w q other h = raised (is_record w.key.class) _ _
-      (λ k c. sym (count.class m s w.key w.start w.end w.kind q (λ same. no_flock w.key.class k (same ∙ is))) ∙ c) h
+  gains_by_flock g m s is w q other h = raised (is_record w.wish.key.class) _ _
+      (λ k c. sym (count.class m s w.wish.key w.wish.start w.wish.end w.wish.kind q (λ same. no_flock w.wish.key.class k (same ∙ is))) ∙ c) h
 
   gains_by_unlock : (g : Option ℕ) (m : Marking) (s : Stroke) → s.mark ≡ None → GainsAtMost g m (stroked s m)
-  gains_by_unlock g m s is w q other h = raised (is_record w.key.class) _ _ (λ _ c. count.unlocked m s w.key w.start w.end w.kind q is c) h
+  gains_by_unlock g m s is w q other h = raised (is_record w.wish.key.class) _ _ (λ _ c. count.unlocked m s w.wish.key w.wish.start w.wish.end w.wish.kind q is c) h
 
   gains_by_clear : (g : Option ℕ) (m : Marking) (node : ℕ) → GainsAtMost g m (without_node node m)
-  gains_by_clear g m node w q other h = raised (is_record w.key.class) _ _ (λ _ c. count.cleared m node w.key w.start w.end w.kind q c) h
+  gains_by_clear g m node w q other h = raised (is_record w.wish.key.class) _ _ (λ _ c. count.cleared m node w.wish.key w.wish.start w.wish.end w.wish.kind q c) h
 
   -- a lock request that is answered so
   gains_locked : (node : ℕ) (ask : LockAsk) (reply : Result Answer Errno) (m : Marking)

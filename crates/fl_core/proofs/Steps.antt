@@ -3,19 +3,20 @@ use Rattle.std.proofs.Common.{◌≡◌, ◌≢◌, ℕ, Bool, true, false, cond
 use Rattle.std.specs.List.{filter, AllByRecursion}
 use Rattle.fl_core.specs.Effects.{Effect, leaving, answered, unanswered, request_of, waited_for, with_waiter, by_reply, at_once, replied, made}
 use Rattle.fl_core.specs.Inside.Parts.{left_by, left_if, with_parked}
-use Rattle.fl_core.specs.Inside.Touched.{concerns_request, OthersWait}
+use Rattle.fl_core.specs.Inside.Touched.{OthersWait}
 use Rattle.fl_core.specs.Replies.{at_once_unless, taken_reply, reply_to, own_reply, own_replies, ended_with, ended_all, ending_of, error_of, picks, ended_if, ended_by, ended, first_told}
 use Rattle.fl_core.specs.Settling.{Settled, present}
 use Rattle.fl_core.specs.State.{Snapshot}
 use Rattle.fl_core.specs.Step.{after_first, settling, replies, with_present, next}
-use Rattle.fl_core.specs.Waiting.{is_parked, waits, AllWait, AreApart}
+use Rattle.fl_core.specs.Waiting.{is_parked, AllWait, AreApart}
 use Rattle.fl_core.specs.declared.ending.Ending.{Ending}
 use Rattle.fl_core.specs.declared.parked.Request.{Request}
 use Rattle.fl_core.specs.declared.settling.Touched.{Touched}
 use Rattle.fl_core.proofs.Effects.{made_all, made_all-append, made_replied, AreOthers}
 use Rattle.fl_core.proofs.Readings.{settled_read, ended_read}
 use Rattle.fl_core.proofs.Settlings.{settled_none}
-use Rattle.fl_core.proofs.Taken.{all_more, all_passing, apart_more, apart_passing, none_of, one_longer}
+use Rattle.fl_core.proofs.Taken.{apart_more, apart_passing, none_of, one_longer}
+use Rattle.fl_core.proofs.Waits.{all_wait_more, all_wait_left, others_wait_left}
 use Rattle.fl_order.specs.Order.{only_reads}
 use Rattle.fl_order.specs.declared.errno.Errno.{Errno}
 use Rattle.fl_order.specs.declared.errno.Errno.TheVariants.{EINVAL}
@@ -88,8 +89,8 @@ excluded e b wait room is = absurd (cc is)
 left_waiting : (order : Order) (p : Snapshot) → AllWait p.marking p.view.parked → (op : Op) → reply_to p.view p.marking order op ≡ None
     → AllWait p.marking (left_by (with_waiter order (waited_for op) p.view.parked) op None)
 left_waiting order p all (Setlkw ask) none =
-    all_more (λ r. waits p.marking r ≡ true) p.view.parked (request_of order ask) all (excluded _ _ _ _ none)
-left_waiting order p all (Interrupt unique) none = all_passing (λ r. waits p.marking r ≡ true) _ p.view.parked all
+    all_wait_more p.marking p.view.parked (request_of order ask) all (excluded _ _ _ _ none)
+left_waiting order p all (Interrupt unique) none = all_wait_left p.marking _ p.view.parked all
 left_waiting order p all op none = all
 
 -- the requests that an order ends go
@@ -208,7 +209,7 @@ room_left order None p few = omega (arith, few, one_at_most order (waited_for or
 -- those that an order leaves still wait, but for the locks that it touched
 pub others_left : (t : Touched) (m : Marking) (parked : List Request) (ending : Option Ending) → OthersWait t m parked → OthersWait t m (left_if ending parked)
 others_left t m parked None all = all
-others_left t m parked (Some ending) all = all_passing (λ (r : Request). concerns_request t r ≡ false → waits m r ≡ true) _ parked all
+others_left t m parked (Some ending) all = others_wait_left t m _ parked all
 
 -- ---- orders that only read
 

@@ -1,5 +1,5 @@
 -- Locks that are wanted, and who keeps them from being set.
-use Rattle.std.proofs.Common.{◌≡◌, ◌↔◌, ℕ, Bool, true, false, cond, not, ◌&&◌, ◌||◌, ◌==◌, nat_le, Option, Some, None, option_map, List, [], ◌∷◌, length, refl, sym, ap, ◌∙◌, subst, arith}
+use Rattle.std.proofs.Common.{◌≡◌, ◌↔◌, ℕ, Bool, true, false, cond, not, ◌&&◌, ◌||◌, ◌==◌, nat_le, Option, Some, None, option_map, List, [], ◌∷◌, ◌++◌, length, map, refl, sym, ap, ◌∙◌, subst, arith}
 use Rattle.std.proofs.lemmas.Bool.Decides.{nat_tests}
 use Rattle.std.specs.List.{list_any, cons_option}
 use Rattle.std.specs.FinMap.{entries}
@@ -8,13 +8,15 @@ use Rattle.fl_ranges.specs.declared.lock.Key.{Key}
 use Rattle.fl_ranges.specs.declared.lock.Kind.{Kind}
 use Rattle.fl_ranges.specs.declared.lock.Mark.{Mark}
 use Rattle.fl_ranges.specs.Marking.{Marking, Spot, class_number}
-use Rattle.fl_ranges.specs.Conflict.{excludes, excludes_by, owner_conflicts}
-use Rattle.fl_core.specs.Circle.{leads, IsCircle, Wish, owner_of, is_record, hinders, wish_on, wish_of, wishes, closes_circle, ClosesCircle}
+use Rattle.fl_ranges.specs.Conflict.{excludes, excludes_by, excludes_lock}
+use Rattle.fl_core.specs.Circle.{leads, IsCircle, Waiter, waiter_of, behind, waiter_first, waiters_behind, waiters, is_record, hinders, closes_circle, ClosesCircle}
+use Rattle.fl_core.specs.Inside.Searching.{hinders_alone}
 use Rattle.fl_core.specs.LockRequest.{is_flock, key_of, start_of, end_of, mark_of, stroke_of}
 use Rattle.fl_core.specs.Replies.{is_deadlock}
 use Rattle.fl_core.specs.Stages.{is_waiting}
+use Rattle.fl_core.specs.Waiting.{Wish, owner_of, wish_on, wish_of, wishes, keeps_waiting, anyone, only}
 use Rattle.fl_core.specs.declared.parked.Request.{Request}
-use Rattle.fl_core.proofs.Circles.{circle_words}
+use Rattle.fl_core.proofs.Circles.{circle_words, leads_alike}
 
 -- ---- nobody is kept waiting by his own locks
 
@@ -42,11 +44,71 @@ and_false : (b c : Bool) → c ≡ false → (b && c) ≡ false
 and_false true c e = e
 and_false false c e = refl
 
-pub hinders_not_itself : (m : Marking) (w : Wish) → hinders m w (owner_of w) ≡ false
-hinders_not_itself m w = and_false (is_record w.key.class) _ (never_own (entries m) w.key w.start w.end w.kind)
+pub hinders_not_itself : (m : Marking) (w : Waiter) → hinders m w (waiter_of w) ≡ false
+hinders_not_itself m w = let k = w.wish in and_false (is_record k.key.class) _ (never_own (entries m) k.key k.start k.end k.kind)
 
-pub closes_words : (m : Marking) (parked : List Request) (w : Wish) → (closes_circle m parked w ≡ true) ↔ IsCircle owner_of (hinders m) (wishes parked) w
-closes_words m parked w = circle_words owner_of (hinders m) (wishes parked) w (hinders_not_itself m w)
+pub alone_not_itself : (m : Marking) (w : Wish) → hinders_alone m w (owner_of w) ≡ false
+alone_not_itself m w = hinders_not_itself m (behind [] w)
+
+pub closes_words : (m : Marking) (parked : List Request) (w : Wish)
+    → (closes_circle m parked w ≡ true) ↔ IsCircle waiter_of (hinders m) (waiters parked) (behind parked w)
+closes_words m parked w = circle_words waiter_of (hinders m) (waiters parked) (behind parked w) (hinders_not_itself m (behind parked w))
+
+-- ---- a lock waits where an owner keeps it waiting
+
+same_owner : (x : ℕ) (b : Bool) → b ≡ true → ((x == x) && b) ≡ true
+same_owner x true e = grind (arith, nat_tests)
+same_owner x false e = absurd (cc e)
+
+second : (b c : Bool) → c ≡ true → (b || c) ≡ true
+second true c e = refl
+second false c e = e
+
+some_owner : (w : Wish) (es : List (Spot × Mark)) → list_any (excludes_lock w.key w.start w.end w.kind) es ≡ true
+    → (owner : ℕ) × (list_any (excludes_by w.key w.start w.end w.kind owner) es ≡ true)
+some_owner w [] h = absurd (cc h)
+some_owner w (e ∷ es) h = go (excludes_lock w.key w.start w.end w.kind e) refl h (some_owner w es)
+  where
+    go : (b : Bool) → excludes_lock w.key w.start w.end w.kind e ≡ b → (b || list_any (excludes_lock w.key w.start w.end w.kind) es) ≡ true
+        → (list_any (excludes_lock w.key w.start w.end w.kind) es ≡ true
+        → (owner : ℕ) × (list_any (excludes_by w.key w.start w.end w.kind owner) es ≡ true))
+        → (owner : ℕ) × (list_any (excludes_by w.key w.start w.end w.kind owner) (e ∷ es) ≡ true)
+    go true x h rest = let o = e.0.0.owner in (o, ap (λ b. b || list_any (excludes_by w.key w.start w.end w.kind o) es) (same_owner o _ x))
+    go false x h rest = let t = rest h in (t.0, second _ _ t.1)
+
+whoever : (w : Wish) (owner : ℕ) (es : List (Spot × Mark)) → list_any (excludes_by w.key w.start w.end w.kind owner) es ≡ true
+    → list_any (excludes_lock w.key w.start w.end w.kind) es ≡ true
+whoever w owner [] h = absurd (cc h)
+whoever w owner (e ∷ es) h = go (e.0.0.owner == owner) (excludes_lock w.key w.start w.end w.kind e) h (whoever w owner es)
+  where
+    go : (a x : Bool) {r s : Bool} → ((a && x) || r) ≡ true → (r ≡ true → s ≡ true) → (x || s) ≡ true
+    go true true h rest = refl
+    go true false h rest = rest h
+    go false true h rest = refl
+    go false false h rest = rest h
+
+pub waits_for_someone : (m : Marking) (older : List Request) (w : Wish)
+    → (keeps_waiting anyone m older w ≡ true) ↔ ((owner : ℕ) × (keeps_waiting (only owner) m older w ≡ true))
+waits_for_someone m older w = (some_owner w (entries m), λ t. whoever w t.0 (entries m) t.1)
+
+-- ---- what waiters want, and where the older requests have no say
+
+pub wanted_by_waiters : (older parked : List Request) → map (λ (w : Waiter). w.wish) (waiters_behind older parked) ≡ wishes parked
+wanted_by_waiters older [] = refl
+wanted_by_waiters older (r ∷ parked) =
+    go (wish_of r) (waiters_behind (older ++ r ∷ []) parked) (wishes parked) (wanted_by_waiters (older ++ r ∷ []) parked)
+  where
+    go : (w : Option Wish) (others : List Waiter) (wanted : List Wish) → map (λ (w : Waiter). w.wish) others ≡ wanted
+        → map (λ (w : Waiter). w.wish) (waiter_first older w others) ≡ cons_option w wanted
+    go None others wanted e = e
+    go (Some w) others wanted e = ap (λ ws. w ∷ ws) e
+
+-- a wish leads behind all requests to whom it leads through what they want
+pub leads_by_wishes : (m : Marking) (parked : List Request) (w : Wish) (q : ℕ)
+    → leads waiter_of (hinders m) (waiters parked) (behind parked w) q ≡ leads owner_of (hinders_alone m) (wishes parked) w q
+leads_by_wishes m parked w q =
+    leads_alike (λ (w : Waiter). w.wish) owner_of (hinders_alone m) (waiters parked) (behind parked w) q
+    ∙ ap (λ ws. leads owner_of (hinders_alone m) ws w q) (wanted_by_waiters [] parked)
 
 -- ---- whole-file locks have no part in circles
 
@@ -57,11 +119,11 @@ only_false false f = refl
 pub flock_closes_none : (m : Marking) (parked : List Request) (w : Wish) → w.key.class ≡ Flock → closes_circle m parked w ≡ false
 flock_closes_none m parked w flock = only_false _ (λ h.
     let c = (closes_words m parked w).0 h in
-    cc (sym c.hindered ∙ ap (λ k. is_record k && owner_conflicts m w.key w.start w.end w.kind c.first) flock))
+    cc (sym c.hindered ∙ ap (λ k. is_record k && keeps_waiting (only c.first) m parked w) flock))
 
 pub empty_closes_none : (m : Marking) (parked : List Request) (w : Wish) → length parked ≡ 0 → closes_circle m parked w ≡ false
 unfolding leads
-empty_closes_none m [] w e = hinders_not_itself m w
+empty_closes_none m [] w e = hinders_not_itself m (behind [] w)
 empty_closes_none m (r ∷ parked) w e = absurd (omega arith)
 
 -- ---- a request that would close a circle
@@ -92,7 +154,7 @@ deadlock_is m parked r false f (Some mark) e =
     (option_map (λ (k : Mark). record { key = key_of r.node r.ask; start = start_of r.ask; end = end_of r.ask; kind = k.kind }) (e i)) in
     let words = closes_words m parked (wish_on (stroke_of r.node r.ask) mark) in (
       λ h. record { wish = wish_on (stroke_of r.node r.ask) mark; wants = wanted; circle = words.0 h },
-      λ c. words.1 (subst (IsCircle owner_of (hinders m) (wishes parked))
+      λ c. words.1 (subst (λ (k : Wish). IsCircle waiter_of (hinders m) (waiters parked) (behind parked k))
           (same c.wish (wish_on (stroke_of r.node r.ask) mark) (sym c.wants ∙ wanted)) c.circle),
     )
   where

@@ -1,14 +1,10 @@
--- Circles of waiting owners (POSIX.1-2017 `fcntl`, EDEADLK): each waits for a lock that the next one holds.
-use Rattle.std.specs.Prelude.{◌≡◌, ℕ, Bool, true, false, ◌&&◌, ◌||◌, Option, Some, None, option_map, List, [], ◌∷◌, if◌then◌else◌}
-use Rattle.std.specs.List.{Contains, filter_map}
+-- Circles of waiting owners (POSIX.1-2017 `fcntl`, EDEADLK): the next one keeps each waiting.
+use Rattle.std.specs.Prelude.{◌≡◌, ℕ, Bool, true, false, ◌&&◌, ◌||◌, Option, Some, None, List, [], ◌∷◌, ◌++◌}
+use Rattle.std.specs.List.{Contains}
 use Rattle.fl_ranges.specs.declared.lock.Class.{Class}
 use Rattle.fl_ranges.specs.declared.lock.Class.TheVariants.{Record, Flock}
-use Rattle.fl_ranges.specs.declared.lock.Key.{Key}
-use Rattle.fl_ranges.specs.declared.lock.Kind.{Kind}
-use Rattle.fl_ranges.specs.declared.lock.Mark.{Mark}
-use Rattle.fl_ranges.specs.Conflict.{owner_conflicts}
-use Rattle.fl_ranges.specs.Marking.{Marking, Stroke}
-use Rattle.fl_core.specs.LockRequest.{is_flock, key_of, start_of, end_of, mark_of}
+use Rattle.fl_ranges.specs.Marking.{Marking}
+use Rattle.fl_core.specs.Waiting.{Wish, owner_of, wish_of, keeps_waiting, only}
 use Rattle.fl_core.specs.declared.parked.Request.{Request}
 
 -- ---- of any requests, with whose they are and whom each waits for
@@ -43,45 +39,47 @@ leads owner_of hinders (r ∷ rs) asked q =
 
 -- ---- of lock requests
 
--- a lock that is wanted
-pub record Wish : Type 0 where
-  pub key : Key
-  pub start : ℕ
-  pub end : ℕ
-  pub kind : Kind
+-- a record lock that is wanted, and the requests that are older
+pub record Waiter : Type 0 where
+  pub wish : Wish
+  pub older : List Request
 
-abbrev pub owner_of : Wish → ℕ
-owner_of w = w.key.owner
+-- whose it is
+abbrev pub waiter_of : Waiter → ℕ
+waiter_of w = owner_of w.wish
+
+-- a lock that is wanted behind all these requests
+abbrev pub behind : List Request → Wish → Waiter
+behind parked w = record { wish = w; older = parked }
+
+-- the first of the waiters, if there is one
+abbrev pub waiter_first : List Request → Option Wish → List Waiter → List Waiter
+waiter_first older None others = others
+waiter_first older (Some w) others = behind older w ∷ others
+
+-- the record locks that the requests want, each with the requests that are older, which are these and those before it
+abbrev pub waiters_behind : List Request → List Request → List Waiter
+waiters_behind older [] = []
+waiters_behind older (r ∷ parked) = waiter_first older (wish_of r) (waiters_behind (older ++ r ∷ []) parked)
+
+-- all who wait for record locks, the oldest first
+abbrev pub waiters : List Request → List Waiter
+waiters parked = waiters_behind [] parked
 
 abbrev pub is_record : Class → Bool
 is_record Record = true
 is_record Flock = false
 
--- a record lock of this owner keeps it from being set; whole-file locks have no part in circles
-abbrev pub hinders : Marking → Wish → ℕ → Bool
-hinders m w owner = is_record w.key.class && owner_conflicts m w.key w.start w.end w.kind owner
+-- this owner keeps it waiting; whole-file locks have no part in circles
+abbrev pub hinders : Marking → Waiter → ℕ → Bool
+hinders m w owner = is_record w.wish.key.class && keeps_waiting (only owner) m w.older w.wish
 
-abbrev pub wish_on : Stroke → Mark → Wish
-wish_on s mark = record { key = s.key; start = s.start; end = s.end; kind = mark.kind }
-
--- the record lock that a request wants; none where it asks for another lock, or for none
-abbrev pub wish_of : Request → Option Wish
-wish_of r =
-    if is_flock r.ask then None
-    else option_map
-    (λ (mark : Mark). record { key = key_of r.node r.ask; start = start_of r.ask; end = end_of r.ask; kind = mark.kind })
-    (mark_of r.ask)
-
--- those that the requests want, the oldest first
-abbrev pub wishes : List Request → List Wish
-wishes parked = filter_map wish_of parked
-
--- a lock would close a circle if its request waited
+-- a lock would close a circle if its request waited, behind all others
 abbrev pub closes_circle : Marking → List Request → Wish → Bool
-closes_circle m parked w = leads owner_of (hinders m) (wishes parked) w (owner_of w)
+closes_circle m parked w = leads waiter_of (hinders m) (waiters parked) (behind parked w) (owner_of w)
 
 -- the same in words, of a request: it wants a record lock, and owners wait in a circle with the one who asks
 pub record ClosesCircle (m : Marking) (parked : List Request) (r : Request) : Type 0 where
   pub wish : Wish
   pub wants : wish_of r ≡ Some wish
-  pub circle : IsCircle owner_of (hinders m) (wishes parked) wish
+  pub circle : IsCircle waiter_of (hinders m) (waiters parked) (behind parked wish)

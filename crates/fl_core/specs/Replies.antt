@@ -3,10 +3,10 @@
 use Rattle.std.specs.Prelude.{ℕ, Bool, false, not, ◌||◌, ◌&&◌, ◌==◌, nat_le, nat_lt, Option, Some, None, Result, Ok, Err}
 use Rattle.std.specs.Prelude.{List, [], ◌∷◌, ◌++◌, length, map, if◌then◌else◌}
 use Rattle.std.specs.List.{filter}
-use Rattle.fl_core.specs.Circle.{closes_circle, wish_on}
+use Rattle.fl_core.specs.Circle.{closes_circle}
 use Rattle.fl_core.specs.LockRequest.{is_flock, key_of, mark_of, stroke_of}
 use Rattle.fl_core.specs.State.{View, Snapshot}
-use Rattle.fl_core.specs.Waiting.{is_excluded, is_parked}
+use Rattle.fl_core.specs.Waiting.{wish_on, must_wait, is_excluded, is_parked}
 use Rattle.fl_core.specs.declared.ending.Ending.{Ending}
 use Rattle.fl_core.specs.declared.ending.Ending.TheVariants.{Through, Named}
 use Rattle.fl_core.specs.declared.parked.Request.{Request}
@@ -61,7 +61,7 @@ abbrev pub is_deadlock : Marking → List Request → Stroke → Option Mark →
 is_deadlock m parked s None = false
 is_deadlock m parked s (Some mark) = closes_circle m parked (wish_on s mark)
 
--- a request that conflicts has no reply yet, unless it would close a circle, or 256 requests wait already
+-- a request that has to wait has no reply yet, unless it would close a circle, or 256 requests wait already
 abbrev pub wait_reply : Marking → List Request → Stroke → Option Mark → Option (Result Answer Errno)
 wait_reply m parked s mark =
     if is_deadlock m parked s mark then Some (Err EDEADLK)
@@ -77,7 +77,7 @@ abbrev pub setlkw_reply : View → Marking → ℕ → LockAsk → Option (Resul
 setlkw_reply v m node ask =
     let s = stroke_of node ask in
     at_once_unless (ask_error v.directory node ask)
-    (if is_excluded m s (mark_of ask) then wait_reply m v.parked s (mark_of ask) else Some (room_reply m s))
+    (if must_wait m v.parked s (mark_of ask) then wait_reply m v.parked s (mark_of ask) else Some (room_reply m s))
 
 -- the type of a lock record: 0 is read and 1 is write
 abbrev pub type_of : Kind → ℕ

@@ -1,9 +1,10 @@
 -- Which parked requests are answered once locks have changed.
-use Rattle.std.specs.Prelude.{◌≡◌, ℕ, zero, suc, false, not, Option, Some, None, Result, List, [], ◌∷◌, ◌++◌, length}
+use Rattle.std.specs.Prelude.{◌≡◌, ℕ, zero, suc, false, Option, Some, None, option_map, Result, List, [], ◌∷◌, ◌++◌, length}
+use Rattle.std.specs.Prelude.{if◌then◌else◌}
 use Rattle.fl_core.specs.Effects.{locked}
 use Rattle.fl_core.specs.LockRequest.{stroke_of}
 use Rattle.fl_core.specs.Replies.{room_reply}
-use Rattle.fl_core.specs.Waiting.{waits, taken_first, AllWait}
+use Rattle.fl_core.specs.Waiting.{waits, AllWait}
 use Rattle.fl_core.specs.declared.parked.Request.{Request}
 use Rattle.fl_order.specs.declared.errno.Errno.{Errno}
 use Rattle.fl_order.specs.declared.told.Answer.{Answer}
@@ -31,9 +32,17 @@ granted_told m r = record { unique = r.unique; result = grant_reply m r }
 abbrev pub marking_granted : Marking → Request → Marking
 marking_granted m r = after_changes (locked r.node r.ask (grant_reply m r)) m
 
--- the oldest request that conflicts with nothing, and the others
+-- the oldest request that doesn't wait, and the others; these are older than all of them
+unfoldable pub free_behind : Marking → List Request → List Request → Option (Request × List Request)
+free_behind m older [] = None
+free_behind m older (r ∷ parked) =
+    if waits m older r
+    then option_map (λ (p : Request × List Request). (p.0, r ∷ p.1)) (free_behind m (older ++ r ∷ []) parked)
+    else Some (r, parked)
+
+-- the oldest of all parked requests that doesn't
 abbrev pub oldest_free : Marking → List Request → Option (Request × List Request)
-oldest_free m parked = taken_first (λ r. not (waits m r)) parked
+oldest_free m parked = free_behind m [] parked
 
 -- what settling leaves, and the replies that it gives
 pub record Settled : Type 0 where
@@ -50,7 +59,7 @@ abbrev pub answered_first : Marking → List Request → ((Request × List Reque
 answered_first m parked rest None = record { present = present m parked; tolds = [] }
 answered_first m parked rest (Some p) = with_told (granted_told m p.0) (rest p)
 
--- at most so many requests are answered, each time the oldest that conflicts with nothing
+-- at most so many requests are answered, each time the oldest that doesn't wait
 unfoldable pub settled_within : ℕ → Marking → List Request → Settled
 settled_within zero m parked = record { present = present m parked; tolds = [] }
 settled_within (suc n) m parked =
@@ -66,6 +75,6 @@ pub data IsSettled : Present → List Told → Present → Type 0 where
   done : {m : Marking} {parked : List Request} → AllWait m parked
       → IsSettled (present m parked) [] (present m parked)
   one : {m : Marking} {parked : List Request} {tolds : List Told} {after : Present} (older : List Request)
-      (r : Request) (younger : List Request) → parked ≡ older ++ r ∷ younger → AllWait m older → waits m r ≡ false
+      (r : Request) (younger : List Request) → parked ≡ older ++ r ∷ younger → AllWait m older → waits m older r ≡ false
       → IsSettled (present (marking_granted m r) (older ++ younger)) tolds after
       → IsSettled (present m parked) (granted_told m r ∷ tolds) after

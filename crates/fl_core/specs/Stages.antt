@@ -3,9 +3,10 @@
 use Rattle.std.specs.Prelude.{◌≡◌, ◌≢◌, ℕ, ◌==◌, Bool, true, not, ◌&&◌, nat_lt, Option, Some, None, option_map, List, [], ◌∷◌, ◌++◌}
 use Rattle.std.specs.Prelude.{if◌then◌else◌}
 use Rattle.std.specs.List.{filter, list_any}
-use Rattle.fl_core.specs.Circle.{Wish, owner_of, hinders, wish_of, wishes, ClosesCircle}
+use Rattle.fl_core.specs.Circle.{Waiter, hinders, ClosesCircle}
 use Rattle.fl_core.specs.LockRequest.{is_flock}
 use Rattle.fl_core.specs.Settling.{Present}
+use Rattle.fl_core.specs.Waiting.{Wish, owner_of, wish_of, wishes}
 use Rattle.fl_core.specs.declared.parked.Request.{Request}
 use Rattle.fl_order.specs.declared.order.LockAsk.{LockAsk}
 use Rattle.fl_order.specs.declared.order.Op.{Op}
@@ -35,10 +36,10 @@ asked_by op = None
 abbrev pub wanted_by : Request → Option ℕ
 wanted_by r = option_map owner_of (wish_of r)
 
--- no owner keeps a lock from being set afterwards who didn't before, but for this one, if one is named
+-- no owner keeps a waiter waiting afterwards who didn't before, but for this one, if one is named
 abbrev pub GainsAtMost : Option ℕ → Marking → Marking → Type 0
 GainsAtMost gainer before after =
-    (w : Wish) (owner : ℕ) → gainer ≢ Some owner → hinders after w owner ≡ true → hinders before w owner ≡ true
+    (w : Waiter) (owner : ℕ) → gainer ≢ Some owner → hinders after w owner ≡ true → hinders before w owner ≡ true
 
 -- The order's own change: nobody gains but the owner who asks for a record lock, and the same requests are parked. Or a
 -- request of that owner is parked behind the others, for a lock that it asks for, or one of the whole file; it closes no

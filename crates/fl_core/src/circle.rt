@@ -1,13 +1,14 @@
-//! The search for a circle of owners, each of whom waits for a lock that the next one holds.
+//! The search for a circle of owners, each of whom the next one keeps waiting.
 
 ghost use Rattle.std.specs.Prelude.{◌≡◌, ◌+◌, ◌++◌, ◌∷◌, [], ◌≤◌, ◌<◌, ℕ, false, true, map, option_map, length, take, MatchOption};
 ghost use Rattle.fl_arena.specs.Chains.{items};
 ghost use Rattle.std.specs.List.Sorted.{IsPermutation, IsNonDecreasing};
 ghost use Rattle.fl_ranges.specs.Conflict.{AreFound};
-ghost use Rattle.fl_core.specs.Circle.{closes_circle, hinders, leads, owner_of as owner_of_wish, wish_of, wishes};
+ghost use Rattle.fl_core.specs.Circle.{closes_circle, leads};
 ghost use Rattle.fl_core.specs.Inside.Claims.{requests_of};
-ghost use Rattle.fl_core.specs.Inside.Searching.{meant, one_of, is_set, owners_of, IsByOwner};
+ghost use Rattle.fl_core.specs.Inside.Searching.{meant, hinders_alone, one_of, is_set, owners_of, IsByOwner};
 ghost use Rattle.fl_core.specs.Stages.{is_waiting};
+ghost use Rattle.fl_core.specs.Waiting.{owner_of as owner_of_wish, wish_of, wishes};
 
 use crate::claim::Claim;
 use crate::parked::{MOST_PARKED, Parked};
@@ -104,8 +105,8 @@ fn wanted_of(claim: &Claim) -> Option<Wanted>
 fn leads_back(locks: &Table, wanted: &[Wanted], asked: &Wanted) -> bool
     requires few { length wanted.now ≤ MOST_PARKED }
     requires sorted { IsByOwner wanted.now }
-    ensures { result
-        ≡ leads owner_of_wish (hinders locks.now.marking) (map meant wanted.now) (meant asked.now) asked.now.key.owner }
+    ensures { result ≡ leads owner_of_wish (hinders_alone locks.now.marking) (map meant wanted.now) (meant asked.now)
+        asked.now.key.owner }
 {
     let room = owners_of(wanted);
     let owners = &room[..wanted.len()];
@@ -155,7 +156,7 @@ fn next(reached: &[bool], visited: &[bool; MOST_PARKED]) -> Option<usize>
 fn reach(locks: &Table, request: &Wanted, owners: &[u64], reached: &mut [bool])
     requires long { length reached.old ≡ length owners.now }
     requires sorted { IsNonDecreasing owners.now }
-    ensures { AreFound (hinders locks.now.marking (meant request.now)) owners.now reached.old reached.new }
+    ensures { AreFound (hinders_alone locks.now.marking (meant request.now)) owners.now reached.old reached.new }
 {
     match request.key.class {
         Class::Record => locks.find_rivals(
@@ -171,7 +172,7 @@ fn reach(locks: &Table, request: &Wanted, owners: &[u64], reached: &mut [bool])
 
 // Whether a record lock of this owner keeps the request waiting.
 fn waits_for(locks: &Table, request: &Wanted, owner: u64) -> bool
-    ensures { result ≡ hinders locks.now.marking (meant request.now) owner }
+    ensures { result ≡ hinders_alone locks.now.marking (meant request.now) owner }
 {
     let mut reached = [false];
     reach(locks, request, &[owner], &mut reached);

@@ -1,7 +1,7 @@
 //! Laws of the definitions, in the words of their subject. Each is the contract of an empty function.
 
-ghost use Rattle.std.specs.Prelude.{◌≡◌, ◌↔◌, true, Some, Err, [], List};
-ghost use Rattle.fl_core.specs.Circle.{Wish, owner_of, hinders, wishes, closes_circle, IsCircle, ClosesCircle};
+ghost use Rattle.std.specs.Prelude.{◌≡◌, ◌↔◌, ℕ, true, Some, Err, [], List};
+ghost use Rattle.fl_core.specs.Circle.{waiter_of, hinders, waiters, behind, closes_circle, IsCircle, ClosesCircle};
 ghost use Rattle.fl_core.specs.Effects.{Effect, later, leaving, replied, recorded, made};
 ghost use Rattle.fl_core.specs.First.{IsFirst};
 ghost use Rattle.fl_core.specs.LockRequest.{mark_of, stroke_of};
@@ -10,7 +10,7 @@ ghost use Rattle.fl_core.specs.Settling.{Present, present, settled, IsSettled};
 ghost use Rattle.fl_core.specs.Stages.{IsTakenInStages};
 ghost use Rattle.fl_core.specs.State.{View, State, Snapshot, snapshot_of};
 ghost use Rattle.fl_core.specs.Step.{next, replies};
-ghost use Rattle.fl_core.specs.Waiting.{AllWait, AreApart, taken_out};
+ghost use Rattle.fl_core.specs.Waiting.{Wish, keeps_waiting, anyone, only, AllWait, AreApart, taken_out};
 ghost use Rattle.fl_core.specs.declared.parked.Request.{Request};
 ghost use Rattle.fl_order.specs.declared.errno.Errno.{Errno};
 ghost use Rattle.fl_order.specs.declared.order.Order.{Order};
@@ -28,16 +28,18 @@ pub fn first_replies_are_those_of_the_orders_case()
         (tolds ≡ first_told p order) ↔ IsFirst p order tolds }
 {}
 
-/// A lock would close a circle exactly where an owner who keeps it from being set waits for the owner who wants it,
-/// directly or through others, each of whom waits for the next; and so would the request for it.
+/// A lock has to wait exactly where an owner keeps it waiting. It, or its request, would close a circle exactly where such an
+/// owner waits for the one who wants it, directly or through others, each of whom waits for the next.
 pub fn a_circle_is_a_row_of_owners_who_wait()
+    ensures someone { (m : Marking) (older : List Request) (w : Wish) →
+        (keeps_waiting anyone m older w ≡ true) ↔ ((owner : ℕ) × (keeps_waiting (only owner) m older w ≡ true)) }
     ensures wish { (m : Marking) (parked : List Request) (w : Wish) →
-        (closes_circle m parked w ≡ true) ↔ IsCircle owner_of (hinders m) (wishes parked) w }
+        (closes_circle m parked w ≡ true) ↔ IsCircle waiter_of (hinders m) (waiters parked) (behind parked w) }
     ensures request { (m : Marking) (parked : List Request) (r : Request) →
         (is_deadlock m parked (stroke_of r.node r.ask) (mark_of r.ask) ≡ true) ↔ ClosesCircle m parked r }
 {}
 
-/// Settling takes out the oldest request that conflicts with nothing, again and again, until each conflicts.
+/// Settling takes out the oldest request that doesn't wait, again and again, until each waits.
 pub fn settling_answers_the_oldest_first()
     ensures told { (s after : Present) (tolds : List Told) →
         IsSettled s tolds after ↔ ((tolds ≡ (settled s).tolds) × (after ≡ (settled s).present)) }

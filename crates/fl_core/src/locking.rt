@@ -1,14 +1,12 @@
 //! Lock requests: the tests that they meet, and the locks that they set or tell.
 
-ghost use Rattle.std.specs.Prelude.{◌≡◌, ◌↔◌, true, false, Some, None, [], ◌∷◌, ◌++◌, if◌then◌else◌};
-ghost use Rattle.std.specs.Prelude.{IfErr, IfOk, IfSome, OnOk, OnErr, IsNone};
+ghost use Rattle.std.specs.Prelude.{◌≡◌, ◌↔◌, true, false, Some, None, [], ◌∷◌, ◌++◌, if◌then◌else◌, IfErr, IfOk, IfSome, OnOk, OnErr, IsNone};
 ghost use Rattle.fl_ranges.specs.Marking.{stroke_on, stroked};
 ghost use Rattle.fl_ranges.specs.Conflict.{IsLawful, SameElsewhere, SameOffNode};
 ghost use Rattle.fl_ranges.specs.Change.{cleared, after_change, after_changes};
 ghost use Rattle.fl_core.specs.LockRequest.{is_flock, key_of, start_of, end_of, mark_of};
 ghost use Rattle.fl_core.specs.Effects.{dropped, locked, unlocked};
-ghost use Rattle.fl_core.specs.Replies.{ask_error, is_deadlock, is_malformed, type_of, lock_answer};
-ghost use Rattle.fl_core.specs.Replies.{room_reply, set_reply, setlk_reply, setlkw_reply, getlk_reply};
+ghost use Rattle.fl_core.specs.Replies.{ask_error, is_deadlock, is_malformed, type_of, lock_answer, room_reply, set_reply, setlk_reply, setlkw_reply, getlk_reply};
 ghost use Rattle.fl_core.specs.Inside.Touched.{WaitsNow};
 ghost use Rattle.fl_core.specs.Waiting.{is_excluded};
 

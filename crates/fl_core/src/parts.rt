@@ -123,7 +123,7 @@ impl Parts {
         }
     }
 
-    /// Answers parked requests until each conflicts, where an order touched these locks.
+    /// Answers parked requests until each waits, where an order touched these locks.
     pub(crate) fn settle(&mut self, touched: Touched, tolds: &mut Tolds)
         requires others { OthersWait touched self.old.marking self.old.view.parked }
         requires room { length tolds.old + length self.old.view.parked ≤ MOST_TOLDS }

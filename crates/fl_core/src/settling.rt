@@ -1,6 +1,6 @@
 //! Parked requests, answered once locks have changed.
 
-ghost use Rattle.std.specs.Prelude.{◌≡◌, ◌≤◌, ◌+◌, ◌++◌, false, None, Some, MatchOption, length};
+ghost use Rattle.std.specs.Prelude.{◌≡◌, ◌≤◌, ◌+◌, ◌++◌, false, None, Some, MatchOption, List, [], length};
 ghost use Rattle.std.specs.List.{AllByRecursion};
 ghost use Rattle.fl_ranges.specs.Conflict.{IsLawful, SameElsewhere};
 ghost use Rattle.fl_core.specs.LockRequest.{key_of};
@@ -43,8 +43,7 @@ pub(crate) fn touched_by(order: &Order, own: &Option<Result<Answer, Errno>>) -> 
     }
 }
 
-/// Answers requests, each time the oldest that conflicts with nothing, until each conflicts. It tests those alone whose
-/// locks were touched.
+/// Answers requests, always the oldest that doesn't wait, until each waits. It tests those alone whose locks were touched.
 pub(crate) fn settle(locks: &mut Table, parked: &mut Parked, touched: Touched, tolds: &mut Tolds)
     requires limit { locks.old.limit ≡ MOST_RUNS }
     requires others { OthersWait touched locks.old.marking parked.old }
@@ -75,7 +74,7 @@ fn may_concern(touched: Touched, parked: &Parked) -> bool
     }
 }
 
-// Takes out the oldest request that conflicts with nothing.
+// Takes out the oldest request that doesn't wait.
 fn take_free(locks: &Table, parked: &mut Parked, touched: Touched) -> Option<Claim>
     requires { OthersWait touched locks.now.marking parked.old }
     ensures { MatchOption result
@@ -88,7 +87,7 @@ fn take_free(locks: &Table, parked: &mut Parked, touched: Touched) -> Option<Cla
 // The request's lock is set where there is room.
 fn grant(locks: &mut Table, claim: &Claim) -> Told
     requires limit { locks.old.limit ≡ MOST_RUNS }
-    requires free { waits locks.old.marking claim.now.request ≡ false }
+    requires free { waits locks.old.marking [] claim.now.request ≡ false }
     ensures told { result ≡ granted_told locks.old.marking claim.now.request }
     ensures marking { locks.new.marking ≡ marking_granted locks.old.marking claim.now.request }
     ensures elsewhere { SameElsewhere claim.now.key locks.old.marking locks.new.marking }
@@ -112,9 +111,9 @@ fn concerns(touched: Touched, claim: &Claim) -> bool
     }
 }
 
-// Whether a request conflicts with a lock that is held.
+// Whether a request waits; the older ones have no say.
 fn waits(locks: &Table, claim: &Claim) -> bool
-    ensures { result ≡ waits locks.now.marking claim.now.request }
+    ensures { (older : List Request) → result ≡ waits locks.now.marking older claim.now.request }
 {
     is_excluded(locks, &claim.key, &claim.range, claim.mark)
 }

@@ -20,7 +20,7 @@ use std::alloc::Global;
 use std::marker::Model;
 
 /// The directory, the locks, and the parked requests. Contracts see them as a `Snapshot`. Each parked request
-/// conflicts with a lock that is held.
+/// has to wait, behind those before it.
 #[derive(Drop)]
 pub struct Core {
     pub(crate) parts: Parts,
@@ -51,7 +51,7 @@ impl Core {
         })
     }
 
-    /// Answers an order, makes its change, and answers parked requests until each conflicts. It leaves the replies in
+    /// Answers an order, makes its change, and answers parked requests until each waits. It leaves the replies in
     /// `tolds`, in the place of those before.
     pub fn step(&mut self, order: &Order, tolds: &mut Tolds)
         ensures replies { tolds.new ≡ replies self.old order.now }

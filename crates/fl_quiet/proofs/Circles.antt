@@ -71,14 +71,17 @@ module _ {A : Type 0} (owner : A → ℕ) (hinders : A → ℕ → Bool) (old : 
 -- ---- requests leave, and nobody gains locks but an owner, if one is named, who has none of the others
 
 module _ {A : Type 0} (owner : A → ℕ) (before after : A → ℕ → Bool) (old new : List A) (gainer : Option ℕ)
-    (fewer : (s : A) → Contains new s → Contains old s) (lone : (s : A) → Contains new s → gainer ≢ Some (owner s))
-    (gains : (s : A) (q : ℕ) → gainer ≢ Some q → after s q ≡ true → before s q ≡ true) where
+    (lone : (s : A) → Contains new s → gainer ≢ Some (owner s))
+    (was : (s : A) → Contains new s
+    → (t : A) × Contains old t × (owner t ≡ owner s) × ((q : ℕ) → gainer ≢ Some q → after s q ≡ true → before t q ≡ true)) where
   first_waits : (p : ℕ) (others : List ℕ) (q : ℕ) → AreInRow owner after new p others q → gainer ≢ Some p
   first_waits p [] q w is = lone w.request w.among (is ∙ ap (λ n. Some n) (sym w.of))
   first_waits p (next ∷ others) q w is = lone (w.0).request (w.0).among (is ∙ ap (λ n. Some n) (sym (w.0).of))
 
   as_before : (p q : ℕ) → gainer ≢ Some q → Waits owner after new p q → Waits owner before old p q
-  as_before p q other w = record { request = w.request; among = fewer w.request w.among; of = w.of; hindered = gains w.request q other w.hindered }
+  as_before p q other w =
+      let t = was w.request w.among in
+      record { request = t.0; among = t.1; of = t.2 ∙ w.of; hindered = t.3 q other w.hindered }
 
   row_before : (p : ℕ) (others : List ℕ) (q : ℕ) → gainer ≢ Some q → AreInRow owner after new p others q → AreInRow owner before old p others q
   row_before p [] q other w = as_before p q other w

@@ -7,7 +7,7 @@ use Rattle.std.proofs.lemmas.List.{take_all}
 use Rattle.std.proofs.lemmas.List.Sums.{fold-append}
 use Rattle.std.proofs.lemmas.Option.{get_or_from_slice_get, slice_get_within}
 use Rattle.std.specs.List.{fold}
-use Rattle.fl_core.specs.Circle.{owner_of, hinders, AreInRow}
+use Rattle.fl_core.specs.Circle.{waiter_of, hinders, AreInRow}
 use Rattle.fl_core.specs.Settling.{present}
 use Rattle.fl_core.specs.Stages.{asked_by, IsTakenInStages}
 use Rattle.fl_core.specs.State.{Snapshot, opening, snapshot_of}
@@ -171,7 +171,7 @@ module _ (leads_on : (lines : List Line) (p : Snapshot) (worker : ℕ) (order : 
     sound_next p order waiting apart quiet sound =
         step_sound order (present p.marking p.view.parked) (present (next p order).marking (next p order).view.parked) (stages p order waiting apart) quiet sound
 
-    none_waits : (first : ℕ) (others : List ℕ) → AreInRow owner_of (hinders (snapshot_of opening).marking) [] first others first → ⊥
+    none_waits : (first : ℕ) (others : List ℕ) → AreInRow waiter_of (hinders (snapshot_of opening).marking) [] first others first → ⊥
     none_waits first [] row = absurd (omega (arith, row.among.1))
     none_waits first (second ∷ others) row = absurd (omega (arith, (row.0).among.1))
 

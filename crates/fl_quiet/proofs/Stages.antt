@@ -4,13 +4,14 @@ use Rattle.std.proofs.Common.{◌≡◌, ◌≢◌, ℕ, zero, suc, ◌<◌, Boo
 use Rattle.std.proofs.Common.{slice_index_or, length, refl, ap, sym, ◌∙◌, subst, arith}
 use Rattle.std.specs.List.{Contains, AllByRecursion, filter, cons_option, list_any}
 use Rattle.std.proofs.lemmas.Bool.{eq-eqb, eqb-true}
-use Rattle.std.proofs.lemmas.List.{append-nil}
+use Rattle.std.proofs.lemmas.List.{append-nil, append_assoc}
 use Rattle.std.proofs.lemmas.List.Elements.{filter_map-append}
 use Rattle.std.proofs.lemmas.Option.{none-some}
 use Rattle.std.specs.FinMap.{entries}
-use Rattle.fl_core.specs.Circle.{Wish, owner_of, hinders, wish_of, wishes, AreInRow, ClosesCircle, is_record}
+use Rattle.fl_core.specs.Circle.{Waiter, waiter_of, waiter_first, waiters_behind, waiters, behind, hinders, AreInRow, ClosesCircle, is_record}
 use Rattle.fl_core.specs.Settling.{Present}
 use Rattle.fl_core.specs.Stages.{asked_by, wanted_by, GainsAtMost, OwnStage, changes, parks, LaterStage, leave, granted, AreLater, none, more, IsTakenInStages}
+use Rattle.fl_core.specs.Waiting.{Wish, owner_of, wish_of, wishes}
 use Rattle.fl_core.specs.declared.parked.Request.{Request}
 use Rattle.fl_order.specs.declared.order.Order.{Order}
 use Rattle.fl_quiet.specs.Quiet.{asks_while_waiting}
@@ -55,7 +56,7 @@ part_without : (older : List Request) (r : Request) (younger : List Request) →
 part_without [] r younger = part_past (wish_of r) (part_whole (wishes younger))
 part_without (a ∷ older) r younger = part_beside (wish_of a) (part_without older r younger)
 
-head_or_in : (x : Wish) (xs : List Wish) (s : Wish) (k : ℕ) → k < length (x ∷ xs) → slice_index_or (x ∷ xs) k s ≡ s → (x ≡ s) ⊎ Contains xs s
+head_or_in : {A : Type 0} (x : A) (xs : List A) (s : A) (k : ℕ) → k < length (x ∷ xs) → slice_index_or (x ∷ xs) k s ≡ s → (x ≡ s) ⊎ Contains xs s
 head_or_in x xs s zero below is = inl is
 head_or_in x xs s (suc k) below is = inr (k, omega (arith, below), is)
 
@@ -74,6 +75,48 @@ part_all P (goes p) all = part_all P p all.1
 all_has : (P : Wish → Type 0) (xs : List Wish) (s : Wish) → AllByRecursion P xs → Contains xs s → P s
 all_has P [] s all there = absurd (omega (arith, there.1))
 all_has P (x ∷ xs) s all there = ⊎_elim (λ is. subst P is all.0) (λ i. all_has P xs s all.1 i) (head_or_in x xs s there.0 there.1 there.2)
+
+-- ---- who waits, and what is wanted
+
+wanted_there : (older parked : List Request) (s : Waiter) → Contains (waiters_behind older parked) s → Contains (wishes parked) s.wish
+wanted_there older [] s there = absurd (omega (arith, there.1))
+wanted_there older (r ∷ parked) s there =
+    go (wish_of r) (waiters_behind (older ++ r ∷ []) parked) (wishes parked) (wanted_there (older ++ r ∷ []) parked s) there
+  where
+    go : (w : Option Wish) (others : List Waiter) (wanted : List Wish) → (Contains others s → Contains wanted s.wish)
+        → Contains (waiter_first older w others) s → Contains (cons_option w wanted) s.wish
+    go None others wanted rest there = rest there
+    go (Some w) others wanted rest there =
+        ⊎_elim (λ is. (0, omega arith, ap (λ (t : Waiter). t.wish) is)) (λ (there : Contains others s). let i = rest there in (suc i.0, omega (arith, i.1), i.2))
+        (head_or_in (behind older w) others s there.0 there.1 there.2)
+
+waiter_there : (older parked : List Request) (w : Wish) → Contains (wishes parked) w
+    → (t : Waiter) × Contains (waiters_behind older parked) t × (t.wish ≡ w)
+waiter_there older [] w there = absurd (omega (arith, there.1))
+waiter_there older (r ∷ parked) w there =
+    go (wish_of r) (waiters_behind (older ++ r ∷ []) parked) (wishes parked) (waiter_there (older ++ r ∷ []) parked w) there
+  where
+    go : (v : Option Wish) (others : List Waiter) (wanted : List Wish)
+        → (Contains wanted w → (t : Waiter) × Contains others t × (t.wish ≡ w))
+        → Contains (cons_option v wanted) w → (t : Waiter) × Contains (waiter_first older v others) t × (t.wish ≡ w)
+    go None others wanted rest there = rest there
+    go (Some v) others wanted rest there =
+        ⊎_elim (λ is. (behind older v, (0, omega arith, refl), is))
+        (λ (there : Contains wanted w). let t = rest there in (t.0, (suc t.1.0, omega (arith, t.1.1), t.1.2), t.2))
+        (head_or_in v wanted w there.0 there.1 there.2)
+
+-- one more waits behind the others
+waiters_pushed : (older parked : List Request) (r : Request) (w : Wish) → wish_of r ≡ Some w
+    → waiters_behind older (parked ++ r ∷ []) ≡ waiters_behind older parked ++ behind (older ++ parked) w ∷ []
+waiters_pushed older [] r w wants = ap (λ o. waiter_first older o []) wants ∙ ap (λ xs. behind xs w ∷ []) (sym (append-nil older))
+waiters_pushed older (a ∷ parked) r w wants =
+    ap (waiter_first older (wish_of a)) (waiters_pushed (older ++ a ∷ []) parked r w wants)
+    ∙ go (wish_of a) (waiters_behind (older ++ a ∷ []) parked) (behind ((older ++ a ∷ []) ++ parked) w ∷ [])
+    ∙ ap (λ xs. waiters_behind older (a ∷ parked) ++ behind xs w ∷ []) (append_assoc older (a ∷ []) parked)
+  where
+    go : (o : Option Wish) (others last : List Waiter) → waiter_first older o (others ++ last) ≡ waiter_first older o others ++ last
+    go None others last = refl
+    go (Some v) others last = refl
 
 -- ---- owners of wishes
 
@@ -148,16 +191,29 @@ lone_without (a ∷ older) r younger w wants lone = go (wish_of a) (lone_without
 -- no two parked record requests are of one owner, and owners don't wait in a circle
 pub record IsSound (s : Present) : Type 0 where
   pub lone : AreLone (wishes s.parked)
-  pub free : (first : ℕ) (others : List ℕ) → AreInRow owner_of (hinders s.marking) (wishes s.parked) first others first → ⊥
+  pub free : (first : ℕ) (others : List ℕ) → AreInRow waiter_of (hinders s.marking) (waiters s.parked) first others first → ⊥
 
 gained_sound : (before after : Present) (gainer : Option ℕ) → Part (wishes after.parked) (wishes before.parked)
     → GainsAtMost gainer before.marking after.marking → ((s : Wish) → Contains (wishes after.parked) s → gainer ≢ Some (owner_of s))
     → IsSound before → IsSound after
 gained_sound before after gainer part gains lone sound = record {
   lone = part_lone part sound.lone;
-  free = none_once_gained owner_of (hinders before.marking) (hinders after.marking) (wishes before.parked) (wishes after.parked) gainer
-      (part_has part) lone gains sound.free;
+  free = none_once_gained waiter_of (hinders before.marking) (hinders after.marking) (waiters before.parked) (waiters after.parked) gainer
+      (λ s there. lone s.wish (wanted_there [] after.parked s there)) was sound.free;
 }
+  where
+    -- who waits after it waited before for the same lock; which requests are older has no say
+    was : (s : Waiter) → Contains (waiters after.parked) s
+        → (t : Waiter) × Contains (waiters before.parked) t × (waiter_of t ≡ waiter_of s)
+        × ((q : ℕ) → gainer ≢ Some q → hinders after.marking s q ≡ true → hinders before.marking t q ≡ true)
+    was s there =
+        let t = waiter_there [] before.parked s.wish (part_has part s.wish (wanted_there [] after.parked s there)) in (
+          t.0,
+          t.1,
+          ap owner_of t.2,
+          λ q other h.
+              subst (λ (w : Wish). hinders before.marking (behind [] w) q ≡ true) (sym t.2) (gains s q other h),
+        )
 
 -- where the locks stay nobody gains
 nobody_gains : (before after : Marking) → after ≡ before → GainsAtMost None before after
@@ -194,23 +250,24 @@ no_entry key start end kind (e ∷ es) =
     (λ same. eq-eqb key.owner e.0.0.owner (sym (eqb-true e.0.0.owner key.owner same))) i || list_any (excludes_by key start end kind key.owner) es)
     ∙ no_entry key start end kind es
 
-own_none : (m : Marking) (w : Wish) → hinders m w (owner_of w) ≡ true → ⊥
-own_none m w h = go (is_record w.key.class) (no_entry w.key w.start w.end w.kind (entries m)) h
+own_none : (m : Marking) (w : Waiter) → hinders m w (waiter_of w) ≡ true → ⊥
+own_none m w h = let k = w.wish in go (is_record k.key.class) (no_entry k.key k.start k.end k.kind (entries m)) h
   where
     go : (b : Bool) {c : Bool} → c ≡ false → (b && c) ≡ true → ⊥
     go true clear h = cc (clear, h)
     go false clear h = cc h
 
 parked_sound : (before after : Present) (r : Request) (w : Wish) → wish_of r ≡ Some w → ((s : Wish) → Contains (wishes before.parked) s → owner_of w ≢ owner_of s)
-    → (ClosesCircle before.marking before.parked r → ⊥) → after.marking ≡ before.marking → wishes after.parked ≡ wishes before.parked ++ w ∷ []
-    → IsSound before → IsSound after
-parked_sound before after r w wants others closes marks are sound = record {
+    → (ClosesCircle before.marking before.parked r → ⊥) → after.marking ≡ before.marking → after.parked ≡ before.parked ++ r ∷ []
+    → wishes after.parked ≡ wishes before.parked ++ w ∷ [] → IsSound before → IsSound after
+parked_sound before after r w wants others closes marks parked are sound = record {
   lone = subst AreLone (sym are) (lone_pushed (wishes before.parked) w sound.lone others);
   free =
-      subst (λ m. (first : ℕ) (rest : List ℕ) → AreInRow owner_of (hinders m) (wishes after.parked) first rest first → ⊥) (sym marks)
-      (subst (λ ws. (first : ℕ) (rest : List ℕ) → AreInRow owner_of (hinders before.marking) ws first rest first → ⊥) (sym are)
-      (none_once_parked owner_of (hinders before.marking) (wishes before.parked) w sound.free
-      (λ circle. closes (record { wish = w; wants = wants; circle = circle })) (own_none before.marking w)));
+      subst (λ m. (first : ℕ) (rest : List ℕ) → AreInRow waiter_of (hinders m) (waiters after.parked) first rest first → ⊥) (sym marks)
+      (subst (λ ws. (first : ℕ) (rest : List ℕ) → AreInRow waiter_of (hinders before.marking) ws first rest first → ⊥)
+      (sym (ap waiters parked ∙ waiters_pushed [] before.parked r w wants))
+      (none_once_parked waiter_of (hinders before.marking) (waiters before.parked) (behind before.parked w) sound.free
+      (λ circle. closes (record { wish = w; wants = wants; circle = circle })) (own_none before.marking (behind before.parked w))));
 }
 
 own_stage : {order : Order} {before after : Present} → OwnStage order before after → asks_while_waiting (asked_by order.op) before.parked ≡ false
@@ -232,7 +289,7 @@ own_stage {order = order} {before = before} {after = after} (parks r wanted clos
     go (Some w) wants =
         parked_sound before after r w wants
         (λ s there same. asker_lone (asked_by order.op) before.parked quiet s there (sym wanted ∙ ap (option_map owner_of) wants ∙ ap (λ n. Some n) same))
-        closes marks (pushed ∙ ap (λ o. wishes before.parked ++ cons_option o []) wants) sound
+        closes marks parked (pushed ∙ ap (λ o. wishes before.parked ++ cons_option o []) wants) sound
 
 all_later : {before after : Present} → AreLater before after → IsSound before → IsSound after
 all_later none sound = sound

@@ -1,6 +1,6 @@
 -- Histories in which no owner asks for a record lock while it waits for one, and what comes of it.
 use Rattle.std.specs.Prelude.{◌≡◌, ℕ, Bool, false, Option, Some, None, List, ◌∷◌, ◌++◌}
-use Rattle.fl_core.specs.Circle.{owner_of, hinders, wishes, AreInRow}
+use Rattle.fl_core.specs.Circle.{waiter_of, hinders, waiters, AreInRow}
 use Rattle.fl_core.specs.Stages.{asked_by, is_waiting}
 use Rattle.fl_core.specs.State.{Snapshot, snapshot_of}
 use Rattle.fl_core.specs.declared.parked.Request.{Request}
@@ -23,12 +23,12 @@ IsQuiet lines =
     → lines ≡ before ++ line.Asked worker order ∷ rest
     → asks_while_waiting (asked_by order.op) (state_after before).view.parked ≡ false
 
--- There are no owners, one or more, where each waits for a record lock that the next one holds, and the last for one that
--- the first holds (POSIX.1-2017 `fcntl`, EDEADLK).
+-- There are no owners, one or more, where each waits for a record lock and the next one keeps it waiting, and the first
+-- the last (POSIX.1-2017 `fcntl`, EDEADLK).
 abbrev pub HasNoCircle : Snapshot → Type 0
 HasNoCircle p =
     (first : ℕ) (others : List ℕ)
-    → AreInRow owner_of (hinders p.marking) (wishes p.view.parked) first others first → ⊥
+    → AreInRow waiter_of (hinders p.marking) (waiters p.view.parked) first others first → ⊥
 
 -- There are none after any order of the lines: what a legal beginning of them leads to has none.
 abbrev pub HasNoCircles : List Line → Type 0

@@ -1,12 +1,18 @@
 -- What the search for a circle keeps of the parked requests.
 use Rattle.std.specs.Prelude.{ℕ, Bool, false, Option, Some, None, List, [], ◌∷◌, map, slice_index_or}
 use Rattle.std.specs.List.Sorted.{IsNonDecreasingBy}
-use Rattle.fl_core.specs.Circle.{Wish}
+use Rattle.fl_core.specs.Circle.{behind, hinders}
+use Rattle.fl_core.specs.Waiting.{Wish}
 use Rattle.fl_core.specs.declared.circle.Wanted.{Wanted}
+use Rattle.fl_ranges.specs.Marking.{Marking}
 
 -- what a lock that is wanted means
 abbrev pub meant : Wanted → Wish
 meant w = record { key = w.key; start = w.range.start; end = w.range.end; kind = w.kind }
+
+-- this owner keeps it waiting, where no request is older; the older ones have no say
+abbrev pub hinders_alone : Marking → Wish → ℕ → Bool
+hinders_alone m w owner = hinders m (behind [] w) owner
 
 -- as a list
 abbrev pub one_of : Option Wanted → List Wanted

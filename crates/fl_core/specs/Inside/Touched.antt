@@ -1,8 +1,7 @@
 -- Which requests an order may have set free: those on a node, of one class or of both.
 use Rattle.std.specs.Prelude.{◌≡◌, ℕ, ◌==◌, ◌&&◌, Bool, true, false, Option, Some, Result, Ok, List, [], ◌∷◌, ◌++◌}
-use Rattle.std.specs.List.{AllByRecursion}
 use Rattle.fl_core.specs.LockRequest.{key_of}
-use Rattle.fl_core.specs.Waiting.{waits}
+use Rattle.fl_core.specs.Waiting.{waits, AllBehind}
 use Rattle.fl_core.specs.declared.parked.Request.{Request}
 use Rattle.fl_core.specs.declared.settling.Touched.{Touched}
 use Rattle.fl_core.specs.declared.settling.Touched.TheVariants.{Nothing, OfClass, OfNode}
@@ -26,13 +25,13 @@ concerns_request t r = concerns t r.node (key_of r.node r.ask).class
 
 -- each other request waits
 abbrev pub OthersWait : Touched → Marking → List Request → Type 0
-OthersWait t m parked = AllByRecursion (λ (r : Request). concerns_request t r ≡ false → waits m r ≡ true) parked
+OthersWait t m parked = AllBehind (λ older r. concerns_request t r ≡ false → waits m older r ≡ true) [] parked
 
--- a request conflicts, and waits now behind the others
+-- a request has to wait, and waits now behind the others
 pub record WaitsNow (before after : Marking) (parked parked_after : List Request) (r : Request) : Type 0 where
   pub locks : after ≡ before
   pub last : parked_after ≡ parked ++ r ∷ []
-  pub waits : waits before r ≡ true
+  pub waits : waits before parked r ≡ true
 
 -- what an order touches that isn't refused
 abbrev pub touched_if_done : ℕ → Op → Touched

@@ -1,7 +1,7 @@
 use Rattle.std.proofs.Common.{rules, ◌≡◌, ◌∙◌, Some, None, take, slice_get, refl, sym, ap, arith}
 use Rattle.std.specs.Option.{option_copied}
 use Rattle.fl_arena.specs.Chains.{items}
-use Rattle.fl_core.specs.Circle.{wishes}
+use Rattle.fl_core.specs.Waiting.{wishes}
 use Rattle.fl_core.specs.Inside.Claims.{requests_of}
 use Rattle.fl_core.proofs.Copies.{copied_more, is_next, none_left}
 use Rattle.fl_core.proofs.circle.copy_wanted.Goals as goal

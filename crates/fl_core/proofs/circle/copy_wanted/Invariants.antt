@@ -1,7 +1,7 @@
 use Rattle.std.proofs.Common.{◌≡◌, ◌-◌, ◌≤◌, length, map, take}
 use Rattle.fl_arena.specs.Chains.{items}
 use Rattle.fl_arena.specs.Cursors.{cursor_at}
-use Rattle.fl_core.specs.Circle.{wishes}
+use Rattle.fl_core.specs.Waiting.{wishes}
 use Rattle.fl_core.specs.Inside.Claims.{requests_of}
 use Rattle.fl_core.specs.Inside.Searching.{meant}
 use Rattle.fl_core.proofs.circle.copy_wanted.Given as goal

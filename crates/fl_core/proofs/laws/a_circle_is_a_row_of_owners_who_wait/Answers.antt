@@ -1,5 +1,8 @@
-use Rattle.fl_core.proofs.Wishes.{closes_words, deadlock_words}
+use Rattle.fl_core.proofs.Wishes.{waits_for_someone, closes_words, deadlock_words}
 use Rattle.fl_core.proofs.laws.a_circle_is_a_row_of_owners_who_wait.Goals as goal
+
+pub returns-clause-someone : goal.returns-clause-someone
+returns-clause-someone c = waits_for_someone
 
 pub returns-clause-wish : goal.returns-clause-wish
 returns-clause-wish c = closes_words

@@ -2,7 +2,7 @@ use Rattle.std.proofs.Common.{◌≡◌, ◌∙◌, true, false, Some, None, ref
 use Rattle.fl_core.specs.LockRequest.{mark_of, stroke_of}
 use Rattle.fl_core.specs.Replies.{is_deadlock, room_reply}
 use Rattle.fl_core.specs.State.{View}
-use Rattle.fl_core.specs.Waiting.{is_excluded}
+use Rattle.fl_core.specs.Waiting.{must_wait}
 use Rattle.fl_core.proofs.Requests.{asked_stroke, setlkw_is}
 use Rattle.fl_core.proofs.locking.set_or_wait.Goals as goal
 
@@ -14,7 +14,7 @@ returns-then-not-is_excluded-clause-reply c =
     let s = stroke_of c.args.node ask in
     let asked = asked_stroke c.args.node ask c.key_of-key.result c.in-Ok.range c.mark_of-mark.result c.key_of-key.ensures c.in-Ok.ensures.range
     c.mark_of-mark.ensures in
-    let free : is_excluded m s (mark_of ask) ≡ false = (λ i. is_excluded m (sym asked i) (sym c.mark_of-mark.ensures i)) ∙ sym c.is_excluded.ensures
+    let free : must_wait m v.parked s (mark_of ask) ≡ false = (λ i. must_wait m v.parked (sym asked i) (sym c.mark_of-mark.ensures i)) ∙ sym c.is_excluded.ensures
     ∙ c.if-not-is_excluded.true in
     ap Some (c.store.ensures.reply ∙ ap (room_reply m) asked) ∙ sym (setlkw_is v m c.args.node ask None false _ _ c.in-Ok.ensures.passed free refl refl)
 
@@ -26,7 +26,7 @@ returns-then-is_deadlock-clause-reply c =
     let s = stroke_of c.args.node ask in
     let asked = asked_stroke c.args.node ask c.key_of-key.result c.in-Ok.range c.mark_of-mark.result c.key_of-key.ensures c.in-Ok.ensures.range
     c.mark_of-mark.ensures in
-    let held : is_excluded m s (mark_of ask) ≡ true = (λ i. is_excluded m (sym asked i) (sym c.mark_of-mark.ensures i)) ∙ sym c.is_excluded.ensures
+    let held : must_wait m v.parked s (mark_of ask) ≡ true = (λ i. must_wait m v.parked (sym asked i) (sym c.mark_of-mark.ensures i)) ∙ sym c.is_excluded.ensures
     ∙ c.if-not-is_excluded.false in
     let circle : is_deadlock m v.parked s (mark_of ask) ≡ true = (λ i. is_deadlock m v.parked (sym asked i) (sym c.mark_of-mark.ensures i))
     ∙ sym c.is_deadlock.ensures ∙ c.if-is_deadlock.true in

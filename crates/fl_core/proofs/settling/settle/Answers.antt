@@ -1,8 +1,6 @@
-use Rattle.std.proofs.Common.{◌≡◌, ◌∙◌, ◌++◌, append-nil, true, false, ap, refl, sym, subst, length, not, arith}
-use Rattle.fl_core.specs.Inside.Touched.{concerns_request}
+use Rattle.std.proofs.Common.{◌∙◌, ◌++◌, append-nil, [], ap, refl, sym, subst, length, not, arith}
 use Rattle.fl_core.specs.Settling.{Settled, present}
-use Rattle.fl_core.specs.Waiting.{waits}
-use Rattle.fl_core.specs.declared.parked.Request.{Request}
+use Rattle.fl_core.proofs.Alone.{each_alone, each_behind, oldest_alone, waits_alone, WaitsIfOther}
 use Rattle.fl_core.proofs.Settlings.{is_oldest, one_shorter, settled_none, settling_goes_on, settling_ends}
 use Rattle.fl_core.proofs.Taken.{all_left, apart_left, one_longer}
 use Rattle.fl_core.proofs.Waits.{none_concerned, others_granted}
@@ -24,14 +22,15 @@ loop-claim-preserved c =
     let m = c.loop-claim.locks.marking in
     let taken = c.in-Some.ensures in
     let oldest = is_oldest m _ _ _ taken in
-    let others = all_left (λ (r : Request). concerns_request c.args.touched r ≡ false → waits m r ≡ true)
-    (λ r. not (waits m r)) _ _ _ taken c.loop-claim.invariant.others in
+    let first = sym (oldest_alone m c.loop-claim.parked) ∙ taken in
+    let others = all_left (WaitsIfOther c.args.touched m) (λ r. not (waits_alone m r)) _ _ _ first
+    (each_alone (WaitsIfOther c.args.touched m) [] c.loop-claim.parked c.loop-claim.invariant.others) in
     let elsewhere = subst (λ (s : Stroke). SameElsewhere s.key m c.grant.new.locks.marking) c.in-Some.claim.wanted c.grant.ensures.elsewhere in
     record {
       so_far = settling_goes_on _ _ _ _ m _ _ _ c.in-Some.claim.request _ c.loop-claim.invariant.so_far taken c.grant.ensures.marking c.grant.ensures.told
           c.push.ensures;
-      others = others_granted c.args.touched m _ c.in-Some.claim.request _ elsewhere others.0 oldest.free others.1;
-      apart = λ apart. apart_left (λ r. not (waits m r)) _ _ _ taken (c.loop-claim.invariant.apart apart);
+      others = others_granted c.args.touched m _ c.in-Some.claim.request _ elsewhere others.0 oldest.free (each_behind (WaitsIfOther c.args.touched m) [] _ others.1);
+      apart = λ apart. apart_left (λ r. not (waits_alone m r)) _ _ _ first (c.loop-claim.invariant.apart apart);
       room = omega (arith, c.loop-claim.invariant.room, one_shorter oldest, ap length c.push.ensures, one_longer c.loop-claim.tolds c.grant.result);
       lawful = λ lawful. c.grant.ensures.lawful (c.loop-claim.invariant.lawful lawful);
       limit = c.grant.ensures.limit;

@@ -1,11 +1,12 @@
 use Rattle.std.proofs.Common.{rules, ◌≡◌, ◌==◌, ◌∙◌, ℕ, true, map, take, sym, ap, arith}
 use Rattle.std.proofs.lemmas.Bool.Decides.{nat_tests}
 use Rattle.std.proofs.lemmas.List.Sorted.{answers_always, IsNonDecreasingBy-from_sort, IsPermutation-map}
-use Rattle.fl_core.specs.Circle.{Wish, leads, hinders, owner_of, wishes}
-use Rattle.fl_core.specs.Inside.Searching.{meant}
+use Rattle.fl_core.specs.Circle.{leads}
+use Rattle.fl_core.specs.Inside.Searching.{meant, hinders_alone}
+use Rattle.fl_core.specs.Waiting.{Wish, owner_of, wishes}
 use Rattle.fl_core.specs.declared.circle.Wanted.{Wanted}
 use Rattle.fl_core.proofs.Circles.{leads_moved}
-use Rattle.fl_core.proofs.Wishes.{empty_closes_none, flock_closes_none, hinders_not_itself}
+use Rattle.fl_core.proofs.Wishes.{alone_not_itself, empty_closes_none, flock_closes_none, leads_by_wishes}
 use Rattle.fl_core.proofs.parked.Parked.close_circle.Goals as goal
 
 none : (n : ℕ) → true ≡ (n == 0) → n ≡ 0
@@ -34,5 +35,6 @@ returns c =
     let sorted = c.sort_unstable_by_key.new.self in
     let moved = IsPermutation-map meant copied sorted c.sort_unstable_by_key.ensures.permutation in
     c.leads_back.ensures
-    ∙ sym (leads_moved owner_of (hinders m) (map meant copied) (map meant sorted) asked moved (hinders_not_itself m asked))
-    ∙ ap (λ ws. leads owner_of (hinders m) ws asked (owner_of asked)) (c.copy_wanted-count.ensures.wanted ∙ ap wishes c.self.view_is)
+    ∙ sym (leads_moved owner_of (hinders_alone m) (map meant copied) (map meant sorted) asked moved (alone_not_itself m asked))
+    ∙ ap (λ ws. leads owner_of (hinders_alone m) ws asked (owner_of asked)) (c.copy_wanted-count.ensures.wanted ∙ ap wishes c.self.view_is)
+    ∙ sym (leads_by_wishes m c.args.self.now asked (owner_of asked))

@@ -80,3 +80,6 @@ returns-in-Setlkw-clause-others c all =
     subst (λ (op : Op). OthersWait (touched_by order.node op set.result) set.new.locks.marking set.new.parked) (sym c.in-Setlkw.is)
     (others_parked order.node c.in-Setlkw.ask order.unique inside.locks.marking set.new.locks.marking inside.parked set.new.parked set.result
     set.ensures.told set.ensures.waits set.ensures.elsewhere (subst Waits (sym c.self-in-Setlkw.view_is) all))
+
+pub returns-in_default-clause-others : goal.returns-in_default-clause-others
+returns-in_default-clause-others c all = others_kept _ _ _ (subst Waits (sym c.self-in_default.view_is) all)
