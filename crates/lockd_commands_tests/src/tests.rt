@@ -4,6 +4,7 @@ mod boards;
 mod bytes;
 mod check;
 mod failing;
+mod keepers;
 mod scripts;
 
 use fl_testing::lines_after;
