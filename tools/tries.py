@@ -67,8 +67,8 @@ def run(*words, text=b"", **how):
     return subprocess.run([PROGRAM, *words], input=text, capture_output=True, timeout=PATIENCE, **how)
 
 
-def judged(trace):
-    return run("check", text=trace).stdout.decode()
+def judged(trace, *options):
+    return run("check", *options, text=trace).stdout.decode()
 
 
 class Server:

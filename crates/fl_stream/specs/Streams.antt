@@ -19,6 +19,13 @@ pub record Wrote {W : Type 0} (contents : W → Option (List ℕ)) (held : Optio
   pub blank : IsBlank (contents first)
   pub appended : Appends (contents first) held bytes
 
+-- these bytes were written, or a beginning of them
+pub record WroteSome (bytes : List ℕ) (held held_now : Option (List ℕ)) : Type 0 where
+  pub sent : List ℕ
+  pub rest : List ℕ
+  pub written : Appends held held_now sent
+  pub parts : sent ++ rest ≡ bytes
+
 -- all lines so far, what the writer holds, the text that waits for it, for how many more lines there is room, whether
 -- the stream is broken, and what it does when a write fails
 pub record Stream : Type 0 where

@@ -2,8 +2,10 @@
 #![tactic(auto)]
 
 mod manner;
+mod printing;
 mod streamed;
 mod writing;
 
 pub use manner::WhenWriterFails;
+pub use printing::{Unwritten, write_trace};
 pub use streamed::Streamed;

@@ -3,6 +3,7 @@
 ghost use Rattle.fl_stream.specs.Streams.{IsBlank};
 
 mod failing;
+mod printing;
 mod whole;
 
 use fl_history::{History, Line};

@@ -1,4 +1,5 @@
 pub mod HexLemmas
+pub mod PrintLemmas
 pub mod ReplyLemmas
 pub mod ScriptLemmas
 pub mod CheckLemmas

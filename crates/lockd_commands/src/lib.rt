@@ -3,6 +3,7 @@
 
 mod bytes;
 mod check;
+mod printing;
 mod script;
 mod serve;
 

@@ -1,6 +1,6 @@
 //! `lockd script`: takes orders from text, one after another.
 
-ghost use Rattle.std.specs.Prelude.{◌≡◌, ◌≢◌, ℕ, ◌++◌, ◌∷◌, List, map, filter, string_bytes, All, IfSome, IsNone, IfOk, OnOk, IfErr};
+ghost use Rattle.std.specs.Prelude.{◌≡◌, ◌≢◌, ℕ, ◌++◌, ◌∷◌, List, map, filter, All, IfSome, IsNone, IfOk, OnOk, IfErr};
 ghost use Rattle.std.specs.Io.KnownBytes.{Keeps, Appends};
 ghost use Rattle.fl_desk.specs.Legal.{IsLegal, is_asked};
 ghost use Rattle.fl_trace.specs.Text.{line_text, text_of, BreaksAt};
@@ -10,10 +10,11 @@ ghost use Rattle.fl_history.specs.declared.history.Line.{Line};
 ghost use Rattle.lockd_faults.specs.Faults.{IsTold};
 ghost use Rattle.lockd_faults.specs.declared.fault.Fault.{Fault};
 
-use fl_book::{Desk, History, Line, first_line, print_trace};
+use crate::printing::print;
+use fl_book::{Desk, History, Line, first_line};
 use fl_core::Tolds;
 use fl_order::Order;
-use lockd_faults::{Fault, Status, end, read_all, write_all};
+use lockd_faults::{Fault, Status, end, read_all};
 use std::alloc::Global;
 use std::io::{Read, Write};
 
@@ -59,19 +60,18 @@ fn script<R: Read, W: Write>(alloc: Global, input: &mut R, output: &mut W) -> Re
     ensures fault { IfErr result IsOfText }
 {
     let text = read_all(alloc, input)?;
-    let trace = trace_of(alloc, &text)?;
-    write_all(output, trace.as_bytes())
+    let history = history_of(alloc, &text)?;
+    print(alloc, &history, output)
 }
 
-// The trace of a script.
+// The history of a script.
 #[tactic(auto, using(crate::proofs::ScriptLemmas::fits_of_asks))]
-fn trace_of(alloc: Global, script: &[u8]) -> Result<String, Fault>
-    ensures trace { IfOk result (λ trace. IsTraceOf script.now (string_bytes trace)) }
+fn history_of(alloc: Global, script: &[u8]) -> Result<History, Fault>
+    ensures trace { IfOk result (λ history. IsTraceOf script.now (text_of history)) }
     ensures error { IfErr result (FaultSays script.now) }
 {
     let asks = read_asks(alloc, script)?;
-    let history = take_all(alloc, &asks)?;
-    Ok(print_trace(alloc, &history)?)
+    take_all(alloc, &asks)
 }
 
 // What the ask lines of a script ask.

@@ -13,9 +13,10 @@ ghost use Rattle.lockd_faults.specs.declared.fault.Fault.{Fault};
 
 mod traced;
 
-use fl_book::{Keeper, Lines, print_trace};
+use crate::printing::print;
+use fl_book::{Keeper, Lines};
 use fl_serve::{Done, Kept, OpenGate, run_over, serve_over};
-use lockd_faults::{Fault, Status, end, write_all};
+use lockd_faults::{Fault, Status, end};
 use std::alloc::Global;
 use std::fs;
 use std::fs::Files;
@@ -96,6 +97,7 @@ fn served<R: Threads + Wait + Sync, K: Keeper + Send + Drop>(
 }
 
 // Writes the trace of a session, and then tells its fault.
+#[tactic(auto, using(crate::proofs::PrintLemmas::not_printed))]
 fn print_done<W: Write>(alloc: Global, done: &Done, output: &mut W) -> Result<(), Fault>
     requires { IsLegal done.now.history }
     ensures did { Did (W.contents output.old) (W.contents output.new) result }
@@ -104,8 +106,7 @@ fn print_done<W: Write>(alloc: Global, done: &Done, output: &mut W) -> Result<()
     if let Some(fault @ (fl_serve::Fault::NoMemory | fl_serve::Fault::NoReader)) = done.fault {
         return Err(Fault::from(fault));
     }
-    let trace = print_trace(alloc, &done.history)?;
-    write_all(output, trace.as_bytes())?;
+    print(alloc, &done.history, output)?;
     match done.fault {
         None => Ok(()),
         Some(fault) => Err(Fault::from(fault)),

@@ -5,6 +5,7 @@ mod bytes;
 mod check;
 mod cut;
 mod failing;
+mod keepers;
 mod pieces;
 mod scripts;
 

@@ -3,6 +3,7 @@
 mod drive;
 mod many;
 mod serve;
+mod traced;
 
 use fl_testing::{bytes_after, lines_after};
 use lockd_commands::Status;

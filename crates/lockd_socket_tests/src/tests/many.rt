@@ -14,7 +14,7 @@ use std::time::{Clock, Duration};
 
 // INIT, the CREATE of a hundred files `f00` to `f99` with mode octal 644, and DESTROY: len, opcode, unique, nodeid, uid,
 // gid, pid and padding, and of a CREATE flags, mode, umask, open flags and the name.
-fn hundred_files(alloc: Global) -> Result<String, AllocError> {
+pub(super) fn hundred_files(alloc: Global) -> Result<String, AllocError> {
     let mut text = String::from_str(alloc, init())?;
     text.push_str("recv 1\n")?;
     for i in 0..100u32 {
@@ -50,7 +50,7 @@ pub(super) fn drive_soon<R: Net + Clock + AllocGlobal>(
 }
 
 // The client got the reply to INIT, a hundred entries of 160 bytes, and the reply to DESTROY, which comes last.
-fn has_made_all(rt: &impl Abort, came: &Came) {
+pub(super) fn has_made_all(rt: &impl Abort, came: &Came) {
     let printed = str::from_utf8(&came.printed).ok();
     let printed = printed.unwrap_or("");
     let mut made = 0usize;

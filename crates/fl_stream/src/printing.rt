@@ -1,0 +1,87 @@
+//! The text of a history, written in pieces.
+
+ghost use Rattle.std.specs.Prelude.{◌≡◌, ◌+◌, ◌≤◌, [], length, IsTrue, OnOk, IfErr, vec_capacity};
+ghost use Rattle.std.specs.Io.KnownBytes.{Appends, Keeps};
+ghost use Rattle.fl_stream.specs.Inside.Moves.{Moves};
+ghost use Rattle.fl_stream.specs.Streams.{WroteSome};
+ghost use Rattle.fl_trace.specs.Text.{text_of};
+
+use crate::writing::send;
+use fl_history::History;
+use fl_trace::{LINE_ROOM, push_line};
+use std::alloc::Global;
+use std::io::Write;
+
+/// So many bytes of text wait at the most before they are written.
+const ROOM: usize = 65_536;
+
+/// Why the text of a history isn't all written.
+#[derive(Clone, Copy, Debug, PartialEq, Eq)]
+pub enum Unwritten {
+    /// There was no memory for the room that the text goes through. Nothing was written.
+    NoMemory,
+    /// A write failed or took nothing, or the writer couldn't hand on what it took.
+    Failed,
+}
+
+/// Writes the text of a history, as `print_trace` spells it, and hands it on. The text goes through a room of 65,536 bytes,
+/// which is made before the first write. No other memory is taken, however long the history is.
+#[tactic(auto, using(crate::proofs::Pieces::wrote_none))]
+pub fn write_trace<W: Write>(
+    alloc: Global,
+    history: &History,
+    writer: &mut W,
+) -> Result<(), Unwritten>
+    ensures written { OnOk result (Appends (W.contents writer.old) (W.contents writer.new) (text_of history.now)) }
+    ensures begun { WroteSome (text_of history.now) (W.contents writer.old) (W.contents writer.new) }
+    ensures refused { IfErr result (λ why. why ≡ Unwritten.NoMemory →
+        Keeps (W.contents writer.old) (W.contents writer.new)) }
+{
+    let Ok(mut waiting) = Vec::with_capacity(alloc, ROOM) else {
+        return Err(Unwritten::NoMemory);
+    };
+    if write_lines(history, &mut waiting, writer) {
+        Ok(())
+    } else {
+        Err(Unwritten::Failed)
+    }
+}
+
+// Writes the text of a history through this room, and says whether all of it is written and handed on.
+#[tactic(auto, using(crate::proofs::Pieces::printed_none, crate::proofs::Pieces::printed_moved, crate::proofs::Pieces::printed_some, crate::proofs::Pieces::printed_all))]
+fn write_lines<W: Write>(history: &History, waiting: &mut Vec<u8>, writer: &mut W) -> bool
+    requires none { waiting.old.items ≡ [] }
+    requires room { 700 ≤ vec_capacity waiting.old }
+    ensures written { IsTrue result → Appends (W.contents writer.old) (W.contents writer.new) (text_of history.now) }
+    ensures begun { WroteSome (text_of history.now) (W.contents writer.old) (W.contents writer.new) }
+{
+    for at in 0..history.len() {
+        if !make_room(waiting, writer) {
+            return false;
+        }
+        push_line(waiting, &history.line(at));
+    }
+    finish(waiting, writer)
+}
+
+// Writes what waits where there is no room for a line behind it, and says whether there is now.
+#[tactic(auto, using(crate::proofs::Pieces::moved_none))]
+fn make_room<W: Write>(waiting: &mut Vec<u8>, writer: &mut W) -> bool
+    requires room { 700 ≤ vec_capacity waiting.old }
+    ensures moved { Moves (W.contents writer.old) (W.contents writer.new) waiting.old.items waiting.new.items }
+    ensures room { IsTrue result → length waiting.new.items + 700 ≤ vec_capacity waiting.new }
+    ensures capacity { vec_capacity waiting.new ≡ vec_capacity waiting.old }
+{
+    waiting.capacity() - waiting.len() >= LINE_ROOM || send(writer, waiting)
+}
+
+// Writes what waits and hands it on, and says whether that is done.
+#[tactic(auto, using(crate::proofs::Pieces::moved_kept))]
+fn finish<W: Write>(waiting: &mut Vec<u8>, writer: &mut W) -> bool
+    ensures moved { Moves (W.contents writer.old) (W.contents writer.new) waiting.old.items waiting.new.items }
+    ensures all { IsTrue result → waiting.new.items ≡ [] }
+{
+    let sent = send(writer, waiting);
+    let handed_on = writer.flush().is_ok();
+    sent && handed_on
+}
