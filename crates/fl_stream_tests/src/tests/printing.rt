@@ -3,7 +3,7 @@
 use super::{TRACE, count_is, first_line, history_of, holds};
 use fl_history::{History, Line};
 use fl_stream::{Unwritten, write_trace};
-use fl_testing::{Hiccup, Sink};
+use fl_testing::{Sink, Trouble};
 use std::alloc::Global;
 use std::io::ErrorKind;
 use std::process::Abort;
@@ -38,7 +38,7 @@ fn a_history_is_written_as_its_text(rt: HostRuntime) {
 fn a_history_goes_out_a_byte_at_a_time(rt: HostRuntime) {
     let alloc = rt.alloc();
     let history = history_of(&rt, alloc, TRACE);
-    let mut sink = Sink::new(alloc, 1, 10_000, false);
+    let mut sink = Sink::new(alloc, 1, Trouble::none());
     came(&rt, write_trace(alloc, &history, &mut sink), Ok(()));
     holds(&rt, &sink.held, TRACE.as_bytes());
 }
@@ -49,22 +49,22 @@ fn a_long_history_goes_out_in_pieces(rt: HostRuntime) {
     let alloc = rt.alloc();
     let line = first_line(&rt, alloc);
     let history = long_history(&rt, alloc, &line, 10_000);
-    let mut hiccup = Hiccup::new(alloc, 2, ErrorKind::Interrupted);
-    came(&rt, write_trace(alloc, &history, &mut hiccup), Ok(()));
-    count_is(&rt, hiccup.held.len(), 10_000 * 43);
-    assert!(rt; hiccup.writes > 6 && hiccup.writes < 10);
+    let mut sink = Sink::failing_once(alloc, 2, ErrorKind::Interrupted);
+    came(&rt, write_trace(alloc, &history, &mut sink), Ok(()));
+    count_is(&rt, sink.held.len(), 10_000 * 43);
+    assert!(rt; sink.writes > 6 && sink.writes < 10);
 }
 
 // The write at this place fails, and none comes behind it.
 fn stops(rt: &impl Abort, alloc: Global, history: &History, fails_at: usize) {
-    let mut hiccup = Hiccup::new(alloc, fails_at, ErrorKind::Other);
+    let mut sink = Sink::failing_once(alloc, fails_at, ErrorKind::Other);
     came(
         rt,
-        write_trace(alloc, history, &mut hiccup),
+        write_trace(alloc, history, &mut sink),
         Err(Unwritten::Failed),
     );
-    count_is(rt, hiccup.writes, fails_at.saturating_add(1));
-    assert!(rt; hiccup.held.len() < history.len().saturating_mul(43));
+    count_is(rt, sink.writes, fails_at.saturating_add(1));
+    assert!(rt; sink.held.len() < history.len().saturating_mul(43));
 }
 
 #[test]
@@ -82,7 +82,7 @@ fn each_write_of_a_long_history_fails(rt: HostRuntime) {
 fn a_writer_that_takes_no_more_is_told(rt: HostRuntime) {
     let alloc = rt.alloc();
     let history = history_of(&rt, alloc, TRACE);
-    let mut sink = Sink::new(alloc, 7, 5, false);
+    let mut sink = Sink::new(alloc, 7, Trouble::behind(5, None));
     came(
         &rt,
         write_trace(alloc, &history, &mut sink),

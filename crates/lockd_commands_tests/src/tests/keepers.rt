@@ -14,7 +14,7 @@ use fl_book::{
 };
 use fl_core::Tolds;
 use fl_order::Told;
-use fl_testing::Sink;
+use fl_testing::{Sink, Trouble};
 use std::alloc::Global;
 use std::process::Abort;
 
@@ -58,7 +58,7 @@ fn kept_in_memory(rt: &impl Abort, alloc: Global, trace: &History, text: &str) {
 
 // The lines go to a writer that takes a few bytes at a time.
 fn streamed(rt: &impl Abort, alloc: Global, trace: &History, text: &str) {
-    let sink = Sink::new(alloc, 7, usize::MAX, true);
+    let sink = Sink::new(alloc, 7, Trouble::none());
     let stream = Streamed::new(alloc, sink, WhenWriterFails::Refuse).expect(rt, "memory");
     let mut stream = asked_of(rt, alloc, trace, stream);
     assert!(rt; stream.flush());

@@ -157,11 +157,7 @@ fn is_a_part(rt: &impl Abort, output: &[u8], replies: &[u8]) {
 
 // After so many writes one fails or takes nothing.
 fn ends_by_a_write(rt: &impl Abort, alloc: Global, stream: &[u8], output: &mut Sink) {
-    let mut input = Source {
-        bytes: stream,
-        most: 29,
-        reads: MANY,
-    };
+    let mut input = Source::new(stream, 29, Trouble::none());
     let done = run_one(alloc, &mut input, output);
     is_whole(rt, alloc, &done, Some(Fault::Write));
 }

@@ -1,6 +1,6 @@
 //! A session whose lines go to a keeper of the caller's.
 
-use super::super::{MANY, count_is, fault_is};
+use super::super::{count_is, fault_is};
 use super::faults::stream;
 use super::is_traced;
 use super::traced::two_locks;
@@ -73,6 +73,6 @@ fn keeps(rt: &impl Abort, alloc: Global, most: usize, pauses: usize) {
 // All at once and the stream's end; and 290 bytes in 29 pieces of 10 bytes, and the end.
 #[test]
 fn a_keeper_is_told_before_each_read(rt: HostRuntime) {
-    keeps(&rt, rt.alloc(), MANY, 2);
+    keeps(&rt, rt.alloc(), usize::MAX, 2);
     keeps(&rt, rt.alloc(), 10, 30);
 }
