@@ -29,12 +29,17 @@ use std::thread::{Promise, PromisedHandle, Scope, Threads};
 /// What the reader and the workers of a session share.
 #[derive(Drop)]
 pub struct Crew<'a, 'w, L: BoardName, N: WriterName, R: Wait, W: Write, G, K: Keeper> {
+    /// The right to start threads and to wait.
     pub rt: &'a R,
+    /// What is told of each order and reply.
     pub gate: &'a G,
     /// Bytes of a worker's stack.
     pub stack: usize,
+    /// Where workers hand in.
     pub board: Board<L, &'a R, K>,
+    /// Where orders come from.
     pub intake: Intake,
+    /// The writer of the session, with the replies that wait for it.
     pub shared: Mutex<Shared<'w, W, N>>,
 }
 
@@ -63,7 +68,9 @@ pub type Thread<L> = PromisedHandle<Worked<Seat<L>>, AtSeat>;
 /// What the workers gave back.
 #[derive(Drop)]
 pub struct Back<L: BoardName> {
+    /// Their seats, in the order of workers.
     pub seats: Vec<Seat<L>>,
+    /// Their ends of the intake, in the same order.
     pub ends: Vec<TakeEnd>,
     /// Some order was refused.
     pub refused: bool,
@@ -86,10 +93,15 @@ impl<L: BoardName> Back<L> {
 /// What each worker gets, and room for their threads and for what they give back.
 #[derive(Drop)]
 pub struct Posts<L: BoardName> {
+    /// A seat for each.
     pub seats: Vec<Seat<L>>,
+    /// An end of the intake for each.
     pub ends: Vec<TakeEnd>,
+    /// Room for the replies of an order, for each.
     pub tolds: Vec<Tolds>,
+    /// Room for those that are started.
     pub threads: Vec<Thread<L>>,
+    /// Room for what comes back.
     pub back: Back<L>,
     ghost fresh: { All (λ seat. seat.count ≡ 0) seats.items },
     ghost none: { (threads.items ≡ []) × (back.seats.items ≡ []) × (back.ends.items ≡ []) },

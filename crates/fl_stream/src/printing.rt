@@ -81,7 +81,5 @@ fn finish<W: Write>(waiting: &mut Vec<u8>, writer: &mut W) -> bool
     ensures moved { Moves (W.contents writer.old) (W.contents writer.new) waiting.old.items waiting.new.items }
     ensures all { IsTrue result → waiting.new.items ≡ [] }
 {
-    let sent = send(writer, waiting);
-    let handed_on = writer.flush().is_ok();
-    sent && handed_on
+    send(writer, waiting) && writer.flush().is_ok()
 }

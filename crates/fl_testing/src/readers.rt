@@ -1,6 +1,6 @@
 //! Readers over memory, which give a few bytes at a time and fail where they are told to.
 
-ghost use Rattle.std.specs.Prelude.{◌≡◌, length, min, max, IfSome, IsErrAnd, Ok, Some};
+ghost use Rattle.std.specs.Prelude.{◌≡◌, ◌+◌, ◌-◌, ◌^◌, length, min, max, IfSome, IsErrAnd, Ok, Some};
 ghost use Rattle.std.specs.Io.{ReadsAtMost};
 ghost use Rattle.std.specs.Io.KnownBytes.{ReadConsumes};
 ghost use Rattle.std.specs.IoError.{error_kind};
@@ -48,6 +48,8 @@ impl Read for Source<'_> {
             IsErrAnd result (λ e. IfSome self.old.trouble.kind (λ kind. error_kind e ≡ kind)) }
         ensures gives { (Meets self.old.trouble self.old.reads → ⊥) → result ≡
             Ok (min (min (max self.old.most 1) (length self.old.bytes.now)) (length buf.old)) }
+        ensures counted { self.new.reads ≡ min (self.old.reads + 1) (2 ^ 64 - 1) }
+        ensures same { (self.new.most ≡ self.old.most) × (self.new.trouble ≡ self.old.trouble) }
     {
         let calls = self.reads;
         self.reads = calls.saturating_add(1);

@@ -1,6 +1,6 @@
 //! Writers over memory, which take a few bytes at a time and fail where they are told to.
 
-ghost use Rattle.std.specs.Prelude.{◌≡◌, ◌-◌, ◌^◌, [], true, length, min, IfOk, IfSome, IsErrAnd, IsNone, Ok, Some};
+ghost use Rattle.std.specs.Prelude.{◌≡◌, ◌+◌, ◌-◌, ◌^◌, [], true, length, min, IfOk, IfSome, IsErrAnd, IsNone, Ok, Some};
 ghost use Rattle.std.specs.Io.{WritesAtMost};
 ghost use Rattle.std.specs.Io.KnownBytes.{WriteAppends};
 ghost use Rattle.std.specs.IoError.{error_kind};
@@ -59,6 +59,8 @@ impl Write for Sink {
         ensures takes_nothing { Meets self.old.trouble self.old.writes → IsNone self.old.trouble.kind → result ≡ Ok 0 }
         ensures takes { (Meets self.old.trouble self.old.writes → ⊥) →
             IfOk result (λ n. n ≡ min self.old.most (length buf.now)) }
+        ensures counted { self.new.writes ≡ min (self.old.writes + 1) (2 ^ 64 - 1) }
+        ensures same { (self.new.most ≡ self.old.most) × (self.new.trouble ≡ self.old.trouble) }
     {
         let calls = self.writes;
         self.writes = calls.saturating_add(1);

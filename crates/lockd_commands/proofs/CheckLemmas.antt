@@ -9,7 +9,8 @@ use Rattle.fl_desk.specs.Legal.{IsLegal}
 use Rattle.fl_desk.specs.Verdicts.{IsBeginning}
 use Rattle.fl_history.specs.declared.history.Line.{Line}
 use Rattle.fl_quiet.specs.Quiet.{IsQuiet}
-use Rattle.lockd_commands.specs.Check.{answer_text, quiet_told, SaysQuiet, IsJudged}
+use Rattle.lockd_commands.specs.Check.{answer_text, SaysQuiet, IsJudged}
+use Rattle.lockd_commands.specs.Check.Inside.{quiet_told}
 use Rattle.lockd_commands.specs.declared.check.CheckOptions.{CheckOptions}
 
 -- a legal history is a beginning of one

@@ -1,18 +1,15 @@
 -- A trace that is judged.
+pub mod Inside
 use Rattle.std.specs.Prelude.{◌≡◌, ◌↔◌, ℕ, Bool, true, false, List, [], ◌∷◌, ◌++◌, codes, Option, Some, None, IfSome}
 use Rattle.std.specs.Fmt.{decimal}
 use Rattle.std.specs.Io.KnownBytes.{Appends}
 use Rattle.fl_trace.specs.Text.{text_of, Fits}
 use Rattle.fl_audit.specs.Audit.{judged_part, IsFinding}
-use Rattle.fl_audit.specs.declared.finding.AuditFault.{AuditFault}
-use Rattle.fl_audit.specs.declared.finding.AuditFault.TheVariants as audits
 use Rattle.fl_audit.specs.declared.finding.Finding.{Finding}
 use Rattle.fl_audit.specs.declared.finding.Finding.TheVariants.{Legal, Begins, Differs}
 use Rattle.fl_history.specs.declared.history.Line.{Line}
 use Rattle.fl_quiet.specs.Quiet.{IsQuiet}
 use Rattle.lockd_commands.specs.declared.check.CheckOptions.{CheckOptions}
-use Rattle.lockd_faults.specs.declared.fault.Fault.{Fault}
-use Rattle.lockd_faults.specs.declared.fault.Fault.TheVariants as command
 
 -- the line that says what is found
 abbrev pub finding_text : Finding → List ℕ
@@ -29,11 +26,6 @@ quiet_text false = codes "not quiet" ++ 10 ∷ []
 abbrev pub answer_text : Finding → Option Bool → List ℕ
 answer_text Legal (Some quiet) = finding_text Legal ++ quiet_text quiet
 answer_text finding told = finding_text finding
-
--- what is told of it: where that is asked and the history is legal, whether it is quiet
-abbrev pub quiet_told : Bool → Finding → Bool → Option Bool
-quiet_told true Legal quiet = Some quiet
-quiet_told asked finding quiet = None
 
 -- it is told where it is asked and the history is legal, and then it is right
 abbrev pub SaysQuiet : Bool → Finding → List Line → Option Bool → Type 0
@@ -53,9 +45,3 @@ pub record IsJudged (options : CheckOptions) (left old new : Option (List ℕ)) 
   pub told : Option Bool
   pub says : SaysQuiet options.tells_quiet finding lines told
   pub written : Appends old new (answer_text finding told)
-
--- a fault of an audit as a command tells it
-abbrev pub audit_fault : AuditFault → Fault
-audit_fault (audits.BadLine n) = command.BadLine n
-audit_fault audits.NoMemory = command.NoMemory
-audit_fault audits.Read = command.Read

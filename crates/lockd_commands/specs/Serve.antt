@@ -40,7 +40,7 @@ IsOfSession (BadLength n) = ⊤
 IsOfSession Read = ⊤
 IsOfSession fault = ⊥
 
--- a fault at which there is no trace: nobody came, or nothing was served
+-- a fault at which no trace is printed: nobody came, nothing was served, or there was no memory to print it
 abbrev pub IsOfNoSession : Fault → Type 0
 IsOfNoSession Listen = ⊤
 IsOfNoSession NoMemory = ⊤

@@ -1,8 +1,6 @@
 -- The faults of what a command calls, as the command tells them.
 use Rattle.fl_session.specs.declared.session.Fault.{Fault as SessionFault}
 use Rattle.fl_session.specs.declared.session.Fault.TheVariants as session
-use Rattle.fl_trace.specs.declared.read.TraceFault.{TraceFault}
-use Rattle.fl_trace.specs.declared.read.TraceFault.TheVariants as trace
 use Rattle.lockd_faults.specs.declared.fault.Fault.{Fault}
 use Rattle.lockd_faults.specs.declared.fault.Fault.TheVariants as command
 
@@ -14,8 +12,3 @@ fault_of session.Read = command.Read
 fault_of session.Write = command.Write
 fault_of session.NoMemory = command.NoMemory
 fault_of session.NoReader = command.NoReader
-
--- a trace's fault as a command tells it
-abbrev pub trace_fault : TraceFault → Fault
-trace_fault (trace.BadLine n) = command.BadLine n
-trace_fault trace.NoMemory = command.NoMemory

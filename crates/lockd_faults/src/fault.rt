@@ -5,7 +5,6 @@ ghost use Rattle.lockd_faults.specs.Faults.{IsTold};
 use crate::line::Line;
 use crate::streams::begin;
 use fl_order::NoMemory;
-use fl_trace::TraceFault;
 use std::alloc::{AllocError, AllocFailed};
 use std::error::Error;
 use std::fmt;
@@ -94,19 +93,6 @@ impl<T: Drop> From<AllocFailed<T>> for Fault {
 
     fn from(_e: AllocFailed<T>) -> Fault {
         Fault::NoMemory
-    }
-}
-
-impl From<TraceFault> for Fault {
-    ghost use Rattle.lockd_faults.specs.Causes.{trace_fault};
-
-    ghost from_gives = { λ told fault. fault ≡ trace_fault told };
-
-    fn from(told: TraceFault) -> Fault {
-        match told {
-            TraceFault::BadLine(n) => Fault::BadLine(n),
-            TraceFault::NoMemory => Fault::NoMemory,
-        }
     }
 }
 
