@@ -102,28 +102,22 @@ fn checked(alloc: Global, trace: &[u8]) -> Came {
     }
 }
 
-// What comes of the worked session with these bytes behind it, with so many workers, and all replies.
-fn served(rt: HostRuntime, alloc: Global, behind: &str, workers: u32) -> (Came, Vec<u8>) {
-    let path = own_path(&rt).expect(&rt, "a path");
-    let bytes = two_locks_and(&rt, alloc, behind);
-    let there = own_path(&rt).expect(&rt, "a path");
-    let client = thread::spawn(&rt, move || talk(&rt, alloc, there.as_path(), &bytes));
-    let came = serve(&rt, path.as_path(), workers);
-    let replies = client.expect(&rt, "a thread").join(&rt);
-    (came, replies.expect(&rt, "a connection"))
-}
-
 #[test]
 fn sessions_over_a_socket(rt: HostRuntime) {
     let alloc = rt.alloc();
+    let path = own_path(&rt).expect(&rt, "a path");
     let ends = [
         ("", ""),
         ("27000000\n", "bad length 39\n"),
         ("38000000\n", "cut\n"),
     ];
     for (behind, told) in ends {
-        let (came, replies) = served(rt, alloc, behind, 1);
-        has_replies(&rt, alloc, &replies);
+        let bytes = two_locks_and(&rt, alloc, behind);
+        let there = own_path(&rt).expect(&rt, "a path");
+        let client = thread::spawn(&rt, move || talk(&rt, alloc, there.as_path(), &bytes));
+        let came = serve(&rt, path.as_path(), 1);
+        let replies = client.expect(&rt, "a thread").join(&rt);
+        has_replies(&rt, alloc, &replies.expect(&rt, "a connection"));
         has_trace(&rt, alloc, &came.printed, 6);
         ends_so(&rt, behind, &came, told);
     }
@@ -139,10 +133,16 @@ const A_LOOK: &str = "\
 // With one worker its order and its reply are lines of the trace, and with more they aren't.
 #[test]
 fn a_look_is_a_line_with_one_worker_alone(rt: HostRuntime) {
+    let alloc = rt.alloc();
+    let path = own_path(&rt).expect(&rt, "a path");
     for (workers, lines) in [(1, 8), (4, 6)] {
-        let (came, replies) = served(rt, rt.alloc(), A_LOOK, workers);
-        has_trace(&rt, rt.alloc(), &came.printed, lines);
-        assert!(rt; replies.len() >= 80 + 160 + 16 * 3);
+        let bytes = two_locks_and(&rt, alloc, A_LOOK);
+        let there = own_path(&rt).expect(&rt, "a path");
+        let client = thread::spawn(&rt, move || talk(&rt, alloc, there.as_path(), &bytes));
+        let came = serve(&rt, path.as_path(), workers);
+        let replies = client.expect(&rt, "a thread").join(&rt);
+        has_trace(&rt, alloc, &came.printed, lines);
+        assert!(rt; replies.expect(&rt, "a connection").len() >= 80 + 160 + 16 * 3);
     }
 }
 
