@@ -137,8 +137,8 @@ fn copied(rt: &impl Abort, alloc: Global, bytes: &[u8]) -> Vec<u8> {
 }
 
 fn split_at_message(rt: &impl Abort, alloc: Global, stream: &[u8], number: usize) -> Without {
-    let (before, from) = stream.split_at(place_of(rt, stream, number));
-    let (message, behind) = from.split_at(place_of(rt, from, 1));
+    let (before, from) = stream.split_at(place_of(rt, stream, number).min(stream.len()));
+    let (message, behind) = from.split_at(place_of(rt, from, 1).min(from.len()));
     let mut rest = copied(rt, alloc, before);
     rest.extend_from_slice(behind).expect(rt, "memory");
     Without {
