@@ -36,13 +36,13 @@ def setlk(unique):
 
 def take(client, size):
     """So many bytes from the server, or all up to its end."""
-    found = b""
+    found = bytearray()
     while len(found) < size:
-        more = client.recv(size - len(found))
+        more = client.recv(min(size - len(found), 1 << 16))
         if not more:
             break
         found += more
-    return found
+    return bytes(found)
 
 
 def replies(bytes_):
