@@ -15,11 +15,12 @@ for source in null_fuse fcntl; do
     cc -O2 -Wall -Wextra -o "$work/$source" "bench/peers/$source.c"
 done
 unshare --mount --propagation private --pid --fork --kill-child --mount-proc \
-    python3 - "$PWD/$program" "$work" "${1:-20000}" <<'END'
-import os, shutil, subprocess, sys, tempfile, time
+    python3 - "$(realpath "$program")" "$work" "${1:-20000}" <<'END'
+import itertools, os, shutil, subprocess, sys, tempfile, time
 
 PROGRAM, WORK, CALLS = *sys.argv[1:3], int(sys.argv[3])
 ROUNDS, LONGEST = 3, 120
+NUMBER = itertools.count()
 PROCESSES = 1, 8
 LOCKD = ["lockd, 1 worker", "lockd, 4 workers"]
 FILES = ["memory", "null", *LOCKD]
@@ -28,7 +29,7 @@ FILES = ["memory", "null", *LOCKD]
 def server(files, folder):
     if files == "null":
         return [f"{WORK}/null_fuse", folder]
-    return ["tools/lockd_mount", folder, "--workers", files.split()[1], "--trace", f"{WORK}/trace"]
+    return ["tools/lockd_mount", folder, "--workers", files.split()[1], "--trace", f"{WORK}/trace{next(NUMBER)}"]
 
 # The best total of pairs a second, and the median of the processes' p50 in nanoseconds.
 def timed(folder, processes, calls):
