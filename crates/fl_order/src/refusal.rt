@@ -9,6 +9,8 @@ pub enum Refusal {
     Answer(Errno),
     /// No reply is owed.
     Silent,
+    /// It is several orders, to which no reply is owed.
+    Batch,
     /// It ends the session.
     Destroy,
 }

@@ -13,7 +13,7 @@ use Rattle.fl_order.specs.declared.kind.OpKind.{OpKind}
 use Rattle.fl_order.specs.declared.kind.OpKind.TheVariants.{Init, Interrupt}
 use Rattle.fl_order.specs.declared.order.Order.{Order}
 use Rattle.fl_order.specs.declared.refusal.Refusal.{Refusal}
-use Rattle.fl_order.specs.declared.refusal.Refusal.TheVariants.{Answer, Silent, Destroy}
+use Rattle.fl_order.specs.declared.refusal.Refusal.TheVariants.{Answer, Silent, Batch, Destroy}
 use Rattle.fl_order.specs.declared.told.Answer.TheVariants.{Done}
 use Rattle.fl_order.specs.declared.told.Told.{Told}
 use Rattle.fl_wire.specs.Init.{init_step, init_spelling}
@@ -87,6 +87,7 @@ after_init s refused unique (Ok order) =
     if refused then with_refusal s order else with_step s order (replies_in (state_after s.lines) order)
 after_init s refused unique (Err (Answer e)) = replied s (reply_bytes unique (Err e))
 after_init s refused unique (Err Silent) = s
+after_init s refused unique (Err Batch) = s
 after_init s refused unique (Err Destroy) = record (replied s (reply_bytes unique (Ok Done))) { over = true }
 
 -- one message more

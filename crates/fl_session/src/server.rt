@@ -109,7 +109,7 @@ impl Talk {
         match read_order(frame) {
             Ok(order) => Met::Order(order),
             Err(Refusal::Answer(e)) => Met::Owed(error_reply(frame.unique(), e)),
-            Err(Refusal::Silent) => Met::Owed(Owed::Nothing),
+            Err(Refusal::Silent | Refusal::Batch) => Met::Owed(Owed::Nothing),
             Err(Refusal::Destroy) => {
                 self.over = true;
                 Met::Owed(Owed::One(Told {

@@ -2,11 +2,8 @@
 
 mod boards;
 mod bytes;
-mod check;
-mod cut;
 mod failing;
 mod keepers;
-mod pieces;
 mod scripts;
 
 use fl_testing::lines_after;
@@ -19,9 +16,6 @@ use std::process::Abort;
 enum Command {
     Bytes,
     Check,
-    CheckQuiet,
-    CheckCut,
-    CheckCutQuiet,
     Script,
 }
 
@@ -36,10 +30,7 @@ struct Came {
 fn run(command: Command, alloc: Global, text: &[u8]) -> Came {
     match command {
         Command::Bytes => run_bytes(alloc, text),
-        Command::Check => run_check(alloc, PLAIN, text),
-        Command::CheckQuiet => run_check(alloc, QUIET, text),
-        Command::CheckCut => run_check(alloc, CUT, text),
-        Command::CheckCutQuiet => run_check(alloc, CUT_QUIET, text),
+        Command::Check => run_check(alloc, text),
         Command::Script => run_script(alloc, text),
     }
 }
@@ -56,27 +47,12 @@ fn run_bytes(alloc: Global, text: &[u8]) -> Came {
     }
 }
 
-const PLAIN: CheckOptions = CheckOptions {
-    tells_quiet: false,
-    cut: false,
-};
-
-const QUIET: CheckOptions = CheckOptions {
-    tells_quiet: true,
-    cut: false,
-};
-
-const CUT: CheckOptions = CheckOptions {
-    tells_quiet: false,
-    cut: true,
-};
-
-const CUT_QUIET: CheckOptions = CheckOptions {
-    tells_quiet: true,
-    cut: true,
-};
-
-fn run_check(alloc: Global, options: CheckOptions, text: &[u8]) -> Came {
+// The command says whether the trace is quiet, too.
+fn run_check(alloc: Global, text: &[u8]) -> Came {
+    let options = CheckOptions {
+        tells_quiet: true,
+        cut: false,
+    };
     let mut input = text;
     let mut printed = Vec::new(alloc);
     let mut told = Vec::new(alloc);

@@ -33,7 +33,7 @@ fn answers(rt: &impl Abort, alloc: Global, what: &str, trace: &str, quiet: bool)
     let script = asks_of(rt, alloc, trace);
     let came = run(Command::Script, alloc, &script);
     is(rt, what, &came, trace, "");
-    let judged = run(Command::CheckQuiet, alloc, trace.as_bytes());
+    let judged = run(Command::Check, alloc, trace.as_bytes());
     is(rt, what, &judged, verdict(quiet), "");
 }
 

@@ -1,7 +1,6 @@
 //! Clients that don't come to send anything: a line is bad, or nobody listens.
 
-use super::super::{is, own_path, unbind};
-use super::drive;
+use super::{drive, is, own_path, unbind};
 use std::alloc::AllocGlobal;
 use std::net::Net;
 use std::os::unix::net::UnixListener;

@@ -1,7 +1,7 @@
 //! Traces that may be cut off: those of a server that was killed.
 
 use super::check::THE_LAST_REPLY;
-use super::{Command, is, run, run_cases, wrote};
+use super::{CUT, CUT_QUIET, PLAIN, is, run, run_cases, wrote};
 use lockd_commands::Status;
 use std::alloc::Global;
 use std::process::Abort;
@@ -21,16 +21,16 @@ fn whole_lines(text: &[u8]) -> usize {
 fn is_a_beginning(rt: &impl Abort, alloc: Global, text: &[u8]) {
     let legal = whole_lines(text) % 2 == 0;
     let said = if legal { "legal\n" } else { "begins\n" };
-    let came = run(Command::CheckCut, alloc, text);
+    let came = run(alloc, CUT, text);
     is(rt, "cut off", &came, said, "");
     let said = if legal { "legal\nquiet\n" } else { "begins\n" };
-    let came = run(Command::CheckCutQuiet, alloc, text);
+    let came = run(alloc, CUT_QUIET, text);
     is(rt, "cut off, and quiet", &came, said, "");
 }
 
 // The same text, where nothing may be cut off: only whole orders with their replies are legal.
 fn is_judged_whole(rt: &impl Abort, alloc: Global, text: &[u8]) {
-    let came = run(Command::Check, alloc, text);
+    let came = run(alloc, PLAIN, text);
     let ends = text.last().is_none_or(|byte| *byte == b'\n');
     if !ends {
         assert_eq!(rt; came.status.exit_code(), 2);
@@ -72,11 +72,11 @@ const CUT_TRACES: &str = "\
 
 #[test]
 fn stored_traces_that_may_be_cut_off(rt: HostRuntime) {
-    let found = run_cases(&rt, rt.alloc(), Command::CheckCut, ("", ""), CUT_TRACES);
+    let found = run_cases(&rt, rt.alloc(), CUT, CUT_TRACES);
     assert_eq!(rt; found, 4);
-    let came = run(Command::CheckCut, rt.alloc(), b"no line at all");
+    let came = run(rt.alloc(), CUT, b"no line at all");
     is(&rt, "no whole line", &came, "legal\n", "");
-    let came = run(Command::CheckCut, rt.alloc(), b"tell 1 ok\ntell 1 o");
+    let came = run(rt.alloc(), CUT, b"tell 1 ok\ntell 1 o");
     wrote(&rt, "a reply to nothing", &came, "differs 1\n", "");
     assert_eq!(rt; came.status, Status::Different);
 }
@@ -92,6 +92,6 @@ ask 0 3 2 0 0 0 setlkw 1 8 0 0 1 12 0
 ask 0 4 2 0 0 0 setlk 1 8 5 5 0 12 0
 tell 4 ok
 tell 4";
-    let came = run(Command::CheckCutQuiet, rt.alloc(), text.as_bytes());
+    let came = run(rt.alloc(), CUT_QUIET, text.as_bytes());
     is(&rt, "not quiet", &came, "legal\nnot quiet\n", "");
 }

@@ -1,7 +1,7 @@
 //! What is said of traces.
 
-use super::{Command, is, marked, run, run_cases, wrote};
-use lockd_commands::Status;
+use super::{PLAIN, QUIET, is, marked, run, run_cases, wrote};
+use lockd_commands::{CheckOptions, Status};
 use std::alloc::Global;
 use std::process::Abort;
 
@@ -84,16 +84,16 @@ const TRACES_THAT_DIFFER: &str = "\
 
 #[test]
 fn stored_traces(rt: HostRuntime) {
-    let found = run_cases(&rt, rt.alloc(), Command::Check, ("", ""), TRACES);
+    let found = run_cases(&rt, rt.alloc(), PLAIN, TRACES);
     assert_eq!(rt; found, 6);
-    let came = run(Command::Check, rt.alloc(), b"ask 0 1 1 0 0 0 open");
+    let came = run(rt.alloc(), PLAIN, b"ask 0 1 1 0 0 0 open");
     is(&rt, "no newline", &came, "", "bad line 1\n");
 }
 
-fn differs(rt: &impl Abort, alloc: Global, command: Command, case: &str) {
-    let trace = marked(rt, alloc, "", case, "> ");
-    let printed = marked(rt, alloc, "", case, "< ");
-    let came = run(command, alloc, trace.as_bytes());
+fn differs(rt: &impl Abort, alloc: Global, options: CheckOptions, case: &str) {
+    let trace = marked(rt, alloc, case, "> ");
+    let printed = marked(rt, alloc, case, "< ");
+    let came = run(alloc, options, trace.as_bytes());
     wrote(rt, case, &came, &printed, "");
     assert_eq!(rt; came.status, Status::Different, "{case}");
     assert_eq!(rt; came.status.exit_code(), 1);
@@ -103,8 +103,8 @@ fn differs(rt: &impl Abort, alloc: Global, command: Command, case: &str) {
 fn traces_that_differ(rt: HostRuntime) {
     let mut count = 0usize;
     for case in TRACES_THAT_DIFFER.split('#').skip(1) {
-        differs(&rt, rt.alloc(), Command::Check, case);
-        differs(&rt, rt.alloc(), Command::CheckQuiet, case);
+        differs(&rt, rt.alloc(), PLAIN, case);
+        differs(&rt, rt.alloc(), QUIET, case);
         count = count.saturating_add(1);
     }
     assert_eq!(rt; count, 5);
@@ -123,12 +123,6 @@ const WITH_THE_OPTION: &str = "\
 
 #[test]
 fn stored_traces_with_the_option(rt: HostRuntime) {
-    let found = run_cases(
-        &rt,
-        rt.alloc(),
-        Command::CheckQuiet,
-        ("", ""),
-        WITH_THE_OPTION,
-    );
+    let found = run_cases(&rt, rt.alloc(), QUIET, WITH_THE_OPTION);
     assert_eq!(rt; found, 2);
 }

@@ -1,9 +1,8 @@
 //! What a client sends and prints, against servers whose replies are these bytes.
 
-use super::super::{Came, is, marked, own_path, spelled, unbind};
 use super::cases::stored_cases;
-use super::drive;
 use super::servers::{answer, read_one_and_go, take_nothing};
+use super::{Came, drive, is, marked, own_path, spelled, unbind};
 use fl_testing::{Full, bytes_after};
 use lockd_commands::{Fault, Status, drive_on};
 use std::alloc::{AllocGlobal, Global};
@@ -47,7 +46,7 @@ fn run_case(
 ) {
     let alloc = rt.alloc();
     let replies = bytes_of(rt, alloc, case, "+ ");
-    let text = marked(rt, alloc, "", case, "> ");
+    let text = marked(rt, alloc, case, "> ");
     let (came, sent) = meet(rt, path, replies, text.as_bytes());
     is_case(rt, alloc, case, &came, &sent);
     unbind(rt, path);
@@ -60,8 +59,8 @@ fn bytes_of(rt: &impl Abort, alloc: Global, case: &str, mark: &str) -> Vec<u8> {
 
 // What a client came to and sent is what stands in its case.
 fn is_case(rt: &impl Abort, alloc: Global, case: &str, came: &Came, sent: &[u8]) {
-    let printed = marked(rt, alloc, "", case, "< ");
-    let told = marked(rt, alloc, "", case, "! ");
+    let printed = marked(rt, alloc, case, "< ");
+    let told = marked(rt, alloc, case, "! ");
     is(rt, case, came, &printed, &told);
     let wanted = bytes_of(rt, alloc, case, "= ");
     assert_eq!(rt; sent, wanted.as_slice(), "{case}");

@@ -1,0 +1,5 @@
+//! Tests of `lockd check`.
+#![tactic(auto)]
+
+#[cfg(test)]
+mod tests;
