@@ -9,5 +9,5 @@ pub use fl_desk::{Desk, MOST_LINES, Verdict, check, laws};
 pub use fl_history::{History, Line, Lines};
 pub use fl_keeper::{Forgetful, Keeper};
 pub use fl_quiet::quiet;
-pub use fl_stream::{Streamed, Unwritten, WhenWriterFails, write_trace};
+pub use fl_stream::{Streamed, TraceRoom, Unwritten, WhenWriterFails, write_trace};
 pub use fl_trace::{TraceFault, first_line, has_text, print_trace, read_trace};

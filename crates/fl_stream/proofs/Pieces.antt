@@ -71,10 +71,6 @@ printed_all lines at waits old now so past none =
     (sym (append-nil so.gone) ∙ ap (λ u. so.gone ++ u) (sym none) ∙ so.parts ∙ ap text_of (take_all at lines past))
     so.written
 
--- nothing of these bytes
-pub wrote_none : (bytes : List ℕ) (held : Option (List ℕ)) → WroteSome bytes held held
-wrote_none bytes held = record { sent = []; rest = bytes; written = Appends-nil held; parts = refl }
-
 -- nothing went
 pub moved_none : (held : Option (List ℕ)) (waits : List ℕ) → Moves held held waits waits
 moved_none held waits = record { went = []; written = Appends-nil held; parts = refl }

@@ -7,5 +7,5 @@ mod streamed;
 mod writing;
 
 pub use manner::WhenWriterFails;
-pub use printing::{Unwritten, write_trace};
+pub use printing::{TraceRoom, Unwritten, write_trace};
 pub use streamed::Streamed;

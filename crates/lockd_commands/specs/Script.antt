@@ -2,6 +2,7 @@
 use Rattle.std.specs.Prelude.{◌≡◌, ℕ, true, List, filter, Option, IfSome}
 use Rattle.std.specs.Io.KnownBytes.{Appends}
 use Rattle.fl_desk.specs.Legal.{IsLegal, is_asked}
+use Rattle.fl_stream.specs.Streams.{WroteSome}
 use Rattle.fl_trace.specs.Text.{text_of, LineFits, Fits, BreaksAt}
 use Rattle.fl_history.specs.declared.history.Line.{Line}
 use Rattle.fl_history.specs.declared.history.Line.TheVariants.{Asked}
@@ -47,3 +48,11 @@ pub record IsAnswered (left old new : Option (List ℕ)) : Type 0 where
   pub read : IfSome left (λ bytes. bytes ≡ script)
   pub answered : IsTraceOf script trace
   pub written : Appends old new trace
+
+-- a script was read, and a beginning of its trace was written, which may end within a line
+pub record IsAnsweredInPart (left old new : Option (List ℕ)) : Type 0 where
+  pub script : List ℕ
+  pub trace : List ℕ
+  pub read : IfSome left (λ bytes. bytes ≡ script)
+  pub answered : IsTraceOf script trace
+  pub begun : WroteSome trace old new

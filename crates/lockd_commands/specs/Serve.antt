@@ -3,7 +3,7 @@ pub mod Inside
 use Rattle.std.specs.Prelude.{◌≡◌, ℕ, List, Option, Some, IfSome, ⊤}
 use Rattle.std.specs.Io.KnownBytes.{Appends}
 use Rattle.fl_desk.specs.Legal.{IsLegal}
-use Rattle.fl_stream.specs.Streams.{IsBegun, Wrote}
+use Rattle.fl_stream.specs.Streams.{IsBegun, Wrote, WroteSome}
 use Rattle.fl_trace.specs.Text.{text_of}
 use Rattle.fl_history.specs.declared.history.Line.{Line}
 use Rattle.lockd_faults.specs.declared.fault.Fault.{Fault}
@@ -14,6 +14,12 @@ pub record IsTraced (old new : Option (List ℕ)) : Type 0 where
   pub lines : List Line
   pub legal : IsLegal lines
   pub written : Appends old new (text_of lines)
+
+-- a beginning of the trace of a legal history was written, which may end within a line
+pub record IsTracedInPart (old new : Option (List ℕ)) : Type 0 where
+  pub lines : List Line
+  pub legal : IsLegal lines
+  pub written : WroteSome (text_of lines) old new
 
 -- a writer came back, to which the trace of a legal history was written, and nothing else
 pub record HasTrace {W : Type 0} (contents : W → Option (List ℕ)) (writer : Option W) : Type 0 where
@@ -40,7 +46,7 @@ IsOfSession (BadLength n) = ⊤
 IsOfSession Read = ⊤
 IsOfSession fault = ⊥
 
--- a fault at which no trace is printed: nobody came, nothing was served, or there was no memory to print it
+-- a fault at which no trace is printed: nobody came, or nothing was served
 abbrev pub IsOfNoSession : Fault → Type 0
 IsOfNoSession Listen = ⊤
 IsOfNoSession NoMemory = ⊤

@@ -1,24 +1,27 @@
 //! A history's text, as what a command prints.
 
-ghost use Rattle.std.specs.Prelude.{◌≡◌, ◌⊎◌, OnOk, IfErr};
-ghost use Rattle.std.specs.Io.KnownBytes.{Appends, Keeps};
+ghost use Rattle.std.specs.Prelude.{◌≡◌, OnOk, IfErr};
+ghost use Rattle.std.specs.Io.KnownBytes.{Appends};
+ghost use Rattle.fl_stream.specs.Streams.{WroteSome};
 ghost use Rattle.fl_trace.specs.Text.{text_of};
 ghost use Rattle.lockd_faults.specs.declared.fault.Fault.{Fault};
 
-use fl_book::{History, Unwritten, write_trace};
+use fl_book::{History, TraceRoom, Unwritten, write_trace};
 use lockd_faults::Fault;
-use std::alloc::Global;
 use std::io::Write;
 
-/// Writes the text of a history in pieces, and hands it on. Where there is no memory for a piece, nothing is written.
-pub(crate) fn print<W: Write>(alloc: Global, history: &History, output: &mut W) -> Result<(), Fault>
+/// Writes the text of a history in pieces, and hands it on.
+pub(crate) fn print<W: Write>(
+    room: &mut TraceRoom,
+    history: &History,
+    output: &mut W,
+) -> Result<(), Fault>
     ensures written { OnOk result (Appends (W.contents output.old) (W.contents output.new) (text_of history.now)) }
-    ensures error { IfErr result (λ fault.
-        ((fault ≡ Fault.NoMemory) × Keeps (W.contents output.old) (W.contents output.new)) ⊎ (fault ≡ Fault.Write)) }
+    ensures error { IfErr result (λ fault. fault ≡ Fault.Write) }
+    ensures begun { WroteSome (text_of history.now) (W.contents output.old) (W.contents output.new) }
 {
-    match write_trace(alloc, history, output) {
+    match write_trace(room, history, output) {
         Ok(()) => Ok(()),
-        Err(Unwritten::NoMemory) => Err(Fault::NoMemory),
-        Err(Unwritten::Failed) => Err(Fault::Write),
+        Err(Unwritten) => Err(Fault::Write),
     }
 }

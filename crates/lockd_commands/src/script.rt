@@ -1,17 +1,17 @@
 //! `lockd script`: takes orders from text, one after another.
 
-ghost use Rattle.std.specs.Prelude.{◌≡◌, ◌≢◌, ℕ, ◌++◌, ◌∷◌, List, map, filter, All, IfSome, IsNone, IfOk, OnOk, IfErr};
+ghost use Rattle.std.specs.Prelude.{◌≡◌, ◌≢◌, ℕ, ◌++◌, ◌∷◌, List, map, filter, Err, All, IfSome, IsNone, IfOk, OnOk, IfErr};
 ghost use Rattle.std.specs.Io.KnownBytes.{Keeps, Appends};
 ghost use Rattle.fl_desk.specs.Legal.{IsLegal, is_asked};
 ghost use Rattle.fl_trace.specs.Text.{line_text, text_of, BreaksAt};
 ghost use Rattle.lockd_commands.specs.Faults.{IsOfText};
-ghost use Rattle.lockd_commands.specs.Script.{line_of, IsAskLine, IsTraceOf, FaultSays, IsAnswered};
+ghost use Rattle.lockd_commands.specs.Script.{line_of, IsAskLine, IsTraceOf, FaultSays, IsAnswered, IsAnsweredInPart};
 ghost use Rattle.fl_history.specs.declared.history.Line.{Line};
 ghost use Rattle.lockd_faults.specs.Faults.{IsTold};
 ghost use Rattle.lockd_faults.specs.declared.fault.Fault.{Fault};
 
 use crate::printing::print;
-use fl_book::{Desk, History, Line, first_line};
+use fl_book::{Desk, History, Line, TraceRoom, first_line};
 use fl_core::Tolds;
 use fl_order::Order;
 use lockd_faults::{Fault, Status, end, read_all};
@@ -41,7 +41,9 @@ pub fn script_on<R: Read, W: Write, F: Write>(
     ensures bad { (n : ℕ) → result ≡ Status.Faulted (Fault.BadLine n) →
         IfSome (R.remaining input.old) (λ script. BreaksAt IsAskLine script n) }
 
-    // Only a write that fails leaves anything on the output.
+    // Only a write that fails leaves anything on the output: a beginning of the trace.
+    ensures begun { result ≡ Status.Faulted Fault.Write →
+        IsAnsweredInPart (R.remaining input.old) (W.contents output.old) (W.contents output.new) }
     ensures kept { (fault : Fault) → result ≡ Status.Faulted fault → fault ≢ Fault.Write →
         Keeps (W.contents output.old) (W.contents output.new) }
     ensures faulted { (fault : Fault) → result ≡ Status.Faulted fault →
@@ -56,12 +58,15 @@ fn script<R: Read, W: Write>(alloc: Global, input: &mut R, output: &mut W) -> Re
     ensures good { OnOk result (IsAnswered (R.remaining input.old) (W.contents output.old) (W.contents output.new)) }
     ensures bad { IfErr result (λ fault. (n : ℕ) → fault ≡ Fault.BadLine n →
         IfSome (R.remaining input.old) (λ script. BreaksAt IsAskLine script n)) }
+    ensures begun { result ≡ Err Fault.Write →
+        IsAnsweredInPart (R.remaining input.old) (W.contents output.old) (W.contents output.new) }
     ensures kept { IfErr result (λ fault. fault ≢ Fault.Write → Keeps (W.contents output.old) (W.contents output.new)) }
     ensures fault { IfErr result IsOfText }
 {
     let text = read_all(alloc, input)?;
     let history = history_of(alloc, &text)?;
-    print(alloc, &history, output)
+    let mut room = TraceRoom::new(alloc)?;
+    print(&mut room, &history, output)
 }
 
 // The history of a script.

@@ -5,7 +5,7 @@ ghost use Rattle.std.specs.Io.KnownBytes.{Keeps};
 ghost use Rattle.std.specs.Path.{path_bytes};
 ghost use Rattle.fl_desk.specs.Legal.{IsLegal};
 ghost use Rattle.fl_session.specs.declared.session.Fault.{Fault as SessionFault};
-ghost use Rattle.lockd_commands.specs.Serve.{IsTraced, IsOfNoSession, IsOfSession};
+ghost use Rattle.lockd_commands.specs.Serve.{IsTraced, IsTracedInPart, IsOfNoSession, IsOfSession};
 ghost use Rattle.lockd_commands.specs.Serve.Inside.{Did, TellsOf};
 ghost use Rattle.lockd_commands.specs.Faults.{IsOfServe};
 ghost use Rattle.lockd_faults.specs.Faults.{IsTold};
@@ -14,7 +14,7 @@ ghost use Rattle.lockd_faults.specs.declared.fault.Fault.{Fault};
 mod traced;
 
 use crate::printing::print;
-use fl_book::{Keeper, Lines};
+use fl_book::{Keeper, Lines, TraceRoom};
 use fl_serve::{Done, Kept, OpenGate, run_over, serve_over};
 use lockd_faults::{Fault, Status, end};
 use std::alloc::Global;
@@ -45,6 +45,8 @@ pub fn serve_on<R: Threads + Wait + Net + Files + Sync, W: Write, F: Write>(
     ensures good { result ≡ Status.Good → IsTraced (W.contents output.old) (W.contents output.new) }
     ensures traced { (fault : Fault) → result ≡ Status.Faulted fault → IsOfSession fault
         → IsTraced (W.contents output.old) (W.contents output.new) }
+    ensures begun { result ≡ Status.Faulted Fault.Write
+        → IsTracedInPart (W.contents output.old) (W.contents output.new) }
     ensures kept { (fault : Fault) → result ≡ Status.Faulted fault → IsOfNoSession fault
         → Keeps (W.contents output.old) (W.contents output.new) }
     ensures faulted { (fault : Fault) → result ≡ Status.Faulted fault →
@@ -68,9 +70,11 @@ fn serve_and_print<R: Threads + Wait + Net + Files + Sync, W: Write>(
     ensures unnamed { path_bytes path.entry ≡ [] → result ≡ Err Fault.Listen }
 {
     let stream = connection(rt, path)?;
+    // No session is served whose trace can't be printed for want of memory.
+    let mut room = TraceRoom::new(alloc)?;
     let done = served(rt, alloc, &stream, workers, Lines::new(alloc)).into_done(alloc);
     drop(stream);
-    print_done(alloc, &done, output)
+    print_done(&mut room, &done, output)
 }
 
 // Serves a session over a connection, whose lines go to this keeper. One worker serves it all in this thread.
@@ -97,8 +101,8 @@ fn served<R: Threads + Wait + Sync, K: Keeper + Send + Drop>(
 }
 
 // Writes the trace of a session, and then tells its fault.
-#[tactic(auto, using(crate::proofs::PrintLemmas::not_printed))]
-fn print_done<W: Write>(alloc: Global, done: &Done, output: &mut W) -> Result<(), Fault>
+#[tactic(auto, using(crate::proofs::PrintLemmas::not_printed, crate::proofs::PrintLemmas::printed))]
+fn print_done<W: Write>(room: &mut TraceRoom, done: &Done, output: &mut W) -> Result<(), Fault>
     requires { IsLegal done.now.history }
     ensures did { Did (W.contents output.old) (W.contents output.new) result }
     ensures tells { TellsOf done.now.history (W.contents output.old) (W.contents output.new) result }
@@ -106,7 +110,7 @@ fn print_done<W: Write>(alloc: Global, done: &Done, output: &mut W) -> Result<()
     if let Some(fault @ (fl_serve::Fault::NoMemory | fl_serve::Fault::NoReader)) = done.fault {
         return Err(Fault::from(fault));
     }
-    print(alloc, &done.history, output)?;
+    print(room, &done.history, output)?;
     match done.fault {
         None => Ok(()),
         Some(fault) => Err(Fault::from(fault)),

@@ -1,5 +1,5 @@
 -- A text of which some is written, and the rest isn't yet.
-use Rattle.std.proofs.Common.{◌≡◌, ℕ, ◌-◌, List, [], ◌++◌, length, take, drop, take-append-drop, refl, sym, ap, ◌∙◌, append_assoc, append-nil, Option}
+use Rattle.std.proofs.Common.{◌≡◌, ℕ, ◌-◌, List, [], ◌++◌, length, take, drop, take-append-drop, refl, sym, ap, ◌∙◌, append_assoc, append-nil, Option, subst}
 use Rattle.std.proofs.KnownBytes.{Appends-nil, Appends-trans, Appends-kept}
 use Rattle.std.proofs.lemmas.List.{take_rest}
 use Rattle.std.specs.Io.KnownBytes.{Appends, Keeps}
@@ -36,3 +36,16 @@ written_kept text rest old new newer so kept =
 -- and the rest isn't
 pub begun : (text rest : List ℕ) (old new : Option (List ℕ)) → IsWrittenTo text rest old new → IsBegun text old new
 begun text rest old new so = record { part = so.part; rest = rest; parts = so.parts; written = so.written }
+
+-- nothing is left
+pub whole : (text rest : List ℕ) (old new : Option (List ℕ)) → IsWrittenTo text rest old new → rest ≡ [] → Appends old new text
+whole text rest old new so none =
+    subst (Appends old new) (sym (append-nil so.part) ∙ ap (λ xs. so.part ++ xs) (sym none) ∙ sym so.parts) so.written
+
+-- and then the writer stayed as it was
+pub begun_kept : (text : List ℕ) (old new newer : Option (List ℕ)) → IsBegun text old new → Keeps new newer → IsBegun text old newer
+begun_kept text old new newer so kept =
+    record { part = so.part; rest = so.rest; parts = so.parts; written = Appends-kept old new newer so.part so.written kept }
+
+pub all_kept : (text : List ℕ) (old new newer : Option (List ℕ)) → Appends old new text → Keeps new newer → Appends old newer text
+all_kept text old new newer all kept = Appends-kept old new newer text all kept

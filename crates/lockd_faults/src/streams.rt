@@ -1,5 +1,5 @@
 //! Whole inputs and outputs.
-ghost use Rattle.std.specs.Prelude.{◌≡◌, ◌⊎◌, IfSome, IfOk, OnOk, IfErr};
+ghost use Rattle.std.specs.Prelude.{◌≡◌, ◌⊎◌, IfSome, IfOk, OnOk, IfErr, IsTrue};
 ghost use Rattle.std.specs.Io.KnownBytes.{Appends};
 ghost use Rattle.lockd_faults.specs.Faults.{IsBegun};
 ghost use Rattle.lockd_faults.specs.declared.fault.Fault.{Fault};
@@ -21,29 +21,37 @@ pub fn read_all<R: Read>(alloc: Global, input: &mut R) -> Result<Vec<u8>, Fault>
     }
 }
 
-/// Writes all of a text, and hands it on.
+/// Writes all of a text, and hands it on. Where that fails, a beginning of it may be written.
+#[tactic(auto, using(crate::proofs::WriteLemmas::begun_kept, crate::proofs::WriteLemmas::all_kept))]
 pub fn write_all<W: Write>(output: &mut W, text: &[u8]) -> Result<(), Fault>
     ensures written { OnOk result (Appends (W.contents output.old) (W.contents output.new) text.now) }
     ensures error { IfErr result (λ fault. fault ≡ Fault.Write) }
+    ensures begun { IsBegun text.now (W.contents output.old) (W.contents output.new) }
 {
-    output.write_all(text).map_err(|_| Fault::Write)?;
-    output.flush().map_err(|_| Fault::Write)
+    if begin(output, text) && output.flush().is_ok() {
+        Ok(())
+    } else {
+        Err(Fault::Write)
+    }
 }
 
-/// Writes a text, up to the first write that fails.
-pub(crate) fn begin<W: Write>(output: &mut W, text: &[u8])
-    ensures { IsBegun text.now (W.contents output.old) (W.contents output.new) }
+/// Writes a text up to the first write that fails, and says whether that is all of it. A write that is interrupted is tried again.
+#[tactic(auto, using(crate::proofs::WriteLemmas::whole, crate::proofs::WriteLemmas::begun))]
+pub(crate) fn begin<W: Write>(output: &mut W, text: &[u8]) -> bool
+    ensures all { IsTrue result → Appends (W.contents output.old) (W.contents output.new) text.now }
+    ensures begun { IsBegun text.now (W.contents output.old) (W.contents output.new) }
 {
     let mut rest = text;
     for _ in 0..u64::MAX {
         if rest.is_empty() {
-            return;
+            return true;
         }
         match output.write(rest) {
-            Ok(0) => return,
+            Ok(0) => return false,
             Ok(n) => rest = &rest[n..],
             Err(error) if error.kind() == ErrorKind::Interrupted => {}
-            Err(_) => return,
+            Err(_) => return false,
         }
     }
+    rest.is_empty()
 }

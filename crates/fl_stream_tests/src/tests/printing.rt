@@ -2,14 +2,25 @@
 
 use super::{TRACE, count_is, first_line, history_of, holds};
 use fl_history::{History, Line};
-use fl_stream::{Unwritten, write_trace};
+use fl_stream::{TraceRoom, Unwritten, write_trace};
 use fl_testing::{Sink, Trouble};
 use std::alloc::Global;
-use std::io::ErrorKind;
+use std::io::{ErrorKind, Write};
 use std::process::Abort;
 
 fn came(rt: &impl Abort, found: Result<(), Unwritten>, wanted: Result<(), Unwritten>) {
     assert!(rt; found == wanted);
+}
+
+// What writing a history through a room of its own comes to.
+fn write<W: Write>(
+    rt: &impl Abort,
+    alloc: Global,
+    history: &History,
+    writer: &mut W,
+) -> Result<(), Unwritten> {
+    let mut room = TraceRoom::new(alloc).expect(rt, "memory");
+    write_trace(&mut room, history, writer)
 }
 
 // A history of one line, so many times: 43 bytes of text each.
@@ -27,10 +38,10 @@ fn a_history_is_written_as_its_text(rt: HostRuntime) {
     let alloc = rt.alloc();
     let history = history_of(&rt, alloc, TRACE);
     let mut held: Vec<u8> = Vec::new(alloc);
-    came(&rt, write_trace(alloc, &history, &mut held), Ok(()));
+    came(&rt, write(&rt, alloc, &history, &mut held), Ok(()));
     holds(&rt, &held, TRACE.as_bytes());
     let none = History::new(alloc);
-    came(&rt, write_trace(alloc, &none, &mut held), Ok(()));
+    came(&rt, write(&rt, alloc, &none, &mut held), Ok(()));
     holds(&rt, &held, TRACE.as_bytes());
 }
 
@@ -39,7 +50,7 @@ fn a_history_goes_out_a_byte_at_a_time(rt: HostRuntime) {
     let alloc = rt.alloc();
     let history = history_of(&rt, alloc, TRACE);
     let mut sink = Sink::new(alloc, 1, Trouble::none());
-    came(&rt, write_trace(alloc, &history, &mut sink), Ok(()));
+    came(&rt, write(&rt, alloc, &history, &mut sink), Ok(()));
     holds(&rt, &sink.held, TRACE.as_bytes());
 }
 
@@ -50,7 +61,7 @@ fn a_long_history_goes_out_in_pieces(rt: HostRuntime) {
     let line = first_line(&rt, alloc);
     let history = long_history(&rt, alloc, &line, 10_000);
     let mut sink = Sink::failing_once(alloc, 2, ErrorKind::Interrupted);
-    came(&rt, write_trace(alloc, &history, &mut sink), Ok(()));
+    came(&rt, write(&rt, alloc, &history, &mut sink), Ok(()));
     count_is(&rt, sink.held.len(), 10_000 * 43);
     assert!(rt; sink.writes > 6 && sink.writes < 10);
 }
@@ -60,8 +71,8 @@ fn stops(rt: &impl Abort, alloc: Global, history: &History, fails_at: usize) {
     let mut sink = Sink::failing_once(alloc, fails_at, ErrorKind::Other);
     came(
         rt,
-        write_trace(alloc, history, &mut sink),
-        Err(Unwritten::Failed),
+        write(rt, alloc, history, &mut sink),
+        Err(Unwritten),
     );
     count_is(rt, sink.writes, fails_at.saturating_add(1));
     assert!(rt; sink.held.len() < history.len().saturating_mul(43));
@@ -85,8 +96,23 @@ fn a_writer_that_takes_no_more_is_told(rt: HostRuntime) {
     let mut sink = Sink::new(alloc, 7, Trouble::behind(5, None));
     came(
         &rt,
-        write_trace(alloc, &history, &mut sink),
-        Err(Unwritten::Failed),
+        write(&rt, alloc, &history, &mut sink),
+        Err(Unwritten),
     );
     holds(&rt, &sink.held, &TRACE.as_bytes()[..35]);
+}
+
+// What a write that failed has left in the room isn't written with the next history.
+#[test]
+fn a_room_is_used_again(rt: HostRuntime) {
+    let alloc = rt.alloc();
+    let history = history_of(&rt, alloc, TRACE);
+    let mut room = TraceRoom::new(alloc).expect(&rt, "memory");
+    let mut sink = Sink::failing_once(alloc, 0, ErrorKind::Other);
+    let failed = write_trace(&mut room, &history, &mut sink);
+    came(&rt, failed, Err(Unwritten));
+    let mut held: Vec<u8> = Vec::new(alloc);
+    let written = write_trace(&mut room, &history, &mut held);
+    came(&rt, written, Ok(()));
+    holds(&rt, &held, TRACE.as_bytes());
 }

@@ -1,9 +1,10 @@
 -- What the steps of serving a socket come to. No contract of a public function cites these definitions.
-use Rattle.std.specs.Prelude.{ℕ, List, Option, Result, Ok, Err, ⊤}
+use Rattle.std.specs.Prelude.{ℕ, List, Option, Result, Ok, Err}
 use Rattle.std.specs.Io.KnownBytes.{Appends, Keeps}
+use Rattle.fl_stream.specs.Streams.{WroteSome}
 use Rattle.fl_trace.specs.Text.{text_of}
 use Rattle.fl_history.specs.declared.history.Line.{Line}
-use Rattle.lockd_commands.specs.Serve.{IsTraced}
+use Rattle.lockd_commands.specs.Serve.{IsTraced, IsTracedInPart}
 use Rattle.lockd_faults.specs.declared.fault.Fault.{Fault}
 use Rattle.lockd_faults.specs.declared.fault.Fault.TheVariants.{BadLine, NoMemory, NoReader, Read, Write, Cut, BadLength, Listen, Connect, BadReply, Trace, TraceFailed}
 
@@ -13,7 +14,7 @@ Did old new (Ok done) = IsTraced old new
 Did old new (Err Cut) = IsTraced old new
 Did old new (Err (BadLength n)) = IsTraced old new
 Did old new (Err Read) = IsTraced old new
-Did old new (Err Write) = ⊤
+Did old new (Err Write) = IsTracedInPart old new
 Did old new (Err NoMemory) = Keeps old new
 Did old new (Err NoReader) = Keeps old new
 Did old new (Err Listen) = Keeps old new
@@ -33,7 +34,7 @@ TellsOf lines old new (Ok done) = HasWritten lines old new
 TellsOf lines old new (Err Cut) = HasWritten lines old new
 TellsOf lines old new (Err (BadLength n)) = HasWritten lines old new
 TellsOf lines old new (Err Read) = HasWritten lines old new
-TellsOf lines old new (Err Write) = ⊤
+TellsOf lines old new (Err Write) = WroteSome (text_of lines) old new
 TellsOf lines old new (Err NoMemory) = Keeps old new
 TellsOf lines old new (Err NoReader) = Keeps old new
 TellsOf lines old new (Err fault) = ⊥
