@@ -3,6 +3,8 @@ use Rattle.std.proofs.Common.{◌≡◌, ℕ, Bool, true, false, true≢false, L
 use Rattle.std.specs.Prelude.{Result, Ok, Err, fold}
 use Rattle.fl_order.specs.declared.order.Order.{Order}
 use Rattle.fl_order.specs.declared.refusal.Refusal.{Refusal}
+use Rattle.fl_order.specs.declared.refusal.Refusal.TheVariants.{Batch}
+use Rattle.fl_wire.specs.Batch.{forgets_in}
 use Rattle.fl_hearing.specs.Said.{order_said, said_from, said_in}
 use Rattle.fl_wire.specs.Says.{said}
 use Rattle.fl_workers.specs.Asked.{Orders}
@@ -10,7 +12,7 @@ use Rattle.std.proofs.lemmas.Grind.{fold-append}
 use Rattle.fl_hearing.specs.Inside.Hearing.{Hears, IsHearing, IsPutAs, IsThisFar}
 use Rattle.fl_session.specs.Inbox.{Inflow, IsUnread, Takes}
 use Rattle.fl_session.specs.Talk.{IsHeard, goodbye_to, standing}
-use Rattle.fl_session.specs.Session.{Came, Session, session_of, with_message, opening_session}
+use Rattle.fl_session.specs.Session.{Came, Session, after_init, session_of, with_message, with_order, with_orders, opening_session}
 use Rattle.fl_session.specs.declared.server.Met.{Met}
 use Rattle.fl_session.specs.declared.server.Met.TheVariants as met
 use Rattle.fl_session.specs.declared.server.Owed.{Owed}
@@ -20,6 +22,12 @@ use Rattle.fl_session.specs.declared.server.Talk.{Talk}
 stands_there : (s : Session) (talk : Talk) → IsThisFar s talk → standing s talk ≡ s
 stands_there s talk far = rw (← far.agreed, ← far.over) refl
 
+-- orders change nothing of how far a session is, nor whether some order was refused, where they are taken
+taken_on : (s : Session) (orders : Orders) → ((with_orders s orders []).agreed ≡ s.agreed)
+    × ((with_orders s orders []).over ≡ s.over) × ((with_orders s orders []).refused ≡ s.refused)
+taken_on s [] = (refl, refl, refl)
+taken_on s (order ∷ orders) = taken_on (with_order s false order) orders
+
 -- a message is heard
 pub hears : (result : Met) (old new : Talk) (message : List ℕ) → old.over ≡ false → IsHeard result old new message
     → Hears old new message
@@ -27,30 +35,59 @@ hears (met.Order order) old new message live heard s far = record {
   agreed = rw (far.over, live, far.agreed, heard.0, heard.2, heard.1) (sym heard.0);
   over = rw (far.over, live, far.agreed, heard.0, heard.2, heard.1) (sym live);
 }
+hears (met.Batch orders) old new message live heard s far =
+    let on = taken_on s (forgets_in message) in
+    record {
+      agreed = rw (far.over, live, far.agreed, heard.0, heard.2, heard.1) (on.0 ∙ far.agreed);
+      over = rw (far.over, live, far.agreed, heard.0, heard.2, heard.1) (on.1 ∙ far.over);
+    }
 hears (met.Owed owed) old new message live heard s far =
-    let same = heard s false ∙ ap (λ s. with_message s (record { message = message; refused = false }))
+    let same = heard s [] ∙ ap (λ s. with_message s (record { message = message; refused = [] }))
     (stands_there s old far) in
     record { agreed = sym (ap (λ s. s.agreed) same); over = sym (ap (λ s. s.over) same) }
 
--- ---- the order that a message says
+-- ---- the orders that a message says
 
 said_order : (order : Order) (old new : Talk) (message : List ℕ) → old.over ≡ false
     → IsHeard (met.Order order) old new message → (s : Session) → IsThisFar s old → order_said s message ≡ order ∷ []
 said_order order old new message live heard s far = rw (far.over, live, far.agreed, heard.0, heard.2) refl
 
--- a message that the session itself answers says none
+said_batch : (orders : Orders) (old new : Talk) (message : List ℕ) → old.over ≡ false
+    → IsHeard (met.Batch orders) old new message → (s : Session) → IsThisFar s old → order_said s message ≡ orders
+said_batch orders old new message live heard s far = rw (far.over, live, far.agreed, heard.0, heard.2) (sym heard.3)
+
+-- a message that the session itself answers says none, since none of it can be refused for want of memory
 said_none : (owed : Owed) (old new : Talk) (message : List ℕ) → old.over ≡ false
     → IsHeard (met.Owed owed) old new message → (s : Session) → IsThisFar s old → order_said s message ≡ []
 said_none owed old new message live heard s far = go old.agreed (said message) refl refl
   where
+    flags : List Bool
+    flags = true ∷ []
+
+    lost : Session → Bool
+    lost s = (with_message s (record { message = message; refused = flags })).refused
+
+    kept : lost (standing opening_session old) ≡ false
+    kept = sym (ap (λ (s : Session). s.refused) (heard opening_session flags))
+
+    some : (says : Result Order Refusal) → (first : Order) (rest : Orders) → old.agreed ≡ true → said message ≡ says
+        → ((s : Session) → after_init s flags message says ≡ with_orders s (first ∷ rest) flags) → ⊥
+    some says first rest after is takes =
+        let all : lost (standing opening_session old) ≡ (with_orders (standing opening_session old) (first ∷ rest) flags).refused
+        = rw (live, after, is) (ap (λ (s : Session). s.refused) (takes (standing opening_session old))) in
+        true≢false (sym (all ∙ (taken_on (with_order (standing opening_session old) true first) rest).2) ∙ kept)
+
+    batch : (orders : Orders) → forgets_in message ≡ orders → old.agreed ≡ true → said message ≡ Err Batch → orders ≡ []
+    batch [] e after is = refl
+    batch (first ∷ rest) e after is =
+        absurd (some (Err Batch) first rest after is (λ s. ap (λ orders. with_orders s orders flags) e))
+
     go : (agreed : Bool) (it : Result Order Refusal) → old.agreed ≡ agreed → said message ≡ it
         → order_said s message ≡ []
     go false it before is = rw (far.over, live, far.agreed, before) refl
+    go true (Err Batch) after is = rw (far.over, live, far.agreed, after, is) (batch (forgets_in message) refl after is)
     go true (Err refusal) after is = rw (far.over, live, far.agreed, after, is) refl
-    go true (Ok order) after is =
-        let refused : (with_message (standing opening_session old) (record { message = message; refused = true })).refused
-        ≡ true = rw (live, after, is) refl in
-        absurd (true≢false (sym refused ∙ sym (ap (λ (s : Session). s.refused) (heard opening_session true))))
+    go true (Ok order) after is = absurd (some (Ok order) order [] after is (λ s. refl))
 
 -- what a message says is put
 pub puts : (result : Met) (old new : Talk) (message : List ℕ) (put put_now : Orders) → old.over ≡ false
@@ -58,6 +95,8 @@ pub puts : (result : Met) (old new : Talk) (message : List ℕ) (put put_now : O
     → put_now ≡ put ++ order_said s message
 puts (met.Order order) old new message put put_now live heard is_put s far =
     is_put ∙ ap (λ l. put ++ l) (sym (said_order order old new message live heard s far))
+puts (met.Batch orders) old new message put put_now live heard is_put s far =
+    is_put ∙ ap (λ l. put ++ l) (sym (said_batch orders old new message live heard s far))
 puts (met.Owed owed) old new message put put_now live heard is_put s far =
     is_put ∙ sym (append-nil put) ∙ ap (λ l. put ++ l) (sym (said_none owed old new message live heard s far))
 
@@ -91,10 +130,10 @@ pub hearing_more : (left left_now : Option (List ℕ)) (old new : Talk) (put put
     → (new.over ≡ true → goodbye_now ≡ goodbye_to message)
     → IsHearing left left_now old put goodbye rest → IsHearing left left_now new put_now goodbye_now rest_now
 hearing_more left left_now old new put put_now goodbye goodbye_now message rest rest_now live takes heard puts ends before =
-    let c : Came = record { message = message; refused = false } in
+    let c : Came = record { message = message; refused = [] } in
     record {
       came = before.came ++ c ∷ [];
-      is_read = takes.onward left left_now before.came false (before.far.over ∙ live) before.is_read;
+      is_read = takes.onward left left_now before.came [] (before.far.over ∙ live) before.is_read;
       far = subst (λ s. IsThisFar s new) (sym (fold-append with_message opening_session before.came (c ∷ [])))
           (heard (session_of before.came) before.far);
       said = puts (session_of before.came) before.far
