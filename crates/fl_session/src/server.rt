@@ -112,12 +112,10 @@ impl Talk {
             Ok(order) => Met::Order(order),
             Err(Refusal::Answer(e)) => Met::Owed(error_reply(frame.unique(), e)),
             Err(Refusal::Silent) => Met::Owed(Owed::Nothing),
-            Err(Refusal::Batch) => {
-                let Some(orders) = frame.batch() else {
-                    unreachable!()
-                };
-                Met::Batch(orders)
-            }
+            Err(Refusal::Batch) => match frame.batch() {
+                Some(orders) => Met::Batch(orders),
+                None => unreachable!(),
+            },
             Err(Refusal::Destroy) => {
                 self.over = true;
                 Met::Owed(Owed::One(Told {

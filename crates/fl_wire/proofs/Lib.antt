@@ -1,4 +1,5 @@
 pub mod Appending
+pub mod BatchMessages
 pub mod Batches
 pub mod Messages
 pub mod Numbers

@@ -33,15 +33,15 @@ use Rattle.fl_wire.specs.Message.{lock_values, create_values, release_values, bo
 use Rattle.fl_wire.specs.Says.{said, asked, asked_by, asked_with, body_in, order_of, lock_of, create_of, release_of}
 
 -- what stands in the fields of a header
-record Heads (bytes : List ℕ) (opcode unique node uid gid pid : ℕ) : Type 0 where
-  opcode_is : opcode_of bytes ≡ opcode
-  unique_is : unique_of bytes ≡ unique
-  node_is : field in_header 3 0 bytes ≡ node
-  uid_is : field in_header 4 0 bytes ≡ uid
-  gid_is : field in_header 5 0 bytes ≡ gid
-  pid_is : field in_header 6 0 bytes ≡ pid
+pub record Heads (bytes : List ℕ) (opcode unique node uid gid pid : ℕ) : Type 0 where
+  pub opcode_is : opcode_of bytes ≡ opcode
+  pub unique_is : unique_of bytes ≡ unique
+  pub node_is : field in_header 3 0 bytes ≡ node
+  pub uid_is : field in_header 4 0 bytes ≡ uid
+  pub gid_is : field in_header 5 0 bytes ≡ gid
+  pub pid_is : field in_header 6 0 bytes ≡ pid
 
-heads : (o u n i g p : ℕ) (body : List ℕ) → o < 2 ^ 32 → u < 2 ^ 64 → n < 2 ^ 64 → i < 2 ^ 32 → g < 2 ^ 32 → p < 2 ^ 32 →
+pub heads : (o u n i g p : ℕ) (body : List ℕ) → o < 2 ^ 32 → u < 2 ^ 64 → n < 2 ^ 64 → i < 2 ^ 32 → g < 2 ^ 32 → p < 2 ^ 32 →
     Heads (request o u n i g p body) o u n i g p
 unfolding number_at request
 heads o u n i g p body ho hu hn hi hg hp =
@@ -56,14 +56,14 @@ heads o u n i g p body ho hu hn hi hg hp =
     }
 
 -- values that fit their fields
-abbrev FitAll : List ℕ → List ℕ → Type 0
+abbrev pub FitAll : List ℕ → List ℕ → Type 0
 FitAll [] [] = Unit {0}
 FitAll [] (value ∷ values) = ⊥
 FitAll (width ∷ widths) [] = ⊥
 FitAll (width ∷ widths) (value ∷ values) = (value < 256 ^ width) × FitAll widths values
 
 -- they have as many bytes as their fields
-length-laid_out : (widths values : List ℕ) → FitAll widths values → length (laid_out widths values) ≡ sum widths
+pub length-laid_out : (widths values : List ℕ) → FitAll widths values → length (laid_out widths values) ≡ sum widths
 length-laid_out [] values fit = refl
 length-laid_out (w ∷ ws) [] fit = absurd fit
 length-laid_out (w ∷ ws) (v ∷ vs) fit =
@@ -71,7 +71,7 @@ length-laid_out (w ∷ ws) (v ∷ vs) fit =
     ∙ ap (λ n. w + n) (length-laid_out ws vs fit.1) ∙ sym (sum_by-cons (λ x. x) w ws)
 
 -- values that were laid out behind other bytes are read back
-values_again : (widths values before rest : List ℕ) → FitAll widths values →
+pub values_again : (widths values before rest : List ℕ) → FitAll widths values →
     values_at widths (length before) (before ++ (laid_out widths values ++ rest)) ≡ values
 unfolding number_at
 values_again [] [] before rest fit = refl

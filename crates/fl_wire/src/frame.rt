@@ -4,6 +4,7 @@ ghost use Rattle.std.specs.Prelude.{◌≡◌, ◌↔◌, Err, IsSome};
 ghost use Rattle.fl_wire.specs.Batch.{batch_in};
 ghost use Rattle.fl_wire.specs.Frame.{IsMessage};
 ghost use Rattle.fl_wire.specs.Layout.{opcode_of, unique_of};
+ghost use Rattle.fl_wire.specs.Message.{BatchReadsBack};
 ghost use Rattle.fl_wire.specs.Says.{said};
 
 use crate::batch::Batch;
@@ -48,6 +49,7 @@ impl<'a> Frame<'a> {
     pub fn batch(&self) -> Option<Batch<'a>>
         ensures batch { result ≡ batch_in self.now }
         ensures said { IsSome result ↔ (said self.now ≡ Err Refusal.Batch) }
+        ensures back { BatchReadsBack self.now result }
     {
         Batch::of(self.opcode(), self.bytes)
     }
