@@ -1,9 +1,9 @@
 -- What the reader of a session with workers heard.
-use Rattle.std.proofs.Common.{◌≡◌, ℕ, Bool, true, false, true≢false, List, [], ◌∷◌, ◌++◌, Option, refl, sym, ap, subst, ◌∙◌, append_assoc, append-nil}
+use Rattle.std.proofs.Common.{◌≡◌, ℕ, Bool, true, false, true≢false, ◌⊎◌, inl, inr, List, [], ◌∷◌, ◌++◌, Option, refl, sym, ap, subst, ◌∙◌, append_assoc, append-nil}
 use Rattle.std.specs.Prelude.{Result, Ok, Err, fold}
 use Rattle.fl_order.specs.declared.order.Order.{Order}
 use Rattle.fl_order.specs.declared.refusal.Refusal.{Refusal}
-use Rattle.fl_order.specs.declared.refusal.Refusal.TheVariants.{Batch}
+use Rattle.fl_order.specs.declared.refusal.Refusal.TheVariants.{Answer, Silent, Batch, Destroy}
 use Rattle.fl_wire.specs.Batch.{forgets_in}
 use Rattle.fl_hearing.specs.Said.{order_said, said_from, said_in}
 use Rattle.fl_wire.specs.Says.{said}
@@ -12,7 +12,7 @@ use Rattle.std.proofs.lemmas.Grind.{fold-append}
 use Rattle.fl_hearing.specs.Inside.Hearing.{Hears, IsHearing, IsPutAs, IsThisFar}
 use Rattle.fl_session.specs.Inbox.{Inflow, IsUnread, Takes}
 use Rattle.fl_session.specs.Talk.{IsHeard, goodbye_to, standing}
-use Rattle.fl_session.specs.Session.{Came, Session, after_init, session_of, with_message, with_order, with_orders, opening_session}
+use Rattle.fl_session.specs.Session.{Came, Session, after_init, orders_of, session_of, with_message, with_order, with_orders, opening_session}
 use Rattle.fl_session.specs.declared.server.Met.{Met}
 use Rattle.fl_session.specs.declared.server.Met.TheVariants as met
 use Rattle.fl_session.specs.declared.server.Owed.{Owed}
@@ -56,38 +56,36 @@ said_batch : (orders : Orders) (old new : Talk) (message : List ℕ) → old.ove
     → IsHeard (met.Batch orders) old new message → (s : Session) → IsThisFar s old → order_said s message ≡ orders
 said_batch orders old new message live heard s far = rw (far.over, live, far.agreed, heard.0, heard.2) (sym heard.3)
 
--- a message that the session itself answers says none, since none of it can be refused for want of memory
+-- orders of which the first is refused are none, or some order is refused
+first_lost : (s : Session) (orders : Orders) → (orders ≡ []) ⊎ ((with_orders s orders (true ∷ [])).refused ≡ true)
+first_lost s [] = inl refl
+first_lost s (order ∷ orders) = inr (taken_on (with_order s true order) orders).2
+
+none_or_lost : (s : Session) (message : List ℕ) (says : Result Order Refusal)
+    → (orders_of message says ≡ []) ⊎ ((after_init s (true ∷ []) message says).refused ≡ true)
+none_or_lost s message (Ok order) = inr refl
+none_or_lost s message (Err (Answer e)) = inl refl
+none_or_lost s message (Err Silent) = inl refl
+none_or_lost s message (Err Batch) = first_lost s (forgets_in message)
+none_or_lost s message (Err Destroy) = inl refl
+
+-- A message that the session itself answers says none: one that says some is answered otherwise where its first is refused.
 said_none : (owed : Owed) (old new : Talk) (message : List ℕ) → old.over ≡ false
     → IsHeard (met.Owed owed) old new message → (s : Session) → IsThisFar s old → order_said s message ≡ []
-said_none owed old new message live heard s far = go old.agreed (said message) refl refl
+said_none owed old new message live heard s far = go old.agreed refl
   where
-    flags : List Bool
-    flags = true ∷ []
-
-    lost : Session → Bool
-    lost s = (with_message s (record { message = message; refused = flags })).refused
-
-    kept : lost (standing opening_session old) ≡ false
-    kept = sym (ap (λ (s : Session). s.refused) (heard opening_session flags))
-
-    some : (says : Result Order Refusal) → (first : Order) (rest : Orders) → old.agreed ≡ true → said message ≡ says
-        → ((s : Session) → after_init s flags message says ≡ with_orders s (first ∷ rest) flags) → ⊥
-    some says first rest after is takes =
-        let all : lost (standing opening_session old) ≡ (with_orders (standing opening_session old) (first ∷ rest) flags).refused
-        = rw (live, after, is) (ap (λ (s : Session). s.refused) (takes (standing opening_session old))) in
-        true≢false (sym (all ∙ (taken_on (with_order (standing opening_session old) true first) rest).2) ∙ kept)
-
-    batch : (orders : Orders) → forgets_in message ≡ orders → old.agreed ≡ true → said message ≡ Err Batch → orders ≡ []
-    batch [] e after is = refl
-    batch (first ∷ rest) e after is =
-        absurd (some (Err Batch) first rest after is (λ s. ap (λ orders. with_orders s orders flags) e))
-
-    go : (agreed : Bool) (it : Result Order Refusal) → old.agreed ≡ agreed → said message ≡ it
+    of_agreed : old.agreed ≡ true → (orders_of message (said message) ≡ [])
+        ⊎ ((after_init (standing opening_session old) (true ∷ []) message (said message)).refused ≡ true)
         → order_said s message ≡ []
-    go false it before is = rw (far.over, live, far.agreed, before) refl
-    go true (Err Batch) after is = rw (far.over, live, far.agreed, after, is) (batch (forgets_in message) refl after is)
-    go true (Err refusal) after is = rw (far.over, live, far.agreed, after, is) refl
-    go true (Ok order) after is = absurd (some (Ok order) order [] after is (λ s. refl))
+    of_agreed after (inl none) = rw (far.over, live, far.agreed, after) none
+    of_agreed after (inr lost) =
+        let refused : (with_message (standing opening_session old)
+        (record { message = message; refused = true ∷ [] })).refused ≡ true = rw (live, after) lost in
+        absurd (true≢false (sym refused ∙ sym (ap (λ (s : Session). s.refused) (heard opening_session (true ∷ [])))))
+
+    go : (agreed : Bool) → old.agreed ≡ agreed → order_said s message ≡ []
+    go false before = rw (far.over, live, far.agreed, before) refl
+    go true after = of_agreed after (none_or_lost (standing opening_session old) message (said message))
 
 -- what a message says is put
 pub puts : (result : Met) (old new : Talk) (message : List ℕ) (put put_now : Orders) → old.over ≡ false

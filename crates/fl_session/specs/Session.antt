@@ -99,8 +99,8 @@ orders_of message (Ok order) = order ∷ []
 orders_of message (Err Batch) = forgets_in message
 orders_of message (Err refusal) = []
 
--- The orders of a message are taken. One that says none gets its error or nothing, and after the reply to a DESTROY nothing
--- comes.
+-- The orders of a message are taken. One that says none gets its error or nothing, and after the reply to a DESTROY
+-- nothing comes.
 abbrev pub after_init : Session → List Bool → List ℕ → Result Order Refusal → Session
 after_init s refused message (Err (Answer e)) = replied s (reply_bytes (unique_of message) (Err e))
 after_init s refused message (Err Destroy) =
