@@ -59,7 +59,7 @@ said_batch orders old new message live heard s far = rw (far.over, live, far.agr
 -- orders of which the first is refused are none, or some order is refused
 first_lost : (s : Session) (orders : Orders) → (orders ≡ []) ⊎ ((with_orders s orders (true ∷ [])).refused ≡ true)
 first_lost s [] = inl refl
-first_lost s (order ∷ orders) = inr (taken_on (with_order s true order) orders).2
+first_lost s (order ∷ orders) = inr ((taken_on (with_order s true order) orders).2)
 
 none_or_lost : (s : Session) (message : List ℕ) (says : Result Order Refusal)
     → (orders_of message says ≡ []) ⊎ ((after_init s (true ∷ []) message says).refused ≡ true)

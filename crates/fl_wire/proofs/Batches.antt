@@ -20,14 +20,14 @@ use Rattle.fl_wire.specs.Layout.{opcode_of}
 use Rattle.fl_wire.specs.Says.{said, asked, asked_by, asked_with, body_in, order_of}
 
 -- how many FORGETs there are
-pub forgets-count : (bytes : List ℕ) → length (forgets_in bytes) ≡ pairs_said bytes
-forgets-count bytes = length-map-range_with_len (forget_at bytes) 0 (pairs_said bytes)
+pub forgets_count : (bytes : List ℕ) → length (forgets_in bytes) ≡ pairs_said bytes
+forgets_count bytes = length-map-range_with_len (forget_at bytes) 0 (pairs_said bytes)
 
 -- the FORGET at a place
-pub forgets-at : (bytes : List ℕ) (i : ℕ) → i < length (forgets_in bytes)
+pub forgets_at : (bytes : List ℕ) (i : ℕ) → i < length (forgets_in bytes)
     → slice_get (forgets_in bytes) i ≡ Some (forget_at bytes i)
-forgets-at bytes i below =
-    let within : i < pairs_said bytes = subst (λ n. i < n) (forgets-count bytes) below in
+forgets_at bytes i below =
+    let within : i < pairs_said bytes = subst (λ n. i < n) (forgets_count bytes) below in
     slice_get-get_or (forgets_in bytes) i (forget_at bytes i) below
     ∙ ap Some (get_or-map-range_with_len (forget_at bytes) 0 (pairs_said bytes) i i (forget_at bytes i) within (omega arith))
 
@@ -45,7 +45,7 @@ made_no_batch : (op : Option Op) (e : Errno) → IsNoBatch (ok_or op (Answer e))
 made_no_batch None e = tt
 made_no_batch (Some op) e = tt
 
-fault_no_batch : (silent : Bool) (e : Errno) → IsNoBatch {Op} (Err (if silent then Silent else Answer e))
+fault_no_batch : (silent : Bool) (e : Errno) → IsNoBatch {X = Op} (Err (if silent then Silent else Answer e))
 fault_no_batch true e = tt
 fault_no_batch false e = tt
 
@@ -84,9 +84,9 @@ batch_is_said bytes = go (is_batch bytes)
 
     go : (is : Bool) → IsSome (if is then Some (forgets_in bytes) else None)
         ↔ ((if is then Err Batch else otherwise) ≡ Err Batch)
-    go true = (λ some. refl, λ said. tt)
+    go true = (λ some. refl, λ said. refl)
     go false = (
-      λ some. absurd some,
+      λ some. absurd (true≢false (sym some)),
       λ said. absurd (order_no_batch bytes (asked (kind_of_opcode (opcode_of bytes)) bytes)
           (asked_no_batch bytes (kind_of_opcode (opcode_of bytes))) said),
     )
