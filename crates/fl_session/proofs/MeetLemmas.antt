@@ -58,9 +58,10 @@ many_first server held waiting broken orders = record {
 left_first : (orders : List Order) (i : ℕ) (order : Order) → slice_get orders i ≡ Some order
     → drop i orders ≡ order ∷ drop (i + 1) orders
 left_first orders i order at =
+    let next : suc i ≡ i + 1 = omega arith in
     drop-cons orders i order (slice_get_within orders i order at)
     ∙ ap (λ first. first ∷ drop (suc i) orders) (get_or_from_slice_get orders i order order at)
-    ∙ ap (λ n. order ∷ drop n orders) (omega arith)
+    ∙ ap (λ n. order ∷ drop n orders) next
 
 -- one more is taken
 many_more : {K : Type 0} (old now next : Server K) (a b c : Option (List ℕ)) (u v w : List ℕ) (x y z : Bool)
