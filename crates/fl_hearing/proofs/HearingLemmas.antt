@@ -1,18 +1,21 @@
 -- What the reader of a session with workers heard.
-use Rattle.std.proofs.Common.{◌≡◌, ℕ, Bool, true, false, true≢false, ◌⊎◌, inl, inr, List, [], ◌∷◌, ◌++◌, Option, refl, sym, ap, subst, ◌∙◌, append_assoc, append-nil}
-use Rattle.std.specs.Prelude.{Result, Ok, Err, fold}
+use Rattle.std.proofs.Common.{◌≡◌, ℕ, suc, ◌+◌, take, take-suc, arith, Bool, true, false, true≢false, ◌⊎◌, inl, inr, List, [], ◌∷◌, ◌++◌, Option, refl, sym, ap, subst, ◌∙◌, append_assoc, append-nil}
+use Rattle.std.specs.Prelude.{if◌then◌else◌, Some, Result, Ok, Err, fold, slice_get}
+use Rattle.std.proofs.lemmas.Option.{get_or_from_slice_get, slice_get_within}
 use Rattle.fl_order.specs.declared.order.Order.{Order}
 use Rattle.fl_order.specs.declared.refusal.Refusal.{Refusal}
 use Rattle.fl_order.specs.declared.refusal.Refusal.TheVariants.{Answer, Silent, Batch, Destroy}
 use Rattle.fl_wire.specs.Batch.{forgets_in}
 use Rattle.fl_hearing.specs.Said.{order_said, said_from, said_in}
+use Rattle.fl_order.specs.OpKind.{kind_of_opcode}
+use Rattle.fl_wire.specs.Layout.{opcode_of}
 use Rattle.fl_wire.specs.Says.{said}
 use Rattle.fl_workers.specs.Asked.{Orders}
 use Rattle.std.proofs.lemmas.Grind.{fold-append}
 use Rattle.fl_hearing.specs.Inside.Hearing.{Hears, IsHearing, IsPutAs, IsThisFar}
 use Rattle.fl_session.specs.Inbox.{Inflow, IsUnread, Takes}
 use Rattle.fl_session.specs.Talk.{IsHeard, goodbye_to, standing}
-use Rattle.fl_session.specs.Session.{Came, Session, after_init, orders_of, session_of, with_message, with_order, with_orders, opening_session}
+use Rattle.fl_session.specs.Session.{Came, Session, after_init, before_init, orders_of, session_of, with_message, with_order, with_orders, opening_session}
 use Rattle.fl_session.specs.declared.server.Met.{Met}
 use Rattle.fl_session.specs.declared.server.Met.TheVariants as met
 use Rattle.fl_session.specs.declared.server.Owed.{Owed}
@@ -28,6 +31,14 @@ taken_on : (s : Session) (orders : Orders) → ((with_orders s orders []).agreed
 taken_on s [] = (refl, refl, refl)
 taken_on s (order ∷ orders) = taken_on (with_order s false order) orders
 
+-- a message after an INIT is agreed, and before a DESTROY
+message_taken : (s : Session) (message : List ℕ) (refused : List Bool) → s.over ≡ false → s.agreed ≡ true
+    → with_message s (record { message = message; refused = refused }) ≡ after_init s refused message (said message)
+message_taken s message refused live after =
+    let later = after_init s refused message (said message) in
+    let before = before_init s (kind_of_opcode (opcode_of message)) message in
+    ap (λ over. if over then s else if s.agreed then later else before) live ∙ ap (λ agreed. if agreed then later else before) after
+
 -- a message is heard
 pub hears : (result : Met) (old new : Talk) (message : List ℕ) → old.over ≡ false → IsHeard result old new message
     → Hears old new message
@@ -37,9 +48,10 @@ hears (met.Order order) old new message live heard s far = record {
 }
 hears (met.Batch orders) old new message live heard s far =
     let on = taken_on s (forgets_in message) in
+    let taken = message_taken s message [] (far.over ∙ live) (far.agreed ∙ heard.0) ∙ ap (after_init s [] message) heard.2 in
     record {
-      agreed = rw (far.over, live, far.agreed, heard.0, heard.2, heard.1) (on.0 ∙ far.agreed);
-      over = rw (far.over, live, far.agreed, heard.0, heard.2, heard.1) (on.1 ∙ far.over);
+      agreed = ap (λ (s : Session). s.agreed) taken ∙ on.0 ∙ far.agreed ∙ sym (ap (λ (talk : Talk). talk.agreed) heard.1);
+      over = ap (λ (s : Session). s.over) taken ∙ on.1 ∙ far.over ∙ sym (ap (λ (talk : Talk). talk.over) heard.1);
     }
 hears (met.Owed owed) old new message live heard s far =
     let same = heard s [] ∙ ap (λ s. with_message s (record { message = message; refused = [] }))
@@ -79,8 +91,8 @@ said_none owed old new message live heard s far = go old.agreed refl
         → order_said s message ≡ []
     of_agreed after (inl none) = rw (far.over, live, far.agreed, after) none
     of_agreed after (inr lost) =
-        let refused : (with_message (standing opening_session old)
-        (record { message = message; refused = true ∷ [] })).refused ≡ true = rw (live, after) lost in
+        let refused = ap (λ (s : Session). s.refused) (message_taken (standing opening_session old) message (true ∷ []) live after)
+        ∙ lost in
         absurd (true≢false (sym refused ∙ sym (ap (λ (s : Session). s.refused) (heard opening_session (true ∷ [])))))
 
     go : (agreed : Bool) → old.agreed ≡ agreed → order_said s message ≡ []
@@ -97,6 +109,16 @@ puts (met.Batch orders) old new message put put_now live heard is_put s far =
     is_put ∙ ap (λ l. put ++ l) (sym (said_batch orders old new message live heard s far))
 puts (met.Owed owed) old new message put put_now live heard is_put s far =
     is_put ∙ sym (append-nil put) ∙ ap (λ l. put ++ l) (sym (said_none owed old new message live heard s far))
+
+-- the order at this place of a batch is put behind those before it
+pub put_more : (put put_now put_next orders : Orders) (i : ℕ) (order : Order) → slice_get orders i ≡ Some order
+    → put_now ≡ put ++ take i orders → put_next ≡ put_now ++ order ∷ [] → put_next ≡ put ++ take (i + 1) orders
+put_more put put_now put_next orders i order at so_far one =
+    let next : i + 1 ≡ suc i = omega arith in
+    let more : take (i + 1) orders ≡ take i orders ++ order ∷ [] =
+    ap (λ n. take n orders) next ∙ take-suc orders i order (slice_get_within orders i order at)
+    ∙ ap (λ first. take i orders ++ first ∷ []) (get_or_from_slice_get orders i order order at) in
+    one ∙ ap (λ l. l ++ order ∷ []) so_far ∙ append_assoc put (take i orders) (order ∷ []) ∙ ap (λ l. put ++ l) (sym more)
 
 said_more : (s : Session) (xs ys : List Came) → said_from s (xs ++ ys) ≡ said_from s xs ++ said_from (fold with_message s xs) ys
 said_more s [] ys = refl
