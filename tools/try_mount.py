@@ -404,6 +404,19 @@ def try_256_files():
     same(mount.end(), (0, "legal"))
 
 
+def try_files_that_the_kernel_lets_go_at_once():
+    mount = Mount()
+    for _ in range(3):
+        names = [f"{mount.folder}/let_go{at}" for at in range(200)]
+        for name in names:
+            os.close(os.open(name, os.O_RDWR | os.O_CREAT))
+        # It forgets what it knows of the folder's files, by a BATCH_FORGET.
+        subprocess.run(["mount", "-o", "remount", mount.folder], check=True, timeout=PATIENCE)
+        for name in names:
+            os.unlink(name)
+    same(mount.end(), (0, "legal"))
+
+
 def try_1024_open_files(mount):
     held = []
     while True:

@@ -1,19 +1,12 @@
 -- Which orders the messages of a session say.
-use Rattle.std.specs.Prelude.{ℕ, List, [], ◌∷◌, ◌++◌, Result, Ok, Err, if◌then◌else◌}
-use Rattle.fl_order.specs.declared.order.Order.{Order}
-use Rattle.fl_order.specs.declared.refusal.Refusal.{Refusal}
-use Rattle.fl_session.specs.Session.{Came, Session, opening_session, with_message}
+use Rattle.std.specs.Prelude.{ℕ, List, [], ◌∷◌, ◌++◌, if◌then◌else◌}
+use Rattle.fl_session.specs.Session.{Came, Session, opening_session, orders_of, with_message}
 use Rattle.fl_wire.specs.Says.{said}
 use Rattle.fl_workers.specs.Asked.{Orders}
 
--- the order that was read, if it is one
-abbrev pub order_read : Result Order Refusal → Orders
-order_read (Ok order) = order ∷ []
-order_read (Err refusal) = []
-
--- the order that a message says to a session that is this far: after the INIT that was agreed, and before a DESTROY
+-- the orders that a message says to a session that is this far: after the INIT that was agreed, and before a DESTROY
 abbrev pub order_said : Session → List ℕ → Orders
-order_said s message = if s.over then [] else if s.agreed then order_read (said message) else []
+order_said s message = if s.over then [] else if s.agreed then orders_of message (said message) else []
 
 -- the orders that these messages say to a session that is this far
 abbrev pub said_from : Session → List Came → Orders

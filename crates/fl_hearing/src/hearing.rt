@@ -1,6 +1,6 @@
 //! How the reader of a session with workers reads its stream.
 
-ghost use Rattle.std.specs.Prelude.{◌≡◌, ◌≢◌, ◌++◌, [], Some, true, false};
+ghost use Rattle.std.specs.Prelude.{◌≡◌, ◌≢◌, ◌++◌, ◌∷◌, [], Some, true, false};
 ghost use Rattle.fl_hearing.specs.Heard.{HasHeard};
 ghost use Rattle.fl_hearing.specs.Inside.Hearing.{Hears, IsThisFar};
 ghost use Rattle.fl_hearing.specs.Said.{order_said};
@@ -9,8 +9,9 @@ ghost use Rattle.fl_session.specs.Session.{Session};
 ghost use Rattle.fl_session.specs.Talk.{goodbye_to};
 
 use fl_intake::{Intake, PutEnd};
+use fl_order::Order;
 use fl_session::{Fault, Filled, Inbox, Met, Owed, Talk};
-use fl_wire::{Frame, Step};
+use fl_wire::{Batch, Frame, Step};
 use fl_workers::{Shared, WriterName};
 use std::io::{Read, Write};
 use std::sync::{Mutex, Wait};
@@ -138,14 +139,35 @@ impl<'r, 'a, 'w, R: Wait, W: Write, N: WriterName> Hearer<'r, 'a, 'w, R, W, N> {
         ensures ends { self.new.talk.over ≡ true → self.new.goodbye ≡ goodbye_to frame.now }
     {
         match self.talk.meet(frame) {
-            Met::Order(order) => {
-                let Ok(()) = self.intake.put(self.rt, &mut self.put, order) else {
-                    unreachable!()
-                };
-            }
+            Met::Order(order) => self.put(order),
+            Met::Batch(orders) => self.put_all(&orders),
             Met::Owed(owed) if self.talk.over => self.goodbye = owed,
             Met::Owed(owed) => self.answer(&owed),
         }
+    }
+
+    // Puts the orders of a batch, one after another.
+    fn put_all(&mut self, orders: &Batch)
+        ensures same { (self.new.put.of ≡ self.old.put.of) × (self.new.put.takers ≡ self.old.put.takers) }
+        ensures talk { self.new.talk ≡ self.old.talk }
+        ensures goodbye { self.new.goodbye ≡ self.old.goodbye }
+        ensures put { self.new.put.put ≡ self.old.put.put ++ orders.now }
+    {
+        for i in 0..orders.count() {
+            self.put(orders.order(i));
+        }
+    }
+
+    // Puts an order behind the others.
+    fn put(&mut self, order: Order)
+        ensures same { (self.new.put.of ≡ self.old.put.of) × (self.new.put.takers ≡ self.old.put.takers) }
+        ensures talk { self.new.talk ≡ self.old.talk }
+        ensures goodbye { self.new.goodbye ≡ self.old.goodbye }
+        ensures put { self.new.put.put ≡ self.old.put.put ++ order ∷ [] }
+    {
+        let Ok(()) = self.intake.put(self.rt, &mut self.put, order) else {
+            unreachable!()
+        };
     }
 
     // Sends an answer of the session itself.

@@ -30,7 +30,7 @@ pub record ReadsOn (before now : Option (List ℕ)) (rest rest_now : List ℕ) :
 
 -- this message was taken, after others that didn't end the session
 pub record Takes (message rest rest_now : List ℕ) : Type 0 where
-  pub onward : (left left_now : Option (List ℕ)) (came : List Came) (refused : Bool) → (session_of came).over ≡ false
+  pub onward : (left left_now : Option (List ℕ)) (came : List Came) (refused : List Bool) → (session_of came).over ≡ false
       → IsRead left left_now came rest
       → IsRead left left_now (came ++ record { message = message; refused = refused } ∷ []) rest_now
 

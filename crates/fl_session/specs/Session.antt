@@ -13,9 +13,10 @@ use Rattle.fl_order.specs.declared.kind.OpKind.{OpKind}
 use Rattle.fl_order.specs.declared.kind.OpKind.TheVariants.{Init, Interrupt}
 use Rattle.fl_order.specs.declared.order.Order.{Order}
 use Rattle.fl_order.specs.declared.refusal.Refusal.{Refusal}
-use Rattle.fl_order.specs.declared.refusal.Refusal.TheVariants.{Answer, Silent, Batch, Destroy}
+use Rattle.fl_order.specs.declared.refusal.Refusal.TheVariants.{Answer, Batch, Destroy}
 use Rattle.fl_order.specs.declared.told.Answer.TheVariants.{Done}
 use Rattle.fl_order.specs.declared.told.Told.{Told}
+use Rattle.fl_wire.specs.Batch.{forgets_in}
 use Rattle.fl_wire.specs.Init.{init_step, init_spelling}
 use Rattle.fl_wire.specs.Layout.{opcode_of, unique_of}
 use Rattle.fl_wire.specs.Says.{said}
@@ -23,10 +24,11 @@ use Rattle.fl_wire.specs.Spell.{reply_bytes, spelling_of}
 use Rattle.fl_wire.specs.declared.init.InitStep.{InitStep}
 use Rattle.fl_wire.specs.declared.init.InitStep.TheVariants.{Refused, Again, Agreed}
 
--- a message that came, and whether its order was refused for want of memory
+-- A message that came, and which of its orders were refused for want of memory, in their order. Of those that are missing
+-- none was.
 pub record Came : Type 0 where
   pub message : List ℕ
-  pub refused : Bool
+  pub refused : List Bool
 
 -- A session so far: whether an INIT was agreed and whether a DESTROY ended it, the bytes of each reply, the lines of
 -- its orders, and whether some order was refused for want of memory.
@@ -80,21 +82,36 @@ abbrev pub with_refusal : Session → Order → Session
 with_refusal s order =
     record (with_error s (kind_of order.op) order.unique (without_memory (kind_of order.op))) { refused = true }
 
--- An order gets the replies of the lock directory, or is refused for want of memory. A message that is no order gets
--- its error or nothing, and after the reply to a DESTROY nothing comes.
-abbrev pub after_init : Session → Bool → ℕ → Result Order Refusal → Session
-after_init s refused unique (Ok order) =
+-- an order gets the replies of the lock directory, or is refused for want of memory
+abbrev pub with_order : Session → Bool → Order → Session
+with_order s refused order =
     if refused then with_refusal s order else with_step s order (replies_in (state_after s.lines) order)
-after_init s refused unique (Err (Answer e)) = replied s (reply_bytes unique (Err e))
-after_init s refused unique (Err Silent) = s
-after_init s refused unique (Err Batch) = s
-after_init s refused unique (Err Destroy) = record (replied s (reply_bytes unique (Ok Done))) { over = true }
+
+-- orders one after another, each refused or not
+abbrev pub with_orders : Session → List Order → List Bool → Session
+with_orders s [] refused = s
+with_orders s (order ∷ orders) [] = with_orders (with_order s false order) orders []
+with_orders s (order ∷ orders) (first ∷ refused) = with_orders (with_order s first order) orders refused
+
+-- the orders of a message that says this: one, those of a batch, or none
+abbrev pub orders_of : List ℕ → Result Order Refusal → List Order
+orders_of message (Ok order) = order ∷ []
+orders_of message (Err Batch) = forgets_in message
+orders_of message (Err refusal) = []
+
+-- The orders of a message are taken. One that says none gets its error or nothing, and after the reply to a DESTROY
+-- nothing comes.
+abbrev pub after_init : Session → List Bool → List ℕ → Result Order Refusal → Session
+after_init s refused message (Err (Answer e)) = replied s (reply_bytes (unique_of message) (Err e))
+after_init s refused message (Err Destroy) =
+    record (replied s (reply_bytes (unique_of message) (Ok Done))) { over = true }
+after_init s refused message says = with_orders s (orders_of message says) refused
 
 -- one message more
 abbrev pub with_message : Session → Came → Session
 with_message s came =
     if s.over then s
-    else if s.agreed then after_init s came.refused (unique_of came.message) (said came.message)
+    else if s.agreed then after_init s came.refused came.message (said came.message)
     else before_init s (kind_of_opcode (opcode_of came.message)) came.message
 
 -- the session of these messages

@@ -4,10 +4,10 @@ ghost use Rattle.std.specs.Prelude.{◌≡◌, ℕ, [], true, false, IfOk, if◌
 ghost use Rattle.fl_order.specs.OpKind.{is_silent, kind_of_opcode};
 ghost use Rattle.fl_session.specs.Session.{Session, before_init, without_memory};
 ghost use Rattle.fl_session.specs.Inside.Serving.{IsFresh, IsHeardAs};
-ghost use Rattle.fl_session.specs.Inside.UnderWay.{IsAnswered, IsAnsweredAs};
+ghost use Rattle.fl_session.specs.Inside.UnderWay.{IsAnswered, TakesMany, TakesOne};
 ghost use Rattle.fl_session.specs.Outbox.{is_broken, writer_of};
 ghost use Rattle.fl_session.specs.Talk.{answered, bytes_of, goodbye_to, standing, IsHeard};
-ghost use Rattle.fl_wire.specs.Layout.{opcode_of, unique_of};
+ghost use Rattle.fl_wire.specs.Layout.{opcode_of};
 ghost use Rattle.fl_wire.specs.Says.{said};
 
 use crate::batch::Batch;
@@ -43,10 +43,12 @@ impl<'a> Owed<'a> {
 }
 
 /// What a message comes to.
-#[derive(Clone, Copy, Debug)]
-pub enum Met {
+#[derive(Drop)]
+pub enum Met<'a> {
     /// An order, which the lock directory answers.
     Order(Order),
+    /// Several orders, which the lock directory takes one after another.
+    Batch(fl_wire::Batch<'a>),
     /// An answer of the session itself.
     Owed(Owed<'static>),
 }
@@ -72,7 +74,7 @@ impl Talk {
     }
 
     /// What a message of a session that isn't over comes to.
-    pub fn meet(&mut self, frame: &Frame) -> Met
+    pub fn meet<'a>(&mut self, frame: &Frame<'a>) -> Met<'a>
         requires { self.old.over ≡ false }
         ensures heard { IsHeard result self.old self.new frame.now }
         ensures ends { self.new.over ≡ true → result ≡ Met.Owed (goodbye_to frame.now) }
@@ -102,14 +104,18 @@ impl Talk {
     }
 
     // What a message comes to after an INIT is agreed.
-    fn meet_after_init(&mut self, frame: &Frame) -> Met
-        ensures heard { IsHeardAs result self.old self.new (unique_of frame.now) (said frame.now) }
+    fn meet_after_init<'a>(&mut self, frame: &Frame<'a>) -> Met<'a>
+        ensures heard { IsHeardAs result self.old self.new frame.now (said frame.now) }
         ensures ends { self.old.over ≡ false → self.new.over ≡ true → result ≡ Met.Owed (goodbye_to frame.now) }
     {
         match read_order(frame) {
             Ok(order) => Met::Order(order),
             Err(Refusal::Answer(e)) => Met::Owed(error_reply(frame.unique(), e)),
-            Err(Refusal::Silent | Refusal::Batch) => Met::Owed(Owed::Nothing),
+            Err(Refusal::Silent) => Met::Owed(Owed::Nothing),
+            Err(Refusal::Batch) => match frame.batch() {
+                Some(orders) => Met::Batch(orders),
+                None => unreachable!(),
+            },
             Err(Refusal::Destroy) => {
                 self.over = true;
                 Met::Owed(Owed::One(Told {
@@ -157,17 +163,29 @@ impl<K: Keeper> Server<K> {
     {
         match self.talk.meet(frame) {
             Met::Order(order) => self.take(batch, &order),
+            Met::Batch(orders) => self.take_all(batch, &orders),
             Met::Owed(owed) => batch.collect(&owed),
+        }
+    }
+
+    // Takes orders of worker 0, each whatever became of those before it, and collects their replies.
+    fn take_all<W: Write>(&mut self, batch: &mut Batch<'_, W>, orders: &fl_wire::Batch)
+        ensures same { (writer_of batch.new.out).ghost_name ≡ (writer_of batch.old.out).ghost_name }
+        ensures taken { TakesMany self.old self.new
+            (W.contents (writer_of batch.old.out).now) (W.contents (writer_of batch.new.out).now)
+            batch.old.replies batch.new.replies (is_broken batch.old.out) (is_broken batch.new.out) orders.now [] }
+    {
+        for i in 0..orders.count() {
+            self.take(batch, &orders.order(i));
         }
     }
 
     // Takes an order of worker 0, and collects its replies.
     fn take<W: Write>(&mut self, batch: &mut Batch<'_, W>, order: &Order)
         ensures same { (writer_of batch.new.out).ghost_name ≡ (writer_of batch.old.out).ghost_name }
-        ensures answered { (unique : ℕ) → IsAnsweredAs self.old self.new
+        ensures taken { TakesOne self.old self.new
             (W.contents (writer_of batch.old.out).now) (W.contents (writer_of batch.new.out).now)
-            batch.old.replies batch.new.replies (is_broken batch.old.out) (is_broken batch.new.out)
-            unique (Ok order.now) }
+            batch.old.replies batch.new.replies (is_broken batch.old.out) (is_broken batch.new.out) order.now }
     {
         match self.desk.take(0, order, &mut self.tolds) {
             Ok(()) => batch.collect(&Owed::Replies(self.tolds.as_slice())),

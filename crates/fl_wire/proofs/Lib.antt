@@ -1,4 +1,6 @@
 pub mod Appending
+pub mod BatchMessages
+pub mod Batches
 pub mod Messages
 pub mod Numbers
 pub mod Replies

@@ -1,5 +1,5 @@
 -- The message of an order says that order.
-use Rattle.std.proofs.Common.{◌≡◌, ◌<◌, ◌^◌, ◌+◌, ◌-◌, ℕ, zero, suc, ◌==◌, ◌||◌, Bool, true, false, not, nat_lt, if◌then◌else◌, List, [], ◌∷◌, ◌++◌, length, sum, take, drop, slice_index, slice_index_or, Contains, Some, Result, Ok, refl, sym, ap, ◌∙◌, arith, lit<, bit_and, append_assoc, append-nil, length-append}
+use Rattle.std.proofs.Common.{◌≡◌, ◌<◌, ◌^◌, ◌+◌, ◌-◌, ℕ, zero, suc, ◌==◌, ◌*◌, ◌||◌, ◌&&◌, Bool, true, false, not, nat_lt, if◌then◌else◌, List, [], ◌∷◌, ◌++◌, length, sum, take, drop, slice_index, slice_index_or, Contains, Some, Result, Ok, Err, refl, sym, ap, ◌∙◌, arith, lit<, bit_and, append_assoc, append-nil, length-append}
 use Rattle.std.proofs.Math.Dec.{eqb-suc-zero}
 use Rattle.std.proofs.Math.Nat.{mod-eq_of_lt}
 use Rattle.std.proofs.Math.Seq.{drop-append_seam, get_or-append_seam, take-append_seam}
@@ -20,26 +20,28 @@ use Rattle.fl_order.specs.declared.body.Body.{Body}
 use Rattle.fl_order.specs.declared.body.Body.TheVariants as body
 use Rattle.fl_order.specs.declared.errno.Errno.TheVariants.{ENOSYS}
 use Rattle.fl_order.specs.declared.kind.OpKind.{OpKind}
+use Rattle.fl_order.specs.declared.kind.OpKind.TheVariants.{BatchForget}
 use Rattle.fl_order.specs.declared.order.Order.{Order}
 use Rattle.fl_order.specs.declared.order.LockAsk.{LockAsk}
 use Rattle.fl_order.specs.declared.order.Op.{Op}
 use Rattle.fl_order.specs.declared.refusal.Refusal.{Refusal}
-use Rattle.fl_order.specs.declared.refusal.Refusal.TheVariants.{Answer}
+use Rattle.fl_order.specs.declared.refusal.Refusal.TheVariants.{Answer, Batch}
+use Rattle.fl_wire.specs.Batch.{is_batch, pairs_said}
 use Rattle.fl_wire.specs.Body.{name_bytes, name_in, by_fields, by_fields_and_name}
 use Rattle.fl_wire.specs.Layout.{number_at, values_at, field, laid_out, in_header, create_in, flush_in, forget_in, getattr_in, lk_in, open_in, release_in, opcode_of, unique_of}
 use Rattle.fl_wire.specs.Message.{lock_values, create_values, release_values, body_bytes, request, message_of, ReadsBack}
 use Rattle.fl_wire.specs.Says.{said, asked, asked_by, asked_with, body_in, order_of, lock_of, create_of, release_of}
 
 -- what stands in the fields of a header
-record Heads (bytes : List ℕ) (opcode unique node uid gid pid : ℕ) : Type 0 where
-  opcode_is : opcode_of bytes ≡ opcode
-  unique_is : unique_of bytes ≡ unique
-  node_is : field in_header 3 0 bytes ≡ node
-  uid_is : field in_header 4 0 bytes ≡ uid
-  gid_is : field in_header 5 0 bytes ≡ gid
-  pid_is : field in_header 6 0 bytes ≡ pid
+pub record Heads (bytes : List ℕ) (opcode unique node uid gid pid : ℕ) : Type 0 where
+  pub opcode_is : opcode_of bytes ≡ opcode
+  pub unique_is : unique_of bytes ≡ unique
+  pub node_is : field in_header 3 0 bytes ≡ node
+  pub uid_is : field in_header 4 0 bytes ≡ uid
+  pub gid_is : field in_header 5 0 bytes ≡ gid
+  pub pid_is : field in_header 6 0 bytes ≡ pid
 
-heads : (o u n i g p : ℕ) (body : List ℕ) → o < 2 ^ 32 → u < 2 ^ 64 → n < 2 ^ 64 → i < 2 ^ 32 → g < 2 ^ 32 → p < 2 ^ 32 →
+pub heads : (o u n i g p : ℕ) (body : List ℕ) → o < 2 ^ 32 → u < 2 ^ 64 → n < 2 ^ 64 → i < 2 ^ 32 → g < 2 ^ 32 → p < 2 ^ 32 →
     Heads (request o u n i g p body) o u n i g p
 unfolding number_at request
 heads o u n i g p body ho hu hn hi hg hp =
@@ -54,14 +56,14 @@ heads o u n i g p body ho hu hn hi hg hp =
     }
 
 -- values that fit their fields
-abbrev FitAll : List ℕ → List ℕ → Type 0
+abbrev pub FitAll : List ℕ → List ℕ → Type 0
 FitAll [] [] = Unit {0}
 FitAll [] (value ∷ values) = ⊥
 FitAll (width ∷ widths) [] = ⊥
 FitAll (width ∷ widths) (value ∷ values) = (value < 256 ^ width) × FitAll widths values
 
 -- they have as many bytes as their fields
-length-laid_out : (widths values : List ℕ) → FitAll widths values → length (laid_out widths values) ≡ sum widths
+pub length-laid_out : (widths values : List ℕ) → FitAll widths values → length (laid_out widths values) ≡ sum widths
 length-laid_out [] values fit = refl
 length-laid_out (w ∷ ws) [] fit = absurd fit
 length-laid_out (w ∷ ws) (v ∷ vs) fit =
@@ -69,7 +71,7 @@ length-laid_out (w ∷ ws) (v ∷ vs) fit =
     ∙ ap (λ n. w + n) (length-laid_out ws vs fit.1) ∙ sym (sum_by-cons (λ x. x) w ws)
 
 -- values that were laid out behind other bytes are read back
-values_again : (widths values before rest : List ℕ) → FitAll widths values →
+pub values_again : (widths values before rest : List ℕ) → FitAll widths values →
     values_at widths (length before) (before ++ (laid_out widths values ++ rest)) ≡ values
 unfolding number_at
 values_again [] [] before rest fit = refl
@@ -90,12 +92,18 @@ values_again (w ∷ ws) (v ∷ vs) before rest fit =
     λ k. first k ∷ later k
 
 -- an order whose parts are read back is read back
-order_again : (bytes : List ℕ) (opcode u n i g p : ℕ) (op : Op) → Heads bytes opcode u n i g p → asked (kind_of_opcode opcode) bytes ≡ Ok op →
-    said bytes ≡ Ok (record { unique = u; node = n; uid = i; gid = g; pid = p; op = op })
-order_again bytes opcode u n i g p op h e =
+order_again : (bytes : List ℕ) (opcode u n i g p : ℕ) (op : Op) → Heads bytes opcode u n i g p
+    → (opcode == opcode_for BatchForget) ≡ false → asked (kind_of_opcode opcode) bytes ≡ Ok op
+    → said bytes ≡ Ok (record { unique = u; node = n; uid = i; gid = g; pid = p; op = op })
+order_again bytes opcode u n i g p op h other e =
+    let full : Bool = length bytes == 48 + 16 * pairs_said bytes in
+    let single : is_batch bytes ≡ false =
+    ap (λ o. (o == opcode_for BatchForget) && full) h.opcode_is ∙ ap (λ b. b && full) other in
+    let alone : said bytes ≡ order_of bytes (asked (kind_of_opcode (opcode_of bytes)) bytes) =
+    ap (λ b. if b then Err Batch else order_of bytes (asked (kind_of_opcode (opcode_of bytes)) bytes)) single in
     let parts : order_of bytes (Ok op) ≡ Ok (record { unique = u; node = n; uid = i; gid = g; pid = p; op = op }) =
     λ k. Ok (record { unique = h.unique_is k; node = h.node_is k; uid = h.uid_is k; gid = h.gid_is k; pid = h.pid_is k; op = op }) in
-    ap (λ o. order_of bytes (asked (kind_of_opcode o) bytes)) h.opcode_is ∙ ap (order_of bytes) e ∙ parts
+    alone ∙ ap (λ o. order_of bytes (asked (kind_of_opcode o) bytes)) h.opcode_is ∙ ap (order_of bytes) e ∙ parts
 
 -- what fields alone ask for is read back
 fields_again : (o u n i g p : ℕ) (widths values : List ℕ) (asks : List ℕ → Body) → FitAll widths values →
@@ -200,6 +208,9 @@ opcode_fits kind = grind arith
 opcode_finds : (kind : OpKind) → kind_of_opcode (opcode_for kind) ≡ Some kind
 opcode_finds kind = grind arith
 
+no_batch : (op : Op) → (opcode_for (kind_of op) == opcode_for BatchForget) ≡ false
+no_batch op = grind arith
+
 -- the message of an order says that order
 pub said_again : (order : Order) → IsSayable order → said (message_of order) ≡ Ok order
 said_again order h =
@@ -208,6 +219,7 @@ said_again order h =
     let bytes : List ℕ = message_of order in
     order_again bytes o order.unique order.node order.uid order.gid order.pid order.op
     (heads o order.unique order.node order.uid order.gid order.pid (body_bytes (body_of order.op)) (opcode_fits kind) h.unique h.node h.uid h.gid h.pid)
+    (no_batch order.op)
     (ap (λ k. asked k bytes) (opcode_finds kind)
     ∙ ap (λ s. asked_by kind s bytes) (shape_made order.op)
     ∙ ap (asked_with kind) (body_again o order.unique order.node order.uid order.gid order.pid (body_of order.op) h.op)

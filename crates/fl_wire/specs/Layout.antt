@@ -66,6 +66,14 @@ create_in = 4 ∷ 4 ∷ 4 ∷ 4 ∷ []
 abbrev pub lk_in : List ℕ
 lk_in = 8 ∷ 8 ∷ 8 ∷ 8 ∷ 4 ∷ 4 ∷ 4 ∷ 4 ∷ []
 
+-- struct fuse_batch_forget_in: count, dummy
+abbrev pub batch_forget_in : List ℕ
+batch_forget_in = 4 ∷ 4 ∷ []
+
+-- struct fuse_forget_one: nodeid, nlookup
+abbrev pub forget_one : List ℕ
+forget_one = 8 ∷ 8 ∷ []
+
 -- struct fuse_init_in: major, minor, max_readahead, flags
 abbrev pub init_in : List ℕ
 init_in = 4 ∷ 4 ∷ 4 ∷ 4 ∷ []

@@ -1,4 +1,5 @@
 pub mod Append
+pub mod Batch
 pub mod Body
 pub mod Cut
 pub mod Frame

@@ -1,15 +1,18 @@
--- The message that a kernel sends for an order. Fields that aren't read are zeros here.
-use Rattle.std.specs.Prelude.{◌≡◌, ℕ, ◌+◌, Bool, if◌then◌else◌, List, [], ◌∷◌, ◌++◌, length, Result, Ok}
+-- The message that a kernel sends for an order, or for a batch of them. Fields that aren't read are zeros here.
+use Rattle.std.specs.Prelude.{◌≡◌, ℕ, ◌+◌, ◌<◌, ◌^◌, Bool, if◌then◌else◌, List, [], ◌∷◌, ◌++◌, length, map, All, Option, Some, Result, Ok}
 use Rattle.fl_order.specs.OpKind.{opcode_for}
 use Rattle.fl_order.specs.Order.{body_of, kind_of}
 use Rattle.fl_order.specs.Sayable.{IsSayable}
 use Rattle.fl_order.specs.declared.body.Body.{Body}
 use Rattle.fl_order.specs.declared.body.Body.TheVariants as body
+use Rattle.fl_order.specs.declared.kind.OpKind.TheVariants.{BatchForget}
+use Rattle.fl_order.specs.declared.order.Op.TheVariants.{Forget}
 use Rattle.fl_order.specs.declared.order.Order.{Order}
 use Rattle.fl_order.specs.declared.order.LockAsk.{LockAsk}
 use Rattle.fl_order.specs.declared.refusal.Refusal.{Refusal}
 use Rattle.fl_wire.specs.Body.{name_bytes}
 use Rattle.fl_wire.specs.Layout.{laid_out, in_header, create_in, flush_in, forget_in, getattr_in, lk_in, open_in, release_in}
+use Rattle.fl_wire.specs.Layout.{batch_forget_in, forget_one}
 
 -- the values of a lock request's fields
 abbrev pub lock_values : LockAsk → List ℕ
@@ -48,3 +51,27 @@ message_of order =
 -- what is read in these bytes is the order whose message they are, where there is one
 abbrev pub ReadsBack : List ℕ → Result Order Refusal → Type 0
 ReadsBack bytes result = (order : Order) → IsSayable order → bytes ≡ message_of order → result ≡ Ok order
+
+-- pairs of a node and how many lookups of it are forgotten
+abbrev pub pair_bytes : List (ℕ × ℕ) → List ℕ
+pair_bytes [] = []
+pair_bytes (pair ∷ pairs) = laid_out forget_one (pair.0 ∷ pair.1 ∷ []) ++ pair_bytes pairs
+
+-- the message of a batch of these pairs, whose header is that of this order
+abbrev pub batch_message : Order → List (ℕ × ℕ) → List ℕ
+batch_message head pairs =
+    let body = laid_out batch_forget_in (length pairs ∷ 0 ∷ []) ++ pair_bytes pairs in
+    request (opcode_for BatchForget) head.unique head.node head.uid head.gid head.pid body
+
+-- the FORGETs of these pairs, with this header but for the node
+abbrev pub forgets_of : Order → List (ℕ × ℕ) → List Order
+forgets_of head pairs = map (λ pair. record head { node = pair.0; op = Forget pair.1 }) pairs
+
+-- the numbers of a pair fit their fields
+abbrev pub FitsPair : ℕ × ℕ → Type 0
+FitsPair pair = (pair.0 < 2 ^ 64) × (pair.1 < 2 ^ 64)
+
+-- what is read in these bytes is the FORGETs whose message they are, where they are the message of a batch
+abbrev pub BatchReadsBack : List ℕ → Option (List Order) → Type 0
+BatchReadsBack bytes result = (head : Order) (pairs : List (ℕ × ℕ)) → IsSayable head → All FitsPair pairs
+    → length pairs < 2 ^ 32 → bytes ≡ batch_message head pairs → result ≡ Some (forgets_of head pairs)

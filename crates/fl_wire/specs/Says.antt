@@ -1,5 +1,5 @@
 -- What a message says as an order, and how one that says none is refused.
-use Rattle.std.specs.Prelude.{ℕ, ◌==◌, not, bit_and, List, [], slice_index, Option, None, Some, Result, Ok, Err}
+use Rattle.std.specs.Prelude.{ℕ, ◌==◌, not, bit_and, if◌then◌else◌, List, [], slice_index, Option, None, Some, Result, Ok, Err}
 use Rattle.std.specs.Option.{ok_or}
 use Rattle.fl_order.specs.OpKind.{kind_of_opcode, refusal_for, shape_for}
 use Rattle.fl_order.specs.Order.{op_of}
@@ -14,7 +14,8 @@ use Rattle.fl_order.specs.declared.order.Order.{Order}
 use Rattle.fl_order.specs.declared.order.LockAsk.{LockAsk}
 use Rattle.fl_order.specs.declared.order.Op.{Op}
 use Rattle.fl_order.specs.declared.refusal.Refusal.{Refusal}
-use Rattle.fl_order.specs.declared.refusal.Refusal.TheVariants.{Answer}
+use Rattle.fl_order.specs.declared.refusal.Refusal.TheVariants.{Answer, Batch}
+use Rattle.fl_wire.specs.Batch.{is_batch}
 use Rattle.fl_wire.specs.Body.{by_fields, by_fields_and_name}
 use Rattle.fl_wire.specs.Layout.{field, in_header, create_in, flush_in, forget_in, getattr_in, lk_in, open_in, release_in}
 use Rattle.fl_wire.specs.Layout.{opcode_of, unique_of}
@@ -83,6 +84,6 @@ order_of bytes (Ok op) = Ok (record {
 })
 order_of bytes (Err refusal) = Err refusal
 
--- what a message says: an order, or a refusal
+-- what a message says: an order, or a refusal, which is that it is a batch where it is several orders
 abbrev pub said : List ℕ → Result Order Refusal
-said bytes = order_of bytes (asked (kind_of_opcode (opcode_of bytes)) bytes)
+said bytes = if is_batch bytes then Err Batch else order_of bytes (asked (kind_of_opcode (opcode_of bytes)) bytes)

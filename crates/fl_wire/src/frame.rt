@@ -1,10 +1,15 @@
 //! One whole message as it stands in a stream, and the fields of its header that all messages have.
 
-ghost use Rattle.std.specs.Prelude.{◌≡◌};
+ghost use Rattle.std.specs.Prelude.{◌≡◌, ◌↔◌, Err, IsSome};
+ghost use Rattle.fl_wire.specs.Batch.{batch_in};
 ghost use Rattle.fl_wire.specs.Frame.{IsMessage};
 ghost use Rattle.fl_wire.specs.Layout.{opcode_of, unique_of};
+ghost use Rattle.fl_wire.specs.Message.{BatchReadsBack};
+ghost use Rattle.fl_wire.specs.Says.{said};
 
+use crate::batch::Batch;
 use crate::layout::{u32_at, u64_at};
+use fl_order::Refusal;
 use std::marker::Model;
 
 /// One whole message, of 40 to 8192 bytes: as many as its first field says. Contracts see it as the list of
@@ -25,7 +30,7 @@ impl<'a> Model for Frame<'a> {
     ghost invariant = { λ f. IsMessage f.bytes.now };
 }
 
-impl Frame<'_> {
+impl<'a> Frame<'a> {
     /// What kind of message it is (`enum fuse_opcode` of `fuse.h`).
     pub fn opcode(&self) -> u32
         ensures { result ≡ opcode_of self.now }
@@ -38,6 +43,15 @@ impl Frame<'_> {
         ensures { result ≡ unique_of self.now }
     {
         u64_at(self.bytes, 8)
+    }
+
+    /// The orders that it is, where it is several: a BATCH_FORGET with as many pairs as it says.
+    pub fn batch(&self) -> Option<Batch<'a>>
+        ensures batch { result ≡ batch_in self.now }
+        ensures said { IsSome result ↔ (said self.now ≡ Err Refusal.Batch) }
+        ensures back { BatchReadsBack self.now result }
+    {
+        Batch::of(self.opcode(), self.bytes)
     }
 
     /// Its bytes, the header first.

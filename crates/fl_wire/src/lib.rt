@@ -2,6 +2,7 @@
 #![tactic(auto)]
 
 mod append;
+mod batch;
 mod cut;
 mod frame;
 mod init;
@@ -9,6 +10,7 @@ mod layout;
 mod reading;
 mod writing;
 
+pub use batch::Batch;
 pub use cut::{Step, next_frame};
 pub use frame::Frame;
 pub use init::{InitStep, read_init, write_init};

@@ -1,5 +1,6 @@
 //! Tests of the messages, by what is public of them.
 
+mod batches;
 mod bodies;
 mod init;
 mod kinds;

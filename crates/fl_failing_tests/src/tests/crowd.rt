@@ -1,10 +1,11 @@
-//! A session with several workers of which each third order is refused.
+//! Sessions with several workers: one of which each third order is refused, and one with a batch.
 
 use super::refusing::{Came, Refusals, served_refusing};
 use super::sessions::CROWD;
 use super::whole::{Reply, replies};
-use super::{count_is, is_legal, stream_of};
+use super::{are_bytes, count_is, fault_is, is_legal, served, spelled, stream_of};
 use fl_book::{History, Line};
+use fl_testing::{init, init_reply};
 use std::alloc::Global;
 use std::process::Abort;
 use std::sync::Wait;
@@ -19,6 +20,17 @@ fn taken_in(rt: &impl Abort, alloc: Global, history: &History) -> Vec<u64> {
         }
     }
     uniques
+}
+
+// The nodes of the orders that were taken.
+fn nodes_in(rt: &impl Abort, alloc: Global, history: &History) -> Vec<u64> {
+    let mut nodes = Vec::new(alloc);
+    for at in 0..history.len() {
+        if let Line::Asked { worker: _, order } = history.line(at) {
+            nodes.push(order.node).expect(rt, "memory");
+        }
+    }
+    nodes
 }
 
 // What an order is told: a LOOKUP ENOENT, a SETLK EBADF, an INTERRUPT EAGAIN, and a FORGET nothing. Where it is refused, the first
@@ -84,5 +96,50 @@ fn refused_orders_are_told_so_and_are_no_lines(rt: HostRuntime) {
         refuse(&rt, rt.alloc(), each_third, workers, 16);
         let all = Refusals { first: 0, step: 1 };
         refuse(&rt, rt.alloc(), all, workers, 0);
+    }
+}
+
+// An INIT, and behind it a BATCH_FORGET of one lookup of each of the nodes from 0 to 508.
+fn batch(rt: &impl Abort, alloc: Global) -> Vec<u8> {
+    let mut stream = spelled(rt, alloc, init());
+    for field in [8192u32, 42, 5, 0, 0, 0, 0, 0, 0, 0, 509, 0] {
+        stream
+            .extend_from_slice(&field.to_le_bytes())
+            .expect(rt, "memory");
+    }
+    for node in 0..509u64 {
+        stream
+            .extend_from_slice(&node.to_le_bytes())
+            .expect(rt, "memory");
+        stream
+            .extend_from_slice(&1u64.to_le_bytes())
+            .expect(rt, "memory");
+    }
+    stream
+}
+
+fn forgets_all<R: Abort + Threads + Wait + Sync>(rt: &R, alloc: Global, workers: u32) {
+    let stream = batch(rt, alloc);
+    let mut input = stream.as_slice();
+    let mut out = Vec::new(alloc);
+    let done = served(rt, alloc, &mut input, &mut out, workers);
+    fault_is(rt, done.fault, None);
+    is_legal(rt, alloc, &done.history);
+    are_bytes(rt, &out, &spelled(rt, alloc, init_reply()));
+    let mut nodes = nodes_in(rt, alloc, &done.history);
+    nodes.sort_unstable();
+    count_is(rt, nodes.len(), 509);
+    assert!(rt;
+        nodes
+            .iter()
+            .zip(0..509)
+            .all(|(node, wanted)| *node == wanted)
+    );
+}
+
+#[test]
+fn workers_share_the_orders_of_a_batch(rt: HostRuntime) {
+    for workers in [1, 2, 4, 16] {
+        forgets_all(&rt, rt.alloc(), workers);
     }
 }

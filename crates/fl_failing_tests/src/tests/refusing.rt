@@ -1,13 +1,13 @@
 //! A keeper that refuses orders, and sessions of one worker of which each order is refused in turn.
 
-ghost use Rattle.std.specs.Prelude.{min};
+ghost use Rattle.std.specs.Prelude.{◌≡◌, [], min};
 
-use super::sessions::ORDERS;
+use super::sessions::{BATCHED, ONE_BY_ONE, ORDERS};
 use super::whole::{long_at, place_of, word_at};
 use super::{Alone, are_alike, are_bytes, fault_is, of_workers, run_alone, stream_of};
 use fl_book::{History, Keeper, Lines};
 use fl_order::{NoMemory, Order, Told};
-use fl_serve::{Kept, OpenGate, serve_over};
+use fl_serve::{Kept, OpenGate, run_over, serve_over};
 use std::alloc::Global;
 use std::process::Abort;
 use std::sync::Wait;
@@ -67,6 +67,19 @@ impl Keeper for Refusing {
     fn pause(&mut self) {}
 }
 
+impl Refusing {
+    fn new(alloc: Global, refusals: Refusals) -> Refusing
+        ensures { result.lines.items ≡ [] }
+    {
+        Refusing {
+            lines: Lines::new(alloc),
+            room: 0,
+            orders: 0,
+            refusals,
+        }
+    }
+}
+
 /// What a session came to some of whose orders were refused.
 #[derive(Drop)]
 pub(super) struct Came {
@@ -85,14 +98,13 @@ pub(super) fn served_refusing<R: Abort + Threads + Wait + Sync>(
 ) -> Came {
     let mut input = stream;
     let mut out = Vec::new(alloc);
-    let keeper = Refusing {
-        lines: Lines::new(alloc),
-        room: 0,
-        orders: 0,
-        refusals,
-    };
+    let keeper = Refusing::new(alloc, refusals);
     let workers = of_workers(workers);
     let kept = serve_over(rt, alloc, &mut input, &mut out, workers, &OpenGate, keeper);
+    came_of(rt, kept, out)
+}
+
+fn came_of(rt: &impl Abort, kept: Kept<Refusing>, out: Vec<u8>) -> Came {
     let Kept {
         keeper,
         fault,
@@ -166,36 +178,52 @@ fn came_so(rt: &impl Abort, alloc: Global, came: &Came, wanted: &Alone, refused:
     assert_eq!(rt; came.refused, refused);
 }
 
-// One worker's order of this number, from 0, is refused.
-fn refuse<R: Abort + Threads + Wait + Sync>(rt: &R, alloc: Global, stream: &[u8], first: u64) {
+// One worker's order of this number, from 0, is refused. The other stream has a message for each order.
+fn refuse<R: Abort + Threads + Wait + Sync>(
+    rt: &R,
+    alloc: Global,
+    stream: &[u8],
+    single: &[u8],
+    first: u64,
+) {
     let refusals = Refusals {
         first,
         step: u64::MAX,
     };
     let came = served_refusing(rt, alloc, stream, refusals, 1);
     let number = (first as usize).saturating_add(1);
-    came_so(rt, alloc, &came, &wanted(rt, alloc, stream, number), true);
+    came_so(rt, alloc, &came, &wanted(rt, alloc, single, number), true);
 }
 
-fn refuse_none<R: Abort + Threads + Wait + Sync>(rt: &R, alloc: Global, stream: &[u8]) {
+fn refuse_none<R: Abort + Threads + Wait + Sync>(
+    rt: &R,
+    alloc: Global,
+    stream: &[u8],
+    single: &[u8],
+) {
     let refusals = Refusals {
         first: u64::MAX,
         step: 1,
     };
     let came = served_refusing(rt, alloc, stream, refusals, 1);
-    came_so(rt, alloc, &came, &run_alone(alloc, stream), false);
+    came_so(rt, alloc, &came, &run_alone(alloc, single), false);
 }
 
 // Says how many orders were refused.
-fn refuse_each<R: Abort + Threads + Wait + Sync>(rt: &R, alloc: Global, stream: &[u8]) -> u64 {
-    refuse_none(rt, alloc, stream);
+fn refuse_each<R: Abort + Threads + Wait + Sync>(
+    rt: &R,
+    alloc: Global,
+    stream: &[u8],
+    single: &[u8],
+) -> u64 {
+    refuse_none(rt, alloc, stream, single);
     let mut order = 0;
-    for _ in 0..stream.len() {
+    for _ in 0..single.len() {
         let number = (order as usize).saturating_add(1);
-        if place_of(rt, stream, number) == stream.len() {
+        if place_of(rt, single, number) == single.len() {
             break;
         }
-        refuse(rt, alloc, stream, order);
+        refuse(rt, alloc, stream, single, order);
         order = order.saturating_add(1);
     }
     order
@@ -206,7 +234,42 @@ fn each_order_is_refused_in_turn(rt: HostRuntime) {
     let mut count = 0u64;
     for case in ORDERS.split('#').skip(1) {
         let stream = stream_of(&rt, rt.alloc(), case);
-        count = count.saturating_add(refuse_each(&rt, rt.alloc(), &stream));
+        count = count.saturating_add(refuse_each(&rt, rt.alloc(), &stream, &stream));
     }
     assert_eq!(rt; count, 27);
+}
+
+// What a batch leads to is what a FORGET for each of its pairs leads to, also where one of these is refused.
+#[test]
+fn each_order_of_a_batch_is_refused_in_turn(rt: HostRuntime) {
+    let stream = stream_of(&rt, rt.alloc(), BATCHED);
+    let single = stream_of(&rt, rt.alloc(), ONE_BY_ONE);
+    assert_eq!(rt; refuse_each(&rt, rt.alloc(), &stream, &single), 11);
+}
+
+// The same of a session without workers, of which one order of the batch is refused.
+fn refuse_alone(rt: &impl Abort, alloc: Global, stream: &[u8], single: &[u8], first: u64) {
+    let mut input = stream;
+    let mut out = Vec::new(alloc);
+    let keeper = Refusing::new(
+        alloc,
+        Refusals {
+            first,
+            step: u64::MAX,
+        },
+    );
+    let (kept, broken) = run_over(alloc, &mut input, &mut out, keeper);
+    assert!(rt; !broken);
+    let came = came_of(rt, kept, out);
+    let number = (first as usize).saturating_add(1);
+    came_so(rt, alloc, &came, &wanted(rt, alloc, single, number), true);
+}
+
+#[test]
+fn the_orders_behind_a_refused_one_are_taken(rt: HostRuntime) {
+    let stream = stream_of(&rt, rt.alloc(), BATCHED);
+    let single = stream_of(&rt, rt.alloc(), ONE_BY_ONE);
+    for first in 6..9 {
+        refuse_alone(&rt, rt.alloc(), &stream, &single, first);
+    }
 }

@@ -18,11 +18,12 @@ pub record IsThisFar (s : Session) (talk : Talk) : Type 0 where
 -- a message takes a session from there to here, whatever is answered to it
 abbrev pub Hears : Talk → Talk → List ℕ → Type 0
 Hears old new message = (s : Session) → IsThisFar s old
-    → IsThisFar (with_message s (record { message = message; refused = false })) new
+    → IsThisFar (with_message s (record { message = message; refused = [] })) new
 
--- an order is put behind the others, and an answer of the session itself puts none
+-- an order is put behind the others, or each of a batch is, and an answer of the session itself puts none
 abbrev pub IsPutAs : Met → Orders → Orders → Type 0
 IsPutAs (met.Order order) put put_now = put_now ≡ put ++ order ∷ []
+IsPutAs (met.Batch orders) put put_now = put_now ≡ put ++ orders
 IsPutAs (met.Owed owed) put put_now = put_now ≡ put
 
 -- What was read is whole messages and a rest, the session of these messages is this far, and their orders were put. Where it is

@@ -1,10 +1,9 @@
 -- A session that is under way: what it did with its reader and its writer so far.
-use Rattle.std.specs.Prelude.{◌≡◌, ℕ, ◌≤◌, Bool, List, [], length, Option, Result}
+use Rattle.std.specs.Prelude.{◌≡◌, ℕ, ◌≤◌, Bool, List, [], length, Option}
 use Rattle.fl_order.specs.declared.order.Order.{Order}
-use Rattle.fl_order.specs.declared.refusal.Refusal.{Refusal}
 use Rattle.fl_session.specs.Collecting.{Collects, IsGiven}
 use Rattle.fl_session.specs.Inbox.{IsEnding}
-use Rattle.fl_session.specs.Inside.Serving.{session_with, IsMet, IsMetAs}
+use Rattle.fl_session.specs.Inside.Serving.{session_with, AreTaken, IsMet, IsTaken}
 use Rattle.fl_session.specs.Session.{Came, session_of}
 use Rattle.fl_session.specs.declared.session.Fault.{Fault}
 use Rattle.fl_session.specs.declared.server.Server.{Server}
@@ -26,11 +25,18 @@ pub record IsAnswered {K : Type 0} (old new : Server K) (held held_now : Option 
   pub met : IsMet old new owed message
   pub collected : Collects held held_now waiting waiting_now broken broken_now owed
 
--- the same of a message that says this, after an INIT is agreed
-pub record IsAnsweredAs {K : Type 0} (old new : Server K) (held held_now : Option (List ℕ))
-    (waiting waiting_now : List ℕ) (broken broken_now : Bool) (unique : ℕ) (says : Result Order Refusal) : Type 0 where
+-- an order is taken, and its replies are collected
+pub record TakesOne {K : Type 0} (old new : Server K) (held held_now : Option (List ℕ))
+    (waiting waiting_now : List ℕ) (broken broken_now : Bool) (order : Order) : Type 0 where
   pub owed : List (List ℕ)
-  pub met : IsMetAs old new owed unique says
+  pub taken : IsTaken old new owed order
+  pub collected : Collects held held_now waiting waiting_now broken broken_now owed
+
+-- the same of orders of which these are left
+pub record TakesMany {K : Type 0} (old new : Server K) (held held_now : Option (List ℕ))
+    (waiting waiting_now : List ℕ) (broken broken_now : Bool) (orders left : List Order) : Type 0 where
+  pub owed : List (List ℕ)
+  pub taken : AreTaken old new owed orders left
   pub collected : Collects held held_now waiting waiting_now broken broken_now owed
 
 -- what is collected goes out, and nothing else changes

@@ -1,6 +1,7 @@
 //! Sessions with one worker, over memory.
 
 mod around;
+mod batches;
 mod collected;
 mod faults;
 mod keepers;
@@ -10,6 +11,7 @@ mod waiting;
 
 use super::are_bytes;
 use around::AROUND_AN_INIT;
+use batches::BATCHES;
 use fl_history::History;
 use fl_session::run_one;
 use fl_testing::{bytes_after, lines_after};
@@ -73,6 +75,7 @@ fn all_are_traced(rt: &impl Abort, alloc: Global, cases: &str) -> usize {
 fn sessions_and_their_traces(rt: HostRuntime) {
     assert_eq!(rt; all_are_traced(&rt, rt.alloc(), two_locks()), 1);
     assert_eq!(rt; all_are_traced(&rt, rt.alloc(), TRACED), 3);
+    assert_eq!(rt; all_are_traced(&rt, rt.alloc(), BATCHES), 3);
 }
 
 #[test]

@@ -39,7 +39,7 @@ fn is_refused(rt: &(impl Abort + AllocGlobal), opcode: u8, len: usize, refusal: 
 fn messages_that_say_no_order(rt: HostRuntime) {
     is_refused(&rt, 15, 0, Refusal::Answer(Errno::ENOSYS));
     is_refused(&rt, 2, 0, Refusal::Silent);
-    is_refused(&rt, 42, 8, Refusal::Silent);
+    is_refused(&rt, 42, 8, Refusal::Batch);
     is_refused(&rt, 26, 16, Refusal::Answer(Errno::EPROTO));
     is_refused(&rt, 38, 0, Refusal::Destroy);
 }
@@ -51,6 +51,7 @@ fn faults_of_kinds(rt: HostRuntime) {
     is_refused(&rt, 1, 0, told);
     is_refused(&rt, 2, 7, Refusal::Silent);
     is_refused(&rt, 42, 7, Refusal::Silent);
+    is_refused(&rt, 42, 24, Refusal::Silent);
     is_refused(&rt, 33, 47, told);
     is_refused(&rt, 36, 7, told);
 }

@@ -49,7 +49,7 @@ The agreement; done.
 < 50000000000000000100000000000000070000001f000000000000000000000010000c0000100000\
 01000000000000000000000000000000000000000000000000000000000000000000000000000000
 < 10000000000000000500000000000000
-# a FORGET is an order that has no reply, one without a body is none, and a BATCH_FORGET is none
+# a FORGET is an order that has no reply, one without a body is none, and a BATCH_FORGET of one pair is one
 INIT; CREATE; FORGET of one lookup of node 2; a FORGET without a body; BATCH_FORGET of one lookup of node 2; SETLK.
 > 380000001a0000000100000000000000000000000000000000000000000000000000000000000000\
 070000001f0000000000000000000000
@@ -73,6 +73,7 @@ The agreement; the file that is made; done.
 < 10000000000000000300000000000000
 = ask 0 2 1 0 0 0 create 0 420 61
 = tell 2 made 2 33188 1 0 0 1
+= ask 0 9 2 0 0 0 forget 1
 = ask 0 9 2 0 0 0 forget 1
 = ask 0 3 2 0 0 0 setlk 1 7 0 9 1 11 0
 = tell 3 ok

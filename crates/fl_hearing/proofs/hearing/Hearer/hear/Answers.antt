@@ -12,3 +12,9 @@ pub returns-in-Owed-2-clause-put : goal.returns-in-Owed-2-clause-put
 returns-in-Owed-2-clause-put g c = let put = c.args.self.now.put.put in
     puts c.meet.result _ _ _ _ _ c.requires c.meet.ensures.heard
     (subst (λ met. IsPutAs met put put) (sym c.in-Owed-2.is) refl)
+
+pub returns-in-Batch-clause-put : goal.returns-in-Batch-clause-put
+returns-in-Batch-clause-put g c =
+    let put = c.args.self.now.put.put in
+    puts c.meet.result _ _ _ _ _ c.requires c.meet.ensures.heard
+    (subst (λ met. IsPutAs met put c.put_all.new.self.put.put) (sym c.in-Batch.is) c.put_all.ensures.put)

@@ -1,16 +1,25 @@
-use Rattle.fl_wire.specs.Layout.{unique_of}
 use Rattle.fl_session.specs.Talk.{bytes_of}
-use Rattle.fl_session.proofs.MeetLemmas.{met_order, met_owed}
+use Rattle.fl_session.proofs.MeetLemmas.{met_batch, met_order, met_owed}
 use Rattle.fl_session.proofs.server.Server.answer.Goals as goal
 
 pub returns-in-Order-clause-answered : goal.returns-in-Order-clause-answered
 returns-in-Order-clause-answered g c =
-    let taken = c.take.ensures.answered (unique_of c.args.frame.now) in
+    let one = c.take.ensures.taken in
     record {
-      owed = taken.owed;
-      met = met_order c.args.self.now c.take.new.self c.meet.new.self c.in-Order.order taken.owed c.args.frame.now c.requires
-          c.in-Order.ensures.heard taken.met;
-      collected = taken.collected;
+      owed = one.owed;
+      met = met_order c.args.self.now c.take.new.self c.meet.new.self c.in-Order.order one.owed c.args.frame.now c.requires
+          c.in-Order.ensures.heard one.taken;
+      collected = one.collected;
+    }
+
+pub returns-in-Batch-clause-answered : goal.returns-in-Batch-clause-answered
+returns-in-Batch-clause-answered g c =
+    let many = c.take_all.ensures.taken in
+    record {
+      owed = many.owed;
+      met = met_batch c.args.self.now c.take_all.new.self c.meet.new.self c.in-Batch.orders many.owed c.args.frame.now
+          c.requires c.in-Batch.ensures.heard many.taken;
+      collected = many.collected;
     }
 
 pub returns-in-Owed-clause-answered : goal.returns-in-Owed-clause-answered

@@ -1,0 +1,21 @@
+use Rattle.std.proofs.Common.{◌≤◌, ◌∙◌, length, refl, arith}
+use Rattle.std.proofs.lemmas.Grind.{common_steps}
+use Rattle.fl_session.proofs.MeetLemmas.{many_all, many_first, many_next}
+use Rattle.fl_session.proofs.server.Server.take_all.Goals as goal
+
+pub loop-i-init : goal.loop-i-init
+loop-i-init g c = record {
+  same = refl;
+  taken = many_first _ _ _ _ _;
+}
+
+pub loop-i-preserved : goal.loop-i-preserved
+loop-i-preserved g c = record {
+  same = c.take.ensures.same ∙ c.loop-i.invariant.same;
+  taken = many_next _ _ _ _ _ _ _ _ _ _ _ _ _ _ _ c.order.ensures c.loop-i.invariant.taken c.take.ensures.taken;
+}
+
+pub returns-clause-taken : goal.returns-clause-taken
+returns-clause-taken g c =
+    let past : length c.args.orders.now ≤ c.loop-i.i = grind (arith, common_steps) in
+    many_all _ _ _ _ _ _ _ _ _ _ past c.loop-i.invariant.taken
