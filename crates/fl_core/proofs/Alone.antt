@@ -3,8 +3,8 @@ use Rattle.std.proofs.Common.{◌≡◌, Bool, true, false, not, cond, Option, S
 use Rattle.std.specs.List.{AllByRecursion}
 use Rattle.fl_core.specs.Inside.Touched.{concerns_request}
 use Rattle.fl_core.specs.Settling.{free_behind, oldest_free}
-use Rattle.fl_core.specs.Waiting.{AllBehind, taken_first, waits}
-use Rattle.fl_core.specs.declared.parked.Request.{Request}
+use Rattle.fl_waiting.specs.Waiting.{AllBehind, taken_first, waits}
+use Rattle.fl_waiting.specs.declared.parked.Request.{Request}
 use Rattle.fl_core.specs.declared.settling.Touched.{Touched}
 use Rattle.fl_core.proofs.Taken.{keep}
 use Rattle.fl_ranges.specs.Marking.{Marking}

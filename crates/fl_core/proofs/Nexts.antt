@@ -5,7 +5,7 @@ use Rattle.fl_core.specs.Replies.{reply_to}
 use Rattle.fl_core.specs.Settling.{present}
 use Rattle.fl_core.specs.State.{State, Snapshot, snapshot_of}
 use Rattle.fl_core.specs.Step.{after_first, next, replies}
-use Rattle.fl_core.specs.Waiting.{is_parked, AllWait, AreApart}
+use Rattle.fl_waiting.specs.Waiting.{is_parked, AllWait, AreApart}
 use Rattle.fl_core.proofs.Effects.{is_recorded}
 use Rattle.fl_core.proofs.Settlings.{nothing_left, settled_apart}
 use Rattle.fl_core.proofs.Steps as steps

@@ -8,9 +8,9 @@ use Rattle.fl_core.specs.Replies.{ended_by, ended_if, ending_of, own_replies}
 use Rattle.fl_core.specs.Settling.{Settled, Present, IsSettled, done, one}
 use Rattle.fl_core.specs.State.{Snapshot, View}
 use Rattle.fl_core.specs.Step.{settling, with_present, ChangesNothing}
-use Rattle.fl_core.specs.Waiting.{is_parked, AllWait}
+use Rattle.fl_waiting.specs.Waiting.{is_parked, AllWait}
 use Rattle.fl_core.specs.declared.ending.Ending.{Ending}
-use Rattle.fl_core.specs.declared.parked.Request.{Request}
+use Rattle.fl_waiting.specs.declared.parked.Request.{Request}
 use Rattle.fl_core.proofs.Effects.{AreOthers}
 use Rattle.fl_core.proofs.Settlings.{is_settled, settled_none}
 use Rattle.fl_core.proofs.Steps.{ended_apart, ends_alike, made_by}

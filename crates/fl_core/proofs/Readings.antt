@@ -2,13 +2,13 @@
 use Rattle.std.proofs.Common.{◌≡◌, Bool, true, false, not, cond, Some, Err, List, [], ◌∷◌, ◌++◌, append_assoc, map, refl, sym, ap, ◌∙◌, subst}
 use Rattle.std.specs.List.{filter}
 use Rattle.fl_core.specs.State.{Snapshot}
-use Rattle.fl_core.specs.Waiting.{taken_out, AreApart}
+use Rattle.fl_waiting.specs.Waiting.{taken_out, AreApart}
 use Rattle.fl_core.specs.Effects.{later_to, made}
 use Rattle.fl_core.specs.Inside.Parts.{with_parked}
 use Rattle.fl_core.specs.Replies.{ended_with, ended_all}
 use Rattle.fl_core.specs.Settling.{Present, present, granted_told, marking_granted, IsSettled, done, one}
 use Rattle.fl_core.specs.Step.{with_present, settling}
-use Rattle.fl_core.specs.declared.parked.Request.{Request}
+use Rattle.fl_waiting.specs.declared.parked.Request.{Request}
 use Rattle.fl_core.proofs.Effects.{made_all}
 use Rattle.fl_core.proofs.Settlings.{is_settled}
 use Rattle.fl_core.proofs.Taken.{taken_there, apart_without}

@@ -1,10 +1,11 @@
 -- What a lock request asks for, and the range that was read off it.
 use Rattle.std.proofs.Common.{◌≡◌, ◌∙◌, ℕ, Option, Bool, cond, nat_le, Some, None, length, Result, Ok, Err, OnOk, OnErr, ap}
 use Rattle.fl_core.specs.Effects.{locked}
-use Rattle.fl_core.specs.Replies.{ask_error, at_once_unless, is_deadlock, room_reply, setlkw_reply}
+use Rattle.fl_core.specs.Replies.{ask_error, at_once_unless, room_reply, setlkw_reply}
 use Rattle.fl_core.specs.State.{View}
-use Rattle.fl_core.specs.Waiting.{must_wait}
-use Rattle.fl_core.specs.LockRequest.{key_of, start_of, end_of, mark_of, stroke_of}
+use Rattle.fl_waiting.specs.Circle.{is_deadlock}
+use Rattle.fl_waiting.specs.Waiting.{must_wait}
+use Rattle.fl_waiting.specs.LockRequest.{key_of, start_of, end_of, mark_of, stroke_of}
 use Rattle.fl_order.specs.declared.errno.Errno.{Errno}
 use Rattle.fl_order.specs.declared.errno.Errno.TheVariants.{EDEADLK, ENOLCK}
 use Rattle.fl_order.specs.declared.told.Answer.{Answer}

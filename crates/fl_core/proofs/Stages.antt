@@ -1,22 +1,22 @@
 -- An order is taken in stages.
 use Rattle.std.proofs.Common.{◌≡◌, ◌≢◌, ℕ, ◌==◌, nat_lt, Bool, true, false, cond, not, ◌&&◌, ◌||◌, Option, Some, None, option_map, Result, Ok, Err, List, [], ◌∷◌, ◌++◌, refl, sym, ap, ◌∙◌, subst, arith}
 use Rattle.std.proofs.lemmas.Bool.Decides.{nat_tests}
-use Rattle.fl_core.specs.Circle.{is_record}
+use Rattle.fl_waiting.specs.Circle.{is_deadlock, is_record}
 use Rattle.fl_core.specs.Effects.{locked, unlocked, dropped, locks_answered, request_of, waited_for, with_waiter, by_reply, made}
 use Rattle.fl_core.specs.Inside.Parts.{left_if}
-use Rattle.fl_core.specs.LockRequest.{is_flock, key_of, start_of, end_of, mark_of, stroke_of}
-use Rattle.fl_core.specs.Replies.{at_once_unless, is_deadlock, picks, reply_to}
+use Rattle.fl_waiting.specs.LockRequest.{is_flock, key_of, start_of, end_of, mark_of, stroke_of}
+use Rattle.fl_core.specs.Replies.{at_once_unless, picks, reply_to}
 use Rattle.fl_core.specs.Settling.{Present, present, IsSettled, done, one, grant_reply}
 use Rattle.fl_core.specs.Stages.{asker_of, asked_by, wanted_by, GainsAtMost, OwnStage, changes, parks, leave, granted, AreLater, none, more}
 use Rattle.fl_core.specs.Stages.{IsTakenInStages}
 use Rattle.fl_core.specs.State.{Snapshot}
 use Rattle.fl_core.specs.Step.{next}
-use Rattle.fl_core.specs.Waiting.{owner_of, is_parked, AllWait, AreApart}
+use Rattle.fl_waiting.specs.Waiting.{owner_of, is_parked, AllWait, AreApart}
 use Rattle.fl_core.specs.declared.ending.Ending.{Ending}
-use Rattle.fl_core.specs.declared.parked.Request.{Request}
+use Rattle.fl_waiting.specs.declared.parked.Request.{Request}
 use Rattle.fl_core.proofs.Settlings.{is_settled}
 use Rattle.fl_core.proofs.Steps as steps
-use Rattle.fl_core.proofs.Wishes.{deadlock_words}
+use Rattle.fl_core.proofs.Firsts.{CirclesInWords}
 use Rattle.fl_dir.specs.Directory.{Listing}
 use Rattle.fl_dir.specs.OpenFiles.{has_open_file, without_file}
 use Rattle.fl_order.specs.declared.errno.Errno.{Errno}
@@ -84,7 +84,7 @@ pub record Counts : Type 0 where
   pub cleared : (m : Marking) (node : ℕ) (key : Key) (start end : ℕ) (kind : Kind) (owner : ℕ)
       → owner_conflicts (without_node node m) key start end kind owner ≡ true → owner_conflicts m key start end kind owner ≡ true
 
-module _ (count : Counts) where
+module _ (count : Counts) (deadlock_words : CirclesInWords) where
   gains_by_other : (g : Option ℕ) (m : Marking) (s : Stroke) → g ≡ Some s.key.owner → GainsAtMost g m (stroked s m)
   gains_by_other g m s is w q other h = raised (is_record w.wish.key.class) _ _
       (λ _ k. sym (count.others m s w.wish.key w.wish.start w.wish.end w.wish.kind q (λ same. other (is ∙ ap (λ n. Some n) (sym same)))) ∙ k) h

@@ -8,9 +8,9 @@ use Rattle.fl_core.specs.Replies.{at_once_unless, taken_reply, reply_to, own_rep
 use Rattle.fl_core.specs.Settling.{Settled, present}
 use Rattle.fl_core.specs.State.{Snapshot}
 use Rattle.fl_core.specs.Step.{after_first, settling, replies, with_present, next}
-use Rattle.fl_core.specs.Waiting.{is_parked, AllWait, AreApart}
+use Rattle.fl_waiting.specs.Waiting.{is_parked, AllWait, AreApart}
 use Rattle.fl_core.specs.declared.ending.Ending.{Ending}
-use Rattle.fl_core.specs.declared.parked.Request.{Request}
+use Rattle.fl_waiting.specs.declared.parked.Request.{Request}
 use Rattle.fl_core.specs.declared.settling.Touched.{Touched}
 use Rattle.fl_core.proofs.Effects.{made_all, made_all-append, made_replied, AreOthers}
 use Rattle.fl_core.proofs.Readings.{settled_read, ended_read}

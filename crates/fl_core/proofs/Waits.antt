@@ -4,10 +4,10 @@ use Rattle.std.proofs.lemmas.Bool.Decides.{nat_tests}
 use Rattle.std.specs.List.{filter, AllByRecursion}
 use Rattle.fl_core.specs.Effects.{flushed, locked, released}
 use Rattle.fl_core.specs.Inside.Touched.{concerns, concerns_request, touched_by, OthersWait, WaitsNow}
-use Rattle.fl_core.specs.LockRequest.{key_of, mark_of, stroke_of}
-use Rattle.fl_core.specs.Waiting.{is_excluded, waits, taken_first, AllBehind, AllWait}
+use Rattle.fl_waiting.specs.LockRequest.{key_of, mark_of, stroke_of}
+use Rattle.fl_waiting.specs.Waiting.{is_excluded, waits, taken_first, AllBehind, AllWait}
 use Rattle.fl_core.specs.Settling.{oldest_free}
-use Rattle.fl_core.specs.declared.parked.Request.{Request}
+use Rattle.fl_waiting.specs.declared.parked.Request.{Request}
 use Rattle.fl_core.specs.declared.settling.Touched.{Touched}
 use Rattle.fl_core.specs.declared.settling.Touched.TheVariants.{Nothing, OfClass, OfNode}
 use Rattle.fl_core.proofs.Alone.{each_alone, each_behind, oldest_alone, waits_alone, WaitsIfOther}

@@ -6,8 +6,8 @@ use Rattle.fl_ranges.specs.Codes.{marking_code}
 use Rattle.fl_dir.specs.Directory.{Listing}
 use Rattle.fl_dir.specs.Codes.{listing_code}
 use Rattle.fl_core.specs.State.{View, Snapshot}
-use Rattle.fl_core.specs.contracts.parked.Request as request
-use Rattle.fl_core.specs.declared.parked.Request.{Request}
+use Rattle.fl_waiting.specs.contracts.parked.Request as request
+use Rattle.fl_waiting.specs.declared.parked.Request.{Request}
 
 -- all but the locks, as its two parts
 abbrev pub view_code : Coded View

@@ -3,13 +3,13 @@
 use Rattle.std.specs.Prelude.{◌≡◌, ◌≢◌, ◌==◌, ◌≤◌, ◌<◌, ℕ, Bool, true, false, Some, None, Result, Ok, Err, List, [], ◌∷◌, ◌++◌}
 use Rattle.std.specs.Prelude.{length}
 use Rattle.std.specs.List.{AllByRecursion}
-use Rattle.fl_core.specs.Circle.{ClosesCircle}
+use Rattle.fl_waiting.specs.Circle.{ClosesCircle}
 use Rattle.fl_core.specs.Effects.{request_of}
 use Rattle.fl_core.specs.Replies.{ask_error, reply_to, own_replies, ended_with, ended_all}
 use Rattle.fl_core.specs.Settling.{grant_reply}
 use Rattle.fl_core.specs.State.{Snapshot}
-use Rattle.fl_core.specs.Waiting.{waits}
-use Rattle.fl_core.specs.declared.parked.Request.{Request}
+use Rattle.fl_waiting.specs.Waiting.{waits}
+use Rattle.fl_waiting.specs.declared.parked.Request.{Request}
 use Rattle.fl_dir.specs.OpenFiles.{is_open_on}
 use Rattle.fl_order.specs.declared.errno.Errno.{Errno}
 use Rattle.fl_order.specs.declared.errno.Errno.TheVariants.{EINTR, EBADF, EINVAL, EAGAIN, EDEADLK, ENOLCK}

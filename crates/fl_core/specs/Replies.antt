@@ -3,13 +3,13 @@
 use Rattle.std.specs.Prelude.{ℕ, Bool, false, not, ◌||◌, ◌&&◌, ◌==◌, nat_le, nat_lt, Option, Some, None, Result, Ok, Err}
 use Rattle.std.specs.Prelude.{List, [], ◌∷◌, ◌++◌, length, map, if◌then◌else◌}
 use Rattle.std.specs.List.{filter}
-use Rattle.fl_core.specs.Circle.{closes_circle}
-use Rattle.fl_core.specs.LockRequest.{is_flock, key_of, mark_of, stroke_of}
+use Rattle.fl_waiting.specs.Circle.{is_deadlock}
+use Rattle.fl_waiting.specs.LockRequest.{is_flock, key_of, mark_of, stroke_of}
 use Rattle.fl_core.specs.State.{View, Snapshot}
-use Rattle.fl_core.specs.Waiting.{wish_on, must_wait, is_excluded, is_parked}
+use Rattle.fl_waiting.specs.Waiting.{must_wait, is_excluded, is_parked}
 use Rattle.fl_core.specs.declared.ending.Ending.{Ending}
 use Rattle.fl_core.specs.declared.ending.Ending.TheVariants.{Through, Named}
-use Rattle.fl_core.specs.declared.parked.Request.{Request}
+use Rattle.fl_waiting.specs.declared.parked.Request.{Request}
 use Rattle.fl_dir.specs.Directory.{Listing}
 use Rattle.fl_dir.specs.OpenFiles.{is_open_on}
 use Rattle.fl_dir.specs.Replies.{lookup_reply, create_reply, open_reply, getattr_reply, unlink_reply, unless_error}
@@ -55,11 +55,6 @@ ask_error d node ask =
 -- what a SETLK is answered
 abbrev pub setlk_reply : Listing → Marking → ℕ → LockAsk → Result Answer Errno
 setlk_reply d m node ask = unless_error (ask_error d node ask) (set_reply m (stroke_of node ask) (mark_of ask))
-
--- a lock would close a circle of waiting owners if its request waited
-abbrev pub is_deadlock : Marking → List Request → Stroke → Option Mark → Bool
-is_deadlock m parked s None = false
-is_deadlock m parked s (Some mark) = closes_circle m parked (wish_on s mark)
 
 -- a request that has to wait has no reply yet, unless it would close a circle, or 256 requests wait already
 abbrev pub wait_reply : Marking → List Request → Stroke → Option Mark → Option (Result Answer Errno)

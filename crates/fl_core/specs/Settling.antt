@@ -2,10 +2,10 @@
 use Rattle.std.specs.Prelude.{◌≡◌, ℕ, zero, suc, false, Option, Some, None, option_map, Result, List, [], ◌∷◌, ◌++◌, length}
 use Rattle.std.specs.Prelude.{if◌then◌else◌}
 use Rattle.fl_core.specs.Effects.{locked}
-use Rattle.fl_core.specs.LockRequest.{stroke_of}
+use Rattle.fl_waiting.specs.LockRequest.{stroke_of}
 use Rattle.fl_core.specs.Replies.{room_reply}
-use Rattle.fl_core.specs.Waiting.{waits, AllWait}
-use Rattle.fl_core.specs.declared.parked.Request.{Request}
+use Rattle.fl_waiting.specs.Waiting.{waits, AllWait}
+use Rattle.fl_waiting.specs.declared.parked.Request.{Request}
 use Rattle.fl_order.specs.declared.errno.Errno.{Errno}
 use Rattle.fl_order.specs.declared.told.Answer.{Answer}
 use Rattle.fl_order.specs.declared.told.Told.{Told}

@@ -1,22 +1,18 @@
 -- In which stages an order changes who waits for whom: its own change of locks, or it waits; then requests leave, or are
 -- granted, one after another.
-use Rattle.std.specs.Prelude.{◌≡◌, ◌≢◌, ℕ, ◌==◌, Bool, true, not, ◌&&◌, nat_lt, Option, Some, None, option_map, List, [], ◌∷◌, ◌++◌}
+use Rattle.std.specs.Prelude.{◌≡◌, ◌≢◌, ℕ, Bool, true, not, ◌&&◌, nat_lt, Option, Some, None, option_map, List, [], ◌∷◌, ◌++◌}
 use Rattle.std.specs.Prelude.{if◌then◌else◌}
-use Rattle.std.specs.List.{filter, list_any}
-use Rattle.fl_core.specs.Circle.{Waiter, hinders, ClosesCircle}
-use Rattle.fl_core.specs.LockRequest.{is_flock}
+use Rattle.std.specs.List.{filter}
+use Rattle.fl_waiting.specs.Circle.{Waiter, hinders, ClosesCircle}
+use Rattle.fl_waiting.specs.LockRequest.{is_flock}
 use Rattle.fl_core.specs.Settling.{Present}
-use Rattle.fl_core.specs.Waiting.{Wish, owner_of, wish_of, wishes}
-use Rattle.fl_core.specs.declared.parked.Request.{Request}
+use Rattle.fl_waiting.specs.Waiting.{owner_of, wish_of}
+use Rattle.fl_waiting.specs.declared.parked.Request.{Request}
 use Rattle.fl_order.specs.declared.order.LockAsk.{LockAsk}
 use Rattle.fl_order.specs.declared.order.Op.{Op}
 use Rattle.fl_order.specs.declared.order.Op.TheVariants.{Setlk, Setlkw}
 use Rattle.fl_order.specs.declared.order.Order.{Order}
 use Rattle.fl_ranges.specs.Marking.{Marking}
-
--- a record lock request of this owner is parked
-abbrev pub is_waiting : ℕ → List Request → Bool
-is_waiting owner parked = list_any (λ (w : Wish). owner_of w == owner) (wishes parked)
 
 -- a record lock is asked for, of type read or write, whatever the answer is
 abbrev pub asks_record_lock : LockAsk → Bool

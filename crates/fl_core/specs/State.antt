@@ -3,7 +3,7 @@ use Rattle.std.specs.Prelude.{List, []}
 use Rattle.fl_ranges.specs.Marking.{Marking}
 use Rattle.fl_ranges.specs.Change.{Change, marking_after}
 use Rattle.fl_dir.specs.Directory.{Listing, opening_listing}
-use Rattle.fl_core.specs.declared.parked.Request.{Request}
+use Rattle.fl_waiting.specs.declared.parked.Request.{Request}
 
 -- all but the locks: the directory, and the parked requests in the order of asking
 pub record View : Type 0 where

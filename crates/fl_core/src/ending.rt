@@ -4,10 +4,9 @@ ghost use Rattle.std.specs.Prelude.{◌≡◌, ◌≤◌, ◌+◌, ◌++◌, not
 ghost use Rattle.std.specs.List.{filter};
 ghost use Rattle.fl_core.specs.Replies.{ended_all, ending_of, error_of, picks};
 
-use crate::claim::Claim;
-use crate::parked::Parked;
 use crate::tolds::{MOST_TOLDS, Tolds};
 use fl_order::{Answer, Errno, Op, Order, Told};
+use fl_waiting::{Claim, Parked};
 
 /// Which requests are ended.
 #[derive(Clone, Copy)]

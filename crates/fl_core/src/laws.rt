@@ -1,17 +1,15 @@
 //! Laws of the definitions, in the words of their subject. Each is the contract of an empty function.
 
-ghost use Rattle.std.specs.Prelude.{◌≡◌, ◌↔◌, ℕ, true, Some, Err, [], List};
-ghost use Rattle.fl_core.specs.Circle.{waiter_of, hinders, waiters, behind, closes_circle, IsCircle, ClosesCircle};
+ghost use Rattle.std.specs.Prelude.{◌≡◌, ◌↔◌, Some, Err, [], List};
 ghost use Rattle.fl_core.specs.Effects.{Effect, later, leaving, replied, recorded, made};
 ghost use Rattle.fl_core.specs.First.{IsFirst};
-ghost use Rattle.fl_core.specs.LockRequest.{mark_of, stroke_of};
-ghost use Rattle.fl_core.specs.Replies.{first_told, is_deadlock};
+ghost use Rattle.fl_core.specs.Replies.{first_told};
 ghost use Rattle.fl_core.specs.Settling.{Present, present, settled, IsSettled};
 ghost use Rattle.fl_core.specs.Stages.{IsTakenInStages};
 ghost use Rattle.fl_core.specs.State.{View, State, Snapshot, snapshot_of};
 ghost use Rattle.fl_core.specs.Step.{next, replies};
-ghost use Rattle.fl_core.specs.Waiting.{Wish, keeps_waiting, anyone, only, AllWait, AreApart, taken_out};
-ghost use Rattle.fl_core.specs.declared.parked.Request.{Request};
+ghost use Rattle.fl_waiting.specs.Waiting.{AllWait, AreApart, taken_out};
+ghost use Rattle.fl_waiting.specs.declared.parked.Request.{Request};
 ghost use Rattle.fl_order.specs.declared.errno.Errno.{Errno};
 ghost use Rattle.fl_order.specs.declared.order.Order.{Order};
 ghost use Rattle.fl_order.specs.declared.told.Told.{Told};
@@ -26,18 +24,9 @@ pub fn effects_are_shown_alike()
 pub fn first_replies_are_those_of_the_orders_case()
     ensures { (p : Snapshot) (order : Order) (tolds : List Told) → AreApart p.view.parked →
         (tolds ≡ first_told p order) ↔ IsFirst p order tolds }
-{}
-
-/// A lock has to wait exactly where an owner keeps it waiting. It, or its request, would close a circle exactly where such an
-/// owner waits for the one who wants it, directly or through others, each of whom waits for the next.
-pub fn a_circle_is_a_row_of_owners_who_wait()
-    ensures someone { (m : Marking) (older : List Request) (w : Wish) →
-        (keeps_waiting anyone m older w ≡ true) ↔ ((owner : ℕ) × (keeps_waiting (only owner) m older w ≡ true)) }
-    ensures wish { (m : Marking) (parked : List Request) (w : Wish) →
-        (closes_circle m parked w ≡ true) ↔ IsCircle waiter_of (hinders m) (waiters parked) (behind parked w) }
-    ensures request { (m : Marking) (parked : List Request) (r : Request) →
-        (is_deadlock m parked (stroke_of r.node r.ask) (mark_of r.ask) ≡ true) ↔ ClosesCircle m parked r }
-{}
+{
+    fl_waiting::laws::a_circle_is_a_row_of_owners_who_wait();
+}
 
 /// Settling takes out the oldest request that doesn't wait, again and again, until each waits.
 pub fn settling_answers_the_oldest_first()
@@ -72,4 +61,5 @@ pub fn an_order_is_taken_in_stages()
         (present (next p order).marking (next p order).view.parked) }
 {
     fl_ranges::laws::a_change_counts_where_it_speaks();
+    fl_waiting::laws::a_circle_is_a_row_of_owners_who_wait();
 }

@@ -4,17 +4,17 @@ ghost use Rattle.std.specs.Prelude.{◌≡◌, ◌↔◌, true, false, Some, Non
 ghost use Rattle.fl_ranges.specs.Marking.{stroke_on, stroked};
 ghost use Rattle.fl_ranges.specs.Conflict.{IsLawful, SameElsewhere, SameOffNode};
 ghost use Rattle.fl_ranges.specs.Change.{cleared, after_change, after_changes};
-ghost use Rattle.fl_core.specs.LockRequest.{is_flock, key_of, start_of, end_of, mark_of};
+ghost use Rattle.fl_waiting.specs.Circle.{is_deadlock};
+ghost use Rattle.fl_waiting.specs.LockRequest.{is_flock, key_of, start_of, end_of, mark_of};
 ghost use Rattle.fl_core.specs.Effects.{dropped, locked, unlocked};
-ghost use Rattle.fl_core.specs.Replies.{ask_error, is_deadlock, is_malformed, type_of, lock_answer, room_reply, set_reply, setlk_reply, setlkw_reply, getlk_reply};
+ghost use Rattle.fl_core.specs.Replies.{ask_error, is_malformed, type_of, lock_answer, room_reply, set_reply, setlk_reply, setlkw_reply, getlk_reply};
 ghost use Rattle.fl_core.specs.Inside.Touched.{WaitsNow};
-ghost use Rattle.fl_core.specs.Waiting.{is_excluded};
+ghost use Rattle.fl_waiting.specs.Waiting.{is_excluded};
 
-use crate::claim::Claim;
-use crate::parked::{Parked, Request};
 use fl_dir::Dir;
 use fl_order::{Answer, Errno, LockAsk};
 use fl_ranges::{Class, Held, Key, Kind, LAST_BYTE, Mark, Range, Table};
+use fl_waiting::{Claim, Parked, Request};
 
 // The lock types of Linux `fcntl.h`.
 const READ: u32 = 0;

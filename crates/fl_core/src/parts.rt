@@ -8,7 +8,7 @@ ghost use Rattle.fl_core.specs.Inside.Touched.{touched_by, OthersWait};
 ghost use Rattle.fl_core.specs.Replies.{directory_reply, ended_by, file_reply, reply_to};
 ghost use Rattle.fl_core.specs.State.{opening, snapshot_of};
 ghost use Rattle.fl_core.specs.Step.{settling, with_present};
-ghost use Rattle.fl_core.specs.Waiting.{is_parked, AllWait, AreApart};
+ghost use Rattle.fl_waiting.specs.Waiting.{is_parked, AllWait, AreApart};
 ghost use Rattle.fl_dir.specs.Changes.{after_close};
 ghost use Rattle.fl_order.specs.Order.{only_reads};
 ghost use Rattle.fl_ranges.specs.Change.{after_changes};
@@ -17,12 +17,12 @@ ghost use Rattle.fl_ranges.specs.declared.lock.Class.TheVariants.{Record};
 
 use crate::ending::{end_all, ending_of};
 use crate::locking::{MOST_RUNS, release_locks, set_lock, set_or_wait, test_lock, unlock};
-use crate::parked::Parked;
 use crate::settling::{Touched, settle};
 use crate::tolds::{MOST_TOLDS, Tolds};
 use fl_dir::Dir;
 use fl_order::{Answer, Errno, NoMemory, Op, Order};
 use fl_ranges::{Class, Table};
+use fl_waiting::Parked;
 use std::alloc::Global;
 use std::marker::Model;
 

@@ -3,18 +3,17 @@
 ghost use Rattle.std.specs.Prelude.{◌≡◌, ◌≤◌, ◌+◌, ◌++◌, false, None, Some, MatchOption, List, [], length};
 ghost use Rattle.std.specs.List.{AllByRecursion};
 ghost use Rattle.fl_ranges.specs.Conflict.{IsLawful, SameElsewhere};
-ghost use Rattle.fl_core.specs.LockRequest.{key_of};
+ghost use Rattle.fl_waiting.specs.LockRequest.{key_of};
 ghost use Rattle.fl_core.specs.Inside.Touched.{concerns_request, touched_by, OthersWait};
 ghost use Rattle.fl_core.specs.Settling.{granted_told, marking_granted, oldest_free, present, settled};
-ghost use Rattle.fl_core.specs.Waiting.{waits, AreApart};
-ghost use Rattle.fl_core.specs.declared.parked.Request.{Request};
+ghost use Rattle.fl_waiting.specs.Waiting.{waits, AreApart};
+ghost use Rattle.fl_waiting.specs.declared.parked.Request.{Request};
 
-use crate::claim::Claim;
 use crate::locking::{MOST_RUNS, is_excluded, key_of, store};
-use crate::parked::Parked;
 use crate::tolds::{MOST_TOLDS, Tolds};
 use fl_order::{Answer, Errno, Op, Order, Told};
 use fl_ranges::{Class, Table};
+use fl_waiting::{Claim, Parked};
 
 /// Which locks may have gone, so that parked requests for them may be free.
 #[derive(Clone, Copy)]

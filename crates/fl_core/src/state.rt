@@ -1,13 +1,12 @@
 //! What takes orders: each is tested, answered and carried out, and parked requests are settled.
 
 ghost use Rattle.std.specs.Prelude.{◌≡◌, ◌≤◌, ◌↔◌, [], true, length, IfOk, IsSome};
-ghost use Rattle.fl_core.specs.Circle.{closes_circle};
+ghost use Rattle.fl_waiting.specs.Circle.{closes_circle};
 ghost use Rattle.fl_core.specs.State.{State, opening, snapshot_of};
 ghost use Rattle.fl_core.specs.Effects.{replied, recorded};
 ghost use Rattle.fl_core.specs.Replies.{own_replies, taken_reply};
-ghost use Rattle.fl_core.specs.Stages.{is_waiting};
 ghost use Rattle.fl_core.specs.Step.{next, replies, ChangesNothing};
-ghost use Rattle.fl_core.specs.Waiting.{AllWait, AreApart};
+ghost use Rattle.fl_waiting.specs.Waiting.{is_waiting, AllWait, AreApart};
 ghost use Rattle.fl_order.specs.Order.{only_reads};
 ghost use Rattle.fl_ranges.specs.Conflict.{IsLawful};
 
@@ -29,7 +28,7 @@ pub struct Core {
 impl Model for Core {
     ghost use Rattle.fl_core.specs.State.{Snapshot};
     ghost use Rattle.fl_core.specs.Codes.{snapshot_code};
-    ghost use Rattle.fl_core.specs.Waiting.{AllWait, AreApart};
+    ghost use Rattle.fl_waiting.specs.Waiting.{AllWait, AreApart};
 
     ghost Value = { Snapshot };
 

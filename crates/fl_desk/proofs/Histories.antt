@@ -9,7 +9,7 @@ use Rattle.fl_desk.specs.Kept.{IsKept}
 use Rattle.fl_core.specs.State.{View, State, Snapshot, snapshot_of}
 use Rattle.fl_core.specs.Effects.{Effect, at_once, later, followed_by, told_first, replied, recorded}
 use Rattle.fl_core.specs.Step.{next, replies}
-use Rattle.fl_core.specs.Waiting.{AllWait, AreApart}
+use Rattle.fl_waiting.specs.Waiting.{AllWait, AreApart}
 use Rattle.fl_desk.specs.Leading.{LeadsTo}
 use Rattle.fl_history.specs.declared.history.Line.{Line}
 use Rattle.fl_history.specs.declared.history.Line.TheVariants as line

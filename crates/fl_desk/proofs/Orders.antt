@@ -6,7 +6,7 @@ use Rattle.fl_desk.specs.Replay.{state_after}
 use Rattle.fl_core.specs.State.{State, Snapshot, snapshot_of}
 use Rattle.fl_core.specs.Effects.{replied, recorded}
 use Rattle.fl_core.specs.Step.{next, replies}
-use Rattle.fl_core.specs.Waiting.{AllWait, AreApart}
+use Rattle.fl_waiting.specs.Waiting.{AllWait, AreApart}
 use Rattle.fl_desk.proofs.Histories.{leads_on}
 use Rattle.fl_desk.proofs.Verdicts.{no_order, replies_first}
 use Rattle.fl_history.specs.declared.history.Line.{Line}

@@ -7,12 +7,12 @@ use Rattle.std.proofs.lemmas.List.{take_all}
 use Rattle.std.proofs.lemmas.List.Sums.{fold-append}
 use Rattle.std.proofs.lemmas.Option.{get_or_from_slice_get, slice_get_within}
 use Rattle.std.specs.List.{fold}
-use Rattle.fl_core.specs.Circle.{waiter_of, hinders, AreInRow}
+use Rattle.fl_waiting.specs.Circle.{waiter_of, hinders, AreInRow}
 use Rattle.fl_core.specs.Settling.{present}
 use Rattle.fl_core.specs.Stages.{asked_by, IsTakenInStages}
 use Rattle.fl_core.specs.State.{Snapshot, opening, snapshot_of}
 use Rattle.fl_core.specs.Step.{next, replies}
-use Rattle.fl_core.specs.Waiting.{AllWait, AreApart}
+use Rattle.fl_waiting.specs.Waiting.{AllWait, AreApart}
 use Rattle.fl_desk.specs.Leading.{LeadsTo}
 use Rattle.fl_desk.specs.Legal.{IsLegal, nothing, step, step_lines}
 use Rattle.fl_desk.specs.Replay.{state_after}

@@ -8,11 +8,11 @@ use Rattle.std.proofs.lemmas.List.{append-nil, append_assoc}
 use Rattle.std.proofs.lemmas.List.Elements.{filter_map-append}
 use Rattle.std.proofs.lemmas.Option.{none-some}
 use Rattle.std.specs.FinMap.{entries}
-use Rattle.fl_core.specs.Circle.{Waiter, waiter_of, waiter_first, waiters_behind, waiters, behind, hinders, AreInRow, ClosesCircle, is_record}
+use Rattle.fl_waiting.specs.Circle.{Waiter, waiter_of, waiter_first, waiters_behind, waiters, behind, hinders, AreInRow, ClosesCircle, is_record}
 use Rattle.fl_core.specs.Settling.{Present}
 use Rattle.fl_core.specs.Stages.{asked_by, wanted_by, GainsAtMost, OwnStage, changes, parks, LaterStage, leave, granted, AreLater, none, more, IsTakenInStages}
-use Rattle.fl_core.specs.Waiting.{Wish, owner_of, wish_of, wishes}
-use Rattle.fl_core.specs.declared.parked.Request.{Request}
+use Rattle.fl_waiting.specs.Waiting.{Wish, owner_of, wish_of, wishes}
+use Rattle.fl_waiting.specs.declared.parked.Request.{Request}
 use Rattle.fl_order.specs.declared.order.Order.{Order}
 use Rattle.fl_quiet.specs.Quiet.{asks_while_waiting}
 use Rattle.fl_quiet.proofs.Circles.{none_once_parked, none_once_gained}

@@ -1,14 +1,15 @@
 -- Histories in which no owner asks for a record lock while it waits for one, and what comes of it.
 use Rattle.std.specs.Prelude.{◌≡◌, ℕ, Bool, false, Option, Some, None, List, ◌∷◌, ◌++◌}
-use Rattle.fl_core.specs.Circle.{waiter_of, hinders, waiters, AreInRow}
-use Rattle.fl_core.specs.Stages.{asked_by, is_waiting}
+use Rattle.fl_waiting.specs.Circle.{waiter_of, hinders, waiters, AreInRow}
+use Rattle.fl_core.specs.Stages.{asked_by}
 use Rattle.fl_core.specs.State.{Snapshot, snapshot_of}
-use Rattle.fl_core.specs.declared.parked.Request.{Request}
+use Rattle.fl_waiting.specs.declared.parked.Request.{Request}
 use Rattle.fl_desk.specs.Legal.{IsLegal}
 use Rattle.fl_desk.specs.Replay.{state_after}
 use Rattle.fl_history.specs.declared.history.Line.{Line}
 use Rattle.fl_history.specs.declared.history.Line.TheVariants as line
 use Rattle.fl_order.specs.declared.order.Order.{Order}
+use Rattle.fl_waiting.specs.Waiting.{is_waiting}
 
 -- an owner asks for a record lock, if one does, while a record request of its own is parked
 abbrev pub asks_while_waiting : Option ℕ → List Request → Bool

@@ -1,8 +1,8 @@
 -- Which requests an order may have set free: those on a node, of one class or of both.
 use Rattle.std.specs.Prelude.{◌≡◌, ℕ, ◌==◌, ◌&&◌, Bool, true, false, Option, Some, Result, Ok, List, [], ◌∷◌, ◌++◌}
-use Rattle.fl_core.specs.LockRequest.{key_of}
-use Rattle.fl_core.specs.Waiting.{waits, AllBehind}
-use Rattle.fl_core.specs.declared.parked.Request.{Request}
+use Rattle.fl_waiting.specs.LockRequest.{key_of}
+use Rattle.fl_waiting.specs.Waiting.{waits, AllBehind}
+use Rattle.fl_waiting.specs.declared.parked.Request.{Request}
 use Rattle.fl_core.specs.declared.settling.Touched.{Touched}
 use Rattle.fl_core.specs.declared.settling.Touched.TheVariants.{Nothing, OfClass, OfNode}
 use Rattle.fl_order.specs.declared.errno.Errno.{Errno}

@@ -1,8 +1,9 @@
 use Rattle.std.proofs.Common.{◌≡◌, ◌∙◌, true, false, Some, None, refl, sym, ap}
-use Rattle.fl_core.specs.LockRequest.{mark_of, stroke_of}
-use Rattle.fl_core.specs.Replies.{is_deadlock, room_reply}
+use Rattle.fl_waiting.specs.Circle.{is_deadlock}
+use Rattle.fl_waiting.specs.LockRequest.{mark_of, stroke_of}
+use Rattle.fl_core.specs.Replies.{room_reply}
 use Rattle.fl_core.specs.State.{View}
-use Rattle.fl_core.specs.Waiting.{must_wait}
+use Rattle.fl_waiting.specs.Waiting.{must_wait}
 use Rattle.fl_core.proofs.Requests.{asked_stroke, setlkw_is}
 use Rattle.fl_core.proofs.locking.set_or_wait.Goals as goal
 

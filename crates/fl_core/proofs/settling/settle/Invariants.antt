@@ -2,7 +2,7 @@ use Rattle.std.proofs.Common.{◌≡◌, ◌≤◌, ◌+◌, length}
 use Rattle.fl_ranges.specs.Conflict.{IsLawful}
 use Rattle.fl_core.specs.Inside.Touched.{OthersWait}
 use Rattle.fl_core.specs.Settling.{present}
-use Rattle.fl_core.specs.Waiting.{AreApart}
+use Rattle.fl_waiting.specs.Waiting.{AreApart}
 use Rattle.fl_core.proofs.Settlings.{IsSettling}
 use Rattle.fl_core.proofs.settling.settle.Given as goal
 

@@ -1,8 +1,8 @@
 use Rattle.std.proofs.Common.{◌≡◌, rules, ◌∙◌, ◌&&◌, not, Option, Some, None, List, sym}
 use Rattle.std.specs.Option.{MatchOption}
 use Rattle.fl_core.specs.Inside.Touched.{concerns_request}
-use Rattle.fl_core.specs.declared.claim.Claim.{Claim}
-use Rattle.fl_core.specs.declared.parked.Request.{Request}
+use Rattle.fl_waiting.specs.declared.claim.Claim.{Claim}
+use Rattle.fl_waiting.specs.declared.parked.Request.{Request}
 use Rattle.fl_core.proofs.Alone.{waits_alone}
 use Rattle.fl_core.proofs.Waits.{free_found}
 use Rattle.fl_core.proofs.settling.take_free.Goals as goal

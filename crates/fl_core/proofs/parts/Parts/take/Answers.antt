@@ -3,7 +3,7 @@ use Rattle.fl_core.specs.Inside.Touched.{touched_by, OthersWait}
 use Rattle.fl_core.specs.Replies.{reply_to, setlk_reply, setlkw_reply}
 use Rattle.fl_core.specs.State.{Snapshot, View}
 use Rattle.fl_core.specs.declared.settling.Touched.TheVariants.{Nothing}
-use Rattle.fl_core.specs.Waiting.{AllWait}
+use Rattle.fl_waiting.specs.Waiting.{AllWait}
 use Rattle.fl_core.proofs.Waits.{others_kept, others_set, others_flushed, others_released, others_parked}
 use Rattle.fl_core.proofs.parts.Parts.take.Goals as goal
 use Rattle.fl_order.specs.declared.order.Op.{Op}

@@ -1,7 +1,7 @@
 use Rattle.std.proofs.Common.{◌≡◌, ◌∙◌, true, false, cond, refl, sym, subst, ap}
 use Rattle.fl_core.specs.Replies.{own_replies, reply_to, taken_reply}
 use Rattle.fl_core.specs.State.{Snapshot}
-use Rattle.fl_core.specs.Waiting.{is_parked, AllWait}
+use Rattle.fl_waiting.specs.Waiting.{is_parked, AllWait}
 use Rattle.fl_core.specs.declared.state.Core.TheInside.{Inside}
 use Rattle.fl_core.proofs.Steps.{reads_refused, reads_replies, reads_next}
 use Rattle.fl_core.proofs.state.Core.answer.Goals as goal

@@ -5,7 +5,7 @@ use Rattle.fl_core.specs.Replies.{own_replies, ended_by, ending_of, reply_to}
 use Rattle.fl_core.specs.State.{Snapshot, snapshot_of}
 use Rattle.fl_core.specs.Step.{settling, ChangesNothing}
 use Rattle.fl_core.specs.declared.state.Core.TheInside.{Inside}
-use Rattle.fl_core.specs.Waiting.{is_parked, AllWait, AreApart}
+use Rattle.fl_waiting.specs.Waiting.{is_parked, AllWait, AreApart}
 use Rattle.fl_core.proofs.Nexts.{next_read, next_waits, next_apart}
 use Rattle.fl_core.proofs.Quiet.{alone_quiet, step_quiet}
 use Rattle.fl_core.proofs.Steps as steps

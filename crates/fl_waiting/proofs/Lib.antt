@@ -1,0 +1,7 @@
+pub mod Chain
+pub mod Circles
+pub mod Claims
+pub mod Copies
+pub mod Counts
+pub mod Searches
+pub mod Wishes
