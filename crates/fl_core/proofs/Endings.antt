@@ -1,8 +1,8 @@
 -- Requests that are ended, one after another.
 use Rattle.std.proofs.Common.{◌≡◌, Bool, Some, None, List, [], ◌∷◌, ◌++◌, append_assoc, append-nil, map, sym, ap, ◌∙◌}
 use Rattle.fl_core.specs.Replies.{ended_with, ended_all}
-use Rattle.fl_core.specs.Waiting.{taken_first}
-use Rattle.fl_core.specs.declared.parked.Request.{Request}
+use Rattle.fl_waiting.specs.Waiting.{taken_first}
+use Rattle.fl_waiting.specs.declared.parked.Request.{Request}
 use Rattle.fl_core.proofs.Taken.{is_taken, none_taken}
 use Rattle.fl_order.specs.declared.errno.Errno.{Errno}
 use Rattle.fl_order.specs.declared.told.Told.{Told}

@@ -2,8 +2,8 @@
 use Rattle.std.proofs.Common.{◌≡◌, ◌≢◌, ℕ, suc, ◌==◌, ◌||◌, Bool, true, false, not, cond, Option, Some, None, option_map, List, [], ◌∷◌, ◌++◌, length, refl, sym, ap, ◌∙◌, subst, arith}
 use Rattle.std.proofs.lemmas.Bool.Decides.{nat_tests}
 use Rattle.std.specs.List.{filter, AllByRecursion}
-use Rattle.fl_core.specs.declared.parked.Request.{Request}
-use Rattle.fl_core.specs.Waiting.{is_parked, taken_first, taken_out, AreApart}
+use Rattle.fl_waiting.specs.declared.parked.Request.{Request}
+use Rattle.fl_waiting.specs.Waiting.{is_parked, taken_first, taken_out, AreApart}
 
 abbrev pub keep : Request → Option (Request × List Request) → Option (Request × List Request)
 keep r o = option_map (λ (p : Request × List Request). (p.0, r ∷ p.1)) o

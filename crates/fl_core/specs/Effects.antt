@@ -2,10 +2,10 @@
 use Rattle.std.specs.Prelude.{ℕ, ◌==◌, Bool, true, false, Option, Some, None, Result, Ok, Err, List, [], ◌∷◌, ◌++◌}
 use Rattle.std.specs.Prelude.{if◌then◌else◌}
 use Rattle.std.specs.List.{fold}
-use Rattle.fl_core.specs.LockRequest.{stroke_of}
+use Rattle.fl_waiting.specs.LockRequest.{stroke_of}
 use Rattle.fl_core.specs.State.{View, State, Snapshot}
-use Rattle.fl_core.specs.Waiting.{is_parked, taken_out}
-use Rattle.fl_core.specs.declared.parked.Request.{Request}
+use Rattle.fl_waiting.specs.Waiting.{is_parked, taken_out}
+use Rattle.fl_waiting.specs.declared.parked.Request.{Request}
 use Rattle.fl_dir.specs.Changes.{after_lookup, after_create, after_open, after_unlink, after_forget, after_close}
 use Rattle.fl_dir.specs.Directory.{Listing}
 use Rattle.fl_dir.specs.OpenFiles.{has_open_file, without_file}
@@ -154,8 +154,8 @@ replied order (told ∷ tolds) v = fold (λ e t. followed_by (later t) e) (told_
 
 -- the state after an effect
 abbrev pub recorded : (View → Effect) → State → State
-recorded f s = record { view = (f s.view).view; changes = (f s.view).changes ++ s.changes }
+recorded f s = record s { view = (f s.view).view; changes = (f s.view).changes ++ s.changes }
 
 -- what contracts see after an effect
 abbrev pub made : (View → Effect) → Snapshot → Snapshot
-made f p = record { view = (f p.view).view; marking = after_changes (f p.view).changes p.marking }
+made f p = record p { view = (f p.view).view; marking = after_changes (f p.view).changes p.marking }

@@ -3,13 +3,13 @@
 use Rattle.std.specs.Prelude.{◌≡◌, ◌≢◌, ◌==◌, ◌≤◌, ◌<◌, ℕ, Bool, true, false, Some, None, Result, Ok, Err, List, [], ◌∷◌, ◌++◌}
 use Rattle.std.specs.Prelude.{length}
 use Rattle.std.specs.List.{AllByRecursion}
-use Rattle.fl_core.specs.Circle.{ClosesCircle}
+use Rattle.fl_waiting.specs.Circle.{ClosesCircle}
 use Rattle.fl_core.specs.Effects.{request_of}
 use Rattle.fl_core.specs.Replies.{ask_error, reply_to, own_replies, ended_with, ended_all}
 use Rattle.fl_core.specs.Settling.{grant_reply}
 use Rattle.fl_core.specs.State.{Snapshot}
-use Rattle.fl_core.specs.Waiting.{waits}
-use Rattle.fl_core.specs.declared.parked.Request.{Request}
+use Rattle.fl_waiting.specs.Waiting.{waits}
+use Rattle.fl_waiting.specs.declared.parked.Request.{Request}
 use Rattle.fl_dir.specs.OpenFiles.{is_open_on}
 use Rattle.fl_order.specs.declared.errno.Errno.{Errno}
 use Rattle.fl_order.specs.declared.errno.Errno.TheVariants.{EINTR, EBADF, EINVAL, EAGAIN, EDEADLK, ENOLCK}
@@ -46,7 +46,7 @@ own order result = record { unique = order.unique; result = result }
 -- what an order gives whose unique is none of a parked request
 pub data IsAnswered (p : Snapshot) (order : Order) : Op → List Told → Type 0 where
   alone : (op : Op) → is_alone op ≡ true
-      → IsAnswered p order op (own_replies order (reply_to p.view p.marking order op))
+      → IsAnswered p order op (own_replies order (reply_to p.rules p.view p.marking order op))
   -- RELEASE: of an fh that isn't open on the node; or of one that is, and then each request that came through it is
   -- told EBADF, the oldest first
   not_open : (fh : ℕ) (unlocks : Bool) (owner : ℕ) → is_open_on p.view.directory fh order.node ≡ false
@@ -64,20 +64,20 @@ pub data IsAnswered (p : Snapshot) (order : Order) : Op → List Told → Type 0
   fails : (ask : LockAsk) (e : Errno) → ask_error p.view.directory order.node ask ≡ Some e
       → IsAnswered p order (Setlkw ask) (own order (Err e) ∷ [])
   is_free : (ask : LockAsk) → ask_error p.view.directory order.node ask ≡ None
-      → waits p.marking p.view.parked (request_of order ask) ≡ false
+      → waits p.rules p.marking p.view.parked (request_of order ask) ≡ false
       → IsAnswered p order (Setlkw ask) (own order (grant_reply p.marking (request_of order ask)) ∷ [])
   closes_one : (ask : LockAsk) → ask_error p.view.directory order.node ask ≡ None
-      → waits p.marking p.view.parked (request_of order ask) ≡ true
-      → ClosesCircle p.marking p.view.parked (request_of order ask)
+      → waits p.rules p.marking p.view.parked (request_of order ask) ≡ true
+      → ClosesCircle p.rules p.marking p.view.parked (request_of order ask)
       → IsAnswered p order (Setlkw ask) (own order (Err EDEADLK) ∷ [])
   is_one_too_many : (ask : LockAsk) → ask_error p.view.directory order.node ask ≡ None
-      → waits p.marking p.view.parked (request_of order ask) ≡ true
-      → (ClosesCircle p.marking p.view.parked (request_of order ask) → ⊥)
+      → waits p.rules p.marking p.view.parked (request_of order ask) ≡ true
+      → (ClosesCircle p.rules p.marking p.view.parked (request_of order ask) → ⊥)
       → 256 ≤ length p.view.parked
       → IsAnswered p order (Setlkw ask) (own order (Err ENOLCK) ∷ [])
   waits_now : (ask : LockAsk) → ask_error p.view.directory order.node ask ≡ None
-      → waits p.marking p.view.parked (request_of order ask) ≡ true
-      → (ClosesCircle p.marking p.view.parked (request_of order ask) → ⊥)
+      → waits p.rules p.marking p.view.parked (request_of order ask) ≡ true
+      → (ClosesCircle p.rules p.marking p.view.parked (request_of order ask) → ⊥)
       → length p.view.parked < 256
       → IsAnswered p order (Setlkw ask) []
 

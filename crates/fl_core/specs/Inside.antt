@@ -1,5 +1,2 @@
-pub mod Claims
-pub mod Counts
 pub mod Parts
-pub mod Searching
 pub mod Touched

@@ -1,12 +1,9 @@
-pub mod Circle
 pub mod Codes
 pub mod Effects
 pub mod First
 pub mod Inside
-pub mod LockRequest
 pub mod Replies
 pub mod Settling
 pub mod Stages
 pub mod State
 pub mod Step
-pub mod Waiting

@@ -3,7 +3,7 @@
 use Rattle.std.proofs.Common.{◌≡◌, ◌≢◌, ℕ, Bool, true, ◌⊎◌, inl, inr, ⊎_elim, Option, Some, List, [], ◌∷◌, ◌++◌, refl, ap, sym, ◌∙◌, subst}
 use Rattle.std.specs.List.{Contains}
 use Rattle.std.proofs.lemmas.List.Elements.{Contains-push_cases}
-use Rattle.fl_core.specs.Circle.{Waits, AreInRow, IsCircle}
+use Rattle.fl_waiting.specs.Circle.{Waits, AreInRow, IsCircle}
 
 -- ---- a request is parked behind others
 

@@ -1,14 +1,15 @@
 -- Histories in which no owner asks for a record lock while it waits for one, and what comes of it.
 use Rattle.std.specs.Prelude.{◌≡◌, ℕ, Bool, false, Option, Some, None, List, ◌∷◌, ◌++◌}
-use Rattle.fl_core.specs.Circle.{waiter_of, hinders, waiters, AreInRow}
-use Rattle.fl_core.specs.Stages.{asked_by, is_waiting}
+use Rattle.fl_waiting.specs.Circle.{waiter_of, hinders, waiters, AreInRow}
+use Rattle.fl_core.specs.Stages.{asked_by}
 use Rattle.fl_core.specs.State.{Snapshot, snapshot_of}
-use Rattle.fl_core.specs.declared.parked.Request.{Request}
+use Rattle.fl_waiting.specs.declared.parked.Request.{Request}
 use Rattle.fl_desk.specs.Legal.{IsLegal}
 use Rattle.fl_desk.specs.Replay.{state_after}
 use Rattle.fl_history.specs.declared.history.Line.{Line}
 use Rattle.fl_history.specs.declared.history.Line.TheVariants as line
 use Rattle.fl_order.specs.declared.order.Order.{Order}
+use Rattle.fl_waiting.specs.Waiting.{is_waiting}
 
 -- an owner asks for a record lock, if one does, while a record request of its own is parked
 abbrev pub asks_while_waiting : Option ℕ → List Request → Bool
@@ -28,7 +29,7 @@ IsQuiet lines =
 abbrev pub HasNoCircle : Snapshot → Type 0
 HasNoCircle p =
     (first : ℕ) (others : List ℕ)
-    → AreInRow waiter_of (hinders p.marking) (waiters p.view.parked) first others first → ⊥
+    → AreInRow waiter_of (hinders p.rules p.marking) (waiters p.view.parked) first others first → ⊥
 
 -- There are none after any order of the lines: what a legal beginning of them leads to has none.
 abbrev pub HasNoCircles : List Line → Type 0

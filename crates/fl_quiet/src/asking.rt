@@ -1,9 +1,10 @@
 //! Who asks while it waits: whether a history is quiet.
 
 ghost use Rattle.std.specs.Prelude.{◌≡◌, ◌↔◌, true, IfOk};
-ghost use Rattle.fl_core.specs.Stages.{asks_record_lock, asked_by, is_waiting};
+ghost use Rattle.fl_core.specs.Stages.{asks_record_lock, asked_by};
 ghost use Rattle.fl_desk.specs.Legal.{IsLegal};
 ghost use Rattle.fl_quiet.specs.Quiet.{asks_while_waiting, IsQuiet, HasNoCircles};
+ghost use Rattle.fl_waiting.specs.Waiting.{is_waiting};
 
 use crate::laws::quiet_histories_have_no_circle;
 use fl_core::{Core, Tolds};

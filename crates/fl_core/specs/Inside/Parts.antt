@@ -4,7 +4,7 @@ use Rattle.std.specs.List.{filter}
 use Rattle.fl_core.specs.Replies.{ending_of, picks}
 use Rattle.fl_core.specs.State.{Snapshot}
 use Rattle.fl_core.specs.declared.ending.Ending.{Ending}
-use Rattle.fl_core.specs.declared.parked.Request.{Request}
+use Rattle.fl_waiting.specs.declared.parked.Request.{Request}
 use Rattle.fl_order.specs.declared.errno.Errno.{Errno}
 use Rattle.fl_order.specs.declared.told.Answer.{Answer}
 use Rattle.fl_order.specs.declared.order.Op.{Op}

@@ -1,6 +1,6 @@
 use Rattle.std.proofs.Common.{◌∙◌, sym, ap}
 use Rattle.fl_dir.specs.Replies.{unless_error}
-use Rattle.fl_core.specs.LockRequest.{mark_of, stroke_of}
+use Rattle.fl_waiting.specs.LockRequest.{mark_of, stroke_of}
 use Rattle.fl_core.specs.Replies.{set_reply}
 use Rattle.fl_core.proofs.Requests.{asked_stroke}
 use Rattle.fl_core.proofs.locking.set_lock.Goals as goal

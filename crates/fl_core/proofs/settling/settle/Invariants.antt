@@ -2,15 +2,15 @@ use Rattle.std.proofs.Common.{◌≡◌, ◌≤◌, ◌+◌, length}
 use Rattle.fl_ranges.specs.Conflict.{IsLawful}
 use Rattle.fl_core.specs.Inside.Touched.{OthersWait}
 use Rattle.fl_core.specs.Settling.{present}
-use Rattle.fl_core.specs.Waiting.{AreApart}
+use Rattle.fl_waiting.specs.Waiting.{AreApart}
 use Rattle.fl_core.proofs.Settlings.{IsSettling}
 use Rattle.fl_core.proofs.settling.settle.Given as goal
 
 -- what was told and is left to tell is the whole
 abbrev pub invariant-loop-claim : goal.invariant-loop-claim
 invariant-loop-claim l = record {
-  so_far : IsSettling (present l.initial.locks.marking l.initial.parked) (present l.locks.marking l.parked) l.initial.tolds l.tolds;
-  others : OthersWait l.touched l.locks.marking l.parked;
+  so_far : IsSettling l.rules (present l.initial.locks.marking l.initial.parked) (present l.locks.marking l.parked) l.initial.tolds l.tolds;
+  others : OthersWait l.touched l.rules l.locks.marking l.parked;
   apart : AreApart l.initial.parked → AreApart l.parked;
   room : length l.tolds + length l.parked ≤ 257;
   lawful : IsLawful l.initial.locks.marking → IsLawful l.locks.marking;

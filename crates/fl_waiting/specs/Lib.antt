@@ -1,0 +1,4 @@
+pub mod Circle
+pub mod Inside
+pub mod LockRequest
+pub mod Waiting

@@ -1,0 +1,235 @@
+//! Parked requests, in the order of asking.
+
+ghost use Rattle.std.specs.Prelude.{◌≡◌, ◌==◌, ◌↔◌, ◌≤◌, ◌<◌, ◌%◌, ◌++◌, ◌∷◌, [], Bool, true, false, None, Some, IfOk, MatchOption, length, take};
+ghost use Rattle.std.specs.List.{list_any, AllByRecursion};
+ghost use Rattle.fl_arena.specs.Chains.{items};
+ghost use Rattle.fl_arena.specs.Cursors.{Tests, cursor_at};
+ghost use Rattle.fl_waiting.specs.Inside.Claims.{requests_of, IsFirstBehind};
+ghost use Rattle.fl_waiting.specs.Inside.Searching.{meant};
+ghost use Rattle.fl_waiting.specs.Waiting.{goes_first, is_behind, is_parked, passes_free, taken_behind, taken_first, wishes};
+ghost use Rattle.fl_waiting.specs.declared.claim.Claim.{Claim};
+ghost use Rattle.fl_waiting.specs.declared.parked.Request.{Request};
+
+use crate::circle::{Wanted, goes_first, wanted_of};
+use crate::claim::Claim;
+use crate::rules::Rules;
+use fl_arena::{Arena, Cursor};
+use fl_order::{LockAsk, NoMemory};
+use fl_ranges::{Key, Kind, Range};
+use std::alloc::Global;
+use std::marker::Model;
+
+/// The most parked requests at once.
+pub const MOST_PARKED: usize = 256;
+
+const BUCKETS: usize = 256;
+
+/// A parked lock request: the unique of its order, and what it asks on which node.
+#[derive(Clone, Copy, Debug, PartialEq, Eq)]
+pub struct Request {
+    /// The unique of its order.
+    pub unique: u64,
+    /// The node whose bytes it asks for.
+    pub node: u64,
+    /// What it asks.
+    pub ask: LockAsk,
+}
+
+/// Parked requests, the oldest first. Contracts see their list.
+#[derive(Drop)]
+pub struct Parked {
+    pub(crate) claims: Arena<Claim>,
+    // No parked request has a greater unique. Those of a kernel rise, so that a new one is past all.
+    greatest: u64,
+    // How many wait on the nodes whose number has this remainder modulo 256.
+    on_nodes: [u16; BUCKETS],
+}
+
+impl Model for Parked {
+    ghost use Rattle.std.specs.Prelude.{◌≡◌, List, length};
+    ghost use Rattle.fl_arena.specs.Chains.{items};
+    ghost use Rattle.fl_waiting.specs.declared.parked.Request.{Request};
+    ghost use Rattle.fl_waiting.specs.Inside.Claims.{requests_of};
+    ghost use Rattle.fl_waiting.specs.Inside.Counts.{AreUpTo, AreCounted};
+
+    ghost Value = { List Request };
+
+    ghost view = { λ p. requests_of p.claims };
+
+    ghost invariant = { λ p. (length p.claims.chains ≡ 1) × (p.claims.slots ≡ 256)
+        × AreUpTo p.greatest (requests_of p.claims) × AreCounted p.on_nodes (requests_of p.claims) };
+}
+
+impl Parked {
+    /// No request waits.
+    pub fn new(alloc: Global) -> Result<Parked, NoMemory>
+        ensures { IfOk result (λ parked. parked ≡ []) }
+    {
+        Ok(Parked {
+            claims: Arena::new(alloc, 1, MOST_PARKED)?,
+            greatest: 0,
+            on_nodes: [0; BUCKETS],
+        })
+    }
+
+    /// Whether no more can wait.
+    pub fn is_full(&self) -> bool
+        ensures few { length self.now ≤ MOST_PARKED }
+        ensures full { result ≡ (length self.now == MOST_PARKED) }
+    {
+        self.claims.free() == 0
+    }
+
+    /// Whether none waits.
+    pub fn is_empty(&self) -> bool
+        ensures few { length self.now ≤ MOST_PARKED }
+        ensures empty { result ≡ (length self.now == 0) }
+    {
+        self.claims.free() == MOST_PARKED
+    }
+
+    /// Whether a request of this unique waits.
+    pub fn has(&self, unique: u64) -> bool
+        ensures found { result ≡ is_parked unique self.now }
+        ensures few { length self.now ≤ MOST_PARKED }
+    {
+        if self.claims.free() == MOST_PARKED || unique > self.greatest {
+            return false;
+        }
+        let cursor = self
+            .claims
+            .first_where(0, |claim| claim.request.unique == unique);
+        self.claims.item(&cursor).is_some()
+    }
+
+    /// Whether a request on this node may wait; where none may, none does.
+    pub fn may_be_on(&self, node: u64) -> bool
+        ensures { result ≡ false → AllByRecursion (λ (r : Request). (r.node == node) ≡ false) self.now }
+    {
+        self.on_nodes[bucket(node)] != 0
+    }
+
+    /// A request more, after the others.
+    pub fn push(&mut self, claim: Claim)
+        requires { length self.old < MOST_PARKED }
+        ensures { self.new ≡ self.old ++ claim.request ∷ [] }
+    {
+        self.greatest = self.greatest.max(claim.request.unique);
+        self.on_nodes[bucket(claim.request.node)] += 1;
+        let mut end = Cursor {
+            chain: 0,
+            index: 0,
+            slot: None,
+        };
+        let Ok(()) = self.claims.insert(&mut end, claim) else {
+            unreachable!()
+        };
+    }
+
+    /// Takes out the oldest request that passes the test.
+    pub fn take_first<F: Fn(&Claim) -> bool>(&mut self, test: F) -> Option<Claim>
+        requires { F.IsAlwaysCallable test }
+        ensures { (p : Request → Bool) → Tests F.Fn (λ (claim : Claim). p claim.request) test → MatchOption result
+            ((taken_first p self.old ≡ None) × (self.new ≡ self.old))
+            (λ taken. taken_first p self.old ≡ Some (taken.request, self.new)) }
+    {
+        let mut cursor = self.claims.first_where(0, test);
+        if self.claims.item(&cursor).is_none() {
+            return None;
+        }
+        let claim = self.claims.remove(&mut cursor);
+        self.on_nodes[bucket(claim.request.node)] -= 1;
+        Some(claim)
+    }
+
+    /// The same of those requests before which, by these rules, no older one goes.
+    pub fn take_free<F: Fn(&Claim) -> bool>(&mut self, rules: Rules, test: F) -> Option<Claim>
+        requires { F.IsAlwaysCallable test }
+        ensures { (p : Request → Bool) → Tests F.Fn (λ (claim : Claim). p claim.request) test → MatchOption result
+            ((taken_behind (passes_free rules p) [] self.old ≡ None) × (self.new ≡ self.old))
+            (λ taken. taken_behind (passes_free rules p) [] self.old ≡ Some (taken.request, self.new)) }
+    {
+        if !rules.fair {
+            return self.take_first(test);
+        }
+        let mut cursor = first_free(&self.claims, test);
+        if self.claims.item(&cursor).is_none() {
+            return None;
+        }
+        let claim = self.claims.remove(&mut cursor);
+        self.on_nodes[bucket(claim.request.node)] -= 1;
+        Some(claim)
+    }
+
+    /// Whether some request goes, under fair rules, before one for this lock which is younger.
+    pub fn goes_before(&self, key: &Key, range: &Range, kind: Kind) -> bool
+        ensures { result ≡ list_any
+            (goes_first (record { key = key.now; start = range.now.start; end = range.now.end; kind = kind }))
+            (wishes self.now) }
+    {
+        let wanted = Wanted {
+            key: *key,
+            range: *range,
+            kind,
+            place: 0,
+        };
+        let cursor = self
+            .claims
+            .first_where(0, |claim| goes_before(claim, &wanted));
+        self.claims.item(&cursor).is_some()
+    }
+}
+
+// The first request that passes the test and before which no older one goes, or the end.
+fn first_free<F: Fn(&Claim) -> bool>(claims: &Arena<Claim>, test: F) -> Cursor
+    requires chain { 0 < length claims.now.chains }
+    requires callable { F.IsAlwaysCallable test }
+    ensures at { result ≡ cursor_at claims.now 0 result.index }
+    ensures first { (p : Request → Bool) → Tests F.Fn (λ (claim : Claim). p claim.request) test →
+        IsFirstBehind (passes_free (record { fair = true }) p) (requests_of claims.now) result.index }
+{
+    let mut cursor = claims.cursor(0);
+    while let Some(claim) = claims.item(&cursor) {
+        if test(claim) && !is_behind(claims, claim, cursor.index) {
+            break;
+        }
+        claims.step(&mut cursor);
+    }
+    cursor
+}
+
+// Whether one of the requests before this place goes before this one.
+fn is_behind(claims: &Arena<Claim>, claim: &Claim, place: usize) -> bool
+    requires chain { 0 < length claims.now.chains }
+    requires within { place ≤ length (items claims.now 0) }
+    ensures { result ≡ is_behind (record { fair = true }) (take place (requests_of claims.now)) claim.now.request }
+{
+    let Some(mark) = claim.mark else {
+        return false;
+    };
+    let wanted = Wanted {
+        key: claim.key,
+        range: claim.range,
+        kind: mark.kind,
+        place: 0,
+    };
+    let first = claims.first_where(0, |older| goes_before(older, &wanted));
+    first.index < place
+}
+
+// Whether a request that is older goes before one for this lock.
+fn goes_before(older: &Claim, wanted: &Wanted) -> bool
+    ensures { result ≡ list_any (goes_first (meant wanted.now)) (wishes (older.now.request ∷ [])) }
+{
+    match wanted_of(older) {
+        Some(older) => goes_first(wanted, &older),
+        None => false,
+    }
+}
+
+fn bucket(node: u64) -> usize
+    ensures is { result ≡ node % 256 }
+    ensures below { result < BUCKETS }
+{
+    (node % 256) as usize
+}
