@@ -69,11 +69,7 @@ fn a_long_history_goes_out_in_pieces(rt: HostRuntime) {
 // The write at this place fails, and none comes behind it.
 fn stops(rt: &impl Abort, alloc: Global, history: &History, fails_at: usize) {
     let mut sink = Sink::failing_once(alloc, fails_at, ErrorKind::Other);
-    came(
-        rt,
-        write(rt, alloc, history, &mut sink),
-        Err(Unwritten),
-    );
+    came(rt, write(rt, alloc, history, &mut sink), Err(Unwritten));
     count_is(rt, sink.writes, fails_at.saturating_add(1));
     assert!(rt; sink.held.len() < history.len().saturating_mul(43));
 }
@@ -94,11 +90,7 @@ fn a_writer_that_takes_no_more_is_told(rt: HostRuntime) {
     let alloc = rt.alloc();
     let history = history_of(&rt, alloc, TRACE);
     let mut sink = Sink::new(alloc, 7, Trouble::behind(5, None));
-    came(
-        &rt,
-        write(&rt, alloc, &history, &mut sink),
-        Err(Unwritten),
-    );
+    came(&rt, write(&rt, alloc, &history, &mut sink), Err(Unwritten));
     holds(&rt, &sink.held, &TRACE.as_bytes()[..35]);
 }
 
