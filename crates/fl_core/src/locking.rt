@@ -71,7 +71,7 @@ pub(crate) fn release_locks(locks: &mut Table, node: u64, drop: bool, owner: u64
     }
 }
 
-/// FUSE_SETLKW: the same, but a request that conflicts waits, and has no reply yet.
+/// FUSE_SETLKW: the same, but a request that has to wait is parked, and has no reply yet.
 pub(crate) fn set_or_wait(
     rules: Rules,
     directory: &Dir,

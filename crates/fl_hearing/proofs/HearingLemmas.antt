@@ -6,7 +6,7 @@ use Rattle.fl_order.specs.declared.order.Order.{Order}
 use Rattle.fl_order.specs.declared.refusal.Refusal.{Refusal}
 use Rattle.fl_order.specs.declared.refusal.Refusal.TheVariants.{Answer, Silent, Batch, Destroy}
 use Rattle.fl_wire.specs.Batch.{forgets_in}
-use Rattle.fl_hearing.specs.Said.{order_said, said_from, said_in}
+use Rattle.fl_hearing.specs.Said.{orders_said, said_from, said_in}
 use Rattle.fl_order.specs.OpKind.{kind_of_opcode}
 use Rattle.fl_wire.specs.Layout.{opcode_of}
 use Rattle.fl_wire.specs.Says.{said}
@@ -61,11 +61,11 @@ hears (met.Owed owed) old new message live heard s far =
 -- ---- the orders that a message says
 
 said_order : (order : Order) (old new : Talk) (message : List ℕ) → old.over ≡ false
-    → IsHeard (met.Order order) old new message → (s : Session) → IsThisFar s old → order_said s message ≡ order ∷ []
+    → IsHeard (met.Order order) old new message → (s : Session) → IsThisFar s old → orders_said s message ≡ order ∷ []
 said_order order old new message live heard s far = rw (far.over, live, far.agreed, heard.0, heard.2) refl
 
 said_batch : (orders : Orders) (old new : Talk) (message : List ℕ) → old.over ≡ false
-    → IsHeard (met.Batch orders) old new message → (s : Session) → IsThisFar s old → order_said s message ≡ orders
+    → IsHeard (met.Batch orders) old new message → (s : Session) → IsThisFar s old → orders_said s message ≡ orders
 said_batch orders old new message live heard s far = rw (far.over, live, far.agreed, heard.0, heard.2) (sym heard.3)
 
 -- orders of which the first is refused are none, or some order is refused
@@ -83,26 +83,26 @@ none_or_lost s message (Err Destroy) = inl refl
 
 -- A message that the session itself answers says none: one that says some is answered otherwise where its first is refused.
 said_none : (owed : Owed) (old new : Talk) (message : List ℕ) → old.over ≡ false
-    → IsHeard (met.Owed owed) old new message → (s : Session) → IsThisFar s old → order_said s message ≡ []
+    → IsHeard (met.Owed owed) old new message → (s : Session) → IsThisFar s old → orders_said s message ≡ []
 said_none owed old new message live heard s far = go old.agreed refl
   where
     of_agreed : old.agreed ≡ true → (orders_of message (said message) ≡ [])
         ⊎ ((after_init (standing opening_session old) (true ∷ []) message (said message)).refused ≡ true)
-        → order_said s message ≡ []
+        → orders_said s message ≡ []
     of_agreed after (inl none) = rw (far.over, live, far.agreed, after) none
     of_agreed after (inr lost) =
         let refused = ap (λ (s : Session). s.refused) (message_taken (standing opening_session old) message (true ∷ []) live after)
         ∙ lost in
         absurd (true≢false (sym refused ∙ sym (ap (λ (s : Session). s.refused) (heard opening_session (true ∷ [])))))
 
-    go : (agreed : Bool) → old.agreed ≡ agreed → order_said s message ≡ []
+    go : (agreed : Bool) → old.agreed ≡ agreed → orders_said s message ≡ []
     go false before = rw (far.over, live, far.agreed, before) refl
     go true after = of_agreed after (none_or_lost (standing opening_session old) message (said message))
 
 -- what a message says is put
 pub puts : (result : Met) (old new : Talk) (message : List ℕ) (put put_now : Orders) → old.over ≡ false
     → IsHeard result old new message → IsPutAs result put put_now → (s : Session) → IsThisFar s old
-    → put_now ≡ put ++ order_said s message
+    → put_now ≡ put ++ orders_said s message
 puts (met.Order order) old new message put put_now live heard is_put s far =
     is_put ∙ ap (λ l. put ++ l) (sym (said_order order old new message live heard s far))
 puts (met.Batch orders) old new message put put_now live heard is_put s far =
@@ -122,13 +122,13 @@ put_more put put_now put_next orders i order at so_far one =
 
 said_more : (s : Session) (xs ys : List Came) → said_from s (xs ++ ys) ≡ said_from s xs ++ said_from (fold with_message s xs) ys
 said_more s [] ys = refl
-said_more s (x ∷ xs) ys = ap (λ l. order_said s x.message ++ l) (said_more (with_message s x) xs ys)
-    ∙ sym (append_assoc (order_said s x.message) (said_from (with_message s x) xs)
+said_more s (x ∷ xs) ys = ap (λ l. orders_said s x.message ++ l) (said_more (with_message s x) xs ys)
+    ∙ sym (append_assoc (orders_said s x.message) (said_from (with_message s x) xs)
     (said_from (fold with_message (with_message s x) xs) ys))
 
-said_one_more : (came : List Came) (c : Came) → said_in (came ++ c ∷ []) ≡ said_in came ++ order_said (session_of came) c.message
+said_one_more : (came : List Came) (c : Came) → said_in (came ++ c ∷ []) ≡ said_in came ++ orders_said (session_of came) c.message
 said_one_more came c = said_more opening_session came (c ∷ [])
-    ∙ ap (λ l. said_in came ++ l) (append-nil (order_said (session_of came) c.message))
+    ∙ ap (λ l. said_in came ++ l) (append-nil (orders_said (session_of came) c.message))
 
 -- nothing is heard yet
 pub hearing_first : (left : Option (List ℕ)) (talk : Talk) (put : Orders) (goodbye : Owed) (inbox : Inflow)
@@ -146,7 +146,7 @@ hearing_first left talk put goodbye inbox agreed live none unread = record {
 pub hearing_more : (left left_now : Option (List ℕ)) (old new : Talk) (put put_now : Orders) (goodbye goodbye_now : Owed)
     (message rest rest_now : List ℕ)
     → old.over ≡ false → Takes message rest rest_now → Hears old new message
-    → ((s : Session) → IsThisFar s old → put_now ≡ put ++ order_said s message)
+    → ((s : Session) → IsThisFar s old → put_now ≡ put ++ orders_said s message)
     → (new.over ≡ true → goodbye_now ≡ goodbye_to message)
     → IsHearing left left_now old put goodbye rest → IsHearing left left_now new put_now goodbye_now rest_now
 hearing_more left left_now old new put put_now goodbye goodbye_now message rest rest_now live takes heard puts ends before =
@@ -157,7 +157,7 @@ hearing_more left left_now old new put put_now goodbye goodbye_now message rest 
       far = subst (λ s. IsThisFar s new) (sym (fold-append with_message opening_session before.came (c ∷ [])))
           (heard (session_of before.came) before.far);
       said = puts (session_of before.came) before.far
-          ∙ ap (λ l. l ++ order_said (session_of before.came) message) before.said
+          ∙ ap (λ l. l ++ orders_said (session_of before.came) message) before.said
           ∙ sym (said_one_more before.came c);
       over = λ over. record { front = before.came; last = c; parts = refl; owed = ends over };
     }

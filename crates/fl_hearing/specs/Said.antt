@@ -5,13 +5,13 @@ use Rattle.fl_wire.specs.Says.{said}
 use Rattle.fl_workers.specs.Asked.{Orders}
 
 -- the orders that a message says to a session that is this far: after the INIT that was agreed, and before a DESTROY
-abbrev pub order_said : Session → List ℕ → Orders
-order_said s message = if s.over then [] else if s.agreed then orders_of message (said message) else []
+abbrev pub orders_said : Session → List ℕ → Orders
+orders_said s message = if s.over then [] else if s.agreed then orders_of message (said message) else []
 
 -- the orders that these messages say to a session that is this far
 abbrev pub said_from : Session → List Came → Orders
 said_from s [] = []
-said_from s (c ∷ came) = order_said s c.message ++ said_from (with_message s c) came
+said_from s (c ∷ came) = orders_said s c.message ++ said_from (with_message s c) came
 
 -- the orders that the messages of a session say
 abbrev pub said_in : List Came → Orders

@@ -3,7 +3,7 @@
 ghost use Rattle.std.specs.Prelude.{◌≡◌, ◌≢◌, ◌++◌, ◌∷◌, [], Some, true, false};
 ghost use Rattle.fl_hearing.specs.Heard.{HasHeard};
 ghost use Rattle.fl_hearing.specs.Inside.Hearing.{Hears, IsThisFar};
-ghost use Rattle.fl_hearing.specs.Said.{order_said};
+ghost use Rattle.fl_hearing.specs.Said.{orders_said};
 ghost use Rattle.fl_session.specs.Inbox.{IsUnread};
 ghost use Rattle.fl_session.specs.Session.{Session};
 ghost use Rattle.fl_session.specs.Talk.{goodbye_to};
@@ -135,7 +135,7 @@ impl<'r, 'a, 'w, R: Wait, W: Write, N: WriterName> Hearer<'r, 'a, 'w, R, W, N> {
         ensures same { (self.new.put.of ≡ self.old.put.of) × (self.new.put.takers ≡ self.old.put.takers) }
         ensures heard { Hears self.old.talk self.new.talk frame.now }
         ensures put { (s : Session) → IsThisFar s self.old.talk
-            → self.new.put.put ≡ self.old.put.put ++ order_said s frame.now }
+            → self.new.put.put ≡ self.old.put.put ++ orders_said s frame.now }
         ensures ends { self.new.talk.over ≡ true → self.new.goodbye ≡ goodbye_to frame.now }
     {
         match self.talk.meet(frame) {

@@ -46,7 +46,7 @@ IsOfSession (BadLength n) = ⊤
 IsOfSession Read = ⊤
 IsOfSession fault = ⊥
 
--- a fault at which no trace is printed: nobody came, or nothing was served
+-- a fault at which no trace is printed: nobody came, nothing was served, or the board of workers couldn't be closed
 abbrev pub IsOfNoSession : Fault → Type 0
 IsOfNoSession Listen = ⊤
 IsOfNoSession NoMemory = ⊤

@@ -1,4 +1,4 @@
--- Which requests an order may have set free: those on a node, of one class or of both.
+-- Which requests an order may have set free: those on a node, of one class or of both, or any.
 use Rattle.std.specs.Prelude.{◌≡◌, ℕ, ◌==◌, ◌&&◌, Bool, true, false, Option, Some, Result, Ok, List, [], ◌∷◌, ◌++◌}
 use Rattle.fl_waiting.specs.LockRequest.{key_of}
 use Rattle.fl_waiting.specs.Waiting.{waits, AllBehind}
