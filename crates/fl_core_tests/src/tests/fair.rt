@@ -13,29 +13,43 @@ ask 0 1001 1 5 6 0 create 1 420 62
 tell 1001 made 3 33188 1 5 6 2
 ";
 
+// Node 2 is open as fh 1.
+const WITH_A_FILE: &str = "\
+ask 0 1 1 0 0 0 create 0 420 61
+tell 1 made 2 33188 1 0 0 1
+";
+
 const A_READER_WAITS_BEHIND_A_WRITER_WHO_WAITS: &str = "\
-ask 0 2 2 5 6 0 setlk 1 7 0 0 0 7 0
+ask 0 2 2 0 0 0 setlk 1 7 0 0 0 11 0
 tell 2 ok
-ask 0 3 2 5 6 0 setlkw 1 8 0 0 1 8 0
-ask 0 4 2 5 6 0 setlkw 1 9 0 0 0 9 0
-ask 0 5 2 5 6 0 setlk 1 10 0 0 0 10 0
+ask 0 3 2 0 0 0 setlkw 1 8 0 0 1 12 0
+ask 0 4 2 0 0 0 setlkw 1 9 0 0 0 13 0
+ask 0 5 2 0 0 0 setlk 1 10 0 0 0 14 0
 tell 5 ok
-ask 0 6 2 5 6 0 setlk 1 7 0 0 2 7 0
+ask 0 6 2 0 0 0 setlk 1 7 0 0 2 11 0
 tell 6 ok
-ask 0 7 2 5 6 0 setlk 1 10 0 0 2 10 0
+ask 0 7 2 0 0 0 setlk 1 10 0 0 2 14 0
 tell 7 ok
 tell 3 ok
-ask 0 8 2 5 6 0 setlk 1 8 0 0 2 8 0
+ask 0 8 2 0 0 0 setlk 1 8 0 0 2 12 0
 tell 8 ok
 tell 4 ok
 ";
 
-const WHOM_ONE_WAITED_BEHIND_IS_INTERRUPTED: &str = "\
-ask 0 2 2 5 6 0 setlk 1 7 0 0 0 7 0
+const A_READER_PASSES_A_WRITER_WHO_WAITS: &str = "\
+ask 0 2 2 0 0 0 setlk 1 7 0 0 0 11 0
 tell 2 ok
-ask 0 3 2 5 6 0 setlkw 1 8 0 0 1 8 0
-ask 0 4 2 5 6 0 setlkw 1 9 0 0 0 9 0
-ask 0 5 3 5 6 0 interrupt 3
+ask 0 3 2 0 0 0 setlkw 1 8 0 0 1 12 0
+ask 0 4 2 0 0 0 setlkw 1 9 0 0 0 13 0
+tell 4 ok
+";
+
+const WHOM_ONE_WAITED_BEHIND_IS_INTERRUPTED: &str = "\
+ask 0 2 2 0 0 0 setlk 1 7 0 0 0 11 0
+tell 2 ok
+ask 0 3 2 0 0 0 setlkw 1 8 0 0 1 12 0
+ask 0 4 2 0 0 0 setlkw 1 9 0 0 0 13 0
+ask 0 5 2 0 0 0 interrupt 3
 tell 3 err 4
 tell 4 ok
 ";
@@ -110,13 +124,21 @@ tell 9 ok
 ";
 
 const AN_OWNER_DOES_NOT_WAIT_BEHIND_ONE_WHO_WAITS_FOR_IT: &str = "\
-ask 0 2 2 5 6 0 setlk 1 7 0 9 1 7 0
+ask 0 2 2 0 0 0 setlk 1 7 0 9 1 11 0
 tell 2 ok
-ask 0 3 2 5 6 0 setlkw 1 8 0 0 1 8 0
-ask 0 4 2 5 6 0 setlkw 1 7 0 0 0 7 0
+ask 0 3 2 0 0 0 setlkw 1 8 0 0 1 12 0
+ask 0 4 2 0 0 0 setlkw 1 7 0 0 0 11 0
 tell 4 err 35
-ask 0 5 2 5 6 0 setlk 1 7 0 0 0 7 0
+ask 0 5 2 0 0 0 setlk 1 7 0 0 0 11 0
 tell 5 ok
+";
+
+const AN_OWNER_PASSES_ONE_WHO_WAITS_FOR_IT: &str = "\
+ask 0 2 2 0 0 0 setlk 1 7 0 9 1 11 0
+tell 2 ok
+ask 0 3 2 0 0 0 setlkw 1 8 0 0 1 12 0
+ask 0 4 2 0 0 0 setlkw 1 7 0 0 0 11 0
+tell 4 ok
 ";
 
 const A_CIRCLE_GOES_BY_A_LOCK_AND_BY_AN_OLDER_REQUEST: &str = "\
@@ -140,7 +162,7 @@ ask 0 5 2 5 6 0 setlkw 1 8 0 0 1 8 0
 ask 0 6 2 5 6 0 setlkw 1 8 5 5 1 8 0
 ";
 
-// Owners 8, 9 and 10 wait behind each other, and each but for the one behind them all is asked for by that one.
+// 8 asks for a byte for which 10 waits, 10 waits behind 9, and 9 behind 8.
 const A_CIRCLE_GOES_BY_OLDER_REQUESTS_ALONE: &str = "\
 ask 0 2 2 5 6 0 setlk 1 7 0 0 0 7 0
 tell 2 ok
@@ -153,43 +175,61 @@ ask 0 7 2 5 6 0 setlkw 1 8 9 9 1 8 0
 tell 7 err 35
 ";
 
-// Each order gives the replies behind it, in a directory whose rules are fair.
-fn goes_fairly(rt: &impl Abort, alloc: Global, text: &str) {
-    let mut server = Server::under(rt, alloc, Rules { fair: true });
-    server.follow(rt, &history_of(rt, alloc, &[WITH_FILES, text]));
+// Each order gives the replies behind it, in a directory with these rules.
+fn goes(rt: &impl Abort, alloc: Global, fair: bool, before: &str, text: &str) {
+    let mut server = Server::under(rt, alloc, Rules { fair });
+    server.follow(rt, &history_of(rt, alloc, &[before, text]));
     server.end();
+}
+
+fn goes_fairly(rt: &impl Abort, alloc: Global, text: &str) {
+    goes(rt, alloc, true, WITH_FILES, text);
 }
 
 #[test]
 fn record_requests_wait_behind_older_ones(rt: HostRuntime) {
-    goes_fairly(&rt, rt.alloc(), A_READER_WAITS_BEHIND_A_WRITER_WHO_WAITS);
-    goes_fairly(&rt, rt.alloc(), WHOM_ONE_WAITED_BEHIND_IS_INTERRUPTED);
+    let fairly = [
+        A_READER_WAITS_BEHIND_A_WRITER_WHO_WAITS,
+        WHOM_ONE_WAITED_BEHIND_IS_INTERRUPTED,
+        AN_OWNER_DOES_NOT_WAIT_BEHIND_ONE_WHO_WAITS_FOR_IT,
+    ];
+    for text in fairly {
+        goes(&rt, rt.alloc(), true, WITH_A_FILE, text);
+    }
     goes_fairly(&rt, rt.alloc(), WHOM_ONE_WAITED_BEHIND_IS_CLOSED);
 }
 
 #[test]
+fn record_requests_pass_older_ones_under_the_standard_rules(rt: HostRuntime) {
+    let passing = [
+        A_READER_PASSES_A_WRITER_WHO_WAITS,
+        AN_OWNER_PASSES_ONE_WHO_WAITS_FOR_IT,
+    ];
+    for text in passing {
+        goes(&rt, rt.alloc(), false, WITH_A_FILE, text);
+    }
+}
+
+#[test]
 fn others_pass_requests_that_wait(rt: HostRuntime) {
-    goes_fairly(
-        &rt,
-        rt.alloc(),
+    let texts = [
         NONE_BUT_A_RIVAL_OF_ANOTHER_OWNER_GOES_FIRST,
-    );
-    goes_fairly(&rt, rt.alloc(), TWO_READERS_DO_NOT_WAIT_FOR_EACH_OTHER);
-    goes_fairly(&rt, rt.alloc(), WHOLE_FILE_LOCKS_HAVE_NO_PART_IN_IT);
+        TWO_READERS_DO_NOT_WAIT_FOR_EACH_OTHER,
+        WHOLE_FILE_LOCKS_HAVE_NO_PART_IN_IT,
+    ];
+    for text in texts {
+        goes_fairly(&rt, rt.alloc(), text);
+    }
 }
 
 #[test]
 fn circles_go_by_locks_and_by_older_requests(rt: HostRuntime) {
-    goes_fairly(
-        &rt,
-        rt.alloc(),
-        AN_OWNER_DOES_NOT_WAIT_BEHIND_ONE_WHO_WAITS_FOR_IT,
-    );
-    goes_fairly(
-        &rt,
-        rt.alloc(),
+    let texts = [
         A_CIRCLE_GOES_BY_A_LOCK_AND_BY_AN_OLDER_REQUEST,
-    );
-    goes_fairly(&rt, rt.alloc(), NO_CIRCLE_GOES_BY_A_YOUNGER_REQUEST);
-    goes_fairly(&rt, rt.alloc(), A_CIRCLE_GOES_BY_OLDER_REQUESTS_ALONE);
+        NO_CIRCLE_GOES_BY_A_YOUNGER_REQUEST,
+        A_CIRCLE_GOES_BY_OLDER_REQUESTS_ALONE,
+    ];
+    for text in texts {
+        goes_fairly(&rt, rt.alloc(), text);
+    }
 }

@@ -93,7 +93,7 @@ fn begins(rt: &impl Abort, held: &[u8], replies: &[u8]) {
     are_bytes(rt, held, replies.get(..len).unwrap_or(&[]));
 }
 
-// With one worker what went out is a beginning of all replies. With four it begins as they do, with the reply to the INIT.
+// With one worker what went out is a beginning of all replies. With several it begins as they do, with the reply to the INIT.
 fn each_write<R: Abort + Threads + Wait + Sync>(
     rt: &R,
     alloc: Global,
@@ -105,9 +105,11 @@ fn each_write<R: Abort + Threads + Wait + Sync>(
         let once = Trouble::once(writes, kind);
         let held = stops_writing(rt, alloc, stream, once, 1);
         begins(rt, &held, wanted);
-        let held = stops_writing(rt, alloc, stream, once, 4);
-        begins(rt, held.get(..80).unwrap_or(&held), wanted);
-        assert!(rt; held.len() < 272);
+        for workers in [4, 16] {
+            let held = stops_writing(rt, alloc, stream, once, workers);
+            begins(rt, held.get(..80).unwrap_or(&held), wanted);
+            assert!(rt; held.len() < 272);
+        }
     }
 }
 
