@@ -21,7 +21,7 @@ after_changes-append (c ∷ later) earlier m = ap (after_change c) (after_change
 
 -- what is shown of a state after an effect is what is shown of it before, after that effect
 pub shown_recorded : (f : View → Effect) (s : State) → snapshot_of (recorded f s) ≡ made f (snapshot_of s)
-shown_recorded f s = ap (λ (m : Marking). record { view = (f s.view).view; marking = m }) (after_changes-append (f s.view).changes s.changes empty)
+shown_recorded f s = ap (λ (m : Marking). record { rules = s.rules; view = (f s.view).view; marking = m }) (after_changes-append (f s.view).changes s.changes empty)
 
 -- what is read off its replies alone goes the same way in each state that shows what was there
 pub is_recorded : (order : Order) (old new : Snapshot) (tolds : List Told) → new ≡ made (replied order tolds) old
@@ -38,7 +38,7 @@ made_all-append (x ∷ xs) ys p = made_all-append xs ys (made (later x) p)
 
 made_twice : (f g : View → Effect) (p : Snapshot) → made (λ v. followed_by f (g v)) p ≡ made f (made g p)
 made_twice f g p =
-    ap (λ (m : Marking). record { view = (f (g p.view).view).view; marking = m })
+    ap (λ (m : Marking). record { rules = p.rules; view = (f (g p.view).view).view; marking = m })
     (after_changes-append (f (g p.view).view).changes (g p.view).changes p.marking)
 
 made_fold : (tolds : List Told) (g : View → Effect) (p : Snapshot) → made (λ v. fold (λ e t. followed_by (later t) e) (g v) tolds) p ≡ made_all tolds (made g p)

@@ -13,6 +13,7 @@ use Rattle.fl_core.specs.Settling.{grant_reply}
 use Rattle.fl_core.specs.State.{Snapshot}
 use Rattle.fl_waiting.specs.Waiting.{is_parked, waits, AreApart}
 use Rattle.fl_waiting.specs.declared.parked.Request.{Request}
+use Rattle.fl_waiting.specs.declared.rules.Rules.{Rules}
 use Rattle.fl_core.proofs.Taken.{none_of}
 use Rattle.fl_dir.specs.OpenFiles.{is_open_on}
 use Rattle.fl_order.specs.declared.errno.Errno.{Errno}
@@ -97,7 +98,7 @@ interrupted u parked r apart w =
 -- what such an order is told
 abbrev told_of : Snapshot → Order → Op → List Told
 told_of p order op =
-    let reply = reply_to p.view p.marking order op in
+    let reply = reply_to p.rules p.view p.marking order op in
     own_replies order reply ++ ended_by p.view.parked op reply
 
 at_least : (n : ℕ) → nat_le 256 n ≡ true → 256 ≤ n
@@ -120,12 +121,12 @@ lock_told p order ask e conflict deadlock full =
 
 -- the request would close a circle
 abbrev deadlocks : Snapshot → Order → LockAsk → Bool
-deadlocks p order ask = is_deadlock p.marking p.view.parked (stroke_of order.node ask) (mark_of ask)
+deadlocks p order ask = is_deadlock p.rules p.marking p.view.parked (stroke_of order.node ask) (mark_of ask)
 
 -- what is told by whether the order's unique is that of a parked request
 abbrev told_if : Snapshot → Order → Bool → List Told
 told_if p order b =
-    let reply = cond b (taken_reply order.op) (reply_to p.view p.marking order order.op) in
+    let reply = cond b (taken_reply order.op) (reply_to p.rules p.view p.marking order order.op) in
     own_replies order reply ++ cond b [] (ended_by p.view.parked order.op reply)
 
 -- FORGET, or no FORGET
@@ -144,31 +145,31 @@ refused_so order (other k e) differs = ap (λ reply. own_replies order reply ++ 
 
 -- what a table of waiting requests says of circles
 abbrev pub CirclesInWords : Type 0
-CirclesInWords = (m : Marking) (parked : List Request) (r : Request)
-    → (is_deadlock m parked (stroke_of r.node r.ask) (mark_of r.ask) ≡ true) ↔ ClosesCircle m parked r
+CirclesInWords = (rules : Rules) (m : Marking) (parked : List Request) (r : Request)
+    → (is_deadlock rules m parked (stroke_of r.node r.ask) (mark_of r.ask) ≡ true) ↔ ClosesCircle rules m parked r
 
 module _ (deadlock_words : CirclesInWords) where
-  no_circle : (p : Snapshot) (order : Order) (ask : LockAsk) → deadlocks p order ask ≡ false → ClosesCircle p.marking p.view.parked (request_of order ask) → ⊥
-  no_circle p order ask d c = cc (sym ((deadlock_words p.marking p.view.parked (request_of order ask)).1 c) ∙ d)
+  no_circle : (p : Snapshot) (order : Order) (ask : LockAsk) → deadlocks p order ask ≡ false → ClosesCircle p.rules p.marking p.view.parked (request_of order ask) → ⊥
+  no_circle p order ask d c = cc (sym ((deadlock_words p.rules p.marking p.view.parked (request_of order ask)).1 c) ∙ d)
 
-  no_deadlock : (p : Snapshot) (order : Order) (ask : LockAsk) → (ClosesCircle p.marking p.view.parked (request_of order ask) → ⊥) → deadlocks p order ask ≡ false
-  no_deadlock p order ask none = only_false _ (λ d. none ((deadlock_words p.marking p.view.parked (request_of order ask)).0 d))
+  no_deadlock : (p : Snapshot) (order : Order) (ask : LockAsk) → (ClosesCircle p.rules p.marking p.view.parked (request_of order ask) → ⊥) → deadlocks p order ask ≡ false
+  no_deadlock p order ask none = only_false _ (λ d. none ((deadlock_words p.rules p.marking p.view.parked (request_of order ask)).0 d))
 
   lock_answered : (p : Snapshot) (order : Order) (ask : LockAsk) (e : Option Errno) (conflict deadlock full : Bool)
       → ask_error p.view.directory order.node ask ≡ e
-      → waits p.marking p.view.parked (request_of order ask) ≡ conflict → deadlocks p order ask ≡ deadlock → nat_le 256 (length p.view.parked) ≡ full
+      → waits p.rules p.marking p.view.parked (request_of order ask) ≡ conflict → deadlocks p order ask ≡ deadlock → nat_le 256 (length p.view.parked) ≡ full
       → IsAnswered p order (Setlkw ask) (lock_told p order ask e conflict deadlock full)
   lock_answered p order ask (Some e) conflict deadlock full fault c d f = fails ask e fault
   lock_answered p order ask None false deadlock full fault c d f = is_free ask fault c
-  lock_answered p order ask None true true full fault c d f = closes_one ask fault c ((deadlock_words p.marking p.view.parked (request_of order ask)).0 d)
+  lock_answered p order ask None true true full fault c d f = closes_one ask fault c ((deadlock_words p.rules p.marking p.view.parked (request_of order ask)).0 d)
   lock_answered p order ask None true false true fault c d f = is_one_too_many ask fault c (no_circle p order ask d) (at_least (length p.view.parked) f)
   lock_answered p order ask None true false false fault c d f = waits_now ask fault c (no_circle p order ask d) (below (length p.view.parked) f)
 
   lock_is : (p : Snapshot) (order : Order) (ask : LockAsk) (e : Option Errno) (conflict deadlock full : Bool) → ask_error p.view.directory order.node ask ≡ e
-      → waits p.marking p.view.parked (request_of order ask) ≡ conflict → deadlocks p order ask ≡ deadlock → nat_le 256 (length p.view.parked) ≡ full
+      → waits p.rules p.marking p.view.parked (request_of order ask) ≡ conflict → deadlocks p order ask ≡ deadlock → nat_le 256 (length p.view.parked) ≡ full
       → told_of p order (Setlkw ask) ≡ lock_told p order ask e conflict deadlock full
   lock_is p order ask e conflict deadlock full fault c d f =
-      append-nil (lock_told p order ask (ask_error p.view.directory order.node ask) (waits p.marking p.view.parked (request_of order ask)) (deadlocks p order ask)
+      append-nil (lock_told p order ask (ask_error p.view.directory order.node ask) (waits p.rules p.marking p.view.parked (request_of order ask)) (deadlocks p order ask)
       (nat_le 256 (length p.view.parked)))
       ∙ (λ i. lock_told p order ask (fault i) (c i) (d i) (f i))
 
@@ -193,7 +194,7 @@ module _ (deadlock_words : CirclesInWords) where
       go false e = interrupts_none u (none_of u p.view.parked e)
   answered_so p order apart op = alone op refl
 
-  alone_is : (p : Snapshot) (order : Order) (op : Op) → is_alone op ≡ true → told_of p order op ≡ own_replies order (reply_to p.view p.marking order op)
+  alone_is : (p : Snapshot) (order : Order) (op : Op) → is_alone op ≡ true → told_of p order op ≡ own_replies order (reply_to p.rules p.view p.marking order op)
   alone_is p order (Release fh unlocks owner) a = absurd (cc a)
   alone_is p order (Setlkw ask) a = absurd (cc a)
   alone_is p order (Interrupt u) a = absurd (cc a)
@@ -215,7 +216,7 @@ module _ (deadlock_words : CirclesInWords) where
   told_so {p} {order} apart (fails ask e fault) = lock_is p order ask (Some e) _ _ _ fault refl refl refl
   told_so {p} {order} apart (is_free ask fault c) = lock_is p order ask None false _ _ fault c refl refl
   told_so {p} {order} apart (closes_one ask fault c circle) =
-      lock_is p order ask None true true _ fault c ((deadlock_words p.marking p.view.parked (request_of order ask)).1 circle) refl
+      lock_is p order ask None true true _ fault c ((deadlock_words p.rules p.marking p.view.parked (request_of order ask)).1 circle) refl
   told_so {p} {order} apart (is_one_too_many ask fault c none full) =
       lock_is p order ask None true false true fault c (no_deadlock p order ask none) (not_below (length p.view.parked) full)
   told_so {p} {order} apart (waits_now ask fault c none few) =

@@ -11,7 +11,7 @@ use Rattle.fl_core.proofs.Settlings.{nothing_left, settled_apart}
 use Rattle.fl_core.proofs.Steps as steps
 use Rattle.fl_order.specs.declared.order.Order.{Order}
 
-module _ (p : Snapshot) (order : Order) (all : AllWait p.marking p.view.parked) (apart : AreApart p.view.parked) where
+module _ (p : Snapshot) (order : Order) (all : AllWait p.rules p.marking p.view.parked) (apart : AreApart p.view.parked) where
   -- the replies are read as what is there afterwards, where no two requests have one unique
   abbrev Kept : Type 0
   Kept = (made (replied order (replies p order)) p ≡ next p order) × AreApart (next p order).view.parked
@@ -24,13 +24,13 @@ module _ (p : Snapshot) (order : Order) (all : AllWait p.marking p.view.parked) 
 
   kept_fresh : is_parked order.unique p.view.parked ≡ false → Kept
   kept_fresh fresh =
-      let own = reply_to p.view p.marking order order.op in
+      let own = reply_to p.rules p.view p.marking order order.op in
       let s = made (by_reply order own) p in
       let q = steps.after_ends order own s in
       let k : steps.IsFresh order own p s q = record { fresh = fresh; own_is = refl; s_is = refl; q_is = refl; all = all; apart = apart } in (
         steps.step_read order own p s q k,
         subst (λ (t : Snapshot). AreApart t.view.parked) (sym (steps.next_is order own p s q k))
-            (settled_apart (present q.marking q.view.parked) (steps.apart_q order own p s q k)),
+            (settled_apart p.rules (present q.marking q.view.parked) (steps.apart_q order own p s q k)),
       )
 
   kept : Kept
@@ -40,12 +40,12 @@ module _ (p : Snapshot) (order : Order) (all : AllWait p.marking p.view.parked) 
       go true = kept_refused
       go false = kept_fresh
 
-pub next_read : (p : Snapshot) (order : Order) (s : State) → AllWait p.marking p.view.parked → AreApart p.view.parked → snapshot_of s ≡ p
+pub next_read : (p : Snapshot) (order : Order) (s : State) → AllWait p.rules p.marking p.view.parked → AreApart p.view.parked → snapshot_of s ≡ p
     → snapshot_of (recorded (replied order (replies p order)) s) ≡ next p order
 next_read p order s all apart = is_recorded order p (next p order) (replies p order) (sym (kept p order all apart).0) s
 
-pub next_waits : (p : Snapshot) (order : Order) → AllWait (next p order).marking (next p order).view.parked
-next_waits p order = let first = after_first p order in nothing_left (present first.marking first.view.parked)
+pub next_waits : (p : Snapshot) (order : Order) → AllWait p.rules (next p order).marking (next p order).view.parked
+next_waits p order = let first = after_first p order in nothing_left p.rules (present first.marking first.view.parked)
 
-pub next_apart : (p : Snapshot) (order : Order) → AllWait p.marking p.view.parked → AreApart p.view.parked → AreApart (next p order).view.parked
+pub next_apart : (p : Snapshot) (order : Order) → AllWait p.rules p.marking p.view.parked → AreApart p.view.parked → AreApart (next p order).view.parked
 next_apart p order all apart = (kept p order all apart).1

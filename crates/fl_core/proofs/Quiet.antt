@@ -1,19 +1,19 @@
 -- An order that is told an error itself changes nothing.
-use Rattle.std.proofs.Common.{◌≡◌, ◌≢◌, ℕ, zero, suc, ◌<◌, false, Option, Some, None, Result, Ok, Err, List, [], ◌∷◌, ◌++◌, append-nil, slice_index_or, length, refl, sym, ap, ◌∙◌, subst, arith}
+use Rattle.std.proofs.Common.{◌≡◌, ◌≢◌, ℕ, zero, suc, ◌<◌, false, Option, Some, None, Result, Ok, Err, List, [], ◌∷◌, ◌++◌, slice_index_or, length, refl, sym, ap, ◌∙◌, subst, arith}
 use Rattle.std.specs.List.{AllByRecursion}
 use Rattle.fl_core.specs.Effects.{answered, by_reply, leaving, made}
 use Rattle.fl_core.specs.First.{own}
 use Rattle.fl_core.specs.Inside.Parts.{left_by, left_if, with_parked}
 use Rattle.fl_core.specs.Replies.{ended_by, ended_if, ending_of, own_replies}
-use Rattle.fl_core.specs.Settling.{Settled, Present, IsSettled, done, one}
+use Rattle.fl_core.specs.Settling.{Settled}
 use Rattle.fl_core.specs.State.{Snapshot, View}
 use Rattle.fl_core.specs.Step.{settling, with_present, ChangesNothing}
 use Rattle.fl_waiting.specs.Waiting.{is_parked, AllWait}
 use Rattle.fl_core.specs.declared.ending.Ending.{Ending}
 use Rattle.fl_waiting.specs.declared.parked.Request.{Request}
 use Rattle.fl_core.proofs.Effects.{AreOthers}
-use Rattle.fl_core.proofs.Settlings.{is_settled, settled_none}
-use Rattle.fl_core.proofs.Steps.{ended_apart, ends_alike, made_by}
+use Rattle.fl_core.proofs.Settlings.{settled_none}
+use Rattle.fl_core.proofs.Steps.{both_others, settled_others, ended_apart, ends_alike, made_by}
 use Rattle.fl_core.proofs.Taken.{all_passing, none_of}
 use Rattle.fl_order.specs.declared.errno.Errno.{Errno}
 use Rattle.fl_order.specs.declared.order.Op.{Op}
@@ -40,23 +40,6 @@ pub alone_quiet : (order : Order) (p : Snapshot) (reply : Option (Result Answer 
 alone_quiet order p None e there = absurd (omega (arith, there.1))
 alone_quiet order p (Some result) e there = (ap (λ r. own order r ∷ []) (only_told order result (Err e) there.0 there.1 there.2), refl)
 
-both_others : (u : ℕ) (xs ys : List Told) → AreOthers u xs → AreOthers u ys → AreOthers u (xs ++ ys)
-both_others u [] ys first second = second
-both_others u (x ∷ xs) ys first second = (first.0, both_others u xs ys first.1 second)
-
-all_without : (P : Request → Type 0) (older : List Request) (r : Request) (younger : List Request)
-    → AllByRecursion P (older ++ r ∷ younger) → P r × AllByRecursion P (older ++ younger)
-all_without P [] r younger all = all
-all_without P (a ∷ older) r younger all = let rest = all_without P older r younger all.1 in (rest.0, (all.0, rest.1))
-
--- settling tells only parked requests
-settled_others : {s after : Present} {tolds : List Told} (u : ℕ) → IsSettled s tolds after
-    → AllByRecursion (λ (r : Request). r.unique ≢ u) s.parked → AreOthers u tolds
-settled_others u (done all) others = tt
-settled_others u (one older r younger stands all free rest) others =
-    let w = all_without (λ (r : Request). r.unique ≢ u) older r younger (subst (AllByRecursion (λ (r : Request). r.unique ≢ u)) stands others) in
-    (w.0, settled_others u rest w.1)
-
 all_left_if : (P : Request → Type 0) (ending : Option Ending) (parked : List Request) → AllByRecursion P parked → AllByRecursion P (left_if ending parked)
 all_left_if P None parked all = all
 all_left_if P (Some ending) parked all = all_passing P _ parked all
@@ -71,7 +54,7 @@ error_ends : (e : Errno) (op : Op) → ending_of op (Some (Err e)) ≡ None
 error_ends e (Release fh unlocks owner) = refl
 error_ends e op = refl
 
-module _ (order : Order) (p : Snapshot) (fresh : is_parked order.unique p.view.parked ≡ false) (waiting : AllWait p.marking p.view.parked) where
+module _ (order : Order) (p : Snapshot) (fresh : is_parked order.unique p.view.parked ≡ false) (waiting : AllWait p.rules p.marking p.view.parked) where
   abbrev after_own : Option (Result Answer Errno) → Snapshot
   after_own reply = made (by_reply order reply) p
 
@@ -107,12 +90,12 @@ module _ (order : Order) (p : Snapshot) (fresh : is_parked order.unique p.view.p
       told_is =
           ap (λ ending. (own order (Err f) ∷ ended_if ending s.view.parked) ++ (settling q).tolds) (error_ends f order.op)
           ∙ ap (λ (t : Snapshot). own order (Err f) ∷ (settling t).tolds) q_is
-          ∙ ap (λ (r : Settled). own order (Err f) ∷ r.tolds) (settled_none p.marking p.view.parked waiting)
+          ∙ ap (λ (r : Settled). own order (Err f) ∷ r.tolds) (settled_none p.rules p.marking p.view.parked waiting)
 
       next_is : with_present (settling q).present q ≡ p
       next_is =
           ap (λ (t : Snapshot). with_present (settling t).present t) q_is
-          ∙ ap (λ (r : Settled). with_present r.present p) (settled_none p.marking p.view.parked waiting)
+          ∙ ap (λ (r : Settled). with_present r.present p) (settled_none p.rules p.marking p.view.parked waiting)
 
   -- those that are told beside an order which is granted
   rest_others : (answer : Answer)
@@ -120,7 +103,7 @@ module _ (order : Order) (p : Snapshot) (fresh : is_parked order.unique p.view.p
   rest_others answer =
       let q = after_ends (Some (Ok answer)) in
       both_others order.unique _ _ (ended_apart order.unique p.view.parked others (ending_of order.op (Some (Ok answer))))
-      (settled_others order.unique (is_settled (record { marking = q.marking; parked = q.view.parked }))
+      (settled_others p.rules order.unique q.marking q.view.parked
       (all_left_if (λ (r : Request). r.unique ≢ order.unique) (ending_of order.op (Some (Ok answer))) p.view.parked others))
 
   granted : (answer : Answer) → Quiet (Some (Ok answer)) (after_own (Some (Ok answer))) (after_ends (Some (Ok answer)))
@@ -133,30 +116,22 @@ module _ (order : Order) (p : Snapshot) (fresh : is_parked order.unique p.view.p
       go zero below is = let same : ◌≡◌ {A = Result Answer Errno} (Ok answer) (Err e) = ap (λ (t : Told). t.result) is in absurd (cc same)
       go (suc k) below is = none_told order (Err e) rest (rest_others answer) k (omega (arith, below)) is
 
-  silent : AllWait (after_ends None).marking (after_ends None).view.parked → Quiet None (after_own None) (after_ends None)
-  silent all e there =
-      absurd (none_told order (Err e) _
-      (subst (AreOthers order.unique) (sym told_is) (ended_apart order.unique p.view.parked others (ending_of order.op None))) there.0 there.1 there.2)
-    where
-      q : Snapshot
-      q = after_ends None
+  silent : AreOthers order.unique (settling (after_ends None)).tolds → Quiet None (after_own None) (after_ends None)
+  silent settled e there =
+      absurd (none_told order (Err e) _ (both_others order.unique _ _ (subst (AreOthers order.unique) (sym (ends_alike order p None))
+      (ended_apart order.unique p.view.parked others (ending_of order.op None))) settled) there.0 there.1 there.2)
 
-      told_is : ended_by (after_own None).view.parked order.op None ++ (settling q).tolds ≡ ended_by p.view.parked order.op None
-      told_is =
-          ap (λ (r : Settled). ended_by (after_own None).view.parked order.op None ++ r.tolds) (settled_none q.marking q.view.parked all)
-          ∙ append-nil (ended_by (after_own None).view.parked order.op None) ∙ ends_alike order p None
-
-  quiet : (reply : Option (Result Answer Errno)) → (reply ≡ None → AllWait (after_ends reply).marking (after_ends reply).view.parked)
+  quiet : (reply : Option (Result Answer Errno)) → (reply ≡ None → AreOthers order.unique (settling (after_ends reply)).tolds)
       → Quiet reply (after_own reply) (after_ends reply)
-  quiet None all = silent (all refl)
-  quiet (Some (Ok answer)) all = granted answer
-  quiet (Some (Err f)) all = refused f
+  quiet None settled = silent (settled refl)
+  quiet (Some (Ok answer)) settled = granted answer
+  quiet (Some (Err f)) settled = refused f
 
   pub step_quiet : (reply : Option (Result Answer Errno)) (s q : Snapshot) → s ≡ made (by_reply order reply) p
       → q ≡ with_parked (left_by s.view.parked order.op reply) s
-      → (reply ≡ None → AllWait q.marking q.view.parked) → Quiet reply s q
-  step_quiet reply s q s_is q_is all =
-      subst (λ (s : Snapshot). (q : Snapshot) → q ≡ with_parked (left_by s.view.parked order.op reply) s → (reply ≡ None → AllWait q.marking q.view.parked)
-      → Quiet reply s q) (sym s_is)
-      (λ q q_is all. subst (λ (q : Snapshot). (reply ≡ None → AllWait q.marking q.view.parked) → Quiet reply (after_own reply) q) (sym q_is)
-      (quiet reply) all) q q_is all
+      → (reply ≡ None → AreOthers order.unique (settling q).tolds) → Quiet reply s q
+  step_quiet reply s q s_is q_is settled =
+      subst (λ (s : Snapshot). (q : Snapshot) → q ≡ with_parked (left_by s.view.parked order.op reply) s
+      → (reply ≡ None → AreOthers order.unique (settling q).tolds) → Quiet reply s q) (sym s_is)
+      (λ q q_is settled. subst (λ (q : Snapshot). (reply ≡ None → AreOthers order.unique (settling q).tolds) → Quiet reply (after_own reply) q) (sym q_is)
+      (quiet reply) settled) q q_is settled

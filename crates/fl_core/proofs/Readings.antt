@@ -9,6 +9,7 @@ use Rattle.fl_core.specs.Replies.{ended_with, ended_all}
 use Rattle.fl_core.specs.Settling.{Present, present, granted_told, marking_granted, IsSettled, done, one}
 use Rattle.fl_core.specs.Step.{with_present, settling}
 use Rattle.fl_waiting.specs.declared.parked.Request.{Request}
+use Rattle.fl_waiting.specs.declared.rules.Rules.{Rules}
 use Rattle.fl_core.proofs.Effects.{made_all}
 use Rattle.fl_core.proofs.Settlings.{is_settled}
 use Rattle.fl_core.proofs.Taken.{taken_there, apart_without}
@@ -16,7 +17,7 @@ use Rattle.fl_order.specs.declared.errno.Errno.{Errno}
 use Rattle.fl_order.specs.declared.told.Told.{Told}
 
 -- the replies of settling leave what settling leaves
-read_settled : {s after : Present} {tolds : List Told} → IsSettled s tolds after → (p : Snapshot) → present p.marking p.view.parked ≡ s → AreApart s.parked
+read_settled : {rules : Rules} {s after : Present} {tolds : List Told} → IsSettled rules s tolds after → (p : Snapshot) → present p.marking p.view.parked ≡ s → AreApart s.parked
     → made_all tolds p ≡ with_present after p
 read_settled (done all) p e apart = ap (λ (s : Present). with_present s p) e
 read_settled (one {m} {parked} {tolds} {after} older r younger stands all free rest) p e apart =
@@ -30,7 +31,7 @@ read_settled (one {m} {parked} {tolds} {after} older r younger stands all free r
     ap (made_all tolds) first ∙ read_settled rest next refl w.1
 
 pub settled_read : (p : Snapshot) → AreApart p.view.parked → made_all (settling p).tolds p ≡ with_present (settling p).present p
-settled_read p apart = read_settled (is_settled (present p.marking p.view.parked)) p refl apart
+settled_read p apart = read_settled (is_settled p.rules (present p.marking p.view.parked)) p refl apart
 
 -- the replies that end requests leave the others
 module _ (e : Errno) (test : Request → Bool) where

@@ -1,6 +1,7 @@
 -- What a lock request asks for, and the range that was read off it.
 use Rattle.std.proofs.Common.{◌≡◌, ◌∙◌, ℕ, Option, Bool, cond, nat_le, Some, None, length, Result, Ok, Err, OnOk, OnErr, ap}
 use Rattle.fl_core.specs.Effects.{locked}
+use Rattle.fl_waiting.specs.declared.rules.Rules.{Rules}
 use Rattle.fl_core.specs.Replies.{ask_error, at_once_unless, room_reply, setlkw_reply}
 use Rattle.fl_core.specs.State.{View}
 use Rattle.fl_waiting.specs.Circle.{is_deadlock}
@@ -27,11 +28,11 @@ set_marking (Ok answer) m n s node ask is ok err = ok ∙ ap (λ t. stroked t m)
 set_marking (Err e) m n s node ask is ok err = err
 
 -- a SETLKW by its tests
-pub setlkw_is : (v : View) (m : Marking) (node : ℕ) (ask : LockAsk) (e : Option Errno) (conflict deadlock full : Bool) → ask_error v.directory node ask ≡ e
-    → must_wait m v.parked (stroke_of node ask) (mark_of ask) ≡ conflict
-    → is_deadlock m v.parked (stroke_of node ask) (mark_of ask) ≡ deadlock → nat_le 256 (length v.parked) ≡ full
-    → setlkw_reply v m node ask ≡ at_once_unless e
+pub setlkw_is : (rules : Rules) (v : View) (m : Marking) (node : ℕ) (ask : LockAsk) (e : Option Errno) (conflict deadlock full : Bool) → ask_error v.directory node ask ≡ e
+    → must_wait rules m v.parked (stroke_of node ask) (mark_of ask) ≡ conflict
+    → is_deadlock rules m v.parked (stroke_of node ask) (mark_of ask) ≡ deadlock → nat_le 256 (length v.parked) ≡ full
+    → setlkw_reply rules v m node ask ≡ at_once_unless e
     (cond conflict (cond deadlock (Some (Err EDEADLK)) (cond full (Some (Err ENOLCK)) None)) (Some (room_reply m (stroke_of node ask))))
-setlkw_is v m node ask e conflict deadlock full fault c d f =
+setlkw_is rules v m node ask e conflict deadlock full fault c d f =
     λ i. at_once_unless (fault i) (cond (c i) (cond (d i) (Some (Err EDEADLK)) (cond (f i) (Some (Err ENOLCK)) None))
     (Some (room_reply m (stroke_of node ask))))

@@ -14,6 +14,7 @@ use Rattle.fl_core.specs.Step.{next}
 use Rattle.fl_waiting.specs.Waiting.{owner_of, is_parked, AllWait, AreApart}
 use Rattle.fl_core.specs.declared.ending.Ending.{Ending}
 use Rattle.fl_waiting.specs.declared.parked.Request.{Request}
+use Rattle.fl_waiting.specs.declared.rules.Rules.{Rules}
 use Rattle.fl_core.proofs.Settlings.{is_settled}
 use Rattle.fl_core.proofs.Steps as steps
 use Rattle.fl_core.proofs.Firsts.{CirclesInWords}
@@ -65,9 +66,14 @@ no_mark false false x y e = refl
 
 -- ---- who gains by a change of locks
 
-raised : (b x y : Bool) → (b ≡ true → x ≡ true → y ≡ true) → (b && x) ≡ true → (b && y) ≡ true
-raised true x y f h = f refl h
-raised false x y f h = absurd (cc h)
+either : (x y c : Bool) → (x ≡ true → y ≡ true) → (x || c) ≡ true → (y || c) ≡ true
+either true y c f h = ap (λ b. b || c) (f refl)
+either false true c f h = refl
+either false false c f h = h
+
+raised : (b x y c : Bool) → (b ≡ true → x ≡ true → y ≡ true) → (b && (x || c)) ≡ true → (b && (y || c)) ≡ true
+raised true x y c f h = either x y c (f refl) h
+raised false x y c f h = absurd (cc h)
 
 no_flock : (c : Class) → is_record c ≡ true → c ≢ Flock
 no_flock Record e same = cc same
@@ -84,40 +90,40 @@ pub record Counts : Type 0 where
   pub cleared : (m : Marking) (node : ℕ) (key : Key) (start end : ℕ) (kind : Kind) (owner : ℕ)
       → owner_conflicts (without_node node m) key start end kind owner ≡ true → owner_conflicts m key start end kind owner ≡ true
 
-module _ (count : Counts) (deadlock_words : CirclesInWords) where
-  gains_by_other : (g : Option ℕ) (m : Marking) (s : Stroke) → g ≡ Some s.key.owner → GainsAtMost g m (stroked s m)
-  gains_by_other g m s is w q other h = raised (is_record w.wish.key.class) _ _
+module _ (count : Counts) (rules : Rules) where
+  gains_by_other : (g : Option ℕ) (m : Marking) (s : Stroke) → g ≡ Some s.key.owner → GainsAtMost rules g m (stroked s m)
+  gains_by_other g m s is w q other h = raised (is_record w.wish.key.class) _ _ _
       (λ _ k. sym (count.others m s w.wish.key w.wish.start w.wish.end w.wish.kind q (λ same. other (is ∙ ap (λ n. Some n) (sym same)))) ∙ k) h
 
-  gains_by_flock : (g : Option ℕ) (m : Marking) (s : Stroke) → s.key.class ≡ Flock → GainsAtMost g m (stroked s m)
-  gains_by_flock g m s is w q other h = raised (is_record w.wish.key.class) _ _
+  gains_by_flock : (g : Option ℕ) (m : Marking) (s : Stroke) → s.key.class ≡ Flock → GainsAtMost rules g m (stroked s m)
+  gains_by_flock g m s is w q other h = raised (is_record w.wish.key.class) _ _ _
       (λ k c. sym (count.class m s w.wish.key w.wish.start w.wish.end w.wish.kind q (λ same. no_flock w.wish.key.class k (same ∙ is))) ∙ c) h
 
-  gains_by_unlock : (g : Option ℕ) (m : Marking) (s : Stroke) → s.mark ≡ None → GainsAtMost g m (stroked s m)
-  gains_by_unlock g m s is w q other h = raised (is_record w.wish.key.class) _ _ (λ _ c. count.unlocked m s w.wish.key w.wish.start w.wish.end w.wish.kind q is c) h
+  gains_by_unlock : (g : Option ℕ) (m : Marking) (s : Stroke) → s.mark ≡ None → GainsAtMost rules g m (stroked s m)
+  gains_by_unlock g m s is w q other h = raised (is_record w.wish.key.class) _ _ _ (λ _ c. count.unlocked m s w.wish.key w.wish.start w.wish.end w.wish.kind q is c) h
 
-  gains_by_clear : (g : Option ℕ) (m : Marking) (node : ℕ) → GainsAtMost g m (without_node node m)
-  gains_by_clear g m node w q other h = raised (is_record w.wish.key.class) _ _ (λ _ c. count.cleared m node w.wish.key w.wish.start w.wish.end w.wish.kind q c) h
+  gains_by_clear : (g : Option ℕ) (m : Marking) (node : ℕ) → GainsAtMost rules g m (without_node node m)
+  gains_by_clear g m node w q other h = raised (is_record w.wish.key.class) _ _ _ (λ _ c. count.cleared m node w.wish.key w.wish.start w.wish.end w.wish.kind q c) h
 
   -- a lock request that is answered so
   gains_locked : (node : ℕ) (ask : LockAsk) (reply : Result Answer Errno) (m : Marking)
-      → GainsAtMost (asker_of ask) m (after_changes (locked node ask reply) m)
+      → GainsAtMost rules (asker_of ask) m (after_changes (locked node ask reply) m)
   gains_locked node ask (Err e) m = λ w q other h. h
   gains_locked node ask (Ok answer) m = go (is_flock ask) refl (nat_lt ask.kind 2) refl
     where
-      go : (flock : Bool) → is_flock ask ≡ flock → (b : Bool) → nat_lt ask.kind 2 ≡ b → GainsAtMost (asker_of ask) m (stroked (stroke_of node ask) m)
+      go : (flock : Bool) → is_flock ask ≡ flock → (b : Bool) → nat_lt ask.kind 2 ≡ b → GainsAtMost rules (asker_of ask) m (stroked (stroke_of node ask) m)
       go true f b e = gains_by_flock (asker_of ask) m (stroke_of node ask) (ap (λ c. cond c Flock Record) f)
       go false f true e =
           gains_by_other (asker_of ask) m (stroke_of node ask) (λ i. cond (not (f i) && e i) (Some ask.owner) None)
       go false f false e =
           gains_by_unlock (asker_of ask) m (stroke_of node ask) (no_mark (ask.kind == 0) (ask.kind == 1) _ _ (sym (below_two ask.kind) ∙ e))
 
-  gains_unlocked : (class : Class) (node owner : ℕ) (m : Marking) → GainsAtMost None m (after_change (unlocked class node owner) m)
+  gains_unlocked : (class : Class) (node owner : ℕ) (m : Marking) → GainsAtMost rules None m (after_change (unlocked class node owner) m)
   gains_unlocked class node owner m = gains_by_unlock None m
       (record { key = record { class = class; node = node; owner = owner }; start = 0; end = 9223372036854775807; mark = None }) refl
 
   gains_released : (keeps unlocks : Bool) (node owner : ℕ) (m : Marking)
-      → GainsAtMost None m (after_changes (cond keeps [] (cleared node ∷ []) ++ dropped unlocks node owner) m)
+      → GainsAtMost rules None m (after_changes (cond keeps [] (cleared node ∷ []) ++ dropped unlocks node owner) m)
   gains_released true false node owner m = λ w q other h. h
   gains_released true true node owner m = gains_unlocked Flock node owner m
   gains_released false false node owner m = gains_by_clear None m node
@@ -126,7 +132,7 @@ module _ (count : Counts) (deadlock_words : CirclesInWords) where
 
   -- an order that is answered so
   gains_answered : (order : Order) (op : Op) (reply : Result Answer Errno) (d : Listing) (m : Marking)
-      → GainsAtMost (asked_by op) m (after_changes (locks_answered order op reply d) m)
+      → GainsAtMost rules (asked_by op) m (after_changes (locks_answered order op reply d) m)
   gains_answered order (Release fh unlocks owner) (Ok answer) d m =
       gains_released (has_open_file (without_file d fh) order.node) unlocks order.node owner m
   gains_answered order (Release fh unlocks owner) (Err e) d m = λ w q other h. h
@@ -136,8 +142,26 @@ module _ (count : Counts) (deadlock_words : CirclesInWords) where
   gains_answered order (Setlkw ask) reply d m = gains_locked order.node ask reply m
   gains_answered order op reply d m = λ w q other h. h
 
-  -- ---- the stages
+  -- ---- stages that come later
 
+  ends_stage : (ending : Option Ending) (m : Marking) (parked : List Request) (after : Present)
+      → AreLater rules (present m (left_if ending parked)) after → AreLater rules (present m parked) after
+  ends_stage None m parked after later = later
+  ends_stage (Some ending) m parked after later = more (leave (λ r. not (picks ending r)) refl refl) later
+
+  -- a request that settling grants
+  gains_granted : (m : Marking) (r : Request) → GainsAtMost rules (wanted_by r) m (after_changes (locked r.node r.ask (grant_reply m r)) m)
+  gains_granted m r =
+      subst (λ g. GainsAtMost rules g m (after_changes (locked r.node r.ask (grant_reply m r)) m)) (sym (wanted_is_asked r))
+      (gains_locked r.node r.ask (grant_reply m r) m)
+
+  settled_stages : {s after : Present} {tolds : List Told} → IsSettled rules s tolds after → AreLater rules s after
+  settled_stages (done all) = none
+  settled_stages (one {m} older r younger stands all free rest) = more (granted older r younger stands refl (gains_granted m r)) (settled_stages rest)
+
+-- ---- the stages
+
+module _ (count : Counts) (deadlock_words : CirclesInWords) where
   -- a request that has no reply yet closes no circle
   waits_well : (e : Option Errno) (excluded deadlock full : Bool) (room : Result Answer Errno) (x y : Errno)
       → at_once_unless e (cond excluded (cond deadlock (Some (Err x)) (cond full (Some (Err y)) None)) (Some room)) ≡ None → deadlock ≡ false
@@ -146,49 +170,34 @@ module _ (count : Counts) (deadlock_words : CirclesInWords) where
   waits_well None false deadlock full room x y is = absurd (cc is)
   waits_well (Some e) excluded deadlock full room x y is = absurd (cc is)
 
-  unanswered_stage : (order : Order) (p : Snapshot) (op : Op) → asked_by op ≡ asked_by order.op → reply_to p.view p.marking order op ≡ None
-      → OwnStage order (present p.marking p.view.parked) (present p.marking (with_waiter order (waited_for op) p.view.parked))
+  unanswered_stage : (order : Order) (p : Snapshot) (op : Op) → asked_by op ≡ asked_by order.op → reply_to p.rules p.view p.marking order op ≡ None
+      → OwnStage p.rules order (present p.marking p.view.parked) (present p.marking (with_waiter order (waited_for op) p.view.parked))
   unanswered_stage order p (Setlkw ask) same is =
       let r = request_of order ask in
-      let none : is_deadlock p.marking p.view.parked (stroke_of r.node r.ask) (mark_of r.ask) ≡ false = waits_well _ _ _ _ _ _ _ is in
-      parks r (wanted_is_asked r ∙ same) (λ c. cc (sym none ∙ (deadlock_words p.marking p.view.parked r).1 c)) refl refl
+      let none : is_deadlock p.rules p.marking p.view.parked (stroke_of r.node r.ask) (mark_of r.ask) ≡ false = waits_well _ _ _ _ _ _ _ is in
+      parks r (wanted_is_asked r ∙ same) (λ c. cc (sym none ∙ (deadlock_words p.rules p.marking p.view.parked r).1 c)) refl refl
   unanswered_stage order p op same is = changes (λ w q other h. h) refl
 
-  own_stage : (order : Order) (p : Snapshot) (own : Option (Result Answer Errno)) → own ≡ reply_to p.view p.marking order order.op
-      → OwnStage order (present p.marking p.view.parked)
+  own_stage : (order : Order) (p : Snapshot) (own : Option (Result Answer Errno)) → own ≡ reply_to p.rules p.view p.marking order order.op
+      → OwnStage p.rules order (present p.marking p.view.parked)
       (present (made (by_reply order own) p).marking (made (by_reply order own) p).view.parked)
   own_stage order p None is = unanswered_stage order p order.op refl (sym is)
-  own_stage order p (Some reply) is = changes (gains_answered order order.op reply p.view.directory p.marking) refl
+  own_stage order p (Some reply) is = changes (gains_answered count p.rules order order.op reply p.view.directory p.marking) refl
 
-  ends_stage : (ending : Option Ending) (m : Marking) (parked : List Request) (after : Present)
-      → AreLater (present m (left_if ending parked)) after → AreLater (present m parked) after
-  ends_stage None m parked after later = later
-  ends_stage (Some ending) m parked after later = more (leave (λ r. not (picks ending r)) refl refl) later
-
-  -- a request that settling grants
-  gains_granted : (m : Marking) (r : Request) → GainsAtMost (wanted_by r) m (after_changes (locked r.node r.ask (grant_reply m r)) m)
-  gains_granted m r =
-      subst (λ g. GainsAtMost g m (after_changes (locked r.node r.ask (grant_reply m r)) m)) (sym (wanted_is_asked r))
-      (gains_locked r.node r.ask (grant_reply m r) m)
-
-  settled_stages : {s after : Present} {tolds : List Told} → IsSettled s tolds after → AreLater s after
-  settled_stages (done all) = none
-  settled_stages (one {m} older r younger stands all free rest) = more (granted older r younger stands refl (gains_granted m r)) (settled_stages rest)
-
-  module _ (p : Snapshot) (order : Order) (all : AllWait p.marking p.view.parked) (apart : AreApart p.view.parked) where
+  module _ (p : Snapshot) (order : Order) (all : AllWait p.rules p.marking p.view.parked) (apart : AreApart p.view.parked) where
     abbrev To : Snapshot → Type 0
-    To t = IsTakenInStages order (present p.marking p.view.parked) (present t.marking t.view.parked)
+    To t = IsTakenInStages p.rules order (present p.marking p.view.parked) (present t.marking t.view.parked)
 
     taken_fresh : is_parked order.unique p.view.parked ≡ false → To (next p order)
     taken_fresh fresh =
-        let own = reply_to p.view p.marking order order.op in
+        let own = reply_to p.rules p.view p.marking order order.op in
         let s = made (by_reply order own) p in
         let q = steps.after_ends order own s in
         let k : steps.IsFresh order own p s q = record { fresh = fresh; own_is = refl; s_is = refl; q_is = refl; all = all; apart = apart } in
         subst To (sym (steps.next_is order own p s q k)) (record {
           between = present s.marking s.view.parked;
           own = own_stage order p own refl;
-          later = ends_stage _ s.marking s.view.parked _ (settled_stages (is_settled (present q.marking q.view.parked)));
+          later = ends_stage count p.rules _ s.marking s.view.parked _ (settled_stages count p.rules (is_settled p.rules (present q.marking q.view.parked)));
         })
 
     taken_refused : is_parked order.unique p.view.parked ≡ true → To (next p order)

@@ -3,20 +3,19 @@ use Rattle.std.proofs.Common.{◌≡◌, ◌≢◌, ℕ, Bool, true, false, cond
 use Rattle.std.specs.List.{filter, AllByRecursion}
 use Rattle.fl_core.specs.Effects.{Effect, leaving, answered, unanswered, request_of, waited_for, with_waiter, by_reply, at_once, replied, made}
 use Rattle.fl_core.specs.Inside.Parts.{left_by, left_if, with_parked}
-use Rattle.fl_core.specs.Inside.Touched.{OthersWait}
 use Rattle.fl_core.specs.Replies.{at_once_unless, taken_reply, reply_to, own_reply, own_replies, ended_with, ended_all, ending_of, error_of, picks, ended_if, ended_by, ended, first_told}
-use Rattle.fl_core.specs.Settling.{Settled, present}
+use Rattle.fl_core.specs.Settling.{Present, Settled, present, settled, IsSettled, done, one}
 use Rattle.fl_core.specs.State.{Snapshot}
 use Rattle.fl_core.specs.Step.{after_first, settling, replies, with_present, next}
 use Rattle.fl_waiting.specs.Waiting.{is_parked, AllWait, AreApart}
 use Rattle.fl_core.specs.declared.ending.Ending.{Ending}
 use Rattle.fl_waiting.specs.declared.parked.Request.{Request}
-use Rattle.fl_core.specs.declared.settling.Touched.{Touched}
+use Rattle.fl_waiting.specs.declared.rules.Rules.{Rules}
 use Rattle.fl_core.proofs.Effects.{made_all, made_all-append, made_replied, AreOthers}
 use Rattle.fl_core.proofs.Readings.{settled_read, ended_read}
-use Rattle.fl_core.proofs.Settlings.{settled_none}
-use Rattle.fl_core.proofs.Taken.{apart_more, apart_passing, none_of, one_longer}
-use Rattle.fl_core.proofs.Waits.{all_wait_more, all_wait_left, others_wait_left}
+use Rattle.fl_core.proofs.Settlings.{is_settled, settled_none}
+use Rattle.fl_core.proofs.Taken.{all_passing, apart_more, apart_passing, none_of, one_longer}
+use Rattle.fl_core.proofs.Waits.{all_wait_more}
 use Rattle.fl_order.specs.Order.{only_reads}
 use Rattle.fl_order.specs.declared.errno.Errno.{Errno}
 use Rattle.fl_order.specs.declared.errno.Errno.TheVariants.{EINVAL}
@@ -62,7 +61,7 @@ ends_alike order p None = ends_or_waits order p.view.parked order.op
 ends_alike order p (Some reply) = refl
 
 abbrev pub made_by : Effect → Snapshot → Snapshot
-made_by e p = record { view = e.view; marking = after_changes e.changes p.marking }
+made_by e p = record p { view = e.view; marking = after_changes e.changes p.marking }
 
 waiting_apart : (order : Order) (ask : Option LockAsk) (parked : List Request) → AreApart parked
     → AllByRecursion (λ (r : Request). r.unique ≢ order.unique) parked → AreApart (with_waiter order ask parked)
@@ -85,13 +84,40 @@ excluded : (e : Option Errno) (b : Bool) (wait : Option (Result Answer Errno)) (
 excluded None true wait room is = refl
 excluded e b wait room is = absurd (cc is)
 
--- an order with no reply of its own leaves requests that wait
-left_waiting : (order : Order) (p : Snapshot) → AllWait p.marking p.view.parked → (op : Op) → reply_to p.view p.marking order op ≡ None
-    → AllWait p.marking (left_by (with_waiter order (waited_for op) p.view.parked) op None)
-left_waiting order p all (Setlkw ask) none =
-    all_wait_more p.marking p.view.parked (request_of order ask) all (excluded _ _ _ _ none)
-left_waiting order p all (Interrupt unique) none = all_wait_left p.marking _ p.view.parked all
-left_waiting order p all op none = all
+-- ---- replies to others
+
+pub both_others : (u : ℕ) (xs ys : List Told) → AreOthers u xs → AreOthers u ys → AreOthers u (xs ++ ys)
+both_others u [] ys first second = second
+both_others u (x ∷ xs) ys first second = (first.0, both_others u xs ys first.1 second)
+
+all_without : (P : Request → Type 0) (older : List Request) (r : Request) (younger : List Request)
+    → AllByRecursion P (older ++ r ∷ younger) → P r × AllByRecursion P (older ++ younger)
+all_without P [] r younger all = all
+all_without P (a ∷ older) r younger all = let rest = all_without P older r younger all.1 in (rest.0, (all.0, rest.1))
+
+-- settling tells only parked requests
+told_others : {rules : Rules} {s after : Present} {tolds : List Told} (u : ℕ) → IsSettled rules s tolds after
+    → AllByRecursion (λ (r : Request). r.unique ≢ u) s.parked → AreOthers u tolds
+told_others u (done all) others = tt
+told_others u (one older r younger stands all free rest) others =
+    let w = all_without (λ (r : Request). r.unique ≢ u) older r younger (subst (AllByRecursion (λ (r : Request). r.unique ≢ u)) stands others) in
+    (w.0, told_others u rest w.1)
+
+pub settled_others : (rules : Rules) (u : ℕ) (m : Marking) (parked : List Request) → AllByRecursion (λ (r : Request). r.unique ≢ u) parked
+    → AreOthers u (settled rules (present m parked)).tolds
+settled_others rules u m parked others = told_others u (is_settled rules (present m parked)) others
+
+-- an order with no reply of its own tells, once it is settled, only others: a request that it parks waits with them
+rest_others : (order : Order) (p : Snapshot) → AllByRecursion (λ (r : Request). r.unique ≢ order.unique) p.view.parked
+    → AllWait p.rules p.marking p.view.parked → (op : Op) → reply_to p.rules p.view p.marking order op ≡ None
+    → AreOthers order.unique (settled p.rules (present p.marking (left_by (with_waiter order (waited_for op) p.view.parked) op None))).tolds
+rest_others order p fresh all (Setlkw ask) none =
+    let r = request_of order ask in
+    let more = all_wait_more p.rules p.marking p.view.parked r all (excluded _ _ _ _ none) in
+    subst (λ (s : Settled). AreOthers order.unique s.tolds) (sym (settled_none p.rules p.marking (p.view.parked ++ r ∷ []) more)) tt
+rest_others order p fresh all (Interrupt unique) none =
+    settled_others p.rules order.unique p.marking _ (all_passing (λ (r : Request). r.unique ≢ order.unique) _ p.view.parked fresh)
+rest_others order p fresh all op none = settled_others p.rules order.unique p.marking p.view.parked fresh
 
 -- the requests that an order ends go
 abbrev pub after_ends : Order → Option (Result Answer Errno) → Snapshot → Snapshot
@@ -100,10 +126,10 @@ after_ends order own s = with_parked (left_by s.view.parked order.op own) s
 -- what was there before an order, after its own change, and before settling, where its unique is none of a parked request
 pub record IsFresh (order : Order) (own : Option (Result Answer Errno)) (p s q : Snapshot) : Type 0 where
   pub fresh : is_parked order.unique p.view.parked ≡ false
-  pub own_is : own ≡ reply_to p.view p.marking order order.op
+  pub own_is : own ≡ reply_to p.rules p.view p.marking order order.op
   pub s_is : s ≡ made (by_reply order own) p
   pub q_is : q ≡ after_ends order own s
-  pub all : AllWait p.marking p.view.parked
+  pub all : AllWait p.rules p.marking p.view.parked
   pub apart : AreApart p.view.parked
 
 module _ (order : Order) (own : Option (Result Answer Errno)) (p s q : Snapshot) (k : IsFresh order own p s q) where
@@ -112,8 +138,8 @@ module _ (order : Order) (own : Option (Result Answer Errno)) (p s q : Snapshot)
 
   first_is : first_told p order ≡ own_replies order own ++ ends
   first_is =
-      (λ i. own_replies order (cond (k.fresh i) (taken_reply order.op) (reply_to p.view p.marking order order.op))
-      ++ cond (k.fresh i) [] (ended_by p.view.parked order.op (cond (k.fresh i) (taken_reply order.op) (reply_to p.view p.marking order order.op))))
+      (λ i. own_replies order (cond (k.fresh i) (taken_reply order.op) (reply_to p.rules p.view p.marking order order.op))
+      ++ cond (k.fresh i) [] (ended_by p.view.parked order.op (cond (k.fresh i) (taken_reply order.op) (reply_to p.rules p.view p.marking order order.op))))
       ∙ ap (λ o. own_replies order o ++ ended_by p.view.parked order.op o) (sym k.own_is)
 
   changed_is : made (at_once order own) p ≡ made (by_reply order own) p
@@ -125,11 +151,15 @@ module _ (order : Order) (own : Option (Result Answer Errno)) (p s q : Snapshot)
   pub apart_q : AreApart q.view.parked
   apart_q = subst (λ (t : Snapshot). AreApart t.view.parked) (sym k.q_is) (apart_left s.view.parked (ending_of order.op own) apart_s)
 
-  pub waiting : own ≡ None → AllWait q.marking q.view.parked
-  waiting none =
-      subst (λ (t : Snapshot). AllWait t.marking t.view.parked)
+  abbrev fresh : AllByRecursion (λ (r : Request). r.unique ≢ order.unique) p.view.parked
+  fresh = none_of order.unique p.view.parked k.fresh
+
+  -- with no reply of its own it settles others
+  pub settles_others : own ≡ None → AreOthers order.unique (settling q).tolds
+  settles_others none =
+      subst (λ (t : Snapshot). AreOthers order.unique (settling t).tolds)
       (sym (k.q_is ∙ ap (after_ends order own) k.s_is ∙ ap (λ o. after_ends order o (made (by_reply order o) p)) none))
-      (left_waiting order p k.all order.op (sym k.own_is ∙ none))
+      (rest_others order p fresh k.all order.op (sym k.own_is ∙ none))
 
   abbrev rest : List Told
   rest = (settling q).tolds
@@ -138,7 +168,7 @@ module _ (order : Order) (own : Option (Result Answer Errno)) (p s q : Snapshot)
   ends_are = ap (λ (t : Snapshot). ended_by t.view.parked order.op own) k.s_is ∙ ends_alike order p own
 
   others : own ≡ None → AreOthers order.unique ends
-  others none = ended_apart order.unique p.view.parked (none_of order.unique p.view.parked k.fresh) (ending_of order.op own)
+  others none = ended_apart order.unique p.view.parked fresh (ending_of order.op own)
 
   read : made_all ends (made (at_once order own) p) ≡ q
   read =
@@ -153,11 +183,8 @@ module _ (order : Order) (own : Option (Result Answer Errno)) (p s q : Snapshot)
   pub next_is : next p order ≡ with_present (settling q).present q
   next_is = ap (λ (t : Snapshot). with_present (settling t).present t) after_is
 
-  none_left : own ≡ None → rest ≡ []
-  none_left none = ap (λ (r : Settled). r.tolds) (settled_none q.marking q.view.parked (waiting none))
-
   all_others : own ≡ None → AreOthers order.unique (ends ++ rest)
-  all_others none = subst (AreOthers order.unique) (sym (ap (λ xs. ends ++ xs) (none_left none) ∙ append-nil ends)) (others none)
+  all_others none = both_others order.unique ends rest (others none) (settles_others none)
 
   pub step_read : made (replied order (replies p order)) p ≡ next p order
   step_read =
@@ -166,14 +193,14 @@ module _ (order : Order) (own : Option (Result Answer Errno)) (p s q : Snapshot)
       ∙ settled_read q apart_q ∙ sym next_is
 
 -- its unique is that of a parked request
-module _ (order : Order) (p : Snapshot) (taken : is_parked order.unique p.view.parked ≡ true) (waiting : AllWait p.marking p.view.parked) where
+module _ (order : Order) (p : Snapshot) (taken : is_parked order.unique p.view.parked ≡ true) (waiting : AllWait p.rules p.marking p.view.parked) where
   abbrev told : List Told
   told = own_replies order (taken_reply order.op)
 
   first_refused : first_told p order ≡ told
   first_refused =
-      (λ i. own_replies order (cond (taken i) (taken_reply order.op) (reply_to p.view p.marking order order.op))
-      ++ cond (taken i) [] (ended_by p.view.parked order.op (cond (taken i) (taken_reply order.op) (reply_to p.view p.marking order order.op))))
+      (λ i. own_replies order (cond (taken i) (taken_reply order.op) (reply_to p.rules p.view p.marking order order.op))
+      ++ cond (taken i) [] (ended_by p.view.parked order.op (cond (taken i) (taken_reply order.op) (reply_to p.rules p.view p.marking order order.op))))
       ∙ append-nil told
 
   nothing_changed : made (replied order told) p ≡ p
@@ -185,7 +212,7 @@ module _ (order : Order) (p : Snapshot) (taken : is_parked order.unique p.view.p
   after_refused = ap (λ xs. made (replied order xs) p) first_refused ∙ nothing_changed
 
   abbrev settled_refused : settling p ≡ record { present = present p.marking p.view.parked; tolds = [] }
-  settled_refused = settled_none p.marking p.view.parked waiting
+  settled_refused = settled_none p.rules p.marking p.view.parked waiting
 
   pub refused_replies : replies p order ≡ told
   refused_replies = (λ i. first_refused i ++ (settling (after_refused i)).tolds) ∙ ap (λ (r : Settled). told ++ r.tolds) settled_refused ∙ append-nil told
@@ -206,11 +233,6 @@ pub room_left : (order : Order) (own : Option (Result Answer Errno)) (p : Snapsh
 room_left order (Some reply) p few = omega (arith, few)
 room_left order None p few = omega (arith, few, one_at_most order (waited_for order.op) p.view.parked)
 
--- those that an order leaves still wait, but for the locks that it touched
-pub others_left : (t : Touched) (m : Marking) (parked : List Request) (ending : Option Ending) → OthersWait t m parked → OthersWait t m (left_if ending parked)
-others_left t m parked None all = all
-others_left t m parked (Some ending) all = others_wait_left t m _ parked all
-
 -- ---- orders that only read
 
 -- what holds of both that read, holds of any order that only reads
@@ -222,9 +244,9 @@ of_reads P getattr getlk op e = absurd (cc e)
 pub reads_refused : (op : Op) → only_reads op ≡ true → taken_reply op ≡ Some (Err EINVAL)
 reads_refused = of_reads (λ op. taken_reply op ≡ Some (Err EINVAL)) refl (λ ask. refl)
 
-module _ (order : Order) (p : Snapshot) (waiting : AllWait p.marking p.view.parked) (reads : only_reads order.op ≡ true) where
+module _ (order : Order) (p : Snapshot) (waiting : AllWait p.rules p.marking p.view.parked) (reads : only_reads order.op ≡ true) where
   abbrev own_read : Option (Result Answer Errno)
-  own_read = own_reply p.view p.marking order
+  own_read = own_reply p.rules p.view p.marking order
 
   reads_by_reply : (own : Option (Result Answer Errno)) → by_reply order own p.view ≡ leaving p.view
   reads_by_reply None = of_reads (λ op. unanswered order op p.view ≡ leaving p.view) refl (λ ask. refl) order.op reads
@@ -248,7 +270,7 @@ module _ (order : Order) (p : Snapshot) (waiting : AllWait p.marking p.view.park
   after_read = ap (λ xs. made (replied order (own_replies order own_read ++ xs)) p) ended_none ∙ made_replied order own_read [] p (λ none. tt) ∙ reads_unchanged
 
   settled_after : settling (after_first p order) ≡ record { present = present p.marking p.view.parked; tolds = [] }
-  settled_after = ap settling after_read ∙ settled_none p.marking p.view.parked waiting
+  settled_after = ap settling after_read ∙ settled_none p.rules p.marking p.view.parked waiting
 
   pub reads_replies : replies p order ≡ own_replies order own_read
   reads_replies =

@@ -1,17 +1,18 @@
 -- Which requests still wait once locks have changed.
-use Rattle.std.proofs.Common.{◌≡◌, ℕ, ◌==◌, ◌&&◌, Bool, true, false, not, Option, Some, None, IfSome, IsNone, Result, Ok, Err, List, [], ◌∷◌, ◌++◌, refl, sym, ap, ◌∙◌, subst, arith}
+use Rattle.std.proofs.Common.{◌≡◌, ℕ, ◌==◌, ◌&&◌, Bool, true, false, cond, not, ◌||◌, nat_le, option_map, Option, Some, None, IfSome, IsNone, Result, Ok, Err, List, [], ◌∷◌, ◌++◌, append-nil, refl, sym, ap, ◌∙◌, subst, arith}
 use Rattle.std.proofs.lemmas.Bool.Decides.{nat_tests}
 use Rattle.std.specs.List.{filter, AllByRecursion}
 use Rattle.fl_core.specs.Effects.{flushed, locked, released}
 use Rattle.fl_core.specs.Inside.Touched.{concerns, concerns_request, touched_by, OthersWait, WaitsNow}
-use Rattle.fl_waiting.specs.LockRequest.{key_of, mark_of, stroke_of}
-use Rattle.fl_waiting.specs.Waiting.{is_excluded, waits, taken_first, AllBehind, AllWait}
-use Rattle.fl_core.specs.Settling.{oldest_free}
+use Rattle.fl_waiting.specs.LockRequest.{is_flock, key_of, start_of, end_of, mark_of, stroke_of}
+use Rattle.fl_waiting.specs.Waiting.{Wish, wish_on, wish_of, goes_first, goes_before, anyone, is_behind, is_excluded, passes_free, waits, taken_behind, AllBehind, AllWait}
+use Rattle.fl_core.specs.Settling.{free_behind, oldest_free}
 use Rattle.fl_waiting.specs.declared.parked.Request.{Request}
+use Rattle.fl_waiting.specs.declared.rules.Rules.{Rules}
 use Rattle.fl_core.specs.declared.settling.Touched.{Touched}
-use Rattle.fl_core.specs.declared.settling.Touched.TheVariants.{Nothing, OfClass, OfNode}
-use Rattle.fl_core.proofs.Alone.{each_alone, each_behind, oldest_alone, waits_alone, WaitsIfOther}
-use Rattle.fl_core.proofs.Taken.{taken_alike, all_more, all_passing}
+use Rattle.fl_core.specs.declared.settling.Touched.TheVariants.{Nothing, OfClass, OfNode, Anything}
+use Rattle.fl_core.proofs.Alone.{waits_alone, waits_by, waits_unfair, each_so, behind_more, behind_parts, behind_both, behind_less, behind_without}
+use Rattle.fl_core.proofs.Taken.{keep}
 use Rattle.fl_dir.specs.Directory.{Listing}
 use Rattle.fl_order.specs.declared.errno.Errno.{Errno}
 use Rattle.fl_order.specs.declared.order.LockAsk.{LockAsk}
@@ -23,7 +24,7 @@ use Rattle.fl_ranges.specs.declared.lock.Key.{Key}
 use Rattle.fl_ranges.specs.declared.lock.Kind.{Kind}
 use Rattle.fl_ranges.specs.declared.lock.Mark.{Mark}
 use Rattle.fl_ranges.specs.Change.{after_changes}
-use Rattle.fl_ranges.specs.Conflict.{conflicts, SameElsewhere, SameOffNode}
+use Rattle.fl_ranges.specs.Conflict.{conflicts, excludes, SameElsewhere, SameOffNode}
 use Rattle.fl_ranges.specs.Marking.{Marking, Stroke, class_number}
 
 excluded_same : (m n : Marking) (s : Stroke) (mark : Option Mark)
@@ -32,33 +33,22 @@ excluded_same m n s None same = refl
 excluded_same m n s (Some mark) same = same mark.kind
 
 -- where nothing changed for requests that aren't concerned, they still wait
-after_alone : (t : Touched) (m n : Marking) (parked : List Request)
-    → ((r : Request) → concerns_request t r ≡ false → waits_alone n r ≡ waits_alone m r)
-    → AllByRecursion (WaitsIfOther t m) parked → AllByRecursion (WaitsIfOther t n) parked
-after_alone t m n [] same all = tt
-after_alone t m n (r ∷ parked) same all = ((λ apart. same r apart ∙ all.0 apart), after_alone t m n parked same all.1)
+pub others_after : (t : Touched) (rules : Rules) (m n : Marking) (parked : List Request)
+    → ((r : Request) → concerns_request t r ≡ false → waits_alone n r ≡ waits_alone m r) → OthersWait t rules m parked → OthersWait t rules n parked
+others_after t rules m n parked same all = each_so _ _ (λ older r waits apart.
+    waits_by rules n older r ∙ ap (λ b. b || is_behind rules older r) (same r apart) ∙ sym (waits_by rules m older r) ∙ waits apart) [] parked all
 
-pub others_after : (t : Touched) (m n : Marking) (parked : List Request)
-    → ((r : Request) → concerns_request t r ≡ false → waits_alone n r ≡ waits_alone m r) → OthersWait t m parked → OthersWait t n parked
-others_after t m n parked same all =
-    each_behind (WaitsIfOther t n) [] parked (after_alone t m n parked same (each_alone (WaitsIfOther t m) [] parked all))
-
-pub others_kept : (t : Touched) (m : Marking) (parked : List Request) → AllWait m parked → OthersWait t m parked
-others_kept t m parked all = go [] parked all
-  where
-    go : (older parked : List Request) → AllBehind (λ older r. waits m older r ≡ true) older parked
-        → AllBehind (λ older r. concerns_request t r ≡ false → waits m older r ≡ true) older parked
-    go older [] all = tt
-    go older (r ∷ parked) all = ((λ apart. all.0), go (older ++ r ∷ []) parked all.1)
+pub others_kept : (t : Touched) (rules : Rules) (m : Marking) (parked : List Request) → AllWait rules m parked → OthersWait t rules m parked
+others_kept t rules m parked all = each_so _ _ (λ older r waits apart. waits) [] parked all
 
 -- all wait where no lock was touched that one of them waits for
-pub none_concerned : (t : Touched) (m : Marking) (parked : List Request) → AllByRecursion (λ (r : Request). concerns_request t r ≡ false) parked
-    → OthersWait t m parked → AllWait m parked
-none_concerned t m parked none all = go [] parked none all
+pub none_concerned : (t : Touched) (rules : Rules) (m : Marking) (parked : List Request)
+    → AllByRecursion (λ (r : Request). concerns_request t r ≡ false) parked → OthersWait t rules m parked → AllWait rules m parked
+none_concerned t rules m parked none all = go [] parked none all
   where
     go : (older parked : List Request) → AllByRecursion (λ (r : Request). concerns_request t r ≡ false) parked
-        → AllBehind (λ older r. concerns_request t r ≡ false → waits m older r ≡ true) older parked
-        → AllBehind (λ older r. waits m older r ≡ true) older parked
+        → AllBehind (λ older r. concerns_request t r ≡ false → waits rules m older r ≡ true) older parked
+        → AllBehind (λ older r. waits rules m older r ≡ true) older parked
     go older [] none all = tt
     go older (r ∷ parked) none all = (all.0 none.0, go (older ++ r ∷ []) parked none.1 all.1)
 
@@ -75,48 +65,58 @@ off_node node m n elsewhere r apart =
     excluded_same m n s (mark_of r.ask) (λ kind. elsewhere s.key s.start s.end kind apart)
 
 -- after a lock request that is answered so
-pub others_set : (node : ℕ) (ask : LockAsk) (reply : Result Answer Errno) (m n : Marking) (parked : List Request) → n ≡ after_changes (locked node ask reply) m
+pub others_set : (rules : Rules) (node : ℕ) (ask : LockAsk) (reply : Result Answer Errno) (m n : Marking) (parked : List Request) → n ≡ after_changes (locked node ask reply) m
     → SameElsewhere (key_of node ask) m n
-    → AllWait m parked → OthersWait (touched_by node (Setlk ask) (Some reply)) n parked
-others_set node ask (Ok answer) m n parked is elsewhere all =
-    others_after (OfClass node (key_of node ask).class) m n parked (off_class (key_of node ask) m n elsewhere)
-    (others_kept (OfClass node (key_of node ask).class) m parked all)
-others_set node ask (Err e) m n parked is elsewhere all = others_kept Nothing n parked (subst (λ k. AllWait k parked) (sym is) all)
+    → AllWait rules m parked → OthersWait (touched_by node (Setlk ask) (Some reply)) rules n parked
+others_set rules node ask (Ok answer) m n parked is elsewhere all =
+    others_after (OfClass node (key_of node ask).class) rules m n parked (off_class (key_of node ask) m n elsewhere)
+    (others_kept (OfClass node (key_of node ask).class) rules m parked all)
+others_set rules node ask (Err e) m n parked is elsewhere all = others_kept Nothing rules n parked (subst (λ k. AllWait rules k parked) (sym is) all)
 
-pub others_waited : (node : ℕ) (ask : LockAsk) (reply : Result Answer Errno) (m n : Marking) (parked : List Request)
+pub others_waited : (rules : Rules) (node : ℕ) (ask : LockAsk) (reply : Result Answer Errno) (m n : Marking) (parked : List Request)
     → n ≡ after_changes (locked node ask reply) m → SameElsewhere (key_of node ask) m n
-    → AllWait m parked → OthersWait (touched_by node (Setlkw ask) (Some reply)) n parked
-others_waited node ask (Ok answer) m n parked is elsewhere all = others_set node ask (Ok answer) m n parked is elsewhere all
-others_waited node ask (Err e) m n parked is elsewhere all = others_kept Nothing n parked (subst (λ k. AllWait k parked) (sym is) all)
+    → AllWait rules m parked → OthersWait (touched_by node (Setlkw ask) (Some reply)) rules n parked
+others_waited rules node ask (Ok answer) m n parked is elsewhere all = others_set rules node ask (Ok answer) m n parked is elsewhere all
+others_waited rules node ask (Err e) m n parked is elsewhere all = others_kept Nothing rules n parked (subst (λ k. AllWait rules k parked) (sym is) all)
 
-pub others_flushed : (node fh owner : ℕ) (reply : Result Answer Errno) (m n : Marking) (parked : List Request) → n ≡ after_changes (flushed node owner reply) m
+pub others_flushed : (rules : Rules) (node fh owner : ℕ) (reply : Result Answer Errno) (m n : Marking) (parked : List Request) → n ≡ after_changes (flushed node owner reply) m
     → SameElsewhere (record { class = Record; node = node; owner = owner }) m n
-    → AllWait m parked → OthersWait (touched_by node (Flush fh owner) (Some reply)) n parked
-others_flushed node fh owner (Ok answer) m n parked is elsewhere all =
-    others_after (OfClass node Record) m n parked (off_class (record { class = Record; node = node; owner = owner }) m n elsewhere)
-    (others_kept (OfClass node Record) m parked all)
-others_flushed node fh owner (Err e) m n parked is elsewhere all = others_kept Nothing n parked (subst (λ k. AllWait k parked) (sym is) all)
+    → AllWait rules m parked → OthersWait (touched_by node (Flush fh owner) (Some reply)) rules n parked
+others_flushed rules node fh owner (Ok answer) m n parked is elsewhere all =
+    others_after (OfClass node Record) rules m n parked (off_class (record { class = Record; node = node; owner = owner }) m n elsewhere)
+    (others_kept (OfClass node Record) rules m parked all)
+others_flushed rules node fh owner (Err e) m n parked is elsewhere all = others_kept Nothing rules n parked (subst (λ k. AllWait rules k parked) (sym is) all)
 
 -- a test of those alone that are concerned finds the oldest that is free
-pub free_found : (t : Touched) (m : Marking) (parked : List Request) → OthersWait t m parked
-    → taken_first (λ r. concerns_request t r && not (waits_alone m r)) parked ≡ oldest_free m parked
-free_found t m parked others =
-    taken_alike _ _ parked (alike parked (each_alone (WaitsIfOther t m) [] parked others)) ∙ sym (oldest_alone m parked)
+pub free_found : (t : Touched) (rules : Rules) (m : Marking) (parked : List Request) → OthersWait t rules m parked
+    → taken_behind (passes_free rules (λ r. concerns_request t r && not (waits_alone m r))) [] parked ≡ oldest_free rules m parked
+unfolding taken_behind free_behind
+free_found t rules m parked others = go [] parked others
   where
-    one : (concerned waiting : Bool) → (concerned ≡ false → waiting ≡ true) → (concerned && not waiting) ≡ not waiting
-    one true waiting f = refl
-    one false true f = refl
-    one false false f = absurd (cc (f refl))
+    one : (concerned alone older waiting : Bool) → waiting ≡ (alone || older) → (concerned ≡ false → waiting ≡ true)
+        → ((concerned && not alone) && not older) ≡ not waiting
+    one true true older waiting e f = ap not (sym e)
+    one true false older waiting e f = ap not (sym e)
+    one false alone older waiting e f = ap not (sym (f refl))
 
-    alike : (parked : List Request) → AllByRecursion (WaitsIfOther t m) parked
-        → AllByRecursion (λ r. (concerns_request t r && not (waits_alone m r)) ≡ not (waits_alone m r)) parked
-    alike [] others = tt
-    alike (r ∷ parked) others = (one (concerns_request t r) (waits_alone m r) others.0, alike parked others.1)
+    by : (passing waiting : Bool) (r : Request) (parked : List Request) {x y : Option (Request × List Request)} → passing ≡ not waiting → x ≡ y
+        → cond passing (Some (r, parked)) (keep r x) ≡ cond waiting (keep r y) (Some (r, parked))
+    by passing true r parked {x} {y} e same = ap (λ b. cond b (Some (r, parked)) (keep r x)) e ∙ ap (keep r) same
+    by passing false r parked {x} {y} e same = ap (λ b. cond b (Some (r, parked)) (keep r x)) e
+
+    go : (older parked : List Request) → AllBehind (λ older r. concerns_request t r ≡ false → waits rules m older r ≡ true) older parked
+        → taken_behind (passes_free rules (λ r. concerns_request t r && not (waits_alone m r))) older parked ≡ free_behind rules m older parked
+    go older [] all = refl
+    go older (r ∷ parked) all =
+        by _ (waits rules m older r) r parked
+        (one (concerns_request t r) (waits_alone m r) (is_behind rules older r) (waits rules m older r) (waits_by rules m older r) all.0)
+        (go (older ++ r ∷ []) parked all.1)
 
 concerns_alike : (t : Touched) (n k : ℕ) (a b : Class) → class_number a ≡ class_number b → n ≡ k → concerns t n a ≡ concerns t k b
 concerns_alike Nothing n k a b c e = refl
 concerns_alike (OfClass node own) n k a b c e = λ i. (c i == class_number own) && (e i == node)
 concerns_alike (OfNode node) n k a b c e = ap (λ x. x == node) e
+concerns_alike Anything n k a b c e = refl
 
 numbers_equal : (m n : ℕ) → (m == n) ≡ true → m ≡ n
 numbers_equal m n e = grind (arith, nat_tests)
@@ -137,56 +137,123 @@ off_granted t given r there apart = go _ refl
         absurd (cc (sym apart ∙ concerns_alike t r.node given.node (key_of r.node r.ask).class (key_of given.node given.ask).class (numbers_equal _ _ parts.0)
         (numbers_equal _ _ parts.1) ∙ there))
 
-concerned : (t : Touched) (m : Marking) (r : Request) (b : Bool) → concerns_request t r ≡ b → (concerns_request t r ≡ false → waits_alone m r ≡ true)
-    → waits_alone m r ≡ false → concerns_request t r ≡ true
-concerned t m r true e others free = e
-concerned t m r false e others free = absurd (cc (sym (others e) ∙ free))
+concerned : (t : Touched) (waiting : Bool) (r : Request) (b : Bool) → concerns_request t r ≡ b → (concerns_request t r ≡ false → waiting ≡ true)
+    → waiting ≡ false → concerns_request t r ≡ true
+concerned t waiting r true e others free = e
+concerned t waiting r false e others free = absurd (cc (sym (others e) ∙ free))
 
-pub others_granted : (t : Touched) (m n : Marking) (given : Request) (others : List Request) → SameElsewhere (key_of given.node given.ask) m n
-    → (concerns_request t given ≡ false → waits_alone m given ≡ true) → waits_alone m given ≡ false
-    → OthersWait t m others → OthersWait t n others
-others_granted t m n given others elsewhere waiting free all =
-    let there = concerned t m given _ refl waiting free in
-    others_after t m n others (λ r apart. let s = stroke_of r.node r.ask in excluded_same m n s (mark_of r.ask)
-    (λ kind. elsewhere s.key s.start s.end kind (off_granted t given r there apart))) all
+no_rival : (a b c d : Bool) → (a && b) ≡ false → ((a && (b && c)) && d) ≡ false
+no_rival true true c d e = absurd (cc e)
+no_rival true false c d e = refl
+no_rival false b c d e = refl
 
-pub others_released : (node fh : ℕ) (unlocks : Bool) (owner : ℕ) (reply : Result Answer Errno) (d : Listing) (m n : Marking) (parked : List Request)
+-- a request that is concerned goes before none that isn't
+no_say : (t : Touched) (rules : Rules) (gone r : Request) → concerns_request t gone ≡ true → concerns_request t r ≡ false
+    → (k : Mark) (v : Wish) → wish_of gone ≡ Some v → goes_before rules anyone (v ∷ []) (wish_on (stroke_of r.node r.ask) k) ≡ false
+no_say t rules gone r there apart k v wants = go (is_flock gone.ask) refl (mark_of gone.ask) wants
+  where
+    key_there : (o : Option Mark) → option_map
+        (λ (mark : Mark). record { key = key_of gone.node gone.ask; start = start_of gone.ask; end = end_of gone.ask; kind = mark.kind }) o ≡ Some v
+        → v.key ≡ key_of gone.node gone.ask
+    key_there None e = absurd (cc e)
+    key_there (Some mark) e =
+        let same : ◌≡◌ {A = Wish} (record { key = key_of gone.node gone.ask; start = start_of gone.ask; end = end_of gone.ask; kind = mark.kind }) v = cc e in
+        sym (ap (λ (w : Wish). w.key) same)
+
+    unfair_or : (fair b : Bool) → b ≡ false → (fair && (b || false)) ≡ false
+    unfair_or true b e = ap (λ c. c || false) e
+    unfair_or false b e = refl
+
+    apart_keys : (key : Key) → key ≡ key_of gone.node gone.ask → goes_first (wish_on (stroke_of r.node r.ask) k) (record v { key = key }) ≡ false
+    apart_keys key is =
+        ap (λ (x : Key). goes_first (wish_on (stroke_of r.node r.ask) k) (record v { key = x })) is
+        ∙ no_rival (class_number (key_of r.node r.ask).class == class_number (key_of gone.node gone.ask).class) (r.node == gone.node)
+        (not (r.ask.owner == gone.ask.owner)) ((nat_le v.start (end_of r.ask) && nat_le (start_of r.ask) v.end) && excludes k.kind v.kind)
+        (off_granted t gone r there apart)
+
+    go : (flock : Bool) → is_flock gone.ask ≡ flock → (mark : Option Mark)
+        → cond flock None (option_map
+        (λ (mark : Mark). record { key = key_of gone.node gone.ask; start = start_of gone.ask; end = end_of gone.ask; kind = mark.kind }) mark) ≡ Some v
+        → goes_before rules anyone (v ∷ []) (wish_on (stroke_of r.node r.ask) k) ≡ false
+    go true f mark e = absurd (cc e)
+    go false f mark e = unfair_or rules.fair _ (apart_keys v.key (key_there mark e))
+
+-- one of those that are concerned leaves
+pub others_without : (t : Touched) (rules : Rules) (m : Marking) (older : List Request) (gone : Request) (younger : List Request)
+    → concerns_request t gone ≡ true → OthersWait t rules m (older ++ gone ∷ younger) → OthersWait t rules m (older ++ younger)
+others_without t rules m older gone younger there all =
+    let P : List Request → Request → Type 0 = λ older r. concerns_request t r ≡ false → waits rules m older r ≡ true in
+    let parts = behind_parts P [] older (gone ∷ younger) all in
+    behind_both P [] older younger parts.0
+    (subst (λ l. AllBehind P l younger) (append-nil older)
+    (behind_less P gone (λ older younger r waits apart.
+    waits_by rules m (older ++ younger) r ∙ ap (λ b. waits_alone m r || b) (sym (behind_without rules older gone younger r (no_say t rules gone r there apart)))
+    ∙ sym (waits_by rules m (older ++ gone ∷ younger) r) ∙ waits apart) older [] younger parts.1.1))
+
+-- the oldest that doesn't wait leaves, and its lock may be set
+pub others_granted : (t : Touched) (rules : Rules) (m n : Marking) (older : List Request) (given : Request) (younger : List Request)
+    → SameElsewhere (key_of given.node given.ask) m n → waits rules m older given ≡ false
+    → OthersWait t rules m (older ++ given ∷ younger) → OthersWait t rules n (older ++ younger)
+others_granted t rules m n older given younger elsewhere free all =
+    let P : List Request → Request → Type 0 = λ older r. concerns_request t r ≡ false → waits rules m older r ≡ true in
+    let parts = behind_parts P [] older (given ∷ younger) all in
+    let there = concerned t (waits rules m older given) given _ refl parts.1.0 free in
+    others_after t rules m n (older ++ younger) (λ r apart. let s = stroke_of r.node r.ask in excluded_same m n s (mark_of r.ask)
+    (λ kind. elsewhere s.key s.start s.end kind (off_granted t given r there apart)))
+    (others_without t rules m older given younger there all)
+
+pub others_released : (rules : Rules) (node fh : ℕ) (unlocks : Bool) (owner : ℕ) (reply : Result Answer Errno) (d : Listing) (m n : Marking) (parked : List Request)
     → n ≡ after_changes (released node fh unlocks owner reply d) m → SameOffNode node m n
-    → AllWait m parked → OthersWait (touched_by node (Release fh unlocks owner) (Some reply)) n parked
-others_released node fh unlocks owner (Ok answer) d m n parked is elsewhere all =
-    others_after (OfNode node) m n parked (off_node node m n elsewhere) (others_kept (OfNode node) m parked all)
-others_released node fh unlocks owner (Err e) d m n parked is elsewhere all = others_kept Nothing n parked (subst (λ k. AllWait k parked) (sym is) all)
+    → AllWait rules m parked → OthersWait (touched_by node (Release fh unlocks owner) (Some reply)) rules n parked
+others_released rules node fh unlocks owner (Ok answer) d m n parked is elsewhere all =
+    others_after (OfNode node) rules m n parked (off_node node m n elsewhere) (others_kept (OfNode node) rules m parked all)
+others_released rules node fh unlocks owner (Err e) d m n parked is elsewhere all = others_kept Nothing rules n parked (subst (λ k. AllWait rules k parked) (sym is) all)
 
 -- one request more that waits, behind the others
-pub all_wait_more : (m : Marking) (parked : List Request) (r : Request) → AllWait m parked → waits m parked r ≡ true → AllWait m (parked ++ r ∷ [])
-all_wait_more m parked r all here =
-    each_behind (λ r. waits_alone m r ≡ true) [] (parked ++ r ∷ [])
-    (all_more (λ r. waits_alone m r ≡ true) parked r (each_alone (λ r. waits_alone m r ≡ true) [] parked all) here)
+pub all_wait_more : (rules : Rules) (m : Marking) (parked : List Request) (r : Request) → AllWait rules m parked → waits rules m parked r ≡ true
+    → AllWait rules m (parked ++ r ∷ [])
+all_wait_more rules m parked r all here = behind_more (λ older r. waits rules m older r ≡ true) [] parked r all here
 
--- some of the requests leave, and the others still wait
-pub all_wait_left : (m : Marking) (stays : Request → Bool) (parked : List Request) → AllWait m parked → AllWait m (filter stays parked)
-all_wait_left m stays parked all =
-    each_behind (λ r. waits_alone m r ≡ true) [] (filter stays parked)
-    (all_passing (λ r. waits_alone m r ≡ true) stays parked (each_alone (λ r. waits_alone m r ≡ true) [] parked all))
+-- where no request waits behind another some may leave, and the others wait but for those that were touched
+pub others_wait_left : (t : Touched) (rules : Rules) (m : Marking) (stays : Request → Bool) (parked : List Request) → rules.fair ≡ false
+    → OthersWait t rules m parked → OthersWait t rules m (filter stays parked)
+others_wait_left t rules m stays parked unfair all = go [] [] parked all
+  where
+    P : List Request → Request → Type 0
+    P = λ older r. concerns_request t r ≡ false → waits rules m older r ≡ true
 
--- but for those that were touched
-pub others_wait_left : (t : Touched) (m : Marking) (stays : Request → Bool) (parked : List Request) → OthersWait t m parked
-    → OthersWait t m (filter stays parked)
-others_wait_left t m stays parked all =
-    each_behind (WaitsIfOther t m) [] (filter stays parked)
-    (all_passing (WaitsIfOther t m) stays parked (each_alone (WaitsIfOther t m) [] parked all))
+    go : (older others parked : List Request) → AllBehind (λ older r. concerns_request t r ≡ false → waits rules m older r ≡ true) older parked
+        → AllBehind (λ older r. concerns_request t r ≡ false → waits rules m older r ≡ true) others (filter stays parked)
+    go older others [] all = tt
+    go older others (r ∷ parked) all =
+        by (stays r) (go (older ++ r ∷ []) (others ++ r ∷ []) parked all.1) (go (older ++ r ∷ []) others parked all.1)
+      where
+        by : (b : Bool) → AllBehind (λ older r. concerns_request t r ≡ false → waits rules m older r ≡ true) (others ++ r ∷ []) (filter stays parked)
+            → AllBehind (λ older r. concerns_request t r ≡ false → waits rules m older r ≡ true) others (filter stays parked)
+            → AllBehind (λ older r. concerns_request t r ≡ false → waits rules m older r ≡ true) others (cond b (r ∷ filter stays parked) (filter stays parked))
+        by true here gone = ((λ apart. waits_unfair rules m others older r unfair ∙ all.0 apart), here)
+        by false here gone = gone
+
+-- where any may be free
+pub anything_may : (rules : Rules) (m : Marking) (parked : List Request) → OthersWait Anything rules m parked
+anything_may rules m parked = go [] parked
+  where
+    go : (older parked : List Request) → AllBehind (λ older r. concerns_request Anything r ≡ false → waits rules m older r ≡ true) older parked
+    go older [] = tt
+    go older (r ∷ parked) = ((λ apart. absurd (cc apart)), go (older ++ r ∷ []) parked)
 
 -- after a lock request that may wait now
-module _ (node : ℕ) (ask : LockAsk) (unique : ℕ) (m n : Marking) (parked left : List Request) where
+module _ (rules : Rules) (node : ℕ) (ask : LockAsk) (unique : ℕ) (m n : Marking) (parked left : List Request) where
   abbrev pub request : Request
   request = record { unique = unique; node = node; ask = ask }
 
   pub others_parked : (own : Option (Result Answer Errno)) → IfSome own (λ reply. (n ≡ after_changes (locked node ask reply) m) × (left ≡ parked))
-      → (IsNone own → WaitsNow m n parked left request) → SameElsewhere (key_of node ask) m n
-      → AllWait m parked → OthersWait (touched_by node (Setlkw ask) own) n left
+      → (IsNone own → WaitsNow rules m n parked left request) → SameElsewhere (key_of node ask) m n
+      → AllWait rules m parked → OthersWait (touched_by node (Setlkw ask) own) rules n left
   others_parked (Some reply) told waiting elsewhere all =
-      subst (λ xs. OthersWait (touched_by node (Setlkw ask) (Some reply)) n xs) (sym told.1) (others_waited node ask reply m n parked told.0 elsewhere all)
+      subst (λ xs. OthersWait (touched_by node (Setlkw ask) (Some reply)) rules n xs) (sym told.1)
+      (others_waited rules node ask reply m n parked told.0 elsewhere all)
   others_parked None told waiting elsewhere all =
       let w = waiting refl in
-      others_kept Nothing n left (subst (λ k. AllWait k left) (sym w.locks)
-      (subst (AllWait m) (sym w.last) (all_wait_more m parked request all w.waits)))
+      others_kept Nothing rules n left (subst (λ k. AllWait rules k left) (sym w.locks)
+      (subst (AllWait rules m) (sym w.last) (all_wait_more rules m parked request all w.waits)))

@@ -154,8 +154,8 @@ replied order (told ∷ tolds) v = fold (λ e t. followed_by (later t) e) (told_
 
 -- the state after an effect
 abbrev pub recorded : (View → Effect) → State → State
-recorded f s = record { view = (f s.view).view; changes = (f s.view).changes ++ s.changes }
+recorded f s = record s { view = (f s.view).view; changes = (f s.view).changes ++ s.changes }
 
 -- what contracts see after an effect
 abbrev pub made : (View → Effect) → Snapshot → Snapshot
-made f p = record { view = (f p.view).view; marking = after_changes (f p.view).changes p.marking }
+made f p = record p { view = (f p.view).view; marking = after_changes (f p.view).changes p.marking }

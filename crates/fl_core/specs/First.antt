@@ -46,7 +46,7 @@ own order result = record { unique = order.unique; result = result }
 -- what an order gives whose unique is none of a parked request
 pub data IsAnswered (p : Snapshot) (order : Order) : Op → List Told → Type 0 where
   alone : (op : Op) → is_alone op ≡ true
-      → IsAnswered p order op (own_replies order (reply_to p.view p.marking order op))
+      → IsAnswered p order op (own_replies order (reply_to p.rules p.view p.marking order op))
   -- RELEASE: of an fh that isn't open on the node; or of one that is, and then each request that came through it is
   -- told EBADF, the oldest first
   not_open : (fh : ℕ) (unlocks : Bool) (owner : ℕ) → is_open_on p.view.directory fh order.node ≡ false
@@ -64,20 +64,20 @@ pub data IsAnswered (p : Snapshot) (order : Order) : Op → List Told → Type 0
   fails : (ask : LockAsk) (e : Errno) → ask_error p.view.directory order.node ask ≡ Some e
       → IsAnswered p order (Setlkw ask) (own order (Err e) ∷ [])
   is_free : (ask : LockAsk) → ask_error p.view.directory order.node ask ≡ None
-      → waits p.marking p.view.parked (request_of order ask) ≡ false
+      → waits p.rules p.marking p.view.parked (request_of order ask) ≡ false
       → IsAnswered p order (Setlkw ask) (own order (grant_reply p.marking (request_of order ask)) ∷ [])
   closes_one : (ask : LockAsk) → ask_error p.view.directory order.node ask ≡ None
-      → waits p.marking p.view.parked (request_of order ask) ≡ true
-      → ClosesCircle p.marking p.view.parked (request_of order ask)
+      → waits p.rules p.marking p.view.parked (request_of order ask) ≡ true
+      → ClosesCircle p.rules p.marking p.view.parked (request_of order ask)
       → IsAnswered p order (Setlkw ask) (own order (Err EDEADLK) ∷ [])
   is_one_too_many : (ask : LockAsk) → ask_error p.view.directory order.node ask ≡ None
-      → waits p.marking p.view.parked (request_of order ask) ≡ true
-      → (ClosesCircle p.marking p.view.parked (request_of order ask) → ⊥)
+      → waits p.rules p.marking p.view.parked (request_of order ask) ≡ true
+      → (ClosesCircle p.rules p.marking p.view.parked (request_of order ask) → ⊥)
       → 256 ≤ length p.view.parked
       → IsAnswered p order (Setlkw ask) (own order (Err ENOLCK) ∷ [])
   waits_now : (ask : LockAsk) → ask_error p.view.directory order.node ask ≡ None
-      → waits p.marking p.view.parked (request_of order ask) ≡ true
-      → (ClosesCircle p.marking p.view.parked (request_of order ask) → ⊥)
+      → waits p.rules p.marking p.view.parked (request_of order ask) ≡ true
+      → (ClosesCircle p.rules p.marking p.view.parked (request_of order ask) → ⊥)
       → length p.view.parked < 256
       → IsAnswered p order (Setlkw ask) []
 

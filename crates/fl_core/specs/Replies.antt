@@ -1,6 +1,6 @@
 -- What an order is answered at once (POSIX.1-2017 `fcntl`, F_GETLK and F_SETLK; Linux `flock(2)`; the requests of Linux
 -- `fuse.h`).
-use Rattle.std.specs.Prelude.{ℕ, Bool, false, not, ◌||◌, ◌&&◌, ◌==◌, nat_le, nat_lt, Option, Some, None, Result, Ok, Err}
+use Rattle.std.specs.Prelude.{ℕ, Bool, not, ◌||◌, ◌&&◌, ◌==◌, nat_le, nat_lt, Option, Some, None, Result, Ok, Err}
 use Rattle.std.specs.Prelude.{List, [], ◌∷◌, ◌++◌, length, map, if◌then◌else◌}
 use Rattle.std.specs.List.{filter}
 use Rattle.fl_waiting.specs.Circle.{is_deadlock}
@@ -10,6 +10,7 @@ use Rattle.fl_waiting.specs.Waiting.{must_wait, is_excluded, is_parked}
 use Rattle.fl_core.specs.declared.ending.Ending.{Ending}
 use Rattle.fl_core.specs.declared.ending.Ending.TheVariants.{Through, Named}
 use Rattle.fl_waiting.specs.declared.parked.Request.{Request}
+use Rattle.fl_waiting.specs.declared.rules.Rules.{Rules}
 use Rattle.fl_dir.specs.Directory.{Listing}
 use Rattle.fl_dir.specs.OpenFiles.{is_open_on}
 use Rattle.fl_dir.specs.Replies.{lookup_reply, create_reply, open_reply, getattr_reply, unlink_reply, unless_error}
@@ -57,9 +58,9 @@ abbrev pub setlk_reply : Listing → Marking → ℕ → LockAsk → Result Answ
 setlk_reply d m node ask = unless_error (ask_error d node ask) (set_reply m (stroke_of node ask) (mark_of ask))
 
 -- a request that has to wait has no reply yet, unless it would close a circle, or 256 requests wait already
-abbrev pub wait_reply : Marking → List Request → Stroke → Option Mark → Option (Result Answer Errno)
-wait_reply m parked s mark =
-    if is_deadlock m parked s mark then Some (Err EDEADLK)
+abbrev pub wait_reply : Rules → Marking → List Request → Stroke → Option Mark → Option (Result Answer Errno)
+wait_reply rules m parked s mark =
+    if is_deadlock rules m parked s mark then Some (Err EDEADLK)
     else (if nat_le 256 (length parked) then Some (Err ENOLCK) else None)
 
 -- the error at once, or else the reply, if it comes at once
@@ -68,11 +69,12 @@ at_once_unless None reply = reply
 at_once_unless (Some e) reply = Some (Err e)
 
 -- what a SETLKW is answered at once
-abbrev pub setlkw_reply : View → Marking → ℕ → LockAsk → Option (Result Answer Errno)
-setlkw_reply v m node ask =
+abbrev pub setlkw_reply : Rules → View → Marking → ℕ → LockAsk → Option (Result Answer Errno)
+setlkw_reply rules v m node ask =
     let s = stroke_of node ask in
+    let mark = mark_of ask in
     at_once_unless (ask_error v.directory node ask)
-    (if must_wait m v.parked s (mark_of ask) then wait_reply m v.parked s (mark_of ask) else Some (room_reply m s))
+    (if must_wait rules m v.parked s mark then wait_reply rules m v.parked s mark else Some (room_reply m s))
 
 -- the type of a lock record: 0 is read and 1 is write
 abbrev pub type_of : Kind → ℕ
@@ -113,14 +115,14 @@ directory_reply d order (Create excl mode name) = Some (create_reply d order.nod
 directory_reply d order op = None
 
 -- what an order is answered at once: one about locks or parked requests, and any other
-abbrev pub reply_to : View → Marking → Order → Op → Option (Result Answer Errno)
-reply_to v m order (Release fh unlocks owner) = Some (file_reply v.directory order.node fh)
-reply_to v m order (Flush fh owner) = Some (file_reply v.directory order.node fh)
-reply_to v m order (Getlk ask) = Some (getlk_reply v.directory m order.node ask)
-reply_to v m order (Setlk ask) = Some (setlk_reply v.directory m order.node ask)
-reply_to v m order (Setlkw ask) = setlkw_reply v m order.node ask
-reply_to v m order (Interrupt unique) = interrupt_reply v.parked unique
-reply_to v m order op = directory_reply v.directory order op
+abbrev pub reply_to : Rules → View → Marking → Order → Op → Option (Result Answer Errno)
+reply_to rules v m order (Release fh unlocks owner) = Some (file_reply v.directory order.node fh)
+reply_to rules v m order (Flush fh owner) = Some (file_reply v.directory order.node fh)
+reply_to rules v m order (Getlk ask) = Some (getlk_reply v.directory m order.node ask)
+reply_to rules v m order (Setlk ask) = Some (setlk_reply v.directory m order.node ask)
+reply_to rules v m order (Setlkw ask) = setlkw_reply rules v m order.node ask
+reply_to rules v m order (Interrupt unique) = interrupt_reply v.parked unique
+reply_to rules v m order op = directory_reply v.directory order op
 
 -- what an order is answered whose unique is that of a parked request
 abbrev pub taken_reply : Op → Option (Result Answer Errno)
@@ -128,9 +130,9 @@ taken_reply (Forget n) = None
 taken_reply _ = Some (Err EINVAL)
 
 -- the order's own reply, if it has one now
-abbrev pub own_reply : View → Marking → Order → Option (Result Answer Errno)
-own_reply v m order =
-    if is_parked order.unique v.parked then taken_reply order.op else reply_to v m order order.op
+abbrev pub own_reply : Rules → View → Marking → Order → Option (Result Answer Errno)
+own_reply rules v m order =
+    if is_parked order.unique v.parked then taken_reply order.op else reply_to rules v m order order.op
 
 -- the same as a list
 abbrev pub own_replies : Order → Option (Result Answer Errno) → List Told
@@ -178,5 +180,5 @@ ended v order own = if is_parked order.unique v.parked then [] else ended_by v.p
 -- the replies that an order gives before any lock that came free is given to a parked request
 abbrev pub first_told : Snapshot → Order → List Told
 first_told p order =
-    let own = own_reply p.view p.marking order in
+    let own = own_reply p.rules p.view p.marking order in
     own_replies order own ++ ended p.view order own

@@ -6,6 +6,7 @@ use Rattle.fl_waiting.specs.LockRequest.{stroke_of}
 use Rattle.fl_core.specs.Replies.{room_reply}
 use Rattle.fl_waiting.specs.Waiting.{waits, AllWait}
 use Rattle.fl_waiting.specs.declared.parked.Request.{Request}
+use Rattle.fl_waiting.specs.declared.rules.Rules.{Rules}
 use Rattle.fl_order.specs.declared.errno.Errno.{Errno}
 use Rattle.fl_order.specs.declared.told.Answer.{Answer}
 use Rattle.fl_order.specs.declared.told.Told.{Told}
@@ -33,16 +34,16 @@ abbrev pub marking_granted : Marking → Request → Marking
 marking_granted m r = after_changes (locked r.node r.ask (grant_reply m r)) m
 
 -- the oldest request that doesn't wait, and the others; these are older than all of them
-unfoldable pub free_behind : Marking → List Request → List Request → Option (Request × List Request)
-free_behind m older [] = None
-free_behind m older (r ∷ parked) =
-    if waits m older r
-    then option_map (λ (p : Request × List Request). (p.0, r ∷ p.1)) (free_behind m (older ++ r ∷ []) parked)
+unfoldable pub free_behind : Rules → Marking → List Request → List Request → Option (Request × List Request)
+free_behind rules m older [] = None
+free_behind rules m older (r ∷ parked) =
+    if waits rules m older r
+    then option_map (λ (p : Request × List Request). (p.0, r ∷ p.1)) (free_behind rules m (older ++ r ∷ []) parked)
     else Some (r, parked)
 
 -- the oldest of all parked requests that doesn't
-abbrev pub oldest_free : Marking → List Request → Option (Request × List Request)
-oldest_free m parked = free_behind m [] parked
+abbrev pub oldest_free : Rules → Marking → List Request → Option (Request × List Request)
+oldest_free rules m parked = free_behind rules m [] parked
 
 -- what settling leaves, and the replies that it gives
 pub record Settled : Type 0 where
@@ -60,21 +61,22 @@ answered_first m parked rest None = record { present = present m parked; tolds =
 answered_first m parked rest (Some p) = with_told (granted_told m p.0) (rest p)
 
 -- at most so many requests are answered, each time the oldest that doesn't wait
-unfoldable pub settled_within : ℕ → Marking → List Request → Settled
-settled_within zero m parked = record { present = present m parked; tolds = [] }
-settled_within (suc n) m parked =
-    answered_first m parked (λ p. settled_within n (marking_granted m p.0) p.1) (oldest_free m parked)
+unfoldable pub settled_within : Rules → ℕ → Marking → List Request → Settled
+settled_within rules zero m parked = record { present = present m parked; tolds = [] }
+settled_within rules (suc n) m parked =
+    answered_first m parked (λ p. settled_within rules n (marking_granted m p.0) p.1) (oldest_free rules m parked)
 
 -- all that can be answered are
-abbrev pub settled : Present → Settled
-settled s = settled_within (length s.parked) s.marking s.parked
+abbrev pub settled : Rules → Present → Settled
+settled rules s = settled_within rules (length s.parked) s.marking s.parked
 
 -- The same in words: nothing is told where every request waits. Else the oldest that doesn't is taken out, its lock is set
 -- where there is room, and it is told; and so on.
-pub data IsSettled : Present → List Told → Present → Type 0 where
-  done : {m : Marking} {parked : List Request} → AllWait m parked
-      → IsSettled (present m parked) [] (present m parked)
+pub data IsSettled (rules : Rules) : Present → List Told → Present → Type 0 where
+  done : {m : Marking} {parked : List Request} → AllWait rules m parked
+      → IsSettled rules (present m parked) [] (present m parked)
   one : {m : Marking} {parked : List Request} {tolds : List Told} {after : Present} (older : List Request)
-      (r : Request) (younger : List Request) → parked ≡ older ++ r ∷ younger → AllWait m older → waits m older r ≡ false
-      → IsSettled (present (marking_granted m r) (older ++ younger)) tolds after
-      → IsSettled (present m parked) (granted_told m r ∷ tolds) after
+      (r : Request) (younger : List Request) → parked ≡ older ++ r ∷ younger → AllWait rules m older
+      → waits rules m older r ≡ false
+      → IsSettled rules (present (marking_granted m r) (older ++ younger)) tolds after
+      → IsSettled rules (present m parked) (granted_told m r ∷ tolds) after

@@ -3,27 +3,39 @@ use Rattle.std.specs.Prelude.{List, []}
 use Rattle.fl_ranges.specs.Marking.{Marking}
 use Rattle.fl_ranges.specs.Change.{Change, marking_after}
 use Rattle.fl_dir.specs.Directory.{Listing, opening_listing}
+use Rattle.fl_waiting.specs.Waiting.{standard}
 use Rattle.fl_waiting.specs.declared.parked.Request.{Request}
+use Rattle.fl_waiting.specs.declared.rules.Rules.{Rules}
 
 -- all but the locks: the directory, and the parked requests in the order of asking
 pub record View : Type 0 where
   pub directory : Listing
   pub parked : List Request
 
--- all but the locks, and the changes of locks with the last one first
+-- the rules by which requests wait, all but the locks, and the changes of locks with the last one first
 pub record State : Type 0 where
+  pub rules : Rules
   pub view : View
   pub changes : List Change
 
 -- nothing is there yet
+abbrev pub opening_under : Rules → State
+opening_under rules = record {
+  rules = rules;
+  view = record { directory = opening_listing; parked = [] };
+  changes = [];
+}
+
+-- under the rules by which no request waits behind another
 abbrev pub opening : State
-opening = record { view = record { directory = opening_listing; parked = [] }; changes = [] }
+opening = opening_under standard
 
 -- what contracts see: the marking in the place of the changes
 pub record Snapshot : Type 0 where
+  pub rules : Rules
   pub view : View
   pub marking : Marking
 
 -- what a state shows
 abbrev pub snapshot_of : State → Snapshot
-snapshot_of s = record { view = s.view; marking = marking_after s.changes }
+snapshot_of s = record { rules = s.rules; view = s.view; marking = marking_after s.changes }

@@ -16,7 +16,7 @@ after_first p order = made (replied order (first_told p order)) p
 
 -- the parked requests are settled
 abbrev pub settling : Snapshot → Settled
-settling p = settled (present p.marking p.view.parked)
+settling p = settled p.rules (present p.marking p.view.parked)
 
 -- the replies that an order gives: its first ones, and those that settling gives
 abbrev pub replies : Snapshot → Order → List Told
@@ -28,7 +28,7 @@ replies_in s order = replies (snapshot_of s) order
 
 -- the locks and the parked requests are these
 abbrev pub with_present : Present → Snapshot → Snapshot
-with_present s p = record { view = record p.view { parked = s.parked }; marking = s.marking }
+with_present s p = record p { view = record p.view { parked = s.parked }; marking = s.marking }
 
 -- what is there after an order
 abbrev pub next : Snapshot → Order → Snapshot

@@ -1,6 +1,6 @@
 //! Requests that wait, and are ended by another order.
 
-ghost use Rattle.std.specs.Prelude.{◌≡◌, ◌≤◌, ◌+◌, ◌++◌, not, length};
+ghost use Rattle.std.specs.Prelude.{◌≡◌, ◌≤◌, ◌+◌, ◌++◌, false, not, length};
 ghost use Rattle.std.specs.List.{filter};
 ghost use Rattle.fl_core.specs.Replies.{ended_all, ending_of, error_of, picks};
 
@@ -28,19 +28,23 @@ pub(crate) fn ending_of(order: &Order, own: &Option<Result<Answer, Errno>>) -> O
     }
 }
 
-/// Takes out these requests, the oldest first, and tells each.
-pub(crate) fn end_all(parked: &mut Parked, ending: Ending, tolds: &mut Tolds)
+/// Takes out these requests, the oldest first, and tells each. Gives whether there was one.
+pub(crate) fn end_all(parked: &mut Parked, ending: Ending, tolds: &mut Tolds) -> bool
     requires { length tolds.old + length parked.old ≤ MOST_TOLDS }
     ensures tolds { tolds.new ≡ tolds.old ++ ended_all (error_of ending) (picks ending) parked.old }
     ensures parked { parked.new ≡ filter (λ r. not (picks ending r)) parked.old }
     ensures few { length tolds.new + length parked.new ≤ MOST_TOLDS }
+    ensures any { result ≡ false → parked.new ≡ parked.old }
 {
+    let mut ended = false;
     while let Some(claim) = parked.take_first(|claim| picks(ending, claim)) {
         tolds.push(Told {
             unique: claim.request.unique,
             result: Err(error_of(ending)),
         });
+        ended = true;
     }
+    ended
 }
 
 fn picks(ending: Ending, claim: &Claim) -> bool

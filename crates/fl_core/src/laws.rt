@@ -10,6 +10,7 @@ ghost use Rattle.fl_core.specs.State.{View, State, Snapshot, snapshot_of};
 ghost use Rattle.fl_core.specs.Step.{next, replies};
 ghost use Rattle.fl_waiting.specs.Waiting.{AllWait, AreApart, taken_out};
 ghost use Rattle.fl_waiting.specs.declared.parked.Request.{Request};
+ghost use Rattle.fl_waiting.specs.declared.rules.Rules.{Rules};
 ghost use Rattle.fl_order.specs.declared.errno.Errno.{Errno};
 ghost use Rattle.fl_order.specs.declared.order.Order.{Order};
 ghost use Rattle.fl_order.specs.declared.told.Told.{Told};
@@ -30,10 +31,12 @@ pub fn first_replies_are_those_of_the_orders_case()
 
 /// Settling takes out the oldest request that doesn't wait, again and again, until each waits.
 pub fn settling_answers_the_oldest_first()
-    ensures told { (s after : Present) (tolds : List Told) →
-        IsSettled s tolds after ↔ ((tolds ≡ (settled s).tolds) × (after ≡ (settled s).present)) }
-    ensures nothing { (s : Present) → ((settled s).tolds ≡ []) ↔ AllWait s.marking s.parked }
-    ensures ends { (s : Present) → AllWait (settled s).present.marking (settled s).present.parked }
+    ensures told { (rules : Rules) (s after : Present) (tolds : List Told) →
+        IsSettled rules s tolds after ↔ ((tolds ≡ (settled rules s).tolds) × (after ≡ (settled rules s).present)) }
+    ensures nothing { (rules : Rules) (s : Present) →
+        ((settled rules s).tolds ≡ []) ↔ AllWait rules s.marking s.parked }
+    ensures ends { (rules : Rules) (s : Present) →
+        AllWait rules (settled rules s).present.marking (settled rules s).present.parked }
 {}
 
 /// A parked request that is told an error is parked no more, and that is all that changes.
@@ -46,18 +49,19 @@ pub fn a_late_error_changes_no_lock()
 /// What is there after an order is what its replies alone give, from each state that shows what was there before. Each
 /// parked request waits then, and no two have one unique, if that held before.
 pub fn a_step_is_what_its_replies_give()
-    ensures read { (p : Snapshot) (order : Order) (s : State) → AllWait p.marking p.view.parked →
+    ensures read { (p : Snapshot) (order : Order) (s : State) → AllWait p.rules p.marking p.view.parked →
         AreApart p.view.parked → snapshot_of s ≡ p →
         snapshot_of (recorded (replied order (replies p order)) s) ≡ next p order }
-    ensures waiting { (p : Snapshot) (order : Order) → AllWait (next p order).marking (next p order).view.parked }
-    ensures apart { (p : Snapshot) (order : Order) → AllWait p.marking p.view.parked → AreApart p.view.parked →
+    ensures waiting { (p : Snapshot) (order : Order) →
+        AllWait p.rules (next p order).marking (next p order).view.parked }
+    ensures apart { (p : Snapshot) (order : Order) → AllWait p.rules p.marking p.view.parked → AreApart p.view.parked →
         AreApart (next p order).view.parked }
 {}
 
 /// An order is taken in stages: its own change, or its request is parked; then requests leave, or are granted.
 pub fn an_order_is_taken_in_stages()
-    ensures { (p : Snapshot) (order : Order) → AllWait p.marking p.view.parked → AreApart p.view.parked →
-        IsTakenInStages order (present p.marking p.view.parked)
+    ensures { (p : Snapshot) (order : Order) → AllWait p.rules p.marking p.view.parked → AreApart p.view.parked →
+        IsTakenInStages p.rules order (present p.marking p.view.parked)
         (present (next p order).marking (next p order).view.parked) }
 {
     fl_ranges::laws::a_change_counts_where_it_speaks();

@@ -9,6 +9,6 @@ mod settling;
 mod state;
 mod tolds;
 
-pub use fl_waiting::Request;
+pub use fl_waiting::{Request, Rules};
 pub use state::Core;
 pub use tolds::{MOST_TOLDS, Tolds};

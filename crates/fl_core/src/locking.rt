@@ -9,12 +9,12 @@ ghost use Rattle.fl_waiting.specs.LockRequest.{is_flock, key_of, start_of, end_o
 ghost use Rattle.fl_core.specs.Effects.{dropped, locked, unlocked};
 ghost use Rattle.fl_core.specs.Replies.{ask_error, is_malformed, type_of, lock_answer, room_reply, set_reply, setlk_reply, setlkw_reply, getlk_reply};
 ghost use Rattle.fl_core.specs.Inside.Touched.{WaitsNow};
-ghost use Rattle.fl_waiting.specs.Waiting.{is_excluded};
+ghost use Rattle.fl_waiting.specs.Waiting.{is_excluded, must_wait};
 
 use fl_dir::Dir;
 use fl_order::{Answer, Errno, LockAsk};
 use fl_ranges::{Class, Held, Key, Kind, LAST_BYTE, Mark, Range, Table};
-use fl_waiting::{Claim, Parked, Request};
+use fl_waiting::{Claim, Parked, Request, Rules};
 
 // The lock types of Linux `fcntl.h`.
 const READ: u32 = 0;
@@ -73,6 +73,7 @@ pub(crate) fn release_locks(locks: &mut Table, node: u64, drop: bool, owner: u64
 
 /// FUSE_SETLKW: the same, but a request that conflicts waits, and has no reply yet.
 pub(crate) fn set_or_wait(
+    rules: Rules,
     directory: &Dir,
     locks: &mut Table,
     parked: &mut Parked,
@@ -81,11 +82,11 @@ pub(crate) fn set_or_wait(
     ask: &LockAsk,
 ) -> Option<Result<Answer, Errno>>
     requires { locks.old.limit ≡ MOST_RUNS }
-    ensures reply { result ≡ setlkw_reply (record { directory = directory.now; parked = parked.old })
+    ensures reply { result ≡ setlkw_reply rules (record { directory = directory.now; parked = parked.old })
         locks.old.marking node ask.now }
     ensures told { IfSome result (λ reply.
         (locks.new.marking ≡ after_changes (locked node ask.now reply) locks.old.marking) × (parked.new ≡ parked.old)) }
-    ensures waits { IsNone result → WaitsNow locks.old.marking locks.new.marking parked.old parked.new
+    ensures waits { IsNone result → WaitsNow rules locks.old.marking locks.new.marking parked.old parked.new
         (record { unique = unique; node = node; ask = ask.now }) }
     ensures lawful { IsLawful locks.old.marking → IsLawful locks.new.marking }
     ensures elsewhere { SameElsewhere (key_of node ask.now) locks.old.marking locks.new.marking }
@@ -97,10 +98,10 @@ pub(crate) fn set_or_wait(
     };
     let key = key_of(node, ask);
     let mark = mark_of(ask);
-    if !is_excluded(locks, &key, &range, mark) {
+    if !must_wait(rules, locks, parked, &key, &range, mark) {
         return Some(store(locks, &key, &range, mark));
     }
-    if is_deadlock(locks, parked, &key, &range, mark) {
+    if is_deadlock(rules, locks, parked, &key, &range, mark) {
         return Some(Err(Errno::EDEADLK));
     }
     if parked.is_full() {
@@ -121,12 +122,40 @@ pub(crate) fn set_or_wait(
 }
 
 // Whether a lock would close a circle of waiting owners if its request waited.
-fn is_deadlock(locks: &Table, parked: &Parked, key: &Key, range: &Range, mark: Option<Mark>) -> bool
-    ensures { result ≡ is_deadlock locks.now.marking parked.now (stroke_on key.now range.now mark) mark }
+fn is_deadlock(
+    rules: Rules,
+    locks: &Table,
+    parked: &Parked,
+    key: &Key,
+    range: &Range,
+    mark: Option<Mark>,
+) -> bool
+    ensures { result ≡ is_deadlock rules locks.now.marking parked.now (stroke_on key.now range.now mark) mark }
 {
     match mark {
         None => false,
-        Some(mark) => parked.close_circle(locks, key, range, mark.kind),
+        Some(mark) => parked.close_circle(rules, locks, key, range, mark.kind),
+    }
+}
+
+// Whether a lock has to wait, behind all that are parked.
+fn must_wait(
+    rules: Rules,
+    locks: &Table,
+    parked: &Parked,
+    key: &Key,
+    range: &Range,
+    mark: Option<Mark>,
+) -> bool
+    ensures wait { result ≡ must_wait rules locks.now.marking parked.now (stroke_on key.now range.now mark) mark }
+    ensures clear { result ≡ false → is_excluded locks.now.marking (stroke_on key.now range.now mark) mark ≡ false }
+{
+    match mark {
+        None => false,
+        Some(mark) => {
+            locks.clashes(key, range, mark.kind)
+                || (rules.fair && parked.goes_before(key, range, mark.kind))
+        }
     }
 }
 

@@ -6,7 +6,7 @@ ghost use Rattle.fl_core.specs.Effects.{by_reply, flushed, listing_replied, rele
 ghost use Rattle.fl_core.specs.Inside.Parts.{left_by, with_parked};
 ghost use Rattle.fl_core.specs.Inside.Touched.{touched_by, OthersWait};
 ghost use Rattle.fl_core.specs.Replies.{directory_reply, ended_by, file_reply, reply_to};
-ghost use Rattle.fl_core.specs.State.{opening, snapshot_of};
+ghost use Rattle.fl_core.specs.State.{opening_under, snapshot_of};
 ghost use Rattle.fl_core.specs.Step.{settling, with_present};
 ghost use Rattle.fl_waiting.specs.Waiting.{is_parked, AllWait, AreApart};
 ghost use Rattle.fl_dir.specs.Changes.{after_close};
@@ -22,13 +22,14 @@ use crate::tolds::{MOST_TOLDS, Tolds};
 use fl_dir::Dir;
 use fl_order::{Answer, Errno, NoMemory, Op, Order};
 use fl_ranges::{Class, Table};
-use fl_waiting::Parked;
+use fl_waiting::{Parked, Rules};
 use std::alloc::Global;
 use std::marker::Model;
 
 /// The directory (names, nodes and open files), the locks that are held, and the parked requests. Contracts see a `Snapshot`.
 #[derive(Drop)]
 pub(crate) struct Parts {
+    pub rules: Rules,
     pub directory: Dir,
     pub locks: Table,
     pub parked: Parked,
@@ -45,18 +46,23 @@ impl Model for Parts {
     ghost coded = { snapshot_code };
 
     ghost view = { λ p.
-        record { view = record { directory = p.directory; parked = p.parked }; marking = p.locks.marking } };
+        record {
+          rules = p.rules;
+          view = record { directory = p.directory; parked = p.parked };
+          marking = p.locks.marking;
+        } };
 
     ghost invariant = { λ p. p.locks.limit ≡ MOST_RUNS };
 }
 
 impl Parts {
     /// No files, no locks, and no request waits.
-    pub(crate) fn new(alloc: Global) -> Result<Parts, NoMemory>
-        ensures opening { IfOk result (λ p. p ≡ snapshot_of opening) }
+    pub(crate) fn new(alloc: Global, rules: Rules) -> Result<Parts, NoMemory>
+        ensures opening { IfOk result (λ p. p ≡ snapshot_of (opening_under rules)) }
         ensures lawful { IfOk result (λ p. IsLawful p.marking) }
     {
         Ok(Parts {
+            rules,
             directory: Dir::new(alloc)?,
             locks: Table::new(alloc, MOST_RUNS)?,
             parked: Parked::new(alloc)?,
@@ -66,7 +72,8 @@ impl Parts {
     /// What an order is answered that only reads; none for any other.
     pub(crate) fn read(&self, order: &Order) -> Option<Result<Answer, Errno>>
         ensures reads { IsSome result ↔ (only_reads order.now.op ≡ true) }
-        ensures reply { IsSome result → result ≡ reply_to self.now.view self.now.marking order.now order.now.op }
+        ensures reply { IsSome result →
+            result ≡ reply_to self.now.rules self.now.view self.now.marking order.now order.now.op }
     {
         match &order.op {
             Op::Getattr => Some(self.directory.getattr(order.node)),
@@ -78,13 +85,14 @@ impl Parts {
     /// The order's own reply, if it has one now, with its change made.
     pub(crate) fn take(&mut self, order: &Order) -> Option<Result<Answer, Errno>>
         requires { is_parked order.now.unique self.old.view.parked ≡ false }
-        ensures reply { result ≡ reply_to self.old.view self.old.marking order.now order.now.op }
+        ensures reply { result ≡ reply_to self.old.rules self.old.view self.old.marking order.now order.now.op }
         ensures changed { self.new ≡ made (by_reply order.now result) self.old }
         ensures lawful { IsLawful self.old.marking → IsLawful self.new.marking }
 
         // Only parked requests for locks which the order touched can be free now.
-        ensures others { AllWait self.old.marking self.old.view.parked →
-            OthersWait (touched_by order.now.node order.now.op result) self.new.marking self.new.view.parked }
+        ensures others { AllWait self.old.rules self.old.marking self.old.view.parked →
+            OthersWait (touched_by order.now.node order.now.op result) self.new.rules self.new.marking
+            self.new.view.parked }
     {
         let node = order.node;
         match &order.op {
@@ -93,6 +101,7 @@ impl Parts {
             Op::Getlk(ask) => Some(test_lock(&self.directory, &self.locks, node, ask)),
             Op::Setlk(ask) => Some(set_lock(&self.directory, &mut self.locks, node, ask)),
             Op::Setlkw(ask) => set_or_wait(
+                self.rules,
                 &self.directory,
                 &mut self.locks,
                 &mut self.parked,
@@ -106,26 +115,37 @@ impl Parts {
         }
     }
 
-    /// Ends the parked requests which the order ends, by what it was answered itself, and tells them.
+    /// Ends the parked requests which the order ends, by what it was answered itself, and tells them. Gives what was touched
+    /// then, where the order's own change touched this.
     pub(crate) fn end(
         &mut self,
         order: &Order,
         own: &Option<Result<Answer, Errno>>,
+        touched: Touched,
         tolds: &mut Tolds,
-    )
+    ) -> Touched
         requires { length tolds.old + length self.old.view.parked ≤ MOST_TOLDS }
         ensures tolds { tolds.new ≡ tolds.old ++ ended_by self.old.view.parked order.now.op own.now }
         ensures parked { self.new ≡ with_parked (left_by self.old.view.parked order.now.op own.now) self.old }
         ensures few { length tolds.new + length self.new.view.parked ≤ MOST_TOLDS }
+
+        // Only parked requests for locks which were touched can be free now, if that was so.
+        ensures others { OthersWait touched self.old.rules self.old.marking self.old.view.parked →
+            OthersWait result self.new.rules self.new.marking self.new.view.parked }
     {
-        if let Some(ending) = ending_of(order, own) {
-            end_all(&mut self.parked, ending, tolds);
+        let Some(ending) = ending_of(order, own) else {
+            return touched;
+        };
+        let ended = end_all(&mut self.parked, ending, tolds);
+        if self.rules.fair && ended {
+            return Touched::Anything;
         }
+        touched
     }
 
     /// Answers parked requests until each waits, where an order touched these locks.
     pub(crate) fn settle(&mut self, touched: Touched, tolds: &mut Tolds)
-        requires others { OthersWait touched self.old.marking self.old.view.parked }
+        requires others { OthersWait touched self.old.rules self.old.marking self.old.view.parked }
         requires room { length tolds.old + length self.old.view.parked ≤ MOST_TOLDS }
         ensures tolds { tolds.new ≡ tolds.old ++ (settling self.old).tolds }
         ensures present { self.new ≡ with_present (settling self.old).present self.old }
@@ -133,12 +153,19 @@ impl Parts {
         ensures lawful { IsLawful self.old.marking → IsLawful self.new.marking }
         ensures apart { AreApart self.old.view.parked → AreApart self.new.view.parked }
     {
-        settle(&mut self.locks, &mut self.parked, touched, tolds);
+        settle(
+            self.rules,
+            &mut self.locks,
+            &mut self.parked,
+            touched,
+            tolds,
+        );
     }
 
     // FUSE_FLUSH: the owner's record locks on the node go.
     fn flush(&mut self, node: u64, fh: u64, owner: u64) -> Result<Answer, Errno>
         ensures reply { result ≡ file_reply self.old.view.directory node fh }
+        ensures rules { self.new.rules ≡ self.old.rules }
         ensures view { self.new.view ≡ self.old.view }
         ensures marking { self.new.marking ≡ after_changes (flushed node owner result) self.old.marking }
         ensures lawful { IsLawful self.old.marking → IsLawful self.new.marking }
@@ -155,6 +182,7 @@ impl Parts {
     // FUSE_RELEASE: the fh is closed, with `drop` the owner's whole-file lock goes, and with the last fh all locks of the node.
     fn release(&mut self, node: u64, fh: u64, drop: bool, owner: u64) -> Result<Answer, Errno>
         ensures reply { result ≡ file_reply self.old.view.directory node fh }
+        ensures rules { self.new.rules ≡ self.old.rules }
         ensures view { self.new.view
             ≡ record self.old.view { directory = after_close self.old.view.directory node fh result } }
         ensures marking { self.new.marking

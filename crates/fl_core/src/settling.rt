@@ -3,17 +3,17 @@
 ghost use Rattle.std.specs.Prelude.{◌≡◌, ◌≤◌, ◌+◌, ◌++◌, false, None, Some, MatchOption, List, [], length};
 ghost use Rattle.std.specs.List.{AllByRecursion};
 ghost use Rattle.fl_ranges.specs.Conflict.{IsLawful, SameElsewhere};
-ghost use Rattle.fl_waiting.specs.LockRequest.{key_of};
+ghost use Rattle.fl_waiting.specs.LockRequest.{key_of, mark_of, stroke_of};
 ghost use Rattle.fl_core.specs.Inside.Touched.{concerns_request, touched_by, OthersWait};
 ghost use Rattle.fl_core.specs.Settling.{granted_told, marking_granted, oldest_free, present, settled};
-ghost use Rattle.fl_waiting.specs.Waiting.{waits, AreApart};
+ghost use Rattle.fl_waiting.specs.Waiting.{is_excluded, AreApart};
 ghost use Rattle.fl_waiting.specs.declared.parked.Request.{Request};
 
 use crate::locking::{MOST_RUNS, is_excluded, key_of, store};
 use crate::tolds::{MOST_TOLDS, Tolds};
 use fl_order::{Answer, Errno, Op, Order, Told};
 use fl_ranges::{Class, Table};
-use fl_waiting::{Claim, Parked};
+use fl_waiting::{Claim, Parked, Rules};
 
 /// Which locks may have gone, so that parked requests for them may be free.
 #[derive(Clone, Copy)]
@@ -23,6 +23,8 @@ pub(crate) enum Touched {
     OfClass(u64, Class),
     /// Locks of both classes on a node.
     OfNode(u64),
+    /// Any lock.
+    Anything,
 }
 
 /// What an order touches that is answered so.
@@ -43,13 +45,19 @@ pub(crate) fn touched_by(order: &Order, own: &Option<Result<Answer, Errno>>) -> 
 }
 
 /// Answers requests, always the oldest that doesn't wait, until each waits. It tests those alone whose locks were touched.
-pub(crate) fn settle(locks: &mut Table, parked: &mut Parked, touched: Touched, tolds: &mut Tolds)
+pub(crate) fn settle(
+    rules: Rules,
+    locks: &mut Table,
+    parked: &mut Parked,
+    touched: Touched,
+    tolds: &mut Tolds,
+)
     requires limit { locks.old.limit ≡ MOST_RUNS }
-    requires others { OthersWait touched locks.old.marking parked.old }
+    requires others { OthersWait touched rules locks.old.marking parked.old }
     requires room { length tolds.old + length parked.old ≤ MOST_TOLDS }
-    ensures tolds { tolds.new ≡ tolds.old ++ (settled (present locks.old.marking parked.old)).tolds }
+    ensures tolds { tolds.new ≡ tolds.old ++ (settled rules (present locks.old.marking parked.old)).tolds }
     ensures present { present locks.new.marking parked.new
-        ≡ (settled (present locks.old.marking parked.old)).present }
+        ≡ (settled rules (present locks.old.marking parked.old)).present }
     ensures few { length tolds.new + length parked.new ≤ MOST_TOLDS }
     ensures apart { AreApart parked.old → AreApart parked.new }
     ensures lawful { IsLawful locks.old.marking → IsLawful locks.new.marking }
@@ -58,7 +66,7 @@ pub(crate) fn settle(locks: &mut Table, parked: &mut Parked, touched: Touched, t
     if !may_concern(touched, parked) {
         return;
     }
-    while let Some(claim) = take_free(locks, parked, touched) {
+    while let Some(claim) = take_free(rules, locks, parked, touched) {
         tolds.push(grant(locks, &claim));
     }
 }
@@ -70,23 +78,27 @@ fn may_concern(touched: Touched, parked: &Parked) -> bool
     match touched {
         Touched::Nothing => false,
         Touched::OfClass(node, _) | Touched::OfNode(node) => parked.may_be_on(node),
+        Touched::Anything => true,
     }
 }
 
 // Takes out the oldest request that doesn't wait.
-fn take_free(locks: &Table, parked: &mut Parked, touched: Touched) -> Option<Claim>
-    requires { OthersWait touched locks.now.marking parked.old }
+fn take_free(rules: Rules, locks: &Table, parked: &mut Parked, touched: Touched) -> Option<Claim>
+    requires { OthersWait touched rules locks.now.marking parked.old }
     ensures { MatchOption result
-        ((oldest_free locks.now.marking parked.old ≡ None) × (parked.new ≡ parked.old))
-        (λ taken. oldest_free locks.now.marking parked.old ≡ Some (taken.request, parked.new)) }
+        ((oldest_free rules locks.now.marking parked.old ≡ None) × (parked.new ≡ parked.old))
+        (λ taken. oldest_free rules locks.now.marking parked.old ≡ Some (taken.request, parked.new)) }
 {
-    parked.take_first(|claim| concerns(touched, claim) && !waits(locks, claim))
+    parked.take_free(rules, |claim| {
+        concerns(touched, claim) && !excluded(locks, claim)
+    })
 }
 
 // The request's lock is set where there is room.
 fn grant(locks: &mut Table, claim: &Claim) -> Told
     requires limit { locks.old.limit ≡ MOST_RUNS }
-    requires free { waits locks.old.marking [] claim.now.request ≡ false }
+    requires free { is_excluded locks.old.marking (stroke_of claim.now.request.node claim.now.request.ask)
+        (mark_of claim.now.request.ask) ≡ false }
     ensures told { result ≡ granted_told locks.old.marking claim.now.request }
     ensures marking { locks.new.marking ≡ marking_granted locks.old.marking claim.now.request }
     ensures elsewhere { SameElsewhere claim.now.key locks.old.marking locks.new.marking }
@@ -107,12 +119,14 @@ fn concerns(touched: Touched, claim: &Claim) -> bool
         Touched::Nothing => false,
         Touched::OfClass(node, class) => key.class == class && key.node == node,
         Touched::OfNode(node) => key.node == node,
+        Touched::Anything => true,
     }
 }
 
-// Whether a request waits; the older ones have no say.
-fn waits(locks: &Table, claim: &Claim) -> bool
-    ensures { (older : List Request) → result ≡ waits locks.now.marking older claim.now.request }
+// Whether a lock that is held keeps a request waiting.
+fn excluded(locks: &Table, claim: &Claim) -> bool
+    ensures { result ≡ is_excluded locks.now.marking (stroke_of claim.now.request.node claim.now.request.ask)
+        (mark_of claim.now.request.ask) }
 {
     is_excluded(locks, &claim.key, &claim.range, claim.mark)
 }

@@ -2,7 +2,7 @@
 
 ghost use Rattle.std.specs.Prelude.{◌≡◌, ◌≤◌, ◌↔◌, [], true, length, IfOk, IsSome};
 ghost use Rattle.fl_waiting.specs.Circle.{closes_circle};
-ghost use Rattle.fl_core.specs.State.{State, opening, snapshot_of};
+ghost use Rattle.fl_core.specs.State.{State, opening, opening_under, snapshot_of};
 ghost use Rattle.fl_core.specs.Effects.{replied, recorded};
 ghost use Rattle.fl_core.specs.Replies.{own_replies, taken_reply};
 ghost use Rattle.fl_core.specs.Step.{next, replies, ChangesNothing};
@@ -15,6 +15,7 @@ use crate::settling::touched_by;
 use crate::tolds::{MOST_TOLDS, Tolds};
 use fl_order::{Answer, Errno, NoMemory, Op, Order, Told};
 use fl_ranges::{Key, Kind, Range};
+use fl_waiting::Rules;
 use std::alloc::Global;
 use std::marker::Model;
 
@@ -36,17 +37,25 @@ impl Model for Core {
 
     ghost view = { λ c. c.parts };
 
-    ghost invariant = { λ c. AllWait c.parts.marking c.parts.view.parked × AreApart c.parts.view.parked };
+    ghost invariant = { λ c. AllWait c.parts.rules c.parts.marking c.parts.view.parked × AreApart c.parts.view.parked };
 }
 
 impl Core {
-    /// No files and no locks.
+    /// No files and no locks, and no request waits behind another.
     pub fn new(alloc: Global) -> Result<Core, NoMemory>
         ensures opening { IfOk result (λ s. s ≡ snapshot_of opening) }
         ensures lawful { IfOk result (λ s. IsLawful s.marking) }
     {
+        Core::under(alloc, Rules { fair: false })
+    }
+
+    /// No files and no locks. Requests will wait by these rules.
+    pub fn under(alloc: Global, rules: Rules) -> Result<Core, NoMemory>
+        ensures opening { IfOk result (λ s. s ≡ snapshot_of (opening_under rules)) }
+        ensures lawful { IfOk result (λ s. IsLawful s.marking) }
+    {
         Ok(Core {
-            parts: Parts::new(alloc)?,
+            parts: Parts::new(alloc, rules)?,
         })
     }
 
@@ -62,7 +71,7 @@ impl Core {
             snapshot_of (recorded (replied order.now tolds.new) s) ≡ self.new }
         ensures an_error_changes_nothing { ChangesNothing self.old order.now tolds.new self.new }
         ensures lawful { IsLawful self.old.marking → IsLawful self.new.marking }
-        ensures waiting { AllWait self.new.marking self.new.view.parked }
+        ensures waiting { AllWait self.new.rules self.new.marking self.new.view.parked }
         ensures apart { AreApart self.new.view.parked }
     {
         tolds.clear();
@@ -72,8 +81,8 @@ impl Core {
         }
         let own = self.parts.take(order);
         tell(order, &own, tolds);
-        self.parts.end(order, &own, tolds);
-        self.parts.settle(touched_by(order, &own), tolds);
+        let touched = self.parts.end(order, &own, touched_by(order, &own), tolds);
+        self.parts.settle(touched, tolds);
     }
 
     /// What an order that only reads, GETLK or GETATTR, is answered; none for any other.
@@ -94,11 +103,13 @@ impl Core {
     /// Whether a request for this lock would close a circle of owners who wait for each other, if it waited: an owner in
     /// its way waits for the owner who asks, through others or not. Requests for whole-file locks never do.
     pub fn circle(&self, key: &Key, range: &Range, kind: Kind) -> bool
-        ensures { result ≡ closes_circle self.now.marking self.now.view.parked
+        ensures { result ≡ closes_circle self.now.rules self.now.marking self.now.view.parked
             (record { key = key.now; start = range.now.start; end = range.now.end; kind = kind }) }
     {
-        let locks = &self.parts.locks;
-        self.parts.parked.close_circle(locks, key, range, kind)
+        let parts = &self.parts;
+        parts
+            .parked
+            .close_circle(parts.rules, &parts.locks, key, range, kind)
     }
 
     /// Whether a request of this owner for a record lock is parked.

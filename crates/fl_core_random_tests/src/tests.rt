@@ -6,7 +6,7 @@ mod plain_locks;
 mod random;
 mod waiting_random;
 
-use fl_core::{Core, Tolds};
+use fl_core::{Core, Rules, Tolds};
 use fl_order::{Answer, Errno, Name, Op, Order, Told};
 use std::alloc::Global;
 use std::process::Abort;
@@ -44,9 +44,9 @@ struct Server {
 }
 
 impl Server {
-    fn new(rt: &impl Abort, alloc: Global) -> Server {
+    fn new(rt: &impl Abort, alloc: Global, rules: Rules) -> Server {
         Server {
-            core: Core::new(alloc).expect(rt, "no memory"),
+            core: Core::under(alloc, rules).expect(rt, "no memory"),
             tolds: Tolds::new(alloc).expect(rt, "no memory"),
         }
     }

@@ -6,6 +6,7 @@ mod circles;
 mod circles_cut;
 mod circles_told;
 mod errors;
+mod fair;
 mod full;
 mod limits;
 mod lives;
@@ -16,7 +17,7 @@ mod releases;
 mod room;
 mod waiting;
 
-use fl_core::{Core, Tolds};
+use fl_core::{Core, Rules, Tolds};
 use fl_desk::{Verdict, check};
 use fl_history::{History, Line};
 use fl_order::{Answer, Errno, Op, Order, Told};
@@ -84,8 +85,17 @@ struct Server {
 
 impl Server {
     fn new(rt: &impl Abort, alloc: Global) -> Server {
+        Server::of(rt, alloc, Core::new(alloc).expect(rt, "no memory"))
+    }
+
+    // Requests wait by these rules.
+    fn under(rt: &impl Abort, alloc: Global, rules: Rules) -> Server {
+        Server::of(rt, alloc, Core::under(alloc, rules).expect(rt, "no memory"))
+    }
+
+    fn of(rt: &impl Abort, alloc: Global, core: Core) -> Server {
         Server {
-            core: Core::new(alloc).expect(rt, "no memory"),
+            core,
             tolds: Tolds::new(alloc).expect(rt, "no memory"),
         }
     }

@@ -35,7 +35,7 @@ read_later (told ∷ tolds) s = read_later tolds (recorded (later told) s)
 recorded_twice : (f g : View → Effect) (s : State) → recorded g (recorded f s) ≡ recorded (λ v. followed_by g (f v)) s
 recorded_twice f g s =
     let e = f s.view in
-    λ i. record { view = (g e.view).view; changes = sym (append_assoc (g e.view).changes e.changes s.changes) i }
+    λ i. record { rules = s.rules; view = (g e.view).view; changes = sym (append_assoc (g e.view).changes e.changes s.changes) i }
 
 later_recorded : (tolds : List Told) (f : View → Effect) (s : State) →
     all_later tolds (recorded f s) ≡ recorded (λ v. fold (λ e t. followed_by (later t) e) (f v) tolds) s
@@ -90,7 +90,7 @@ taken_kept lines given new present after worker order tolds shown kept given_is 
 -- one order more leads on, where what its replies give is what is there after it
 pub leads_on : (lines : List Line) (p : Snapshot) (worker : ℕ) (order : Order) → LeadsTo lines p
     → ((s : State) → snapshot_of s ≡ p → snapshot_of (recorded (replied order (replies p order)) s) ≡ next p order)
-    → AllWait (next p order).marking (next p order).view.parked → AreApart (next p order).view.parked
+    → AllWait p.rules (next p order).marking (next p order).view.parked → AreApart (next p order).view.parked
     → LeadsTo (lines ++ step_lines worker order (replies p order)) (next p order)
 leads_on lines p worker order leads read waiting apart = record {
   legal = step lines worker order leads.legal (ap (λ (q : Snapshot). lines ++ step_lines worker order (replies q order)) leads.stands);

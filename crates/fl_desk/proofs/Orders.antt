@@ -18,10 +18,10 @@ use Rattle.fl_order.specs.declared.order.Order.{Order}
 
 -- what a step's replies give
 pub record Steps : Type 0 where
-  pub read : (p : Snapshot) (order : Order) (s : State) → AllWait p.marking p.view.parked → AreApart p.view.parked → snapshot_of s ≡ p
+  pub read : (p : Snapshot) (order : Order) (s : State) → AllWait p.rules p.marking p.view.parked → AreApart p.view.parked → snapshot_of s ≡ p
       → snapshot_of (recorded (replied order (replies p order)) s) ≡ next p order
-  pub waiting : (p : Snapshot) (order : Order) → AllWait (next p order).marking (next p order).view.parked
-  pub apart : (p : Snapshot) (order : Order) → AllWait p.marking p.view.parked → AreApart p.view.parked → AreApart (next p order).view.parked
+  pub waiting : (p : Snapshot) (order : Order) → AllWait p.rules (next p order).marking (next p order).view.parked
+  pub apart : (p : Snapshot) (order : Order) → AllWait p.rules p.marking p.view.parked → AreApart p.view.parked → AreApart (next p order).view.parked
 
 pub legal_leads : Steps → {lines : List Line} → IsLegal lines → LeadsTo lines (snapshot_of (state_after lines))
 legal_leads steps nothing = record { legal = nothing; stands = refl; waiting = tt; apart = tt }

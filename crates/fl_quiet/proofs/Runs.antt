@@ -161,17 +161,17 @@ module _ (leads_on : (lines : List Line) (p : Snapshot) (worker : ℕ) (order : 
       (subst (λ p. IsQuietRun p (line.Asked worker order ∷ rest)) (run_there before b)
       (run_second (snapshot_of opening) before (line.Asked worker order ∷ rest) (subst (IsQuietRun (snapshot_of opening)) is run))).0
 
-  module _ (stages : (p : Snapshot) (order : Order) → AllWait p.marking p.view.parked → AreApart p.view.parked →
-      IsTakenInStages order (present p.marking p.view.parked) (present (next p order).marking (next p order).view.parked)) where
+  module _ (stages : (p : Snapshot) (order : Order) → AllWait p.rules p.marking p.view.parked → AreApart p.view.parked →
+      IsTakenInStages p.rules order (present p.marking p.view.parked) (present (next p order).marking (next p order).view.parked)) where
     abbrev IsSoundAt : Snapshot → Type 0
-    IsSoundAt p = IsSound (present p.marking p.view.parked)
+    IsSoundAt p = IsSound p.rules (present p.marking p.view.parked)
 
-    sound_next : (p : Snapshot) (order : Order) → AllWait p.marking p.view.parked → AreApart p.view.parked
+    sound_next : (p : Snapshot) (order : Order) → AllWait p.rules p.marking p.view.parked → AreApart p.view.parked
         → asks_while_waiting (asked_by order.op) p.view.parked ≡ false → IsSoundAt p → IsSoundAt (next p order)
     sound_next p order waiting apart quiet sound =
-        step_sound order (present p.marking p.view.parked) (present (next p order).marking (next p order).view.parked) (stages p order waiting apart) quiet sound
+        step_sound p.rules order (present p.marking p.view.parked) (present (next p order).marking (next p order).view.parked) (stages p order waiting apart) quiet sound
 
-    none_waits : (first : ℕ) (others : List ℕ) → AreInRow waiter_of (hinders (snapshot_of opening).marking) [] first others first → ⊥
+    none_waits : (first : ℕ) (others : List ℕ) → AreInRow waiter_of (hinders (snapshot_of opening).rules (snapshot_of opening).marking) [] first others first → ⊥
     none_waits first [] row = absurd (omega (arith, row.among.1))
     none_waits first (second ∷ others) row = absurd (omega (arith, (row.0).among.1))
 

@@ -1,6 +1,6 @@
 -- Each stage of an order of a quiet history keeps it so that no two parked record requests are of one owner, and that owners
 -- don't wait in a circle.
-use Rattle.std.proofs.Common.{◌≡◌, ◌≢◌, ℕ, zero, suc, ◌<◌, Bool, true, false, ◌&&◌, ◌||◌, not, ◌==◌, nat_le, cond, ◌⊎◌, inl, inr, ⊎_elim, Option, Some, None, option_map, List, [], ◌∷◌, ◌++◌}
+use Rattle.std.proofs.Common.{◌≡◌, ◌≢◌, ℕ, zero, suc, ◌<◌, Bool, true, false, ◌&&◌, ◌||◌, not, ◌==◌, cond, ◌⊎◌, inl, inr, ⊎_elim, Option, Some, None, option_map, List, [], ◌∷◌, ◌++◌}
 use Rattle.std.proofs.Common.{slice_index_or, length, refl, ap, sym, ◌∙◌, subst, arith}
 use Rattle.std.specs.List.{Contains, AllByRecursion, filter, cons_option, list_any}
 use Rattle.std.proofs.lemmas.Bool.{eq-eqb, eqb-true}
@@ -8,19 +8,18 @@ use Rattle.std.proofs.lemmas.List.{append-nil, append_assoc}
 use Rattle.std.proofs.lemmas.List.Elements.{filter_map-append}
 use Rattle.std.proofs.lemmas.Option.{none-some}
 use Rattle.std.specs.FinMap.{entries}
-use Rattle.fl_waiting.specs.Circle.{Waiter, waiter_of, waiter_first, waiters_behind, waiters, behind, hinders, AreInRow, ClosesCircle, is_record}
+use Rattle.fl_waiting.specs.Circle.{Waiter, waiter_of, waiters_behind, waiters, behind, hinders, AreInRow, ClosesCircle, is_record}
 use Rattle.fl_core.specs.Settling.{Present}
 use Rattle.fl_core.specs.Stages.{asked_by, wanted_by, GainsAtMost, OwnStage, changes, parks, LaterStage, leave, granted, AreLater, none, more, IsTakenInStages}
-use Rattle.fl_waiting.specs.Waiting.{Wish, owner_of, wish_of, wishes}
+use Rattle.fl_waiting.specs.Waiting.{Wish, owner_of, wish_of, wishes, goes_first}
 use Rattle.fl_waiting.specs.declared.parked.Request.{Request}
+use Rattle.fl_waiting.specs.declared.rules.Rules.{Rules}
 use Rattle.fl_order.specs.declared.order.Order.{Order}
 use Rattle.fl_quiet.specs.Quiet.{asks_while_waiting}
 use Rattle.fl_quiet.proofs.Circles.{none_once_parked, none_once_gained}
-use Rattle.fl_ranges.specs.Conflict.{excludes, excludes_by}
-use Rattle.fl_ranges.specs.Marking.{Marking, Spot, class_number}
-use Rattle.fl_ranges.specs.declared.lock.Mark.{Mark}
+use Rattle.fl_ranges.specs.Conflict.{are_rivals, excludes_by}
+use Rattle.fl_ranges.specs.Marking.{Marking, class_number}
 use Rattle.fl_ranges.specs.declared.lock.Key.{Key}
-use Rattle.fl_ranges.specs.declared.lock.Kind.{Kind}
 
 -- ---- parts of lists of wishes
 
@@ -76,47 +75,76 @@ all_has : (P : Wish → Type 0) (xs : List Wish) (s : Wish) → AllByRecursion P
 all_has P [] s all there = absurd (omega (arith, there.1))
 all_has P (x ∷ xs) s all there = ⊎_elim (λ is. subst P is all.0) (λ i. all_has P xs s all.1 i) (head_or_in x xs s there.0 there.1 there.2)
 
+part_empty : (ys : List Wish) → Part [] ys
+part_empty [] = ends
+part_empty (y ∷ ys) = goes (part_empty ys)
+
+-- both get one more at the end
+part_more : {xs ys : List Wish} (x : Wish) → Part xs ys → Part (xs ++ x ∷ []) (ys ++ x ∷ [])
+part_more x ends = stays ends
+part_more x (stays p) = stays (part_more x p)
+part_more x (goes p) = goes (part_more x p)
+
+-- the greater one alone does
+part_less : {xs ys : List Wish} (x : Wish) → Part xs ys → Part xs (ys ++ x ∷ [])
+part_less x ends = goes ends
+part_less x (stays p) = stays (part_less x p)
+part_less x (goes p) = goes (part_less x p)
+
+-- what one of them passes, one of the greater list does
+part_any : (test : Wish → Bool) {xs ys : List Wish} → Part xs ys → list_any test xs ≡ true → list_any test ys ≡ true
+part_any test ends h = h
+part_any test (stays {x = x} p) h = go (test x) (part_any test p) h
+  where
+    go : (b : Bool) {c d : Bool} → (c ≡ true → d ≡ true) → (b || c) ≡ true → (b || d) ≡ true
+    go true rest h = refl
+    go false rest h = rest h
+part_any test (goes {y = y} p) h = go (test y) (part_any test p h)
+  where
+    go : (b : Bool) {d : Bool} → d ≡ true → (b || d) ≡ true
+    go true e = refl
+    go false e = e
+
 -- ---- who waits, and what is wanted
 
-wanted_there : (older parked : List Request) (s : Waiter) → Contains (waiters_behind older parked) s → Contains (wishes parked) s.wish
+wanted_there : (older ws : List Wish) (s : Waiter) → Contains (waiters_behind older ws) s → Contains ws s.wish
 wanted_there older [] s there = absurd (omega (arith, there.1))
-wanted_there older (r ∷ parked) s there =
-    go (wish_of r) (waiters_behind (older ++ r ∷ []) parked) (wishes parked) (wanted_there (older ++ r ∷ []) parked s) there
-  where
-    go : (w : Option Wish) (others : List Waiter) (wanted : List Wish) → (Contains others s → Contains wanted s.wish)
-        → Contains (waiter_first older w others) s → Contains (cons_option w wanted) s.wish
-    go None others wanted rest there = rest there
-    go (Some w) others wanted rest there =
-        ⊎_elim (λ is. (0, omega arith, ap (λ (t : Waiter). t.wish) is)) (λ (there : Contains others s). let i = rest there in (suc i.0, omega (arith, i.1), i.2))
-        (head_or_in (behind older w) others s there.0 there.1 there.2)
+wanted_there older (w ∷ ws) s there =
+    ⊎_elim (λ is. (0, omega arith, ap (λ (t : Waiter). t.wish) is))
+    (λ (there : Contains (waiters_behind (older ++ w ∷ []) ws) s). let i = wanted_there (older ++ w ∷ []) ws s there in (suc i.0, omega (arith, i.1), i.2))
+    (head_or_in (behind older w) (waiters_behind (older ++ w ∷ []) ws) s there.0 there.1 there.2)
 
-waiter_there : (older parked : List Request) (w : Wish) → Contains (wishes parked) w
-    → (t : Waiter) × Contains (waiters_behind older parked) t × (t.wish ≡ w)
-waiter_there older [] w there = absurd (omega (arith, there.1))
-waiter_there older (r ∷ parked) w there =
-    go (wish_of r) (waiters_behind (older ++ r ∷ []) parked) (wishes parked) (waiter_there (older ++ r ∷ []) parked w) there
+-- where fewer wait, one who waits did so before, behind no fewer
+waiter_there : {fewer older xs ys : List Wish} → Part fewer older → Part xs ys → (s : Waiter) → Contains (waiters_behind fewer xs) s
+    → (t : Waiter) × Contains (waiters_behind older ys) t × (t.wish ≡ s.wish) × Part s.older t.older
+waiter_there before ends s there = absurd (omega (arith, there.1))
+waiter_there {fewer} {older} before (stays {x = x} {xs = xs} {ys = ys} p) s there =
+    ⊎_elim (λ is. (behind older x, (0, omega arith, refl), ap (λ (t : Waiter). t.wish) is, subst (λ (t : Waiter). Part t.older older) is before))
+    (λ (there : Contains (waiters_behind (fewer ++ x ∷ []) xs) s).
+    let t = waiter_there (part_more x before) p s there in (t.0, (suc t.1.0, omega (arith, t.1.1), t.1.2), t.2, t.3))
+    (head_or_in (behind fewer x) (waiters_behind (fewer ++ x ∷ []) xs) s there.0 there.1 there.2)
+waiter_there before (goes {y = y} p) s there =
+    let t = waiter_there (part_less y before) p s there in (t.0, (suc t.1.0, omega (arith, t.1.1), t.1.2), t.2, t.3)
+
+-- who keeps one waiting behind some keeps it waiting behind more
+hinders_more : (rules : Rules) (m : Marking) (s t : Waiter) (q : ℕ) → t.wish ≡ s.wish → Part s.older t.older → hinders rules m s q ≡ true → hinders rules m t q ≡ true
+hinders_more rules m s t q same part h =
+    subst (λ (w : Wish). hinders rules m (behind t.older w) q ≡ true) (sym same)
+    (go (is_record s.wish.key.class) (list_any (excludes_by s.wish.key s.wish.start s.wish.end s.wish.kind q) (entries m)) rules.fair
+    (part_any (λ (v : Wish). (owner_of v == q) && goes_first s.wish v) part) h)
   where
-    go : (v : Option Wish) (others : List Waiter) (wanted : List Wish)
-        → (Contains wanted w → (t : Waiter) × Contains others t × (t.wish ≡ w))
-        → Contains (cons_option v wanted) w → (t : Waiter) × Contains (waiter_first older v others) t × (t.wish ≡ w)
-    go None others wanted rest there = rest there
-    go (Some v) others wanted rest there =
-        ⊎_elim (λ is. (behind older v, (0, omega arith, refl), is))
-        (λ (there : Contains wanted w). let t = rest there in (t.0, (suc t.1.0, omega (arith, t.1.1), t.1.2), t.2))
-        (head_or_in v wanted w there.0 there.1 there.2)
+    go : (record_ held fair : Bool) {c d : Bool} → (c ≡ true → d ≡ true) → (record_ && (held || (fair && c))) ≡ true → (record_ && (held || (fair && d))) ≡ true
+    go true true fair on h = refl
+    go true false true on h = on h
+    go true false false on h = h
+    go false held fair on h = absurd (cc h)
 
 -- one more waits behind the others
-waiters_pushed : (older parked : List Request) (r : Request) (w : Wish) → wish_of r ≡ Some w
-    → waiters_behind older (parked ++ r ∷ []) ≡ waiters_behind older parked ++ behind (older ++ parked) w ∷ []
-waiters_pushed older [] r w wants = ap (λ o. waiter_first older o []) wants ∙ ap (λ xs. behind xs w ∷ []) (sym (append-nil older))
-waiters_pushed older (a ∷ parked) r w wants =
-    ap (waiter_first older (wish_of a)) (waiters_pushed (older ++ a ∷ []) parked r w wants)
-    ∙ go (wish_of a) (waiters_behind (older ++ a ∷ []) parked) (behind ((older ++ a ∷ []) ++ parked) w ∷ [])
-    ∙ ap (λ xs. waiters_behind older (a ∷ parked) ++ behind xs w ∷ []) (append_assoc older (a ∷ []) parked)
-  where
-    go : (o : Option Wish) (others last : List Waiter) → waiter_first older o (others ++ last) ≡ waiter_first older o others ++ last
-    go None others last = refl
-    go (Some v) others last = refl
+waiters_pushed : (older ws : List Wish) (w : Wish) → waiters_behind older (ws ++ w ∷ []) ≡ waiters_behind older ws ++ behind (older ++ ws) w ∷ []
+waiters_pushed older [] w = ap (λ xs. behind xs w ∷ []) (sym (append-nil older))
+waiters_pushed older (v ∷ ws) w =
+    ap (λ l. behind older v ∷ l) (waiters_pushed (older ++ v ∷ []) ws w)
+    ∙ ap (λ xs. (behind older v ∷ waiters_behind (older ++ v ∷ []) ws) ++ behind xs w ∷ []) (append_assoc older (v ∷ []) ws)
 
 -- ---- owners of wishes
 
@@ -189,42 +217,37 @@ lone_without (a ∷ older) r younger w wants lone = go (wish_of a) (lone_without
 -- ---- what each stage keeps
 
 -- no two parked record requests are of one owner, and owners don't wait in a circle
-pub record IsSound (s : Present) : Type 0 where
+pub record IsSound (rules : Rules) (s : Present) : Type 0 where
   pub lone : AreLone (wishes s.parked)
-  pub free : (first : ℕ) (others : List ℕ) → AreInRow waiter_of (hinders s.marking) (waiters s.parked) first others first → ⊥
+  pub free : (first : ℕ) (others : List ℕ) → AreInRow waiter_of (hinders rules s.marking) (waiters s.parked) first others first → ⊥
 
-gained_sound : (before after : Present) (gainer : Option ℕ) → Part (wishes after.parked) (wishes before.parked)
-    → GainsAtMost gainer before.marking after.marking → ((s : Wish) → Contains (wishes after.parked) s → gainer ≢ Some (owner_of s))
-    → IsSound before → IsSound after
-gained_sound before after gainer part gains lone sound = record {
+gained_sound : (rules : Rules) (before after : Present) (gainer : Option ℕ) → Part (wishes after.parked) (wishes before.parked)
+    → GainsAtMost rules gainer before.marking after.marking → ((s : Wish) → Contains (wishes after.parked) s → gainer ≢ Some (owner_of s))
+    → IsSound rules before → IsSound rules after
+gained_sound rules before after gainer part gains lone sound = record {
   lone = part_lone part sound.lone;
-  free = none_once_gained waiter_of (hinders before.marking) (hinders after.marking) (waiters before.parked) (waiters after.parked) gainer
-      (λ s there. lone s.wish (wanted_there [] after.parked s there)) was sound.free;
+  free = none_once_gained waiter_of (hinders rules before.marking) (hinders rules after.marking) (waiters before.parked) (waiters after.parked) gainer
+      (λ s there. lone s.wish (wanted_there [] (wishes after.parked) s there)) was sound.free;
 }
   where
-    -- who waits after it waited before for the same lock; which requests are older has no say
+    -- who waits after it waited before for the same lock, behind no fewer
     was : (s : Waiter) → Contains (waiters after.parked) s
         → (t : Waiter) × Contains (waiters before.parked) t × (waiter_of t ≡ waiter_of s)
-        × ((q : ℕ) → gainer ≢ Some q → hinders after.marking s q ≡ true → hinders before.marking t q ≡ true)
+        × ((q : ℕ) → gainer ≢ Some q → hinders rules after.marking s q ≡ true → hinders rules before.marking t q ≡ true)
     was s there =
-        let t = waiter_there [] before.parked s.wish (part_has part s.wish (wanted_there [] after.parked s there)) in (
-          t.0,
-          t.1,
-          ap owner_of t.2,
-          λ q other h.
-              subst (λ (w : Wish). hinders before.marking (behind [] w) q ≡ true) (sym t.2) (gains s q other h),
-        )
+        let t = waiter_there ends part s there in
+        (t.0, t.1, ap owner_of t.2, λ q other h. hinders_more rules before.marking s t.0 q t.2 t.3 (gains s q other h))
 
 -- where the locks stay nobody gains
-nobody_gains : (before after : Marking) → after ≡ before → GainsAtMost None before after
-nobody_gains before after same w owner _ h = subst (λ m. hinders m w owner ≡ true) same h
+nobody_gains : (rules : Rules) (before after : Marking) → after ≡ before → GainsAtMost rules None before after
+nobody_gains rules before after same w owner _ h = subst (λ m. hinders rules m w owner ≡ true) same h
 
-later_stage : {before after : Present} → LaterStage before after → IsSound before → IsSound after
-later_stage {before = before} {after = after} (leave test marks parked) sound =
-    gained_sound before after None (subst (λ l. Part (wishes l) (wishes before.parked)) (sym parked) (part_filtered test before.parked))
-    (nobody_gains before.marking after.marking marks) (λ s there. none-some (owner_of s)) sound
-later_stage {before = before} {after = after} (granted older r younger was is gains) sound =
-    gained_sound before after (wanted_by r)
+later_stage : {rules : Rules} {before after : Present} → LaterStage rules before after → IsSound rules before → IsSound rules after
+later_stage {rules = rules} {before = before} {after = after} (leave test marks parked) sound =
+    gained_sound rules before after None (subst (λ l. Part (wishes l) (wishes before.parked)) (sym parked) (part_filtered test before.parked))
+    (nobody_gains rules before.marking after.marking marks) (λ s there. none-some (owner_of s)) sound
+later_stage {rules = rules} {before = before} {after = after} (granted older r younger was is gains) sound =
+    gained_sound rules before after (wanted_by r)
     (subst (λ l. Part (wishes l) (wishes before.parked)) (sym is) (subst (λ l. Part (wishes (older ++ younger)) (wishes l)) (sym was) (part_without older r younger)))
     gains (λ s there. lone (wish_of r) refl s (subst (λ l. Contains (wishes l) s) is there)) sound
   where
@@ -242,60 +265,67 @@ never_both true true true true z so = refl
 never_both true true true false z so = refl
 never_both true true false y z so = refl
 
-no_entry : (key : Key) (start end : ℕ) (kind : Kind) (es : List (Spot × Mark)) → list_any (excludes_by key start end kind key.owner) es ≡ false
-no_entry key start end kind [] = refl
-no_entry key start end kind (e ∷ es) =
-    (λ i. never_both (e.0.0.owner == key.owner) (key.owner == e.0.0.owner) (class_number key.class == class_number e.0.0.class) (key.node == e.0.0.node)
-    ((nat_le start e.0.1 && nat_le e.0.1 end) && excludes kind e.1.kind)
-    (λ same. eq-eqb key.owner e.0.0.owner (sym (eqb-true e.0.0.owner key.owner same))) i || list_any (excludes_by key start end kind key.owner) es)
-    ∙ no_entry key start end kind es
+none_by : {A : Type 0} (test : A → Bool) (xs : List A) → ((x : A) → test x ≡ false) → list_any test xs ≡ false
+none_by test [] fails = refl
+none_by test (x ∷ xs) fails = λ i. fails x i || none_by test xs fails i
 
-own_none : (m : Marking) (w : Waiter) → hinders m w (waiter_of w) ≡ true → ⊥
-own_none m w h = let k = w.wish in go (is_record k.key.class) (no_entry k.key k.start k.end k.kind (entries m)) h
+rival_of_none : (a b : Key) (c : Bool) → ((b.owner == a.owner) && (are_rivals a b && c)) ≡ false
+rival_of_none a b c =
+    never_both (b.owner == a.owner) (a.owner == b.owner) (class_number a.class == class_number b.class) (a.node == b.node) c
+    (λ same. eq-eqb a.owner b.owner (sym (eqb-true b.owner a.owner same)))
+
+own_none : (rules : Rules) (m : Marking) (w : Waiter) → hinders rules m w (waiter_of w) ≡ true → ⊥
+own_none rules m w h =
+    let k = w.wish in
+    go (is_record k.key.class) rules.fair
+    (none_by (excludes_by k.key k.start k.end k.kind k.key.owner) (entries m) (λ e. rival_of_none k.key e.0.0 _))
+    (none_by (λ (v : Wish). (owner_of v == k.key.owner) && goes_first k v) w.older (λ v. rival_of_none k.key v.key _)) h
   where
-    go : (b : Bool) {c : Bool} → c ≡ false → (b && c) ≡ true → ⊥
-    go true clear h = cc (clear, h)
-    go false clear h = cc h
+    go : (b f : Bool) {c d : Bool} → c ≡ false → d ≡ false → (b && (c || (f && d))) ≡ true → ⊥
+    go true true clear alone h = cc (clear, alone, h)
+    go true false clear alone h = cc (clear, h)
+    go false f clear alone h = cc h
 
-parked_sound : (before after : Present) (r : Request) (w : Wish) → wish_of r ≡ Some w → ((s : Wish) → Contains (wishes before.parked) s → owner_of w ≢ owner_of s)
-    → (ClosesCircle before.marking before.parked r → ⊥) → after.marking ≡ before.marking → after.parked ≡ before.parked ++ r ∷ []
-    → wishes after.parked ≡ wishes before.parked ++ w ∷ [] → IsSound before → IsSound after
-parked_sound before after r w wants others closes marks parked are sound = record {
+parked_sound : (rules : Rules) (before after : Present) (r : Request) (w : Wish) → wish_of r ≡ Some w
+    → ((s : Wish) → Contains (wishes before.parked) s → owner_of w ≢ owner_of s)
+    → (ClosesCircle rules before.marking before.parked r → ⊥) → after.marking ≡ before.marking → after.parked ≡ before.parked ++ r ∷ []
+    → wishes after.parked ≡ wishes before.parked ++ w ∷ [] → IsSound rules before → IsSound rules after
+parked_sound rules before after r w wants others closes marks parked are sound = record {
   lone = subst AreLone (sym are) (lone_pushed (wishes before.parked) w sound.lone others);
   free =
-      subst (λ m. (first : ℕ) (rest : List ℕ) → AreInRow waiter_of (hinders m) (waiters after.parked) first rest first → ⊥) (sym marks)
-      (subst (λ ws. (first : ℕ) (rest : List ℕ) → AreInRow waiter_of (hinders before.marking) ws first rest first → ⊥)
-      (sym (ap waiters parked ∙ waiters_pushed [] before.parked r w wants))
-      (none_once_parked waiter_of (hinders before.marking) (waiters before.parked) (behind before.parked w) sound.free
-      (λ circle. closes (record { wish = w; wants = wants; circle = circle })) (own_none before.marking (behind before.parked w))));
+      subst (λ m. (first : ℕ) (rest : List ℕ) → AreInRow waiter_of (hinders rules m) (waiters after.parked) first rest first → ⊥) (sym marks)
+      (subst (λ ws. (first : ℕ) (rest : List ℕ) → AreInRow waiter_of (hinders rules before.marking) ws first rest first → ⊥)
+      (sym (ap (waiters_behind []) are ∙ waiters_pushed [] (wishes before.parked) w))
+      (none_once_parked waiter_of (hinders rules before.marking) (waiters before.parked) (behind (wishes before.parked) w) sound.free
+      (λ circle. closes (record { wish = w; wants = wants; circle = circle })) (own_none rules before.marking (behind (wishes before.parked) w))));
 }
 
-own_stage : {order : Order} {before after : Present} → OwnStage order before after → asks_while_waiting (asked_by order.op) before.parked ≡ false
-    → IsSound before → IsSound after
-own_stage {order = order} {before = before} {after = after} (changes gains parked) quiet sound =
-    gained_sound before after (asked_by order.op) (subst (λ l. Part (wishes l) (wishes before.parked)) (sym parked) (part_whole (wishes before.parked)))
+own_stage : {rules : Rules} {order : Order} {before after : Present} → OwnStage rules order before after → asks_while_waiting (asked_by order.op) before.parked ≡ false
+    → IsSound rules before → IsSound rules after
+own_stage {rules = rules} {order = order} {before = before} {after = after} (changes gains parked) quiet sound =
+    gained_sound rules before after (asked_by order.op) (subst (λ l. Part (wishes l) (wishes before.parked)) (sym parked) (part_whole (wishes before.parked)))
     gains (λ s there. asker_lone (asked_by order.op) before.parked quiet s (subst (λ l. Contains (wishes l) s) parked there)) sound
-own_stage {order = order} {before = before} {after = after} (parks r wanted closes marks parked) quiet sound = go (wish_of r) refl
+own_stage {rules = rules} {order = order} {before = before} {after = after} (parks r wanted closes marks parked) quiet sound = go (wish_of r) refl
   where
     pushed : wishes after.parked ≡ wishes before.parked ++ cons_option (wish_of r) []
     pushed = ap wishes parked ∙ filter_map-append wish_of before.parked (r ∷ [])
 
-    go : (o : Option Wish) → wish_of r ≡ o → IsSound after
+    go : (o : Option Wish) → wish_of r ≡ o → IsSound rules after
     go None wants =
-        gained_sound before after None
+        gained_sound rules before after None
         (subst (λ ws. Part ws (wishes before.parked))
         (sym (pushed ∙ ap (λ o. wishes before.parked ++ cons_option o []) wants ∙ append-nil (wishes before.parked))) (part_whole (wishes before.parked)))
-        (nobody_gains before.marking after.marking marks) (λ s there. none-some (owner_of s)) sound
+        (nobody_gains rules before.marking after.marking marks) (λ s there. none-some (owner_of s)) sound
     go (Some w) wants =
-        parked_sound before after r w wants
+        parked_sound rules before after r w wants
         (λ s there same. asker_lone (asked_by order.op) before.parked quiet s there (sym wanted ∙ ap (option_map owner_of) wants ∙ ap (λ n. Some n) same))
         closes marks parked (pushed ∙ ap (λ o. wishes before.parked ++ cons_option o []) wants) sound
 
-all_later : {before after : Present} → AreLater before after → IsSound before → IsSound after
+all_later : {rules : Rules} {before after : Present} → AreLater rules before after → IsSound rules before → IsSound rules after
 all_later none sound = sound
 all_later (more stage rest) sound = all_later rest (later_stage stage sound)
 
 -- an order that isn't asked while its asker waits keeps it
-pub step_sound : (order : Order) (before after : Present) → IsTakenInStages order before after
-    → asks_while_waiting (asked_by order.op) before.parked ≡ false → IsSound before → IsSound after
-step_sound order before after taken quiet sound = all_later taken.later (own_stage taken.own quiet sound)
+pub step_sound : (rules : Rules) (order : Order) (before after : Present) → IsTakenInStages rules order before after
+    → asks_while_waiting (asked_by order.op) before.parked ≡ false → IsSound rules before → IsSound rules after
+step_sound rules order before after taken quiet sound = all_later taken.later (own_stage taken.own quiet sound)

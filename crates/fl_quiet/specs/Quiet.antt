@@ -29,7 +29,7 @@ IsQuiet lines =
 abbrev pub HasNoCircle : Snapshot → Type 0
 HasNoCircle p =
     (first : ℕ) (others : List ℕ)
-    → AreInRow waiter_of (hinders p.marking) (waiters p.view.parked) first others first → ⊥
+    → AreInRow waiter_of (hinders p.rules p.marking) (waiters p.view.parked) first others first → ⊥
 
 -- There are none after any order of the lines: what a legal beginning of them leads to has none.
 abbrev pub HasNoCircles : List Line → Type 0

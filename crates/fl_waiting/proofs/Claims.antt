@@ -29,6 +29,12 @@ stands_at a i claim found =
     let at = found_at (items a 0) i claim found in
     (omega (arith, at.0, length-map (items a 0) request_in), get_or-map request_in (items a 0) i claim claim.request at.0 ∙ ap request_in at.1)
 
+-- it stands at the place of its claim
+pub position_of_request : (test : Request → Bool) (claims : List Claim)
+    → position_or_len (λ (c : Claim). test c.request) claims ≡ position_or_len test (map request_in claims)
+position_of_request test [] = refl
+position_of_request test (c ∷ claims) = ap (λ n. cond (not (test c.request)) (1 + n) 0) (position_of_request test claims)
+
 suc_is_one_plus : (n : ℕ) → suc n ≡ 1 + n
 suc_is_one_plus n = omega arith
 

@@ -1,5 +1,5 @@
 -- Locks that requests want, copied one after another.
-use Rattle.std.proofs.Common.{◌≡◌, ◌∙◌, ℕ, ◌+◌, ◌<◌, Bool, true, false, cond, Option, Some, None, option_map, List, [], ◌∷◌, ◌++◌, length, map, take, get_or, slice_get, refl, sym, ap}
+use Rattle.std.proofs.Common.{◌≡◌, ◌∙◌, ℕ, ◌+◌, ◌<◌, Bool, true, false, cond, Option, Some, None, option_map, List, [], ◌∷◌, ◌++◌, length, map, take, get_or, slice_get, append-nil, refl, sym, ap, subst, arith}
 use Rattle.std.proofs.lemmas.Option.{slice_get-map}
 use Rattle.std.proofs.lemmas.List.{take_more, map-append}
 use Rattle.std.proofs.lemmas.List.Elements.{filter_map-append}
@@ -9,11 +9,12 @@ use Rattle.fl_arena.specs.Cursors.{cursor_at}
 use Rattle.fl_arena.specs.declared.cursors.Cursor.{Cursor}
 use Rattle.fl_waiting.specs.Waiting.{Wish, wish_of, wishes}
 use Rattle.fl_waiting.specs.Inside.Claims.{request_in, requests_of}
-use Rattle.fl_waiting.specs.Inside.Searching.{meant, one_of}
+use Rattle.fl_waiting.specs.Inside.Searching.{meant, one_of, numbered, AreNumbered}
 use Rattle.fl_waiting.specs.declared.circle.Wanted.{Wanted}
 use Rattle.fl_waiting.specs.LockRequest.{is_flock, key_of, stroke_of}
 use Rattle.fl_waiting.specs.declared.claim.Claim.{Claim}
 use Rattle.fl_waiting.specs.declared.parked.Request.{Request}
+use Rattle.fl_waiting.proofs.Among.{numbered_more}
 use Rattle.fl_waiting.proofs.Chain.{found_at, nothing_left}
 use Rattle.fl_waiting.proofs.Claims.{stands_at}
 use Rattle.fl_ranges.specs.Marking.{Stroke, stroke_on}
@@ -21,18 +22,28 @@ use Rattle.fl_ranges.specs.declared.lock.Class.{Class}
 use Rattle.fl_ranges.specs.declared.lock.Class.TheVariants.{Record, Flock}
 use Rattle.fl_ranges.specs.declared.lock.Mark.{Mark}
 
-one_wish : (w : Option Wanted) (r : Request) → option_map meant w ≡ wish_of r → map meant (one_of w) ≡ filter_map wish_of (r ∷ [])
-one_wish None r e = ap (λ o. cons_option o []) e
-one_wish (Some w) r e = ap (λ o. cons_option o []) e
+one_wish : (n : ℕ) (w : Option Wanted) (r : Request) → option_map meant w ≡ wish_of r
+    → map meant (one_of (option_map (numbered n) w)) ≡ filter_map wish_of (r ∷ [])
+one_wish n None r e = ap (λ o. cons_option o []) e
+one_wish n (Some w) r e = ap (λ o. cons_option o []) e
 
 -- one more is copied, if the request wants a record lock
 pub copied_more : (room new : List Wanted) (count next : ℕ) (w : Option Wanted) (parked : List Request) (i : ℕ) (r : Request)
-    → map meant (take count room) ≡ wishes (take i parked) → take next new ≡ take count room ++ one_of w
+    → map meant (take count room) ≡ wishes (take i parked) → take next new ≡ take count room ++ one_of (option_map (numbered count) w)
     → option_map meant w ≡ wish_of r → i < length parked → get_or parked i r ≡ r → map meant (take next new) ≡ wishes (take (i + 1) parked)
 copied_more room new count next w parked i r so_far put wish there at =
-    ap (map meant) put ∙ map-append meant (take count room) (one_of w) ∙ (λ j. so_far j ++ one_wish w r wish j)
+    ap (map meant) put ∙ map-append meant (take count room) (one_of (option_map (numbered count) w)) ∙ (λ j. so_far j ++ one_wish count w r wish j)
     ∙ sym (filter_map-append wish_of (take i parked) (r ∷ []))
     ∙ ap wishes (ap (λ x. take i parked ++ x ∷ []) (sym at) ∙ sym (take_more parked i r there))
+
+-- and numbered
+pub numbered_on : (room new : List Wanted) (count next : ℕ) (w : Option Wanted) → AreNumbered 0 (take count room) → length (take count room) ≡ count
+    → take next new ≡ take count room ++ one_of (option_map (numbered count) w) → AreNumbered 0 (take next new)
+numbered_on room new count next w so_far long put = subst (AreNumbered 0) (sym put) (go w)
+  where
+    go : (w : Option Wanted) → AreNumbered 0 (take count room ++ one_of (option_map (numbered count) w))
+    go None = subst (AreNumbered 0) (sym (append-nil (take count room))) so_far
+    go (Some w) = numbered_more 0 (take count room) (numbered count w) so_far (omega (arith, long))
 
 -- the cursor has gone on by one
 pub record IsNext (a : Chains Claim) (i : ℕ) (claim : Claim) (next : Cursor) : Type 0 where

@@ -1,3 +1,5 @@
+pub mod Among
+pub mod Behind
 pub mod Chain
 pub mod Circles
 pub mod Claims

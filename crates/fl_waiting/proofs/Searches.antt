@@ -1,10 +1,10 @@
 -- The search for a circle: what is reached and visited so far.
-use Rattle.std.proofs.Common.{◌≡◌, ◌≢◌, ℕ, zero, suc, ◌<◌, Bool, true, false, cond, ◌||◌, List, [], ◌∷◌, length, sum_by, get_or, slice_index_or, set, length-set, get_or-set_other, take, replicate, inl, inr, ◌⊎◌, ⊎_elim, refl, sym, ap, ◌∙◌, subst, arith}
+use Rattle.std.proofs.Common.{◌≡◌, ◌≢◌, ℕ, zero, suc, ◌<◌, Bool, true, false, cond, ◌||◌, List, [], ◌∷◌, length, sum_by, get_or, set, length-set, get_or-set_other, take, replicate, inl, inr, ◌⊎◌, ⊎_elim, refl, sym, ap, ◌∙◌, subst, arith}
 use Rattle.std.proofs.lemmas.Bool.{cases_eq}
 use Rattle.std.proofs.lemmas.List.{length-map, length-replicate}
 use Rattle.std.proofs.lemmas.List.Sums.{sum_by-set}
 use Rattle.fl_waiting.specs.Circle.{leads, Waits, AreInRow, IsCircle}
-use Rattle.fl_waiting.specs.Inside.Searching.{is_set, owners_of, IsByOwner}
+use Rattle.fl_waiting.specs.Inside.Searching.{is_set, owners_of, owner_at, IsByOwner, IsReachedByOwner}
 use Rattle.fl_ranges.specs.Conflict.{AreFound}
 use Rattle.std.specs.List.Sorted.{IsNonDecreasing}
 use Rattle.std.proofs.Math.ListN.{get_or-map}
@@ -14,15 +14,6 @@ use Rattle.fl_waiting.proofs.Circles.{leads_directly, leads_on, circle_words}
 
 abbrev pub owner : Wanted → ℕ
 owner w = w.key.owner
-
--- whose request stands at a place; 0 past the last
-abbrev pub owner_at : List Wanted → ℕ → ℕ
-owner_at ws i = slice_index_or (owners_of ws) i 0
-
--- the places of one owner are all reached, or none is
-abbrev pub IsReachedByOwner : List Wanted → List Bool → Type 0
-IsReachedByOwner ws reached =
-    (i j : ℕ) → i < length ws → j < length ws → owner_at ws i ≡ owner_at ws j → is_set reached i ≡ is_set reached j
 
 or_cases : (a b c : Bool) → c ≡ (a || b) → c ≡ true → (a ≡ true) ⊎ (b ≡ true)
 or_cases true b c e h = inl refl
@@ -97,7 +88,7 @@ module _ (hinders : Wanted → ℕ → Bool) (ws : List Wanted) (asked : Wanted)
   at_place test old new more i h = more i (omega (arith, length-map ws owner, h))
 
   -- what is reached goes by owner again
-  goes_by_owner : (test : ℕ → Bool) (old new : List Bool) → IsReachedByOwner ws old → AreFound test (owners_of ws) old new → IsReachedByOwner ws new
+  pub goes_by_owner : (test : ℕ → Bool) (old new : List Bool) → IsReachedByOwner ws old → AreFound test (owners_of ws) old new → IsReachedByOwner ws new
   goes_by_owner test old new by more i j h k same =
       at_place test old new more i h ∙ (λ n. by i j h k same n || test (same n)) ∙ sym (at_place test old new more j k)
 

@@ -5,8 +5,9 @@ use Rattle.fl_ranges.specs.declared.lock.Class.{Class}
 use Rattle.fl_ranges.specs.declared.lock.Class.TheVariants.{Record, Flock}
 use Rattle.fl_ranges.specs.declared.lock.Mark.{Mark}
 use Rattle.fl_ranges.specs.Marking.{Marking, Stroke}
-use Rattle.fl_waiting.specs.Waiting.{Wish, owner_of, wish_on, wish_of, keeps_waiting, only}
+use Rattle.fl_waiting.specs.Waiting.{Wish, owner_of, wish_on, wish_of, wishes, keeps_waiting, only}
 use Rattle.fl_waiting.specs.declared.parked.Request.{Request}
+use Rattle.fl_waiting.specs.declared.rules.Rules.{Rules}
 
 -- ---- of any requests, with whose they are and whom each waits for
 
@@ -40,52 +41,48 @@ leads owner_of hinders (r ∷ rs) asked q =
 
 -- ---- of lock requests
 
--- a record lock that is wanted, and the requests that are older
+-- a record lock that is wanted, and those that were wanted before
 pub record Waiter : Type 0 where
   pub wish : Wish
-  pub older : List Request
+  pub older : List Wish
 
 -- whose it is
 abbrev pub waiter_of : Waiter → ℕ
 waiter_of w = owner_of w.wish
 
--- a lock that is wanted behind all these requests
-abbrev pub behind : List Request → Wish → Waiter
-behind parked w = record { wish = w; older = parked }
+-- a lock that is wanted behind all these
+abbrev pub behind : List Wish → Wish → Waiter
+behind older w = record { wish = w; older = older }
 
--- the first of the waiters, if there is one
-abbrev pub waiter_first : List Request → Option Wish → List Waiter → List Waiter
-waiter_first older None others = others
-waiter_first older (Some w) others = behind older w ∷ others
-
--- the record locks that the requests want, each with the requests that are older, which are these and those before it
-abbrev pub waiters_behind : List Request → List Request → List Waiter
+-- each wish with the older ones, which are these and those before it
+abbrev pub waiters_behind : List Wish → List Wish → List Waiter
 waiters_behind older [] = []
-waiters_behind older (r ∷ parked) = waiter_first older (wish_of r) (waiters_behind (older ++ r ∷ []) parked)
+waiters_behind older (w ∷ ws) = behind older w ∷ waiters_behind (older ++ w ∷ []) ws
 
 -- all who wait for record locks, the oldest first
 abbrev pub waiters : List Request → List Waiter
-waiters parked = waiters_behind [] parked
+waiters parked = waiters_behind [] (wishes parked)
 
 abbrev pub is_record : Class → Bool
 is_record Record = true
 is_record Flock = false
 
 -- this owner keeps it waiting; whole-file locks have no part in circles
-abbrev pub hinders : Marking → Waiter → ℕ → Bool
-hinders m w owner = is_record w.wish.key.class && keeps_waiting (only owner) m w.older w.wish
+abbrev pub hinders : Rules → Marking → Waiter → ℕ → Bool
+hinders rules m w owner = is_record w.wish.key.class && keeps_waiting rules (only owner) m w.older w.wish
 
 -- a lock would close a circle if its request waited, behind all others
-abbrev pub closes_circle : Marking → List Request → Wish → Bool
-closes_circle m parked w = leads waiter_of (hinders m) (waiters parked) (behind parked w) (owner_of w)
+abbrev pub closes_circle : Rules → Marking → List Request → Wish → Bool
+closes_circle rules m parked w =
+    leads waiter_of (hinders rules m) (waiters parked) (behind (wishes parked) w) (owner_of w)
 
 -- a lock would close a circle of waiting owners if its request waited
-abbrev pub is_deadlock : Marking → List Request → Stroke → Option Mark → Bool
-is_deadlock m parked s None = false
-is_deadlock m parked s (Some mark) = closes_circle m parked (wish_on s mark)
+abbrev pub is_deadlock : Rules → Marking → List Request → Stroke → Option Mark → Bool
+is_deadlock rules m parked s None = false
+is_deadlock rules m parked s (Some mark) = closes_circle rules m parked (wish_on s mark)
 
 -- the same in words, of a request: it wants a record lock, and owners wait in a circle with the one who asks
-pub record ClosesCircle (m : Marking) (parked : List Request) (r : Request) : Type 0 where
+pub record ClosesCircle (rules : Rules) (m : Marking) (parked : List Request) (r : Request) : Type 0 where
   pub wish : Wish
   pub wants : wish_of r ≡ Some wish
-  pub circle : IsCircle waiter_of (hinders m) (waiters parked) (behind parked wish)
+  pub circle : IsCircle waiter_of (hinders rules m) (waiters parked) (behind (wishes parked) wish)

@@ -1,14 +1,15 @@
 -- Lock parked requests, in the order of asking, and what keeps them waiting.
-use Rattle.std.specs.Prelude.{◌≡◌, ◌≢◌, ℕ, ◌==◌, Bool, true, false, ◌&&◌, Option, Some, None, option_map, List, [], ◌∷◌, ◌++◌, if◌then◌else◌}
+use Rattle.std.specs.Prelude.{◌≡◌, ◌≢◌, ℕ, ◌==◌, Bool, true, false, not, ◌&&◌, ◌||◌, nat_le, Option, Some, None, option_map, List, [], ◌∷◌, ◌++◌, if◌then◌else◌}
 use Rattle.std.specs.List.{list_any, filter_map, AllByRecursion}
 use Rattle.std.specs.FinMap.{entries}
 use Rattle.fl_ranges.specs.declared.lock.Key.{Key}
 use Rattle.fl_ranges.specs.declared.lock.Kind.{Kind}
 use Rattle.fl_ranges.specs.declared.lock.Mark.{Mark}
 use Rattle.fl_ranges.specs.Marking.{Marking, Spot, Stroke}
-use Rattle.fl_ranges.specs.Conflict.{conflicts, excludes_lock}
+use Rattle.fl_ranges.specs.Conflict.{conflicts, excludes, excludes_lock, are_rivals}
 use Rattle.fl_waiting.specs.LockRequest.{is_flock, key_of, start_of, end_of, mark_of, stroke_of}
 use Rattle.fl_waiting.specs.declared.parked.Request.{Request}
+use Rattle.fl_waiting.specs.declared.rules.Rules.{Rules}
 
 -- ---- locks that are wanted
 
@@ -39,11 +40,26 @@ wishes parked = filter_map wish_of parked
 
 -- ---- who waits
 
--- What keeps a lock that is wanted waiting, behind these older requests: a lock that is held, of an owner who passes
--- the test. The older requests have no say. All that is said of who waits, and for whom, rests on this.
-abbrev pub keeps_waiting : (ℕ → Bool) → Marking → List Request → Wish → Bool
-keeps_waiting whose m older w =
+-- no request waits behind another
+abbrev pub standard : Rules
+standard = record { fair = false }
+
+-- an older wish goes before another one: of another owner, for the same node, with a byte in common, and one of the two
+-- is for a write lock
+abbrev pub goes_first : Wish → Wish → Bool
+goes_first w older =
+    are_rivals w.key older.key && ((nat_le older.start w.end && nat_le w.start older.end) && excludes w.kind older.kind)
+
+-- under fair rules one of these older wishes, of an owner who passes the test, goes before this one
+abbrev pub goes_before : Rules → (ℕ → Bool) → List Wish → Wish → Bool
+goes_before rules whose older w = rules.fair && list_any (λ (v : Wish). whose (owner_of v) && goes_first w v) older
+
+-- What keeps a lock that is wanted waiting, behind these older wishes: a lock that is held, of an owner who passes the
+-- test, or an older wish of such an owner. All that is said of who waits, and for whom, rests on this.
+abbrev pub keeps_waiting : Rules → (ℕ → Bool) → Marking → List Wish → Wish → Bool
+keeps_waiting rules whose m older w =
     list_any (λ (e : Spot × Mark). whose e.0.0.owner && excludes_lock w.key w.start w.end w.kind e) (entries m)
+    || goes_before rules whose older w
 
 -- whoever it is
 abbrev pub anyone : ℕ → Bool
@@ -59,12 +75,17 @@ passes test None = false
 passes test (Some mark) = test mark
 
 -- a lock that is asked for has to wait, behind these older requests; unlocking never does
-abbrev pub must_wait : Marking → List Request → Stroke → Option Mark → Bool
-must_wait m older s mark = passes (λ (k : Mark). keeps_waiting anyone m older (wish_on s k)) mark
+abbrev pub must_wait : Rules → Marking → List Request → Stroke → Option Mark → Bool
+must_wait rules m older s mark = passes (λ (k : Mark). keeps_waiting rules anyone m (wishes older) (wish_on s k)) mark
 
 -- and so does a request
-abbrev pub waits : Marking → List Request → Request → Bool
-waits m older r = must_wait m older (stroke_of r.node r.ask) (mark_of r.ask)
+abbrev pub waits : Rules → Marking → List Request → Request → Bool
+waits rules m older r = must_wait rules m older (stroke_of r.node r.ask) (mark_of r.ask)
+
+-- one of these older requests goes before it, whoever's it is
+abbrev pub is_behind : Rules → List Request → Request → Bool
+is_behind rules older r =
+    passes (λ (k : Mark). goes_before rules anyone (wishes older) (wish_on (stroke_of r.node r.ask) k)) (mark_of r.ask)
 
 -- a lock is set against one that is held, whoever waits: what a SETLK meets; unlocking never is
 abbrev pub is_excluded : Marking → Stroke → Option Mark → Bool
@@ -76,8 +97,8 @@ AllBehind P older [] = Unit {0}
 AllBehind P older (r ∷ parked) = P older r × AllBehind P (older ++ r ∷ []) parked
 
 -- each of the requests waits
-abbrev pub AllWait : Marking → List Request → Type 0
-AllWait m parked = AllBehind (λ older r. waits m older r ≡ true) [] parked
+abbrev pub AllWait : Rules → Marking → List Request → Type 0
+AllWait rules m parked = AllBehind (λ older r. waits rules m older r ≡ true) [] parked
 
 -- a record lock request of this owner is parked
 abbrev pub is_waiting : ℕ → List Request → Bool
@@ -100,6 +121,18 @@ taken_first test [] = None
 taken_first test (r ∷ parked) =
     if test r then Some (r, parked)
     else option_map (λ (p : Request × List Request). (p.0, r ∷ p.1)) (taken_first test parked)
+
+-- the same of a test that is of the older ones too, which are these and those before it
+unfoldable pub taken_behind : (List Request → Request → Bool) → List Request → List Request
+    → Option (Request × List Request)
+taken_behind test older [] = None
+taken_behind test older (r ∷ parked) =
+    if test older r then Some (r, parked)
+    else option_map (λ (p : Request × List Request). (p.0, r ∷ p.1)) (taken_behind test (older ++ r ∷ []) parked)
+
+-- a request passes a test, and none of the older ones goes before it
+abbrev pub passes_free : Rules → (Request → Bool) → List Request → Request → Bool
+passes_free rules test older r = test r && not (is_behind rules older r)
 
 -- the request of a unique, and the others
 abbrev pub taken_out : ℕ → List Request → Option (Request × List Request)

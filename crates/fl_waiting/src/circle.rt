@@ -1,16 +1,18 @@
 //! The search for a circle of owners, each of whom the next one keeps waiting.
 
-ghost use Rattle.std.specs.Prelude.{◌≡◌, ◌+◌, ◌++◌, ◌∷◌, [], ◌≤◌, ◌<◌, ℕ, false, true, map, option_map, length, take, MatchOption};
+ghost use Rattle.std.specs.Prelude.{◌≡◌, ◌+◌, ◌++◌, ◌∷◌, [], ◌≤◌, ◌<◌, ℕ, false, true, map, option_map, length, take, MatchOption, ◌&&◌, ◌==◌, nat_lt, slice_index_or};
+ghost use Rattle.std.specs.List.{list_any};
 ghost use Rattle.fl_arena.specs.Chains.{items};
 ghost use Rattle.std.specs.List.Sorted.{IsPermutation, IsNonDecreasing};
-ghost use Rattle.fl_ranges.specs.Conflict.{AreFound};
+ghost use Rattle.fl_ranges.specs.Conflict.{excludes, owner_conflicts, AreFound};
 ghost use Rattle.fl_waiting.specs.Circle.{closes_circle, leads};
 ghost use Rattle.fl_waiting.specs.Inside.Claims.{requests_of};
-ghost use Rattle.fl_waiting.specs.Inside.Searching.{meant, hinders_alone, one_of, is_set, owners_of, IsByOwner};
-ghost use Rattle.fl_waiting.specs.Waiting.{owner_of as owner_of_wish, is_waiting, wish_of, wishes};
+ghost use Rattle.fl_waiting.specs.Inside.Searching.{meant, hinders_among, precedes, precedes_by, one_of, numbered, is_set, owners_of, AreNumbered, IsByOwner, IsReachedByOwner};
+ghost use Rattle.fl_waiting.specs.Waiting.{is_waiting, goes_first, wish_of, wishes};
 
 use crate::claim::Claim;
 use crate::parked::{MOST_PARKED, Parked};
+use crate::rules::Rules;
 use fl_arena::Arena;
 use fl_ranges::{Class, Key, Kind, Range, Table};
 
@@ -20,12 +22,21 @@ pub(crate) struct Wanted {
     pub key: Key,
     pub range: Range,
     pub kind: Kind,
+    /// How many were wanted before.
+    pub place: u32,
 }
 
 impl Parked {
     /// Whether a request for this lock would close a circle if it waited. Requests for whole-file locks never do.
-    pub fn close_circle(&self, locks: &Table, key: &Key, range: &Range, kind: Kind) -> bool
-        ensures { result ≡ closes_circle locks.now.marking self.now
+    pub fn close_circle(
+        &self,
+        rules: Rules,
+        locks: &Table,
+        key: &Key,
+        range: &Range,
+        kind: Kind,
+    ) -> bool
+        ensures { result ≡ closes_circle rules locks.now.marking self.now
             (record { key = key.now; start = range.now.start; end = range.now.end; kind = kind }) }
     {
         if let Class::Flock = key.class {
@@ -34,16 +45,18 @@ impl Parked {
         if self.is_empty() {
             return false;
         }
-        let asked = Wanted {
+        let mut asked = Wanted {
             key: *key,
             range: *range,
             kind,
+            place: 0,
         };
         let mut room = [asked; MOST_PARKED];
         let count = copy_wanted(&self.claims, &mut room);
+        asked.place = count as u32;
         let wanted = &mut room[..count];
         wanted.sort_unstable_by_key(|wanted| wanted.key.owner);
-        leads_back(locks, wanted, &asked)
+        leads_back(rules, locks, wanted, &asked)
     }
 
     /// Whether a request of this owner for a record lock waits.
@@ -63,6 +76,7 @@ fn copy_wanted(claims: &Arena<Claim>, room: &mut [Wanted; MOST_PARKED]) -> usize
     requires few { length (items claims.now 0) ≤ MOST_PARKED }
     ensures few { result ≤ MOST_PARKED }
     ensures wanted { map meant (take result room.new) ≡ wishes (requests_of claims.now) }
+    ensures numbered { AreNumbered 0 (take result room.new) }
 {
     let mut count = 0;
     let mut cursor = claims.cursor(0);
@@ -77,17 +91,20 @@ fn copy_wanted(claims: &Arena<Claim>, room: &mut [Wanted; MOST_PARKED]) -> usize
 fn put(room: &mut [Wanted; MOST_PARKED], count: usize, wanted: Option<Wanted>) -> usize
     requires { count < MOST_PARKED }
     ensures few { result ≤ count + 1 }
-    ensures put { take result room.new ≡ take count room.old ++ one_of wanted }
+    ensures put { take result room.new ≡ take count room.old ++ one_of (option_map (numbered count) wanted) }
 {
     let Some(wanted) = wanted else {
         return count;
     };
-    room[count] = wanted;
+    room[count] = Wanted {
+        place: count as u32,
+        ..wanted
+    };
     count + 1
 }
 
-// The record lock that a request waits for, if it is for one.
-fn wanted_of(claim: &Claim) -> Option<Wanted>
+// The record lock that a request waits for, if it is for one; its place isn't known yet.
+pub(crate) fn wanted_of(claim: &Claim) -> Option<Wanted>
     ensures { option_map meant result ≡ wish_of claim.now.request }
 {
     match (claim.key.class, claim.mark) {
@@ -95,31 +112,59 @@ fn wanted_of(claim: &Claim) -> Option<Wanted>
             key: claim.key,
             range: claim.range,
             kind: mark.kind,
+            place: 0,
         }),
         _ => None,
     }
 }
 
+// Whether an older lock that is wanted goes before this one.
+pub(crate) fn goes_first(wanted: &Wanted, older: &Wanted) -> bool
+    ensures { result ≡ goes_first (meant wanted.now) (meant older.now) }
+{
+    let (own, other) = (&wanted.key, &older.key);
+    (own.class == other.class && (own.node == other.node && own.owner != other.owner))
+        && ((older.range.start <= wanted.range.end && wanted.range.start <= older.range.end)
+            && excludes(wanted.kind, older.kind))
+}
+
+// Whether an older one, of those that are copied, goes before this one.
+fn precedes(wanted: &Wanted, older: &Wanted) -> bool
+    ensures { result ≡ precedes wanted.now older.now }
+{
+    older.place < wanted.place && goes_first(wanted, older)
+}
+
+// Whether one of the two is for a write lock.
+fn excludes(kind: Kind, other: Kind) -> bool
+    ensures { result ≡ excludes kind other }
+{
+    match kind {
+        Kind::Read => other == Kind::Write,
+        Kind::Write => true,
+    }
+}
+
 // Whether a request waits for its own owner, through others, which stand in the order of their owners.
-fn leads_back(locks: &Table, wanted: &[Wanted], asked: &Wanted) -> bool
+fn leads_back(rules: Rules, locks: &Table, wanted: &[Wanted], asked: &Wanted) -> bool
     requires few { length wanted.now ≤ MOST_PARKED }
     requires sorted { IsByOwner wanted.now }
-    ensures { result ≡ leads owner_of_wish (hinders_alone locks.now.marking) (map meant wanted.now) (meant asked.now)
-        asked.now.key.owner }
+    ensures { result ≡ leads (λ (w : Wanted). w.key.owner) (hinders_among rules locks.now.marking wanted.now) wanted.now
+        asked.now asked.now.key.owner }
 {
     let room = owners_of(wanted);
     let owners = &room[..wanted.len()];
     let mut reached = [false; MOST_PARKED];
     let reached = &mut reached[..wanted.len()];
     let mut visited = [false; MOST_PARKED];
-    reach(locks, asked, owners, reached);
+    reach(rules, locks, asked, wanted, owners, reached);
     while let Some(place) = next(reached, &visited) {
         visited[place] = true;
         let request = &wanted[place];
-        if waits_for(locks, request, asked.key.owner) {
+        if waits_for(rules, locks, request, wanted, asked.key.owner) {
             return true;
         }
-        reach(locks, request, owners, reached);
+        reach(rules, locks, request, wanted, owners, reached);
     }
     false
 }
@@ -152,28 +197,108 @@ fn next(reached: &[bool], visited: &[bool; MOST_PARKED]) -> Option<usize>
 }
 
 // The places of all owners are reached that keep the request waiting. The table is asked once.
-fn reach(locks: &Table, request: &Wanted, owners: &[u64], reached: &mut [bool])
+fn reach(
+    rules: Rules,
+    locks: &Table,
+    request: &Wanted,
+    wanted: &[Wanted],
+    owners: &[u64],
+    reached: &mut [bool],
+)
+    requires owners { owners.now ≡ owners_of wanted.now }
     requires long { length reached.old ≡ length owners.now }
     requires sorted { IsNonDecreasing owners.now }
-    ensures { AreFound (hinders_alone locks.now.marking (meant request.now)) owners.now reached.old reached.new }
+    requires by_owner { IsReachedByOwner wanted.now reached.old }
+    ensures { AreFound (hinders_among rules locks.now.marking wanted.now request.now) owners.now reached.old
+        reached.new }
 {
-    match request.key.class {
-        Class::Record => locks.find_rivals(
-            &request.key,
-            &request.range,
-            request.kind,
-            owners,
-            reached,
-        ),
-        Class::Flock => {}
+    if let Class::Flock = request.key.class {
+        return;
+    }
+    locks.find_rivals(&request.key, &request.range, request.kind, owners, reached);
+    if rules.fair {
+        reach_older(request, wanted, owners, reached);
     }
 }
 
-// Whether a record lock of this owner keeps the request waiting.
-fn waits_for(locks: &Table, request: &Wanted, owner: u64) -> bool
-    ensures { result ≡ hinders_alone locks.now.marking (meant request.now) owner }
+// The same for those alone who wanted a lock before that goes first.
+fn reach_older(request: &Wanted, wanted: &[Wanted], owners: &[u64], reached: &mut [bool])
+    requires owners { owners.now ≡ owners_of wanted.now }
+    requires long { length reached.old ≡ length owners.now }
+    requires by_owner { IsReachedByOwner wanted.now reached.old }
+    ensures { AreFound (λ q. list_any (precedes_by request.now q) wanted.now) owners.now reached.old reached.new }
 {
-    let mut reached = [false];
-    reach(locks, request, &[owner], &mut reached);
-    reached[0]
+    for i in 0..wanted.len() {
+        let is_reached = reached[i];
+        reach_one(request, &wanted[i], is_reached, owners, reached);
+    }
+}
+
+// The places of the owner are reached of one lock that is wanted, if that was wanted before and goes first. Where its own
+// place is reached, they all are.
+fn reach_one(
+    request: &Wanted,
+    older: &Wanted,
+    is_reached: bool,
+    owners: &[u64],
+    reached: &mut [bool],
+)
+    requires long { length reached.old ≡ length owners.now }
+    requires known { is_reached ≡ true → (i : ℕ) → i < length owners.now →
+        (older.now.key.owner == slice_index_or owners.now i 0) ≡ true → is_set reached.old i ≡ true }
+    ensures { AreFound (λ q. precedes_by request.now q older.now) owners.now reached.old reached.new }
+{
+    if !is_reached && precedes(request, older) {
+        reach_owner(older.key.owner, owners, reached);
+    }
+}
+
+// The places of this owner are reached.
+fn reach_owner(owner: u64, owners: &[u64], reached: &mut [bool])
+    requires long { length reached.old ≡ length owners.now }
+    ensures { AreFound (λ q. owner == q) owners.now reached.old reached.new }
+{
+    for i in 0..owners.len() {
+        if owner == owners[i] {
+            reached[i] = true;
+        }
+    }
+}
+
+// Whether this owner keeps the request waiting.
+fn waits_for(rules: Rules, locks: &Table, request: &Wanted, wanted: &[Wanted], owner: u64) -> bool
+    ensures { result ≡ hinders_among rules locks.now.marking wanted.now request.now owner }
+{
+    if let Class::Flock = request.key.class {
+        return false;
+    }
+    is_held_by(locks, request, owner) || (rules.fair && is_behind(request, wanted, owner))
+}
+
+// Whether a lock of this owner excludes the one that is wanted.
+fn is_held_by(locks: &Table, request: &Wanted, owner: u64) -> bool
+    ensures { result ≡ owner_conflicts locks.now.marking request.now.key request.now.range.start request.now.range.end
+        request.now.kind owner }
+{
+    let mut found = [false];
+    locks.find_rivals(
+        &request.key,
+        &request.range,
+        request.kind,
+        &[owner],
+        &mut found,
+    );
+    found[0]
+}
+
+// Whether this owner wanted a lock before that goes first.
+fn is_behind(request: &Wanted, wanted: &[Wanted], owner: u64) -> bool
+    ensures { result ≡ list_any (precedes_by request.now owner) wanted.now }
+{
+    for older in wanted {
+        if older.key.owner == owner && precedes(request, older) {
+            return true;
+        }
+    }
+    false
 }

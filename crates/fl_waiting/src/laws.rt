@@ -3,17 +3,20 @@
 ghost use Rattle.std.specs.Prelude.{◌≡◌, ◌↔◌, ℕ, true, List};
 ghost use Rattle.fl_waiting.specs.Circle.{waiter_of, hinders, waiters, behind, closes_circle, is_deadlock, IsCircle, ClosesCircle};
 ghost use Rattle.fl_waiting.specs.LockRequest.{mark_of, stroke_of};
-ghost use Rattle.fl_waiting.specs.Waiting.{Wish, keeps_waiting, anyone, only};
+ghost use Rattle.fl_waiting.specs.Waiting.{Wish, wishes, keeps_waiting, anyone, only};
 ghost use Rattle.fl_waiting.specs.declared.parked.Request.{Request};
+ghost use Rattle.fl_waiting.specs.declared.rules.Rules.{Rules};
 ghost use Rattle.fl_ranges.specs.Marking.{Marking};
 
 /// A lock has to wait exactly where an owner keeps it waiting. It, or its request, would close a circle exactly where such an
 /// owner waits for the one who wants it, directly or through others, each of whom waits for the next.
 pub fn a_circle_is_a_row_of_owners_who_wait()
-    ensures someone { (m : Marking) (older : List Request) (w : Wish) →
-        (keeps_waiting anyone m older w ≡ true) ↔ ((owner : ℕ) × (keeps_waiting (only owner) m older w ≡ true)) }
-    ensures wish { (m : Marking) (parked : List Request) (w : Wish) →
-        (closes_circle m parked w ≡ true) ↔ IsCircle waiter_of (hinders m) (waiters parked) (behind parked w) }
-    ensures request { (m : Marking) (parked : List Request) (r : Request) →
-        (is_deadlock m parked (stroke_of r.node r.ask) (mark_of r.ask) ≡ true) ↔ ClosesCircle m parked r }
+    ensures someone { (rules : Rules) (m : Marking) (older : List Wish) (w : Wish) →
+        (keeps_waiting rules anyone m older w ≡ true)
+        ↔ ((owner : ℕ) × (keeps_waiting rules (only owner) m older w ≡ true)) }
+    ensures wish { (rules : Rules) (m : Marking) (parked : List Request) (w : Wish) →
+        (closes_circle rules m parked w ≡ true)
+        ↔ IsCircle waiter_of (hinders rules m) (waiters parked) (behind (wishes parked) w) }
+    ensures request { (rules : Rules) (m : Marking) (parked : List Request) (r : Request) →
+        (is_deadlock rules m parked (stroke_of r.node r.ask) (mark_of r.ask) ≡ true) ↔ ClosesCircle rules m parked r }
 {}

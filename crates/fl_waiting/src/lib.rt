@@ -5,6 +5,8 @@ mod circle;
 mod claim;
 pub mod laws;
 mod parked;
+mod rules;
 
 pub use claim::Claim;
 pub use parked::{MOST_PARKED, Parked, Request};
+pub use rules::Rules;

@@ -1,15 +1,21 @@
 //! Parked requests, in the order of asking.
 
-ghost use Rattle.std.specs.Prelude.{◌≡◌, ◌==◌, ◌↔◌, ◌≤◌, ◌<◌, ◌%◌, ◌++◌, ◌∷◌, [], Bool, false, None, Some, IfOk, MatchOption, length};
-ghost use Rattle.std.specs.List.{AllByRecursion};
-ghost use Rattle.fl_arena.specs.Cursors.{Tests};
-ghost use Rattle.fl_waiting.specs.Waiting.{is_parked, taken_first};
+ghost use Rattle.std.specs.Prelude.{◌≡◌, ◌==◌, ◌↔◌, ◌≤◌, ◌<◌, ◌%◌, ◌++◌, ◌∷◌, [], Bool, true, false, None, Some, IfOk, MatchOption, length, take};
+ghost use Rattle.std.specs.List.{list_any, AllByRecursion};
+ghost use Rattle.fl_arena.specs.Chains.{items};
+ghost use Rattle.fl_arena.specs.Cursors.{Tests, cursor_at};
+ghost use Rattle.fl_waiting.specs.Inside.Claims.{requests_of, IsFirstBehind};
+ghost use Rattle.fl_waiting.specs.Inside.Searching.{meant};
+ghost use Rattle.fl_waiting.specs.Waiting.{goes_first, is_behind, is_parked, passes_free, taken_behind, taken_first, wishes};
 ghost use Rattle.fl_waiting.specs.declared.claim.Claim.{Claim};
 ghost use Rattle.fl_waiting.specs.declared.parked.Request.{Request};
 
+use crate::circle::{Wanted, goes_first, wanted_of};
 use crate::claim::Claim;
+use crate::rules::Rules;
 use fl_arena::{Arena, Cursor};
 use fl_order::{LockAsk, NoMemory};
+use fl_ranges::{Key, Kind, Range};
 use std::alloc::Global;
 use std::marker::Model;
 
@@ -134,6 +140,90 @@ impl Parked {
         let claim = self.claims.remove(&mut cursor);
         self.on_nodes[bucket(claim.request.node)] -= 1;
         Some(claim)
+    }
+
+    /// The same of those requests before which, by these rules, no older one goes.
+    pub fn take_free<F: Fn(&Claim) -> bool>(&mut self, rules: Rules, test: F) -> Option<Claim>
+        requires { F.IsAlwaysCallable test }
+        ensures { (p : Request → Bool) → Tests F.Fn (λ (claim : Claim). p claim.request) test → MatchOption result
+            ((taken_behind (passes_free rules p) [] self.old ≡ None) × (self.new ≡ self.old))
+            (λ taken. taken_behind (passes_free rules p) [] self.old ≡ Some (taken.request, self.new)) }
+    {
+        if !rules.fair {
+            return self.take_first(test);
+        }
+        let mut cursor = first_free(&self.claims, test);
+        if self.claims.item(&cursor).is_none() {
+            return None;
+        }
+        let claim = self.claims.remove(&mut cursor);
+        self.on_nodes[bucket(claim.request.node)] -= 1;
+        Some(claim)
+    }
+
+    /// Whether some request goes, under fair rules, before one for this lock which is younger.
+    pub fn goes_before(&self, key: &Key, range: &Range, kind: Kind) -> bool
+        ensures { result ≡ list_any
+            (goes_first (record { key = key.now; start = range.now.start; end = range.now.end; kind = kind }))
+            (wishes self.now) }
+    {
+        let wanted = Wanted {
+            key: *key,
+            range: *range,
+            kind,
+            place: 0,
+        };
+        let cursor = self
+            .claims
+            .first_where(0, |claim| goes_before(claim, &wanted));
+        self.claims.item(&cursor).is_some()
+    }
+}
+
+// The first request that passes the test and before which no older one goes, or the end.
+fn first_free<F: Fn(&Claim) -> bool>(claims: &Arena<Claim>, test: F) -> Cursor
+    requires chain { 0 < length claims.now.chains }
+    requires callable { F.IsAlwaysCallable test }
+    ensures at { result ≡ cursor_at claims.now 0 result.index }
+    ensures first { (p : Request → Bool) → Tests F.Fn (λ (claim : Claim). p claim.request) test →
+        IsFirstBehind (passes_free (record { fair = true }) p) (requests_of claims.now) result.index }
+{
+    let mut cursor = claims.cursor(0);
+    while let Some(claim) = claims.item(&cursor) {
+        if test(claim) && !is_behind(claims, claim, cursor.index) {
+            break;
+        }
+        claims.step(&mut cursor);
+    }
+    cursor
+}
+
+// Whether one of the requests before this place goes before this one.
+fn is_behind(claims: &Arena<Claim>, claim: &Claim, place: usize) -> bool
+    requires chain { 0 < length claims.now.chains }
+    requires within { place ≤ length (items claims.now 0) }
+    ensures { result ≡ is_behind (record { fair = true }) (take place (requests_of claims.now)) claim.now.request }
+{
+    let Some(mark) = claim.mark else {
+        return false;
+    };
+    let wanted = Wanted {
+        key: claim.key,
+        range: claim.range,
+        kind: mark.kind,
+        place: 0,
+    };
+    let first = claims.first_where(0, |older| goes_before(older, &wanted));
+    first.index < place
+}
+
+// Whether a request that is older goes before one for this lock.
+fn goes_before(older: &Claim, wanted: &Wanted) -> bool
+    ensures { result ≡ list_any (goes_first (meant wanted.now)) (wishes (older.now.request ∷ [])) }
+{
+    match wanted_of(older) {
+        Some(older) => goes_first(wanted, &older),
+        None => false,
     }
 }
 

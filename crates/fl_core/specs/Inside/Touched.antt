@@ -3,8 +3,9 @@ use Rattle.std.specs.Prelude.{◌≡◌, ℕ, ◌==◌, ◌&&◌, Bool, true, fa
 use Rattle.fl_waiting.specs.LockRequest.{key_of}
 use Rattle.fl_waiting.specs.Waiting.{waits, AllBehind}
 use Rattle.fl_waiting.specs.declared.parked.Request.{Request}
+use Rattle.fl_waiting.specs.declared.rules.Rules.{Rules}
 use Rattle.fl_core.specs.declared.settling.Touched.{Touched}
-use Rattle.fl_core.specs.declared.settling.Touched.TheVariants.{Nothing, OfClass, OfNode}
+use Rattle.fl_core.specs.declared.settling.Touched.TheVariants.{Nothing, OfClass, OfNode, Anything}
 use Rattle.fl_order.specs.declared.errno.Errno.{Errno}
 use Rattle.fl_order.specs.declared.told.Answer.{Answer}
 use Rattle.fl_order.specs.declared.order.Op.{Op}
@@ -18,20 +19,23 @@ abbrev pub concerns : Touched → ℕ → Class → Bool
 concerns Nothing of class = false
 concerns (OfClass node own) of class = (class_number class == class_number own) && (of == node)
 concerns (OfNode node) of class = of == node
+concerns Anything of class = true
 
 -- those that the request waits for may
 abbrev pub concerns_request : Touched → Request → Bool
 concerns_request t r = concerns t r.node (key_of r.node r.ask).class
 
 -- each other request waits
-abbrev pub OthersWait : Touched → Marking → List Request → Type 0
-OthersWait t m parked = AllBehind (λ older r. concerns_request t r ≡ false → waits m older r ≡ true) [] parked
+abbrev pub OthersWait : Touched → Rules → Marking → List Request → Type 0
+OthersWait t rules m parked =
+    AllBehind (λ older r. concerns_request t r ≡ false → waits rules m older r ≡ true) [] parked
 
 -- a request has to wait, and waits now behind the others
-pub record WaitsNow (before after : Marking) (parked parked_after : List Request) (r : Request) : Type 0 where
+pub record WaitsNow (rules : Rules) (before after : Marking) (parked parked_after : List Request) (r : Request)
+    : Type 0 where
   pub locks : after ≡ before
   pub last : parked_after ≡ parked ++ r ∷ []
-  pub waits : waits before parked r ≡ true
+  pub waits : waits rules before parked r ≡ true
 
 -- what an order touches that isn't refused
 abbrev pub touched_if_done : ℕ → Op → Touched

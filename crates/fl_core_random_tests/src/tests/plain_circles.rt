@@ -46,10 +46,10 @@ fn closure(waits: Waits) -> Waits {
 }
 
 impl PlainLocks {
-    // Whether a request of owner p that waits is excluded by a mark of owner q.
+    // Whether a request of owner p that waits is kept waiting by owner q.
     fn waits_for(&self, p: u64, q: u64) -> bool {
-        for request in self.parked.iter() {
-            if request.ask.owner == p && self.hinders(request, q) {
+        for (place, request) in self.parked.iter().enumerate() {
+            if request.ask.owner == p && self.hinders(request, place, q) {
                 return true;
             }
         }
@@ -66,11 +66,11 @@ impl PlainLocks {
         waits
     }
 
-    // Whether an owner who excludes the request waits for the one who asks.
+    // Whether an owner who keeps the request waiting waits for the one who asks.
     pub(super) fn closes(&self, request: &Request, waits: &Waits) -> bool {
         for (p, row) in waits.iter().enumerate() {
             let asker = row.get((request.ask.owner % 4) as usize);
-            if asker == Some(&true) && self.hinders(request, p as u64) {
+            if asker == Some(&true) && self.hinders(request, self.parked.len(), p as u64) {
                 return true;
             }
         }

@@ -34,6 +34,10 @@ pub(super) struct Counts {
     pub(super) granted: u64,
     // Those that are older than the one that was granted just before, and so were freed by it.
     pub(super) freed_by_grants: u64,
+    // Those that wait though no lock excludes them, behind an older one.
+    pub(super) parked_behind: u64,
+    // Those that were granted as another was interrupted.
+    pub(super) freed_by_interrupts: u64,
     pub(super) closed: u64,
     pub(super) interrupted: u64,
     pub(super) refused: u64,
@@ -44,6 +48,7 @@ pub(super) struct Counts {
 
 #[derive(Drop)]
 pub(super) struct PlainLocks {
+    fair: bool,
     pub(super) directory: Plain,
     marks: [Option<Mark>; PLACES],
     pub(super) parked: Vec<Request>,
@@ -75,6 +80,20 @@ fn excludes(mark: Option<Mark>, kind: u32) -> bool {
     }
 }
 
+// Whether an older request goes before this one by the fair rule: of another owner, both for record locks of one node with a
+// byte in common, one of them for a write lock.
+fn goes_first(request: &Request, older: &Request) -> bool {
+    let (asked, first) = (&request.ask, &older.ask);
+    let meets = asked.start <= first.end && first.start <= asked.end;
+    let kinds = asked.kind == WRITE || asked.kind == READ && first.kind == WRITE;
+    asked.flags == 0
+        && first.flags == 0
+        && asked.owner != first.owner
+        && request.node == older.node
+        && meets
+        && kinds
+}
+
 // A request that takes away all of the owner's locks of a class on a node.
 fn unlock_all(node: u64, owner: u64, flags: u32) -> Request {
     Request {
@@ -93,8 +112,9 @@ fn unlock_all(node: u64, owner: u64, flags: u32) -> Request {
 }
 
 impl PlainLocks {
-    pub(super) fn new(alloc: Global) -> PlainLocks {
+    pub(super) fn new(alloc: Global, fair: bool) -> PlainLocks {
         PlainLocks {
+            fair,
             directory: Plain::new(alloc),
             marks: [None; PLACES],
             parked: Vec::new(alloc),
@@ -104,6 +124,8 @@ impl PlainLocks {
                 most: 0,
                 granted: 0,
                 freed_by_grants: 0,
+                parked_behind: 0,
+                freed_by_interrupts: 0,
                 closed: 0,
                 interrupted: 0,
                 refused: 0,
@@ -128,6 +150,13 @@ impl PlainLocks {
             _ => self.take_other(rt, order),
         }
         self.settle(rt);
+        if matches!(order.op, Op::Interrupt(_)) {
+            let granted = self.tolds.iter().filter(|told| told.result.is_ok()).count() as u64;
+            self.counts.freed_by_interrupts = self
+                .counts
+                .freed_by_interrupts
+                .saturating_add(granted);
+        }
     }
 
     fn tell(&mut self, rt: &impl Abort, unique: u64, reply: Reply) {
@@ -192,8 +221,29 @@ impl PlainLocks {
         self.excluder(request).is_some()
     }
 
+    // Whether one of the parked requests before this place goes first, by the fair rule, of those of owners who pass the test.
+    fn is_behind(&self, request: &Request, place: usize, owner: Option<u64>) -> bool {
+        for (at, older) in self.parked.iter().enumerate() {
+            let named = owner.is_none_or(|owner| owner == older.ask.owner);
+            if self.fair && at < place && named && goes_first(request, older) {
+                return true;
+            }
+        }
+        false
+    }
+
+    // Whether a request waits that stands at this place, or would.
+    fn must_wait(&self, request: &Request, place: usize) -> bool {
+        self.is_excluded(request) || self.is_behind(request, place, None)
+    }
+
+    // Whether this owner keeps a request for a record lock waiting that stands at this place, or would.
+    pub(super) fn hinders(&self, request: &Request, place: usize, owner: u64) -> bool {
+        self.excludes_by(request, owner) || self.is_behind(request, place, Some(owner))
+    }
+
     // Whether a mark of this owner excludes a request for a record lock.
-    pub(super) fn hinders(&self, request: &Request, owner: u64) -> bool {
+    fn excludes_by(&self, request: &Request, owner: u64) -> bool {
         if request.ask.flags == 1 || owner == request.ask.owner {
             return false;
         }
@@ -231,6 +281,9 @@ impl PlainLocks {
     }
 
     fn park(&mut self, rt: &impl Abort, request: &Request) {
+        if !self.is_excluded(request) {
+            self.counts.parked_behind = self.counts.parked_behind.saturating_add(1);
+        }
         self.counts.parked = self.counts.parked.saturating_add(1);
         assert!(rt; self.parked.push(*request).is_ok());
         self.counts.most = self.counts.most.max(self.parked.len());
@@ -241,7 +294,9 @@ impl PlainLocks {
         let unique = request.unique;
         if let Some(errno) = self.error_of(request) {
             self.tell(rt, unique, Err(errno));
-        } else if !self.is_excluded(request) {
+        } else if !self.is_excluded(request)
+            && !(may_wait && self.must_wait(request, self.parked.len()))
+        {
             self.set(request);
             self.tell(rt, unique, Ok(Answer::Done));
         } else if !may_wait {
@@ -385,7 +440,7 @@ impl PlainLocks {
         None
     }
 
-    // Grants the oldest request that nothing excludes, and begins again, until each is excluded.
+    // Grants the oldest request that needn't wait, and begins again, until each waits.
     fn settle(&mut self, rt: &impl Abort) {
         let mut last = 0;
         for _ in 0..self.parked.len() {
@@ -409,7 +464,7 @@ impl PlainLocks {
 
     fn first_free(&self) -> Option<(usize, Request)> {
         for (place, request) in self.parked.iter().enumerate() {
-            if !self.is_excluded(request) {
+            if !self.must_wait(request, place) {
                 return Some((place, *request));
             }
         }

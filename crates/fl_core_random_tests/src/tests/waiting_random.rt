@@ -2,7 +2,7 @@
 
 use super::plain_locks::{Counts, LAST, OWNERS, PlainLocks, request_of};
 use super::{READ, Server, UNLOCK, WRITE, name, order};
-use fl_core::Core;
+use fl_core::{Core, Rules};
 use fl_order::{Errno, LockAsk, Op, Order};
 use fl_ranges::{Class, Key, Kind, Range};
 use fl_testing::Numbers;
@@ -188,9 +188,9 @@ fn random_order(numbers: &mut Numbers, plain: &PlainLocks, turn: u64) -> Order {
 }
 
 // Two files, and so many orders. It gives what the plain program counted.
-fn run(rt: &impl Abort, alloc: Global, seed: u64, turns: u64) -> Counts {
-    let mut server = Server::new(rt, alloc);
-    let mut plain = PlainLocks::new(alloc);
+fn run(rt: &impl Abort, alloc: Global, rules: Rules, seed: u64, turns: u64) -> Counts {
+    let mut server = Server::new(rt, alloc, rules);
+    let mut plain = PlainLocks::new(alloc, rules.fair);
     make_files(rt, &mut server, &mut plain);
     take_turns(rt, &mut server, &mut plain, seed, turns);
     check_uniques(rt, &server.core, &plain, turns);
@@ -267,26 +267,55 @@ fn check_ends(rt: &impl Abort, counts: &Counts) {
     check_more(rt, counts.interrupted, 40, "were interrupted");
 }
 
-// Many were refused.
-fn check_refusals(rt: &impl Abort, counts: &Counts) {
+// Many were refused, and more than so many for long circles.
+fn check_refusals(rt: &impl Abort, counts: &Counts, long: u64) {
     check_more(rt, counts.refused, 15, "uniques were refused");
     check_more(rt, counts.deadlocks, 300, "circles were refused");
-    check_more(rt, counts.long_deadlocks, 8, "long circles were refused");
+    check_more(rt, counts.long_deadlocks, long, "long circles were refused");
 }
 
 // Each of these seeds brings about each thing often.
 fn run_all(rt: &impl Abort, alloc: Global, first: u64, end: u64) {
     for seed in first..end {
-        let counts = run(rt, alloc, seed, 3000);
+        let counts = run(rt, alloc, Rules { fair: false }, seed, 3000);
         check_waits(rt, &counts);
         check_ends(rt, &counts);
-        check_refusals(rt, &counts);
+        check_refusals(rt, &counts, 8);
+        assert_eq!(rt; counts.parked_behind, 0);
+        assert_eq!(rt; counts.freed_by_interrupts, 0);
+    }
+}
+
+// The same where requests wait behind older ones, too.
+fn run_fair(rt: &impl Abort, alloc: Global, first: u64, end: u64) {
+    for seed in first..end {
+        let counts = run(rt, alloc, Rules { fair: true }, seed, 3000);
+        check_waits(rt, &counts);
+        check_ends(rt, &counts);
+        check_refusals(rt, &counts, 3);
+        check_more(rt, counts.parked_behind, 10, "waited behind others alone");
+        check_more(
+            rt,
+            counts.freed_by_interrupts,
+            0,
+            "were freed by interrupts",
+        );
     }
 }
 
 #[test]
 fn waits_as_a_plain_program_does(rt: HostRuntime) {
     run_all(&rt, rt.alloc(), 0, 4);
+}
+
+#[test]
+fn waits_as_a_plain_program_does_by_fair_rules(rt: HostRuntime) {
+    run_fair(&rt, rt.alloc(), 0, 4);
+}
+
+#[test]
+fn waits_as_a_plain_program_does_by_fair_rules_and_other_numbers(rt: HostRuntime) {
+    run_fair(&rt, rt.alloc(), 4, 8);
 }
 
 #[test]

@@ -1,18 +1,44 @@
 -- What the search for a circle keeps of the parked requests.
-use Rattle.std.specs.Prelude.{ℕ, Bool, false, Option, Some, None, List, [], ◌∷◌, map, slice_index_or}
+use Rattle.std.specs.Prelude.{◌≡◌, ℕ, suc, Bool, false, ◌&&◌, ◌==◌, ◌<◌, nat_lt, Option, Some, None, List, [], ◌∷◌, length, map, slice_index_or}
+use Rattle.std.specs.List.{filter}
 use Rattle.std.specs.List.Sorted.{IsNonDecreasingBy}
-use Rattle.fl_waiting.specs.Circle.{behind, hinders}
-use Rattle.fl_waiting.specs.Waiting.{Wish}
+use Rattle.fl_waiting.specs.Circle.{Waiter, behind, hinders}
+use Rattle.fl_waiting.specs.Waiting.{Wish, goes_first}
 use Rattle.fl_waiting.specs.declared.circle.Wanted.{Wanted}
+use Rattle.fl_waiting.specs.declared.rules.Rules.{Rules}
 use Rattle.fl_ranges.specs.Marking.{Marking}
 
 -- what a lock that is wanted means
 abbrev pub meant : Wanted → Wish
 meant w = record { key = w.key; start = w.range.start; end = w.range.end; kind = w.kind }
 
--- this owner keeps it waiting, where no request is older; the older ones have no say
-abbrev pub hinders_alone : Marking → Wish → ℕ → Bool
-hinders_alone m w owner = hinders m (behind [] w) owner
+-- those of the wanted locks that were wanted before this one
+abbrev pub older_than : List Wanted → Wanted → List Wish
+older_than ws w = map meant (filter (λ (v : Wanted). nat_lt v.place w.place) ws)
+
+-- it waits behind those
+abbrev pub waiter_among : List Wanted → Wanted → Waiter
+waiter_among ws w = behind (older_than ws w) (meant w)
+
+-- this owner keeps it waiting, of the wanted locks by one that was wanted before
+abbrev pub hinders_among : Rules → Marking → List Wanted → Wanted → ℕ → Bool
+hinders_among rules m ws w owner = hinders rules m (waiter_among ws w) owner
+
+-- a lock was wanted before this one, and goes first
+abbrev pub precedes : Wanted → Wanted → Bool
+precedes w v = nat_lt v.place w.place && goes_first (meant w) (meant v)
+
+-- so was one by this owner
+abbrev pub precedes_by : Wanted → ℕ → Wanted → Bool
+precedes_by w owner v = (v.key.owner == owner) && precedes w v
+
+abbrev pub numbered : ℕ → Wanted → Wanted
+numbered n w = record w { place = n }
+
+-- they are numbered from this number on
+abbrev pub AreNumbered : ℕ → List Wanted → Type 0
+AreNumbered n [] = Unit {0}
+AreNumbered n (w ∷ ws) = (w.place ≡ n) × AreNumbered (suc n) ws
 
 -- as a list
 abbrev pub one_of : Option Wanted → List Wanted
@@ -25,6 +51,15 @@ is_set bits i = slice_index_or bits i false
 -- whose requests they are
 abbrev pub owners_of : List Wanted → List ℕ
 owners_of wanted = map (λ (w : Wanted). w.key.owner) wanted
+
+-- whose request stands at a place; 0 past the last
+abbrev pub owner_at : List Wanted → ℕ → ℕ
+owner_at ws i = slice_index_or (owners_of ws) i 0
+
+-- the places of one owner are all reached, or none is
+abbrev pub IsReachedByOwner : List Wanted → List Bool → Type 0
+IsReachedByOwner ws reached =
+    (i j : ℕ) → i < length ws → j < length ws → owner_at ws i ≡ owner_at ws j → is_set reached i ≡ is_set reached j
 
 -- they stand in the order of their owners
 abbrev pub IsByOwner : List Wanted → Type 0

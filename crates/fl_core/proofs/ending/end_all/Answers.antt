@@ -23,6 +23,7 @@ loop-claim-preserved c =
           ending_goes_on (error_of c.args.ending) (picks c.args.ending) _ _ _ _ _ _ c.in-Some.claim.request _ c.loop-claim.invariant.tolds taken
           (ap (λ e. ended_with e c.in-Some.claim.request) c.error_of.ensures) c.push.ensures;
       parked = sym w.failing ∙ c.loop-claim.invariant.parked;
+      none = λ none. absurd (cc none);
       room = omega (
         arith,
         c.loop-claim.invariant.room,
@@ -47,3 +48,8 @@ pub returns-clause-few : goal.returns-clause-few
 returns-clause-few c =
     let none = c.in_default.ensures (picks c.args.ending) (λ a r k. search rules) in
     omega (arith, c.loop-claim.invariant.room, ap length none.1)
+
+pub returns-clause-any : goal.returns-clause-any
+returns-clause-any c never =
+    let none = c.in_default.ensures (picks c.args.ending) (λ a r k. search rules) in
+    none.1 ∙ c.loop-claim.invariant.none never

@@ -1,4 +1,4 @@
-use Rattle.std.proofs.Common.{◌≡◌, ◌≤◌, ◌+◌, ◌++◌, not, length}
+use Rattle.std.proofs.Common.{◌≡◌, ◌≤◌, ◌+◌, ◌++◌, false, not, length}
 use Rattle.std.specs.List.{filter}
 use Rattle.fl_core.specs.Replies.{ended_all, error_of, picks}
 use Rattle.fl_core.proofs.ending.end_all.Given as goal
@@ -10,6 +10,7 @@ invariant-loop-claim l = record {
       l.initial.parked;
   parked : filter (λ r. not (picks l.ending r)) l.parked ≡ filter (λ r. not (picks l.ending r)) l.initial.parked;
   room : length l.tolds + length l.parked ≤ 257;
+  none : l.ended ≡ false → l.parked ≡ l.initial.parked;
 }
 
 abbrev pub decreases-loop-claim : goal.decreases-loop-claim

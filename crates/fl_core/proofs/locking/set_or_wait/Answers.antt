@@ -7,17 +7,17 @@ use Rattle.fl_waiting.specs.Waiting.{must_wait}
 use Rattle.fl_core.proofs.Requests.{asked_stroke, setlkw_is}
 use Rattle.fl_core.proofs.locking.set_or_wait.Goals as goal
 
-pub returns-then-not-is_excluded-clause-reply : goal.returns-then-not-is_excluded-clause-reply
-returns-then-not-is_excluded-clause-reply c =
+pub returns-then-not-must_wait-clause-reply : goal.returns-then-not-must_wait-clause-reply
+returns-then-not-must_wait-clause-reply c =
     let m = c.args.locks.now.marking in
     let ask = c.args.ask.now in
     let v : View = record { directory = c.args.directory.now; parked = c.args.parked.now } in
     let s = stroke_of c.args.node ask in
     let asked = asked_stroke c.args.node ask c.key_of-key.result c.in-Ok.range c.mark_of-mark.result c.key_of-key.ensures c.in-Ok.ensures.range
     c.mark_of-mark.ensures in
-    let free : must_wait m v.parked s (mark_of ask) ≡ false = (λ i. must_wait m v.parked (sym asked i) (sym c.mark_of-mark.ensures i)) ∙ sym c.is_excluded.ensures
-    ∙ c.if-not-is_excluded.true in
-    ap Some (c.store.ensures.reply ∙ ap (room_reply m) asked) ∙ sym (setlkw_is v m c.args.node ask None false _ _ c.in-Ok.ensures.passed free refl refl)
+    let free : must_wait c.args.rules m v.parked s (mark_of ask) ≡ false = (λ i. must_wait c.args.rules m v.parked (sym asked i) (sym c.mark_of-mark.ensures i)) ∙ sym c.must_wait.ensures.wait
+    ∙ c.if-not-must_wait.true in
+    ap Some (c.store.ensures.reply ∙ ap (room_reply m) asked) ∙ sym (setlkw_is c.args.rules v m c.args.node ask None false _ _ c.in-Ok.ensures.passed free refl refl)
 
 pub returns-then-is_deadlock-clause-reply : goal.returns-then-is_deadlock-clause-reply
 returns-then-is_deadlock-clause-reply c =
@@ -27,8 +27,8 @@ returns-then-is_deadlock-clause-reply c =
     let s = stroke_of c.args.node ask in
     let asked = asked_stroke c.args.node ask c.key_of-key.result c.in-Ok.range c.mark_of-mark.result c.key_of-key.ensures c.in-Ok.ensures.range
     c.mark_of-mark.ensures in
-    let held : must_wait m v.parked s (mark_of ask) ≡ true = (λ i. must_wait m v.parked (sym asked i) (sym c.mark_of-mark.ensures i)) ∙ sym c.is_excluded.ensures
-    ∙ c.if-not-is_excluded.false in
-    let circle : is_deadlock m v.parked s (mark_of ask) ≡ true = (λ i. is_deadlock m v.parked (sym asked i) (sym c.mark_of-mark.ensures i))
+    let held : must_wait c.args.rules m v.parked s (mark_of ask) ≡ true = (λ i. must_wait c.args.rules m v.parked (sym asked i) (sym c.mark_of-mark.ensures i)) ∙ sym c.must_wait.ensures.wait
+    ∙ c.if-not-must_wait.false in
+    let circle : is_deadlock c.args.rules m v.parked s (mark_of ask) ≡ true = (λ i. is_deadlock c.args.rules m v.parked (sym asked i) (sym c.mark_of-mark.ensures i))
     ∙ sym c.is_deadlock.ensures ∙ c.if-is_deadlock.true in
-    sym (setlkw_is v m c.args.node ask None true true _ c.in-Ok.ensures.passed held circle refl)
+    sym (setlkw_is c.args.rules v m c.args.node ask None true true _ c.in-Ok.ensures.passed held circle refl)

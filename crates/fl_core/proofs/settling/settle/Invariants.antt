@@ -9,8 +9,8 @@ use Rattle.fl_core.proofs.settling.settle.Given as goal
 -- what was told and is left to tell is the whole
 abbrev pub invariant-loop-claim : goal.invariant-loop-claim
 invariant-loop-claim l = record {
-  so_far : IsSettling (present l.initial.locks.marking l.initial.parked) (present l.locks.marking l.parked) l.initial.tolds l.tolds;
-  others : OthersWait l.touched l.locks.marking l.parked;
+  so_far : IsSettling l.rules (present l.initial.locks.marking l.initial.parked) (present l.locks.marking l.parked) l.initial.tolds l.tolds;
+  others : OthersWait l.touched l.rules l.locks.marking l.parked;
   apart : AreApart l.initial.parked → AreApart l.parked;
   room : length l.tolds + length l.parked ≤ 257;
   lawful : IsLawful l.initial.locks.marking → IsLawful l.locks.marking;

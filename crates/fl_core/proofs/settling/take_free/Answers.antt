@@ -11,8 +11,8 @@ pub returns : goal.returns
 returns c =
     let m = c.args.locks.now.marking in
     let test = λ (r : Request). concerns_request c.args.touched r && not (waits_alone m r) in
-    let found = free_found c.args.touched m c.args.parked.now c.requires in
-    go c.args.parked.now c.take_first.new.self c.take_first.result (c.take_first.ensures test (λ a r k. search rules)) found
+    let found = free_found c.args.touched c.args.rules m c.args.parked.now c.requires in
+    go c.args.parked.now c.take_free.new.self c.take_free.result (c.take_free.ensures test (λ a r k. search rules)) found
   where
     go : (old new : List Request) (o : Option Claim) {taken free : Option (Request × List Request)}
         → MatchOption o ((taken ≡ None) × (new ≡ old)) (λ claim. taken ≡ Some (claim.request, new)) → taken ≡ free

@@ -1,9 +1,10 @@
 use Rattle.std.proofs.Common.{rules, ◌≡◌, ◌∙◌, Some, None, take, slice_get, refl, sym, ap, arith}
+use Rattle.std.proofs.lemmas.List.{length-take-le}
 use Rattle.std.specs.Option.{option_copied}
 use Rattle.fl_arena.specs.Chains.{items}
 use Rattle.fl_waiting.specs.Waiting.{wishes}
 use Rattle.fl_waiting.specs.Inside.Claims.{requests_of}
-use Rattle.fl_waiting.proofs.Copies.{copied_more, is_next, none_left}
+use Rattle.fl_waiting.proofs.Copies.{copied_more, numbered_on, is_next, none_left}
 use Rattle.fl_waiting.proofs.circle.copy_wanted.Goals as goal
 
 pub loop-claim-preserved : goal.loop-claim-preserved
@@ -19,6 +20,8 @@ loop-claim-preserved c =
       within = omega (arith, next.index, next.inside);
       few = omega (arith, next.index, c.put-count.ensures.few, so_far.few);
       long = search rules;
+      numbered = numbered_on c.loop-claim.room c.put-count.new.room c.loop-claim.count c.put-count.result c.wanted_of.result so_far.numbered
+          (length-take-le c.loop-claim.count c.loop-claim.room (omega (arith, so_far.long, so_far.few, so_far.within, next.inside, c.requires.few))) c.put-count.ensures.put;
       copied = copied_more c.loop-claim.room c.put-count.new.room c.loop-claim.count c.put-count.result c.wanted_of.result (requests_of a) i claim.request
           so_far.copied c.put-count.ensures.put c.wanted_of.ensures next.there next.value
           ∙ ap (λ n. wishes (take n (requests_of a))) (sym next.index);

@@ -3,7 +3,7 @@ use Rattle.fl_arena.specs.Chains.{items}
 use Rattle.fl_arena.specs.Cursors.{cursor_at}
 use Rattle.fl_waiting.specs.Waiting.{wishes}
 use Rattle.fl_waiting.specs.Inside.Claims.{requests_of}
-use Rattle.fl_waiting.specs.Inside.Searching.{meant}
+use Rattle.fl_waiting.specs.Inside.Searching.{meant, AreNumbered}
 use Rattle.fl_waiting.proofs.circle.copy_wanted.Given as goal
 
 abbrev pub invariant-loop-claim : goal.invariant-loop-claim
@@ -12,6 +12,7 @@ invariant-loop-claim l = record {
   within : l.cursor.index ≤ length (items l.claims 0);
   few : l.count ≤ l.cursor.index;
   long : length l.room ≡ 256;
+  numbered : AreNumbered 0 (take l.count l.room);
   copied : map meant (take l.count l.room) ≡ wishes (take l.cursor.index (requests_of l.claims));
 }
 

@@ -1,21 +1,23 @@
 use Rattle.std.proofs.Common.{◌∙◌, ℕ, Bool, false, length, take, replicate, sym, subst, arith}
 use Rattle.std.proofs.lemmas.List.{length-take-le, length-replicate}
 use Rattle.std.specs.List.Sorted.{IsNonDecreasing}
-use Rattle.fl_waiting.specs.Inside.Searching.{meant, hinders_alone}
-use Rattle.fl_waiting.specs.Waiting.{owner_of}
+use Rattle.fl_waiting.specs.Inside.Searching.{hinders_among, waiter_among}
 use Rattle.fl_ranges.specs.Conflict.{AreFound}
 use Rattle.fl_waiting.specs.declared.circle.Wanted.{Wanted}
-use Rattle.fl_waiting.proofs.Circles.{leads_alike}
 use Rattle.fl_waiting.proofs.Searches.{rising, unset_part, starts, finds, goes_on, ends, fewer_left}
-use Rattle.fl_waiting.proofs.Wishes.{alone_not_itself}
+use Rattle.fl_waiting.proofs.Wishes.{hinders_not_itself}
 use Rattle.fl_waiting.proofs.circle.leads_back.Goals as goal
 
 pub reach-requires-clause-sorted : goal.reach-requires-clause-sorted
 reach-requires-clause-sorted c = subst IsNonDecreasing (sym c.owners_of-room.ensures) (rising c.args.wanted.now c.requires.sorted)
 
+pub reach-requires-clause-by_owner : goal.reach-requires-clause-by_owner
+reach-requires-clause-by_owner c = λ i j h k same.
+    unset_part (length c.args.wanted.now) 256 i ∙ sym (unset_part (length c.args.wanted.now) 256 j)
+
 pub loop-place-init : goal.loop-place-init
 loop-place-init c =
-    let h : Wanted → ℕ → Bool = λ w. hinders_alone c.args.locks.now.marking (meant w) in
+    let h : Wanted → ℕ → Bool = hinders_among c.args.rules c.args.locks.now.marking c.args.wanted.now in
     starts h c.args.wanted.now c.args.asked.now (take (length c.args.wanted.now) (replicate 256 false)) c.reach.new.reached
     (unset_part (length c.args.wanted.now) 256) (c.reach.auto.reached
     ∙ length-take-le (length c.args.wanted.now) (replicate 256 false) (omega (arith, length-replicate 256 false, c.requires.few)))
@@ -23,11 +25,9 @@ loop-place-init c =
 
 pub returns-then-waits_for : goal.returns-then-waits_for
 returns-then-waits_for c =
-    let h : Wanted → ℕ → Bool = λ w. hinders_alone c.args.locks.now.marking (meant w) in
-    let asked = c.args.asked.now in
-    sym (finds h c.args.wanted.now asked c.loop-place.reached c.loop-place.visited c.loop-place.invariant c.in-Some.place
+    let h : Wanted → ℕ → Bool = hinders_among c.args.rules c.args.locks.now.marking c.args.wanted.now in
+    sym (finds h c.args.wanted.now c.args.asked.now c.loop-place.reached c.loop-place.visited c.loop-place.invariant c.in-Some.place
     c.index-wanted-place.result (omega (arith, c.loop-place.invariant.wide, c.in-Some.ensures.0)) (sym c.index-wanted-place.is) c.in-Some.ensures.1 (sym c.if-waits_for.ensures))
-    ∙ leads_alike meant owner_of (hinders_alone c.args.locks.now.marking) c.args.wanted.now asked asked.key.owner
 
 pub reach-requires-in-Some-clause-sorted : goal.reach-requires-in-Some-clause-sorted
 reach-requires-in-Some-clause-sorted c = subst IsNonDecreasing (sym c.owners_of-room.ensures) (rising c.args.wanted.now c.requires.sorted)
@@ -38,7 +38,7 @@ loop-place-smaller c =
 
 pub loop-place-preserved : goal.loop-place-preserved
 loop-place-preserved c =
-    let h : Wanted → ℕ → Bool = λ w. hinders_alone c.args.locks.now.marking (meant w) in
+    let h : Wanted → ℕ → Bool = hinders_among c.args.rules c.args.locks.now.marking c.args.wanted.now in
     goes_on h c.args.wanted.now c.args.asked.now c.loop-place.reached c.loop-place.visited
     c.loop-place.invariant c.reach-in-Some.new.reached c.in-Some.place c.index-wanted-place.result
     (omega (arith, c.loop-place.invariant.wide, c.in-Some.ensures.0)) (sym c.index-wanted-place.is) c.in-Some.ensures.1 (sym c.if-waits_for.ensures)
@@ -48,6 +48,6 @@ loop-place-preserved c =
 pub returns : goal.returns
 returns c =
     let asked = c.args.asked.now in
-    sym (ends (λ w. hinders_alone c.args.locks.now.marking (meant w)) c.args.wanted.now asked c.loop-place.reached c.loop-place.visited
-    c.loop-place.invariant (λ i h. c.in_default.ensures i (omega (arith, c.loop-place.invariant.wide, h))) (alone_not_itself c.args.locks.now.marking (meant asked)))
-    ∙ leads_alike meant owner_of (hinders_alone c.args.locks.now.marking) c.args.wanted.now asked asked.key.owner
+    sym (ends (hinders_among c.args.rules c.args.locks.now.marking c.args.wanted.now) c.args.wanted.now asked c.loop-place.reached c.loop-place.visited
+    c.loop-place.invariant (λ i h. c.in_default.ensures i (omega (arith, c.loop-place.invariant.wide, h)))
+    (hinders_not_itself c.args.rules c.args.locks.now.marking (waiter_among c.args.wanted.now asked)))

@@ -11,19 +11,19 @@ pub returns-then-has-clause-replies : goal.returns-then-has-clause-replies
 returns-then-has-clause-replies c is =
     let order = c.args.order.now in
     let p : Snapshot = c.args.self.now in
-    let waiting : AllWait p.marking p.view.parked = subst (λ (t : Snapshot). AllWait t.marking t.view.parked) c.self.view_is c.self.invariant.0 in
+    let waiting : AllWait p.rules p.marking p.view.parked = subst (λ (t : Snapshot). AllWait t.rules t.marking t.view.parked) c.self.view_is c.self.invariant.0 in
     let reads : only_reads order.op ≡ true = c.in_ok-result.ensures.reads.0 refl in
     let found : is_parked order.unique p.view.parked ≡ true = ap (λ (t : Snapshot). is_parked order.unique t.view.parked) (sym c.self.view_is)
     ∙ ap (λ (i : Inside). is_parked order.unique i.parts.view.parked) (sym c.self-inside.view_is) ∙ sym c.has.ensures.found ∙ c.if-has.true in
     reads_replies order p waiting reads
-    ∙ ap (λ b. own_replies order (cond b (taken_reply order.op) (reply_to p.view p.marking order order.op))) found
+    ∙ ap (λ b. own_replies order (cond b (taken_reply order.op) (reply_to p.rules p.view p.marking order order.op))) found
     ∙ ap (own_replies order) (reads_refused order.op reads)
 
 pub returns-then-has-clause-unchanged : goal.returns-then-has-clause-unchanged
 returns-then-has-clause-unchanged c is =
     let order = c.args.order.now in
     let p : Snapshot = c.args.self.now in
-    let waiting : AllWait p.marking p.view.parked = subst (λ (t : Snapshot). AllWait t.marking t.view.parked) c.self.view_is c.self.invariant.0 in
+    let waiting : AllWait p.rules p.marking p.view.parked = subst (λ (t : Snapshot). AllWait t.rules t.marking t.view.parked) c.self.view_is c.self.invariant.0 in
     let reads : only_reads order.op ≡ true = c.in_ok-result.ensures.reads.0 refl in
     reads_next order p waiting reads
 
@@ -31,19 +31,19 @@ pub returns-clause-replies : goal.returns-clause-replies
 returns-clause-replies c is =
     let order = c.args.order.now in
     let p : Snapshot = c.args.self.now in
-    let waiting : AllWait p.marking p.view.parked = subst (λ (t : Snapshot). AllWait t.marking t.view.parked) c.self.view_is c.self.invariant.0 in
+    let waiting : AllWait p.rules p.marking p.view.parked = subst (λ (t : Snapshot). AllWait t.rules t.marking t.view.parked) c.self.view_is c.self.invariant.0 in
     let reads : only_reads order.op ≡ true = c.in_ok-result.ensures.reads.0 refl in
     let found : is_parked order.unique p.view.parked ≡ false = ap (λ (t : Snapshot). is_parked order.unique t.view.parked) (sym c.self.view_is)
     ∙ ap (λ (i : Inside). is_parked order.unique i.parts.view.parked) (sym c.self-inside.view_is) ∙ sym c.has.ensures.found ∙ c.if-has.false in
     reads_replies order p waiting reads
-    ∙ ap (λ b. own_replies order (cond b (taken_reply order.op) (reply_to p.view p.marking order order.op))) found
-    ∙ ap (λ (t : Snapshot). own_replies order (reply_to t.view t.marking order order.op)) (sym c.self.view_is)
+    ∙ ap (λ b. own_replies order (cond b (taken_reply order.op) (reply_to p.rules p.view p.marking order order.op))) found
+    ∙ ap (λ (t : Snapshot). own_replies order (reply_to t.rules t.view t.marking order order.op)) (sym c.self.view_is)
     ∙ ap (own_replies order) (sym (c.in_ok-result.ensures.reply refl))
 
 pub returns-clause-unchanged : goal.returns-clause-unchanged
 returns-clause-unchanged c is =
     let order = c.args.order.now in
     let p : Snapshot = c.args.self.now in
-    let waiting : AllWait p.marking p.view.parked = subst (λ (t : Snapshot). AllWait t.marking t.view.parked) c.self.view_is c.self.invariant.0 in
+    let waiting : AllWait p.rules p.marking p.view.parked = subst (λ (t : Snapshot). AllWait t.rules t.marking t.view.parked) c.self.view_is c.self.invariant.0 in
     let reads : only_reads order.op ≡ true = c.in_ok-result.ensures.reads.0 refl in
     reads_next order p waiting reads

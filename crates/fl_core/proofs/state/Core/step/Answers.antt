@@ -1,7 +1,7 @@
 use Rattle.std.proofs.Common.{◌≡◌, ◌++◌, ◌≤◌, ◌∙◌, true, length, sym, subst, ap, arith}
 use Rattle.fl_core.specs.Effects.{by_reply, replied, recorded, made}
-use Rattle.fl_core.specs.Inside.Touched.{touched_by, OthersWait}
-use Rattle.fl_core.specs.Replies.{own_replies, ended_by, ending_of, reply_to}
+use Rattle.fl_core.specs.Inside.Touched.{OthersWait}
+use Rattle.fl_core.specs.Replies.{own_replies, ended_by, reply_to}
 use Rattle.fl_core.specs.State.{Snapshot, snapshot_of}
 use Rattle.fl_core.specs.Step.{settling, ChangesNothing}
 use Rattle.fl_core.specs.declared.state.Core.TheInside.{Inside}
@@ -19,7 +19,7 @@ returns-then-has-clause-replies c =
     let p : Snapshot = c.args.self.now in
     let taken : is_parked order.unique p.view.parked ≡ true = ap (λ (t : Snapshot). is_parked order.unique t.view.parked) (sym c.self.view_is)
     ∙ ap (λ (i : Inside). is_parked order.unique i.parts.view.parked) (sym c.self-inside.view_is) ∙ sym c.has.ensures.found ∙ c.if-has.true in
-    let waiting : AllWait p.marking p.view.parked = subst (λ (t : Snapshot). AllWait t.marking t.view.parked) c.self.view_is c.self.invariant.0 in
+    let waiting : AllWait p.rules p.marking p.view.parked = subst (λ (t : Snapshot). AllWait t.rules t.marking t.view.parked) c.self.view_is c.self.invariant.0 in
     c.tell.ensures ∙ ap (own_replies order) c.refusal.ensures ∙ sym (steps.refused_replies order p taken waiting)
 
 pub returns-then-has-clause-next : goal.returns-then-has-clause-next
@@ -28,7 +28,7 @@ returns-then-has-clause-next c =
     let p : Snapshot = c.args.self.now in
     let taken : is_parked order.unique p.view.parked ≡ true = ap (λ (t : Snapshot). is_parked order.unique t.view.parked) (sym c.self.view_is)
     ∙ ap (λ (i : Inside). is_parked order.unique i.parts.view.parked) (sym c.self-inside.view_is) ∙ sym c.has.ensures.found ∙ c.if-has.true in
-    let waiting : AllWait p.marking p.view.parked = subst (λ (t : Snapshot). AllWait t.marking t.view.parked) c.self.view_is c.self.invariant.0 in
+    let waiting : AllWait p.rules p.marking p.view.parked = subst (λ (t : Snapshot). AllWait t.rules t.marking t.view.parked) c.self.view_is c.self.invariant.0 in
     sym (steps.refused_next order p taken waiting)
 
 pub returns-then-has-clause-an_error_changes_nothing : goal.returns-then-has-clause-an_error_changes_nothing
@@ -39,8 +39,8 @@ returns-then-has-clause-an_error_changes_nothing c =
 
 -- ---- it isn't
 
-pub end-requires : goal.end-requires
-end-requires c =
+pub end-touched-requires : goal.end-touched-requires
+end-touched-requires c =
     let order = c.args.order.now in
     let p : Snapshot = c.args.self.now in
     let own = c.take-own.result in
@@ -52,49 +52,41 @@ end-requires c =
 
 pub settle-requires-clause-others : goal.settle-requires-clause-others
 settle-requires-clause-others c =
-    let order = c.args.order.now in
-    let p : Snapshot = c.args.self.now in
-    let own = c.take-own.result in
     let s : Snapshot = c.take-own.new.self in
-    let q : Snapshot = c.end.new.self in
-    let others_s = c.take-own.ensures.others c.self.invariant.0 in
-    let others_q : OthersWait (touched_by order.node order.op own) q.marking q.view.parked =
-    subst (λ (t : Snapshot). OthersWait (touched_by order.node order.op own) t.marking t.view.parked) (sym c.end.ensures.parked)
-    (steps.others_left (touched_by order.node order.op own) s.marking s.view.parked (ending_of order.op own) others_s) in
-    subst (λ t. OthersWait t q.marking q.view.parked) (sym c.touched_by.ensures) others_q
+    c.end-touched.ensures.others (subst (λ t. OthersWait t s.rules s.marking s.view.parked) (sym c.touched_by.ensures) (c.take-own.ensures.others c.self.invariant.0))
 
 -- what is known of the parts before the order, after its own step, and before settling
-known : (c : goal.After-settle) → steps.IsFresh c.args.order.now c.take-own.result c.args.self.now c.take-own.new.self c.end.new.self
+known : (c : goal.After-settle) → steps.IsFresh c.args.order.now c.take-own.result c.args.self.now c.take-own.new.self c.end-touched.new.self
 known c =
     let order = c.args.order.now in
     record {
       fresh = ap (λ (t : Snapshot). is_parked order.unique t.view.parked) (sym c.self.view_is)
           ∙ ap (λ (i : Inside). is_parked order.unique i.parts.view.parked) (sym c.self-inside.view_is) ∙ sym c.has.ensures.found ∙ c.if-has.false;
-      own_is = c.take-own.ensures.reply ∙ ap (λ (t : Snapshot). reply_to t.view t.marking order order.op) c.self.view_is;
+      own_is = c.take-own.ensures.reply ∙ ap (λ (t : Snapshot). reply_to t.rules t.view t.marking order order.op) c.self.view_is;
       s_is = c.take-own.ensures.changed ∙ ap (made (by_reply order c.take-own.result)) c.self.view_is;
-      q_is = c.end.ensures.parked;
-      all = subst (λ (t : Snapshot). AllWait t.marking t.view.parked) c.self.view_is c.self.invariant.0;
+      q_is = c.end-touched.ensures.parked;
+      all = subst (λ (t : Snapshot). AllWait t.rules t.marking t.view.parked) c.self.view_is c.self.invariant.0;
       apart = subst (λ (t : Snapshot). AreApart t.view.parked) c.self.view_is c.self.invariant.1;
     }
 
 -- what is told by then
 told : (c : goal.After-settle) → c.settle.new.tolds
     ≡ (own_replies c.args.order.now c.take-own.result ++ ended_by c.take-own.new.self.view.parked c.args.order.now.op c.take-own.result)
-    ++ (settling c.end.new.self).tolds
+    ++ (settling c.end-touched.new.self).tolds
 told c =
     let order = c.args.order.now in
     let own = c.take-own.result in
     let s : Snapshot = c.take-own.new.self in
     c.settle.ensures.tolds
-    ∙ ap (λ xs. xs ++ (settling c.end.new.self).tolds)
-    (c.end.ensures.tolds ∙ ap (λ xs. xs ++ ended_by s.view.parked order.op own) c.tell-2.ensures)
+    ∙ ap (λ xs. xs ++ (settling c.end-touched.new.self).tolds)
+    (c.end-touched.ensures.tolds ∙ ap (λ xs. xs ++ ended_by s.view.parked order.op own) c.tell-2.ensures)
 
 pub returns-clause-replies : goal.returns-clause-replies
-returns-clause-replies c = told c ∙ sym (steps.replies_are c.args.order.now c.take-own.result c.args.self.now c.take-own.new.self c.end.new.self (known c))
+returns-clause-replies c = told c ∙ sym (steps.replies_are c.args.order.now c.take-own.result c.args.self.now c.take-own.new.self c.end-touched.new.self (known c))
 
 pub returns-clause-next : goal.returns-clause-next
 returns-clause-next c =
-    c.settle.ensures.present ∙ sym (steps.next_is c.args.order.now c.take-own.result c.args.self.now c.take-own.new.self c.end.new.self (known c))
+    c.settle.ensures.present ∙ sym (steps.next_is c.args.order.now c.take-own.result c.args.self.now c.take-own.new.self c.end-touched.new.self (known c))
 
 pub returns-clause-an_error_changes_nothing : goal.returns-clause-an_error_changes_nothing
 returns-clause-an_error_changes_nothing c =
@@ -102,11 +94,11 @@ returns-clause-an_error_changes_nothing c =
     let p : Snapshot = c.args.self.now in
     let own = c.take-own.result in
     let s : Snapshot = c.take-own.new.self in
-    let q : Snapshot = c.end.new.self in
+    let q : Snapshot = c.end-touched.new.self in
     let k = known c in
     subst (λ xs. ChangesNothing p order xs c.settle.new.self) (sym (told c))
     (subst (λ (t : Snapshot). ChangesNothing p order ((own_replies order own ++ ended_by s.view.parked order.op own) ++ (settling q).tolds) t)
-    (sym c.settle.ensures.present) (step_quiet order p k.fresh k.all own s q k.s_is k.q_is (steps.waiting order own p s q k)))
+    (sym c.settle.ensures.present) (step_quiet order p k.fresh k.all own s q k.s_is k.q_is (steps.settles_others order own p s q k)))
 
 pub returns-clause-recorded : goal.returns-clause-recorded
 returns-clause-recorded c s stands =
@@ -120,7 +112,7 @@ invariant_of-self c =
     let order = c.args.order.now in
     let p : Snapshot = c.args.self.now in
     let k = known c in
-    subst (λ (t : Snapshot). AllWait t.marking t.view.parked × AreApart t.view.parked) (sym (returns-clause-next c))
+    subst (λ (t : Snapshot). AllWait t.rules t.marking t.view.parked × AreApart t.view.parked) (sym (returns-clause-next c))
     (next_waits p order, next_apart p order k.all k.apart)
 
 pub returns-clause-waiting : goal.returns-clause-waiting
