@@ -3,7 +3,6 @@ use Rattle.std.specs.Prelude.{List, []}
 use Rattle.fl_ranges.specs.Marking.{Marking}
 use Rattle.fl_ranges.specs.Change.{Change, marking_after}
 use Rattle.fl_dir.specs.Directory.{Listing, opening_listing}
-use Rattle.fl_waiting.specs.Waiting.{standard}
 use Rattle.fl_waiting.specs.declared.parked.Request.{Request}
 use Rattle.fl_waiting.specs.declared.rules.Rules.{Rules}
 
@@ -18,17 +17,13 @@ pub record State : Type 0 where
   pub view : View
   pub changes : List Change
 
--- nothing is there yet
-abbrev pub opening_under : Rules → State
-opening_under rules = record {
+-- nothing is there yet, under these rules
+abbrev pub opening : Rules → State
+opening rules = record {
   rules = rules;
   view = record { directory = opening_listing; parked = [] };
   changes = [];
 }
-
--- under the rules by which no request waits behind another
-abbrev pub opening : State
-opening = opening_under standard
 
 -- what contracts see: the marking in the place of the changes
 pub record Snapshot : Type 0 where

@@ -6,7 +6,7 @@ ghost use Rattle.fl_core.specs.Effects.{by_reply, flushed, listing_replied, rele
 ghost use Rattle.fl_core.specs.Inside.Parts.{left_by, with_parked};
 ghost use Rattle.fl_core.specs.Inside.Touched.{touched_by, OthersWait};
 ghost use Rattle.fl_core.specs.Replies.{directory_reply, ended_by, file_reply, reply_to};
-ghost use Rattle.fl_core.specs.State.{opening_under, snapshot_of};
+ghost use Rattle.fl_core.specs.State.{opening, snapshot_of};
 ghost use Rattle.fl_core.specs.Step.{settling, with_present};
 ghost use Rattle.fl_waiting.specs.Waiting.{is_parked, AllWait, AreApart};
 ghost use Rattle.fl_dir.specs.Changes.{after_close};
@@ -58,7 +58,7 @@ impl Model for Parts {
 impl Parts {
     /// No files, no locks, and no request waits.
     pub(crate) fn new(alloc: Global, rules: Rules) -> Result<Parts, NoMemory>
-        ensures opening { IfOk result (λ p. p ≡ snapshot_of (opening_under rules)) }
+        ensures opening { IfOk result (λ p. p ≡ snapshot_of (opening rules)) }
         ensures lawful { IfOk result (λ p. IsLawful p.marking) }
     {
         Ok(Parts {

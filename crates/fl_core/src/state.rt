@@ -2,7 +2,7 @@
 
 ghost use Rattle.std.specs.Prelude.{◌≡◌, ◌≤◌, ◌↔◌, [], true, length, IfOk, IsSome};
 ghost use Rattle.fl_waiting.specs.Circle.{closes_circle};
-ghost use Rattle.fl_core.specs.State.{State, opening, opening_under, snapshot_of};
+ghost use Rattle.fl_core.specs.State.{State, opening, snapshot_of};
 ghost use Rattle.fl_core.specs.Effects.{replied, recorded};
 ghost use Rattle.fl_core.specs.Replies.{own_replies, taken_reply};
 ghost use Rattle.fl_core.specs.Step.{next, replies, ChangesNothing};
@@ -41,17 +41,9 @@ impl Model for Core {
 }
 
 impl Core {
-    /// No files and no locks, and no request waits behind another.
-    pub fn new(alloc: Global) -> Result<Core, NoMemory>
-        ensures opening { IfOk result (λ s. s ≡ snapshot_of opening) }
-        ensures lawful { IfOk result (λ s. IsLawful s.marking) }
-    {
-        Core::under(alloc, Rules { fair: false })
-    }
-
     /// No files and no locks. Requests will wait by these rules.
-    pub fn under(alloc: Global, rules: Rules) -> Result<Core, NoMemory>
-        ensures opening { IfOk result (λ s. s ≡ snapshot_of (opening_under rules)) }
+    pub fn new(alloc: Global, rules: Rules) -> Result<Core, NoMemory>
+        ensures opening { IfOk result (λ s. s ≡ snapshot_of (opening rules)) }
         ensures lawful { IfOk result (λ s. IsLawful s.marking) }
     {
         Ok(Core {

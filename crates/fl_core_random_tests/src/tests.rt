@@ -46,7 +46,7 @@ struct Server {
 impl Server {
     fn new(rt: &impl Abort, alloc: Global, rules: Rules) -> Server {
         Server {
-            core: Core::under(alloc, rules).expect(rt, "no memory"),
+            core: Core::new(alloc, rules).expect(rt, "no memory"),
             tolds: Tolds::new(alloc).expect(rt, "no memory"),
         }
     }

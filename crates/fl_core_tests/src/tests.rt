@@ -85,12 +85,12 @@ struct Server {
 
 impl Server {
     fn new(rt: &impl Abort, alloc: Global) -> Server {
-        Server::of(rt, alloc, Core::new(alloc).expect(rt, "no memory"))
+        Server::of(rt, alloc, Core::new(alloc, Rules::standard()).expect(rt, "no memory"))
     }
 
     // Requests wait by these rules.
     fn under(rt: &impl Abort, alloc: Global, rules: Rules) -> Server {
-        Server::of(rt, alloc, Core::under(alloc, rules).expect(rt, "no memory"))
+        Server::of(rt, alloc, Core::new(alloc, rules).expect(rt, "no memory"))
     }
 
     fn of(rt: &impl Abort, alloc: Global, core: Core) -> Server {
