@@ -18,4 +18,11 @@ impl Rules {
     {
         Rules { fair: false }
     }
+
+    /// The same rules, and fair or not.
+    pub fn with_fair(self, fair: bool) -> Rules
+        ensures { result ≡ record self { fair = fair } }
+    {
+        Rules { fair }
+    }
 }

@@ -126,7 +126,7 @@ fn take_turns(rt: &impl Abort, server: &mut Server, plain: &mut Plain, names: &N
 }
 
 fn run(rt: &impl Abort, alloc: Global, names: &Names, seed: u64) {
-    let mut server = Server::new(rt, alloc, Rules { fair: false });
+    let mut server = Server::new(rt, alloc, Rules::standard());
     let mut plain = Plain::new(alloc);
     take_turns(rt, &mut server, &mut plain, names, seed);
     compare_all(rt, &mut server, &mut plain);

@@ -277,7 +277,7 @@ fn check_refusals(rt: &impl Abort, counts: &Counts, long: u64) {
 // Each of these seeds brings about each thing often.
 fn run_all(rt: &impl Abort, alloc: Global, first: u64, end: u64) {
     for seed in first..end {
-        let counts = run(rt, alloc, Rules { fair: false }, seed, 3000);
+        let counts = run(rt, alloc, Rules::standard(), seed, 3000);
         check_waits(rt, &counts);
         check_ends(rt, &counts);
         check_refusals(rt, &counts, 8);
@@ -289,7 +289,7 @@ fn run_all(rt: &impl Abort, alloc: Global, first: u64, end: u64) {
 // The same where requests wait behind older ones, too.
 fn run_fair(rt: &impl Abort, alloc: Global, first: u64, end: u64) {
     for seed in first..end {
-        let counts = run(rt, alloc, Rules { fair: true }, seed, 3000);
+        let counts = run(rt, alloc, Rules::standard().with_fair(true), seed, 3000);
         check_waits(rt, &counts);
         check_ends(rt, &counts);
         check_refusals(rt, &counts, 3);

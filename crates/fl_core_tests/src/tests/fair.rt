@@ -177,7 +177,7 @@ tell 7 err 35
 
 // Each order gives the replies behind it, in a directory with these rules.
 fn goes(rt: &impl Abort, alloc: Global, fair: bool, before: &str, text: &str) {
-    let mut server = Server::under(rt, alloc, Rules { fair });
+    let mut server = Server::under(rt, alloc, Rules::standard().with_fair(fair));
     server.follow(rt, &history_of(rt, alloc, &[before, text]));
     server.end();
 }
