@@ -19,7 +19,12 @@ const MOST_READS: u64 = 140_737_488_355_327;
 ///
 /// A bad line is told once all of the trace is read, and before any difference. After 2^47 - 1 reads it is told that reading
 /// failed. A read that was interrupted is tried again.
-pub fn audit<R: Read>(alloc: Global, rules: Rules, cut: bool, input: &mut R) -> Result<Audited, AuditFault>
+pub fn audit<R: Read>(
+    alloc: Global,
+    rules: Rules,
+    cut: bool,
+    input: &mut R,
+) -> Result<Audited, AuditFault>
     ensures audited { IfOk result (IsAudited rules cut (R.remaining input.old)) }
     ensures bad { (n : ℕ) → result ≡ Err (AuditFault.BadLine n) →
         IfSome (R.remaining input.old) (λ bytes. BreaksAt LineFits (judged_part cut bytes) n) }
