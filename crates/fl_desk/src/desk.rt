@@ -65,7 +65,8 @@ impl<K: Keeper> Desk<K> {
     /// Takes an order of a worker: records it, answers it, and hands out the replies that it records.
     /// A refusal changes nothing, and doesn't come where there is room for `MOST_LINES` lines more.
     pub fn take(&mut self, worker: u32, order: &Order, tolds: &mut Tolds) -> Result<(), NoMemory>
-        ensures replies { OnOk result (tolds.new ≡ replies_in (state_after self.old.present.rules self.old.lines) order.now) }
+        ensures replies { OnOk result
+            (tolds.new ≡ replies_in (state_after self.old.present.rules self.old.lines) order.now) }
         ensures lines { OnOk result (self.new.lines ≡ self.old.lines ++ step_lines worker order.now tolds.new) }
         ensures next { OnOk result (self.new.present ≡ next self.old.present order.now) }
         ensures refused { OnErr result
