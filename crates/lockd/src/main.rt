@@ -82,7 +82,16 @@ fn run<T: Threads + Wait + Net + Files + Sync>(
         } => {
             let path = Path::new(socket.as_str());
             let rules = rules_of(*rules);
-            serve(rt, threads, rules, path, *workers, trace, &mut output, &mut faults)
+            serve(
+                rt,
+                threads,
+                rules,
+                path,
+                *workers,
+                trace,
+                &mut output,
+                &mut faults,
+            )
         }
         Asked::Drive(socket) => {
             let path = Path::new(socket.as_str());
@@ -141,7 +150,16 @@ fn serve_to_file<T: Threads + Wait + Net + Files + Sync, F: Write>(
         Err(status) => return status,
     };
     let full = when_full(full);
-    let (status, _trace) = serve_traced_on(threads, rt.alloc(), rules, path, trace, full, workers, faults);
+    let (status, _trace) = serve_traced_on(
+        threads,
+        rt.alloc(),
+        rules,
+        path,
+        trace,
+        full,
+        workers,
+        faults,
+    );
     if let Status::Faulted(Fault::Listen | Fault::NoMemory) = status {
         let _ = fs::remove_file(rt, file);
     }

@@ -36,7 +36,8 @@ SaysQuiet rules asked finding lines told = told ≡ None
 
 -- What is judged of all that was left to read is the trace of a history. What is found of this history under these rules was
 -- written, and whether it is quiet, where that is asked and it is legal.
-pub record IsJudged (rules : Rules) (options : CheckOptions) (left old new : Option (List ℕ)) (finding : Finding) : Type 0 where
+pub record IsJudged (rules : Rules) (options : CheckOptions) (left old new : Option (List ℕ)) (finding : Finding)
+    : Type 0 where
   pub trace : List ℕ
   pub lines : List Line
   pub read : IfSome left (λ bytes. judged_part options.cut bytes ≡ trace)

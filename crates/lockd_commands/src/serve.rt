@@ -57,7 +57,10 @@ pub fn serve_on<R: Threads + Wait + Net + Files + Sync, W: Write, F: Write>(
     ensures unnamed { path_bytes path.entry ≡ [] → result ≡ Status.Faulted Fault.Listen }
     ensures ended { result ≢ Status.Different }
 {
-    end(faults, serve_and_print(rt, alloc, rules, path, workers, output))
+    end(
+        faults,
+        serve_and_print(rt, alloc, rules, path, workers, output),
+    )
 }
 
 #[tactic(auto, using(crate::proofs::PrintLemmas::did))]
