@@ -13,6 +13,7 @@ use Rattle.fl_audit.specs.declared.listener.Listener.{Listener}
 use Rattle.fl_audit.proofs.Following.{AreShort, AreLines, left_over, goes_on, goes_bad, stays_bad, bad_ends, rest_ends, lines_end}
 use Rattle.fl_desk.specs.Verdicts.{IsBeginning}
 use Rattle.fl_history.specs.declared.history.Line.{Line}
+use Rattle.fl_judge.specs.Hearing.{Hearing}
 use Rattle.fl_quiet.specs.Quiet.{IsQuiet}
 use Rattle.fl_trace.specs.Text.{LineFits, BreaksAt}
 
@@ -37,22 +38,22 @@ still_bad text bytes lines kept None e f = absurd (cc e)
 still_bad text bytes lines kept (Some n) e b = stays_bad text bytes n b
 
 pub hears_nothing : (l : Listener) (bytes : List ℕ) → is_some l.bad ≡ true → HearsOn l bytes l
-hears_nothing l bytes bad text is = record { stands = still_bad text bytes l.judge (take l.kept l.room.items) l.bad bad is.stands }
+hears_nothing l bytes bad text is = record { stands = still_bad text bytes l.judge.lines (take l.kept l.room.items) l.bad bad is.stands }
 
 pub hears_wrong : AreShort → (before after : Listener) (came n : ℕ) → is_some before.bad ≡ false
-    → IsBadBehind (length before.judge) (take (before.kept + came) before.room.items) n → after.bad ≡ Some n
+    → IsBadBehind (length before.judge.lines) (take (before.kept + came) before.room.items) n → after.bad ≡ Some n
     → HearsOn before (take came (drop before.kept before.room.items)) after
 hears_wrong short before after came n none bad said text is =
     let kept = take before.kept before.room.items in
     let bytes = take came (drop before.kept before.room.items) in
     record {
-      stands = subst (Stands (text ++ bytes) after.judge (take after.kept after.room.items)) (sym said)
-          (goes_bad short text bytes before.judge kept n (follows text before.judge kept before.bad none is.stands)
-          (subst (λ t. IsBadBehind (length before.judge) t n) (take-add before.kept came before.room.items) bad));
+      stands = subst (Stands (text ++ bytes) after.judge.lines (take after.kept after.room.items)) (sym said)
+          (goes_bad short text bytes before.judge.lines kept n (follows text before.judge.lines kept before.bad none is.stands)
+          (subst (λ t. IsBadBehind (length before.judge.lines) t n) (take-add before.kept came before.room.items) bad));
     }
 
 pub hears_lines : AreShort → (before after : Listener) (came left : ℕ) → is_some before.bad ≡ false → before.kept + came ≤ length before.room.items
-    → HearsAll before.judge after.judge (take (before.kept + came) before.room.items) left → after.kept ≡ min left 700
+    → HearsAll before.judge.lines after.judge.lines (take (before.kept + came) before.room.items) left → after.kept ≡ min left 700
     → take after.kept after.room.items ≡ take after.kept (drop (before.kept + came - left) before.room.items) → after.bad ≡ before.bad
     → HearsOn before (take came (drop before.kept before.room.items)) after
 hears_lines short before after came left none within heard few moved same text is =
@@ -60,10 +61,10 @@ hears_lines short before after came left none within heard few moved same text i
     let bytes = take came (drop before.kept before.room.items) in
     let whole : take (before.kept + came) before.room.items ≡ kept ++ bytes = take-add before.kept came before.room.items in
     record {
-      stands = fine (text ++ bytes) after.judge (take after.kept after.room.items) after.bad (ap is_some same ∙ none)
-          (goes_on short text bytes before.judge after.judge kept (take after.kept after.room.items) left
-          (follows text before.judge kept before.bad none is.stands)
-          (subst (λ t. HearsAll before.judge after.judge t left) whole heard)
+      stands = fine (text ++ bytes) after.judge.lines (take after.kept after.room.items) after.bad (ap is_some same ∙ none)
+          (goes_on short text bytes before.judge.lines after.judge.lines kept (take after.kept after.room.items) left
+          (follows text before.judge.lines kept before.bad none is.stands)
+          (subst (λ t. HearsAll before.judge.lines after.judge.lines t left) whole heard)
           (λ rest long front parts.
           moved ∙ left_over before.room.items front rest (before.kept + came) left after.kept (whole ∙ parts) long within (omega (arith, few))
           ∙ no_more rest left after.kept long few));
@@ -80,10 +81,10 @@ pub other_room : (before after : Listener) → after.judge ≡ before.judge → 
     → take before.kept after.room.items ≡ take before.kept before.room.items → (text : List ℕ) → Listens text before → Listens text after
 other_room before after judge kept bad room text is = record {
   stands =
-      subst (λ j. Stands text j (take after.kept after.room.items) after.bad) (sym judge)
-      (subst (λ k. Stands text before.judge (take k after.room.items) after.bad) (sym kept)
-      (subst (λ b. Stands text before.judge (take before.kept after.room.items) b) (sym bad)
-      (subst (λ t. Stands text before.judge t before.bad) (sym room) is.stands)));
+      subst (λ (j : Hearing). Stands text j.lines (take after.kept after.room.items) after.bad) (sym judge)
+      (subst (λ k. Stands text before.judge.lines (take k after.room.items) after.bad) (sym kept)
+      (subst (λ b. Stands text before.judge.lines (take before.kept after.room.items) b) (sym bad)
+      (subst (λ t. Stands text before.judge.lines t before.bad) (sym room) is.stands)));
 }
 
 -- ---- what was read
@@ -124,23 +125,23 @@ bad_said : AreLines → (text : List ℕ) (lines : List Line) (kept : List ℕ) 
 bad_said are text lines kept o n cut is stands = bad_ends are text n cut (subst (Stands text lines kept) is stands)
 
 pub ends_bad : AreLines → (l : Listener) (n : ℕ) (cut : Bool) → l.bad ≡ Some n → (text : List ℕ) → Listens text l → BreaksAt LineFits (judged_part cut text) n
-ends_bad are l n cut bad text is = bad_said are text l.judge (take l.kept l.room.items) l.bad n cut bad is.stands
+ends_bad are l n cut bad text is = bad_said are text l.judge.lines (take l.kept l.room.items) l.bad n cut bad is.stands
 
-pub ends_inside : (l : Listener) (n : ℕ) (cut : Bool) → is_some l.bad ≡ false → cut ≡ false → 0 < l.kept → l.kept ≤ length l.room.items → n ≡ length l.judge + 1
+pub ends_inside : (l : Listener) (n : ℕ) (cut : Bool) → is_some l.bad ≡ false → cut ≡ false → 0 < l.kept → l.kept ≤ length l.room.items → n ≡ length l.judge.lines + 1
     → (text : List ℕ) → Listens text l → BreaksAt LineFits (judged_part cut text) n
 ends_inside l n cut none uncut some within at text is =
     let kept = take l.kept l.room.items in
     subst (λ c. BreaksAt LineFits (judged_part c text) n) (sym uncut)
-    (rest_ends text l.judge kept n (follows text l.judge kept l.bad none is.stands) (omega (arith, some, length-take-le l.kept l.room.items within)) at)
+    (rest_ends text l.judge.lines kept n (follows text l.judge.lines kept l.bad none is.stands) (omega (arith, some, length-take-le l.kept l.room.items within)) at)
 
-pub ends_well : (l : Listener) (cut : Bool) (audited : Audited) → is_some l.bad ≡ false → (cut ≡ false → l.kept ≡ 0) → IsFinding cut l.judge audited.finding
-    → (audited.quiet ≡ true) ↔ (IsBeginning l.judge × IsQuiet l.judge) → (text : List ℕ) → Listens text l → IsSaidOf cut (judged_part cut text) audited
+pub ends_well : (l : Listener) (cut : Bool) (audited : Audited) → is_some l.bad ≡ false → (cut ≡ false → l.kept ≡ 0) → IsFinding l.judge.rules cut l.judge.lines audited.finding
+    → (audited.quiet ≡ true) ↔ (IsBeginning l.judge.rules l.judge.lines × IsQuiet l.judge.rules l.judge.lines) → (text : List ℕ) → Listens text l → IsSaidOf l.judge.rules cut (judged_part cut text) audited
 ends_well l cut audited none whole found quiet text is =
     let kept = take l.kept l.room.items in
-    let f = follows text l.judge kept l.bad none is.stands in
+    let f = follows text l.judge.lines kept l.bad none is.stands in
     record {
-      lines = l.judge;
-      spelled = lines_end text l.judge kept cut f (λ uncut. ap (λ n. length (take n l.room.items)) (whole uncut));
+      lines = l.judge.lines;
+      spelled = lines_end text l.judge.lines kept cut f (λ uncut. ap (λ n. length (take n l.room.items)) (whole uncut));
       fits = f.fits;
       found = found;
       quiet = quiet;

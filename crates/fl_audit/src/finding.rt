@@ -9,7 +9,7 @@ use fl_order::NoMemory;
 /// What an audit says of a trace.
 #[derive(Clone, Copy, Debug, PartialEq, Eq)]
 pub enum Finding {
-    /// It is one of one thread.
+    /// It is one of one thread, under the rules that it is judged by.
     Legal,
     /// It isn't, but some legal trace begins with it: replies are missing at its end. This is said of a trace that may be cut
     /// off, and of no other.
@@ -52,7 +52,7 @@ impl From<NoMemory> for AuditFault {
 
 /// What is found of the lines that a judge heard.
 pub(crate) fn finding_of(judge: &Judge, cut: bool) -> Finding
-    ensures { IsFinding cut judge.now result }
+    ensures { IsFinding judge.now.rules cut judge.now.lines result }
 {
     match judge.verdict() {
         Verdict::Legal => Finding::Legal,

@@ -18,9 +18,10 @@ pub(crate) enum Left {
 
 /// Has a judge hear the lines at the front of a text, up to one that is bad, or up to its last newline.
 pub(crate) fn hear_lines(judge: &mut Judge, text: &[u8]) -> Left
-    requires few { length judge.old + length text.now < 2 ^ 63 }
-    ensures heard { IsHeard judge.old judge.new text.now result }
-    ensures few { length judge.new ≤ length judge.old + length text.now }
+    requires few { length judge.old.lines + length text.now < 2 ^ 63 }
+    ensures heard { IsHeard judge.old.lines judge.new.lines text.now result }
+    ensures few { length judge.new.lines ≤ length judge.old.lines + length text.now }
+    ensures rules { judge.new.rules ≡ judge.old.rules }
 {
     let mut rest = text;
     while has_newline(rest) {

@@ -5,9 +5,11 @@ ghost use Rattle.std.specs.Io.KnownBytes.{Consumes, IsAtEnd, Keeps};
 ghost use Rattle.fl_trace.specs.Text.{BreaksAt, LineFits};
 ghost use Rattle.fl_audit.specs.Audit.{judged_part, IsSaidOf};
 ghost use Rattle.fl_audit.specs.Inside.Hearing.{IsRoomy, Listens, HearsOn, HasRead};
+ghost use Rattle.fl_judge.specs.Hearing.{unheard};
 
 use crate::finding::{AuditFault, Audited, finding_of};
 use crate::lines::{Left, hear_lines};
+use fl_core::Rules;
 use fl_judge::Judge;
 use fl_order::NoMemory;
 use fl_trace::LINE_ROOM;
@@ -30,14 +32,14 @@ pub(crate) struct Listener {
 }
 
 impl Listener {
-    /// Nothing came yet.
-    pub(crate) fn new(alloc: Global) -> Result<Listener, NoMemory>
+    /// Nothing came yet, and these are the rules.
+    pub(crate) fn new(alloc: Global, rules: Rules) -> Result<Listener, NoMemory>
         ensures room { IfOk result IsRoomy }
-        ensures heard { IfOk result (λ listener. listener.judge ≡ []) }
+        ensures heard { IfOk result (λ listener. listener.judge ≡ unheard rules) }
         ensures listens { IfOk result (Listens []) }
     {
         Ok(Listener {
-            judge: Judge::new(alloc)?,
+            judge: Judge::new(alloc, rules)?,
             room: vec![in alloc; 0; ROOM]?,
             kept: 0,
             bad: None,
@@ -47,9 +49,10 @@ impl Listener {
     /// Reads once, and hears what came. Whether more may come.
     pub(crate) fn read<R: Read>(&mut self, input: &mut R) -> Result<bool, AuditFault>
         requires room { IsRoomy self.old }
-        requires few { length self.old.judge + 2 ^ 16 < 2 ^ 63 }
+        requires few { length self.old.judge.lines + 2 ^ 16 < 2 ^ 63 }
         ensures room { IsRoomy self.new }
-        ensures few { length self.new.judge ≤ length self.old.judge + 2 ^ 16 }
+        ensures few { length self.new.judge.lines ≤ length self.old.judge.lines + 2 ^ 16 }
+        ensures rules { self.new.judge.rules ≡ self.old.judge.rules }
         ensures reads { (left : Option (List ℕ)) → HasRead left (R.remaining input.old) self.old →
             HasRead left (R.remaining input.new) self.new }
         ensures end { IfOk result (λ more. more ≡ false → IsAtEnd (R.remaining input.new)) }
@@ -71,9 +74,10 @@ impl Listener {
     fn hear(&mut self, came: usize)
         requires room { IsRoomy self.old }
         requires within { self.old.kept + came ≤ 2 ^ 16 }
-        requires few { length self.old.judge + 2 ^ 16 < 2 ^ 63 }
+        requires few { length self.old.judge.lines + 2 ^ 16 < 2 ^ 63 }
         ensures room { IsRoomy self.new }
-        ensures few { length self.new.judge ≤ length self.old.judge + 2 ^ 16 }
+        ensures few { length self.new.judge.lines ≤ length self.old.judge.lines + 2 ^ 16 }
+        ensures rules { self.new.judge.rules ≡ self.old.judge.rules }
         ensures hears { HearsOn self.old (take came (drop self.old.kept self.old.room.items)) self.new }
     {
         a_line_is_short();
@@ -93,9 +97,9 @@ impl Listener {
     /// Nothing more comes: what is to be said.
     pub(crate) fn end(&self, cut: bool) -> Result<Audited, AuditFault>
         requires room { IsRoomy self.now }
-        requires few { length self.now.judge < 2 ^ 63 }
+        requires few { length self.now.judge.lines < 2 ^ 63 }
         ensures said { IfOk result (λ audited. (text : List ℕ) → Listens text self.now →
-            IsSaidOf cut (judged_part cut text) audited) }
+            IsSaidOf self.now.judge.rules cut (judged_part cut text) audited) }
         ensures bad { (n : ℕ) → result ≡ Err (AuditFault.BadLine n) → (text : List ℕ) → Listens text self.now →
             BreaksAt LineFits (judged_part cut text) n }
     {

@@ -1,10 +1,11 @@
-//! The book of the lock directory: the names of the desk, the judges, the board, the keepers of lines and the text of a history in
-//! one place.
+//! The book of the lock directory: the names of the desk, the judges, their rules, the board, the keepers of lines and the text of
+//! a history in one place.
 #![tactic(auto)]
 
 pub use fl_board::{
     Board, BoardName, CloseFault, FreshLog, HandFault, LogName, NoView, OpenFault, Seat,
 };
+pub use fl_core::Rules;
 pub use fl_desk::{Desk, MOST_LINES, Verdict, check, laws};
 pub use fl_history::{History, Line, Lines};
 pub use fl_keeper::{Forgetful, Keeper};

@@ -1,12 +1,12 @@
 -- A legal history with one more order is legal, and what is there after it is what the history gives.
-use Rattle.std.proofs.Common.{◌≡◌, ℕ, cond, Some, None, List, [], ◌∷◌, ◌++◌, map, append_assoc, refl, ap, sym, ◌∙◌}
+use Rattle.std.proofs.Common.{◌≡◌, ℕ, cond, Option, Some, None, List, [], ◌∷◌, ◌++◌, map, append_assoc, refl, ap, sym, ◌∙◌, subst}
 use Rattle.std.proofs.lemmas.List.Sums.{fold-append}
 use Rattle.std.specs.List.{fold}
 use Rattle.std.proofs.lemmas.Bool.{eq-eqb, ne_eqb}
-use Rattle.fl_desk.specs.Replay.{unread, read_line, state_at_end, state_after, all_later, AllOthers}
-use Rattle.fl_desk.specs.Legal.{step, step_lines}
+use Rattle.fl_desk.specs.Replay.{Reading, unread, committed, read_reply, read_line, state_at_end, state_after, all_later, AllOthers}
+use Rattle.fl_desk.specs.Legal.{IsLegal, nothing, step, step_lines}
 use Rattle.fl_desk.specs.Kept.{IsKept}
-use Rattle.fl_core.specs.State.{View, State, Snapshot, snapshot_of}
+use Rattle.fl_core.specs.State.{View, State, Snapshot, opening, snapshot_of}
 use Rattle.fl_core.specs.Effects.{Effect, at_once, later, followed_by, told_first, replied, recorded}
 use Rattle.fl_core.specs.Step.{next, replies}
 use Rattle.fl_waiting.specs.Waiting.{AllWait, AreApart}
@@ -16,14 +16,15 @@ use Rattle.fl_history.specs.declared.history.Line.TheVariants as line
 use Rattle.fl_order.specs.declared.told.Told.{Told}
 use Rattle.fl_order.specs.declared.order.Order.{Order}
 use Rattle.fl_ranges.specs.Conflict.{IsLawful}
+use Rattle.fl_waiting.specs.declared.rules.Rules.{Rules}
 
 -- ---- how the lines of a step are read
 
 -- an order that was asked is read from the state before it
-read_asked : (lines : List Line) (worker : ℕ) (order : Order) (tolds : List Told)
-    → state_after (lines ++ step_lines worker order tolds)
-    ≡ state_at_end (fold read_line (record { state = state_after lines; waiting = Some order }) (map (λ told. line.Told told) tolds))
-read_asked lines worker order tolds = ap state_at_end (fold-append read_line unread lines (step_lines worker order tolds))
+read_asked : (rules : Rules) (lines : List Line) (worker : ℕ) (order : Order) (tolds : List Told)
+    → state_after rules (lines ++ step_lines worker order tolds)
+    ≡ state_at_end (fold read_line (record { state = state_after rules lines; waiting = Some order }) (map (λ told. line.Told told) tolds))
+read_asked rules lines worker order tolds = ap state_at_end (fold-append read_line (unread rules) lines (step_lines worker order tolds))
 
 -- once no order waits for its own reply, each reply answers a parked request
 read_later : (tolds : List Told) (s : State) →
@@ -43,47 +44,85 @@ later_recorded [] f s = refl
 later_recorded (told ∷ tolds) f s = ap (all_later tolds) (recorded_twice f (later told) s) ∙ later_recorded tolds (λ v. followed_by (later told) (f v)) s
 
 -- the state after lines and one more step
-pub read_step : (lines : List Line) (worker : ℕ) (order : Order) (tolds : List Told) →
-    state_after (lines ++ step_lines worker order tolds) ≡ recorded (replied order tolds) (state_after lines)
-read_step lines worker order [] = read_asked lines worker order []
-read_step lines worker order (told ∷ tolds) =
-    read_asked lines worker order (told ∷ tolds)
-    ∙ read_later tolds (recorded (told_first order told) (state_after lines))
-    ∙ later_recorded tolds (told_first order told) (state_after lines)
+pub read_step : (rules : Rules) (lines : List Line) (worker : ℕ) (order : Order) (tolds : List Told) →
+    state_after rules (lines ++ step_lines worker order tolds) ≡ recorded (replied order tolds) (state_after rules lines)
+read_step rules lines worker order [] = read_asked rules lines worker order []
+read_step rules lines worker order (told ∷ tolds) =
+    read_asked rules lines worker order (told ∷ tolds)
+    ∙ read_later tolds (recorded (told_first order told) (state_after rules lines))
+    ∙ later_recorded tolds (told_first order told) (state_after rules lines)
 
 -- one more step whose first reply is its own
-pub read_own : (lines : List Line) (worker : ℕ) (order : Order) (told : Told) (tolds : List Told) → told.unique ≡ order.unique
-    → state_after (lines ++ step_lines worker order (told ∷ tolds)) ≡ all_later tolds (recorded (at_once order (Some told.result)) (state_after lines))
-read_own lines worker order told tolds own =
-    read_asked lines worker order (told ∷ tolds)
-    ∙ read_later tolds (recorded (told_first order told) (state_after lines))
+pub read_own : (rules : Rules) (lines : List Line) (worker : ℕ) (order : Order) (told : Told) (tolds : List Told) → told.unique ≡ order.unique
+    → state_after rules (lines ++ step_lines worker order (told ∷ tolds))
+    ≡ all_later tolds (recorded (at_once order (Some told.result)) (state_after rules lines))
+read_own rules lines worker order told tolds own =
+    read_asked rules lines worker order (told ∷ tolds)
+    ∙ read_later tolds (recorded (told_first order told) (state_after rules lines))
     ∙ ap (λ b. all_later tolds (recorded (λ v. cond b (at_once order (Some told.result) v) (followed_by (later told) (at_once order None v)))
-    (state_after lines)))
+    (state_after rules lines)))
     (eq-eqb told.unique order.unique own)
 
 -- one more step without a reply of its own
-pub read_none : (lines : List Line) (worker : ℕ) (order : Order) (tolds : List Told) → AllOthers order.unique tolds
-    → state_after (lines ++ step_lines worker order tolds) ≡ all_later tolds (recorded (at_once order None) (state_after lines))
-read_none lines worker order [] others = read_asked lines worker order []
-read_none lines worker order (told ∷ tolds) others =
-    read_asked lines worker order (told ∷ tolds)
-    ∙ read_later tolds (recorded (told_first order told) (state_after lines))
+pub read_none : (rules : Rules) (lines : List Line) (worker : ℕ) (order : Order) (tolds : List Told) → AllOthers order.unique tolds
+    → state_after rules (lines ++ step_lines worker order tolds) ≡ all_later tolds (recorded (at_once order None) (state_after rules lines))
+read_none rules lines worker order [] others = read_asked rules lines worker order []
+read_none rules lines worker order (told ∷ tolds) others =
+    read_asked rules lines worker order (told ∷ tolds)
+    ∙ read_later tolds (recorded (told_first order told) (state_after rules lines))
     ∙ ap (λ b. all_later tolds (recorded (λ v. cond b (at_once order (Some told.result) v) (followed_by (later told) (at_once order None v)))
-    (state_after lines)))
+    (state_after rules lines)))
     (ne_eqb told.unique order.unique others.0)
-    ∙ ap (all_later tolds) (sym (recorded_twice (at_once order None) (later told) (state_after lines)))
+    ∙ ap (all_later tolds) (sym (recorded_twice (at_once order None) (later told) (state_after rules lines)))
+
+-- ---- the rules stay
+
+committed_keeps : (waiting : Option Order) (s : State) → (committed waiting s).rules ≡ s.rules
+committed_keeps None s = refl
+committed_keeps (Some order) s = refl
+
+reply_keeps : (waiting : Option Order) (told : Told) (s : State) → (read_reply waiting told s).rules ≡ s.rules
+reply_keeps None told s = refl
+reply_keeps (Some order) told s = refl
+
+reading_keeps : (r : Reading) (lines : List Line) → (state_at_end (fold read_line r lines)).rules ≡ (r.state).rules
+reading_keeps r [] = committed_keeps r.waiting r.state
+reading_keeps r (line.Asked worker order ∷ lines) =
+    reading_keeps (read_line r (line.Asked worker order)) lines ∙ committed_keeps r.waiting r.state
+reading_keeps r (line.Told told ∷ lines) =
+    reading_keeps (read_line r (line.Told told)) lines ∙ reply_keeps r.waiting told r.state
+
+-- no line changes them
+pub rules_stay : (rules : Rules) (lines : List Line) → (state_after rules lines).rules ≡ rules
+rules_stay rules lines = reading_keeps (unread rules) lines
 
 -- ---- what a desk keeps
+
+-- nothing at first
+pub opened_kept : (rules : Rules) (lines : List Line) (present : Snapshot) → lines ≡ [] → present ≡ snapshot_of (opening rules) → IsLawful present.marking
+    → IsKept lines present
+opened_kept rules lines present none is lawful =
+    let same : rules ≡ present.rules = ap (λ (p : Snapshot). p.rules) (sym is) in
+    record {
+      legal = subst (IsLegal present.rules) (sym none) nothing;
+      stands = is ∙ (λ i. snapshot_of (state_after (same i) (sym none i)));
+      lawful = lawful;
+    }
 
 pub taken_kept : (lines given new : List Line) (present after : Snapshot) (worker : ℕ) (order : Order) (tolds shown : List Told) → IsKept lines present
     → given ≡ lines → tolds ≡ replies present order → ((s : State) → snapshot_of s ≡ present → snapshot_of (recorded (replied order tolds) s) ≡ after)
     → (IsLawful present.marking → IsLawful after.marking) → shown ≡ tolds → new ≡ given ++ step_lines worker order shown → IsKept new after
 taken_kept lines given new present after worker order tolds shown kept given_is tolds_is goes lawful shown_is new_is =
+    let rules = present.rules in
     let all : new ≡ lines ++ step_lines worker order tolds = new_is ∙ (λ i. given_is i ++ step_lines worker order (shown_is i)) in
+    let reads : snapshot_of (recorded (replied order tolds) (state_after rules lines)) ≡ after =
+    goes (state_after rules lines) (sym kept.stands) in
+    let same : rules ≡ after.rules = ap (λ (p : Snapshot). p.rules) kept.stands ∙ ap (λ (p : Snapshot). p.rules) reads in
     record {
-      legal = step lines worker order kept.legal
-          (all ∙ ap (λ t. lines ++ step_lines worker order t) (tolds_is ∙ ap (λ (p : Snapshot). replies p order) kept.stands));
-      stands = sym (goes (state_after lines) (sym kept.stands)) ∙ ap snapshot_of (sym (read_step lines worker order tolds) ∙ ap state_after (sym all));
+      legal = subst (λ r. IsLegal r new) same (step lines worker order kept.legal
+          (all ∙ ap (λ t. lines ++ step_lines worker order t) (tolds_is ∙ ap (λ (p : Snapshot). replies p order) kept.stands)));
+      stands = sym reads ∙ ap snapshot_of (sym (read_step rules lines worker order tolds) ∙ ap (state_after rules) (sym all))
+          ∙ ap (λ r. snapshot_of (state_after r new)) same;
       lawful = lawful kept.lawful;
     }
 
@@ -94,7 +133,7 @@ pub leads_on : (lines : List Line) (p : Snapshot) (worker : ℕ) (order : Order)
     → LeadsTo (lines ++ step_lines worker order (replies p order)) (next p order)
 leads_on lines p worker order leads read waiting apart = record {
   legal = step lines worker order leads.legal (ap (λ (q : Snapshot). lines ++ step_lines worker order (replies q order)) leads.stands);
-  stands = sym (read (state_after lines) (sym leads.stands)) ∙ ap snapshot_of (sym (read_step lines worker order (replies p order)));
+  stands = sym (read (state_after p.rules lines) (sym leads.stands)) ∙ ap snapshot_of (sym (read_step p.rules lines worker order (replies p order)));
   waiting = waiting;
   apart = apart;
 }

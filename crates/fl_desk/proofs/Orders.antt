@@ -7,12 +7,13 @@ use Rattle.fl_core.specs.State.{State, Snapshot, snapshot_of}
 use Rattle.fl_core.specs.Effects.{replied, recorded}
 use Rattle.fl_core.specs.Step.{next, replies}
 use Rattle.fl_waiting.specs.Waiting.{AllWait, AreApart}
-use Rattle.fl_desk.proofs.Histories.{leads_on}
+use Rattle.fl_desk.proofs.Histories.{leads_on, rules_stay}
 use Rattle.fl_desk.proofs.Verdicts.{no_order, replies_first}
 use Rattle.fl_history.specs.declared.history.Line.{Line}
 use Rattle.fl_history.specs.declared.history.Line.TheVariants as line
 use Rattle.fl_order.specs.declared.told.Told.{Told}
 use Rattle.fl_order.specs.declared.order.Order.{Order}
+use Rattle.fl_waiting.specs.declared.rules.Rules.{Rules}
 
 -- ---- what a legal history leads to
 
@@ -23,23 +24,23 @@ pub record Steps : Type 0 where
   pub waiting : (p : Snapshot) (order : Order) → AllWait p.rules (next p order).marking (next p order).view.parked
   pub apart : (p : Snapshot) (order : Order) → AllWait p.rules p.marking p.view.parked → AreApart p.view.parked → AreApart (next p order).view.parked
 
-pub legal_leads : Steps → {lines : List Line} → IsLegal lines → LeadsTo lines (snapshot_of (state_after lines))
-legal_leads steps nothing = record { legal = nothing; stands = refl; waiting = tt; apart = tt }
-legal_leads steps (step before worker order {lines} legal is) =
-    let p = snapshot_of (state_after before) in
-    let so_far = legal_leads steps legal in
+pub legal_leads : Steps → (rules : Rules) {lines : List Line} → IsLegal rules lines → LeadsTo lines (snapshot_of (state_after rules lines))
+legal_leads steps rules nothing = record { legal = nothing; stands = refl; waiting = tt; apart = tt }
+legal_leads steps rules (step before worker order {lines} legal is) =
+    let p = snapshot_of (state_after rules before) in
+    let so_far = legal_leads steps rules legal in
     let goes_on = leads_on before p worker order so_far (λ s stands. steps.read p order s so_far.waiting so_far.apart stands)
     (steps.waiting p order) (steps.apart p order so_far.waiting so_far.apart) in
     let all = subst (λ l. LeadsTo l (next p order)) (sym is) goes_on in
-    subst (LeadsTo lines) all.stands all
+    subst (LeadsTo lines) (all.stands ∙ ap (λ r. snapshot_of (state_after r lines)) (rules_stay rules before)) all
 
 -- ---- what comes behind a legal beginning
 
-pub goes_on : (before rest : List Line) (p : Snapshot) → LeadsTo before p → IsLegal (before ++ rest) → GoesOn p rest
+pub goes_on : (before rest : List Line) (p : Snapshot) → LeadsTo before p → IsLegal p.rules (before ++ rest) → GoesOn p rest
 goes_on before [] p leads all = ends refl
-goes_on before (line.Told told ∷ rest) p leads all = absurd (no_order before rest told leads.legal all)
+goes_on before (line.Told told ∷ rest) p leads all = absurd (no_order p.rules before rest told leads.legal all)
 goes_on before (line.Asked worker order ∷ rest) p leads all =
-    let first = replies_first before rest worker order leads.legal all in
+    let first = replies_first p.rules before rest worker order leads.legal all in
     goes worker order first.0
     (ap (λ l. line.Asked worker order ∷ l)
     (first.1 ∙ ap (λ (q : Snapshot). map (λ told. line.Told told) (replies q order) ++ first.0) (sym leads.stands)))
@@ -73,15 +74,17 @@ first_or_before (x ∷ xs) (y ∷ ys) rest w v a b tolds e = go (same_head e) (f
     go h (inl t) = inl (λ i. h i ∷ t i)
     go h (inr t) = inr (t.0, λ i. sym h i ∷ t.1 i)
 
-legal_before : {lines : List Line} → IsLegal lines → (xs rest : List Line) (w : ℕ) (a : Order) → lines ≡ xs ++ line.Asked w a ∷ rest → IsLegal xs
-legal_before nothing [] rest w a e = absurd (cc e)
-legal_before nothing (x ∷ xs) rest w a e = absurd (cc e)
-legal_before (step before v b legal is) xs rest w a e = go (first_or_before xs before rest w v a b _ (sym e ∙ is)) (legal_before legal xs)
+legal_before : (rules : Rules) {lines : List Line} → IsLegal rules lines → (xs rest : List Line) (w : ℕ) (a : Order) → lines ≡ xs ++ line.Asked w a ∷ rest
+    → IsLegal rules xs
+legal_before rules nothing [] rest w a e = absurd (cc e)
+legal_before rules nothing (x ∷ xs) rest w a e = absurd (cc e)
+legal_before rules (step before v b legal is) xs rest w a e = go (first_or_before xs before rest w v a b _ (sym e ∙ is)) (legal_before rules legal xs)
   where
     go : (xs ≡ before) ⊎ ((more : List Line) × (before ≡ xs ++ line.Asked w a ∷ more))
-        → ((more : List Line) (w : ℕ) (a : Order) → before ≡ xs ++ line.Asked w a ∷ more → IsLegal xs) → IsLegal xs
-    go (inl same) earlier = subst IsLegal (sym same) legal
+        → ((more : List Line) (w : ℕ) (a : Order) → before ≡ xs ++ line.Asked w a ∷ more → IsLegal rules xs) → IsLegal rules xs
+    go (inl same) earlier = subst (IsLegal rules) (sym same) legal
     go (inr m) earlier = earlier m.0 w a m.1
 
-pub asked_legal : (before rest : List Line) (worker : ℕ) (order : Order) → IsLegal (before ++ line.Asked worker order ∷ rest) → IsLegal before
-asked_legal before rest worker order all = legal_before all before rest worker order refl
+pub asked_legal : (rules : Rules) (before rest : List Line) (worker : ℕ) (order : Order) → IsLegal rules (before ++ line.Asked worker order ∷ rest)
+    → IsLegal rules before
+asked_legal rules before rest worker order all = legal_before rules all before rest worker order refl

@@ -13,6 +13,7 @@ use Rattle.fl_history.specs.declared.history.Line.{Line}
 use Rattle.fl_history.specs.declared.history.Line.TheVariants as line
 use Rattle.fl_order.specs.declared.told.Told.{Told}
 use Rattle.fl_order.specs.declared.order.Order.{Order}
+use Rattle.fl_waiting.specs.declared.rules.Rules.{Rules}
 
 -- ---- the orders of lines, and the lines that they give
 
@@ -22,13 +23,13 @@ asks (line.Asked worker order ∷ lines) = (worker, order) ∷ asks lines
 asks (line.Told told ∷ lines) = asks lines
 
 -- an order with the replies that it gets after these lines
-abbrev answers : List Line → (ℕ × Order) → List Line
-answers before a = step_lines a.0 a.1 (replies_in (state_after before) a.1)
+abbrev answers : Rules → List Line → (ℕ × Order) → List Line
+answers rules before a = step_lines a.0 a.1 (replies_in (state_after rules before) a.1)
 
 -- what orders give after these lines
-given : List Line → List (ℕ × Order) → List Line
-given before [] = []
-given before (a ∷ as_asked) = answers before a ++ given (before ++ answers before a) as_asked
+given : Rules → List Line → List (ℕ × Order) → List Line
+given rules before [] = []
+given rules before (a ∷ as_asked) = answers rules before a ++ given rules (before ++ answers rules before a) as_asked
 
 asks_append : (xs ys : List Line) → asks (xs ++ ys) ≡ asks xs ++ asks ys
 unfolding asks
@@ -41,76 +42,78 @@ unfolding asks
 asks_tolds [] = refl
 asks_tolds (told ∷ tolds) = asks_tolds tolds
 
-given_append : (before : List Line) (xs ys : List (ℕ × Order)) → given before (xs ++ ys) ≡ given before xs ++ given (before ++ given before xs) ys
+given_append : (rules : Rules) (before : List Line) (xs ys : List (ℕ × Order))
+    → given rules before (xs ++ ys) ≡ given rules before xs ++ given rules (before ++ given rules before xs) ys
 unfolding given
-given_append before [] ys = ap (λ b. given b ys) (sym (append-nil before))
-given_append before (a ∷ xs) ys =
-    let s = answers before a in
-    let f = given (before ++ s) xs in
-    ap (λ l. s ++ l) (given_append (before ++ s) xs ys) ∙ sym (append_assoc s f (given ((before ++ s) ++ f) ys))
-    ∙ ap (λ b. (s ++ f) ++ given b ys) (append_assoc before s f)
+given_append rules before [] ys = ap (λ b. given rules b ys) (sym (append-nil before))
+given_append rules before (a ∷ xs) ys =
+    let s = answers rules before a in
+    let f = given rules (before ++ s) xs in
+    ap (λ l. s ++ l) (given_append rules (before ++ s) xs ys) ∙ sym (append_assoc s f (given rules ((before ++ s) ++ f) ys))
+    ∙ ap (λ b. (s ++ f) ++ given rules b ys) (append_assoc before s f)
 
 -- what orders give is legal
-given_legal : (before : List Line) (xs : List (ℕ × Order)) → IsLegal before → IsLegal (before ++ given before xs)
+given_legal : (rules : Rules) (before : List Line) (xs : List (ℕ × Order)) → IsLegal rules before → IsLegal rules (before ++ given rules before xs)
 unfolding given
-given_legal before [] legal = subst IsLegal (sym (append-nil before)) legal
-given_legal before (a ∷ xs) legal =
-    let s = answers before a in
-    subst IsLegal (append_assoc before s (given (before ++ s) xs)) (given_legal (before ++ s) xs (step before a.0 a.1 legal refl))
+given_legal rules before [] legal = subst (IsLegal rules) (sym (append-nil before)) legal
+given_legal rules before (a ∷ xs) legal =
+    let s = answers rules before a in
+    subst (IsLegal rules) (append_assoc before s (given rules (before ++ s) xs)) (given_legal rules (before ++ s) xs (step before a.0 a.1 legal refl))
 
 -- a legal history is what its orders give
-legal_is : {lines : List Line} → IsLegal lines → lines ≡ given [] (asks lines)
+legal_is : (rules : Rules) {lines : List Line} → IsLegal rules lines → lines ≡ given rules [] (asks lines)
 unfolding asks given
-legal_is nothing = refl
-legal_is (step before worker order {lines} legal e) =
+legal_is rules nothing = refl
+legal_is rules (step before worker order {lines} legal e) =
     let a : ℕ × Order = (worker, order) in
     let all : asks lines ≡ asks before ++ a ∷ [] =
-    ap asks e ∙ asks_append before (answers before a) ∙ ap (λ l. asks before ++ a ∷ l) (asks_tolds (replies_in (state_after before) order)) in
-    let so_far : given [] (asks before) ≡ before = sym (legal_is legal) in
-    e ∙ ap (λ l. before ++ l) (sym (append-nil (answers before a)))
-    ∙ (λ i. sym so_far i ++ (answers (sym so_far i) a ++ []))
-    ∙ sym (given_append [] (asks before) (a ∷ []))
-    ∙ ap (given []) (sym all)
+    ap asks e ∙ asks_append before (answers rules before a) ∙ ap (λ l. asks before ++ a ∷ l) (asks_tolds (replies_in (state_after rules before) order)) in
+    let so_far : given rules [] (asks before) ≡ before = sym (legal_is rules legal) in
+    e ∙ ap (λ l. before ++ l) (sym (append-nil (answers rules before a)))
+    ∙ (λ i. sym so_far i ++ (answers rules (sym so_far i) a ++ []))
+    ∙ sym (given_append rules [] (asks before) (a ∷ []))
+    ∙ ap (given rules []) (sym all)
 
 -- so what stands behind a legal beginning is what the orders there give
-behind : (before tail : List Line) → IsLegal before → IsLegal (before ++ tail) → tail ≡ given before (asks tail)
-behind before tail legal all =
-    append_cancel_left before tail (given before (asks tail)) (
-    legal_is all ∙ ap (given []) (asks_append before tail) ∙ given_append [] (asks before) (asks tail)
-    ∙ (λ i. sym (legal_is legal) i ++ given (sym (legal_is legal) i) (asks tail)))
+behind : (rules : Rules) (before tail : List Line) → IsLegal rules before → IsLegal rules (before ++ tail) → tail ≡ given rules before (asks tail)
+behind rules before tail legal all =
+    append_cancel_left before tail (given rules before (asks tail)) (
+    legal_is rules all ∙ ap (given rules []) (asks_append before tail) ∙ given_append rules [] (asks before) (asks tail)
+    ∙ (λ i. sym (legal_is rules legal) i ++ given rules (sym (legal_is rules legal) i) (asks tail)))
 
 -- ---- where a history differs
 
 -- a reply where an order is due
-pub no_order : (before rest : List Line) (told : Told) → IsLegal before → IsLegal (before ++ line.Told told ∷ rest) → ⊥
+pub no_order : (rules : Rules) (before rest : List Line) (told : Told) → IsLegal rules before → IsLegal rules (before ++ line.Told told ∷ rest) → ⊥
 unfolding given
-no_order before rest told legal all = go (asks (line.Told told ∷ rest)) (behind before (line.Told told ∷ rest) legal all)
+no_order rules before rest told legal all = go (asks (line.Told told ∷ rest)) (behind rules before (line.Told told ∷ rest) legal all)
   where
-    go : (xs : List (ℕ × Order)) → line.Told told ∷ rest ≡ given before xs → ⊥
+    go : (xs : List (ℕ × Order)) → line.Told told ∷ rest ≡ given rules before xs → ⊥
     go [] e = cc e
     go (a ∷ xs) e = cc e
 
 -- what stands behind an order is its replies first
-pub replies_first : (before rest : List Line) (worker : ℕ) (order : Order) → IsLegal before → IsLegal (before ++ line.Asked worker order ∷ rest)
-    → (more : List Line) × (rest ≡ map (λ told. line.Told told) (replies_in (state_after before) order) ++ more)
+pub replies_first : (rules : Rules) (before rest : List Line) (worker : ℕ) (order : Order) → IsLegal rules before
+    → IsLegal rules (before ++ line.Asked worker order ∷ rest)
+    → (more : List Line) × (rest ≡ map (λ told. line.Told told) (replies_in (state_after rules before) order) ++ more)
 unfolding asks given
-replies_first before rest worker order legal all =
+replies_first rules before rest worker order legal all =
     let a : ℕ × Order = (worker, order) in (
-      given (before ++ answers before a) (asks rest),
-      append_cancel_left (line.Asked worker order ∷ []) rest _ (behind before (line.Asked worker order ∷ rest) legal all),
+      given rules (before ++ answers rules before a) (asks rest),
+      append_cancel_left (line.Asked worker order ∷ []) rest _ (behind rules before (line.Asked worker order ∷ rest) legal all),
     )
 
-abbrev replies_of : List Line → Order → List Told
-replies_of before order = replies_in (state_after before) order
+abbrev replies_of : Rules → List Line → Order → List Told
+replies_of rules before order = replies_in (state_after rules before) order
 
 abbrev told_lines : List Told → List Line
 told_lines tolds = map (λ told. line.Told told) tolds
 
 -- the first replies of an order are a beginning
-begins : (before : List Line) (worker : ℕ) (order : Order) (j : ℕ) → IsLegal before →
-    IsBeginning (before ++ line.Asked worker order ∷ told_lines (take j (replies_of before order)))
-begins before worker order j legal =
-    let r = replies_of before order in
+begins : (rules : Rules) (before : List Line) (worker : ℕ) (order : Order) (j : ℕ) → IsLegal rules before →
+    IsBeginning rules (before ++ line.Asked worker order ∷ told_lines (take j (replies_of rules before order)))
+begins rules before worker order j legal =
+    let r = replies_of rules before order in
     record {
       rest = told_lines (drop j r);
       legal = step before worker order legal (
@@ -149,12 +152,12 @@ past_length (x ∷ xs) zero e = absurd (cc e)
 past_length (x ∷ xs) (suc j) e = let rest = past_length xs j (same_tail x x (take j xs) xs e) in omega arith
 
 -- no other line stands at the place of a reply
-other_reply : (before rest : List Line) (worker : ℕ) (order : Order) (j : ℕ) (x : Line) (told : Told) → IsLegal before →
-    drop j (replies_of before order) ≡ told ∷ drop (suc j) (replies_of before order)
-    → x ≢ line.Told told → IsLegal (before ++ line.Asked worker order ∷ (told_lines (take j (replies_of before order)) ++ x ∷ rest)) → ⊥
-other_reply before rest worker order j x told legal at other all =
-    let r = replies_of before order in
-    let w = replies_first before (told_lines (take j r) ++ x ∷ rest) worker order legal all in
+other_reply : (rules : Rules) (before rest : List Line) (worker : ℕ) (order : Order) (j : ℕ) (x : Line) (told : Told) → IsLegal rules before →
+    drop j (replies_of rules before order) ≡ told ∷ drop (suc j) (replies_of rules before order)
+    → x ≢ line.Told told → IsLegal rules (before ++ line.Asked worker order ∷ (told_lines (take j (replies_of rules before order)) ++ x ∷ rest)) → ⊥
+other_reply rules before rest worker order j x told legal at other all =
+    let r = replies_of rules before order in
+    let w = replies_first rules before (told_lines (take j r) ++ x ∷ rest) worker order legal all in
     let parts : told_lines r ≡ told_lines (take j r) ++ line.Told told ∷ told_lines (drop (suc j) r) =
     ap told_lines (sym (take-append-drop j r)) ∙ map-append (λ t. line.Told t) (take j r) (drop j r) ∙ ap (λ l. told_lines (take j r) ++ told_lines l) at in
     let same : x ∷ rest ≡ line.Told told ∷ (told_lines (drop (suc j) r) ++ w.0) =
@@ -162,11 +165,11 @@ other_reply before rest worker order j x told legal at other all =
     other (cc same)
 
 -- nor does the history end there
-no_end : (before : List Line) (worker : ℕ) (order : Order) (j : ℕ) → IsLegal before → j < length (replies_of before order) →
-    IsLegal (before ++ line.Asked worker order ∷ told_lines (take j (replies_of before order))) → ⊥
-no_end before worker order j legal h all =
-    let r = replies_of before order in
-    let w = replies_first before (told_lines (take j r)) worker order legal all in
+no_end : (rules : Rules) (before : List Line) (worker : ℕ) (order : Order) (j : ℕ) → IsLegal rules before → j < length (replies_of rules before order) →
+    IsLegal rules (before ++ line.Asked worker order ∷ told_lines (take j (replies_of rules before order))) → ⊥
+no_end rules before worker order j legal h all =
+    let r = replies_of rules before order in
+    let w = replies_first rules before (told_lines (take j r)) worker order legal all in
     let at = at_place r j h in
     let parts : told_lines r ≡ told_lines (take j r) ++ line.Told at.0 ∷ told_lines (drop (suc j) r) =
     ap told_lines (sym (take-append-drop j r)) ∙ map-append (λ t. line.Told t) (take j r) (drop j r) ∙ ap (λ l. told_lines (take j r) ++ told_lines l) at.2 in
@@ -176,12 +179,12 @@ no_end before worker order j legal h all =
     cc same
 
 -- legal lines are a beginning, and so is what they begin with
-whole : (lines : List Line) (n : ℕ) → IsLegal lines → IsBeginning (take n lines)
-whole lines n legal = record { rest = drop n lines; legal = subst IsLegal (sym (take-append-drop n lines)) legal }
+whole : (rules : Rules) (lines : List Line) (n : ℕ) → IsLegal rules lines → IsBeginning rules (take n lines)
+whole rules lines n legal = record { rest = drop n lines; legal = subst (IsLegal rules) (sym (take-append-drop n lines)) legal }
 
 -- lines that begin differently from the first place on
-abbrev Wrong : List Line → ℕ → Type 0
-Wrong lines n = IsBeginning (take n lines) → ⊥
+abbrev Wrong : Rules → List Line → ℕ → Type 0
+Wrong rules lines n = IsBeginning rules (take n lines) → ⊥
 
 pub get_dropped : {A : Type 0} (xs : List A) (from i : ℕ) → slice_get (drop from xs) i ≡ slice_get xs (from + i)
 get_dropped [] zero i = refl
@@ -198,20 +201,21 @@ get_dropped (x ∷ xs) (suc from) i = get_dropped xs from i ∙ ap (slice_get (x
 -- ---- in the words of a walk
 
 -- a reply stands where an order is due
-pub differs_order : (before rest : List Line) (told : Told) (n : ℕ) → IsLegal before → n ≡ length before + 1 → DiffersAt (before ++ line.Told told ∷ rest) n
-differs_order before rest told n legal at =
+pub differs_order : (rules : Rules) (before rest : List Line) (told : Told) (n : ℕ) → IsLegal rules before → n ≡ length before + 1
+    → DiffersAt rules (before ++ line.Told told ∷ rest) n
+differs_order rules before rest told n legal at =
     let lines = before ++ line.Told told ∷ rest in
     let long : length lines ≡ length before + suc (length rest) = length-append before (line.Told told ∷ rest) in
-    let wrong : Wrong lines n =
-    λ b. no_order before b.rest told legal (subst IsLegal (ap (λ k. take k lines ++ b.rest) at
+    let wrong : Wrong rules lines n =
+    λ b. no_order rules before b.rest told legal (subst (IsLegal rules) (ap (λ k. take k lines ++ b.rest) at
     ∙ ap (λ l. l ++ b.rest) (take-append-add before (line.Told told ∷ rest) 1) ∙ append_assoc before (line.Told told ∷ []) b.rest) b.legal) in
     record {
-      illegal = λ all. wrong (whole lines n all);
+      illegal = λ all. wrong (whole rules lines n all);
       from = omega (arith, at);
       upto = omega (arith, at, long);
       before = record {
         rest = [];
-        legal = subst IsLegal (sym (append-nil (take (n - 1) lines) ∙ ap (λ k. take k lines) (less n (length before) at)
+        legal = subst (IsLegal rules) (sym (append-nil (take (n - 1) lines) ∙ ap (λ k. take k lines) (less n (length before) at)
             ∙ take-append-add before (line.Told told ∷ rest) 0 ∙ append-nil before)) legal;
       };
       no_more = λ _ b. wrong b;
@@ -221,33 +225,33 @@ differs_order before rest told n legal at =
     less n k e = omega arith
 
 -- another line stands, or none, where a reply of an order is due
-pub differs_reply : (before rest : List Line) (worker : ℕ) (order : Order) (j n : ℕ) → IsLegal before → j < length (replies_of before order) → j ≤ length rest →
-    take j rest ≡ told_lines (take j (replies_of before order))
-    → ((told : Told) → slice_get (replies_of before order) j ≡ Some told → slice_get rest j ≢ Some (line.Told told)) → n ≡ length before + (j + 2) →
-    DiffersAt (before ++ line.Asked worker order ∷ rest) n
-differs_reply before rest worker order j n legal short there alike other at =
+pub differs_reply : (rules : Rules) (before rest : List Line) (worker : ℕ) (order : Order) (j n : ℕ) → IsLegal rules before → j < length (replies_of rules before order) → j ≤ length rest →
+    take j rest ≡ told_lines (take j (replies_of rules before order))
+    → ((told : Told) → slice_get (replies_of rules before order) j ≡ Some told → slice_get rest j ≢ Some (line.Told told)) → n ≡ length before + (j + 2) →
+    DiffersAt rules (before ++ line.Asked worker order ∷ rest) n
+differs_reply rules before rest worker order j n legal short there alike other at =
     let lines = before ++ line.Asked worker order ∷ rest in
-    let r = replies_of before order in
+    let r = replies_of rules before order in
     let told = at_place r j short in
     let long : length lines ≡ length before + suc (length rest) = length-append before (line.Asked worker order ∷ rest) in
     record {
       illegal = λ all. ⊎_elim
           (λ more. let x = at_place rest j more in
-          other_reply before (drop (suc j) rest) worker order j x.0 told.0 legal told.2 (λ e. other told.0 told.1 (x.1 ∙ ap (λ l. Some l) e))
-          (subst IsLegal (ap (λ l. before ++ line.Asked worker order ∷ l) (sym (take-append-drop j rest) ∙ (λ i. alike i ++ x.2 i))) all))
-          (λ ended. no_end before worker order j legal short (subst IsLegal (ap (λ l. before ++ line.Asked worker order ∷ l) (sym ended ∙ alike)) all))
+          other_reply rules before (drop (suc j) rest) worker order j x.0 told.0 legal told.2 (λ e. other told.0 told.1 (x.1 ∙ ap (λ l. Some l) e))
+          (subst (IsLegal rules) (ap (λ l. before ++ line.Asked worker order ∷ l) (sym (take-append-drop j rest) ∙ (λ i. alike i ++ x.2 i))) all))
+          (λ ended. no_end rules before worker order j legal short (subst (IsLegal rules) (ap (λ l. before ++ line.Asked worker order ∷ l) (sym ended ∙ alike)) all))
           (is_past rest j there);
       from = omega (arith, at);
       upto = omega (arith, at, long, there);
-      before = subst IsBeginning (sym (ap (λ k. take k lines) (one_less n (length before) j at) ∙ take-append-add before (line.Asked worker order ∷ rest)
-          (suc j) ∙ ap (λ l. before ++ line.Asked worker order ∷ l) alike)) (begins before worker order j legal);
+      before = subst (IsBeginning rules) (sym (ap (λ k. take k lines) (one_less n (length before) j at) ∙ take-append-add before (line.Asked worker order ∷ rest)
+          (suc j) ∙ ap (λ l. before ++ line.Asked worker order ∷ l) alike)) (begins rules before worker order j legal);
       no_more = λ inside b. ⊎_elim
           (λ more. let x = at_place rest j more in
           let shown : take n lines ≡ before ++ line.Asked worker order ∷ (told_lines (take j r) ++ x.0 ∷ []) =
           ap (λ k. take k lines) (as_sum n (length before) j at) ∙ take-append-add before (line.Asked worker order ∷ rest) (suc (suc j))
           ∙ ap (λ l. before ++ line.Asked worker order ∷ l) (take_suc rest j x.0 x.1 ∙ ap (λ l. l ++ x.0 ∷ []) alike) in
-          other_reply before b.rest worker order j x.0 told.0 legal told.2 (λ e. other told.0 told.1 (x.1 ∙ ap (λ l. Some l) e))
-          (subst IsLegal (ap (λ l. l ++ b.rest) shown ∙ append_assoc before (line.Asked worker order ∷ (told_lines (take j r) ++ x.0 ∷ [])) b.rest
+          other_reply rules before b.rest worker order j x.0 told.0 legal told.2 (λ e. other told.0 told.1 (x.1 ∙ ap (λ l. Some l) e))
+          (subst (IsLegal rules) (ap (λ l. l ++ b.rest) shown ∙ append_assoc before (line.Asked worker order ∷ (told_lines (take j r) ++ x.0 ∷ [])) b.rest
           ∙ ap (λ l. before ++ line.Asked worker order ∷ l) (append_assoc (told_lines (take j r)) (x.0 ∷ []) b.rest)) b.legal))
           (λ ended. let short_rest = past_length rest j ended in absurd (omega (arith, at, long, inside, short_rest)))
           (is_past rest j there);
@@ -303,11 +307,11 @@ pub rest_of : (lines : List Line) (k : ℕ) → take (length lines - k) (drop k 
 rest_of lines k = take_all (length lines - k) (drop k lines) (omega (arith, length-drop k lines))
 
 -- a reply stands where an order is due
-pub due_order : (lines : List Line) (at : ℕ) (d : Line) (told : Told) → at < length lines → get_or lines at d ≡ line.Told told → IsLegal (take at lines) →
-    DiffersAt lines (at + 1)
-due_order lines at d told there is legal =
-    subst (λ l. DiffersAt l (at + 1)) (sym (round lines at d (line.Told told) there is))
-    (differs_order (take at lines) (drop (at + 1) lines) told (at + 1) legal (ap (λ k. k + 1) (sym (long lines at there))))
+pub due_order : (rules : Rules) (lines : List Line) (at : ℕ) (d : Line) (told : Told) → at < length lines → get_or lines at d ≡ line.Told told
+    → IsLegal rules (take at lines) → DiffersAt rules lines (at + 1)
+due_order rules lines at d told there is legal =
+    subst (λ l. DiffersAt rules l (at + 1)) (sym (round lines at d (line.Told told) there is))
+    (differs_order rules (take at lines) (drop (at + 1) lines) told (at + 1) legal (ap (λ k. k + 1) (sym (long lines at there))))
 
 -- not all replies of an order stand behind it
 pub record IsShort (rest : List Line) (tolds : List Told) (j : ℕ) : Type 0 where
@@ -316,13 +320,13 @@ pub record IsShort (rest : List Line) (tolds : List Told) (j : ℕ) : Type 0 whe
   pub alike : take j rest ≡ told_lines (take j tolds)
   pub other : (told : Told) → slice_get tolds j ≡ Some told → slice_get rest j ≢ Some (line.Told told)
 
-pub due_reply : (lines : List Line) (at : ℕ) (d : Line) (worker : ℕ) (order : Order) (tolds : List Told) (j : ℕ) → at < length lines →
-    get_or lines at d ≡ line.Asked worker order → IsLegal (take at lines)
-    → tolds ≡ replies_of (take at lines) order → IsShort (drop (at + 1) lines) tolds j → DiffersAt lines (at + j + 2)
-due_reply lines at d worker order tolds j there is legal are facts =
+pub due_reply : (rules : Rules) (lines : List Line) (at : ℕ) (d : Line) (worker : ℕ) (order : Order) (tolds : List Told) (j : ℕ) → at < length lines →
+    get_or lines at d ≡ line.Asked worker order → IsLegal rules (take at lines)
+    → tolds ≡ replies_of rules (take at lines) order → IsShort (drop (at + 1) lines) tolds j → DiffersAt rules lines (at + j + 2)
+due_reply rules lines at d worker order tolds j there is legal are facts =
     let w = subst (λ t. IsShort (drop (at + 1) lines) t j) are facts in
-    subst (λ l. DiffersAt l (at + j + 2)) (sym (round lines at d (line.Asked worker order) there is))
-    (differs_reply (take at lines) (drop (at + 1) lines) worker order j (at + j + 2) legal w.short w.there w.alike w.other
+    subst (λ l. DiffersAt rules l (at + j + 2)) (sym (round lines at d (line.Asked worker order) there is))
+    (differs_reply rules (take at lines) (drop (at + 1) lines) worker order j (at + j + 2) legal w.short w.there w.alike w.other
     (sum at j ∙ ap (λ k. k + (j + 2)) (sym (long lines at there))))
   where
     sum : (k j : ℕ) → k + j + 2 ≡ k + (j + 2)

@@ -8,10 +8,11 @@ use Rattle.fl_desk.specs.Replay.{state_after}
 use Rattle.fl_history.specs.declared.history.Line.{Line}
 use Rattle.fl_order.specs.declared.order.Order.{Order}
 
--- The history is legal, and this is there after it: each parked request has to wait, and no two have one unique.
+-- This is there after the history, which is legal under its rules: each parked request has to wait, and no two have one
+-- unique.
 pub record LeadsTo (lines : List Line) (p : Snapshot) : Type 0 where
-  pub legal : IsLegal lines
-  pub stands : p ≡ snapshot_of (state_after lines)
+  pub legal : IsLegal p.rules lines
+  pub stands : p ≡ snapshot_of (state_after p.rules lines)
   pub waiting : AllWait p.rules p.marking p.view.parked
   pub apart : AreApart p.view.parked
 

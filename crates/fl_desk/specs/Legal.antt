@@ -1,4 +1,5 @@
--- Which histories are those of one thread: each order is answered as the sequential lock directory answers then.
+-- Which histories are those of one thread, under the rules by which requests wait: each order is answered as the
+-- sequential lock directory answers then.
 use Rattle.std.specs.Prelude.{◌≡◌, ℕ, Bool, true, false, List, [], ◌∷◌, ◌++◌, map, count_by}
 use Rattle.fl_desk.specs.Replay.{state_after}
 use Rattle.fl_core.specs.Step.{replies_in}
@@ -6,16 +7,17 @@ use Rattle.fl_history.specs.declared.history.Line.{Line}
 use Rattle.fl_history.specs.declared.history.Line.TheVariants as line
 use Rattle.fl_order.specs.declared.told.Told.{Told}
 use Rattle.fl_order.specs.declared.order.Order.{Order}
+use Rattle.fl_waiting.specs.declared.rules.Rules.{Rules}
 
 -- an order and its replies, as lines
 abbrev pub step_lines : ℕ → Order → List Told → List Line
 step_lines worker order replies = line.Asked worker order ∷ map (λ told. line.Told told) replies
 
 -- no lines; or a legal beginning, and one more order with the replies that it gets in the state after that beginning
-pub data IsLegal : List Line → Type 0 where
-  nothing : IsLegal []
-  step : (before : List Line) (worker : ℕ) (order : Order) {lines : List Line} → IsLegal before
-      → lines ≡ before ++ step_lines worker order (replies_in (state_after before) order) → IsLegal lines
+pub data IsLegal (rules : Rules) : List Line → Type 0 where
+  nothing : IsLegal rules []
+  step : (before : List Line) (worker : ℕ) (order : Order) {lines : List Line} → IsLegal rules before
+      → lines ≡ before ++ step_lines worker order (replies_in (state_after rules before) order) → IsLegal rules lines
 
 -- the line asks
 abbrev pub is_asked : Line → Bool

@@ -7,15 +7,16 @@ use Rattle.fl_history.specs.declared.history.Line.{Line}
 use Rattle.fl_history.specs.declared.history.Line.TheVariants as line
 use Rattle.fl_order.specs.declared.order.Order.{Order}
 use Rattle.fl_order.specs.declared.told.Told.{Told}
+use Rattle.fl_waiting.specs.declared.rules.Rules.{Rules}
 
 -- lines that are read one after another: the state, and the order that was asked last, if it has no reply yet
 pub record Reading : Type 0 where
   pub state : State
   pub waiting : Option Order
 
--- nothing is read yet
-abbrev pub unread : Reading
-unread = record { state = opening; waiting = None }
+-- nothing is read yet, under these rules
+abbrev pub unread : Rules → Reading
+unread rules = record { state = opening rules; waiting = None }
 
 -- no reply of its own comes to the order that was asked last
 abbrev pub committed : Option Order → State → State
@@ -36,9 +37,9 @@ read_line r (line.Told told) = record { state = read_reply r.waiting told r.stat
 abbrev pub state_at_end : Reading → State
 state_at_end r = committed r.waiting r.state
 
--- the state after lines, read off the lines alone
-abbrev pub state_after : List Line → State
-state_after lines = state_at_end (fold read_line unread lines)
+-- the state after lines, read off the rules and the lines alone
+abbrev pub state_after : Rules → List Line → State
+state_after rules lines = state_at_end (fold read_line (unread rules) lines)
 
 -- the state after later replies, one after another
 abbrev pub all_later : List Told → State → State

@@ -1,25 +1,26 @@
--- What a judge says of a history.
+-- What a judge says of a history, under the rules by which requests wait.
 use Rattle.std.specs.Prelude.{ℕ, ◌+◌, ◌-◌, ◌≤◌, List, ◌++◌, length, take}
 use Rattle.fl_desk.specs.Legal.{IsLegal}
 use Rattle.fl_desk.specs.declared.judge.Verdict.{Verdict}
 use Rattle.fl_desk.specs.declared.judge.Verdict.TheVariants.{Legal, Differs}
 use Rattle.fl_history.specs.declared.history.Line.{Line}
+use Rattle.fl_waiting.specs.declared.rules.Rules.{Rules}
 
 -- some legal history begins with these lines
-pub record IsBeginning (lines : List Line) : Type 0 where
+pub record IsBeginning (rules : Rules) (lines : List Line) : Type 0 where
   pub rest : List Line
-  pub legal : IsLegal (lines ++ rest)
+  pub legal : IsLegal rules (lines ++ rest)
 
 -- The history isn't legal. The lines before this one, counted from 1, are a beginning of a legal history, and no more
 -- are; it is the line after the last one where all are.
-pub record DiffersAt (lines : List Line) (n : ℕ) : Type 0 where
-  pub illegal : IsLegal lines → ⊥
+pub record DiffersAt (rules : Rules) (lines : List Line) (n : ℕ) : Type 0 where
+  pub illegal : IsLegal rules lines → ⊥
   pub from : 1 ≤ n
   pub upto : n ≤ length lines + 1
-  pub before : IsBeginning (take (n - 1) lines)
-  pub no_more : n ≤ length lines → IsBeginning (take n lines) → ⊥
+  pub before : IsBeginning rules (take (n - 1) lines)
+  pub no_more : n ≤ length lines → IsBeginning rules (take n lines) → ⊥
 
 -- what a verdict says of a history
-abbrev pub IsVerdict : List Line → Verdict → Type 0
-IsVerdict lines Legal = IsLegal lines
-IsVerdict lines (Differs n) = DiffersAt lines n
+abbrev pub IsVerdict : Rules → List Line → Verdict → Type 0
+IsVerdict rules lines Legal = IsLegal rules lines
+IsVerdict rules lines (Differs n) = DiffersAt rules lines n

@@ -7,7 +7,7 @@ ghost use Rattle.fl_core.specs.Step.{next, replies_in};
 ghost use Rattle.fl_desk.specs.Legal.{IsLegal, step_lines};
 ghost use Rattle.fl_desk.specs.Kept.{IsKept, opening_book};
 
-use fl_core::{Core, MOST_TOLDS, Tolds};
+use fl_core::{Core, MOST_TOLDS, Rules, Tolds};
 use fl_history::{History, Lines};
 use fl_keeper::Keeper;
 use fl_order::{NoMemory, Order, Told};
@@ -39,17 +39,17 @@ impl<K: Keeper> Model for Desk<K> {
 }
 
 impl<K: Keeper> Desk<K> {
-    /// A desk that has taken no order, whose lines go to this keeper, which has none so far. Where it is refused, the keeper is
-    /// let go.
-    pub fn over(alloc: Global, kept: K) -> Result<Desk<K>, NoMemory>
+    /// A desk that has taken no order, whose lines go to this keeper, which has none so far. Requests will wait by these
+    /// rules. Where it is refused, the keeper is let go.
+    pub fn over(alloc: Global, kept: K, rules: Rules) -> Result<Desk<K>, NoMemory>
     where
         K: Drop,
         requires none { K.lines kept ≡ [] }
         ensures lines { IfOk result (λ desk. desk.lines ≡ []) }
-        ensures present { IfOk result (λ desk. desk.present ≡ snapshot_of opening) }
+        ensures present { IfOk result (λ desk. desk.present ≡ snapshot_of (opening rules)) }
         ensures room { IfOk result (λ desk. desk.room ≡ K.room kept) }
     {
-        let present = Core::new(alloc)?;
+        let present = Core::new(alloc, rules)?;
         Ok(Desk { kept, present })
     }
 
@@ -65,7 +65,8 @@ impl<K: Keeper> Desk<K> {
     /// Takes an order of a worker: records it, answers it, and hands out the replies that it records.
     /// A refusal changes nothing, and doesn't come where there is room for `MOST_LINES` lines more.
     pub fn take(&mut self, worker: u32, order: &Order, tolds: &mut Tolds) -> Result<(), NoMemory>
-        ensures replies { OnOk result (tolds.new ≡ replies_in (state_after self.old.lines) order.now) }
+        ensures replies { OnOk result
+            (tolds.new ≡ replies_in (state_after self.old.present.rules self.old.lines) order.now) }
         ensures lines { OnOk result (self.new.lines ≡ self.old.lines ++ step_lines worker order.now tolds.new) }
         ensures next { OnOk result (self.new.present ≡ next self.old.present order.now) }
         ensures refused { OnErr result
@@ -88,10 +89,10 @@ impl<K: Keeper> Desk<K> {
         self.kept.pause();
     }
 
-    /// Its keeper, with the lines of all that it took.
+    /// Its keeper, with the lines of all that it took. They are legal under its rules.
     pub fn into_kept(self) -> K
         ensures lines { K.lines result ≡ self.lines }
-        ensures legal { IsLegal (K.lines result) }
+        ensures legal { IsLegal self.present.rules (K.lines result) }
     {
         let Desk { kept, present: _ } = self;
         kept
@@ -99,17 +100,17 @@ impl<K: Keeper> Desk<K> {
 }
 
 impl Desk {
-    /// A desk that has taken no order.
-    pub fn new(alloc: Global) -> Result<Desk, NoMemory>
-        ensures { IfOk result (λ desk. desk ≡ opening_book) }
+    /// A desk that has taken no order. Requests will wait by these rules.
+    pub fn new(alloc: Global, rules: Rules) -> Result<Desk, NoMemory>
+        ensures { IfOk result (λ desk. desk ≡ opening_book rules) }
     {
-        Desk::over(alloc, Lines::new(alloc))
+        Desk::over(alloc, Lines::new(alloc), rules)
     }
 
-    /// The history of all that it took.
+    /// The history of all that it took. It is legal under its rules.
     pub fn into_history(self) -> History
         ensures lines { result ≡ self.lines }
-        ensures legal { IsLegal result }
+        ensures legal { IsLegal self.present.rules result }
     {
         History::of(self.into_kept())
     }

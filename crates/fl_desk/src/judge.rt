@@ -1,4 +1,4 @@
-//! The judge of a history: whether it is one of one thread.
+//! The judge of a history: whether it is one of one thread, under the rules by which requests wait.
 
 ghost use Rattle.std.specs.Prelude.{◌≡◌, ◌≢◌, ◌↔◌, ◌≤◌, ◌<◌, ◌^◌, true, Some, IfOk, length, map, take, drop};
 ghost use Rattle.std.specs.List.{slice_get};
@@ -6,7 +6,7 @@ ghost use Rattle.fl_desk.specs.Verdicts.{IsVerdict};
 ghost use Rattle.fl_history.specs.declared.history.Line.TheVariants as line;
 ghost use Rattle.fl_order.specs.declared.told.Told.{Told};
 
-use fl_core::{Core, Tolds};
+use fl_core::{Core, Rules, Tolds};
 use fl_history::{History, Line};
 use fl_order::{NoMemory, Told};
 use std::alloc::Global;
@@ -14,19 +14,21 @@ use std::alloc::Global;
 /// What a judge says of a history.
 #[derive(Clone, Copy, Debug, PartialEq, Eq)]
 pub enum Verdict {
-    /// It is one of one thread: each order is answered, at once or later, as the sequential directory answers then.
+    /// It is one of one thread: each order is answered, at once or later, as the sequential directory answers then, under
+    /// the rules that it is judged by.
     Legal,
     /// It isn't. The lines before this one, counted from 1, are a beginning of a legal history, and no more are. Where
     /// only replies are missing at its end, this is the line after its last.
     Differs(usize),
 }
 
-/// Judges a history: takes its orders anew, one after another, and compares the replies. It goes through the lines
-/// once, and takes memory for one directory and one list of replies.
-pub fn check(alloc: Global, history: &History) -> Result<Verdict, NoMemory>
-    ensures { IfOk result (λ verdict. IsVerdict history.now verdict) }
+/// Judges a history under these rules: takes its orders anew, one after another, and compares the replies. What is legal
+/// under some rules needn't be so under others. It goes through the lines once, and takes memory for one directory and
+/// one list of replies.
+pub fn check(alloc: Global, history: &History, rules: Rules) -> Result<Verdict, NoMemory>
+    ensures { IfOk result (λ verdict. IsVerdict rules history.now verdict) }
 {
-    let mut core = Core::new(alloc)?;
+    let mut core = Core::new(alloc, rules)?;
     let mut tolds = Tolds::new(alloc)?;
     let mut at = 0;
     while at < history.len() {

@@ -11,13 +11,14 @@ ghost use Rattle.fl_history.specs.declared.history.Line.{Line};
 ghost use Rattle.fl_history.specs.declared.history.Line.TheVariants as line;
 ghost use Rattle.fl_order.specs.declared.told.Told.{Told};
 ghost use Rattle.fl_order.specs.declared.order.Order.{Order};
+ghost use Rattle.fl_waiting.specs.declared.rules.Rules.{Rules};
 
 use fl_core::laws::a_step_is_what_its_replies_give;
 
-/// No lines lead to the opening. Lines with one order more, and the replies that it gets in what the lines lead to, lead to what
-/// is there after it.
+/// No lines lead to the opening, under any rules. Lines with one order more, and the replies that it gets in what the
+/// lines lead to, lead to what is there after it, under the same rules.
 pub fn an_order_leads_on()
-    ensures nothing { LeadsTo [] (snapshot_of opening) }
+    ensures nothing { (rules : Rules) → LeadsTo [] (snapshot_of (opening rules)) }
     ensures step { (lines : List Line) (p : Snapshot) (worker : ℕ) (order : Order) → LeadsTo lines p →
         LeadsTo (lines ++ step_lines worker order (replies p order)) (next p order) }
 {
@@ -26,24 +27,26 @@ pub fn an_order_leads_on()
 
 /// The lines of an order and its replies are read as its own reply, or as none, and then as each other reply.
 pub fn own_reply_comes_first()
-    ensures own { (lines : List Line) (worker : ℕ) (order : Order) (told : Told) (tolds : List Told) →
+    ensures own { (rules : Rules) (lines : List Line) (worker : ℕ) (order : Order) (told : Told) (tolds : List Told) →
         told.unique ≡ order.unique →
-        state_after (lines ++ step_lines worker order (told ∷ tolds)) ≡
-        all_later tolds (recorded (at_once order (Some told.result)) (state_after lines)) }
-    ensures none { (lines : List Line) (worker : ℕ) (order : Order) (tolds : List Told) →
+        state_after rules (lines ++ step_lines worker order (told ∷ tolds)) ≡
+        all_later tolds (recorded (at_once order (Some told.result)) (state_after rules lines)) }
+    ensures none { (rules : Rules) (lines : List Line) (worker : ℕ) (order : Order) (tolds : List Told) →
         AllOthers order.unique tolds →
-        state_after (lines ++ step_lines worker order tolds) ≡
-        all_later tolds (recorded (at_once order None) (state_after lines)) }
+        state_after rules (lines ++ step_lines worker order tolds) ≡
+        all_later tolds (recorded (at_once order None) (state_after rules lines)) }
 {}
 
-/// A legal history goes order by order: it leads to its state; behind a legal beginning come an order and its replies, or
-/// nothing; and what stands before an order is legal itself.
+/// A legal history goes order by order: it leads to its state, whose rules are those that it began with; behind a legal
+/// beginning come an order and its replies, or nothing; and what stands before an order is legal itself.
 pub fn a_legal_history_goes_on_by_orders()
-    ensures leads { (lines : List Line) → IsLegal lines → LeadsTo lines (snapshot_of (state_after lines)) }
-    ensures next { (before rest : List Line) (p : Snapshot) → LeadsTo before p → IsLegal (before ++ rest) →
+    ensures leads { (rules : Rules) (lines : List Line) → IsLegal rules lines →
+        LeadsTo lines (snapshot_of (state_after rules lines)) }
+    ensures rules { (rules : Rules) (lines : List Line) → (state_after rules lines).rules ≡ rules }
+    ensures next { (before rest : List Line) (p : Snapshot) → LeadsTo before p → IsLegal p.rules (before ++ rest) →
         GoesOn p rest }
-    ensures asked { (before rest : List Line) (worker : ℕ) (order : Order) →
-        IsLegal (before ++ line.Asked worker order ∷ rest) → IsLegal before }
+    ensures asked { (rules : Rules) (before rest : List Line) (worker : ℕ) (order : Order) →
+        IsLegal rules (before ++ line.Asked worker order ∷ rest) → IsLegal rules before }
 {
     a_step_is_what_its_replies_give();
 }

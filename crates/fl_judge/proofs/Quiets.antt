@@ -7,6 +7,7 @@ use Rattle.fl_history.specs.declared.history.Line.TheVariants as line
 use Rattle.fl_order.specs.declared.order.Order.{Order}
 use Rattle.fl_order.specs.declared.told.Told.{Told}
 use Rattle.fl_quiet.specs.Quiet.{asks_while_waiting, IsQuiet}
+use Rattle.fl_waiting.specs.declared.rules.Rules.{Rules}
 
 -- a line among lines and one more: it is that one, or one of the lines
 abbrev Found : List Line → Line → List Line → Line → Type 0
@@ -27,21 +28,21 @@ found (y ∷ lines) (b ∷ before) rest l x e =
     (found lines before rest l x tail)
 
 -- lines before one more are quiet where all are
-quiet_before : (lines : List Line) (l : Line) → IsQuiet (lines ++ l ∷ []) → IsQuiet lines
-quiet_before lines l quiet before worker order rest is =
+quiet_before : (rules : Rules) (lines : List Line) (l : Line) → IsQuiet rules (lines ++ l ∷ []) → IsQuiet rules lines
+quiet_before rules lines l quiet before worker order rest is =
     quiet before worker order (rest ++ l ∷ [])
     (ap (λ ls. ls ++ l ∷ []) is ∙ append_assoc before (line.Asked worker order ∷ rest) (l ∷ []))
 
 -- a reply more
-pub quiet_told : (lines : List Line) (told : Told) (quiet : Bool) → (quiet ≡ true) ↔ IsQuiet lines
-    → (quiet ≡ true) ↔ IsQuiet (lines ++ line.Told told ∷ [])
-quiet_told lines told quiet known = (
+pub quiet_told : (rules : Rules) (lines : List Line) (told : Told) (quiet : Bool) → (quiet ≡ true) ↔ IsQuiet rules lines
+    → (quiet ≡ true) ↔ IsQuiet rules (lines ++ line.Told told ∷ [])
+quiet_told rules lines told quiet known = (
   λ so before worker order rest is. ⊎_elim
       (λ here. absurd (let never : line.Told told ≡ line.Asked worker order = here.1 in cc never))
       (λ (there : (more : List Line) × (lines ≡ before ++ line.Asked worker order ∷ more)).
       (known.0 so) before worker order there.0 there.1)
       (found lines before rest (line.Told told) (line.Asked worker order) is),
-  λ all. known.1 (quiet_before lines (line.Told told) all),
+  λ all. known.1 (quiet_before rules lines (line.Told told) all),
 )
 
 both : (a b : Bool) → (a && not b) ≡ true → (a ≡ true) × (b ≡ false)
@@ -53,25 +54,25 @@ neither : (a b : Bool) → a ≡ true → b ≡ false → (a && not b) ≡ true
 neither a b x y = λ i. x i && not (y i)
 
 -- an order more
-pub quiet_asked : (lines : List Line) (worker : ℕ) (order : Order) (quiet asks : Bool) → (quiet ≡ true) ↔ IsQuiet lines
-    → asks ≡ asks_while_waiting (asked_by order.op) (state_after lines).view.parked
-    → ((quiet && not asks) ≡ true) ↔ IsQuiet (lines ++ line.Asked worker order ∷ [])
-quiet_asked lines worker order quiet asks known is = (
+pub quiet_asked : (rules : Rules) (lines : List Line) (worker : ℕ) (order : Order) (quiet asks : Bool) → (quiet ≡ true) ↔ IsQuiet rules lines
+    → asks ≡ asks_while_waiting (asked_by order.op) (state_after rules lines).view.parked
+    → ((quiet && not asks) ≡ true) ↔ IsQuiet rules (lines ++ line.Asked worker order ∷ [])
+quiet_asked rules lines worker order quiet asks known is = (
   λ so before w o rest at.
       let two = both quiet asks so in
       ⊎_elim
       (λ (here : (lines ≡ before) × (line.Asked worker order ≡ line.Asked w o)).
       let same : order ≡ o = cc here.1 in
-      subst (λ (o : Order). asks_while_waiting (asked_by o.op) (state_after before).view.parked ≡ false) same
-      (subst (λ ls. asks_while_waiting (asked_by order.op) (state_after ls).view.parked ≡ false) here.0 (sym is ∙ two.1)))
+      subst (λ (o : Order). asks_while_waiting (asked_by o.op) (state_after rules before).view.parked ≡ false) same
+      (subst (λ ls. asks_while_waiting (asked_by order.op) (state_after rules ls).view.parked ≡ false) here.0 (sym is ∙ two.1)))
       (λ (there : (more : List Line) × (lines ≡ before ++ line.Asked w o ∷ more)). (known.0 two.0) before w o there.0 there.1)
       (found lines before rest (line.Asked worker order) (line.Asked w o) at),
-  λ all. neither quiet asks (known.1 (quiet_before lines (line.Asked worker order) all)) (is ∙ all lines worker order [] refl),
+  λ all. neither quiet asks (known.1 (quiet_before rules lines (line.Asked worker order) all)) (is ∙ all lines worker order [] refl),
 )
 
 -- no line is quiet
-pub quiet_nothing : (quiet : Bool) → quiet ≡ true → (quiet ≡ true) ↔ IsQuiet []
-quiet_nothing quiet is = (
+pub quiet_nothing : (rules : Rules) (quiet : Bool) → quiet ≡ true → (quiet ≡ true) ↔ IsQuiet rules []
+quiet_nothing rules quiet is = (
   λ _ before worker order rest at. absurd (let long = ap length at in omega (arith, long, length-append before (line.Asked worker order ∷ rest))),
   λ _. is,
 )

@@ -54,7 +54,7 @@ opens r leads none quiet =
     record {
       leads = subst (λ l. LeadsTo l r.core) (sym e) leads;
       due = λ rest legal. (rest, sym (ap (λ l. l ++ rest) e));
-      quiet = quiet_nothing r.quiet quiet;
+      quiet = quiet_nothing r.core.rules r.quiet quiet;
     }
 
 -- the reply that is due
@@ -68,16 +68,19 @@ told_on before after due is core tolds told quiet lines up =
       leads = subst (λ p. LeadsTo ((lines ++ l ∷ []) ++ due_lines after) p) (sym core)
           (subst (λ ls. LeadsTo ls before.core) (ap (λ d. lines ++ d) e ∙ sym (behind lines (due_lines after) l)) up.leads);
       due = λ rest legal.
-          let w = up.due (l ∷ rest) (subst IsLegal (behind lines rest l) legal) in
+          let w = up.due (l ∷ rest) (subst (IsLegal before.core.rules) (behind lines rest l)
+          (subst (λ (p : Snapshot). IsLegal p.rules ((lines ++ l ∷ []) ++ rest)) core legal)) in
           (w.0, same_tail l l rest (due_lines after ++ w.0) (w.1 ∙ ap (λ d. d ++ w.0) e));
-      quiet = subst (λ q. (q ≡ true) ↔ IsQuiet (lines ++ l ∷ [])) (sym quiet) (quiet_told lines due before.quiet up.quiet);
+      quiet = subst (λ q. (q ≡ true) ↔ IsQuiet after.core.rules (lines ++ l ∷ [])) (sym quiet)
+          (subst (λ (p : Snapshot). (before.quiet ≡ true) ↔ IsQuiet p.rules (lines ++ l ∷ [])) (sym core)
+          (quiet_told before.core.rules lines due before.quiet up.quiet));
     }
 
 -- another line stands where a reply is due
 pub told_wrong : (before : Replay) (due : Told) (l : Line) → slice_get before.tolds before.told ≡ Some due → l ≢ line.Told due
-    → (lines : List Line) → LeadsUpTo lines before → IsBeginning (lines ++ l ∷ []) → ⊥
+    → (lines : List Line) → LeadsUpTo lines before → IsBeginning before.core.rules (lines ++ l ∷ []) → ⊥
 told_wrong before due l is other lines up b =
-    let w = up.due (l ∷ b.rest) (subst IsLegal (behind lines b.rest l) b.legal) in
+    let w = up.due (l ∷ b.rest) (subst (IsLegal before.core.rules) (behind lines b.rest l) b.legal) in
     other (same_head l (line.Told due) b.rest (told_lines (drop (suc before.told) before.tolds) ++ w.0)
     (w.1 ∙ ap (λ t. told_lines t ++ w.0) (left_from before.tolds before.told due is)))
 
@@ -87,7 +90,7 @@ all_told r lines none up =
     subst (λ l. LeadsTo l r.core) (ap (λ t. lines ++ told_lines t) (none_left r.tolds r.told none) ∙ append-nil lines) up.leads
 
 abbrev GoesByOrders : Type 0
-GoesByOrders = (before rest : List Line) (p : Snapshot) → LeadsTo before p → IsLegal (before ++ rest) → GoesOn p rest
+GoesByOrders = (before rest : List Line) (p : Snapshot) → LeadsTo before p → IsLegal p.rules (before ++ rest) → GoesOn p rest
 
 abbrev LeadsOn : Type 0
 LeadsOn = (lines : List Line) (p : Snapshot) (worker : ℕ) (order : Order) → LeadsTo lines p →
@@ -95,9 +98,10 @@ LeadsOn = (lines : List Line) (p : Snapshot) (worker : ℕ) (order : Order) → 
 
 -- a reply stands where an order is due
 pub order_wrong : GoesByOrders → (before : Replay) (told : Told) → slice_get before.tolds before.told ≡ None
-    → (lines : List Line) → LeadsUpTo lines before → IsBeginning (lines ++ line.Told told ∷ []) → ⊥
+    → (lines : List Line) → LeadsUpTo lines before → IsBeginning before.core.rules (lines ++ line.Told told ∷ []) → ⊥
 order_wrong goes_on before told none lines up b =
-    no_order (goes_on lines (line.Told told ∷ b.rest) before.core (all_told before lines none up) (subst IsLegal (behind lines b.rest (line.Told told)) b.legal))
+    no_order (goes_on lines (line.Told told ∷ b.rest) before.core (all_told before lines none up)
+    (subst (IsLegal before.core.rules) (behind lines b.rest (line.Told told)) b.legal))
   where
     no_order : GoesOn before.core (line.Told told ∷ b.rest) → ⊥
     no_order (ends e) = cc e
@@ -120,6 +124,7 @@ pub order_on : LeadsOn → GoesByOrders → (before after : Replay) (worker : �
 order_on leads_on goes_on before after worker order none core tolds told quiet lines up =
     let l = line.Asked worker order in
     let so_far = all_told before lines none up in
+    let asks = asks_while_waiting (asked_by order.op) before.core.view.parked in
     let e : due_lines after ≡ told_lines (replies before.core order) = λ i. told_lines (drop (told i) (tolds i)) in
     record {
       leads = subst (λ p. LeadsTo ((lines ++ l ∷ []) ++ due_lines after) p) (sym core)
@@ -127,11 +132,13 @@ order_on leads_on goes_on before after worker order none core tolds told quiet l
           (leads_on lines before.core worker order so_far));
       due = λ rest legal.
           let w = replies_next before.core worker order rest
-          (goes_on lines (l ∷ rest) before.core so_far (subst IsLegal (behind lines rest l) legal)) in
+          (goes_on lines (l ∷ rest) before.core so_far (subst (IsLegal before.core.rules) (behind lines rest l)
+          (subst (λ (p : Snapshot). IsLegal p.rules ((lines ++ l ∷ []) ++ rest)) core legal))) in
           (w.0, w.1 ∙ ap (λ d. d ++ w.0) (sym e));
-      quiet = subst (λ q. (q ≡ true) ↔ IsQuiet (lines ++ l ∷ [])) (sym quiet)
-          (quiet_asked lines worker order before.quiet (asks_while_waiting (asked_by order.op) before.core.view.parked) up.quiet
-          (ap (λ (p : Snapshot). asks_while_waiting (asked_by order.op) p.view.parked) so_far.stands));
+      quiet = subst (λ q. (q ≡ true) ↔ IsQuiet after.core.rules (lines ++ l ∷ [])) (sym quiet)
+          (subst (λ (p : Snapshot). ((before.quiet && not asks) ≡ true) ↔ IsQuiet p.rules (lines ++ l ∷ [])) (sym core)
+          (quiet_asked before.core.rules lines worker order before.quiet asks up.quiet
+          (ap (λ (p : Snapshot). asks_while_waiting (asked_by order.op) p.view.parked) so_far.stands)));
     }
 
 -- ---- in the words of `take`
@@ -140,6 +147,6 @@ pub alike : (before after : Replay) (l : Line) (b : Bool) → b ≡ true → ((l
     → GoesOnAlike before l b after
 alike before after l b is on = subst (λ b. GoesOnAlike before l b after) (sym is) on
 
-pub unlike : (before after : Replay) (l : Line) (b : Bool) → b ≡ false → ((lines : List Line) → LeadsUpTo lines before → IsBeginning (lines ++ l ∷ []) → ⊥)
-    → GoesOnAlike before l b after
+pub unlike : (before after : Replay) (l : Line) (b : Bool) → b ≡ false
+    → ((lines : List Line) → LeadsUpTo lines before → IsBeginning before.core.rules (lines ++ l ∷ []) → ⊥) → GoesOnAlike before l b after
 unlike before after l b is wrong = subst (λ b. GoesOnAlike before l b after) (sym is) wrong

@@ -8,33 +8,46 @@ use Rattle.fl_desk.specs.Verdicts.{IsBeginning, DiffersAt}
 use Rattle.fl_history.specs.declared.history.Line.{Line}
 use Rattle.fl_history.specs.declared.history.Line.TheVariants as line
 use Rattle.fl_judge.specs.declared.replay.Replay.{Replay}
+use Rattle.fl_judge.specs.Hearing.{Hearing}
 use Rattle.fl_judge.specs.Inside.Heard.{told_lines, due_lines, LeadsUpTo, GoesOnAlike, DiffersIn, Stands, IsHeard}
 use Rattle.fl_judge.proofs.Replays.{left_from, all_told}
 use Rattle.fl_order.specs.declared.told.Told.{Told}
 use Rattle.fl_quiet.specs.Quiet.{IsQuiet}
+use Rattle.fl_waiting.specs.declared.rules.Rules.{Rules}
+
+-- what contracts see of a judge that heard these lines
+abbrev seen : Replay → List Line → Hearing
+seen r lines = record { rules = r.core.rules; lines = lines }
+
+abbrev Begins : Hearing → Type 0
+Begins h = IsBeginning h.rules h.lines
+
+abbrev Quiet : Hearing → Type 0
+Quiet h = IsQuiet h.rules h.lines
 
 -- what a beginning begins with is one
-shorter : (n : ℕ) (lines : List Line) → IsBeginning lines → IsBeginning (take n lines)
-shorter n lines b = record {
+shorter : (rules : Rules) (n : ℕ) (lines : List Line) → IsBeginning rules lines → IsBeginning rules (take n lines)
+shorter rules n lines b = record {
   rest = drop n lines ++ b.rest;
-  legal = subst IsLegal (sym (sym (append_assoc (take n lines) (drop n lines) b.rest) ∙ ap (λ l. l ++ b.rest) (take-append-drop n lines))) b.legal;
+  legal =
+      subst (IsLegal rules) (sym (sym (append_assoc (take n lines) (drop n lines) b.rest) ∙ ap (λ l. l ++ b.rest) (take-append-drop n lines))) b.legal;
 }
 
 -- lines that a replay led up to are a beginning
-pub begins : (lines : List Line) (r : Replay) → LeadsUpTo lines r → IsBeginning lines
+pub begins : (lines : List Line) (r : Replay) → LeadsUpTo lines r → IsBeginning r.core.rules lines
 begins lines r up = record { rest = due_lines r; legal = up.leads.legal }
 
 -- lines that differ are none
-pub differs : (lines : List Line) (n : ℕ) → DiffersIn lines n → IsBeginning lines → ⊥
-differs lines n d b = d.wrong (shorter n lines b)
+pub differs : (rules : Rules) (lines : List Line) (n : ℕ) → DiffersIn rules lines n → IsBeginning rules lines → ⊥
+differs rules lines n d b = d.wrong (shorter rules n lines b)
 
-whole : (lines : List Line) → IsLegal lines → IsBeginning lines
-whole lines legal = record { rest = []; legal = subst IsLegal (sym (append-nil lines)) legal }
+whole : (rules : Rules) (lines : List Line) → IsLegal rules lines → IsBeginning rules lines
+whole rules lines legal = record { rest = []; legal = subst (IsLegal rules) (sym (append-nil lines)) legal }
 
 -- so it is said where they differ
-pub said : (lines : List Line) (n : ℕ) → DiffersIn lines n → DiffersAt lines n
-said lines n d = record {
-  illegal = λ legal. differs lines n d (whole lines legal);
+pub said : (rules : Rules) (lines : List Line) (n : ℕ) → DiffersIn rules lines n → DiffersAt rules lines n
+said rules lines n d = record {
+  illegal = λ legal. differs rules lines n d (whole rules lines legal);
   from = d.from;
   upto = omega (arith, d.within);
   before = d.before;
@@ -42,62 +55,67 @@ said lines n d = record {
 }
 
 -- replies are missing
-missing : (lines : List Line) (r : Replay) (due : Told) (n : ℕ) → n ≡ length lines + 1 → slice_get r.tolds r.told ≡ Some due → LeadsUpTo lines r → DiffersAt lines n
+missing : (lines : List Line) (r : Replay) (due : Told) (n : ℕ) → n ≡ length lines + 1 → slice_get r.tolds r.told ≡ Some due → LeadsUpTo lines r
+    → DiffersAt r.core.rules lines n
 missing lines r due n at is up = record {
   illegal = λ legal.
-      let w = up.due [] (subst IsLegal (sym (append-nil lines)) legal) in
+      let w = up.due [] (subst (IsLegal r.core.rules) (sym (append-nil lines)) legal) in
       let e : [] ≡ line.Told due ∷ (told_lines (drop (suc r.told) r.tolds) ++ w.0) = w.1 ∙ ap (λ t. told_lines t ++ w.0) (left_from r.tolds r.told due is) in
       cc e;
   from = omega (arith, at);
   upto = omega (arith, at);
-  before = subst IsBeginning (sym (take_all (n - 1) lines (omega (arith, at)))) (begins lines r up);
+  before = subst (IsBeginning r.core.rules) (sym (take_all (n - 1) lines (omega (arith, at)))) (begins lines r up);
   no_more = λ within _. absurd (omega (arith, at, within));
 }
 
 -- ---- one line more
 
 -- where lines differed, they differ with one line more
-still : (lines : List Line) (l : Line) (n : ℕ) → DiffersIn lines n → DiffersIn (lines ++ l ∷ []) n
-still lines l n d =
+still : (rules : Rules) (lines : List Line) (l : Line) (n : ℕ) → DiffersIn rules lines n → DiffersIn rules (lines ++ l ∷ []) n
+still rules lines l n d =
     let at : n ≤ length lines = d.within in
     let below : n - 1 ≤ length lines = omega (arith, at) in
     record {
       from = d.from;
       within = omega (arith, at, length-append lines (l ∷ []));
-      before = subst IsBeginning (sym (take-append-le (n - 1) lines (l ∷ []) below)) d.before;
-      wrong = λ b. d.wrong (subst IsBeginning (take-append-le n lines (l ∷ []) at) b);
+      before = subst (IsBeginning rules) (sym (take-append-le (n - 1) lines (l ∷ []) below)) d.before;
+      wrong = λ b. d.wrong (subst (IsBeginning rules) (take-append-le n lines (l ∷ []) at) b);
     }
 
 -- here they differ
-first_wrong : (lines : List Line) (l : Line) (n : ℕ) → n ≡ length lines + 1 → IsBeginning lines → (IsBeginning (lines ++ l ∷ []) → ⊥) → DiffersIn (lines ++ l ∷ []) n
-first_wrong lines l n at before wrong =
+first_wrong : (rules : Rules) (lines : List Line) (l : Line) (n : ℕ) → n ≡ length lines + 1 → IsBeginning rules lines
+    → (IsBeginning rules (lines ++ l ∷ []) → ⊥) → DiffersIn rules (lines ++ l ∷ []) n
+first_wrong rules lines l n at before wrong =
     let long : length (lines ++ l ∷ []) ≡ length lines + 1 = length-append lines (l ∷ []) in
     record {
       from = omega (arith, at);
       within = omega (arith, at, long);
-      before = subst IsBeginning (sym (take-append-le (n - 1) lines (l ∷ []) (omega (arith, at)) ∙ take_all (n - 1) lines (omega (arith, at)))) before;
-      wrong = λ b. wrong (subst IsBeginning (take_all n (lines ++ l ∷ []) (omega (arith, at, long))) b);
+      before =
+          subst (IsBeginning rules) (sym (take-append-le (n - 1) lines (l ∷ []) (omega (arith, at)) ∙ take_all (n - 1) lines (omega (arith, at)))) before;
+      wrong = λ b. wrong (subst (IsBeginning rules) (take_all n (lines ++ l ∷ []) (omega (arith, at, long))) b);
     }
 
 -- ---- in the words of the judge
 
-pub missing_some : (lines now : List Line) (r : Replay) (o : Option Told) (n : ℕ) → lines ≡ now → n ≡ length lines + 1 → o ≡ slice_get r.tolds r.told
-    → is_some o ≡ true → LeadsUpTo lines r → DiffersAt now n
+pub missing_some : (lines : List Line) (now : Hearing) (r : Replay) (o : Option Told) (n : ℕ) → seen r lines ≡ now → n ≡ length lines + 1
+    → o ≡ slice_get r.tolds r.told → is_some o ≡ true → LeadsUpTo lines r → DiffersAt now.rules now.lines n
 missing_some lines now r None n same at is some up = absurd (cc some)
-missing_some lines now r (Some due) n same at is some up = subst (λ l. DiffersAt l n) same (missing lines r due n at (sym is) up)
+missing_some lines now r (Some due) n same at is some up =
+    subst (λ (h : Hearing). DiffersAt h.rules h.lines n) same (missing lines r due n at (sym is) up)
 
-pub legal_none : (lines now : List Line) (r : Replay) (o : Option Told) → lines ≡ now → o ≡ slice_get r.tolds r.told
-    → is_some o ≡ false → LeadsUpTo lines r → IsLegal now
-legal_none lines now r None same is none up = subst IsLegal same (all_told r lines (sym is) up).legal
+pub legal_none : (lines : List Line) (now : Hearing) (r : Replay) (o : Option Told) → seen r lines ≡ now → o ≡ slice_get r.tolds r.told
+    → is_some o ≡ false → LeadsUpTo lines r → IsLegal now.rules now.lines
+legal_none lines now r None same is none up = subst (λ (h : Hearing). IsLegal h.rules h.lines) same (all_told r lines (sym is) up).legal
 legal_none lines now r (Some due) same is none up = absurd (cc none)
 
 -- exactly where they don't differ, they are a beginning
-pub begins_exactly : (lines now : List Line) (r : Replay) (o : Option ℕ) (b : Bool) → lines ≡ now → is_some o ≡ not b → Stands lines r o
-    → (b ≡ true → IsBeginning now) × (IsBeginning now → b ≡ true)
-begins_exactly lines now r None true same e up = (λ _. subst IsBeginning same (begins lines r up), λ _. refl)
+pub begins_exactly : (lines : List Line) (now : Hearing) (r : Replay) (o : Option ℕ) (b : Bool) → seen r lines ≡ now → is_some o ≡ not b → Stands lines r o
+    → (b ≡ true → Begins now) × (Begins now → b ≡ true)
+begins_exactly lines now r None true same e up = (λ _. subst Begins same (begins lines r up), λ _. refl)
 begins_exactly lines now r None false same e up = absurd (cc e)
 begins_exactly lines now r (Some n) true same e d = absurd (cc e)
-begins_exactly lines now r (Some n) false same e d = (λ never. absurd (cc never), λ b. absurd (differs lines n d (subst IsBeginning (sym same) b)))
+begins_exactly lines now r (Some n) false same e d =
+    (λ never. absurd (cc never), λ b. absurd (differs r.core.rules lines n d (subst Begins (sym same) b)))
 
 -- the lines didn't differ so far
 up_to : (lines : List Line) (r : Replay) (o : Option ℕ) → is_some o ≡ false → Stands lines r o → LeadsUpTo lines r
@@ -105,35 +123,43 @@ up_to lines r None e up = up
 up_to lines r (Some n) e d = absurd (cc e)
 
 -- lines that don't differ are a beginning, and the replay knows whether they are quiet
-pub quiet_then : (lines now : List Line) (r : Replay) (o : Option ℕ) → lines ≡ now → is_some o ≡ false → Stands lines r o
-    → (r.quiet ≡ true) ↔ (IsBeginning now × IsQuiet now)
+pub quiet_then : (lines : List Line) (now : Hearing) (r : Replay) (o : Option ℕ) → seen r lines ≡ now → is_some o ≡ false → Stands lines r o
+    → (r.quiet ≡ true) ↔ (Begins now × Quiet now)
 quiet_then lines now r o same e stands =
     let up = up_to lines r o e stands in (
-      λ quiet. (subst IsBeginning same (begins lines r up), subst IsQuiet same (up.quiet.0 quiet)),
-      λ so. up.quiet.1 (subst IsQuiet (sym same) so.1),
+      λ quiet. (subst Begins same (begins lines r up), subst Quiet same (up.quiet.0 quiet)),
+      λ so. up.quiet.1 (subst Quiet (sym same) so.1),
     )
 
 -- those that do are none
-pub quiet_else : (lines now : List Line) (r : Replay) (o : Option ℕ) (b : Bool) → lines ≡ now → is_some o ≡ true → is_some o ≡ not b → Stands lines r o
-    → (b ≡ true) ↔ (IsBeginning now × IsQuiet now)
+pub quiet_else : (lines : List Line) (now : Hearing) (r : Replay) (o : Option ℕ) (b : Bool) → seen r lines ≡ now → is_some o ≡ true → is_some o ≡ not b
+    → Stands lines r o → (b ≡ true) ↔ (Begins now × Quiet now)
 quiet_else lines now r None b same e is stands = absurd (cc e)
 quiet_else lines now r (Some n) true same e is d = absurd (cc is)
-quiet_else lines now r (Some n) false same e is d = (λ never. absurd (cc never), λ so. absurd (differs lines n d (subst IsBeginning (sym same) so.0)))
+quiet_else lines now r (Some n) false same e is d =
+    (λ never. absurd (cc never), λ so. absurd (differs r.core.rules lines n d (subst Begins (sym same) so.0)))
+
+-- the same rules, and one line more
+pub seen_more : (before after : Replay) (lines new : List Line) (l : Line) (old : Hearing) → seen before lines ≡ old
+    → after.core.rules ≡ before.core.rules → new ≡ lines ++ l ∷ [] → seen after new ≡ record old { lines = old.lines ++ l ∷ [] }
+seen_more before after lines new l old is rules lines_are =
+    (λ i. record { rules = rules i; lines = lines_are i }) ∙ ap (λ (h : Hearing). record h { lines = h.lines ++ l ∷ [] }) is
 
 counted : (heard : ℕ) (lines : List Line) (l : Line) → heard ≡ length lines → heard + 1 ≡ length (lines ++ l ∷ [])
 counted heard lines l e = omega (arith, e, length-append lines (l ∷ []))
 
 pub heard_wrong : (lines new : List Line) (l : Line) (heard : ℕ) (before after : Replay) (o : Option ℕ) (b : Bool) → new ≡ lines ++ l ∷ []
     → IsHeard lines heard before o → length lines < 2 ^ 63 → is_some o ≡ false → b ≡ false → GoesOnAlike before l b after
-    → IsHeard new (heard + 1) after (Some (heard + 1))
-heard_wrong lines new l heard before after o b is h few none wrong goes =
+    → after.core.rules ≡ before.core.rules → IsHeard new (heard + 1) after (Some (heard + 1))
+heard_wrong lines new l heard before after o b is h few none wrong goes rules =
     let up = up_to lines before o none h.stands in
-    let w : (ls : List Line) → LeadsUpTo ls before → IsBeginning (ls ++ l ∷ []) → ⊥ = subst (λ b. GoesOnAlike before l b after) wrong goes in
+    let w : (ls : List Line) → LeadsUpTo ls before → IsBeginning before.core.rules (ls ++ l ∷ []) → ⊥ = subst (λ b. GoesOnAlike before l b after) wrong goes in
     subst (λ ls. IsHeard ls (heard + 1) after (Some (heard + 1))) (sym is)
     (record {
       count = counted heard lines l h.count;
       few = omega (arith, h.count, few);
-      stands = first_wrong lines l (heard + 1) (ap (λ k. k + 1) h.count) (begins lines before up) (w lines up);
+      stands = subst (λ r. DiffersIn r (lines ++ l ∷ []) (heard + 1)) (sym rules)
+          (first_wrong before.core.rules lines l (heard + 1) (ap (λ k. k + 1) h.count) (begins lines before up) (w lines up));
     })
 
 pub heard_still : (lines new : List Line) (l : Line) (heard : ℕ) (r : Replay) (o : Option ℕ) → new ≡ lines ++ l ∷ []
@@ -141,7 +167,7 @@ pub heard_still : (lines new : List Line) (l : Line) (heard : ℕ) (r : Replay) 
 heard_still lines new l heard r None is h few some = absurd (cc some)
 heard_still lines new l heard r (Some n) is h few some =
     subst (λ ls. IsHeard ls (heard + 1) r (Some n)) (sym is)
-    (record { count = counted heard lines l h.count; few = omega (arith, h.count, few); stands = still lines l n h.stands })
+    (record { count = counted heard lines l h.count; few = omega (arith, h.count, few); stands = still r.core.rules lines l n h.stands })
 
 pub heard_alike : (lines new : List Line) (l : Line) (heard : ℕ) (before after : Replay) (o : Option ℕ) (b : Bool) → new ≡ lines ++ l ∷ []
     → IsHeard lines heard before o → length lines < 2 ^ 63 → is_some o ≡ false → b ≡ true → GoesOnAlike before l b after

@@ -2,9 +2,11 @@
 
 ghost use Rattle.std.specs.Prelude.{◌≡◌, ◌↔◌, ◌<◌, ◌^◌, ◌++◌, ◌∷◌, [], true, length, IfOk};
 ghost use Rattle.fl_desk.specs.Verdicts.{IsBeginning, IsVerdict};
+ghost use Rattle.fl_judge.specs.Hearing.{unheard};
 ghost use Rattle.fl_quiet.specs.Quiet.{IsQuiet, HasNoCircles};
 
 use crate::replay::Replay;
+use fl_core::Rules;
 use fl_desk::Verdict;
 use fl_history::Line;
 use fl_order::NoMemory;
@@ -14,8 +16,8 @@ use std::alloc::Global;
 use std::marker::Model;
 
 /// A judge of a history, which hears its lines one after another. It takes the orders anew, and compares the replies. Its
-/// memory is that of one directory and one list of replies, however many lines it hears. Contracts see it as the list of
-/// the lines that it heard.
+/// memory is that of one directory and one list of replies, however many lines it hears. Contracts see it as a `Hearing`: the
+/// rules that it judges by, and the lines that it heard.
 #[derive(Drop)]
 pub struct Judge {
     replay: Replay,
@@ -25,25 +27,24 @@ pub struct Judge {
 }
 
 impl Model for Judge {
-    ghost use Rattle.std.specs.Prelude.{List};
-    ghost use Rattle.fl_history.specs.declared.history.Line.{Line};
+    ghost use Rattle.fl_judge.specs.Hearing.{Hearing};
 
-    ghost Value = { List Line };
+    ghost Value = { Hearing };
 
     ghost use Rattle.fl_judge.specs.Inside.Heard.{IsHeard};
 
-    ghost view = { λ j. j.past.items };
+    ghost view = { λ j. record { rules = j.replay.core.rules; lines = j.past.items } };
 
     ghost invariant = { λ j. IsHeard j.past.items j.heard j.replay j.differs };
 }
 
 impl Judge {
-    /// A judge that has heard no line.
-    pub fn new(alloc: Global) -> Result<Judge, NoMemory>
-        ensures { IfOk result (λ judge. judge ≡ []) }
+    /// A judge that has heard no line, and judges by these rules.
+    pub fn new(alloc: Global, rules: Rules) -> Result<Judge, NoMemory>
+        ensures { IfOk result (λ judge. judge ≡ unheard rules) }
     {
         Ok(Judge {
-            replay: Replay::new(alloc)?,
+            replay: Replay::new(alloc, rules)?,
             heard: 0,
             differs: None,
             past: Past::new(),
@@ -52,8 +53,8 @@ impl Judge {
 
     /// Hears one line more. It takes no memory.
     pub fn hear(&mut self, line: &Line)
-        requires { length self.old < 2 ^ 63 }
-        ensures { self.new ≡ self.old ++ line.now ∷ [] }
+        requires { length self.old.lines < 2 ^ 63 }
+        ensures { self.new ≡ record self.old { lines = self.old.lines ++ line.now ∷ [] } }
     {
         self.past = self.past.and(line);
         self.heard += 1;
@@ -64,14 +65,14 @@ impl Judge {
 
     /// How many lines it heard.
     pub fn heard(&self) -> usize
-        ensures { result ≡ length self.now }
+        ensures { result ≡ length self.now.lines }
     {
         self.heard
     }
 
-    /// What is to be said of all lines that it heard, as `check` says it of a history of them.
+    /// What is to be said of all lines that it heard, as `check` says it of a history of them under its rules.
     pub fn verdict(&self) -> Verdict
-        ensures { IsVerdict self.now result }
+        ensures { IsVerdict self.now.rules self.now.lines result }
     {
         if let Some(n) = self.differs {
             Verdict::Differs(n)
@@ -82,18 +83,19 @@ impl Judge {
         }
     }
 
-    /// Whether some legal history begins with the lines that it heard.
+    /// Whether some history that is legal under its rules begins with the lines that it heard.
     pub fn begins(&self) -> bool
-        ensures { (result ≡ true) ↔ IsBeginning self.now }
+        ensures { (result ≡ true) ↔ IsBeginning self.now.rules self.now.lines }
     {
         self.differs.is_none()
     }
 
-    /// Whether some legal history begins with the lines that it heard, and they are quiet: no owner asks for a record lock
-    /// while it waits for one, as `fl_quiet` says. Then owners never wait in a circle.
+    /// Whether some history that is legal under its rules begins with the lines that it heard, and they are quiet: no owner
+    /// asks for a record lock while it waits for one, as `fl_quiet` says. Then owners never wait in a circle.
     pub fn quiet(&self) -> bool
-        ensures exact { (result ≡ true) ↔ (IsBeginning self.now × IsQuiet self.now) }
-        ensures no_circle { result ≡ true → HasNoCircles self.now }
+        ensures exact { (result ≡ true) ↔
+            (IsBeginning self.now.rules self.now.lines × IsQuiet self.now.rules self.now.lines) }
+        ensures no_circle { result ≡ true → HasNoCircles self.now.rules self.now.lines }
     {
         quiet_histories_have_no_circle();
         let Judge {

@@ -5,7 +5,7 @@ ghost use Rattle.std.specs.List.{slice_get};
 ghost use Rattle.fl_history.specs.declared.history.Line.TheVariants as line;
 ghost use Rattle.fl_judge.specs.Inside.Heard.{LeadsUpTo, GoesOnAlike};
 
-use fl_core::{Core, Tolds};
+use fl_core::{Core, Rules, Tolds};
 use fl_desk::laws::{a_legal_history_goes_on_by_orders, an_order_leads_on};
 use fl_history::Line;
 use fl_order::{NoMemory, Told};
@@ -23,13 +23,14 @@ pub(crate) struct Replay {
 }
 
 impl Replay {
-    // Nothing is heard.
-    pub(crate) fn new(alloc: Global) -> Result<Replay, NoMemory>
-        ensures { IfOk result (λ replay. LeadsUpTo [] replay) }
+    // Nothing is heard, and these are the rules.
+    pub(crate) fn new(alloc: Global, rules: Rules) -> Result<Replay, NoMemory>
+        ensures leads { IfOk result (λ replay. LeadsUpTo [] replay) }
+        ensures rules { IfOk result (λ replay. replay.core.rules ≡ rules) }
     {
         an_order_leads_on();
         Ok(Replay {
-            core: Core::new(alloc)?,
+            core: Core::new(alloc, rules)?,
             tolds: Tolds::new(alloc)?,
             told: 0,
             quiet: true,
@@ -38,7 +39,8 @@ impl Replay {
 
     // One line more, if a legal history may go on by it. What it was told stays, where none does.
     pub(crate) fn take(&mut self, line: &Line) -> bool
-        ensures { GoesOnAlike self.old line.now result self.new }
+        ensures goes { GoesOnAlike self.old line.now result self.new }
+        ensures rules { self.new.core.rules ≡ self.old.core.rules }
     {
         an_order_leads_on();
         a_legal_history_goes_on_by_orders();

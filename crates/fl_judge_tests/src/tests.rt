@@ -1,5 +1,6 @@
 //! What a judge says while it hears. A table of orders and their replies is a trace, as `docs/TRACE.md` says.
 
+use fl_core::Rules;
 use fl_desk::Verdict;
 use fl_history::{History, Line};
 use fl_judge::Judge;
@@ -27,9 +28,20 @@ fn read(rt: &(impl Abort + AllocGlobal), text: &str) -> History {
 
 // So a judge says of the lines of a text, after each of them; and some legal history begins with so many of them.
 fn is_heard(rt: &(impl Abort + AllocGlobal), text: &str, wanted: &[Verdict], beginning: usize) {
+    is_heard_under(rt, Rules::standard(), text, wanted, beginning);
+}
+
+// So one says that judges by these rules.
+fn is_heard_under(
+    rt: &(impl Abort + AllocGlobal),
+    rules: Rules,
+    text: &str,
+    wanted: &[Verdict],
+    beginning: usize,
+) {
     let history = read(rt, text);
     assert_eq!(rt; history.len(), wanted.len());
-    let mut judge = Judge::new(rt.alloc()).expect(rt, "memory");
+    let mut judge = Judge::new(rt.alloc(), rules).expect(rt, "memory");
     assert!(rt; judge.verdict() == LEGAL && judge.begins());
     for (at, verdict) in wanted.iter().enumerate() {
         hear(rt, &mut judge, &history.line(at));
@@ -124,9 +136,20 @@ tell 6 ok
 
 // After so many lines of a text a judge says last that they are quiet; it hears so many.
 fn is_quiet_for(rt: &(impl Abort + AllocGlobal), text: &str, quiet: usize, all: usize) {
+    is_quiet_under(rt, Rules::standard(), text, quiet, all);
+}
+
+// So one says that judges by these rules.
+fn is_quiet_under(
+    rt: &(impl Abort + AllocGlobal),
+    rules: Rules,
+    text: &str,
+    quiet: usize,
+    all: usize,
+) {
     let history = read(rt, text);
     assert_eq!(rt; history.len(), all);
-    let mut judge = Judge::new(rt.alloc()).expect(rt, "memory");
+    let mut judge = Judge::new(rt.alloc(), rules).expect(rt, "memory");
     assert!(rt; judge.quiet());
     for at in 0..all {
         hear(rt, &mut judge, &history.line(at));
@@ -140,4 +163,72 @@ fn lines_are_quiet_until_an_owner_asks_while_it_waits(rt: HostRuntime) {
     is_quiet_for(&rt, A_LOCK_IS_WAITED_FOR, 8, 8);
     let differs = "ask 0 1 2 0 0 0 getattr\ntell 1 ok\nask 0 2 2 0 0 0 getattr\n";
     is_quiet_for(&rt, differs, 1, 3);
+}
+
+// Owner 9 waits behind owner 8, who waits and is interrupted. Under the standard rules nothing keeps it waiting.
+const ONE_WAITED_BEHIND_ANOTHER: &str = "\
+ask 0 1 1 0 0 0 create 0 420 61
+tell 1 made 2 33188 1 0 0 1
+ask 0 2 2 0 0 0 setlk 1 7 0 0 0 11 0
+tell 2 ok
+ask 0 3 2 0 0 0 setlkw 1 8 0 0 1 12 0
+ask 0 4 2 0 0 0 setlkw 1 9 0 0 0 13 0
+ask 0 5 2 0 0 0 interrupt 3
+tell 3 err 4
+tell 4 ok
+";
+
+fn fair() -> Rules {
+    Rules::standard().with_fair(true)
+}
+
+#[test]
+fn one_who_waits_behind_another_is_legal_under_fair_rules(rt: HostRuntime) {
+    let wanted = [
+        Verdict::Differs(2),
+        LEGAL,
+        Verdict::Differs(4),
+        LEGAL,
+        LEGAL,
+        LEGAL,
+        Verdict::Differs(8),
+        Verdict::Differs(9),
+        LEGAL,
+    ];
+    is_heard_under(&rt, fair(), ONE_WAITED_BEHIND_ANOTHER, &wanted, 9);
+    is_quiet_under(&rt, fair(), ONE_WAITED_BEHIND_ANOTHER, 9, 9);
+}
+
+#[test]
+fn one_who_waits_behind_another_differs_under_the_standard_rules(rt: HostRuntime) {
+    let differs = Verdict::Differs(7);
+    let wanted = [
+        Verdict::Differs(2),
+        LEGAL,
+        Verdict::Differs(4),
+        LEGAL,
+        LEGAL,
+        differs,
+        differs,
+        differs,
+        differs,
+    ];
+    is_heard(&rt, ONE_WAITED_BEHIND_ANOTHER, &wanted, 6);
+    is_quiet_for(&rt, ONE_WAITED_BEHIND_ANOTHER, 6, 9);
+}
+
+// Owner 9 waits behind owner 8, who waits, and asks for another byte.
+#[test]
+fn an_owner_who_waits_behind_another_may_not_ask(rt: HostRuntime) {
+    let asks = "\
+ask 0 1 1 0 0 0 create 0 420 61
+tell 1 made 2 33188 1 0 0 1
+ask 0 2 2 0 0 0 setlk 1 7 0 0 0 11 0
+tell 2 ok
+ask 0 3 2 0 0 0 setlkw 1 8 0 0 1 12 0
+ask 0 4 2 0 0 0 setlkw 1 9 0 0 0 13 0
+ask 0 5 2 0 0 0 setlk 1 9 5 5 0 13 0
+tell 5 ok
+";
+    is_quiet_under(&rt, fair(), asks, 6, 8);
 }

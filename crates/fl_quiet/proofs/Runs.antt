@@ -22,6 +22,7 @@ use Rattle.fl_order.specs.declared.order.Order.{Order}
 use Rattle.fl_order.specs.declared.told.Told.{Told}
 use Rattle.fl_quiet.specs.Quiet.{asks_while_waiting, IsQuiet, HasNoCircles}
 use Rattle.fl_quiet.proofs.Stages.{IsSound, step_sound}
+use Rattle.fl_waiting.specs.declared.rules.Rules.{Rules}
 
 -- ---- orders are taken one after another, and replies aren't looked at
 
@@ -76,90 +77,99 @@ parted lines at l is =
     split_at lines at l (slice_get_within lines at l is)
     ∙ (λ i. take at lines ++ get_or_from_slice_get lines at l l is i ∷ drop (sym (add-one at) i) lines)
 
--- what is there after so many lines, and they are quiet
-pub record IsRun (lines : List Line) (p : Snapshot) : Type 0 where
-  pub there : p ≡ taken_all (snapshot_of opening) lines
-  pub run : IsQuietRun (snapshot_of opening) lines
+-- what is there after so many lines under these rules, and they are quiet
+pub record IsRun (rules : Rules) (lines : List Line) (p : Snapshot) : Type 0 where
+  pub there : p ≡ taken_all (snapshot_of (opening rules)) lines
+  pub run : IsQuietRun (snapshot_of (opening rules)) lines
 
-one_line_more : (lines : List Line) (at : ℕ) (l : Line) (p : Snapshot) → slice_get lines at ≡ Some l
-    → IsRun (take at lines) p → IsQuietLine p l → IsRun (take (at + 1) lines) (taken p l)
-one_line_more lines at l p is before quiet = record {
+one_line_more : (rules : Rules) (lines : List Line) (at : ℕ) (l : Line) (p : Snapshot) → slice_get lines at ≡ Some l
+    → IsRun rules (take at lines) p → IsQuietLine p l → IsRun rules (take (at + 1) lines) (taken p l)
+one_line_more rules lines at l p is before quiet = record {
   there =
-      ap (λ q. taken q l) before.there ∙ sym (fold-append taken (snapshot_of opening) (take at lines) (l ∷ []))
-      ∙ ap (taken_all (snapshot_of opening)) (sym (one_more lines at l is));
+      ap (λ q. taken q l) before.there ∙ sym (fold-append taken (snapshot_of (opening rules)) (take at lines) (l ∷ []))
+      ∙ ap (taken_all (snapshot_of (opening rules))) (sym (one_more lines at l is));
   run =
-      subst (IsQuietRun (snapshot_of opening)) (sym (one_more lines at l is))
-      (run_both (snapshot_of opening) (take at lines) (l ∷ []) before.run (subst (λ q. IsQuietLine q l) before.there quiet, tt));
+      subst (IsQuietRun (snapshot_of (opening rules))) (sym (one_more lines at l is))
+      (run_both (snapshot_of (opening rules)) (take at lines) (l ∷ []) before.run (subst (λ q. IsQuietLine q l) before.there quiet, tt));
 }
 
-pub asked_more : (lines : List Line) (at worker : ℕ) (order : Order) (p q : Snapshot) → slice_get lines at ≡ Some (line.Asked worker order)
-    → IsRun (take at lines) p → asks_while_waiting (asked_by order.op) p.view.parked ≡ false → q ≡ next p order → IsRun (take (at + 1) lines) q
-asked_more lines at worker order p q is before quiet after =
-    subst (IsRun (take (at + 1) lines)) (sym after) (one_line_more lines at (line.Asked worker order) p is before quiet)
+pub asked_more : (rules : Rules) (lines : List Line) (at worker : ℕ) (order : Order) (p q : Snapshot) → slice_get lines at ≡ Some (line.Asked worker order)
+    → IsRun rules (take at lines) p → asks_while_waiting (asked_by order.op) p.view.parked ≡ false → q ≡ next p order → IsRun rules (take (at + 1) lines) q
+asked_more rules lines at worker order p q is before quiet after =
+    subst (IsRun rules (take (at + 1) lines)) (sym after) (one_line_more rules lines at (line.Asked worker order) p is before quiet)
 
-pub told_more : (lines : List Line) (at : ℕ) (told : Told) (p : Snapshot) → slice_get lines at ≡ Some (line.Told told)
-    → IsRun (take at lines) p → IsRun (take (at + 1) lines) p
-told_more lines at told p is before = one_line_more lines at (line.Told told) p is before tt
+pub told_more : (rules : Rules) (lines : List Line) (at : ℕ) (told : Told) (p : Snapshot) → slice_get lines at ≡ Some (line.Told told)
+    → IsRun rules (take at lines) p → IsRun rules (take (at + 1) lines) p
+told_more rules lines at told p is before = one_line_more rules lines at (line.Told told) p is before tt
 
 -- an order that isn't quiet
-pub found : (lines : List Line) (at worker : ℕ) (order : Order) (p : Snapshot) → slice_get lines at ≡ Some (line.Asked worker order)
-    → IsRun (take at lines) p → asks_while_waiting (asked_by order.op) p.view.parked ≡ true → IsQuietRun (snapshot_of opening) lines → ⊥
-found lines at worker order p is before asks run =
+pub found : (rules : Rules) (lines : List Line) (at worker : ℕ) (order : Order) (p : Snapshot) → slice_get lines at ≡ Some (line.Asked worker order)
+    → IsRun rules (take at lines) p → asks_while_waiting (asked_by order.op) p.view.parked ≡ true → IsQuietRun (snapshot_of (opening rules)) lines → ⊥
+found rules lines at worker order p is before asks run =
     let l = line.Asked worker order in
-    let rest = run_second (snapshot_of opening) (take at lines) (l ∷ drop (at + 1) lines)
-    (subst (IsQuietRun (snapshot_of opening)) (parted lines at l is) run) in
+    let rest = run_second (snapshot_of (opening rules)) (take at lines) (l ∷ drop (at + 1) lines)
+    (subst (IsQuietRun (snapshot_of (opening rules))) (parted lines at l is) run) in
     cc (asks, subst (λ q. asks_while_waiting (asked_by order.op) q.view.parked ≡ false) (sym before.there) rest.0)
 
 -- all lines were taken
-pub all_taken : (lines : List Line) (at : ℕ) (p : Snapshot) → length lines ≤ at → IsRun (take at lines) p → IsQuietRun (snapshot_of opening) lines
-all_taken lines at p all run = subst (IsQuietRun (snapshot_of opening)) (take_all at lines all) run.run
+pub all_taken : (rules : Rules) (lines : List Line) (at : ℕ) (p : Snapshot) → length lines ≤ at → IsRun rules (take at lines) p → IsQuietRun (snapshot_of (opening rules)) lines
+all_taken rules lines at p all run = subst (IsQuietRun (snapshot_of (opening rules))) (take_all at lines all) run.run
 
 -- ---- of legal histories
 
 module _ (leads_on : (lines : List Line) (p : Snapshot) (worker : ℕ) (order : Order) → LeadsTo lines p →
     LeadsTo (lines ++ step_lines worker order (replies p order)) (next p order))
-    (leads : (lines : List Line) → IsLegal lines → LeadsTo lines (snapshot_of (state_after lines))) where
-  abbrev present_of : List Line → Snapshot
-  present_of lines = snapshot_of (state_after lines)
+    (leads : (rules : Rules) (lines : List Line) → IsLegal rules lines → LeadsTo lines (snapshot_of (state_after rules lines)))
+    (stay : (rules : Rules) (lines : List Line) → (state_after rules lines).rules ≡ rules) where
+  abbrev present_of : Rules → List Line → Snapshot
+  present_of rules lines = snapshot_of (state_after rules lines)
 
   -- what an order leads to
-  next_of : (before : List Line) (worker : ℕ) (order : Order) → IsLegal before
-      → next (present_of before) order ≡ present_of (before ++ step_lines worker order (replies (present_of before) order))
-  next_of before worker order legal = (leads_on before (present_of before) worker order (leads before legal)).stands
+  next_of : (rules : Rules) (before : List Line) (worker : ℕ) (order : Order) → IsLegal rules before
+      → next (present_of rules before) order ≡ present_of rules (before ++ step_lines worker order (replies (present_of rules before) order))
+  next_of rules before worker order legal =
+      let p = present_of rules before in
+      (leads_on before p worker order (leads rules before legal)).stands
+      ∙ ap (λ r. present_of r (before ++ step_lines worker order (replies p order))) (stay rules before)
 
   -- what is there when the orders are taken is what the lines lead to
-  run_there : (lines : List Line) → IsLegal lines → taken_all (snapshot_of opening) lines ≡ present_of lines
-  run_there lines nothing = refl
-  run_there lines (step before worker order legal is) =
-      ap (taken_all (snapshot_of opening)) is
-      ∙ fold-append taken (snapshot_of opening) before (step_lines worker order (replies (present_of before) order))
-      ∙ ap (λ p. taken_all (next p order) (map (λ told. line.Told told) (replies (present_of before) order))) (run_there before legal)
-      ∙ tolds_taken (next (present_of before) order) (replies (present_of before) order)
-      ∙ next_of before worker order legal ∙ ap present_of (sym is)
+  run_there : (rules : Rules) (lines : List Line) → IsLegal rules lines → taken_all (snapshot_of (opening rules)) lines ≡ present_of rules lines
+  run_there rules lines nothing = refl
+  run_there rules lines (step before worker order legal is) =
+      let p = present_of rules before in
+      ap (taken_all (snapshot_of (opening rules))) is
+      ∙ fold-append taken (snapshot_of (opening rules)) before (step_lines worker order (replies p order))
+      ∙ ap (λ q. taken_all (next q order) (map (λ told. line.Told told) (replies p order))) (run_there rules before legal)
+      ∙ tolds_taken (next p order) (replies p order)
+      ∙ next_of rules before worker order legal ∙ ap (present_of rules) (sym is)
 
   -- a beginning of quiet lines is quiet
-  quiet_before : (before rest lines : List Line) → lines ≡ before ++ rest → IsQuiet lines → IsQuiet before
-  quiet_before before rest lines is quiet b worker order r here =
+  quiet_before : (rules : Rules) (before rest lines : List Line) → lines ≡ before ++ rest → IsQuiet rules lines → IsQuiet rules before
+  quiet_before rules before rest lines is quiet b worker order r here =
       quiet b worker order (r ++ rest) (is ∙ ap (λ l. l ++ rest) here ∙ append_assoc b (line.Asked worker order ∷ r) rest)
 
   -- quiet lines are a quiet run
-  pub runs_quiet : (lines : List Line) → IsLegal lines → IsQuiet lines → IsQuietRun (snapshot_of opening) lines
-  runs_quiet lines nothing quiet = tt
-  runs_quiet lines (step before worker order legal is) quiet =
-      let tolds = replies (present_of before) order in
-      subst (IsQuietRun (snapshot_of opening)) (sym is)
-      (run_both (snapshot_of opening) before (step_lines worker order tolds)
-      (runs_quiet before legal (quiet_before before (step_lines worker order tolds) lines is quiet))
-      (subst (λ p. IsQuietRun p (step_lines worker order tolds)) (sym (run_there before legal))
-      (quiet before worker order (map (λ told. line.Told told) tolds) is, tolds_run (next (present_of before) order) tolds)))
+  pub runs_quiet : (rules : Rules) (lines : List Line) → IsLegal rules lines → IsQuiet rules lines → IsQuietRun (snapshot_of (opening rules)) lines
+  runs_quiet rules lines nothing quiet = tt
+  runs_quiet rules lines (step before worker order legal is) quiet =
+      let first = snapshot_of (opening rules) in
+      let p = present_of rules before in
+      let tolds = replies p order in
+      subst (IsQuietRun first) (sym is)
+      (run_both first before (step_lines worker order tolds)
+      (runs_quiet rules before legal (quiet_before rules before (step_lines worker order tolds) lines is quiet))
+      (subst (λ q. IsQuietRun q (step_lines worker order tolds)) (sym (run_there rules before legal))
+      (quiet before worker order (map (λ told. line.Told told) tolds) is, tolds_run (next p order) tolds)))
 
   -- a quiet run is of quiet lines
-  pub run_is_quiet : ((before rest : List Line) (worker : ℕ) (order : Order) → IsLegal (before ++ line.Asked worker order ∷ rest) → IsLegal before)
-      → (lines : List Line) → IsLegal lines → IsQuietRun (snapshot_of opening) lines → IsQuiet lines
-  run_is_quiet asked lines legal run before worker order rest is =
-      let b = asked before rest worker order (subst IsLegal is legal) in
-      (subst (λ p. IsQuietRun p (line.Asked worker order ∷ rest)) (run_there before b)
-      (run_second (snapshot_of opening) before (line.Asked worker order ∷ rest) (subst (IsQuietRun (snapshot_of opening)) is run))).0
+  pub run_is_quiet : ((rules : Rules) (before rest : List Line) (worker : ℕ) (order : Order) → IsLegal rules (before ++ line.Asked worker order ∷ rest)
+      → IsLegal rules before)
+      → (rules : Rules) (lines : List Line) → IsLegal rules lines → IsQuietRun (snapshot_of (opening rules)) lines → IsQuiet rules lines
+  run_is_quiet asked rules lines legal run before worker order rest is =
+      let first = snapshot_of (opening rules) in
+      let b = asked rules before rest worker order (subst (IsLegal rules) is legal) in
+      (subst (λ p. IsQuietRun p (line.Asked worker order ∷ rest)) (run_there rules before b)
+      (run_second first before (line.Asked worker order ∷ rest) (subst (IsQuietRun first) is run))).0
 
   module _ (stages : (p : Snapshot) (order : Order) → AllWait p.rules p.marking p.view.parked → AreApart p.view.parked →
       IsTakenInStages p.rules order (present p.marking p.view.parked) (present (next p order).marking (next p order).view.parked)) where
@@ -171,21 +181,22 @@ module _ (leads_on : (lines : List Line) (p : Snapshot) (worker : ℕ) (order : 
     sound_next p order waiting apart quiet sound =
         step_sound p.rules order (present p.marking p.view.parked) (present (next p order).marking (next p order).view.parked) (stages p order waiting apart) quiet sound
 
-    none_waits : (first : ℕ) (others : List ℕ) → AreInRow waiter_of (hinders (snapshot_of opening).rules (snapshot_of opening).marking) [] first others first → ⊥
-    none_waits first [] row = absurd (omega (arith, row.among.1))
-    none_waits first (second ∷ others) row = absurd (omega (arith, (row.0).among.1))
+    none_waits : (rules : Rules) (first : ℕ) (others : List ℕ) → AreInRow waiter_of (hinders (snapshot_of (opening rules)).rules (snapshot_of (opening rules)).marking) [] first others first → ⊥
+    none_waits rules first [] row = absurd (omega (arith, row.among.1))
+    none_waits rules first (second ∷ others) row = absurd (omega (arith, (row.0).among.1))
 
-    opening_sound : IsSoundAt (snapshot_of opening)
-    opening_sound = record { lone = tt; free = none_waits }
+    opening_sound : (rules : Rules) → IsSoundAt (snapshot_of (opening rules))
+    opening_sound rules = record { lone = tt; free = none_waits rules }
 
-    sound : (lines : List Line) → IsLegal lines → IsQuiet lines → IsSoundAt (present_of lines)
-    sound lines nothing quiet = opening_sound
-    sound lines (step before worker order legal is) quiet =
-        let tolds = replies (present_of before) order in
-        let l = leads before legal in
-        subst IsSoundAt (next_of before worker order legal ∙ ap present_of (sym is))
-        (sound_next (present_of before) order l.waiting l.apart (quiet before worker order (map (λ told. line.Told told) tolds) is)
-        (sound before legal (quiet_before before (step_lines worker order tolds) lines is quiet)))
+    sound : (rules : Rules) (lines : List Line) → IsLegal rules lines → IsQuiet rules lines → IsSoundAt (present_of rules lines)
+    sound rules lines nothing quiet = opening_sound rules
+    sound rules lines (step before worker order legal is) quiet =
+        let p = present_of rules before in
+        let tolds = replies p order in
+        let l = leads rules before legal in
+        subst IsSoundAt (next_of rules before worker order legal ∙ ap (present_of rules) (sym is))
+        (sound_next p order l.waiting l.apart (quiet before worker order (map (λ told. line.Told told) tolds) is)
+        (sound rules before legal (quiet_before rules before (step_lines worker order tolds) lines is quiet)))
 
-    pub no_circles : (lines : List Line) → IsQuiet lines → HasNoCircles lines
-    no_circles lines quiet before rest is legal = (sound before legal (quiet_before before rest lines is quiet)).free
+    pub no_circles : (rules : Rules) (lines : List Line) → IsQuiet rules lines → HasNoCircles rules lines
+    no_circles rules lines quiet before rest is legal = (sound rules before legal (quiet_before rules before rest lines is quiet)).free

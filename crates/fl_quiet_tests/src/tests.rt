@@ -4,6 +4,7 @@ mod plain;
 mod random;
 mod traces;
 
+use fl_core::Rules;
 use fl_desk::{Verdict, check};
 use fl_history::History;
 use fl_order::LockAsk;
@@ -27,11 +28,11 @@ fn add(rt: &impl Abort, text: &mut Vec<u8>, piece: &[u8]) {
     text.extend_from_slice(piece).expect(rt, "no memory");
 }
 
-// The history is legal, and it is quiet or not.
-fn judge(rt: &impl Abort, alloc: Global, history: &History, wanted: bool) {
-    let verdict = check(alloc, history).expect(rt, "no memory");
+// The history is legal under these rules, and it is quiet or not.
+fn judge(rt: &impl Abort, alloc: Global, history: &History, rules: Rules, wanted: bool) {
+    let verdict = check(alloc, history, rules).expect(rt, "no memory");
     assert_legal(rt, &verdict);
-    let found = quiet(alloc, history).expect(rt, "no memory");
+    let found = quiet(alloc, history, rules).expect(rt, "no memory");
     assert_eq!(rt; found, wanted);
 }
 

@@ -50,7 +50,7 @@ Stands text lines kept (Some n) = IsBadBehind 0 text n
 
 -- a listener knows that of the text so far
 pub record Listens (text : List ℕ) (l : Listener) : Type 0 where
-  pub stands : Stands text l.judge (take l.kept l.room.items) l.bad
+  pub stands : Stands text l.judge.lines (take l.kept l.room.items) l.bad
 
 -- there is room for a line
 pub record IsRoomy (l : Listener) : Type 0 where

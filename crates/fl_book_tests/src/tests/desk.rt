@@ -3,7 +3,7 @@
 use super::lines::{is_line, order, take};
 use super::same;
 use super::traces::{LOCKS, is_text, read};
-use fl_book::{Desk, History, Line, laws};
+use fl_book::{Desk, History, Line, Rules, laws};
 use fl_core::Tolds;
 use fl_order::{Answer, Attr, Errno, LockAsk, Name, Op, Told};
 use std::alloc::Global;
@@ -22,7 +22,7 @@ fn stand_behind(rt: &impl Abort, trace: &History, at: usize, tolds: &[Told]) {
 
 // A new desk is asked what a trace asks, and tells what the trace tells. It gives the desk's history.
 fn asked_again(rt: &impl Abort, alloc: Global, trace: &History) -> History {
-    let mut desk = Desk::new(alloc).expect(rt, "memory");
+    let mut desk = Desk::new(alloc, Rules::standard()).expect(rt, "memory");
     let mut tolds = Tolds::new(alloc).expect(rt, "memory");
     for at in 0..trace.len() {
         if take(rt, &mut desk, &trace.line(at), &mut tolds) {

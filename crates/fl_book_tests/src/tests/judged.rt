@@ -3,7 +3,7 @@
 use super::changes::{CHANGES, Effect, changed};
 use super::lines::take;
 use super::random::{Seen, random_history};
-use fl_book::{Desk, History, Line, Verdict, check};
+use fl_book::{Desk, History, Line, Rules, Verdict, check};
 use fl_core::Tolds;
 use fl_order::Name;
 use fl_testing::Numbers;
@@ -12,7 +12,7 @@ use std::process::Abort;
 
 // The one legal history that has the orders of another, in their order.
 fn with_these_orders(rt: &impl Abort, alloc: Global, history: &History) -> History {
-    let mut desk = Desk::new(alloc).expect(rt, "memory");
+    let mut desk = Desk::new(alloc, Rules::standard()).expect(rt, "memory");
     let mut tolds = Tolds::new(alloc).expect(rt, "memory");
     for at in 0..history.len() {
         take(rt, &mut desk, &history.line(at), &mut tolds);
@@ -89,7 +89,7 @@ impl Tally {
             let legal = with_these_orders(rt, alloc, &other);
             let wanted = verdict_beside(&other, &legal);
             assert_eq!(rt;
-                check(alloc, &other).expect(rt, "memory"),
+                check(alloc, &other, Rules::standard()).expect(rt, "memory"),
                 wanted,
                 "change {at}"
             );
@@ -137,7 +137,7 @@ fn check_says_what_the_history_of_the_same_orders_says(rt: HostRuntime) {
     for seed in 0..300 {
         let (history, seen) = random_history(&rt, alloc, names, seed);
         assert_eq!(rt;
-            check(alloc, &history).expect(&rt, "memory"),
+            check(alloc, &history, Rules::standard()).expect(&rt, "memory"),
             Verdict::Legal,
             "seed {seed}"
         );

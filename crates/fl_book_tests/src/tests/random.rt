@@ -1,7 +1,7 @@
 //! Histories of random orders of all kinds, many of which wait for locks.
 
 use super::lines::order;
-use fl_book::{Desk, History};
+use fl_book::{Desk, History, Rules};
 use fl_core::Tolds;
 use fl_order::{Answer, Errno, LockAsk, Name, Op, Order, Told};
 use fl_testing::Numbers;
@@ -88,7 +88,7 @@ impl Asking {
     fn new(rt: &impl Abort, alloc: Global, names: [Name; 2], seed: u64) -> Asking {
         Asking {
             numbers: Numbers { state: seed },
-            desk: Desk::new(alloc).expect(rt, "memory"),
+            desk: Desk::new(alloc, Rules::standard()).expect(rt, "memory"),
             tolds: Tolds::new(alloc).expect(rt, "memory"),
             names,
             opened: [(1, 2); 4],

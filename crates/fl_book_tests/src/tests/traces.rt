@@ -1,7 +1,7 @@
 //! Stored traces: orders and the replies that are owed, one a line, and what is said of each.
 
 use super::same;
-use fl_book::{History, Verdict, check, print_trace, read_trace};
+use fl_book::{History, Rules, Verdict, check, print_trace, read_trace};
 use std::process::Abort;
 
 // A write lock of owner 7 keeps owner 8 from a read lock of its last byte, until that half is given back.
@@ -36,7 +36,13 @@ pub(super) fn is_text(rt: &(impl Abort + AllocGlobal), history: &History, text: 
 // So is a trace of so many lines judged.
 fn is_judged(rt: &(impl Abort + AllocGlobal), text: &str, lines: usize, wanted: Verdict) {
     let trace = read(rt, text, lines);
-    same(rt, &check(rt.alloc(), &trace).expect(rt, "memory"), &wanted);
+    is_judged_by(rt, Rules::standard(), &trace, wanted);
+}
+
+// So is a trace judged by rules.
+fn is_judged_by(rt: &(impl Abort + AllocGlobal), rules: Rules, trace: &History, wanted: Verdict) {
+    let verdict = check(rt.alloc(), trace, rules).expect(rt, "memory");
+    same(rt, &verdict, &wanted);
 }
 
 #[test]
@@ -100,4 +106,25 @@ ask 0 1 2 0 0 0 getattr
 ";
     is_judged(&rt, "tell 1 err 2\n", 1, Verdict::Differs(1));
     is_judged(&rt, before, 2, Verdict::Differs(1));
+}
+
+// Owner 9 waits behind owner 8, who waits and is interrupted. Under the standard rules nothing keeps it waiting.
+const ONE_WAITED_BEHIND_ANOTHER: &str = "\
+ask 0 1 1 0 0 0 create 0 420 61
+tell 1 made 2 33188 1 0 0 1
+ask 0 2 2 0 0 0 setlk 1 7 0 0 0 11 0
+tell 2 ok
+ask 0 3 2 0 0 0 setlkw 1 8 0 0 1 12 0
+ask 0 4 2 0 0 0 setlkw 1 9 0 0 0 13 0
+ask 0 5 2 0 0 0 interrupt 3
+tell 3 err 4
+tell 4 ok
+";
+
+#[test]
+fn what_is_legal_under_fair_rules_differs_under_the_standard_ones(rt: HostRuntime) {
+    let trace = read(&rt, ONE_WAITED_BEHIND_ANOTHER, 9);
+    let fair = Rules::standard().with_fair(true);
+    is_judged_by(&rt, fair, &trace, Verdict::Legal);
+    is_judged_by(&rt, Rules::standard(), &trace, Verdict::Differs(7));
 }

@@ -8,6 +8,7 @@ use Rattle.fl_history.specs.declared.history.Line.TheVariants as line
 use Rattle.fl_judge.specs.declared.replay.Replay.{Replay}
 use Rattle.fl_order.specs.declared.told.Told.{Told}
 use Rattle.fl_quiet.specs.Quiet.{IsQuiet}
+use Rattle.fl_waiting.specs.declared.rules.Rules.{Rules}
 
 -- replies, as lines
 abbrev pub told_lines : List Told → List Line
@@ -21,29 +22,30 @@ BeginsWith first lines = (more : List Line) × (lines ≡ first ++ more)
 abbrev pub due_lines : Replay → List Line
 due_lines r = told_lines (drop r.told r.tolds)
 
--- The lines lack only the replies that are due: with these they lead to what is there, and a legal history that begins
--- with the lines goes on by these. It knows whether they are quiet.
+-- The lines lack only the replies that are due: with these they lead to what is there, and a history that begins with the
+-- lines, and is legal under the rules of what is there, goes on by these. It knows whether the lines are quiet.
 pub record LeadsUpTo (lines : List Line) (r : Replay) : Type 0 where
   pub leads : LeadsTo (lines ++ due_lines r) r.core
-  pub due : (rest : List Line) → IsLegal (lines ++ rest) → BeginsWith (due_lines r) rest
-  pub quiet : (r.quiet ≡ true) ↔ IsQuiet lines
+  pub due : (rest : List Line) → IsLegal r.core.rules (lines ++ rest) → BeginsWith (due_lines r) rest
+  pub quiet : (r.quiet ≡ true) ↔ IsQuiet r.core.rules lines
 
 -- Behind lines that a replay led up to comes one more: either it leads up to that too, or no legal history begins with them.
 abbrev pub GoesOnAlike : Replay → Line → Bool → Replay → Type 0
 GoesOnAlike before l true after = (lines : List Line) → LeadsUpTo lines before → LeadsUpTo (lines ++ l ∷ []) after
-GoesOnAlike before l false after = (lines : List Line) → LeadsUpTo lines before → IsBeginning (lines ++ l ∷ []) → ⊥
+GoesOnAlike before l false after =
+    (lines : List Line) → LeadsUpTo lines before → IsBeginning before.core.rules (lines ++ l ∷ []) → ⊥
 
 -- the lines before this one, counted from 1, are a beginning of a legal history, and the lines with it aren't
-pub record DiffersIn (lines : List Line) (n : ℕ) : Type 0 where
+pub record DiffersIn (rules : Rules) (lines : List Line) (n : ℕ) : Type 0 where
   pub from : 1 ≤ n
   pub within : n ≤ length lines
-  pub before : IsBeginning (take (n - 1) lines)
-  pub wrong : IsBeginning (take n lines) → ⊥
+  pub before : IsBeginning rules (take (n - 1) lines)
+  pub wrong : IsBeginning rules (take n lines) → ⊥
 
 -- what is known of the lines, where they differ and where they don't
 abbrev pub Stands : List Line → Replay → Option ℕ → Type 0
 Stands lines r None = LeadsUpTo lines r
-Stands lines r (Some n) = DiffersIn lines n
+Stands lines r (Some n) = DiffersIn r.core.rules lines n
 
 -- so many lines were heard, not too many, and that is known of them
 pub record IsHeard (lines : List Line) (heard : ℕ) (r : Replay) (differs : Option ℕ) : Type 0 where

@@ -2,7 +2,7 @@
 
 use super::UNLOCK;
 use super::plain::{Waiter, after_order, after_reply, asks_while_waiting, is_quiet};
-use fl_core::Tolds;
+use fl_core::{Rules, Tolds};
 use fl_desk::Desk;
 use fl_history::History;
 use fl_order::{LockAsk, Name, Op, Order};
@@ -36,10 +36,10 @@ struct Client {
 }
 
 impl Client {
-    fn new(rt: &impl Abort, alloc: Global, seed: u64) -> Client {
+    fn new(rt: &impl Abort, alloc: Global, rules: Rules, seed: u64) -> Client {
         Client {
             numbers: Numbers { state: seed },
-            desk: Desk::new(alloc).expect(rt, "no memory"),
+            desk: Desk::new(alloc, rules).expect(rt, "no memory"),
             tolds: Tolds::new(alloc).expect(rt, "no memory"),
             waiters: Vec::new(alloc),
             careful: seed % 2 == 0,
@@ -116,9 +116,9 @@ impl Client {
     }
 }
 
-// A file is made, and then come 10 to 39 random orders.
-fn random_history(rt: &impl Abort, alloc: Global, name: Name, seed: u64) -> History {
-    let mut client = Client::new(rt, alloc, seed);
+// A file is made, and then come 10 to 39 random orders, which are answered under these rules.
+fn random_history(rt: &impl Abort, alloc: Global, rules: Rules, name: Name, seed: u64) -> History {
+    let mut client = Client::new(rt, alloc, rules, seed);
     let create = Op::Create {
         excl: true,
         mode: 420,
@@ -134,21 +134,21 @@ fn random_history(rt: &impl Abort, alloc: Global, name: Name, seed: u64) -> Hist
 }
 
 // Whether the history of a seed is quiet: what `quiet` says is what the plain program says.
-fn compare(rt: &impl Abort, alloc: Global, name: Name, seed: u64) -> bool {
-    let history = random_history(rt, alloc, name, seed);
-    let found = quiet(alloc, &history).expect(rt, "no memory");
+fn compare(rt: &impl Abort, alloc: Global, rules: Rules, name: Name, seed: u64) -> bool {
+    let history = random_history(rt, alloc, rules, name, seed);
+    let found = quiet(alloc, &history, rules).expect(rt, "no memory");
     let wanted = is_quiet(rt, alloc, &history);
     assert_eq!(rt; found, wanted, "seed {seed}");
     found
 }
 
 // Of the histories of these 200 seeds, a careful client's are quiet, and most others aren't.
-fn compare_200(rt: &impl Abort, alloc: Global, first: u64) {
+fn compare_200(rt: &impl Abort, alloc: Global, rules: Rules, first: u64) {
     let name = Name::new(b"a").expect(rt, "a name");
     let mut careful = 0u32;
     let mut others = 0u32;
     for seed in first..first.saturating_add(200) {
-        let found = compare(rt, alloc, name, seed);
+        let found = compare(rt, alloc, rules, name, seed);
         if seed % 2 == 0 {
             careful = careful.wrapping_add(u32::from(found));
         } else {
@@ -161,25 +161,39 @@ fn compare_200(rt: &impl Abort, alloc: Global, first: u64) {
 
 #[test]
 fn random_histories_beside_a_plain_program(rt: HostRuntime) {
-    compare_200(&rt, rt.alloc(), 0);
+    compare_200(&rt, rt.alloc(), Rules::standard(), 0);
 }
 
 #[test]
 fn a_second_200(rt: HostRuntime) {
-    compare_200(&rt, rt.alloc(), 200);
+    compare_200(&rt, rt.alloc(), Rules::standard(), 200);
 }
 
 #[test]
 fn a_third_200(rt: HostRuntime) {
-    compare_200(&rt, rt.alloc(), 400);
+    compare_200(&rt, rt.alloc(), Rules::standard(), 400);
 }
 
 #[test]
 fn a_fourth_200(rt: HostRuntime) {
-    compare_200(&rt, rt.alloc(), 600);
+    compare_200(&rt, rt.alloc(), Rules::standard(), 600);
 }
 
 #[test]
 fn a_fifth_200(rt: HostRuntime) {
-    compare_200(&rt, rt.alloc(), 800);
+    compare_200(&rt, rt.alloc(), Rules::standard(), 800);
+}
+
+fn compare_200_fair(rt: &impl Abort, alloc: Global, first: u64) {
+    compare_200(rt, alloc, Rules::standard().with_fair(true), first);
+}
+
+#[test]
+fn random_histories_under_fair_rules_beside_a_plain_program(rt: HostRuntime) {
+    compare_200_fair(&rt, rt.alloc(), 0);
+}
+
+#[test]
+fn a_second_200_under_fair_rules(rt: HostRuntime) {
+    compare_200_fair(&rt, rt.alloc(), 200);
 }

@@ -1,16 +1,14 @@
-use Rattle.std.proofs.Common.{◌∙◌, ◌+◌, List, sym, ap, subst}
-use Rattle.fl_audit.proofs.Hearing.{IsHearing, hearing_starts, hearing_on, hearing_bad}
+use Rattle.std.proofs.Common.{◌∙◌, ◌+◌, sym, ap}
+use Rattle.fl_audit.proofs.Hearing.{hearing_starts, hearing_on, hearing_bad}
 use Rattle.fl_audit.proofs.lines.hear_lines.Goals as goal
-use Rattle.fl_history.specs.declared.history.Line.{Line}
 
 pub loop-rest-init : goal.loop-rest-init
 loop-rest-init c = hearing_starts c.args.judge.now c.args.text.now
 
 pub loop-rest-preserved : goal.loop-rest-preserved
 loop-rest-preserved c =
-    subst (λ (lines : List Line). IsHearing c.args.judge.now lines c.args.text.now c.in-Some.after.now) (sym c.hear.ensures)
-    (hearing_on c.args.judge.now c.loop-rest.judge c.args.text.now c.loop-rest.rest.now c.in-Some.after.now c.in-Some.line c.loop-rest.invariant
-    (c.in-Some.ensures.fits) (c.in-Some.ensures.spelled))
+    hearing_on c.args.judge.now c.loop-rest.judge c.hear.new.self c.args.text.now c.loop-rest.rest.now c.in-Some.after.now c.in-Some.line
+    c.loop-rest.invariant (c.in-Some.ensures.fits) (c.in-Some.ensures.spelled) c.hear.ensures
 
 pub returns-in_default-clause-heard : goal.returns-in_default-clause-heard
 returns-in_default-clause-heard c =

@@ -1,37 +1,47 @@
-use Rattle.std.proofs.Common.{◌≡◌, ◌∙◌, ◌+◌, ◌<◌, length, take, refl, ap, arith}
+use Rattle.std.proofs.Common.{◌≡◌, ◌∙◌, ◌+◌, ◌<◌, length, take, refl, ap, subst, arith}
 use Rattle.std.proofs.lemmas.List.{length-drop}
 use Rattle.std.proofs.lemmas.Option.{get_or_from_slice_get}
 use Rattle.fl_core.specs.State.{Snapshot}
 use Rattle.fl_core.specs.Step.{replies, replies_in}
-use Rattle.fl_desk.specs.Legal.{nothing}
 use Rattle.fl_desk.specs.Replay.{state_after}
-use Rattle.fl_desk.proofs.Histories.{taken_kept}
+use Rattle.fl_desk.specs.Verdicts.{DiffersAt}
+use Rattle.fl_desk.proofs.Histories.{opened_kept, taken_kept}
 use Rattle.fl_desk.proofs.Verdicts.{due_order, due_reply, whole_step}
 use Rattle.fl_desk.proofs.judge.check.Goals as goal
 
 pub loop-at-init : goal.loop-at-init
-loop-at-init c = record { within = omega arith; kept = record { legal = nothing; stands = c.in_ok-core.ensures.opening; lawful = c.in_ok-core.ensures.lawful } }
+loop-at-init c =
+    let core = c.in_ok-core.ensures in
+    record {
+      within = omega arith;
+      kept = opened_kept c.args.rules _ _ refl core.opening core.lawful;
+      rules = ap (λ (p : Snapshot). p.rules) core.opening;
+    }
 
 pub returns-in_default : goal.returns-in_default
 returns-in_default c =
     let lines = c.args.history.now in
     let at = c.loop-at.at in
     let inside : at < length lines = omega (arith, c.loop-at-test.true, c.len.ensures.len) in
-    due_order lines at c.line.result c.in_default.field-0 inside (get_or_from_slice_get lines at c.line.result c.line.result c.line.ensures ∙ c.in_default.is)
-    c.loop-at.invariant.kept.legal
+    subst (λ rules. DiffersAt rules lines (at + 1)) c.loop-at.invariant.rules
+    (due_order c.loop-at.core.rules lines at c.line.result c.in_default.field-0 inside
+    (get_or_from_slice_get lines at c.line.result c.line.result c.line.ensures ∙ c.in_default.is)
+    c.loop-at.invariant.kept.legal)
 
 pub returns-then-told-replies : goal.returns-then-told-replies
 returns-then-told-replies c =
     let lines = c.args.history.now in
     let at = c.loop-at.at in
+    let rules = c.loop-at.core.rules in
     let kept = c.loop-at.invariant.kept in
     let told = c.told_alike-told.ensures in
     let inside : at < length lines = omega (arith, c.loop-at-test.true, c.len.ensures.len) in
-    let are : c.as_slice-replies.result.now ≡ replies_in (state_after (take at lines)) c.in-Asked.order =
+    let are : c.as_slice-replies.result.now ≡ replies_in (state_after rules (take at lines)) c.in-Asked.order =
     c.as_slice-replies.ensures ∙ c.step.ensures.replies ∙ ap (λ (p : Snapshot). replies p c.in-Asked.order) kept.stands in
-    due_reply lines at c.line.result c.in-Asked.worker c.in-Asked.order c.as_slice-replies.result.now c.told_alike-told.result inside
+    subst (λ rules. DiffersAt rules lines (at + c.told_alike-told.result + 2)) c.loop-at.invariant.rules
+    (due_reply rules lines at c.line.result c.in-Asked.worker c.in-Asked.order c.as_slice-replies.result.now c.told_alike-told.result inside
     (get_or_from_slice_get lines at c.line.result c.line.result c.line.ensures ∙ c.in-Asked.is) kept.legal are
-    (record { short = c.if-told-replies.true; there = told.there; alike = told.alike; other = told.no_more })
+    (record { short = c.if-told-replies.true; there = told.there; alike = told.alike; other = told.no_more }))
 
 pub loop-at-preserved : goal.loop-at-preserved
 loop-at-preserved c =
@@ -48,4 +58,5 @@ loop-at-preserved c =
           c.as_slice-replies.ensures
           (whole_step lines at c.line.result c.in-Asked.worker c.in-Asked.order replies_all c.told_alike-told.result inside
           (get_or_from_slice_get lines at c.line.result c.line.result c.line.ensures ∙ c.in-Asked.is) (omega (arith, c.if-told-replies.false)) told.alike);
+      rules = ap (λ (p : Snapshot). p.rules) step.next ∙ c.loop-at.invariant.rules;
     }

@@ -1,4 +1,4 @@
-use Rattle.std.proofs.Common.{◌≤◌, ◌-◌, length, take}
+use Rattle.std.proofs.Common.{◌≡◌, ◌≤◌, ◌-◌, length, take}
 use Rattle.fl_desk.specs.Kept.{IsKept}
 use Rattle.fl_desk.proofs.judge.check.Given as goal
 
@@ -6,6 +6,7 @@ abbrev pub invariant-loop-at : goal.invariant-loop-at
 invariant-loop-at l = record {
   within : l.at ≤ length l.history;
   kept : IsKept (take l.at l.history) l.core;
+  rules : (l.core).rules ≡ l.rules;
 }
 
 abbrev pub decreases-loop-at : goal.decreases-loop-at

@@ -7,7 +7,7 @@ pub returns : goal.returns
 returns c =
     let law = c.a_step_is_what_its_replies_give.ensures in
     record {
-      nothing = record { legal = nothing; stands = refl; waiting = tt; apart = tt };
+      nothing = λ rules. record { legal = nothing; stands = refl; waiting = tt; apart = tt };
       step = λ lines p worker order leads. leads_on lines p worker order leads (λ s stands. law.read p order s leads.waiting leads.apart stands)
           (law.waiting p order) (law.apart p order leads.waiting leads.apart);
     }

@@ -9,26 +9,26 @@ use Rattle.fl_judge.proofs.replay.Replay.take.Goals as goal
 pub overflow_add-self : goal.overflow_add-self
 overflow_add-self c = omega (arith, c.in-Some.ensures.few refl)
 
-pub returns-then-alike : goal.returns-then-alike
-returns-then-alike c =
+pub returns-then-alike-clause-goes : goal.returns-then-alike-clause-goes
+returns-then-alike-clause-goes c =
     let after : Replay = record { core = c.args.self.now.core; tolds = c.args.self.now.tolds; told = c.args.self.now.told + 1; quiet = c.args.self.now.quiet } in
     alike c.args.self.now after c.args.line.now c.is_told-alike.result c.if-alike.true
     (λ lines up. subst (λ (l : Line). LeadsUpTo (lines ++ l ∷ []) after) (sym (c.is_told-alike.ensures.0 c.if-alike.true))
     (told_on c.args.self.now after c.in-Some.due (sym c.due.ensures.is ∙ c.in-Some.is) refl refl refl refl lines up))
 
-pub returns-else-alike : goal.returns-else-alike
-returns-else-alike c =
+pub returns-else-alike-clause-goes : goal.returns-else-alike-clause-goes
+returns-else-alike-clause-goes c =
     unlike c.args.self.now c.args.self.now c.args.line.now c.is_told-alike.result c.if-alike.false
     (told_wrong c.args.self.now c.in-Some.due c.args.line.now (sym c.due.ensures.is ∙ c.in-Some.is)
     (λ same. cc (c.is_told-alike.ensures.1 same, c.if-alike.false)))
 
-pub returns-in_default-line : goal.returns-in_default-line
-returns-in_default-line c = λ lines up b.
+pub returns-in_default-line-clause-goes : goal.returns-in_default-line-clause-goes
+returns-in_default-line-clause-goes c = λ lines up b.
     order_wrong c.a_legal_history_goes_on_by_orders.ensures.next c.args.self.now c.in_default-line.field-0 (sym c.due.ensures.is ∙ c.in_default.is) lines up
-    (subst (λ (l : Line). IsBeginning (lines ++ l ∷ [])) c.in_default-line.is b)
+    (subst (λ (l : Line). IsBeginning c.args.self.now.core.rules (lines ++ l ∷ [])) c.in_default-line.is b)
 
-pub returns : goal.returns
-returns c =
+pub returns-clause-goes : goal.returns-clause-goes
+returns-clause-goes c =
     let after : Replay = record { core = c.step.new.self; tolds = c.step.new.tolds; told = 0; quiet = c.stays_quiet-self.result } in
     λ lines up. subst (λ (l : Line). LeadsUpTo (lines ++ l ∷ []) after) (sym c.in-Asked.is)
     (order_on c.an_order_leads_on.ensures.step c.a_legal_history_goes_on_by_orders.ensures.next c.args.self.now after c.in-Asked.worker c.in-Asked.order
