@@ -4,6 +4,7 @@ use Rattle.std.proofs.lemmas.Bool.Decides.{nat_tests}
 use Rattle.std.specs.List.{list_any, position_or_len, cons_option}
 use Rattle.fl_waiting.specs.Waiting.{Wish, wish_of, wishes, passes, is_behind, passes_free, AllBehind, taken_first, taken_behind}
 use Rattle.fl_waiting.specs.declared.parked.Request.{Request}
+use Rattle.fl_waiting.specs.Inside.Claims.{ruled}
 use Rattle.fl_waiting.specs.declared.rules.Rules.{Rules}
 use Rattle.fl_waiting.proofs.Claims.{keep}
 use Rattle.fl_ranges.specs.declared.lock.Mark.{Mark}
@@ -29,7 +30,7 @@ behind_first p older (r ∷ parked) = ap (λ o. cond (p r) (Some (r, parked)) (k
 -- ---- where no rule is fair none is behind another
 
 never_behind : (rules : Rules) (older : List Request) (r : Request) → rules.fair ≡ false → is_behind rules older r ≡ false
-never_behind rules older r unfair = ap (λ f. is_behind (record { fair = f }) older r) unfair ∙ go _
+never_behind rules older r unfair = ap (λ f. is_behind (ruled f) older r) unfair ∙ go _
   where
     go : (mark : Option Mark) → passes (λ (k : Mark). false) mark ≡ false
     go None = refl

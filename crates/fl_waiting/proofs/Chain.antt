@@ -1,6 +1,5 @@
 -- The one chain of an arena.
-use Rattle.std.proofs.Common.{◌≡◌, ℕ, zero, suc, ◌+◌, ◌<◌, ◌==◌, Bool, true, false, cond, ◌||◌, Option, Some, None, is_some, Bor, List, [], ◌∷◌, length, sum_by, take, get_or, slice_get, slice_index_or, refl, sym, ap, ◌∙◌, arith}
-use Rattle.std.proofs.lemmas.Bool.Decides.{nat_tests}
+use Rattle.std.proofs.Common.{◌≡◌, ℕ, zero, suc, ◌<◌, Bool, true, false, cond, ◌||◌, Option, Some, None, is_some, Bor, List, [], ◌∷◌, length, sum_by, take, get_or, slice_get, slice_index_or, refl, sym, ap, ◌∙◌, arith}
 use Rattle.std.proofs.lemmas.List.{length-map}
 use Rattle.std.proofs.lemmas.Option.{none-some}
 use Rattle.std.specs.List.{find, list_any}
@@ -41,7 +40,3 @@ module _ {T : Type 0} where
   nothing_left [] (suc i) e = refl
   nothing_left (x ∷ xs) zero e = absurd (cc e)
   nothing_left (x ∷ xs) (suc i) e = ap (λ l. x ∷ l) (nothing_left xs i e)
-
--- none is free where all are taken
-pub full : (taken free : ℕ) → taken + free ≡ 256 → (free == 0) ≡ (taken == 256)
-full taken free e = grind (arith, nat_tests)

@@ -72,8 +72,8 @@ unset_part (suc k) (suc n) (suc i) = unset_part k n i
 
 -- Owners that are reached are led to. Those in the way of the request are reached, and those in the way of a request that
 -- was visited; and none that was visited waits for the one who asks.
-pub record IsSearching (hinders : Wanted → ℕ → Bool) (ws : List Wanted) (asked : Wanted) (reached visited : List Bool) : Type 0 where
-  pub long : length visited ≡ 256
+pub record IsSearching (most : ℕ) (hinders : Wanted → ℕ → Bool) (ws : List Wanted) (asked : Wanted) (reached visited : List Bool) : Type 0 where
+  pub long : length visited ≡ most
   pub wide : length reached ≡ length ws
   pub by_owner : IsReachedByOwner ws reached
   pub led : (i : ℕ) → i < length ws → is_set reached i ≡ true → leads owner hinders ws asked (owner_at ws i) ≡ true
@@ -82,7 +82,7 @@ pub record IsSearching (hinders : Wanted → ℕ → Bool) (ws : List Wanted) (a
   pub closed : (i j : ℕ) (w : Wanted) → i < length ws → j < length ws → get_or ws i w ≡ w → is_set visited i ≡ true → hinders w (owner_at ws j) ≡ true
       → is_set reached j ≡ true
 
-module _ (hinders : Wanted → ℕ → Bool) (ws : List Wanted) (asked : Wanted) where
+module _ (most : ℕ) (hinders : Wanted → ℕ → Bool) (ws : List Wanted) (asked : Wanted) where
   at_place : (test : ℕ → Bool) (old new : List Bool) → AreFound test (owners_of ws) old new → (i : ℕ) → i < length ws
       → is_set new i ≡ (is_set old i || test (owner_at ws i))
   at_place test old new more i h = more i (omega (arith, length-map ws owner, h))
@@ -94,19 +94,19 @@ module _ (hinders : Wanted → ℕ → Bool) (ws : List Wanted) (asked : Wanted)
 
   -- where nothing was reached before
   pub starts : (none new : List Bool) → ((i : ℕ) → is_set none i ≡ false) → length new ≡ length ws → AreFound (hinders asked) (owners_of ws) none new
-      → IsSearching hinders ws asked new (replicate 256 false)
+      → IsSearching most hinders ws asked new (replicate most false)
   starts none new unset wide more = record {
-    long = length-replicate 256 false;
+    long = length-replicate most false;
     wide = wide;
     by_owner = goes_by_owner (hinders asked) none new (λ i j h k same. unset i ∙ sym (unset j)) more;
     led = λ i h e. leads_directly owner hinders ws asked (owner_at ws i)
         (⊎_elim (λ old. absurd (cc (sym (unset i) ∙ old))) (λ now. now) (or_cases _ _ _ (at_place (hinders asked) none new more i h) e));
     start = λ i h e. or_right _ _ _ (at_place (hinders asked) none new more i h) e;
-    clear = λ i w h at e. absurd (none_set 256 i e);
-    closed = λ i j w h k at e f. absurd (none_set 256 i e);
+    clear = λ i w h at e. absurd (none_set most i e);
+    closed = λ i j w h k at e f. absurd (none_set most i e);
   }
 
-  module _ (reached visited : List Bool) (so_far : IsSearching hinders ws asked reached visited) where
+  module _ (reached visited : List Bool) (so_far : IsSearching most hinders ws asked reached visited) where
     onward : (i : ℕ) (w : Wanted) (q : ℕ) → i < length ws → get_or ws i w ≡ w → is_set reached i ≡ true → hinders w q ≡ true
         → leads owner hinders ws asked q ≡ true
     onward i w q h at e k =
@@ -117,7 +117,7 @@ module _ (hinders : Wanted → ℕ → Bool) (ws : List Wanted) (asked : Wanted)
     finds i w h at e k = onward i w (owner asked) h at e k
 
     pub goes_on : (new : List Bool) (i : ℕ) (w : Wanted) → i < length ws → get_or ws i w ≡ w → is_set reached i ≡ true → hinders w (owner asked) ≡ false
-        → length new ≡ length ws → AreFound (hinders w) (owners_of ws) reached new → IsSearching hinders ws asked new (set visited i true)
+        → length new ≡ length ws → AreFound (hinders w) (owners_of ws) reached new → IsSearching most hinders ws asked new (set visited i true)
     goes_on new i w h at e free wide more = record {
       wide = wide;
       long = length-set visited i true ∙ so_far.long;

@@ -1,4 +1,5 @@
 pub mod Circle
 pub mod Inside
+pub mod Limits
 pub mod LockRequest
 pub mod Waiting

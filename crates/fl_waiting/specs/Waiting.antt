@@ -1,5 +1,6 @@
 -- Lock parked requests, in the order of asking, and what keeps them waiting.
 use Rattle.std.specs.Prelude.{◌≡◌, ◌≢◌, ℕ, ◌==◌, Bool, true, false, not, ◌&&◌, ◌||◌, nat_le, Option, Some, None, option_map, List, [], ◌∷◌, ◌++◌, if◌then◌else◌}
+use Rattle.std.proofs.Math.Dec.{lit≤}
 use Rattle.std.specs.List.{list_any, filter_map, AllByRecursion}
 use Rattle.std.specs.FinMap.{entries}
 use Rattle.fl_ranges.specs.declared.lock.Key.{Key}
@@ -40,9 +41,15 @@ wishes parked = filter_map wish_of parked
 
 -- ---- who waits
 
--- no request waits behind another
+-- no request waits behind another, and there are at most 4096 runs of locked bytes and 256 parked requests
 abbrev pub standard : Rules
-standard = record { fair = false }
+standard = record {
+  fair = false;
+  runs = 4096;
+  parked = 256;
+  some_runs = (lit≤ tt, lit≤ tt);
+  some_parked = (lit≤ tt, lit≤ tt);
+}
 
 -- an older wish goes before another one: of another owner, for the same node, with a byte in common, and one of the two
 -- is for a write lock

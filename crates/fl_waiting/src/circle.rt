@@ -16,6 +16,9 @@ use crate::rules::Rules;
 use fl_arena::Arena;
 use fl_ranges::{Class, Key, Kind, Range, Table};
 
+// Where no more wait, a search makes room for so many, and else for the most that rules may allow: room costs time.
+const FEW_PARKED: usize = 256;
+
 /// A lock that is wanted.
 #[derive(Clone, Copy)]
 pub(crate) struct Wanted {
@@ -45,18 +48,17 @@ impl Parked {
         if self.is_empty() {
             return false;
         }
-        let mut asked = Wanted {
+        let asked = Wanted {
             key: *key,
             range: *range,
             kind,
             place: 0,
         };
-        let mut room = [asked; MOST_PARKED];
-        let count = copy_wanted(&self.claims, &mut room);
-        asked.place = count as u32;
-        let wanted = &mut room[..count];
-        wanted.sort_unstable_by_key(|wanted| wanted.key.owner);
-        leads_back(rules, locks, wanted, &asked)
+        if self.count() <= FEW_PARKED {
+            closes_among::<FEW_PARKED>(rules, locks, &self.claims, asked)
+        } else {
+            closes_among::<MOST_PARKED>(rules, locks, &self.claims, asked)
+        }
     }
 
     /// Whether a request of this owner for a record lock waits.
@@ -70,11 +72,33 @@ impl Parked {
     }
 }
 
-// Copies the record locks that requests wait for, the oldest first, to the front of the room, and tells how many they are.
-fn copy_wanted(claims: &Arena<Claim>, room: &mut [Wanted; MOST_PARKED]) -> usize
+// Whether this lock would close a circle among these requests. It makes room for N of them, and takes no memory.
+fn closes_among<const N: usize>(
+    rules: Rules,
+    locks: &Table,
+    claims: &Arena<Claim>,
+    asked: Wanted,
+) -> bool
     requires chain { 0 < length claims.now.chains }
-    requires few { length (items claims.now 0) ≤ MOST_PARKED }
-    ensures few { result ≤ MOST_PARKED }
+    requires few { length (items claims.now 0) ≤ N }
+    requires fits { N ≤ MOST_PARKED }
+    ensures { result ≡ closes_circle rules locks.now.marking (requests_of claims.now) (meant asked) }
+{
+    let mut asked = asked;
+    let mut room = [asked; N];
+    let count = copy_wanted(claims, &mut room);
+    asked.place = count as u32;
+    let wanted = &mut room[..count];
+    wanted.sort_unstable_by_key(|wanted| wanted.key.owner);
+    leads_back::<N>(rules, locks, wanted, &asked)
+}
+
+// Copies the record locks that requests wait for, the oldest first, to the front of the room, and tells how many they are.
+fn copy_wanted(claims: &Arena<Claim>, room: &mut [Wanted]) -> usize
+    requires chain { 0 < length claims.now.chains }
+    requires few { length (items claims.now 0) ≤ length room.old }
+    requires fits { length room.old ≤ MOST_PARKED }
+    ensures few { result ≤ length room.new }
     ensures wanted { map meant (take result room.new) ≡ wishes (requests_of claims.now) }
     ensures numbered { AreNumbered 0 (take result room.new) }
 {
@@ -88,8 +112,9 @@ fn copy_wanted(claims: &Arena<Claim>, room: &mut [Wanted; MOST_PARKED]) -> usize
 }
 
 // Puts one more behind the first ones, where there is one, and tells how many there are.
-fn put(room: &mut [Wanted; MOST_PARKED], count: usize, wanted: Option<Wanted>) -> usize
-    requires { count < MOST_PARKED }
+fn put(room: &mut [Wanted], count: usize, wanted: Option<Wanted>) -> usize
+    requires few { count < length room.old }
+    requires fits { length room.old ≤ MOST_PARKED }
     ensures few { result ≤ count + 1 }
     ensures put { take result room.new ≡ take count room.old ++ one_of (option_map (numbered count) wanted) }
 {
@@ -146,17 +171,23 @@ fn excludes(kind: Kind, other: Kind) -> bool
 }
 
 // Whether a request waits for its own owner, through others, which stand in the order of their owners.
-fn leads_back(rules: Rules, locks: &Table, wanted: &[Wanted], asked: &Wanted) -> bool
-    requires few { length wanted.now ≤ MOST_PARKED }
+fn leads_back<const N: usize>(
+    rules: Rules,
+    locks: &Table,
+    wanted: &[Wanted],
+    asked: &Wanted,
+) -> bool
+    requires few { length wanted.now ≤ N }
+    requires fits { N ≤ MOST_PARKED }
     requires sorted { IsByOwner wanted.now }
     ensures { result ≡ leads (λ (w : Wanted). w.key.owner) (hinders_among rules locks.now.marking wanted.now) wanted.now
         asked.now asked.now.key.owner }
 {
-    let room = owners_of(wanted);
+    let room = owners_of::<N>(wanted);
     let owners = &room[..wanted.len()];
-    let mut reached = [false; MOST_PARKED];
+    let mut reached = [false; N];
     let reached = &mut reached[..wanted.len()];
-    let mut visited = [false; MOST_PARKED];
+    let mut visited = [false; N];
     reach(rules, locks, asked, wanted, owners, reached);
     while let Some(place) = next(reached, &visited) {
         visited[place] = true;
@@ -170,11 +201,12 @@ fn leads_back(rules: Rules, locks: &Table, wanted: &[Wanted], asked: &Wanted) ->
 }
 
 // The owners of requests, at the front.
-fn owners_of(wanted: &[Wanted]) -> [u64; MOST_PARKED]
-    requires { length wanted.now ≤ MOST_PARKED }
+fn owners_of<const N: usize>(wanted: &[Wanted]) -> [u64; N]
+    requires few { length wanted.now ≤ N }
+    requires fits { N ≤ MOST_PARKED }
     ensures { take (length wanted.now) result ≡ owners_of wanted.now }
 {
-    let mut owners = [0; MOST_PARKED];
+    let mut owners = [0; N];
     for i in 0..wanted.len() {
         owners[i] = wanted[i].key.owner;
     }
@@ -182,8 +214,9 @@ fn owners_of(wanted: &[Wanted]) -> [u64; MOST_PARKED]
 }
 
 // A place that is reached, and wasn't visited yet.
-fn next(reached: &[bool], visited: &[bool; MOST_PARKED]) -> Option<usize>
-    requires { length reached.now ≤ MOST_PARKED }
+fn next<const N: usize>(reached: &[bool], visited: &[bool; N]) -> Option<usize>
+    requires few { length reached.now ≤ N }
+    requires fits { N ≤ MOST_PARKED }
     ensures { MatchOption result
         ((i : ℕ) → i < length reached.now → is_set reached.now i ≡ true → is_set visited.now i ≡ true)
         (λ i. (i < length reached.now) × (is_set reached.now i ≡ true) × (is_set visited.now i ≡ false)) }

@@ -9,4 +9,4 @@ mod rules;
 
 pub use claim::Claim;
 pub use parked::{MOST_PARKED, Parked, Request};
-pub use rules::Rules;
+pub use rules::{MOST_RUNS, Rules};

@@ -1,10 +1,10 @@
 //! Parked requests, in the order of asking.
 
-ghost use Rattle.std.specs.Prelude.{◌≡◌, ◌==◌, ◌↔◌, ◌≤◌, ◌<◌, ◌%◌, ◌++◌, ◌∷◌, [], Bool, true, false, None, Some, IfOk, MatchOption, length, take};
+ghost use Rattle.std.specs.Prelude.{◌≡◌, ◌==◌, ◌↔◌, ◌≤◌, ◌<◌, ◌%◌, ◌++◌, ◌∷◌, [], nat_le, Bool, true, false, None, Some, IfOk, MatchOption, length, take};
 ghost use Rattle.std.specs.List.{list_any, AllByRecursion};
 ghost use Rattle.fl_arena.specs.Chains.{items};
 ghost use Rattle.fl_arena.specs.Cursors.{Tests, cursor_at};
-ghost use Rattle.fl_waiting.specs.Inside.Claims.{requests_of, IsFirstBehind};
+ghost use Rattle.fl_waiting.specs.Inside.Claims.{requests_of, ruled, IsFirstBehind};
 ghost use Rattle.fl_waiting.specs.Inside.Searching.{meant};
 ghost use Rattle.fl_waiting.specs.Waiting.{goes_first, is_behind, is_parked, passes_free, taken_behind, taken_first, wishes};
 ghost use Rattle.fl_waiting.specs.declared.claim.Claim.{Claim};
@@ -19,8 +19,8 @@ use fl_ranges::{Key, Kind, Range};
 use std::alloc::Global;
 use std::marker::Model;
 
-/// The most parked requests at once.
-pub const MOST_PARKED: usize = 256;
+/// The most parked requests that rules may allow.
+pub const MOST_PARKED: usize = 1024;
 
 const BUCKETS: usize = 256;
 
@@ -49,6 +49,7 @@ impl Model for Parked {
     ghost use Rattle.std.specs.Prelude.{◌≡◌, List, length};
     ghost use Rattle.fl_arena.specs.Chains.{items};
     ghost use Rattle.fl_waiting.specs.declared.parked.Request.{Request};
+    ghost use Rattle.fl_waiting.specs.declared.parked.TheConstants.{MOST_PARKED};
     ghost use Rattle.fl_waiting.specs.Inside.Claims.{requests_of};
     ghost use Rattle.fl_waiting.specs.Inside.Counts.{AreUpTo, AreCounted};
 
@@ -56,7 +57,7 @@ impl Model for Parked {
 
     ghost view = { λ p. requests_of p.claims };
 
-    ghost invariant = { λ p. (length p.claims.chains ≡ 1) × (p.claims.slots ≡ 256)
+    ghost invariant = { λ p. (length p.claims.chains ≡ 1) × (p.claims.slots ≡ MOST_PARKED)
         × AreUpTo p.greatest (requests_of p.claims) × AreCounted p.on_nodes (requests_of p.claims) };
 }
 
@@ -72,12 +73,20 @@ impl Parked {
         })
     }
 
-    /// Whether no more can wait.
-    pub fn is_full(&self) -> bool
-        ensures few { length self.now ≤ MOST_PARKED }
-        ensures full { result ≡ (length self.now == MOST_PARKED) }
+    // How many wait.
+    pub(crate) fn count(&self) -> usize
+        ensures is { result ≡ length self.now }
+        ensures few { result ≤ MOST_PARKED }
     {
-        self.claims.free() == 0
+        MOST_PARKED - self.claims.free()
+    }
+
+    /// Whether as many wait as these rules allow.
+    pub fn is_full(&self, rules: Rules) -> bool
+        ensures few { length self.now ≤ MOST_PARKED }
+        ensures full { result ≡ nat_le rules.parked (length self.now) }
+    {
+        rules.parked as usize <= self.count()
     }
 
     /// Whether none waits.
@@ -85,7 +94,7 @@ impl Parked {
         ensures few { length self.now ≤ MOST_PARKED }
         ensures empty { result ≡ (length self.now == 0) }
     {
-        self.claims.free() == MOST_PARKED
+        self.count() == 0
     }
 
     /// Whether a request of this unique waits.
@@ -93,7 +102,7 @@ impl Parked {
         ensures found { result ≡ is_parked unique self.now }
         ensures few { length self.now ≤ MOST_PARKED }
     {
-        if self.claims.free() == MOST_PARKED || unique > self.greatest {
+        if self.is_empty() || unique > self.greatest {
             return false;
         }
         let cursor = self
@@ -186,7 +195,7 @@ fn first_free<F: Fn(&Claim) -> bool>(claims: &Arena<Claim>, test: F) -> Cursor
     requires callable { F.IsAlwaysCallable test }
     ensures at { result ≡ cursor_at claims.now 0 result.index }
     ensures first { (p : Request → Bool) → Tests F.Fn (λ (claim : Claim). p claim.request) test →
-        IsFirstBehind (passes_free (record { fair = true }) p) (requests_of claims.now) result.index }
+        IsFirstBehind (passes_free (ruled true) p) (requests_of claims.now) result.index }
 {
     let mut cursor = claims.cursor(0);
     while let Some(claim) = claims.item(&cursor) {
@@ -202,7 +211,7 @@ fn first_free<F: Fn(&Claim) -> bool>(claims: &Arena<Claim>, test: F) -> Cursor
 fn is_behind(claims: &Arena<Claim>, claim: &Claim, place: usize) -> bool
     requires chain { 0 < length claims.now.chains }
     requires within { place ≤ length (items claims.now 0) }
-    ensures { result ≡ is_behind (record { fair = true }) (take place (requests_of claims.now)) claim.now.request }
+    ensures { result ≡ is_behind (ruled true) (take place (requests_of claims.now)) claim.now.request }
 {
     let Some(mark) = claim.mark else {
         return false;

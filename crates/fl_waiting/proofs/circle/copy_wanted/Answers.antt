@@ -1,4 +1,4 @@
-use Rattle.std.proofs.Common.{rules, ◌≡◌, ◌∙◌, Some, None, take, slice_get, refl, sym, ap, arith}
+use Rattle.std.proofs.Common.{◌≡◌, ◌∙◌, Some, None, take, slice_get, refl, sym, ap, arith}
 use Rattle.std.proofs.lemmas.List.{length-take-le}
 use Rattle.std.specs.Option.{option_copied}
 use Rattle.fl_arena.specs.Chains.{items}
@@ -19,9 +19,8 @@ loop-claim-preserved c =
       at = next.at;
       within = omega (arith, next.index, next.inside);
       few = omega (arith, next.index, c.put-count.ensures.few, so_far.few);
-      long = search rules;
       numbered = numbered_on c.loop-claim.room c.put-count.new.room c.loop-claim.count c.put-count.result c.wanted_of.result so_far.numbered
-          (length-take-le c.loop-claim.count c.loop-claim.room (omega (arith, so_far.long, so_far.few, so_far.within, next.inside, c.requires.few))) c.put-count.ensures.put;
+          (length-take-le c.loop-claim.count c.loop-claim.room (omega (arith, c.loop-claim.auto.room, so_far.few, so_far.within, next.inside, c.requires.few))) c.put-count.ensures.put;
       copied = copied_more c.loop-claim.room c.put-count.new.room c.loop-claim.count c.put-count.result c.wanted_of.result (requests_of a) i claim.request
           so_far.copied c.put-count.ensures.put c.wanted_of.ensures next.there next.value
           ∙ ap (λ n. wishes (take n (requests_of a))) (sym next.index);

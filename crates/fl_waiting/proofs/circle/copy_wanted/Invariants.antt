@@ -11,7 +11,6 @@ invariant-loop-claim l = record {
   at : l.cursor ≡ cursor_at l.claims 0 l.cursor.index;
   within : l.cursor.index ≤ length (items l.claims 0);
   few : l.count ≤ l.cursor.index;
-  long : length l.room ≡ 256;
   numbered : AreNumbered 0 (take l.count l.room);
   copied : map meant (take l.count l.room) ≡ wishes (take l.cursor.index (requests_of l.claims));
 }

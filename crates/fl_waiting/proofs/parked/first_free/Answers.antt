@@ -3,7 +3,7 @@ use Rattle.std.proofs.lemmas.List.{take_more}
 use Rattle.std.proofs.lemmas.Option.{none-some, slice_get-map}
 use Rattle.std.specs.Option.{option_copied}
 use Rattle.fl_arena.specs.Chains.{items}
-use Rattle.fl_waiting.specs.Inside.Claims.{request_in, requests_of}
+use Rattle.fl_waiting.specs.Inside.Claims.{request_in, requests_of, ruled}
 use Rattle.fl_waiting.specs.Waiting.{is_behind, passes_free, AllBehind}
 use Rattle.fl_waiting.specs.declared.parked.Request.{Request}
 use Rattle.fl_waiting.proofs.Behind.{all_behind_more}
@@ -37,13 +37,13 @@ loop-claim-preserved g c =
       at = next.at;
       within = omega (arith, next.index, next.inside);
       none = λ p tests.
-          let failing : passes_free (record { fair = true }) p (take i parked) r ≡ false = elim c.else-test.branch [
+          let failing : passes_free (ruled true) p (take i parked) r ≡ false = elim c.else-test.branch [
             | else-test-via-then-test+else-not-is_behind w ↦ fails_second (p r) _ (sym w.is_behind.ensures ∙ w.if-not-is_behind.false)
             | else-test-via-else-test w ↦ fails_first (p r) _ (sym (tests (c.in-Some.claim, tt) c.test.result c.test.ensures) ∙ w.if-test.false)
           ] in
-          subst (AllBehind (λ older r. passes_free (record { fair = true }) p older r ≡ false) [])
+          subst (AllBehind (λ older r. passes_free (ruled true) p older r ≡ false) [])
           (sym (ap (λ n. take n parked) next.index ∙ take_more parked i r next.there ∙ ap (λ x. take i parked ++ x ∷ []) next.value))
-          (all_behind_more (λ older r. passes_free (record { fair = true }) p older r ≡ false) [] (take i parked) r (c.loop-claim.invariant.none p tests) failing);
+          (all_behind_more (λ older r. passes_free (ruled true) p older r ≡ false) [] (take i parked) r (c.loop-claim.invariant.none p tests) failing);
     }
 
 same_some : {x y : Request} → ◌≡◌ {A = Option Request} (Some x) (Some y) → x ≡ y
@@ -62,8 +62,8 @@ returns-clause-first g c p tests =
             let claim = w.in-Some.claim.now in
             let found : slice_get (items a 0) i ≡ Some claim = sym (w.in-Some.ensures.at_index 0 i here) in
             let same : claim.request ≡ r = same_some (ap (option_map request_in) (sym found) ∙ sym (slice_get-map request_in (items a 0) i) ∙ there) in
-            ap (passes_free (record { fair = true }) p (take i parked)) (sym same)
-            ∙ passes_both (p claim.request) (is_behind (record { fair = true }) (take i parked) claim.request)
+            ap (passes_free (ruled true) p (take i parked)) (sym same)
+            ∙ passes_both (p claim.request) (is_behind (ruled true) (take i parked) claim.request)
             (sym (tests (w.in-Some.claim, tt) w.test.result w.test.ensures) ∙ w.if-test.true)
             (sym w.is_behind.ensures ∙ w.if-not-is_behind.true)
         | in_default w ↦

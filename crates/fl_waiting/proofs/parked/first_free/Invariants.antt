@@ -1,7 +1,7 @@
 use Rattle.std.proofs.Common.{◌≡◌, ◌-◌, ◌≤◌, Bool, true, false, [], length, take}
 use Rattle.fl_arena.specs.Chains.{items}
 use Rattle.fl_arena.specs.Cursors.{Tests, cursor_at}
-use Rattle.fl_waiting.specs.Inside.Claims.{requests_of}
+use Rattle.fl_waiting.specs.Inside.Claims.{requests_of, ruled}
 use Rattle.fl_waiting.specs.Waiting.{passes_free, AllBehind}
 use Rattle.fl_waiting.specs.declared.claim.Claim.{Claim}
 use Rattle.fl_waiting.specs.declared.parked.Request.{Request}
@@ -12,7 +12,7 @@ invariant-loop-claim g l = record {
   at : l.cursor ≡ cursor_at l.claims 0 l.cursor.index;
   within : l.cursor.index ≤ length (items l.claims 0);
   none : (p : Request → Bool) → Tests g.F.Fn (λ (claim : Claim). p claim.request) l.test →
-      AllBehind (λ older r. passes_free (record { fair = true }) p older r ≡ false) [] (take l.cursor.index (requests_of l.claims));
+      AllBehind (λ older r. passes_free (ruled true) p older r ≡ false) [] (take l.cursor.index (requests_of l.claims));
 }
 
 abbrev pub decreases-loop-claim : goal.decreases-loop-claim

@@ -5,7 +5,7 @@ use Rattle.fl_arena.specs.Chains.{items}
 use Rattle.fl_arena.specs.declared.cursors.Cursor.{Cursor}
 use Rattle.fl_ranges.specs.Marking.{Stroke}
 use Rattle.fl_ranges.specs.declared.lock.Mark.{Mark}
-use Rattle.fl_waiting.specs.Inside.Claims.{request_in, requests_of}
+use Rattle.fl_waiting.specs.Inside.Claims.{request_in, requests_of, ruled}
 use Rattle.fl_waiting.specs.Waiting.{Wish, goes_before, goes_first, anyone, passes, wish_on, wishes}
 use Rattle.fl_waiting.specs.declared.claim.Claim.{Claim}
 use Rattle.fl_waiting.specs.declared.parked.Request.{Request}
@@ -26,6 +26,6 @@ returns c =
     ap (λ (k : Cursor). nat_lt k.index c.args.place) first
     ∙ ap (λ n. nat_lt n c.args.place) (position_of_request test (items a 0))
     ∙ before_place (goes_first wanted) (requests_of a) c.args.place (omega (arith, c.requires.within, length-map (items a 0) request_in))
-    ∙ ap (λ m. passes (λ (k : Mark). goes_before (record { fair = true }) anyone (wishes older) (record { key = claim.key; start = claim.range.start; end = claim.range.end; kind = k.kind })) m)
+    ∙ ap (λ m. passes (λ (k : Mark). goes_before (ruled true) anyone (wishes older) (record { key = claim.key; start = claim.range.start; end = claim.range.end; kind = k.kind })) m)
     (sym c.in-Some.is)
-    ∙ ap (λ (s : Stroke). passes (λ (k : Mark). goes_before (record { fair = true }) anyone (wishes older) (wish_on s k)) s.mark) claim.wanted
+    ∙ ap (λ (s : Stroke). passes (λ (k : Mark). goes_before (ruled true) anyone (wishes older) (wish_on s k)) s.mark) claim.wanted

@@ -1,11 +1,12 @@
-use Rattle.std.proofs.Common.{◌≡◌, ◌∙◌, Bor, Bool, true, false, not, Option, Some, None, MatchOption, [], is_some, option_map, slice_get, map, remove, refl, ap, sym, subst}
+use Rattle.std.proofs.Common.{◌≡◌, ◌∙◌, Bor, Bool, true, false, not, Option, Some, None, MatchOption, List, [], is_some, option_map, slice_get, map, remove, refl, ap, sym, subst}
 use Rattle.std.proofs.lemmas.Option.{slice_get-map}
 use Rattle.std.specs.Option.{option_copied}
 use Rattle.fl_arena.specs.Chains.{items}
 use Rattle.fl_arena.specs.declared.cursors.Cursor.{Cursor}
 use Rattle.fl_waiting.specs.declared.claim.Claim.{Claim}
+use Rattle.fl_waiting.specs.declared.parked.Request.{Request}
 use Rattle.fl_waiting.specs.declared.rules.Rules.{Rules}
-use Rattle.fl_waiting.specs.Inside.Claims.{request_in, requests_of}
+use Rattle.fl_waiting.specs.Inside.Claims.{request_in, requests_of, ruled}
 use Rattle.fl_waiting.specs.Inside.Counts.{AreUpTo, AreCounted}
 use Rattle.fl_waiting.specs.Waiting.{passes_free, taken_behind, AllBehind}
 use Rattle.fl_waiting.proofs.Behind.{free_unfair, none_behind, taken_there}
@@ -27,9 +28,10 @@ returns-then-not-rules g c p tests =
     subst (λ x. MatchOption c.take_first.result ((x ≡ None) × (c.take_first.new.self ≡ c.args.self.now)) (λ claim. x ≡ Some (claim.request, c.take_first.new.self)))
     (sym (free_unfair c.args.rules p c.args.self.now (not_so c.args.rules.fair c.if-not-rules.true))) (c.take_first.ensures p tests)
 
--- the rules are fair
-fair_rules : (rules : Rules) → rules.fair ≡ true → record { fair = true } ≡ rules
-fair_rules rules fair = ap (λ f. record { fair = f }) (sym fair)
+-- the rules are fair: what else they say has no part in it
+as_fair : (rules : Rules) (p : Request → Bool) (parked : List Request) → rules.fair ≡ true
+    → taken_behind (passes_free rules p) [] parked ≡ taken_behind (passes_free (ruled true) p) [] parked
+as_fair rules p parked fair = ap (λ f. taken_behind (passes_free (ruled f) p) [] parked) fair
 
 none_found : (o : Option Claim) → is_some o ≡ false → o ≡ None
 none_found None e = refl
@@ -41,10 +43,10 @@ returns-then-is_none g c = λ p tests.
     let i = c.first_free-cursor.result.index in
     let first = c.first_free-cursor.ensures.first p tests in
     let none : slice_get (items a 0) i ≡ None = sym (c.item.ensures.at_index 0 i c.first_free-cursor.ensures.at) ∙ none_copied c.item.result c.if-is_none.ensures in
-    let all = subst (AllBehind (λ older r. passes_free (record { fair = true }) p older r ≡ false) []) (none_left a i none) first.none in (
-      ap (λ rules. taken_behind (passes_free rules p) [] c.args.self.now) (sym (fair_rules c.args.rules (so c.args.rules.fair c.if-not-rules.false)))
-          ∙ ap (taken_behind (passes_free (record { fair = true }) p) []) (sym c.self.view_is)
-          ∙ none_behind (passes_free (record { fair = true }) p) [] (requests_of a) all,
+    let all = subst (AllBehind (λ older r. passes_free (ruled true) p older r ≡ false) []) (none_left a i none) first.none in (
+      as_fair c.args.rules p c.args.self.now (so c.args.rules.fair c.if-not-rules.false)
+          ∙ ap (taken_behind (passes_free (ruled true) p) []) (sym c.self.view_is)
+          ∙ none_behind (passes_free (ruled true) p) [] (requests_of a) all,
       refl,
     )
   where
@@ -94,7 +96,7 @@ returns g c = λ p tests.
     let fewer : items c.remove-claim.new.self 0 ≡ remove (items a 0) i =
     ap (items c.remove-claim.new.self) (sym chain) ∙ c.remove-claim.ensures.items ∙ ap (λ k. remove (items a k) i) chain in
     let left : requests_of c.remove-claim.new.self ≡ remove (requests_of a) i = ap (map request_in) fewer ∙ requests_less (items a 0) i in
-    ap (λ rules. taken_behind (passes_free rules p) [] c.args.self.now) (sym (fair_rules c.args.rules (so c.args.rules.fair c.if-not-rules.false)))
-    ∙ ap (taken_behind (passes_free (record { fair = true }) p) []) (sym c.self.view_is)
-    ∙ taken_there (passes_free (record { fair = true }) p) [] (requests_of a) i claim.request first.none there (first.passes claim.request there)
+    as_fair c.args.rules p c.args.self.now (so c.args.rules.fair c.if-not-rules.false)
+    ∙ ap (taken_behind (passes_free (ruled true) p) []) (sym c.self.view_is)
+    ∙ taken_there (passes_free (ruled true) p) [] (requests_of a) i claim.request first.none there (first.passes claim.request there)
     ∙ ap (λ others. Some (claim.request, others)) (sym left)

@@ -1,0 +1,10 @@
+-- How many runs of locked bytes and how many parked requests rules may allow.
+use Rattle.std.specs.Prelude.{ℕ, ◌≤◌}
+
+-- at least one run, and at most 65536
+abbrev pub AllowsRuns : ℕ → Type 0
+AllowsRuns runs = (1 ≤ runs) × (runs ≤ 65536)
+
+-- at least one parked request, and at most 1024
+abbrev pub AllowsParked : ℕ → Type 0
+AllowsParked parked = (1 ≤ parked) × (parked ≤ 1024)
