@@ -1,5 +1,6 @@
 //! Scripts, traces and sessions under other rules than the standard ones.
 
+use super::scripts::limits::room_for_one_more_run;
 use super::scripts::{answers, asks_of};
 use super::{Command, is, run, run_case, run_under, wrote};
 use fl_testing::{init, init_reply};
@@ -166,6 +167,14 @@ fn room_for_one(rt: HostRuntime) {
     answers_under(&rt, alloc, "one waits", one_waits, ONE_WAITS, "differs 7\n");
     let most = limited(&rt, 65_536, 1024);
     answers_with_room(&rt, alloc, most);
+}
+
+#[test]
+fn room_for_4097_runs(rt: HostRuntime) {
+    let alloc = rt.alloc();
+    let rules = limited(&rt, 4097, 256);
+    let trace = room_for_one_more_run(&rt, alloc);
+    answers_under(&rt, alloc, "4,097 runs", rules, &trace, "differs 8196\n");
 }
 
 // With more room than the standard rules have, the standard traces that reach no limit are the same.
