@@ -114,6 +114,66 @@ tell 3 err 4
 tell 4 ok
 ";
 
+// The script of `examples/a_writer_among_readers.txt`: two readers have their locks when a writer asks, and others come before
+// those go. The writer gets its lock when the two have gone.
+const A_WRITER_AMONG_READERS: &str = "\
+ask 0 1 1 0 0 0 create 0 420 61
+tell 1 made 2 33188 1 0 0 1
+ask 0 2 2 0 0 0 setlkw 1 11 0 0 0 21 0
+tell 2 ok
+ask 0 3 2 0 0 0 setlkw 1 12 0 0 0 22 0
+tell 3 ok
+ask 0 4 2 0 0 0 setlkw 1 7 0 0 1 17 0
+ask 0 5 2 0 0 0 setlkw 1 13 0 0 0 23 0
+ask 0 6 2 0 0 0 setlk 1 11 0 0 2 21 0
+tell 6 ok
+ask 0 7 2 0 0 0 setlkw 1 14 0 0 0 24 0
+ask 0 8 2 0 0 0 setlk 1 12 0 0 2 22 0
+tell 8 ok
+tell 4 ok
+ask 0 9 2 0 0 0 setlk 1 7 0 0 2 17 0
+tell 9 ok
+tell 5 ok
+tell 7 ok
+ask 0 10 2 0 0 0 setlkw 1 15 0 0 0 25 0
+tell 10 ok
+ask 0 11 2 0 0 0 setlk 1 13 0 0 2 23 0
+tell 11 ok
+ask 0 12 2 0 0 0 setlkw 1 16 0 0 0 26 0
+tell 12 ok
+ask 0 13 2 0 0 0 setlk 1 14 0 0 2 24 0
+tell 13 ok
+";
+
+// The same, where the writer waits for locks alone: there is always a reader who has one.
+const A_WRITER_STARVES: &str = "\
+ask 0 1 1 0 0 0 create 0 420 61
+tell 1 made 2 33188 1 0 0 1
+ask 0 2 2 0 0 0 setlkw 1 11 0 0 0 21 0
+tell 2 ok
+ask 0 3 2 0 0 0 setlkw 1 12 0 0 0 22 0
+tell 3 ok
+ask 0 4 2 0 0 0 setlkw 1 7 0 0 1 17 0
+ask 0 5 2 0 0 0 setlkw 1 13 0 0 0 23 0
+tell 5 ok
+ask 0 6 2 0 0 0 setlk 1 11 0 0 2 21 0
+tell 6 ok
+ask 0 7 2 0 0 0 setlkw 1 14 0 0 0 24 0
+tell 7 ok
+ask 0 8 2 0 0 0 setlk 1 12 0 0 2 22 0
+tell 8 ok
+ask 0 9 2 0 0 0 setlk 1 7 0 0 2 17 0
+tell 9 ok
+ask 0 10 2 0 0 0 setlkw 1 15 0 0 0 25 0
+tell 10 ok
+ask 0 11 2 0 0 0 setlk 1 13 0 0 2 23 0
+tell 11 ok
+ask 0 12 2 0 0 0 setlkw 1 16 0 0 0 26 0
+tell 12 ok
+ask 0 13 2 0 0 0 setlk 1 14 0 0 2 24 0
+tell 13 ok
+";
+
 #[test]
 fn requests_wait_behind_older_ones(rt: HostRuntime) {
     let alloc = rt.alloc();
@@ -121,16 +181,23 @@ fn requests_wait_behind_older_ones(rt: HostRuntime) {
     answers_under(&rt, alloc, "behind", fair(), BEHIND_A_WRITER, differs);
     answers_under(&rt, alloc, "a circle", fair(), A_CIRCLE, differs);
     answers_under(&rt, alloc, "one leaves", fair(), THE_WRITER_LEAVES, differs);
+    let readers = A_WRITER_AMONG_READERS;
+    answers_under(&rt, alloc, "readers", fair(), readers, "differs 9\n");
 }
 
 // The traces of the same scripts under the standard rules, which differ under the others.
 #[test]
 fn the_same_requests_wait_for_locks_alone(rt: HostRuntime) {
     let alloc = rt.alloc();
-    for trace in [PAST_A_WRITER, NO_CIRCLE] {
+    let traces = [
+        (PAST_A_WRITER, "differs 7\n"),
+        (NO_CIRCLE, "differs 7\n"),
+        (A_WRITER_STARVES, "differs 9\n"),
+    ];
+    for (trace, differs) in traces {
         answers(&rt, alloc, "at once", trace, true);
         let judged = run_under(Command::Check, alloc, fair(), trace.as_bytes());
-        wrote(&rt, "at once", &judged, "differs 7\n", "");
+        wrote(&rt, "at once", &judged, differs, "");
     }
 }
 
