@@ -6,6 +6,6 @@ abbrev pub invariant-loop-reads : goal.invariant-loop-reads
 invariant-loop-reads g l = record {
   room : IsRoomy l.listener;
   few : length l.listener.judge.lines ≤ 65536 * l.reads;
-  rules : l.listener.judge.rules ≡ l.rules;
+  rules : l.listener.judge.rules ≡ l.fn.rules;
   read : HasRead (g.R.Read.remaining l.initial.input) (g.R.Read.remaining l.input) l.listener;
 }

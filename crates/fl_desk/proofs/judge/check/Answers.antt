@@ -1,8 +1,9 @@
 use Rattle.std.proofs.Common.{◌≡◌, ◌∙◌, ◌+◌, ◌<◌, length, take, refl, ap, subst, arith}
-use Rattle.std.proofs.lemmas.List.{length-drop}
+use Rattle.std.proofs.lemmas.List.{length-drop, take_all}
 use Rattle.std.proofs.lemmas.Option.{get_or_from_slice_get}
 use Rattle.fl_core.specs.State.{Snapshot}
 use Rattle.fl_core.specs.Step.{replies, replies_in}
+use Rattle.fl_desk.specs.Legal.{IsLegal}
 use Rattle.fl_desk.specs.Replay.{state_after}
 use Rattle.fl_desk.specs.Verdicts.{DiffersAt}
 use Rattle.fl_desk.proofs.Histories.{opened_kept, taken_kept}
@@ -60,3 +61,9 @@ loop-at-preserved c =
           (get_or_from_slice_get lines at c.line.result c.line.result c.line.ensures ∙ c.in-Asked.is) (omega (arith, c.if-told-replies.false)) told.alike);
       rules = ap (λ (p : Snapshot). p.rules) step.next ∙ c.loop-at.invariant.rules;
     }
+
+pub returns : goal.returns
+returns c =
+    let lines = c.args.history.now in
+    let all = take_all c.loop-at.at lines (omega (arith, c.loop-at-test.false, c.len.ensures.len)) in
+    subst (λ rules. IsLegal rules lines) c.loop-at.invariant.rules (subst (IsLegal c.loop-at.core.rules) all c.loop-at.invariant.kept.legal)

@@ -6,7 +6,7 @@ abbrev pub invariant-loop-at : goal.invariant-loop-at
 invariant-loop-at l = record {
   within : l.at ≤ length l.history;
   kept : IsKept (take l.at l.history) l.core;
-  rules : (l.core).rules ≡ l.rules;
+  rules : l.core.rules ≡ l.fn.rules;
 }
 
 abbrev pub decreases-loop-at : goal.decreases-loop-at

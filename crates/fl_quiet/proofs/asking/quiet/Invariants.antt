@@ -3,4 +3,4 @@ use Rattle.fl_quiet.proofs.Runs.{IsRun}
 use Rattle.fl_quiet.proofs.asking.quiet.Given as goal
 
 abbrev pub invariant-loop-at : goal.invariant-loop-at
-invariant-loop-at l = IsRun l.rules (take l.at l.history) l.core
+invariant-loop-at l = IsRun l.fn.rules (take l.at l.history) l.core
