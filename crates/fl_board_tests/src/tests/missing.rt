@@ -74,8 +74,15 @@ fn kept_late<L: BoardName, R: Wait + Abort>(
     requires rules { rules ≡ L.rules }
     requires parts { (1 ≡ L.parts) × (L.workers ≡ L.parts) }
 {
-    let (board, mut seats) = Board::<L, &R>::over(alloc, rt, Lines::new(alloc), blank, log, 1, rules)
-        .ok()
+    let (board, mut seats) = Board::<L, &R>::over(
+        alloc,
+        rt,
+        Lines::new(alloc),
+        blank,
+        log,
+        1,
+        rules,
+    ).ok()
         .expect(rt, "a board");
     let mut tolds = Tolds::new(alloc).expect(rt, "memory");
     let seat = seats.get_mut(0).expect(rt, "a seat");
