@@ -101,23 +101,23 @@ told_of p order op =
     let reply = reply_to p.rules p.view p.marking order op in
     own_replies order reply ++ ended_by p.view.parked op reply
 
-at_least : (n : ℕ) → nat_le 256 n ≡ true → 256 ≤ n
-at_least n e = grind (arith, nat_tests)
+at_least : (most n : ℕ) → nat_le most n ≡ true → most ≤ n
+at_least most n e = grind (arith, nat_tests)
 
-below : (n : ℕ) → nat_le 256 n ≡ false → n < 256
-below n e = grind (arith, nat_tests)
+below : (most n : ℕ) → nat_le most n ≡ false → n < most
+below most n e = grind (arith, nat_tests)
 
-not_below : (n : ℕ) → 256 ≤ n → nat_le 256 n ≡ true
-not_below n e = grind (arith, nat_tests)
+not_below : (most n : ℕ) → most ≤ n → nat_le most n ≡ true
+not_below most n e = grind (arith, nat_tests)
 
-not_at_least : (n : ℕ) → n < 256 → nat_le 256 n ≡ false
-not_at_least n e = grind (arith, nat_tests)
+not_at_least : (most n : ℕ) → n < most → nat_le most n ≡ false
+not_at_least most n e = grind (arith, nat_tests)
 
 -- a SETLKW by its tests
 abbrev lock_told : Snapshot → Order → LockAsk → Option Errno → Bool → Bool → Bool → List Told
 lock_told p order ask e conflict deadlock full =
     own_replies order (at_once_unless e
-    (cond conflict (cond deadlock (Some (Err EDEADLK)) (cond full (Some (Err ENOLCK)) None)) (Some (grant_reply p.marking (request_of order ask)))))
+    (cond conflict (cond deadlock (Some (Err EDEADLK)) (cond full (Some (Err ENOLCK)) None)) (Some (grant_reply p.rules.runs p.marking (request_of order ask)))))
 
 -- the request would close a circle
 abbrev deadlocks : Snapshot → Order → LockAsk → Bool
@@ -157,20 +157,20 @@ module _ (deadlock_words : CirclesInWords) where
 
   lock_answered : (p : Snapshot) (order : Order) (ask : LockAsk) (e : Option Errno) (conflict deadlock full : Bool)
       → ask_error p.view.directory order.node ask ≡ e
-      → waits p.rules p.marking p.view.parked (request_of order ask) ≡ conflict → deadlocks p order ask ≡ deadlock → nat_le 256 (length p.view.parked) ≡ full
+      → waits p.rules p.marking p.view.parked (request_of order ask) ≡ conflict → deadlocks p order ask ≡ deadlock → nat_le p.rules.parked (length p.view.parked) ≡ full
       → IsAnswered p order (Setlkw ask) (lock_told p order ask e conflict deadlock full)
   lock_answered p order ask (Some e) conflict deadlock full fault c d f = fails ask e fault
   lock_answered p order ask None false deadlock full fault c d f = is_free ask fault c
   lock_answered p order ask None true true full fault c d f = closes_one ask fault c ((deadlock_words p.rules p.marking p.view.parked (request_of order ask)).0 d)
-  lock_answered p order ask None true false true fault c d f = is_one_too_many ask fault c (no_circle p order ask d) (at_least (length p.view.parked) f)
-  lock_answered p order ask None true false false fault c d f = waits_now ask fault c (no_circle p order ask d) (below (length p.view.parked) f)
+  lock_answered p order ask None true false true fault c d f = is_one_too_many ask fault c (no_circle p order ask d) (at_least p.rules.parked (length p.view.parked) f)
+  lock_answered p order ask None true false false fault c d f = waits_now ask fault c (no_circle p order ask d) (below p.rules.parked (length p.view.parked) f)
 
   lock_is : (p : Snapshot) (order : Order) (ask : LockAsk) (e : Option Errno) (conflict deadlock full : Bool) → ask_error p.view.directory order.node ask ≡ e
-      → waits p.rules p.marking p.view.parked (request_of order ask) ≡ conflict → deadlocks p order ask ≡ deadlock → nat_le 256 (length p.view.parked) ≡ full
+      → waits p.rules p.marking p.view.parked (request_of order ask) ≡ conflict → deadlocks p order ask ≡ deadlock → nat_le p.rules.parked (length p.view.parked) ≡ full
       → told_of p order (Setlkw ask) ≡ lock_told p order ask e conflict deadlock full
   lock_is p order ask e conflict deadlock full fault c d f =
       append-nil (lock_told p order ask (ask_error p.view.directory order.node ask) (waits p.rules p.marking p.view.parked (request_of order ask)) (deadlocks p order ask)
-      (nat_le 256 (length p.view.parked)))
+      (nat_le p.rules.parked (length p.view.parked)))
       ∙ (λ i. lock_told p order ask (fault i) (c i) (d i) (f i))
 
   answered_so : (p : Snapshot) (order : Order) → AreApart p.view.parked → (op : Op) → IsAnswered p order op (told_of p order op)
@@ -218,9 +218,9 @@ module _ (deadlock_words : CirclesInWords) where
   told_so {p} {order} apart (closes_one ask fault c circle) =
       lock_is p order ask None true true _ fault c ((deadlock_words p.rules p.marking p.view.parked (request_of order ask)).1 circle) refl
   told_so {p} {order} apart (is_one_too_many ask fault c none full) =
-      lock_is p order ask None true false true fault c (no_deadlock p order ask none) (not_below (length p.view.parked) full)
+      lock_is p order ask None true false true fault c (no_deadlock p order ask none) (not_below p.rules.parked (length p.view.parked) full)
   told_so {p} {order} apart (waits_now ask fault c none few) =
-      lock_is p order ask None true false false fault c (no_deadlock p order ask none) (not_at_least (length p.view.parked) few)
+      lock_is p order ask None true false false fault c (no_deadlock p order ask none) (not_at_least p.rules.parked (length p.view.parked) few)
 
   -- ---- any order
 

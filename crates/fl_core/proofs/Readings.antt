@@ -19,15 +19,15 @@ use Rattle.fl_order.specs.declared.told.Told.{Told}
 -- the replies of settling leave what settling leaves
 read_settled : {rules : Rules} {s after : Present} {tolds : List Told} → IsSettled rules s tolds after → (p : Snapshot) → present p.marking p.view.parked ≡ s → AreApart s.parked
     → made_all tolds p ≡ with_present after p
-read_settled (done all) p e apart = ap (λ (s : Present). with_present s p) e
-read_settled (one {m} {parked} {tolds} {after} older r younger stands all free rest) p e apart =
+read_settled {rules} (done all) p e apart = ap (λ (s : Present). with_present s p) e
+read_settled {rules} (one {m} {parked} {tolds} {after} older r younger stands all free rest) p e apart =
     let w = apart_without older r younger (subst AreApart stands apart) in
     let there : taken_out r.unique p.view.parked ≡ Some (r, older ++ younger) = ap (λ (s : Present). taken_out r.unique s.parked) e
     ∙ ap (taken_out r.unique) stands ∙ taken_there older r younger w.0 in
-    let next : Snapshot = with_present (present (marking_granted m r) (older ++ younger)) p in
-    let first : made (λ v. later_to (taken_out r.unique v.parked) (granted_told m r).result v) p ≡ next =
-    ap (λ o. made (λ v. later_to o (granted_told m r).result v) p) there
-    ∙ ap (λ (s : Present). made (λ v. later_to (Some (r, older ++ younger)) (granted_told m r).result v) (record p { marking = s.marking })) e in
+    let next : Snapshot = with_present (present (marking_granted rules.runs m r) (older ++ younger)) p in
+    let first : made (λ v. later_to (taken_out r.unique v.parked) (granted_told rules.runs m r).result v) p ≡ next =
+    ap (λ o. made (λ v. later_to o (granted_told rules.runs m r).result v) p) there
+    ∙ ap (λ (s : Present). made (λ v. later_to (Some (r, older ++ younger)) (granted_told rules.runs m r).result v) (record p { marking = s.marking })) e in
     ap (made_all tolds) first ∙ read_settled rest next refl w.1
 
 pub settled_read : (p : Snapshot) → AreApart p.view.parked → made_all (settling p).tolds p ≡ with_present (settling p).present p

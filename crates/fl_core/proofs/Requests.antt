@@ -30,9 +30,9 @@ set_marking (Err e) m n s node ask is ok err = err
 -- a SETLKW by its tests
 pub setlkw_is : (rules : Rules) (v : View) (m : Marking) (node : ℕ) (ask : LockAsk) (e : Option Errno) (conflict deadlock full : Bool) → ask_error v.directory node ask ≡ e
     → must_wait rules m v.parked (stroke_of node ask) (mark_of ask) ≡ conflict
-    → is_deadlock rules m v.parked (stroke_of node ask) (mark_of ask) ≡ deadlock → nat_le 256 (length v.parked) ≡ full
+    → is_deadlock rules m v.parked (stroke_of node ask) (mark_of ask) ≡ deadlock → nat_le rules.parked (length v.parked) ≡ full
     → setlkw_reply rules v m node ask ≡ at_once_unless e
-    (cond conflict (cond deadlock (Some (Err EDEADLK)) (cond full (Some (Err ENOLCK)) None)) (Some (room_reply m (stroke_of node ask))))
+    (cond conflict (cond deadlock (Some (Err EDEADLK)) (cond full (Some (Err ENOLCK)) None)) (Some (room_reply rules.runs m (stroke_of node ask))))
 setlkw_is rules v m node ask e conflict deadlock full fault c d f =
     λ i. at_once_unless (fault i) (cond (c i) (cond (d i) (Some (Err EDEADLK)) (cond (f i) (Some (Err ENOLCK)) None))
-    (Some (room_reply m (stroke_of node ask))))
+    (Some (room_reply rules.runs m (stroke_of node ask))))

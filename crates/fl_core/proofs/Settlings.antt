@@ -107,7 +107,7 @@ module _ (rules : Rules) where
   pub settled_none : (m : Marking) (parked : List Request) → AllWait rules m parked → settled rules (present m parked) ≡ record { present = present m parked; tolds = [] }
   unfolding settled_within
   settled_none m [] all = refl
-  settled_none m (a ∷ parked) all = ap (answered_first m (a ∷ parked) _) (all_wait m (a ∷ parked) all)
+  settled_none m (a ∷ parked) all = ap (answered_first rules.runs m (a ∷ parked) _) (all_wait m (a ∷ parked) all)
 
   shorter : (older : List Request) (r : Request) (younger : List Request) → length (older ++ r ∷ younger) ≡ suc (length (older ++ younger))
   shorter [] r younger = refl
@@ -118,13 +118,13 @@ module _ (rules : Rules) where
 
   settled_one : (m : Marking) (parked : List Request) (r : Request) (others : List Request) → oldest_free rules m parked ≡ Some (r, others)
       → length parked ≡ suc (length others)
-      → settled rules (present m parked) ≡ with_told (granted_told m r) (settled rules (present (marking_granted m r) others))
+      → settled rules (present m parked) ≡ with_told (granted_told rules.runs m r) (settled rules (present (marking_granted rules.runs m r) others))
   unfolding settled_within
   settled_one m parked r others e shorter =
-      ap (λ n. settled_within rules n m parked) shorter ∙ ap (answered_first m parked (λ p. settled_within rules (length others) (marking_granted m p.0) p.1)) e
+      ap (λ n. settled_within rules n m parked) shorter ∙ ap (answered_first rules.runs m parked (λ p. settled_within rules (length others) (marking_granted rules.runs m p.0) p.1)) e
 
   pub settled_first : (m : Marking) (parked : List Request) (r : Request) (others : List Request) → oldest_free rules m parked ≡ Some (r, others)
-      → settled rules (present m parked) ≡ with_told (granted_told m r) (settled rules (present (marking_granted m r) others))
+      → settled rules (present m parked) ≡ with_told (granted_told rules.runs m r) (settled rules (present (marking_granted rules.runs m r) others))
   settled_first m parked r others e = settled_one m parked r others e (one_shorter (is_oldest m parked r others e))
 
   -- the function is in the words
@@ -132,21 +132,21 @@ module _ (rules : Rules) where
       → IsSettled rules (present m parked) (settled rules (present m parked)).tolds (settled rules (present m parked)).present
   sound zero m [] e = subst (λ s. IsSettled rules (present m []) s.tolds s.present) (sym (settled_none m [] tt)) (done tt)
   sound zero m (a ∷ parked) e = absurd (omega arith)
-  sound (suc n) m parked e = go (oldest_free rules m parked) refl (λ r others. sound n (marking_granted m r) others)
+  sound (suc n) m parked e = go (oldest_free rules m parked) refl (λ r others. sound n (marking_granted rules.runs m r) others)
     where
       go : (o : Option (Request × List Request)) → oldest_free rules m parked ≡ o
           → ((r : Request) (others : List Request) → length others ≡ n
-          → IsSettled rules (present (marking_granted m r) others) (settled rules (present (marking_granted m r) others)).tolds
-          (settled rules (present (marking_granted m r) others)).present)
+          → IsSettled rules (present (marking_granted rules.runs m r) others) (settled rules (present (marking_granted rules.runs m r) others)).tolds
+          (settled rules (present (marking_granted rules.runs m r) others)).present)
           → IsSettled rules (present m parked) (settled rules (present m parked)).tolds (settled rules (present m parked)).present
       go None o f = let all = none_free m parked o in subst (λ s. IsSettled rules (present m parked) s.tolds s.present) (sym (settled_none m parked all)) (done all)
       go (Some p) o f =
           let w = is_oldest m parked p.0 p.1 o in
-          let rest = settled rules (present (marking_granted m p.0) p.1) in
+          let rest = settled rules (present (marking_granted rules.runs m p.0) p.1) in
           let left : length p.1 ≡ n = omega (arith, one_shorter w) in
           subst (λ s. IsSettled rules (present m parked) s.tolds s.present) (sym (settled_first m parked p.0 p.1 o))
           (one w.older p.0 w.younger w.stands w.all w.free
-          (subst (λ xs. IsSettled rules (present (marking_granted m p.0) xs) rest.tolds rest.present) w.left (f p.0 p.1 left)))
+          (subst (λ xs. IsSettled rules (present (marking_granted rules.runs m p.0) xs) rest.tolds rest.present) w.left (f p.0 p.1 left)))
 
   pub is_settled : (s : Present) → IsSettled rules s (settled rules s).tolds (settled rules s).present
   is_settled s = sound (length s.parked) s.marking s.parked refl
@@ -156,7 +156,7 @@ module _ (rules : Rules) where
   complete (done {m} {parked} all) = settled_none m parked all
   complete (one {m} {parked} {tolds} {after} older r younger stands all free rest) =
       settled_first m parked r (older ++ younger) (ap (oldest_free rules m) stands ∙ oldest_is m [] older r younger all free)
-      ∙ ap (with_told (granted_told m r)) (complete rest)
+      ∙ ap (with_told (granted_told rules.runs m r)) (complete rest)
 
   pub settling_told : (s after : Present) (tolds : List Told) → IsSettled rules s tolds after ↔ ((tolds ≡ (settled rules s).tolds) × (after ≡ (settled rules s).present))
   settling_told s after tolds = (
@@ -193,11 +193,11 @@ module _ (rules : Rules) where
 
   pub settling_goes_on : (s : Present) (given told more : List Told) (m later : Marking) (parked others : List Request) (r : Request) (reply : Told)
       → IsSettling rules s (present m parked) given told
-      → oldest_free rules m parked ≡ Some (r, others) → later ≡ marking_granted m r → reply ≡ granted_told m r → more ≡ told ++ reply ∷ []
+      → oldest_free rules m parked ≡ Some (r, others) → later ≡ marking_granted rules.runs m r → reply ≡ granted_told rules.runs m r → more ≡ told ++ reply ∷ []
       → IsSettling rules s (present later others) given more
   settling_goes_on s given told more m later parked others r reply so_far first later_is reply_is more_is =
       let e = settled_first m parked r others first in
-      let rest = settled rules (present (marking_granted m r) others) in
+      let rest = settled rules (present (marking_granted rules.runs m r) others) in
       let same : settled rules (present later others) ≡ rest = ap (λ n. settled rules (present n others)) later_is in
       record {
         tolds =

@@ -150,10 +150,10 @@ module _ (count : Counts) (rules : Rules) where
   ends_stage (Some ending) m parked after later = more (leave (λ r. not (picks ending r)) refl refl) later
 
   -- a request that settling grants
-  gains_granted : (m : Marking) (r : Request) → GainsAtMost rules (wanted_by r) m (after_changes (locked r.node r.ask (grant_reply m r)) m)
+  gains_granted : (m : Marking) (r : Request) → GainsAtMost rules (wanted_by r) m (after_changes (locked r.node r.ask (grant_reply rules.runs m r)) m)
   gains_granted m r =
-      subst (λ g. GainsAtMost rules g m (after_changes (locked r.node r.ask (grant_reply m r)) m)) (sym (wanted_is_asked r))
-      (gains_locked r.node r.ask (grant_reply m r) m)
+      subst (λ g. GainsAtMost rules g m (after_changes (locked r.node r.ask (grant_reply rules.runs m r)) m)) (sym (wanted_is_asked r))
+      (gains_locked r.node r.ask (grant_reply rules.runs m r) m)
 
   settled_stages : {s after : Present} {tolds : List Told} → IsSettled rules s tolds after → AreLater rules s after
   settled_stages (done all) = none

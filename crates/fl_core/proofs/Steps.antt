@@ -1,5 +1,6 @@
 -- A whole step: its replies, and what they change.
-use Rattle.std.proofs.Common.{◌≡◌, ◌≢◌, ℕ, Bool, true, false, cond, Option, Some, None, Result, Err, List, [], ◌∷◌, ◌++◌, append_assoc, append-nil, map, length, suc, ◌+◌, ◌≤◌, refl, sym, ap, ◌∙◌, subst, arith}
+use Rattle.std.proofs.Common.{◌≡◌, ◌≢◌, ℕ, Bool, true, false, cond, Option, Some, None, Result, Err, List, [], ◌∷◌, ◌++◌, append_assoc, append-nil, map, length, suc, ◌+◌, ◌≤◌, ◌<◌, nat_le, refl, sym, ap, ◌∙◌, subst, arith}
+use Rattle.std.proofs.lemmas.Bool.Decides.{nat_tests}
 use Rattle.std.specs.List.{filter, AllByRecursion}
 use Rattle.fl_core.specs.Effects.{Effect, leaving, answered, unanswered, request_of, waited_for, with_waiter, by_reply, at_once, replied, made}
 use Rattle.fl_core.specs.Inside.Parts.{left_by, left_if, with_parked}
@@ -228,10 +229,33 @@ one_at_most order None parked = omega arith
 one_at_most order (Some ask) parked = omega (arith, one_longer parked (request_of order ask))
 
 -- an order that waits has no reply of its own
-pub room_left : (order : Order) (own : Option (Result Answer Errno)) (p : Snapshot) → length p.view.parked ≤ 256
-    → length (own_replies order own) + length (made (by_reply order own) p).view.parked ≤ 257
+pub room_left : (order : Order) (own : Option (Result Answer Errno)) (p : Snapshot) → length p.view.parked ≤ p.rules.parked
+    → length (own_replies order own) + length (made (by_reply order own) p).view.parked ≤ p.rules.parked + 1
 room_left order (Some reply) p few = omega (arith, few)
 room_left order None p few = omega (arith, few, one_at_most order (waited_for order.op) p.view.parked)
+
+-- a request that has no reply yet is not one too many
+waits_within : (e : Option Errno) (conflict deadlock full : Bool) (room : Result Answer Errno) (x y : Errno)
+    → at_once_unless e (cond conflict (cond deadlock (Some (Err x)) (cond full (Some (Err y)) None)) (Some room)) ≡ None → full ≡ false
+waits_within None true false false room x y is = refl
+waits_within None true false true room x y is = absurd (cc is)
+waits_within None true true full room x y is = absurd (cc is)
+waits_within None false deadlock full room x y is = absurd (cc is)
+waits_within (Some e) conflict deadlock full room x y is = absurd (cc is)
+
+below : (most n : ℕ) → nat_le most n ≡ false → n < most
+below most n e = grind (arith, nat_tests)
+
+-- so no more wait than may
+pub few_stay : (order : Order) (own : Option (Result Answer Errno)) (p : Snapshot) → own ≡ reply_to p.rules p.view p.marking order order.op
+    → length p.view.parked ≤ p.rules.parked → length (made (by_reply order own) p).view.parked ≤ p.rules.parked
+few_stay order (Some reply) p is few = few
+few_stay order None p is few = go order.op (sym is)
+  where
+    go : (op : Op) → reply_to p.rules p.view p.marking order op ≡ None → length (with_waiter order (waited_for op) p.view.parked) ≤ p.rules.parked
+    go (Setlkw ask) none =
+        omega (arith, below p.rules.parked (length p.view.parked) (waits_within _ _ _ _ _ _ _ none), one_longer p.view.parked (request_of order ask))
+    go op none = few
 
 -- ---- orders that only read
 

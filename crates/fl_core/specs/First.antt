@@ -60,12 +60,13 @@ pub data IsAnswered (p : Snapshot) (order : Order) : Op → List Told → Type 0
   interrupts_none : (unique : ℕ) → IsNew unique p.view.parked
       → IsAnswered p order (Interrupt unique) (own order (Err EAGAIN) ∷ [])
   -- SETLKW: of a request that fails a test whatever locks are held; that needn't wait behind those that are parked; that
-  -- has to, and would close a circle; that has to, when 256 requests wait already; that has to, and does from now on
+  -- has to, and would close a circle; that has to, when as many wait already as the rules allow; that has to, and does
+  -- from now on
   fails : (ask : LockAsk) (e : Errno) → ask_error p.view.directory order.node ask ≡ Some e
       → IsAnswered p order (Setlkw ask) (own order (Err e) ∷ [])
   is_free : (ask : LockAsk) → ask_error p.view.directory order.node ask ≡ None
       → waits p.rules p.marking p.view.parked (request_of order ask) ≡ false
-      → IsAnswered p order (Setlkw ask) (own order (grant_reply p.marking (request_of order ask)) ∷ [])
+      → IsAnswered p order (Setlkw ask) (own order (grant_reply p.rules.runs p.marking (request_of order ask)) ∷ [])
   closes_one : (ask : LockAsk) → ask_error p.view.directory order.node ask ≡ None
       → waits p.rules p.marking p.view.parked (request_of order ask) ≡ true
       → ClosesCircle p.rules p.marking p.view.parked (request_of order ask)
@@ -73,12 +74,12 @@ pub data IsAnswered (p : Snapshot) (order : Order) : Op → List Told → Type 0
   is_one_too_many : (ask : LockAsk) → ask_error p.view.directory order.node ask ≡ None
       → waits p.rules p.marking p.view.parked (request_of order ask) ≡ true
       → (ClosesCircle p.rules p.marking p.view.parked (request_of order ask) → ⊥)
-      → 256 ≤ length p.view.parked
+      → p.rules.parked ≤ length p.view.parked
       → IsAnswered p order (Setlkw ask) (own order (Err ENOLCK) ∷ [])
   waits_now : (ask : LockAsk) → ask_error p.view.directory order.node ask ≡ None
       → waits p.rules p.marking p.view.parked (request_of order ask) ≡ true
       → (ClosesCircle p.rules p.marking p.view.parked (request_of order ask) → ⊥)
-      → length p.view.parked < 256
+      → length p.view.parked < p.rules.parked
       → IsAnswered p order (Setlkw ask) []
 
 -- what any order gives: where a request waits that has its unique, a FORGET gives nothing, and any other EINVAL

@@ -39,13 +39,13 @@ is_malformed ask =
     nat_lt 1 ask.flags
     || (nat_lt 2 ask.kind || (not (is_flock ask) && (nat_lt ask.end ask.start || nat_lt 9223372036854775807 ask.end)))
 
--- a change of locks is made where at most 4096 runs are there afterwards, over all files
-abbrev pub room_reply : Marking → Stroke → Result Answer Errno
-room_reply m s = if nat_lt 4096 (runs (stroked s m)) then Err ENOLCK else Ok Done
+-- a change of locks is made where at most so many runs are there afterwards, over all files
+abbrev pub room_reply : ℕ → Marking → Stroke → Result Answer Errno
+room_reply most m s = if nat_lt most (runs (stroked s m)) then Err ENOLCK else Ok Done
 
 -- a lock is set where it conflicts with none that is held
-abbrev pub set_reply : Marking → Stroke → Option Mark → Result Answer Errno
-set_reply m s mark = if is_excluded m s mark then Err EAGAIN else room_reply m s
+abbrev pub set_reply : ℕ → Marking → Stroke → Option Mark → Result Answer Errno
+set_reply most m s mark = if is_excluded m s mark then Err EAGAIN else room_reply most m s
 
 -- the first test that a lock request fails whatever locks are held, if there is one
 abbrev pub ask_error : Listing → ℕ → LockAsk → Option Errno
@@ -53,15 +53,15 @@ ask_error d node ask =
     if not (is_open_on d ask.fh node) then Some EBADF
     else (if is_malformed ask then Some EINVAL else None)
 
--- what a SETLK is answered
-abbrev pub setlk_reply : Listing → Marking → ℕ → LockAsk → Result Answer Errno
-setlk_reply d m node ask = unless_error (ask_error d node ask) (set_reply m (stroke_of node ask) (mark_of ask))
+-- what a SETLK is answered, where there may be so many runs
+abbrev pub setlk_reply : ℕ → Listing → Marking → ℕ → LockAsk → Result Answer Errno
+setlk_reply most d m node ask = unless_error (ask_error d node ask) (set_reply most m (stroke_of node ask) (mark_of ask))
 
--- a request that has to wait has no reply yet, unless it would close a circle, or 256 requests wait already
+-- a request that has to wait has no reply yet, unless it would close a circle, or as many wait already as the rules allow
 abbrev pub wait_reply : Rules → Marking → List Request → Stroke → Option Mark → Option (Result Answer Errno)
 wait_reply rules m parked s mark =
     if is_deadlock rules m parked s mark then Some (Err EDEADLK)
-    else (if nat_le 256 (length parked) then Some (Err ENOLCK) else None)
+    else (if nat_le rules.parked (length parked) then Some (Err ENOLCK) else None)
 
 -- the error at once, or else the reply, if it comes at once
 abbrev pub at_once_unless : Option Errno → Option (Result Answer Errno) → Option (Result Answer Errno)
@@ -74,7 +74,7 @@ setlkw_reply rules v m node ask =
     let s = stroke_of node ask in
     let mark = mark_of ask in
     at_once_unless (ask_error v.directory node ask)
-    (if must_wait rules m v.parked s mark then wait_reply rules m v.parked s mark else Some (room_reply m s))
+    (if must_wait rules m v.parked s mark then wait_reply rules m v.parked s mark else Some (room_reply rules.runs m s))
 
 -- the type of a lock record: 0 is read and 1 is write
 abbrev pub type_of : Kind → ℕ
@@ -119,7 +119,7 @@ abbrev pub reply_to : Rules → View → Marking → Order → Op → Option (Re
 reply_to rules v m order (Release fh unlocks owner) = Some (file_reply v.directory order.node fh)
 reply_to rules v m order (Flush fh owner) = Some (file_reply v.directory order.node fh)
 reply_to rules v m order (Getlk ask) = Some (getlk_reply v.directory m order.node ask)
-reply_to rules v m order (Setlk ask) = Some (setlk_reply v.directory m order.node ask)
+reply_to rules v m order (Setlk ask) = Some (setlk_reply rules.runs v.directory m order.node ask)
 reply_to rules v m order (Setlkw ask) = setlkw_reply rules v m order.node ask
 reply_to rules v m order (Interrupt unique) = interrupt_reply v.parked unique
 reply_to rules v m order op = directory_reply v.directory order op

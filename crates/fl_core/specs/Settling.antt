@@ -21,17 +21,17 @@ pub record Present : Type 0 where
 abbrev pub present : Marking → List Request → Present
 present marking parked = record { marking = marking; parked = parked }
 
--- a request that doesn't wait any more: its lock is set where there is room
-abbrev pub grant_reply : Marking → Request → Result Answer Errno
-grant_reply m r = room_reply m (stroke_of r.node r.ask)
+-- a request that doesn't wait any more: its lock is set where there is room, for so many runs
+abbrev pub grant_reply : ℕ → Marking → Request → Result Answer Errno
+grant_reply most m r = room_reply most m (stroke_of r.node r.ask)
 
 -- what it is told
-abbrev pub granted_told : Marking → Request → Told
-granted_told m r = record { unique = r.unique; result = grant_reply m r }
+abbrev pub granted_told : ℕ → Marking → Request → Told
+granted_told most m r = record { unique = r.unique; result = grant_reply most m r }
 
 -- the locks afterwards
-abbrev pub marking_granted : Marking → Request → Marking
-marking_granted m r = after_changes (locked r.node r.ask (grant_reply m r)) m
+abbrev pub marking_granted : ℕ → Marking → Request → Marking
+marking_granted most m r = after_changes (locked r.node r.ask (grant_reply most m r)) m
 
 -- the oldest request that doesn't wait, and the others; these are older than all of them
 unfoldable pub free_behind : Rules → Marking → List Request → List Request → Option (Request × List Request)
@@ -55,16 +55,17 @@ abbrev pub with_told : Told → Settled → Settled
 with_told told s = record s { tolds = told ∷ s.tolds }
 
 -- the request that is found is answered first, and what is left to do comes after
-abbrev pub answered_first : Marking → List Request → ((Request × List Request) → Settled)
+abbrev pub answered_first : ℕ → Marking → List Request → ((Request × List Request) → Settled)
     → Option (Request × List Request) → Settled
-answered_first m parked rest None = record { present = present m parked; tolds = [] }
-answered_first m parked rest (Some p) = with_told (granted_told m p.0) (rest p)
+answered_first most m parked rest None = record { present = present m parked; tolds = [] }
+answered_first most m parked rest (Some p) = with_told (granted_told most m p.0) (rest p)
 
 -- at most so many requests are answered, each time the oldest that doesn't wait
 unfoldable pub settled_within : Rules → ℕ → Marking → List Request → Settled
 settled_within rules zero m parked = record { present = present m parked; tolds = [] }
 settled_within rules (suc n) m parked =
-    answered_first m parked (λ p. settled_within rules n (marking_granted m p.0) p.1) (oldest_free rules m parked)
+    answered_first rules.runs m parked (λ p. settled_within rules n (marking_granted rules.runs m p.0) p.1)
+    (oldest_free rules m parked)
 
 -- all that can be answered are
 abbrev pub settled : Rules → Present → Settled
@@ -78,5 +79,5 @@ pub data IsSettled (rules : Rules) : Present → List Told → Present → Type 
   one : {m : Marking} {parked : List Request} {tolds : List Told} {after : Present} (older : List Request)
       (r : Request) (younger : List Request) → parked ≡ older ++ r ∷ younger → AllWait rules m older
       → waits rules m older r ≡ false
-      → IsSettled rules (present (marking_granted m r) (older ++ younger)) tolds after
-      → IsSettled rules (present m parked) (granted_told m r ∷ tolds) after
+      → IsSettled rules (present (marking_granted rules.runs m r) (older ++ younger)) tolds after
+      → IsSettled rules (present m parked) (granted_told rules.runs m r ∷ tolds) after

@@ -33,7 +33,7 @@ pub(crate) fn end_all(parked: &mut Parked, ending: Ending, tolds: &mut Tolds) ->
     requires { length tolds.old + length parked.old ≤ MOST_TOLDS }
     ensures tolds { tolds.new ≡ tolds.old ++ ended_all (error_of ending) (picks ending) parked.old }
     ensures parked { parked.new ≡ filter (λ r. not (picks ending r)) parked.old }
-    ensures few { length tolds.new + length parked.new ≤ MOST_TOLDS }
+    ensures few { length tolds.new + length parked.new ≤ length tolds.old + length parked.old }
     ensures any { result ≡ false → parked.new ≡ parked.old }
 {
     let mut ended = false;

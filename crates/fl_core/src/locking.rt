@@ -23,9 +23,6 @@ const WRITE: u32 = 1;
 
 const UNLOCK: u32 = 2;
 
-/// The most runs of locked bytes, over all files and both classes.
-pub(crate) const MOST_RUNS: u32 = 4096;
-
 // FUSE_SETLK: sets or takes away a lock where its tests pass.
 pub(crate) fn set_lock(
     directory: &Dir,
@@ -33,12 +30,11 @@ pub(crate) fn set_lock(
     node: u64,
     ask: &LockAsk,
 ) -> Result<Answer, Errno>
-    requires { locks.old.limit ≡ MOST_RUNS }
-    ensures reply { result ≡ setlk_reply directory.now locks.old.marking node ask.now }
+    ensures reply { result ≡ setlk_reply locks.old.limit directory.now locks.old.marking node ask.now }
     ensures changed { locks.new.marking ≡ after_changes (locked node ask.now result) locks.old.marking }
     ensures lawful { IsLawful locks.old.marking → IsLawful locks.new.marking }
     ensures elsewhere { SameElsewhere (key_of node ask.now) locks.old.marking locks.new.marking }
-    ensures limit { locks.new.limit ≡ MOST_RUNS }
+    ensures limit { locks.new.limit ≡ locks.old.limit }
 {
     let range = asked_range(directory, node, ask)?;
     change(locks, &key_of(node, ask), &range, mark_of(ask))
@@ -81,7 +77,7 @@ pub(crate) fn set_or_wait(
     node: u64,
     ask: &LockAsk,
 ) -> Option<Result<Answer, Errno>>
-    requires { locks.old.limit ≡ MOST_RUNS }
+    requires { locks.old.limit ≡ rules.runs }
     ensures reply { result ≡ setlkw_reply rules (record { directory = directory.now; parked = parked.old })
         locks.old.marking node ask.now }
     ensures told { IfSome result (λ reply.
@@ -90,7 +86,7 @@ pub(crate) fn set_or_wait(
         (record { unique = unique; node = node; ask = ask.now }) }
     ensures lawful { IsLawful locks.old.marking → IsLawful locks.new.marking }
     ensures elsewhere { SameElsewhere (key_of node ask.now) locks.old.marking locks.new.marking }
-    ensures limit { locks.new.limit ≡ MOST_RUNS }
+    ensures limit { locks.new.limit ≡ locks.old.limit }
 {
     let range = match asked_range(directory, node, ask) {
         Ok(range) => range,
@@ -104,7 +100,7 @@ pub(crate) fn set_or_wait(
     if is_deadlock(rules, locks, parked, &key, &range, mark) {
         return Some(Err(Errno::EDEADLK));
     }
-    if parked.is_full() {
+    if parked.is_full(rules) {
         return Some(Err(Errno::ENOLCK));
     }
     let request = Request {
@@ -162,13 +158,12 @@ fn must_wait(
 // The bytes of the range get the mark, or lose theirs: where no lock that is held excludes it, and where there is
 // room for the runs afterwards.
 fn change(locks: &mut Table, key: &Key, range: &Range, mark: Option<Mark>) -> Result<Answer, Errno>
-    requires { locks.old.limit ≡ MOST_RUNS }
-    ensures reply { result ≡ set_reply locks.old.marking (stroke_on key.now range.now mark) mark }
+    ensures reply { result ≡ set_reply locks.old.limit locks.old.marking (stroke_on key.now range.now mark) mark }
     ensures granted { OnOk result (locks.new.marking ≡ stroked (stroke_on key.now range.now mark) locks.old.marking) }
     ensures refused { OnErr result (locks.new.marking ≡ locks.old.marking) }
     ensures lawful { IsLawful locks.old.marking → IsLawful locks.new.marking }
     ensures elsewhere { SameElsewhere key.now locks.old.marking locks.new.marking }
-    ensures limit { locks.new.limit ≡ MOST_RUNS }
+    ensures limit { locks.new.limit ≡ locks.old.limit }
 {
     if is_excluded(locks, key, range, mark) {
         return Err(Errno::EAGAIN);
@@ -193,14 +188,13 @@ pub(crate) fn store(
     range: &Range,
     mark: Option<Mark>,
 ) -> Result<Answer, Errno>
-    requires limit { locks.old.limit ≡ MOST_RUNS }
-    requires clear { is_excluded locks.old.marking (stroke_on key.now range.now mark) mark ≡ false }
-    ensures reply { result ≡ room_reply locks.old.marking (stroke_on key.now range.now mark) }
+    requires { is_excluded locks.old.marking (stroke_on key.now range.now mark) mark ≡ false }
+    ensures reply { result ≡ room_reply locks.old.limit locks.old.marking (stroke_on key.now range.now mark) }
     ensures granted { OnOk result (locks.new.marking ≡ stroked (stroke_on key.now range.now mark) locks.old.marking) }
     ensures refused { OnErr result (locks.new.marking ≡ locks.old.marking) }
     ensures lawful { IsLawful locks.old.marking → IsLawful locks.new.marking }
     ensures elsewhere { SameElsewhere key.now locks.old.marking locks.new.marking }
-    ensures limit { locks.new.limit ≡ MOST_RUNS }
+    ensures limit { locks.new.limit ≡ locks.old.limit }
 {
     let stored = match mark {
         Some(mark) => locks.put(key, range, mark),

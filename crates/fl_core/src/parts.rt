@@ -16,7 +16,7 @@ ghost use Rattle.fl_ranges.specs.Conflict.{IsLawful, SameElsewhere, SameOffNode}
 ghost use Rattle.fl_ranges.specs.declared.lock.Class.TheVariants.{Record};
 
 use crate::ending::{end_all, ending_of};
-use crate::locking::{MOST_RUNS, release_locks, set_lock, set_or_wait, test_lock, unlock};
+use crate::locking::{release_locks, set_lock, set_or_wait, test_lock, unlock};
 use crate::settling::{Touched, settle};
 use crate::tolds::{MOST_TOLDS, Tolds};
 use fl_dir::Dir;
@@ -39,7 +39,6 @@ impl Model for Parts {
     ghost use Rattle.std.specs.Prelude.{◌≡◌};
     ghost use Rattle.fl_core.specs.State.{Snapshot};
     ghost use Rattle.fl_core.specs.Codes.{snapshot_code};
-    ghost use Rattle.fl_core.specs.declared.locking.TheConstants.{MOST_RUNS};
 
     ghost Value = { Snapshot };
 
@@ -52,7 +51,7 @@ impl Model for Parts {
           marking = p.locks.marking;
         } };
 
-    ghost invariant = { λ p. p.locks.limit ≡ MOST_RUNS };
+    ghost invariant = { λ p. p.locks.limit ≡ p.rules.runs };
 }
 
 impl Parts {
@@ -64,7 +63,7 @@ impl Parts {
         Ok(Parts {
             rules,
             directory: Dir::new(alloc)?,
-            locks: Table::new(alloc, MOST_RUNS)?,
+            locks: Table::new(alloc, rules.runs)?,
             parked: Parked::new(alloc)?,
         })
     }
@@ -127,7 +126,7 @@ impl Parts {
         requires { length tolds.old + length self.old.view.parked ≤ MOST_TOLDS }
         ensures tolds { tolds.new ≡ tolds.old ++ ended_by self.old.view.parked order.now.op own.now }
         ensures parked { self.new ≡ with_parked (left_by self.old.view.parked order.now.op own.now) self.old }
-        ensures few { length tolds.new + length self.new.view.parked ≤ MOST_TOLDS }
+        ensures few { length tolds.new + length self.new.view.parked ≤ length tolds.old + length self.old.view.parked }
 
         // Only parked requests for locks which were touched can be free now, if that was so.
         ensures others { OthersWait touched self.old.rules self.old.marking self.old.view.parked →
@@ -149,7 +148,7 @@ impl Parts {
         requires room { length tolds.old + length self.old.view.parked ≤ MOST_TOLDS }
         ensures tolds { tolds.new ≡ tolds.old ++ (settling self.old).tolds }
         ensures present { self.new ≡ with_present (settling self.old).present self.old }
-        ensures few { length tolds.new ≤ MOST_TOLDS }
+        ensures few { length tolds.new + length self.new.view.parked ≤ length tolds.old + length self.old.view.parked }
         ensures lawful { IsLawful self.old.marking → IsLawful self.new.marking }
         ensures apart { AreApart self.old.view.parked → AreApart self.new.view.parked }
     {

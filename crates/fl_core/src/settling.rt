@@ -9,7 +9,7 @@ ghost use Rattle.fl_core.specs.Settling.{granted_told, marking_granted, oldest_f
 ghost use Rattle.fl_waiting.specs.Waiting.{is_excluded, AreApart};
 ghost use Rattle.fl_waiting.specs.declared.parked.Request.{Request};
 
-use crate::locking::{MOST_RUNS, is_excluded, key_of, store};
+use crate::locking::{is_excluded, key_of, store};
 use crate::tolds::{MOST_TOLDS, Tolds};
 use fl_order::{Answer, Errno, Op, Order, Told};
 use fl_ranges::{Class, Table};
@@ -52,16 +52,16 @@ pub(crate) fn settle(
     touched: Touched,
     tolds: &mut Tolds,
 )
-    requires limit { locks.old.limit ≡ MOST_RUNS }
+    requires limit { locks.old.limit ≡ rules.runs }
     requires others { OthersWait touched rules locks.old.marking parked.old }
     requires room { length tolds.old + length parked.old ≤ MOST_TOLDS }
     ensures tolds { tolds.new ≡ tolds.old ++ (settled rules (present locks.old.marking parked.old)).tolds }
     ensures present { present locks.new.marking parked.new
         ≡ (settled rules (present locks.old.marking parked.old)).present }
-    ensures few { length tolds.new + length parked.new ≤ MOST_TOLDS }
+    ensures few { length tolds.new + length parked.new ≤ length tolds.old + length parked.old }
     ensures apart { AreApart parked.old → AreApart parked.new }
     ensures lawful { IsLawful locks.old.marking → IsLawful locks.new.marking }
-    ensures limit { locks.new.limit ≡ MOST_RUNS }
+    ensures limit { locks.new.limit ≡ rules.runs }
 {
     if !may_concern(touched, parked) {
         return;
@@ -96,14 +96,13 @@ fn take_free(rules: Rules, locks: &Table, parked: &mut Parked, touched: Touched)
 
 // The request's lock is set where there is room.
 fn grant(locks: &mut Table, claim: &Claim) -> Told
-    requires limit { locks.old.limit ≡ MOST_RUNS }
-    requires free { is_excluded locks.old.marking (stroke_of claim.now.request.node claim.now.request.ask)
+    requires { is_excluded locks.old.marking (stroke_of claim.now.request.node claim.now.request.ask)
         (mark_of claim.now.request.ask) ≡ false }
-    ensures told { result ≡ granted_told locks.old.marking claim.now.request }
-    ensures marking { locks.new.marking ≡ marking_granted locks.old.marking claim.now.request }
+    ensures told { result ≡ granted_told locks.old.limit locks.old.marking claim.now.request }
+    ensures marking { locks.new.marking ≡ marking_granted locks.old.limit locks.old.marking claim.now.request }
     ensures elsewhere { SameElsewhere claim.now.key locks.old.marking locks.new.marking }
     ensures lawful { IsLawful locks.old.marking → IsLawful locks.new.marking }
-    ensures limit { locks.new.limit ≡ MOST_RUNS }
+    ensures limit { locks.new.limit ≡ locks.old.limit }
 {
     Told {
         unique: claim.request.unique,

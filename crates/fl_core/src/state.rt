@@ -1,6 +1,6 @@
 //! What takes orders: each is tested, answered and carried out, and parked requests are settled.
 
-ghost use Rattle.std.specs.Prelude.{◌≡◌, ◌≤◌, ◌↔◌, [], true, length, IfOk, IsSome};
+ghost use Rattle.std.specs.Prelude.{◌≡◌, ◌≤◌, ◌+◌, ◌↔◌, [], true, length, IfOk, IsSome};
 ghost use Rattle.fl_waiting.specs.Circle.{closes_circle};
 ghost use Rattle.fl_core.specs.State.{State, opening, snapshot_of};
 ghost use Rattle.fl_core.specs.Effects.{replied, recorded};
@@ -12,7 +12,7 @@ ghost use Rattle.fl_ranges.specs.Conflict.{IsLawful};
 
 use crate::parts::Parts;
 use crate::settling::touched_by;
-use crate::tolds::{MOST_TOLDS, Tolds};
+use crate::tolds::Tolds;
 use fl_order::{Answer, Errno, NoMemory, Op, Order, Told};
 use fl_ranges::{Key, Kind, Range};
 use fl_waiting::Rules;
@@ -20,13 +20,14 @@ use std::alloc::Global;
 use std::marker::Model;
 
 /// The directory, the locks, and the parked requests. Contracts see them as a `Snapshot`. Each parked request
-/// has to wait, behind those before it.
+/// has to wait, behind those before it, and there are at most as many as the rules allow.
 #[derive(Drop)]
 pub struct Core {
     pub(crate) parts: Parts,
 }
 
 impl Model for Core {
+    ghost use Rattle.std.specs.Prelude.{◌≤◌, length};
     ghost use Rattle.fl_core.specs.State.{Snapshot};
     ghost use Rattle.fl_core.specs.Codes.{snapshot_code};
     ghost use Rattle.fl_waiting.specs.Waiting.{AllWait, AreApart};
@@ -37,7 +38,8 @@ impl Model for Core {
 
     ghost view = { λ c. c.parts };
 
-    ghost invariant = { λ c. AllWait c.parts.rules c.parts.marking c.parts.view.parked × AreApart c.parts.view.parked };
+    ghost invariant = { λ c. AllWait c.parts.rules c.parts.marking c.parts.view.parked × AreApart c.parts.view.parked
+        × (length c.parts.view.parked ≤ c.parts.rules.parked) };
 }
 
 impl Core {
@@ -55,7 +57,7 @@ impl Core {
     /// `tolds`, in the place of those before.
     pub fn step(&mut self, order: &Order, tolds: &mut Tolds)
         ensures replies { tolds.new ≡ replies self.old order.now }
-        ensures few { length tolds.new ≤ MOST_TOLDS }
+        ensures few { length tolds.new ≤ self.old.rules.parked + 1 }
         ensures next { self.new ≡ next self.old order.now }
 
         // A state that the core stands for goes the same way by the order and its replies alone.

@@ -3,13 +3,14 @@
 ghost use Rattle.std.specs.Prelude.{◌≡◌, ◌<◌, [], ◌∷◌, ◌++◌, length, IfOk};
 
 use fl_order::{NoMemory, Told};
+use fl_waiting::MOST_PARKED;
 use std::alloc::Global;
 use std::marker::Model;
 
-/// The most replies that one order gives: its own, and one to each parked request.
-pub const MOST_TOLDS: usize = 257;
+/// The most replies that one order gives by any rules: its own, and one to each parked request.
+pub const MOST_TOLDS: usize = MOST_PARKED + 1;
 
-/// The replies that one order gives, with room for all of them. Contracts see their list.
+/// The replies that one order gives, with room for all of them by any rules. Contracts see their list.
 #[derive(Drop)]
 pub struct Tolds {
     tolds: Vec<Told>,

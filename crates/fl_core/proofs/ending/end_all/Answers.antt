@@ -7,7 +7,7 @@ use Rattle.fl_core.proofs.ending.end_all.Goals as goal
 pub push-requires : goal.push-requires
 push-requires c =
     let w = is_taken (picks c.args.ending) _ _ _ (c.in-Some.ensures (picks c.args.ending) (λ a r k. search rules)) in
-    omega (arith, c.loop-claim.invariant.room, w.shorter)
+    omega (arith, c.requires, c.loop-claim.invariant.room, w.shorter)
 
 pub loop-claim-smaller : goal.loop-claim-smaller
 loop-claim-smaller c =

@@ -9,7 +9,7 @@ invariant-loop-claim l = record {
   tolds : l.tolds ++ ended_all (error_of l.ending) (picks l.ending) l.parked ≡ l.initial.tolds ++ ended_all (error_of l.ending) (picks l.ending)
       l.initial.parked;
   parked : filter (λ r. not (picks l.ending r)) l.parked ≡ filter (λ r. not (picks l.ending r)) l.initial.parked;
-  room : length l.tolds + length l.parked ≤ 257;
+  room : length l.tolds + length l.parked ≤ length l.initial.tolds + length l.initial.parked;
   none : l.ended ≡ false → l.parked ≡ l.initial.parked;
 }
 

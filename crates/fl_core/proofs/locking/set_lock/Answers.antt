@@ -12,5 +12,5 @@ returns-clause-reply c =
     let asked = asked_stroke c.args.node ask c.key_of.result c.in_ok-range.range c.mark_of.result c.key_of.ensures c.in_ok-range.ensures.range
     c.mark_of.ensures in
     c.change.ensures.reply
-    ∙ (λ i. set_reply m (asked i) (c.mark_of.ensures i))
-    ∙ sym (ap (λ o. unless_error o (set_reply m (stroke_of c.args.node ask) (mark_of ask))) c.in_ok-range.ensures.passed)
+    ∙ (λ i. set_reply c.args.locks.now.limit m (asked i) (c.mark_of.ensures i))
+    ∙ sym (ap (λ o. unless_error o (set_reply c.args.locks.now.limit m (stroke_of c.args.node ask) (mark_of ask))) c.in_ok-range.ensures.passed)

@@ -17,7 +17,7 @@ returns-then-not-must_wait-clause-reply c =
     c.mark_of-mark.ensures in
     let free : must_wait c.args.rules m v.parked s (mark_of ask) ≡ false = (λ i. must_wait c.args.rules m v.parked (sym asked i) (sym c.mark_of-mark.ensures i)) ∙ sym c.must_wait.ensures.wait
     ∙ c.if-not-must_wait.true in
-    ap Some (c.store.ensures.reply ∙ ap (room_reply m) asked) ∙ sym (setlkw_is c.args.rules v m c.args.node ask None false _ _ c.in-Ok.ensures.passed free refl refl)
+    ap Some (c.store.ensures.reply ∙ (λ i. room_reply (c.requires i) m (asked i))) ∙ sym (setlkw_is c.args.rules v m c.args.node ask None false _ _ c.in-Ok.ensures.passed free refl refl)
 
 pub returns-then-is_deadlock-clause-reply : goal.returns-then-is_deadlock-clause-reply
 returns-then-is_deadlock-clause-reply c =

@@ -1,5 +1,5 @@
 use Rattle.std.proofs.Common.{◌∙◌, ◌++◌, append-nil, ap, refl, sym, subst, length, arith}
-use Rattle.fl_core.specs.Settling.{Settled, present}
+use Rattle.fl_core.specs.Settling.{Settled, present, granted_told, marking_granted}
 use Rattle.fl_core.specs.Inside.Touched.{OthersWait}
 use Rattle.fl_core.proofs.Alone.{not_excluded}
 use Rattle.fl_core.proofs.Settlings.{is_oldest, one_shorter, settled_none, settling_goes_on, settling_ends}
@@ -10,14 +10,14 @@ use Rattle.fl_ranges.specs.Conflict.{SameElsewhere}
 use Rattle.fl_ranges.specs.Marking.{Stroke}
 use Rattle.fl_waiting.specs.Waiting.{AreApart}
 
-pub grant-requires-clause-free : goal.grant-requires-clause-free
-grant-requires-clause-free c =
+pub grant-requires : goal.grant-requires
+grant-requires c =
     let m = c.loop-claim.locks.marking in
     let oldest = is_oldest c.args.rules m _ _ _ c.in-Some.ensures in
     not_excluded c.args.rules m oldest.older c.in-Some.claim.request oldest.free
 
 pub push-requires : goal.push-requires
-push-requires c = omega (arith, c.loop-claim.invariant.room, one_shorter c.args.rules (is_oldest c.args.rules c.loop-claim.locks.marking _ _ _ c.in-Some.ensures))
+push-requires c = omega (arith, c.requires.room, c.loop-claim.invariant.room, one_shorter c.args.rules (is_oldest c.args.rules c.loop-claim.locks.marking _ _ _ c.in-Some.ensures))
 
 pub loop-claim-smaller : goal.loop-claim-smaller
 loop-claim-smaller c = omega (arith, one_shorter c.args.rules (is_oldest c.args.rules c.loop-claim.locks.marking _ _ _ c.in-Some.ensures))
@@ -31,7 +31,9 @@ loop-claim-preserved c =
     let elsewhere = subst (λ (s : Stroke). SameElsewhere s.key m c.grant.new.locks.marking) c.in-Some.claim.wanted c.grant.ensures.elsewhere in
     let others = subst (OthersWait c.args.touched rules m) oldest.stands c.loop-claim.invariant.others in
     record {
-      so_far = settling_goes_on rules _ _ _ _ m _ _ _ c.in-Some.claim.request _ c.loop-claim.invariant.so_far taken c.grant.ensures.marking c.grant.ensures.told
+      so_far = settling_goes_on rules _ _ _ _ m _ _ _ c.in-Some.claim.request _ c.loop-claim.invariant.so_far taken
+          (c.grant.ensures.marking ∙ ap (λ n. marking_granted n m c.in-Some.claim.request) c.loop-claim.invariant.limit)
+          (c.grant.ensures.told ∙ ap (λ n. granted_told n m c.in-Some.claim.request) c.loop-claim.invariant.limit)
           c.push.ensures;
       others = subst (OthersWait c.args.touched rules c.grant.new.locks.marking) (sym oldest.left)
           (others_granted c.args.touched rules m _ oldest.older c.in-Some.claim.request oldest.younger elsewhere oldest.free others);
@@ -39,7 +41,7 @@ loop-claim-preserved c =
           (apart_without oldest.older c.in-Some.claim.request oldest.younger (subst AreApart oldest.stands (c.loop-claim.invariant.apart apart))).1;
       room = omega (arith, c.loop-claim.invariant.room, one_shorter rules oldest, ap length c.push.ensures, one_longer c.loop-claim.tolds c.grant.result);
       lawful = λ lawful. c.grant.ensures.lawful (c.loop-claim.invariant.lawful lawful);
-      limit = c.grant.ensures.limit;
+      limit = c.grant.ensures.limit ∙ c.loop-claim.invariant.limit;
     }
 
 pub returns-clause-tolds : goal.returns-clause-tolds

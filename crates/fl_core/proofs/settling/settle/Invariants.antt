@@ -12,9 +12,9 @@ invariant-loop-claim l = record {
   so_far : IsSettling l.rules (present l.initial.locks.marking l.initial.parked) (present l.locks.marking l.parked) l.initial.tolds l.tolds;
   others : OthersWait l.touched l.rules l.locks.marking l.parked;
   apart : AreApart l.initial.parked → AreApart l.parked;
-  room : length l.tolds + length l.parked ≤ 257;
+  room : length l.tolds + length l.parked ≤ length l.initial.tolds + length l.initial.parked;
   lawful : IsLawful l.initial.locks.marking → IsLawful l.locks.marking;
-  limit : l.locks.limit ≡ 4096;
+  limit : l.locks.limit ≡ l.rules.runs;
 }
 
 abbrev pub decreases-loop-claim : goal.decreases-loop-claim

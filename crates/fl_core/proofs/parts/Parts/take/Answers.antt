@@ -15,13 +15,13 @@ abbrev Waits : Snapshot → Type 0
 Waits p = AllWait p.rules p.marking p.view.parked
 
 pub returns-in-Getlk-clause-others : goal.returns-in-Getlk-clause-others
-returns-in-Getlk-clause-others c all = others_kept _ _ _ _ all
+returns-in-Getlk-clause-others c all = others_kept _ c.args.self.now.rules _ _ all
 
 pub returns-in-Interrupt-clause-others : goal.returns-in-Interrupt-clause-others
-returns-in-Interrupt-clause-others c all = others_kept Nothing _ _ _ all
+returns-in-Interrupt-clause-others c all = others_kept Nothing c.args.self.now.rules _ _ all
 
 pub returns-in-Interrupt-2-clause-others : goal.returns-in-Interrupt-2-clause-others
-returns-in-Interrupt-2-clause-others c all = others_kept Nothing _ _ _ all
+returns-in-Interrupt-2-clause-others c all = others_kept Nothing c.args.self.now.rules _ _ all
 
 pub returns-in-Release-clause-others : goal.returns-in-Release-clause-others
 returns-in-Release-clause-others c all =
@@ -52,7 +52,10 @@ pub returns-in-Setlk-clause-reply : goal.returns-in-Setlk-clause-reply
 returns-in-Setlk-clause-reply c =
     let order = c.args.order.now in
     let now = c.args.self.now in
-    ap Some c.set_lock.ensures.reply ∙ ap (λ (p : Snapshot). Some (setlk_reply p.view.directory p.marking order.node c.in-Setlk.ask)) c.self-in-Setlk.view_is
+    let inside = c.self-in-Setlk.inside in
+    ap Some c.set_lock.ensures.reply
+    ∙ ap (λ n. Some (setlk_reply n inside.directory inside.locks.marking order.node c.in-Setlk.ask)) c.self-in-Setlk.invariant
+    ∙ ap (λ (p : Snapshot). Some (setlk_reply p.rules.runs p.view.directory p.marking order.node c.in-Setlk.ask)) c.self-in-Setlk.view_is
     ∙ sym (ap (reply_to now.rules now.view now.marking order) c.in-Setlk.is)
 
 pub returns-in-Setlk-clause-lawful : goal.returns-in-Setlk-clause-lawful
@@ -86,4 +89,4 @@ returns-in-Setlkw-clause-others c all =
     set.ensures.told set.ensures.waits set.ensures.elsewhere (subst Waits (sym c.self-in-Setlkw.view_is) all))
 
 pub returns-in_default-clause-others : goal.returns-in_default-clause-others
-returns-in_default-clause-others c all = others_kept _ _ _ _ (subst Waits (sym c.self-in_default.view_is) all)
+returns-in_default-clause-others c all = others_kept _ c.self-in_default.inside.rules _ _ (subst Waits (sym c.self-in_default.view_is) all)

@@ -1,4 +1,4 @@
-use Rattle.std.proofs.Common.{◌≡◌, ◌++◌, ◌≤◌, ◌∙◌, true, length, sym, subst, ap, arith}
+use Rattle.std.proofs.Common.{◌≡◌, ◌+◌, ◌++◌, ◌≤◌, ◌∙◌, true, List, Option, Result, length, length-append, sym, subst, ap, arith}
 use Rattle.fl_core.specs.Effects.{by_reply, replied, recorded, made}
 use Rattle.fl_core.specs.Inside.Touched.{OthersWait}
 use Rattle.fl_core.specs.Replies.{own_replies, ended_by, reply_to}
@@ -10,6 +10,10 @@ use Rattle.fl_core.proofs.Nexts.{next_read, next_waits, next_apart}
 use Rattle.fl_core.proofs.Quiet.{alone_quiet, step_quiet}
 use Rattle.fl_core.proofs.Steps as steps
 use Rattle.fl_core.proofs.state.Core.step.Goals as goal
+use Rattle.fl_order.specs.declared.errno.Errno.{Errno}
+use Rattle.fl_order.specs.declared.order.Order.{Order}
+use Rattle.fl_order.specs.declared.told.Answer.{Answer}
+use Rattle.fl_order.specs.declared.told.Told.{Told}
 
 -- ---- the order's unique is that of a parked request
 
@@ -39,16 +43,29 @@ returns-then-has-clause-an_error_changes_nothing c =
 
 -- ---- it isn't
 
+-- what was told and what waits after the order's own step are few
+in_room : (order : Order) (own : Option (Result Answer Errno)) (p s : Snapshot) (tolds : List Told) → s ≡ made (by_reply order own) p
+    → tolds ≡ own_replies order own → length p.view.parked ≤ p.rules.parked → length tolds + length s.view.parked ≤ p.rules.parked + 1
+in_room order own p s tolds s_is tolds_are few =
+    omega (arith, steps.room_left order own p few, ap length tolds_are, ap (λ (t : Snapshot). length t.view.parked) s_is)
+
 pub end-touched-requires : goal.end-touched-requires
 end-touched-requires c =
     let order = c.args.order.now in
     let p : Snapshot = c.args.self.now in
     let own = c.take-own.result in
-    let s : Snapshot = c.take-own.new.self in
-    let s_is : s ≡ made (by_reply order own) p = c.take-own.ensures.changed ∙ ap (made (by_reply order own)) c.self.view_is in
-    let few : length p.view.parked ≤ 256 = subst (λ (t : Snapshot). length t.view.parked ≤ 256) c.self.view_is
-    (subst (λ (i : Inside). length i.parts.view.parked ≤ 256) c.self-inside.view_is c.has.ensures.few) in
-    omega (arith, steps.room_left order own p few, ap length c.tell-2.ensures, ap (λ (t : Snapshot). length t.view.parked) s_is)
+    let s_is : c.take-own.new.self ≡ made (by_reply order own) p = c.take-own.ensures.changed ∙ ap (made (by_reply order own)) c.self.view_is in
+    let few : length p.view.parked ≤ p.rules.parked = subst (λ (t : Snapshot). length t.view.parked ≤ t.rules.parked) c.self.view_is c.self.invariant.2 in
+    omega (arith, in_room order own p c.take-own.new.self c.tell-2.new.tolds s_is c.tell-2.ensures few, p.rules.some_parked.1)
+
+pub settle-requires-clause-room : goal.settle-requires-clause-room
+settle-requires-clause-room c =
+    let order = c.args.order.now in
+    let p : Snapshot = c.args.self.now in
+    let own = c.take-own.result in
+    let s_is : c.take-own.new.self ≡ made (by_reply order own) p = c.take-own.ensures.changed ∙ ap (made (by_reply order own)) c.self.view_is in
+    let few : length p.view.parked ≤ p.rules.parked = subst (λ (t : Snapshot). length t.view.parked ≤ t.rules.parked) c.self.view_is c.self.invariant.2 in
+    omega (arith, in_room order own p c.take-own.new.self c.tell-2.new.tolds s_is c.tell-2.ensures few, p.rules.some_parked.1, c.end-touched.ensures.few)
 
 pub settle-requires-clause-others : goal.settle-requires-clause-others
 settle-requires-clause-others c =
@@ -68,6 +85,42 @@ known c =
       all = subst (λ (t : Snapshot). AllWait t.rules t.marking t.view.parked) c.self.view_is c.self.invariant.0;
       apart = subst (λ (t : Snapshot). AreApart t.view.parked) c.self.view_is c.self.invariant.1;
     }
+
+-- no more waited than may
+few_before : (c : goal.After-settle) → length c.args.self.now.view.parked ≤ c.args.self.now.rules.parked
+few_before c = subst (λ (t : Snapshot). length t.view.parked ≤ t.rules.parked) c.self.view_is c.self.invariant.2
+
+-- nor do afterwards
+few_after : (c : goal.After-settle) → length c.settle.new.self.view.parked ≤ c.args.self.now.rules.parked
+few_after c =
+    let order = c.args.order.now in
+    let own = c.take-own.result in
+    let k = known c in
+    let ended = ended_by c.take-own.new.self.view.parked order.op own in
+    let later = (settling c.end-touched.new.self).tolds in
+    omega (
+      arith,
+      steps.few_stay order own c.args.self.now k.own_is (few_before c),
+      ap (λ (t : Snapshot). length t.view.parked) k.s_is,
+      c.end-touched.ensures.few,
+      ap length c.end-touched.ensures.tolds,
+      length-append c.tell-2.new.tolds ended,
+      c.settle.ensures.few,
+      ap length c.settle.ensures.tolds,
+      length-append c.end-touched.new.tolds later,
+    )
+
+pub returns-clause-few : goal.returns-clause-few
+returns-clause-few c =
+    let order = c.args.order.now in
+    let own = c.take-own.result in
+    let k = known c in
+    omega (
+      arith,
+      in_room order own c.args.self.now c.take-own.new.self c.tell-2.new.tolds k.s_is c.tell-2.ensures (few_before c),
+      c.end-touched.ensures.few,
+      c.settle.ensures.few,
+    )
 
 -- what is told by then
 told : (c : goal.After-settle) → c.settle.new.tolds
@@ -112,8 +165,10 @@ invariant_of-self c =
     let order = c.args.order.now in
     let p : Snapshot = c.args.self.now in
     let k = known c in
-    subst (λ (t : Snapshot). AllWait t.rules t.marking t.view.parked × AreApart t.view.parked) (sym (returns-clause-next c))
-    (next_waits p order, next_apart p order k.all k.apart)
+    let both = subst (λ (t : Snapshot). AllWait t.rules t.marking t.view.parked × AreApart t.view.parked) (sym (returns-clause-next c))
+    (next_waits p order, next_apart p order k.all k.apart) in
+    let allowed : c.settle.new.self.rules.parked ≡ p.rules.parked = ap (λ (t : Snapshot). t.rules.parked) (returns-clause-next c) in
+    (both.0, both.1, omega (arith, few_after c, allowed))
 
 pub returns-clause-waiting : goal.returns-clause-waiting
 returns-clause-waiting c = (invariant_of-self c).0
