@@ -2,11 +2,15 @@
 # /etc/bash_completion.d. tools/check_man compares its words with what `lockd --help` says.
 _lockd() {
     local word=${COMP_WORDS[COMP_CWORD]} before=${COMP_WORDS[COMP_CWORD - 1]} command=${COMP_WORDS[1]}
-    local words=
+    local words= rules='--fair --runs --parked'
     if [ "$COMP_CWORD" -eq 1 ]; then
         words='script check bytes serve drive help --help --version'
     elif [ "$before" = --workers ]; then
         words=$(seq 16)
+    elif [ "$before" = --runs ]; then
+        words='1 4096 65536'
+    elif [ "$before" = --parked ]; then
+        words='1 256 1024'
     elif [ "$before" = --trace-full ]; then
         words='go-on refuse'
     elif [ "$before" = --trace ]; then
@@ -14,9 +18,10 @@ _lockd() {
     else
         case $command in
             help) words='script check bytes serve drive' ;;
-            serve) words='--workers --trace --trace-full --help' ;;
-            check) words='--quiet --cut --help' ;;
-            script | bytes | drive) words='--help' ;;
+            serve) words="--workers --trace --trace-full $rules --help" ;;
+            check) words="--quiet --cut $rules --help" ;;
+            script | bytes) words="$rules --help" ;;
+            drive) words='--help' ;;
         esac
     fi
     mapfile -t COMPREPLY < <(compgen -W "$words" -- "$word")

@@ -2,13 +2,13 @@
 //! function of `lockd_commands`.
 #![tactic(auto)]
 
-ghost use Rattle.std.specs.Prelude.{◌≤◌, IfOk};
-ghost use Rattle.lockd_cli.specs.Workers.{HasWorkers};
+ghost use Rattle.std.specs.Prelude.{◌≡◌, ◌≤◌, IfOk};
+ghost use Rattle.lockd_cli.specs.Numbers.{HasWorkers, HasLimits, HasLimitsOfRules};
 
 use descriptors::hold_closed_streams;
-use lockd_cli::{Asked, Refusal, Trace, WhenFull, print_version, read_words};
+use lockd_cli::{Asked, AskedRules, Refusal, Trace, WhenFull, print_version, read_words};
 use lockd_commands::{
-    CheckOptions, Fault, Status, WhenWriterFails, bytes_on, check_on, drive_on, script_on,
+    CheckOptions, Fault, Rules, Status, WhenWriterFails, bytes_on, check_on, drive_on, script_on,
     serve_on, serve_traced_on, serve_untraced_on, trace_at,
 };
 use std::fs::Files;
@@ -34,6 +34,7 @@ fn main(rt: HostRuntime) -> ExitCode {
 
 fn asked(rt: &HostRuntime) -> Result<Asked, Refusal>
     ensures workers { IfOk result HasWorkers }
+    ensures limits { IfOk result HasLimits }
 {
     let words: Vec<String> = env::args(rt)?.collect(rt.alloc())?;
     read_words(rt.alloc(), words.as_slice())
@@ -46,8 +47,9 @@ fn run<T: Threads + Wait + Net + Files + Sync>(
     asked: &Asked,
 ) -> Status
     requires workers { HasWorkers asked.now }
+    requires limits { HasLimits asked.now }
 {
-    if matches!(asked, Asked::Serve(..) | Asked::Drive(_)) {
+    if matches!(asked, Asked::Serve { .. } | Asked::Drive(_)) {
         hold_closed_streams(rt);
     }
     let alloc = rt.alloc();
@@ -55,28 +57,41 @@ fn run<T: Threads + Wait + Net + Files + Sync>(
     let mut output = io::writer(rt);
     let mut faults = rt.stderr();
     match asked {
-        Asked::Script => script_on(alloc, &mut input, &mut output, &mut faults),
-        Asked::Bytes => bytes_on(alloc, &mut input, &mut output, &mut faults),
-        Asked::Check { quiet, cut } => {
+        Asked::Script(rules) => {
+            let rules = rules_of(*rules);
+            script_on(alloc, rules, &mut input, &mut output, &mut faults)
+        }
+        Asked::Bytes(rules) => {
+            let rules = rules_of(*rules);
+            bytes_on(alloc, rules, &mut input, &mut output, &mut faults)
+        }
+        Asked::Check { quiet, cut, rules } => {
+            let rules = rules_of(*rules);
             let options = CheckOptions {
                 tells_quiet: *quiet,
                 cut: *cut,
             };
-            check_on(alloc, options, &mut input, &mut output, &mut faults)
+            check_on(alloc, rules, options, &mut input, &mut output, &mut faults)
         }
         Asked::Version => version_on(&mut output, &mut faults),
-        Asked::Serve(socket, workers, trace) => {
+        Asked::Serve {
+            socket,
+            workers,
+            trace,
+            rules,
+        } => {
             let path = Path::new(socket.as_str());
-            match trace {
-                Trace::Printed => {
-                    serve_on(threads, alloc, path, *workers, &mut output, &mut faults)
-                }
-                Trace::Nowhere => serve_untraced_on(threads, alloc, path, *workers, &mut faults),
-                Trace::File(file, full) => {
-                    let file = Path::new(file.as_str());
-                    serve_to_file(rt, threads, path, *workers, file, *full, &mut faults)
-                }
-            }
+            let rules = rules_of(*rules);
+            serve(
+                rt,
+                threads,
+                rules,
+                path,
+                *workers,
+                trace,
+                &mut output,
+                &mut faults,
+            )
         }
         Asked::Drive(socket) => {
             let path = Path::new(socket.as_str());
@@ -85,10 +100,43 @@ fn run<T: Threads + Wait + Net + Files + Sync>(
     }
 }
 
+// The rules that are asked for. Their numbers are in their ranges, so there are such rules.
+fn rules_of(asked: AskedRules) -> Rules
+    requires limits { HasLimitsOfRules asked }
+    ensures { (result.fair ≡ asked.fair) × (result.runs ≡ asked.runs) × (result.parked ≡ asked.parked) }
+{
+    let rules = Rules::standard().with_fair(asked.fair);
+    rules.with_limits(asked.runs, asked.parked).unwrap()
+}
+
+// `lockd serve`: its trace is printed, or goes where it is said.
+fn serve<T: Threads + Wait + Net + Files + Sync, W: Write, F: Write>(
+    rt: &HostRuntime,
+    threads: &T,
+    rules: Rules,
+    path: Path<'_>,
+    workers: u32,
+    trace: &Trace,
+    output: &mut W,
+    faults: &mut F,
+) -> Status
+    requires workers { (1 ≤ workers) × (workers ≤ 16) }
+{
+    match trace {
+        Trace::Printed => serve_on(threads, rt.alloc(), rules, path, workers, output, faults),
+        Trace::Nowhere => serve_untraced_on(threads, rt.alloc(), rules, path, workers, faults),
+        Trace::File(file, full) => {
+            let file = Path::new(file.as_str());
+            serve_to_file(rt, threads, rules, path, workers, file, *full, faults)
+        }
+    }
+}
+
 // `lockd serve --trace FILE`: the trace's file is made before the server listens. Where no session is served it is taken away again.
 fn serve_to_file<T: Threads + Wait + Net + Files + Sync, F: Write>(
     rt: &HostRuntime,
     threads: &T,
+    rules: Rules,
     path: Path<'_>,
     workers: u32,
     file: Path<'_>,
@@ -102,7 +150,16 @@ fn serve_to_file<T: Threads + Wait + Net + Files + Sync, F: Write>(
         Err(status) => return status,
     };
     let full = when_full(full);
-    let (status, _trace) = serve_traced_on(threads, rt.alloc(), path, trace, full, workers, faults);
+    let (status, _trace) = serve_traced_on(
+        threads,
+        rt.alloc(),
+        rules,
+        path,
+        trace,
+        full,
+        workers,
+        faults,
+    );
     if let Status::Faulted(Fault::Listen | Fault::NoMemory) = status {
         let _ = fs::remove_file(rt, file);
     }

@@ -5,7 +5,7 @@ mod cut;
 mod pieces;
 
 use fl_testing::lines_after;
-use lockd_commands::{CheckOptions, Status, check_on};
+use lockd_commands::{CheckOptions, Rules, Status, check_on};
 use std::alloc::Global;
 use std::process::Abort;
 
@@ -38,10 +38,11 @@ const CUT_QUIET: CheckOptions = CheckOptions {
 };
 
 fn run(alloc: Global, options: CheckOptions, text: &[u8]) -> Came {
+    let rules = Rules::standard();
     let mut input = text;
     let mut printed = Vec::new(alloc);
     let mut told = Vec::new(alloc);
-    let status = check_on(alloc, options, &mut input, &mut printed, &mut told);
+    let status = check_on(alloc, rules, options, &mut input, &mut printed, &mut told);
     Came {
         printed,
         told,

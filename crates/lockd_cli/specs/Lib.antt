@@ -1,2 +1,2 @@
+pub mod Numbers
 pub mod Version
-pub mod Workers

@@ -3,8 +3,10 @@
 
 mod options;
 mod refusal;
+#[cfg(test)]
+mod tests;
 mod version;
 
-pub use options::{Asked, Trace, WhenFull, read_words};
+pub use options::{Asked, AskedRules, Trace, WhenFull, read_words};
 pub use refusal::Refusal;
 pub use version::{VERSION, print_version};

@@ -9,27 +9,29 @@ use Rattle.fl_desk.specs.Legal.{IsLegal}
 use Rattle.fl_desk.specs.Verdicts.{IsBeginning}
 use Rattle.fl_history.specs.declared.history.Line.{Line}
 use Rattle.fl_quiet.specs.Quiet.{IsQuiet}
+use Rattle.fl_waiting.specs.declared.rules.Rules.{Rules}
 use Rattle.lockd_commands.specs.Check.{answer_text, SaysQuiet, IsJudged}
 use Rattle.lockd_commands.specs.Check.Inside.{quiet_told}
 use Rattle.lockd_commands.specs.declared.check.CheckOptions.{CheckOptions}
 
 -- a legal history is a beginning of one
-whole : (lines : List Line) → IsLegal lines → IsBeginning lines
-whole lines legal = record { rest = []; legal = subst IsLegal (sym (append-nil lines)) legal }
+whole : (rules : Rules) (lines : List Line) → IsLegal rules lines → IsBeginning rules lines
+whole rules lines legal = record { rest = []; legal = subst (IsLegal rules) (sym (append-nil lines)) legal }
 
-says : (asked cut quiet : Bool) (finding : Finding) (lines : List Line) → IsFinding cut lines finding → (quiet ≡ true) ↔ (IsBeginning lines × IsQuiet lines)
-    → SaysQuiet asked finding lines (quiet_told asked finding quiet)
-says true cut quiet Legal lines legal known = (λ is. (known.0 is).1, λ quiet. known.1 (whole lines legal, quiet))
-says true cut quiet Begins lines found known = refl
-says true cut quiet (Differs n) lines found known = refl
-says false cut quiet Legal lines legal known = refl
-says false cut quiet Begins lines found known = refl
-says false cut quiet (Differs n) lines found known = refl
+says : (rules : Rules) (asked cut quiet : Bool) (finding : Finding) (lines : List Line) → IsFinding rules cut lines finding
+    → (quiet ≡ true) ↔ (IsBeginning rules lines × IsQuiet rules lines)
+    → SaysQuiet rules asked finding lines (quiet_told asked finding quiet)
+says rules true cut quiet Legal lines legal known = (λ is. (known.0 is).1, λ quiet. known.1 (whole rules lines legal, quiet))
+says rules true cut quiet Begins lines found known = refl
+says rules true cut quiet (Differs n) lines found known = refl
+says rules false cut quiet Legal lines legal known = refl
+says rules false cut quiet Begins lines found known = refl
+says rules false cut quiet (Differs n) lines found known = refl
 
-pub judged : (options : CheckOptions) (left old new : Option (List ℕ)) (audited : Audited) (told : Option Bool) → IsAudited options.cut left audited
-    → told ≡ quiet_told options.tells_quiet audited.finding audited.quiet → Appends old new (answer_text audited.finding told)
-    → IsJudged options left old new audited.finding
-judged options left old new audited told is quiet written = record {
+pub judged : (rules : Rules) (options : CheckOptions) (left old new : Option (List ℕ)) (audited : Audited) (told : Option Bool)
+    → IsAudited rules options.cut left audited → told ≡ quiet_told options.tells_quiet audited.finding audited.quiet
+    → Appends old new (answer_text audited.finding told) → IsJudged rules options left old new audited.finding
+judged rules options left old new audited told is quiet written = record {
   trace = is.trace;
   lines = is.said.lines;
   read = is.read;
@@ -37,11 +39,12 @@ judged options left old new audited told is quiet written = record {
   fits = is.said.fits;
   judged = is.said.found;
   told = told;
-  says = subst (SaysQuiet options.tells_quiet audited.finding is.said.lines) (sym quiet)
-      (says options.tells_quiet options.cut audited.quiet audited.finding is.said.lines is.said.found is.said.quiet);
+  says = subst (SaysQuiet rules options.tells_quiet audited.finding is.said.lines) (sym quiet)
+      (says rules options.tells_quiet options.cut audited.quiet audited.finding is.said.lines is.said.found is.said.quiet);
   written = written;
 }
 
 -- of a trace that can't be cut off it is never said that it begins a legal one
-pub never_begins : (options : CheckOptions) (left old new : Option (List ℕ)) → options.cut ≡ false → IsJudged options left old new Begins → ⊥
-never_begins options left old new uncut is = subst (λ cut. IsFinding cut is.lines Begins) uncut is.judged
+pub never_begins : (rules : Rules) (options : CheckOptions) (left old new : Option (List ℕ)) → options.cut ≡ false
+    → IsJudged rules options left old new Begins → ⊥
+never_begins rules options left old new uncut is = subst (λ cut. IsFinding rules cut is.lines Begins) uncut is.judged

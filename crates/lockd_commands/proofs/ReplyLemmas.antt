@@ -138,47 +138,47 @@ tells_all sent [] lines so_far none replies framed e =
 tells_all sent (c ∷ rest) lines so_far none replies framed e = absurd (omega arith)
 
 -- a session whose writes didn't fail, over a stream, by what was written to an empty vector
-pub record Held (stream unread empty held : List ℕ) (broken : Bool) (done : Done) : Type 0 where
+pub record Held (rules : Rules) (stream unread empty held : List ℕ) (broken : Bool) (done : Done) : Type 0 where
   pub none : empty ≡ []
   pub whole : broken ≡ false
-  pub served : IsServed (Some stream) (Some unread) (Some empty) (Some held) broken done
+  pub served : IsServed rules (Some stream) (Some unread) (Some empty) (Some held) broken done
 
-served_whole : (stream unread empty held : List ℕ) (broken : Bool) (done : Done)
-    → Held stream unread empty held broken done
-    → IsServed (Some stream) (Some unread) (Some []) (Some held) false done
-served_whole stream unread empty held broken done h =
-    let P : Bool → Type 0 = λ b. IsServed (Some stream) (Some unread) (Some empty) (Some held) b done in
-    let Q : List ℕ → Type 0 = λ old. IsServed (Some stream) (Some unread) (Some old) (Some held) false done in
+served_whole : (rules : Rules) (stream unread empty held : List ℕ) (broken : Bool) (done : Done)
+    → Held rules stream unread empty held broken done
+    → IsServed rules (Some stream) (Some unread) (Some []) (Some held) false done
+served_whole rules stream unread empty held broken done h =
+    let P : Bool → Type 0 = λ b. IsServed rules (Some stream) (Some unread) (Some empty) (Some held) b done in
+    let Q : List ℕ → Type 0 = λ old. IsServed rules (Some stream) (Some unread) (Some old) (Some held) false done in
     subst Q h.none (subst P h.whole h.served)
 
-held_is : (stream unread held : List ℕ) (done : Done) (served : IsServed (Some stream) (Some unread) (Some [])
+held_is : (rules : Rules) (stream unread held : List ℕ) (done : Done) (served : IsServed rules (Some stream) (Some unread) (Some [])
     (Some held) false done)
-    → held ≡ concat (session_of served.came).replies
-held_is stream unread held done served = served.written ∙ served.are_sent
+    → held ≡ concat (session_of rules served.came).replies
+held_is rules stream unread held done served = served.written ∙ served.are_sent
 
-pub held_replies : (stream unread empty held slice : List ℕ) (broken : Bool) (done : Done) → slice ≡ held
-    → Held stream unread empty held broken done
+pub held_replies : (rules : Rules) (stream unread empty held slice : List ℕ) (broken : Bool) (done : Done) → slice ≡ held
+    → Held rules stream unread empty held broken done
     → AreReplies slice
-held_replies stream unread empty held slice broken done same h =
-    let served = served_whole stream unread empty held broken done h in
+held_replies rules stream unread empty held slice broken done same h =
+    let served = served_whole rules stream unread empty held broken done h in
     record {
-      replies = (session_of served.came).replies;
+      replies = (session_of rules served.came).replies;
       framed = served.framed;
       is = same
-          ∙ held_is stream unread held done served;
+          ∙ held_is rules stream unread held done served;
     }
 
-pub session_of_vector : (stream unread empty held slice lines : List ℕ) (broken : Bool) (done : Done) → slice ≡ held
-    → Held stream unread empty held broken done
+pub session_of_vector : (rules : Rules) (stream unread empty held slice lines : List ℕ) (broken : Bool) (done : Done) → slice ≡ held
+    → Held rules stream unread empty held broken done
     → ((replies : List (List ℕ)) → All IsReply replies → slice ≡ concat replies → lines ≡ hex_lines replies)
-    → IsSession stream lines done.fault
-session_of_vector stream unread empty held slice lines broken done same h tells =
-    let served = served_whole stream unread empty held broken done h in
+    → IsSession rules stream lines done.fault
+session_of_vector rules stream unread empty held slice lines broken done same h tells =
+    let served = served_whole rules stream unread empty held broken done h in
     record {
       done = done;
       unread = unread;
       sent = held;
       served = served;
       fault_is = refl;
-      printed = tells (session_of served.came).replies served.framed (same ∙ held_is stream unread held done served);
+      printed = tells (session_of rules served.came).replies served.framed (same ∙ held_is rules stream unread held done served);
     }

@@ -3,6 +3,7 @@ pub mod Inside
 use Rattle.std.specs.Prelude.{◌≡◌, ℕ, false, List, [], All, Option, Some, None, IfSome, IsOk, Result, Ok, Err, ⊤}
 use Rattle.std.specs.List.{concat}
 use Rattle.std.specs.Io.KnownBytes.{Appends, Keeps}
+use Rattle.fl_waiting.specs.declared.rules.Rules.{Rules}
 use Rattle.lockd_commands.specs.Hex.{hex_stream}
 use Rattle.lockd_hex.specs.Lines.{hex_lines}
 use Rattle.fl_session.specs.Served.{IsServed}
@@ -11,22 +12,22 @@ use Rattle.fl_session.specs.Session.{session_of}
 use Rattle.fl_session.specs.declared.session.Done.{Done}
 use Rattle.fl_session.specs.declared.session.Fault.{Fault as SessionFault}
 
--- A session over this stream, no write of which failed and whose fault is this one, and the lines that are printed for
--- it: one for each of its replies.
-pub record IsSession (stream lines : List ℕ) (fault : Option SessionFault) : Type 0 where
+-- A session under these rules over this stream, no write of which failed and whose fault is this one, and the lines that are
+-- printed for it: one for each of its replies.
+pub record IsSession (rules : Rules) (stream lines : List ℕ) (fault : Option SessionFault) : Type 0 where
   pub done : Done
   pub unread : List ℕ
   pub sent : List ℕ
-  pub served : IsServed (Some stream) (Some unread) (Some []) (Some sent) false done
+  pub served : IsServed rules (Some stream) (Some unread) (Some []) (Some sent) false done
   pub fault_is : done.fault ≡ fault
-  pub printed : lines ≡ hex_lines (session_of served.came).replies
+  pub printed : lines ≡ hex_lines (session_of rules served.came).replies
 
--- The input is hex lines, and what a session over their bytes gives was printed.
-pub record IsPrinted (left old new : Option (List ℕ)) (fault : Option SessionFault) : Type 0 where
+-- The input is hex lines, and what a session under these rules over their bytes gives was printed.
+pub record IsPrinted (rules : Rules) (left old new : Option (List ℕ)) (fault : Option SessionFault) : Type 0 where
   pub text : List ℕ
   pub stream : List ℕ
   pub lines : List ℕ
   pub read : IfSome left (λ bytes. bytes ≡ text)
   pub spelled : hex_stream text ≡ Ok stream
-  pub session : IsSession stream lines fault
+  pub session : IsSession rules stream lines fault
   pub written : Appends old new lines

@@ -9,6 +9,7 @@ use Rattle.fl_audit.specs.declared.finding.Finding.{Finding}
 use Rattle.fl_audit.specs.declared.finding.Finding.TheVariants.{Legal, Begins, Differs}
 use Rattle.fl_history.specs.declared.history.Line.{Line}
 use Rattle.fl_quiet.specs.Quiet.{IsQuiet}
+use Rattle.fl_waiting.specs.declared.rules.Rules.{Rules}
 use Rattle.lockd_commands.specs.declared.check.CheckOptions.{CheckOptions}
 
 -- the line that says what is found
@@ -28,20 +29,21 @@ answer_text Legal (Some quiet) = finding_text Legal ++ quiet_text quiet
 answer_text finding told = finding_text finding
 
 -- it is told where it is asked and the history is legal, and then it is right
-abbrev pub SaysQuiet : Bool → Finding → List Line → Option Bool → Type 0
-SaysQuiet true Legal lines None = ⊥
-SaysQuiet true Legal lines (Some quiet) = (quiet ≡ true) ↔ IsQuiet lines
-SaysQuiet asked finding lines told = told ≡ None
+abbrev pub SaysQuiet : Rules → Bool → Finding → List Line → Option Bool → Type 0
+SaysQuiet rules true Legal lines None = ⊥
+SaysQuiet rules true Legal lines (Some quiet) = (quiet ≡ true) ↔ IsQuiet rules lines
+SaysQuiet rules asked finding lines told = told ≡ None
 
--- What is judged of all that was left to read is the trace of a history. What is found of this history was written, and
--- whether it is quiet, where that is asked and it is legal.
-pub record IsJudged (options : CheckOptions) (left old new : Option (List ℕ)) (finding : Finding) : Type 0 where
+-- What is judged of all that was left to read is the trace of a history. What is found of this history under these rules was
+-- written, and whether it is quiet, where that is asked and it is legal.
+pub record IsJudged (rules : Rules) (options : CheckOptions) (left old new : Option (List ℕ)) (finding : Finding)
+    : Type 0 where
   pub trace : List ℕ
   pub lines : List Line
   pub read : IfSome left (λ bytes. judged_part options.cut bytes ≡ trace)
   pub spelled : trace ≡ text_of lines
   pub fits : Fits lines
-  pub judged : IsFinding options.cut lines finding
+  pub judged : IsFinding rules options.cut lines finding
   pub told : Option Bool
-  pub says : SaysQuiet options.tells_quiet finding lines told
+  pub says : SaysQuiet rules options.tells_quiet finding lines told
   pub written : Appends old new (answer_text finding told)

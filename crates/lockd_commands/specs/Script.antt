@@ -6,6 +6,7 @@ use Rattle.fl_stream.specs.Streams.{WroteSome}
 use Rattle.fl_trace.specs.Text.{text_of, LineFits, Fits, BreaksAt}
 use Rattle.fl_history.specs.declared.history.Line.{Line}
 use Rattle.fl_history.specs.declared.history.Line.TheVariants.{Asked}
+use Rattle.fl_waiting.specs.declared.rules.Rules.{Rules}
 use Rattle.lockd_faults.specs.declared.fault.Fault.{Fault}
 use Rattle.lockd_commands.specs.declared.script.AskLine.{AskLine}
 use Rattle.lockd_faults.specs.declared.fault.Fault.TheVariants.{BadLine, NoMemory, NoReader, Listen, Read, Write, Cut, BadLength, Connect, BadReply, Trace, TraceFailed}
@@ -18,10 +19,10 @@ IsAskLine line = LineFits line × (is_asked line ≡ true)
 abbrev pub line_of : AskLine → Line
 line_of ask = Asked ask.worker ask.order
 
--- The trace of a script is the text of a legal history whose ask lines are the script.
-pub record IsTraceOf (script trace : List ℕ) : Type 0 where
+-- The trace of a script is the text of a history that is legal under these rules, and whose ask lines are the script.
+pub record IsTraceOf (rules : Rules) (script trace : List ℕ) : Type 0 where
   pub lines : List Line
-  pub legal : IsLegal lines
+  pub legal : IsLegal rules lines
   pub asked : script ≡ text_of (filter is_asked lines)
   pub fits : Fits (filter is_asked lines)
   pub printed : trace ≡ text_of lines
@@ -41,18 +42,18 @@ FaultSays script BadReply = ⊥
 FaultSays script Trace = ⊥
 FaultSays script TraceFailed = ⊥
 
--- a script was read, and its trace was written
-pub record IsAnswered (left old new : Option (List ℕ)) : Type 0 where
+-- a script was read, and its trace under these rules was written
+pub record IsAnswered (rules : Rules) (left old new : Option (List ℕ)) : Type 0 where
   pub script : List ℕ
   pub trace : List ℕ
   pub read : IfSome left (λ bytes. bytes ≡ script)
-  pub answered : IsTraceOf script trace
+  pub answered : IsTraceOf rules script trace
   pub written : Appends old new trace
 
--- a script was read, and a beginning of its trace was written, which may end within a line
-pub record IsAnsweredInPart (left old new : Option (List ℕ)) : Type 0 where
+-- a script was read, and a beginning of its trace under these rules was written, which may end within a line
+pub record IsAnsweredInPart (rules : Rules) (left old new : Option (List ℕ)) : Type 0 where
   pub script : List ℕ
   pub trace : List ℕ
   pub read : IfSome left (λ bytes. bytes ≡ script)
-  pub answered : IsTraceOf script trace
+  pub answered : IsTraceOf rules script trace
   pub begun : WroteSome trace old new

@@ -10,6 +10,7 @@ ghost use Rattle.lockd_faults.specs.Faults.{IsTold};
 ghost use Rattle.lockd_faults.specs.declared.fault.Fault.{Fault};
 ghost use Rattle.fl_session.specs.declared.session.Fault.{Fault as SessionFault};
 
+use fl_core::Rules;
 use fl_serve::{Ended, run_session};
 use hex_text::read_stream;
 use lockd_faults::{Fault, Status, end, read_all, write_all};
@@ -20,21 +21,23 @@ use std::io::{Read, Write};
 pub(crate) mod hex_text;
 pub(crate) mod replies;
 
-/// `lockd bytes`: reads lines of hex, serves a session over the bytes that they spell, and writes each reply as a
-/// line of lower case hex. All input is read and checked, and the whole session is over, before any output. A fault
-/// is told as one line on `faults`; before `cut` and `bad length` all replies up to there are written.
+/// `lockd bytes`: reads lines of hex, serves a session under these rules over the bytes that they spell, and writes each
+/// reply as a line of lower case hex. All input is read and checked, and the whole session is over, before any output. A
+/// fault is told as one line on `faults`; before `cut` and `bad length` all replies up to there are written.
 pub fn bytes_on<R: Read, W: Write, F: Write>(
     alloc: Global,
+    rules: Rules,
     input: &mut R,
     output: &mut W,
     faults: &mut F,
 ) -> Status
     ensures good { result ≡ Status.Good
-        → IsPrinted (R.remaining input.old) (W.contents output.old) (W.contents output.new) None }
+        → IsPrinted rules (R.remaining input.old) (W.contents output.old) (W.contents output.new) None }
     ensures cut { result ≡ Status.Faulted Fault.Cut
-        → IsPrinted (R.remaining input.old) (W.contents output.old) (W.contents output.new) (Some SessionFault.Cut) }
+        → IsPrinted rules (R.remaining input.old) (W.contents output.old) (W.contents output.new)
+        (Some SessionFault.Cut) }
     ensures bad_length { (n : ℕ) → result ≡ Status.Faulted (Fault.BadLength n)
-        → IsPrinted (R.remaining input.old) (W.contents output.old) (W.contents output.new)
+        → IsPrinted rules (R.remaining input.old) (W.contents output.old) (W.contents output.new)
         (Some (SessionFault.BadLength n)) }
 
     // A bad line is told, and nothing else is.
@@ -53,15 +56,20 @@ pub fn bytes_on<R: Read, W: Write, F: Write>(
     ensures quiet { result ≡ Status.Good → Keeps (F.contents faults.old) (F.contents faults.new) }
     ensures ended { result ≢ Status.Different }
 {
-    end(faults, bytes(alloc, input, output))
+    end(faults, bytes(alloc, rules, input, output))
 }
 
-fn bytes<R: Read, W: Write>(alloc: Global, input: &mut R, output: &mut W) -> Result<(), Fault>
-    ensures { Did (R.remaining input.old) (W.contents output.old) (W.contents output.new) result }
+fn bytes<R: Read, W: Write>(
+    alloc: Global,
+    rules: Rules,
+    input: &mut R,
+    output: &mut W,
+) -> Result<(), Fault>
+    ensures { Did rules (R.remaining input.old) (W.contents output.old) (W.contents output.new) result }
 {
     let text = read_all(alloc, input)?;
     let stream = read_stream(alloc, &text)?;
-    let printed = print_session(alloc, &stream)?;
+    let printed = print_session(alloc, rules, &stream)?;
     write_all(output, &printed.lines)?;
     match printed.fault {
         None => Ok(()),
@@ -76,16 +84,16 @@ struct Printed {
     fault: Option<fl_serve::Fault>,
 }
 
-// A session over these bytes, and a line for each of its replies. A vector takes what is written to it where there is
-// memory: a write that failed is want of memory, also where the stream has a fault.
-fn print_session(alloc: Global, stream: &[u8]) -> Result<Printed, Fault>
-    ensures session { IfOk result (λ printed. IsSession stream.now printed.lines.items printed.fault) }
+// A session under these rules over these bytes, and a line for each of its replies. A vector takes what is written to it
+// where there is memory: a write that failed is want of memory, also where the stream has a fault.
+fn print_session(alloc: Global, rules: Rules, stream: &[u8]) -> Result<Printed, Fault>
+    ensures session { IfOk result (λ printed. IsSession rules stream.now printed.lines.items printed.fault) }
     ensures fault { IfOk result (λ printed. IfSome printed.fault IsOfStream) }
     ensures error { IfErr result (λ fault. (fault ≡ Fault.NoMemory) ⊎ (fault ≡ Fault.Read)) }
 {
     let mut rest = stream;
     let mut sent = Vec::new(alloc);
-    let Ended { done, broken } = run_session(alloc, &mut rest, &mut sent);
+    let Ended { done, broken } = run_session(alloc, &mut rest, &mut sent, rules);
     match done.fault {
         Some(fl_serve::Fault::Read) => Err(Fault::Read),
         // One worker at a desk needs no reader, so that fault doesn't come.

@@ -12,6 +12,7 @@ ghost use Rattle.lockd_faults.specs.Faults.{IsTold};
 ghost use Rattle.lockd_faults.specs.declared.fault.Fault.{Fault};
 
 use fl_audit::{AuditFault, Audited, Finding, audit};
+use fl_core::Rules;
 use lockd_faults::{Fault, Status, end, write_all};
 use std::alloc::Global;
 use std::io::{Read, Write};
@@ -26,25 +27,27 @@ pub struct CheckOptions {
 }
 
 /// `lockd check`: reads a trace, and writes `legal`, or `differs N` where it isn't: the lines before line N, and no more,
-/// are a beginning of a legal trace. With the option `--quiet` `legal` is followed by a line `quiet` or `not quiet`, which
-/// says whether any owner asked for a record lock while it waited for one. With the option `--cut` what follows the last
-/// newline isn't judged, and a trace that isn't legal, but that a legal one begins with, is said to be so by `begins`. All
-/// input is read and checked before any output, in memory that doesn't grow. A fault is told as one line on `faults`.
+/// are a beginning of a trace that is legal under these rules. With the option `--quiet` `legal` is followed by a line
+/// `quiet` or `not quiet`, which says whether any owner asked for a record lock while it waited for one. With the option
+/// `--cut` what follows the last newline isn't judged, and a trace that isn't legal, but that a legal one begins with, is
+/// said to be so by `begins`. All input is read and checked before any output, in memory that doesn't grow. A fault is told
+/// as one line on `faults`.
 pub fn check_on<R: Read, W: Write, F: Write>(
     alloc: Global,
+    rules: Rules,
     options: CheckOptions,
     input: &mut R,
     output: &mut W,
     faults: &mut F,
 ) -> Status
     ensures legal { result ≡ Status.Good → options.cut ≡ false →
-        IsJudged options (R.remaining input.old) (W.contents output.old) (W.contents output.new) said.Legal }
+        IsJudged rules options (R.remaining input.old) (W.contents output.old) (W.contents output.new) said.Legal }
     ensures cut { result ≡ Status.Good →
-        IsJudged options (R.remaining input.old) (W.contents output.old) (W.contents output.new) said.Legal ⊎
-        IsJudged options (R.remaining input.old) (W.contents output.old) (W.contents output.new) said.Begins }
+        IsJudged rules options (R.remaining input.old) (W.contents output.old) (W.contents output.new) said.Legal ⊎
+        IsJudged rules options (R.remaining input.old) (W.contents output.old) (W.contents output.new) said.Begins }
     ensures differs { result ≡ Status.Different →
         (n : ℕ) ×
-        IsJudged options (R.remaining input.old) (W.contents output.old) (W.contents output.new) (said.Differs n) }
+        IsJudged rules options (R.remaining input.old) (W.contents output.old) (W.contents output.new) (said.Differs n) }
 
     // The first n - 1 lines of what is judged of the input are lines of a trace, and the next is none.
     ensures bad { (n : ℕ) → result ≡ Status.Faulted (Fault.BadLine n) →
@@ -58,7 +61,7 @@ pub fn check_on<R: Read, W: Write, F: Write>(
     ensures quiet { (result ≡ Status.Good) ⊎ (result ≡ Status.Different) →
         Keeps (F.contents faults.old) (F.contents faults.new) }
 {
-    match judge(alloc, options, input, output) {
+    match judge(alloc, rules, options, input, output) {
         Ok(Finding::Legal) => Status::Good,
         Ok(Finding::Begins) => Status::Good,
         Ok(Finding::Differs(_)) => Status::Different,
@@ -68,18 +71,19 @@ pub fn check_on<R: Read, W: Write, F: Write>(
 
 fn judge<R: Read, W: Write>(
     alloc: Global,
+    rules: Rules,
     options: CheckOptions,
     input: &mut R,
     output: &mut W,
 ) -> Result<Finding, Fault>
     ensures judged { IfOk result
-        (IsJudged options (R.remaining input.old) (W.contents output.old) (W.contents output.new)) }
+        (IsJudged rules options (R.remaining input.old) (W.contents output.old) (W.contents output.new)) }
     ensures bad { IfErr result (λ fault. (n : ℕ) → fault ≡ Fault.BadLine n →
         IfSome (R.remaining input.old) (λ bytes. BreaksAt LineFits (judged_part options.cut bytes) n)) }
     ensures kept { IfErr result (λ fault. fault ≢ Fault.Write → Keeps (W.contents output.old) (W.contents output.new)) }
     ensures fault { IfErr result IsOfText }
 {
-    let audited = match audit(alloc, options.cut, input) {
+    let audited = match audit(alloc, rules, options.cut, input) {
         Ok(audited) => audited,
         Err(fault) => return Err(fault_of(fault)),
     };

@@ -10,6 +10,7 @@ mod serve;
 pub use bytes::bytes_on;
 pub use check::{CheckOptions, check_on};
 pub use fl_book::WhenWriterFails;
+pub use fl_core::Rules;
 pub use lockd_drive::drive_on;
 pub use lockd_faults::{Fault, Status};
 pub use script::script_on;

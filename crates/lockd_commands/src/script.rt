@@ -12,7 +12,7 @@ ghost use Rattle.lockd_faults.specs.declared.fault.Fault.{Fault};
 
 use crate::printing::print;
 use fl_book::{Desk, History, Line, TraceRoom, first_line};
-use fl_core::Tolds;
+use fl_core::{Rules, Tolds};
 use fl_order::Order;
 use lockd_faults::{Fault, Status, end, read_all};
 use std::alloc::Global;
@@ -25,17 +25,18 @@ struct AskLine {
     order: Order,
 }
 
-/// `lockd script`: reads `ask` lines of workers 0 to 15, takes each order at a desk in turn, and writes the
-/// trace of the desk's history. All input is read and checked before any output. A fault is told as one
+/// `lockd script`: reads `ask` lines of workers 0 to 15, takes each order in turn at a desk under these rules, and writes
+/// the trace of the desk's history. All input is read and checked before any output. A fault is told as one
 /// line on `faults`.
 pub fn script_on<R: Read, W: Write, F: Write>(
     alloc: Global,
+    rules: Rules,
     input: &mut R,
     output: &mut W,
     faults: &mut F,
 ) -> Status
     ensures good { result ≡ Status.Good →
-        IsAnswered (R.remaining input.old) (W.contents output.old) (W.contents output.new) }
+        IsAnswered rules (R.remaining input.old) (W.contents output.old) (W.contents output.new) }
 
     // The first n - 1 lines of the input are ask lines, and the next is none.
     ensures bad { (n : ℕ) → result ≡ Status.Faulted (Fault.BadLine n) →
@@ -43,7 +44,7 @@ pub fn script_on<R: Read, W: Write, F: Write>(
 
     // Only a write that fails leaves anything on the output: a beginning of the trace.
     ensures begun { result ≡ Status.Faulted Fault.Write →
-        IsAnsweredInPart (R.remaining input.old) (W.contents output.old) (W.contents output.new) }
+        IsAnsweredInPart rules (R.remaining input.old) (W.contents output.old) (W.contents output.new) }
     ensures kept { (fault : Fault) → result ≡ Status.Faulted fault → fault ≢ Fault.Write →
         Keeps (W.contents output.old) (W.contents output.new) }
     ensures faulted { (fault : Fault) → result ≡ Status.Faulted fault →
@@ -51,32 +52,38 @@ pub fn script_on<R: Read, W: Write, F: Write>(
     ensures quiet { result ≡ Status.Good → Keeps (F.contents faults.old) (F.contents faults.new) }
     ensures ended { result ≢ Status.Different }
 {
-    end(faults, script(alloc, input, output))
+    end(faults, script(alloc, rules, input, output))
 }
 
-fn script<R: Read, W: Write>(alloc: Global, input: &mut R, output: &mut W) -> Result<(), Fault>
-    ensures good { OnOk result (IsAnswered (R.remaining input.old) (W.contents output.old) (W.contents output.new)) }
+fn script<R: Read, W: Write>(
+    alloc: Global,
+    rules: Rules,
+    input: &mut R,
+    output: &mut W,
+) -> Result<(), Fault>
+    ensures good { OnOk result
+        (IsAnswered rules (R.remaining input.old) (W.contents output.old) (W.contents output.new)) }
     ensures bad { IfErr result (λ fault. (n : ℕ) → fault ≡ Fault.BadLine n →
         IfSome (R.remaining input.old) (λ script. BreaksAt IsAskLine script n)) }
     ensures begun { result ≡ Err Fault.Write →
-        IsAnsweredInPart (R.remaining input.old) (W.contents output.old) (W.contents output.new) }
+        IsAnsweredInPart rules (R.remaining input.old) (W.contents output.old) (W.contents output.new) }
     ensures kept { IfErr result (λ fault. fault ≢ Fault.Write → Keeps (W.contents output.old) (W.contents output.new)) }
     ensures fault { IfErr result IsOfText }
 {
     let text = read_all(alloc, input)?;
-    let history = history_of(alloc, &text)?;
+    let history = history_of(alloc, rules, &text)?;
     let mut room = TraceRoom::new(alloc)?;
     print(&mut room, &history, output)
 }
 
-// The history of a script.
+// The history of a script under these rules.
 #[tactic(auto, using(crate::proofs::ScriptLemmas::fits_of_asks))]
-fn history_of(alloc: Global, script: &[u8]) -> Result<History, Fault>
-    ensures trace { IfOk result (λ history. IsTraceOf script.now (text_of history)) }
+fn history_of(alloc: Global, rules: Rules, script: &[u8]) -> Result<History, Fault>
+    ensures trace { IfOk result (λ history. IsTraceOf rules script.now (text_of history)) }
     ensures error { IfErr result (FaultSays script.now) }
 {
     let asks = read_asks(alloc, script)?;
-    take_all(alloc, &asks)
+    take_all(alloc, rules, &asks)
 }
 
 // What the ask lines of a script ask.
@@ -110,13 +117,13 @@ fn first_ask(text: &[u8]) -> Option<(AskLine, &[u8])>
     Some((AskLine { worker, order }, rest))
 }
 
-// The history of a desk that takes these orders in turn.
-fn take_all(alloc: Global, asks: &[AskLine]) -> Result<History, Fault>
+// The history of a desk under these rules that takes these orders in turn.
+fn take_all(alloc: Global, rules: Rules, asks: &[AskLine]) -> Result<History, Fault>
     ensures asked { IfOk result (λ history. filter is_asked history ≡ map line_of asks.now) }
-    ensures legal { IfOk result IsLegal }
+    ensures legal { IfOk result (IsLegal rules) }
     ensures error { IfErr result (λ fault. fault ≡ Fault.NoMemory) }
 {
-    let mut desk = Desk::new(alloc)?;
+    let mut desk = Desk::new(alloc, rules)?;
     let mut tolds = Tolds::new(alloc)?;
     for ask in asks {
         desk.take(ask.worker, &ask.order, &mut tolds)?;

@@ -15,6 +15,7 @@ mod traced;
 
 use crate::printing::print;
 use fl_book::{Keeper, Lines, TraceRoom};
+use fl_core::Rules;
 use fl_serve::{Done, Kept, OpenGate, run_over, serve_over};
 use lockd_faults::{Fault, Status, end};
 use std::alloc::Global;
@@ -29,24 +30,25 @@ use std::sync::Wait;
 use std::thread::Threads;
 pub use traced::{serve_traced_on, serve_untraced_on, trace_at};
 
-/// `lockd serve`: listens at a path with a Unix stream socket, serves the first connection with 1 to 16 workers, and
-/// writes the trace of the session once it is over. The socket's file is taken away when the connection is there, and no
-/// other file that stands at the path by then. At an empty path it doesn't listen. A fault is told as one line on `faults`,
-/// behind the trace if there is one.
+/// `lockd serve`: listens at a path with a Unix stream socket, serves the first connection under these rules with 1 to 16
+/// workers, and writes the trace of the session once it is over. The socket's file is taken away when the connection is
+/// there, and no other file that stands at the path by then. At an empty path it doesn't listen. A fault is told as one
+/// line on `faults`, behind the trace if there is one.
 pub fn serve_on<R: Threads + Wait + Net + Files + Sync, W: Write, F: Write>(
     rt: &R,
     alloc: Global,
+    rules: Rules,
     path: Path<'_>,
     workers: u32,
     output: &mut W,
     faults: &mut F,
 ) -> Status
     requires workers { (0 < workers) × (workers ≤ 16) }
-    ensures good { result ≡ Status.Good → IsTraced (W.contents output.old) (W.contents output.new) }
+    ensures good { result ≡ Status.Good → IsTraced rules (W.contents output.old) (W.contents output.new) }
     ensures traced { (fault : Fault) → result ≡ Status.Faulted fault → IsOfSession fault
-        → IsTraced (W.contents output.old) (W.contents output.new) }
+        → IsTraced rules (W.contents output.old) (W.contents output.new) }
     ensures begun { result ≡ Status.Faulted Fault.Write
-        → IsTracedInPart (W.contents output.old) (W.contents output.new) }
+        → IsTracedInPart rules (W.contents output.old) (W.contents output.new) }
     ensures kept { (fault : Fault) → result ≡ Status.Faulted fault → IsOfNoSession fault
         → Keeps (W.contents output.old) (W.contents output.new) }
     ensures faulted { (fault : Fault) → result ≡ Status.Faulted fault →
@@ -55,56 +57,60 @@ pub fn serve_on<R: Threads + Wait + Net + Files + Sync, W: Write, F: Write>(
     ensures unnamed { path_bytes path.entry ≡ [] → result ≡ Status.Faulted Fault.Listen }
     ensures ended { result ≢ Status.Different }
 {
-    end(faults, serve_and_print(rt, alloc, path, workers, output))
+    end(
+        faults,
+        serve_and_print(rt, alloc, rules, path, workers, output),
+    )
 }
 
+#[tactic(auto, using(crate::proofs::PrintLemmas::did))]
 fn serve_and_print<R: Threads + Wait + Net + Files + Sync, W: Write>(
     rt: &R,
     alloc: Global,
+    rules: Rules,
     path: Path<'_>,
     workers: u32,
     output: &mut W,
 ) -> Result<(), Fault>
     requires workers { (0 < workers) × (workers ≤ 16) }
-    ensures did { Did (W.contents output.old) (W.contents output.new) result }
+    ensures did { Did rules (W.contents output.old) (W.contents output.new) result }
     ensures unnamed { path_bytes path.entry ≡ [] → result ≡ Err Fault.Listen }
 {
     let stream = connection(rt, path)?;
     // No session is served whose trace can't be printed for want of memory.
     let mut room = TraceRoom::new(alloc)?;
-    let done = served(rt, alloc, &stream, workers, Lines::new(alloc)).into_done(alloc);
+    let done = served(rt, alloc, rules, &stream, workers, Lines::new(alloc)).into_done(alloc);
     drop(stream);
     print_done(&mut room, &done, output)
 }
 
-// Serves a session over a connection, whose lines go to this keeper. One worker serves it all in this thread.
+// Serves a session under these rules over a connection, whose lines go to this keeper. One worker serves it all in this thread.
 fn served<R: Threads + Wait + Sync, K: Keeper + Send + Drop>(
     rt: &R,
     alloc: Global,
+    rules: Rules,
     stream: &UnixStream,
     workers: u32,
     keeper: K,
 ) -> Kept<K>
     requires workers { (0 < workers) × (workers ≤ 16) }
     requires none { K.lines keeper ≡ [] }
-    ensures legal { IfSome result.keeper (λ keeper. IsLegal (K.lines keeper)) }
+    ensures legal { IfSome result.keeper (λ keeper. IsLegal rules (K.lines keeper)) }
     ensures back { IsSome result.keeper
         ⊎ (result.fault ≡ Some SessionFault.NoMemory) ⊎ (result.fault ≡ Some SessionFault.NoReader) }
 {
     let mut r = stream;
     let mut w = stream;
     if workers == 1 {
-        let (kept, _) = run_over(alloc, &mut r, &mut w, keeper);
+        let (kept, _) = run_over(alloc, &mut r, &mut w, keeper, rules);
         return kept;
     }
-    serve_over(rt, alloc, &mut r, &mut w, workers, &OpenGate, keeper)
+    serve_over(rt, alloc, &mut r, &mut w, workers, rules, &OpenGate, keeper)
 }
 
 // Writes the trace of a session, and then tells its fault.
 #[tactic(auto, using(crate::proofs::PrintLemmas::not_printed, crate::proofs::PrintLemmas::printed))]
 fn print_done<W: Write>(room: &mut TraceRoom, done: &Done, output: &mut W) -> Result<(), Fault>
-    requires { IsLegal done.now.history }
-    ensures did { Did (W.contents output.old) (W.contents output.new) result }
     ensures tells { TellsOf done.now.history (W.contents output.old) (W.contents output.new) result }
 {
     if let Some(fault @ (fl_serve::Fault::NoMemory | fl_serve::Fault::NoReader)) = done.fault {

@@ -4,10 +4,11 @@ mod boards;
 mod bytes;
 mod failing;
 mod keepers;
+mod rules;
 mod scripts;
 
 use fl_testing::lines_after;
-use lockd_commands::{CheckOptions, Status, bytes_on, check_on, script_on};
+use lockd_commands::{CheckOptions, Rules, Status, bytes_on, check_on, script_on};
 use std::alloc::Global;
 use std::process::Abort;
 
@@ -28,18 +29,22 @@ struct Came {
 }
 
 fn run(command: Command, alloc: Global, text: &[u8]) -> Came {
+    run_under(command, alloc, Rules::standard(), text)
+}
+
+fn run_under(command: Command, alloc: Global, rules: Rules, text: &[u8]) -> Came {
     match command {
-        Command::Bytes => run_bytes(alloc, text),
-        Command::Check => run_check(alloc, text),
-        Command::Script => run_script(alloc, text),
+        Command::Bytes => run_bytes(alloc, rules, text),
+        Command::Check => run_check(alloc, rules, text),
+        Command::Script => run_script(alloc, rules, text),
     }
 }
 
-fn run_bytes(alloc: Global, text: &[u8]) -> Came {
+fn run_bytes(alloc: Global, rules: Rules, text: &[u8]) -> Came {
     let mut input = text;
     let mut printed = Vec::new(alloc);
     let mut told = Vec::new(alloc);
-    let status = bytes_on(alloc, &mut input, &mut printed, &mut told);
+    let status = bytes_on(alloc, rules, &mut input, &mut printed, &mut told);
     Came {
         printed,
         told,
@@ -48,7 +53,7 @@ fn run_bytes(alloc: Global, text: &[u8]) -> Came {
 }
 
 // The command says whether the trace is quiet, too.
-fn run_check(alloc: Global, text: &[u8]) -> Came {
+fn run_check(alloc: Global, rules: Rules, text: &[u8]) -> Came {
     let options = CheckOptions {
         tells_quiet: true,
         cut: false,
@@ -56,7 +61,7 @@ fn run_check(alloc: Global, text: &[u8]) -> Came {
     let mut input = text;
     let mut printed = Vec::new(alloc);
     let mut told = Vec::new(alloc);
-    let status = check_on(alloc, options, &mut input, &mut printed, &mut told);
+    let status = check_on(alloc, rules, options, &mut input, &mut printed, &mut told);
     Came {
         printed,
         told,
@@ -64,11 +69,11 @@ fn run_check(alloc: Global, text: &[u8]) -> Came {
     }
 }
 
-fn run_script(alloc: Global, text: &[u8]) -> Came {
+fn run_script(alloc: Global, rules: Rules, text: &[u8]) -> Came {
     let mut input = text;
     let mut printed = Vec::new(alloc);
     let mut told = Vec::new(alloc);
-    let status = script_on(alloc, &mut input, &mut printed, &mut told);
+    let status = script_on(alloc, rules, &mut input, &mut printed, &mut told);
     Came {
         printed,
         told,
@@ -105,17 +110,24 @@ fn run_cases(
 ) -> usize {
     let mut count = 0usize;
     for case in cases.split('#').skip(1) {
-        run_case(rt, alloc, command, before, case);
+        run_case(rt, alloc, (command, Rules::standard()), before, case);
         count = count.saturating_add(1);
     }
     count
 }
 
-fn run_case(rt: &impl Abort, alloc: Global, command: Command, before: (&str, &str), case: &str) {
+// One of them, by the command under these rules.
+fn run_case(
+    rt: &impl Abort,
+    alloc: Global,
+    (command, rules): (Command, Rules),
+    before: (&str, &str),
+    case: &str,
+) {
     let text = marked(rt, alloc, before.0, case, "> ");
     let printed = marked(rt, alloc, before.1, case, "< ");
     let told = marked(rt, alloc, "", case, "! ");
-    let came = run(command, alloc, text.as_bytes());
+    let came = run_under(command, alloc, rules, text.as_bytes());
     is(rt, case, &came, &printed, &told);
 }
 

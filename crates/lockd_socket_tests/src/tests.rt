@@ -2,6 +2,7 @@
 
 mod drive;
 mod many;
+mod rules;
 mod serve;
 mod traced;
 

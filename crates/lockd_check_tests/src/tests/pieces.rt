@@ -3,15 +3,16 @@
 use super::check::THE_LAST_REPLY;
 use super::{CUT, Came, PLAIN, QUIET, is};
 use fl_testing::{Source, Trouble};
-use lockd_commands::{CheckOptions, Fault, Status, check_on};
+use lockd_commands::{CheckOptions, Fault, Rules, Status, check_on};
 use std::alloc::Global;
 use std::io::{ErrorKind, Read};
 use std::process::Abort;
 
 fn check<R: Read>(alloc: Global, options: CheckOptions, input: &mut R) -> Came {
+    let rules = Rules::standard();
     let mut printed = Vec::new(alloc);
     let mut told = Vec::new(alloc);
-    let status = check_on(alloc, options, input, &mut printed, &mut told);
+    let status = check_on(alloc, rules, options, input, &mut printed, &mut told);
     Came {
         printed,
         told,

@@ -3,6 +3,7 @@ use Rattle.std.specs.Prelude.{◌≡◌, ℕ, List, All, Option, Some, None, IfS
 use Rattle.std.specs.List.{concat}
 use Rattle.std.specs.Io.KnownBytes.{Keeps}
 use Rattle.fl_wire.specs.Spell.{IsReply}
+use Rattle.fl_waiting.specs.declared.rules.Rules.{Rules}
 use Rattle.lockd_commands.specs.Bytes.{IsPrinted}
 use Rattle.lockd_commands.specs.Hex.{hex_stream}
 use Rattle.lockd_faults.specs.declared.fault.Fault.{Fault}
@@ -32,20 +33,20 @@ pub record AreReplies (bytes : List ℕ) : Type 0 where
   pub is : bytes ≡ concat replies
 
 -- What was done, by how the command ended: only after a session is anything printed.
-abbrev pub Did : Option (List ℕ) → Option (List ℕ) → Option (List ℕ) → Result Unit Fault → Type 0
-Did left old new (Ok done) = IsPrinted left old new None
-Did left old new (Err command.Cut) = IsPrinted left old new (Some session.Cut)
-Did left old new (Err (command.BadLength n)) = IsPrinted left old new (Some (session.BadLength n))
-Did left old new (Err (command.BadLine n)) = IfSome left (λ text. hex_stream text ≡ Err n) × Keeps old new
-Did left old new (Err command.NoMemory) = Keeps old new
-Did left old new (Err command.NoReader) = ⊥
-Did left old new (Err command.Listen) = ⊥
-Did left old new (Err command.Read) = Keeps old new
-Did left old new (Err command.Write) = IfSome left (λ text. IsOk (hex_stream text))
-Did left old new (Err command.Connect) = ⊥
-Did left old new (Err command.BadReply) = ⊥
-Did left old new (Err command.Trace) = ⊥
-Did left old new (Err command.TraceFailed) = ⊥
+abbrev pub Did : Rules → Option (List ℕ) → Option (List ℕ) → Option (List ℕ) → Result Unit Fault → Type 0
+Did rules left old new (Ok done) = IsPrinted rules left old new None
+Did rules left old new (Err command.Cut) = IsPrinted rules left old new (Some session.Cut)
+Did rules left old new (Err (command.BadLength n)) = IsPrinted rules left old new (Some (session.BadLength n))
+Did rules left old new (Err (command.BadLine n)) = IfSome left (λ text. hex_stream text ≡ Err n) × Keeps old new
+Did rules left old new (Err command.NoMemory) = Keeps old new
+Did rules left old new (Err command.NoReader) = ⊥
+Did rules left old new (Err command.Listen) = ⊥
+Did rules left old new (Err command.Read) = Keeps old new
+Did rules left old new (Err command.Write) = IfSome left (λ text. IsOk (hex_stream text))
+Did rules left old new (Err command.Connect) = ⊥
+Did rules left old new (Err command.BadReply) = ⊥
+Did rules left old new (Err command.Trace) = ⊥
+Did rules left old new (Err command.TraceFailed) = ⊥
 
 -- a fault of a stream, and not of what reads or writes it
 abbrev pub IsOfStream : SessionFault → Type 0

@@ -4,25 +4,26 @@ use Rattle.std.specs.Io.KnownBytes.{Appends, Keeps}
 use Rattle.fl_stream.specs.Streams.{WroteSome}
 use Rattle.fl_trace.specs.Text.{text_of}
 use Rattle.fl_history.specs.declared.history.Line.{Line}
+use Rattle.fl_waiting.specs.declared.rules.Rules.{Rules}
 use Rattle.lockd_commands.specs.Serve.{IsTraced, IsTracedInPart}
 use Rattle.lockd_faults.specs.declared.fault.Fault.{Fault}
 use Rattle.lockd_faults.specs.declared.fault.Fault.TheVariants.{BadLine, NoMemory, NoReader, Read, Write, Cut, BadLength, Listen, Connect, BadReply, Trace, TraceFailed}
 
 -- What was done, by how the command ended: only after a session is anything printed.
-abbrev pub Did : Option (List ℕ) → Option (List ℕ) → Result Unit Fault → Type 0
-Did old new (Ok done) = IsTraced old new
-Did old new (Err Cut) = IsTraced old new
-Did old new (Err (BadLength n)) = IsTraced old new
-Did old new (Err Read) = IsTraced old new
-Did old new (Err Write) = IsTracedInPart old new
-Did old new (Err NoMemory) = Keeps old new
-Did old new (Err NoReader) = Keeps old new
-Did old new (Err Listen) = Keeps old new
-Did old new (Err (BadLine n)) = ⊥
-Did old new (Err Connect) = ⊥
-Did old new (Err BadReply) = ⊥
-Did old new (Err Trace) = ⊥
-Did old new (Err TraceFailed) = ⊥
+abbrev pub Did : Rules → Option (List ℕ) → Option (List ℕ) → Result Unit Fault → Type 0
+Did rules old new (Ok done) = IsTraced rules old new
+Did rules old new (Err Cut) = IsTraced rules old new
+Did rules old new (Err (BadLength n)) = IsTraced rules old new
+Did rules old new (Err Read) = IsTraced rules old new
+Did rules old new (Err Write) = IsTracedInPart rules old new
+Did rules old new (Err NoMemory) = Keeps old new
+Did rules old new (Err NoReader) = Keeps old new
+Did rules old new (Err Listen) = Keeps old new
+Did rules old new (Err (BadLine n)) = ⊥
+Did rules old new (Err Connect) = ⊥
+Did rules old new (Err BadReply) = ⊥
+Did rules old new (Err Trace) = ⊥
+Did rules old new (Err TraceFailed) = ⊥
 
 -- the text of this history was written
 abbrev pub HasWritten : List Line → Option (List ℕ) → Option (List ℕ) → Type 0

@@ -5,7 +5,8 @@ ghost use Rattle.std.specs.Io.KnownBytes.{Keeps};
 ghost use Rattle.std.specs.Path.{path_bytes};
 ghost use Rattle.fl_desk.specs.Legal.{IsLegal};
 ghost use Rattle.fl_session.specs.declared.session.Fault.{Fault as SessionFault};
-ghost use Rattle.fl_stream.specs.Streams.{IsBlank};
+ghost use Rattle.fl_stream.specs.Streams.{IsBegun, IsBlank, Wrote};
+ghost use Rattle.fl_trace.specs.Text.{text_of};
 ghost use Rattle.lockd_commands.specs.Faults.{IsOfServe, IsOfTraced};
 ghost use Rattle.lockd_commands.specs.Serve.{HasBegun, HasTrace};
 ghost use Rattle.lockd_faults.specs.Faults.{AreBothTold, IsTold};
@@ -13,6 +14,7 @@ ghost use Rattle.lockd_faults.specs.declared.fault.Fault.{Fault};
 
 use super::{connection, served};
 use fl_book::{Forgetful, Keeper, Streamed, WhenWriterFails};
+use fl_core::Rules;
 use fl_serve::Kept;
 use lockd_faults::{Fault, Status, end, tell};
 use std::alloc::Global;
@@ -29,6 +31,7 @@ use std::thread::Threads;
 pub fn serve_untraced_on<R: Threads + Wait + Net + Files + Sync, F: Write>(
     rt: &R,
     alloc: Global,
+    rules: Rules,
     path: Path<'_>,
     workers: u32,
     faults: &mut F,
@@ -40,7 +43,7 @@ pub fn serve_untraced_on<R: Threads + Wait + Net + Files + Sync, F: Write>(
     ensures unnamed { path_bytes path.entry ≡ [] → result ≡ Status.Faulted Fault.Listen }
     ensures ended { result ≢ Status.Different }
 {
-    end(faults, serve_untraced(rt, alloc, path, workers))
+    end(faults, serve_untraced(rt, alloc, rules, path, workers))
 }
 
 /// `lockd serve --trace FILE`, over any writer that has nothing yet: as `serve_on`, but the trace goes to this writer as orders
@@ -50,6 +53,7 @@ pub fn serve_untraced_on<R: Threads + Wait + Net + Files + Sync, F: Write>(
 pub fn serve_traced_on<R: Threads + Wait + Net + Files + Sync, W: Write + Send + Drop, F: Write>(
     rt: &R,
     alloc: Global,
+    rules: Rules,
     path: Path<'_>,
     trace: W,
     full: WhenWriterFails,
@@ -58,18 +62,25 @@ pub fn serve_traced_on<R: Threads + Wait + Net + Files + Sync, W: Write + Send +
 ) -> (Status, Option<W>)
     requires workers { (0 < workers) × (workers ≤ 16) }
     requires blank { IsBlank (W.contents trace) }
-    ensures good { result.0 ≡ Status.Good → HasTrace W.contents result.1 }
-    ensures begun { HasBegun W.contents result.1 }
+    ensures good { result.0 ≡ Status.Good → HasTrace rules W.contents result.1 }
+    ensures begun { HasBegun rules W.contents result.1 }
     ensures faulted { (fault : Fault) → result.0 ≡ Status.Faulted fault → IsOfTraced fault
         × (IsTold fault (F.contents faults.old) (F.contents faults.new)
         ⊎ AreBothTold fault Fault.TraceFailed (F.contents faults.old) (F.contents faults.new)) }
     ensures quiet { result.0 ≡ Status.Good → Keeps (F.contents faults.old) (F.contents faults.new) }
     ensures ended { result.0 ≢ Status.Different }
 {
-    match serve_traced(rt, alloc, path, trace, full, workers) {
-        Ok(kept) => ended(faults, kept),
-        Err(fault) => (end(faults, Err(fault)), None),
-    }
+    let kept = match serve_traced(rt, alloc, rules, path, trace, full, workers) {
+        Ok(kept) => kept,
+        Err(fault) => return (end(faults, Err(fault)), None),
+    };
+    let Kept { keeper, fault, .. } = kept;
+    let done = told_of(fault);
+    let Some(stream) = keeper else {
+        return (end(faults, done), None);
+    };
+    let (status, trace) = ended(faults, done, stream);
+    (status, Some(trace))
 }
 
 /// A new file for a trace at a path. Where a file is there already, or none can be made, it is told that the server can't trace.
@@ -95,6 +106,7 @@ pub fn trace_at<R: Files, F: Write>(
 fn serve_untraced<R: Threads + Wait + Net + Files + Sync>(
     rt: &R,
     alloc: Global,
+    rules: Rules,
     path: Path<'_>,
     workers: u32,
 ) -> Result<(), Fault>
@@ -103,7 +115,7 @@ fn serve_untraced<R: Threads + Wait + Net + Files + Sync>(
     ensures unnamed { path_bytes path.entry ≡ [] → result ≡ Err Fault.Listen }
 {
     let connected = connection(rt, path)?;
-    let kept = served(rt, alloc, &connected, workers, Forgetful::new());
+    let kept = served(rt, alloc, rules, &connected, workers, Forgetful::new());
     told_of(kept.fault)
 }
 
@@ -111,6 +123,7 @@ fn serve_untraced<R: Threads + Wait + Net + Files + Sync>(
 fn serve_traced<R: Threads + Wait + Net + Files + Sync, W: Write + Send + Drop>(
     rt: &R,
     alloc: Global,
+    rules: Rules,
     path: Path<'_>,
     trace: W,
     full: WhenWriterFails,
@@ -119,13 +132,13 @@ fn serve_traced<R: Threads + Wait + Net + Files + Sync, W: Write + Send + Drop>(
     requires workers { (0 < workers) × (workers ≤ 16) }
     requires blank { IsBlank (W.contents trace) }
     ensures of { IfErr result IsOfServe }
-    ensures legal { IfOk result (λ kept. IfSome kept.keeper (λ stream. IsLegal stream.lines)) }
+    ensures legal { IfOk result (λ kept. IfSome kept.keeper (λ stream. IsLegal rules stream.lines)) }
     ensures back { IfOk result (λ kept. IsSome kept.keeper
         ⊎ (kept.fault ≡ Some SessionFault.NoMemory) ⊎ (kept.fault ≡ Some SessionFault.NoReader)) }
 {
     let stream = Streamed::new(alloc, trace, full)?;
     let connected = connection(rt, path)?;
-    Ok(served(rt, alloc, &connected, workers, stream))
+    Ok(served(rt, alloc, rules, &connected, workers, stream))
 }
 
 // How a session ended.
@@ -140,26 +153,24 @@ fn told_of(fault: Option<fl_serve::Fault>) -> Result<(), Fault>
 }
 
 // Ends a command whose trace went to a writer: tells the session's fault, and that the trace failed.
-fn ended<W: Write + Drop, F: Write>(faults: &mut F, kept: Kept<Streamed<W>>) -> (Status, Option<W>)
-    requires legal { IfSome kept.keeper (λ stream. IsLegal stream.lines) }
-    requires back { IsSome kept.keeper
-        ⊎ (kept.fault ≡ Some SessionFault.NoMemory) ⊎ (kept.fault ≡ Some SessionFault.NoReader) }
-    ensures good { result.0 ≡ Status.Good → HasTrace W.contents result.1 }
-    ensures begun { HasBegun W.contents result.1 }
+fn ended<W: Write + Drop, F: Write>(
+    faults: &mut F,
+    done: Result<(), Fault>,
+    stream: Streamed<W>,
+) -> (Status, W)
+    requires of { IfErr done IsOfServe }
+    ensures good { result.0 ≡ Status.Good
+        → Wrote W.contents (W.contents result.1) (text_of stream.lines) }
+    ensures begun { IsBegun W.contents (W.contents result.1) stream.lines }
     ensures faulted { (fault : Fault) → result.0 ≡ Status.Faulted fault → IsOfTraced fault
         × (IsTold fault (F.contents faults.old) (F.contents faults.new)
         ⊎ AreBothTold fault Fault.TraceFailed (F.contents faults.old) (F.contents faults.new)) }
     ensures quiet { result.0 ≡ Status.Good → Keeps (F.contents faults.old) (F.contents faults.new) }
     ensures ended { result.0 ≢ Status.Different }
 {
-    let Kept { keeper, fault, .. } = kept;
-    let done = told_of(fault);
-    let Some(stream) = keeper else {
-        return (end(faults, done), None);
-    };
     let mut stream = stream;
     let whole = stream.flush();
-    let trace = Some(stream.into_writer());
+    let trace = stream.into_writer();
     if whole {
         return (end(faults, done), trace);
     }

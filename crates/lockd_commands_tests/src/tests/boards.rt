@@ -11,7 +11,7 @@ use super::scripts::waiting::{an_owner_waits_twice, requests_that_wait};
 use fl_book::{
     Board, BoardName, FreshLog, History, Line, Seat, Verdict, check, print_trace, read_trace,
 };
-use fl_core::Tolds;
+use fl_core::{Rules, Tolds};
 use fl_order::Order;
 use std::alloc::Global;
 use std::marker::Brand;
@@ -77,14 +77,18 @@ fn history_of_a_board<L: BoardName, R: Abort + Wait>(
     alloc: Global,
     blank: Blank,
     log: FreshLog,
+    rules: Rules,
     wanted: &History,
 ) -> History
     requires named { (blank.name ≡ L.name) × (blank.parts ≡ L.parts) }
     requires log { log ≡ L.log }
     requires parts { (16 ≡ L.parts) × (L.workers ≡ L.parts) }
+    requires rules { rules ≡ L.rules }
 {
     let mut tolds = Tolds::new(alloc).expect(rt, "memory");
-    let (board, mut seats) = Board::<L, &R>::new(alloc, rt, blank, log, 16).expect(rt, "memory");
+    let (board, mut seats) = Board::<L, &R>::new(alloc, rt, blank, log, 16, rules).expect(
+        rt, "memory",
+    );
     hand_in_all(rt, &board, &mut seats, &mut tolds, wanted);
     board.close(seats).ok().expect(rt, "all seats")
 }
@@ -98,6 +102,7 @@ fn board_answers<R: Abort + Wait>(rt: &R, alloc: Global, trace: &str) {
         alloc,
         Blank::new(16),
         FreshLog::new(),
+        Rules::standard(),
         &asked,
     );
     is_wanted(rt, alloc, &history, &wanted);
@@ -106,7 +111,8 @@ fn board_answers<R: Abort + Wait>(rt: &R, alloc: Global, trace: &str) {
 fn is_wanted(rt: &impl Abort, alloc: Global, history: &History, wanted: &[u8]) {
     let trace = print_trace(alloc, history).expect(rt, "memory");
     assert_eq!(rt; trace.as_bytes(), wanted);
-    assert_eq!(rt; check(alloc, history), Ok(Verdict::Legal));
+    let verdict = check(alloc, history, Rules::standard());
+    assert_eq!(rt; verdict, Ok(Verdict::Legal));
 }
 
 fn board_answers_all<R: Abort + Wait>(rt: &R, alloc: Global, traces: &str) -> usize {

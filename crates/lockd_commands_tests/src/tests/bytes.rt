@@ -9,7 +9,7 @@ use super::{Command, is, refuse_lines, run, run_cases};
 use fl_testing::{init, init_reply, two_locks};
 use linux::LINUX;
 use locks::{NAMED_LOCKS, WAITING};
-use sessions::{REFUSED, WHOLE};
+use sessions::{FORGETS, REFUSED, WHOLE};
 use std::alloc::Global;
 use std::process::Abort;
 
@@ -39,6 +39,7 @@ fn run_after_init(rt: &impl Abort, alloc: Global, cases: &str) -> usize {
 fn sessions_behind_an_init(rt: HostRuntime) {
     assert_eq!(rt; run_after_init(&rt, rt.alloc(), two_locks()), 1);
     assert_eq!(rt; run_after_init(&rt, rt.alloc(), REFUSED), 6);
+    assert_eq!(rt; run_after_init(&rt, rt.alloc(), FORGETS), 1);
     assert_eq!(rt; run_after_init(&rt, rt.alloc(), NAMED_LOCKS), 3);
     assert_eq!(rt; run_after_init(&rt, rt.alloc(), WAITING), 1);
 }

@@ -1,7 +1,7 @@
 //! Inputs that can't be read to their end, and outputs that can't be written to theirs.
 
 use fl_testing::{Full, Newlines, init};
-use lockd_commands::{Fault, Status, bytes_on, script_on};
+use lockd_commands::{Fault, Rules, Status, bytes_on, script_on};
 use std::alloc::Global;
 use std::process::Abort;
 
@@ -12,26 +12,28 @@ fn failed(rt: &impl Abort, what: &str, status: Status, fault: Fault, told: &[u8]
 }
 
 fn bytes_fails(rt: &impl Abort, alloc: Global, left: usize) {
+    let rules = Rules::standard();
     let mut output: Vec<u8> = Vec::new(alloc);
     let mut told = Vec::new(alloc);
-    let status = bytes_on(alloc, &mut Newlines { left }, &mut output, &mut told);
+    let status = bytes_on(alloc, rules, &mut Newlines { left }, &mut output, &mut told);
     failed(rt, "bytes", status, Fault::Read, &told, b"read failed\n");
     assert!(rt; output.is_empty());
     told.clear();
     let mut input = init().as_bytes();
-    let status = bytes_on(alloc, &mut input, &mut Full { left }, &mut told);
+    let status = bytes_on(alloc, rules, &mut input, &mut Full { left }, &mut told);
     failed(rt, "bytes", status, Fault::Write, &told, b"write failed\n");
 }
 
 fn script_fails(rt: &impl Abort, alloc: Global, left: usize) {
+    let rules = Rules::standard();
     let mut output: Vec<u8> = Vec::new(alloc);
     let mut told = Vec::new(alloc);
-    let status = script_on(alloc, &mut Newlines { left }, &mut output, &mut told);
+    let status = script_on(alloc, rules, &mut Newlines { left }, &mut output, &mut told);
     failed(rt, "script", status, Fault::Read, &told, b"read failed\n");
     assert!(rt; output.is_empty());
     told.clear();
     let mut input = b"ask 0 1 1 0 0 0 create 0 420 61\n".as_slice();
-    let status = script_on(alloc, &mut input, &mut Full { left }, &mut told);
+    let status = script_on(alloc, rules, &mut input, &mut Full { left }, &mut told);
     failed(rt, "script", status, Fault::Write, &told, b"write failed\n");
 }
 

@@ -12,7 +12,7 @@ use fl_book::{
     Desk, Forgetful, History, Keeper, Line, Lines, Streamed, WhenWriterFails, print_trace,
     read_trace,
 };
-use fl_core::Tolds;
+use fl_core::{Rules, Tolds};
 use fl_order::Told;
 use fl_testing::{Sink, Trouble};
 use std::alloc::Global;
@@ -33,7 +33,7 @@ fn stand_behind(rt: &impl Abort, trace: &History, at: usize, tolds: &[Told]) {
 fn asked_of<K: Keeper + Drop>(rt: &impl Abort, alloc: Global, trace: &History, kept: K) -> K
     requires { K.lines kept ≡ [] }
 {
-    let mut desk = Desk::over(alloc, kept).expect(rt, "memory");
+    let mut desk = Desk::over(alloc, kept, Rules::standard()).expect(rt, "memory");
     let mut tolds = Tolds::new(alloc).expect(rt, "memory");
     for at in 0..trace.len() {
         if let Line::Asked { worker, order } = trace.line(at) {

@@ -15,8 +15,8 @@ use std::alloc::Global;
 use std::process::Abort;
 use waiting::{an_owner_waits_twice, requests_that_wait};
 
-// The ask lines of a trace.
-fn asks_of(rt: &impl Abort, alloc: Global, trace: &str) -> Vec<u8> {
+/// The ask lines of a trace.
+pub(super) fn asks_of(rt: &impl Abort, alloc: Global, trace: &str) -> Vec<u8> {
     let mut script = Vec::new(alloc);
     for line in trace.lines() {
         if line.starts_with("ask ") {
@@ -28,8 +28,8 @@ fn asks_of(rt: &impl Abort, alloc: Global, trace: &str) -> Vec<u8> {
     script
 }
 
-// A script is the ask lines of the trace that is wanted for it. That trace is legal, and it is quiet or not.
-fn answers(rt: &impl Abort, alloc: Global, what: &str, trace: &str, quiet: bool) {
+/// A script is the ask lines of the trace that is wanted for it. That trace is legal, and it is quiet or not.
+pub(super) fn answers(rt: &impl Abort, alloc: Global, what: &str, trace: &str, quiet: bool) {
     let script = asks_of(rt, alloc, trace);
     let came = run(Command::Script, alloc, &script);
     is(rt, what, &came, trace, "");

@@ -2,7 +2,7 @@
 
 use super::{Came, ends_so, is, marked, own_path, spelled, unbind};
 use fl_testing::{init, init_reply, two_locks};
-use lockd_commands::{CheckOptions, check_on, serve_on};
+use lockd_commands::{CheckOptions, Rules, check_on, serve_on};
 use std::alloc::{AllocGlobal, Global};
 use std::fs::Files;
 use std::io::{Read, Write};
@@ -20,6 +20,15 @@ pub(super) fn serve<R: Threads + Wait + Net + Files + AllocGlobal + Sync>(
     path: Path<'_>,
     workers: u32,
 ) -> Came {
+    serve_under(rt, Rules::standard(), path, workers)
+}
+
+pub(super) fn serve_under<R: Threads + Wait + Net + Files + AllocGlobal + Sync>(
+    rt: &R,
+    rules: Rules,
+    path: Path<'_>,
+    workers: u32,
+) -> Came {
     let workers = if workers == 0 || workers > 16 {
         1
     } else {
@@ -27,7 +36,15 @@ pub(super) fn serve<R: Threads + Wait + Net + Files + AllocGlobal + Sync>(
     };
     let mut printed = Vec::new(rt.alloc());
     let mut told = Vec::new(rt.alloc());
-    let status = serve_on(rt, rt.alloc(), path, workers, &mut printed, &mut told);
+    let status = serve_on(
+        rt,
+        rt.alloc(),
+        rules,
+        path,
+        workers,
+        &mut printed,
+        &mut told,
+    );
     Came {
         printed,
         told,
@@ -82,11 +99,12 @@ pub(super) fn has_trace(rt: &impl Abort, alloc: Global, trace: &[u8], wanted: us
         }
     }
     assert_eq!(rt; lines, wanted);
-    is(rt, "a trace", &checked(alloc, trace), "legal\n", "");
+    let came = checked(alloc, Rules::standard(), trace);
+    is(rt, "a trace", &came, "legal\n", "");
 }
 
-// What is said of a trace.
-fn checked(alloc: Global, trace: &[u8]) -> Came {
+/// What is said of a trace under these rules.
+pub(super) fn checked(alloc: Global, rules: Rules, trace: &[u8]) -> Came {
     let mut input = trace;
     let mut printed = Vec::new(alloc);
     let mut told = Vec::new(alloc);
@@ -94,7 +112,7 @@ fn checked(alloc: Global, trace: &[u8]) -> Came {
         tells_quiet: false,
         cut: false,
     };
-    let status = check_on(alloc, options, &mut input, &mut printed, &mut told);
+    let status = check_on(alloc, rules, options, &mut input, &mut printed, &mut told);
     Came {
         printed,
         told,

@@ -5,7 +5,7 @@ ghost use Rattle.std.specs.Prelude.{◌≤◌, ◌<◌};
 use super::many::{drive_soon, has_made_all, hundred_files};
 use super::serve::has_trace;
 use super::{Came, ends_so, own_path};
-use lockd_commands::{Status, WhenWriterFails, serve_traced_on, serve_untraced_on};
+use lockd_commands::{Rules, Status, WhenWriterFails, serve_traced_on, serve_untraced_on};
 use std::alloc::{AllocGlobal, Global};
 use std::fs::Files;
 use std::net::Net;
@@ -15,9 +15,11 @@ use std::sync::Wait;
 use std::thread;
 use std::thread::Threads;
 
-// Serves at a path with this many workers. What a vector got as the trace stands where a printed trace would.
-fn serve_traced<R: Threads + Wait + Net + Files + AllocGlobal + Abort + Sync>(
+/// Serves under these rules at a path with this many workers. What a vector got as the trace stands where a printed trace
+/// would.
+pub(super) fn serve_traced<R: Threads + Wait + Net + Files + AllocGlobal + Abort + Sync>(
     rt: &R,
+    rules: Rules,
     path: Path<'_>,
     workers: u32,
 ) -> Came
@@ -27,7 +29,7 @@ fn serve_traced<R: Threads + Wait + Net + Files + AllocGlobal + Abort + Sync>(
     let mut told = Vec::new(alloc);
     let trace: Vec<u8> = Vec::new(alloc);
     let full = WhenWriterFails::GoOn;
-    let (status, trace) = serve_traced_on(rt, alloc, path, trace, full, workers, &mut told);
+    let (status, trace) = serve_traced_on(rt, alloc, rules, path, trace, full, workers, &mut told);
     let printed = trace.expect(rt, "a trace");
     Came {
         printed,
@@ -41,7 +43,7 @@ fn serve_untraced<R: Threads + Wait + Net + Files + AllocGlobal + Sync>(
     path: Path<'_>,
 ) -> Came {
     let mut told = Vec::new(rt.alloc());
-    let status = serve_untraced_on(rt, rt.alloc(), path, 4, &mut told);
+    let status = serve_untraced_on(rt, rt.alloc(), Rules::standard(), path, 4, &mut told);
     Came {
         printed: Vec::new(rt.alloc()),
         told,
@@ -66,7 +68,7 @@ fn a_hundred_files_are_traced_by_two_and_by_four_workers(rt: HostRuntime) {
         let client = thread::spawn(&rt, move || {
             drive_soon(&rt, there.as_path(), text.as_bytes())
         });
-        let served = serve_traced(&rt, path.as_path(), workers);
+        let served = serve_traced(&rt, Rules::standard(), path.as_path(), workers);
         has_made_all(&rt, &client.expect(&rt, "a thread").join(&rt));
         all_is_traced(&rt, alloc, &served);
     }

@@ -3,13 +3,13 @@ use Rattle.lockd_commands.proofs.bytes.print_session.Goals as goal
 
 pub print_replies-requires : goal.print_replies-requires
 print_replies-requires c =
-    held_replies c.args.stream.now _ c.new-sent.result.items _ c.deref.result.now _ c.run_session-done.result.done
+    held_replies c.args.rules c.args.stream.now _ c.new-sent.result.items _ c.deref.result.now _ c.run_session-done.result.done
     c.deref.ensures.value
     (record { none = c.new-sent.ensures.items; whole = c.if-broken.false; served = c.run_session-done.ensures })
 
 pub returns-clause-session : goal.returns-clause-session
 returns-clause-session c =
-    session_of_vector c.args.stream.now _ c.new-sent.result.items _ c.deref.result.now
+    session_of_vector c.args.rules c.args.stream.now _ c.new-sent.result.items _ c.deref.result.now
     c.in_ok-lines-in_default-2.lines.items _ c.run_session-done.result.done
     c.deref.ensures.value (record {
       none = c.new-sent.ensures.items;

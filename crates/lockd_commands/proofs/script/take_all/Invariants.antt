@@ -3,6 +3,7 @@ use Rattle.fl_desk.specs.Legal.{is_asked}
 use Rattle.lockd_commands.specs.Script.{line_of}
 use Rattle.lockd_commands.proofs.script.take_all.Given as goal
 
--- the desk was asked what is asked so far
+-- the desk keeps its rules, and was asked what is asked so far
 abbrev pub invariant-loop-ask : goal.invariant-loop-ask
-invariant-loop-ask l = filter is_asked l.desk.lines ≡ map line_of (take l.ask-index l.asks)
+invariant-loop-ask l =
+    (l.desk.present.rules ≡ l.rules) × (filter is_asked l.desk.lines ≡ map line_of (take l.ask-index l.asks))
