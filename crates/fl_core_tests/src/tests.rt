@@ -62,7 +62,7 @@ fn are_legal(rt: &(impl Abort + AllocGlobal), lines: usize, pieces: &[&str]) {
 
 fn check_history(rt: &impl Abort, alloc: Global, lines: usize, history: &History) {
     assert_eq!(rt; history.len(), lines);
-    let verdict = check(alloc, history).expect(rt, "no memory");
+    let verdict = check(alloc, history, Rules::standard()).expect(rt, "no memory");
     assert_legal(rt, &verdict);
     follow(rt, alloc, history);
 }
