@@ -1,18 +1,22 @@
 //! Laws of the definitions, in the words of their subject. Each is the contract of an empty function.
 
-ghost use Rattle.std.specs.Prelude.{◌≡◌, ◌↔◌, Some, Err, [], List};
-ghost use Rattle.fl_core.specs.Effects.{Effect, later, leaving, replied, recorded, made};
+ghost use Rattle.std.specs.Prelude.{◌≡◌, ◌≢◌, ◌↔◌, true, Some, Ok, Err, [], List};
+ghost use Rattle.std.specs.List.{Contains};
+ghost use Rattle.fl_core.specs.Effects.{Effect, later, leaving, replied, recorded, made, request_of};
 ghost use Rattle.fl_core.specs.First.{IsFirst};
-ghost use Rattle.fl_core.specs.Replies.{first_told};
+ghost use Rattle.fl_core.specs.Replies.{first_told, own_reply};
 ghost use Rattle.fl_core.specs.Settling.{Present, present, settled, IsSettled};
 ghost use Rattle.fl_core.specs.Stages.{IsTakenInStages};
 ghost use Rattle.fl_core.specs.State.{View, State, Snapshot, snapshot_of};
 ghost use Rattle.fl_core.specs.Step.{next, replies};
-ghost use Rattle.fl_waiting.specs.Waiting.{AllWait, AreApart, taken_out};
+ghost use Rattle.fl_waiting.specs.Waiting.{Wish, wish_of, wishes, goes_first, AllWait, AreApart, taken_out};
 ghost use Rattle.fl_waiting.specs.declared.parked.Request.{Request};
 ghost use Rattle.fl_waiting.specs.declared.rules.Rules.{Rules};
 ghost use Rattle.fl_order.specs.declared.errno.Errno.{Errno};
+ghost use Rattle.fl_order.specs.declared.order.LockAsk.{LockAsk};
+ghost use Rattle.fl_order.specs.declared.order.Op.TheVariants.{Setlkw};
 ghost use Rattle.fl_order.specs.declared.order.Order.{Order};
+ghost use Rattle.fl_order.specs.declared.told.Answer.{Answer};
 ghost use Rattle.fl_order.specs.declared.told.Told.{Told};
 ghost use Rattle.fl_ranges.specs.Marking.{Marking};
 
@@ -67,3 +71,11 @@ pub fn an_order_is_taken_in_stages()
     fl_ranges::laws::a_change_counts_where_it_speaks();
     fl_waiting::laws::a_circle_is_a_row_of_owners_who_wait();
 }
+
+/// What fair rules promise: while a request for a record lock is parked, a later SETLKW for a lock that conflicts with it is
+/// granted none. It is refused, or parked behind.
+pub fn no_request_passes_an_older_one_under_fair_rules()
+    ensures { (p : Snapshot) (order : Order) (ask : LockAsk) (w older : Wish) → p.rules.fair ≡ true →
+        order.op ≡ Setlkw ask → wish_of (request_of order ask) ≡ Some w → Contains (wishes p.view.parked) older →
+        goes_first w older ≡ true → (answer : Answer) → own_reply p.rules p.view p.marking order ≢ Some (Ok answer) }
+{}

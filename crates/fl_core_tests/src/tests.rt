@@ -1,5 +1,6 @@
 //! Orders through a core. A table of orders and their replies is a trace, as `docs/TRACE.md` says.
 
+mod allowed;
 mod answers;
 mod circle_lengths;
 mod circles;
@@ -61,7 +62,7 @@ fn are_legal(rt: &(impl Abort + AllocGlobal), lines: usize, pieces: &[&str]) {
 
 fn check_history(rt: &impl Abort, alloc: Global, lines: usize, history: &History) {
     assert_eq!(rt; history.len(), lines);
-    let verdict = check(alloc, history).expect(rt, "no memory");
+    let verdict = check(alloc, history, Rules::standard()).expect(rt, "no memory");
     assert_legal(rt, &verdict);
     follow(rt, alloc, history);
 }
@@ -85,7 +86,11 @@ struct Server {
 
 impl Server {
     fn new(rt: &impl Abort, alloc: Global) -> Server {
-        Server::of(rt, alloc, Core::new(alloc, Rules::standard()).expect(rt, "no memory"))
+        Server::of(
+            rt,
+            alloc,
+            Core::new(alloc, Rules::standard()).expect(rt, "no memory"),
+        )
     }
 
     // Requests wait by these rules.

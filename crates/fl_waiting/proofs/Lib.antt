@@ -5,5 +5,6 @@ pub mod Circles
 pub mod Claims
 pub mod Copies
 pub mod Counts
+pub mod First
 pub mod Searches
 pub mod Wishes

@@ -1,10 +1,11 @@
 -- Lock parked requests, in the order of asking, and what keeps them waiting.
-use Rattle.std.specs.Prelude.{◌≡◌, ◌≢◌, ℕ, ◌==◌, Bool, true, false, not, ◌&&◌, ◌||◌, nat_le, Option, Some, None, option_map, List, [], ◌∷◌, ◌++◌, if◌then◌else◌}
+use Rattle.std.specs.Prelude.{◌≡◌, ◌≢◌, ◌⊎◌, ℕ, ◌==◌, ◌≤◌, Bool, true, false, not, ◌&&◌, ◌||◌, nat_le, Option, Some, None, option_map, List, [], ◌∷◌, ◌++◌, if◌then◌else◌}
 use Rattle.std.proofs.Math.Dec.{lit≤}
 use Rattle.std.specs.List.{list_any, filter_map, AllByRecursion}
 use Rattle.std.specs.FinMap.{entries}
 use Rattle.fl_ranges.specs.declared.lock.Key.{Key}
 use Rattle.fl_ranges.specs.declared.lock.Kind.{Kind}
+use Rattle.fl_ranges.specs.declared.lock.Kind.TheVariants.{Write}
 use Rattle.fl_ranges.specs.declared.lock.Mark.{Mark}
 use Rattle.fl_ranges.specs.Marking.{Marking, Spot, Stroke}
 use Rattle.fl_ranges.specs.Conflict.{conflicts, excludes, excludes_lock, are_rivals}
@@ -56,6 +57,14 @@ standard = record {
 abbrev pub goes_first : Wish → Wish → Bool
 goes_first w older =
     are_rivals w.key older.key && ((nat_le older.start w.end && nat_le w.start older.end) && excludes w.kind older.kind)
+
+-- the same in words, where each is for some bytes
+pub record GoesFirst (w older : Wish) : Type 0 where
+  pub byte : ℕ
+  pub other : older.key.owner ≢ w.key.owner
+  pub file : (older.key.class ≡ w.key.class) × (older.key.node ≡ w.key.node)
+  pub common : ((older.start ≤ byte) × (byte ≤ older.end)) × ((w.start ≤ byte) × (byte ≤ w.end))
+  pub write : (w.kind ≡ Write) ⊎ (older.kind ≡ Write)
 
 -- under fair rules one of these older wishes, of an owner who passes the test, goes before this one
 abbrev pub goes_before : Rules → (ℕ → Bool) → List Wish → Wish → Bool

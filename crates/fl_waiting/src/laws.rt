@@ -1,9 +1,9 @@
 //! Laws of the definitions, in the words of their subject. Each is the contract of an empty function.
 
-ghost use Rattle.std.specs.Prelude.{◌≡◌, ◌↔◌, ℕ, true, List};
+ghost use Rattle.std.specs.Prelude.{◌≡◌, ◌↔◌, ◌≤◌, ℕ, true, List};
 ghost use Rattle.fl_waiting.specs.Circle.{waiter_of, hinders, waiters, behind, closes_circle, is_deadlock, IsCircle, ClosesCircle};
 ghost use Rattle.fl_waiting.specs.LockRequest.{mark_of, stroke_of};
-ghost use Rattle.fl_waiting.specs.Waiting.{Wish, wishes, keeps_waiting, anyone, only};
+ghost use Rattle.fl_waiting.specs.Waiting.{Wish, wishes, goes_first, GoesFirst, keeps_waiting, anyone, only};
 ghost use Rattle.fl_waiting.specs.declared.parked.Request.{Request};
 ghost use Rattle.fl_waiting.specs.declared.rules.Rules.{Rules};
 ghost use Rattle.fl_ranges.specs.Marking.{Marking};
@@ -19,4 +19,11 @@ pub fn a_circle_is_a_row_of_owners_who_wait()
         ↔ IsCircle waiter_of (hinders rules m) (waiters parked) (behind (wishes parked) w) }
     ensures request { (rules : Rules) (m : Marking) (parked : List Request) (r : Request) →
         (is_deadlock rules m parked (stroke_of r.node r.ask) (mark_of r.ask) ≡ true) ↔ ClosesCircle rules m parked r }
+{}
+
+/// An older request for a lock goes first exactly where another owner has asked, for the same class and node, with a byte in
+/// common, and one of the two asks for a write lock.
+pub fn an_older_request_goes_first_where_locks_conflict()
+    ensures { (w older : Wish) → w.start ≤ w.end → older.start ≤ older.end →
+        (goes_first w older ≡ true) ↔ GoesFirst w older }
 {}

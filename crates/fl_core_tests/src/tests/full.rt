@@ -2,6 +2,7 @@
 
 use super::orders::{self, DONE, name};
 use super::{Server, told};
+use fl_core::Rules;
 use fl_order::{Answer, Attr, Errno, LockAsk, Name, Op, Order, Told};
 use std::alloc::Global;
 use std::process::Abort;
@@ -71,11 +72,16 @@ tell 263 made 258 33188 1 0 0 258
 
 // Node 2 is open as fh 1.
 fn with_one_file(rt: &impl Abort, alloc: Global) -> Server {
+    with_one_file_under(rt, alloc, Rules::standard())
+}
+
+// The same by these rules.
+pub(super) fn with_one_file_under(rt: &impl Abort, alloc: Global, rules: Rules) -> Server {
     let orders = "\
 ask 0 1 1 0 0 0 create 0 420 61
 tell 1 made 2 33188 1 0 0 1
 ";
-    let mut server = Server::new(rt, alloc);
+    let mut server = Server::under(rt, alloc, rules);
     server.goes_on(rt, alloc, orders);
     server
 }
@@ -167,7 +173,7 @@ ask 0 263 2 0 0 0 setlkw 1 2000 0 0 1 12 0
 }
 
 // Owner 7 gets the run of a number, of three bytes. A free byte lies behind it.
-fn add_run(rt: &impl Abort, server: &mut Server, number: u64) {
+pub(super) fn add_run(rt: &impl Abort, server: &mut Server, number: u64) {
     let start = number.wrapping_mul(4);
     let asked = write(7, start, start.wrapping_add(2), 11);
     let unique = number.wrapping_add(2);

@@ -7,7 +7,7 @@ use std::alloc::Global;
 use std::process::Abort;
 
 // The owner waits for a read lock of byte 0 of node 2, with the unique of its number.
-fn park(rt: &impl Abort, server: &mut Server, owner: u64) {
+pub(super) fn park(rt: &impl Abort, server: &mut Server, owner: u64) {
     server.is_silent(rt, &order(owner, 2, wait(1, owner, 0, READ)));
 }
 
@@ -28,12 +28,12 @@ tell 2 ok
 }
 
 // Owner 7 gives its lock back.
-fn unlocked(unique: u64) -> Order {
+pub(super) fn unlocked(unique: u64) -> Order {
     order(unique, 2, lock(1, 7, 0, UNLOCK))
 }
 
 // The uniques from the first to before the end are told that they are done.
-fn add_done(rt: &impl Abort, tolds: &mut Vec<Told>, first: u64, end: u64) {
+pub(super) fn add_done(rt: &impl Abort, tolds: &mut Vec<Told>, first: u64, end: u64) {
     for unique in first..end {
         tolds.push(told(unique, DONE)).expect(rt, "no memory");
     }
