@@ -139,12 +139,6 @@ quiet_else lines now r (Some n) true same e is d = absurd (cc is)
 quiet_else lines now r (Some n) false same e is d =
     (λ never. absurd (cc never), λ so. absurd (differs r.core.rules lines n d (subst Begins (sym same) so.0)))
 
--- the same rules, and one line more
-pub seen_more : (before after : Replay) (lines new : List Line) (l : Line) (old : Hearing) → seen before lines ≡ old
-    → after.core.rules ≡ before.core.rules → new ≡ lines ++ l ∷ [] → seen after new ≡ record old { lines = old.lines ++ l ∷ [] }
-seen_more before after lines new l old is rules lines_are =
-    (λ i. record { rules = rules i; lines = lines_are i }) ∙ ap (λ (h : Hearing). record h { lines = h.lines ++ l ∷ [] }) is
-
 counted : (heard : ℕ) (lines : List Line) (l : Line) → heard ≡ length lines → heard + 1 ≡ length (lines ++ l ∷ [])
 counted heard lines l e = omega (arith, e, length-append lines (l ∷ []))
 
