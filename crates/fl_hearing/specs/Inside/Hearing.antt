@@ -1,5 +1,5 @@
 -- The reader of a session with workers, while it is under way.
-use Rattle.std.specs.Prelude.{◌≡◌, ℕ, true, false, List, [], ◌∷◌, ◌++◌, Option}
+use Rattle.std.specs.Prelude.{◌≡◌, ℕ, true, List, [], ◌∷◌, ◌++◌, Option}
 use Rattle.fl_hearing.specs.Heard.{IsLast}
 use Rattle.fl_hearing.specs.Said.{said_in}
 use Rattle.fl_waiting.specs.declared.rules.Rules.{Rules}
