@@ -3,6 +3,7 @@
 mod plain;
 mod plain_circles;
 mod plain_locks;
+mod plain_room;
 mod random;
 mod waiting_random;
 

@@ -1,9 +1,8 @@
-//! A plain program of locks and of waiting: marks stand in a grid of bytes, and parked requests in a list. It has no
-//! limits.
+//! A plain program of locks and of waiting: marks stand in a grid of bytes, and parked requests in a list.
 
 use super::plain::Plain;
 use super::{READ, Reply, UNLOCK, WRITE};
-use fl_core::Request;
+use fl_core::{Request, Rules};
 use fl_order::{Answer, Errno, LockAsk, Op, Order, Told};
 use std::alloc::Global;
 use std::process::Abort;
@@ -17,10 +16,10 @@ pub(super) const LAST: u64 = 9_223_372_036_854_775_807;
 pub(super) const OWNERS: u64 = 4;
 
 // Two classes, two files, the owners, and the bytes.
-const PLACES: usize = 2 * 2 * 4 * 11;
+pub(super) const PLACES: usize = 2 * 2 * 4 * 11;
 
 #[derive(Clone, Copy, PartialEq, Eq)]
-struct Mark {
+pub(super) struct Mark {
     kind: u32,
     pid: u32,
 }
@@ -44,13 +43,16 @@ pub(super) struct Counts {
     pub(super) deadlocks: u64,
     // Those in which no owner in the way waits for the one who asks but through others.
     pub(super) long_deadlocks: u64,
+    // Those that were refused for want of room: for a run, or for a request that waits.
+    pub(super) without_run: u64,
+    pub(super) without_place: u64,
 }
 
 #[derive(Drop)]
 pub(super) struct PlainLocks {
-    fair: bool,
+    pub(super) rules: Rules,
     pub(super) directory: Plain,
-    marks: [Option<Mark>; PLACES],
+    pub(super) marks: [Option<Mark>; PLACES],
     pub(super) parked: Vec<Request>,
     pub(super) tolds: Vec<Told>,
     pub(super) counts: Counts,
@@ -112,9 +114,9 @@ fn unlock_all(node: u64, owner: u64, flags: u32) -> Request {
 }
 
 impl PlainLocks {
-    pub(super) fn new(alloc: Global, fair: bool) -> PlainLocks {
+    pub(super) fn new(alloc: Global, rules: Rules) -> PlainLocks {
         PlainLocks {
-            fair,
+            rules,
             directory: Plain::new(alloc),
             marks: [None; PLACES],
             parked: Vec::new(alloc),
@@ -131,6 +133,8 @@ impl PlainLocks {
                 refused: 0,
                 deadlocks: 0,
                 long_deadlocks: 0,
+                without_run: 0,
+                without_place: 0,
             },
         }
     }
@@ -159,7 +163,7 @@ impl PlainLocks {
         }
     }
 
-    fn tell(&mut self, rt: &impl Abort, unique: u64, reply: Reply) {
+    pub(super) fn tell(&mut self, rt: &impl Abort, unique: u64, reply: Reply) {
         let told = Told {
             unique,
             result: reply,
@@ -225,7 +229,7 @@ impl PlainLocks {
     fn is_behind(&self, request: &Request, place: usize, owner: Option<u64>) -> bool {
         for (at, older) in self.parked.iter().enumerate() {
             let named = owner.is_none_or(|owner| owner == older.ask.owner);
-            if self.fair && at < place && named && goes_first(request, older) {
+            if self.rules.fair && at < place && named && goes_first(request, older) {
                 return true;
             }
         }
@@ -266,7 +270,7 @@ impl PlainLocks {
     }
 
     // Sets a lock, or takes it away.
-    fn set(&mut self, request: &Request) {
+    pub(super) fn set(&mut self, request: &Request) {
         let ask = &request.ask;
         let mark = match ask.kind {
             UNLOCK => None,
@@ -297,12 +301,13 @@ impl PlainLocks {
         } else if !self.is_excluded(request)
             && !(may_wait && self.must_wait(request, self.parked.len()))
         {
-            self.set(request);
-            self.tell(rt, unique, Ok(Answer::Done));
+            self.set_in_room(rt, request);
         } else if !may_wait {
             self.tell(rt, unique, Err(Errno::EAGAIN));
         } else if self.closes_circle(request) {
             self.refuse_deadlock(rt, request);
+        } else if self.is_full() {
+            self.refuse_place(rt, request);
         } else {
             self.park(rt, request);
         }
@@ -457,8 +462,7 @@ impl PlainLocks {
 
     fn grant(&mut self, rt: &impl Abort, request: &Request) {
         self.take_out(request.unique);
-        self.set(request);
-        self.tell(rt, request.unique, Ok(Answer::Done));
+        self.set_in_room(rt, request);
         self.counts.granted = self.counts.granted.saturating_add(1);
     }
 

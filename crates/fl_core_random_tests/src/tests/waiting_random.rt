@@ -190,7 +190,7 @@ fn random_order(numbers: &mut Numbers, plain: &PlainLocks, turn: u64) -> Order {
 // Two files, and so many orders. It gives what the plain program counted.
 fn run(rt: &impl Abort, alloc: Global, rules: Rules, seed: u64, turns: u64) -> Counts {
     let mut server = Server::new(rt, alloc, rules);
-    let mut plain = PlainLocks::new(alloc, rules.fair);
+    let mut plain = PlainLocks::new(alloc, rules);
     make_files(rt, &mut server, &mut plain);
     take_turns(rt, &mut server, &mut plain, seed, turns);
     check_uniques(rt, &server.core, &plain, turns);
@@ -321,4 +321,21 @@ fn waits_as_a_plain_program_does_by_fair_rules_and_other_numbers(rt: HostRuntime
 #[test]
 fn waits_as_a_plain_program_does_by_other_numbers(rt: HostRuntime) {
     run_all(&rt, rt.alloc(), 4, 8);
+}
+
+// Few runs and few requests that wait are allowed, so that many are refused for want of room.
+fn run_limited(rt: &impl Abort, alloc: Global, rules: Rules, first: u64, end: u64) {
+    for seed in first..end {
+        let counts = run(rt, alloc, rules, seed, 3000);
+        check_more(rt, counts.without_run, 20, "found no room for a run");
+        check_more(rt, counts.without_place, 20, "found no place to wait");
+        check_more(rt, counts.granted, 20, "were granted");
+    }
+}
+
+#[test]
+fn refuses_as_a_plain_program_does_where_little_is_allowed(rt: HostRuntime) {
+    let rules = Rules::standard().with_limits(8, 3).expect(&rt, "no rules");
+    run_limited(&rt, rt.alloc(), rules, 0, 3);
+    run_limited(&rt, rt.alloc(), rules.with_fair(true), 3, 6);
 }
