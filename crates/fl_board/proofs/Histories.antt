@@ -12,10 +12,12 @@ use Rattle.fl_desk.specs.Legal.{step_lines}
 use Rattle.fl_history.specs.declared.history.Line.{Line}
 use Rattle.fl_log.specs.declared.ask.Ask.{Ask}
 use Rattle.fl_order.specs.declared.order.Order.{Order}
+use Rattle.fl_waiting.specs.declared.rules.Rules.{Rules}
 
 -- one ask more
-pub present_more : (asks : List Ask) (ask : Ask) → present_after (asks ++ ask ∷ []) ≡ stepped (present_after asks) ask
-present_more asks ask = fold-append stepped (snapshot_of opening) asks (ask ∷ [])
+pub present_more : (rules : Rules) (asks : List Ask) (ask : Ask)
+    → present_after rules (asks ++ ask ∷ []) ≡ stepped (present_after rules asks) ask
+present_more rules asks ask = fold-append stepped (snapshot_of (opening rules)) asks (ask ∷ [])
 
 lines_append : (p : Snapshot) (xs ys : List Ask) → lines_from p (xs ++ ys) ≡ lines_from p xs ++ lines_from (fold stepped p xs) ys
 lines_append p [] ys = refl
@@ -23,13 +25,21 @@ lines_append p (x ∷ xs) ys =
     ap (λ l. lines_in p x ++ l) (lines_append (stepped p x) xs ys)
     ∙ sym (append_assoc (lines_in p x) (lines_from (stepped p x) xs) (lines_from (fold stepped (stepped p x) xs) ys))
 
-pub history_more : (asks : List Ask) (ask : Ask) → history_of (asks ++ ask ∷ []) ≡ history_of asks ++ lines_in (present_after asks) ask
-history_more asks ask =
-    lines_append (snapshot_of opening) asks (ask ∷ []) ∙ ap (λ l. history_of asks ++ l) (append-nil (lines_in (present_after asks) ask))
+pub history_more : (rules : Rules) (asks : List Ask) (ask : Ask)
+    → history_of rules (asks ++ ask ∷ []) ≡ history_of rules asks ++ lines_in (present_after rules asks) ask
+history_more rules asks ask =
+    lines_append (snapshot_of (opening rules)) asks (ask ∷ [])
+    ∙ ap (λ l. history_of rules asks ++ l) (append-nil (lines_in (present_after rules asks) ask))
 
 -- a beginning of the asks makes a beginning of the history
-pub history_begins : (xs ys : List Ask) → IsPrefix xs ys → IsPrefix (history_of xs) (history_of ys)
-history_begins xs ys p = (lines_from (present_after xs) p.0, sym (lines_append (snapshot_of opening) xs p.0) ∙ ap history_of p.1)
+pub history_begins : (rules : Rules) (xs ys : List Ask) → IsPrefix xs ys → IsPrefix (history_of rules xs) (history_of rules ys)
+history_begins rules xs ys p =
+    (lines_from (present_after rules xs) p.0, sym (lines_append (snapshot_of (opening rules)) xs p.0) ∙ ap (history_of rules) p.1)
+
+-- asks change no rules
+pub same_rules : (p : Snapshot) (asks : List Ask) → (fold stepped p asks).rules ≡ p.rules
+same_rules p [] = refl
+same_rules p (ask ∷ asks) = same_rules (stepped p ask) asks
 
 -- asks lead on
 pub asks_from : ((lines : List Line) (p : Snapshot) (worker : ℕ) (order : Order) → LeadsTo lines p

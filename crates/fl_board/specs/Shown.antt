@@ -11,13 +11,14 @@ use Rattle.fl_order.specs.declared.errno.Errno.{Errno}
 use Rattle.fl_order.specs.declared.order.Order.{Order}
 use Rattle.fl_order.specs.declared.told.Answer.{Answer}
 use Rattle.fl_order.specs.declared.told.Told.{Told}
+use Rattle.fl_waiting.specs.declared.rules.Rules.{Rules}
 
--- The order stands with these replies at the end of a legal history, behind all that the worker had handed in and was shown
--- before. One order more was handed in, and the history has as many of this worker at least.
-pub record IsHandedIn (old : Place) (order : Order) (tolds : List Told) (new : Place) : Type 0 where
+-- The order stands with these replies at the end of a history that is legal under these rules, behind all that the worker had
+-- handed in and was shown before. One order more was handed in, and the history has as many of this worker at least.
+pub record IsHandedIn (rules : Rules) (old : Place) (order : Order) (tolds : List Told) (new : Place) : Type 0 where
   pub before : List Line
   pub own : new.own ≡ before ++ step_lines old.worker order tolds
-  pub legal : IsLegal new.own
+  pub legal : IsLegal rules new.own
   pub had : IsPrefix old.own before
   pub saw : IsPrefix old.seen before
   pub seen : new.seen ≡ old.seen
@@ -30,17 +31,18 @@ pub record KeepsHanded (old new : Place) : Type 0 where
   pub count : new.count ≡ old.count
   pub own : new.own ≡ old.own
 
--- A legal history was shown, which begins with all that the worker had handed in and was shown before. The result is what the
--- order is answered there.
-pub record IsShown (old : Place) (order : Order) (result : Result Answer Errno) (new : Place) : Type 0 where
-  pub legal : IsLegal new.seen
+-- A history that is legal under these rules was shown, which begins with all that the worker had handed in and was shown before.
+-- The result is what the order is answered there.
+pub record IsShown (rules : Rules) (old : Place) (order : Order) (result : Result Answer Errno) (new : Place) : Type 0 where
+  pub legal : IsLegal rules new.seen
   pub had : IsPrefix old.own new.seen
   pub saw : IsPrefix old.seen new.seen
-  pub answer : replies_in (state_after new.seen) order ≡ own_replies order (Some result)
+  pub answer : replies_in (state_after rules new.seen) order ≡ own_replies order (Some result)
 
--- Two workers were shown one legal history, which begins with all that both had handed in and were shown before.
-pub record HaveMet (one other one_now other_now : Place) : Type 0 where
-  pub legal : IsLegal one_now.seen
+-- Two workers were shown one history that is legal under these rules, which begins with all that both had handed in and were
+-- shown before.
+pub record HaveMet (rules : Rules) (one other one_now other_now : Place) : Type 0 where
+  pub legal : IsLegal rules one_now.seen
   pub same : other_now.seen ≡ one_now.seen
   pub one_had : IsPrefix one.own one_now.seen
   pub one_saw : IsPrefix one.seen one_now.seen

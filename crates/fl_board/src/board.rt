@@ -6,11 +6,13 @@ ghost use Rattle.std.specs.List.{range_with_len};
 ghost use Rattle.fl_board.specs.Shown.{HasAllOf, HaveMet, IsHandedIn, IsShown, KeepsHanded};
 ghost use Rattle.fl_desk.specs.Legal.{IsLegal, orders_asked};
 ghost use Rattle.fl_order.specs.Order.{only_reads};
+ghost use Rattle.fl_waiting.specs.declared.rules.Rules.{Rules};
+ghost use Rattle.fl_waiting.specs.Waiting.{standard};
 
 use crate::publisher::Publisher;
 use crate::seat::{NoView, Seat};
 use crate::shared::{Shared, are_apart};
-use fl_core::Tolds;
+use fl_core::{Rules, Tolds};
 use fl_desk::Desk;
 use fl_history::{History, Lines};
 use fl_keeper::Keeper;
@@ -21,13 +23,18 @@ use std::marker::Brand;
 use std::sync::ledger::{Blank, Ledger, Share};
 use std::sync::{Mutex, Wait};
 
-/// The name of one board in contracts: a ledger with a part for each of its workers, and the log of its orders.
+/// The name of one board in contracts: a ledger with a part for each of its workers, the log of its orders, and by which rules
+/// requests wait there.
 pub trait BoardName: Ledger + LogName {
     ghost workers: { ℕ };
+
+    ghost rules: { Rules };
 }
 
 impl BoardName for Brand {
     ghost workers = { 0 };
+
+    ghost rules = { standard };
 }
 
 /// A board of 1 to 16 workers, whose lines go to a keeper: they stay in memory, if nothing else is said.
@@ -90,7 +97,8 @@ impl From<AllocError> for OpenFault {
 
 impl<L: BoardName, R: Wait + Drop, K: Keeper> Board<L, R, K> {
     /// A board whose lines go to this keeper, which has none so far, and a seat for each of 1 to 16 workers: the seat at
-    /// place i is worker i's. `rt` waits for readers. Where it is refused, the keeper is let go.
+    /// place i is worker i's. `rt` waits for readers. Requests will wait by these rules. Where it is refused, the keeper is let
+    /// go.
     pub fn over(
         alloc: Global,
         rt: R,
@@ -98,6 +106,7 @@ impl<L: BoardName, R: Wait + Drop, K: Keeper> Board<L, R, K> {
         blank: Blank,
         log: FreshLog,
         workers: u32,
+        rules: Rules,
     ) -> Result<(Board<L, R, K>, Vec<Seat<L>>), OpenFault>
     where
         K: Drop,
@@ -106,16 +115,17 @@ impl<L: BoardName, R: Wait + Drop, K: Keeper> Board<L, R, K> {
         requires log { log ≡ L.log }
         requires parts { (workers ≡ L.parts) × (L.workers ≡ L.parts) }
         requires workers { (0 < workers) × (workers ≤ 16) }
+        requires rules { rules ≡ L.rules }
         ensures workers { IfOk result (λ made. map (λ seat. seat.worker) made.1.items ≡ range_with_len 0 workers) }
         ensures fresh { IfOk result (λ made.
             All (λ seat. (seat.count ≡ 0) × (seat.own ≡ []) × (seat.seen ≡ [])) made.1.items) }
     {
         let (log, none) = log.named::<L>();
-        let publisher = Publisher::new(alloc, rt, &none, workers as usize)?;
+        let publisher = Publisher::new(alloc, rt, &none, workers as usize, rules)?;
         let (book, rest) = blank.open::<L>();
         let seats = seats_of(alloc, &publisher, &none, rest, workers)?;
         let shared = Shared {
-            desk: Desk::over(alloc, kept)?,
+            desk: Desk::over(alloc, kept, rules)?,
             book,
             log,
             all: none,
@@ -138,7 +148,7 @@ impl<L: BoardName, R: Wait + Drop, K: Keeper> Board<L, R, K> {
         tolds: &mut Tolds,
     ) -> Result<(), HandFault>
         ensures worker { seat.new.worker ≡ seat.old.worker }
-        ensures handed { OnOk result (IsHandedIn seat.old order.now tolds.new seat.new) }
+        ensures handed { OnOk result (IsHandedIn L.rules seat.old order.now tolds.new seat.new) }
         ensures refused { OnErr result ((seat.new ≡ seat.old) × (tolds.new ≡ tolds.old)) }
     {
         let mut shared = self.shared.lock(rt);
@@ -149,7 +159,7 @@ impl<L: BoardName, R: Wait + Drop, K: Keeper> Board<L, R, K> {
     pub fn look(&self, seat: &mut Seat<L>, order: &Order) -> Result<Result<Answer, Errno>, NoView>
         requires { only_reads order.now.op ≡ true }
         ensures same { KeepsHanded seat.old seat.new }
-        ensures shown { IfOk result (λ answer. IsShown seat.old order.now answer seat.new) }
+        ensures shown { IfOk result (λ answer. IsShown L.rules seat.old order.now answer seat.new) }
         ensures refused { OnErr result (seat.new ≡ seat.old) }
     {
         seat.look(order)
@@ -164,7 +174,7 @@ impl<L: BoardName, R: Wait + Drop, K: Keeper> Board<L, R, K> {
     ) -> Result<(), NoView>
         ensures one { KeepsHanded one.old one.new }
         ensures other { KeepsHanded other.old other.new }
-        ensures met { OnOk result (HaveMet one.old other.old one.new other.new) }
+        ensures met { OnOk result (HaveMet L.rules one.old other.old one.new other.new) }
         ensures refused { OnErr result ((one.new ≡ one.old) × (other.new ≡ other.old)) }
     {
         let shared = self.shared.lock(rt);
@@ -177,11 +187,12 @@ impl<L: BoardName, R: Wait + Drop, K: Keeper> Board<L, R, K> {
         shared.pause();
     }
 
-    /// The keeper of its lines, which are the history of all that was handed in, where no seat is missing. It begins with all
-    /// that was handed in and shown through each seat, and has as many orders of each worker as its seat's count.
+    /// The keeper of its lines, which are the history of all that was handed in, where no seat is missing. It is legal under the
+    /// board's rules, begins with all that was handed in and shown through each seat, and has as many orders of each worker as
+    /// its seat's count.
     pub fn into_kept(self, seats: Vec<Seat<L>>) -> Result<K, CloseFault<L, R, K>>
         requires { L.workers ≡ L.parts }
-        ensures legal { IfOk result (λ kept. IsLegal (K.lines kept)) }
+        ensures legal { IfOk result (λ kept. IsLegal L.rules (K.lines kept)) }
         ensures counted { IfOk result (λ kept. orders_asked (K.lines kept) ≡ sum_by (λ seat. seat.count) seats.items) }
         ensures each { IfOk result (λ kept. All (λ seat. HasAllOf (K.lines kept) seat) seats.items) }
         ensures not_all { (result ≡ Err (CloseFault.NotAll self seats)) ↔ (length seats.items < L.workers) }
@@ -208,30 +219,33 @@ impl<L: BoardName, R: Wait + Drop, K: Keeper> Board<L, R, K> {
 }
 
 impl<L: BoardName, R: Wait + Drop> Board<L, R> {
-    /// A board, and a seat for each of 1 to 16 workers: the seat at place i is worker i's. `rt` waits for readers.
+    /// A board, and a seat for each of 1 to 16 workers: the seat at place i is worker i's. `rt` waits for readers. Requests will
+    /// wait by these rules.
     pub fn new(
         alloc: Global,
         rt: R,
         blank: Blank,
         log: FreshLog,
         workers: u32,
+        rules: Rules,
     ) -> Result<(Board<L, R>, Vec<Seat<L>>), OpenFault>
         requires named { (blank.name ≡ L.name) × (blank.parts ≡ L.parts) }
         requires log { log ≡ L.log }
         requires parts { (workers ≡ L.parts) × (L.workers ≡ L.parts) }
         requires workers { (0 < workers) × (workers ≤ 16) }
+        requires rules { rules ≡ L.rules }
         ensures workers { IfOk result (λ made. map (λ seat. seat.worker) made.1.items ≡ range_with_len 0 workers) }
         ensures fresh { IfOk result (λ made.
             All (λ seat. (seat.count ≡ 0) × (seat.own ≡ []) × (seat.seen ≡ [])) made.1.items) }
     {
-        Board::over(alloc, rt, Lines::new(alloc), blank, log, workers)
+        Board::over(alloc, rt, Lines::new(alloc), blank, log, workers, rules)
     }
 
-    /// The history of all that was handed in, where no seat is missing. It begins with all that was handed in and shown
-    /// through each seat, and has as many orders of each worker as its seat's count.
+    /// The history of all that was handed in, where no seat is missing. It is legal under the board's rules, begins with all that
+    /// was handed in and shown through each seat, and has as many orders of each worker as its seat's count.
     pub fn close(self, seats: Vec<Seat<L>>) -> Result<History, CloseFault<L, R>>
         requires { L.workers ≡ L.parts }
-        ensures legal { IfOk result IsLegal }
+        ensures legal { IfOk result (IsLegal L.rules) }
         ensures counted { IfOk result (λ history. orders_asked history ≡ sum_by (λ seat. seat.count) seats.items) }
         ensures each { IfOk result (λ history. All (λ seat. HasAllOf history seat) seats.items) }
         ensures not_all { (result ≡ Err (CloseFault.NotAll self seats)) ↔ (length seats.items < L.workers) }

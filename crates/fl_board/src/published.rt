@@ -6,8 +6,9 @@ ghost use Rattle.fl_core.specs.Replies.{own_replies};
 ghost use Rattle.fl_core.specs.Step.{next, replies};
 ghost use Rattle.fl_order.specs.Order.{only_reads};
 
-use fl_core::{Core, Tolds};
-use fl_log::{Beginning, LogName};
+use crate::board::BoardName;
+use fl_core::{Core, Rules, Tolds};
+use fl_log::Beginning;
 use fl_order::{Answer, Errno, NoMemory, Order};
 use left_right::{Absorb, ReadHandle};
 use std::alloc::{AllocError, Global};
@@ -15,13 +16,13 @@ use std::marker::Model;
 
 /// An order, with the beginnings of the log before it and with it.
 #[derive(Drop)]
-pub struct Update<L: LogName> {
+pub struct Update<L: BoardName> {
     order: Order,
     before: Beginning<L>,
     after: Beginning<L>,
 }
 
-impl<L: LogName> Model for Update<L> {
+impl<L: BoardName> Model for Update<L> {
     ghost use Rattle.std.specs.Prelude.{◌≡◌};
     ghost use Rattle.fl_board.specs.Inside.Asks.{present_after};
     ghost use Rattle.fl_board.specs.Inside.Updates.{Extension};
@@ -31,12 +32,12 @@ impl<L: LogName> Model for Update<L> {
 
     ghost view = { λ u. record { order = u.order; before = u.before; after = u.after } };
 
-    ghost invariant = { λ u. present_after u.after ≡ next (present_after u.before) u.order };
+    ghost invariant = { λ u. present_after L.rules u.after ≡ next (present_after L.rules u.before) u.order };
 }
 
-impl<L: LogName> Update<L> {
+impl<L: BoardName> Update<L> {
     pub(crate) fn new(order: Order, before: Beginning<L>, after: Beginning<L>) -> Update<L>
-        requires { present_after after ≡ next (present_after before) order }
+        requires { present_after L.rules after ≡ next (present_after L.rules before) order }
         ensures { (result.before ≡ before) × (result.after ≡ after) × (result.order ≡ order) }
     {
         Update {
@@ -49,14 +50,14 @@ impl<L: LogName> Update<L> {
 
 /// A copy of the directory. Contracts see it as the asks that led to it.
 #[derive(Drop)]
-pub struct Published<L: LogName> {
+pub struct Published<L: BoardName> {
     core: Core,
     asks: Beginning<L>,
     // Room for the replies of an order that it takes.
     tolds: Tolds,
 }
 
-impl<L: LogName> Model for Published<L> {
+impl<L: BoardName> Model for Published<L> {
     ghost use Rattle.std.specs.Prelude.{◌≡◌, List};
     ghost use Rattle.fl_board.specs.Inside.Asks.{present_after};
     ghost use Rattle.fl_log.specs.declared.ask.Ask.{Ask};
@@ -65,17 +66,22 @@ impl<L: LogName> Model for Published<L> {
 
     ghost view = { λ p. p.asks };
 
-    ghost invariant = { λ p. p.core ≡ present_after p.asks };
+    ghost invariant = { λ p. p.core ≡ present_after L.rules p.asks };
 }
 
-impl<L: LogName> Published<L> {
-    /// The directory as it opens.
-    pub(crate) fn new(alloc: Global, none: &Beginning<L>) -> Result<Published<L>, NoMemory>
-        requires { none.now ≡ [] }
+impl<L: BoardName> Published<L> {
+    /// The directory as it opens, under these rules.
+    pub(crate) fn new(
+        alloc: Global,
+        none: &Beginning<L>,
+        rules: Rules,
+    ) -> Result<Published<L>, NoMemory>
+        requires none { none.now ≡ [] }
+        requires rules { rules ≡ L.rules }
         ensures { IfOk result (λ published. published ≡ []) }
     {
         Ok(Published {
-            core: Core::new(alloc)?,
+            core: Core::new(alloc, rules)?,
             asks: none.again(),
             tolds: Tolds::new(alloc)?,
         })
@@ -91,13 +97,13 @@ impl<L: LogName> Published<L> {
     // What an order that only reads is answered.
     fn answer(&self, order: &Order) -> Option<Result<Answer, Errno>>
         ensures reads { IsSome result ↔ (only_reads order.now.op ≡ true) }
-        ensures replies { IsSome result → replies (present_after self.now) order.now ≡ own_replies order.now result }
+        ensures replies { IsSome result → replies (present_after L.rules self.now) order.now ≡ own_replies order.now result }
     {
         self.core.answer(order)
     }
 }
 
-impl<L: LogName> Absorb<Update<L>> for Published<L> {
+impl<L: BoardName> Absorb<Update<L>> for Published<L> {
     ghost use Rattle.fl_board.specs.Inside.Updates.{extended};
 
     type State = Beginning<L>;
@@ -123,12 +129,13 @@ impl<L: LogName> Absorb<Update<L>> for Published<L> {
 
 /// What an order that only reads is answered by what is published, and the asks that led to that. None where no copy could be
 /// entered.
-pub(crate) fn glance<L: LogName>(
+pub(crate) fn glance<L: BoardName>(
     reader: &mut ReadHandle<Published<L>>,
     order: &Order,
 ) -> Option<(Beginning<L>, Result<Answer, Errno>)>
     requires { only_reads order.now.op ≡ true }
-    ensures { IfSome result (λ shown. replies (present_after shown.0) order.now ≡ own_replies order.now (Some shown.1)) }
+    ensures { IfSome result (λ shown.
+        replies (present_after L.rules shown.0) order.now ≡ own_replies order.now (Some shown.1)) }
 {
     let guard = reader.enter()?;
     let published: &Published<L> = &guard;

@@ -3,8 +3,10 @@
 ghost use Rattle.std.specs.Prelude.{◌≡◌, ◌<◌, ◌^◌, [], IfOk, MatchResult};
 ghost use Rattle.fl_board.specs.Inside.Asks.{present_after};
 
+use crate::board::BoardName;
 use crate::published::{Published, Update};
-use fl_log::{Beginning, LogName};
+use fl_core::Rules;
+use fl_log::Beginning;
 use fl_order::{NoMemory, Op, Order};
 use left_right::{Absorb, ReadHandle, WriteHandle};
 use std::alloc::{AllocError, Global};
@@ -12,14 +14,14 @@ use std::marker::Model;
 use std::sync::Wait;
 
 /// The writer. Contracts see it as the asks that lead to what is published, once all that waits is.
-pub(crate) struct Publisher<L: LogName, R: Wait + Drop>
+pub(crate) struct Publisher<L: BoardName, R: Wait + Drop>
 where
     Published<L>: Absorb<Update<L>, State = Beginning<L>>,
 {
     writer: WriteHandle<Published<L>, Update<L>, R>,
 }
 
-impl<L: LogName, R: Wait + Drop> Model for Publisher<L, R>
+impl<L: BoardName, R: Wait + Drop> Model for Publisher<L, R>
 where
     Published<L>: Absorb<Update<L>, State = Beginning<L>>,
 {
@@ -33,26 +35,28 @@ where
     ghost view = { λ p. in_the_end (published p.writer) (pending p.writer) };
 }
 
-impl<L: LogName, R: Wait + Drop> Drop for Publisher<L, R> {
+impl<L: BoardName, R: Wait + Drop> Drop for Publisher<L, R> {
     fn drop(self) {
         let Self { writer: _writer } = self;
     }
 }
 
-impl<L: LogName, R: Wait + Drop> Publisher<L, R> {
-    /// A writer of the directory as it opens, with a place for so many readers.
+impl<L: BoardName, R: Wait + Drop> Publisher<L, R> {
+    /// A writer of the directory as it opens under these rules, with a place for so many readers.
     pub(crate) fn new(
         alloc: Global,
         rt: R,
         none: &Beginning<L>,
         readers: usize,
+        rules: Rules,
     ) -> Result<Publisher<L, R>, NoMemory>
         requires none { none.now ≡ [] }
         requires readers { (0 < readers) × (readers < 2 ^ 32) }
+        requires rules { rules ≡ L.rules }
         ensures { IfOk result (λ publisher. publisher ≡ []) }
     {
-        let first = Published::new(alloc, none)?;
-        let second = Published::new(alloc, none)?;
+        let first = Published::new(alloc, none, rules)?;
+        let second = Published::new(alloc, none, rules)?;
         let mut publisher = Publisher {
             writer: WriteHandle::new(alloc, rt, first, second, readers)?,
         };
@@ -86,7 +90,7 @@ impl<L: LogName, R: Wait + Drop> Publisher<L, R> {
 }
 
 // An update that changes nothing: it asks for the root's attributes.
-fn nothing<L: LogName>(none: &Beginning<L>) -> Update<L>
+fn nothing<L: BoardName>(none: &Beginning<L>) -> Update<L>
     requires { none.now ≡ [] }
     ensures { (result.before ≡ []) × (result.after ≡ []) }
 {

@@ -40,11 +40,11 @@ impl<L: BoardName> Model for Seat<L> {
     ghost view = { λ s. record {
       worker = s.worker;
       count = s.share.amount;
-      own = history_of s.own;
-      seen = history_of s.seen;
+      own = history_of L.rules s.own;
+      seen = history_of L.rules s.seen;
     } };
 
-    ghost invariant = { λ s. (s.share.parts ≡ 1) × (s.share.amount ≤ orders_by s.worker (history_of s.own)) };
+    ghost invariant = { λ s. (s.share.parts ≡ 1) × (s.share.amount ≤ orders_by s.worker (history_of L.rules s.own)) };
 }
 
 impl<L: BoardName> Seat<L> {
@@ -60,7 +60,7 @@ impl<L: BoardName> Seat<L> {
     pub fn look(&mut self, order: &Order) -> Result<Result<Answer, Errno>, NoView>
         requires { only_reads order.now.op ≡ true }
         ensures same { KeepsHanded self.old self.new }
-        ensures shown { IfOk result (λ answer. IsShown self.old order.now answer self.new) }
+        ensures shown { IfOk result (λ answer. IsShown L.rules self.old order.now answer self.new) }
         ensures refused { OnErr result (self.new ≡ self.old) }
     {
         asks_lead();
@@ -76,7 +76,7 @@ impl<L: BoardName> Seat<L> {
 
     // Whether a history begins with all that was handed in and shown through it.
     pub(crate) fn begins(&self, asks: &Beginning<L>) -> bool
-        ensures { result ≡ true → HasMostOf (history_of asks.now) self.now }
+        ensures { result ≡ true → HasMostOf (history_of L.rules asks.now) self.now }
     {
         self.own.begins(asks) && self.seen.begins(asks)
     }

@@ -40,8 +40,8 @@ impl<L: BoardName, R: Wait + Drop, K: Keeper> Model for Shared<L, R, K> {
 
     ghost view = { λ s. s.all };
 
-    ghost invariant = { λ s. (s.publisher ≡ s.all) × (s.desk.lines ≡ history_of s.all)
-        × (s.desk.present ≡ present_after s.all) × (s.book.total ≡ orders_asked s.desk.lines) };
+    ghost invariant = { λ s. (s.publisher ≡ s.all) × (s.desk.lines ≡ history_of L.rules s.all)
+        × (s.desk.present ≡ present_after L.rules s.all) × (s.book.total ≡ orders_asked s.desk.lines) };
 }
 
 impl<L: BoardName, R: Wait + Drop, K: Keeper> Shared<L, R, K> {
@@ -53,8 +53,8 @@ impl<L: BoardName, R: Wait + Drop, K: Keeper> Shared<L, R, K> {
         tolds: &mut Tolds,
     ) -> Result<(), HandFault>
         ensures worker { seat.new.worker ≡ seat.old.worker }
-        ensures handed { OnOk result (IsHandedIn seat.old order.now tolds.new seat.new) }
-        ensures all { OnOk result (history_of self.new ≡ seat.new.own) }
+        ensures handed { OnOk result (IsHandedIn L.rules seat.old order.now tolds.new seat.new) }
+        ensures all { OnOk result (history_of L.rules self.new ≡ seat.new.own) }
         ensures refused { OnErr result ((seat.new ≡ seat.old) × (tolds.new ≡ tolds.old) × (self.new ≡ self.old)) }
     {
         let Shared {
@@ -97,7 +97,7 @@ impl<L: BoardName, R: Wait + Drop, K: Keeper> Shared<L, R, K> {
     pub(crate) fn meet(&self, one: &mut Seat<L>, other: &mut Seat<L>) -> Result<(), NoView>
         ensures one { KeepsHanded one.old one.new }
         ensures other { KeepsHanded other.old other.new }
-        ensures met { OnOk result (HaveMet one.old other.old one.new other.new) }
+        ensures met { OnOk result (HaveMet L.rules one.old other.old one.new other.new) }
         ensures refused { OnErr result ((one.new ≡ one.old) × (other.new ≡ other.old)) }
     {
         asks_lead();
@@ -111,7 +111,7 @@ impl<L: BoardName, R: Wait + Drop, K: Keeper> Shared<L, R, K> {
 
     /// Whether the history begins with all that was handed in and shown through each seat.
     pub(crate) fn begins_with(&self, seats: &[Seat<L>]) -> bool
-        ensures { result ≡ true → All (λ seat. HasMostOf (history_of self.now) seat) seats.now }
+        ensures { result ≡ true → All (λ seat. HasMostOf (history_of L.rules self.now) seat) seats.now }
     {
         for seat in seats {
             if !seat.begins(&self.all) {
@@ -131,8 +131,8 @@ impl<L: BoardName, R: Wait + Drop, K: Keeper> Shared<L, R, K> {
     /// The desk's keeper, for the whole of the ledger.
     pub(crate) fn into_kept(self, whole: &mut Share<L>) -> K
         requires { whole.old.parts ≡ L.parts }
-        ensures lines { K.lines result ≡ history_of self }
-        ensures legal { IsLegal (K.lines result) }
+        ensures lines { K.lines result ≡ history_of L.rules self }
+        ensures legal { IsLegal L.rules (K.lines result) }
         ensures counted { orders_asked (K.lines result) ≡ whole.old.amount }
     {
         let Shared {
@@ -142,6 +142,7 @@ impl<L: BoardName, R: Wait + Drop, K: Keeper> Shared<L, R, K> {
             all: _all,
             publisher: _publisher,
         } = self;
+        asks_lead();
         book.audit(whole);
         desk.into_kept()
     }

@@ -9,7 +9,7 @@ ghost use Rattle.fl_order.specs.Order.{only_reads};
 mod threads;
 
 use fl_book::Desk;
-use fl_core::{Core, Tolds};
+use fl_core::{Core, Rules, Tolds};
 use fl_order::{LockAsk, Name, Op, Order};
 use std::alloc::Global;
 use std::env;
@@ -71,7 +71,7 @@ fn ask() -> Order
 
 // How many lines the history of a desk has that took so many orders, and one that makes the file.
 fn at_a_desk(alloc: Global, orders: u64) -> anyhow::Result<usize> {
-    let mut desk = Desk::new(alloc)?;
+    let mut desk = Desk::new(alloc, Rules::standard())?;
     let mut tolds = Tolds::new(alloc)?;
     desk.take(0, &create(), &mut tolds)?;
     for place in 0..orders {
@@ -82,7 +82,7 @@ fn at_a_desk(alloc: Global, orders: u64) -> anyhow::Result<usize> {
 
 // A core answers, so many times.
 fn at_a_core(alloc: Global, looks: u64) -> anyhow::Result<usize> {
-    let mut core = Core::new(alloc)?;
+    let mut core = Core::new(alloc, Rules::standard())?;
     let mut tolds = Tolds::new(alloc)?;
     core.step(&create(), &mut tolds);
     let ask = ask();

@@ -5,7 +5,7 @@ ghost use Rattle.std.specs.Prelude.{◌≡◌, ◌<◌, ◌≤◌};
 use crate::{ask, create, lock};
 use anyhow::anyhow;
 use fl_book::{Board, BoardName, FreshLog, Seat};
-use fl_core::Tolds;
+use fl_core::{Rules, Tolds};
 use std::alloc::Global;
 use std::marker::Brand;
 use std::sync::Wait;
@@ -157,14 +157,16 @@ fn at_a_board<L: BoardName + Send + Sync, R: Threads + Wait + Sync>(
     blank: Blank,
     log: FreshLog,
     workers: u32,
+    rules: Rules,
     plan: Plan,
 ) -> anyhow::Result<usize>
     requires named { (blank.name ≡ L.name) × (blank.parts ≡ L.parts) }
     requires log { log ≡ L.log }
     requires parts { (workers ≡ L.parts) × (L.workers ≡ L.parts) }
     requires workers { (0 < workers) × (workers ≤ 16) }
+    requires rules { rules ≡ L.rules }
 {
-    let (board, mut seats) = Board::<L, &R>::new(alloc, rt, blank, log, workers)
+    let (board, mut seats) = Board::<L, &R>::new(alloc, rt, blank, log, workers, rules)
         .ok()
         .ok_or(anyhow!("a board"))?;
     let mut tolds = Tolds::new(alloc)?;
@@ -203,5 +205,6 @@ pub(crate) fn lines_of<R: Threads + Wait + Sync>(
     let workers = threads + u32::from(beside);
     let blank = Blank::new(u64::from(workers));
     let plan = plan_of(threads, task, times);
-    at_a_board::<Brand, R>(rt, alloc, blank, FreshLog::new(), workers, plan)
+    let (log, rules) = (FreshLog::new(), Rules::standard());
+    at_a_board::<Brand, R>(rt, alloc, blank, log, workers, rules, plan)
 }

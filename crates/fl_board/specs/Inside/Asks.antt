@@ -8,14 +8,15 @@ use Rattle.fl_core.specs.Step.{next, replies}
 use Rattle.fl_desk.specs.Legal.{step_lines}
 use Rattle.fl_history.specs.declared.history.Line.{Line}
 use Rattle.fl_log.specs.declared.ask.Ask.{Ask}
+use Rattle.fl_waiting.specs.declared.rules.Rules.{Rules}
 
 -- what is there after an ask
 abbrev pub stepped : Snapshot → Ask → Snapshot
 stepped p ask = next p ask.order
 
--- what is there after these asks
-abbrev pub present_after : List Ask → Snapshot
-present_after asks = fold stepped (snapshot_of opening) asks
+-- what is there after these asks, under these rules
+abbrev pub present_after : Rules → List Ask → Snapshot
+present_after rules asks = fold stepped (snapshot_of (opening rules)) asks
 
 -- the lines of an ask
 abbrev pub lines_in : Snapshot → Ask → List Line
@@ -25,9 +26,9 @@ abbrev pub lines_from : Snapshot → List Ask → List Line
 lines_from p [] = []
 lines_from p (ask ∷ asks) = lines_in p ask ++ lines_from (stepped p ask) asks
 
--- the history that these asks make
-abbrev pub history_of : List Ask → List Line
-history_of asks = lines_from (snapshot_of opening) asks
+-- the history that these asks make, under these rules
+abbrev pub history_of : Rules → List Ask → List Line
+history_of rules asks = lines_from (snapshot_of (opening rules)) asks
 
 -- the lines begin with all that the worker handed in and was shown, and have as many orders of it at least
 pub record HasMostOf (lines : List Line) (place : Place) : Type 0 where

@@ -4,7 +4,7 @@ ghost use Rattle.std.specs.Prelude.{◌≡◌};
 
 use super::{create, order, take, upto};
 use fl_board::{Board, BoardName, FreshLog, Seat};
-use fl_core::Tolds;
+use fl_core::{Rules, Tolds};
 use fl_desk::{Verdict, check};
 use fl_history::History;
 use fl_order::{Answer, Attr, Errno, Op};
@@ -50,12 +50,14 @@ fn looked<L: BoardName, R: Wait + Abort>(
     alloc: Global,
     blank: Blank,
     log: FreshLog,
+    rules: Rules,
 ) -> Views
     requires named { (blank.name ≡ L.name) × (blank.parts ≡ L.parts) }
     requires log { log ≡ L.log }
+    requires rules { rules ≡ L.rules }
     requires parts { (2 ≡ L.parts) × (L.workers ≡ L.parts) }
 {
-    let (board, mut seats) = Board::<L, &R>::new(alloc, rt, blank, log, 2)
+    let (board, mut seats) = Board::<L, &R>::new(alloc, rt, blank, log, 2, rules)
         .ok()
         .expect(rt, "a board");
     let mut tolds = Tolds::new(alloc).expect(rt, "memory");
@@ -85,7 +87,8 @@ fn looked<L: BoardName, R: Wait + Abort>(
 
 #[test]
 fn a_lock_is_shown_to_both_seats(rt: HostRuntime) {
-    let told = looked::<Brand, _>(&rt, rt.alloc(), Blank::new(2), FreshLog::new());
+    let rules = Rules::standard();
+    let told = looked::<Brand, _>(&rt, rt.alloc(), Blank::new(2), FreshLog::new(), rules);
     let locked = Answer::Lock {
         start: 0,
         end: 9,
@@ -106,7 +109,7 @@ fn a_lock_is_shown_to_both_seats(rt: HostRuntime) {
     assert!(rt; told.known == Ok(Answer::Attr(attr)));
     // Looks are no lines: two orders, with a reply each.
     assert!(rt; told.history.len() == 4);
-    assert!(rt; check(rt.alloc(), &told.history) == Ok(Verdict::Legal));
+    assert!(rt; check(rt.alloc(), &told.history, rules) == Ok(Verdict::Legal));
 }
 
 // The last byte that owner 7 is shown to lock. It is given the seat alone, and so has no right to wait.
@@ -124,12 +127,14 @@ fn shown_each<L: BoardName, R: Wait + Abort>(
     alloc: Global,
     blank: Blank,
     log: FreshLog,
+    rules: Rules,
 ) -> History
     requires named { (blank.name ≡ L.name) × (blank.parts ≡ L.parts) }
     requires log { log ≡ L.log }
+    requires rules { rules ≡ L.rules }
     requires parts { (1 ≡ L.parts) × (L.workers ≡ L.parts) }
 {
-    let (board, mut seats) = Board::<L, &R>::new(alloc, rt, blank, log, 1)
+    let (board, mut seats) = Board::<L, &R>::new(alloc, rt, blank, log, 1, rules)
         .ok()
         .expect(rt, "a board");
     let mut tolds = Tolds::new(alloc).expect(rt, "memory");
@@ -146,7 +151,8 @@ fn shown_each<L: BoardName, R: Wait + Abort>(
 
 #[test]
 fn a_seat_without_the_right_to_wait_is_shown_each_order(rt: HostRuntime) {
-    let history = shown_each::<Brand, _>(&rt, rt.alloc(), Blank::new(1), FreshLog::new());
+    let rules = Rules::standard();
+    let history = shown_each::<Brand, _>(&rt, rt.alloc(), Blank::new(1), FreshLog::new(), rules);
     assert!(rt; history.len() == 42);
-    assert!(rt; check(rt.alloc(), &history) == Ok(Verdict::Legal));
+    assert!(rt; check(rt.alloc(), &history, rules) == Ok(Verdict::Legal));
 }

@@ -4,7 +4,7 @@ ghost use Rattle.std.specs.Prelude.{◌≡◌};
 
 use super::{create, order, take, upto};
 use fl_board::{Board, BoardName, CloseFault, FreshLog};
-use fl_core::Tolds;
+use fl_core::{Rules, Tolds};
 use fl_desk::{Verdict, check};
 use fl_history::{History, Line, Lines};
 use fl_order::{Errno, Op, Told};
@@ -20,12 +20,14 @@ fn closed_late<L: BoardName, R: Wait + Abort>(
     alloc: Global,
     blank: Blank,
     log: FreshLog,
+    rules: Rules,
 ) -> History
     requires named { (blank.name ≡ L.name) × (blank.parts ≡ L.parts) }
     requires log { log ≡ L.log }
+    requires rules { rules ≡ L.rules }
     requires parts { (2 ≡ L.parts) × (L.workers ≡ L.parts) }
 {
-    let (board, mut seats) = Board::<L, &R>::new(alloc, rt, blank, log, 2)
+    let (board, mut seats) = Board::<L, &R>::new(alloc, rt, blank, log, 2, rules)
         .ok()
         .expect(rt, "a board");
     let mut tolds = Tolds::new(alloc).expect(rt, "memory");
@@ -47,8 +49,9 @@ fn closed_late<L: BoardName, R: Wait + Abort>(
 
 #[test]
 fn a_board_goes_on_where_a_seat_is_missing(rt: HostRuntime) {
-    let history = closed_late::<Brand, _>(&rt, rt.alloc(), Blank::new(2), FreshLog::new());
-    assert!(rt; check(rt.alloc(), &history) == Ok(Verdict::Legal));
+    let rules = Rules::standard();
+    let history = closed_late::<Brand, _>(&rt, rt.alloc(), Blank::new(2), FreshLog::new(), rules);
+    assert!(rt; check(rt.alloc(), &history, rules) == Ok(Verdict::Legal));
     assert!(rt; history.len() == 6);
     // The second seat's lock is refused: the two seats have one directory.
     let last = Line::Told(Told {
@@ -64,13 +67,22 @@ fn kept_late<L: BoardName, R: Wait + Abort>(
     alloc: Global,
     blank: Blank,
     log: FreshLog,
+    rules: Rules,
 ) -> Lines
     requires named { (blank.name ≡ L.name) × (blank.parts ≡ L.parts) }
     requires log { log ≡ L.log }
+    requires rules { rules ≡ L.rules }
     requires parts { (1 ≡ L.parts) × (L.workers ≡ L.parts) }
 {
-    let (board, mut seats) = Board::<L, &R>::over(alloc, rt, Lines::new(alloc), blank, log, 1)
-        .ok()
+    let (board, mut seats) = Board::<L, &R>::over(
+        alloc,
+        rt,
+        Lines::new(alloc),
+        blank,
+        log,
+        1,
+        rules,
+    ).ok()
         .expect(rt, "a board");
     let mut tolds = Tolds::new(alloc).expect(rt, "memory");
     let seat = seats.get_mut(0).expect(rt, "a seat");
@@ -85,8 +97,9 @@ fn kept_late<L: BoardName, R: Wait + Abort>(
 
 #[test]
 fn a_keeper_comes_back_with_all_seats(rt: HostRuntime) {
-    let lines = kept_late::<Brand, _>(&rt, rt.alloc(), Blank::new(1), FreshLog::new());
+    let rules = Rules::standard();
+    let lines = kept_late::<Brand, _>(&rt, rt.alloc(), Blank::new(1), FreshLog::new(), rules);
     let history = History::of(lines);
-    assert!(rt; check(rt.alloc(), &history) == Ok(Verdict::Legal));
+    assert!(rt; check(rt.alloc(), &history, rules) == Ok(Verdict::Legal));
     assert!(rt; history.len() == 2);
 }

@@ -5,7 +5,7 @@ ghost use Rattle.std.specs.Prelude.{◌≡◌, ◌<◌, ◌≤◌};
 use super::threads::{Orders, made};
 use super::{create, order, rounds, take, watched};
 use fl_board::{Board, BoardName, FreshLog, Seat};
-use fl_core::Tolds;
+use fl_core::{Rules, Tolds};
 use fl_desk::{Verdict, check};
 use fl_history::{History, Line};
 use fl_order::{Op, Order};
@@ -223,6 +223,7 @@ fn closed<L: BoardName + Send + Sync, R: Threads + Wait + Sync + Abort>(
     blank: Blank,
     log: FreshLog,
     workers: u32,
+    rules: Rules,
     counts: &Counts,
     plan: Plan,
 ) -> History
@@ -230,8 +231,9 @@ fn closed<L: BoardName + Send + Sync, R: Threads + Wait + Sync + Abort>(
     requires log { log ≡ L.log }
     requires parts { (workers ≡ L.parts) × (L.workers ≡ L.parts) }
     requires workers { (0 < workers) × (workers ≤ 16) }
+    requires rules { rules ≡ L.rules }
 {
-    let (board, mut seats) = Board::<L, &R>::new(alloc, rt, blank, log, workers)
+    let (board, mut seats) = Board::<L, &R>::new(alloc, rt, blank, log, workers, rules)
         .ok()
         .expect(rt, "a board");
     let crew = Crew {
@@ -247,8 +249,8 @@ fn closed<L: BoardName + Send + Sync, R: Threads + Wait + Sync + Abort>(
     board.close(back).ok().expect(rt, "all seats")
 }
 
-fn is_legal(rt: &impl Abort, alloc: Global, history: &History) {
-    let verdict = check(alloc, history).expect(rt, "memory");
+fn is_legal(rt: &impl Abort, alloc: Global, history: &History, rules: Rules) {
+    let verdict = check(alloc, history, rules).expect(rt, "memory");
     assert_eq!(rt; verdict, Verdict::Legal);
 }
 
@@ -264,7 +266,8 @@ pub(super) fn history_of<R: Threads + Wait + Sync + Abort>(
 {
     let blank = Blank::new(u64::from(workers));
     let log = FreshLog::new();
-    let history = closed::<Brand, _>(rt, alloc, blank, log, workers, counts, plan);
-    is_legal(rt, alloc, &history);
+    let rules = Rules::standard();
+    let history = closed::<Brand, _>(rt, alloc, blank, log, workers, rules, counts, plan);
+    is_legal(rt, alloc, &history, rules);
     history
 }

@@ -3,7 +3,7 @@
 ghost use Rattle.std.specs.Prelude.{◌≡◌, []};
 
 use fl_board::{HandFault, NoView};
-use fl_core::{Core, Tolds};
+use fl_core::{Core, Rules, Tolds};
 use fl_order::{Answer, Errno, Op, Order};
 use fl_workers::Counter;
 use std::alloc::Global;
@@ -47,7 +47,7 @@ impl Seat {
             orders: Vec::new(alloc),
             looks: Vec::new(alloc),
             tries: 0,
-            core: Core::new(alloc).expect(rt, "memory"),
+            core: Core::new(alloc, Rules::standard()).expect(rt, "memory"),
         }
     }
 }

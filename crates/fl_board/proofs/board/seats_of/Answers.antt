@@ -15,7 +15,7 @@ loop-worker-preserved g c =
       ap (map (λ seat. seat.worker)) c.push_reserved.ensures.items ∙ seat_added (λ seat. seat.worker) _ _ _ inv.4 refl,
       subst (All (λ seat. (seat.count ≡ 0) × (seat.own ≡ []) × (seat.seen ≡ []))) (sym c.push_reserved.ensures.items)
           (All-push (λ seat. (seat.count ≡ 0) × (seat.own ≡ []) × (seat.seen ≡ [])) _ _ inv.5
-          (c.split_off-share.ensures.amount, ap history_of (c.again.ensures ∙ c.requires.none), ap history_of (c.again-in-loop-worker.ensures ∙ c.requires.none))),
+          (c.split_off-share.ensures.amount, ap (history_of g.L.BoardName.rules) (c.again.ensures ∙ c.requires.none), ap (history_of g.L.BoardName.rules) (c.again-in-loop-worker.ensures ∙ c.requires.none))),
     )
 
 pub returns-clause-workers : goal.returns-clause-workers

@@ -13,8 +13,8 @@ pub returns-clause-each : goal.returns-clause-each
 returns-clause-each g c =
     let seats = c.args.seats.items in
     let apart : AreApart seats = subst AreApart c.deref-else-not-begins_with.ensures.value (c.if-not-are_apart.ensures refl) in
-    let most : All (λ (p : Place). HasMostOf (history_of c.into_inner-shared.result) p) seats =
-    subst (λ (l : List Place). All (λ (p : Place). HasMostOf (history_of c.into_inner-shared.result) p) l) c.deref.ensures.value
+    let most : All (λ (p : Place). HasMostOf (history_of g.L.BoardName.rules c.into_inner-shared.result) p) seats =
+    subst (λ (l : List Place). All (λ (p : Place). HasMostOf (history_of g.L.BoardName.rules c.into_inner-shared.result) p) l) c.deref.ensures.value
     (c.if-not-begins_with.ensures refl) in
     let kept = g.K.Keeper.lines c.into_kept.result in
     let history = c.into_kept.ensures in

@@ -9,11 +9,11 @@ use Rattle.fl_board.proofs.shared.Shared.begins_with.Goals as goal
 pub loop-seat-preserved : goal.loop-seat-preserved
 loop-seat-preserved g c =
     let lt : c.loop-seat.seat-index < length c.args.seats.now = search rules in
-    let most : HasMostOf (history_of c.args.self.now) c.seat-item.result = search rules in
+    let most : HasMostOf (history_of g.L.BoardName.rules c.args.self.now) c.seat-item.result = search rules in
     let is : get_or c.args.seats.now c.loop-seat.seat-index c.seat-item.result ≡ c.seat-item.result = search rules in
     rw (take_more c.args.seats.now c.loop-seat.seat-index c.seat-item.result lt, is)
-    (All-push (λ x. HasMostOf (history_of c.args.self.now) x) _ _ c.loop-seat.invariant most)
+    (All-push (λ x. HasMostOf (history_of g.L.BoardName.rules c.args.self.now) x) _ _ c.loop-seat.invariant most)
 
 pub returns : goal.returns
-returns g c = λ t. subst (λ (l : List Place). All (λ x. HasMostOf (history_of c.args.self.now) x) l)
+returns g c = λ t. subst (λ (l : List Place). All (λ x. HasMostOf (history_of g.L.BoardName.rules c.args.self.now) x) l)
     (take_all c.loop-seat.seat-index c.args.seats.now (omega (arith, c.loop-seat-test.false))) c.loop-seat.invariant

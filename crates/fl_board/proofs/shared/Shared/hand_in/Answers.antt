@@ -13,51 +13,60 @@ use Rattle.fl_board.proofs.shared.Shared.hand_in.Goals as goal
 
 pub invariant_of-self-2 : goal.invariant_of-self-2
 invariant_of-self-2 g c =
+    let ours = g.L.BoardName.rules in
     let was = c.self.inside.all in
     let order = c.args.order.now in
     let worker = c.seat.inside.worker in
     let ask : Ask = record { worker = worker; order = order } in
     let all : c.add.new.self ≡ was ++ ask ∷ [] = search rules in
-    let taken : c.take.new.self.lines ≡ history_of was ++ step_lines worker order c.take.new.tolds = search rules in
-    let told : c.take.new.tolds ≡ replies_in (state_after (history_of was)) order = search rules in
-    let stepped : c.take.new.self.present ≡ next (present_after was) order = search rules in
-    let leads = c.asks_lead.ensures was in
-    let answered : c.take.new.tolds ≡ replies (present_after was) order = told ∙ ap (λ (p : Snapshot). replies p order) (sym leads.stands) in (
+    let taken : c.take.new.self.lines ≡ history_of ours was ++ step_lines worker order c.take.new.tolds = search rules in
+    let stepped : c.take.new.self.present ≡ next (present_after ours was) order = search rules in
+    let told : c.take.new.tolds ≡ replies_in (state_after (present_after ours was).rules (history_of ours was)) order = search rules in
+    let leads = c.asks_lead.ensures in
+    let answered : c.take.new.tolds ≡ replies (present_after ours was) order =
+    told ∙ ap (λ r. replies_in (state_after r (history_of ours was)) order) (leads.rules ours was)
+    ∙ ap (λ (p : Snapshot). replies p order) (sym (leads.stands ours was)) in (
       search rules,
-      taken ∙ ap (λ t. history_of was ++ step_lines worker order t) answered ∙ sym (history_more was ask) ∙ ap history_of (sym all),
-      stepped ∙ sym (present_more was ask) ∙ ap present_after (sym all),
+      taken ∙ ap (λ t. history_of ours was ++ step_lines worker order t) answered ∙ sym (history_more ours was ask)
+          ∙ ap (history_of ours) (sym all),
+      stepped ∙ sym (present_more ours was ask) ∙ ap (present_after ours) (sym all),
       c.add-3.ensures.total ∙ ap (λ n. n + 1) (c.self.invariant.3 ∙ ap orders_asked c.self.invariant.1)
-          ∙ sym (ap orders_asked taken ∙ step_asks_one_order (history_of was) worker order c.take.new.tolds),
+          ∙ sym (ap orders_asked taken ∙ step_asks_one_order (history_of ours was) worker order c.take.new.tolds),
     )
 
 pub invariant_of-seat : goal.invariant_of-seat
 invariant_of-seat g c =
+    let ours = g.L.BoardName.rules in
     let was = c.self.inside.all in
     let order = c.args.order.now in
     let worker = c.seat.inside.worker in
     let ask : Ask = record { worker = worker; order = order } in
     let own : c.again-3.result ≡ was ++ ask ∷ [] = search rules in
-    let most = subst (λ (p : Place). HasMostOf (history_of was) p) (sym c.seat.view_is) (c.if-not-begins.ensures refl) in
-    let more : orders_by worker (history_of c.again-3.result) ≡ orders_by worker (history_of was) + 1 =
-    ap (λ asks. orders_by worker (history_of asks)) own ∙ ap (orders_by worker) (history_more was ask)
-    ∙ one_more_by worker (history_of was) order (replies (present_after was) order) in
+    let most = subst (λ (p : Place). HasMostOf (history_of ours was) p) (sym c.seat.view_is) (c.if-not-begins.ensures refl) in
+    let more : orders_by worker (history_of ours c.again-3.result) ≡ orders_by worker (history_of ours was) + 1 =
+    ap (λ asks. orders_by worker (history_of ours asks)) own ∙ ap (orders_by worker) (history_more ours was ask)
+    ∙ one_more_by worker (history_of ours was) order (replies (present_after ours was) order) in
     (c.add-3.ensures.parts ∙ c.seat.invariant.0, omega (arith, c.add-3.ensures.amount, most.count, more))
 
 pub returns-clause-handed : goal.returns-clause-handed
 returns-clause-handed g c =
+    let ours = g.L.BoardName.rules in
     let was = c.self.inside.all in
     let order = c.args.order.now in
     let worker = c.seat.inside.worker in
     let ask : Ask = record { worker = worker; order = order } in
     let own : c.again-3.result ≡ was ++ ask ∷ [] = search rules in
-    let told : c.take.new.tolds ≡ replies_in (state_after (history_of was)) order = search rules in
-    let answered : c.take.new.tolds ≡ replies (present_after was) order =
-    told ∙ ap (λ (p : Snapshot). replies p order) (sym (c.asks_lead.ensures was).stands) in
-    let most = subst (λ (p : Place). HasMostOf (history_of was) p) (sym c.seat.view_is) (c.if-not-begins.ensures refl) in
+    let told : c.take.new.tolds ≡ replies_in (state_after (present_after ours was).rules (history_of ours was)) order = search rules in
+    let leads = c.asks_lead.ensures in
+    let answered : c.take.new.tolds ≡ replies (present_after ours was) order =
+    told ∙ ap (λ r. replies_in (state_after r (history_of ours was)) order) (leads.rules ours was)
+    ∙ ap (λ (p : Snapshot). replies p order) (sym (leads.stands ours was)) in
+    let most = subst (λ (p : Place). HasMostOf (history_of ours was) p) (sym c.seat.view_is) (c.if-not-begins.ensures refl) in
     rw (← c.seat.view_is) (record {
-      before = history_of was;
-      own = ap history_of own ∙ history_more was ask ∙ ap (λ t. history_of was ++ step_lines worker order t) (sym answered);
-      legal = (c.asks_lead.ensures c.again-3.result).legal;
+      before = history_of ours was;
+      own = ap (history_of ours) own ∙ history_more ours was ask
+          ∙ ap (λ t. history_of ours was ++ step_lines worker order t) (sym answered);
+      legal = leads.legal ours c.again-3.result;
       had = most.had;
       saw = most.saw;
       seen = refl;

@@ -1,7 +1,7 @@
 use Rattle.fl_board_threads_tests.proofs.tests.crew.history_of.Given as goal
 
 abbrev pub ghosts-closed-L-BoardName : goal.ghosts-closed-L-BoardName
-ghosts-closed-L-BoardName g a = record { workers = a.blank.parts }
+ghosts-closed-L-BoardName g a = record { workers = a.blank.parts; rules = a.rules }
 
 abbrev pub ghosts-closed-L-Ledger : goal.ghosts-closed-L-Ledger
 ghosts-closed-L-Ledger g a = record { name = a.blank.name; parts = a.blank.parts }

@@ -1,0 +1,139 @@
+//! A board by whose rules a reader waits behind a writer who waits.
+
+ghost use Rattle.std.specs.Prelude.{◌≡◌};
+
+use super::{order, take, upto};
+use fl_board::{Board, BoardName, FreshLog, Seat};
+use fl_core::{Rules, Tolds};
+use fl_desk::{Verdict, check};
+use fl_history::{History, Line};
+use fl_order::{Answer, Errno, Op};
+use fl_trace::read_trace;
+use std::alloc::Global;
+use std::marker::Brand;
+use std::process::Abort;
+use std::sync::Wait;
+use std::sync::ledger::Blank;
+
+const A_READER_WAITS_BEHIND_A_WRITER_WHO_WAITS: &str = "\
+ask 0 1 1 0 0 0 create 0 420 61
+tell 1 made 2 33188 1 0 0 1
+ask 0 2 2 0 0 0 setlk 1 7 0 0 0 11 0
+tell 2 ok
+ask 1 3 2 0 0 0 setlkw 1 8 0 0 1 12 0
+ask 0 4 2 0 0 0 setlkw 1 9 0 0 0 13 0
+ask 1 5 2 0 0 0 setlk 1 10 0 0 0 14 0
+tell 5 ok
+ask 0 6 2 0 0 0 setlk 1 7 0 0 2 11 0
+tell 6 ok
+ask 1 7 2 0 0 0 setlk 1 10 0 0 2 14 0
+tell 7 ok
+tell 3 ok
+ask 0 8 2 0 0 0 setlk 1 8 0 0 2 12 0
+tell 8 ok
+tell 4 ok
+";
+
+// The line before which both requests wait, from 0.
+const BOTH_WAIT: usize = 6;
+
+// Who would keep owner 7 from a write lock on byte 0, as the first seat is shown.
+fn who_locks<L: BoardName, R: Wait + Abort>(
+    rt: &R,
+    board: &Board<L, &R>,
+    seats: &mut [Seat<L>],
+) -> Result<Answer, Errno> {
+    let seat = seats.first_mut().expect(rt, "a seat");
+    let ask = order(90, 2, Op::Getlk(upto(7, 0)));
+    board.look(seat, &ask).ok().expect(rt, "a view")
+}
+
+// The order of a line, if it asks one, is handed in at its worker's seat.
+fn hand_in<L: BoardName, R: Wait + Abort>(
+    rt: &R,
+    board: &Board<L, &R>,
+    seats: &mut [Seat<L>],
+    line: &Line,
+    tolds: &mut Tolds,
+) {
+    if let Line::Asked { worker, order } = line {
+        let seat = seats.get_mut(*worker as usize).expect(rt, "a seat");
+        take(rt, board, seat, order, tolds);
+    }
+}
+
+// What was shown while both requests waited and once both were granted, and the history.
+#[derive(Drop)]
+struct Views {
+    waiting: Result<Answer, Errno>,
+    granted: Result<Answer, Errno>,
+    history: History,
+}
+
+// The orders of a trace at a board of two seats.
+fn followed<L: BoardName, R: Wait + Abort>(
+    rt: &R,
+    alloc: Global,
+    blank: Blank,
+    log: FreshLog,
+    rules: Rules,
+    trace: &History,
+) -> Views
+    requires named { (blank.name ≡ L.name) × (blank.parts ≡ L.parts) }
+    requires log { log ≡ L.log }
+    requires rules { rules ≡ L.rules }
+    requires parts { (2 ≡ L.parts) × (L.workers ≡ L.parts) }
+{
+    let (board, mut seats) = Board::<L, &R>::new(alloc, rt, blank, log, 2, rules)
+        .ok()
+        .expect(rt, "a board");
+    let mut tolds = Tolds::new(alloc).expect(rt, "memory");
+    let mut waiting = Err(Errno::EBADF);
+    for at in 0..trace.len() {
+        if at == BOTH_WAIT {
+            waiting = who_locks(rt, &board, &mut seats);
+        }
+        hand_in(rt, &board, &mut seats, &trace.line(at), &mut tolds);
+    }
+    Views {
+        waiting,
+        granted: who_locks(rt, &board, &mut seats),
+        history: board.close(seats).ok().expect(rt, "all seats"),
+    }
+}
+
+// Both histories have the same lines.
+fn are_same(rt: &impl Abort, found: &History, wanted: &History) {
+    assert_eq!(rt; found.len(), wanted.len());
+    for at in 0..wanted.len() {
+        assert!(rt; at < found.len() && found.line(at) == wanted.line(at));
+    }
+}
+
+// Only owner 7 locks the byte while both wait, and only owner 9 once both were granted.
+fn are_shown(rt: &impl Abort, views: &Views) {
+    let lock = |kind, pid| {
+        Ok(Answer::Lock {
+            start: 0,
+            end: 0,
+            kind,
+            pid,
+        })
+    };
+    assert!(rt; views.waiting == lock(2, 11));
+    assert!(rt; views.granted == lock(0, 13));
+}
+
+#[test]
+fn a_reader_waits_behind_a_writer_of_another_seat(rt: HostRuntime) {
+    let text = A_READER_WAITS_BEHIND_A_WRITER_WHO_WAITS;
+    let trace = read_trace(rt.alloc(), text.as_bytes()).expect(&rt, "a trace");
+    let rules = Rules::standard().with_fair(true);
+    let (blank, log) = (Blank::new(2), FreshLog::new());
+    let views = followed::<Brand, _>(&rt, rt.alloc(), blank, log, rules, &trace);
+    are_same(&rt, &views.history, &trace);
+    are_shown(&rt, &views);
+    assert!(rt; check(rt.alloc(), &trace, rules) == Ok(Verdict::Legal));
+    // By the standard rules the reader passes.
+    assert!(rt; check(rt.alloc(), &trace, Rules::standard()) == Ok(Verdict::Differs(7)));
+}
