@@ -4,7 +4,7 @@
 
 use anyhow::anyhow;
 use fl_book::Desk;
-use fl_core::Tolds;
+use fl_core::{Rules, Tolds};
 use fl_order::{LockAsk, Name, Op, Order};
 use std::alloc::Global;
 use std::env;
@@ -57,7 +57,7 @@ fn begin(desk: &mut Desk, name: Name, tolds: &mut Tolds) -> anyhow::Result<()> {
 
 fn take_all<R: Clock>(rt: &R, alloc: Global, kind: &str, orders: u64) -> anyhow::Result<(usize, Duration)> {
     let name = Name::new(b"file.txt").ok_or(anyhow!("a name"))?;
-    let mut desk = Desk::new(alloc)?;
+    let mut desk = Desk::new(alloc, Rules::standard())?;
     let mut tolds = Tolds::new(alloc)?;
     begin(&mut desk, name, &mut tolds)?;
     let mut longest = Duration::ZERO;

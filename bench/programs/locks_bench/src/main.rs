@@ -6,7 +6,7 @@
 #![tactic(auto)]
 
 use anyhow::anyhow;
-use fl_core::{Core, Tolds};
+use fl_core::{Core, Rules, Tolds};
 use fl_order::{LockAsk, Name, Op, Order};
 use std::env;
 
@@ -146,7 +146,7 @@ fn main(rt: HostRuntime) -> anyhow::Result<()> {
         .map_or(Some(What::Anew), |word| what_of(word))
         .ok_or(anyhow!("anew, more, amid, look or turns"))?;
     let orders = words.get(4).map_or(Ok(1000), |word| word.parse::<u64>())?;
-    let mut core = Core::new(alloc)?;
+    let mut core = Core::new(alloc, Rules::standard())?;
     let mut tolds = Tolds::new(alloc)?;
     core.step(&create(), &mut tolds);
     let mut set = 0u64;
