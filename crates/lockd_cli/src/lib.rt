@@ -1,10 +1,9 @@
 //! The command line of `lockd`: which command its words ask for, or why none is run.
 #![tactic(auto)]
 
+mod command;
 mod options;
 mod refusal;
-#[cfg(test)]
-mod tests;
 mod version;
 
 pub use options::{Asked, AskedRules, Trace, WhenFull, read_words};

@@ -1,20 +1,16 @@
-//! The commands of `lockd` with their options, read by `clap`.
+//! What a command line asks for, read by `clap`.
 
 ghost use Rattle.std.specs.Prelude.{IfOk};
 ghost use Rattle.lockd_cli.specs.Numbers.{HasWorkers, HasLimits, HasLimitsOfRules};
 
+use crate::command::lockd;
 use crate::refusal::Refusal;
-use crate::version::VERSION;
-use clap::builder::ValueParser;
+use clap::ArgMatches;
 use clap::error::ErrorKind;
-use clap::{Arg, ArgAction, ArgMatches, Command, Error};
 use std::alloc::Global;
 
 // The most workers of a server.
 const MOST_WORKERS: u32 = 16;
-
-// What may be said of a trace that can't be written; the first where nothing is.
-const WHEN_FULL: &[&str] = &["go-on", "refuse"];
 
 // Its workers where none are said, as the option's default has them.
 const DEFAULT_WORKERS: u32 = 4;
@@ -30,7 +26,7 @@ const DEFAULT_RUNS: u32 = 4_096;
 const DEFAULT_PARKED: u32 = 256;
 
 /// What a command line asks for.
-#[derive(Debug, Drop)]
+#[derive(Drop)]
 pub enum Asked {
     /// Answers the orders of a text and prints the trace. It is also what no command asks for.
     Script(AskedRules),
@@ -64,7 +60,7 @@ pub enum Asked {
 }
 
 /// By which rules requests wait, and how much there may be.
-#[derive(Clone, Copy, Debug, PartialEq, Eq)]
+#[derive(Clone, Copy)]
 pub struct AskedRules {
     /// Whether a request for a record lock waits behind an older one that waits and that excludes it.
     pub fair: bool,
@@ -75,7 +71,7 @@ pub struct AskedRules {
 }
 
 /// Where the trace of a server goes.
-#[derive(Debug, Drop)]
+#[derive(Drop)]
 pub enum Trace {
     /// To standard output, once the session is over. Memory grows with each order until then.
     Printed,
@@ -86,7 +82,7 @@ pub enum Trace {
 }
 
 /// What becomes of orders once the trace's file can't be written.
-#[derive(Clone, Copy, Debug, PartialEq, Eq)]
+#[derive(Clone, Copy)]
 pub enum WhenFull {
     /// They go on, and the rest of the trace is lost.
     GoOn,
@@ -100,11 +96,18 @@ pub fn read_words(alloc: Global, words: &[String]) -> Result<Asked, Refusal>
     ensures workers { IfOk result HasWorkers }
     ensures limits { IfOk result HasLimits }
 {
-    let matches = match command(alloc)?.try_get_matches_from(words) {
-        Ok(matches) => matches,
-        Err(error) if error.kind() == ErrorKind::DisplayVersion => return Ok(Asked::Version),
-        Err(error) => return Err(Refusal::from(error)),
-    };
+    match lockd(alloc)?.try_get_matches_from(words) {
+        Ok(matches) => asked_by(alloc, &matches),
+        Err(error) if error.kind() == ErrorKind::DisplayVersion => Ok(Asked::Version),
+        Err(error) => Err(Refusal::from(error)),
+    }
+}
+
+// What words ask for that `clap` took.
+fn asked_by(alloc: Global, matches: &ArgMatches<'_>) -> Result<Asked, Refusal>
+    ensures workers { IfOk result HasWorkers }
+    ensures limits { IfOk result HasLimits }
+{
     match matches.subcommand() {
         Some(("script", options)) => Ok(Asked::Script(rules_of(options))),
         Some(("bytes", options)) => Ok(Asked::Bytes(rules_of(options))),
@@ -139,6 +142,7 @@ fn rules_of(options: &ArgMatches<'_>) -> AskedRules
     }
 }
 
+// What the options of `serve` ask for.
 fn serve_of(alloc: Global, options: &ArgMatches<'_>) -> Result<Asked, Refusal>
     ensures workers { IfOk result HasWorkers }
     ensures limits { IfOk result HasLimits }
@@ -173,119 +177,4 @@ fn trace_of(alloc: Global, options: &ArgMatches<'_>) -> Result<Trace, Refusal> {
         _ => WhenFull::GoOn,
     };
     Ok(Trace::File(String::from_str(alloc, trace)?, full))
-}
-
-fn socket_argument<'a>(alloc: Global) -> Arg<'a> {
-    Arg::new(alloc, "SOCKET")
-        .help("The path of a server's Unix stream socket")
-        .required(true)
-        .action(ArgAction::Set)
-}
-
-// A command with the options that say its rules.
-fn with_rules<'a>(alloc: Global, command: Command<'a>) -> Result<Command<'a>, Error> {
-    let fair = Arg::new(alloc, "fair")
-        .long("fair")
-        .help(
-            "Lets a request for a record lock wait behind an older one that waits and excludes it",
-        )
-        .action(ArgAction::SetTrue);
-    let runs = Arg::new(alloc, "runs")
-        .long("runs")
-        .value_name("N")
-        .help("How many runs of locked bytes there may be, 1 to 65536")
-        .default_value("4096")
-        .action(ArgAction::Set)
-        .value_parser(clap::value_parser!(u32).range(1..=65_536));
-    let parked = Arg::new(alloc, "parked")
-        .long("parked")
-        .value_name("N")
-        .help("How many requests may wait, 1 to 1024")
-        .default_value("256")
-        .action(ArgAction::Set)
-        .value_parser(clap::value_parser!(u32).range(1..=1_024));
-    Ok(command.arg(fair)?.arg(runs)?.arg(parked)?)
-}
-
-fn check<'a>(alloc: Global) -> Result<Command<'a>, Error> {
-    let quiet = Arg::new(alloc, "quiet")
-        .long("quiet")
-        .help(
-            "Prints after legal whether the trace is quiet: no owner asks for a record lock while it waits for one",
-        )
-        .action(ArgAction::SetTrue);
-    let cut = Arg::new(alloc, "cut")
-        .long("cut")
-        .help(
-            "Takes the trace of a killed server: drops what follows the last newline, and prints begins, with status 0, where only replies are missing at the end; --quiet prints nothing after begins",
-        )
-        .action(ArgAction::SetTrue);
-    let check = Command::new(alloc, "check")
-        .about(
-            "Judges the trace on standard input and prints legal, or differs and a line's number",
-        )
-        .arg(quiet)?
-        .arg(cut)?;
-    with_rules(alloc, check)
-}
-
-fn serve<'a>(alloc: Global) -> Result<Command<'a>, Error> {
-    let workers = Arg::new(alloc, "workers")
-        .long("workers")
-        .value_name("N")
-        .help("How many workers take orders, 1 to 16")
-        .default_value("4")
-        .action(ArgAction::Set)
-        .value_parser(clap::value_parser!(u32).range(1..=16));
-    let trace = Arg::new(alloc, "trace")
-        .long("trace")
-        .value_name("FILE|none")
-        .help(
-            "Writes the trace to a new file as orders come, or keeps none; else it is printed at the end, and memory grows until then",
-        )
-        .action(ArgAction::Set)
-        .value_parser(ValueParser::NonEmptyString);
-    let full = Arg::new(alloc, "trace-full")
-        .long("trace-full")
-        .value_name("go-on|refuse")
-        .help(
-            "What becomes of orders when the trace's file can't be written: they go on without it, or are refused",
-        )
-        .default_value("go-on")
-        .action(ArgAction::Set)
-        .value_parser(WHEN_FULL)
-        .requires_arg("trace")?;
-    let serve = Command::new(alloc, "serve")
-        .about(
-            "Serves the first connection to a Unix stream socket, and prints the trace of the session",
-        )
-        .arg(socket_argument(alloc))?
-        .arg(workers)?
-        .arg(trace)?
-        .arg(full)?;
-    with_rules(alloc, serve)
-}
-
-fn command<'a>(alloc: Global) -> Result<Command<'a>, Error> {
-    let script = Command::new(alloc, "script").about(
-        "Answers the ask lines on standard input and prints the trace",
-    );
-    let bytes = Command::new(alloc, "bytes").about(
-        "Serves the messages on standard input, lines of hex, and prints each reply as one",
-    );
-    let drive = Command::new(alloc, "drive")
-        .about(
-            "Sends the lines of hex on standard input to a server, and prints its replies: `recv N` waits for N",
-        )
-        .arg(socket_argument(alloc))?;
-    let lockd = Command::new(alloc, "lockd")
-        .about("Keeps the locks of a directory of lock files")
-        .version(VERSION)
-        .after_help("Without a command it is script.")
-        .subcommand(with_rules(alloc, script)?)?
-        .subcommand(with_rules(alloc, bytes)?)?
-        .subcommand(check(alloc)?)?
-        .subcommand(serve(alloc)?)?
-        .subcommand(drive)?;
-    Ok(lockd)
 }

@@ -1,0 +1,168 @@
+//! The commands of `lockd` and their options, as `clap` takes them. A call that may fail lets go all that is there by then, and
+//! the proof of a function grows with the product of both. So each part is made where it is put in.
+
+use crate::version::VERSION;
+use clap::builder::ValueParser;
+use clap::{Arg, ArgAction, Command, Error};
+use std::alloc::Global;
+
+// What may be said of a trace that can't be written; the first where nothing is.
+const WHEN_FULL: &[&str] = &["go-on", "refuse"];
+
+/// The whole command line.
+pub(crate) fn lockd<'a>(alloc: Global) -> Result<Command<'a>, Error> {
+    let lockd = Command::new(alloc, "lockd")
+        .about("Keeps the locks of a directory of lock files")
+        .version(VERSION)
+        .after_help("Without a command it is script.");
+    let lockd = with_command(lockd, script(alloc))?;
+    let lockd = with_command(lockd, bytes(alloc))?;
+    let lockd = with_command(lockd, check(alloc))?;
+    let lockd = with_command(lockd, serve(alloc))?;
+    with_command(lockd, drive(alloc))
+}
+
+// With this command too, if it could be made.
+fn with_command<'a>(
+    lockd: Command<'a>,
+    command: Result<Command<'a>, Error>,
+) -> Result<Command<'a>, Error> {
+    Ok(lockd.subcommand(command?)?)
+}
+
+fn script<'a>(alloc: Global) -> Result<Command<'a>, Error> {
+    let script = Command::new(alloc, "script").about(
+        "Answers the ask lines on standard input and prints the trace",
+    );
+    with_rules(alloc, script)
+}
+
+fn bytes<'a>(alloc: Global) -> Result<Command<'a>, Error> {
+    let bytes = Command::new(alloc, "bytes").about(
+        "Serves the messages on standard input, lines of hex, and prints each reply as one",
+    );
+    with_rules(alloc, bytes)
+}
+
+fn check<'a>(alloc: Global) -> Result<Command<'a>, Error> {
+    let check = Command::new(alloc, "check").about(
+        "Judges the trace on standard input and prints legal, or differs and a line's number",
+    );
+    let quiet = flag(
+        alloc,
+        "quiet",
+        "Prints after legal whether the trace is quiet: no owner asks for a record lock while it waits for one",
+    );
+    let check = check.arg(quiet)?;
+    let cut = flag(
+        alloc,
+        "cut",
+        "Takes the trace of a killed server: drops what follows the last newline, and prints begins, with status 0, where only replies are missing at the end; --quiet prints nothing after begins",
+    );
+    with_rules(alloc, check.arg(cut)?)
+}
+
+fn serve<'a>(alloc: Global) -> Result<Command<'a>, Error> {
+    let serve = Command::new(alloc, "serve").about(
+        "Serves the first connection to a Unix stream socket, and prints the trace of the session",
+    );
+    let serve = serve.arg(socket(alloc))?;
+    let workers = number(
+        alloc,
+        "workers",
+        "How many workers take orders, 1 to 16",
+        "4",
+        16,
+    );
+    let serve = with_trace(alloc, serve.arg(workers)?)?;
+    with_rules(alloc, serve)
+}
+
+fn drive<'a>(alloc: Global) -> Result<Command<'a>, Error> {
+    let drive = Command::new(alloc, "drive").about(
+        "Sends the lines of hex on standard input to a server, and prints its replies: `recv N` waits for N",
+    );
+    Ok(drive.arg(socket(alloc))?)
+}
+
+// A command with the options that say where its trace goes.
+fn with_trace<'a>(alloc: Global, command: Command<'a>) -> Result<Command<'a>, Error> {
+    let trace = Arg::new(alloc, "trace")
+        .long("trace")
+        .value_name("FILE|none")
+        .help(
+            "Writes the trace to a new file as orders come, or keeps none; else it is printed at the end, and memory grows until then",
+        )
+        .action(ArgAction::Set)
+        .value_parser(ValueParser::NonEmptyString);
+    let command = command.arg(trace)?;
+    let full = Arg::new(alloc, "trace-full")
+        .long("trace-full")
+        .value_name("go-on|refuse")
+        .help(
+            "What becomes of orders when the trace's file can't be written: they go on without it, or are refused",
+        )
+        .default_value("go-on")
+        .action(ArgAction::Set)
+        .value_parser(WHEN_FULL);
+    Ok(command.arg(full.requires_arg("trace")?)?)
+}
+
+// A command with the options that say its rules.
+fn with_rules<'a>(alloc: Global, command: Command<'a>) -> Result<Command<'a>, Error> {
+    let fair = flag(
+        alloc,
+        "fair",
+        "Lets a request for a record lock wait behind an older one that waits and excludes it",
+    );
+    let command = command.arg(fair)?;
+    let runs = number(
+        alloc,
+        "runs",
+        "How many runs of locked bytes there may be, 1 to 65536",
+        "4096",
+        65_536,
+    );
+    let command = command.arg(runs)?;
+    let parked = number(
+        alloc,
+        "parked",
+        "How many requests may wait, 1 to 1024",
+        "256",
+        1_024,
+    );
+    Ok(command.arg(parked)?)
+}
+
+// The socket of a server.
+fn socket<'a>(alloc: Global) -> Arg<'a> {
+    Arg::new(alloc, "SOCKET")
+        .help("The path of a server's Unix stream socket")
+        .required(true)
+        .action(ArgAction::Set)
+}
+
+// An option that is said or not.
+fn flag<'a>(alloc: Global, name: &'a str, help: &'a str) -> Arg<'a> {
+    Arg::new(alloc, name)
+        .long(name)
+        .help(help)
+        .action(ArgAction::SetTrue)
+}
+
+// An option with a number from 1 on, and the one that counts where none is said.
+fn number<'a>(
+    alloc: Global,
+    name: &'a str,
+    help: &'a str,
+    standard: &'a str,
+    most: i64,
+) -> Arg<'a> {
+    Arg::new(alloc, name)
+        .long(name)
+        .value_name("N")
+        .help(help)
+        .default_value(standard)
+        .action(ArgAction::Set)
+        .value_parser(clap::value_parser!(u32).range(1..=most))
+}
