@@ -10,7 +10,7 @@ mod stops;
 mod turned;
 mod whole;
 
-use fl_book::{History, Verdict, check, print_trace};
+use fl_book::{History, Rules, Verdict, check, print_trace};
 use fl_serve::{Done, Fault, OpenGate, run_one, serve};
 use fl_testing::{bytes_after, init, init_reply};
 use std::alloc::Global;
@@ -35,7 +35,7 @@ fn fault_is(rt: &impl Abort, found: Option<Fault>, wanted: Option<Fault>) {
 }
 
 fn is_legal(rt: &impl Abort, alloc: Global, history: &History) {
-    let verdict = check(alloc, history).expect(rt, "memory");
+    let verdict = check(alloc, history, Rules::standard()).expect(rt, "memory");
     assert_eq!(rt; verdict, Verdict::Legal);
 }
 
@@ -86,7 +86,8 @@ fn served<R: Threads + Wait + Sync, I: Read, W: Write + Send + Drop>(
     w: &mut W,
     workers: u32,
 ) -> Done {
-    serve(rt, alloc, r, w, of_workers(workers), &OpenGate)
+    let rules = Rules::standard();
+    serve(rt, alloc, r, w, of_workers(workers), rules, &OpenGate)
 }
 
 // What a session without workers came to, and all its replies.
@@ -99,6 +100,6 @@ struct Alone {
 fn run_alone(alloc: Global, stream: &[u8]) -> Alone {
     let mut input = stream;
     let mut out = Vec::new(alloc);
-    let done = run_one(alloc, &mut input, &mut out);
+    let done = run_one(alloc, &mut input, &mut out, Rules::standard());
     Alone { done, out }
 }

@@ -1,11 +1,12 @@
 -- What the reader of a session with workers heard.
-use Rattle.std.proofs.Common.{◌≡◌, ℕ, suc, ◌+◌, take, take-suc, arith, Bool, true, false, true≢false, ◌⊎◌, inl, inr, List, [], ◌∷◌, ◌++◌, Option, refl, sym, ap, subst, ◌∙◌, append_assoc, append-nil}
+use Rattle.std.proofs.Common.{◌≡◌, ℕ, suc, ◌+◌, ◌≤◌, length, take, take-suc, arith, Bool, true, false, true≢false, ◌⊎◌, inl, inr, List, [], ◌∷◌, ◌++◌, Option, refl, sym, ap, subst, ◌∙◌, append_assoc, append-nil}
 use Rattle.std.specs.Prelude.{if◌then◌else◌, Some, Result, Ok, Err, fold, slice_get}
 use Rattle.std.proofs.lemmas.Option.{get_or_from_slice_get, slice_get_within}
 use Rattle.fl_order.specs.declared.order.Order.{Order}
 use Rattle.fl_order.specs.declared.refusal.Refusal.{Refusal}
 use Rattle.fl_order.specs.declared.refusal.Refusal.TheVariants.{Answer, Silent, Batch, Destroy}
 use Rattle.fl_wire.specs.Batch.{forgets_in}
+use Rattle.fl_hearing.specs.Heard.{HasHeard}
 use Rattle.fl_hearing.specs.Said.{orders_said, said_from, said_in}
 use Rattle.fl_order.specs.OpKind.{kind_of_opcode}
 use Rattle.fl_wire.specs.Layout.{opcode_of}
@@ -13,13 +14,15 @@ use Rattle.fl_wire.specs.Says.{said}
 use Rattle.fl_workers.specs.Asked.{Orders}
 use Rattle.std.proofs.lemmas.Grind.{fold-append}
 use Rattle.fl_hearing.specs.Inside.Hearing.{Hears, IsHearing, IsPutAs, IsThisFar}
-use Rattle.fl_session.specs.Inbox.{Inflow, IsUnread, Takes}
+use Rattle.fl_session.specs.Inbox.{Inflow, IsEnding, IsUnread, ReadsOn, Takes}
 use Rattle.fl_session.specs.Talk.{IsHeard, goodbye_to, standing}
 use Rattle.fl_session.specs.Session.{Came, Session, after_init, before_init, orders_of, session_of, with_message, with_order, with_orders, opening_session}
 use Rattle.fl_session.specs.declared.server.Met.{Met}
 use Rattle.fl_session.specs.declared.server.Met.TheVariants as met
 use Rattle.fl_session.specs.declared.server.Owed.{Owed}
 use Rattle.fl_session.specs.declared.server.Talk.{Talk}
+use Rattle.fl_session.specs.declared.session.Fault.{Fault}
+use Rattle.fl_waiting.specs.declared.rules.Rules.{Rules}
 
 -- a session that is this far stands there
 stands_there : (s : Session) (talk : Talk) → IsThisFar s talk → standing s talk ≡ s
@@ -81,23 +84,27 @@ none_or_lost s message (Err Silent) = inl refl
 none_or_lost s message (Err Batch) = first_lost s (forgets_in message)
 none_or_lost s message (Err Destroy) = inl refl
 
+-- the same session, in which no order was refused
+abbrev unlost : Session → Session
+unlost s = record s { refused = false }
+
 -- A message that the session itself answers says none: one that says some is answered otherwise where its first is refused.
 said_none : (owed : Owed) (old new : Talk) (message : List ℕ) → old.over ≡ false
     → IsHeard (met.Owed owed) old new message → (s : Session) → IsThisFar s old → orders_said s message ≡ []
 said_none owed old new message live heard s far = go old.agreed refl
   where
     of_agreed : old.agreed ≡ true → (orders_of message (said message) ≡ [])
-        ⊎ ((after_init (standing opening_session old) (true ∷ []) message (said message)).refused ≡ true)
+        ⊎ ((after_init (standing (unlost s) old) (true ∷ []) message (said message)).refused ≡ true)
         → orders_said s message ≡ []
     of_agreed after (inl none) = rw (far.over, live, far.agreed, after) none
     of_agreed after (inr lost) =
-        let refused = ap (λ (s : Session). s.refused) (message_taken (standing opening_session old) message (true ∷ []) live after)
-        ∙ lost in
-        absurd (true≢false (sym refused ∙ sym (ap (λ (s : Session). s.refused) (heard opening_session (true ∷ [])))))
+        let refused = ap (λ (s : Session). s.refused)
+        (message_taken (standing (unlost s) old) message (true ∷ []) live after) ∙ lost in
+        absurd (true≢false (sym refused ∙ sym (ap (λ (s : Session). s.refused) (heard (unlost s) (true ∷ [])))))
 
     go : (agreed : Bool) → old.agreed ≡ agreed → orders_said s message ≡ []
     go false before = rw (far.over, live, far.agreed, before) refl
-    go true after = of_agreed after (none_or_lost (standing opening_session old) message (said message))
+    go true after = of_agreed after (none_or_lost (standing (unlost s) old) message (said message))
 
 -- what a message says is put
 pub puts : (result : Met) (old new : Talk) (message : List ℕ) (put put_now : Orders) → old.over ≡ false
@@ -126,38 +133,67 @@ said_more s (x ∷ xs) ys = ap (λ l. orders_said s x.message ++ l) (said_more (
     ∙ sym (append_assoc (orders_said s x.message) (said_from (with_message s x) xs)
     (said_from (fold with_message (with_message s x) xs) ys))
 
-said_one_more : (came : List Came) (c : Came) → said_in (came ++ c ∷ []) ≡ said_in came ++ orders_said (session_of came) c.message
-said_one_more came c = said_more opening_session came (c ∷ [])
-    ∙ ap (λ l. said_in came ++ l) (append-nil (orders_said (session_of came) c.message))
+said_one_more : (rules : Rules) (came : List Came) (c : Came)
+    → said_in rules (came ++ c ∷ []) ≡ said_in rules came ++ orders_said (session_of rules came) c.message
+said_one_more rules came c = said_more (opening_session rules) came (c ∷ [])
+    ∙ ap (λ l. said_in rules came ++ l) (append-nil (orders_said (session_of rules came) c.message))
 
 -- nothing is heard yet
-pub hearing_first : (left : Option (List ℕ)) (talk : Talk) (put : Orders) (goodbye : Owed) (inbox : Inflow)
+pub hearing_first : (rules : Rules) (left : Option (List ℕ)) (talk : Talk) (put : Orders) (goodbye : Owed) (inbox : Inflow)
     → talk.agreed ≡ false → talk.over ≡ false → put ≡ [] → IsUnread inbox
-    → IsHearing left left talk put goodbye inbox.rest
-hearing_first left talk put goodbye inbox agreed live none unread = record {
+    → IsHearing rules left left talk put goodbye inbox.rest
+hearing_first rules left talk put goodbye inbox agreed live none unread = record {
   came = [];
-  is_read = unread.unread left;
+  is_read = unread.unread rules left;
   far = record { agreed = sym agreed; over = sym live };
   said = none;
   over = λ over. cc;
 }
 
 -- one message more is heard
-pub hearing_more : (left left_now : Option (List ℕ)) (old new : Talk) (put put_now : Orders) (goodbye goodbye_now : Owed)
-    (message rest rest_now : List ℕ)
+pub hearing_more : (rules : Rules) (left left_now : Option (List ℕ)) (old new : Talk) (put put_now : Orders)
+    (goodbye goodbye_now : Owed) (message rest rest_now : List ℕ)
     → old.over ≡ false → Takes message rest rest_now → Hears old new message
     → ((s : Session) → IsThisFar s old → put_now ≡ put ++ orders_said s message)
     → (new.over ≡ true → goodbye_now ≡ goodbye_to message)
-    → IsHearing left left_now old put goodbye rest → IsHearing left left_now new put_now goodbye_now rest_now
-hearing_more left left_now old new put put_now goodbye goodbye_now message rest rest_now live takes heard puts ends before =
+    → IsHearing rules left left_now old put goodbye rest → IsHearing rules left left_now new put_now goodbye_now rest_now
+hearing_more rules left left_now old new put put_now goodbye goodbye_now message rest rest_now live takes heard puts ends before =
     let c : Came = record { message = message; refused = [] } in
     record {
       came = before.came ++ c ∷ [];
-      is_read = takes.onward left left_now before.came [] (before.far.over ∙ live) before.is_read;
-      far = subst (λ s. IsThisFar s new) (sym (fold-append with_message opening_session before.came (c ∷ [])))
-          (heard (session_of before.came) before.far);
-      said = puts (session_of before.came) before.far
-          ∙ ap (λ l. l ++ orders_said (session_of before.came) message) before.said
-          ∙ sym (said_one_more before.came c);
+      is_read = takes.onward rules left left_now before.came [] (before.far.over ∙ live) before.is_read;
+      far = subst (λ s. IsThisFar s new) (sym (fold-append with_message (opening_session rules) before.came (c ∷ [])))
+          (heard (session_of rules before.came) before.far);
+      said = puts (session_of rules before.came) before.far
+          ∙ ap (λ l. l ++ orders_said (session_of rules before.came) message) before.said
+          ∙ sym (said_one_more rules before.came c);
       over = λ over. record { front = before.came; last = c; parts = refl; owed = ends over };
+    }
+
+-- more is read, or nothing
+pub hearing_read : (rules : Rules) (left before now : Option (List ℕ)) (talk : Talk) (put : Orders) (goodbye : Owed)
+    (rest rest_now : List ℕ) → ReadsOn before now rest rest_now → IsHearing rules left before talk put goodbye rest
+    → IsHearing rules left now talk put goodbye rest_now
+hearing_read rules left before now talk put goodbye rest rest_now read hearing = record {
+  came = hearing.came;
+  is_read = read.onward rules left hearing.came hearing.is_read;
+  far = hearing.far;
+  said = hearing.said;
+  over = hearing.over;
+}
+
+-- the reader ends
+pub hearing_ends : (rules : Rules) (left left_now : Option (List ℕ)) (talk : Talk) (put : Orders) (goodbye : Owed)
+    (rest : List ℕ) (fault : Option Fault) → length rest ≤ 8192 → IsEnding fault talk.over rest left_now
+    → IsHearing rules left left_now talk put goodbye rest → HasHeard rules left left_now fault put goodbye
+hearing_ends rules left left_now talk put goodbye rest fault bounded ending hearing =
+    let P : Bool → Type 0 = λ over. IsEnding fault over rest left_now in
+    record {
+      came = hearing.came;
+      rest = rest;
+      is_read = hearing.is_read;
+      bounded = bounded;
+      ending = subst P (sym hearing.far.over) ending;
+      said = hearing.said;
+      over = λ over. hearing.over (sym hearing.far.over ∙ over);
     }

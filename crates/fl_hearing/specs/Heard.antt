@@ -7,6 +7,7 @@ use Rattle.fl_session.specs.Session.{Came, session_of}
 use Rattle.fl_session.specs.Talk.{goodbye_to}
 use Rattle.fl_session.specs.declared.server.Owed.{Owed}
 use Rattle.fl_session.specs.declared.session.Fault.{Fault}
+use Rattle.fl_waiting.specs.declared.rules.Rules.{Rules}
 use Rattle.fl_workers.specs.Asked.{Orders}
 
 -- the last message is a DESTROY, to which this is owed
@@ -16,14 +17,14 @@ pub record IsLast (came : List Came) (goodbye : Owed) : Type 0 where
   pub parts : came ≡ front ++ last ∷ []
   pub owed : goodbye ≡ goodbye_to last.message
 
--- The reader ended, with this fault. What was read is whole messages and a rest, the orders of these messages were put, and
--- where a DESTROY ended the session, this is owed to it.
-pub record HasHeard (left left_now : Option (List ℕ)) (fault : Option Fault) (put : Orders) (goodbye : Owed)
+-- The reader of a session under these rules ended, with this fault. What was read is whole messages and a rest, the orders
+-- of these messages were put, and where a DESTROY ended the session, this is owed to it.
+pub record HasHeard (rules : Rules) (left left_now : Option (List ℕ)) (fault : Option Fault) (put : Orders) (goodbye : Owed)
     : Type 0 where
   pub came : List Came
   pub rest : List ℕ
-  pub is_read : IsRead left left_now came rest
+  pub is_read : IsRead rules left left_now came rest
   pub bounded : length rest ≤ 8192
-  pub ending : IsEnding fault (session_of came).over rest left_now
-  pub said : put ≡ said_in came
-  pub over : (session_of came).over ≡ true → IsLast came goodbye
+  pub ending : IsEnding fault (session_of rules came).over rest left_now
+  pub said : put ≡ said_in rules came
+  pub over : (session_of rules came).over ≡ true → IsLast came goodbye

@@ -2,6 +2,7 @@
 use Rattle.std.specs.Prelude.{ℕ, List, [], ◌∷◌, ◌++◌, if◌then◌else◌}
 use Rattle.fl_session.specs.Session.{Came, Session, opening_session, orders_of, with_message}
 use Rattle.fl_wire.specs.Says.{said}
+use Rattle.fl_waiting.specs.declared.rules.Rules.{Rules}
 use Rattle.fl_workers.specs.Asked.{Orders}
 
 -- the orders that a message says to a session that is this far: after the INIT that was agreed, and before a DESTROY
@@ -13,6 +14,6 @@ abbrev pub said_from : Session → List Came → Orders
 said_from s [] = []
 said_from s (c ∷ came) = orders_said s c.message ++ said_from (with_message s c) came
 
--- the orders that the messages of a session say
-abbrev pub said_in : List Came → Orders
-said_in came = said_from opening_session came
+-- the orders that the messages of a session under these rules say
+abbrev pub said_in : Rules → List Came → Orders
+said_in rules came = said_from (opening_session rules) came

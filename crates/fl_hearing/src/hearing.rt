@@ -7,6 +7,7 @@ ghost use Rattle.fl_hearing.specs.Said.{orders_said};
 ghost use Rattle.fl_session.specs.Inbox.{IsUnread};
 ghost use Rattle.fl_session.specs.Session.{Session};
 ghost use Rattle.fl_session.specs.Talk.{goodbye_to};
+ghost use Rattle.fl_waiting.specs.declared.rules.Rules.{Rules};
 
 use fl_intake::{Intake, PutEnd};
 use fl_order::Order;
@@ -41,7 +42,8 @@ pub fn hear_all<R: Wait, I: Read, W: Write, N: WriterName>(
     requires open { put.closed ≡ false }
     requires none { put.put ≡ [] }
     requires unread { IsUnread inbox.old }
-    ensures heard { HasHeard (I.remaining r.old) (I.remaining r.new) result.fault result.put.put result.goodbye }
+    ensures heard { (rules : Rules)
+        → HasHeard rules (I.remaining r.old) (I.remaining r.new) result.fault result.put.put result.goodbye }
     ensures same { (result.put.of ≡ put.of) × (result.put.takers ≡ put.takers) }
     ensures memory { result.fault ≢ Some Fault.NoMemory }
 {
@@ -89,7 +91,8 @@ impl<'r, 'a, 'w, R: Wait, W: Write, N: WriterName> Hearer<'r, 'a, 'w, R, W, N> {
     fn hear_all<I: Read>(self, r: &mut I, inbox: &mut Inbox) -> Heard
         requires unread { IsUnread inbox.old }
         requires fresh { (self.talk.agreed ≡ false) × (self.talk.over ≡ false) × (self.put.put ≡ []) }
-        ensures heard { HasHeard (I.remaining r.old) (I.remaining r.new) result.fault result.put.put result.goodbye }
+        ensures heard { (rules : Rules)
+            → HasHeard rules (I.remaining r.old) (I.remaining r.new) result.fault result.put.put result.goodbye }
         ensures same { (result.put.of ≡ self.entry.put.of) × (result.put.takers ≡ self.entry.put.takers) }
         ensures memory { result.fault ≢ Some Fault.NoMemory }
     {

@@ -31,6 +31,7 @@ use Rattle.fl_session.specs.declared.session.Fault.TheVariants.{NoMemory, NoRead
 use Rattle.fl_session.specs.Talk.{bytes_of}
 use Rattle.fl_session.specs.declared.server.Owed.{Owed}
 use Rattle.fl_session.specs.declared.session.Done.{Done}
+use Rattle.fl_waiting.specs.declared.rules.Rules.{Rules}
 
 -- there is a seat for each worker
 pub as_many : (seats : List Place) (workers : ℕ) → map (λ seat. seat.worker) seats ≡ range_with_len 0 workers
@@ -47,11 +48,11 @@ nothing_sent start = record {
 }
 
 -- a session whose orders were put, and handed in, looked for or refused
-pub asked_as_said : (workers : ℕ) (came : List Came) (put : Orders) (orders : Weight → ℕ) (places : List Place)
-    (any : Bool) (fault : Option Fault) (done : Done) → put ≡ said_in came
+pub asked_as_said : (rules : Rules) (workers : ℕ) (came : List Came) (put : Orders) (orders : Weight → ℕ) (places : List Place)
+    (any : Bool) (fault : Option Fault) (done : Done) → put ≡ said_in rules came
     → ((weight : Weight) → sum_by weight put ≡ orders weight) → HaveDone orders places any
-    → map (λ (p : Place). p.worker) places ≡ range_with_len 0 workers → HasAll places any fault done → IsAsked came done
-asked_as_said workers came put orders places any fault done said is did whose all = record {
+    → map (λ (p : Place). p.worker) places ≡ range_with_len 0 workers → HasAll places any fault done → IsAsked rules came done
+asked_as_said rules workers came put orders places any fault done said is did whose all = record {
   looked = did.looked;
   refused = did.refused;
   each = λ weight. omega (
@@ -69,17 +70,17 @@ asked_as_said workers came put orders places any fault done said is did whose al
 }
 
 -- what a session did whose reader ended
-pub served_by : (workers : ℕ) (left left_now held held_now : Option (List ℕ)) (fault : Option Fault) (put : Orders)
+pub served_by : (rules : Rules) (workers : ℕ) (left left_now held held_now : Option (List ℕ)) (fault : Option Fault) (put : Orders)
     (goodbye : Owed) (broken any : Bool) (orders : Weight → ℕ) (places : List Place) (done : Done)
-    → HasHeard left left_now fault put goodbye → HasSent held held_now [] broken
+    → HasHeard rules left left_now fault put goodbye → HasSent held held_now [] broken
     → (broken ≡ false → HasSentLast held held_now (bytes_of goodbye))
     → (told : Option Fault) → ((came : List Came) (rest : List ℕ) (left : Option (List ℕ))
-    → IsEnding fault (session_of came).over rest left → EndsBy told broken came rest left)
+    → IsEnding fault (session_of rules came).over rest left → EndsBy rules told broken came rest left)
     → ((weight : Weight) → sum_by weight put ≡ orders weight) → HaveDone orders places any
     → map (λ (p : Place). p.worker) places ≡ range_with_len 0 workers
-    → HasAll places any told done ⊎ HasNoHistory done → IsServedBy left left_now held held_now done
-served_by workers left left_now held held_now fault put goodbye broken any orders places done heard sent last told ends
-    is did whose closed = record {
+    → HasAll places any told done ⊎ HasNoHistory done → IsServedBy rules left left_now held held_now done
+served_by rules workers left left_now held held_now fault put goodbye broken any orders places done heard sent last told
+    ends is did whose closed = record {
       came = heard.came;
       rest = heard.rest;
       broken = broken;
@@ -89,15 +90,15 @@ served_by workers left left_now held held_now fault put goodbye broken any order
       goodbye = λ whole over. record { goodbye = goodbye; last = heard.over over; sent = last whole };
       ending = ⊎_elim (λ all. inl (rw all.told (ends heard.came heard.rest left_now heard.ending))) inr closed;
       orders = ⊎_elim
-          (λ all. inl (asked_as_said workers heard.came put orders places any told done heard.said is did whose all)) inr closed;
+          (λ all. inl (asked_as_said rules workers heard.came put orders places any told done heard.said is did whose all)) inr closed;
     }
 
 -- what a session did that had no memory, or no reader
-pub unserved : (left left_now held held_now : Option (List ℕ)) (broken : Bool) (done : Done) (fault : Fault)
-    → IsRead left left_now [] []
+pub unserved : (rules : Rules) (left left_now held held_now : Option (List ℕ)) (broken : Bool) (done : Done) (fault : Fault)
+    → IsRead rules left left_now [] []
     → HasSent held held_now [] broken → done.fault ≡ Some fault → done.history ≡ []
-    → (fault ≡ NoMemory) ⊎ (fault ≡ NoReader) → IsServedBy left left_now held held_now done
-unserved left left_now held held_now broken done fault unread sent told none why = record {
+    → (fault ≡ NoMemory) ⊎ (fault ≡ NoReader) → IsServedBy rules left left_now held held_now done
+unserved rules left left_now held held_now broken done fault unread sent told none why = record {
   came = [];
   rest = [];
   broken = broken;
@@ -106,7 +107,7 @@ unserved left left_now held held_now broken done fault unread sent told none why
   sent = sent;
   goodbye = λ whole over. cc;
   ending = ⊎_elim (λ memory. inl
-      (subst (λ fault. EndsBy fault broken [] [] left_now) (sym (told ∙ ap Some memory)) (refl, refl)))
+      (subst (λ fault. EndsBy rules fault broken [] [] left_now) (sym (told ∙ ap Some memory)) (refl, refl)))
       (λ reader. inr (record { fault = told ∙ ap Some reader; history = none })) why;
   orders = inl (record {
     looked = [];

@@ -10,6 +10,7 @@ use Rattle.fl_session.specs.Talk.{bytes_of}
 use Rattle.fl_session.specs.declared.server.Owed.{Owed}
 use Rattle.fl_session.specs.declared.session.Done.{Done}
 use Rattle.fl_session.specs.declared.session.Fault.TheVariants.{NoReader}
+use Rattle.fl_waiting.specs.declared.rules.Rules.{Rules}
 use Rattle.fl_workers.specs.Asked.{Orders, asked}
 use Rattle.fl_workers.specs.Shared.{HasSent, HasSentLast}
 
@@ -19,12 +20,12 @@ pub record SaysGoodbye (came : List Came) (held held_now : Option (List ℕ)) : 
   pub last : IsLast came goodbye
   pub sent : HasSentLast held held_now (bytes_of goodbye)
 
--- The orders that the messages say are, each as often, those that the history asks, some that were looked for, which only
--- read, and some that were refused, of which there is none where no refusal is told.
-pub record IsAsked (came : List Came) (done : Done) : Type 0 where
+-- The orders that the messages of a session under these rules say are, each as often, those that the history asks, some that
+-- were looked for, which only read, and some that were refused, of which there is none where no refusal is told.
+pub record IsAsked (rules : Rules) (came : List Came) (done : Done) : Type 0 where
   pub looked : Orders
   pub refused : Orders
-  pub each : AreAsOften (said_in came) (asked done.history ++ looked ++ refused)
+  pub each : AreAsOften (said_in rules came) (asked done.history ++ looked ++ refused)
   pub reads : All (λ order. only_reads order.op ≡ true) looked
   pub none : done.refused ≡ false → refused ≡ []
 
@@ -33,17 +34,17 @@ pub record HasNoHistory (done : Done) : Type 0 where
   pub fault : done.fault ≡ Some NoReader
   pub history : done.history ≡ []
 
--- What was read is whole messages and a rest of at most 8192 bytes, and no message came after one that ended the
--- session. Whole replies were written behind what the writer held; where a write failed (`broken`), a beginning of them.
--- Where none failed, the last of them answers the DESTROY that ended the session, if one did. The fault is that of the end,
--- or the history couldn't be told. Else the history asks what the messages say.
-pub record IsServedBy (left left_now held held_now : Option (List ℕ)) (done : Done) : Type 0 where
+-- Under these rules what was read is whole messages and a rest of at most 8192 bytes, and no message came after one that
+-- ended the session. Whole replies were written behind what the writer held; where a write failed (`broken`), a beginning of
+-- them. Where none failed, the last of them answers the DESTROY that ended the session, if one did. The fault is that of the
+-- end, or the history couldn't be told. Else the history asks what the messages say.
+pub record IsServedBy (rules : Rules) (left left_now held held_now : Option (List ℕ)) (done : Done) : Type 0 where
   pub came : List Came
   pub rest : List ℕ
   pub broken : Bool
-  pub is_read : IsRead left left_now came rest
+  pub is_read : IsRead rules left left_now came rest
   pub bounded : length rest ≤ 8192
   pub sent : HasSent held held_now [] broken
-  pub goodbye : broken ≡ false → (session_of came).over ≡ true → SaysGoodbye came held held_now
-  pub ending : EndsBy done.fault broken came rest left_now ⊎ HasNoHistory done
-  pub orders : IsAsked came done ⊎ HasNoHistory done
+  pub goodbye : broken ≡ false → (session_of rules came).over ≡ true → SaysGoodbye came held held_now
+  pub ending : EndsBy rules done.fault broken came rest left_now ⊎ HasNoHistory done
+  pub orders : IsAsked rules came done ⊎ HasNoHistory done

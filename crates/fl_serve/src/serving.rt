@@ -15,7 +15,7 @@ ghost use Rattle.fl_session.specs.Kept.{came_to};
 ghost use Rattle.fl_serve.specs.Serve.{HasNoHistory, IsServedBy};
 
 use fl_board::{Board, BoardName, FreshLog, OpenFault, Seat};
-use fl_core::Tolds;
+use fl_core::{Rules, Tolds};
 use fl_crew::{Back, Crew, Posts, Thread, handed_in};
 use fl_hearing::Heard;
 use fl_history::Lines;
@@ -38,27 +38,28 @@ const STACK_BYTES: usize = 2 << 20;
 // a client waiting that has its next orders ready by then.
 const BATCH_BYTES: usize = 672;
 
-/// Serves a whole session with 1 to 16 workers. The reader, which is the caller's thread, answers what is no order; each
-/// order goes to a worker, which looks for it at one board or hands it in there, and sends all its replies, each whole. Replies that are ready go
-/// out together. All memory but that of the history is made, and all workers are started, before the first read. At the
-/// stream's end, at a fault of the reader and at a DESTROY the orders that were read are finished, and only then is a
-/// DESTROY answered. After a write that failed it goes on, and writes no more; the reader's fault is told before the
-/// writer's. The gate is told of each order and reply.
+/// Serves a whole session with 1 to 16 workers, under these rules. The reader, which is the caller's thread, answers what is
+/// no order; each order goes to a worker, which looks for it at one board or hands it in there, and sends all its replies,
+/// each whole. Replies that are ready go out together. All memory but that of the history is made, and all workers are
+/// started, before the first read. At the stream's end, at a fault of the reader and at a DESTROY the orders that were read
+/// are finished, and only then is a DESTROY answered. After a write that failed it goes on, and writes no more; the reader's
+/// fault is told before the writer's. The gate is told of each order and reply.
 pub fn serve<R: Threads + Wait + Sync, I: Read, W: Write + Send + Drop, G: Gate + Sync>(
     rt: &R,
     alloc: Global,
     r: &mut I,
     w: &mut W,
     workers: u32,
+    rules: Rules,
     gate: &G,
 ) -> Done
     requires workers { (0 < workers) × (workers ≤ 16) }
-    ensures legal { IsLegal result.history }
-    ensures served { IsServedBy (I.remaining r.old) (I.remaining r.new) (W.contents w.old) (W.contents w.new) result }
+    ensures legal { IsLegal rules result.history }
+    ensures served { IsServedBy rules (I.remaining r.old) (I.remaining r.new) (W.contents w.old) (W.contents w.new) result }
     ensures nothing { result.fault ≡ Some Fault.NoMemory
         → (result.history ≡ []) × Keeps (I.remaining r.old) (I.remaining r.new) }
 {
-    serve_on_stack(rt, alloc, r, w, workers, gate, STACK_BYTES)
+    serve_on_stack(rt, alloc, r, w, workers, rules, gate, STACK_BYTES)
 }
 
 /// The same, with this many bytes for each worker's stack. Where a thread can't be made with it, that is want of memory.
@@ -68,16 +69,21 @@ pub fn serve_on_stack<R: Threads + Wait + Sync, I: Read, W: Write + Send + Drop,
     r: &mut I,
     w: &mut W,
     workers: u32,
+    rules: Rules,
     gate: &G,
     stack: usize,
 ) -> Done
     requires workers { (0 < workers) × (workers ≤ 16) }
-    ensures legal { IsLegal result.history }
-    ensures served { IsServedBy (I.remaining r.old) (I.remaining r.new) (W.contents w.old) (W.contents w.new) result }
+    ensures legal { IsLegal rules result.history }
+    ensures served { IsServedBy rules (I.remaining r.old) (I.remaining r.new) (W.contents w.old) (W.contents w.new) result }
     ensures nothing { result.fault ≡ Some Fault.NoMemory
         → (result.history ≡ []) × Keeps (I.remaining r.old) (I.remaining r.new) }
 {
-    let staff = Staff { workers, stack };
+    let staff = Staff {
+        workers,
+        rules,
+        stack,
+    };
     kept_on_stack(rt, alloc, r, w, gate, staff, Lines::new(alloc)).into_done(alloc)
 }
 
@@ -89,6 +95,7 @@ pub fn serve_over<R, I: Read, W: Write + Send + Drop, G: Gate + Sync, K: Keeper 
     r: &mut I,
     w: &mut W,
     workers: u32,
+    rules: Rules,
     gate: &G,
     keeper: K,
 ) -> Kept<K>
@@ -96,8 +103,8 @@ where
     R: Threads + Wait + Sync,
     requires workers { (0 < workers) × (workers ≤ 16) }
     requires none { K.lines keeper ≡ [] }
-    ensures legal { IfSome result.keeper (λ keeper. IsLegal (K.lines keeper)) }
-    ensures served { IsServedBy (I.remaining r.old) (I.remaining r.new) (W.contents w.old) (W.contents w.new)
+    ensures legal { IfSome result.keeper (λ keeper. IsLegal rules (K.lines keeper)) }
+    ensures served { IsServedBy rules (I.remaining r.old) (I.remaining r.new) (W.contents w.old) (W.contents w.new)
         (came_to K.lines result.keeper result.fault result.refused) }
     ensures back { IsSome result.keeper ⊎ (result.fault ≡ Some Fault.NoMemory) ⊎ (result.fault ≡ Some Fault.NoReader) }
     ensures nothing { result.fault ≡ Some Fault.NoMemory
@@ -105,19 +112,21 @@ where
 {
     let staff = Staff {
         workers,
+        rules,
         stack: STACK_BYTES,
     };
     kept_on_stack(rt, alloc, r, w, gate, staff, keeper)
 }
 
-// How many workers there are, and how many bytes each one's stack has.
+// How many workers there are, by which rules requests wait, and how many bytes each worker's stack has.
 #[derive(Clone, Copy)]
 struct Staff {
     workers: u32,
+    rules: Rules,
     stack: usize,
 }
 
-// The same, with workers and stacks as they are said.
+// The same, with workers, rules and stacks as they are said.
 fn kept_on_stack<R, I: Read, W: Write + Send + Drop, G: Gate + Sync, K: Keeper + Send + Drop>(
     rt: &R,
     alloc: Global,
@@ -131,8 +140,8 @@ where
     R: Threads + Wait + Sync,
     requires workers { (0 < staff.workers) × (staff.workers ≤ 16) }
     requires none { K.lines keeper ≡ [] }
-    ensures legal { IfSome result.keeper (λ keeper. IsLegal (K.lines keeper)) }
-    ensures served { IsServedBy (I.remaining r.old) (I.remaining r.new) (W.contents w.old) (W.contents w.new)
+    ensures legal { IfSome result.keeper (λ keeper. IsLegal staff.rules (K.lines keeper)) }
+    ensures served { IsServedBy staff.rules (I.remaining r.old) (I.remaining r.new) (W.contents w.old) (W.contents w.new)
         (came_to K.lines result.keeper result.fault result.refused) }
     ensures back { IsSome result.keeper ⊎ (result.fault ≡ Some Fault.NoMemory) ⊎ (result.fault ≡ Some Fault.NoReader) }
     ensures nothing { result.fault ≡ Some Fault.NoMemory
@@ -172,20 +181,29 @@ fn serve_at<
     requires named { (blank.name ≡ L.name) × (blank.parts ≡ L.parts) }
     requires log { log ≡ L.log }
     requires parts { (staff.workers ≡ L.parts) × (L.workers ≡ L.parts) }
+    requires rules { staff.rules ≡ L.rules }
     requires workers { (0 < staff.workers) × (staff.workers ≤ 16) }
     requires none { K.lines keeper ≡ [] }
     requires start { W.contents w.old ≡ N.start }
     requires writer { w.ghost_name ≡ N.name }
     ensures writer { result.1.ghost_name ≡ w.entry.ghost_name }
-    ensures legal { IfSome result.0.keeper (λ keeper. IsLegal (K.lines keeper)) }
-    ensures served { IsServedBy (I.remaining r.old) (I.remaining r.new) (W.contents w.old) (W.contents result.1.now)
+    ensures legal { IfSome result.0.keeper (λ keeper. IsLegal staff.rules (K.lines keeper)) }
+    ensures served { IsServedBy staff.rules (I.remaining r.old) (I.remaining r.new) (W.contents w.old) (W.contents result.1.now)
         (came_to K.lines result.0.keeper result.0.fault result.0.refused) }
     ensures back { IsSome result.0.keeper
         ⊎ (result.0.fault ≡ Some Fault.NoMemory) ⊎ (result.0.fault ≡ Some Fault.NoReader) }
     ensures nothing { result.0.fault ≡ Some Fault.NoMemory
         → (result.0.keeper ≡ None) × Keeps (I.remaining r.old) (I.remaining r.new) }
 {
-    let rooms = match Rooms::<L, &R, K>::new(alloc, rt, keeper, blank, log, staff.workers) {
+    let rooms = match Rooms::<L, &R, K>::new(
+        alloc,
+        rt,
+        keeper,
+        blank,
+        log,
+        staff.workers,
+        staff.rules,
+    ) {
         Ok(rooms) => rooms,
         Err(fault) => return (Kept::nothing(alloc, unopened(fault)), w),
     };
@@ -230,10 +248,10 @@ fn finished<'w, L: BoardName, N: WriterName, R: Wait, W: Write, G: Gate, K: Keep
     requires whose { map (λ seat. seat.worker) back.seats.items ≡ range_with_len 0 heard.put.takers }
     requires did { HaveDone (λ weight. weight_taken weight back.ends.items) back.seats.items back.refused }
     ensures writer { result.1.ghost_name ≡ N.name }
-    ensures legal { IfSome result.0.keeper (λ keeper. IsLegal (K.lines keeper)) }
+    ensures legal { IfSome result.0.keeper (λ keeper. IsLegal L.rules (K.lines keeper)) }
     ensures served { (left left_now : Option (List ℕ))
-        → HasHeard left left_now heard.fault heard.put.put heard.goodbye
-        → IsServedBy left left_now N.start (W.contents result.1.now)
+        → HasHeard L.rules left left_now heard.fault heard.put.put heard.goodbye
+        → IsServedBy L.rules left left_now N.start (W.contents result.1.now)
         (came_to K.lines result.0.keeper result.0.fault result.0.refused) }
     ensures back { IsSome result.0.keeper ⊎ (result.0.fault ≡ Some Fault.NoReader) }
     ensures memory { heard.fault ≢ Some Fault.NoMemory → result.0.fault ≢ Some Fault.NoMemory }
@@ -286,7 +304,7 @@ fn closed<L: BoardName, R: Wait + Drop, K: Keeper + Drop>(
     fault: Option<Fault>,
 ) -> Kept<K>
     requires { L.workers ≡ L.parts }
-    ensures legal { IfSome result.keeper (λ keeper. IsLegal (K.lines keeper)) }
+    ensures legal { IfSome result.keeper (λ keeper. IsLegal L.rules (K.lines keeper)) }
     ensures told { HasAll seats.items refused fault (came_to K.lines result.keeper result.fault result.refused)
         ⊎ HasNoHistory (came_to K.lines result.keeper result.fault result.refused) }
     ensures back { IsSome result.keeper ⊎ (result.fault ≡ Some Fault.NoReader) }
@@ -322,11 +340,13 @@ impl<L: BoardName, R: Wait + Drop, K: Keeper + Drop> Rooms<L, R, K> {
         blank: Blank,
         log: FreshLog,
         workers: u32,
+        rules: Rules,
     ) -> Result<Rooms<L, R, K>, OpenFault>
         requires none { K.lines keeper ≡ [] }
         requires named { (blank.name ≡ L.name) × (blank.parts ≡ L.parts) }
         requires log { log ≡ L.log }
         requires parts { (workers ≡ L.parts) × (L.workers ≡ L.parts) }
+        requires rules { rules ≡ L.rules }
         requires workers { (0 < workers) × (workers ≤ 16) }
         ensures seats { IfOk result (λ rooms.
             map (λ seat. seat.worker) rooms.posts.seats.items ≡ range_with_len 0 workers) }
@@ -337,7 +357,7 @@ impl<L: BoardName, R: Wait + Drop, K: Keeper + Drop> Rooms<L, R, K> {
         ensures none { IfOk result (λ rooms. rooms.replies ≡ []) }
     {
         let stock = Stock::<L>::new(alloc, workers)?;
-        let (board, seats) = Board::<L, R, K>::over(alloc, rt, keeper, blank, log, workers)?;
+        let (board, seats) = Board::<L, R, K>::over(alloc, rt, keeper, blank, log, workers, rules)?;
         let Stock {
             intake,
             put,

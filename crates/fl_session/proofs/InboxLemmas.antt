@@ -14,6 +14,7 @@ use Rattle.fl_wire.specs.declared.cut.Step.TheVariants.{Whole, More, Bad}
 use Rattle.fl_session.specs.Inbox.{IsUnread, Inflow, ReadsOn, Takes}
 use Rattle.fl_session.specs.Served.{IsRead}
 use Rattle.fl_session.specs.Session.{Came, session_of}
+use Rattle.fl_waiting.specs.declared.rules.Rules.{Rules}
 
 -- one list more
 concat_one : (messages : List (List ℕ)) (message : List ℕ)
@@ -22,8 +23,9 @@ concat_one messages message = concat-append messages (message ∷ [])
     ∙ ap (λ bytes. concat messages ++ bytes) (append-nil message)
 
 -- nothing was read
-pub nothing_read : (left left_now : Option (List ℕ)) → Keeps left left_now → IsRead left left_now [] []
-nothing_read left left_now kept = record {
+pub nothing_read : (rules : Rules) (left left_now : Option (List ℕ)) → Keeps left left_now
+    → IsRead rules left left_now [] []
+nothing_read rules left left_now kept = record {
   read = [];
   consumed = Consumes-kept left left left_now [] (Consumes-nil left) kept;
   cut = record { parts = refl; whole = All-nil IsMessage };
@@ -33,13 +35,13 @@ nothing_read left left_now kept = record {
 -- nothing was read yet
 pub unread_first : (inbox : Inflow) → inbox.rest ≡ [] → IsUnread inbox
 unread_first inbox empty = record
-    { empty = empty; unread = λ left. rw empty (nothing_read left left (Keeps-refl left)) }
+    { empty = empty; unread = λ rules left. rw empty (nothing_read rules left left (Keeps-refl left)) }
 
 -- these bytes were read behind the rest
 read_more : (before now : Option (List ℕ)) (rest bytes : List ℕ) → Consumes before now bytes
     → ReadsOn before now rest (rest ++ bytes)
 read_more before now rest bytes more = record {
-  onward = λ left came is_read. record {
+  onward = λ rules left came is_read. record {
     read = is_read.read ++ bytes;
     consumed = Consumes-trans left before now is_read.read bytes is_read.consumed more;
     cut = record {
@@ -105,13 +107,13 @@ cut_more read came c rest rest_now cut message parts =
 -- a message is taken
 takes : (message rest rest_now : List ℕ) → IsMessage message → message ++ rest_now ≡ rest → Takes message rest rest_now
 takes message rest rest_now whole parts = record {
-  onward = λ left left_now came refused over before.
+  onward = λ rules left left_now came refused over before.
       let c : Came = record { message = message; refused = refused } in
       record {
         read = before.read;
         consumed = before.consumed;
         cut = cut_more before.read came c rest rest_now before.cut whole parts;
-        live = λ front last e. ap (λ front. (session_of front).over) (sym (same_from_push came front c last e).0) ∙ over;
+        live = λ front last e. ap (λ front. (session_of rules front).over) (sym (same_from_push came front c last e).0) ∙ over;
       };
 }
 

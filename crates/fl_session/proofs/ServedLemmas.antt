@@ -7,19 +7,21 @@ use Rattle.fl_history.specs.declared.history.Line.{Line}
 use Rattle.fl_wire.specs.Spell.{IsReply}
 use Rattle.fl_session.specs.Collecting.{AreGiven}
 use Rattle.fl_session.specs.Served.{AreSent, IsRead, IsServed, EndsBy}
-use Rattle.fl_session.specs.Session.{Came, session_of}
+use Rattle.fl_session.specs.Session.{Came, Session, session_of}
 use Rattle.fl_session.specs.Inbox.{IsEnding}
 use Rattle.fl_session.specs.Kept.{lines_kept}
 use Rattle.std.specs.Prelude.{IfSome}
 use Rattle.fl_session.specs.Inside.UnderWay.{HasEnded}
+use Rattle.fl_session.proofs.RulesLemmas.{rules_of}
 use Rattle.fl_session.specs.declared.session.Done.{Done}
 use Rattle.fl_session.specs.declared.session.Fault.{Fault}
 use Rattle.fl_session.specs.declared.session.Fault.TheVariants.{NoMemory}
 use Rattle.fl_session.specs.declared.server.Server.{Server}
+use Rattle.fl_waiting.specs.declared.rules.Rules.{Rules}
 
 -- a history of no line is legal
-pub nothing_legal : (history : List Line) → history ≡ [] → IsLegal history
-nothing_legal history none = subst IsLegal (sym none) nothing
+pub nothing_legal : (rules : Rules) (history : List Line) → history ≡ [] → IsLegal rules history
+nothing_legal rules history none = subst (IsLegal rules) (sym none) nothing
 
 -- where nothing waits, all bytes of the replies were written, or a beginning of them
 all_sent : (broken : Bool) (sent : List ℕ) (replies : List (List ℕ)) → AreGiven broken sent [] replies
@@ -27,14 +29,23 @@ all_sent : (broken : Bool) (sent : List ℕ) (replies : List (List ℕ)) → Are
 all_sent true sent replies given = given
 all_sent false sent replies given = sym (append-nil sent) ∙ given
 
--- a session that ended is served
-pub served : {K : Type 0} (left left_now held held_now : Option (List ℕ)) (broken : Bool) (server : Server K)
-    (fault : Option Fault) (done : Done) → HasEnded left left_now held held_now [] broken server fault
-    → done.history ≡ server.desk.lines
-    → ((came : List Came) (rest : List ℕ) (left : Option (List ℕ)) → IsEnding fault (session_of came).over rest left
-    → EndsBy done.fault broken came rest left) → done.refused ≡ server.refused
-    → IsServed left left_now held held_now broken done
-served left left_now held held_now broken server fault done ended history told refused =
+-- the rules are those that the desk began with
+under : {K : Type 0} (by rules : Rules) (left left_now held held_now : Option (List ℕ)) (broken : Bool)
+    (server : Server K) (fault : Option Fault) → by ≡ rules
+    → HasEnded by left left_now held held_now [] broken server fault
+    → HasEnded rules left left_now held held_now [] broken server fault
+under by rules left left_now held held_now broken server fault same began =
+    let P : Rules → Type 0 = λ r. HasEnded r left left_now held held_now [] broken server fault in subst P same began
+
+-- a session that ended is served, under the rules that its desk began with
+pub served : {K : Type 0} (by rules : Rules) (left left_now held held_now : Option (List ℕ)) (broken : Bool)
+    (server : Server K) (fault : Option Fault) (done : Done) → by ≡ rules
+    → HasEnded by left left_now held held_now [] broken server fault → done.history ≡ server.desk.lines
+    → ((came : List Came) (rest : List ℕ) (left : Option (List ℕ)) → IsEnding fault (session_of rules came).over rest left
+    → EndsBy rules done.fault broken came rest left) → done.refused ≡ server.refused
+    → IsServed rules left left_now held held_now broken done
+served by rules left left_now held held_now broken server fault done same began history told refused =
+    let ended = under by rules left left_now held held_now broken server fault same began in
     let way = ended.way in
     let P : Bool → Type 0 = λ over. IsEnding fault over ended.rest left_now in
     record {
@@ -47,14 +58,21 @@ served left left_now held held_now broken server fault done ended history told r
       refused = refused ∙ ap (λ s. s.refused) way.stands;
       framed = way.given.framed;
       written = way.given.written;
-      are_sent = all_sent broken way.given.sent (session_of way.came).replies way.given.are_given;
+      are_sent = all_sent broken way.given.sent (session_of rules way.came).replies way.given.are_given;
       ending = told way.came ended.rest left_now (subst P (ap (λ s. s.over) way.stands) ended.ending);
     }
 
+-- its desk has these rules
+pub desk_under : {K : Type 0} (by rules : Rules) (left left_now held held_now : Option (List ℕ)) (broken : Bool)
+    (server : Server K) (fault : Option Fault) → by ≡ rules
+    → HasEnded by left left_now held held_now [] broken server fault → server.desk.present.rules ≡ rules
+desk_under by rules left left_now held held_now broken server fault same began =
+    ap (λ (s : Session). s.rules) began.way.stands ∙ rules_of by began.way.came ∙ same
+
 -- what a session did that had no memory
-pub unserved : (left held : Option (List ℕ)) (done : Done) → done.history ≡ [] → done.fault ≡ Some NoMemory
-    → done.refused ≡ false → IsRead left left [] [] → IsServed left left held held false done
-unserved left held done history fault refused unread = record {
+pub unserved : (rules : Rules) (left held : Option (List ℕ)) (done : Done) → done.history ≡ []
+    → done.fault ≡ Some NoMemory → done.refused ≡ false → IsRead rules left left [] [] → IsServed rules left left held held false done
+unserved rules left held done history fault refused unread = record {
   came = [];
   rest = [];
   sent = [];
@@ -69,7 +87,7 @@ unserved left held done history fault refused unread = record {
 }
 
 -- the lines of a keeper are legal, and no lines where there is none
-pub kept_legal : {K : Type 0} (lines : K → List Line) (keeper : Option K) → IfSome keeper (λ k. IsLegal (lines k))
-    → IsLegal (lines_kept lines keeper)
-kept_legal lines None legal = nothing
-kept_legal lines (Some keeper) legal = legal
+pub kept_legal : {K : Type 0} (rules : Rules) (lines : K → List Line) (keeper : Option K)
+    → IfSome keeper (λ k. IsLegal rules (lines k)) → IsLegal rules (lines_kept lines keeper)
+kept_legal rules lines None legal = nothing
+kept_legal rules lines (Some keeper) legal = legal

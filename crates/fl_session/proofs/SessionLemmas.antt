@@ -11,35 +11,37 @@ use Rattle.fl_session.specs.Inside.UnderWay.{IsUnderWay, IsAnswered, HasEnded, R
 use Rattle.fl_session.specs.Session.{Came, session_of, with_message, opening_session}
 use Rattle.fl_session.specs.declared.session.Fault.{Fault}
 use Rattle.fl_session.specs.declared.server.Server.{Server}
+use Rattle.fl_waiting.specs.declared.rules.Rules.{Rules}
 
 -- one message more
-pub session_of_more : (came : List Came) (c : Came) → session_of (came ++ c ∷ []) ≡ with_message (session_of came) c
-session_of_more came c = fold-append with_message opening_session came (c ∷ [])
+pub session_of_more : (rules : Rules) (came : List Came) (c : Came)
+    → session_of rules (came ++ c ∷ []) ≡ with_message (session_of rules came) c
+session_of_more rules came c = fold-append with_message (opening_session rules) came (c ∷ [])
 
 -- nothing was given yet
 given_first : (held : Option (List ℕ)) → IsGiven held held [] false []
 given_first held =
     record { sent = []; written = Appends-nil held; are_given = refl; framed = All-nil IsReply }
 
--- nothing was read yet
+-- nothing was read yet, and the rules are those of the desk
 pub way_first : {K : Type 0} (left held : Option (List ℕ)) (waiting : List ℕ) (broken : Bool) (server : Server K)
     (inbox : Inflow) → IsFresh server → waiting ≡ [] → broken ≡ false → IsUnread inbox
-    → IsUnderWay left left held held waiting broken server inbox.rest
+    → IsUnderWay server.desk.present.rules left left held held waiting broken server inbox.rest
 way_first left held waiting broken server inbox fresh none whole unread = record {
   came = [];
-  is_read = unread.unread left;
+  is_read = unread.unread server.desk.present.rules left;
   stands = rw (fresh.agreed, fresh.over, fresh.refused, fresh.lines) refl;
   given = rw (none, whole) (given_first held);
 }
 
 -- more is read, or nothing
-pub way_read : {K : Type 0} (left before now held held_now : Option (List ℕ)) (waiting : List ℕ) (broken : Bool)
-    (server : Server K) (rest rest_now : List ℕ)
-    → ReadsOn before now rest rest_now → IsUnderWay left before held held_now waiting broken server rest
-    → IsUnderWay left now held held_now waiting broken server rest_now
-way_read left before now held held_now waiting broken server rest rest_now read way = record {
+pub way_read : {K : Type 0} (rules : Rules) (left before now held held_now : Option (List ℕ)) (waiting : List ℕ)
+    (broken : Bool) (server : Server K) (rest rest_now : List ℕ)
+    → ReadsOn before now rest rest_now → IsUnderWay rules left before held held_now waiting broken server rest
+    → IsUnderWay rules left now held held_now waiting broken server rest_now
+way_read rules left before now held held_now waiting broken server rest rest_now read way = record {
   came = way.came;
-  is_read = read.onward left way.came way.is_read;
+  is_read = read.onward rules left way.came way.is_read;
   stands = way.stands;
   given = way.given;
 }
@@ -52,70 +54,72 @@ given_flushed start held held_now waiting waiting_now broken broken_now replies 
     subst (IsGiven start held_now waiting_now broken_now) (append-nil replies) (flushed.onward start replies before)
 
 -- no message is at hand
-pub way_rests : {K : Type 0} (left left_now start held held_now : Option (List ℕ)) (waiting waiting_now : List ℕ)
-    (broken broken_now : Bool) (old new : Server K) (rest : List ℕ)
+pub way_rests : {K : Type 0} (rules : Rules) (left left_now start held held_now : Option (List ℕ))
+    (waiting waiting_now : List ℕ) (broken broken_now : Bool) (old new : Server K) (rest : List ℕ)
     → Rests old new held held_now waiting waiting_now broken broken_now
-    → IsUnderWay left left_now start held waiting broken old rest
-    → IsUnderWay left left_now start held_now waiting_now broken_now new rest
-way_rests left left_now start held held_now waiting waiting_now broken broken_now old new rest rests way = record {
-  came = way.came;
-  is_read = way.is_read;
-  stands = rests.stays (session_of way.came).replies ∙ way.stands;
-  given = given_flushed start held held_now waiting waiting_now broken broken_now (session_of way.came).replies
-      rests.flushed way.given;
-}
+    → IsUnderWay rules left left_now start held waiting broken old rest
+    → IsUnderWay rules left left_now start held_now waiting_now broken_now new rest
+way_rests rules left left_now start held held_now waiting waiting_now broken broken_now old new rest rests way =
+    record {
+      came = way.came;
+      is_read = way.is_read;
+      stands = rests.stays (session_of rules way.came).replies ∙ way.stands;
+      given = given_flushed start held held_now waiting waiting_now broken broken_now (session_of rules way.came).replies
+          rests.flushed way.given;
+    }
 
 -- a message is answered
-pub way_more : {K : Type 0} (left left_now start held held_now : Option (List ℕ)) (waiting waiting_now : List ℕ)
-    (broken broken_now : Bool) (old new : Server K) (message rest rest_now : List ℕ)
+pub way_more : {K : Type 0} (rules : Rules) (left left_now start held held_now : Option (List ℕ))
+    (waiting waiting_now : List ℕ) (broken broken_now : Bool) (old new : Server K) (message rest rest_now : List ℕ)
     → old.talk.over ≡ false → Takes message rest rest_now
     → IsAnswered old new held held_now waiting waiting_now broken broken_now message
-    → IsUnderWay left left_now start held waiting broken old rest
-    → IsUnderWay left left_now start held_now waiting_now broken_now new rest_now
-way_more left left_now start held held_now waiting waiting_now broken broken_now old new message rest rest_now live
-    takes answered before =
+    → IsUnderWay rules left left_now start held waiting broken old rest
+    → IsUnderWay rules left left_now start held_now waiting_now broken_now new rest_now
+way_more rules left left_now start held held_now waiting waiting_now broken broken_now old new message rest rest_now
+    live takes answered before =
     let c : Came = record { message = message; refused = answered.met.refused } in
     let came = before.came in
-    let replies = (session_of came).replies in
-    let one : session_of (came ++ c ∷ []) ≡ with_message (session_of came) c = session_of_more came c in
-    let next : session_with new (replies ++ answered.owed) ≡ session_of (came ++ c ∷ []) =
+    let replies = (session_of rules came).replies in
+    let one : session_of rules (came ++ c ∷ []) ≡ with_message (session_of rules came) c = session_of_more rules came c in
+    let next : session_with new (replies ++ answered.owed) ≡ session_of rules (came ++ c ∷ []) =
     answered.met.is replies ∙ ap (λ s. with_message s c) before.stands ∙ sym one in
-    let gets : replies ++ answered.owed ≡ (session_of (came ++ c ∷ [])).replies = ap (λ s. s.replies) next in
+    let gets : replies ++ answered.owed ≡ (session_of rules (came ++ c ∷ [])).replies = ap (λ s. s.replies) next in
     let given : IsGiven start held_now waiting_now broken_now (replies ++ answered.owed) =
     answered.collected.onward start replies before.given in
-    let over : (session_of came).over ≡ false = sym (ap (λ s. s.over) before.stands) ∙ live in
+    let over : (session_of rules came).over ≡ false = sym (ap (λ s. s.over) before.stands) ∙ live in
     let P : List (List ℕ) → Type 0 = IsGiven start held_now waiting_now broken_now in
     record {
       came = came ++ c ∷ [];
-      is_read = takes.onward left left_now came answered.met.refused over before.is_read;
+      is_read = takes.onward rules left left_now came answered.met.refused over before.is_read;
       stands = ap (session_with new) (sym gets) ∙ next;
       given = subst P gets given;
     }
 
 -- no more bytes come
-pub way_ends : {K : Type 0} (left before now held held_now : Option (List ℕ)) (waiting : List ℕ) (broken : Bool)
-    (server : Server K) (rest rest_now : List ℕ) (fault : Option Fault) → ReadsOn before now rest rest_now
-    → length rest_now ≤ 8192 → server.talk.over ≡ false → IsEnding fault false rest_now now
-    → IsUnderWay left before held held_now waiting broken server rest
-    → HasEnded left now held held_now waiting broken server fault
-way_ends left before now held held_now waiting broken server rest rest_now fault read bounded live ending way =
+pub way_ends : {K : Type 0} (rules : Rules) (left before now held held_now : Option (List ℕ)) (waiting : List ℕ)
+    (broken : Bool) (server : Server K) (rest rest_now : List ℕ) (fault : Option Fault)
+    → ReadsOn before now rest rest_now → length rest_now ≤ 8192 → server.talk.over ≡ false → IsEnding fault false rest_now now
+    → IsUnderWay rules left before held held_now waiting broken server rest
+    → HasEnded rules left now held held_now waiting broken server fault
+way_ends rules left before now held held_now waiting broken server rest rest_now fault read bounded live ending way =
     let P : Bool → Type 0 = λ over. IsEnding fault over rest_now now in
     record {
       rest = rest_now;
       bounded = bounded;
-      way = way_read left before now held held_now waiting broken server rest rest_now read way;
+      way = way_read rules left before now held held_now waiting broken server rest rest_now read way;
       ending = subst P (sym live) ending;
     }
 
 -- what is left of its replies goes out at the end
-pub ended_flushed : {K : Type 0} (left left_now start held held_now : Option (List ℕ)) (waiting waiting_now : List ℕ)
-    (broken broken_now : Bool) (server : Server K) (fault : Option Fault) → waiting_now ≡ []
-    → Collects held held_now waiting waiting_now broken broken_now []
-    → HasEnded left left_now start held waiting broken server fault
-    → HasEnded left left_now start held_now [] broken_now server fault
-ended_flushed left left_now start held held_now waiting waiting_now broken broken_now server fault none flushed ended =
+pub ended_flushed : {K : Type 0} (rules : Rules) (left left_now start held held_now : Option (List ℕ))
+    (waiting waiting_now : List ℕ) (broken broken_now : Bool) (server : Server K) (fault : Option Fault)
+    → waiting_now ≡ [] → Collects held held_now waiting waiting_now broken broken_now []
+    → HasEnded rules left left_now start held waiting broken server fault
+    → HasEnded rules left left_now start held_now [] broken_now server fault
+ended_flushed rules left left_now start held held_now waiting waiting_now broken broken_now server fault none flushed
+    ended =
     let way = ended.way in
-    let P : List ℕ → Type 0 = λ waiting. IsGiven start held_now waiting broken_now (session_of way.came).replies in
+    let P : List ℕ → Type 0 = λ waiting. IsGiven start held_now waiting broken_now (session_of rules way.came).replies in
     record {
       rest = ended.rest;
       bounded = ended.bounded;
@@ -124,7 +128,7 @@ ended_flushed left left_now start held held_now waiting waiting_now broken broke
         is_read = way.is_read;
         stands = way.stands;
         given = subst P none (given_flushed start held held_now waiting waiting_now broken broken_now
-            (session_of way.came).replies flushed way.given);
+            (session_of rules way.came).replies flushed way.given);
       };
       ending = ended.ending;
     }

@@ -9,6 +9,7 @@ use Rattle.fl_session.specs.declared.session.Fault.{Fault}
 use Rattle.fl_session.specs.declared.session.Fault.TheVariants.{Cut, BadLength, Read, Write, NoMemory, NoReader}
 use Rattle.fl_session.specs.declared.inbox.Filled.{Filled}
 use Rattle.fl_session.specs.declared.inbox.Filled.TheVariants.{More, End}
+use Rattle.fl_waiting.specs.declared.rules.Rules.{Rules}
 
 -- what contracts see of an inbox: the bytes that were read and not taken yet, and how many reads may come yet
 pub record Inflow : Type 0 where
@@ -22,17 +23,18 @@ work inbox = 8193 * inbox.reads + length inbox.rest
 -- nothing was read yet
 pub record IsUnread (inbox : Inflow) : Type 0 where
   pub empty : inbox.rest ≡ []
-  pub unread : (left : Option (List ℕ)) → IsRead left left [] inbox.rest
+  pub unread : (rules : Rules) (left : Option (List ℕ)) → IsRead rules left left [] inbox.rest
 
 -- a reader was read from there to here, and the rest of what was read with it, after the same messages
 pub record ReadsOn (before now : Option (List ℕ)) (rest rest_now : List ℕ) : Type 0 where
-  pub onward : (left : Option (List ℕ)) (came : List Came) → IsRead left before came rest → IsRead left now came rest_now
+  pub onward : (rules : Rules) (left : Option (List ℕ)) (came : List Came) → IsRead rules left before came rest
+      → IsRead rules left now came rest_now
 
 -- this message was taken, after others that didn't end the session
 pub record Takes (message rest rest_now : List ℕ) : Type 0 where
-  pub onward : (left left_now : Option (List ℕ)) (came : List Came) (refused : List Bool) → (session_of came).over ≡ false
-      → IsRead left left_now came rest
-      → IsRead left left_now (came ++ record { message = message; refused = refused } ∷ []) rest_now
+  pub onward : (rules : Rules) (left left_now : Option (List ℕ)) (came : List Came) (refused : List Bool)
+      → (session_of rules came).over ≡ false → IsRead rules left left_now came rest
+      → IsRead rules left left_now (came ++ record { message = message; refused = refused } ∷ []) rest_now
 
 -- How the reader's part of a session ended, which is over or not: with this fault, after this rest and with these bytes left.
 abbrev pub IsEnding : Option Fault → Bool → List ℕ → Option (List ℕ) → Type 0

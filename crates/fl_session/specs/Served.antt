@@ -10,6 +10,7 @@ use Rattle.fl_session.specs.Session.{Came, Session, session_of}
 use Rattle.fl_session.specs.declared.session.Done.{Done}
 use Rattle.fl_session.specs.declared.session.Fault.{Fault}
 use Rattle.fl_session.specs.declared.session.Fault.TheVariants.{Cut, BadLength, Read, Write, NoMemory, NoReader}
+use Rattle.fl_waiting.specs.declared.rules.Rules.{Rules}
 
 -- these bytes begin those, and aren't all of them
 pub record IsProperPrefix (front whole : List ℕ) : Type 0 where
@@ -29,35 +30,37 @@ IsComplete s rest left = (s.over ≡ true) ⊎ ((rest ≡ []) × IsAtEnd left)
 
 -- How a session ended, by the fault that is told: after these messages and this rest of what was read, with these bytes
 -- left to the reader, and with a write that failed or none. The reader's fault is told before the writer's.
-abbrev pub EndsBy : Option Fault → Bool → List Came → List ℕ → Option (List ℕ) → Type 0
-EndsBy None broken came rest left = (broken ≡ false) × IsComplete (session_of came) rest left
-EndsBy (Some Write) broken came rest left = (broken ≡ true) × IsComplete (session_of came) rest left
-EndsBy (Some Cut) broken came rest left =
-    ((session_of came).over ≡ false) × (0 < length rest) × (first_step rest ≡ More) × IsAtEnd left
-EndsBy (Some (BadLength n)) broken came rest left = ((session_of came).over ≡ false) × (first_step rest ≡ Bad n)
-EndsBy (Some Read) broken came rest left = ((session_of came).over ≡ false) × (first_step rest ≡ More)
-EndsBy (Some NoMemory) broken came rest left = (came ≡ []) × (rest ≡ [])
-EndsBy (Some NoReader) broken came rest left = ⊥
+abbrev pub EndsBy : Rules → Option Fault → Bool → List Came → List ℕ → Option (List ℕ) → Type 0
+EndsBy rules None broken came rest left = (broken ≡ false) × IsComplete (session_of rules came) rest left
+EndsBy rules (Some Write) broken came rest left = (broken ≡ true) × IsComplete (session_of rules came) rest left
+EndsBy rules (Some Cut) broken came rest left =
+    ((session_of rules came).over ≡ false) × (0 < length rest) × (first_step rest ≡ More) × IsAtEnd left
+EndsBy rules (Some (BadLength n)) broken came rest left =
+    ((session_of rules came).over ≡ false) × (first_step rest ≡ Bad n)
+EndsBy rules (Some Read) broken came rest left = ((session_of rules came).over ≡ false) × (first_step rest ≡ More)
+EndsBy rules (Some NoMemory) broken came rest left = (came ≡ []) × (rest ≡ [])
+EndsBy rules (Some NoReader) broken came rest left = ⊥
 
 -- What was read is these messages and a rest, and no message came after one that ended the session.
-pub record IsRead (left left_now : Option (List ℕ)) (came : List Came) (rest : List ℕ) : Type 0 where
+pub record IsRead (rules : Rules) (left left_now : Option (List ℕ)) (came : List Came) (rest : List ℕ) : Type 0 where
   pub read : List ℕ
   pub consumed : Consumes left left_now read
   pub cut : IsCut read (map (λ c. c.message) came) rest
-  pub live : (front : List Came) (last : Came) → came ≡ front ++ last ∷ [] → (session_of front).over ≡ false
+  pub live : (front : List Came) (last : Came) → came ≡ front ++ last ∷ [] → (session_of rules front).over ≡ false
 
 -- What was read is whole messages and a rest of at most 8192 bytes. The history is the lines of the session of these
--- messages, and its replies were written, each of which says its own length: all of them, but where a write failed
--- (`broken`) a beginning.
-pub record IsServed (left left_now held held_now : Option (List ℕ)) (broken : Bool) (done : Done) : Type 0 where
+-- messages under these rules, and its replies were written, each of which says its own length: all of them, but where a
+-- write failed (`broken`) a beginning.
+pub record IsServed (rules : Rules) (left left_now held held_now : Option (List ℕ)) (broken : Bool) (done : Done)
+    : Type 0 where
   pub came : List Came
   pub rest : List ℕ
   pub sent : List ℕ
-  pub is_read : IsRead left left_now came rest
+  pub is_read : IsRead rules left left_now came rest
   pub bounded : length rest ≤ 8192
-  pub history : done.history ≡ (session_of came).lines
-  pub refused : done.refused ≡ (session_of came).refused
-  pub framed : All IsReply (session_of came).replies
+  pub history : done.history ≡ (session_of rules came).lines
+  pub refused : done.refused ≡ (session_of rules came).refused
+  pub framed : All IsReply (session_of rules came).replies
   pub written : Appends held held_now sent
-  pub are_sent : AreSent broken sent (session_of came).replies
-  pub ending : EndsBy done.fault broken came rest left_now
+  pub are_sent : AreSent broken sent (session_of rules came).replies
+  pub ending : EndsBy rules done.fault broken came rest left_now

@@ -16,6 +16,7 @@ use Rattle.fl_order.specs.declared.refusal.Refusal.{Refusal}
 use Rattle.fl_order.specs.declared.refusal.Refusal.TheVariants.{Answer, Batch, Destroy}
 use Rattle.fl_order.specs.declared.told.Answer.TheVariants.{Done}
 use Rattle.fl_order.specs.declared.told.Told.{Told}
+use Rattle.fl_waiting.specs.declared.rules.Rules.{Rules}
 use Rattle.fl_wire.specs.Batch.{forgets_in}
 use Rattle.fl_wire.specs.Init.{init_step, init_spelling}
 use Rattle.fl_wire.specs.Layout.{opcode_of, unique_of}
@@ -30,18 +31,20 @@ pub record Came : Type 0 where
   pub message : List ℕ
   pub refused : List Bool
 
--- A session so far: whether an INIT was agreed and whether a DESTROY ended it, the bytes of each reply, the lines of
--- its orders, and whether some order was refused for want of memory.
+-- A session so far: the rules by which requests wait, whether an INIT was agreed and whether a DESTROY ended it, the
+-- bytes of each reply, the lines of its orders, and whether some order was refused for want of memory.
 pub record Session : Type 0 where
+  pub rules : Rules
   pub agreed : Bool
   pub over : Bool
   pub replies : List (List ℕ)
   pub lines : List Line
   pub refused : Bool
 
--- no message came yet
-abbrev pub opening_session : Session
-opening_session = record { agreed = false; over = false; replies = []; lines = []; refused = false }
+-- no message came yet, and requests will wait by these rules
+abbrev pub opening_session : Rules → Session
+opening_session rules =
+    record { rules = rules; agreed = false; over = false; replies = []; lines = []; refused = false }
 
 -- one reply more
 abbrev pub replied : Session → List ℕ → Session
@@ -85,7 +88,7 @@ with_refusal s order =
 -- an order gets the replies of the lock directory, or is refused for want of memory
 abbrev pub with_order : Session → Bool → Order → Session
 with_order s refused order =
-    if refused then with_refusal s order else with_step s order (replies_in (state_after s.lines) order)
+    if refused then with_refusal s order else with_step s order (replies_in (state_after s.rules s.lines) order)
 
 -- orders one after another, each refused or not
 abbrev pub with_orders : Session → List Order → List Bool → Session
@@ -114,6 +117,6 @@ with_message s came =
     else if s.agreed then after_init s came.refused came.message (said came.message)
     else before_init s (kind_of_opcode (opcode_of came.message)) came.message
 
--- the session of these messages
-abbrev pub session_of : List Came → Session
-session_of came = fold with_message opening_session came
+-- the session of these messages, under these rules
+abbrev pub session_of : Rules → List Came → Session
+session_of rules came = fold with_message (opening_session rules) came

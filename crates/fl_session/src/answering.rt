@@ -27,7 +27,7 @@ pub(crate) fn answer_all<R: Read, W: Write, K: Keeper>(
     requires whole { is_broken batch.old.out ≡ false }
     requires empty { batch.old.replies ≡ [] }
     ensures same { (writer_of batch.new.out).ghost_name ≡ (writer_of batch.old.out).ghost_name }
-    ensures ended { HasEnded (R.remaining r.old) (R.remaining r.new)
+    ensures ended { HasEnded server.old.desk.present.rules (R.remaining r.old) (R.remaining r.new)
         (W.contents (writer_of batch.old.out).now) (W.contents (writer_of batch.new.out).now)
         batch.new.replies (is_broken batch.new.out) server.new result }
 {

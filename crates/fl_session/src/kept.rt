@@ -5,6 +5,7 @@ ghost use Rattle.std.specs.Io.KnownBytes.{Keeps};
 ghost use Rattle.fl_desk.specs.Legal.{IsLegal};
 ghost use Rattle.fl_session.specs.Kept.{came_to};
 ghost use Rattle.fl_session.specs.Served.{IsRead};
+ghost use Rattle.fl_waiting.specs.declared.rules.Rules.{Rules};
 
 use crate::session::{Done, Fault};
 use fl_history::{History, Lines};
@@ -28,7 +29,8 @@ impl<K> Kept<K> {
         ensures keeper { result.keeper ≡ None }
         ensures fault { result.fault ≡ Some fault }
         ensures refused { result.refused ≡ false }
-        ensures read { (left left_now : Option (List ℕ)) → Keeps left left_now → IsRead left left_now [] [] }
+        ensures read { (rules : Rules) (left left_now : Option (List ℕ))
+            → Keeps left left_now → IsRead rules left left_now [] [] }
     {
         let Done { fault, refused, .. } = Done::nothing(alloc, fault);
         Kept {
@@ -43,7 +45,8 @@ impl Kept<Lines> {
     /// The same, with the lines as its history.
     pub fn into_done(self, alloc: Global) -> Done
         ensures is { result ≡ came_to (λ lines. lines.items) self.keeper self.fault self.refused }
-        ensures legal { IfSome self.keeper (λ lines. IsLegal lines.items) → IsLegal result.history }
+        ensures legal { (rules : Rules) → IfSome self.keeper (λ lines. IsLegal rules lines.items)
+            → IsLegal rules result.history }
     {
         let Kept {
             keeper,

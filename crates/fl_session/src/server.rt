@@ -11,7 +11,7 @@ ghost use Rattle.fl_wire.specs.Layout.{opcode_of};
 ghost use Rattle.fl_wire.specs.Says.{said};
 
 use crate::batch::Batch;
-use fl_core::Tolds;
+use fl_core::{Rules, Tolds};
 use fl_desk::Desk;
 use fl_keeper::Keeper;
 use fl_order::{Answer, Errno, NoMemory, OpKind, Order, Refusal, Told};
@@ -138,15 +138,16 @@ pub(crate) struct Server<K: Keeper> {
 }
 
 impl<K: Keeper> Server<K> {
-    /// No message came yet, and the keeper has no line.
-    pub(crate) fn new(alloc: Global, keeper: K) -> Result<Server<K>, NoMemory>
+    /// No message came yet, and the keeper has no line. Requests will wait by these rules.
+    pub(crate) fn new(alloc: Global, keeper: K, rules: Rules) -> Result<Server<K>, NoMemory>
     where
         K: Drop,
         requires none { K.lines keeper ≡ [] }
-        ensures { IfOk result IsFresh }
+        ensures fresh { IfOk result IsFresh }
+        ensures rules { IfOk result (λ server. server.desk.present.rules ≡ rules) }
     {
         Ok(Server {
-            desk: Desk::over(alloc, keeper)?,
+            desk: Desk::over(alloc, keeper, rules)?,
             tolds: Tolds::new(alloc)?,
             talk: Talk::new(),
             refused: false,

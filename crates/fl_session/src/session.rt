@@ -10,6 +10,7 @@ ghost use Rattle.fl_session.specs.Inbox.{IsEnding, IsUnread};
 ghost use Rattle.fl_session.specs.Inside.Serving.{IsFresh};
 ghost use Rattle.fl_session.specs.Inside.UnderWay.{HasEnded};
 ghost use Rattle.fl_session.specs.Outbox.{is_broken, writer_of};
+ghost use Rattle.fl_waiting.specs.declared.rules.Rules.{Rules};
 
 use crate::answering::answer_all;
 use crate::batch::Batch;
@@ -18,6 +19,7 @@ use crate::kept::Kept;
 use crate::outbox::Outbox;
 use crate::reply_buffer::ReplyBuffer;
 use crate::server::Server;
+use fl_core::Rules;
 use fl_history::{History, Lines};
 use fl_keeper::Keeper;
 use fl_order::NoMemory;
@@ -55,8 +57,8 @@ pub enum Fault {
 impl Fault {
     /// The fault that is told of a session: its reader's before its writer's, which is broken or not.
     pub fn told(reader: Option<Fault>, broken: bool) -> Option<Fault>
-        ensures ends { (came : List Came) (rest : List ℕ) (left : Option (List ℕ))
-            → IsEnding reader (session_of came).over rest left → EndsBy result broken came rest left }
+        ensures ends { (rules : Rules) (came : List Came) (rest : List ℕ) (left : Option (List ℕ))
+            → IsEnding reader (session_of rules came).over rest left → EndsBy rules result broken came rest left }
         ensures reader { IsSome reader → result ≡ reader }
         ensures writer { reader ≡ None → result ≡ (if broken then Some Fault.Write else None) }
         ensures memory { result ≡ Some Fault.NoMemory → reader ≡ Some Fault.NoMemory }
@@ -84,10 +86,11 @@ impl Done {
     #[tactic(auto, using(crate::proofs::InboxLemmas::nothing_read, crate::proofs::ServedLemmas::nothing_legal))]
     pub fn nothing(alloc: Global, fault: Fault) -> Done
         ensures history { result.history ≡ [] }
-        ensures legal { IsLegal result.history }
+        ensures legal { (rules : Rules) → IsLegal rules result.history }
         ensures fault { result.fault ≡ Some fault }
         ensures refused { result.refused ≡ false }
-        ensures read { (left left_now : Option (List ℕ)) → Keeps left left_now → IsRead left left_now [] [] }
+        ensures read { (rules : Rules) (left left_now : Option (List ℕ))
+            → Keeps left left_now → IsRead rules left left_now [] [] }
     {
         Done {
             history: History::new(alloc),
@@ -107,24 +110,24 @@ pub struct Ended {
     pub broken: bool,
 }
 
-/// Serves a whole session in this thread: each message is answered when it is whole. Replies are collected, and go out
-/// together where their room is full, before each read, and at the end. All memory but that of the history is made before
-/// the first read. A read that fails ends the session, and so does a DESTROY after an INIT is agreed. After a write that
-/// failed it goes on, and writes no more.
-pub fn run_one<R: Read, W: Write>(alloc: Global, r: &mut R, w: &mut W) -> Done
+/// Serves a whole session in this thread, under these rules: each message is answered when it is whole. Replies are
+/// collected, and go out together where their room is full, before each read, and at the end. All memory but that of the
+/// history is made before the first read. A read that fails ends the session, and so does a DESTROY after an INIT is
+/// agreed. After a write that failed it goes on, and writes no more.
+pub fn run_one<R: Read, W: Write>(alloc: Global, r: &mut R, w: &mut W, rules: Rules) -> Done
     ensures { (broken : Bool)
-        × IsServed (R.remaining r.old) (R.remaining r.new) (W.contents w.old) (W.contents w.new) broken result }
+        × IsServed rules (R.remaining r.old) (R.remaining r.new) (W.contents w.old) (W.contents w.new) broken result }
 {
-    let Ended { done, broken: _ } = run_session(alloc, r, w);
+    let Ended { done, broken: _ } = run_session(alloc, r, w, rules);
     done
 }
 
 /// The same, and tells beside it whether a write failed.
-pub fn run_session<R: Read, W: Write>(alloc: Global, r: &mut R, w: &mut W) -> Ended
-    ensures { IsServed (R.remaining r.old) (R.remaining r.new) (W.contents w.old) (W.contents w.new)
+pub fn run_session<R: Read, W: Write>(alloc: Global, r: &mut R, w: &mut W, rules: Rules) -> Ended
+    ensures { IsServed rules (R.remaining r.old) (R.remaining r.new) (W.contents w.old) (W.contents w.new)
         result.broken result.done }
 {
-    let (kept, broken) = run_over(alloc, r, w, Lines::new(alloc));
+    let (kept, broken) = run_over(alloc, r, w, Lines::new(alloc), rules);
     let done = kept.into_done(alloc);
     Ended { done, broken }
 }
@@ -136,16 +139,17 @@ pub fn run_over<R: Read, W: Write, K: Keeper + Drop>(
     r: &mut R,
     w: &mut W,
     keeper: K,
+    rules: Rules,
 ) -> (Kept<K>, bool)
     requires none { K.lines keeper ≡ [] }
-    ensures served { IsServed (R.remaining r.old) (R.remaining r.new) (W.contents w.old) (W.contents w.new)
+    ensures served { IsServed rules (R.remaining r.old) (R.remaining r.new) (W.contents w.old) (W.contents w.new)
         result.1 (came_to K.lines result.0.keeper result.0.fault result.0.refused) }
-    ensures legal { IfSome result.0.keeper (λ keeper. IsLegal (K.lines keeper)) }
+    ensures legal { IfSome result.0.keeper (λ keeper. IsLegal rules (K.lines keeper)) }
     ensures back { IsSome result.0.keeper ⊎ (result.0.fault ≡ Some Fault.NoMemory) }
     ensures nothing { result.0.fault ≡ Some Fault.NoMemory
         → (result.0.keeper ≡ None) × Keeps (R.remaining r.old) (R.remaining r.new) }
 {
-    let Ok((mut inbox, server, replies)) = memory(alloc, keeper) else {
+    let Ok((mut inbox, server, replies)) = memory(alloc, keeper, rules) else {
         return (Kept::nothing(alloc, Fault::NoMemory), false);
     };
     let (server, fault, broken) = run(r, w, &mut inbox, server, replies);
@@ -170,8 +174,8 @@ fn run<R: Read, W: Write, K: Keeper>(
     requires unread { IsUnread inbox.old }
     requires fresh { IsFresh server }
     requires empty { replies ≡ [] }
-    ensures { HasEnded (R.remaining r.old) (R.remaining r.new) (W.contents w.old) (W.contents w.new) []
-        result.2 result.0 result.1 }
+    ensures { HasEnded server.desk.present.rules (R.remaining r.old) (R.remaining r.new)
+        (W.contents w.old) (W.contents w.new) [] result.2 result.0 result.1 }
 {
     let mut batch = Batch {
         replies,
@@ -199,7 +203,7 @@ fn answer_to_the_end<R: Read, W: Write, K: Keeper>(
     requires whole { is_broken batch.old.out ≡ false }
     requires empty { batch.old.replies ≡ [] }
     ensures same { (writer_of batch.new.out).ghost_name ≡ (writer_of batch.old.out).ghost_name }
-    ensures ended { HasEnded (R.remaining r.old) (R.remaining r.new)
+    ensures ended { HasEnded server.old.desk.present.rules (R.remaining r.old) (R.remaining r.new)
         (W.contents (writer_of batch.old.out).now) (W.contents (writer_of batch.new.out).now)
         [] (is_broken batch.new.out) server.new result }
 {
@@ -212,14 +216,16 @@ fn answer_to_the_end<R: Read, W: Write, K: Keeper>(
 fn memory<K: Keeper + Drop>(
     alloc: Global,
     keeper: K,
+    rules: Rules,
 ) -> Result<(Inbox, Server<K>, ReplyBuffer), NoMemory>
     requires none { K.lines keeper ≡ [] }
     ensures unread { IfOk result (λ made. IsUnread made.0) }
     ensures fresh { IfOk result (λ made. IsFresh made.1) }
+    ensures rules { IfOk result (λ made. made.1.desk.present.rules ≡ rules) }
     ensures empty { IfOk result (λ made. made.2 ≡ []) }
 {
     let inbox = Inbox::new(alloc)?;
-    let server = Server::new(alloc, keeper)?;
+    let server = Server::new(alloc, keeper, rules)?;
     let replies = ReplyBuffer::with_bytes(alloc, BATCH_BYTES)?;
     Ok((inbox, server, replies))
 }

@@ -1,5 +1,5 @@
 //! What the tests of several crates need: readers and writers over memory that fail where they are told to, numbers that
-//! only look random, stored texts, and one session as text.
+//! only look random, stored texts, and some sessions as text.
 #![tactic(auto)]
 
 mod numbers;
@@ -11,7 +11,7 @@ mod writers;
 
 pub use numbers::Numbers;
 pub use readers::{Newlines, Source};
-pub use sessions::{init, init_reply, two_locks};
+pub use sessions::{fair_sessions, init, init_reply, two_locks};
 pub use stored::{bytes_after, lines_after};
 pub use trouble::Trouble;
 pub use writers::{Full, Sink};

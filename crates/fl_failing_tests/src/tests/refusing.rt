@@ -5,7 +5,7 @@ ghost use Rattle.std.specs.Prelude.{◌≡◌, [], min};
 use super::sessions::{BATCHED, ONE_BY_ONE, ORDERS};
 use super::whole::{long_at, place_of, word_at};
 use super::{Alone, are_alike, are_bytes, fault_is, of_workers, run_alone, stream_of};
-use fl_book::{History, Keeper, Lines};
+use fl_book::{History, Keeper, Lines, Rules};
 use fl_order::{NoMemory, Order, Told};
 use fl_serve::{Kept, OpenGate, run_over, serve_over};
 use std::alloc::Global;
@@ -100,7 +100,10 @@ pub(super) fn served_refusing<R: Abort + Threads + Wait + Sync>(
     let mut out = Vec::new(alloc);
     let keeper = Refusing::new(alloc, refusals);
     let workers = of_workers(workers);
-    let kept = serve_over(rt, alloc, &mut input, &mut out, workers, &OpenGate, keeper);
+    let rules = Rules::standard();
+    let kept = serve_over(
+        rt, alloc, &mut input, &mut out, workers, rules, &OpenGate, keeper,
+    );
     came_of(rt, kept, out)
 }
 
@@ -258,7 +261,7 @@ fn refuse_alone(rt: &impl Abort, alloc: Global, stream: &[u8], single: &[u8], fi
             step: u64::MAX,
         },
     );
-    let (kept, broken) = run_over(alloc, &mut input, &mut out, keeper);
+    let (kept, broken) = run_over(alloc, &mut input, &mut out, keeper, Rules::standard());
     assert!(rt; !broken);
     let came = came_of(rt, kept, out);
     let number = (first as usize).saturating_add(1);

@@ -1,7 +1,8 @@
 -- The reader of a session with workers, while it is under way.
-use Rattle.std.specs.Prelude.{◌≡◌, ℕ, true, false, List, [], ◌∷◌, ◌++◌, Option}
+use Rattle.std.specs.Prelude.{◌≡◌, ℕ, true, List, [], ◌∷◌, ◌++◌, Option}
 use Rattle.fl_hearing.specs.Heard.{IsLast}
 use Rattle.fl_hearing.specs.Said.{said_in}
+use Rattle.fl_waiting.specs.declared.rules.Rules.{Rules}
 use Rattle.fl_workers.specs.Asked.{Orders}
 use Rattle.fl_session.specs.Served.{IsRead}
 use Rattle.fl_session.specs.Session.{Came, Session, session_of, with_message}
@@ -26,12 +27,12 @@ IsPutAs (met.Order order) put put_now = put_now ≡ put ++ order ∷ []
 IsPutAs (met.Batch orders) put put_now = put_now ≡ put ++ orders
 IsPutAs (met.Owed owed) put put_now = put_now ≡ put
 
--- What was read is whole messages and a rest, the session of these messages is this far, and their orders were put. Where it is
--- over, this is owed to the last.
-pub record IsHearing (left left_now : Option (List ℕ)) (talk : Talk) (put : Orders) (goodbye : Owed)
+-- What was read is whole messages and a rest, the session of these messages under these rules is this far, and their orders
+-- were put. Where it is over, this is owed to the last.
+pub record IsHearing (rules : Rules) (left left_now : Option (List ℕ)) (talk : Talk) (put : Orders) (goodbye : Owed)
     (rest : List ℕ) : Type 0 where
   pub came : List Came
-  pub is_read : IsRead left left_now came rest
-  pub far : IsThisFar (session_of came) talk
-  pub said : put ≡ said_in came
+  pub is_read : IsRead rules left left_now came rest
+  pub far : IsThisFar (session_of rules came) talk
+  pub said : put ≡ said_in rules came
   pub over : talk.over ≡ true → IsLast came goodbye

@@ -7,6 +7,7 @@ mod clients;
 mod each_order;
 mod ends;
 mod failures;
+mod fair;
 mod idle;
 mod keepers;
 mod late;
@@ -19,7 +20,7 @@ mod stacks;
 mod talker;
 mod waiting;
 
-use fl_book::{History, Line, Verdict, check};
+use fl_book::{History, Line, Rules, Verdict, check};
 use fl_serve::{Done, Fault, Gate, OpenGate, serve};
 use std::alloc::Global;
 use std::io::{Read, Write};
@@ -46,7 +47,7 @@ fn socket_pair(rt: &(impl Abort + Net)) -> (UnixStream, UnixStream) {
     UnixStream::pair(rt).expect(rt, "a socket")
 }
 
-// Serves with this many workers.
+// Serves under the standard rules with this many workers.
 fn served<R: Threads + Wait + Sync, I: Read, W: Write + Send + Drop, G: Gate + Sync>(
     rt: &R,
     alloc: Global,
@@ -55,7 +56,8 @@ fn served<R: Threads + Wait + Sync, I: Read, W: Write + Send + Drop, G: Gate + S
     workers: u32,
     gate: &G,
 ) -> Done {
-    serve(rt, alloc, r, w, of_workers(workers), gate)
+    let rules = Rules::standard();
+    serve(rt, alloc, r, w, of_workers(workers), rules, gate)
 }
 
 // What a session over memory came to, and all its replies.
@@ -104,8 +106,13 @@ fn ended(
 }
 
 fn is_legal(rt: &impl Abort, alloc: Global, history: &History) {
-    let verdict = check(alloc, history).expect(rt, "memory");
-    assert_eq!(rt; verdict, Verdict::Legal);
+    verdict_is(rt, alloc, history, Rules::standard(), Verdict::Legal);
+}
+
+// Under these rules this is said of a history.
+fn verdict_is(rt: &impl Abort, alloc: Global, history: &History, rules: Rules, wanted: Verdict) {
+    let verdict = check(alloc, history, rules).expect(rt, "memory");
+    assert_eq!(rt; verdict, wanted);
 }
 
 // So many whole replies went out.

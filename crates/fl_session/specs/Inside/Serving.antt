@@ -19,10 +19,11 @@ IsHeardAs (met.Batch orders) old new message says = (new ≡ old) × (says ≡ E
 IsHeardAs (met.Owed owed) old new message says = (s : Session) (refused : List Bool)
     → standing (answered s (bytes_of owed)) new ≡ after_init (standing s old) refused message says
 
--- the session that a server keeps, and that got these replies
+-- the session that a server keeps, by the rules of its desk, and that got these replies
 abbrev pub session_with : {K : Type 0} → Server K → List (List ℕ) → Session
 session_with server replies =
     record {
+      rules = server.desk.present.rules;
       agreed = server.talk.agreed;
       over = server.talk.over;
       replies = replies;

@@ -8,15 +8,17 @@ use Rattle.fl_session.specs.Session.{Came, session_of}
 use Rattle.fl_session.specs.declared.session.Fault.{Fault}
 use Rattle.fl_session.specs.declared.server.Server.{Server}
 use Rattle.fl_session.specs.Served.{IsRead}
+use Rattle.fl_waiting.specs.declared.rules.Rules.{Rules}
 
--- What was read is whole messages and a rest, the server stands where the session of these messages stands, and its
--- replies were written but for those that wait, or a beginning of them.
-pub record IsUnderWay {K : Type 0} (left left_now held held_now : Option (List ℕ)) (waiting : List ℕ) (broken : Bool)
-    (server : Server K) (rest : List ℕ) : Type 0 where
+-- What was read is whole messages and a rest, the server stands where the session of these messages under these rules
+-- stands, so that its desk has these rules too, and its replies were written but for those that wait, or a beginning of
+-- them.
+pub record IsUnderWay {K : Type 0} (rules : Rules) (left left_now held held_now : Option (List ℕ)) (waiting : List ℕ)
+    (broken : Bool) (server : Server K) (rest : List ℕ) : Type 0 where
   pub came : List Came
-  pub is_read : IsRead left left_now came rest
-  pub stands : session_with server (session_of came).replies ≡ session_of came
-  pub given : IsGiven held held_now waiting broken (session_of came).replies
+  pub is_read : IsRead rules left left_now came rest
+  pub stands : session_with server (session_of rules came).replies ≡ session_of rules came
+  pub given : IsGiven held held_now waiting broken (session_of rules came).replies
 
 -- a message is met, and its replies are collected
 pub record IsAnswered {K : Type 0} (old new : Server K) (held held_now : Option (List ℕ)) (waiting waiting_now : List ℕ)
@@ -46,10 +48,10 @@ pub record Rests {K : Type 0} (old new : Server K) (held held_now : Option (List
   pub stays : (replies : List (List ℕ)) → session_with new replies ≡ session_with old replies
   pub flushed : Collects held held_now waiting waiting_now broken broken_now []
 
--- the session ended, with this fault of its reader
-pub record HasEnded {K : Type 0} (left left_now held held_now : Option (List ℕ)) (waiting : List ℕ) (broken : Bool)
-    (server : Server K) (fault : Option Fault) : Type 0 where
+-- the session under these rules ended, with this fault of its reader
+pub record HasEnded {K : Type 0} (rules : Rules) (left left_now held held_now : Option (List ℕ)) (waiting : List ℕ)
+    (broken : Bool) (server : Server K) (fault : Option Fault) : Type 0 where
   pub rest : List ℕ
   pub bounded : length rest ≤ 8192
-  pub way : IsUnderWay left left_now held held_now waiting broken server rest
+  pub way : IsUnderWay rules left left_now held held_now waiting broken server rest
   pub ending : IsEnding fault server.talk.over rest left_now

@@ -3,6 +3,7 @@
 mod around;
 mod batches;
 mod collected;
+mod fair;
 mod faults;
 mod keepers;
 mod once;
@@ -12,6 +13,7 @@ mod waiting;
 use super::are_bytes;
 use around::AROUND_AN_INIT;
 use batches::BATCHES;
+use fl_core::Rules;
 use fl_history::History;
 use fl_session::run_one;
 use fl_testing::{bytes_after, lines_after};
@@ -29,13 +31,13 @@ fn spelled(rt: &impl Abort, alloc: Global, before: &str, case: &str, mark: &str)
     bytes
 }
 
-// The messages of a session get its replies, and it ends with the stream. Gives its history.
-fn answers(rt: &impl Abort, alloc: Global, before: &str, case: &str) -> History {
+// The messages of a session under these rules get its replies, and it ends with the stream. Gives its history.
+fn answers(rt: &impl Abort, alloc: Global, rules: Rules, before: &str, case: &str) -> History {
     let stream = spelled(rt, alloc, before, case, "> ");
     let replies = spelled(rt, alloc, before, case, "< ");
     let mut input = stream.as_slice();
     let mut output = Vec::new(alloc);
-    let done = run_one(alloc, &mut input, &mut output);
+    let done = run_one(alloc, &mut input, &mut output, rules);
     assert_eq!(rt; done.fault, None, "{case}");
     assert!(rt; !done.refused, "{case}");
     assert_eq!(rt; output, replies, "{case}");
@@ -47,7 +49,7 @@ fn answers(rt: &impl Abort, alloc: Global, before: &str, case: &str) -> History 
 fn all_answer(rt: &impl Abort, alloc: Global, before: &str, cases: &str) -> usize {
     let mut count = 0usize;
     for case in cases.split('#').skip(1) {
-        answers(rt, alloc, before, case);
+        answers(rt, alloc, Rules::standard(), before, case);
         count = count.saturating_add(1);
     }
     count
@@ -60,11 +62,11 @@ fn is_traced(rt: &impl Abort, alloc: Global, history: &History, case: &str) {
     are_bytes(rt, trace.as_bytes(), wanted.as_bytes());
 }
 
-// The same of sessions whose traces stand beside, for those too.
-fn all_are_traced(rt: &impl Abort, alloc: Global, cases: &str) -> usize {
+// The same of sessions under these rules whose traces stand beside, for those too.
+fn all_are_traced(rt: &impl Abort, alloc: Global, rules: Rules, cases: &str) -> usize {
     let mut count = 0usize;
     for case in cases.split('#').skip(1) {
-        let history = answers(rt, alloc, "", case);
+        let history = answers(rt, alloc, rules, "", case);
         is_traced(rt, alloc, &history, case);
         count = count.saturating_add(1);
     }
@@ -73,9 +75,10 @@ fn all_are_traced(rt: &impl Abort, alloc: Global, cases: &str) -> usize {
 
 #[test]
 fn sessions_and_their_traces(rt: HostRuntime) {
-    assert_eq!(rt; all_are_traced(&rt, rt.alloc(), two_locks()), 1);
-    assert_eq!(rt; all_are_traced(&rt, rt.alloc(), TRACED), 3);
-    assert_eq!(rt; all_are_traced(&rt, rt.alloc(), BATCHES), 3);
+    let rules = Rules::standard();
+    assert_eq!(rt; all_are_traced(&rt, rt.alloc(), rules, two_locks()), 1);
+    assert_eq!(rt; all_are_traced(&rt, rt.alloc(), rules, TRACED), 3);
+    assert_eq!(rt; all_are_traced(&rt, rt.alloc(), rules, BATCHES), 3);
 }
 
 #[test]

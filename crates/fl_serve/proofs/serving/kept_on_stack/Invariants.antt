@@ -1,7 +1,7 @@
 use Rattle.fl_serve.proofs.serving.kept_on_stack.Given as goal
 
 abbrev pub ghosts-serve_at-L-BoardName : goal.ghosts-serve_at-L-BoardName
-ghosts-serve_at-L-BoardName g a = record { workers = a.blank.parts }
+ghosts-serve_at-L-BoardName g a = record { workers = a.blank.parts; rules = a.staff.rules }
 
 abbrev pub ghosts-serve_at-L-Ledger : goal.ghosts-serve_at-L-Ledger
 ghosts-serve_at-L-Ledger g a = record { name = a.blank.name; parts = a.blank.parts }

@@ -9,13 +9,13 @@ use Rattle.fl_session.specs.declared.session.Fault.TheVariants.{NoMemory}
 use Rattle.fl_serve.proofs.serving.serve_at.Goals as goal
 
 pub returns-in-Err-clause-served : goal.returns-in-Err-clause-served
-returns-in-Err-clause-served g c = unserved _ _ _ _ false _ _ (c.nothing.ensures.read _ _ (Keeps-refl _)) (nothing_sent _)
+returns-in-Err-clause-served g c = unserved _ _ _ _ _ false _ _ (c.nothing.ensures.read _ _ _ (Keeps-refl _)) (nothing_sent _)
     c.nothing.ensures.fault (ap (lines_kept g.K.Keeper.lines) c.nothing.ensures.keeper) (⊎_elim (λ m. inl m.1) (λ r. inr r.1) c.unopened.ensures)
 
 pub returns-then-eq-clause-served : goal.returns-then-eq-clause-served
 returns-then-eq-clause-served g c =
     let none : c.run-back.result.1.fault ≡ Some NoMemory = search rules in
-    unserved _ _ _ _ c.close-w.result.1 _ _ (c.nothing-then-eq.ensures.read _ _ (c.run-back.ensures.unread none))
+    unserved _ _ _ _ _ c.close-w.result.1 _ _ (c.nothing-then-eq.ensures.read _ _ _ (c.run-back.ensures.unread none))
     (rw c.requires.start c.close-w.ensures.sent) c.nothing-then-eq.ensures.fault (ap (lines_kept g.K.Keeper.lines) c.nothing-then-eq.ensures.keeper)
     (inl refl)
 
@@ -41,4 +41,4 @@ finished-requires g c =
 pub returns-clause-served : goal.returns-clause-served
 returns-clause-served g c =
     let some : c.run-back.result.1.fault ≢ Some NoMemory = search rules in
-    rw c.requires.start (c.finished.ensures.served _ _ (c.run-back.ensures.heard some))
+    rw (c.requires.rules, c.requires.start) (c.finished.ensures.served _ _ (c.run-back.ensures.heard some _))

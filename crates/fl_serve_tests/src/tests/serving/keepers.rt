@@ -2,7 +2,7 @@
 
 use super::ends::twenty_orders;
 use super::{is_legal, of_workers, replied};
-use fl_book::{History, Keeper, Lines};
+use fl_book::{History, Keeper, Lines, Rules};
 use fl_order::{NoMemory, Order, Told};
 use fl_serve::{Kept, OpenGate, serve_over};
 use std::alloc::Global;
@@ -53,6 +53,7 @@ fn keeps<R: Abort + Threads + Wait + Sync>(rt: &R, alloc: Global, messages: &[u8
         &mut input,
         &mut out,
         of_workers(workers),
+        Rules::standard(),
         &OpenGate,
         noted,
     );

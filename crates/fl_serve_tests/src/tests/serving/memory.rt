@@ -4,7 +4,7 @@ use super::messages::{GETLK, Lock, Messages, READ, SETLK, SETLKW, UNLOCK, WRITE,
 use super::talker::{Reply, sorted};
 use super::{Came, ended, serve_bytes, served};
 use crate::tests::{are_bytes, count_is, fault_is};
-use fl_book::{History, Line, print_trace};
+use fl_book::{History, Line, Rules, print_trace};
 use fl_serve::{Gate, run_one};
 use std::alloc::{AllocError, Global};
 use std::process::Abort;
@@ -130,7 +130,7 @@ fn one_worker_sends_the_same_bytes(rt: HostRuntime) {
     let Came { done, out } = serve_bytes(&rt, rt.alloc(), &messages.bytes, 1);
     let mut alone = Vec::new(rt.alloc());
     let mut input = messages.bytes.as_slice();
-    let wanted = run_one(rt.alloc(), &mut input, &mut alone);
+    let wanted = run_one(rt.alloc(), &mut input, &mut alone, Rules::standard());
     are_bytes(&rt, &out, &alone);
     fault_is(&rt, done.fault, None);
     are_alike(&rt, &done.history, &wanted.history);
@@ -152,7 +152,7 @@ fn looks_are_answered_and_are_no_lines(rt: HostRuntime) {
     let Came { done, out } = serve_bytes(&rt, rt.alloc(), &messages.bytes, 1);
     let mut alone = Vec::new(rt.alloc());
     let mut input = messages.bytes.as_slice();
-    let wanted = run_one(rt.alloc(), &mut input, &mut alone);
+    let wanted = run_one(rt.alloc(), &mut input, &mut alone, Rules::standard());
     are_bytes(&rt, &out, &alone);
     count_is(&rt, wanted.history.len(), 10);
     has_trace(&rt, rt.alloc(), &done.history, TRACE);

@@ -1,6 +1,7 @@
 //! A session whose workers' threads can't be made.
 
 use crate::tests::{count_is, fault_is};
+use fl_book::Rules;
 use fl_serve::{Done, Fault, OpenGate, serve_on_stack};
 use std::process::Abort;
 
@@ -20,6 +21,7 @@ fn no_thread_can_be_made(rt: HostRuntime) {
         &mut input,
         &mut out,
         4,
+        Rules::standard(),
         &OpenGate,
         usize::MAX,
     );

@@ -13,7 +13,7 @@ pub loop-server-preserved-in-Whole : goal.loop-server-preserved-in-Whole
 loop-server-preserved-in-Whole g c = record {
   same = c.answer.ensures.same ∙ c.loop-server.invariant.same;
   bounded = omega (arith, c.skip.ensures.shorter, c.loop-server.invariant.bounded);
-  way = way_more _ _ _ _ _ _ _ _ _ _ _ c.in-Whole.frame _ _ c.loop-server-test.true
+  way = way_more _ _ _ _ _ _ _ _ _ _ _ _ c.in-Whole.frame _ _ c.loop-server-test.true
       (c.skip.ensures.taken c.in-Whole.frame (sym c.next.ensures ∙ c.in-Whole.is) c.as_bytes-len.ensures.message)
       c.answer.ensures.answered c.loop-server.invariant.way;
 }
@@ -22,11 +22,11 @@ pub loop-server-preserved : goal.loop-server-preserved
 loop-server-preserved g c = record {
   same = c.rest.ensures.same ∙ c.loop-server.invariant.same;
   bounded = c.fill.ensures.bounded;
-  way = way_read _ _ _ _ _ _ _ _ _ _ c.fill.ensures.read
-      (way_rests _ _ _ _ _ _ _ _ _ _ _ _ c.rest.ensures.rests c.loop-server.invariant.way);
+  way = way_read _ _ _ _ _ _ _ _ _ _ _ c.fill.ensures.read
+      (way_rests _ _ _ _ _ _ _ _ _ _ _ _ _ c.rest.ensures.rests c.loop-server.invariant.way);
 }
 
 pub returns-in-End-clause-ended : goal.returns-in-End-clause-ended
-returns-in-End-clause-ended g c = way_ends _ _ _ _ _ _ _ _ _ _ c.in-End.fault c.in-End.ensures.read
+returns-in-End-clause-ended g c = way_ends _ _ _ _ _ _ _ _ _ _ _ c.in-End.fault c.in-End.ensures.read
     c.in-End.ensures.bounded (c.rest.ensures.over ∙ c.loop-server-test.true) c.in-End.ensures.end
-    (way_rests _ _ _ _ _ _ _ _ _ _ _ _ c.rest.ensures.rests c.loop-server.invariant.way)
+    (way_rests _ _ _ _ _ _ _ _ _ _ _ _ _ c.rest.ensures.rests c.loop-server.invariant.way)

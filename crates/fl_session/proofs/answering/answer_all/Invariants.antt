@@ -8,7 +8,7 @@ abbrev pub invariant-loop-server : goal.invariant-loop-server
 invariant-loop-server g l = record {
   same : l.batch.out.writer.ghost_name ≡ l.initial.batch.out.writer.ghost_name;
   bounded : length l.inbox.rest ≤ 8192;
-  way : IsUnderWay (g.R.Read.remaining l.initial.r) (g.R.Read.remaining l.r)
+  way : IsUnderWay l.initial.server.desk.present.rules (g.R.Read.remaining l.initial.r) (g.R.Read.remaining l.r)
       (g.W.Write.contents l.initial.batch.out.writer.now) (g.W.Write.contents l.batch.out.writer.now) l.batch.replies
       l.batch.out.broken l.server l.inbox.rest;
 }

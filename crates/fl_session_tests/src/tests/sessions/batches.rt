@@ -2,6 +2,7 @@
 //! hex, one with `< ` is a reply, and one with `= ` is a line of the trace.
 
 use crate::tests::{count_is, fault_is};
+use fl_core::Rules;
 use fl_history::{History, Line};
 use fl_order::Op;
 use fl_session::{Done, Fault, run_one};
@@ -168,7 +169,7 @@ fn stream_of(rt: &impl Abort, alloc: Global, count: u32) -> Vec<u8> {
 fn run(rt: &impl Abort, alloc: Global, count: u32) -> Done {
     let stream = stream_of(rt, alloc, count);
     let mut input = stream.as_slice();
-    run_one(alloc, &mut input, &mut Vec::new(alloc))
+    run_one(alloc, &mut input, &mut Vec::new(alloc), Rules::standard())
 }
 
 // Each line is a FORGET of one lookup of the next node.

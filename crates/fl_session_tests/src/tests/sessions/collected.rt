@@ -4,6 +4,7 @@ use super::super::{are_bytes, count_is, fault_is};
 use super::faults::{replies, stream};
 use super::spelled;
 use super::traced::two_locks;
+use fl_core::Rules;
 use fl_session::run_one;
 use fl_testing::{Sink, Trouble};
 use std::alloc::Global;
@@ -80,7 +81,7 @@ fn no_reply_stays_behind_while_its_client_waits(rt: HostRuntime) {
         held: Vec::new(rt.alloc()),
         writes: 0,
     };
-    let done = run_one(rt.alloc(), &mut input, &mut output);
+    let done = run_one(rt.alloc(), &mut input, &mut output, Rules::standard());
     fault_is(&rt, done.fault, None);
     count_is(&rt, output.writes, 4);
     are_bytes(&rt, &output.held, &replies(&rt, rt.alloc()));
@@ -105,7 +106,7 @@ fn writes_for(rt: &impl Abort, alloc: Global, locks: usize) -> usize {
     let wanted = repeated(alloc, &replies, 240, 256, locks).expect(rt, "memory");
     let mut input = stream.as_slice();
     let mut output = Sink::new(alloc, usize::MAX, Trouble::none());
-    let done = run_one(alloc, &mut input, &mut output);
+    let done = run_one(alloc, &mut input, &mut output, Rules::standard());
     fault_is(rt, done.fault, None);
     are_bytes(rt, &output.held, &wanted);
     output.writes

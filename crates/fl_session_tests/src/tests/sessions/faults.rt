@@ -3,6 +3,7 @@
 use super::super::{are_bytes, count_is, fault_is};
 use super::traced::two_locks;
 use super::{is_traced, spelled};
+use fl_core::Rules;
 use fl_session::{Done, Fault, run_one, run_session};
 use fl_testing::{Sink, Source, Trouble};
 use std::alloc::Global;
@@ -33,7 +34,7 @@ fn a_byte_at_a_time(rt: HostRuntime) {
     let stream = stream(&rt, rt.alloc());
     let mut input = Source::new(&stream, 1, Trouble::none());
     let mut output = Sink::new(rt.alloc(), 1, Trouble::none());
-    let done = run_one(rt.alloc(), &mut input, &mut output);
+    let done = run_one(rt.alloc(), &mut input, &mut output, Rules::standard());
     is_sent(&rt, &output.held, &replies(&rt, rt.alloc()), 272);
     is_whole(&rt, rt.alloc(), &done, None);
 }
@@ -58,7 +59,7 @@ fn received(rt: &impl Abort, alloc: Global, stream: &UnixStream) -> Vec<u8> {
 fn over_a_socket(rt: HostRuntime) {
     let (near, far) = UnixStream::pair(&rt).expect(&rt, "a socket");
     send(&rt, &near, &stream(&rt, rt.alloc()));
-    let done = run_one(rt.alloc(), &mut &far, &mut &far);
+    let done = run_one(rt.alloc(), &mut &far, &mut &far, Rules::standard());
     is_whole(&rt, rt.alloc(), &done, None);
     drop(far);
     let sent = received(&rt, rt.alloc(), &near);
@@ -84,7 +85,7 @@ pub(super) fn is_sent(rt: &impl Abort, output: &[u8], replies: &[u8], sent: usiz
 fn is_cut(rt: &impl Abort, alloc: Global, stream: &[u8], replies: &[u8], len: usize) {
     let mut input = stream.get(..len).unwrap_or(&[]);
     let mut output = Vec::new(alloc);
-    let done = run_one(alloc, &mut input, &mut output);
+    let done = run_one(alloc, &mut input, &mut output, Rules::standard());
     let (end, sent) = last_end(len);
     let fault = if end == len { None } else { Some(Fault::Cut) };
     fault_is(rt, done.fault, fault);
@@ -104,7 +105,7 @@ fn cut_after_each_byte(rt: HostRuntime) {
 fn ends_by_a_read(rt: &impl Abort, alloc: Global, stream: &[u8], reads: usize) -> Vec<u8> {
     let mut input = Source::new(stream, 29, Trouble::behind(reads, None));
     let mut output = Vec::new(alloc);
-    let done = run_one(alloc, &mut input, &mut output);
+    let done = run_one(alloc, &mut input, &mut output, Rules::standard());
     fault_is(rt, done.fault, Some(Fault::Read));
     output
 }
@@ -158,7 +159,7 @@ fn is_a_part(rt: &impl Abort, output: &[u8], replies: &[u8]) {
 // After so many writes one fails or takes nothing.
 fn ends_by_a_write(rt: &impl Abort, alloc: Global, stream: &[u8], output: &mut Sink) {
     let mut input = Source::new(stream, 29, Trouble::none());
-    let done = run_one(alloc, &mut input, output);
+    let done = run_one(alloc, &mut input, output, Rules::standard());
     is_whole(rt, alloc, &done, Some(Fault::Write));
 }
 
@@ -175,7 +176,7 @@ fn ends_before(rt: &impl Abort, alloc: Global, end: &str, fault: Option<Fault>) 
     bytes.extend_from_slice(&behind).expect(rt, "memory");
     let mut input = Source::new(&bytes, first.len(), Trouble::none());
     let mut output: Vec<u8> = Vec::new(alloc);
-    let done = run_one(alloc, &mut input, &mut output);
+    let done = run_one(alloc, &mut input, &mut output, Rules::standard());
     fault_is(rt, done.fault, fault);
     is_left(rt, &input, &behind);
 }
@@ -202,7 +203,7 @@ fn is_cut_and_broken(rt: &impl Abort, alloc: Global, writes: usize, broken: bool
     let stream = stream(rt, alloc);
     let mut input = stream.get(..289).unwrap_or(&[]);
     let mut output = Sink::new(alloc, 200, Trouble::behind(writes, Some(ErrorKind::Other)));
-    let ended = run_session(alloc, &mut input, &mut output);
+    let ended = run_session(alloc, &mut input, &mut output, Rules::standard());
     fault_is(rt, ended.done.fault, Some(Fault::Cut));
     assert_eq!(rt; ended.broken, broken);
 }

@@ -4,6 +4,7 @@ use super::super::{count_is, fault_is};
 use super::faults::stream;
 use super::is_traced;
 use super::traced::two_locks;
+use fl_core::Rules;
 use fl_history::{History, Lines};
 use fl_keeper::Keeper;
 use fl_order::{NoMemory, Order, Told};
@@ -56,7 +57,7 @@ fn keeps(rt: &impl Abort, alloc: Global, most: usize, pauses: usize) {
         lines: Lines::new(alloc),
         pauses: 0,
     };
-    let (kept, broken) = run_over(alloc, &mut input, &mut output, noted);
+    let (kept, broken) = run_over(alloc, &mut input, &mut output, noted, Rules::standard());
     let Kept {
         keeper,
         fault,

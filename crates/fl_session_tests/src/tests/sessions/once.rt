@@ -3,6 +3,7 @@
 
 use super::super::{count_is, fault_is};
 use super::faults::{is_sent, replies, sent_after, stream};
+use fl_core::Rules;
 use fl_session::{Fault, run_one, run_session};
 use fl_testing::{Sink, Source, Trouble};
 use std::alloc::Global;
@@ -17,7 +18,7 @@ fn ends_by_the_read(rt: &impl Abort, alloc: Global, stream: &[u8], reads: usize)
         Trouble::once(reads, Some(ErrorKind::Interrupted)),
     );
     let mut output = Vec::new(alloc);
-    let done = run_one(alloc, &mut input, &mut output);
+    let done = run_one(alloc, &mut input, &mut output, Rules::standard());
     fault_is(rt, done.fault, Some(Fault::Read));
     count_is(rt, input.reads, reads.saturating_add(1));
     output
@@ -38,7 +39,7 @@ fn a_read_is_interrupted_once(rt: HostRuntime) {
 fn ends_by_the_write(rt: &impl Abort, alloc: Global, stream: &[u8], writes: usize) -> Vec<u8> {
     let mut input = Source::new(stream, 29, Trouble::none());
     let mut output = Sink::failing_once(alloc, writes, ErrorKind::Interrupted);
-    let ended = run_session(alloc, &mut input, &mut output);
+    let ended = run_session(alloc, &mut input, &mut output, Rules::standard());
     fault_is(rt, ended.done.fault, Some(Fault::Write));
     assert!(rt; ended.broken);
     count_is(rt, output.writes, writes.saturating_add(1));

@@ -1,6 +1,7 @@
 use Rattle.std.proofs.Common.{◌≡◌, ◌≤◌, length}
 use Rattle.fl_hearing.specs.Inside.Hearing.{IsHearing}
 use Rattle.fl_session.specs.Inbox.{work}
+use Rattle.fl_waiting.specs.declared.rules.Rules.{Rules}
 use Rattle.fl_hearing.proofs.hearing.Hearer.hear_all.Given as goal
 
 -- what was read so far is heard, but for what is left in the inbox
@@ -8,7 +9,7 @@ abbrev pub invariant-loop-hearer : goal.invariant-loop-hearer
 invariant-loop-hearer g l = record {
   bounded : length l.inbox.rest ≤ 8192;
   same : (l.hearer.put.of ≡ l.fn.self.put.of) × (l.hearer.put.takers ≡ l.fn.self.put.takers);
-  hearing : IsHearing (g.I.Read.remaining l.initial.r) (g.I.Read.remaining l.r) l.hearer.talk
+  hearing : (by : Rules) → IsHearing by (g.I.Read.remaining l.initial.r) (g.I.Read.remaining l.r) l.hearer.talk
       l.hearer.put.put l.hearer.goodbye l.inbox.rest;
 }
 
