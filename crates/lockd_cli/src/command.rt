@@ -87,15 +87,22 @@ fn drive<'a>(alloc: Global) -> Result<Command<'a>, Error> {
 
 // A command with the options that say where its trace goes.
 fn with_trace<'a>(alloc: Global, command: Command<'a>) -> Result<Command<'a>, Error> {
-    let trace = Arg::new(alloc, "trace")
+    let command = command.arg(trace(alloc))?;
+    Ok(command.arg(when_full(alloc)?)?)
+}
+
+fn trace<'a>(alloc: Global) -> Arg<'a> {
+    Arg::new(alloc, "trace")
         .long("trace")
         .value_name("FILE|none")
         .help(
             "Writes the trace to a new file as orders come, or keeps none; else it is printed at the end, and memory grows until then",
         )
         .action(ArgAction::Set)
-        .value_parser(ValueParser::NonEmptyString);
-    let command = command.arg(trace)?;
+        .value_parser(ValueParser::NonEmptyString)
+}
+
+fn when_full<'a>(alloc: Global) -> Result<Arg<'a>, Error> {
     let full = Arg::new(alloc, "trace-full")
         .long("trace-full")
         .value_name("go-on|refuse")
@@ -105,7 +112,7 @@ fn with_trace<'a>(alloc: Global, command: Command<'a>) -> Result<Command<'a>, Er
         .default_value("go-on")
         .action(ArgAction::Set)
         .value_parser(WHEN_FULL);
-    Ok(command.arg(full.requires_arg("trace")?)?)
+    Ok(full.requires_arg("trace")?)
 }
 
 // A command with the options that say its rules.
