@@ -7,7 +7,8 @@
 # - the requests of the row themselves, where the row is built from its far end, so that each one's search goes along all before.
 # With 3,840 runs of other owners the row stands on one file, where one owner has these runs; on one file, where each is
 # another owner's and in the way of every request; and on 255 files. Each time is the difference of two runs that differ in
-# these orders alone. The runs take turns, and the least time of each counts. Prints milliseconds and the ratio.
+# these orders alone. The runs take turns, and the least time of each counts. Prints milliseconds and the ratio, and the ratios of
+# the same under fair rules to these.
 #
 # What dominates: for each request that is visited, the table is asked once for all owners of parked requests, and once for the
 # one who asks. Each time it walks along the rows of the file's owners, and into those of owners who are asked for.
@@ -36,9 +37,9 @@ def stored(name, orders):
             out.write(f"ask 0 {unique} {node} 0 0 0 {' '.join(str(word) for word in asked)}\n")
     return path
 
-def millis(path):
+def millis(command, path):
     with open(path) as given, open(f"{WORK}/told", "w") as told:
-        running = subprocess.Popen([PROGRAM, "script"], stdin=given, stdout=told)
+        running = subprocess.Popen([PROGRAM, *command], stdin=given, stdout=told)
         _, status, used = os.wait4(running.pid, 0)
     running.returncode = status
     assert status == 0
@@ -48,12 +49,14 @@ def told_by(path):
     with open(path) as given:
         return subprocess.run([PROGRAM, "script"], stdin=given, capture_output=True, check=True, text=True).stdout
 
-# The least time of each run, in milliseconds.
+# The least time of each run, in milliseconds: under the standard rules, and under fair ones.
 def least(runs, times):
-    best = {name: float("inf") for name in runs}
+    commands = ["script"], ["script", "--fair"]
+    best = [dict.fromkeys(runs, float("inf")) for _ in commands]
     for _ in range(times):
-        for name, path in runs.items():
-            best[name] = min(best[name], millis(path))
+        for command, so_far in zip(commands, best):
+            for name, path in runs.items():
+                so_far[name] = min(so_far[name], millis(command, path))
     return best
 
 # The owner of this place in the row, from 0, holds a byte.
@@ -75,6 +78,11 @@ def asked(files, before, times):
 def closing(files, before, times):
     return before + [wants(files, ROW, 0)] * times
 
+# Milliseconds of a SETLKW where none waits, behind the row, where it is told EDEADLK, and of one of the row.
+def each(best):
+    alone, behind = (best["none_on"] - best["none"]) / OFTEN, (best["row_on"] - best["row"]) / FEW
+    return alone, behind, (best["closed"] - best["row"]) / FEW, (best["built"] - best["none"]) / ROW
+
 def compare(what, files, others):
     made = [(1, ("create", 0, 420, f"{i:03}".encode().hex())) for i in range(files)]
     none = made + others + [holds(files, place) for place in range(ROW + 1)]
@@ -92,11 +100,11 @@ def compare(what, files, others):
     assert told_by(runs["none_on"]).count(" err 4\n") == OFTEN
     assert told_by(runs["row_on"]).count(" err 4\n") == FEW
     assert told_by(runs["closed"]).count(" err 35\n") == FEW
-    best = least(runs, 3)
-    alone, behind = (best["none_on"] - best["none"]) / OFTEN, (best["row_on"] - best["row"]) / FEW
-    closed, built = (best["closed"] - best["row"]) / FEW, (best["built"] - best["none"]) / ROW
+    standard, fair = (each(best) for best in least(runs, 3))
+    alone, behind, closed, built = standard
     print(f"{what}: {alone:.4f} ms with none waiting, {behind:.2f} ms with {ROW}, ratio {behind / alone:.0f}; "
-          f"told EDEADLK {closed:.2f} ms; {built:.2f} ms each where the row is built from its far end")
+          f"told EDEADLK {closed:.2f} ms; {built:.2f} ms each where the row is built from its far end; "
+          "fair " + ", ".join(f"{new / old:.2f}" for new, old in zip(fair, standard)) + " (aim of the worst: 1.5)")
 
 compare("one file, runs of one owner", 1, [lock(2, 5_000, 2 * i, 2 * i, READ, "setlk") for i in range(RUNS)])
 compare("one file, each owner in the way", 1, [lock(2, 10_000 + i, 0, 2**63 - 1, READ, "setlk") for i in range(RUNS)])

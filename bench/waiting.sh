@@ -2,9 +2,9 @@
 # Times orders where 256 lock requests wait on one file, against the same orders where none waits, in processor time of
 # `lockd`: unlocks that free none of them, of bytes that nobody waits for and of the other class; one unlock that frees
 # all of them, so that it gives 257 replies, also behind 3,800 runs of another owner; one that frees the younger half, while the
-# older half stays; and a SETLK on another file, by text and by messages. Each time is the difference of two runs that differ
-# in these orders alone: 20,000 of them, or the one unlock that frees. The runs take turns, and the least time of each counts.
-# Prints microseconds an order and the ratios.
+# older half stays; and a SETLK on another file, by text and by messages, and under fair rules. Each time is the difference of two
+# runs that differ in these orders alone: 20,000 of them, or the one unlock that frees. The runs take turns, and the least time of
+# each counts. Prints microseconds an order and the ratios.
 #
 # What dominates: an unlock on the same file walks along all requests that wait, and tests those of its class for a
 # conflict. An order on another file walks along none, since its unique is greater than theirs and no request waits on
@@ -36,7 +36,7 @@ def message(unique, node, asked):
 
 def stored(name, command, orders):
     hello = (struct.pack("<IIQQIIII", 56, 26, 0, 0, 0, 0, 0, 0) + struct.pack("<IIII", 7, 31, 0, 0)).hex()
-    spell, lines = (line, []) if command == "script" else (message, [hello])
+    spell, lines = (line, []) if command.startswith("script") else (message, [hello])
     lines += [spell(i + 1, *order) for i, order in enumerate(orders)]
     path = f"{WORK}/{name}"
     with open(path, "w") as out:
@@ -45,7 +45,7 @@ def stored(name, command, orders):
 
 def micros(command, path):
     with open(path) as given, open(f"{WORK}/told", "w") as told:
-        running = subprocess.Popen([PROGRAM, command], stdin=given, stdout=told)
+        running = subprocess.Popen([PROGRAM, *command.split()], stdin=given, stdout=told)
         _, status, used = os.wait4(running.pid, 0)
     running.returncode = status
     assert status == 0
@@ -61,7 +61,7 @@ def least(runs, times):
 
 def told_by(command, path):
     with open(path) as given:
-        return subprocess.run([PROGRAM, command], stdin=given, capture_output=True, check=True, text=True).stdout
+        return subprocess.run([PROGRAM, *command.split()], stdin=given, capture_output=True, check=True, text=True).stdout
 
 BEHIND = 10_000
 FILES = [(1, ("create", 0, 420, "61")), (1, ("create", 0, 420, "62"))]
@@ -75,18 +75,18 @@ def asks(word, byte=0, first=1000, count=WAITERS):
 def compare(what, none, many):
     print(f"{what}: {none:.2f} us with none waiting, {many:.2f} us with {WAITERS}, ratio {many / none:.1f}")
 
-# Orders that free none, one after another; the time of one where none waits.
+# Orders that free none, one after another; the time of one where none waits, and where all do.
 def repeated(what, order, command="script"):
     runs = {}
     for begun, waiting in ("none", []), ("many", asks("setlkw")):
         runs[begun] = stored(begun, command, HELD + waiting)
         runs[begun + " on"] = stored(begun + "_on", command, HELD + waiting + [order] * ORDERS)
-        done = told_by(*runs[begun + " on"]).count(" ok\n" if command == "script" else "\n10000000" + "0" * 8)
+        done = told_by(*runs[begun + " on"]).count(" ok\n" if command.startswith("script") else "\n10000000" + "0" * 8)
         assert done == 1 + ORDERS
     best = least(runs, 15)
     none, many = ((best[begun + " on"] - best[begun]) / ORDERS for begun in ("none", "many"))
     compare(what, none, many)
-    return none
+    return none, many
 
 # One unlock that frees all requests but those that wait for another lock; these are older, so they are tested again and again.
 def frees(what, none, others=(), staying=0):
@@ -105,11 +105,13 @@ def frees(what, none, others=(), staying=0):
     compare(what, none, unlock)
     print(f"{count} SETLKs of the same locks: {each:.0f} us, ratio of the unlock to these {unlock / each:.2f}")
 
-none = repeated("unlock that frees none, same class", lock(2, 7, 200, 299, UNLOCK))
+none, _ = repeated("unlock that frees none, same class", lock(2, 7, 200, 299, UNLOCK))
 repeated("unlock that frees none, other class", lock(2, 7, 0, 0, UNLOCK, flags=1))
 frees("unlock that frees all", none)
 frees("unlock that frees all, behind 3,800 runs", none, RUNS)
 frees("unlock that frees the younger half, behind 3,800 runs", none, RUNS, WAITERS // 2)
-repeated("SETLK on another file, text", lock(3, 7, 0, 9, WRITE))
-repeated("SETLK on another file, messages", lock(3, 7, 0, 9, WRITE), "bytes")
+for command in "script", "bytes":
+    _, many = repeated(f"SETLK on another file, {command}", lock(3, 7, 0, 9, WRITE), command)
+    _, fair = repeated(f"SETLK on another file, {command} --fair", lock(3, 7, 0, 9, WRITE), f"{command} --fair")
+    print(f"ratio of the fair one to the other {fair / many:.2f} (aim 1.2)")
 END
