@@ -62,12 +62,32 @@ fn hand_in<L: BoardName, R: Wait + Abort>(
     }
 }
 
-// What was shown while both requests waited and once both were granted, and the history.
-#[derive(Drop)]
+// What was shown while both requests waited, and once both were granted.
+#[derive(Clone, Copy)]
 struct Views {
     waiting: Result<Answer, Errno>,
     granted: Result<Answer, Errno>,
-    history: History,
+}
+
+// The orders of a trace, and what the first seat is shown.
+fn views_of<L: BoardName, R: Wait + Abort>(
+    rt: &R,
+    board: &Board<L, &R>,
+    seats: &mut [Seat<L>],
+    trace: &History,
+    tolds: &mut Tolds,
+) -> Views {
+    let mut waiting = Err(Errno::EBADF);
+    for at in 0..trace.len() {
+        if at == BOTH_WAIT {
+            waiting = who_locks(rt, board, seats);
+        }
+        hand_in(rt, board, seats, &trace.line(at), tolds);
+    }
+    Views {
+        waiting,
+        granted: who_locks(rt, board, seats),
+    }
 }
 
 // The orders of a trace at a board of two seats.
@@ -78,7 +98,7 @@ fn followed<L: BoardName, R: Wait + Abort>(
     log: FreshLog,
     rules: Rules,
     trace: &History,
-) -> Views
+) -> (Views, History)
     requires named { (blank.name ≡ L.name) × (blank.parts ≡ L.parts) }
     requires log { log ≡ L.log }
     requires rules { rules ≡ L.rules }
@@ -88,18 +108,8 @@ fn followed<L: BoardName, R: Wait + Abort>(
         .ok()
         .expect(rt, "a board");
     let mut tolds = Tolds::new(alloc).expect(rt, "memory");
-    let mut waiting = Err(Errno::EBADF);
-    for at in 0..trace.len() {
-        if at == BOTH_WAIT {
-            waiting = who_locks(rt, &board, &mut seats);
-        }
-        hand_in(rt, &board, &mut seats, &trace.line(at), &mut tolds);
-    }
-    Views {
-        waiting,
-        granted: who_locks(rt, &board, &mut seats),
-        history: board.close(seats).ok().expect(rt, "all seats"),
-    }
+    let views = views_of(rt, &board, &mut seats, trace, &mut tolds);
+    (views, board.close(seats).ok().expect(rt, "all seats"))
 }
 
 // Both histories have the same lines.
@@ -130,8 +140,8 @@ fn a_reader_waits_behind_a_writer_of_another_seat(rt: HostRuntime) {
     let trace = read_trace(rt.alloc(), text.as_bytes()).expect(&rt, "a trace");
     let rules = Rules::standard().with_fair(true);
     let (blank, log) = (Blank::new(2), FreshLog::new());
-    let views = followed::<Brand, _>(&rt, rt.alloc(), blank, log, rules, &trace);
-    are_same(&rt, &views.history, &trace);
+    let (views, history) = followed::<Brand, _>(&rt, rt.alloc(), blank, log, rules, &trace);
+    are_same(&rt, &history, &trace);
     are_shown(&rt, &views);
     assert!(rt; check(rt.alloc(), &trace, rules) == Ok(Verdict::Legal));
     // By the standard rules the reader passes.

@@ -35,14 +35,36 @@ fn attributes<L: BoardName, R: Wait + Abort>(
 }
 
 // What the second of two seats was shown before the first one's orders, and what both were shown once they met.
-#[derive(Drop)]
+#[derive(Clone, Copy)]
 struct Views {
     before: Result<Answer, Errno>,
     unknown: Result<Answer, Errno>,
     first: Result<Answer, Errno>,
     second: Result<Answer, Errno>,
     known: Result<Answer, Errno>,
-    history: History,
+}
+
+// The first seat makes a file and locks it, and then they meet.
+fn views_of<L: BoardName, R: Wait + Abort>(
+    rt: &R,
+    board: &Board<L, &R>,
+    one: &mut Seat<L>,
+    two: &mut Seat<L>,
+    tolds: &mut Tolds,
+) -> Views {
+    let before = who_locks(rt, board, two);
+    let unknown = attributes(rt, board, two);
+    take(rt, board, one, &create(rt), tolds);
+    take(rt, board, one, &order(2, 2, Op::Setlk(upto(7, 9))), tolds);
+    let first = who_locks(rt, board, one);
+    assert!(rt; board.meet(rt, one, two).is_ok());
+    Views {
+        before,
+        unknown,
+        first,
+        second: who_locks(rt, board, two),
+        known: attributes(rt, board, two),
+    }
 }
 
 fn looked<L: BoardName, R: Wait + Abort>(
@@ -51,7 +73,7 @@ fn looked<L: BoardName, R: Wait + Abort>(
     blank: Blank,
     log: FreshLog,
     rules: Rules,
-) -> Views
+) -> (Views, History)
     requires named { (blank.name ≡ L.name) × (blank.parts ≡ L.parts) }
     requires log { log ≡ L.log }
     requires rules { rules ≡ L.rules }
@@ -63,32 +85,22 @@ fn looked<L: BoardName, R: Wait + Abort>(
     let mut tolds = Tolds::new(alloc).expect(rt, "memory");
     let mut two = seats.pop().expect(rt, "a seat");
     let mut one = seats.pop().expect(rt, "a seat");
-    let before = who_locks(rt, &board, &mut two);
-    let unknown = attributes(rt, &board, &mut two);
-    take(rt, &board, &mut one, &create(rt), &mut tolds);
-    let lock = order(2, 2, Op::Setlk(upto(7, 9)));
-    take(rt, &board, &mut one, &lock, &mut tolds);
-    let first = who_locks(rt, &board, &mut one);
-    let met = board.meet(rt, &mut one, &mut two).is_ok();
-    assert!(rt; met);
-    let second = who_locks(rt, &board, &mut two);
-    let known = attributes(rt, &board, &mut two);
+    let views = views_of(rt, &board, &mut one, &mut two, &mut tolds);
     seats.push(two).expect(rt, "memory");
     seats.push(one).expect(rt, "memory");
-    Views {
-        before,
-        unknown,
-        first,
-        second,
-        known,
-        history: board.close(seats).ok().expect(rt, "all seats"),
-    }
+    (views, board.close(seats).ok().expect(rt, "all seats"))
 }
 
 #[test]
 fn a_lock_is_shown_to_both_seats(rt: HostRuntime) {
     let rules = Rules::standard();
-    let told = looked::<Brand, _>(&rt, rt.alloc(), Blank::new(2), FreshLog::new(), rules);
+    let (told, history) = looked::<Brand, _>(
+        &rt,
+        rt.alloc(),
+        Blank::new(2),
+        FreshLog::new(),
+        rules,
+    );
     let locked = Answer::Lock {
         start: 0,
         end: 9,
@@ -108,8 +120,8 @@ fn a_lock_is_shown_to_both_seats(rt: HostRuntime) {
     assert!(rt; told.second == Ok(locked));
     assert!(rt; told.known == Ok(Answer::Attr(attr)));
     // Looks are no lines: two orders, with a reply each.
-    assert!(rt; told.history.len() == 4);
-    assert!(rt; check(rt.alloc(), &told.history, rules) == Ok(Verdict::Legal));
+    assert!(rt; history.len() == 4);
+    assert!(rt; check(rt.alloc(), &history, rules) == Ok(Verdict::Legal));
 }
 
 // The last byte that owner 7 is shown to lock. It is given the seat alone, and so has no right to wait.
@@ -122,6 +134,20 @@ fn last_locked<L: BoardName>(seat: &mut Seat<L>) -> Option<u64> {
 }
 
 // A seat hands in locks that grow, and is shown each one as soon as it is handed in.
+fn lock_more_and_more<L: BoardName, R: Wait + Abort>(
+    rt: &R,
+    board: &Board<L, &R>,
+    seat: &mut Seat<L>,
+    tolds: &mut Tolds,
+) {
+    take(rt, board, seat, &create(rt), tolds);
+    for last in 0..20u64 {
+        let lock = order(last.saturating_add(2), 2, Op::Setlk(upto(7, last)));
+        take(rt, board, seat, &lock, tolds);
+        assert!(rt; last_locked(seat) == Some(last));
+    }
+}
+
 fn shown_each<L: BoardName, R: Wait + Abort>(
     rt: &R,
     alloc: Global,
@@ -139,12 +165,7 @@ fn shown_each<L: BoardName, R: Wait + Abort>(
         .expect(rt, "a board");
     let mut tolds = Tolds::new(alloc).expect(rt, "memory");
     let mut seat = seats.pop().expect(rt, "a seat");
-    take(rt, &board, &mut seat, &create(rt), &mut tolds);
-    for last in 0..20u64 {
-        let lock = order(last.saturating_add(2), 2, Op::Setlk(upto(7, last)));
-        take(rt, &board, &mut seat, &lock, &mut tolds);
-        assert!(rt; last_locked(&mut seat) == Some(last));
-    }
+    lock_more_and_more(rt, &board, &mut seat, &mut tolds);
     seats.push(seat).expect(rt, "memory");
     board.close(seats).ok().expect(rt, "all seats")
 }
