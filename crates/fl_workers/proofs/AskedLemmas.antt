@@ -9,6 +9,7 @@ use Rattle.fl_history.specs.declared.history.Line.{Line}
 use Rattle.fl_history.specs.declared.history.Line.TheVariants as line
 use Rattle.fl_order.specs.declared.order.Order.{Order}
 use Rattle.fl_order.specs.declared.told.Told.{Told}
+use Rattle.fl_waiting.specs.declared.rules.Rules.{Rules}
 use Rattle.fl_workers.specs.Asked.{Orders, asked_by, order_asked_by}
 use Rattle.fl_workers.specs.Worked.{IsAskedLast}
 
@@ -31,9 +32,9 @@ step_asks_one worker order tolds =
     ∙ ap (λ l. order ∷ l) (told_asks_none worker tolds)
 
 -- an order that was handed in at a seat is the last that its worker asks
-pub handed_in_last : (old new : Place) (order : Order) (tolds : List Told) → new.worker ≡ old.worker
-    → IsHandedIn old order tolds new → IsAskedLast (asked_by old.worker old.own) order (asked_by new.worker new.own)
-handed_in_last old new order tolds same handed = record {
+pub handed_in_last : (rules : Rules) (old new : Place) (order : Order) (tolds : List Told) → new.worker ≡ old.worker
+    → IsHandedIn rules old order tolds new → IsAskedLast (asked_by old.worker old.own) order (asked_by new.worker new.own)
+handed_in_last rules old new order tolds same handed = record {
   before = asked_by old.worker handed.before;
   had = (
     asked_by old.worker handed.had.0,

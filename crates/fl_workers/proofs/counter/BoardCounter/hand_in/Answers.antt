@@ -15,7 +15,7 @@ on_err (Err e) holds f = f holds
 
 pub returns-clause-taken : goal.returns-clause-taken
 returns-clause-taken g c = on_ok c.hand_in.result c.hand_in.ensures.handed
-    (λ handed. (handed.count, handed_in_last _ _ _ _ c.hand_in.ensures.worker handed))
+    (λ handed. (handed.count, handed_in_last g.L.BoardName.rules _ _ _ _ c.hand_in.ensures.worker handed))
 
 pub returns-clause-refused : goal.returns-clause-refused
 returns-clause-refused g c = on_err c.hand_in.result c.hand_in.ensures.refused
