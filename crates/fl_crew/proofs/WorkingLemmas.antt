@@ -14,6 +14,7 @@ use Rattle.fl_order.specs.declared.order.Order.{Order}
 use Rattle.fl_crew.specs.Working.{HaveDone, HaveWorked, IsCounted, Post, handed_at}
 use Rattle.fl_session.specs.declared.server.Owed.{Owed}
 use Rattle.fl_session.specs.declared.session.Fault.{Fault}
+use Rattle.fl_waiting.specs.declared.rules.Rules.{Rules}
 use Rattle.fl_workers.specs.Asked.{Orders, asked_by}
 use Rattle.fl_workers.specs.Worked.{HasDone, HasWorked}
 
@@ -189,8 +190,8 @@ same_last places places_now front place place_now was now same =
     ∙ sym (ap (map name) was ∙ map-append name front (place ∷ []))
 
 -- what was heard, by other names
-pub heard_as : (left before now : Option (List ℕ)) (fault told : Option Fault) (put all : Orders) (goodbye owed : Owed)
-    → now ≡ before → told ≡ fault → all ≡ put → owed ≡ goodbye → HasHeard left before fault put goodbye
-    → HasHeard left now told all owed
-heard_as left before now fault told put all goodbye owed same_left same_fault same_put same_owed heard =
+pub heard_as : (rules : Rules) (left before now : Option (List ℕ)) (fault told : Option Fault) (put all : Orders) (goodbye owed : Owed)
+    → now ≡ before → told ≡ fault → all ≡ put → owed ≡ goodbye → HasHeard rules left before fault put goodbye
+    → HasHeard rules left now told all owed
+heard_as rules left before now fault told put all goodbye owed same_left same_fault same_put same_owed heard =
     rw (same_left, same_fault, same_put, same_owed) heard

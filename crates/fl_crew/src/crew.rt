@@ -136,7 +136,8 @@ impl<
         ensures worked { result.1.fault ≢ Some Fault.NoMemory
             → HaveWorked posts.seats.items result.0.seats.items result.0.ends.items result.0.refused }
         ensures heard { result.1.fault ≢ Some Fault.NoMemory
-            → HasHeard (I.remaining r.old) (I.remaining r.new) result.1.fault result.1.put.put result.1.goodbye }
+            → HasHeard L.rules (I.remaining r.old) (I.remaining r.new) result.1.fault result.1.put.put
+            result.1.goodbye }
         ensures unread { result.1.fault ≡ Some Fault.NoMemory → Keeps (I.remaining r.old) (I.remaining r.new) }
     {
         let rt = self.rt;
@@ -153,8 +154,8 @@ impl<
                     → HaveWorked posts.seats.items result.0.seats.items result.0.ends.items result.0.refused }
                 ensures same { result.2.ghost_name ≡ r.entry.ghost_name }
                 ensures heard { result.1.fault ≢ Some Fault.NoMemory
-                    → HasHeard (I.remaining r.entry.now) (I.remaining result.2.now) result.1.fault result.1.put.put
-                    result.1.goodbye }
+                    → HasHeard L.rules (I.remaining r.entry.now) (I.remaining result.2.now) result.1.fault
+                    result.1.put.put result.1.goodbye }
                 ensures unread { result.1.fault ≡ Some Fault.NoMemory
                     → Keeps (I.remaining r.entry.now) (I.remaining result.2.now) }
             {

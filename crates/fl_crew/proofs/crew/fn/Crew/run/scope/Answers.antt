@@ -16,10 +16,10 @@ returns g c = record {
   ];
   same = search rules;
   heard = λ live. elim c.if-start_all.branch [
-    | then-start_all w ↦ heard_as _ _ _ _ _ _ _ _ _ (ap g.I.Read.remaining w.r-is)
+    | then-start_all w ↦ heard_as g.L.BoardName.rules _ _ _ _ _ _ _ _ _ (ap g.I.Read.remaining w.r-is)
         (ap (λ (h : Heard). h.fault) w.heard-is)
         (c.close.ensures.same.2 ∙ ap (λ (h : Heard). h.put.put) w.heard-is)
-        (ap (λ (h : Heard). h.goodbye) w.heard-is) w.hear_all-heard.ensures.heard
+        (ap (λ (h : Heard). h.goodbye) w.heard-is) (w.hear_all-heard.ensures.heard g.L.BoardName.rules)
     | else-start_all w ↦ absurd (live (ap (λ (h : Heard). h.fault) w.heard-is))
   ];
   unread = search rules;
