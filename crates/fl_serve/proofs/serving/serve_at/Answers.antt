@@ -41,4 +41,4 @@ finished-requires g c =
 pub returns-clause-served : goal.returns-clause-served
 returns-clause-served g c =
     let some : c.run-back.result.1.fault ≢ Some NoMemory = search rules in
-    rw (c.requires.rules, c.requires.start) (c.finished.ensures.served _ _ (c.run-back.ensures.heard some _))
+    rw (c.requires.rules, c.requires.start) (c.finished.ensures.served _ _ (c.run-back.ensures.heard some))
