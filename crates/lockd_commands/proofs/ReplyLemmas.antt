@@ -15,6 +15,7 @@ use Rattle.fl_session.specs.Served.{IsServed}
 use Rattle.fl_wire.specs.Spell.{IsReply}
 use Rattle.fl_session.specs.declared.session.Done.{Done}
 use Rattle.fl_session.specs.Session.{session_of}
+use Rattle.fl_waiting.specs.declared.rules.Rules.{Rules}
 
 -- the length stands in the first four bytes
 len-append : (xs ys : List ℕ) → 4 ≤ length xs → len_of (xs ++ ys) ≡ len_of xs

@@ -6,4 +6,4 @@ use Rattle.lockd_commands.proofs.script.take_all.Given as goal
 -- the desk keeps its rules, and was asked what is asked so far
 abbrev pub invariant-loop-ask : goal.invariant-loop-ask
 invariant-loop-ask l =
-    (l.desk.present.rules ≡ l.rules) × (filter is_asked l.desk.lines ≡ map line_of (take l.ask-index l.asks))
+    (l.desk.present.rules ≡ l.fn.rules) × (filter is_asked l.desk.lines ≡ map line_of (take l.ask-index l.asks))
