@@ -7,5 +7,5 @@ pub loop-ask-preserved : goal.loop-ask-preserved
 loop-ask-preserved c = (
   ap (λ (p : Snapshot). p.rules) c.in_ok-take.ensures.next ∙ c.loop-ask.invariant.0,
   take_more_asks c.loop-ask.desk.lines c.take.new.self.lines c.args.asks.now c.loop-ask.ask-index c.ask-item.result c.take.new.tolds
-  c.loop-ask.invariant.1 c.in_ok-take.ensures.lines c.loop-ask-test.true c.ask-item.is,
+      c.loop-ask.invariant.1 c.in_ok-take.ensures.lines c.loop-ask-test.true c.ask-item.is,
 )
