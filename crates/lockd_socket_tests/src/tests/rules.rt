@@ -40,30 +40,40 @@ fn has_one_run(rt: &impl Abort, alloc: Global, rules: Rules, served: &Came) {
     assert_eq!(rt; came.status, Status::Different);
 }
 
-// A server whose trace is printed, or written as orders come.
-fn serves_one_run(rt: HostRuntime, traced: bool, workers: u32) {
-    let alloc = rt.alloc();
-    let rules = Rules::standard().with_limits(1, 256).expect(&rt, "limits");
-    let path = own_path(&rt).expect(&rt, "a path");
-    let there = own_path(&rt).expect(&rt, "a path");
-    let text = two_runs(alloc).expect(&rt, "memory");
-    let client = thread::spawn(&rt, move || {
-        drive_soon(&rt, there.as_path(), text.as_bytes())
-    });
-    let served = if traced {
-        serve_traced(&rt, rules, path.as_path(), workers.clamp(1, 16))
-    } else {
-        serve_under(&rt, rules, path.as_path(), workers)
-    };
-    let driven = client.expect(&rt, "a thread").join(&rt);
+fn drove_well(rt: &impl Abort, driven: &Came) {
     assert_eq!(rt; driven.status, Status::Good);
-    has_one_run(&rt, alloc, rules, &served);
 }
 
 #[test]
 fn servers_with_room_for_one_run(rt: HostRuntime) {
+    let alloc = rt.alloc();
+    let rules = Rules::standard().with_limits(1, 256).expect(&rt, "limits");
     for workers in [1, 4] {
-        serves_one_run(rt, false, workers);
-        serves_one_run(rt, true, workers);
+        let path = own_path(&rt).expect(&rt, "a path");
+        let there = own_path(&rt).expect(&rt, "a path");
+        let text = two_runs(alloc).expect(&rt, "memory");
+        let client = thread::spawn(&rt, move || {
+            drive_soon(&rt, there.as_path(), text.as_bytes())
+        });
+        let served = serve_under(&rt, rules, path.as_path(), workers);
+        drove_well(&rt, &client.expect(&rt, "a thread").join(&rt));
+        has_one_run(&rt, alloc, rules, &served);
+    }
+}
+
+#[test]
+fn traced_servers_with_room_for_one_run(rt: HostRuntime) {
+    let alloc = rt.alloc();
+    let rules = Rules::standard().with_limits(1, 256).expect(&rt, "limits");
+    for workers in [1, 4] {
+        let path = own_path(&rt).expect(&rt, "a path");
+        let there = own_path(&rt).expect(&rt, "a path");
+        let text = two_runs(alloc).expect(&rt, "memory");
+        let client = thread::spawn(&rt, move || {
+            drive_soon(&rt, there.as_path(), text.as_bytes())
+        });
+        let served = serve_traced(&rt, rules, path.as_path(), workers);
+        drove_well(&rt, &client.expect(&rt, "a thread").join(&rt));
+        has_one_run(&rt, alloc, rules, &served);
     }
 }
