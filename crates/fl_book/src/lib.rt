@@ -6,7 +6,7 @@ pub use fl_board::{
     Board, BoardName, CloseFault, FreshLog, HandFault, LogName, NoView, OpenFault, Seat,
 };
 pub use fl_core::Rules;
-pub use fl_desk::{Desk, MOST_LINES, Verdict, check, laws};
+pub use fl_desk::{Desk, Verdict, check, laws};
 pub use fl_history::{History, Line, Lines};
 pub use fl_keeper::{Forgetful, Keeper};
 pub use fl_quiet::quiet;

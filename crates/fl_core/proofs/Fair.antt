@@ -15,7 +15,7 @@ use Rattle.fl_ranges.specs.declared.lock.Mark.{Mark}
 use Rattle.fl_ranges.specs.Marking.{Marking, Stroke}
 use Rattle.fl_waiting.specs.Circle.{is_deadlock}
 use Rattle.fl_waiting.specs.LockRequest.{is_flock, mark_of, stroke_of}
-use Rattle.fl_waiting.specs.Waiting.{Wish, wish_on, wish_of, wishes, goes_first, is_parked, must_wait}
+use Rattle.fl_waiting.specs.Waiting.{Wish, wish_on, wish_of, wishes, goes_first, is_parked, must_wait, waits}
 use Rattle.fl_waiting.specs.declared.parked.Request.{Request}
 use Rattle.fl_waiting.specs.declared.rules.Rules.{Rules}
 
@@ -41,6 +41,12 @@ behind_waits rules m parked s w older fair among first false None wants = absurd
 behind_waits rules m parked s w older fair among first false (Some k) wants =
     let same : w ≡ wish_on s k = cc wants in
     or_true _ _ (λ i. fair i && found (goes_first (wish_on s k)) (wishes parked) older among (ap (λ v. goes_first v older) (sym same) ∙ first) i)
+
+-- and so does one that is parked behind it
+pub stays_behind : (rules : Rules) (m : Marking) (parked : List Request) (r : Request) (w older : Wish) → rules.fair ≡ true → wish_of r ≡ Some w
+    → Contains (wishes parked) older → goes_first w older ≡ true → waits rules m parked r ≡ true
+stays_behind rules m parked r w older fair wants among first =
+    behind_waits rules m parked (stroke_of r.node r.ask) w older fair among first (is_flock r.ask) (mark_of r.ask) wants
 
 -- one that has to wait is not granted
 waits_ungranted : (e : Option Errno) (conflict deadlock full : Bool) (room : Result Answer Errno) (x y : Errno) (answer : Answer) → conflict ≡ true

@@ -12,7 +12,7 @@ ghost use Rattle.fl_ranges.specs.Conflict.{IsLawful};
 
 use crate::parts::Parts;
 use crate::settling::touched_by;
-use crate::tolds::Tolds;
+use crate::tolds::{MOST_TOLDS, Tolds};
 use fl_order::{Answer, Errno, NoMemory, Op, Order, Told};
 use fl_ranges::{Key, Kind, Range};
 use fl_waiting::Rules;
@@ -104,6 +104,14 @@ impl Core {
         parts
             .parked
             .close_circle(parts.rules, &parts.locks, key, range, kind)
+    }
+
+    /// The most replies that one order gives by its rules: its own, and one to each request that may be parked.
+    pub fn most_tolds(&self) -> usize
+        ensures is { result ≡ self.now.rules.parked + 1 }
+        ensures any_rules { result ≤ MOST_TOLDS }
+    {
+        self.parts.rules.parked as usize + 1
     }
 
     /// Whether a request of this owner for a record lock is parked.

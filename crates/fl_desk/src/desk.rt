@@ -7,15 +7,12 @@ ghost use Rattle.fl_core.specs.Step.{next, replies_in};
 ghost use Rattle.fl_desk.specs.Legal.{IsLegal, step_lines};
 ghost use Rattle.fl_desk.specs.Kept.{IsKept, opening_book};
 
-use fl_core::{Core, MOST_TOLDS, Rules, Tolds};
+use fl_core::{Core, Rules, Tolds};
 use fl_history::{History, Lines};
 use fl_keeper::Keeper;
 use fl_order::{NoMemory, Order, Told};
 use std::alloc::Global;
 use std::marker::Model;
-
-/// The most lines that one order gives: its own, and one for each reply.
-pub const MOST_LINES: usize = 1 + MOST_TOLDS;
 
 /// A desk that takes orders one after another, and keeps their history where its keeper puts the lines: in memory, if nothing
 /// else is said. Contracts see it as a `Book`: its lines, what is there now, and for how many more lines there is room.
@@ -53,17 +50,20 @@ impl<K: Keeper> Desk<K> {
         Ok(Desk { kept, present })
     }
 
-    /// Makes room for the lines of one order: the next `take` succeeds, and takes no memory. A refusal changes no line.
+    /// Makes room for the lines of one order by its rules, its own and one for each reply: 258 by the standard rules. The next
+    /// `take` succeeds, and takes no memory. A refusal changes no line, and doesn't come where there is that room.
     pub fn ready(&mut self) -> Result<(), NoMemory>
         ensures same { (self.new.lines ≡ self.old.lines) × (self.new.present ≡ self.old.present) }
-        ensures room { OnOk result (MOST_LINES ≤ self.new.room) }
-        ensures succeeds { MOST_LINES ≤ self.old.room → IsOk result }
+        ensures room { OnOk result (self.old.present.rules.parked + 2 ≤ self.new.room) }
+        ensures succeeds { self.old.present.rules.parked + 2 ≤ self.old.room → IsOk result }
     {
-        self.kept.reserve(MOST_LINES)
+        let count = self.present.most_tolds() + 1;
+        self.kept.reserve(count)
     }
 
     /// Takes an order of a worker: records it, answers it, and hands out the replies that it records.
-    /// A refusal changes nothing, and doesn't come where there is room for `MOST_LINES` lines more.
+    /// A refusal changes nothing, and doesn't come where there is room for the lines of one order by its rules, which `ready`
+    /// makes.
     pub fn take(&mut self, worker: u32, order: &Order, tolds: &mut Tolds) -> Result<(), NoMemory>
         ensures replies { OnOk result
             (tolds.new ≡ replies_in (state_after self.old.present.rules self.old.lines) order.now) }
@@ -71,11 +71,11 @@ impl<K: Keeper> Desk<K> {
         ensures next { OnOk result (self.new.present ≡ next self.old.present order.now) }
         ensures refused { OnErr result
             ((self.new.lines ≡ self.old.lines) × (self.new.present ≡ self.old.present) × (tolds.new ≡ tolds.old)) }
-        ensures succeeds { MOST_LINES ≤ self.old.room → IsOk result }
+        ensures succeeds { self.old.present.rules.parked + 2 ≤ self.old.room → IsOk result }
         ensures kept { IsKept self.new.lines self.new.present }
     {
         let Desk { kept, present } = self;
-        kept.reserve(MOST_LINES)?;
+        kept.reserve(present.most_tolds() + 1)?;
         present.step(order, tolds);
         append(kept, worker, order, tolds.as_slice());
         Ok(())

@@ -5,5 +5,5 @@ mod desk;
 mod judge;
 pub mod laws;
 
-pub use desk::{Desk, MOST_LINES};
+pub use desk::Desk;
 pub use judge::{Verdict, check};

@@ -7,4 +7,5 @@ pub mod Copies
 pub mod Counts
 pub mod First
 pub mod Searches
+pub mod Waiters
 pub mod Wishes

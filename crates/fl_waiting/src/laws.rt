@@ -1,9 +1,9 @@
 //! Laws of the definitions, in the words of their subject. Each is the contract of an empty function.
 
-ghost use Rattle.std.specs.Prelude.{◌≡◌, ◌↔◌, ◌≤◌, ℕ, true, List};
-ghost use Rattle.fl_waiting.specs.Circle.{waiter_of, hinders, waiters, behind, closes_circle, is_deadlock, IsCircle, ClosesCircle};
+ghost use Rattle.std.specs.Prelude.{◌≡◌, ◌↔◌, ◌≤◌, ℕ, true, false, List};
+ghost use Rattle.fl_waiting.specs.Circle.{waiter_of, hinders, waiters, behind, closes_circle, is_deadlock, IsCircle, ClosesCircle, Waits};
 ghost use Rattle.fl_waiting.specs.LockRequest.{mark_of, stroke_of};
-ghost use Rattle.fl_waiting.specs.Waiting.{Wish, wishes, goes_first, GoesFirst, keeps_waiting, anyone, only};
+ghost use Rattle.fl_waiting.specs.Waiting.{Wish, wishes, goes_first, GoesFirst, keeps_waiting, anyone, only, is_waiting};
 ghost use Rattle.fl_waiting.specs.declared.parked.Request.{Request};
 ghost use Rattle.fl_waiting.specs.declared.rules.Rules.{Rules};
 ghost use Rattle.fl_ranges.specs.Marking.{Marking};
@@ -26,4 +26,10 @@ pub fn a_circle_is_a_row_of_owners_who_wait()
 pub fn an_older_request_goes_first_where_locks_conflict()
     ensures { (w older : Wish) → w.start ≤ w.end → older.start ≤ older.end →
         (goes_first w older ≡ true) ↔ GoesFirst w older }
+{}
+
+/// An owner of whom no request for a record lock is parked waits for nobody.
+pub fn who_has_none_parked_waits_for_nobody()
+    ensures { (rules : Rules) (m : Marking) (parked : List Request) (owner q : ℕ) → is_waiting owner parked ≡ false →
+        Waits waiter_of (hinders rules m) (waiters parked) owner q → ⊥ }
 {}
