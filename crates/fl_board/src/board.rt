@@ -13,7 +13,6 @@ use crate::publisher::Publisher;
 use crate::seat::{NoView, Seat};
 use crate::shared::{Shared, are_apart};
 use fl_core::{Rules, Tolds};
-use fl_desk::Desk;
 use fl_history::{History, Lines};
 use fl_keeper::Keeper;
 use fl_log::{Beginning, FreshLog, LogName};
@@ -120,17 +119,9 @@ impl<L: BoardName, R: Wait + Drop, K: Keeper> Board<L, R, K> {
         ensures fresh { IfOk result (λ made.
             All (λ seat. (seat.count ≡ 0) × (seat.own ≡ []) × (seat.seen ≡ [])) made.1.items) }
     {
-        let (log, none) = log.named::<L>();
-        let publisher = Publisher::new(alloc, rt, &none, workers as usize, rules)?;
         let (book, rest) = blank.open::<L>();
-        let seats = seats_of(alloc, &publisher, &none, rest, workers)?;
-        let shared = Shared {
-            desk: Desk::over(alloc, kept, rules)?,
-            book,
-            log,
-            all: none,
-            publisher,
-        };
+        let shared = Shared::over(alloc, rt, kept, book, log, workers as usize, rules)?;
+        let seats = seats_of(alloc, &shared.publisher, &shared.all, rest, workers)?;
         let board = Board {
             shared: Mutex::new(shared),
             workers: workers as usize,

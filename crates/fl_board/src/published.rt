@@ -80,10 +80,12 @@ impl<L: BoardName> Published<L> {
         requires rules { rules ≡ L.rules }
         ensures { IfOk result (λ published. published ≡ []) }
     {
+        let tolds = Tolds::new(alloc)?;
+        let core = Core::new(alloc, rules)?;
         Ok(Published {
-            core: Core::new(alloc, rules)?,
+            core,
             asks: none.again(),
-            tolds: Tolds::new(alloc)?,
+            tolds,
         })
     }
 

@@ -1,6 +1,6 @@
 //! The writer of what looks read.
 
-ghost use Rattle.std.specs.Prelude.{◌≡◌, ◌<◌, ◌^◌, [], IfOk, MatchResult};
+ghost use Rattle.std.specs.Prelude.{◌≡◌, ◌<◌, ◌^◌, [], IfOk, OnOk, MatchResult};
 ghost use Rattle.fl_board.specs.Inside.Asks.{present_after};
 
 use crate::board::BoardName;
@@ -60,12 +60,21 @@ impl<L: BoardName, R: Wait + Drop> Publisher<L, R> {
         let mut publisher = Publisher {
             writer: WriteHandle::new(alloc, rt, first, second, readers)?,
         };
-        // The writer's list of updates grows to the size that it keeps, so that no later update wants memory.
-        publisher.add(nothing(none))?;
-        publisher.publish();
-        publisher.add(nothing(none))?;
-        publisher.publish();
+        publisher.grow(none)?;
         Ok(publisher)
+    }
+
+    // The writer's list of updates grows to the size that it keeps, so that no later update wants memory.
+    fn grow(&mut self, none: &Beginning<L>) -> Result<(), AllocError>
+        requires none { none.now ≡ [] }
+        requires first { self.old ≡ [] }
+        ensures { OnOk result (self.new ≡ []) }
+    {
+        self.add(nothing(none))?;
+        self.publish();
+        self.add(nothing(none))?;
+        self.publish();
+        Ok(())
     }
 
     /// A reader of what is published.

@@ -1,6 +1,6 @@
 //! What lies under a board's lock.
 
-ghost use Rattle.std.specs.Prelude.{◌≡◌, ◌≢◌, true, false, All, OnOk, OnErr};
+ghost use Rattle.std.specs.Prelude.{◌≡◌, ◌≢◌, ◌<◌, ◌^◌, ◌++◌, ◌∷◌, [], true, false, All, IfOk, OnOk, OnErr, MatchResult};
 ghost use Rattle.fl_board.specs.Inside.Asks.{AreApart, HasMostOf, history_of};
 ghost use Rattle.fl_board.specs.Shown.{HaveMet, IsHandedIn, KeepsHanded};
 ghost use Rattle.fl_desk.specs.Legal.{IsLegal, orders_asked};
@@ -10,11 +10,12 @@ use crate::board::{BoardName, HandFault};
 use crate::published::Update;
 use crate::publisher::Publisher;
 use crate::seat::{NoView, Seat};
-use fl_core::Tolds;
+use fl_core::{Rules, Tolds};
 use fl_desk::Desk;
 use fl_keeper::Keeper;
-use fl_log::{Ask, Beginning, Log, MOST_ASKS};
-use fl_order::Order;
+use fl_log::{Ask, Beginning, FreshLog, Log, MOST_ASKS};
+use fl_order::{NoMemory, Order};
+use std::alloc::Global;
 use std::marker::Model;
 use std::sync::Wait;
 use std::sync::ledger::{Book, Share};
@@ -45,6 +46,36 @@ impl<L: BoardName, R: Wait + Drop, K: Keeper> Model for Shared<L, R, K> {
 }
 
 impl<L: BoardName, R: Wait + Drop, K: Keeper> Shared<L, R, K> {
+    /// What lies under the lock of a board that has taken no order, with a place for so many readers. `rt` waits for these.
+    pub(crate) fn over(
+        alloc: Global,
+        rt: R,
+        kept: K,
+        ledger: Book<L>,
+        log: FreshLog,
+        readers: usize,
+        rules: Rules,
+    ) -> Result<Shared<L, R, K>, NoMemory>
+    where
+        K: Drop,
+        requires none { K.lines kept ≡ [] }
+        requires ledger { ledger.total ≡ 0 }
+        requires log { log ≡ L.log }
+        requires readers { (0 < readers) × (readers < 2 ^ 32) }
+        requires rules { rules ≡ L.rules }
+        ensures { IfOk result (λ shared. shared ≡ []) }
+    {
+        let (log, all) = log.named::<L>();
+        let publisher = Publisher::new(alloc, rt, &all, readers, rules)?;
+        Ok(Shared {
+            desk: Desk::over(alloc, kept, rules)?,
+            book: ledger,
+            log,
+            all,
+            publisher,
+        })
+    }
+
     /// Takes an order of the seat's worker, counts it, and publishes it.
     pub(crate) fn hand_in(
         &mut self,
@@ -68,21 +99,14 @@ impl<L: BoardName, R: Wait + Drop, K: Keeper> Shared<L, R, K> {
         if desk.ready().is_err() {
             return Err(HandFault::NoMemory);
         }
-        if !seat.begins(all) || all.len() >= MOST_ASKS {
+        if !seat.begins(all) {
             return Err(HandFault::NoView);
         }
-        let mut next = all.again();
         let ask = Ask {
             worker: seat.worker,
             order: *order,
         };
-        if !next.add(log, ask) {
-            return Err(HandFault::NoView);
-        }
-        let update = Update::new(*order, all.again(), next.again());
-        if publisher.add(update).is_err() {
-            return Err(HandFault::NoMemory);
-        }
+        let next = added(publisher, log, all, &ask)?;
         if desk.take(seat.worker, order, tolds).is_err() {
             unreachable!();
         }
@@ -146,6 +170,33 @@ impl<L: BoardName, R: Wait + Drop, K: Keeper> Shared<L, R, K> {
         book.audit(whole);
         desk.into_kept()
     }
+}
+
+// Adds an ask to the log, keeps it to be published, and gives all that was asked then. Where it is refused, nothing more is to be
+// published.
+fn added<L: BoardName, R: Wait + Drop>(
+    publisher: &mut Publisher<L, R>,
+    log: &Log<L>,
+    all: &Beginning<L>,
+    ask: &Ask,
+) -> Result<Beginning<L>, HandFault>
+    requires { publisher.old ≡ all.now }
+    ensures { MatchResult result
+        (λ next. (next ≡ all.now ++ ask.now ∷ []) × (publisher.new ≡ next))
+        (λ _. publisher.new ≡ publisher.old) }
+{
+    if all.len() >= MOST_ASKS {
+        return Err(HandFault::NoView);
+    }
+    let mut next = all.again();
+    if !next.add(log, *ask) {
+        return Err(HandFault::NoView);
+    }
+    let update = Update::new(ask.order, all.again(), next.again());
+    if publisher.add(update).is_err() {
+        return Err(HandFault::NoMemory);
+    }
+    Ok(next)
 }
 
 /// Whether no two seats are of one worker.

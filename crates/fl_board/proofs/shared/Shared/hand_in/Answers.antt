@@ -18,7 +18,7 @@ invariant_of-self-2 g c =
     let order = c.args.order.now in
     let worker = c.seat.inside.worker in
     let ask : Ask = record { worker = worker; order = order } in
-    let all : c.add.new.self ≡ was ++ ask ∷ [] = search rules in
+    let all : c.in_ok-next.next ≡ was ++ ask ∷ [] = c.in_ok-next.ensures.0 in
     let taken : c.take.new.self.lines ≡ history_of ours was ++ step_lines worker order c.take.new.tolds = search rules in
     let stepped : c.take.new.self.present ≡ next (present_after ours was) order = search rules in
     let told : c.take.new.tolds ≡ replies_in (state_after (present_after ours was).rules (history_of ours was)) order = search rules in
@@ -30,7 +30,7 @@ invariant_of-self-2 g c =
       taken ∙ ap (λ t. history_of ours was ++ step_lines worker order t) answered ∙ sym (history_more ours was ask)
           ∙ ap (history_of ours) (sym all),
       stepped ∙ sym (present_more ours was ask) ∙ ap (present_after ours) (sym all),
-      c.add-3.ensures.total ∙ ap (λ n. n + 1) (c.self.invariant.3 ∙ ap orders_asked c.self.invariant.1)
+      c.add.ensures.total ∙ ap (λ n. n + 1) (c.self.invariant.3 ∙ ap orders_asked c.self.invariant.1)
           ∙ sym (ap orders_asked taken ∙ step_asks_one_order (history_of ours was) worker order c.take.new.tolds),
     )
 
@@ -41,12 +41,12 @@ invariant_of-seat g c =
     let order = c.args.order.now in
     let worker = c.seat.inside.worker in
     let ask : Ask = record { worker = worker; order = order } in
-    let own : c.again-3.result ≡ was ++ ask ∷ [] = search rules in
+    let own : c.again.result ≡ was ++ ask ∷ [] = c.again.ensures ∙ c.in_ok-next.ensures.0 in
     let most = subst (λ (p : Place). HasMostOf (history_of ours was) p) (sym c.seat.view_is) (c.if-not-begins.ensures refl) in
-    let more : orders_by worker (history_of ours c.again-3.result) ≡ orders_by worker (history_of ours was) + 1 =
+    let more : orders_by worker (history_of ours c.again.result) ≡ orders_by worker (history_of ours was) + 1 =
     ap (λ asks. orders_by worker (history_of ours asks)) own ∙ ap (orders_by worker) (history_more ours was ask)
     ∙ one_more_by worker (history_of ours was) order (replies (present_after ours was) order) in
-    (c.add-3.ensures.parts ∙ c.seat.invariant.0, omega (arith, c.add-3.ensures.amount, most.count, more))
+    (c.add.ensures.parts ∙ c.seat.invariant.0, omega (arith, c.add.ensures.amount, most.count, more))
 
 pub returns-clause-handed : goal.returns-clause-handed
 returns-clause-handed g c =
@@ -55,7 +55,7 @@ returns-clause-handed g c =
     let order = c.args.order.now in
     let worker = c.seat.inside.worker in
     let ask : Ask = record { worker = worker; order = order } in
-    let own : c.again-3.result ≡ was ++ ask ∷ [] = search rules in
+    let own : c.again.result ≡ was ++ ask ∷ [] = c.again.ensures ∙ c.in_ok-next.ensures.0 in
     let told : c.take.new.tolds ≡ replies_in (state_after (present_after ours was).rules (history_of ours was)) order = search rules in
     let leads = c.asks_lead.ensures in
     let answered : c.take.new.tolds ≡ replies (present_after ours was) order =
@@ -66,10 +66,10 @@ returns-clause-handed g c =
       before = history_of ours was;
       own = ap (history_of ours) own ∙ history_more ours was ask
           ∙ ap (λ t. history_of ours was ++ step_lines worker order t) (sym answered);
-      legal = leads.legal ours c.again-3.result;
+      legal = leads.legal ours c.again.result;
       had = most.had;
       saw = most.saw;
       seen = refl;
-      count = c.add-3.ensures.amount;
+      count = c.add.ensures.amount;
       recorded = (invariant_of-seat g c).1;
     })

@@ -1,0 +1,10 @@
+use Rattle.std.proofs.Common.{◌∙◌, ap, sym}
+use Rattle.fl_board.specs.Inside.Asks.{present_after}
+use Rattle.fl_core.specs.State.{opening, snapshot_of}
+use Rattle.fl_board.proofs.published.Published.new.Goals as goal
+
+pub invariant_of-result : goal.invariant_of-result
+invariant_of-result g c =
+    let ours = g.L.BoardName.rules in
+    c.in_ok-core.ensures.opening ∙ ap (λ r. snapshot_of (opening r)) c.requires.rules
+    ∙ ap (present_after ours) (sym (c.again.ensures ∙ c.requires.none))
