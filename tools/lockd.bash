@@ -4,7 +4,7 @@ _lockd() {
     local word=${COMP_WORDS[COMP_CWORD]} before=${COMP_WORDS[COMP_CWORD - 1]} command=${COMP_WORDS[1]}
     local words= rules='--fair --runs --parked'
     if [ "$COMP_CWORD" -eq 1 ]; then
-        words='script check bytes serve drive help --help --version'
+        words="script check bytes serve drive help $rules --help --version"
     elif [ "$before" = --workers ]; then
         words=$(seq 16)
     elif [ "$before" = --runs ]; then
@@ -22,6 +22,8 @@ _lockd() {
             check) words="--quiet --cut $rules --help" ;;
             script | bytes) words="$rules --help" ;;
             drive) words='--help' ;;
+            # Without a command it is script.
+            -*) words=$rules ;;
         esac
     fi
     mapfile -t COMPREPLY < <(compgen -W "$words" -- "$word")

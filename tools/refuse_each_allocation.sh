@@ -1,6 +1,6 @@
 #!/bin/sh
-# Runs `lockd script`, `lockd check` and `lockd bytes` on stored examples, once for each of their allocations,
-# and refuses that one. Each run must end with status 2, `no memory` on standard error and nothing on standard output, or else print all that
+# Runs `lockd script`, `lockd check` and `lockd bytes` on stored examples, and on scripts of the tests in which requests wait, once for each
+# of their allocations, and refuses that one. Each run must end with status 2, `no memory` on standard error and nothing on standard output, or else print all that
 # it prints otherwise. A session may refuse an order in place of that. It then answers ENOMEM, or EAGAIN where the order
 # is an INTERRUPT, or nothing where it is a FORGET, and goes on as if the order had never come. Wants a C compiler and
 # the GNU C library.
@@ -110,10 +110,28 @@ filled() {
 refuse_each script crates/lockd/stdin "script"
 cmp "$work/wanted" crates/lockd/stdout
 refuse_each "check --quiet" crates/lockd/stdout "check --quiet"
-for example in a_lock_is_waited_for a_file_lives_while_it_is_open; do
-    refuse_each script "examples/$example.txt" "script, $example"
+
+# Refuses each allocation of a script, and then of `check` on its trace.
+refuse_script() {
+    refuse_each script "$1" "script, $2"
     cp "$work/wanted" "$work/trace"
-    refuse_each check "$work/trace" "check, $example"
+    refuse_each check "$work/trace" "check, $2"
+}
+
+# The trace that stands behind this title among the scripts of the tests.
+worked() {
+    awk -v title="# $1" '$0 == title { taken = 1; next } /^[#"]/ { taken = 0 } taken' crates/lockd_commands_tests/src/tests/scripts/*.rt
+}
+
+for example in a_lock_is_waited_for a_file_lives_while_it_is_open; do
+    refuse_script "examples/$example.txt" "$example"
+done
+for title in 'the oldest waiter is served first' 'a grant that turns a write lock into a read lock frees another waiter' \
+    'a file with a waiter on another is unlinked and forgotten'; do
+    worked "$title" > "$work/worked"
+    grep '^ask ' "$work/worked" > "$work/script"
+    refuse_script "$work/script" "$title"
+    cmp "$work/trace" "$work/worked"
 done
 refuse_each bytes examples/two_locks.hex "bytes, two locks" 2
 waiting=examples/waiting.hex

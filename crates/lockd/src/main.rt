@@ -2,11 +2,11 @@
 //! function of `lockd_commands`.
 #![tactic(auto)]
 
-ghost use Rattle.std.specs.Prelude.{◌≡◌, ◌≤◌, IfOk};
-ghost use Rattle.lockd_cli.specs.Numbers.{HasWorkers, HasLimits, HasLimitsOfRules};
+ghost use Rattle.std.specs.Prelude.{◌≤◌, IfOk};
+ghost use Rattle.lockd_cli.specs.Numbers.{HasWorkers};
 
 use descriptors::hold_closed_streams;
-use lockd_cli::{Asked, AskedRules, Refusal, Trace, WhenFull, print_version, read_words};
+use lockd_cli::{Asked, Refusal, Trace, WhenFull, print_version, read_words};
 use lockd_commands::{
     CheckOptions, Fault, Rules, Status, WhenWriterFails, bytes_on, check_on, drive_on, script_on,
     serve_on, serve_traced_on, serve_untraced_on, trace_at,
@@ -34,7 +34,6 @@ fn main(rt: HostRuntime) -> ExitCode {
 
 fn asked(rt: &HostRuntime) -> Result<Asked, Refusal>
     ensures workers { IfOk result HasWorkers }
-    ensures limits { IfOk result HasLimits }
 {
     let words: Vec<String> = env::args(rt)?.collect(rt.alloc())?;
     read_words(rt.alloc(), words.as_slice())
@@ -47,7 +46,6 @@ fn run<T: Threads + Wait + Net + Files + Sync>(
     asked: &Asked,
 ) -> Status
     requires workers { HasWorkers asked.now }
-    requires limits { HasLimits asked.now }
 {
     if matches!(asked, Asked::Serve { .. } | Asked::Drive(_)) {
         hold_closed_streams(rt);
@@ -57,21 +55,14 @@ fn run<T: Threads + Wait + Net + Files + Sync>(
     let mut output = io::writer(rt);
     let mut faults = rt.stderr();
     match asked {
-        Asked::Script(rules) => {
-            let rules = rules_of(*rules);
-            script_on(alloc, rules, &mut input, &mut output, &mut faults)
-        }
-        Asked::Bytes(rules) => {
-            let rules = rules_of(*rules);
-            bytes_on(alloc, rules, &mut input, &mut output, &mut faults)
-        }
+        Asked::Script(rules) => script_on(alloc, *rules, &mut input, &mut output, &mut faults),
+        Asked::Bytes(rules) => bytes_on(alloc, *rules, &mut input, &mut output, &mut faults),
         Asked::Check { quiet, cut, rules } => {
-            let rules = rules_of(*rules);
             let options = CheckOptions {
                 tells_quiet: *quiet,
                 cut: *cut,
             };
-            check_on(alloc, rules, options, &mut input, &mut output, &mut faults)
+            check_on(alloc, *rules, options, &mut input, &mut output, &mut faults)
         }
         Asked::Version => version_on(&mut output, &mut faults),
         Asked::Serve {
@@ -81,11 +72,10 @@ fn run<T: Threads + Wait + Net + Files + Sync>(
             rules,
         } => {
             let path = Path::new(socket.as_str());
-            let rules = rules_of(*rules);
             serve(
                 rt,
                 threads,
-                rules,
+                *rules,
                 path,
                 *workers,
                 trace,
@@ -98,15 +88,6 @@ fn run<T: Threads + Wait + Net + Files + Sync>(
             drive_on(rt, alloc, path, &mut input, &mut output, &mut faults)
         }
     }
-}
-
-// The rules that are asked for. Their numbers are in their ranges, so there are such rules.
-fn rules_of(asked: AskedRules) -> Rules
-    requires limits { HasLimitsOfRules asked }
-    ensures { (result.fair ≡ asked.fair) × (result.runs ≡ asked.runs) × (result.parked ≡ asked.parked) }
-{
-    let rules = Rules::standard().with_fair(asked.fair);
-    rules.with_limits(asked.runs, asked.parked).unwrap()
 }
 
 // `lockd serve`: its trace is printed, or goes where it is said.

@@ -1,33 +1,37 @@
 //! The commands of `lockd` and their options, as `clap` takes them. A call that may fail lets go all that is there by then, and
 //! the proof of a function grows with the product of both. So each part is made where it is put in.
 
+use crate::options::MOST_WORKERS;
 use crate::version::VERSION;
 use clap::builder::ValueParser;
 use clap::{Arg, ArgAction, Command, Error};
+use fl_waiting::{MOST_PARKED, MOST_RUNS};
 use std::alloc::Global;
 
 // What may be said of a trace that can't be written; the first where nothing is.
 const WHEN_FULL: &[&str] = &["go-on", "refuse"];
 
-/// The whole command line.
+/// The whole command line. Options without a command are those of `script`, and none stands before a command.
 pub(crate) fn lockd<'a>(alloc: Global) -> Result<Command<'a>, Error> {
     let lockd = Command::new(alloc, "lockd")
         .about("Keeps the locks of a directory of lock files")
         .version(VERSION)
-        .after_help("Without a command it is script.");
-    let lockd = with_command(lockd, script(alloc))?;
-    let lockd = with_command(lockd, bytes(alloc))?;
-    let lockd = with_command(lockd, check(alloc))?;
-    let lockd = with_command(lockd, serve(alloc))?;
+        .args_conflicts_with_subcommands(true)
+        .after_help("Without a command it is script, with its options.");
+    let lockd = with_rules(alloc, lockd);
+    let lockd = with_command(lockd, script(alloc));
+    let lockd = with_command(lockd, bytes(alloc));
+    let lockd = with_command(lockd, check(alloc));
+    let lockd = with_command(lockd, serve(alloc));
     with_command(lockd, drive(alloc))
 }
 
-// With this command too, if it could be made.
+// With this command too, if both could be made.
 fn with_command<'a>(
-    lockd: Command<'a>,
+    lockd: Result<Command<'a>, Error>,
     command: Result<Command<'a>, Error>,
 ) -> Result<Command<'a>, Error> {
-    Ok(lockd.subcommand(command?)?)
+    Ok(lockd?.subcommand(command?)?)
 }
 
 fn script<'a>(alloc: Global) -> Result<Command<'a>, Error> {
@@ -70,9 +74,8 @@ fn serve<'a>(alloc: Global) -> Result<Command<'a>, Error> {
     let workers = number(
         alloc,
         "workers",
-        "How many workers take orders, 1 to 16",
-        "4",
-        16,
+        "How many workers take orders, 1 to 16; 4, if not said",
+        i64::from(MOST_WORKERS),
     );
     let serve = with_trace(alloc, serve.arg(workers)?)?;
     with_rules(alloc, serve)
@@ -126,17 +129,15 @@ fn with_rules<'a>(alloc: Global, command: Command<'a>) -> Result<Command<'a>, Er
     let runs = number(
         alloc,
         "runs",
-        "How many runs of locked bytes there may be, 1 to 65536",
-        "4096",
-        65_536,
+        "How many runs of locked bytes there may be, 1 to 65536; 4096, if not said",
+        i64::from(MOST_RUNS),
     );
     let command = command.arg(runs)?;
     let parked = number(
         alloc,
         "parked",
-        "How many requests may wait, 1 to 1024",
-        "256",
-        1_024,
+        "How many requests may wait, 1 to 1024; 256, if not said",
+        MOST_PARKED as i64,
     );
     Ok(command.arg(parked)?)
 }
@@ -157,19 +158,12 @@ fn flag<'a>(alloc: Global, name: &'a str, help: &'a str) -> Arg<'a> {
         .action(ArgAction::SetTrue)
 }
 
-// An option with a number from 1 on, and the one that counts where none is said.
-fn number<'a>(
-    alloc: Global,
-    name: &'a str,
-    help: &'a str,
-    standard: &'a str,
-    most: i64,
-) -> Arg<'a> {
+// An option with a number from 1 on.
+fn number<'a>(alloc: Global, name: &'a str, help: &'a str, most: i64) -> Arg<'a> {
     Arg::new(alloc, name)
         .long(name)
         .value_name("N")
         .help(help)
-        .default_value(standard)
         .action(ArgAction::Set)
         .value_parser(clap::value_parser!(u32).range(1..=most))
 }

@@ -6,6 +6,6 @@ mod options;
 mod refusal;
 mod version;
 
-pub use options::{Asked, AskedRules, Trace, WhenFull, read_words};
+pub use options::{Asked, Trace, WhenFull, read_words};
 pub use refusal::Refusal;
 pub use version::{VERSION, print_version};

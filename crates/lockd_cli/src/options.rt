@@ -1,37 +1,28 @@
 //! What a command line asks for, read by `clap`.
 
 ghost use Rattle.std.specs.Prelude.{IfOk};
-ghost use Rattle.lockd_cli.specs.Numbers.{HasWorkers, HasLimits, HasLimitsOfRules};
+ghost use Rattle.lockd_cli.specs.Numbers.{HasWorkers};
 
 use crate::command::lockd;
 use crate::refusal::Refusal;
 use clap::ArgMatches;
 use clap::error::ErrorKind;
+use fl_waiting::{MOST_PARKED, MOST_RUNS, Rules};
 use std::alloc::Global;
 
-// The most workers of a server.
-const MOST_WORKERS: u32 = 16;
+/// The most workers of a server.
+pub(crate) const MOST_WORKERS: u32 = 16;
 
-// Its workers where none are said, as the option's default has them.
-const DEFAULT_WORKERS: u32 = 4;
-
-// The most runs of locked bytes, and the most requests that wait, that can be asked for.
-const MOST_RUNS: u32 = 65_536;
-
-const MOST_PARKED: u32 = 1_024;
-
-// How many of each there may be where nothing is said, as the options' defaults have them.
-const DEFAULT_RUNS: u32 = 4_096;
-
-const DEFAULT_PARKED: u32 = 256;
+// Its workers where none are said.
+const STANDARD_WORKERS: u32 = 4;
 
 /// What a command line asks for.
 #[derive(Drop)]
 pub enum Asked {
-    /// Answers the orders of a text and prints the trace. It is also what no command asks for.
-    Script(AskedRules),
+    /// Answers the orders of a text and prints the trace. It is also what is asked for without a command.
+    Script(Rules),
     /// Answers messages in lines of hex and prints their replies.
-    Bytes(AskedRules),
+    Bytes(Rules),
     /// Judges a trace. It says whether the trace is quiet where that is asked, and takes one that may be cut off where that
     /// is said.
     Check {
@@ -40,7 +31,7 @@ pub enum Asked {
         /// Whether the trace may be cut off.
         cut: bool,
         /// The rules by which it is judged.
-        rules: AskedRules,
+        rules: Rules,
     },
     /// Serves a socket.
     Serve {
@@ -50,24 +41,13 @@ pub enum Asked {
         workers: u32,
         /// Where the trace goes.
         trace: Trace,
-        /// The rules by which requests wait.
-        rules: AskedRules,
+        /// The rules by which orders are answered.
+        rules: Rules,
     },
     /// Sends messages to the socket at this path and prints its replies.
     Drive(String),
     /// Prints the program's version.
     Version,
-}
-
-/// By which rules requests wait, and how much there may be.
-#[derive(Clone, Copy)]
-pub struct AskedRules {
-    /// Whether a request for a record lock waits behind an older one that waits and that excludes it.
-    pub fair: bool,
-    /// How many runs of locked bytes there may be, 1 to 65,536.
-    pub runs: u32,
-    /// How many requests may wait, 1 to 1,024.
-    pub parked: u32,
 }
 
 /// Where the trace of a server goes.
@@ -94,7 +74,6 @@ pub enum WhenFull {
 /// out of its option's range, a request for help and want of memory are refused, each with its text.
 pub fn read_words(alloc: Global, words: &[String]) -> Result<Asked, Refusal>
     ensures workers { IfOk result HasWorkers }
-    ensures limits { IfOk result HasLimits }
 {
     match lockd(alloc)?.try_get_matches_from(words) {
         Ok(matches) => asked_by(alloc, &matches),
@@ -106,7 +85,6 @@ pub fn read_words(alloc: Global, words: &[String]) -> Result<Asked, Refusal>
 // What words ask for that `clap` took.
 fn asked_by(alloc: Global, matches: &ArgMatches<'_>) -> Result<Asked, Refusal>
     ensures workers { IfOk result HasWorkers }
-    ensures limits { IfOk result HasLimits }
 {
     match matches.subcommand() {
         Some(("script", options)) => Ok(Asked::Script(rules_of(options))),
@@ -118,36 +96,31 @@ fn asked_by(alloc: Global, matches: &ArgMatches<'_>) -> Result<Asked, Refusal>
         }),
         Some(("serve", options)) => serve_of(alloc, options),
         Some(("drive", options)) => Ok(Asked::Drive(socket_of(alloc, options)?)),
-        _ => Ok(Asked::Script(STANDARD)),
+        _ => Ok(Asked::Script(rules_of(matches))),
     }
 }
 
-// The rules where no command has said any.
-const STANDARD: AskedRules = AskedRules {
-    fair: false,
-    runs: DEFAULT_RUNS,
-    parked: DEFAULT_PARKED,
-};
-
-// The rules that a command's options say. `clap` lets no number through that is out of its range.
-fn rules_of(options: &ArgMatches<'_>) -> AskedRules
-    ensures { HasLimitsOfRules result }
-{
-    let runs = options.get_one::<u32>("runs").unwrap_or(DEFAULT_RUNS);
-    let parked = options.get_one::<u32>("parked").unwrap_or(DEFAULT_PARKED);
-    AskedRules {
-        fair: options.get_flag("fair"),
-        runs: runs.clamp(1, MOST_RUNS),
-        parked: parked.clamp(1, MOST_PARKED),
-    }
+// The rules that options say, and the standard ones where they say nothing. `clap` lets no number through that is out of
+// its range.
+fn rules_of(options: &ArgMatches<'_>) -> Rules {
+    let standard = Rules::standard();
+    let runs = options.get_one::<u32>("runs").unwrap_or(standard.runs);
+    let parked = options.get_one::<u32>("parked").unwrap_or(standard.parked);
+    let rules = standard.with_fair(options.get_flag("fair"));
+    let (runs, parked) = (
+        runs.clamp(1, MOST_RUNS),
+        parked.clamp(1, MOST_PARKED as u32),
+    );
+    rules.with_limits(runs, parked).unwrap()
 }
 
 // What the options of `serve` ask for.
 fn serve_of(alloc: Global, options: &ArgMatches<'_>) -> Result<Asked, Refusal>
     ensures workers { IfOk result HasWorkers }
-    ensures limits { IfOk result HasLimits }
 {
-    let workers = options.get_one::<u32>("workers").unwrap_or(DEFAULT_WORKERS);
+    let workers = options
+        .get_one::<u32>("workers")
+        .unwrap_or(STANDARD_WORKERS);
     let socket = socket_of(alloc, options)?;
     let trace = trace_of(alloc, options)?;
     Ok(Asked::Serve {

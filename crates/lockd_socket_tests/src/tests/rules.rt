@@ -2,8 +2,8 @@
 
 use super::many::drive_soon;
 use super::serve::{checked, serve_under};
-use super::traced::serve_traced;
-use super::{Came, is, is_text, own_path};
+use super::traced::{serve_traced, serve_untraced};
+use super::{Came, ends_so, is, is_text, own_path};
 use fl_testing::init;
 use lockd_commands::{Rules, Status};
 use std::alloc::{AllocError, Global};
@@ -75,5 +75,35 @@ fn traced_servers_with_room_for_one_run(rt: HostRuntime) {
         let served = serve_traced(&rt, rules, path.as_path(), workers);
         drove_well(&rt, &client.expect(&rt, "a thread").join(&rt));
         has_one_run(&rt, alloc, rules, &served);
+    }
+}
+
+// The client was told once, and once alone, that a lock found no room (ENOLCK).
+fn is_refused_once(rt: &impl Abort, driven: &Came) {
+    let printed = str::from_utf8(&driven.printed).ok();
+    let mut refused = 0usize;
+    for line in printed.unwrap_or("").lines() {
+        if line.starts_with("10000000dbffffff") {
+            refused = refused.saturating_add(1);
+        }
+    }
+    assert_eq!(rt; refused, 1);
+    assert_eq!(rt; driven.status, Status::Good);
+}
+
+#[test]
+fn untraced_servers_with_room_for_one_run(rt: HostRuntime) {
+    let alloc = rt.alloc();
+    let rules = Rules::standard().with_limits(1, 256).expect(&rt, "limits");
+    for workers in [1, 4] {
+        let path = own_path(&rt).expect(&rt, "a path");
+        let there = own_path(&rt).expect(&rt, "a path");
+        let text = two_runs(alloc).expect(&rt, "memory");
+        let client = thread::spawn(&rt, move || {
+            drive_soon(&rt, there.as_path(), text.as_bytes())
+        });
+        let served = serve_untraced(&rt, rules, path.as_path(), workers);
+        is_refused_once(&rt, &client.expect(&rt, "a thread").join(&rt));
+        ends_so(&rt, "no trace", &served, "");
     }
 }

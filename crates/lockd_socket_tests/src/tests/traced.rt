@@ -38,12 +38,17 @@ pub(super) fn serve_traced<R: Threads + Wait + Net + Files + AllocGlobal + Abort
     }
 }
 
-fn serve_untraced<R: Threads + Wait + Net + Files + AllocGlobal + Sync>(
+/// Serves under these rules at a path with this many workers, and keeps no trace.
+pub(super) fn serve_untraced<R: Threads + Wait + Net + Files + AllocGlobal + Sync>(
     rt: &R,
+    rules: Rules,
     path: Path<'_>,
-) -> Came {
+    workers: u32,
+) -> Came
+    requires { (0 < workers) × (workers ≤ 16) }
+{
     let mut told = Vec::new(rt.alloc());
-    let status = serve_untraced_on(rt, rt.alloc(), Rules::standard(), path, 4, &mut told);
+    let status = serve_untraced_on(rt, rt.alloc(), rules, path, workers, &mut told);
     Came {
         printed: Vec::new(rt.alloc()),
         told,
@@ -82,7 +87,7 @@ fn a_hundred_files_with_no_trace(rt: HostRuntime) {
     let client = thread::spawn(&rt, move || {
         drive_soon(&rt, there.as_path(), text.as_bytes())
     });
-    let served = serve_untraced(&rt, path.as_path());
+    let served = serve_untraced(&rt, Rules::standard(), path.as_path(), 4);
     has_made_all(&rt, &client.expect(&rt, "a thread").join(&rt));
     ends_so(&rt, "no trace", &served, "");
 }
