@@ -1,5 +1,5 @@
 -- What the workers of a session have done together.
-use Rattle.std.proofs.Common.{◌≡◌, ℕ, ◌+◌, Bool, true, false, true≢false, List, [], ◌∷◌, ◌++◌, All, Option, length, map, sum_by, refl, sym, ap, ◌∙◌, subst, arith, append_assoc, length-append}
+use Rattle.std.proofs.Common.{◌≡◌, ℕ, ◌+◌, ◌<◌, Bool, true, false, true≢false, List, [], ◌∷◌, ◌++◌, All, Option, length, map, sum_by, refl, sym, ap, ◌∙◌, subst, arith, append_assoc, length-append}
 use Rattle.std.specs.Prelude.{◌||◌}
 use Rattle.std.proofs.lemmas.List.{length-map, map-append}
 use Rattle.std.proofs.lemmas.List.Elements.{All-append, All-cons, All-head, All-nil, All-push, All-tail}
@@ -25,6 +25,11 @@ both_false : (a b : Bool) → (a || b) ≡ false → (a ≡ false) × (b ≡ fal
 both_false true b e = absurd (true≢false e)
 both_false false b e = (refl, e)
 
+some_more : (a b : Bool) (xs ys : Orders) → (a ≡ true → 0 < length xs) → (b ≡ true → 0 < length ys) → (a || b) ≡ true
+    → 0 < length (xs ++ ys)
+some_more true b xs ys some more either = omega (arith, length-append xs ys, some refl)
+some_more false b xs ys some more either = omega (arith, length-append xs ys, more either)
+
 three : (weight : Weight) (a b c : Orders)
     → sum_by weight (a ++ b ++ c) ≡ sum_by weight a + sum_by weight b + sum_by weight c
 three weight a b c = omega (arith, sum_by-append weight (a ++ b) c, sum_by-append weight a b)
@@ -49,6 +54,7 @@ none_back ends places no_end no_place = record {
   each = λ weight. ap (weight_taken weight) no_end;
   reads = All-nil Reads;
   none = λ _. refl;
+  some = λ any. absurd (true≢false (sym any));
 }
 
 -- one worker more came back
@@ -81,6 +87,7 @@ one_back ends ends_now places places_now any more before end place so_far fresh 
       reads = All-append Reads so_far.looked did.looked so_far.reads did.reads;
       none = λ all. let neither = both_false any more all in
           no_more so_far.refused did.refused (so_far.none neither.0) (did.none neither.1);
+      some = some_more any more so_far.refused did.refused so_far.some did.some;
     }
 
 -- all workers came back, who were started by these threads
@@ -164,6 +171,7 @@ rest_done orders rest front places places_now place place_now any more so_far wa
       reads = All-append Reads so_far.looked did.looked so_far.reads did.reads;
       none = λ all. let neither = both_false any more all in
           no_more so_far.refused did.refused (so_far.none neither.0) (did.none neither.1);
+      some = some_more any more so_far.refused did.refused so_far.some did.some;
     }
 
 -- ---- lists that are gone through

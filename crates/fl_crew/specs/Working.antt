@@ -1,5 +1,5 @@
 -- What the workers of a session did together.
-use Rattle.std.specs.Prelude.{◌≡◌, ℕ, ◌+◌, Bool, true, false, List, [], ◌++◌, All, length, map, sum_by}
+use Rattle.std.specs.Prelude.{◌≡◌, ℕ, ◌+◌, ◌<◌, Bool, true, false, List, [], ◌++◌, All, length, map, sum_by}
 use mathlib.Core.List.{Sublistᴰ}
 use Rattle.atomic_table.specs.Seated.{TableId}
 use Rattle.fl_board.specs.Seats.{Place}
@@ -26,7 +26,8 @@ pub record IsCounted (post : Post) : Type 0 where
 abbrev pub handed_at : Weight → List Post → ℕ
 handed_at weight posts = sum_by (λ post. sum_by weight post.handed) posts
 
--- What weighs this was, each as often, handed in at these places, looked for or refused.
+-- What weighs this was, each as often, handed in at these places, looked for or refused. A refusal is told where some order was
+-- refused, and nowhere else.
 pub record HaveDone (orders : Weight → ℕ) (places : List Place) (any : Bool) : Type 0 where
   pub posts : List Post
   pub looked : Orders
@@ -36,6 +37,7 @@ pub record HaveDone (orders : Weight → ℕ) (places : List Place) (any : Bool)
   pub each : (weight : Weight) → orders weight ≡ handed_at weight posts + sum_by weight (looked ++ refused)
   pub reads : All (λ order. only_reads order.op ≡ true) looked
   pub none : any ≡ false → refused ≡ []
+  pub some : any ≡ true → 0 < length refused
 
 -- all workers came back, in their order, each with its end
 pub record HaveWorked (places back : List Place) (ends : List TakeSide) (any : Bool) : Type 0 where

@@ -1,5 +1,5 @@
 -- What a session with workers did.
-use Rattle.std.proofs.Common.{◌≡◌, ℕ, ◌+◌, ◌⊎◌, inl, inr, ⊎_elim, Bool, true, false, List, [], ◌++◌, Option, Some, None, length, map, sum_by, refl, sym, ap, subst, ◌∙◌, arith}
+use Rattle.std.proofs.Common.{◌≡◌, ℕ, ◌+◌, ◌⊎◌, inl, inr, ⊎_elim, Bool, true, false, true≢false, List, [], ◌++◌, Option, Some, None, length, map, sum_by, refl, sym, ap, subst, ◌∙◌, arith}
 use Rattle.std.proofs.KnownBytes.{Appends-nil}
 use Rattle.std.proofs.lemmas.List.{length-map}
 use Rattle.std.proofs.lemmas.List.Elements.{All-nil}
@@ -67,6 +67,7 @@ asked_as_said rules workers came put orders places any fault done said is did wh
   );
   reads = did.reads;
   none = λ e. did.none (sym all.tells ∙ e);
+  some = λ e. did.some (sym all.tells ∙ e);
 }
 
 -- what a session did whose reader ended
@@ -96,9 +97,9 @@ served_by rules workers left left_now held held_now fault put goodbye broken any
 -- what a session did that had no memory, or no reader
 pub unserved : (rules : Rules) (left left_now held held_now : Option (List ℕ)) (broken : Bool) (done : Done) (fault : Fault)
     → IsRead rules left left_now [] []
-    → HasSent held held_now [] broken → done.fault ≡ Some fault → done.history ≡ []
+    → HasSent held held_now [] broken → done.fault ≡ Some fault → done.refused ≡ false → done.history ≡ []
     → (fault ≡ NoMemory) ⊎ (fault ≡ NoReader) → IsServedBy rules left left_now held held_now done
-unserved rules left left_now held held_now broken done fault unread sent told none why = record {
+unserved rules left left_now held held_now broken done fault unread sent told untold none why = record {
   came = [];
   rest = [];
   broken = broken;
@@ -115,5 +116,6 @@ unserved rules left left_now held held_now broken done fault unread sent told no
     each = λ weight. sym (ap (λ history. sum_by weight (asked history ++ [] ++ [])) none);
     reads = All-nil (λ (order : Order). only_reads order.op ≡ true);
     none = λ _. refl;
+    some = λ e. absurd (true≢false (sym e ∙ untold));
   });
 }

@@ -1,5 +1,5 @@
 -- What a session with workers did.
-use Rattle.std.specs.Prelude.{◌≡◌, ℕ, ◌≤◌, ◌⊎◌, Bool, true, false, List, [], ◌++◌, All, length, Option, Some}
+use Rattle.std.specs.Prelude.{◌≡◌, ℕ, ◌<◌, ◌≤◌, ◌⊎◌, Bool, true, false, List, [], ◌++◌, All, length, Option, Some}
 use Rattle.fl_hearing.specs.Heard.{IsLast}
 use Rattle.fl_hearing.specs.Said.{said_in}
 use Rattle.fl_intake.specs.Often.{AreAsOften}
@@ -21,13 +21,14 @@ pub record SaysGoodbye (came : List Came) (held held_now : Option (List ℕ)) : 
   pub sent : HasSentLast held held_now (bytes_of goodbye)
 
 -- The orders that the messages of a session under these rules say are, each as often, those that the history asks, some that
--- were looked for, which only read, and some that were refused, of which there is none where no refusal is told.
+-- were looked for, which only read, and some that were refused. A refusal is told where there is one of these, and nowhere else.
 pub record IsAsked (rules : Rules) (came : List Came) (done : Done) : Type 0 where
   pub looked : Orders
   pub refused : Orders
   pub each : AreAsOften (said_in rules came) (asked done.history ++ looked ++ refused)
   pub reads : All (λ order. only_reads order.op ≡ true) looked
   pub none : done.refused ≡ false → refused ≡ []
+  pub some : done.refused ≡ true → 0 < length refused
 
 -- a worker got no reader, or the board couldn't tell the history
 pub record HasNoHistory (done : Done) : Type 0 where

@@ -1,5 +1,5 @@
 -- What was done with orders at one seat.
-use Rattle.std.proofs.Common.{◌≡◌, ℕ, ◌+◌, Bool, true, false, true≢false, List, [], ◌∷◌, ◌++◌, length, sym, refl, ap, ◌∙◌, subst, arith, append_assoc, append-nil, length-append, All}
+use Rattle.std.proofs.Common.{◌≡◌, ℕ, ◌+◌, ◌<◌, Bool, true, false, true≢false, List, [], ◌∷◌, ◌++◌, length, sym, refl, ap, ◌∙◌, subst, arith, append_assoc, append-nil, length-append, All}
 use Rattle.std.specs.Prelude.{◌||◌, sum_by}
 use Rattle.std.proofs.lemmas.List.Elements.{All-append, All-cons, All-nil}
 use Rattle.std.proofs.lemmas.List.Sums.{sum_by-append}
@@ -22,6 +22,11 @@ both_false : (a b : Bool) → (a || b) ≡ false → (a ≡ false) × (b ≡ fal
 both_false true b e = absurd (true≢false e)
 both_false false b e = (refl, e)
 
+some_more : (a b : Bool) (xs ys : Orders) → (a ≡ true → 0 < length xs) → (b ≡ true → 0 < length ys) → (a || b) ≡ true
+    → 0 < length (xs ++ ys)
+some_more true b xs ys some more either = omega (arith, length-append xs ys, some refl)
+some_more false b xs ys some more either = omega (arith, length-append xs ys, more either)
+
 kept : (before asked asked_now : Orders) → asked_now ≡ asked → Sublistᴰ before asked → Sublistᴰ (before ++ []) asked_now
 kept before asked asked_now same among = rw (append-nil before, same) among
 
@@ -36,6 +41,7 @@ none_done asked count = record {
   among = λ before among. kept before asked asked refl among;
   reads = All-nil Reads;
   none = λ _. refl;
+  some = λ any. absurd (true≢false (sym any));
 }
 
 behind : (asked asked_now before : Orders) (order : Order) → IsAskedLast asked order asked_now → Sublistᴰ before asked
@@ -57,6 +63,7 @@ one_handed asked asked_now count count_now order last more = record {
   among = λ before among. behind asked asked_now before order last among;
   reads = All-nil Reads;
   none = λ _. refl;
+  some = λ any. absurd (true≢false (sym any));
 }
 
 -- an order was looked for
@@ -71,6 +78,7 @@ one_looked asked asked_now count count_now order reads same kept_count = record 
   among = λ before among. kept before asked asked_now same among;
   reads = All-cons Reads order [] reads (All-nil Reads);
   none = λ _. refl;
+  some = λ any. absurd (true≢false (sym any));
 }
 
 -- an order was refused
@@ -85,6 +93,7 @@ one_refused asked asked_now count count_now order same kept_count = record {
   among = λ before among. kept before asked asked_now same among;
   reads = All-nil Reads;
   none = λ all. absurd (true≢false all);
+  some = λ _. omega arith;
 }
 
 -- these orders, and then those
@@ -112,6 +121,7 @@ worked_then xs ys a b c k m n any more first second = record {
   reads = All-append Reads first.looked second.looked first.reads second.reads;
   none = λ all. let neither = both_false any more all in
       ap (λ l. l ++ second.refused) (first.none neither.0) ∙ second.none neither.1;
+  some = some_more any more first.refused second.refused first.some second.some;
 }
 
 -- ---- a worker, and the orders that its end took
@@ -148,6 +158,7 @@ has_done taken taken_now asked asked_now count count_now any fresh did = let wor
   among = worked.among [] (sublist.nil-sublist asked);
   reads = worked.reads;
   none = worked.none;
+  some = worked.some;
 }
 
 -- ---- orders that are handled one after another

@@ -1,5 +1,5 @@
 -- What a worker does with the orders that its end of the intake takes.
-use Rattle.std.specs.Prelude.{◌≡◌, ℕ, ◌+◌, Bool, true, false, [], ◌∷◌, ◌++◌, All, length}
+use Rattle.std.specs.Prelude.{◌≡◌, ℕ, ◌+◌, ◌<◌, Bool, true, false, [], ◌∷◌, ◌++◌, All, length}
 use mathlib.Core.List.{IsPrefix, Sublistᴰ}
 use Rattle.fl_intake.specs.Often.{AreAsOften}
 use Rattle.fl_order.specs.Order.{only_reads}
@@ -13,7 +13,7 @@ pub record IsAskedLast (asked : Orders) (order : Order) (asked_now : Orders) : T
   pub now : asked_now ≡ before ++ order ∷ []
 
 -- At one seat these orders, each as often, were handed in, looked for or refused. Those handed in were counted, and are asked
--- behind all that was asked before.
+-- behind all that was asked before. A refusal is told where some order was refused, and nowhere else.
 pub record HasWorked (orders asked asked_now : Orders) (count count_now : ℕ) (any : Bool) : Type 0 where
   pub handed : Orders
   pub looked : Orders
@@ -23,10 +23,11 @@ pub record HasWorked (orders asked asked_now : Orders) (count count_now : ℕ) (
   pub among : (before : Orders) → Sublistᴰ before asked → Sublistᴰ (before ++ handed) asked_now
   pub reads : All (λ order. only_reads order.op ≡ true) looked
   pub none : any ≡ false → refused ≡ []
+  pub some : any ≡ true → 0 < length refused
 
 -- An end took some orders more. Each of them, as often, was handed in, looked for or refused. Those handed in are as many as
--- the count, and stand in this order among those that are asked. Those looked for only read. Where no refusal is told none was
--- refused.
+-- the count, and stand in this order among those that are asked. Those looked for only read. A refusal is told where some order
+-- was refused, and nowhere else.
 pub record HasDone (taken taken_now asked : Orders) (count : ℕ) (any : Bool) : Type 0 where
   pub took : Orders
   pub handed : Orders
@@ -38,3 +39,4 @@ pub record HasDone (taken taken_now asked : Orders) (count : ℕ) (any : Bool) :
   pub among : Sublistᴰ handed asked
   pub reads : All (λ order. only_reads order.op ≡ true) looked
   pub none : any ≡ false → refused ≡ []
+  pub some : any ≡ true → 0 < length refused

@@ -10,13 +10,13 @@ use Rattle.fl_serve.proofs.serving.serve_at.Goals as goal
 
 pub returns-in-Err-clause-served : goal.returns-in-Err-clause-served
 returns-in-Err-clause-served g c = unserved _ _ _ _ _ false _ _ (c.nothing.ensures.read _ _ _ (Keeps-refl _)) (nothing_sent _)
-    c.nothing.ensures.fault (ap (lines_kept g.K.Keeper.lines) c.nothing.ensures.keeper) (⊎_elim (λ m. inl m.1) (λ r. inr r.1) c.unopened.ensures)
+    c.nothing.ensures.fault c.nothing.ensures.refused (ap (lines_kept g.K.Keeper.lines) c.nothing.ensures.keeper) (⊎_elim (λ m. inl m.1) (λ r. inr r.1) c.unopened.ensures)
 
 pub returns-then-eq-clause-served : goal.returns-then-eq-clause-served
 returns-then-eq-clause-served g c =
     let none : c.run-back.result.1.fault ≡ Some NoMemory = search rules in
     unserved _ _ _ _ _ c.close-w.result.1 _ _ (c.nothing-then-eq.ensures.read _ _ _ (c.run-back.ensures.unread none))
-    (rw c.requires.start c.close-w.ensures.sent) c.nothing-then-eq.ensures.fault (ap (lines_kept g.K.Keeper.lines) c.nothing-then-eq.ensures.keeper)
+    (rw c.requires.start c.close-w.ensures.sent) c.nothing-then-eq.ensures.fault c.nothing-then-eq.ensures.refused (ap (lines_kept g.K.Keeper.lines) c.nothing-then-eq.ensures.keeper)
     (inl refl)
 
 pub finished-requires : goal.finished-requires
