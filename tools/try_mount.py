@@ -2,7 +2,7 @@
 
 A `Child` is another process, which opens and locks files where it is told to. Each wait has an end, by `PATIENCE`.
 """
-import array, errno, fcntl, os, random, resource, shutil, signal, socket, struct, subprocess, sys, tempfile, time, traceback
+import array, errno, fcntl, os, random, resource, shutil, signal, socket, struct, subprocess, sys, tempfile, threading, time, traceback
 from multiprocessing import Pipe
 
 TOOLS = os.path.dirname(os.path.abspath(__file__))
@@ -16,11 +16,12 @@ RECORD = "hhqqi4x"
 class Mount:
     """A lock directory, mounted by tools/lockd_mount, at `folder`."""
 
-    def __init__(self, *words):
+    def __init__(self, *words, **env):
         self.folder = tempfile.mkdtemp(dir=WORK)
         self.said = tempfile.TemporaryFile("w+", dir=WORK)
         command = [f"{TOOLS}/lockd_mount", self.folder, *words]
-        self.running = subprocess.Popen(command, stdout=self.said, stderr=subprocess.STDOUT, env={**os.environ, "TMPDIR": WORK})
+        self.running = subprocess.Popen(command, stdout=self.said, stderr=subprocess.STDOUT,
+                                        env={**os.environ, "TMPDIR": WORK, **env})
         until(lambda: "mounted at" in self.output() or self.running.poll() is not None)
         if self.running.poll() is not None and "Operation not permitted" in self.output():
             print(f"try_mount: not tried: {self.output()}", file=sys.stderr, end="")
@@ -119,6 +120,8 @@ class Child:
                 said = "ok" if isinstance(said, int) else said
             elif word == "close":
                 said = outcome(os.close, fds.pop(key))
+            elif word == "become":
+                said = outcome(os.setuid, key)
             elif word == "dup":
                 fds[rest[0]] = os.dup(fds[key])
                 said = None
@@ -619,9 +622,119 @@ def try_the_mount_ends_while_the_server_runs():
     same(one.ask("flock", "a", ALONE), "ok")
     two.begin("flock", "a", ALONE)
     assert two.waits()
-    same(mount.end(lambda: os.kill(mount.part("out/lockd_mount"), signal.SIGKILL)), (137, "legal"))
+    program = os.environ.get("LOCKD_MOUNT", f"{TOOLS}/out/lockd_mount")
+    same(mount.end(lambda: os.kill(mount.part(f"{program} "), signal.SIGKILL)), (137, "legal"))
     same(two.answer(), "ECONNABORTED")
     assert not mount.is_mounted()
+
+
+BAD_SERVER = """
+import socket, sys
+if sys.argv[1] == "serve":
+    listening = socket.socket(socket.AF_UNIX)
+    listening.bind(sys.argv[2])
+    listening.listen()
+    connection = listening.accept()[0]
+    connection.recv(8192)
+    connection.sendall(bytes([8] + [0] * 15))
+    open(sys.argv[sys.argv.index("--trace") + 1], "x").close()
+    while connection.recv(8192):
+        pass
+else:
+    print("legal")
+"""
+
+
+def try_end_by_a_reply_of_a_bad_length():
+    path = f"{WORK}/bad_server"
+    with open(path, "w", encoding="ascii") as it:
+        it.write(f"#!{sys.executable}{BAD_SERVER}")
+    os.chmod(path, 0o700)
+    mount = Mount(LOCKD=path)
+    same(mount.end(lambda: None), (3, "legal"))
+    assert "lockd_mount: the server sent a reply of a length that none has\n" in mount.output(), mount.output()
+    assert not mount.is_mounted()
+
+
+def try_a_server_that_stands_still_loses_nothing():
+    """More messages wait for it than its socket has room for, which takes less than 300 that are sent one by one."""
+    mount, path = Mount(), "still"
+    fds = [os.open(f"{mount.folder}/{path}", os.O_RDWR | os.O_CREAT) for _ in range(900)]
+    said, serving = ["waits"] * len(fds), mount.part("serve")
+
+    def lock(at):
+        said[at] = outcome(fcntl.flock, fds[at], SHARED | AT_ONCE)
+
+    threads = [threading.Thread(target=lock, args=(at,), daemon=True) for at in range(len(fds))]
+    os.kill(serving, signal.SIGSTOP)
+    try:
+        for it in threads:
+            it.start()
+        time.sleep(1)
+        same(set(said), {"waits"})
+    finally:
+        os.kill(serving, signal.SIGCONT)
+    for it in threads:
+        it.join(PATIENCE)
+    same(said, [None] * len(fds))
+    for fd in fds[1:]:
+        os.close(fd)
+    shell(mount, f"flock -n {path} echo in || echo held; flock -s -w 10 {path} echo both", "held both")
+    os.close(fds[0])
+    shell(mount, f"flock -w 10 {path} echo in", "in")
+    same(mount.end(), (0, "legal"))
+
+
+def try_what_cannot_be_mounted():
+    folder = tempfile.mkdtemp(dir=WORK)
+    wanted = [
+        ("no folder at /no/such/folder", "/no/such/folder"), ("1 to 16 workers", folder, "--workers", "17"),
+        (f"a file is at {__file__} already", folder, "--trace", __file__), ("--runs", folder, "--runs", "0"),
+        ("use:", folder, "--parked"), ("use:",),
+    ]
+    for said, *words in wanted:
+        begun = time.monotonic()
+        ran = subprocess.run([f"{TOOLS}/lockd_mount", *words], capture_output=True, text=True, timeout=PATIENCE)
+        same((ran.returncode, said in ran.stderr), (2, True))
+        assert time.monotonic() - begun < 5, "it waited"
+
+
+def try_count():
+    mount = Mount("--count")
+    shell(mount, "flock job echo in", "in")
+    same(mount.end(), (0, "legal"))
+    counted = next(line for line in mount.output().splitlines() if line.startswith("messages of the kernel, opcode and how many: "))
+    counts = dict(it.split(":") for it in counted.rpartition(": ")[2].split())
+    # INIT, CREATE, SETLKW; and FLUSH of both processes that had the file, and RELEASE of the last.
+    same([counts.get(it) for it in ("26", "35", "33", "18")], ["1"] * 4)
+
+
+def try_other_users():
+    os.chmod(WORK, 0o711)
+    for words, wanted in ((), "EACCES"), (("--allow-other",), "ok"):
+        mount = Mount(*words)
+        os.close(os.open(f"{mount.folder}/theirs", os.O_RDWR | os.O_CREAT))
+        other = Child()
+        same(other.ask("become", 65534), "ok")
+        same(other.ask("open", "a", f"{mount.folder}/theirs", os.O_RDWR), wanted)
+        if wanted == "ok":
+            same(other.ask("flock", "a", ALONE | AT_ONCE), "ok")
+        other.kill()
+        same(mount.end(), (0, "legal"))
+
+
+def try_rules():
+    """With room for one request, the second that waits is refused, and `check` knows of it."""
+    mount = Mount("--fair", "--runs", "100", "--parked", "1")
+    one, two, three = children(f"{mount.folder}/rules", 3)
+    same(one.ask("record", "a", WRITE), "ok")
+    two.begin("record", "a", WRITE, 0, 0, True)
+    assert two.waits()
+    same(three.ask("record", "a", WRITE, 0, 0, True), "ENOLCK")
+    same([one.ask("record", "a", UNLOCK), two.answer()], ["ok", "ok"])
+    for it in one, two, three:
+        it.kill()
+    same(mount.end(), (0, "legal"))
 
 
 # ---- All of it ----
