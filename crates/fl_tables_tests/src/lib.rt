@@ -1,4 +1,4 @@
-//! Tests of spans and of the lock table.
+//! Tests of the lock table.
 #![tactic(auto)]
 
 #[cfg(test)]

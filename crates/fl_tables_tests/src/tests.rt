@@ -1,4 +1,4 @@
-//! Tests of spans and of the lock table, by what is public of them.
+//! Tests of the lock table, by what is public of it.
 
 mod blocker;
 mod crowd;
@@ -7,7 +7,6 @@ mod locks;
 mod owners;
 mod ranges;
 mod rivals;
-mod spans;
 mod strokes;
 
 use std::fmt::Debug;

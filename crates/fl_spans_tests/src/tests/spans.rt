@@ -1,9 +1,10 @@
-//! Spans of one row: what a stroke leaves and a search finds, and many random strokes against a plain grid of bytes.
+//! Spans of one row: what a stroke leaves and a search finds, and many random strokes against a plain row of bytes.
 ghost use Rattle.std.specs.Prelude.{◌≡◌, ◌≤◌};
-ghost use Rattle.fl_tables_tests.specs.OneRow.{IsOneRow};
+ghost use Rattle.fl_spans_tests.specs.OneRow.{IsOneRow};
 
-use super::grid::{BYTES, ROWS, Row, count_runs, paint, random_bytes, random_mark};
-use super::locks::{OTHER_READ, READ, WRITE};
+use super::row::{
+    BYTES, OTHER_READ, READ, Row, WRITE, count_runs, paint, random_bytes, random_mark,
+};
 use super::same;
 use fl_ranges::{Kind, Mark};
 use fl_spans::{Full, LAST_BYTE, Rows, Span, find, stroke};
@@ -178,12 +179,12 @@ fn a_search_finds_the_first_span_that_passes(rt: HostRuntime) {
     finds(&rt, &rows, 50, 60, None);
 }
 
-// A random stroke on the row and on the first row of a grid. It is refused where there would be more spans than there
+// A random stroke on the spans and on the plain row. It is refused where there would be more spans than there
 // is room for.
 fn random_step(
     rt: &impl Abort,
     rows: &mut Spans,
-    grid: &mut [Row; ROWS],
+    plain: &mut Row,
     limit: u32,
     numbers: &mut Numbers,
 )
@@ -192,12 +193,12 @@ fn random_step(
 {
     let (start, end) = random_bytes(numbers);
     let mark = random_mark(numbers);
-    let mut changed = *grid;
-    paint(&mut changed, 0, start, end, mark);
+    let mut changed = *plain;
+    paint(&mut changed, start, end, mark);
     let is_refused = set(rows, start as u64, end as u64, mark).is_err();
     same(rt, &is_refused, &(count_runs(&changed) > limit));
     if !is_refused {
-        *grid = changed;
+        *plain = changed;
     }
 }
 
@@ -212,24 +213,24 @@ fn mark_of(rows: &Spans, byte: u64) -> Option<Mark>
     Some(span.mark)
 }
 
-// Each byte of the row has the mark that the grid's has.
-fn compare(rt: &impl Abort, rows: &Spans, grid: &[Row; ROWS], limit: usize)
+// Each byte has the mark that the plain row has.
+fn compare(rt: &impl Abort, rows: &Spans, plain: &Row, limit: usize)
     requires { IsOneRow rows.now }
 {
-    let spans = count_runs(grid) as usize;
+    let spans = count_runs(plain) as usize;
     has_room(rt, rows, limit.saturating_sub(spans));
     for byte in 0..BYTES {
-        same(rt, &mark_of(rows, byte as u64), &grid[0][byte]);
+        same(rt, &mark_of(rows, byte as u64), &plain[byte]);
     }
 }
 
 #[test]
-fn random_strokes_leave_what_a_grid_has(rt: HostRuntime) {
+fn random_strokes_leave_what_a_plain_row_has(rt: HostRuntime) {
     let mut rows = no_spans(&rt, rt.alloc(), 5);
-    let mut grid = [[None; BYTES]; ROWS];
+    let mut plain = [None; BYTES];
     let mut numbers = Numbers::new(11);
     for _ in 0..400u32 {
-        random_step(&rt, &mut rows, &mut grid, 5, &mut numbers);
-        compare(&rt, &rows, &grid, 5);
+        random_step(&rt, &mut rows, &mut plain, 5, &mut numbers);
+        compare(&rt, &rows, &plain, 5);
     }
 }

@@ -1,0 +1,5 @@
+//! Tests of spans.
+#![tactic(auto)]
+
+#[cfg(test)]
+mod tests;

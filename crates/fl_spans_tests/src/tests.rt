@@ -1,0 +1,12 @@
+//! Tests of spans, by what is public of them.
+
+mod row;
+mod spans;
+
+use std::fmt::Debug;
+use std::process::Abort;
+
+// What was told is what is wanted.
+fn same<T: Debug + PartialEq>(rt: &impl Abort, told: &T, wanted: &T) {
+    assert_eq!(rt; *told, *wanted);
+}
