@@ -90,8 +90,8 @@ refuse_each() {
 forget_nothing=3000000002000000ff000000000000006300000000000000000000000000000000000000000000000100000000000000
 
 # The number of lines of a history at which it grows again. Its first order makes room for 4,096 lines, and each order wants
-# room for 1,026.
-full=3071
+# room for 258.
+full=3839
 
 # The same session with the history full when the order in one line of it comes: as many FORGETs that do nothing stand
 # in front of it. The first line is an INIT, which is no line of the history.
