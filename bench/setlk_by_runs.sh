@@ -1,8 +1,8 @@
 #!/bin/sh
 # Times lock requests on one file by how its locks stand, beside `fcntl` on a file in memory (bench/peers/locks.c), in turns in
-# one run: one owner with 1, 16, 256 and 4,096 runs of bytes; 4,000 owners with one run each; 64 owners. `bench/programs/locks_bench`
-# says what is asked. It proves and builds that first, with `rt`, and needs a C compiler. Prints microseconds an order of both,
-# and their ratio: the least of five runs each, less that of a run with no order. What is aimed at stands beside.
+# one run: one owner with 1, 16, 256, 4,096 and 65,536 runs of bytes; 4,000 and 60,000 owners with one run each; 64 owners.
+# `bench/programs/locks_bench` says what is asked. It proves and builds that first, with `rt`, and needs a C compiler. Prints microseconds an order of both,
+# and their ratio: the least of five runs each (of two where more than 4,096 runs are held), less that of a run with no order. What is aimed at stands beside.
 #
 #     bench/setlk_by_runs.sh [--instructions]
 #
@@ -21,7 +21,8 @@ OURS, KERNEL, OPTION = sys.argv[1:]
 # Owners, runs of each, what is asked, and the greatest ratio that is aimed at.
 CASES = [(1, 1, "anew", None), (1, 16, "anew", 2), (1, 256, "anew", None), (1, 4096, "anew", 0.5),
          (1, 16, "look", None), (1, 4096, "look", None), (4000, 1, "more", 0.5), (4000, 1, "amid", None),
-         (4000, 1, "look", None), (64, 1, "turns", None)]
+         (4000, 1, "look", None), (64, 1, "turns", None), (1, 65536, "anew", None), (1, 65536, "look", None),
+         (60000, 1, "more", None), (60000, 1, "look", None)]
 
 # What `fcntl` is asked in place of it: it knows no order of owners.
 OF_KERNEL = {"amid": "more"}
@@ -39,7 +40,7 @@ def micros(owners, runs, what):
     orders = max(8_192, 1_000_000 // max(owners, runs) // 8_192 * 8_192)
     wants = [(program, number) for program in (OURS, KERNEL) for number in (orders, 0)]
     best = dict.fromkeys(wants, float("inf"))
-    for _ in range(5):
+    for _ in range(5 if owners * runs <= 4096 else 2):
         for program, number in wants:
             best[program, number] = min(best[program, number], run([program], owners, runs, what, number)[0])
     return [(best[program, orders] - best[program, 0]) / orders * 1e6 for program in (OURS, KERNEL)]

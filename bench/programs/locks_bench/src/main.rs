@@ -16,6 +16,11 @@ const WRITE: u32 = 1;
 
 const UNLOCK: u32 = 2;
 
+// The most runs and parked requests that the core's rules allow.
+const RUNS: u32 = 65_536;
+
+const PARKED: u32 = 256;
+
 // What is asked once the locks are held.
 #[derive(Clone, Copy)]
 enum What {
@@ -146,7 +151,10 @@ fn main(rt: HostRuntime) -> anyhow::Result<()> {
         .map_or(Some(What::Anew), |word| what_of(word))
         .ok_or(anyhow!("anew, more, amid, look or turns"))?;
     let orders = words.get(4).map_or(Ok(1000), |word| word.parse::<u64>())?;
-    let mut core = Core::new(alloc, Rules::standard())?;
+    let rules = Rules::standard()
+        .with_limits(RUNS, PARKED)
+        .ok_or(anyhow!("rules"))?;
+    let mut core = Core::new(alloc, rules)?;
     let mut tolds = Tolds::new(alloc)?;
     core.step(&create(), &mut tolds);
     let mut set = 0u64;
