@@ -1,4 +1,4 @@
-//! Sessions with several workers: one of which each third order is refused, and one with a batch.
+//! Sessions with several workers: one of which each third order is refused, one with a batch, and one with the longest message.
 
 use super::refusing::{Came, Refusals, served_refusing};
 use super::sessions::CROWD;
@@ -99,14 +99,19 @@ fn refused_orders_are_told_so_and_are_no_lines(rt: HostRuntime) {
     }
 }
 
+// Puts numbers of 4 bytes behind a stream.
+fn put_words(rt: &impl Abort, stream: &mut Vec<u8>, words: &[u32]) {
+    for word in words {
+        stream
+            .extend_from_slice(&word.to_le_bytes())
+            .expect(rt, "memory");
+    }
+}
+
 // An INIT, and behind it a BATCH_FORGET of one lookup of each of the nodes from 0 to 508.
 fn batch(rt: &impl Abort, alloc: Global) -> Vec<u8> {
     let mut stream = spelled(rt, alloc, init());
-    for field in [8192u32, 42, 5, 0, 0, 0, 0, 0, 0, 0, 509, 0] {
-        stream
-            .extend_from_slice(&field.to_le_bytes())
-            .expect(rt, "memory");
-    }
+    put_words(rt, &mut stream, &[8192, 42, 5, 0, 0, 0, 0, 0, 0, 0, 509, 0]);
     for node in 0..509u64 {
         stream
             .extend_from_slice(&node.to_le_bytes())
@@ -141,5 +146,39 @@ fn forgets_all<R: Abort + Threads + Wait + Sync>(rt: &R, alloc: Global, workers:
 fn workers_share_the_orders_of_a_batch(rt: HostRuntime) {
     for workers in [1, 2, 4, 16] {
         forgets_all(&rt, rt.alloc(), workers);
+    }
+}
+
+// An INIT, and behind it a LOOKUP of 8,192 bytes, the most that a message has: a name of 8,151 bytes, and its zero byte.
+fn longest(rt: &impl Abort, alloc: Global) -> Vec<u8> {
+    let mut stream = spelled(rt, alloc, init());
+    put_words(rt, &mut stream, &[8192, 1, 2, 0, 1, 0, 0, 0, 0, 0]);
+    let mut name = vec![in alloc; b'a'; 8152].expect(rt, "memory");
+    name[8151] = 0;
+    stream.extend_from_slice(&name).expect(rt, "memory");
+    stream
+}
+
+// The reply of ENAMETOOLONG to the unique 2.
+const TOO_LONG: &str = "10000000dcffffff0200000000000000";
+
+fn is_too_long<R: Abort + Threads + Wait + Sync>(rt: &R, alloc: Global, workers: u32) {
+    let stream = longest(rt, alloc);
+    count_is(rt, stream.len(), 56 + 8192);
+    let mut input = stream.as_slice();
+    let mut out = Vec::new(alloc);
+    let done = served(rt, alloc, &mut input, &mut out, workers);
+    fault_is(rt, done.fault, None);
+    assert!(rt; done.history.is_empty() && !done.refused);
+    let mut wanted = spelled(rt, alloc, init_reply());
+    let told = spelled(rt, alloc, TOO_LONG);
+    wanted.extend_from_slice(&told).expect(rt, "memory");
+    are_bytes(rt, &out, &wanted);
+}
+
+#[test]
+fn a_message_of_the_most_bytes(rt: HostRuntime) {
+    for workers in [1, 4] {
+        is_too_long(&rt, rt.alloc(), workers);
     }
 }

@@ -1,4 +1,4 @@
-//! The worked session of two locks, of which one read or one write fails.
+//! The worked session of two locks, of which one read or one write fails, or which is cut.
 
 use super::whole::replies;
 use super::{are_bytes, count_is, fault_is, is_legal, replies_of, served, stream_of};
@@ -33,9 +33,9 @@ fn lines_of(messages: usize) -> usize {
     messages.saturating_sub(1).saturating_mul(2)
 }
 
-// A session ended with this fault, after a legal history of so many lines.
-fn ended(rt: &impl Abort, alloc: Global, done: &Done, fault: Fault, lines: usize) {
-    fault_is(rt, done.fault, Some(fault));
+// A session ended with this fault or none, after a legal history of so many lines.
+fn ended(rt: &impl Abort, alloc: Global, done: &Done, fault: Option<Fault>, lines: usize) {
+    fault_is(rt, done.fault, fault);
     count_is(rt, done.history.len(), lines);
     assert!(rt; !done.refused);
     is_legal(rt, alloc, &done.history);
@@ -53,7 +53,7 @@ fn stops_reading<R: Abort + Threads + Wait + Sync>(
     let mut out = Vec::new(alloc);
     let done = served(rt, alloc, &mut input, &mut out, workers);
     let messages = whole_among(reads.after.saturating_mul(29));
-    ended(rt, alloc, &done, Fault::Read, lines_of(messages));
+    ended(rt, alloc, &done, Some(Fault::Read), lines_of(messages));
     count_is(rt, input.reads, reads.after.saturating_add(1));
     count_is(rt, replies(rt, alloc, &out).len(), messages);
 }
@@ -71,6 +71,45 @@ fn each_read_fails(rt: HostRuntime) {
     }
 }
 
+// The stream ends behind so many bytes. What came whole before is finished.
+fn is_cut<R: Abort + Threads + Wait + Sync>(
+    rt: &R,
+    alloc: Global,
+    stream: &[u8],
+    bytes: usize,
+    workers: u32,
+) {
+    let mut input = stream.get(..bytes).unwrap_or(&[]);
+    let mut out = Vec::new(alloc);
+    let done = served(rt, alloc, &mut input, &mut out, workers);
+    let fault = match bytes {
+        0 | 56 | 114 | 202 | 290 => None,
+        _ => Some(Fault::Cut),
+    };
+    let messages = whole_among(bytes);
+    ended(rt, alloc, &done, fault, lines_of(messages));
+    count_is(rt, replies(rt, alloc, &out).len(), messages);
+}
+
+// Each fifth byte, and those beside the ends of the messages: a session is dear to make.
+fn is_tried(bytes: usize) -> bool {
+    bytes % 5 == 0
+        || [56, 114, 202, 290]
+            .iter()
+            .any(|end| bytes.abs_diff(*end) < 2)
+}
+
+#[test]
+fn streams_that_are_cut(rt: HostRuntime) {
+    let stream = stream_of(&rt, rt.alloc(), two_locks());
+    count_is(&rt, stream.len(), 290);
+    for bytes in (0..291).filter(|bytes| is_tried(*bytes)) {
+        for workers in [1, 4] {
+            is_cut(&rt, rt.alloc(), &stream, bytes, workers);
+        }
+    }
+}
+
 // The write behind so many of at most 7 bytes fails or takes nothing. All orders are in the history, and nothing is written behind it.
 fn stops_writing<R: Abort + Threads + Wait + Sync>(
     rt: &R,
@@ -82,7 +121,7 @@ fn stops_writing<R: Abort + Threads + Wait + Sync>(
     let mut input = stream;
     let mut output = Sink::new(alloc, 7, writes);
     let done = served(rt, alloc, &mut input, &mut output, workers);
-    ended(rt, alloc, &done, Fault::Write, 6);
+    ended(rt, alloc, &done, Some(Fault::Write), 6);
     count_is(rt, output.writes, writes.after.saturating_add(1));
     output.held
 }

@@ -103,10 +103,12 @@ fn goes_through<R: Threads + Wait + Sync + Abort, P: Putter>(
 #[test]
 fn each_order_is_taken_once(rt: HostRuntime) {
     let alloc = rt.alloc();
-    goes_through(&rt, alloc, 1, 0, &Growing, ORDERS);
-    goes_through(&rt, alloc, 2, 0, &Growing, ORDERS);
-    goes_through(&rt, alloc, 4, 0, &Growing, ORDERS);
-    goes_through(&rt, alloc, 16, 0, &Growing, ORDERS);
+    for _ in 0..20 {
+        goes_through(&rt, alloc, 1, 0, &Growing, ORDERS);
+        goes_through(&rt, alloc, 2, 0, &Growing, ORDERS);
+        goes_through(&rt, alloc, 4, 0, &Growing, ORDERS);
+        goes_through(&rt, alloc, 16, 0, &Growing, ORDERS);
+    }
 }
 
 #[test]

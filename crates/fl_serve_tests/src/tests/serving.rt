@@ -2,6 +2,7 @@
 
 ghost use Rattle.std.specs.Prelude.{◌<◌, ◌≤◌};
 
+mod batches;
 mod bursts;
 mod clients;
 mod each_order;

@@ -1,6 +1,6 @@
 //! Clients of a session over a socket, each in a thread of its own beside the server.
 
-use super::{bursts, idle, million, piles, serve_stream, socket_pair, sockets, waiting};
+use super::{batches, bursts, idle, million, piles, serve_stream, socket_pair, sockets, waiting};
 use fl_serve::{Done, Gate};
 use std::alloc::Global;
 use std::net::Net;
@@ -16,6 +16,8 @@ use std::time::{Clock, CpuClock};
 pub(super) enum Client {
     /// It sends so many orders together, again and again.
     Bursts(u32),
+    /// It forgets a file in a batch.
+    Forgets,
     /// It asks nothing for a second.
     Idles,
     /// It sets locks, and asks for them.
@@ -46,6 +48,7 @@ fn talk<R: Abort + Threads + Clock + CpuClock + Sync>(
 ) -> usize {
     match client {
         Client::Bursts(size) => bursts::send_bursts(rt, alloc, stream, size),
+        Client::Forgets => batches::forget_together(rt, alloc, stream),
         Client::Idles => idle::ask_nothing(rt, alloc, stream),
         Client::Looks => sockets::shown_locks(rt, alloc, stream),
         Client::SendsOneByOne => sockets::one_at_a_time(rt, alloc, stream),

@@ -119,6 +119,27 @@ impl Messages {
         self.longs(&[pair(48, 36), unique, 0, 0, 0, other])
     }
 
+    /// UNLINK in the root.
+    pub(super) fn unlink(&mut self, unique: u64, name: u64) -> Result<(), AllocError> {
+        self.longs(&[pair(43, 10), unique, 1, 0, 0])?;
+        self.name(name)
+    }
+
+    /// RELEASE, without flags and of no owner.
+    pub(super) fn release(&mut self, unique: u64, node: u64, fh: u64) -> Result<(), AllocError> {
+        self.longs(&[pair(64, 18), unique, node, 0, 0, fh, 0, 0])
+    }
+
+    /// BATCH_FORGET of one lookup of each of at most 100 nodes.
+    pub(super) fn batch(&mut self, unique: u64, nodes: &[u64]) -> Result<(), AllocError> {
+        let pairs = nodes.len().min(100) as u32;
+        self.longs(&[pair(48 + 16 * pairs, 42), unique, 0, 0, 0, pair(pairs, 0)])?;
+        for node in nodes.iter().take(100) {
+            self.longs(&[*node, 1])?;
+        }
+        Ok(())
+    }
+
     pub(super) fn destroy(&mut self, unique: u64) -> Result<(), AllocError> {
         self.bare(38, unique, 0)
     }

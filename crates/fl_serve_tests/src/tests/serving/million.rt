@@ -71,9 +71,9 @@ fn put_order(messages: &mut Messages, unique: u64) -> Result<(), AllocError> {
     }
 }
 
-// SETLKW, or an INTERRUPT of one of the orders before.
+// SETLKW, or as often an INTERRUPT of one of the orders before, by other bits than those that led here.
 fn put_waiting(messages: &mut Messages, unique: u64) -> Result<(), AllocError> {
-    match roll(unique) % 16 {
+    match roll(unique) / 16_384 % 4 {
         0 => messages.lock(SETLKW, unique, 2, &asked(unique, WRITE)),
         1 => messages.lock(SETLKW, unique, 2, &asked(unique, READ)),
         _ => {
@@ -81,6 +81,11 @@ fn put_waiting(messages: &mut Messages, unique: u64) -> Result<(), AllocError> {
             messages.interrupt(unique, other)
         }
     }
+}
+
+// Whether the order of a unique is an INTERRUPT.
+fn interrupts(unique: u64) -> bool {
+    roll(unique) % 16 < 2 && roll(unique) / 16_384 % 4 >= 2
 }
 
 // So many orders from a unique on.
@@ -131,6 +136,17 @@ impl Counted {
         }
         wrong
     }
+
+    // How many INTERRUPTs found a parked request: these have no reply.
+    fn interrupted(&self) -> usize {
+        let mut interrupted = 0usize;
+        for unique in FIRST..FIRST + ORDERS {
+            if interrupts(unique) && self.of_unique.get(unique as usize) == Some(&0) {
+                interrupted = interrupted.wrapping_add(1);
+            }
+        }
+        interrupted
+    }
 }
 
 // Counts replies up to the stream's end.
@@ -152,6 +168,12 @@ fn count_replies(rt: &impl Abort, alloc: Global, stream: &UnixStream) -> Counted
     counted
 }
 
+// Each order has as many replies as it may, and some INTERRUPTs found a request.
+fn are_right(rt: &impl Abort, counted: &Counted) {
+    count_is(rt, counted.wrong(), 0);
+    assert!(rt; counted.interrupted() > 0);
+}
+
 /// Sends all orders in one thread, and counts the replies in another. Each order has as many as it may.
 pub(super) fn send_and_count<R: Abort + Threads + Sync>(
     rt: &R,
@@ -163,7 +185,7 @@ pub(super) fn send_and_count<R: Abort + Threads + Sync>(
         || send_all(rt, alloc, stream),
         || count_replies(rt, alloc, stream),
     );
-    count_is(rt, counted.wrong(), 0);
+    are_right(rt, &counted);
     counted.all
 }
 
