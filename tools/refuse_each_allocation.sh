@@ -1,6 +1,7 @@
 #!/bin/sh
-# Runs `lockd script`, `lockd check` and `lockd bytes` on stored examples, and on scripts of the tests in which requests wait, once for each
-# of their allocations, and refuses that one. Each run must end with status 2, `no memory` on standard error and nothing on standard output, or else print all that
+# Runs `lockd script`, `lockd check` and `lockd bytes` on stored examples, and on scripts of the tests in which requests wait,
+# once for each of their allocations, and refuses that one. Each run must end with status 2, `no memory` on standard error and
+# nothing on standard output, or else print all that
 # it prints otherwise. A session may refuse an order in place of that. It then answers ENOMEM, or EAGAIN where the order
 # is an INTERRUPT, or nothing where it is a FORGET, and goes on as if the order had never come. Wants a C compiler and
 # the GNU C library.

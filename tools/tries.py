@@ -135,7 +135,7 @@ def main(script, names):
         try:
             said = it()
             print(f"{name}: passed" if said is None else f"{name}: {said}")
-        except (AssertionError, OSError, subprocess.SubprocessError, struct.error) as error:
+        except Exception as error:
             failed += 1
             print(f"{name}: FAILED: {type(error).__name__} {error}")
     print(f"{len(tries) - failed} passed, {failed} failed")

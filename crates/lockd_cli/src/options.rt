@@ -1,6 +1,7 @@
 //! What a command line asks for, read by `clap`.
 
-ghost use Rattle.std.specs.Prelude.{IfOk};
+ghost use Rattle.std.specs.Prelude.{◌≡◌, IfOk};
+ghost use Rattle.fl_waiting.specs.Limits.{AllowsRuns, AllowsParked};
 ghost use Rattle.lockd_cli.specs.Numbers.{HasWorkers};
 
 use crate::command::lockd;
@@ -100,17 +101,25 @@ fn asked_by(alloc: Global, matches: &ArgMatches<'_>) -> Result<Asked, Refusal>
     }
 }
 
-// The rules that options say, and the standard ones where they say nothing. `clap` lets no number through that is out of
-// its range.
+// The rules that options say, and the standard ones where they say nothing.
 fn rules_of(options: &ArgMatches<'_>) -> Rules {
     let standard = Rules::standard();
-    let runs = options.get_one::<u32>("runs").unwrap_or(standard.runs);
-    let parked = options.get_one::<u32>("parked").unwrap_or(standard.parked);
-    let rules = standard.with_fair(options.get_flag("fair"));
-    let (runs, parked) = (
-        runs.clamp(1, MOST_RUNS),
-        parked.clamp(1, MOST_PARKED as u32),
-    );
+    rules_with(
+        options.get_flag("fair"),
+        options.get_one::<u32>("runs").unwrap_or(standard.runs),
+        options.get_one::<u32>("parked").unwrap_or(standard.parked),
+    )
+}
+
+// The rules of these numbers. `clap` lets none through that is out of its range; such a one would become the nearest that isn't.
+fn rules_with(fair: bool, runs: u32, parked: u32) -> Rules
+    ensures fair { result.fair ≡ fair }
+    ensures runs { AllowsRuns runs → result.runs ≡ runs }
+    ensures parked { AllowsParked parked → result.parked ≡ parked }
+{
+    let runs = runs.clamp(1, MOST_RUNS);
+    let parked = parked.clamp(1, MOST_PARKED as u32);
+    let rules = Rules::standard().with_fair(fair);
     rules.with_limits(runs, parked).unwrap()
 }
 
