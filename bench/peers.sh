@@ -1,6 +1,6 @@
 #!/bin/sh
 # Times `lockd serve` with 1 and 4 workers against what its users have: pairs of SETLK and unlock a second with 1, 16
-# and 64 messages under way, each on bytes of its own, and p50 and p99 of a round trip with 1 under way. Beside it stand
+# and 64 messages under way, each on bytes of its own, of one file or of a file each, and p50 and p99 of a round trip with 1 under way. Beside it stand
 #   echo    a server in C that cuts the same messages from its stream and answers each with a header: `each` with one
 #           write a reply, `together` with one write for all messages of a read;
 #   redis   SET NX and DEL of a key over a Unix socket, nothing kept on disk, where `redis-server` is installed;
@@ -33,6 +33,9 @@ SERVERS = {
                                        "--appendonly", "no", "--dir", WORK]),
     "lockd, 1 worker": ("fuse", lambda socket: [PROGRAM, "serve", socket, "--workers", "1"]),
     "lockd, 4 workers": ("fuse", lambda socket: [PROGRAM, "serve", socket, "--workers", "4"]),
+    "lockd, 1 worker, a file each": ("files", lambda socket: [PROGRAM, "serve", socket, "--workers", "1"]),
+    "lockd, 4 workers, a file each": ("files", lambda socket: [PROGRAM, "serve", socket, "--workers", "4"]),
+    "lockd, 1 worker, no trace": ("fuse", lambda socket: [PROGRAM, "serve", socket, "--workers", "1", "--trace", "none"]),
 }
 LOCKD = [server for server in SERVERS if server.startswith("lockd")]
 if not shutil.which("redis-server"):

@@ -1,5 +1,6 @@
 #!/bin/sh
 # Times `lockd serve` by where its trace goes: nowhere, to a file, or printed at the end; with 1 and 4 workers and 64 messages under way.
+# Beside it a desk takes as many orders in one program (`bench/programs/history_bench`), whose lines go nowhere, to a file, or into memory.
 # Prints pairs of SETLK and unlock a second while the session runs and their ratios to `--trace none`; how much memory the
 # process had at most, beside that of a session with a tenth of the messages; and what `lockd check` says of each trace.
 # The runs take turns, three times, and the best of each figure counts. It builds the client of bench/peers.sh, by a C compiler.
@@ -8,10 +9,11 @@
 set -eu
 . "$(dirname "$0")/../tools/built_lockd.sh"
 cc -O2 -Wall -Wextra -o "$work/client" bench/peers/client.c
-python3 - "$program" "$work" "${1:-1000000}" <<'END'
-import itertools, os, subprocess, sys
+desk=$(tools/build_bench history_bench)
+python3 - "$program" "$work" "${1:-1000000}" "$desk" <<'END'
+import itertools, os, subprocess, sys, time
 
-PROGRAM, WORK, MESSAGES = *sys.argv[1:3], int(sys.argv[3])
+PROGRAM, WORK, MESSAGES, DESK = *sys.argv[1:3], int(sys.argv[3]), sys.argv[4]
 ROUNDS, LONGEST = 3, 300
 NUMBER = itertools.count()
 MODES = {"none": lambda file: ["--trace", "none"], "file": lambda file: ["--trace", file], "printed": lambda file: []}
@@ -38,14 +40,28 @@ def measured(mode, workers, messages):
         os.remove(file)
     return float(told.split()[0]), usage.ru_maxrss / 1000
 
-best = {}
+# Orders a second at a desk, less the time of a run with none.
+def at_desk(where):
+    seconds = []
+    for orders in 0, MESSAGES:
+        begun = time.perf_counter()
+        subprocess.run([DESK, "setlk", str(orders), where], stdout=subprocess.DEVNULL, timeout=LONGEST, check=True)
+        seconds.append(time.perf_counter() - begun)
+    return MESSAGES / (seconds[1] - seconds[0])
+
+best, desks = {}, {}
 for _ in range(ROUNDS):
+    for where in "none", f"{WORK}/lines", "memory":
+        desks[where] = max(desks.get(where, 0), at_desk(where))
     for workers in 1, 4:
         for mode in MODES:
             pairs, memory = measured(mode, workers, MESSAGES)
             _, before = measured(mode, workers, MESSAGES // 10)
             old = best.get((mode, workers), (0, 0, 0))
             best[mode, workers] = max(old[0], pairs), memory, before
+for where, rate in desks.items():
+    name = "file" if "/" in where else where
+    print(f"desk, lines {name}: {rate:.0f} orders a second, ratio {rate / desks['none']:.2f} (to none)")
 for workers in 1, 4:
     for mode in MODES:
         pairs, memory, before = best[mode, workers]

@@ -2,9 +2,9 @@
 // each reply. Prints pairs a second, and p50 and p99 of a round trip in nanoseconds, of MESSAGES messages; a tenth as
 // many go before them and don't count.
 //
-//     client fuse|redis SOCKET WINDOW MESSAGES
+//     client fuse|files|redis SOCKET WINDOW MESSAGES
 //
-// The window is of slots, each with a lock of its own. A slot's next message is made when its reply has come, so the
+// The window is of slots, each with a lock of its own: with `fuse` on bytes of one file, with `files` on a file of its own. A slot's next message is made when its reply has come, so the
 // server may answer the slots in any order, and a lock is set before it is dropped.
 
 #include <errno.h>
@@ -33,7 +33,7 @@ struct buffer {
 struct client {
     int fd;
     unsigned window;
-    uint64_t node, fh;                // the file that is locked, in a session of FUSE
+    uint64_t node[MOST_SLOTS], fh[MOST_SLOTS]; // the file that a slot locks, in a session of FUSE
     uint64_t asked, told;             // messages made, and replies taken
     uint64_t turn[MOST_SLOTS];        // how many of a slot's messages are answered
     uint64_t answered_at[MOST_SLOTS]; // when the last of them was, in nanoseconds
@@ -131,35 +131,59 @@ static void ask_alone(struct client *c, const struct fuse_in_header *message, vo
     drop(&c->in, size);
 }
 
-// An INIT of 7.31, and a CREATE of the file that is locked.
-static void fuse_begin(struct client *c)
+// An INIT of 7.31.
+static void begin_session(struct client *c)
 {
     const struct {
         struct fuse_in_header header;
         uint32_t major, minor, max_readahead, flags;
     } init = {{.len = sizeof init, .opcode = FUSE_INIT, .unique = INIT_UNIQUE}, 7, 31, 0, FUSE_POSIX_LOCKS};
-    const struct {
+    struct {
+        struct fuse_out_header header;
+        struct fuse_init_out body;
+    } agreed;
+    ask_alone(c, &init.header, &agreed, sizeof agreed);
+    if (agreed.body.major != 7 || agreed.body.minor != 31)
+        fail("the server speaks %u.%u", agreed.body.major, agreed.body.minor);
+}
+
+// A CREATE of the file that a slot locks.
+static void create_file(struct client *c, unsigned slot)
+{
+    struct {
         struct fuse_in_header header;
         struct fuse_create_in body;
         char name[8];
     } create = {{.len = sizeof create, .opcode = FUSE_CREATE, .unique = CREATE_UNIQUE, .nodeid = FUSE_ROOT_ID},
                 {.mode = 0644},
-                "locked1"};
-    struct {
-        struct fuse_out_header header;
-        struct fuse_init_out body;
-    } agreed;
+                "lock000"};
     struct {
         struct fuse_out_header header;
         struct fuse_entry_out entry;
         struct fuse_open_out open;
     } made;
-    ask_alone(c, &init.header, &agreed, sizeof agreed);
-    if (agreed.body.major != 7 || agreed.body.minor != 31)
-        fail("the server speaks %u.%u", agreed.body.major, agreed.body.minor);
+    for (unsigned digit = 6, rest = slot; digit > 3; digit--, rest /= 10)
+        create.name[digit] = (char)('0' + rest % 10);
     ask_alone(c, &create.header, &made, sizeof made);
-    c->node = made.entry.nodeid;
-    c->fh = made.open.fh;
+    c->node[slot] = made.entry.nodeid;
+    c->fh[slot] = made.open.fh;
+}
+
+static void fuse_begin(struct client *c)
+{
+    begin_session(c);
+    create_file(c, 0);
+    for (unsigned slot = 1; slot < c->window; slot++) {
+        c->node[slot] = c->node[0];
+        c->fh[slot] = c->fh[0];
+    }
+}
+
+static void files_begin(struct client *c)
+{
+    begin_session(c);
+    for (unsigned slot = 0; slot < c->window; slot++)
+        create_file(c, slot);
 }
 
 // The unique of a slot's message that isn't answered yet.
@@ -168,14 +192,14 @@ static uint64_t unique_of(const struct client *c, unsigned slot)
     return FIRST_UNIQUE + c->turn[slot] * c->window + slot;
 }
 
-// A slot is an owner with ten bytes of the file. Its lock is set in even turns and dropped in odd ones.
+// A slot is an owner with ten bytes of its file. Its lock is set in even turns and dropped in odd ones.
 static size_t fuse_ask(const struct client *c, unsigned slot, unsigned char *at)
 {
     const struct {
         struct fuse_in_header header;
         struct fuse_lk_in body;
-    } setlk = {{.len = sizeof setlk, .opcode = FUSE_SETLK, .unique = unique_of(c, slot), .nodeid = c->node},
-               {.fh = c->fh,
+    } setlk = {{.len = sizeof setlk, .opcode = FUSE_SETLK, .unique = unique_of(c, slot), .nodeid = c->node[slot]},
+               {.fh = c->fh[slot],
                 .owner = slot + 1,
                 .lk = {16 * slot, 16 * slot + 9, c->turn[slot] % 2 ? F_UNLCK : F_WRLCK, 11}}};
     memcpy(at, &setlk, sizeof setlk);
@@ -289,16 +313,19 @@ int main(int argc, char **argv)
 {
     static const struct speech speeches[] = {
         {"fuse", fuse_begin, fuse_ask, fuse_answer},
+        {"files", files_begin, fuse_ask, fuse_answer},
         {"redis", NULL, redis_ask, redis_answer},
     };
     static struct client client;
+    const struct speech *speech = speeches, *end = speeches + sizeof speeches / sizeof *speeches;
     if (argc != 5)
-        fail("wants fuse or redis, a socket, a window and a number of messages");
-    const struct speech *speech = &speeches[strcmp(argv[1], "redis") == 0];
+        fail("wants fuse, files or redis, a socket, a window and a number of messages");
+    while (speech < end && strcmp(argv[1], speech->name) != 0)
+        speech++;
+    if (speech == end)
+        fail("speaks fuse, files or redis");
     uint64_t messages = strtoull(argv[4], NULL, 10);
     client.window = (unsigned)strtoul(argv[3], NULL, 10);
-    if (strcmp(argv[1], speech->name) != 0)
-        fail("speaks fuse or redis");
     if (client.window < 1 || client.window > MOST_SLOTS || messages <= client.window)
         fail("wants a window from 1 to %d, and more messages than that", MOST_SLOTS);
     client.fd = connect_to(argv[2]);

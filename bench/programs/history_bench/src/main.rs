@@ -1,13 +1,17 @@
-//! Orders of one kind, taken at a desk one after another, for `bench/history.sh` to time and to weigh. The first argument
-//! is the kind, and the second how many. It prints how many lines there are then, and how long the longest order took.
+//! Orders of one kind, taken at a desk one after another, for `bench/history.sh` and `bench/trace.sh` to time and to weigh. The
+//! first argument is the kind, and the second how many. The third says where lines go: into `memory`, which is so where nothing is
+//! said, nowhere (`none`), or to a new file at this path. It prints how many lines are in memory then, and how long the longest
+//! order took, in microseconds.
 #![tactic(auto)]
 
 use anyhow::anyhow;
-use fl_book::Desk;
+use fl_book::{Desk, Forgetful, Keeper, Streamed, WhenWriterFails};
 use fl_core::{Rules, Tolds};
 use fl_order::{LockAsk, Name, Op, Order};
 use std::alloc::Global;
 use std::env;
+use std::fs::File;
+use std::path::Path;
 use std::time::{Clock, Duration, Instant};
 
 fn order(unique: u64, node: u64, op: Op) -> Order {
@@ -44,7 +48,7 @@ fn op(kind: &str, place: u64, name: Name) -> Op {
 }
 
 // A file with one open file, and a lock on its first byte.
-fn begin(desk: &mut Desk, name: Name, tolds: &mut Tolds) -> anyhow::Result<()> {
+fn begin<K: Keeper>(desk: &mut Desk<K>, name: Name, tolds: &mut Tolds) -> anyhow::Result<()> {
     let create = Op::Create {
         excl: false,
         mode: 420,
@@ -55,11 +59,17 @@ fn begin(desk: &mut Desk, name: Name, tolds: &mut Tolds) -> anyhow::Result<()> {
     Ok(())
 }
 
-fn take_all<R: Clock>(rt: &R, alloc: Global, kind: &str, orders: u64) -> anyhow::Result<(usize, Duration)> {
+// Takes so many orders, and tells how long the longest took.
+fn take_all<R: Clock, K: Keeper>(
+    rt: &R,
+    alloc: Global,
+    desk: &mut Desk<K>,
+    kind: &str,
+    orders: u64,
+) -> anyhow::Result<Duration> {
     let name = Name::new(b"file.txt").ok_or(anyhow!("a name"))?;
-    let mut desk = Desk::new(alloc, Rules::standard())?;
     let mut tolds = Tolds::new(alloc)?;
-    begin(&mut desk, name, &mut tolds)?;
+    begin(desk, name, &mut tolds)?;
     let mut longest = Duration::ZERO;
     for place in 0..orders {
         let node = if kind == "lookup" { 1 } else { 2 };
@@ -68,7 +78,7 @@ fn take_all<R: Clock>(rt: &R, alloc: Global, kind: &str, orders: u64) -> anyhow:
         desk.take(0, &order, &mut tolds)?;
         longest = longest.max(start.elapsed(rt)?);
     }
-    Ok((desk.into_history().len(), longest))
+    Ok(longest)
 }
 
 fn main(rt: HostRuntime) -> anyhow::Result<()> {
@@ -76,7 +86,23 @@ fn main(rt: HostRuntime) -> anyhow::Result<()> {
     let words: Vec<String> = env::args(&rt)?.collect(alloc)?;
     let kind = words.get(1).map_or("setlk", |word| word.as_str());
     let orders = words.get(2).map_or(Ok(1000), |word| word.parse::<u64>())?;
-    let (lines, longest) = take_all(&rt, alloc, kind, orders)?;
+    let place = words.get(3).map_or("memory", |word| word.as_str());
+    let rules = Rules::standard();
+    let mut lines = 0;
+    let longest = if place == "memory" {
+        let mut desk = Desk::new(alloc, rules)?;
+        let longest = take_all(&rt, alloc, &mut desk, kind, orders)?;
+        lines = desk.into_history().len();
+        longest
+    } else if place == "none" {
+        let mut desk = Desk::over(alloc, Forgetful::new(), rules)?;
+        take_all(&rt, alloc, &mut desk, kind, orders)?
+    } else {
+        let file = File::create(&rt, Path::new(place))?;
+        let stream = Streamed::new(alloc, file, WhenWriterFails::GoOn)?;
+        let mut desk = Desk::over(alloc, stream, rules)?;
+        take_all(&rt, alloc, &mut desk, kind, orders)?
+    };
     println!(rt; "{lines} {}", longest.as_micros())?;
     Ok(())
 }
