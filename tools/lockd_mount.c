@@ -40,6 +40,10 @@
 // The kernel refuses to write into less than this, and a message that is longer would be none of the server's.
 enum { MOST = FUSE_MIN_READ_BUFFER };
 
+// How often a reply is looked for behind one to a call that was alone, before the thread sleeps: tens of microseconds long, a few times as
+// long as a call takes. Looks that end before the reply comes cost more than they bring.
+enum { LOOKS = 300 };
+
 // Why the program ends.
 enum end { RUNNING, UNMOUNTED, SERVER_ENDED, BAD_REPLY, DEVICE_FAILED };
 
@@ -56,6 +60,7 @@ static struct {
     atomic_int end;
     atomic_int fault;              // the error number that goes with the end, or 0
     atomic_uint_least64_t init;    // unique of the INIT that offers FUSE_ATOMIC_O_TRUNC, or 0
+    atomic_llong under_way;        // messages that are owed a reply, but for INTERRUPTs, whose uniques are odd
     atomic_ullong refused;         // replies that the kernel didn't take
     atomic_ullong seen[64];        // messages by opcode; those of all greater ones in the last
 } it;
@@ -125,6 +130,8 @@ static void change_message(char *message)
     char *body = message + sizeof head;
     memcpy(&head, message, sizeof head);
     it.seen[head.opcode < 63 ? head.opcode : 63]++;
+    if (head.opcode != FUSE_FORGET && head.opcode != FUSE_BATCH_FORGET && !(head.unique & 1))
+        it.under_way++;
     if (head.opcode == FUSE_INIT)
         remember_init(&head, body);
 #ifndef KERNELS_OWNERS
@@ -204,38 +211,51 @@ static bool write_reply(const char *reply, uint32_t size)
 }
 
 // The replies at the front of these bytes are written one at a time. Gives how many bytes they had, or -1 at a length that
-// no reply has, or -2 where nothing is mounted any more.
-static ssize_t write_replies(char *bytes, size_t held)
+// no reply has, or -2 where nothing is mounted any more. Says whether the last call was alone.
+static ssize_t write_replies(char *bytes, size_t held, bool *alone)
 {
+    struct fuse_out_header head;
     size_t done = 0;
-    while (held - done >= sizeof(struct fuse_out_header)) {
-        uint32_t size;
-        memcpy(&size, bytes + done, sizeof size);
-        if (size < sizeof(struct fuse_out_header) || size > MOST)
+    for (; held - done >= sizeof head; done += head.len) {
+        memcpy(&head, bytes + done, sizeof head);
+        if (head.len < sizeof head || head.len > MOST)
             return -1;
-        if (held - done < size)
+        if (held - done < head.len)
             break;
-        change_reply(bytes + done, size);
-        if (!write_reply(bytes + done, size))
+        if (!(head.unique & 1))
+            *alone = it.under_way-- == 1;
+        change_reply(bytes + done, head.len);
+        if (!write_reply(bytes + done, head.len))
             return -2;
-        done += size;
     }
     return (ssize_t)done;
+}
+
+// Bytes of the server. To wake a thread takes longer than a call, so where calls come one by one it looks before it sleeps.
+static ssize_t receive(char *at, size_t room, bool alone)
+{
+    for (int looks = alone ? LOOKS : 0; looks; looks--) {
+        ssize_t got = recv(it.server, at, room, MSG_DONTWAIT);
+        if (got >= 0 || errno != EAGAIN)
+            return got;
+    }
+    return recv(it.server, at, room, 0);
 }
 
 static void *carry_replies(void *unused)
 {
     static char bytes[2 * MOST];
     size_t held = 0;
+    bool alone = false;
     (void)unused;
     for (;;) {
-        ssize_t got = recv(it.server, bytes + held, sizeof bytes - held, 0);
+        ssize_t got = receive(bytes + held, sizeof bytes - held, alone);
         if (got < 0 && errno == EINTR)
             continue;
         if (got <= 0)
             return finish(SERVER_ENDED, got < 0 ? errno : 0);
         held += (size_t)got;
-        ssize_t done = write_replies(bytes, held);
+        ssize_t done = write_replies(bytes, held, &alone);
         if (done == -1)
             return finish(BAD_REPLY, 0);
         if (done == -2)
