@@ -2,7 +2,8 @@
 # Times lock requests on one file by how its locks stand, beside `fcntl` on a file in memory (bench/peers/locks.c), in turns in
 # one run: one owner with 1, 16, 256, 4,096 and 65,536 runs of bytes; 4,000 and 60,000 owners with one run each; 64 owners.
 # `bench/programs/locks_bench` says what is asked. It proves and builds that first, with `rt`, and needs a C compiler. Prints microseconds an order of both,
-# and their ratio: the least of five runs each (of two where more than 4,096 runs are held), less that of a run with no order. What is aimed at stands beside.
+# and their ratio: the least of five runs each, less that of a run with no order. Where more than 4,096 runs are held it is one run each, with
+# all that sets them: `fcntl` takes minutes for that. What is aimed at stands beside.
 #
 #     bench/setlk_by_runs.sh [--instructions]
 #
@@ -40,7 +41,7 @@ def micros(owners, runs, what):
     orders = max(8_192, 1_000_000 // max(owners, runs) // 8_192 * 8_192)
     wants = [(program, number) for program in (OURS, KERNEL) for number in (orders, 0)]
     best = dict.fromkeys(wants, float("inf"))
-    for _ in range(5 if owners * runs <= 4096 else 2):
+    for _ in range(5):
         for program, number in wants:
             best[program, number] = min(best[program, number], run([program], owners, runs, what, number)[0])
     return [(best[program, orders] - best[program, 0]) / orders * 1e6 for program in (OURS, KERNEL)]
@@ -55,6 +56,9 @@ for owners, runs, what, aim in CASES:
     case = f"{owners} owners with {runs} runs, {what}"
     if OPTION == "--instructions":
         print(f"{case:<34}{instructions(owners, runs, what):>12.0f} instructions")
+    elif owners * runs > 4096:
+        ours, kernel = (run([program], owners, runs, what, 8_192)[0] for program in (OURS, KERNEL))
+        print(f"{case:<34}{ours:>9.2f} s, fcntl {kernel:>7.2f} s, ratio {ours / kernel:.2f}, with what sets them", flush=True)
     else:
         ours, kernel = micros(owners, runs, what)
         print(f"{case:<34}{ours:>9.2f} us, fcntl {kernel:>7.2f} us, ratio {ours / kernel:.2f}" + (f" (aim {aim})" if aim else ""))
