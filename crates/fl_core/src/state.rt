@@ -62,6 +62,7 @@ impl Core {
         ensures few { length tolds.new.told ≤ self.old.rules.parked + 1 }
         ensures room { tolds.new.room ≡ tolds.old.room }
         ensures next { self.new ≡ next self.old order.now }
+        ensures rules { self.new.rules ≡ self.old.rules }
 
         // A state that the core stands for goes the same way by the order and its replies alone.
         ensures recorded { (s : State) → snapshot_of s ≡ self.old →

@@ -72,6 +72,7 @@ impl<K: Keeper> Desk<K> {
         ensures room { tolds.new.room ≡ tolds.old.room }
         ensures lines { OnOk result (self.new.lines ≡ self.old.lines ++ step_lines worker order.now tolds.new.told) }
         ensures next { OnOk result (self.new.present ≡ next self.old.present order.now) }
+        ensures rules { self.new.present.rules ≡ self.old.present.rules }
         ensures refused { OnErr result
             ((self.new.lines ≡ self.old.lines) × (self.new.present ≡ self.old.present) × (tolds.new ≡ tolds.old)) }
         ensures succeeds { self.old.present.rules.parked + 2 ≤ self.old.room → IsOk result }
