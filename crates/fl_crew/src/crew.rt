@@ -22,6 +22,7 @@ use fl_workers::{Gate, Shared, Worked, WriterName, handle_all, worker_loop};
 use std::alloc::Global;
 use std::io::{Read, Write};
 use std::snapshot::Snapshot;
+use std::sync::ledger::Share;
 use std::sync::{Mutex, Wait};
 use std::thread;
 use std::thread::{Promise, PromisedHandle, Scope, Threads};
@@ -119,18 +120,20 @@ impl<
     G: Gate + Sync,
     K: Keeper + Send + Drop,
 > Crew<'a, 'w, L, N, R, W, G, K> {
-    /// Runs a session: starts a worker at each seat, reads until the session ends, closes the intake, and joins the workers.
-    /// Where a worker can't be started nothing is read.
+    /// Runs a session: starts a worker at each seat, begins, reads until the session ends, closes the intake, and joins the
+    /// workers. Where a worker can't be started nothing is read, and the permit to begin comes back as it was.
     pub fn run<I: Read>(
         &self,
         r: &mut I,
         inbox: Inbox,
         put: PutEnd,
         posts: Posts<L>,
-    ) -> (Back<L>, Heard)
+        permit: Share<N>,
+    ) -> (Back<L>, Heard, Share<N>)
         requires unread { IsUnread inbox }
         requires put { (put.of ≡ self.now.intake) × (put.closed ≡ false) × (put.put ≡ []) }
         requires ends { All (IsFresh self.now.intake) posts.ends.items }
+        requires permit { (0 < N.parts) × (permit.parts ≡ N.parts) × (permit.amount ≡ 0) }
         ensures put { (result.1.put.of ≡ self.now.intake) × (result.1.put.takers ≡ put.takers) }
         ensures ends { All (λ end. end.of ≡ self.now.intake) result.0.ends.items }
         ensures worked { result.1.fault ≢ Some Fault.NoMemory
@@ -139,25 +142,32 @@ impl<
             → HasHeard L.rules (I.remaining r.old) (I.remaining r.new) result.1.fault result.1.put.put
             result.1.goodbye }
         ensures unread { result.1.fault ≡ Some Fault.NoMemory → Keeps (I.remaining r.old) (I.remaining r.new) }
+        ensures permit { result.2.parts ≡ N.parts }
+        ensures begun { result.1.fault ≢ Some Fault.NoMemory → result.2.amount ≡ 1 }
+        ensures unbegun { result.1.fault ≡ Some Fault.NoMemory → result.2.amount ≡ 0 }
     {
         let rt = self.rt;
-        let (back, heard, r) = thread::scope(
+        let (back, heard, permit, r) = thread::scope(
             thread::scope_env(),
             rt,
-            move |scope| -> (Back<L>, Heard, &mut I)
+            move |scope| -> (Back<L>, Heard, Share<N>, &mut I)
                 requires unread { IsUnread inbox }
                 requires put { (put.of ≡ self.now.intake) × (put.closed ≡ false) × (put.put ≡ []) }
                 requires ends { All (IsFresh self.now.intake) posts.ends.items }
+                requires permit { (0 < N.parts) × (permit.parts ≡ N.parts) × (permit.amount ≡ 0) }
                 ensures put { (result.1.put.of ≡ self.entry.now.intake) × (result.1.put.takers ≡ put.takers) }
                 ensures ends { All (λ end. end.of ≡ self.entry.now.intake) result.0.ends.items }
                 ensures worked { result.1.fault ≢ Some Fault.NoMemory
                     → HaveWorked posts.seats.items result.0.seats.items result.0.ends.items result.0.refused }
-                ensures same { result.2.ghost_name ≡ r.entry.ghost_name }
+                ensures same { result.3.ghost_name ≡ r.entry.ghost_name }
                 ensures heard { result.1.fault ≢ Some Fault.NoMemory
-                    → HasHeard L.rules (I.remaining r.entry.now) (I.remaining result.2.now) result.1.fault
+                    → HasHeard L.rules (I.remaining r.entry.now) (I.remaining result.3.now) result.1.fault
                     result.1.put.put result.1.goodbye }
                 ensures unread { result.1.fault ≡ Some Fault.NoMemory
-                    → Keeps (I.remaining r.entry.now) (I.remaining result.2.now) }
+                    → Keeps (I.remaining r.entry.now) (I.remaining result.3.now) }
+                ensures permit { result.2.parts ≡ N.parts }
+                ensures begun { result.1.fault ≢ Some Fault.NoMemory → result.2.amount ≡ 1 }
+                ensures unbegun { result.1.fault ≡ Some Fault.NoMemory → result.2.amount ≡ 0 }
             {
                 // Taken whole, so that what its type keeps is known here.
                 let posts = posts;
@@ -170,7 +180,9 @@ impl<
                 } = posts;
                 let mut inbox = inbox;
                 let mut threads = threads;
+                let mut permit = permit;
                 let heard = if self.start_all(scope, seats, ends, tolds, &mut threads) {
+                    self.begin(&mut permit);
                     hear_all(rt, &self.intake, &self.shared, put, r, &mut inbox)
                 } else {
                     Heard {
@@ -181,12 +193,21 @@ impl<
                 };
                 let mut heard = heard;
                 self.intake.close(&mut heard.put);
-                (joined(rt, &self.intake, threads, back), heard, r)
+                (joined(rt, &self.intake, threads, back), heard, permit, r)
             },
         );
         // No effect at run time: the proof reads here what the reader has left.
         let _ = &*r;
-        (back, heard)
+        (back, heard, permit)
+    }
+
+    // Replies may go out from here on.
+    fn begin(&self, permit: &mut Share<N>)
+        requires { (0 < N.parts) × (permit.old.parts ≡ N.parts) × (permit.old.amount ≡ 0) }
+        ensures { (permit.new.parts ≡ N.parts) × (permit.new.amount ≡ 1) }
+    {
+        let mut shared = self.shared.lock(self.rt);
+        shared.begin(permit);
     }
 
     // Starts a worker at each seat, and says whether all were started.

@@ -27,7 +27,7 @@ use fl_workers::{Gate, Shared, WriterName};
 use std::alloc::Global;
 use std::io::{Read, Write};
 use std::marker::Brand;
-use std::sync::ledger::Blank;
+use std::sync::ledger::{Blank, Share};
 use std::sync::{Mutex, Wait};
 use std::thread::Threads;
 
@@ -58,6 +58,7 @@ pub fn serve<R: Threads + Wait + Sync, I: Read, W: Write + Send + Drop, G: Gate 
     ensures served { IsServedBy rules (I.remaining r.old) (I.remaining r.new) (W.contents w.old) (W.contents w.new) result }
     ensures nothing { result.fault ≡ Some Fault.NoMemory
         → (result.history ≡ []) × Keeps (I.remaining r.old) (I.remaining r.new) }
+    ensures unwritten { result.fault ≡ Some Fault.NoMemory → Keeps (W.contents w.old) (W.contents w.new) }
 {
     serve_on_stack(rt, alloc, r, w, workers, rules, gate, STACK_BYTES)
 }
@@ -78,6 +79,7 @@ pub fn serve_on_stack<R: Threads + Wait + Sync, I: Read, W: Write + Send + Drop,
     ensures served { IsServedBy rules (I.remaining r.old) (I.remaining r.new) (W.contents w.old) (W.contents w.new) result }
     ensures nothing { result.fault ≡ Some Fault.NoMemory
         → (result.history ≡ []) × Keeps (I.remaining r.old) (I.remaining r.new) }
+    ensures unwritten { result.fault ≡ Some Fault.NoMemory → Keeps (W.contents w.old) (W.contents w.new) }
 {
     let staff = Staff {
         workers,
@@ -109,6 +111,7 @@ where
     ensures back { IsSome result.keeper ⊎ (result.fault ≡ Some Fault.NoMemory) ⊎ (result.fault ≡ Some Fault.NoReader) }
     ensures nothing { result.fault ≡ Some Fault.NoMemory
         → (result.keeper ≡ None) × Keeps (I.remaining r.old) (I.remaining r.new) }
+    ensures unwritten { result.fault ≡ Some Fault.NoMemory → Keeps (W.contents w.old) (W.contents w.new) }
 {
     let staff = Staff {
         workers,
@@ -146,11 +149,13 @@ where
     ensures back { IsSome result.keeper ⊎ (result.fault ≡ Some Fault.NoMemory) ⊎ (result.fault ≡ Some Fault.NoReader) }
     ensures nothing { result.fault ≡ Some Fault.NoMemory
         → (result.keeper ≡ None) × Keeps (I.remaining r.old) (I.remaining r.new) }
+    ensures unwritten { result.fault ≡ Some Fault.NoMemory → Keeps (W.contents w.old) (W.contents w.new) }
 {
     let blank = Blank::new(u64::from(staff.workers));
     let log = FreshLog::new();
+    let sending = Blank::new(1);
     let (kept, w) = serve_at::<Brand, Brand, R, I, W, G, K>(
-        rt, alloc, blank, log, r, w, gate, staff, keeper,
+        rt, alloc, blank, log, sending, r, w, gate, staff, keeper,
     );
     // No effect at run time: the proof reads here what the writer holds.
     let _ = &*w;
@@ -172,6 +177,7 @@ fn serve_at<
     alloc: Global,
     blank: Blank,
     log: FreshLog,
+    sending: Blank,
     r: &mut I,
     w: &'w mut W,
     gate: &G,
@@ -185,7 +191,8 @@ fn serve_at<
     requires workers { (0 < staff.workers) × (staff.workers ≤ 16) }
     requires none { K.lines keeper ≡ [] }
     requires start { W.contents w.old ≡ N.start }
-    requires writer { w.ghost_name ≡ N.name }
+    requires writer { w.ghost_name ≡ N.writer }
+    requires sending { (sending.name ≡ N.name) × (sending.parts ≡ N.parts) × (0 < N.parts) }
     ensures writer { result.1.ghost_name ≡ w.entry.ghost_name }
     ensures legal { IfSome result.0.keeper (λ keeper. IsLegal staff.rules (K.lines keeper)) }
     ensures served { IsServedBy staff.rules (I.remaining r.old) (I.remaining r.new) (W.contents w.old) (W.contents result.1.now)
@@ -194,6 +201,7 @@ fn serve_at<
         ⊎ (result.0.fault ≡ Some Fault.NoMemory) ⊎ (result.0.fault ≡ Some Fault.NoReader) }
     ensures nothing { result.0.fault ≡ Some Fault.NoMemory
         → (result.0.keeper ≡ None) × Keeps (I.remaining r.old) (I.remaining r.new) }
+    ensures unwritten { result.0.fault ≡ Some Fault.NoMemory → Keeps (W.contents w.old) (W.contents result.1.now) }
 {
     let rooms = match Rooms::<L, &R, K>::new(
         alloc,
@@ -216,21 +224,22 @@ fn serve_at<
         inbox,
         replies,
     } = rooms;
+    let (shared, permit) = Shared::<'w, W, N>::new(sending, replies, w);
     let crew = Crew {
         rt,
         gate,
         stack: staff.stack,
         board,
         intake,
-        shared: Mutex::new(Shared::<'w, W, N>::new(replies, w)),
+        shared: Mutex::new(shared),
     };
-    let (back, heard) = crew.run(r, inbox, put, posts);
+    let (back, heard, permit) = crew.run(r, inbox, put, posts, permit);
     if heard.fault == Some(Fault::NoMemory) {
         let Crew { shared, .. } = crew;
-        let (w, _) = shared.into_inner().close(&Owed::Nothing);
+        let (w, _) = shared.into_inner().close(permit, &Owed::Nothing);
         return (Kept::nothing(alloc, Fault::NoMemory), w);
     }
-    finished(alloc, crew, back, heard, tolds)
+    finished(alloc, crew, back, heard, tolds, permit)
 }
 
 // Hands in what no worker took, says goodbye, and closes the board of a session whose workers came back.
@@ -240,6 +249,7 @@ fn finished<'w, L: BoardName, N: WriterName, R: Wait, W: Write, G: Gate, K: Keep
     back: Back<L>,
     heard: Heard,
     tolds: Tolds,
+    permit: Share<N>,
 ) -> (Kept<K>, &'w mut W)
     requires parts { L.workers ≡ L.parts }
     requires mine { (heard.put.of ≡ crew.intake) × All (λ end. end.of ≡ crew.intake) back.ends.items }
@@ -247,7 +257,8 @@ fn finished<'w, L: BoardName, N: WriterName, R: Wait, W: Write, G: Gate, K: Keep
     requires some { 0 < length back.seats.items }
     requires whose { map (λ seat. seat.worker) back.seats.items ≡ range_with_len 0 heard.put.takers }
     requires did { HaveDone (λ weight. weight_taken weight back.ends.items) back.seats.items back.refused }
-    ensures writer { result.1.ghost_name ≡ N.name }
+    requires permit { (permit.parts ≡ N.parts) × (permit.amount ≡ 1) }
+    ensures writer { result.1.ghost_name ≡ N.writer }
     ensures legal { IfSome result.0.keeper (λ keeper. IsLegal L.rules (K.lines keeper)) }
     ensures served { (left left_now : Option (List ℕ))
         → HasHeard L.rules left left_now heard.fault heard.put.put heard.goodbye
@@ -278,7 +289,7 @@ fn finished<'w, L: BoardName, N: WriterName, R: Wait, W: Write, G: Gate, K: Keep
         unreachable!()
     };
     let (seats, more) = handed_in(rt, &board, gate, &shared, seats, tolds, left);
-    let (w, broken) = shared.into_inner().close(&goodbye);
+    let (w, broken) = shared.into_inner().close(permit, &goodbye);
     let told = Fault::told(fault, broken);
     (closed(alloc, board, seats, refused | more, told), w)
 }

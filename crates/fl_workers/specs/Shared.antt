@@ -1,5 +1,5 @@
 -- What workers who share one writer have sent.
-use Rattle.std.specs.Prelude.{ℕ, Bool, List, ◌++◌, All, Option}
+use Rattle.std.specs.Prelude.{◌≡◌, ℕ, Bool, false, List, [], ◌++◌, All, Option}
 use Rattle.std.specs.List.{concat}
 use Rattle.std.specs.Io.KnownBytes.{Appends}
 use Rattle.fl_order.specs.declared.told.Told.{Told}
@@ -13,11 +13,18 @@ pub data IsSpelling : List ℕ → Type 0 where
   told : (reply : Told) → IsSpelling (spelling_of reply)
   greeted : (unique : ℕ) (step : InitStep) → IsSpelling (init_spelling unique step)
 
--- what a shared writer holds, the bytes that wait for it, and whether a write failed
+-- what a shared writer holds, the bytes that wait for it, whether a write failed, and whether the session has begun
 pub record Outgoing : Type 0 where
   pub held : Option (List ℕ)
   pub waiting : List ℕ
   pub broken : Bool
+  pub begun : Bool
+
+-- nothing was given yet: the writer holds what it held, nothing waits for it, and no write failed
+pub record IsUnsent (start held : Option (List ℕ)) (waiting : List ℕ) (broken : Bool) : Type 0 where
+  pub same : held ≡ start
+  pub none : waiting ≡ []
+  pub whole : broken ≡ false
 
 -- some replies were given, each that to an order or to an INIT
 pub record HasSent (start held : Option (List ℕ)) (waiting : List ℕ) (broken : Bool) : Type 0 where
