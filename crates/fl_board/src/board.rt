@@ -4,6 +4,7 @@ ghost use Rattle.std.specs.Prelude.{◌≡◌, ℕ, ◌<◌, ◌≤◌, ◌↔�
 ghost use Rattle.std.specs.Prelude.{length, map, sum_by};
 ghost use Rattle.std.specs.List.{range_with_len};
 ghost use Rattle.fl_board.specs.Shown.{HasAllOf, HaveMet, IsHandedIn, IsShown, KeepsHanded};
+ghost use Rattle.fl_core.specs.Tolds.{HasRoom};
 ghost use Rattle.fl_desk.specs.Legal.{IsLegal, orders_asked};
 ghost use Rattle.fl_order.specs.Order.{only_reads};
 ghost use Rattle.fl_waiting.specs.declared.rules.Rules.{Rules};
@@ -138,8 +139,10 @@ impl<L: BoardName, R: Wait + Drop, K: Keeper> Board<L, R, K> {
         order: &Order,
         tolds: &mut Tolds,
     ) -> Result<(), HandFault>
+        requires { HasRoom L.rules tolds.old }
         ensures worker { seat.new.worker ≡ seat.old.worker }
-        ensures handed { OnOk result (IsHandedIn L.rules seat.old order.now tolds.new seat.new) }
+        ensures handed { OnOk result (IsHandedIn L.rules seat.old order.now tolds.new.told seat.new) }
+        ensures room { tolds.new.room ≡ tolds.old.room }
         ensures refused { OnErr result ((seat.new ≡ seat.old) × (tolds.new ≡ tolds.old)) }
     {
         let mut shared = self.shared.lock(rt);

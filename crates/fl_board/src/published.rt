@@ -60,13 +60,14 @@ pub struct Published<L: BoardName> {
 impl<L: BoardName> Model for Published<L> {
     ghost use Rattle.std.specs.Prelude.{◌≡◌, List};
     ghost use Rattle.fl_board.specs.Inside.Asks.{present_after};
+    ghost use Rattle.fl_core.specs.Tolds.{HasRoom};
     ghost use Rattle.fl_log.specs.declared.ask.Ask.{Ask};
 
     ghost Value = { List Ask };
 
     ghost view = { λ p. p.asks };
 
-    ghost invariant = { λ p. p.core ≡ present_after L.rules p.asks };
+    ghost invariant = { λ p. (p.core ≡ present_after L.rules p.asks) × HasRoom L.rules p.tolds };
 }
 
 impl<L: BoardName> Published<L> {
@@ -80,7 +81,7 @@ impl<L: BoardName> Published<L> {
         requires rules { rules ≡ L.rules }
         ensures { IfOk result (λ published. published ≡ []) }
     {
-        let tolds = Tolds::new(alloc)?;
+        let tolds = Tolds::new(alloc, rules)?;
         let core = Core::new(alloc, rules)?;
         Ok(Published {
             core,

@@ -3,6 +3,7 @@
 ghost use Rattle.std.specs.Prelude.{◌≡◌, ◌≢◌, ◌<◌, ◌^◌, ◌++◌, ◌∷◌, [], true, false, All, IfOk, OnOk, OnErr, MatchResult};
 ghost use Rattle.fl_board.specs.Inside.Asks.{AreApart, HasMostOf, history_of};
 ghost use Rattle.fl_board.specs.Shown.{HaveMet, IsHandedIn, KeepsHanded};
+ghost use Rattle.fl_core.specs.Tolds.{HasRoom};
 ghost use Rattle.fl_desk.specs.Legal.{IsLegal, orders_asked};
 
 use crate::asks::asks_lead;
@@ -83,8 +84,10 @@ impl<L: BoardName, R: Wait + Drop, K: Keeper> Shared<L, R, K> {
         order: &Order,
         tolds: &mut Tolds,
     ) -> Result<(), HandFault>
+        requires { HasRoom L.rules tolds.old }
         ensures worker { seat.new.worker ≡ seat.old.worker }
-        ensures handed { OnOk result (IsHandedIn L.rules seat.old order.now tolds.new seat.new) }
+        ensures handed { OnOk result (IsHandedIn L.rules seat.old order.now tolds.new.told seat.new) }
+        ensures room { tolds.new.room ≡ tolds.old.room }
         ensures all { OnOk result (history_of L.rules self.new ≡ seat.new.own) }
         ensures refused { OnErr result ((seat.new ≡ seat.old) × (tolds.new ≡ tolds.old) × (self.new ≡ self.old)) }
     {

@@ -7,3 +7,4 @@ pub mod Settling
 pub mod Stages
 pub mod State
 pub mod Step
+pub mod Tolds

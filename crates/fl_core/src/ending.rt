@@ -4,7 +4,7 @@ ghost use Rattle.std.specs.Prelude.{◌≡◌, ◌≤◌, ◌+◌, ◌++◌, fal
 ghost use Rattle.std.specs.List.{filter};
 ghost use Rattle.fl_core.specs.Replies.{ended_all, ending_of, error_of, picks};
 
-use crate::tolds::{MOST_TOLDS, Tolds};
+use crate::tolds::Tolds;
 use fl_order::{Answer, Errno, Op, Order, Told};
 use fl_waiting::{Claim, Parked};
 
@@ -30,10 +30,11 @@ pub(crate) fn ending_of(order: &Order, own: &Option<Result<Answer, Errno>>) -> O
 
 /// Takes out these requests, the oldest first, and tells each. Gives whether there was one.
 pub(crate) fn end_all(parked: &mut Parked, ending: Ending, tolds: &mut Tolds) -> bool
-    requires { length tolds.old + length parked.old ≤ MOST_TOLDS }
-    ensures tolds { tolds.new ≡ tolds.old ++ ended_all (error_of ending) (picks ending) parked.old }
+    requires { length tolds.old.told + length parked.old ≤ tolds.old.room }
+    ensures tolds { tolds.new.told ≡ tolds.old.told ++ ended_all (error_of ending) (picks ending) parked.old }
     ensures parked { parked.new ≡ filter (λ r. not (picks ending r)) parked.old }
-    ensures few { length tolds.new + length parked.new ≤ length tolds.old + length parked.old }
+    ensures few { length tolds.new.told + length parked.new ≤ length tolds.old.told + length parked.old }
+    ensures room { tolds.new.room ≡ tolds.old.room }
     ensures any { result ≡ false → parked.new ≡ parked.old }
 {
     let mut ended = false;

@@ -11,4 +11,4 @@ mod tolds;
 
 pub use fl_waiting::{Request, Rules};
 pub use state::Core;
-pub use tolds::{MOST_TOLDS, Tolds};
+pub use tolds::Tolds;

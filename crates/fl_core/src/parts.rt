@@ -18,7 +18,7 @@ ghost use Rattle.fl_ranges.specs.declared.lock.Class.TheVariants.{Record};
 use crate::ending::{end_all, ending_of};
 use crate::locking::{release_locks, set_lock, set_or_wait, test_lock, unlock};
 use crate::settling::{Touched, settle};
-use crate::tolds::{MOST_TOLDS, Tolds};
+use crate::tolds::Tolds;
 use fl_dir::Dir;
 use fl_order::{Answer, Errno, NoMemory, Op, Order};
 use fl_ranges::{Class, Table};
@@ -123,10 +123,12 @@ impl Parts {
         touched: Touched,
         tolds: &mut Tolds,
     ) -> Touched
-        requires { length tolds.old + length self.old.view.parked ≤ MOST_TOLDS }
-        ensures tolds { tolds.new ≡ tolds.old ++ ended_by self.old.view.parked order.now.op own.now }
+        requires { length tolds.old.told + length self.old.view.parked ≤ tolds.old.room }
+        ensures tolds { tolds.new.told ≡ tolds.old.told ++ ended_by self.old.view.parked order.now.op own.now }
         ensures parked { self.new ≡ with_parked (left_by self.old.view.parked order.now.op own.now) self.old }
-        ensures few { length tolds.new + length self.new.view.parked ≤ length tolds.old + length self.old.view.parked }
+        ensures few { length tolds.new.told + length self.new.view.parked
+            ≤ length tolds.old.told + length self.old.view.parked }
+        ensures room { tolds.new.room ≡ tolds.old.room }
 
         // Only parked requests for locks which were touched can be free now, if that was so.
         ensures others { OthersWait touched self.old.rules self.old.marking self.old.view.parked →
@@ -145,10 +147,12 @@ impl Parts {
     /// Answers parked requests until each waits, where an order touched these locks.
     pub(crate) fn settle(&mut self, touched: Touched, tolds: &mut Tolds)
         requires others { OthersWait touched self.old.rules self.old.marking self.old.view.parked }
-        requires room { length tolds.old + length self.old.view.parked ≤ MOST_TOLDS }
-        ensures tolds { tolds.new ≡ tolds.old ++ (settling self.old).tolds }
+        requires room { length tolds.old.told + length self.old.view.parked ≤ tolds.old.room }
+        ensures tolds { tolds.new.told ≡ tolds.old.told ++ (settling self.old).tolds }
         ensures present { self.new ≡ with_present (settling self.old).present self.old }
-        ensures few { length tolds.new + length self.new.view.parked ≤ length tolds.old + length self.old.view.parked }
+        ensures few { length tolds.new.told + length self.new.view.parked
+            ≤ length tolds.old.told + length self.old.view.parked }
+        ensures room { tolds.new.room ≡ tolds.old.room }
         ensures lawful { IsLawful self.old.marking → IsLawful self.new.marking }
         ensures apart { AreApart self.old.view.parked → AreApart self.new.view.parked }
     {

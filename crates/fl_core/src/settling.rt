@@ -10,7 +10,7 @@ ghost use Rattle.fl_waiting.specs.Waiting.{is_excluded, AreApart};
 ghost use Rattle.fl_waiting.specs.declared.parked.Request.{Request};
 
 use crate::locking::{is_excluded, key_of, store};
-use crate::tolds::{MOST_TOLDS, Tolds};
+use crate::tolds::Tolds;
 use fl_order::{Answer, Errno, Op, Order, Told};
 use fl_ranges::{Class, Table};
 use fl_waiting::{Claim, Parked, Rules};
@@ -54,11 +54,12 @@ pub(crate) fn settle(
 )
     requires limit { locks.old.limit ≡ rules.runs }
     requires others { OthersWait touched rules locks.old.marking parked.old }
-    requires room { length tolds.old + length parked.old ≤ MOST_TOLDS }
-    ensures tolds { tolds.new ≡ tolds.old ++ (settled rules (present locks.old.marking parked.old)).tolds }
+    requires room { length tolds.old.told + length parked.old ≤ tolds.old.room }
+    ensures tolds { tolds.new.told ≡ tolds.old.told ++ (settled rules (present locks.old.marking parked.old)).tolds }
     ensures present { present locks.new.marking parked.new
         ≡ (settled rules (present locks.old.marking parked.old)).present }
-    ensures few { length tolds.new + length parked.new ≤ length tolds.old + length parked.old }
+    ensures few { length tolds.new.told + length parked.new ≤ length tolds.old.told + length parked.old }
+    ensures room { tolds.new.room ≡ tolds.old.room }
     ensures apart { AreApart parked.old → AreApart parked.new }
     ensures lawful { IsLawful locks.old.marking → IsLawful locks.new.marking }
     ensures limit { locks.new.limit ≡ rules.runs }

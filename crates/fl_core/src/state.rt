@@ -1,21 +1,22 @@
 //! What takes orders: each is tested, answered and carried out, and parked requests are settled.
 
-ghost use Rattle.std.specs.Prelude.{◌≡◌, ◌≤◌, ◌+◌, ◌↔◌, [], true, length, IfOk, IsSome};
+ghost use Rattle.std.specs.Prelude.{◌≡◌, ◌≤◌, ◌<◌, ◌+◌, ◌↔◌, [], true, length, IfOk, IsSome};
 ghost use Rattle.fl_waiting.specs.Circle.{closes_circle};
 ghost use Rattle.fl_core.specs.State.{State, opening, snapshot_of};
 ghost use Rattle.fl_core.specs.Effects.{replied, recorded};
 ghost use Rattle.fl_core.specs.Replies.{own_replies, taken_reply};
 ghost use Rattle.fl_core.specs.Step.{next, replies, ChangesNothing};
+ghost use Rattle.fl_core.specs.Tolds.{HasRoom};
 ghost use Rattle.fl_waiting.specs.Waiting.{is_waiting, AllWait, AreApart};
 ghost use Rattle.fl_order.specs.Order.{only_reads};
 ghost use Rattle.fl_ranges.specs.Conflict.{IsLawful};
 
 use crate::parts::Parts;
 use crate::settling::touched_by;
-use crate::tolds::{MOST_TOLDS, Tolds};
+use crate::tolds::Tolds;
 use fl_order::{Answer, Errno, NoMemory, Op, Order, Told};
 use fl_ranges::{Key, Kind, Range};
-use fl_waiting::Rules;
+use fl_waiting::{MOST_PARKED, Rules};
 use std::alloc::Global;
 use std::marker::Model;
 
@@ -54,16 +55,19 @@ impl Core {
     }
 
     /// Answers an order, makes its change, and answers parked requests until each waits. It leaves the replies in
-    /// `tolds`, in the place of those before.
+    /// `tolds`, in the place of those before; its room stays.
     pub fn step(&mut self, order: &Order, tolds: &mut Tolds)
-        ensures replies { tolds.new ≡ replies self.old order.now }
-        ensures few { length tolds.new ≤ self.old.rules.parked + 1 }
+        requires { HasRoom self.old.rules tolds.old }
+        ensures replies { tolds.new.told ≡ replies self.old order.now }
+        ensures few { length tolds.new.told ≤ self.old.rules.parked + 1 }
+        ensures room { tolds.new.room ≡ tolds.old.room }
         ensures next { self.new ≡ next self.old order.now }
+        ensures rules { self.new.rules ≡ self.old.rules }
 
         // A state that the core stands for goes the same way by the order and its replies alone.
         ensures recorded { (s : State) → snapshot_of s ≡ self.old →
-            snapshot_of (recorded (replied order.now tolds.new) s) ≡ self.new }
-        ensures an_error_changes_nothing { ChangesNothing self.old order.now tolds.new self.new }
+            snapshot_of (recorded (replied order.now tolds.new.told) s) ≡ self.new }
+        ensures an_error_changes_nothing { ChangesNothing self.old order.now tolds.new.told self.new }
         ensures lawful { IsLawful self.old.marking → IsLawful self.new.marking }
         ensures waiting { AllWait self.new.rules self.new.marking self.new.view.parked }
         ensures apart { AreApart self.new.view.parked }
@@ -109,7 +113,7 @@ impl Core {
     /// The most replies that one order gives by its rules: its own, and one to each request that may be parked.
     pub fn most_tolds(&self) -> usize
         ensures is { result ≡ self.now.rules.parked + 1 }
-        ensures any_rules { result ≤ MOST_TOLDS }
+        ensures any_rules { result ≤ MOST_PARKED + 1 }
     {
         self.parts.rules.parked as usize + 1
     }
@@ -134,8 +138,10 @@ fn refusal(order: &Order) -> Option<Result<Answer, Errno>>
 
 // Tells an order its own reply, if it has one.
 fn tell(order: &Order, own: &Option<Result<Answer, Errno>>, tolds: &mut Tolds)
-    requires { tolds.old ≡ [] }
-    ensures { tolds.new ≡ own_replies order.now own.now }
+    requires none { tolds.old.told ≡ [] }
+    requires room { 0 < tolds.old.room }
+    ensures told { tolds.new.told ≡ own_replies order.now own.now }
+    ensures room { tolds.new.room ≡ tolds.old.room }
 {
     if let Some(result) = own {
         tolds.push(Told {

@@ -1,61 +1,60 @@
 //! The list of replies that one order gives, with room for all of them.
 
 ghost use Rattle.std.specs.Prelude.{◌≡◌, ◌<◌, [], ◌∷◌, ◌++◌, length, IfOk};
+ghost use Rattle.fl_core.specs.Tolds.{HasRoom};
 
 use fl_order::{NoMemory, Told};
-use fl_waiting::MOST_PARKED;
+use fl_waiting::Rules;
 use std::alloc::Global;
 use std::marker::Model;
 
-/// The most replies that one order gives by any rules: its own, and one to each parked request.
-pub const MOST_TOLDS: usize = MOST_PARKED + 1;
-
-/// The replies that one order gives, with room for all of them by any rules. Contracts see their list.
+/// The replies that one order gives, with room for as many as one gives under the rules that it was made by: an order's
+/// own, and one to each parked request. Contracts see their list and the room.
 #[derive(Drop)]
 pub struct Tolds {
     tolds: Vec<Told>,
 }
 
 impl Model for Tolds {
-    ghost use Rattle.std.specs.Prelude.{List, ◌≤◌, vec_capacity};
-    ghost use Rattle.fl_core.specs.declared.tolds.TheConstants.{MOST_TOLDS};
-    ghost use Rattle.fl_order.specs.declared.told.Told.{Told};
+    ghost use Rattle.std.specs.Prelude.{vec_capacity};
+    ghost use Rattle.fl_core.specs.Tolds.{Replies};
 
-    ghost Value = { List Told };
+    ghost Value = { Replies };
 
-    ghost view = { λ t. t.tolds.items };
-
-    ghost invariant = { λ t. MOST_TOLDS ≤ vec_capacity t.tolds };
+    ghost view = { λ t. record { told = t.tolds.items; room = vec_capacity t.tolds } };
 }
 
 impl Tolds {
-    /// No replies.
-    pub fn new(alloc: Global) -> Result<Tolds, NoMemory>
-        ensures { IfOk result (λ tolds. tolds ≡ []) }
+    /// No replies, with room for those of one order under these rules: 257 by the standard ones.
+    pub fn new(alloc: Global, rules: Rules) -> Result<Tolds, NoMemory>
+        ensures none { IfOk result (λ tolds. tolds.told ≡ []) }
+        ensures room { IfOk result (λ tolds. HasRoom rules tolds) }
     {
         Ok(Tolds {
-            tolds: Vec::with_capacity(alloc, MOST_TOLDS)?,
+            tolds: Vec::with_capacity(alloc, rules.parked as usize + 1)?,
         })
     }
 
     /// The replies, in their order.
     pub fn as_slice(&self) -> &[Told]
-        ensures { result.now ≡ self.now }
+        ensures { result.now ≡ self.now.told }
     {
         &self.tolds
     }
 
     /// Forgets all replies. The room stays.
     pub(crate) fn clear(&mut self)
-        ensures { self.new ≡ [] }
+        ensures told { self.new.told ≡ [] }
+        ensures room { self.new.room ≡ self.old.room }
     {
         self.tolds.clear();
     }
 
     /// One reply more, after the others.
     pub(crate) fn push(&mut self, told: Told)
-        requires { length self.old < MOST_TOLDS }
-        ensures { self.new ≡ self.old ++ (told ∷ []) }
+        requires { length self.old.told < self.old.room }
+        ensures told { self.new.told ≡ self.old.told ++ (told ∷ []) }
+        ensures room { self.new.room ≡ self.old.room }
     {
         self.tolds.push_reserved(told);
     }

@@ -4,6 +4,7 @@ ghost use Rattle.std.specs.Prelude.{◌≡◌, ◌≤◌, ◌+◌, ◌++◌, [],
 ghost use Rattle.fl_desk.specs.Replay.{state_after};
 ghost use Rattle.fl_core.specs.State.{opening, snapshot_of};
 ghost use Rattle.fl_core.specs.Step.{next, replies_in};
+ghost use Rattle.fl_core.specs.Tolds.{HasRoom};
 ghost use Rattle.fl_desk.specs.Legal.{IsLegal, step_lines};
 ghost use Rattle.fl_desk.specs.Kept.{IsKept, opening_book};
 
@@ -65,10 +66,13 @@ impl<K: Keeper> Desk<K> {
     /// A refusal changes nothing, and doesn't come where there is room for the lines of one order by its rules, which `ready`
     /// makes.
     pub fn take(&mut self, worker: u32, order: &Order, tolds: &mut Tolds) -> Result<(), NoMemory>
+        requires { HasRoom self.old.present.rules tolds.old }
         ensures replies { OnOk result
-            (tolds.new ≡ replies_in (state_after self.old.present.rules self.old.lines) order.now) }
-        ensures lines { OnOk result (self.new.lines ≡ self.old.lines ++ step_lines worker order.now tolds.new) }
+            (tolds.new.told ≡ replies_in (state_after self.old.present.rules self.old.lines) order.now) }
+        ensures room { tolds.new.room ≡ tolds.old.room }
+        ensures lines { OnOk result (self.new.lines ≡ self.old.lines ++ step_lines worker order.now tolds.new.told) }
         ensures next { OnOk result (self.new.present ≡ next self.old.present order.now) }
+        ensures rules { self.new.present.rules ≡ self.old.present.rules }
         ensures refused { OnErr result
             ((self.new.lines ≡ self.old.lines) × (self.new.present ≡ self.old.present) × (tolds.new ≡ tolds.old)) }
         ensures succeeds { self.old.present.rules.parked + 2 ≤ self.old.room → IsOk result }

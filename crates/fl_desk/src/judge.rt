@@ -29,7 +29,7 @@ pub fn check(alloc: Global, history: &History, rules: Rules) -> Result<Verdict, 
     ensures { IfOk result (λ verdict. IsVerdict rules history.now verdict) }
 {
     let mut core = Core::new(alloc, rules)?;
-    let mut tolds = Tolds::new(alloc)?;
+    let mut tolds = Tolds::new(alloc, rules)?;
     let mut at = 0;
     while at < history.len() {
         let Line::Asked { worker: _, order } = history.line(at) else {

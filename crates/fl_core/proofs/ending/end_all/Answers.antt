@@ -7,7 +7,7 @@ use Rattle.fl_core.proofs.ending.end_all.Goals as goal
 pub push-requires : goal.push-requires
 push-requires c =
     let w = is_taken (picks c.args.ending) _ _ _ (c.in-Some.ensures (picks c.args.ending) (λ a r k. search rules)) in
-    omega (arith, c.requires, c.loop-claim.invariant.room, w.shorter)
+    omega (arith, c.requires, c.loop-claim.invariant.few, c.loop-claim.invariant.room, w.shorter)
 
 pub loop-claim-smaller : goal.loop-claim-smaller
 loop-claim-smaller c =
@@ -21,17 +21,18 @@ loop-claim-preserved c =
     record {
       tolds =
           ending_goes_on (error_of c.args.ending) (picks c.args.ending) _ _ _ _ _ _ c.in-Some.claim.request _ c.loop-claim.invariant.tolds taken
-          (ap (λ e. ended_with e c.in-Some.claim.request) c.error_of.ensures) c.push.ensures;
+          (ap (λ e. ended_with e c.in-Some.claim.request) c.error_of.ensures) c.push.ensures.told;
       parked = sym w.failing ∙ c.loop-claim.invariant.parked;
       none = λ none. absurd (cc none);
-      room = omega (
+      few = omega (
         arith,
-        c.loop-claim.invariant.room,
+        c.loop-claim.invariant.few,
         w.shorter,
-        ap length c.push.ensures,
-        one_longer c.loop-claim.tolds
+        ap length c.push.ensures.told,
+        one_longer c.loop-claim.tolds.told
             (ended_with c.error_of.result c.in-Some.claim.request),
       );
+      room = c.push.ensures.room ∙ c.loop-claim.invariant.room;
     }
 
 pub returns-clause-tolds : goal.returns-clause-tolds
@@ -47,7 +48,7 @@ returns-clause-parked c =
 pub returns-clause-few : goal.returns-clause-few
 returns-clause-few c =
     let none = c.in_default.ensures (picks c.args.ending) (λ a r k. search rules) in
-    omega (arith, c.loop-claim.invariant.room, ap length none.1)
+    omega (arith, c.loop-claim.invariant.few, ap length none.1)
 
 pub returns-clause-any : goal.returns-clause-any
 returns-clause-any c never =

@@ -6,10 +6,11 @@ use Rattle.fl_core.proofs.ending.end_all.Given as goal
 -- what was told and is left to tell is the whole
 abbrev pub invariant-loop-claim : goal.invariant-loop-claim
 invariant-loop-claim l = record {
-  tolds : l.tolds ++ ended_all (error_of l.ending) (picks l.ending) l.parked ≡ l.initial.tolds ++ ended_all (error_of l.ending) (picks l.ending)
-      l.initial.parked;
+  tolds : l.tolds.told ++ ended_all (error_of l.ending) (picks l.ending) l.parked
+      ≡ l.initial.tolds.told ++ ended_all (error_of l.ending) (picks l.ending) l.initial.parked;
   parked : filter (λ r. not (picks l.ending r)) l.parked ≡ filter (λ r. not (picks l.ending r)) l.initial.parked;
-  room : length l.tolds + length l.parked ≤ length l.initial.tolds + length l.initial.parked;
+  few : length l.tolds.told + length l.parked ≤ length l.initial.tolds.told + length l.initial.parked;
+  room : l.tolds.room ≡ l.initial.tolds.room;
   none : l.ended ≡ false → l.parked ≡ l.initial.parked;
 }
 

@@ -17,7 +17,9 @@ grant-requires c =
     not_excluded c.args.rules m oldest.older c.in-Some.claim.request oldest.free
 
 pub push-requires : goal.push-requires
-push-requires c = omega (arith, c.requires.room, c.loop-claim.invariant.room, one_shorter c.args.rules (is_oldest c.args.rules c.loop-claim.locks.marking _ _ _ c.in-Some.ensures))
+push-requires c =
+    let shorter = one_shorter c.args.rules (is_oldest c.args.rules c.loop-claim.locks.marking _ _ _ c.in-Some.ensures) in
+    omega (arith, c.requires.room, c.loop-claim.invariant.few, c.loop-claim.invariant.room, shorter)
 
 pub loop-claim-smaller : goal.loop-claim-smaller
 loop-claim-smaller c = omega (arith, one_shorter c.args.rules (is_oldest c.args.rules c.loop-claim.locks.marking _ _ _ c.in-Some.ensures))
@@ -34,12 +36,19 @@ loop-claim-preserved c =
       so_far = settling_goes_on rules _ _ _ _ m _ _ _ c.in-Some.claim.request _ c.loop-claim.invariant.so_far taken
           (c.grant.ensures.marking ∙ ap (λ n. marking_granted n m c.in-Some.claim.request) c.loop-claim.invariant.limit)
           (c.grant.ensures.told ∙ ap (λ n. granted_told n m c.in-Some.claim.request) c.loop-claim.invariant.limit)
-          c.push.ensures;
+          c.push.ensures.told;
       others = subst (OthersWait c.args.touched rules c.grant.new.locks.marking) (sym oldest.left)
           (others_granted c.args.touched rules m _ oldest.older c.in-Some.claim.request oldest.younger elsewhere oldest.free others);
       apart = λ apart. subst AreApart (sym oldest.left)
           (apart_without oldest.older c.in-Some.claim.request oldest.younger (subst AreApart oldest.stands (c.loop-claim.invariant.apart apart))).1;
-      room = omega (arith, c.loop-claim.invariant.room, one_shorter rules oldest, ap length c.push.ensures, one_longer c.loop-claim.tolds c.grant.result);
+      few = omega (
+        arith,
+        c.loop-claim.invariant.few,
+        one_shorter rules oldest,
+        ap length c.push.ensures.told,
+        one_longer c.loop-claim.tolds.told c.grant.result,
+      );
+      room = c.push.ensures.room ∙ c.loop-claim.invariant.room;
       lawful = λ lawful. c.grant.ensures.lawful (c.loop-claim.invariant.lawful lawful);
       limit = c.grant.ensures.limit ∙ c.loop-claim.invariant.limit;
     }
@@ -57,7 +66,7 @@ returns-then-not-may_concern-clause-tolds c =
     let m = c.args.locks.now.marking in
     let parked = c.args.parked.now in
     let all = none_concerned c.args.touched c.args.rules m parked (c.if-not-may_concern.ensures refl) c.requires.others in
-    sym (append-nil c.args.tolds.now) ∙ ap (λ (s : Settled). c.args.tolds.now ++ s.tolds) (sym (settled_none c.args.rules m parked all))
+    sym (append-nil c.args.tolds.now.told) ∙ ap (λ (s : Settled). c.args.tolds.now.told ++ s.tolds) (sym (settled_none c.args.rules m parked all))
 
 pub returns-then-not-may_concern-clause-present : goal.returns-then-not-may_concern-clause-present
 returns-then-not-may_concern-clause-present c =

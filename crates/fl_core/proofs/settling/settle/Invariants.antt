@@ -9,10 +9,11 @@ use Rattle.fl_core.proofs.settling.settle.Given as goal
 -- what was told and is left to tell is the whole
 abbrev pub invariant-loop-claim : goal.invariant-loop-claim
 invariant-loop-claim l = record {
-  so_far : IsSettling l.rules (present l.initial.locks.marking l.initial.parked) (present l.locks.marking l.parked) l.initial.tolds l.tolds;
+  so_far : IsSettling l.rules (present l.initial.locks.marking l.initial.parked) (present l.locks.marking l.parked) l.initial.tolds.told l.tolds.told;
   others : OthersWait l.touched l.rules l.locks.marking l.parked;
   apart : AreApart l.initial.parked → AreApart l.parked;
-  room : length l.tolds + length l.parked ≤ length l.initial.tolds + length l.initial.parked;
+  few : length l.tolds.told + length l.parked ≤ length l.initial.tolds.told + length l.initial.parked;
+  room : l.tolds.room ≡ l.initial.tolds.room;
   lawful : IsLawful l.initial.locks.marking → IsLawful l.locks.marking;
   limit : l.locks.limit ≡ l.rules.runs;
 }

@@ -24,7 +24,7 @@ returns-then-has-clause-replies c =
     let taken : is_parked order.unique p.view.parked ≡ true = ap (λ (t : Snapshot). is_parked order.unique t.view.parked) (sym c.self.view_is)
     ∙ ap (λ (i : Inside). is_parked order.unique i.parts.view.parked) (sym c.self-inside.view_is) ∙ sym c.has.ensures.found ∙ c.if-has.true in
     let waiting : AllWait p.rules p.marking p.view.parked = subst (λ (t : Snapshot). AllWait t.rules t.marking t.view.parked) c.self.view_is c.self.invariant.0 in
-    c.tell.ensures ∙ ap (own_replies order) c.refusal.ensures ∙ sym (steps.refused_replies order p taken waiting)
+    c.tell.ensures.told ∙ ap (own_replies order) c.refusal.ensures ∙ sym (steps.refused_replies order p taken waiting)
 
 pub returns-then-has-clause-next : goal.returns-then-has-clause-next
 returns-then-has-clause-next c =
@@ -39,7 +39,7 @@ pub returns-then-has-clause-an_error_changes_nothing : goal.returns-then-has-cla
 returns-then-has-clause-an_error_changes_nothing c =
     let order = c.args.order.now in
     let p : Snapshot = c.args.self.now in
-    subst (λ xs. ChangesNothing p order xs p) (sym c.tell.ensures) (alone_quiet order p c.refusal.result)
+    subst (λ xs. ChangesNothing p order xs p) (sym c.tell.ensures.told) (alone_quiet order p c.refusal.result)
 
 -- ---- it isn't
 
@@ -56,7 +56,7 @@ end-touched-requires c =
     let own = c.take-own.result in
     let s_is : c.take-own.new.self ≡ made (by_reply order own) p = c.take-own.ensures.changed ∙ ap (made (by_reply order own)) c.self.view_is in
     let few : length p.view.parked ≤ p.rules.parked = subst (λ (t : Snapshot). length t.view.parked ≤ t.rules.parked) c.self.view_is c.self.invariant.2 in
-    omega (arith, in_room order own p c.take-own.new.self c.tell-2.new.tolds s_is c.tell-2.ensures few, p.rules.some_parked.1)
+    omega (arith, in_room order own p c.take-own.new.self c.tell-2.new.tolds.told s_is c.tell-2.ensures.told few, c.requires, c.clear.ensures.room, c.tell-2.ensures.room)
 
 pub settle-requires-clause-room : goal.settle-requires-clause-room
 settle-requires-clause-room c =
@@ -65,7 +65,15 @@ settle-requires-clause-room c =
     let own = c.take-own.result in
     let s_is : c.take-own.new.self ≡ made (by_reply order own) p = c.take-own.ensures.changed ∙ ap (made (by_reply order own)) c.self.view_is in
     let few : length p.view.parked ≤ p.rules.parked = subst (λ (t : Snapshot). length t.view.parked ≤ t.rules.parked) c.self.view_is c.self.invariant.2 in
-    omega (arith, in_room order own p c.take-own.new.self c.tell-2.new.tolds s_is c.tell-2.ensures few, p.rules.some_parked.1, c.end-touched.ensures.few)
+    omega (
+      arith,
+      in_room order own p c.take-own.new.self c.tell-2.new.tolds.told s_is c.tell-2.ensures.told few,
+      c.requires,
+      c.clear.ensures.room,
+      c.tell-2.ensures.room,
+      c.end-touched.ensures.few,
+      c.end-touched.ensures.room,
+    )
 
 pub settle-requires-clause-others : goal.settle-requires-clause-others
 settle-requires-clause-others c =
@@ -104,10 +112,10 @@ few_after c =
       ap (λ (t : Snapshot). length t.view.parked) k.s_is,
       c.end-touched.ensures.few,
       ap length c.end-touched.ensures.tolds,
-      length-append c.tell-2.new.tolds ended,
+      length-append c.tell-2.new.tolds.told ended,
       c.settle.ensures.few,
       ap length c.settle.ensures.tolds,
-      length-append c.end-touched.new.tolds later,
+      length-append c.end-touched.new.tolds.told later,
     )
 
 pub returns-clause-few : goal.returns-clause-few
@@ -117,13 +125,13 @@ returns-clause-few c =
     let k = known c in
     omega (
       arith,
-      in_room order own c.args.self.now c.take-own.new.self c.tell-2.new.tolds k.s_is c.tell-2.ensures (few_before c),
+      in_room order own c.args.self.now c.take-own.new.self c.tell-2.new.tolds.told k.s_is c.tell-2.ensures.told (few_before c),
       c.end-touched.ensures.few,
       c.settle.ensures.few,
     )
 
 -- what is told by then
-told : (c : goal.After-settle) → c.settle.new.tolds
+told : (c : goal.After-settle) → c.settle.new.tolds.told
     ≡ (own_replies c.args.order.now c.take-own.result ++ ended_by c.take-own.new.self.view.parked c.args.order.now.op c.take-own.result)
     ++ (settling c.end-touched.new.self).tolds
 told c =
@@ -132,7 +140,7 @@ told c =
     let s : Snapshot = c.take-own.new.self in
     c.settle.ensures.tolds
     ∙ ap (λ xs. xs ++ (settling c.end-touched.new.self).tolds)
-    (c.end-touched.ensures.tolds ∙ ap (λ xs. xs ++ ended_by s.view.parked order.op own) c.tell-2.ensures)
+    (c.end-touched.ensures.tolds ∙ ap (λ xs. xs ++ ended_by s.view.parked order.op own) c.tell-2.ensures.told)
 
 pub returns-clause-replies : goal.returns-clause-replies
 returns-clause-replies c = told c ∙ sym (steps.replies_are c.args.order.now c.take-own.result c.args.self.now c.take-own.new.self c.end-touched.new.self (known c))
