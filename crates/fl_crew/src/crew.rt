@@ -5,6 +5,7 @@ ghost use Rattle.fl_intake.specs.Often.{Weight};
 ghost use Rattle.std.specs.Io.KnownBytes.{Keeps};
 ghost use Rattle.fl_intake.specs.Ends.{weight_taken};
 ghost use Rattle.fl_workers.specs.Asked.{asked_by};
+ghost use Rattle.fl_core.specs.Tolds.{HasRoom};
 ghost use Rattle.fl_hearing.specs.Heard.{HasHeard};
 ghost use Rattle.fl_crew.specs.Working.{HaveDone, HaveWorked, IsFresh};
 ghost use Rattle.fl_workers.specs.Worked.{HasDone};
@@ -105,6 +106,7 @@ pub struct Posts<L: BoardName> {
     /// Room for what comes back.
     pub back: Back<L>,
     ghost fresh: { All (λ seat. seat.count ≡ 0) seats.items },
+    ghost replies: { All (HasRoom L.rules) tolds.items },
     ghost none: { (threads.items ≡ []) × (back.seats.items ≡ []) × (back.ends.items ≡ []) },
     ghost room: { (length seats.items ≤ vec_capacity threads) × (length seats.items ≤ vec_capacity back.seats)
         × (length seats.items ≤ vec_capacity back.ends) },
@@ -224,6 +226,7 @@ impl<
         'w: 's,
         requires fresh { All (λ seat. seat.count ≡ 0) seats.items }
         requires ends { All (IsFresh self.now.intake) ends.items }
+        requires replies { All (HasRoom L.rules) tolds.items }
         requires none { threads.old.items ≡ [] }
         requires room { length seats.items ≤ vec_capacity threads.old }
         ensures most { length threads.new.items ≤ length seats.items }
@@ -261,6 +264,7 @@ impl<
         'w: 's,
         requires fresh { seat.count ≡ 0 }
         requires end { end.of ≡ self.now.intake }
+        requires replies { HasRoom L.rules tolds }
         ensures whose { IfSome result (λ t. t.promise.worker ≡ seat.worker) }
         ensures end { IfSome result (λ t. t.promise.end.value ≡ end) }
     {
@@ -274,7 +278,7 @@ impl<
                 scope,
                 at,
                 move || -> Worked<Seat<L>>
-                    requires { (seat.count ≡ 0) × (end.of ≡ self.now.intake) }
+                    requires { (seat.count ≡ 0) × (end.of ≡ self.now.intake) × HasRoom L.rules tolds }
                     ensures { (result.seat.worker ≡ seat.worker) × (result.end.of ≡ end.of)
                         × HasDone end.taken result.end.taken (asked_by result.seat.worker result.seat.own) result.seat.count
                         result.refused }
@@ -287,6 +291,7 @@ impl<
     fn work(&self, seat: Seat<L>, end: TakeEnd, tolds: Tolds) -> Worked<Seat<L>>
         requires fresh { seat.count ≡ 0 }
         requires end { end.of ≡ self.now.intake }
+        requires replies { HasRoom L.rules tolds }
         ensures own { result.seat.worker ≡ seat.worker }
         ensures end { result.end.of ≡ self.now.intake }
         ensures did { HasDone end.taken result.end.taken (asked_by result.seat.worker result.seat.own) result.seat.count
@@ -350,6 +355,7 @@ pub fn handed_in<
     left: Vec<Job>,
 ) -> (Vec<Seat<L>>, bool)
     requires some { 0 < length seats.items }
+    requires replies { HasRoom L.rules tolds }
     ensures whose { map (λ seat. seat.worker) result.0.items ≡ map (λ seat. seat.worker) seats.items }
     ensures did { (orders : Weight → ℕ) (any : Bool) → HaveDone orders seats.items any
         → HaveDone (λ weight. orders weight + sum_by weight left.items) result.0.items (any || result.1) }

@@ -4,6 +4,7 @@ ghost use Rattle.std.specs.Prelude.{◌≡◌, ◌≢◌, ◌≤◌, ◌<◌, �
 ghost use Rattle.std.specs.Prelude.{length, map, sum_by, vec_capacity, IfOk, IfSome, IsSome, None};
 ghost use Rattle.std.specs.List.{range_with_len};
 ghost use Rattle.std.specs.Io.KnownBytes.{Keeps};
+ghost use Rattle.fl_core.specs.Tolds.{HasRoom};
 ghost use Rattle.fl_desk.specs.Legal.{IsLegal};
 ghost use Rattle.fl_session.specs.Inbox.{IsUnread};
 ghost use Rattle.fl_intake.specs.Ends.{weight_taken};
@@ -258,6 +259,7 @@ fn finished<'w, L: BoardName, N: WriterName, R: Wait, W: Write, G: Gate, K: Keep
     requires whose { map (λ seat. seat.worker) back.seats.items ≡ range_with_len 0 heard.put.takers }
     requires did { HaveDone (λ weight. weight_taken weight back.ends.items) back.seats.items back.refused }
     requires permit { (permit.parts ≡ N.parts) × (permit.amount ≡ 1) }
+    requires replies { HasRoom L.rules tolds }
     ensures writer { result.1.ghost_name ≡ N.writer }
     ensures legal { IfSome result.0.keeper (λ keeper. IsLegal L.rules (K.lines keeper)) }
     ensures served { (left left_now : Option (List ℕ))
@@ -366,8 +368,9 @@ impl<L: BoardName, R: Wait + Drop, K: Keeper + Drop> Rooms<L, R, K> {
             × (rooms.put.closed ≡ false) × (rooms.put.put ≡ [])) }
         ensures unread { IfOk result (λ rooms. IsUnread rooms.inbox) }
         ensures none { IfOk result (λ rooms. rooms.replies ≡ []) }
+        ensures replies { IfOk result (λ rooms. HasRoom L.rules rooms.tolds) }
     {
-        let stock = Stock::<L>::new(alloc, workers)?;
+        let stock = Stock::<L>::new(alloc, workers, rules)?;
         let (board, seats) = Board::<L, R, K>::over(alloc, rt, keeper, blank, log, workers, rules)?;
         let Stock {
             intake,
@@ -416,7 +419,7 @@ struct Stock<L: BoardName> {
 }
 
 impl<L: BoardName> Stock<L> {
-    fn new(alloc: Global, workers: u32) -> Result<Stock<L>, NoMemory>
+    fn new(alloc: Global, workers: u32, rules: Rules) -> Result<Stock<L>, NoMemory>
         requires workers { (0 < workers) × (workers ≤ 16) }
         ensures ends { IfOk result (λ stock. All (IsFresh stock.intake) stock.ends.items) }
         ensures put { IfOk result (λ stock. (stock.put.of ≡ stock.intake) × (stock.put.takers ≡ workers)
@@ -426,27 +429,30 @@ impl<L: BoardName> Stock<L> {
             × (stock.back.seats.items ≡ []) × (stock.back.ends.items ≡ [])) }
         ensures room { IfOk result (λ stock. (workers ≤ vec_capacity stock.threads)
             × (workers ≤ vec_capacity stock.back.seats) × (workers ≤ vec_capacity stock.back.ends)) }
+        ensures replies { IfOk result (λ stock. HasRoom rules stock.tolds × All (HasRoom rules) stock.each.items) }
     {
         let (intake, put, ends) = Intake::new(alloc, workers)?;
         Ok(Stock {
             intake,
             put,
             ends,
-            tolds: Tolds::new(alloc)?,
+            tolds: Tolds::new(alloc, rules)?,
             inbox: Inbox::new(alloc)?,
             replies: ReplyBuffer::with_bytes(alloc, BATCH_BYTES)?,
-            each: rooms_for_replies(alloc, workers)?,
+            each: rooms_for_replies(alloc, workers, rules)?,
             threads: Vec::with_capacity(alloc, workers as usize)?,
             back: Back::with_room(alloc, workers)?,
         })
     }
 }
 
-// Room for the replies of an order, for each worker.
-fn rooms_for_replies(alloc: Global, workers: u32) -> Result<Vec<Tolds>, NoMemory> {
+// Room for the replies of an order under these rules, for each worker.
+fn rooms_for_replies(alloc: Global, workers: u32, rules: Rules) -> Result<Vec<Tolds>, NoMemory>
+    ensures { IfOk result (λ tolds. All (HasRoom rules) tolds.items) }
+{
     let mut tolds = Vec::with_capacity(alloc, workers as usize)?;
     for _ in 0..workers {
-        tolds.push(Tolds::new(alloc)?)?;
+        tolds.push(Tolds::new(alloc, rules)?)?;
     }
     Ok(tolds)
 }

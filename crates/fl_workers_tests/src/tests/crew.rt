@@ -6,7 +6,7 @@ use super::BATCH_BYTES;
 use super::came::Came;
 use super::tally::{Seat, Tally};
 use super::watch::Watch;
-use fl_core::Tolds;
+use fl_core::{Rules, Tolds};
 use fl_intake::{Intake, Job, PutEnd, TakeEnd};
 use fl_session::{Owed, ReplyBuffer};
 use fl_workers::{Shared, Worked, WriterName, worker_loop};
@@ -142,7 +142,7 @@ impl<'a, 'w, N: WriterName + Send + Sync, R: Threads + Wait + Clock + Abort + Sy
     {
         let worker = self.started.fetch_add(1, Ordering::SeqCst);
         let seat = Seat::new(self.rt, self.alloc, worker);
-        let tolds = Tolds::new(self.alloc).expect(self.rt, "memory");
+        let tolds = Tolds::new(self.alloc, Rules::standard()).expect(self.rt, "memory");
         let Worked { seat, end, refused } = worker_loop(
             self.rt,
             &self.tally,

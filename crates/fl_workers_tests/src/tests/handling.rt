@@ -5,7 +5,7 @@ ghost use Rattle.std.specs.Prelude.{◌≡◌, Some};
 use super::BATCH_BYTES;
 use super::came::Came;
 use super::tally::{Seat, Tally};
-use fl_core::Tolds;
+use fl_core::{Rules, Tolds};
 use fl_intake::Job;
 use fl_session::{Owed, ReplyBuffer};
 use fl_workers::{OpenGate, Shared, WriterName, handle_all};
@@ -38,7 +38,7 @@ fn handled_at<'w, N: WriterName, R: Wait + Abort>(
     requires named { out.ghost_name ≡ N.name }
 {
     let replies = ReplyBuffer::with_bytes(alloc, BATCH_BYTES).expect(rt, "memory");
-    let tolds = Tolds::new(alloc).expect(rt, "memory");
+    let tolds = Tolds::new(alloc, Rules::standard()).expect(rt, "memory");
     let shared = Mutex::new(Shared::<'w, Vec<u8>, N>::new(replies, out));
     let mut seat = Seat::new(rt, alloc, 0);
     let refused = handle_all(rt, &tally, &OpenGate, &shared, &mut seat, tolds, orders);

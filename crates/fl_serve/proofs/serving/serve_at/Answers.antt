@@ -36,6 +36,7 @@ finished-requires g c =
       some = omega (arith, workers, seats, back, there, range, c.requires.workers.0);
       whose = search rules;
       did = worked.did;
+      replies = search rules;
       permit = (c.run-back.ensures.permit, c.run-back.ensures.begun some);
     }
 
