@@ -67,7 +67,7 @@ impl<L: BoardName> Model for Published<L> {
 
     ghost view = { λ p. p.asks };
 
-    ghost invariant = { λ p. (p.core ≡ present_after L.rules p.asks) × HasRoom L.rules p.tolds };
+    ghost invariant = { λ p. (p.core ≡ present_after L.rules p.asks) × HasRoom p.core.rules p.tolds };
 }
 
 impl<L: BoardName> Published<L> {

@@ -1,6 +1,7 @@
 //! Tests of a board by threads, by what is public of it.
 
 ghost use Rattle.std.specs.Prelude.{◌≡◌};
+ghost use Rattle.fl_core.specs.Tolds.{HasRoom};
 
 mod crew;
 mod rounds;
@@ -66,7 +67,10 @@ fn take<L: BoardName, R: Wait + Abort>(
     seat: &mut Seat<L>,
     order: &Order,
     tolds: &mut Tolds,
-) {
+)
+    requires { HasRoom L.rules tolds.old }
+    ensures { tolds.new.room ≡ tolds.old.room }
+{
     let handed = board.hand_in(rt, seat, order, tolds).is_ok();
     assert!(rt; handed);
 }

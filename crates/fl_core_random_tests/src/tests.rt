@@ -1,5 +1,7 @@
 //! Random orders through a core. A plain program says which replies they get.
 
+ghost use Rattle.fl_core.specs.Tolds.{HasRoom};
+
 mod plain;
 mod plain_circles;
 mod plain_locks;
@@ -42,13 +44,14 @@ fn name(rt: &impl Abort, bytes: &[u8]) -> Name {
 struct Server {
     core: Core,
     tolds: Tolds,
+    ghost room: { HasRoom core.rules tolds },
 }
 
 impl Server {
     fn new(rt: &impl Abort, alloc: Global, rules: Rules) -> Server {
         Server {
             core: Core::new(alloc, rules).expect(rt, "no memory"),
-            tolds: Tolds::new(alloc).expect(rt, "no memory"),
+            tolds: Tolds::new(alloc, rules).expect(rt, "no memory"),
         }
     }
 

@@ -1,5 +1,7 @@
 //! Orders through a core. A table of orders and their replies is a trace, as `docs/TRACE.md` says.
 
+ghost use Rattle.fl_core.specs.Tolds.{HasRoom};
+
 mod allowed;
 mod answers;
 mod circle_lengths;
@@ -82,26 +84,19 @@ fn follow(rt: &impl Abort, alloc: Global, history: &History) {
 struct Server {
     core: Core,
     tolds: Tolds,
+    ghost room: { HasRoom core.rules tolds },
 }
 
 impl Server {
     fn new(rt: &impl Abort, alloc: Global) -> Server {
-        Server::of(
-            rt,
-            alloc,
-            Core::new(alloc, Rules::standard()).expect(rt, "no memory"),
-        )
+        Server::under(rt, alloc, Rules::standard())
     }
 
     // Requests wait by these rules.
     fn under(rt: &impl Abort, alloc: Global, rules: Rules) -> Server {
-        Server::of(rt, alloc, Core::new(alloc, rules).expect(rt, "no memory"))
-    }
-
-    fn of(rt: &impl Abort, alloc: Global, core: Core) -> Server {
         Server {
-            core,
-            tolds: Tolds::new(alloc).expect(rt, "no memory"),
+            core: Core::new(alloc, rules).expect(rt, "no memory"),
+            tolds: Tolds::new(alloc, rules).expect(rt, "no memory"),
         }
     }
 

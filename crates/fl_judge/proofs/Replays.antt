@@ -48,7 +48,7 @@ same_tail : {A : Type 0} (x y : A) (xs ys : List A) → x ∷ xs ≡ y ∷ ys �
 same_tail x y xs ys e = cc e
 
 -- no line is heard
-pub opens : (r : Replay) → LeadsTo [] r.core → r.tolds ≡ [] → r.quiet ≡ true → LeadsUpTo [] r
+pub opens : (r : Replay) → LeadsTo [] r.core → r.tolds.told ≡ [] → r.quiet ≡ true → LeadsUpTo [] r
 opens r leads none quiet =
     let e : due_lines r ≡ [] = ap (λ t. told_lines (drop r.told t)) none ∙ ap told_lines (drop-nil r.told) in
     record {
@@ -58,12 +58,12 @@ opens r leads none quiet =
     }
 
 -- the reply that is due
-pub told_on : (before after : Replay) (due : Told) → slice_get before.tolds before.told ≡ Some due → after.core ≡ before.core → after.tolds ≡ before.tolds
+pub told_on : (before after : Replay) (due : Told) → slice_get before.tolds.told before.told ≡ Some due → after.core ≡ before.core → after.tolds.told ≡ before.tolds.told
     → after.told ≡ before.told + 1 → after.quiet ≡ before.quiet → (lines : List Line) → LeadsUpTo lines before → LeadsUpTo (lines ++ line.Told due ∷ []) after
 told_on before after due is core tolds told quiet lines up =
     let l = line.Told due in
     let e : due_lines before ≡ l ∷ due_lines after =
-    ap told_lines (left_from before.tolds before.told due is ∙ (λ i. due ∷ drop (sym (told ∙ add-one before.told) i) (sym tolds i))) in
+    ap told_lines (left_from before.tolds.told before.told due is ∙ (λ i. due ∷ drop (sym (told ∙ add-one before.told) i) (sym tolds i))) in
     record {
       leads = subst (λ p. LeadsTo ((lines ++ l ∷ []) ++ due_lines after) p) (sym core)
           (subst (λ ls. LeadsTo ls before.core) (ap (λ d. lines ++ d) e ∙ sym (behind lines (due_lines after) l)) up.leads);
@@ -77,17 +77,17 @@ told_on before after due is core tolds told quiet lines up =
     }
 
 -- another line stands where a reply is due
-pub told_wrong : (before : Replay) (due : Told) (l : Line) → slice_get before.tolds before.told ≡ Some due → l ≢ line.Told due
+pub told_wrong : (before : Replay) (due : Told) (l : Line) → slice_get before.tolds.told before.told ≡ Some due → l ≢ line.Told due
     → (lines : List Line) → LeadsUpTo lines before → IsBeginning before.core.rules (lines ++ l ∷ []) → ⊥
 told_wrong before due l is other lines up b =
     let w = up.due (l ∷ b.rest) (subst (IsLegal before.core.rules) (behind lines b.rest l) b.legal) in
-    other (same_head l (line.Told due) b.rest (told_lines (drop (suc before.told) before.tolds) ++ w.0)
-    (w.1 ∙ ap (λ t. told_lines t ++ w.0) (left_from before.tolds before.told due is)))
+    other (same_head l (line.Told due) b.rest (told_lines (drop (suc before.told) before.tolds.told) ++ w.0)
+    (w.1 ∙ ap (λ t. told_lines t ++ w.0) (left_from before.tolds.told before.told due is)))
 
 -- where no reply is due, the lines are legal
-pub all_told : (r : Replay) (lines : List Line) → slice_get r.tolds r.told ≡ None → LeadsUpTo lines r → LeadsTo lines r.core
+pub all_told : (r : Replay) (lines : List Line) → slice_get r.tolds.told r.told ≡ None → LeadsUpTo lines r → LeadsTo lines r.core
 all_told r lines none up =
-    subst (λ l. LeadsTo l r.core) (ap (λ t. lines ++ told_lines t) (none_left r.tolds r.told none) ∙ append-nil lines) up.leads
+    subst (λ l. LeadsTo l r.core) (ap (λ t. lines ++ told_lines t) (none_left r.tolds.told r.told none) ∙ append-nil lines) up.leads
 
 abbrev GoesByOrders : Type 0
 GoesByOrders = (before rest : List Line) (p : Snapshot) → LeadsTo before p → IsLegal p.rules (before ++ rest) → GoesOn p rest
@@ -97,7 +97,7 @@ LeadsOn = (lines : List Line) (p : Snapshot) (worker : ℕ) (order : Order) → 
     LeadsTo (lines ++ step_lines worker order (replies p order)) (next p order)
 
 -- a reply stands where an order is due
-pub order_wrong : GoesByOrders → (before : Replay) (told : Told) → slice_get before.tolds before.told ≡ None
+pub order_wrong : GoesByOrders → (before : Replay) (told : Told) → slice_get before.tolds.told before.told ≡ None
     → (lines : List Line) → LeadsUpTo lines before → IsBeginning before.core.rules (lines ++ line.Told told ∷ []) → ⊥
 order_wrong goes_on before told none lines up b =
     no_order (goes_on lines (line.Told told ∷ b.rest) before.core (all_told before lines none up)
@@ -117,8 +117,8 @@ replies_next p worker order rest (goes w o more e) =
     (more, same_tail (line.Asked worker order) (line.Asked w o) rest (told_lines (replies p o) ++ more) e ∙ ap (λ x. told_lines (replies p x) ++ more) same)
 
 -- an order
-pub order_on : LeadsOn → GoesByOrders → (before after : Replay) (worker : ℕ) (order : Order) → slice_get before.tolds before.told ≡ None
-    → after.core ≡ next before.core order → after.tolds ≡ replies before.core order → after.told ≡ 0
+pub order_on : LeadsOn → GoesByOrders → (before after : Replay) (worker : ℕ) (order : Order) → slice_get before.tolds.told before.told ≡ None
+    → after.core ≡ next before.core order → after.tolds.told ≡ replies before.core order → after.told ≡ 0
     → after.quiet ≡ (before.quiet && not (asks_while_waiting (asked_by order.op) before.core.view.parked))
     → (lines : List Line) → LeadsUpTo lines before → LeadsUpTo (lines ++ line.Asked worker order ∷ []) after
 order_on leads_on goes_on before after worker order none core tolds told quiet lines up =

@@ -3,6 +3,7 @@ use Rattle.std.proofs.Common.{◌≡◌, ◌↔◌, ℕ, suc, ◌+◌, ◌-◌, 
 use Rattle.std.proofs.Common.{append_assoc, refl, ap, sym, ◌∙◌, subst, arith}
 use Rattle.std.proofs.lemmas.List.{append-nil, length-append, take-append-drop, take-append-le, take_all}
 use Rattle.std.specs.Option.{is_some}
+use Rattle.fl_core.specs.Tolds.{HasRoom}
 use Rattle.fl_desk.specs.Legal.{IsLegal}
 use Rattle.fl_desk.specs.Verdicts.{IsBeginning, DiffersAt}
 use Rattle.fl_history.specs.declared.history.Line.{Line}
@@ -55,12 +56,12 @@ said rules lines n d = record {
 }
 
 -- replies are missing
-missing : (lines : List Line) (r : Replay) (due : Told) (n : ℕ) → n ≡ length lines + 1 → slice_get r.tolds r.told ≡ Some due → LeadsUpTo lines r
+missing : (lines : List Line) (r : Replay) (due : Told) (n : ℕ) → n ≡ length lines + 1 → slice_get r.tolds.told r.told ≡ Some due → LeadsUpTo lines r
     → DiffersAt r.core.rules lines n
 missing lines r due n at is up = record {
   illegal = λ legal.
       let w = up.due [] (subst (IsLegal r.core.rules) (sym (append-nil lines)) legal) in
-      let e : [] ≡ line.Told due ∷ (told_lines (drop (suc r.told) r.tolds) ++ w.0) = w.1 ∙ ap (λ t. told_lines t ++ w.0) (left_from r.tolds r.told due is) in
+      let e : [] ≡ line.Told due ∷ (told_lines (drop (suc r.told) r.tolds.told) ++ w.0) = w.1 ∙ ap (λ t. told_lines t ++ w.0) (left_from r.tolds.told r.told due is) in
       cc e;
   from = omega (arith, at);
   upto = omega (arith, at);
@@ -98,12 +99,12 @@ first_wrong rules lines l n at before wrong =
 -- ---- in the words of the judge
 
 pub missing_some : (lines : List Line) (now : Hearing) (r : Replay) (o : Option Told) (n : ℕ) → seen r lines ≡ now → n ≡ length lines + 1
-    → o ≡ slice_get r.tolds r.told → is_some o ≡ true → LeadsUpTo lines r → DiffersAt now.rules now.lines n
+    → o ≡ slice_get r.tolds.told r.told → is_some o ≡ true → LeadsUpTo lines r → DiffersAt now.rules now.lines n
 missing_some lines now r None n same at is some up = absurd (cc some)
 missing_some lines now r (Some due) n same at is some up =
     subst (λ (h : Hearing). DiffersAt h.rules h.lines n) same (missing lines r due n at (sym is) up)
 
-pub legal_none : (lines : List Line) (now : Hearing) (r : Replay) (o : Option Told) → seen r lines ≡ now → o ≡ slice_get r.tolds r.told
+pub legal_none : (lines : List Line) (now : Hearing) (r : Replay) (o : Option Told) → seen r lines ≡ now → o ≡ slice_get r.tolds.told r.told
     → is_some o ≡ false → LeadsUpTo lines r → IsLegal now.rules now.lines
 legal_none lines now r None same is none up = subst (λ (h : Hearing). IsLegal h.rules h.lines) same (all_told r lines (sym is) up).legal
 legal_none lines now r (Some due) same is none up = absurd (cc none)
@@ -144,8 +145,8 @@ counted heard lines l e = omega (arith, e, length-append lines (l ∷ []))
 
 pub heard_wrong : (lines new : List Line) (l : Line) (heard : ℕ) (before after : Replay) (o : Option ℕ) (b : Bool) → new ≡ lines ++ l ∷ []
     → IsHeard lines heard before o → length lines < 2 ^ 63 → is_some o ≡ false → b ≡ false → GoesOnAlike before l b after
-    → after.core.rules ≡ before.core.rules → IsHeard new (heard + 1) after (Some (heard + 1))
-heard_wrong lines new l heard before after o b is h few none wrong goes rules =
+    → after.core.rules ≡ before.core.rules → HasRoom after.core.rules after.tolds → IsHeard new (heard + 1) after (Some (heard + 1))
+heard_wrong lines new l heard before after o b is h few none wrong goes rules room =
     let up = up_to lines before o none h.stands in
     let w : (ls : List Line) → LeadsUpTo ls before → IsBeginning before.core.rules (ls ++ l ∷ []) → ⊥ = subst (λ b. GoesOnAlike before l b after) wrong goes in
     subst (λ ls. IsHeard ls (heard + 1) after (Some (heard + 1))) (sym is)
@@ -154,6 +155,7 @@ heard_wrong lines new l heard before after o b is h few none wrong goes rules =
       few = omega (arith, h.count, few);
       stands = subst (λ r. DiffersIn r (lines ++ l ∷ []) (heard + 1)) (sym rules)
           (first_wrong before.core.rules lines l (heard + 1) (ap (λ k. k + 1) h.count) (begins lines before up) (w lines up));
+      room = room;
     })
 
 pub heard_still : (lines new : List Line) (l : Line) (heard : ℕ) (r : Replay) (o : Option ℕ) → new ≡ lines ++ l ∷ []
@@ -161,13 +163,13 @@ pub heard_still : (lines new : List Line) (l : Line) (heard : ℕ) (r : Replay) 
 heard_still lines new l heard r None is h few some = absurd (cc some)
 heard_still lines new l heard r (Some n) is h few some =
     subst (λ ls. IsHeard ls (heard + 1) r (Some n)) (sym is)
-    (record { count = counted heard lines l h.count; few = omega (arith, h.count, few); stands = still r.core.rules lines l n h.stands })
+    (record { count = counted heard lines l h.count; few = omega (arith, h.count, few); stands = still r.core.rules lines l n h.stands; room = h.room })
 
 pub heard_alike : (lines new : List Line) (l : Line) (heard : ℕ) (before after : Replay) (o : Option ℕ) (b : Bool) → new ≡ lines ++ l ∷ []
     → IsHeard lines heard before o → length lines < 2 ^ 63 → is_some o ≡ false → b ≡ true → GoesOnAlike before l b after
-    → IsHeard new (heard + 1) after o
-heard_alike lines new l heard before after (Some n) b is h few none alike goes = absurd (cc none)
-heard_alike lines new l heard before after None b is h few none alike goes =
+    → HasRoom after.core.rules after.tolds → IsHeard new (heard + 1) after o
+heard_alike lines new l heard before after (Some n) b is h few none alike goes room = absurd (cc none)
+heard_alike lines new l heard before after None b is h few none alike goes room =
     let on : (ls : List Line) → LeadsUpTo ls before → LeadsUpTo (ls ++ l ∷ []) after = subst (λ b. GoesOnAlike before l b after) alike goes in
     subst (λ ls. IsHeard ls (heard + 1) after None) (sym is)
-    (record { count = counted heard lines l h.count; few = omega (arith, h.count, few); stands = on lines h.stands })
+    (record { count = counted heard lines l h.count; few = omega (arith, h.count, few); stands = on lines h.stands; room = room })

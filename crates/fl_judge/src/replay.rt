@@ -3,6 +3,7 @@
 ghost use Rattle.std.specs.Prelude.{◌≡◌, ◌↔◌, ◌+◌, ◌^◌, ◌<◌, ◌&&◌, not, true, Some, IsSome, IfOk, []};
 ghost use Rattle.std.specs.List.{slice_get};
 ghost use Rattle.fl_history.specs.declared.history.Line.TheVariants as line;
+ghost use Rattle.fl_core.specs.Tolds.{HasRoom};
 ghost use Rattle.fl_judge.specs.Inside.Heard.{LeadsUpTo, GoesOnAlike};
 
 use fl_core::{Core, Rules, Tolds};
@@ -27,11 +28,12 @@ impl Replay {
     pub(crate) fn new(alloc: Global, rules: Rules) -> Result<Replay, NoMemory>
         ensures leads { IfOk result (λ replay. LeadsUpTo [] replay) }
         ensures rules { IfOk result (λ replay. replay.core.rules ≡ rules) }
+        ensures room { IfOk result (λ replay. HasRoom replay.core.rules replay.tolds) }
     {
         an_order_leads_on();
         Ok(Replay {
             core: Core::new(alloc, rules)?,
-            tolds: Tolds::new(alloc)?,
+            tolds: Tolds::new(alloc, rules)?,
             told: 0,
             quiet: true,
         })
@@ -39,8 +41,10 @@ impl Replay {
 
     // One line more, if a legal history may go on by it. What it was told stays, where none does.
     pub(crate) fn take(&mut self, line: &Line) -> bool
+        requires { HasRoom self.old.core.rules self.old.tolds }
         ensures goes { GoesOnAlike self.old line.now result self.new }
         ensures rules { self.new.core.rules ≡ self.old.core.rules }
+        ensures room { HasRoom self.new.core.rules self.new.tolds }
     {
         an_order_leads_on();
         a_legal_history_goes_on_by_orders();
@@ -63,7 +67,7 @@ impl Replay {
 
     // The reply that has to come next, if one has.
     pub(crate) fn due(&self) -> Option<Told>
-        ensures is { result ≡ slice_get self.now.tolds self.now.told }
+        ensures is { result ≡ slice_get self.now.tolds.told self.now.told }
         ensures few { IsSome result → self.now.told + 1 < 2 ^ 64 }
     {
         let replies = self.tolds.as_slice();

@@ -29,7 +29,7 @@ pub fn quiet(alloc: Global, history: &History, rules: Rules) -> Result<bool, NoM
     an_order_leads_on();
     a_legal_history_goes_on_by_orders();
     let mut core = Core::new(alloc, rules)?;
-    let mut tolds = Tolds::new(alloc)?;
+    let mut tolds = Tolds::new(alloc, rules)?;
     for at in 0..history.len() {
         if let Line::Asked { worker: _, order } = history.line(at) {
             if asks_while_waiting(&core, &order) {

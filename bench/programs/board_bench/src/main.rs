@@ -72,7 +72,7 @@ fn ask() -> Order
 // How many lines the history of a desk has that took so many orders, and one that makes the file.
 fn at_a_desk(alloc: Global, orders: u64) -> anyhow::Result<usize> {
     let mut desk = Desk::new(alloc, Rules::standard())?;
-    let mut tolds = Tolds::new(alloc)?;
+    let mut tolds = Tolds::new(alloc, Rules::standard())?;
     desk.take(0, &create(), &mut tolds)?;
     for place in 0..orders {
         desk.take(0, &lock(0, place), &mut tolds)?;
@@ -83,7 +83,7 @@ fn at_a_desk(alloc: Global, orders: u64) -> anyhow::Result<usize> {
 // A core answers, so many times.
 fn at_a_core(alloc: Global, looks: u64) -> anyhow::Result<usize> {
     let mut core = Core::new(alloc, Rules::standard())?;
-    let mut tolds = Tolds::new(alloc)?;
+    let mut tolds = Tolds::new(alloc, Rules::standard())?;
     core.step(&create(), &mut tolds);
     let ask = ask();
     let mut answers = 0usize;

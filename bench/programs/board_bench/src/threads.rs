@@ -63,8 +63,10 @@ struct Crew<'a, L: BoardName, R: Wait> {
     rt: &'a R,
     alloc: Global,
     board: Board<L, &'a R>,
+    rules: Rules,
     plan: Plan,
     looking: AtomicU32,
+    ghost its: { rules ≡ L.rules },
 }
 
 // Looks, up to a look that shows nothing.
@@ -88,7 +90,7 @@ fn is_left_alone<L: BoardName, R: Wait>(crew: &Crew<'_, L, R>) -> bool {
 // Hands in the orders of the seat's worker, up to one that is refused, or until nobody looks any more.
 fn hand_in<L: BoardName, R: Wait>(crew: &Crew<'_, L, R>, seat: Seat<L>) -> Seat<L> {
     let mut seat = seat;
-    let Ok(mut tolds) = Tolds::new(crew.alloc) else {
+    let Ok(mut tolds) = Tolds::new(crew.alloc, crew.rules) else {
         return seat;
     };
     for place in 0..crew.plan.orders {
@@ -169,7 +171,7 @@ fn at_a_board<L: BoardName + Send + Sync, R: Threads + Wait + Sync>(
     let (board, mut seats) = Board::<L, &R>::new(alloc, rt, blank, log, workers, rules)
         .ok()
         .ok_or(anyhow!("a board"))?;
-    let mut tolds = Tolds::new(alloc)?;
+    let mut tolds = Tolds::new(alloc, rules)?;
     let seat = seats.get_mut(0).ok_or(anyhow!("a seat"))?;
     board
         .hand_in(rt, seat, &create(), &mut tolds)
@@ -179,6 +181,7 @@ fn at_a_board<L: BoardName + Send + Sync, R: Threads + Wait + Sync>(
         rt,
         alloc,
         board,
+        rules,
         plan,
         looking: AtomicU32::new(plan.lookers),
     };

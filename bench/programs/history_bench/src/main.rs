@@ -4,6 +4,9 @@
 //! order took, in microseconds.
 #![tactic(auto)]
 
+ghost use Rattle.std.specs.Prelude.{◌≡◌};
+ghost use Rattle.fl_core.specs.Tolds.{HasRoom};
+
 use anyhow::anyhow;
 use fl_book::{Desk, Forgetful, Keeper, Streamed, WhenWriterFails};
 use fl_core::{Rules, Tolds};
@@ -48,7 +51,11 @@ fn op(kind: &str, place: u64, name: Name) -> Op {
 }
 
 // A file with one open file, and a lock on its first byte.
-fn begin<K: Keeper>(desk: &mut Desk<K>, name: Name, tolds: &mut Tolds) -> anyhow::Result<()> {
+fn begin<K: Keeper>(desk: &mut Desk<K>, name: Name, tolds: &mut Tolds) -> anyhow::Result<()>
+    requires { HasRoom desk.old.present.rules tolds.old }
+    ensures rules { desk.new.present.rules ≡ desk.old.present.rules }
+    ensures room { tolds.new.room ≡ tolds.old.room }
+{
     let create = Op::Create {
         excl: false,
         mode: 420,
@@ -66,9 +73,12 @@ fn take_all<R: Clock, K: Keeper>(
     desk: &mut Desk<K>,
     kind: &str,
     orders: u64,
-) -> anyhow::Result<Duration> {
+    rules: Rules,
+) -> anyhow::Result<Duration>
+    requires { rules ≡ desk.old.present.rules }
+{
     let name = Name::new(b"file.txt").ok_or(anyhow!("a name"))?;
-    let mut tolds = Tolds::new(alloc)?;
+    let mut tolds = Tolds::new(alloc, rules)?;
     begin(desk, name, &mut tolds)?;
     let mut longest = Duration::ZERO;
     for place in 0..orders {
@@ -91,17 +101,17 @@ fn main(rt: HostRuntime) -> anyhow::Result<()> {
     let mut lines = 0;
     let longest = if place == "memory" {
         let mut desk = Desk::new(alloc, rules)?;
-        let longest = take_all(&rt, alloc, &mut desk, kind, orders)?;
+        let longest = take_all(&rt, alloc, &mut desk, kind, orders, rules)?;
         lines = desk.into_history().len();
         longest
     } else if place == "none" {
         let mut desk = Desk::over(alloc, Forgetful::new(), rules)?;
-        take_all(&rt, alloc, &mut desk, kind, orders)?
+        take_all(&rt, alloc, &mut desk, kind, orders, rules)?
     } else {
         let file = File::create(&rt, Path::new(place))?;
         let stream = Streamed::new(alloc, file, WhenWriterFails::GoOn)?;
         let mut desk = Desk::over(alloc, stream, rules)?;
-        take_all(&rt, alloc, &mut desk, kind, orders)?
+        take_all(&rt, alloc, &mut desk, kind, orders, rules)?
     };
     println!(rt; "{lines} {}", longest.as_micros())?;
     Ok(())

@@ -5,6 +5,9 @@
 //! `turns`, each owner in turn drops its first run, and then sets it again.
 #![tactic(auto)]
 
+ghost use Rattle.std.specs.Prelude.{◌≡◌};
+ghost use Rattle.fl_core.specs.Tolds.{HasRoom};
+
 use anyhow::anyhow;
 use fl_core::{Core, Rules, Tolds};
 use fl_order::{LockAsk, Name, Op, Order};
@@ -120,7 +123,11 @@ fn asked(held: &Held, what: What, place: u64) -> Op {
 }
 
 // Whether an order is answered, and without an error.
-fn is_done(core: &mut Core, order: &Order, tolds: &mut Tolds) -> bool {
+fn is_done(core: &mut Core, order: &Order, tolds: &mut Tolds) -> bool
+    requires { HasRoom core.old.rules tolds.old }
+    ensures rules { core.new.rules ≡ core.old.rules }
+    ensures room { tolds.new.room ≡ tolds.old.room }
+{
     core.step(order, tolds);
     match tolds.as_slice() {
         [told] => told.result.is_ok(),
@@ -155,7 +162,7 @@ fn main(rt: HostRuntime) -> anyhow::Result<()> {
         .with_limits(RUNS, PARKED)
         .ok_or(anyhow!("rules"))?;
     let mut core = Core::new(alloc, rules)?;
-    let mut tolds = Tolds::new(alloc)?;
+    let mut tolds = Tolds::new(alloc, rules)?;
     core.step(&create(), &mut tolds);
     let mut set = 0u64;
     for run in 0..total(&held) {

@@ -1,6 +1,7 @@
 //! A board by whose rules a reader waits behind a writer who waits.
 
 ghost use Rattle.std.specs.Prelude.{◌≡◌};
+ghost use Rattle.fl_core.specs.Tolds.{HasRoom};
 
 use super::{order, take, upto};
 use fl_board::{Board, BoardName, FreshLog, Seat};
@@ -55,7 +56,10 @@ fn hand_in<L: BoardName, R: Wait + Abort>(
     seats: &mut [Seat<L>],
     line: &Line,
     tolds: &mut Tolds,
-) {
+)
+    requires { HasRoom L.rules tolds.old }
+    ensures { tolds.new.room ≡ tolds.old.room }
+{
     if let Line::Asked { worker, order } = line {
         let seat = seats.get_mut(*worker as usize).expect(rt, "a seat");
         take(rt, board, seat, order, tolds);
@@ -76,7 +80,9 @@ fn views_of<L: BoardName, R: Wait + Abort>(
     seats: &mut [Seat<L>],
     trace: &History,
     tolds: &mut Tolds,
-) -> Views {
+) -> Views
+    requires { HasRoom L.rules tolds.old }
+{
     let mut waiting = Err(Errno::EBADF);
     for at in 0..trace.len() {
         if at == BOTH_WAIT {
@@ -107,7 +113,7 @@ fn followed<L: BoardName, R: Wait + Abort>(
     let (board, mut seats) = Board::<L, &R>::new(alloc, rt, blank, log, 2, rules)
         .ok()
         .expect(rt, "a board");
-    let mut tolds = Tolds::new(alloc).expect(rt, "memory");
+    let mut tolds = Tolds::new(alloc, rules).expect(rt, "memory");
     let views = views_of(rt, &board, &mut seats, trace, &mut tolds);
     (views, board.close(seats).ok().expect(rt, "all seats"))
 }

@@ -1,6 +1,7 @@
 //! What a look shows.
 
 ghost use Rattle.std.specs.Prelude.{◌≡◌};
+ghost use Rattle.fl_core.specs.Tolds.{HasRoom};
 
 use super::{create, order, take, upto};
 use fl_board::{Board, BoardName, FreshLog, Seat};
@@ -51,7 +52,9 @@ fn views_of<L: BoardName, R: Wait + Abort>(
     one: &mut Seat<L>,
     two: &mut Seat<L>,
     tolds: &mut Tolds,
-) -> Views {
+) -> Views
+    requires { HasRoom L.rules tolds.old }
+{
     let before = who_locks(rt, board, two);
     let unknown = attributes(rt, board, two);
     take(rt, board, one, &create(rt), tolds);
@@ -82,7 +85,7 @@ fn looked<L: BoardName, R: Wait + Abort>(
     let (board, mut seats) = Board::<L, &R>::new(alloc, rt, blank, log, 2, rules)
         .ok()
         .expect(rt, "a board");
-    let mut tolds = Tolds::new(alloc).expect(rt, "memory");
+    let mut tolds = Tolds::new(alloc, rules).expect(rt, "memory");
     let mut two = seats.pop().expect(rt, "a seat");
     let mut one = seats.pop().expect(rt, "a seat");
     let views = views_of(rt, &board, &mut one, &mut two, &mut tolds);
@@ -139,7 +142,9 @@ fn lock_more_and_more<L: BoardName, R: Wait + Abort>(
     board: &Board<L, &R>,
     seat: &mut Seat<L>,
     tolds: &mut Tolds,
-) {
+)
+    requires { HasRoom L.rules tolds.old }
+{
     take(rt, board, seat, &create(rt), tolds);
     for last in 0..20u64 {
         let lock = order(last.saturating_add(2), 2, Op::Setlk(upto(7, last)));
@@ -163,7 +168,7 @@ fn shown_each<L: BoardName, R: Wait + Abort>(
     let (board, mut seats) = Board::<L, &R>::new(alloc, rt, blank, log, 1, rules)
         .ok()
         .expect(rt, "a board");
-    let mut tolds = Tolds::new(alloc).expect(rt, "memory");
+    let mut tolds = Tolds::new(alloc, rules).expect(rt, "memory");
     let mut seat = seats.pop().expect(rt, "a seat");
     lock_more_and_more(rt, &board, &mut seat, &mut tolds);
     seats.push(seat).expect(rt, "memory");

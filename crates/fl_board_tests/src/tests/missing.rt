@@ -30,7 +30,7 @@ fn closed_late<L: BoardName, R: Wait + Abort>(
     let (board, mut seats) = Board::<L, &R>::new(alloc, rt, blank, log, 2, rules)
         .ok()
         .expect(rt, "a board");
-    let mut tolds = Tolds::new(alloc).expect(rt, "memory");
+    let mut tolds = Tolds::new(alloc, rules).expect(rt, "memory");
     let first = seats.get_mut(0).expect(rt, "a seat");
     take(rt, &board, first, &create(rt), &mut tolds);
     let second = seats.pop().expect(rt, "a second seat");
@@ -84,7 +84,7 @@ fn kept_late<L: BoardName, R: Wait + Abort>(
         rules,
     ).ok()
         .expect(rt, "a board");
-    let mut tolds = Tolds::new(alloc).expect(rt, "memory");
+    let mut tolds = Tolds::new(alloc, rules).expect(rt, "memory");
     let seat = seats.get_mut(0).expect(rt, "a seat");
     take(rt, &board, seat, &create(rt), &mut tolds);
     board.pause(rt);

@@ -1,6 +1,7 @@
 //! A board whose seats are in threads of their own, one or more in each.
 
 ghost use Rattle.std.specs.Prelude.{◌≡◌, ◌<◌, ◌≤◌};
+ghost use Rattle.fl_core.specs.Tolds.{HasRoom};
 
 use super::threads::{Orders, made};
 use super::{create, order, rounds, take, watched};
@@ -106,8 +107,10 @@ struct Crew<'a, L: BoardName, R: Wait> {
     rt: &'a R,
     alloc: Global,
     board: Board<L, &'a R>,
+    rules: Rules,
     counts: &'a Counts,
     plan: Plan,
+    ghost its: { rules ≡ L.rules },
 }
 
 // The seat hands in an order, which is counted.
@@ -116,7 +119,10 @@ fn hand_in<L: BoardName, R: Wait + Abort>(
     seat: &mut Seat<L>,
     order: &Order,
     tolds: &mut Tolds,
-) {
+)
+    requires { HasRoom L.rules tolds.old }
+    ensures { tolds.new.room ≡ tolds.old.room }
+{
     take(crew.rt, &crew.board, seat, order, tolds);
     crew.counts.hand_in(seat.worker());
 }
@@ -149,7 +155,10 @@ fn go<L: BoardName, R: Wait + Abort>(
     seats: &mut [Seat<L>],
     round: u64,
     tolds: &mut Tolds,
-) -> bool {
+) -> bool
+    requires { HasRoom L.rules tolds.old }
+    ensures { tolds.new.room ≡ tolds.old.room }
+{
     let Some(seat) = seats.first_mut() else {
         return false;
     };
@@ -166,7 +175,7 @@ fn go<L: BoardName, R: Wait + Abort>(
 // The seats go their rounds, one after another.
 fn work<L: BoardName, R: Wait + Abort>(crew: &Crew<'_, L, R>, seats: Vec<Seat<L>>) -> Vec<Seat<L>> {
     let mut seats = seats;
-    let mut tolds = Tolds::new(crew.alloc).expect(crew.rt, "memory");
+    let mut tolds = Tolds::new(crew.alloc, crew.rules).expect(crew.rt, "memory");
     for round in 0..100_000_000 {
         if !go(crew, &mut seats, round, &mut tolds) {
             return seats;
@@ -210,7 +219,7 @@ fn run<L: BoardName + Send + Sync, R: Threads + Wait + Sync + Abort>(
 
 // The first seat makes a file, and then meets the second.
 fn begin<L: BoardName, R: Wait + Abort>(crew: &Crew<'_, L, R>, seats: &mut [Seat<L>]) {
-    let mut tolds = Tolds::new(crew.alloc).expect(crew.rt, "memory");
+    let mut tolds = Tolds::new(crew.alloc, crew.rules).expect(crew.rt, "memory");
     if let Some(first) = seats.first_mut() {
         hand_in(crew, first, &create(crew.rt), &mut tolds);
     }
@@ -240,6 +249,7 @@ fn closed<L: BoardName + Send + Sync, R: Threads + Wait + Sync + Abort>(
         rt,
         alloc,
         board,
+        rules,
         counts,
         plan,
     };

@@ -1,10 +1,9 @@
 //! The desk, against a stored trace, and a history of many lines.
 
-use super::lines::{is_line, order, take};
+use super::lines::{Server, is_line, order};
 use super::same;
 use super::traces::{LOCKS, is_text, read};
-use fl_book::{Desk, History, Line, Rules, laws};
-use fl_core::Tolds;
+use fl_book::{History, Line, laws};
 use fl_order::{Answer, Attr, Errno, LockAsk, Name, Op, Told};
 use std::alloc::Global;
 use std::process::Abort;
@@ -22,14 +21,13 @@ fn stand_behind(rt: &impl Abort, trace: &History, at: usize, tolds: &[Told]) {
 
 // A new desk is asked what a trace asks, and tells what the trace tells. It gives the desk's history.
 fn asked_again(rt: &impl Abort, alloc: Global, trace: &History) -> History {
-    let mut desk = Desk::new(alloc, Rules::standard()).expect(rt, "memory");
-    let mut tolds = Tolds::new(alloc).expect(rt, "memory");
+    let mut server = Server::new(rt, alloc);
     for at in 0..trace.len() {
-        if take(rt, &mut desk, &trace.line(at), &mut tolds) {
-            stand_behind(rt, trace, at, tolds.as_slice());
+        if server.take(rt, &trace.line(at)) {
+            stand_behind(rt, trace, at, server.told());
         }
     }
-    desk.into_history()
+    server.into_history()
 }
 
 #[test]

@@ -1,10 +1,9 @@
 //! The judge beside another way to judge: random histories, and changes of them.
 
 use super::changes::{CHANGES, Effect, changed};
-use super::lines::take;
+use super::lines::Server;
 use super::random::{Seen, random_history};
-use fl_book::{Desk, History, Line, Rules, Verdict, check};
-use fl_core::Tolds;
+use fl_book::{History, Line, Rules, Verdict, check};
 use fl_order::Name;
 use fl_testing::Numbers;
 use std::alloc::Global;
@@ -12,12 +11,11 @@ use std::process::Abort;
 
 // The one legal history that has the orders of another, in their order.
 fn with_these_orders(rt: &impl Abort, alloc: Global, history: &History) -> History {
-    let mut desk = Desk::new(alloc, Rules::standard()).expect(rt, "memory");
-    let mut tolds = Tolds::new(alloc).expect(rt, "memory");
+    let mut server = Server::new(rt, alloc);
     for at in 0..history.len() {
-        take(rt, &mut desk, &history.line(at), &mut tolds);
+        server.take(rt, &history.line(at));
     }
-    desk.into_history()
+    server.into_history()
 }
 
 fn equal<T: PartialEq>(one: &T, other: &T) -> bool {

@@ -1,9 +1,11 @@
 //! Histories and their lines, and a desk that takes them.
 
+ghost use Rattle.fl_core.specs.Tolds.{HasRoom};
+
 use super::same;
-use fl_book::{Desk, History, Line};
+use fl_book::{Desk, History, Line, Rules};
 use fl_core::Tolds;
-use fl_order::{Op, Order};
+use fl_order::{Op, Order, Told};
 use std::alloc::Global;
 use std::process::Abort;
 
@@ -41,13 +43,43 @@ pub(super) fn is_line(rt: &impl Abort, history: &History, at: usize, line: &Line
     same(rt, &history.line(at), line);
 }
 
-// A desk takes the order of a line, if it is one.
-pub(super) fn take(rt: &impl Abort, desk: &mut Desk, line: &Line, tolds: &mut Tolds) -> bool {
-    let Line::Asked { worker, order } = line else {
-        return false;
-    };
-    desk.take(*worker, order, tolds).expect(rt, "memory");
-    true
+// A desk by the standard rules, and the replies to its last order.
+#[derive(Drop)]
+pub(super) struct Server {
+    desk: Desk,
+    tolds: Tolds,
+    ghost room: { HasRoom desk.present.rules tolds },
+}
+
+impl Server {
+    pub(super) fn new(rt: &impl Abort, alloc: Global) -> Server {
+        Server {
+            desk: Desk::new(alloc, Rules::standard()).expect(rt, "memory"),
+            tolds: Tolds::new(alloc, Rules::standard()).expect(rt, "memory"),
+        }
+    }
+
+    // It takes the order of a line, if that is one.
+    pub(super) fn take(&mut self, rt: &impl Abort, line: &Line) -> bool {
+        let Line::Asked { worker, order } = line else {
+            return false;
+        };
+        self.desk
+            .take(*worker, order, &mut self.tolds)
+            .expect(rt, "memory");
+        true
+    }
+
+    // What the last order was told.
+    pub(super) fn told(&self) -> &[Told] {
+        self.tolds.as_slice()
+    }
+
+    // The history of all that it took.
+    pub(super) fn into_history(self) -> History {
+        let Server { desk, tolds: _ } = self;
+        desk.into_history()
+    }
 }
 
 // An order by the superuser.

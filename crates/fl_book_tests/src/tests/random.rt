@@ -1,5 +1,7 @@
 //! Histories of random orders of all kinds, many of which wait for locks.
 
+ghost use Rattle.fl_core.specs.Tolds.{HasRoom};
+
 use super::lines::order;
 use fl_book::{Desk, History, Rules};
 use fl_core::Tolds;
@@ -82,6 +84,7 @@ pub(super) struct Asking {
     names: [Name; 2],
     opened: [(u64, u64); 4],
     seen: Seen,
+    ghost room: { HasRoom desk.present.rules tolds },
 }
 
 impl Asking {
@@ -89,7 +92,7 @@ impl Asking {
         Asking {
             numbers: Numbers { state: seed },
             desk: Desk::new(alloc, Rules::standard()).expect(rt, "memory"),
-            tolds: Tolds::new(alloc).expect(rt, "memory"),
+            tolds: Tolds::new(alloc, Rules::standard()).expect(rt, "memory"),
             names,
             opened: [(1, 2); 4],
             seen: Seen::none(),

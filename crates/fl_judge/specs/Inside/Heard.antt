@@ -1,5 +1,6 @@
 -- What is always so of a judge, and of the lines that it heard.
 use Rattle.std.specs.Prelude.{◌≡◌, ◌↔◌, ℕ, ◌-◌, ◌^◌, ◌≤◌, Bool, true, false, Option, Some, None, List, [], ◌∷◌, ◌++◌, length, map, take, drop}
+use Rattle.fl_core.specs.Tolds.{HasRoom}
 use Rattle.fl_desk.specs.Leading.{LeadsTo}
 use Rattle.fl_desk.specs.Legal.{IsLegal}
 use Rattle.fl_desk.specs.Verdicts.{IsBeginning}
@@ -20,7 +21,7 @@ BeginsWith first lines = (more : List Line) × (lines ≡ first ++ more)
 
 -- the replies of the last order that weren't heard yet
 abbrev pub due_lines : Replay → List Line
-due_lines r = told_lines (drop r.told r.tolds)
+due_lines r = told_lines (drop r.told r.tolds.told)
 
 -- The lines lack only the replies that are due: with these they lead to what is there, and a history that begins with the
 -- lines, and is legal under the rules of what is there, goes on by these. It knows whether the lines are quiet.
@@ -47,8 +48,9 @@ abbrev pub Stands : List Line → Replay → Option ℕ → Type 0
 Stands lines r None = LeadsUpTo lines r
 Stands lines r (Some n) = DiffersIn r.core.rules lines n
 
--- so many lines were heard, not too many, and that is known of them
+-- so many lines were heard, not too many, and that is known of them; and there is room for the replies of one order more
 pub record IsHeard (lines : List Line) (heard : ℕ) (r : Replay) (differs : Option ℕ) : Type 0 where
   pub count : heard ≡ length lines
   pub few : heard ≤ 2 ^ 63
   pub stands : Stands lines r differs
+  pub room : HasRoom r.core.rules r.tolds

@@ -1,5 +1,7 @@
 //! Random histories, in half of which no owner asks while it waits, beside a plain program.
 
+ghost use Rattle.fl_core.specs.Tolds.{HasRoom};
+
 use super::UNLOCK;
 use super::plain::{Waiter, after_order, after_reply, asks_while_waiting, is_quiet};
 use fl_core::{Rules, Tolds};
@@ -33,6 +35,7 @@ struct Client {
     tolds: Tolds,
     waiters: Vec<Waiter>,
     careful: bool,
+    ghost room: { HasRoom desk.present.rules tolds },
 }
 
 impl Client {
@@ -40,7 +43,7 @@ impl Client {
         Client {
             numbers: Numbers { state: seed },
             desk: Desk::new(alloc, rules).expect(rt, "no memory"),
-            tolds: Tolds::new(alloc).expect(rt, "no memory"),
+            tolds: Tolds::new(alloc, rules).expect(rt, "no memory"),
             waiters: Vec::new(alloc),
             careful: seed % 2 == 0,
         }

@@ -9,6 +9,7 @@ use Rattle.fl_desk.specs.Verdicts.{DiffersAt}
 use Rattle.fl_desk.proofs.Histories.{opened_kept, taken_kept}
 use Rattle.fl_desk.proofs.Verdicts.{due_order, due_reply, whole_step}
 use Rattle.fl_desk.proofs.judge.check.Goals as goal
+use Rattle.fl_waiting.specs.declared.rules.Rules.{Rules}
 
 pub loop-at-init : goal.loop-at-init
 loop-at-init c =
@@ -17,6 +18,7 @@ loop-at-init c =
       within = omega arith;
       kept = opened_kept c.args.rules _ _ refl core.opening core.lawful;
       rules = ap (λ (p : Snapshot). p.rules) core.opening;
+      room = omega (arith, c.in_ok-tolds.ensures.room, ap (λ (p : Snapshot). p.rules.parked) core.opening);
     }
 
 pub returns-in_default : goal.returns-in_default
@@ -55,11 +57,12 @@ loop-at-preserved c =
     let step = c.step.ensures in
     record {
       within = omega (arith, told.there, length-drop (at + 1) lines, inside);
-      kept = taken_kept (take at lines) _ _ _ _ c.in-Asked.worker c.in-Asked.order c.step.new.tolds replies_all kept refl step.replies step.recorded step.lawful
+      kept = taken_kept (take at lines) _ _ _ _ c.in-Asked.worker c.in-Asked.order c.step.new.tolds.told replies_all kept refl step.replies step.recorded step.lawful
           c.as_slice-replies.ensures
           (whole_step lines at c.line.result c.in-Asked.worker c.in-Asked.order replies_all c.told_alike-told.result inside
           (get_or_from_slice_get lines at c.line.result c.line.result c.line.ensures ∙ c.in-Asked.is) (omega (arith, c.if-told-replies.false)) told.alike);
-      rules = ap (λ (p : Snapshot). p.rules) step.next ∙ c.loop-at.invariant.rules;
+      rules = step.rules ∙ c.loop-at.invariant.rules;
+      room = omega (arith, c.loop-at.invariant.room, step.room, ap (λ (r : Rules). r.parked) step.rules);
     }
 
 pub returns : goal.returns

@@ -1,4 +1,5 @@
 use Rattle.std.proofs.Common.{◌≡◌, ◌≤◌, ◌-◌, length, take}
+use Rattle.fl_core.specs.Tolds.{HasRoom}
 use Rattle.fl_desk.specs.Kept.{IsKept}
 use Rattle.fl_desk.proofs.judge.check.Given as goal
 
@@ -7,6 +8,7 @@ invariant-loop-at l = record {
   within : l.at ≤ length l.history;
   kept : IsKept (take l.at l.history) l.core;
   rules : l.core.rules ≡ l.fn.rules;
+  room : HasRoom l.core.rules l.tolds;
 }
 
 abbrev pub decreases-loop-at : goal.decreases-loop-at

@@ -19,11 +19,11 @@ invariant_of-self-2 g c =
     let worker = c.seat.inside.worker in
     let ask : Ask = record { worker = worker; order = order } in
     let all : c.in_ok-next.next ≡ was ++ ask ∷ [] = c.in_ok-next.ensures.0 in
-    let taken : c.take.new.self.lines ≡ history_of ours was ++ step_lines worker order c.take.new.tolds = search rules in
+    let taken : c.take.new.self.lines ≡ history_of ours was ++ step_lines worker order c.take.new.tolds.told = search rules in
     let stepped : c.take.new.self.present ≡ next (present_after ours was) order = search rules in
-    let told : c.take.new.tolds ≡ replies_in (state_after (present_after ours was).rules (history_of ours was)) order = search rules in
+    let told : c.take.new.tolds.told ≡ replies_in (state_after (present_after ours was).rules (history_of ours was)) order = search rules in
     let leads = c.asks_lead.ensures in
-    let answered : c.take.new.tolds ≡ replies (present_after ours was) order =
+    let answered : c.take.new.tolds.told ≡ replies (present_after ours was) order =
     told ∙ ap (λ r. replies_in (state_after r (history_of ours was)) order) (leads.rules ours was)
     ∙ ap (λ (p : Snapshot). replies p order) (sym (leads.stands ours was)) in (
       search rules,
@@ -31,7 +31,7 @@ invariant_of-self-2 g c =
           ∙ ap (history_of ours) (sym all),
       stepped ∙ sym (present_more ours was ask) ∙ ap (present_after ours) (sym all),
       c.add.ensures.total ∙ ap (λ n. n + 1) (c.self.invariant.3 ∙ ap orders_asked c.self.invariant.1)
-          ∙ sym (ap orders_asked taken ∙ step_asks_one_order (history_of ours was) worker order c.take.new.tolds),
+          ∙ sym (ap orders_asked taken ∙ step_asks_one_order (history_of ours was) worker order c.take.new.tolds.told),
     )
 
 pub invariant_of-seat : goal.invariant_of-seat
@@ -56,9 +56,9 @@ returns-clause-handed g c =
     let worker = c.seat.inside.worker in
     let ask : Ask = record { worker = worker; order = order } in
     let own : c.again.result ≡ was ++ ask ∷ [] = c.again.ensures ∙ c.in_ok-next.ensures.0 in
-    let told : c.take.new.tolds ≡ replies_in (state_after (present_after ours was).rules (history_of ours was)) order = search rules in
+    let told : c.take.new.tolds.told ≡ replies_in (state_after (present_after ours was).rules (history_of ours was)) order = search rules in
     let leads = c.asks_lead.ensures in
-    let answered : c.take.new.tolds ≡ replies (present_after ours was) order =
+    let answered : c.take.new.tolds.told ≡ replies (present_after ours was) order =
     told ∙ ap (λ r. replies_in (state_after r (history_of ours was)) order) (leads.rules ours was)
     ∙ ap (λ (p : Snapshot). replies p order) (sym (leads.stands ours was)) in
     let most = subst (λ (p : Place). HasMostOf (history_of ours was) p) (sym c.seat.view_is) (c.if-not-begins.ensures refl) in

@@ -7,13 +7,13 @@ pub invariant_of-self : goal.invariant_of-self
 invariant_of-self c =
     heard_wrong c.self.inside.past.items c.and-self-inside.result.items c.args.line.now c.self.inside.heard c.self.inside.replay c.take.new.self
     c.self.inside.differs c.take.result c.and-self-inside.ensures c.self.invariant (subst (λ (h : Hearing). length h.lines < 2 ^ 63) (sym c.self.view_is) c.requires)
-    (c.if-is_none.ensures) c.if-not-take.true c.take.ensures.goes c.take.ensures.rules
+    (c.if-is_none.ensures) c.if-not-take.true c.take.ensures.goes c.take.ensures.rules c.take.ensures.room
 
 pub invariant_of-self-else-not-take : goal.invariant_of-self-else-not-take
 invariant_of-self-else-not-take c =
     heard_alike c.self.inside.past.items c.and-self-inside.result.items c.args.line.now c.self.inside.heard c.self.inside.replay c.take.new.self
     c.self.inside.differs c.take.result c.and-self-inside.ensures c.self.invariant (subst (λ (h : Hearing). length h.lines < 2 ^ 63) (sym c.self.view_is) c.requires)
-    (c.if-is_none.ensures) c.if-not-take.false c.take.ensures.goes
+    (c.if-is_none.ensures) c.if-not-take.false c.take.ensures.goes c.take.ensures.room
 
 pub invariant_of-self-else-is_none : goal.invariant_of-self-else-is_none
 invariant_of-self-else-is_none c =
