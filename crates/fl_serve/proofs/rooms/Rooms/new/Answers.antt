@@ -1,6 +1,6 @@
 use Rattle.std.proofs.Common.{rules, arith}
 use Rattle.fl_serve.proofs.ServingLemmas.{as_many}
-use Rattle.fl_serve.proofs.serving.Rooms.new.Goals as goal
+use Rattle.fl_serve.proofs.rooms.Rooms.new.Goals as goal
 
 pub invariant_of-posts : goal.invariant_of-posts
 invariant_of-posts g c =
