@@ -1,5 +1,5 @@
 -- What workers who share one writer have sent.
-use Rattle.std.specs.Prelude.{◌≡◌, ℕ, Bool, false, List, [], ◌++◌, All, Option}
+use Rattle.std.specs.Prelude.{ℕ, Bool, List, ◌++◌, All, Option}
 use Rattle.std.specs.List.{concat}
 use Rattle.std.specs.Io.KnownBytes.{Appends}
 use Rattle.fl_order.specs.declared.told.Told.{Told}
@@ -19,12 +19,6 @@ pub record Outgoing : Type 0 where
   pub waiting : List ℕ
   pub broken : Bool
   pub begun : Bool
-
--- nothing was given yet: the writer holds what it held, nothing waits for it, and no write failed
-pub record IsUnsent (start held : Option (List ℕ)) (waiting : List ℕ) (broken : Bool) : Type 0 where
-  pub same : held ≡ start
-  pub none : waiting ≡ []
-  pub whole : broken ≡ false
 
 -- some replies were given, each that to an order or to an INIT
 pub record HasSent (start held : Option (List ℕ)) (waiting : List ℕ) (broken : Bool) : Type 0 where

@@ -40,9 +40,9 @@ pub struct Shared<'a, W: Write, N: WriterName> {
 }
 
 impl<'a, W: Write, N: WriterName> Model for Shared<'a, W, N> {
-    ghost use Rattle.std.specs.Prelude.{◌≡◌, true, false};
+    ghost use Rattle.std.specs.Prelude.{◌≡◌, [], true, false};
     ghost use Rattle.fl_session.specs.Outbox.{is_broken, writer_of};
-    ghost use Rattle.fl_workers.specs.Shared.{Outgoing, HasSent, IsUnsent};
+    ghost use Rattle.fl_workers.specs.Shared.{Outgoing, HasSent};
 
     ghost Value = { Outgoing };
 
@@ -56,8 +56,8 @@ impl<'a, W: Write, N: WriterName> Model for Shared<'a, W, N> {
     ghost invariant = { λ s. ((writer_of s.batch.out).ghost_name ≡ N.writer)
         × HasSent N.start (W.contents (writer_of s.batch.out).now) s.batch.replies (is_broken s.batch.out)
         × (s.begun ≡ true → s.book.total ≡ 1)
-        × (s.begun ≡ false → (s.book.total ≡ 0)
-        × IsUnsent N.start (W.contents (writer_of s.batch.out).now) s.batch.replies (is_broken s.batch.out)) };
+        × (s.begun ≡ false
+        → (s.book.total ≡ 0) × (W.contents (writer_of s.batch.out).now ≡ N.start) × (s.batch.replies ≡ [])) };
 }
 
 impl<'a, W: Write, N: WriterName> Shared<'a, W, N> {
