@@ -5,6 +5,7 @@ ghost use Rattle.fl_intake.specs.Often.{Weight};
 ghost use Rattle.std.specs.Io.KnownBytes.{Keeps};
 ghost use Rattle.fl_intake.specs.Ends.{weight_taken};
 ghost use Rattle.fl_workers.specs.Asked.{asked_by};
+ghost use Rattle.fl_core.specs.Tolds.{HasRoom};
 ghost use Rattle.fl_hearing.specs.Heard.{HasHeard};
 ghost use Rattle.fl_crew.specs.Working.{HaveDone, HaveWorked, IsFresh};
 ghost use Rattle.fl_workers.specs.Worked.{HasDone};
@@ -22,6 +23,7 @@ use fl_workers::{Gate, Shared, Worked, WriterName, handle_all, worker_loop};
 use std::alloc::Global;
 use std::io::{Read, Write};
 use std::snapshot::Snapshot;
+use std::sync::ledger::Share;
 use std::sync::{Mutex, Wait};
 use std::thread;
 use std::thread::{Promise, PromisedHandle, Scope, Threads};
@@ -104,6 +106,7 @@ pub struct Posts<L: BoardName> {
     /// Room for what comes back.
     pub back: Back<L>,
     ghost fresh: { All (λ seat. seat.count ≡ 0) seats.items },
+    ghost replies: { All (HasRoom L.rules) tolds.items },
     ghost none: { (threads.items ≡ []) × (back.seats.items ≡ []) × (back.ends.items ≡ []) },
     ghost room: { (length seats.items ≤ vec_capacity threads) × (length seats.items ≤ vec_capacity back.seats)
         × (length seats.items ≤ vec_capacity back.ends) },
@@ -119,18 +122,20 @@ impl<
     G: Gate + Sync,
     K: Keeper + Send + Drop,
 > Crew<'a, 'w, L, N, R, W, G, K> {
-    /// Runs a session: starts a worker at each seat, reads until the session ends, closes the intake, and joins the workers.
-    /// Where a worker can't be started nothing is read.
+    /// Runs a session: starts a worker at each seat, begins, reads until the session ends, closes the intake, and joins the
+    /// workers. Where a worker can't be started nothing is read, and the permit to begin comes back as it was.
     pub fn run<I: Read>(
         &self,
         r: &mut I,
         inbox: Inbox,
         put: PutEnd,
         posts: Posts<L>,
-    ) -> (Back<L>, Heard)
+        permit: Share<N>,
+    ) -> (Back<L>, Heard, Share<N>)
         requires unread { IsUnread inbox }
         requires put { (put.of ≡ self.now.intake) × (put.closed ≡ false) × (put.put ≡ []) }
         requires ends { All (IsFresh self.now.intake) posts.ends.items }
+        requires permit { (0 < N.parts) × (permit.parts ≡ N.parts) × (permit.amount ≡ 0) }
         ensures put { (result.1.put.of ≡ self.now.intake) × (result.1.put.takers ≡ put.takers) }
         ensures ends { All (λ end. end.of ≡ self.now.intake) result.0.ends.items }
         ensures worked { result.1.fault ≢ Some Fault.NoMemory
@@ -139,25 +144,32 @@ impl<
             → HasHeard L.rules (I.remaining r.old) (I.remaining r.new) result.1.fault result.1.put.put
             result.1.goodbye }
         ensures unread { result.1.fault ≡ Some Fault.NoMemory → Keeps (I.remaining r.old) (I.remaining r.new) }
+        ensures permit { result.2.parts ≡ N.parts }
+        ensures begun { result.1.fault ≢ Some Fault.NoMemory → result.2.amount ≡ 1 }
+        ensures unbegun { result.1.fault ≡ Some Fault.NoMemory → result.2.amount ≡ 0 }
     {
         let rt = self.rt;
-        let (back, heard, r) = thread::scope(
+        let (back, heard, permit, r) = thread::scope(
             thread::scope_env(),
             rt,
-            move |scope| -> (Back<L>, Heard, &mut I)
+            move |scope| -> (Back<L>, Heard, Share<N>, &mut I)
                 requires unread { IsUnread inbox }
                 requires put { (put.of ≡ self.now.intake) × (put.closed ≡ false) × (put.put ≡ []) }
                 requires ends { All (IsFresh self.now.intake) posts.ends.items }
+                requires permit { (0 < N.parts) × (permit.parts ≡ N.parts) × (permit.amount ≡ 0) }
                 ensures put { (result.1.put.of ≡ self.entry.now.intake) × (result.1.put.takers ≡ put.takers) }
                 ensures ends { All (λ end. end.of ≡ self.entry.now.intake) result.0.ends.items }
                 ensures worked { result.1.fault ≢ Some Fault.NoMemory
                     → HaveWorked posts.seats.items result.0.seats.items result.0.ends.items result.0.refused }
-                ensures same { result.2.ghost_name ≡ r.entry.ghost_name }
+                ensures same { result.3.ghost_name ≡ r.entry.ghost_name }
                 ensures heard { result.1.fault ≢ Some Fault.NoMemory
-                    → HasHeard L.rules (I.remaining r.entry.now) (I.remaining result.2.now) result.1.fault
+                    → HasHeard L.rules (I.remaining r.entry.now) (I.remaining result.3.now) result.1.fault
                     result.1.put.put result.1.goodbye }
                 ensures unread { result.1.fault ≡ Some Fault.NoMemory
-                    → Keeps (I.remaining r.entry.now) (I.remaining result.2.now) }
+                    → Keeps (I.remaining r.entry.now) (I.remaining result.3.now) }
+                ensures permit { result.2.parts ≡ N.parts }
+                ensures begun { result.1.fault ≢ Some Fault.NoMemory → result.2.amount ≡ 1 }
+                ensures unbegun { result.1.fault ≡ Some Fault.NoMemory → result.2.amount ≡ 0 }
             {
                 // Taken whole, so that what its type keeps is known here.
                 let posts = posts;
@@ -170,7 +182,9 @@ impl<
                 } = posts;
                 let mut inbox = inbox;
                 let mut threads = threads;
+                let mut permit = permit;
                 let heard = if self.start_all(scope, seats, ends, tolds, &mut threads) {
+                    self.begin(&mut permit);
                     hear_all(rt, &self.intake, &self.shared, put, r, &mut inbox)
                 } else {
                     Heard {
@@ -181,12 +195,21 @@ impl<
                 };
                 let mut heard = heard;
                 self.intake.close(&mut heard.put);
-                (joined(rt, &self.intake, threads, back), heard, r)
+                (joined(rt, &self.intake, threads, back), heard, permit, r)
             },
         );
         // No effect at run time: the proof reads here what the reader has left.
         let _ = &*r;
-        (back, heard)
+        (back, heard, permit)
+    }
+
+    // Replies may go out from here on.
+    fn begin(&self, permit: &mut Share<N>)
+        requires { (0 < N.parts) × (permit.old.parts ≡ N.parts) × (permit.old.amount ≡ 0) }
+        ensures { (permit.new.parts ≡ N.parts) × (permit.new.amount ≡ 1) }
+    {
+        let mut shared = self.shared.lock(self.rt);
+        shared.begin(permit);
     }
 
     // Starts a worker at each seat, and says whether all were started.
@@ -203,6 +226,7 @@ impl<
         'w: 's,
         requires fresh { All (λ seat. seat.count ≡ 0) seats.items }
         requires ends { All (IsFresh self.now.intake) ends.items }
+        requires replies { All (HasRoom L.rules) tolds.items }
         requires none { threads.old.items ≡ [] }
         requires room { length seats.items ≤ vec_capacity threads.old }
         ensures most { length threads.new.items ≤ length seats.items }
@@ -240,6 +264,7 @@ impl<
         'w: 's,
         requires fresh { seat.count ≡ 0 }
         requires end { end.of ≡ self.now.intake }
+        requires replies { HasRoom L.rules tolds }
         ensures whose { IfSome result (λ t. t.promise.worker ≡ seat.worker) }
         ensures end { IfSome result (λ t. t.promise.end.value ≡ end) }
     {
@@ -253,7 +278,7 @@ impl<
                 scope,
                 at,
                 move || -> Worked<Seat<L>>
-                    requires { (seat.count ≡ 0) × (end.of ≡ self.now.intake) }
+                    requires { (seat.count ≡ 0) × (end.of ≡ self.now.intake) × HasRoom L.rules tolds }
                     ensures { (result.seat.worker ≡ seat.worker) × (result.end.of ≡ end.of)
                         × HasDone end.taken result.end.taken (asked_by result.seat.worker result.seat.own) result.seat.count
                         result.refused }
@@ -266,6 +291,7 @@ impl<
     fn work(&self, seat: Seat<L>, end: TakeEnd, tolds: Tolds) -> Worked<Seat<L>>
         requires fresh { seat.count ≡ 0 }
         requires end { end.of ≡ self.now.intake }
+        requires replies { HasRoom L.rules tolds }
         ensures own { result.seat.worker ≡ seat.worker }
         ensures end { result.end.of ≡ self.now.intake }
         ensures did { HasDone end.taken result.end.taken (asked_by result.seat.worker result.seat.own) result.seat.count
@@ -329,6 +355,7 @@ pub fn handed_in<
     left: Vec<Job>,
 ) -> (Vec<Seat<L>>, bool)
     requires some { 0 < length seats.items }
+    requires replies { HasRoom L.rules tolds }
     ensures whose { map (λ seat. seat.worker) result.0.items ≡ map (λ seat. seat.worker) seats.items }
     ensures did { (orders : Weight → ℕ) (any : Bool) → HaveDone orders seats.items any
         → HaveDone (λ weight. orders weight + sum_by weight left.items) result.0.items (any || result.1) }

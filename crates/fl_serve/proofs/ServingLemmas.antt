@@ -1,5 +1,5 @@
 -- What a session with workers did.
-use Rattle.std.proofs.Common.{◌≡◌, ℕ, ◌+◌, ◌⊎◌, inl, inr, ⊎_elim, Bool, true, false, true≢false, List, [], ◌++◌, Option, Some, None, length, map, sum_by, refl, sym, ap, subst, ◌∙◌, arith}
+use Rattle.std.proofs.Common.{◌≡◌, ◌≢◌, ℕ, ◌+◌, ◌⊎◌, inl, inr, ⊎_elim, Bool, true, false, true≢false, List, [], ◌++◌, Option, Some, None, length, map, sum_by, refl, sym, ap, subst, ◌∙◌, arith}
 use Rattle.std.proofs.KnownBytes.{Appends-nil}
 use Rattle.std.proofs.lemmas.List.{length-map}
 use Rattle.std.proofs.lemmas.List.Elements.{All-nil}
@@ -38,6 +38,12 @@ pub as_many : (seats : List Place) (workers : ℕ) → map (λ seat. seat.worker
     → length seats ≡ workers
 as_many seats workers each =
     sym (length-map seats (λ seat. seat.worker)) ∙ ap length each ∙ length-range_with_len 0 workers
+
+-- no session ends by want of a reader, as long as its board is told
+pub never_no_reader : (rules : Rules) (told : Option Fault) (broken : Bool) (came : List Came) (rest : List ℕ)
+    (left : Option (List ℕ)) → EndsBy rules told broken came rest left → told ≢ Some NoReader
+never_no_reader rules told broken came rest left ends none =
+    subst (λ fault. EndsBy rules fault broken came rest left) none ends
 
 -- nothing was sent
 pub nothing_sent : (start : Option (List ℕ)) → HasSent start start [] false

@@ -1,6 +1,7 @@
 //! A session of the FUSE protocol with workers, over any reader and any writer.
 #![tactic(auto)]
 
+mod rooms;
 mod serving;
 
 pub use fl_intake::{Closed, Intake, Job, MOST_JOBS, NotAll, PutEnd, TakeEnd};

@@ -1,42 +1,37 @@
 //! A whole session of the FUSE protocol with workers, over any reader and any writer.
 
-ghost use Rattle.std.specs.Prelude.{◌≡◌, ◌≢◌, ◌≤◌, ◌<◌, ◌+◌, ◌⊎◌, ◌||◌, ℕ, Bool, List, [], All, Option, false, Some};
-ghost use Rattle.std.specs.Prelude.{length, map, sum_by, vec_capacity, IfOk, IfSome, IsSome, None};
+ghost use Rattle.std.specs.Prelude.{◌≡◌, ◌≢◌, ◌≤◌, ◌<◌, ◌+◌, ◌⊎◌, ◌||◌, ℕ, Bool, List, [], All, Option, Some};
+ghost use Rattle.std.specs.Prelude.{length, map, sum_by, IfSome, IsSome, None};
 ghost use Rattle.std.specs.List.{range_with_len};
 ghost use Rattle.std.specs.Io.KnownBytes.{Keeps};
+ghost use Rattle.fl_core.specs.Tolds.{HasRoom};
 ghost use Rattle.fl_desk.specs.Legal.{IsLegal};
-ghost use Rattle.fl_session.specs.Inbox.{IsUnread};
 ghost use Rattle.fl_intake.specs.Ends.{weight_taken};
 ghost use Rattle.fl_intake.specs.Often.{Weight};
 ghost use Rattle.fl_hearing.specs.Heard.{HasHeard};
-ghost use Rattle.fl_crew.specs.Working.{HaveDone, IsFresh};
+ghost use Rattle.fl_crew.specs.Working.{HaveDone};
 ghost use Rattle.fl_serve.specs.Inside.Closing.{HasAll};
 ghost use Rattle.fl_session.specs.Kept.{came_to};
 ghost use Rattle.fl_serve.specs.Serve.{HasNoHistory, IsServedBy};
 
+use crate::rooms::Rooms;
 use fl_board::{Board, BoardName, FreshLog, OpenFault, Seat};
 use fl_core::{Rules, Tolds};
-use fl_crew::{Back, Crew, Posts, Thread, handed_in};
+use fl_crew::{Back, Crew, handed_in};
 use fl_hearing::Heard;
 use fl_history::Lines;
-use fl_intake::{Intake, PutEnd, TakeEnd};
 use fl_keeper::Keeper;
-use fl_order::NoMemory;
-use fl_session::{Done, Fault, Inbox, Kept, Owed, ReplyBuffer};
+use fl_session::{Done, Fault, Kept, Owed};
 use fl_workers::{Gate, Shared, WriterName};
 use std::alloc::Global;
 use std::io::{Read, Write};
 use std::marker::Brand;
-use std::sync::ledger::Blank;
+use std::sync::ledger::{Blank, Share};
 use std::sync::{Mutex, Wait};
 use std::thread::Threads;
 
 // Bytes of a worker's stack.
 const STACK_BYTES: usize = 2 << 20;
-
-// The most bytes of replies that go out together: those of some 32 locks. Fewer would cost more writes, and more would keep
-// a client waiting that has its next orders ready by then.
-const BATCH_BYTES: usize = 672;
 
 /// Serves a whole session with 1 to 16 workers, under these rules. The reader, which is the caller's thread, answers what is
 /// no order; each order goes to a worker, which looks for it at one board or hands it in there, and sends all its replies,
@@ -58,6 +53,7 @@ pub fn serve<R: Threads + Wait + Sync, I: Read, W: Write + Send + Drop, G: Gate 
     ensures served { IsServedBy rules (I.remaining r.old) (I.remaining r.new) (W.contents w.old) (W.contents w.new) result }
     ensures nothing { result.fault ≡ Some Fault.NoMemory
         → (result.history ≡ []) × Keeps (I.remaining r.old) (I.remaining r.new) }
+    ensures unwritten { result.fault ≡ Some Fault.NoMemory → Keeps (W.contents w.old) (W.contents w.new) }
 {
     serve_on_stack(rt, alloc, r, w, workers, rules, gate, STACK_BYTES)
 }
@@ -78,6 +74,7 @@ pub fn serve_on_stack<R: Threads + Wait + Sync, I: Read, W: Write + Send + Drop,
     ensures served { IsServedBy rules (I.remaining r.old) (I.remaining r.new) (W.contents w.old) (W.contents w.new) result }
     ensures nothing { result.fault ≡ Some Fault.NoMemory
         → (result.history ≡ []) × Keeps (I.remaining r.old) (I.remaining r.new) }
+    ensures unwritten { result.fault ≡ Some Fault.NoMemory → Keeps (W.contents w.old) (W.contents w.new) }
 {
     let staff = Staff {
         workers,
@@ -109,6 +106,8 @@ where
     ensures back { IsSome result.keeper ⊎ (result.fault ≡ Some Fault.NoMemory) ⊎ (result.fault ≡ Some Fault.NoReader) }
     ensures nothing { result.fault ≡ Some Fault.NoMemory
         → (result.keeper ≡ None) × Keeps (I.remaining r.old) (I.remaining r.new) }
+    ensures unwritten { result.fault ≡ Some Fault.NoMemory → Keeps (W.contents w.old) (W.contents w.new) }
+    ensures untold { result.fault ≡ Some Fault.NoReader → result.keeper ≡ None }
 {
     let staff = Staff {
         workers,
@@ -146,11 +145,14 @@ where
     ensures back { IsSome result.keeper ⊎ (result.fault ≡ Some Fault.NoMemory) ⊎ (result.fault ≡ Some Fault.NoReader) }
     ensures nothing { result.fault ≡ Some Fault.NoMemory
         → (result.keeper ≡ None) × Keeps (I.remaining r.old) (I.remaining r.new) }
+    ensures unwritten { result.fault ≡ Some Fault.NoMemory → Keeps (W.contents w.old) (W.contents w.new) }
+    ensures untold { result.fault ≡ Some Fault.NoReader → result.keeper ≡ None }
 {
     let blank = Blank::new(u64::from(staff.workers));
     let log = FreshLog::new();
+    let sending = Blank::new(1);
     let (kept, w) = serve_at::<Brand, Brand, R, I, W, G, K>(
-        rt, alloc, blank, log, r, w, gate, staff, keeper,
+        rt, alloc, blank, log, sending, r, w, gate, staff, keeper,
     );
     // No effect at run time: the proof reads here what the writer holds.
     let _ = &*w;
@@ -172,6 +174,7 @@ fn serve_at<
     alloc: Global,
     blank: Blank,
     log: FreshLog,
+    sending: Blank,
     r: &mut I,
     w: &'w mut W,
     gate: &G,
@@ -185,7 +188,8 @@ fn serve_at<
     requires workers { (0 < staff.workers) × (staff.workers ≤ 16) }
     requires none { K.lines keeper ≡ [] }
     requires start { W.contents w.old ≡ N.start }
-    requires writer { w.ghost_name ≡ N.name }
+    requires writer { w.ghost_name ≡ N.writer }
+    requires sending { (sending.name ≡ N.name) × (sending.parts ≡ N.parts) × (0 < N.parts) }
     ensures writer { result.1.ghost_name ≡ w.entry.ghost_name }
     ensures legal { IfSome result.0.keeper (λ keeper. IsLegal staff.rules (K.lines keeper)) }
     ensures served { IsServedBy staff.rules (I.remaining r.old) (I.remaining r.new) (W.contents w.old) (W.contents result.1.now)
@@ -194,6 +198,8 @@ fn serve_at<
         ⊎ (result.0.fault ≡ Some Fault.NoMemory) ⊎ (result.0.fault ≡ Some Fault.NoReader) }
     ensures nothing { result.0.fault ≡ Some Fault.NoMemory
         → (result.0.keeper ≡ None) × Keeps (I.remaining r.old) (I.remaining r.new) }
+    ensures unwritten { result.0.fault ≡ Some Fault.NoMemory → Keeps (W.contents w.old) (W.contents result.1.now) }
+    ensures untold { result.0.fault ≡ Some Fault.NoReader → result.0.keeper ≡ None }
 {
     let rooms = match Rooms::<L, &R, K>::new(
         alloc,
@@ -216,21 +222,22 @@ fn serve_at<
         inbox,
         replies,
     } = rooms;
+    let (shared, permit) = Shared::<'w, W, N>::new(sending, replies, w);
     let crew = Crew {
         rt,
         gate,
         stack: staff.stack,
         board,
         intake,
-        shared: Mutex::new(Shared::<'w, W, N>::new(replies, w)),
+        shared: Mutex::new(shared),
     };
-    let (back, heard) = crew.run(r, inbox, put, posts);
+    let (back, heard, permit) = crew.run(r, inbox, put, posts, permit);
     if heard.fault == Some(Fault::NoMemory) {
         let Crew { shared, .. } = crew;
-        let (w, _) = shared.into_inner().close(&Owed::Nothing);
+        let (w, _) = shared.into_inner().close(permit, &Owed::Nothing);
         return (Kept::nothing(alloc, Fault::NoMemory), w);
     }
-    finished(alloc, crew, back, heard, tolds)
+    finished(alloc, crew, back, heard, tolds, permit)
 }
 
 // Hands in what no worker took, says goodbye, and closes the board of a session whose workers came back.
@@ -240,6 +247,7 @@ fn finished<'w, L: BoardName, N: WriterName, R: Wait, W: Write, G: Gate, K: Keep
     back: Back<L>,
     heard: Heard,
     tolds: Tolds,
+    permit: Share<N>,
 ) -> (Kept<K>, &'w mut W)
     requires parts { L.workers ≡ L.parts }
     requires mine { (heard.put.of ≡ crew.intake) × All (λ end. end.of ≡ crew.intake) back.ends.items }
@@ -247,13 +255,18 @@ fn finished<'w, L: BoardName, N: WriterName, R: Wait, W: Write, G: Gate, K: Keep
     requires some { 0 < length back.seats.items }
     requires whose { map (λ seat. seat.worker) back.seats.items ≡ range_with_len 0 heard.put.takers }
     requires did { HaveDone (λ weight. weight_taken weight back.ends.items) back.seats.items back.refused }
-    ensures writer { result.1.ghost_name ≡ N.name }
+    requires permit { (permit.parts ≡ N.parts) × (permit.amount ≡ 1) }
+    requires replies { HasRoom L.rules tolds }
+    ensures writer { result.1.ghost_name ≡ N.writer }
     ensures legal { IfSome result.0.keeper (λ keeper. IsLegal L.rules (K.lines keeper)) }
     ensures served { (left left_now : Option (List ℕ))
         → HasHeard L.rules left left_now heard.fault heard.put.put heard.goodbye
         → IsServedBy L.rules left left_now N.start (W.contents result.1.now)
         (came_to K.lines result.0.keeper result.0.fault result.0.refused) }
     ensures back { IsSome result.0.keeper ⊎ (result.0.fault ≡ Some Fault.NoReader) }
+    ensures untold { (left left_now : Option (List ℕ))
+        → HasHeard L.rules left left_now heard.fault heard.put.put heard.goodbye
+        → result.0.fault ≡ Some Fault.NoReader → result.0.keeper ≡ None }
     ensures memory { heard.fault ≢ Some Fault.NoMemory → result.0.fault ≢ Some Fault.NoMemory }
 {
     let Crew {
@@ -278,7 +291,7 @@ fn finished<'w, L: BoardName, N: WriterName, R: Wait, W: Write, G: Gate, K: Keep
         unreachable!()
     };
     let (seats, more) = handed_in(rt, &board, gate, &shared, seats, tolds, left);
-    let (w, broken) = shared.into_inner().close(&goodbye);
+    let (w, broken) = shared.into_inner().close(permit, &goodbye);
     let told = Fault::told(fault, broken);
     (closed(alloc, board, seats, refused | more, told), w)
 }
@@ -308,6 +321,7 @@ fn closed<L: BoardName, R: Wait + Drop, K: Keeper + Drop>(
     ensures told { HasAll seats.items refused fault (came_to K.lines result.keeper result.fault result.refused)
         ⊎ HasNoHistory (came_to K.lines result.keeper result.fault result.refused) }
     ensures back { IsSome result.keeper ⊎ (result.fault ≡ Some Fault.NoReader) }
+    ensures untold { fault ≢ Some Fault.NoReader → result.fault ≡ Some Fault.NoReader → result.keeper ≡ None }
 {
     match board.into_kept(seats) {
         Ok(keeper) => Kept {
@@ -317,125 +331,4 @@ fn closed<L: BoardName, R: Wait + Drop, K: Keeper + Drop>(
         },
         Err(_) => Kept::nothing(alloc, Fault::NoReader),
     }
-}
-
-// All that a session has before its first read.
-struct Rooms<L: BoardName, R: Wait + Drop, K: Keeper> {
-    board: Board<L, R, K>,
-    intake: Intake,
-    put: PutEnd,
-    posts: Posts<L>,
-    // For the orders that no worker takes.
-    tolds: Tolds,
-    inbox: Inbox,
-    replies: ReplyBuffer,
-}
-
-impl<L: BoardName, R: Wait + Drop, K: Keeper + Drop> Rooms<L, R, K> {
-    #[tactic(auto, using(crate::proofs::ServingLemmas::as_many))]
-    fn new(
-        alloc: Global,
-        rt: R,
-        keeper: K,
-        blank: Blank,
-        log: FreshLog,
-        workers: u32,
-        rules: Rules,
-    ) -> Result<Rooms<L, R, K>, OpenFault>
-        requires none { K.lines keeper ≡ [] }
-        requires named { (blank.name ≡ L.name) × (blank.parts ≡ L.parts) }
-        requires log { log ≡ L.log }
-        requires parts { (workers ≡ L.parts) × (L.workers ≡ L.parts) }
-        requires rules { rules ≡ L.rules }
-        requires workers { (0 < workers) × (workers ≤ 16) }
-        ensures seats { IfOk result (λ rooms.
-            map (λ seat. seat.worker) rooms.posts.seats.items ≡ range_with_len 0 workers) }
-        ensures ends { IfOk result (λ rooms. All (IsFresh rooms.intake) rooms.posts.ends.items) }
-        ensures put { IfOk result (λ rooms. (rooms.put.of ≡ rooms.intake) × (rooms.put.takers ≡ workers)
-            × (rooms.put.closed ≡ false) × (rooms.put.put ≡ [])) }
-        ensures unread { IfOk result (λ rooms. IsUnread rooms.inbox) }
-        ensures none { IfOk result (λ rooms. rooms.replies ≡ []) }
-    {
-        let stock = Stock::<L>::new(alloc, workers)?;
-        let (board, seats) = Board::<L, R, K>::over(alloc, rt, keeper, blank, log, workers, rules)?;
-        let Stock {
-            intake,
-            put,
-            ends,
-            tolds,
-            inbox,
-            replies,
-            each,
-            threads,
-            back,
-        } = stock;
-        let posts = Posts {
-            seats,
-            ends,
-            tolds: each,
-            threads,
-            back,
-        };
-        Ok(Rooms {
-            board,
-            intake,
-            put,
-            posts,
-            tolds,
-            inbox,
-            replies,
-        })
-    }
-}
-
-// What a session has before its first read beside its board: its intake with all ends, and memory for all that is to come.
-#[derive(Drop)]
-struct Stock<L: BoardName> {
-    intake: Intake,
-    put: PutEnd,
-    ends: Vec<TakeEnd>,
-    // For the orders that no worker takes.
-    tolds: Tolds,
-    inbox: Inbox,
-    replies: ReplyBuffer,
-    // For the replies of an order, for each worker.
-    each: Vec<Tolds>,
-    threads: Vec<Thread<L>>,
-    back: Back<L>,
-}
-
-impl<L: BoardName> Stock<L> {
-    fn new(alloc: Global, workers: u32) -> Result<Stock<L>, NoMemory>
-        requires workers { (0 < workers) × (workers ≤ 16) }
-        ensures ends { IfOk result (λ stock. All (IsFresh stock.intake) stock.ends.items) }
-        ensures put { IfOk result (λ stock. (stock.put.of ≡ stock.intake) × (stock.put.takers ≡ workers)
-            × (stock.put.closed ≡ false) × (stock.put.put ≡ [])) }
-        ensures unread { IfOk result (λ stock. IsUnread stock.inbox) }
-        ensures none { IfOk result (λ stock. (stock.replies ≡ []) × (stock.threads.items ≡ [])
-            × (stock.back.seats.items ≡ []) × (stock.back.ends.items ≡ [])) }
-        ensures room { IfOk result (λ stock. (workers ≤ vec_capacity stock.threads)
-            × (workers ≤ vec_capacity stock.back.seats) × (workers ≤ vec_capacity stock.back.ends)) }
-    {
-        let (intake, put, ends) = Intake::new(alloc, workers)?;
-        Ok(Stock {
-            intake,
-            put,
-            ends,
-            tolds: Tolds::new(alloc)?,
-            inbox: Inbox::new(alloc)?,
-            replies: ReplyBuffer::with_bytes(alloc, BATCH_BYTES)?,
-            each: rooms_for_replies(alloc, workers)?,
-            threads: Vec::with_capacity(alloc, workers as usize)?,
-            back: Back::with_room(alloc, workers)?,
-        })
-    }
-}
-
-// Room for the replies of an order, for each worker.
-fn rooms_for_replies(alloc: Global, workers: u32) -> Result<Vec<Tolds>, NoMemory> {
-    let mut tolds = Vec::with_capacity(alloc, workers as usize)?;
-    for _ in 0..workers {
-        tolds.push(Tolds::new(alloc)?)?;
-    }
-    Ok(tolds)
 }

@@ -10,12 +10,15 @@ ghost use Rattle.fl_session.specs.Talk.{answered, bytes_of, goodbye_to, standing
 ghost use Rattle.fl_wire.specs.Layout.{opcode_of};
 ghost use Rattle.fl_wire.specs.Says.{said};
 
+mod state;
+
 use crate::batch::Batch;
 use fl_core::{Rules, Tolds};
 use fl_desk::Desk;
 use fl_keeper::Keeper;
 use fl_order::{Answer, Errno, NoMemory, OpKind, Order, Refusal, Told};
 use fl_wire::{Frame, InitStep, read_init, read_order};
+pub(crate) use state::Server;
 use std::alloc::Global;
 use std::io::Write;
 
@@ -127,16 +130,6 @@ impl Talk {
     }
 }
 
-/// The lock directory of a session, and how far the session is. Its lines go to a keeper.
-#[derive(Drop)]
-pub(crate) struct Server<K: Keeper> {
-    pub desk: Desk<K>,
-    pub tolds: Tolds,
-    pub talk: Talk,
-    /// Some order was refused for want of memory.
-    pub refused: bool,
-}
-
 impl<K: Keeper> Server<K> {
     /// No message came yet, and the keeper has no line. Requests will wait by these rules.
     pub(crate) fn new(alloc: Global, keeper: K, rules: Rules) -> Result<Server<K>, NoMemory>
@@ -148,7 +141,7 @@ impl<K: Keeper> Server<K> {
     {
         Ok(Server {
             desk: Desk::over(alloc, keeper, rules)?,
-            tolds: Tolds::new(alloc)?,
+            tolds: Tolds::new(alloc, rules)?,
             talk: Talk::new(),
             refused: false,
         })

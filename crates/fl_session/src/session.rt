@@ -133,7 +133,7 @@ pub fn run_session<R: Read, W: Write>(alloc: Global, r: &mut R, w: &mut W, rules
 }
 
 /// The same, but its lines go to this keeper, which has none so far. The keeper comes back with them, but at `NoMemory`,
-/// where it is let go and nothing was read. It is told before each read that no order is at hand.
+/// where it is let go, and nothing was read or written. It is told before each read that no order is at hand.
 pub fn run_over<R: Read, W: Write, K: Keeper + Drop>(
     alloc: Global,
     r: &mut R,
@@ -148,6 +148,7 @@ pub fn run_over<R: Read, W: Write, K: Keeper + Drop>(
     ensures back { IsSome result.0.keeper ⊎ (result.0.fault ≡ Some Fault.NoMemory) }
     ensures nothing { result.0.fault ≡ Some Fault.NoMemory
         → (result.0.keeper ≡ None) × Keeps (R.remaining r.old) (R.remaining r.new) }
+    ensures unwritten { result.0.fault ≡ Some Fault.NoMemory → Keeps (W.contents w.old) (W.contents w.new) }
 {
     let Ok((mut inbox, server, replies)) = memory(alloc, keeper, rules) else {
         return (Kept::nothing(alloc, Fault::NoMemory), false);

@@ -13,11 +13,12 @@ pub data IsSpelling : List ℕ → Type 0 where
   told : (reply : Told) → IsSpelling (spelling_of reply)
   greeted : (unique : ℕ) (step : InitStep) → IsSpelling (init_spelling unique step)
 
--- what a shared writer holds, the bytes that wait for it, and whether a write failed
+-- what a shared writer holds, the bytes that wait for it, whether a write failed, and whether the session has begun
 pub record Outgoing : Type 0 where
   pub held : Option (List ℕ)
   pub waiting : List ℕ
   pub broken : Bool
+  pub begun : Bool
 
 -- some replies were given, each that to an order or to an INIT
 pub record HasSent (start held : Option (List ℕ)) (waiting : List ℕ) (broken : Bool) : Type 0 where

@@ -1,6 +1,6 @@
 //! What a worker needs: a counter at which it hands orders in and looks, and a gate that is told of them.
 
-ghost use Rattle.std.specs.Prelude.{◌≡◌, ℕ, ◌+◌, true, OnOk, OnErr};
+ghost use Rattle.std.specs.Prelude.{◌≡◌, ◌≤◌, ℕ, ◌+◌, true, OnOk, OnErr};
 ghost use Rattle.fl_order.specs.Order.{only_reads};
 ghost use Rattle.fl_workers.specs.Asked.{Orders, asked_by};
 ghost use Rattle.fl_workers.specs.Worked.{IsAskedLast};
@@ -25,7 +25,10 @@ pub trait Counter {
     /// The orders of the seat's worker in the history up to the last that was taken through it.
     ghost asked: { Self.Seat → Orders };
 
-    /// Takes an order, and hands out its replies. A refusal hands out nothing.
+    /// How many replies an order may be given.
+    ghost most_tolds: { ℕ };
+
+    /// Takes an order, and hands out its replies, for which there has to be room. A refusal hands out nothing.
     fn hand_in<R: Wait>(
         &self,
         rt: &R,
@@ -33,6 +36,8 @@ pub trait Counter {
         order: &Order,
         tolds: &mut Tolds,
     ) -> Result<(), HandFault>
+        requires room { most_tolds ≤ tolds.old.room }
+        ensures room { tolds.new.room ≡ tolds.old.room }
         ensures own { worker seat.new ≡ worker seat.old }
         ensures taken { OnOk result
             ((count seat.new ≡ count seat.old + 1) × IsAskedLast (asked seat.old) order.now (asked seat.new)) }
@@ -58,6 +63,8 @@ impl<L: BoardName, P: Wait + Drop, K: Keeper> Counter for Board<L, P, K> {
     ghost worker = { λ seat. seat.worker };
 
     ghost asked = { λ seat. asked_by seat.worker seat.own };
+
+    ghost most_tolds = { L.rules.parked + 1 };
 
     fn hand_in<R: Wait>(
         &self,

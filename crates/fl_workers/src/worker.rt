@@ -1,6 +1,6 @@
 //! What a worker of a session does.
 
-ghost use Rattle.std.specs.Prelude.{◌≡◌, ◌++◌, ◌∷◌, [], true, option_to_list, IfSome, IsSome};
+ghost use Rattle.std.specs.Prelude.{◌≡◌, ◌≤◌, ◌++◌, ◌∷◌, [], true, option_to_list, IfSome, IsSome};
 ghost use Rattle.fl_order.specs.Order.{only_reads};
 ghost use Rattle.fl_workers.specs.Worked.{HasDone, HasWorked};
 
@@ -27,7 +27,7 @@ pub struct Worked<S> {
 /// Takes orders until the intake is closed and empty. It looks for those that only read, and hands in all others, and those
 /// for which nothing could be shown, at its seat. Seat and end come back. It gives all replies to be sent; of an
 /// order that is refused, the reply that says so, if one is owed. Before it waits for an order it sends what is collected, and
-/// before it sleeps it tells the counter.
+/// before it sleeps it tells the counter. There has to be room for the replies of any order.
 pub fn worker_loop<R: Wait, C: Counter, G: Gate, W: Write, N: WriterName>(
     rt: &R,
     counter: &C,
@@ -40,6 +40,7 @@ pub fn worker_loop<R: Wait, C: Counter, G: Gate, W: Write, N: WriterName>(
 ) -> Worked<C::Seat>
     requires end { end.of ≡ intake.now }
     requires fresh { C.count seat ≡ 0 }
+    requires room { C.most_tolds ≤ tolds.room }
     ensures end { result.end.of ≡ intake.now }
     ensures own { C.worker result.seat ≡ C.worker seat }
     ensures did { HasDone end.taken result.end.taken (C.asked result.seat) (C.count result.seat) result.refused }
@@ -67,6 +68,7 @@ pub fn handle_all<R: Wait, C: Counter, G: Gate, W: Write, N: WriterName>(
     tolds: Tolds,
     orders: Vec<Job>,
 ) -> bool
+    requires room { C.most_tolds ≤ tolds.room }
     ensures own { C.worker seat.new ≡ C.worker seat.old }
     ensures did { HasWorked orders.items (C.asked seat.old) (C.asked seat.new) (C.count seat.old) (C.count seat.new)
         result }
@@ -90,6 +92,8 @@ fn handle<R: Wait, C: Counter, G: Gate, W: Write, N: WriterName>(
     tolds: &mut Tolds,
     order: &Order,
 ) -> bool
+    requires room { C.most_tolds ≤ tolds.old.room }
+    ensures room { tolds.new.room ≡ tolds.old.room }
     ensures own { C.worker seat.new ≡ C.worker seat.old }
     ensures did { HasWorked (order.now ∷ []) (C.asked seat.old) (C.asked seat.new) (C.count seat.old) (C.count seat.new)
         result }

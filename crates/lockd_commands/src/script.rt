@@ -124,7 +124,7 @@ fn take_all(alloc: Global, rules: Rules, asks: &[AskLine]) -> Result<History, Fa
     ensures error { IfErr result (λ fault. fault ≡ Fault.NoMemory) }
 {
     let mut desk = Desk::new(alloc, rules)?;
-    let mut tolds = Tolds::new(alloc)?;
+    let mut tolds = Tolds::new(alloc, rules)?;
     for ask in asks {
         desk.take(ask.worker, &ask.order, &mut tolds)?;
     }

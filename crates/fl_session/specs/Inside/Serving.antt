@@ -8,7 +8,7 @@ use Rattle.fl_session.specs.Session.{Session, after_init, with_message, with_ord
 use Rattle.fl_session.specs.Talk.{answered, bytes_of, standing}
 use Rattle.fl_session.specs.declared.server.Met.{Met}
 use Rattle.fl_session.specs.declared.server.Met.TheVariants as met
-use Rattle.fl_session.specs.declared.server.Server.{Server}
+use Rattle.fl_session.specs.declared.server.state.Server.{Server}
 use Rattle.fl_session.specs.declared.server.Talk.{Talk}
 
 -- A message that says this, after an INIT is agreed, is an order or a batch of them and changes nothing yet, or the

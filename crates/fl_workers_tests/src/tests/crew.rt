@@ -6,7 +6,7 @@ use super::BATCH_BYTES;
 use super::came::Came;
 use super::tally::{Seat, Tally};
 use super::watch::Watch;
-use fl_core::Tolds;
+use fl_core::{Rules, Tolds};
 use fl_intake::{Intake, Job, PutEnd, TakeEnd};
 use fl_session::{Owed, ReplyBuffer};
 use fl_workers::{Shared, Worked, WriterName, worker_loop};
@@ -14,6 +14,7 @@ use std::alloc::Global;
 use std::marker::Brand;
 use std::process::Abort;
 use std::sync::atomic::{AtomicU64, Ordering};
+use std::sync::ledger::{Blank, Share};
 use std::sync::{Mutex, Wait};
 use std::thread;
 use std::thread::Threads;
@@ -37,7 +38,8 @@ pub(super) fn worked<R: Threads + Wait + Clock + Abort + Sync>(
         tally,
         workers: of_workers(workers),
     };
-    let (came, _) = worked_at::<Brand, R>(rt, alloc, staff, gate, orders, out);
+    let sending = Blank::new(1);
+    let (came, _) = worked_at::<Brand, R>(rt, alloc, sending, staff, gate, orders, out);
     came
 }
 
@@ -63,30 +65,35 @@ struct Staff {
 fn worked_at<'w, N: WriterName + Send + Sync, R: Threads + Wait + Clock + Abort + Sync>(
     rt: &R,
     alloc: Global,
+    sending: Blank,
     staff: Staff,
     gate: &Watch,
     orders: &[Job],
     out: &'w mut Vec<u8>,
 ) -> (Came, &'w mut Vec<u8>)
     requires start { Some out.old.items ≡ N.start }
-    requires named { out.ghost_name ≡ N.name }
+    requires named { out.ghost_name ≡ N.writer }
+    requires sending { (sending.name ≡ N.name) × (sending.parts ≡ N.parts) × (0 < N.parts) }
     requires workers { (0 < staff.workers) × (staff.workers ≤ 16) }
 {
     let replies = ReplyBuffer::with_bytes(alloc, BATCH_BYTES).expect(rt, "memory");
     let (intake, put, ends) = Intake::new(alloc, staff.workers).expect(rt, "memory");
+    let (shared, permit) = Shared::<'w, Vec<u8>, N>::new(sending, replies, out);
     let crew = Crew {
         rt,
         alloc,
         tally: staff.tally,
         gate,
         intake,
-        shared: Mutex::new(Shared::<'w, Vec<u8>, N>::new(replies, out)),
+        shared: Mutex::new(shared),
         started: AtomicU64::new(0),
         came: Mutex::new(Came::new(alloc)),
     };
+    let mut permit = permit;
+    crew.begin(&mut permit);
     crew.run(put, ends, orders);
     let Crew { shared, came, .. } = crew;
-    let (out, broken) = shared.into_inner().close(&Owed::Nothing);
+    let (out, broken) = shared.into_inner().close(permit, &Owed::Nothing);
     assert!(rt; !broken);
     (came.into_inner(), out)
 }
@@ -111,6 +118,15 @@ impl<'a, 'w, N: WriterName + Send + Sync, R: Threads + Wait + Clock + Abort + Sy
     N,
     R,
 > {
+    // Replies may go out from here on.
+    fn begin(&self, permit: &mut Share<N>)
+        requires { (0 < N.parts) × (permit.old.parts ≡ N.parts) × (permit.old.amount ≡ 0) }
+        ensures { permit.new.parts ≡ N.parts }
+    {
+        let mut shared = self.shared.lock(self.rt);
+        shared.begin(permit);
+    }
+
     // Puts all orders while a worker for each end takes them.
     fn run(&self, put: PutEnd, ends: Vec<TakeEnd>, orders: &[Job])
         requires put { put.of ≡ self.now.intake }
@@ -142,7 +158,7 @@ impl<'a, 'w, N: WriterName + Send + Sync, R: Threads + Wait + Clock + Abort + Sy
     {
         let worker = self.started.fetch_add(1, Ordering::SeqCst);
         let seat = Seat::new(self.rt, self.alloc, worker);
-        let tolds = Tolds::new(self.alloc).expect(self.rt, "memory");
+        let tolds = Tolds::new(self.alloc, Rules::standard()).expect(self.rt, "memory");
         let Worked { seat, end, refused } = worker_loop(
             self.rt,
             &self.tally,

@@ -1,17 +1,18 @@
 //! Orders that are handled at one seat, with no intake.
 
-ghost use Rattle.std.specs.Prelude.{◌≡◌, Some};
+ghost use Rattle.std.specs.Prelude.{◌≡◌, ◌<◌, Some};
 
 use super::BATCH_BYTES;
 use super::came::Came;
 use super::tally::{Seat, Tally};
-use fl_core::Tolds;
+use fl_core::{Rules, Tolds};
 use fl_intake::Job;
 use fl_session::{Owed, ReplyBuffer};
 use fl_workers::{OpenGate, Shared, WriterName, handle_all};
 use std::alloc::Global;
 use std::marker::Brand;
 use std::process::Abort;
+use std::sync::ledger::Blank;
 use std::sync::{Mutex, Wait};
 
 /// Handles all orders at one seat, and puts the replies behind what was there.
@@ -22,7 +23,8 @@ pub(super) fn handled<R: Wait + Abort>(
     orders: Vec<Job>,
     out: &mut Vec<u8>,
 ) -> Came {
-    let (came, _) = handled_at::<Brand, R>(rt, alloc, tally, orders, out);
+    let sending = Blank::new(1);
+    let (came, _) = handled_at::<Brand, R>(rt, alloc, sending, tally, orders, out);
     came
 }
 
@@ -30,19 +32,25 @@ pub(super) fn handled<R: Wait + Abort>(
 fn handled_at<'w, N: WriterName, R: Wait + Abort>(
     rt: &R,
     alloc: Global,
+    sending: Blank,
     tally: Tally,
     orders: Vec<Job>,
     out: &'w mut Vec<u8>,
 ) -> (Came, &'w mut Vec<u8>)
     requires start { Some out.old.items ≡ N.start }
-    requires named { out.ghost_name ≡ N.name }
+    requires named { out.ghost_name ≡ N.writer }
+    requires sending { (sending.name ≡ N.name) × (sending.parts ≡ N.parts) × (0 < N.parts) }
 {
     let replies = ReplyBuffer::with_bytes(alloc, BATCH_BYTES).expect(rt, "memory");
-    let tolds = Tolds::new(alloc).expect(rt, "memory");
-    let shared = Mutex::new(Shared::<'w, Vec<u8>, N>::new(replies, out));
+    let tolds = Tolds::new(alloc, Rules::standard()).expect(rt, "memory");
+    let (shared, permit) = Shared::<'w, Vec<u8>, N>::new(sending, replies, out);
+    let mut shared = shared;
+    let mut permit = permit;
+    shared.begin(&mut permit);
+    let shared = Mutex::new(shared);
     let mut seat = Seat::new(rt, alloc, 0);
     let refused = handle_all(rt, &tally, &OpenGate, &shared, &mut seat, tolds, orders);
-    let (out, broken) = shared.into_inner().close(&Owed::Nothing);
+    let (out, broken) = shared.into_inner().close(permit, &Owed::Nothing);
     assert!(rt; !broken);
     let mut came = Came::new(alloc);
     came.keep(rt, &seat, refused);

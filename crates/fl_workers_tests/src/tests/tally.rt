@@ -35,6 +35,7 @@ pub(super) struct Seat {
     pub looks: Vec<u64>,
     tries: u64,
     core: Core,
+    ghost parked: { core.rules.parked ≡ 256 },
 }
 
 impl Seat {
@@ -62,6 +63,8 @@ impl Counter for Tally {
     ghost worker = { λ seat. seat.worker };
 
     ghost asked = { λ seat. seat.orders.items };
+
+    ghost most_tolds = { 257 };
 
     #[tactic(auto, using(crate::proofs::SeatLemmas::asked_last))]
     fn hand_in<R: Wait>(

@@ -85,7 +85,7 @@ fn history_of_a_board<L: BoardName, R: Abort + Wait>(
     requires parts { (16 ≡ L.parts) × (L.workers ≡ L.parts) }
     requires rules { rules ≡ L.rules }
 {
-    let mut tolds = Tolds::new(alloc).expect(rt, "memory");
+    let mut tolds = Tolds::new(alloc, rules).expect(rt, "memory");
     let (board, mut seats) = Board::<L, &R>::new(alloc, rt, blank, log, 16, rules).expect(
         rt, "memory",
     );

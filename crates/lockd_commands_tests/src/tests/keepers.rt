@@ -34,7 +34,7 @@ fn asked_of<K: Keeper + Drop>(rt: &impl Abort, alloc: Global, trace: &History, k
     requires { K.lines kept ≡ [] }
 {
     let mut desk = Desk::over(alloc, kept, Rules::standard()).expect(rt, "memory");
-    let mut tolds = Tolds::new(alloc).expect(rt, "memory");
+    let mut tolds = Tolds::new(alloc, Rules::standard()).expect(rt, "memory");
     for at in 0..trace.len() {
         if let Line::Asked { worker, order } = trace.line(at) {
             let taken = desk.take(worker, &order, &mut tolds).is_ok();

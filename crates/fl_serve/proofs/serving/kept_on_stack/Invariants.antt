@@ -10,4 +10,7 @@ abbrev pub ghosts-serve_at-L-LogName : goal.ghosts-serve_at-L-LogName
 ghosts-serve_at-L-LogName g a = record { log = a.log }
 
 abbrev pub ghosts-serve_at-N-WriterName : goal.ghosts-serve_at-N-WriterName
-ghosts-serve_at-N-WriterName g a = record { name = a.w.ghost_name; start = g.W.Write.contents a.w.now }
+ghosts-serve_at-N-WriterName g a = record { writer = a.w.ghost_name; start = g.W.Write.contents a.w.now }
+
+abbrev pub ghosts-serve_at-N-Ledger : goal.ghosts-serve_at-N-Ledger
+ghosts-serve_at-N-Ledger g a = record { name = a.sending.name; parts = a.sending.parts }

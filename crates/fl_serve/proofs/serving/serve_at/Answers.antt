@@ -36,9 +36,16 @@ finished-requires g c =
       some = omega (arith, workers, seats, back, there, range, c.requires.workers.0);
       whose = search rules;
       did = worked.did;
+      replies = search rules;
+      permit = (c.run-back.ensures.permit, c.run-back.ensures.begun some);
     }
 
 pub returns-clause-served : goal.returns-clause-served
 returns-clause-served g c =
     let some : c.run-back.result.1.fault ≢ Some NoMemory = search rules in
     rw (c.requires.rules, c.requires.start) (c.finished.ensures.served _ _ (c.run-back.ensures.heard some))
+
+pub returns-clause-untold : goal.returns-clause-untold
+returns-clause-untold g c =
+    let some : c.run-back.result.1.fault ≢ Some NoMemory = search rules in
+    c.finished.ensures.untold _ _ (c.run-back.ensures.heard some)

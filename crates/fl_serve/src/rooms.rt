@@ -1,0 +1,148 @@
+//! What a session with workers has before its first read.
+
+ghost use Rattle.std.specs.Prelude.{◌≡◌, ◌≤◌, ◌<◌, [], All, false, map, vec_capacity, IfOk};
+ghost use Rattle.std.specs.List.{range_with_len};
+ghost use Rattle.fl_core.specs.Tolds.{HasRoom};
+ghost use Rattle.fl_crew.specs.Working.{IsFresh};
+ghost use Rattle.fl_session.specs.Inbox.{IsUnread};
+
+use fl_board::{Board, BoardName, FreshLog, OpenFault};
+use fl_core::{Rules, Tolds};
+use fl_crew::{Back, Posts, Thread};
+use fl_intake::{Intake, PutEnd, TakeEnd};
+use fl_keeper::Keeper;
+use fl_order::NoMemory;
+use fl_session::{Inbox, ReplyBuffer};
+use std::alloc::Global;
+use std::sync::Wait;
+use std::sync::ledger::Blank;
+
+// The most bytes of replies that go out together: those of some 32 locks. Fewer would cost more writes, and more would keep
+// a client waiting that has its next orders ready by then.
+const BATCH_BYTES: usize = 672;
+
+/// All that a session has before its first read.
+pub(crate) struct Rooms<L: BoardName, R: Wait + Drop, K: Keeper> {
+    pub board: Board<L, R, K>,
+    pub intake: Intake,
+    pub put: PutEnd,
+    pub posts: Posts<L>,
+    /// For the orders that no worker takes.
+    pub tolds: Tolds,
+    pub inbox: Inbox,
+    pub replies: ReplyBuffer,
+}
+
+impl<L: BoardName, R: Wait + Drop, K: Keeper + Drop> Rooms<L, R, K> {
+    /// A board over this keeper, with so many workers, and memory for all that is to come under these rules.
+    #[tactic(auto, using(crate::proofs::ServingLemmas::as_many))]
+    pub(crate) fn new(
+        alloc: Global,
+        rt: R,
+        keeper: K,
+        blank: Blank,
+        log: FreshLog,
+        workers: u32,
+        rules: Rules,
+    ) -> Result<Rooms<L, R, K>, OpenFault>
+        requires none { K.lines keeper ≡ [] }
+        requires named { (blank.name ≡ L.name) × (blank.parts ≡ L.parts) }
+        requires log { log ≡ L.log }
+        requires parts { (workers ≡ L.parts) × (L.workers ≡ L.parts) }
+        requires rules { rules ≡ L.rules }
+        requires workers { (0 < workers) × (workers ≤ 16) }
+        ensures seats { IfOk result (λ rooms.
+            map (λ seat. seat.worker) rooms.posts.seats.items ≡ range_with_len 0 workers) }
+        ensures ends { IfOk result (λ rooms. All (IsFresh rooms.intake) rooms.posts.ends.items) }
+        ensures put { IfOk result (λ rooms. (rooms.put.of ≡ rooms.intake) × (rooms.put.takers ≡ workers)
+            × (rooms.put.closed ≡ false) × (rooms.put.put ≡ [])) }
+        ensures unread { IfOk result (λ rooms. IsUnread rooms.inbox) }
+        ensures none { IfOk result (λ rooms. rooms.replies ≡ []) }
+        ensures replies { IfOk result (λ rooms. HasRoom L.rules rooms.tolds) }
+    {
+        let stock = Stock::<L>::new(alloc, workers, rules)?;
+        let (board, seats) = Board::<L, R, K>::over(alloc, rt, keeper, blank, log, workers, rules)?;
+        let Stock {
+            intake,
+            put,
+            ends,
+            tolds,
+            inbox,
+            replies,
+            each,
+            threads,
+            back,
+        } = stock;
+        let posts = Posts {
+            seats,
+            ends,
+            tolds: each,
+            threads,
+            back,
+        };
+        Ok(Rooms {
+            board,
+            intake,
+            put,
+            posts,
+            tolds,
+            inbox,
+            replies,
+        })
+    }
+}
+
+// What a session has before its first read beside its board: its intake with all ends, and memory for all that is to come.
+#[derive(Drop)]
+struct Stock<L: BoardName> {
+    intake: Intake,
+    put: PutEnd,
+    ends: Vec<TakeEnd>,
+    // For the orders that no worker takes.
+    tolds: Tolds,
+    inbox: Inbox,
+    replies: ReplyBuffer,
+    // For the replies of an order, for each worker.
+    each: Vec<Tolds>,
+    threads: Vec<Thread<L>>,
+    back: Back<L>,
+}
+
+impl<L: BoardName> Stock<L> {
+    fn new(alloc: Global, workers: u32, rules: Rules) -> Result<Stock<L>, NoMemory>
+        requires workers { (0 < workers) × (workers ≤ 16) }
+        ensures ends { IfOk result (λ stock. All (IsFresh stock.intake) stock.ends.items) }
+        ensures put { IfOk result (λ stock. (stock.put.of ≡ stock.intake) × (stock.put.takers ≡ workers)
+            × (stock.put.closed ≡ false) × (stock.put.put ≡ [])) }
+        ensures unread { IfOk result (λ stock. IsUnread stock.inbox) }
+        ensures none { IfOk result (λ stock. (stock.replies ≡ []) × (stock.threads.items ≡ [])
+            × (stock.back.seats.items ≡ []) × (stock.back.ends.items ≡ [])) }
+        ensures room { IfOk result (λ stock. (workers ≤ vec_capacity stock.threads)
+            × (workers ≤ vec_capacity stock.back.seats) × (workers ≤ vec_capacity stock.back.ends)) }
+        ensures replies { IfOk result (λ stock. HasRoom rules stock.tolds × All (HasRoom rules) stock.each.items) }
+    {
+        let (intake, put, ends) = Intake::new(alloc, workers)?;
+        Ok(Stock {
+            intake,
+            put,
+            ends,
+            tolds: Tolds::new(alloc, rules)?,
+            inbox: Inbox::new(alloc)?,
+            replies: ReplyBuffer::with_bytes(alloc, BATCH_BYTES)?,
+            each: rooms_for_replies(alloc, workers, rules)?,
+            threads: Vec::with_capacity(alloc, workers as usize)?,
+            back: Back::with_room(alloc, workers)?,
+        })
+    }
+}
+
+// Room for the replies of an order under these rules, for each worker.
+fn rooms_for_replies(alloc: Global, workers: u32, rules: Rules) -> Result<Vec<Tolds>, NoMemory>
+    ensures { IfOk result (λ tolds. All (HasRoom rules) tolds.items) }
+{
+    let mut tolds = Vec::with_capacity(alloc, workers as usize)?;
+    for _ in 0..workers {
+        tolds.push(Tolds::new(alloc, rules)?)?;
+    }
+    Ok(tolds)
+}
