@@ -2,6 +2,7 @@
 //! only look random, stored texts, and some sessions as text.
 #![tactic(auto)]
 
+mod messages;
 mod numbers;
 mod readers;
 mod sessions;
@@ -9,6 +10,7 @@ mod stored;
 mod trouble;
 mod writers;
 
+pub use messages::{GETLK, Lock, Messages, READ, SETLK, SETLKW, UNLOCK, WRITE, byte_lock};
 pub use numbers::Numbers;
 pub use readers::{Newlines, Source};
 pub use sessions::{fair_sessions, init, init_reply, two_locks};

@@ -3,22 +3,22 @@
 use std::alloc::{AllocError, Global};
 
 // Opcodes of messages about locks.
-pub(super) const GETLK: u32 = 31;
+pub const GETLK: u32 = 31;
 
-pub(super) const SETLK: u32 = 32;
+pub const SETLK: u32 = 32;
 
-pub(super) const SETLKW: u32 = 33;
+pub const SETLKW: u32 = 33;
 
 // Types of locks.
-pub(super) const READ: u32 = 0;
+pub const READ: u32 = 0;
 
-pub(super) const WRITE: u32 = 1;
+pub const WRITE: u32 = 1;
 
-pub(super) const UNLOCK: u32 = 2;
+pub const UNLOCK: u32 = 2;
 
 /// What a message about a lock asks, of the bytes `start` to `end`.
 #[derive(Clone, Copy)]
-pub(super) struct Lock {
+pub struct Lock {
     pub fh: u64,
     pub owner: u64,
     pub start: u64,
@@ -27,7 +27,7 @@ pub(super) struct Lock {
 }
 
 /// A lock of byte 0 through the first fh.
-pub(super) fn byte_lock(owner: u64, kind: u32) -> Lock {
+pub fn byte_lock(owner: u64, kind: u32) -> Lock {
     Lock {
         fh: 1,
         owner,
@@ -39,7 +39,7 @@ pub(super) fn byte_lock(owner: u64, kind: u32) -> Lock {
 
 /// Messages, one behind the other.
 #[derive(Drop)]
-pub(super) struct Messages {
+pub struct Messages {
     pub bytes: Vec<u8>,
 }
 
@@ -49,14 +49,14 @@ fn pair(first: u32, second: u32) -> u64 {
 }
 
 impl Messages {
-    pub(super) fn new(alloc: Global) -> Messages {
+    pub fn new(alloc: Global) -> Messages {
         Messages {
             bytes: Vec::new(alloc),
         }
     }
 
     /// An INIT at 7.31, of the unique 1.
-    pub(super) fn with_init(alloc: Global) -> Result<Messages, AllocError> {
+    pub fn with_init(alloc: Global) -> Result<Messages, AllocError> {
         let mut messages = Messages::new(alloc);
         messages.longs(&[pair(56, 26), 1, 0, 0, 0, pair(7, 31), 0])?;
         Ok(messages)
@@ -76,34 +76,34 @@ impl Messages {
     }
 
     /// A message without a body. Its uid, gid, pid and padding are 0, as those of the messages below.
-    pub(super) fn bare(&mut self, opcode: u32, unique: u64, node: u64) -> Result<(), AllocError> {
+    pub fn bare(&mut self, opcode: u32, unique: u64, node: u64) -> Result<(), AllocError> {
         self.longs(&[pair(40, opcode), unique, node, 0, 0])
     }
 
     /// LOOKUP in the root.
-    pub(super) fn lookup(&mut self, unique: u64, name: u64) -> Result<(), AllocError> {
+    pub fn lookup(&mut self, unique: u64, name: u64) -> Result<(), AllocError> {
         self.longs(&[pair(43, 1), unique, 1, 0, 0])?;
         self.name(name)
     }
 
     /// LOOKUP in the root, of a name of 15 letters that no file has. Its message is as long as that of a GETATTR.
-    pub(super) fn seek(&mut self, unique: u64) -> Result<(), AllocError> {
+    pub fn seek(&mut self, unique: u64) -> Result<(), AllocError> {
         let letters = u64::from_le_bytes(*b"aaaaaaaa");
         self.longs(&[pair(56, 1), unique, 1, 0, 0, letters, letters >> 8])
     }
 
-    pub(super) fn getattr(&mut self, unique: u64, node: u64) -> Result<(), AllocError> {
+    pub fn getattr(&mut self, unique: u64, node: u64) -> Result<(), AllocError> {
         self.longs(&[pair(56, 3), unique, node, 0, 0, 0, 0])
     }
 
     /// CREATE in the root.
-    pub(super) fn create(&mut self, unique: u64, name: u64) -> Result<(), AllocError> {
+    pub fn create(&mut self, unique: u64, name: u64) -> Result<(), AllocError> {
         self.longs(&[pair(59, 35), unique, 1, 0, 0, pair(0, 0o100_644), 0])?;
         self.name(name)
     }
 
     /// GETLK, SETLK or SETLKW, with the pid 11.
-    pub(super) fn lock(
+    pub fn lock(
         &mut self,
         opcode: u32,
         unique: u64,
@@ -115,23 +115,23 @@ impl Messages {
     }
 
     /// INTERRUPT of another unique.
-    pub(super) fn interrupt(&mut self, unique: u64, other: u64) -> Result<(), AllocError> {
+    pub fn interrupt(&mut self, unique: u64, other: u64) -> Result<(), AllocError> {
         self.longs(&[pair(48, 36), unique, 0, 0, 0, other])
     }
 
     /// UNLINK in the root.
-    pub(super) fn unlink(&mut self, unique: u64, name: u64) -> Result<(), AllocError> {
+    pub fn unlink(&mut self, unique: u64, name: u64) -> Result<(), AllocError> {
         self.longs(&[pair(43, 10), unique, 1, 0, 0])?;
         self.name(name)
     }
 
     /// RELEASE, without flags and of no owner.
-    pub(super) fn release(&mut self, unique: u64, node: u64, fh: u64) -> Result<(), AllocError> {
+    pub fn release(&mut self, unique: u64, node: u64, fh: u64) -> Result<(), AllocError> {
         self.longs(&[pair(64, 18), unique, node, 0, 0, fh, 0, 0])
     }
 
     /// BATCH_FORGET of one lookup of each of at most 100 nodes.
-    pub(super) fn batch(&mut self, unique: u64, nodes: &[u64]) -> Result<(), AllocError> {
+    pub fn batch(&mut self, unique: u64, nodes: &[u64]) -> Result<(), AllocError> {
         let pairs = nodes.len().min(100) as u32;
         self.longs(&[pair(48 + 16 * pairs, 42), unique, 0, 0, 0, pair(pairs, 0)])?;
         for node in nodes.iter().take(100) {
@@ -140,7 +140,7 @@ impl Messages {
         Ok(())
     }
 
-    pub(super) fn destroy(&mut self, unique: u64) -> Result<(), AllocError> {
+    pub fn destroy(&mut self, unique: u64) -> Result<(), AllocError> {
         self.bare(38, unique, 0)
     }
 }
