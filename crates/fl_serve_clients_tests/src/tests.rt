@@ -1,7 +1,5 @@
 //! Sessions with workers, over sockets, each with a client.
 
-ghost use Rattle.std.specs.Prelude.{◌<◌, ◌≤◌};
-
 mod batches;
 mod bursts;
 mod clients;
@@ -15,6 +13,7 @@ mod waiting;
 
 use fl_book::{History, Line, Rules, Verdict, check};
 use fl_serve::{Done, Fault, Gate, serve};
+use fl_testing::of_workers;
 use std::alloc::Global;
 use std::net::Net;
 use std::os::unix::net::UnixStream;
@@ -30,17 +29,6 @@ fn count_is(rt: &impl Abort, found: usize, wanted: usize) {
 // A session ended with the fault that is wanted.
 fn fault_is(rt: &impl Abort, found: Option<Fault>, wanted: Option<Fault>) {
     assert_eq!(rt; found, wanted);
-}
-
-// So many workers, of which there are 1 to 16.
-fn of_workers(workers: u32) -> u32
-    ensures { (0 < result) × (result ≤ 16) }
-{
-    if workers == 0 || workers > 16 {
-        1
-    } else {
-        workers
-    }
 }
 
 // The two ends of a socket.

@@ -1,7 +1,7 @@
 //! A client over a socket.
 
-use super::replies::{MOST_BODY, Reply, next_reply, read_replies};
-use fl_testing::Messages;
+use super::replies::{MOST_BODY, next_reply, read_replies};
+use fl_testing::{Messages, Reply};
 use std::alloc::Global;
 use std::io::{BufReader, Write};
 use std::net::Shutdown;

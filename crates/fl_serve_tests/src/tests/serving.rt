@@ -1,7 +1,5 @@
 //! Sessions with workers, over memory.
 
-ghost use Rattle.std.specs.Prelude.{◌<◌, ◌≤◌};
-
 mod batches;
 mod each_order;
 mod ends;
@@ -15,23 +13,13 @@ mod stacks;
 
 use fl_book::{History, Line, Rules, Verdict, check};
 use fl_serve::{Done, Fault, Gate, OpenGate, serve};
+use fl_testing::of_workers;
 use replies::sorted;
 use std::alloc::Global;
 use std::io::{Read, Write};
 use std::process::Abort;
 use std::sync::Wait;
 use std::thread::Threads;
-
-// So many workers, of which there are 1 to 16.
-fn of_workers(workers: u32) -> u32
-    ensures { (0 < result) × (result ≤ 16) }
-{
-    if workers == 0 || workers > 16 {
-        1
-    } else {
-        workers
-    }
-}
 
 // Serves under the standard rules with this many workers.
 fn served<R: Threads + Wait + Sync, I: Read, W: Write + Send + Drop, G: Gate + Sync>(
