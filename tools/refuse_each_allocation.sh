@@ -4,7 +4,7 @@
 # nothing on standard output, or else print all that
 # it prints otherwise. A session may refuse an order in place of that. It then answers ENOMEM, or EAGAIN where the order
 # is an INTERRUPT, or nothing where it is a FORGET, and goes on as if the order had never come. Wants a C compiler and
-# the GNU C library.
+# the GNU C library. In the same way it runs a test of `fl_stream_tests` that reads and prints a trace in memory, whose program the tests leave.
 set -eu
 command -v cc > /dev/null || { echo "refuse_each_allocation: not tried: there is no C compiler" >&2; exit 77; }
 . "$(dirname "$0")/../tools/built_lockd.sh"
@@ -108,6 +108,30 @@ filled() {
     tail -n +"$line" "$input"
 }
 
+# Refuses each allocation of a test, a built one. It tries again what says that there is no memory. So it ends well, and asks for
+# more allocations than it does otherwise.
+refuse_test() {
+    tests=crates/$1/out/$1_tests
+    name=$2
+    [ -n "${LOCKD:-}" ] || (cd "crates/$1" && rt test > /dev/null)
+    [ -x "$tests" ] || { echo "refuse_each_allocation: $name not tried: there is no program at $tests" >&2; return; }
+    ASKED="$work/asked" LD_PRELOAD="$work/refuse.so" "$tests" "$name" > /dev/null
+    count=$(cat "$work/asked")
+    failed=0
+    number=1
+    while [ "$number" -le "$count" ]; do
+        status=0
+        REFUSE=$number ASKED="$work/again" LD_PRELOAD="$work/refuse.so" "$tests" "$name" > "$work/out" 2> "$work/err" || status=$?
+        if [ "$status" -ne 0 ] || [ "$(cat "$work/again")" -le "$count" ]; then
+            echo "$name, allocation $number refused: status $status, $(cat "$work/err")"
+            failed=$((failed + 1))
+        fi
+        number=$((number + 1))
+    done
+    echo "$name: $count allocations refused in turn, $failed wrongly"
+    [ "$count" -gt 0 ] && [ "$failed" -eq 0 ]
+}
+
 refuse_each script crates/lockd/stdin "script"
 cmp "$work/wanted" crates/lockd/stdout
 refuse_each "check --quiet" crates/lockd/stdout "check --quiet"
@@ -147,3 +171,4 @@ while [ "$order" -le "$(wc -l < "$waiting")" ]; do
     refuse_each bytes "$work/filled" "bytes, waiting, no room at line $order" 2 "$moved" ${later#0}
     order=$((order + 1))
 done
+refuse_test fl_stream_tests tests::refused::a_trace_is_read_and_printed_by_the_second_try

@@ -1,4 +1,4 @@
-//! Tests of sessions with workers, over memory and over sockets.
+//! Tests of sessions with workers, over memory.
 #![tactic(auto)]
 
 #[cfg(test)]

@@ -4,6 +4,7 @@ ghost use Rattle.fl_stream.specs.Streams.{IsBlank};
 
 mod failing;
 mod printing;
+mod refused;
 mod whole;
 
 use fl_history::{History, Line};

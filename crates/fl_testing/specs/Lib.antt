@@ -1,2 +1,4 @@
 pub mod Inside
+pub mod Messages
+pub mod Replies
 pub mod Trouble

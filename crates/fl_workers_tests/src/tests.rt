@@ -3,6 +3,7 @@
 mod came;
 mod crew;
 mod crossing;
+mod finished;
 mod handling;
 mod left;
 mod looks;

@@ -1,52 +1,25 @@
-//! Sessions with workers, over memory and over sockets.
-
-ghost use Rattle.std.specs.Prelude.{◌<◌, ◌≤◌};
+//! Sessions with workers, over memory.
 
 mod batches;
-mod bursts;
-mod clients;
 mod each_order;
 mod ends;
 mod failures;
 mod fair;
-mod idle;
 mod keepers;
 mod late;
 mod memory;
-mod messages;
-mod million;
-mod piles;
-mod sockets;
+mod replies;
 mod stacks;
-mod talker;
-mod waiting;
 
 use fl_book::{History, Line, Rules, Verdict, check};
 use fl_serve::{Done, Fault, Gate, OpenGate, serve};
+use fl_testing::of_workers;
+use replies::sorted;
 use std::alloc::Global;
 use std::io::{Read, Write};
-use std::net::Net;
-use std::os::unix::net::UnixStream;
 use std::process::Abort;
 use std::sync::Wait;
 use std::thread::Threads;
-use talker::sorted;
-
-// So many workers, of which there are 1 to 16.
-fn of_workers(workers: u32) -> u32
-    ensures { (0 < result) × (result ≤ 16) }
-{
-    if workers == 0 || workers > 16 {
-        1
-    } else {
-        workers
-    }
-}
-
-// The two ends of a socket.
-fn socket_pair(rt: &(impl Abort + Net)) -> (UnixStream, UnixStream) {
-    UnixStream::pair(rt).expect(rt, "a socket")
-}
 
 // Serves under the standard rules with this many workers.
 fn served<R: Threads + Wait + Sync, I: Read, W: Write + Send + Drop, G: Gate + Sync>(
@@ -66,17 +39,6 @@ fn served<R: Threads + Wait + Sync, I: Read, W: Write + Send + Drop, G: Gate + S
 struct Came {
     done: Done,
     out: Vec<u8>,
-}
-
-// Serves a client at the other end of a socket with this many workers.
-fn serve_stream<R: Threads + Wait + Sync, G: Gate + Sync>(
-    rt: &R,
-    alloc: Global,
-    stream: UnixStream,
-    workers: u32,
-    gate: &G,
-) -> Done {
-    served(rt, alloc, &mut &stream, &mut &stream, workers, gate)
 }
 
 // Serves these messages with this many workers.

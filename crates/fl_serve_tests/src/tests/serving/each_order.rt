@@ -1,7 +1,7 @@
 //! Orders that workers take from one row.
 
-use super::messages::Messages;
 use super::{asked_in, serve_bytes};
+use fl_testing::Messages;
 use std::alloc::{AllocError, Global};
 use std::process::Abort;
 use std::sync::Wait;

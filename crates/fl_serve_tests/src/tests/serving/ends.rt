@@ -1,10 +1,9 @@
 //! How sessions with workers end: by the stream's end, by a fault of the reader, and by a DESTROY.
 
-use super::messages::Messages;
 use super::{ended, replied, serve_bytes, served};
 use crate::tests::count_is;
 use fl_serve::{Done, Fault, OpenGate};
-use fl_testing::{Source, Trouble, bytes_after};
+use fl_testing::{Messages, Source, Trouble, bytes_after};
 use std::alloc::{AllocError, Global};
 use std::process::Abort;
 use std::sync::Wait;

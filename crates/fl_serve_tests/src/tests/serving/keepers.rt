@@ -1,10 +1,11 @@
 //! A session whose lines go to a keeper of the caller's.
 
 use super::ends::twenty_orders;
-use super::{is_legal, of_workers, replied};
+use super::{is_legal, replied};
 use fl_book::{History, Keeper, Lines, Rules};
 use fl_order::{NoMemory, Order, Told};
 use fl_serve::{Kept, OpenGate, serve_over};
+use fl_testing::of_workers;
 use std::alloc::Global;
 use std::process::Abort;
 use std::sync::Wait;

@@ -1,10 +1,9 @@
 //! Orders that are held up until a DESTROY was read.
 
 use super::ends::{end_last, twenty_orders_and_a_destroy};
-use super::messages::Messages;
 use super::served;
 use fl_serve::Gate;
-use fl_testing::{Source, Trouble};
+use fl_testing::{Messages, Source, Trouble};
 use std::alloc::Global;
 use std::io;
 use std::io::Read;

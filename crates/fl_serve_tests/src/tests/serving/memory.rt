@@ -1,11 +1,11 @@
 //! Sessions over memory.
 
-use super::messages::{GETLK, Lock, Messages, READ, SETLK, SETLKW, UNLOCK, WRITE, byte_lock};
-use super::talker::{Reply, sorted};
+use super::replies::sorted;
 use super::{Came, ended, serve_bytes, served};
 use crate::tests::{are_bytes, count_is, fault_is};
 use fl_book::{History, Line, Rules, print_trace};
 use fl_serve::{Gate, run_one};
+use fl_testing::{GETLK, Lock, Messages, READ, Reply, SETLK, SETLKW, UNLOCK, WRITE, byte_lock};
 use std::alloc::{AllocError, Global};
 use std::process::Abort;
 use std::sync::Wait;

@@ -1,11 +1,10 @@
 //! A long session of mixed orders over a socket.
 
 use super::clients::{Client, Met, session};
-use super::messages::{GETLK, Lock, Messages, READ, SETLK, SETLKW, UNLOCK, WRITE};
-use super::talker::{MOST_BODY, next_reply};
-use super::{asked_in, is_legal};
-use crate::tests::{count_is, fault_is};
+use super::replies::{MOST_BODY, next_reply};
+use super::{asked_in, count_is, fault_is, is_legal};
 use fl_serve::OpenGate;
+use fl_testing::{GETLK, Lock, Messages, READ, SETLK, SETLKW, UNLOCK, WRITE};
 use std::alloc::{AllocError, Global};
 use std::io::{BufReader, Write};
 use std::net::Shutdown;

@@ -1,11 +1,10 @@
 //! Sessions over a socket with clients that wait for their replies.
 
 use super::clients::{Client, Met, session};
-use super::ended;
-use super::messages::{GETLK, Lock, Messages, READ, SETLK, UNLOCK, WRITE, byte_lock};
-use super::talker::{Talker, long_at, word_at};
-use crate::tests::{count_is, fault_is};
+use super::talker::Talker;
+use super::{count_is, ended, fault_is};
 use fl_serve::OpenGate;
+use fl_testing::{GETLK, Lock, Messages, READ, SETLK, UNLOCK, WRITE, byte_lock, long_at, word_at};
 use std::alloc::{AllocError, Global};
 use std::os::unix::net::UnixStream;
 use std::process::Abort;

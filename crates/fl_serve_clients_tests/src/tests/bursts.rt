@@ -1,10 +1,10 @@
 //! Orders that come together, as many as there are workers, each of which has to find a worker of its own.
 
 use super::clients::{Client, session};
-use super::messages::Messages;
 use super::talker::Talker;
-use crate::tests::{count_is, fault_is};
+use super::{count_is, fault_is};
 use fl_serve::{Done, Gate};
+use fl_testing::Messages;
 use std::alloc::Global;
 use std::os::unix::net::UnixStream;
 use std::process::Abort;

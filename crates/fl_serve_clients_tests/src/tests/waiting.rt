@@ -1,11 +1,10 @@
 //! A client whose requests wait when it goes.
 
 use super::clients::{Client, Met, session};
-use super::messages::{SETLK, SETLKW, WRITE, byte_lock};
 use super::talker::Talker;
-use super::{asked_in, ended};
-use crate::tests::count_is;
+use super::{asked_in, count_is, ended};
 use fl_serve::OpenGate;
+use fl_testing::{SETLK, SETLKW, WRITE, byte_lock};
 use std::alloc::Global;
 use std::os::unix::net::UnixStream;
 use std::process::Abort;

@@ -1,8 +1,8 @@
 //! A server that nobody asks.
 
 use super::clients::{Client, session};
+use super::fault_is;
 use super::talker::Talker;
-use crate::tests::fault_is;
 use fl_serve::OpenGate;
 use std::alloc::Global;
 use std::os::unix::net::UnixStream;

@@ -1,10 +1,10 @@
 //! A client that doesn't read its replies for a long time.
 
 use super::clients::{Client, Met, session};
-use super::messages::Messages;
-use super::talker::read_replies;
-use crate::tests::{count_is, fault_is};
+use super::replies::read_replies;
+use super::{count_is, fault_is};
 use fl_serve::OpenGate;
+use fl_testing::Messages;
 use std::alloc::Global;
 use std::io::Write;
 use std::net::Shutdown;

@@ -1,0 +1,29 @@
+-- Messages and replies as numbers, the lowest byte of each first, laid out as by `fuse.h` (protocol 7.31).
+use Rattle.std.specs.Prelude.{ℕ, ◌+◌, ◌*◌, ◌/◌, ◌%◌, ◌^◌, List, [], ◌∷◌}
+use Rattle.std.specs.Int.{w64, to_le_bytes}
+use Rattle.std.specs.List.{flat_map}
+use Rattle.fl_testing.specs.declared.messages.Lock.{Lock}
+
+-- two numbers of 4 bytes, the first of which stands first, as one of 8
+abbrev pub pair : ℕ → ℕ → ℕ
+pair first second = first + 2 ^ 32 * second
+
+-- numbers of 8 bytes, one after another
+unfoldable pub longs : List ℕ → List ℕ
+longs numbers = flat_map (to_le_bytes w64) numbers
+
+-- struct fuse_in_header: len and opcode, unique, nodeid, uid and gid, pid and padding, of which the last four are 0
+abbrev pub header : ℕ → ℕ → ℕ → ℕ → List ℕ
+header len opcode unique node = pair len opcode ∷ unique ∷ node ∷ 0 ∷ 0 ∷ []
+
+-- struct fuse_lk_in: fh, owner, start, end, the type and the pid 11, lk_flags and padding
+abbrev pub lock_in : Lock → List ℕ
+lock_in lock = lock.fh ∷ lock.owner ∷ lock.start ∷ lock.end ∷ pair lock.kind 11 ∷ 0 ∷ []
+
+-- a name of two letters for each number below 256, and its zero byte
+abbrev pub letters : ℕ → List ℕ
+letters name = (97 + name / 16 % 16) ∷ (97 + name % 16) ∷ 0 ∷ []
+
+-- struct fuse_forget_one of one lookup of each of these nodes
+unfoldable pub forgets : List ℕ → List ℕ
+forgets nodes = flat_map (λ node. longs (node ∷ 1 ∷ [])) nodes
