@@ -20,6 +20,7 @@
 #include <errno.h>
 #include <fcntl.h>
 #include <linux/fuse.h>
+#include <poll.h>
 #include <pthread.h>
 #include <signal.h>
 #include <stdarg.h>
@@ -40,10 +41,6 @@
 // The kernel refuses to write into less than this, and a message that is longer would be none of the server's.
 enum { MOST = FUSE_MIN_READ_BUFFER };
 
-// How often a reply is looked for behind one to a call that was alone, before the thread sleeps: tens of microseconds long, a few times as
-// long as a call takes. Looks that end before the reply comes cost more than they bring.
-enum { LOOKS = 300 };
-
 // Why the program ends.
 enum end { RUNNING, UNMOUNTED, SERVER_ENDED, BAD_REPLY, DEVICE_FAILED };
 
@@ -60,7 +57,6 @@ static struct {
     atomic_int end;
     atomic_int fault;              // the error number that goes with the end, or 0
     atomic_uint_least64_t init;    // unique of the INIT that offers FUSE_ATOMIC_O_TRUNC, or 0
-    atomic_llong under_way;        // messages that are owed a reply, but for INTERRUPTs, whose uniques are odd
     atomic_ullong refused;         // replies that the kernel didn't take
     atomic_ullong seen[64];        // messages by opcode; those of all greater ones in the last
 } it;
@@ -86,6 +82,20 @@ static void *finish(enum end end, int fault)
         pthread_kill(it.main_thread, SIGUSR1);
     }
     return NULL;
+}
+
+// A thread that finds nothing to carry looks again 60 times before it sleeps, for tens of microseconds, since to be woken takes longer than a
+// call. Behind looks that found nothing 64 sleeps come without: so calls that come seldom cost little, and where none come it sleeps.
+enum { LOOKS = 60, UNLOOKED = 64 };
+struct looker { int looks, unlooked; };
+
+// Whether it is to look again, rather than to sleep. Who waits for its processor goes first.
+static bool looks_again(struct looker *me)
+{
+    if (!me->unlooked && me->looks++ < LOOKS)
+        return !sched_yield();
+    *me = (struct looker){.unlooked = me->unlooked ? me->unlooked - 1 : UNLOOKED};
+    return false;
 }
 
 // ---- Messages of the kernel ----
@@ -130,8 +140,6 @@ static void change_message(char *message)
     char *body = message + sizeof head;
     memcpy(&head, message, sizeof head);
     it.seen[head.opcode < 63 ? head.opcode : 63]++;
-    if (head.opcode != FUSE_FORGET && head.opcode != FUSE_BATCH_FORGET && !(head.unique & 1))
-        it.under_way++;
     if (head.opcode == FUSE_INIT)
         remember_init(&head, body);
 #ifndef KERNELS_OWNERS
@@ -162,11 +170,19 @@ static bool send_all(const char *from, size_t size)
 static void *carry_messages(void *unused)
 {
     static char message[MOST];
+    struct looker me = {0};
     (void)unused;
+    fcntl(it.device, F_SETFL, O_NONBLOCK);
     for (;;) {
         ssize_t size = read(it.device, message, MOST);
-        if (size < 0 && (errno == EINTR || errno == ENOENT || errno == EAGAIN))
+        if (size < 0 && (errno == EINTR || errno == ENOENT))
             continue;
+        if (size < 0 && errno == EAGAIN) {
+            if (!looks_again(&me))
+                poll(&(struct pollfd){.fd = it.device, .events = POLLIN}, 1, -1);
+            continue;
+        }
+        me.looks = 0;
         if (size < 0 && (errno == ENODEV || errno == ECONNABORTED))
             return finish(UNMOUNTED, 0);
         if (size < (ssize_t)sizeof(struct fuse_in_header))
@@ -211,8 +227,8 @@ static bool write_reply(const char *reply, uint32_t size)
 }
 
 // The replies at the front of these bytes are written one at a time. Gives how many bytes they had, or -1 at a length that
-// no reply has, or -2 where nothing is mounted any more. Says whether the last call was alone.
-static ssize_t write_replies(char *bytes, size_t held, bool *alone)
+// no reply has, or -2 where nothing is mounted any more.
+static ssize_t write_replies(char *bytes, size_t held)
 {
     struct fuse_out_header head;
     size_t done = 0;
@@ -222,8 +238,6 @@ static ssize_t write_replies(char *bytes, size_t held, bool *alone)
             return -1;
         if (held - done < head.len)
             break;
-        if (!(head.unique & 1))
-            *alone = it.under_way-- == 1;
         change_reply(bytes + done, head.len);
         if (!write_reply(bytes + done, head.len))
             return -2;
@@ -231,31 +245,23 @@ static ssize_t write_replies(char *bytes, size_t held, bool *alone)
     return (ssize_t)done;
 }
 
-// Bytes of the server. To wake a thread takes longer than a call, so where calls come one by one it looks before it sleeps.
-static ssize_t receive(char *at, size_t room, bool alone)
-{
-    for (int looks = alone ? LOOKS : 0; looks; looks--) {
-        ssize_t got = recv(it.server, at, room, MSG_DONTWAIT);
-        if (got >= 0 || errno != EAGAIN)
-            return got;
-    }
-    return recv(it.server, at, room, 0);
-}
-
 static void *carry_replies(void *unused)
 {
     static char bytes[2 * MOST];
     size_t held = 0;
-    bool alone = false;
+    struct looker me = {0};
+    int waits = MSG_DONTWAIT;
     (void)unused;
     for (;;) {
-        ssize_t got = receive(bytes + held, sizeof bytes - held, alone);
-        if (got < 0 && errno == EINTR)
+        ssize_t got = recv(it.server, bytes + held, sizeof bytes - held, waits);
+        waits = got >= 0 || errno != EAGAIN || looks_again(&me) ? MSG_DONTWAIT : 0;
+        if (got < 0 && (errno == EINTR || errno == EAGAIN))
             continue;
         if (got <= 0)
             return finish(SERVER_ENDED, got < 0 ? errno : 0);
+        me.looks = 0;
         held += (size_t)got;
-        ssize_t done = write_replies(bytes, held, &alone);
+        ssize_t done = write_replies(bytes, held);
         if (done == -1)
             return finish(BAD_REPLY, 0);
         if (done == -2)
@@ -411,14 +417,9 @@ static void print_counts(void)
 static int ended(const sigset_t *awaited)
 {
     int signal;
-    for (;;) {
-        if (sigwait(awaited, &signal))
-            continue;
-        if (signal != SIGUSR1)
-            return signal;
-        if (atomic_load(&it.end) != RUNNING)
-            return 0;
-    }
+    while (sigwait(awaited, &signal) || (signal == SIGUSR1 && atomic_load(&it.end) == RUNNING))
+        ;
+    return signal == SIGUSR1 ? 0 : signal;
 }
 
 // The signals that end the program are blocked in every thread, and `ended` takes them. A shell starts what is in its

@@ -3,6 +3,7 @@
 
 mod bytes;
 mod check;
+mod looking;
 mod printing;
 mod script;
 mod serve;

@@ -13,6 +13,7 @@ ghost use Rattle.lockd_faults.specs.declared.fault.Fault.{Fault};
 
 mod traced;
 
+use crate::looking::Looking;
 use crate::printing::print;
 use fl_book::{Keeper, Lines, TraceRoom};
 use fl_core::Rules;
@@ -23,6 +24,7 @@ use std::fs;
 use std::fs::Files;
 use std::io::Write;
 use std::net::Net;
+use std::os::fd::AsRawFd;
 use std::os::unix::fs::{FileTypeExt, MetadataExt};
 use std::os::unix::net::{UnixListener, UnixStream};
 use std::path::Path;
@@ -99,12 +101,13 @@ fn served<R: Threads + Wait + Sync, K: Keeper + Send + Drop>(
     ensures back { IsSome result.keeper
         ⊎ (result.fault ≡ Some SessionFault.NoMemory) ⊎ (result.fault ≡ Some SessionFault.NoReader) }
 {
-    let mut r = stream;
     let mut w = stream;
     if workers == 1 {
+        let mut r = Looking::new(stream, stream.as_raw_fd());
         let (kept, _) = run_over(alloc, &mut r, &mut w, keeper, rules);
         return kept;
     }
+    let mut r = stream;
     serve_over(rt, alloc, &mut r, &mut w, workers, rules, &OpenGate, keeper)
 }
 

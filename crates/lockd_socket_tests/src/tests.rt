@@ -2,6 +2,7 @@
 
 mod drive;
 mod many;
+mod pauses;
 mod rules;
 mod serve;
 mod traced;

@@ -53,7 +53,7 @@ pub(super) fn serve_under<R: Threads + Wait + Net + Files + AllocGlobal + Sync>(
 }
 
 // Connects once a server listens there, and gives up after some 20 seconds.
-fn connect<R: Net + Clock>(rt: &R, path: Path<'_>) -> Option<UnixStream> {
+pub(super) fn connect<R: Net + Clock>(rt: &R, path: Path<'_>) -> Option<UnixStream> {
     for _ in 0..20_000 {
         if let Ok(stream) = UnixStream::connect(rt, path) {
             return Some(stream);
@@ -75,7 +75,7 @@ fn talk<R: Net + Clock>(rt: &R, alloc: Global, path: Path<'_>, bytes: &[u8]) -> 
 }
 
 // What the client of the worked session with two locks sends, and bytes behind it.
-fn two_locks_and(rt: &impl Abort, alloc: Global, behind: &str) -> Vec<u8> {
+pub(super) fn two_locks_and(rt: &impl Abort, alloc: Global, behind: &str) -> Vec<u8> {
     let text = marked(rt, alloc, init(), two_locks(), "> ");
     let mut bytes = spelled(rt, alloc, &text);
     let behind = spelled(rt, alloc, behind);
@@ -84,7 +84,7 @@ fn two_locks_and(rt: &impl Abort, alloc: Global, behind: &str) -> Vec<u8> {
 }
 
 // The client got all replies of that session.
-fn has_replies(rt: &impl Abort, alloc: Global, replies: &[u8]) {
+pub(super) fn has_replies(rt: &impl Abort, alloc: Global, replies: &[u8]) {
     let lines = marked(rt, alloc, init_reply(), two_locks(), "< ");
     let wanted = spelled(rt, alloc, &lines);
     assert_eq!(rt; replies, wanted.as_slice());
