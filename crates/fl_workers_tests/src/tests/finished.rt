@@ -1,13 +1,13 @@
 //! Orders of which none is left when all workers have ended.
 
-ghost use Rattle.std.specs.Prelude.{◌≡◌, All, Some};
+ghost use Rattle.std.specs.Prelude.{◌≡◌, ◌<◌, All, Some};
 
 use super::BATCH_BYTES;
 use super::came::{Came, are_uniques};
 use super::orders::{FIRST, lookups};
 use super::tally::{Seat, WILLING};
 use super::watch::Watch;
-use fl_core::Tolds;
+use fl_core::{Rules, Tolds};
 use fl_intake::{Intake, Job, PutEnd, TakeEnd};
 use fl_session::{Owed, ReplyBuffer};
 use fl_workers::{Shared, Worked, WriterName, worker_loop};
@@ -15,6 +15,7 @@ use std::alloc::Global;
 use std::marker::Brand;
 use std::process::Abort;
 use std::snapshot::Snapshot;
+use std::sync::ledger::Blank;
 use std::sync::{Mutex, Wait};
 use std::thread;
 use std::thread::{Promise, PromisedHandle, Scope, Threads};
@@ -51,7 +52,7 @@ fn work<N: WriterName, R: Wait + Abort>(rt: &R, shop: &Shop<'_, N>, end: TakeEnd
     ensures { result.of ≡ end.of }
 {
     let seat = Seat::new(rt, shop.alloc, 0);
-    let tolds = Tolds::new(shop.alloc).expect(rt, "memory");
+    let tolds = Tolds::new(shop.alloc, Rules::standard()).expect(rt, "memory");
     let Worked { seat, end, refused } = worker_loop(
         rt,
         &WILLING,
@@ -182,7 +183,8 @@ fn is_empty<R: Wait + Abort>(rt: &R, intake: Intake, put: PutEnd, ends: Vec<Take
 // What came of orders of which four workers left none.
 fn emptied<R: Threads + Wait + Abort + Sync>(rt: &R, alloc: Global, orders: &[Job]) -> Came {
     let mut out = Vec::new(alloc);
-    let (came, _) = emptied_at::<Brand, R>(rt, alloc, orders, &mut out);
+    let sending = Blank::new(1);
+    let (came, _) = emptied_at::<Brand, R>(rt, alloc, sending, orders, &mut out);
     came
 }
 
@@ -190,19 +192,25 @@ fn emptied<R: Threads + Wait + Abort + Sync>(rt: &R, alloc: Global, orders: &[Jo
 fn emptied_at<'w, N: WriterName + Send + Sync, R: Threads + Wait + Abort + Sync>(
     rt: &R,
     alloc: Global,
+    sending: Blank,
     orders: &[Job],
     out: &'w mut Vec<u8>,
 ) -> (Came, &'w mut Vec<u8>)
     requires start { Some out.old.items ≡ N.start }
-    requires named { out.ghost_name ≡ N.name }
+    requires named { out.ghost_name ≡ N.writer }
+    requires sending { (sending.name ≡ N.name) × (sending.parts ≡ N.parts) × (0 < N.parts) }
 {
     let replies = ReplyBuffer::with_bytes(alloc, BATCH_BYTES).expect(rt, "memory");
     let (intake, put, ends) = Intake::new(alloc, 4).expect(rt, "memory");
+    let (shared, permit) = Shared::<'w, Vec<u8>, N>::new(sending, replies, out);
+    let mut shared = shared;
+    let mut permit = permit;
+    shared.begin(&mut permit);
     let shop = Shop {
         alloc,
         intake,
         gate: Watch::holding(None),
-        shared: Mutex::new(Shared::<'w, Vec<u8>, N>::new(replies, out)),
+        shared: Mutex::new(shared),
         came: Mutex::new(Came::new(alloc)),
     };
     let (put, ends) = run(rt, &shop, put, ends, orders);
@@ -213,7 +221,7 @@ fn emptied_at<'w, N: WriterName + Send + Sync, R: Threads + Wait + Abort + Sync>
         ..
     } = shop;
     is_empty(rt, intake, put, ends);
-    let (out, broken) = shared.into_inner().close(&Owed::Nothing);
+    let (out, broken) = shared.into_inner().close(permit, &Owed::Nothing);
     assert!(rt; !broken);
     (came.into_inner(), out)
 }
