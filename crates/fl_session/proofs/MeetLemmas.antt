@@ -11,7 +11,7 @@ use Rattle.fl_session.specs.Talk.{bytes_of, IsHeard}
 use Rattle.fl_session.specs.Session.{with_order, with_orders}
 use Rattle.fl_session.specs.declared.server.Met.TheVariants as met
 use Rattle.fl_session.specs.declared.server.Owed.{Owed}
-use Rattle.fl_session.specs.declared.server.state.Server.{Server}
+use Rattle.fl_session.specs.declared.server.Server.{Server}
 use Rattle.fl_session.specs.declared.server.Talk.{Talk}
 
 -- an order is taken

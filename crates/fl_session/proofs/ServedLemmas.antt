@@ -16,7 +16,7 @@ use Rattle.fl_session.proofs.RulesLemmas.{rules_of}
 use Rattle.fl_session.specs.declared.session.Done.{Done}
 use Rattle.fl_session.specs.declared.session.Fault.{Fault}
 use Rattle.fl_session.specs.declared.session.Fault.TheVariants.{NoMemory}
-use Rattle.fl_session.specs.declared.server.state.Server.{Server}
+use Rattle.fl_session.specs.declared.server.Server.{Server}
 use Rattle.fl_waiting.specs.declared.rules.Rules.{Rules}
 
 -- a history of no line is legal

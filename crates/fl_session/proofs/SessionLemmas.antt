@@ -10,7 +10,7 @@ use Rattle.fl_session.specs.Inside.Serving.{session_with, IsFresh}
 use Rattle.fl_session.specs.Inside.UnderWay.{IsUnderWay, IsAnswered, HasEnded, Rests}
 use Rattle.fl_session.specs.Session.{Came, session_of, with_message, opening_session}
 use Rattle.fl_session.specs.declared.session.Fault.{Fault}
-use Rattle.fl_session.specs.declared.server.state.Server.{Server}
+use Rattle.fl_session.specs.declared.server.Server.{Server}
 use Rattle.fl_waiting.specs.declared.rules.Rules.{Rules}
 
 -- one message more

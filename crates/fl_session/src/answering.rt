@@ -2,7 +2,7 @@
 
 ghost use Rattle.std.specs.Prelude.{◌≡◌, ℕ, Option, List, [], false};
 ghost use Rattle.fl_session.specs.Inbox.{IsUnread};
-ghost use Rattle.fl_session.specs.Inside.Serving.{IsFresh};
+ghost use Rattle.fl_session.specs.Inside.Serving.{IsFresh, IsReady};
 ghost use Rattle.fl_session.specs.Inside.UnderWay.{HasEnded, Rests};
 ghost use Rattle.fl_session.specs.Outbox.{is_broken, writer_of};
 
@@ -55,6 +55,7 @@ pub(crate) fn answer_all<R: Read, W: Write, K: Keeper>(
 fn rest<W: Write, K: Keeper>(server: &mut Server<K>, batch: &mut Batch<'_, W>)
     ensures same { (writer_of batch.new.out).ghost_name ≡ (writer_of batch.old.out).ghost_name }
     ensures over { server.new.talk.over ≡ server.old.talk.over }
+    ensures ready { IsReady server.old → IsReady server.new }
     ensures rests { Rests server.old server.new
         (W.contents (writer_of batch.old.out).now) (W.contents (writer_of batch.new.out).now)
         batch.old.replies batch.new.replies (is_broken batch.old.out) (is_broken batch.new.out) }

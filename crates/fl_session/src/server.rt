@@ -3,14 +3,12 @@
 ghost use Rattle.std.specs.Prelude.{◌≡◌, ℕ, [], true, false, IfOk, if◌then◌else◌};
 ghost use Rattle.fl_order.specs.OpKind.{is_silent, kind_of_opcode};
 ghost use Rattle.fl_session.specs.Session.{Session, before_init, without_memory};
-ghost use Rattle.fl_session.specs.Inside.Serving.{IsFresh, IsHeardAs};
+ghost use Rattle.fl_session.specs.Inside.Serving.{IsFresh, IsHeardAs, IsReady};
 ghost use Rattle.fl_session.specs.Inside.UnderWay.{IsAnswered, TakesMany, TakesOne};
 ghost use Rattle.fl_session.specs.Outbox.{is_broken, writer_of};
 ghost use Rattle.fl_session.specs.Talk.{answered, bytes_of, goodbye_to, standing, IsHeard};
 ghost use Rattle.fl_wire.specs.Layout.{opcode_of};
 ghost use Rattle.fl_wire.specs.Says.{said};
-
-mod state;
 
 use crate::batch::Batch;
 use fl_core::{Rules, Tolds};
@@ -18,7 +16,6 @@ use fl_desk::Desk;
 use fl_keeper::Keeper;
 use fl_order::{Answer, Errno, NoMemory, OpKind, Order, Refusal, Told};
 use fl_wire::{Frame, InitStep, read_init, read_order};
-pub(crate) use state::Server;
 use std::alloc::Global;
 use std::io::Write;
 
@@ -130,6 +127,16 @@ impl Talk {
     }
 }
 
+/// The lock directory of a session, and how far the session is. Its lines go to a keeper.
+#[derive(Drop)]
+pub(crate) struct Server<K: Keeper> {
+    pub desk: Desk<K>,
+    pub tolds: Tolds,
+    pub talk: Talk,
+    /// Some order was refused for want of memory.
+    pub refused: bool,
+}
+
 impl<K: Keeper> Server<K> {
     /// No message came yet, and the keeper has no line. Requests will wait by these rules.
     pub(crate) fn new(alloc: Global, keeper: K, rules: Rules) -> Result<Server<K>, NoMemory>
@@ -149,7 +156,9 @@ impl<K: Keeper> Server<K> {
 
     /// Answers a message of a session that isn't over.
     pub(crate) fn answer<W: Write>(&mut self, batch: &mut Batch<'_, W>, frame: &Frame)
-        requires { self.old.talk.over ≡ false }
+        requires live { self.old.talk.over ≡ false }
+        requires ready { IsReady self.old }
+        ensures ready { IsReady self.new }
         ensures same { (writer_of batch.new.out).ghost_name ≡ (writer_of batch.old.out).ghost_name }
         ensures answered { IsAnswered self.old self.new
             (W.contents (writer_of batch.old.out).now) (W.contents (writer_of batch.new.out).now)
@@ -164,6 +173,8 @@ impl<K: Keeper> Server<K> {
 
     // Takes orders of worker 0, each whatever became of those before it, and collects their replies.
     fn take_all<W: Write>(&mut self, batch: &mut Batch<'_, W>, orders: &fl_wire::Batch)
+        requires { IsReady self.old }
+        ensures ready { IsReady self.new }
         ensures same { (writer_of batch.new.out).ghost_name ≡ (writer_of batch.old.out).ghost_name }
         ensures taken { TakesMany self.old self.new
             (W.contents (writer_of batch.old.out).now) (W.contents (writer_of batch.new.out).now)
@@ -176,6 +187,8 @@ impl<K: Keeper> Server<K> {
 
     // Takes an order of worker 0, and collects its replies.
     fn take<W: Write>(&mut self, batch: &mut Batch<'_, W>, order: &Order)
+        requires { IsReady self.old }
+        ensures ready { IsReady self.new }
         ensures same { (writer_of batch.new.out).ghost_name ≡ (writer_of batch.old.out).ghost_name }
         ensures taken { TakesOne self.old self.new
             (W.contents (writer_of batch.old.out).now) (W.contents (writer_of batch.new.out).now)

@@ -1,5 +1,6 @@
 -- A server that is under way: what is kept of its session, and what a message changes.
 use Rattle.std.specs.Prelude.{◌≡◌, ℕ, Bool, false, List, [], ◌++◌, Result, Ok, Err}
+use Rattle.fl_core.specs.Tolds.{HasRoom}
 use Rattle.fl_order.specs.declared.order.Order.{Order}
 use Rattle.fl_order.specs.declared.refusal.Refusal.{Refusal}
 use Rattle.fl_order.specs.declared.refusal.Refusal.TheVariants.{Batch}
@@ -8,7 +9,7 @@ use Rattle.fl_session.specs.Session.{Session, after_init, with_message, with_ord
 use Rattle.fl_session.specs.Talk.{answered, bytes_of, standing}
 use Rattle.fl_session.specs.declared.server.Met.{Met}
 use Rattle.fl_session.specs.declared.server.Met.TheVariants as met
-use Rattle.fl_session.specs.declared.server.state.Server.{Server}
+use Rattle.fl_session.specs.declared.server.Server.{Server}
 use Rattle.fl_session.specs.declared.server.Talk.{Talk}
 
 -- A message that says this, after an INIT is agreed, is an order or a batch of them and changes nothing yet, or the
@@ -31,8 +32,13 @@ session_with server replies =
       refused = server.refused;
     }
 
--- no message came yet
+-- there is room for the replies that an order gets by the rules of its desk
+abbrev pub IsReady : {K : Type 0} → Server K → Type 0
+IsReady server = HasRoom server.desk.present.rules server.tolds
+
+-- no message came yet, and it is ready for the first
 pub record IsFresh {K : Type 0} (server : Server K) : Type 0 where
+  pub ready : IsReady server
   pub agreed : server.talk.agreed ≡ false
   pub over : server.talk.over ≡ false
   pub refused : server.refused ≡ false

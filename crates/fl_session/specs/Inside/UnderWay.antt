@@ -6,7 +6,7 @@ use Rattle.fl_session.specs.Inbox.{IsEnding}
 use Rattle.fl_session.specs.Inside.Serving.{session_with, AreTaken, IsMet, IsTaken}
 use Rattle.fl_session.specs.Session.{Came, session_of}
 use Rattle.fl_session.specs.declared.session.Fault.{Fault}
-use Rattle.fl_session.specs.declared.server.state.Server.{Server}
+use Rattle.fl_session.specs.declared.server.Server.{Server}
 use Rattle.fl_session.specs.Served.{IsRead}
 use Rattle.fl_waiting.specs.declared.rules.Rules.{Rules}
 

@@ -6,6 +6,7 @@ pub loop-server-init : goal.loop-server-init
 loop-server-init g c = record {
   same = refl;
   bounded = omega (arith, ap length c.requires.unread.empty);
+  ready = c.requires.fresh.ready;
   way = way_first _ _ _ _ _ c.args.inbox.now c.requires.fresh c.requires.empty c.requires.whole c.requires.unread;
 }
 
@@ -13,6 +14,7 @@ pub loop-server-preserved-in-Whole : goal.loop-server-preserved-in-Whole
 loop-server-preserved-in-Whole g c = record {
   same = c.answer.ensures.same ∙ c.loop-server.invariant.same;
   bounded = omega (arith, c.skip.ensures.shorter, c.loop-server.invariant.bounded);
+  ready = c.answer.ensures.ready;
   way = way_more _ _ _ _ _ _ _ _ _ _ _ _ c.in-Whole.frame _ _ c.loop-server-test.true
       (c.skip.ensures.taken c.in-Whole.frame (sym c.next.ensures ∙ c.in-Whole.is) c.as_bytes-len.ensures.message)
       c.answer.ensures.answered c.loop-server.invariant.way;
@@ -22,6 +24,7 @@ pub loop-server-preserved : goal.loop-server-preserved
 loop-server-preserved g c = record {
   same = c.rest.ensures.same ∙ c.loop-server.invariant.same;
   bounded = c.fill.ensures.bounded;
+  ready = c.rest.ensures.ready c.loop-server.invariant.ready;
   way = way_read _ _ _ _ _ _ _ _ _ _ _ c.fill.ensures.read
       (way_rests _ _ _ _ _ _ _ _ _ _ _ _ _ c.rest.ensures.rests c.loop-server.invariant.way);
 }

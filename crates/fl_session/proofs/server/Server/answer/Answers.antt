@@ -7,7 +7,7 @@ returns-in-Order-clause-answered g c =
     let one = c.take.ensures.taken in
     record {
       owed = one.owed;
-      met = met_order c.args.self.now c.take.new.self c.meet.new.self c.in-Order.order one.owed c.args.frame.now c.requires
+      met = met_order c.args.self.now c.take.new.self c.meet.new.self c.in-Order.order one.owed c.args.frame.now c.requires.live
           c.in-Order.ensures.heard one.taken;
       collected = one.collected;
     }
@@ -18,7 +18,7 @@ returns-in-Batch-clause-answered g c =
     record {
       owed = many.owed;
       met = met_batch c.args.self.now c.take_all.new.self c.meet.new.self c.in-Batch.orders many.owed c.args.frame.now
-          c.requires c.in-Batch.ensures.heard many.taken;
+          c.requires.live c.in-Batch.ensures.heard many.taken;
       collected = many.collected;
     }
 

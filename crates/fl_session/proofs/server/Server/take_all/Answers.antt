@@ -5,12 +5,14 @@ use Rattle.fl_session.proofs.server.Server.take_all.Goals as goal
 
 pub loop-i-init : goal.loop-i-init
 loop-i-init g c = record {
+  ready = c.requires;
   same = refl;
   taken = many_first _ _ _ _ _;
 }
 
 pub loop-i-preserved : goal.loop-i-preserved
 loop-i-preserved g c = record {
+  ready = c.take.ensures.ready;
   same = c.take.ensures.same ∙ c.loop-i.invariant.same;
   taken = many_next _ _ _ _ _ _ _ _ _ _ _ _ _ _ _ c.order.ensures c.loop-i.invariant.taken c.take.ensures.taken;
 }
