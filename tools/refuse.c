@@ -24,8 +24,8 @@ __attribute__((constructor)) static void begin(void)
     asked = 0;
 }
 
-// A program with threads ends by this call, and runs no destructors.
-void _exit(int status)
+// A test ends by a return from its `main`.
+__attribute__((destructor)) static void end(void)
 {
     const char *path = getenv("ASKED");
     unsigned long count = asked;
@@ -34,6 +34,12 @@ void _exit(int status)
         fprintf(file, "%lu\n", count);
         fclose(file);
     }
+}
+
+// A program with threads ends by this call, and runs no destructors.
+void _exit(int status)
+{
+    end();
     syscall(SYS_exit_group, status);
     __builtin_unreachable();
 }
