@@ -1,74 +1,95 @@
 //! A reader that looks for bytes before it sleeps in a read.
 
-ghost use Rattle.std.specs.Prelude.{◌≡◌};
+ghost use Rattle.std.specs.Prelude.{◌≡◌, true, IsErr, MatchOption};
+ghost use Rattle.std.specs.Io.{ReadsAtMost};
+ghost use Rattle.std.specs.Io.KnownBytes.{Keeps, ReadConsumes};
 
-use libc::net::{POLLIN, poll};
-use libc::types::pollfd;
 use std::io;
-use std::io::Read;
-use std::os::fd::RawFd;
+use std::io::{ErrorKind, Read};
+use std::os::unix::net::UnixStream;
 
-// How often a look asks, some 30 microseconds long: a few times as long as a round trip of a client that waits for each reply.
-const ASKS: u32 = 150;
+// How many reads a look tries, some tens of microseconds long: a few times as long as a client needs that waits for each
+// reply.
+const TRIES: u32 = 64;
 
 // How many reads come without a look behind one that found nothing.
 const UNLOOKED: u32 = 64;
 
-/// Reads what a stream has, and looks for bytes before a read sleeps, since to be woken takes longer than an order. Behind a
+/// Reads what a socket has, and looks for bytes before a read sleeps, since to be woken takes longer than an order. Behind a
 /// look that found nothing the next 64 reads come without one, so a slow client costs little, and one that is silent nothing.
+/// While it looks the socket doesn't wait, so no other thread may use it.
 #[derive(Drop)]
-pub(crate) struct Looking<R> {
+pub(crate) struct Looking<'a, R> {
     stream: R,
-    // The stream's descriptor. What is read doesn't depend on it.
-    fd: RawFd,
+    // What `stream` reads from. Contracts see that the stream is read, whatever this is.
+    socket: &'a UnixStream,
     // How many reads come before the next look.
     unlooked: u32,
 }
 
-impl<R: Read> Looking<R> {
-    /// Over a stream, which this descriptor is of.
-    pub(crate) fn new(stream: R, fd: RawFd) -> Looking<R>
+impl<'a, R: Read> Looking<'a, R> {
+    /// Over a stream that reads from this socket.
+    pub(crate) fn new(stream: R, socket: &'a UnixStream) -> Looking<'a, R>
         ensures { result.stream ≡ stream }
     {
         Looking {
             stream,
-            fd,
+            socket,
             unlooked: 0,
         }
     }
 
-    // Looks, where it is time for that.
-    fn look(&mut self)
-        ensures { self.new.stream ≡ self.old.stream }
+    // What a look reads; none where it found nothing, or where it isn't time for one.
+    fn look(&mut self, buf: &mut [u8]) -> Option<io::Result<usize>>
+        ensures { MatchOption result (Keeps (R.remaining self.old.stream) (R.remaining self.new.stream))
+            (λ read. ReadsAtMost read buf.new
+            × ReadConsumes (R.remaining self.old.stream) (R.remaining self.new.stream) read buf.new) }
     {
         if self.unlooked > 0 {
             self.unlooked -= 1;
-        } else if !is_soon_ready(self.fd) {
+            return None;
+        }
+        if self.socket.set_nonblocking(true).is_err() {
+            return None;
+        }
+        let read = read_soon(&mut self.stream, buf);
+        // Where this is refused, a later read is told as one that failed.
+        let _ = self.socket.set_nonblocking(false);
+        if read.is_none() {
             self.unlooked = UNLOOKED;
         }
+        read
     }
 }
 
-impl<R: Read> Read for Looking<R> {
+impl<R: Read> Read for Looking<'_, R> {
     ghost remaining = { λ l. R.remaining l.stream };
 
     fn read(&mut self, buf: &mut [u8]) -> io::Result<usize> {
-        self.look();
-        self.stream.read(buf)
+        match self.look(buf) {
+            Some(read) => read,
+            None => self.stream.read(buf),
+        }
     }
 }
 
-// Whether a read will not sleep, asked again and again for a while, without sleeping.
-fn is_soon_ready(fd: RawFd) -> bool {
-    let mut asked = [pollfd {
-        fd,
-        events: POLLIN,
-        revents: 0,
-    }];
-    for _ in 0..ASKS {
-        if poll(&mut asked, 0) != 0 {
-            return true;
+// Reads again and again for a while, until a read has more to say than that it would wait.
+fn read_soon<R: Read>(stream: &mut R, buf: &mut [u8]) -> Option<io::Result<usize>>
+    ensures { MatchOption result (Keeps (R.remaining stream.old) (R.remaining stream.new))
+        (λ read. ReadsAtMost read buf.new × ReadConsumes (R.remaining stream.old) (R.remaining stream.new) read buf.new) }
+{
+    for _ in 0..TRIES {
+        let read = stream.read(buf);
+        if !would_wait(&read) {
+            return Some(read);
         }
     }
-    false
+    None
+}
+
+// Whether a read says no more than that it would wait.
+fn would_wait(read: &io::Result<usize>) -> bool
+    ensures { result ≡ true → IsErr read.now }
+{
+    matches!(read, Err(e) if e.kind() == ErrorKind::WouldBlock)
 }

@@ -24,7 +24,6 @@ use std::fs;
 use std::fs::Files;
 use std::io::Write;
 use std::net::Net;
-use std::os::fd::AsRawFd;
 use std::os::unix::fs::{FileTypeExt, MetadataExt};
 use std::os::unix::net::{UnixListener, UnixStream};
 use std::path::Path;
@@ -103,7 +102,7 @@ fn served<R: Threads + Wait + Sync, K: Keeper + Send + Drop>(
 {
     let mut w = stream;
     if workers == 1 {
-        let mut r = Looking::new(stream, stream.as_raw_fd());
+        let mut r = Looking::new(stream, stream);
         let (kept, _) = run_over(alloc, &mut r, &mut w, keeper, rules);
         return kept;
     }
