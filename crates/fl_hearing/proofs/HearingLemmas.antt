@@ -20,6 +20,7 @@ use Rattle.fl_session.specs.Session.{Came, Session, after_init, before_init, ord
 use Rattle.fl_session.specs.declared.server.Met.{Met}
 use Rattle.fl_session.specs.declared.server.Met.TheVariants as met
 use Rattle.fl_session.specs.declared.server.Owed.{Owed}
+use Rattle.fl_session.specs.declared.server.Owed.TheVariants.{Nothing}
 use Rattle.fl_session.specs.declared.server.Talk.{Talk}
 use Rattle.fl_session.specs.declared.session.Fault.{Fault}
 use Rattle.fl_waiting.specs.declared.rules.Rules.{Rules}
@@ -140,14 +141,15 @@ said_one_more rules came c = said_more (opening_session rules) came (c ∷ [])
 
 -- nothing is heard yet
 pub hearing_first : (rules : Rules) (left : Option (List ℕ)) (talk : Talk) (put : Orders) (goodbye : Owed) (inbox : Inflow)
-    → talk.agreed ≡ false → talk.over ≡ false → put ≡ [] → IsUnread inbox
+    → talk.agreed ≡ false → talk.over ≡ false → put ≡ [] → goodbye ≡ Nothing → IsUnread inbox
     → IsHearing rules left left talk put goodbye inbox.rest
-hearing_first rules left talk put goodbye inbox agreed live none unread = record {
+hearing_first rules left talk put goodbye inbox agreed live none unowed unread = record {
   came = [];
   is_read = unread.unread rules left;
   far = record { agreed = sym agreed; over = sym live };
   said = none;
   over = λ over. cc;
+  live = λ live. unowed;
 }
 
 -- one message more is heard
@@ -155,9 +157,10 @@ pub hearing_more : (rules : Rules) (left left_now : Option (List ℕ)) (old new 
     (goodbye goodbye_now : Owed) (message rest rest_now : List ℕ)
     → old.over ≡ false → Takes message rest rest_now → Hears old new message
     → ((s : Session) → IsThisFar s old → put_now ≡ put ++ orders_said s message)
-    → (new.over ≡ true → goodbye_now ≡ goodbye_to message)
+    → (new.over ≡ true → goodbye_now ≡ goodbye_to message) → (new.over ≡ false → goodbye_now ≡ goodbye)
     → IsHearing rules left left_now old put goodbye rest → IsHearing rules left left_now new put_now goodbye_now rest_now
-hearing_more rules left left_now old new put put_now goodbye goodbye_now message rest rest_now live takes heard puts ends before =
+hearing_more rules left left_now old new put put_now goodbye goodbye_now message rest rest_now live takes heard puts ends stays
+    before =
     let c : Came = record { message = message; refused = [] } in
     record {
       came = before.came ++ c ∷ [];
@@ -168,6 +171,7 @@ hearing_more rules left left_now old new put put_now goodbye goodbye_now message
           ∙ ap (λ l. l ++ orders_said (session_of rules before.came) message) before.said
           ∙ sym (said_one_more rules before.came c);
       over = λ over. record { front = before.came; last = c; parts = refl; owed = ends over };
+      live = λ still. stays still ∙ before.live live;
     }
 
 -- more is read, or nothing
@@ -180,6 +184,7 @@ hearing_read rules left before now talk put goodbye rest rest_now read hearing =
   far = hearing.far;
   said = hearing.said;
   over = hearing.over;
+  live = hearing.live;
 }
 
 -- the reader ends
@@ -196,4 +201,5 @@ hearing_ends rules left left_now talk put goodbye rest fault bounded ending hear
       ending = subst P (sym hearing.far.over) ending;
       said = hearing.said;
       over = λ over. hearing.over (sym hearing.far.over ∙ over);
+      live = λ live. hearing.live (sym hearing.far.over ∙ live);
     }

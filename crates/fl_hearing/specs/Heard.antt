@@ -1,11 +1,12 @@
 -- What the reader of a session with workers heard.
-use Rattle.std.specs.Prelude.{◌≡◌, ℕ, ◌≤◌, true, List, [], ◌∷◌, ◌++◌, length, Option}
+use Rattle.std.specs.Prelude.{◌≡◌, ℕ, ◌≤◌, true, false, List, [], ◌∷◌, ◌++◌, length, Option}
 use Rattle.fl_hearing.specs.Said.{said_in}
 use Rattle.fl_session.specs.Inbox.{IsEnding}
 use Rattle.fl_session.specs.Served.{IsRead}
 use Rattle.fl_session.specs.Session.{Came, session_of}
 use Rattle.fl_session.specs.Talk.{goodbye_to}
 use Rattle.fl_session.specs.declared.server.Owed.{Owed}
+use Rattle.fl_session.specs.declared.server.Owed.TheVariants.{Nothing}
 use Rattle.fl_session.specs.declared.session.Fault.{Fault}
 use Rattle.fl_waiting.specs.declared.rules.Rules.{Rules}
 use Rattle.fl_workers.specs.Asked.{Orders}
@@ -18,7 +19,7 @@ pub record IsLast (came : List Came) (goodbye : Owed) : Type 0 where
   pub owed : goodbye ≡ goodbye_to last.message
 
 -- The reader of a session under these rules ended, with this fault. What was read is whole messages and a rest, the orders
--- of these messages were put, and where a DESTROY ended the session, this is owed to it.
+-- of these messages were put, and where a DESTROY ended the session, this is owed to it. Where none did, nothing is owed.
 pub record HasHeard (rules : Rules) (left left_now : Option (List ℕ)) (fault : Option Fault) (put : Orders) (goodbye : Owed)
     : Type 0 where
   pub came : List Came
@@ -28,3 +29,4 @@ pub record HasHeard (rules : Rules) (left left_now : Option (List ℕ)) (fault :
   pub ending : IsEnding fault (session_of rules came).over rest left_now
   pub said : put ≡ said_in rules came
   pub over : (session_of rules came).over ≡ true → IsLast came goodbye
+  pub live : (session_of rules came).over ≡ false → goodbye ≡ Nothing

@@ -76,6 +76,7 @@ impl<'r, 'a, 'w, R: Wait, W: Write, N: WriterName> Hearer<'r, 'a, 'w, R, W, N> {
         requires open { put.closed ≡ false }
         ensures put { result.put ≡ put }
         ensures fresh { (result.talk.agreed ≡ false) × (result.talk.over ≡ false) }
+        ensures unowed { result.goodbye ≡ Owed.Nothing }
     {
         Hearer {
             rt,
@@ -91,6 +92,7 @@ impl<'r, 'a, 'w, R: Wait, W: Write, N: WriterName> Hearer<'r, 'a, 'w, R, W, N> {
     fn hear_all<I: Read>(self, r: &mut I, inbox: &mut Inbox) -> Heard
         requires unread { IsUnread inbox.old }
         requires fresh { (self.talk.agreed ≡ false) × (self.talk.over ≡ false) × (self.put.put ≡ []) }
+        requires unowed { self.goodbye ≡ Owed.Nothing }
         ensures heard { (rules : Rules)
             → HasHeard rules (I.remaining r.old) (I.remaining r.new) result.fault result.put.put result.goodbye }
         ensures same { (result.put.of ≡ self.entry.put.of) × (result.put.takers ≡ self.entry.put.takers) }
@@ -140,6 +142,7 @@ impl<'r, 'a, 'w, R: Wait, W: Write, N: WriterName> Hearer<'r, 'a, 'w, R, W, N> {
         ensures put { (s : Session) → IsThisFar s self.old.talk
             → self.new.put.put ≡ self.old.put.put ++ orders_said s frame.now }
         ensures ends { self.new.talk.over ≡ true → self.new.goodbye ≡ goodbye_to frame.now }
+        ensures live { self.new.talk.over ≡ false → self.new.goodbye ≡ self.old.goodbye }
     {
         match self.talk.meet(frame) {
             Met::Order(order) => self.put(order),

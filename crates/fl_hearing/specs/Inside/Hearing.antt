@@ -1,5 +1,5 @@
 -- The reader of a session with workers, while it is under way.
-use Rattle.std.specs.Prelude.{◌≡◌, ℕ, true, List, [], ◌∷◌, ◌++◌, Option}
+use Rattle.std.specs.Prelude.{◌≡◌, ℕ, true, false, List, [], ◌∷◌, ◌++◌, Option}
 use Rattle.fl_hearing.specs.Heard.{IsLast}
 use Rattle.fl_hearing.specs.Said.{said_in}
 use Rattle.fl_waiting.specs.declared.rules.Rules.{Rules}
@@ -9,6 +9,7 @@ use Rattle.fl_session.specs.Session.{Came, Session, session_of, with_message}
 use Rattle.fl_session.specs.declared.server.Met.{Met}
 use Rattle.fl_session.specs.declared.server.Met.TheVariants as met
 use Rattle.fl_session.specs.declared.server.Owed.{Owed}
+use Rattle.fl_session.specs.declared.server.Owed.TheVariants.{Nothing}
 use Rattle.fl_session.specs.declared.server.Talk.{Talk}
 
 -- a session is this far
@@ -28,7 +29,7 @@ IsPutAs (met.Batch orders) put put_now = put_now ≡ put ++ orders
 IsPutAs (met.Owed owed) put put_now = put_now ≡ put
 
 -- What was read is whole messages and a rest, the session of these messages under these rules is this far, and their orders
--- were put. Where it is over, this is owed to the last.
+-- were put. Where it is over, this is owed to the last, and else nothing.
 pub record IsHearing (rules : Rules) (left left_now : Option (List ℕ)) (talk : Talk) (put : Orders) (goodbye : Owed)
     (rest : List ℕ) : Type 0 where
   pub came : List Came
@@ -36,3 +37,4 @@ pub record IsHearing (rules : Rules) (left left_now : Option (List ℕ)) (talk :
   pub far : IsThisFar (session_of rules came) talk
   pub said : put ≡ said_in rules came
   pub over : talk.over ≡ true → IsLast came goodbye
+  pub live : talk.over ≡ false → goodbye ≡ Nothing

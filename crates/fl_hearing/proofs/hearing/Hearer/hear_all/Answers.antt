@@ -9,7 +9,7 @@ loop-hearer-init g c = record {
   bounded = omega (arith, ap length c.requires.unread.empty);
   same = search rules;
   hearing = λ by. hearing_first by _ _ _ _ c.args.inbox.now c.requires.fresh.0 c.requires.fresh.1 c.requires.fresh.2
-      c.requires.unread;
+      c.requires.unowed c.requires.unread;
 }
 
 pub loop-hearer-preserved-in-Whole : goal.loop-hearer-preserved-in-Whole
@@ -18,7 +18,7 @@ loop-hearer-preserved-in-Whole g c = record {
   same = search rules;
   hearing = λ by. hearing_more by _ _ _ _ _ _ _ _ c.in-Whole.frame _ _ c.loop-hearer-test.true
       (c.skip.ensures.taken c.in-Whole.frame (sym c.next.ensures ∙ c.in-Whole.is) c.as_bytes-len.ensures.message)
-      c.hear.ensures.heard c.hear.ensures.put c.hear.ensures.ends (c.loop-hearer.invariant.hearing by);
+      c.hear.ensures.heard c.hear.ensures.put c.hear.ensures.ends c.hear.ensures.live (c.loop-hearer.invariant.hearing by);
 }
 
 pub loop-hearer-preserved : goal.loop-hearer-preserved
