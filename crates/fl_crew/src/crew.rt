@@ -106,7 +106,6 @@ pub struct Posts<L: BoardName> {
     /// Room for what comes back.
     pub back: Back<L>,
     ghost fresh: { All (λ seat. seat.count ≡ 0) seats.items },
-    ghost replies: { All (HasRoom L.rules) tolds.items },
     ghost none: { (threads.items ≡ []) × (back.seats.items ≡ []) × (back.ends.items ≡ []) },
     ghost room: { (length seats.items ≤ vec_capacity threads) × (length seats.items ≤ vec_capacity back.seats)
         × (length seats.items ≤ vec_capacity back.ends) },
@@ -135,6 +134,7 @@ impl<
         requires unread { IsUnread inbox }
         requires put { (put.of ≡ self.now.intake) × (put.closed ≡ false) × (put.put ≡ []) }
         requires ends { All (IsFresh self.now.intake) posts.ends.items }
+        requires replies { All (HasRoom L.rules) posts.tolds.items }
         requires permit { (0 < N.parts) × (permit.parts ≡ N.parts) × (permit.amount ≡ 0) }
         ensures put { (result.1.put.of ≡ self.now.intake) × (result.1.put.takers ≡ put.takers) }
         ensures ends { All (λ end. end.of ≡ self.now.intake) result.0.ends.items }
@@ -156,6 +156,7 @@ impl<
                 requires unread { IsUnread inbox }
                 requires put { (put.of ≡ self.now.intake) × (put.closed ≡ false) × (put.put ≡ []) }
                 requires ends { All (IsFresh self.now.intake) posts.ends.items }
+                requires replies { All (HasRoom L.rules) posts.tolds.items }
                 requires permit { (0 < N.parts) × (permit.parts ≡ N.parts) × (permit.amount ≡ 0) }
                 ensures put { (result.1.put.of ≡ self.entry.now.intake) × (result.1.put.takers ≡ put.takers) }
                 ensures ends { All (λ end. end.of ≡ self.entry.now.intake) result.0.ends.items }

@@ -58,7 +58,8 @@ impl<L: BoardName, R: Wait + Drop, K: Keeper + Drop> Rooms<L, R, K> {
             × (rooms.put.closed ≡ false) × (rooms.put.put ≡ [])) }
         ensures unread { IfOk result (λ rooms. IsUnread rooms.inbox) }
         ensures none { IfOk result (λ rooms. rooms.replies ≡ []) }
-        ensures replies { IfOk result (λ rooms. HasRoom L.rules rooms.tolds) }
+        ensures replies { IfOk result (λ rooms.
+            HasRoom L.rules rooms.tolds × All (HasRoom L.rules) rooms.posts.tolds.items) }
     {
         let stock = Stock::<L>::new(alloc, workers, rules)?;
         let (board, seats) = Board::<L, R, K>::over(alloc, rt, keeper, blank, log, workers, rules)?;

@@ -7,7 +7,6 @@ invariant_of-posts g c =
     let many = as_many _ _ c.in_ok-board.ensures.workers in
     record {
       fresh = λ k d short. (c.in_ok-board.ensures.fresh k d short).0;
-      replies = search rules;
       none = search rules;
       room = search (rules, many);
     }

@@ -1,4 +1,4 @@
-use Rattle.std.proofs.Common.{rules, ◌∙◌, ap}
+use Rattle.std.proofs.Common.{rules, ◌∙◌, ap, sym}
 use Rattle.fl_hearing.specs.declared.hearing.Heard.{Heard}
 use Rattle.fl_crew.proofs.WorkingLemmas.{heard_as}
 use Rattle.fl_crew.proofs.WorkingLemmas.{all_back}
@@ -23,4 +23,17 @@ returns g c = record {
     | else-start_all w ↦ absurd (live (ap (λ (h : Heard). h.fault) w.heard-is))
   ];
   unread = search rules;
+  permit = elim c.if-start_all.branch [
+    | then-start_all w ↦ rw w.permit-is w.begin.ensures.0
+    | else-start_all w ↦ rw w.permit-is c.requires.permit.1
+  ];
+  begun = λ live. elim c.if-start_all.branch [
+    | then-start_all w ↦ rw w.permit-is w.begin.ensures.1
+    | else-start_all w ↦ absurd (live (ap (λ (h : Heard). h.fault) w.heard-is))
+  ];
+  unbegun = λ gone. elim c.if-start_all.branch [
+    | then-start_all w ↦
+        absurd (w.hear_all-heard.ensures.memory (sym (ap (λ (h : Heard). h.fault) w.heard-is) ∙ gone))
+    | else-start_all w ↦ rw w.permit-is c.requires.permit.2
+  ];
 }
