@@ -84,8 +84,8 @@ static void *finish(enum end end, int fault)
     return NULL;
 }
 
-// A thread that finds nothing to carry looks again 60 times before it sleeps, for tens of microseconds, since to be woken takes longer than a
-// call. Behind looks that found nothing 64 sleeps come without: so calls that come seldom cost little, and where none come it sleeps.
+// A thread that finds nothing to carry looks again 60 times before it sleeps, since to be woken takes longer than a call.
+// Behind looks that found nothing 64 sleeps come without: calls that come seldom cost little, and where none come it sleeps.
 enum { LOOKS = 60, UNLOOKED = 64 };
 struct looker { int looks, unlooked; };
 
@@ -254,8 +254,9 @@ static void *carry_replies(void *unused)
     (void)unused;
     for (;;) {
         ssize_t got = recv(it.server, bytes + held, sizeof bytes - held, waits);
-        waits = got >= 0 || errno != EAGAIN || looks_again(&me) ? MSG_DONTWAIT : 0;
-        if (got < 0 && (errno == EINTR || errno == EAGAIN))
+        bool none = got < 0 && errno == EAGAIN;
+        waits = !none || looks_again(&me) ? MSG_DONTWAIT : 0;
+        if (none || (got < 0 && errno == EINTR))
             continue;
         if (got <= 0)
             return finish(SERVER_ENDED, got < 0 ? errno : 0);

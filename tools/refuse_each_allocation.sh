@@ -113,8 +113,7 @@ filled() {
 refuse_test() {
     tests=crates/$1/out/$1_tests
     name=$2
-    [ -n "${LOCKD:-}" ] || (cd "crates/$1" && rt test > /dev/null)
-    [ -x "$tests" ] || { echo "refuse_each_allocation: $name not tried: there is no program at $tests" >&2; return; }
+    [ -n "${LOCKD:-}" ] && [ -x "$tests" ] || (cd "crates/$1" && rt test > /dev/null)
     ASKED="$work/asked" LD_PRELOAD="$work/refuse.so" "$tests" "$name" > /dev/null
     count=$(cat "$work/asked")
     failed=0

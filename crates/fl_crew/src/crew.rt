@@ -121,8 +121,8 @@ impl<
     G: Gate + Sync,
     K: Keeper + Send + Drop,
 > Crew<'a, 'w, L, N, R, W, G, K> {
-    /// Runs a session: starts a worker at each seat, begins, reads until the session ends, closes the intake, and joins the
-    /// workers. Where a worker can't be started nothing is read, and the permit to begin comes back as it was.
+    /// Runs a session: starts a worker at each seat, begins, reads until the session ends, closes the intake, and joins
+    /// the workers. Where a worker can't be started nothing is read, and the permit to begin comes back as it was.
     pub fn run<I: Read>(
         &self,
         r: &mut I,

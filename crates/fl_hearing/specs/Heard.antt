@@ -19,7 +19,7 @@ pub record IsLast (came : List Came) (goodbye : Owed) : Type 0 where
   pub owed : goodbye ≡ goodbye_to last.message
 
 -- The reader of a session under these rules ended, with this fault. What was read is whole messages and a rest, the orders
--- of these messages were put, and where a DESTROY ended the session, this is owed to it. Where none did, nothing is owed.
+-- of these messages were put, and where a DESTROY ended the session, this is owed to it. Else nothing is owed.
 pub record HasHeard (rules : Rules) (left left_now : Option (List ℕ)) (fault : Option Fault) (put : Orders) (goodbye : Owed)
     : Type 0 where
   pub came : List Came

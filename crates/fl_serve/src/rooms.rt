@@ -17,8 +17,8 @@ use std::alloc::Global;
 use std::sync::Wait;
 use std::sync::ledger::Blank;
 
-// The most bytes of replies that go out together: those of some 32 locks. Fewer would cost more writes, and more would keep
-// a client waiting that has its next orders ready by then.
+// The most bytes of replies that go out together: those of some 32 locks. Fewer would cost more writes, and more would
+// keep a client waiting that has its next orders ready by then.
 const BATCH_BYTES: usize = 672;
 
 /// All that a session has before its first read.
@@ -93,7 +93,7 @@ impl<L: BoardName, R: Wait + Drop, K: Keeper + Drop> Rooms<L, R, K> {
     }
 }
 
-// What a session has before its first read beside its board: its intake with all ends, and memory for all that is to come.
+// What a session has before its first read beside its board: its intake with all ends, and memory for what is to come.
 #[derive(Drop)]
 struct Stock<L: BoardName> {
     intake: Intake,

@@ -4,7 +4,8 @@ use Rattle.std.specs.Prelude.{ℕ, ◌+◌, ◌-◌, ◌*◌, ◌%◌, ◌^◌, 
 -- the number in the 4 bytes from a place on; 0 where there are fewer
 unfoldable pub word : List ℕ → ℕ → ℕ
 word bytes at = if nat_le (at + 4) (length bytes)
-    then slice_index bytes at + 2 ^ 8 * slice_index bytes (at + 1) + 2 ^ 16 * slice_index bytes (at + 2) + 2 ^ 24 * slice_index bytes (at + 3)
+    then slice_index bytes at + 2 ^ 8 * slice_index bytes (at + 1)
+    + 2 ^ 16 * slice_index bytes (at + 2) + 2 ^ 24 * slice_index bytes (at + 3)
     else 0
 
 -- the same of 8 bytes

@@ -76,7 +76,8 @@ impl Read for Newlines {
 
     fn read(&mut self, buf: &mut [u8]) -> io::Result<usize>
         ensures bound { ReadsAtMost result buf.new }
-        ensures bytes { ReadConsumes (Some (replicate self.old.left 10)) (Some (replicate self.new.left 10)) result buf.new }
+        ensures bytes { ReadConsumes (Some (replicate self.old.left 10)) (Some (replicate self.new.left 10))
+            result buf.new }
         ensures gives { 0 < self.old.left → 0 < length buf.old → (result ≡ Ok 1) × (self.old.left ≡ self.new.left + 1) }
         ensures fails { (self.old.left ≡ 0) ⊎ (length buf.old ≡ 0) →
             IsErrAnd result (λ e. error_kind e ≡ Other) × (self.new ≡ self.old) }

@@ -30,8 +30,8 @@ impl WriterName for Brand {
 }
 
 /// Replies on their way to a writer that is lent, which lie under the lock of a session's workers. They are collected,
-/// and go out together, once the session has begun: before, nothing is collected or sent. Contracts see what the writer holds,
-/// the bytes that are collected, whether a write failed, and whether it has begun.
+/// and go out together, once the session has begun: before, nothing is collected or sent. Contracts see what the writer
+/// holds, the bytes that are collected, whether a write failed, and whether it has begun.
 #[derive(Drop)]
 pub struct Shared<'a, W: Write, N: WriterName> {
     batch: Batch<'a, W>,
@@ -99,13 +99,14 @@ impl<'a, W: Write, N: WriterName> Shared<'a, W, N> {
         self.begun = true;
     }
 
-    /// Collects what is owed, to be sent by the next flush or before. Nothing is owed to anyone before the session begins.
+    /// Collects what is owed, to be sent by the next flush or before. Before the session begins nothing is collected.
     #[tactic(auto, using(crate::proofs::SharedLemmas::collects))]
     pub fn collect(&mut self, owed: &Owed)
         ensures before { HasSent N.start self.old.held self.old.waiting self.old.broken }
         ensures unbegun { self.old.begun ≡ false → self.new ≡ self.old }
         ensures begun { self.new.begun ≡ self.old.begun }
-        ensures collected { self.old.begun ≡ true → Collects self.old.held self.new.held self.old.waiting self.new.waiting
+        ensures collected { self.old.begun ≡ true
+            → Collects self.old.held self.new.held self.old.waiting self.new.waiting
             self.old.broken self.new.broken (bytes_of owed.now) }
     {
         if self.begun {

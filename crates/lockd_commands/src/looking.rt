@@ -8,16 +8,16 @@ use std::io;
 use std::io::{ErrorKind, Read};
 use std::os::unix::net::UnixStream;
 
-// How many reads a look tries, some tens of microseconds long: a few times as long as a client needs that waits for each
-// reply.
+// How many reads a look tries, some tens of microseconds long. A client that waits for each reply needs less until its
+// next message.
 const TRIES: u32 = 64;
 
 // How many reads come without a look behind one that found nothing.
 const UNLOOKED: u32 = 64;
 
-/// Reads what a socket has, and looks for bytes before a read sleeps, since to be woken takes longer than an order. Behind a
-/// look that found nothing the next 64 reads come without one, so a slow client costs little, and one that is silent nothing.
-/// While it looks the socket doesn't wait, so no other thread may use it.
+/// Reads what a socket has, and looks for bytes before a read sleeps, since to be woken takes longer than an order. Behind
+/// a look that found nothing the next 64 reads come without one. So a slow client costs little, and one that is silent
+/// nothing. While it looks the socket doesn't wait, so no other thread may use it.
 #[derive(Drop)]
 pub(crate) struct Looking<'a, R> {
     stream: R,
@@ -53,7 +53,7 @@ impl<'a, R: Read> Looking<'a, R> {
             return None;
         }
         let read = read_soon(&mut self.stream, buf);
-        // Where this is refused, a later read is told as one that failed.
+        // Where this is refused, a later read or write is told as one that failed.
         let _ = self.socket.set_nonblocking(false);
         if read.is_none() {
             self.unlooked = UNLOOKED;
@@ -76,7 +76,8 @@ impl<R: Read> Read for Looking<'_, R> {
 // Reads again and again for a while, until a read has more to say than that it would wait.
 fn read_soon<R: Read>(stream: &mut R, buf: &mut [u8]) -> Option<io::Result<usize>>
     ensures { MatchOption result (Keeps (R.remaining stream.old) (R.remaining stream.new))
-        (λ read. ReadsAtMost read buf.new × ReadConsumes (R.remaining stream.old) (R.remaining stream.new) read buf.new) }
+        (λ read. ReadsAtMost read buf.new
+        × ReadConsumes (R.remaining stream.old) (R.remaining stream.new) read buf.new) }
 {
     for _ in 0..TRIES {
         let read = stream.read(buf);

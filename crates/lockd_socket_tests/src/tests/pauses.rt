@@ -1,4 +1,4 @@
-//! Sessions of a server with one worker whose client pauses, so that looks for bytes find some, and others none.
+//! Sessions of a server with one worker whose client pauses longer than a look.
 
 use super::serve::{connect, has_replies, has_trace, serve, two_locks_and};
 use super::{ends_so, own_path};
@@ -9,8 +9,8 @@ use std::path::Path;
 use std::thread;
 use std::time::{Clock, Duration};
 
-// Sends these bytes two at a time, with a pause behind three of four that is longer than a look. Then it closes its side, and gives
-// all that comes back.
+// Sends these bytes two at a time, with a pause behind three of four that is longer than a look. Then it closes its side,
+// and gives all that comes back.
 fn talk_slowly<R: Net + Clock>(
     rt: &R,
     alloc: Global,
@@ -31,7 +31,7 @@ fn talk_slowly<R: Net + Clock>(
     Some(replies)
 }
 
-// Bytes come whole and in order, also through looks that find none and the reads behind them, and the stream's end is seen.
+// Bytes come whole and in order, also through looks that find none and the reads behind them. The stream's end is seen.
 #[test]
 fn clients_that_pause(rt: HostRuntime) {
     let alloc = rt.alloc();
