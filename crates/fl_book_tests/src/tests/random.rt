@@ -118,6 +118,11 @@ impl Asking {
         }
     }
 
+    // Behind the turns that make the files come 60 to 99 more, from 2 on.
+    fn last_turn(&mut self) -> u64 {
+        62 + self.numbers.below(40)
+    }
+
     // What is asked of names in the root.
     fn name_op(&mut self) -> Op {
         let name = self.names[self.numbers.below(2) as usize];
@@ -235,7 +240,7 @@ pub(super) fn random_history(
         };
         asking.take(rt, &order(turn as u64, 1, create));
     }
-    for turn in 2..62 + asking.numbers.below(40) {
+    for turn in 2..asking.last_turn() {
         let order = asking.order(turn);
         asking.take(rt, &order);
     }

@@ -48,7 +48,7 @@ abbrev pub Stands : List Line → Replay → Option ℕ → Type 0
 Stands lines r None = LeadsUpTo lines r
 Stands lines r (Some n) = DiffersIn r.core.rules lines n
 
--- so many lines were heard, not too many, and that is known of them; and there is room for the replies of one order more
+-- so many lines were heard, not too many, and that is known of them; there is room for the replies of one order
 pub record IsHeard (lines : List Line) (heard : ℕ) (r : Replay) (differs : Option ℕ) : Type 0 where
   pub count : heard ≡ length lines
   pub few : heard ≤ 2 ^ 63

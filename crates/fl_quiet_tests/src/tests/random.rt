@@ -66,6 +66,11 @@ impl Client {
         }
     }
 
+    // Behind the turn that makes the file come 10 to 39 more, from 2 on.
+    fn last_turn(&mut self) -> u64 {
+        12 + self.numbers.below(30)
+    }
+
     // A lock of few bytes or of the whole file, sometimes through an fh that isn't open, or of a type that isn't one.
     fn lock(&mut self) -> LockAsk {
         let start = self.numbers.below(6);
@@ -128,7 +133,7 @@ fn random_history(rt: &impl Abort, alloc: Global, rules: Rules, name: Name, seed
         name,
     };
     client.take(rt, &order(1, 1, create));
-    for turn in 2..12 + client.numbers.below(30) {
+    for turn in 2..client.last_turn() {
         let order = client.order(turn);
         client.take(rt, &order);
     }
