@@ -1,5 +1,7 @@
-use Rattle.std.proofs.Common.{rules, arith}
+use Rattle.std.proofs.Common.{rules, arith, All, subst}
+use Rattle.fl_core.specs.Tolds.{HasRoom}
 use Rattle.fl_serve.proofs.ServingLemmas.{as_many}
+use Rattle.fl_waiting.specs.declared.rules.Rules.{Rules}
 use Rattle.fl_serve.proofs.rooms.Rooms.new.Goals as goal
 
 pub invariant_of-posts : goal.invariant_of-posts
@@ -10,3 +12,8 @@ invariant_of-posts g c =
       none = search rules;
       room = search (rules, many);
     }
+
+pub returns-clause-replies : goal.returns-clause-replies
+returns-clause-replies g c =
+    let P : Rules → Type 0 = λ by. HasRoom by c.in_ok-stock.stock.tolds × All (HasRoom by) c.in_ok-stock.stock.each.items in
+    subst P c.requires.rules c.in_ok-stock.ensures.replies
