@@ -3,7 +3,6 @@
 mod came;
 mod crew;
 mod crossing;
-mod finished;
 mod handling;
 mod left;
 mod looks;
