@@ -1,6 +1,7 @@
 //! The worked scripts, handed in at the 16 seats of a board.
 
 ghost use Rattle.std.specs.Prelude.{◌≡◌};
+ghost use Rattle.fl_core.specs.Tolds.{HasRoom};
 
 use super::scripts::files::{names_and_nodes, open_files_and_locks};
 use super::scripts::limits::{
@@ -50,7 +51,10 @@ fn hand_in<L: BoardName, R: Abort + Wait>(
     seat: &mut Seat<L>,
     order: &Order,
     tolds: &mut Tolds,
-) {
+)
+    requires { HasRoom L.rules tolds.old }
+    ensures { tolds.new.room ≡ tolds.old.room }
+{
     let handed = board.hand_in(rt, seat, order, tolds).is_ok();
     assert!(rt; handed);
 }
@@ -62,7 +66,9 @@ fn hand_in_all<L: BoardName, R: Abort + Wait>(
     seats: &mut [Seat<L>],
     tolds: &mut Tolds,
     wanted: &History,
-) {
+)
+    requires { HasRoom L.rules tolds.old }
+{
     for at in 0..wanted.len() {
         if let Line::Asked { worker, order } = wanted.line(at) {
             let seat = seats.get_mut(worker as usize).expect(rt, "a seat");
