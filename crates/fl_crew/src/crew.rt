@@ -186,7 +186,7 @@ impl<
                 let mut permit = permit;
                 let heard = if self.start_all(scope, seats, ends, tolds, &mut threads) {
                     self.begin(&mut permit);
-                    hear_all(rt, &self.intake, &self.shared, put, r, &mut inbox)
+                    hear_all(rt, &self.intake, &self.shared, &permit, put, r, &mut inbox)
                 } else {
                     Heard {
                         put,

@@ -15,6 +15,7 @@ use fl_session::{Fault, Filled, Inbox, Met, Owed, Talk};
 use fl_wire::{Batch, Frame, Step};
 use fl_workers::{Shared, WriterName};
 use std::io::{Read, Write};
+use std::sync::ledger::Share;
 use std::sync::{Mutex, Wait};
 
 /// How the reader's part of a session ended.
@@ -30,14 +31,17 @@ pub struct Heard {
 
 /// Reads until the session ends: orders go to the intake, and other messages are answered at once, through the writer that the
 /// workers share. It ends at the stream's end, at a fault of the stream and at a DESTROY, which it leaves to be answered.
+/// The permit shows that the session has begun: replies go out already.
 pub fn hear_all<R: Wait, I: Read, W: Write, N: WriterName>(
     rt: &R,
     intake: &Intake,
     shared: &Mutex<Shared<'_, W, N>>,
+    _permit: &Share<N>,
     put: PutEnd,
     r: &mut I,
     inbox: &mut Inbox,
 ) -> Heard
+    requires begun { (_permit.now.parts ≡ N.parts) × (_permit.now.amount ≡ 1) }
     requires mine { put.of ≡ intake.now }
     requires open { put.closed ≡ false }
     requires none { put.put ≡ [] }

@@ -91,8 +91,15 @@ fn worked_at<'w, N: WriterName + Send + Sync, R: Threads + Wait + Clock + Abort 
     };
     let mut permit = permit;
     crew.begin(&mut permit);
-    crew.run(put, ends, orders);
-    let Crew { shared, came, .. } = crew;
+    let (ends, put) = crew.run(put, ends, orders);
+    let Crew {
+        intake,
+        shared,
+        came,
+        ..
+    } = crew;
+    let left = intake.finish(rt, put, ends).ok().expect(rt, "all ends");
+    assert!(rt; left.is_empty());
     let (out, broken) = shared.into_inner().close(permit, &Owed::Nothing);
     assert!(rt; !broken);
     (came.into_inner(), out)
@@ -127,28 +134,34 @@ impl<'a, 'w, N: WriterName + Send + Sync, R: Threads + Wait + Clock + Abort + Sy
         shared.begin(permit);
     }
 
-    // Puts all orders while a worker for each end takes them.
-    fn run(&self, put: PutEnd, ends: Vec<TakeEnd>, orders: &[Job])
+    // Puts all orders while a worker for each end takes them. All ends come back.
+    fn run(&self, put: PutEnd, ends: Vec<TakeEnd>, orders: &[Job]) -> (Vec<TakeEnd>, PutEnd)
         requires put { put.of ≡ self.now.intake }
         requires ends { All (λ end. end.of ≡ self.now.intake) ends.items }
+        ensures ends { All (λ end. end.of ≡ self.now.intake) result.0.items }
+        ensures put { result.1.of ≡ self.now.intake }
     {
-        let work = move ||
+        let work = move || -> Vec<TakeEnd>
             requires { All (λ end. end.of ≡ self.now.intake) ends.items }
+            ensures { All (λ end. end.of ≡ self.entry.now.intake) result.items × (N.parts ≡ N.parts) }
         { self.work_all(ends) };
-        let bring = move ||
+        let bring = move || -> PutEnd
             requires { put.of ≡ self.now.intake }
+            ensures { (result.of ≡ self.entry.now.intake) × (N.parts ≡ N.parts) }
         { self.put_all(put, orders) };
-        thread::join(self.rt, work, bring);
+        thread::join(self.rt, work, bring)
     }
 
     // A worker for each end, each in a thread of its own.
-    fn work_all(&self, ends: Vec<TakeEnd>)
+    fn work_all(&self, ends: Vec<TakeEnd>) -> Vec<TakeEnd>
         requires { All (λ end. end.of ≡ self.now.intake) ends.items }
+        ensures { All (λ end. end.of ≡ self.now.intake) result.items }
     {
         let work = move |end: TakeEnd| -> TakeEnd
             requires { end.of ≡ self.now.intake }
+            ensures { (result.of ≡ self.entry.now.intake) × (N.parts ≡ N.parts) }
         { self.work(end) };
-        let _ = thread::map_vec(self.rt, ends, &work).expect(self.rt, "memory");
+        thread::map_vec(self.rt, ends, &work).expect(self.rt, "memory")
     }
 
     // What a worker does at a seat of its own.
@@ -179,8 +192,9 @@ impl<'a, 'w, N: WriterName + Send + Sync, R: Threads + Wait + Clock + Abort + Sy
     }
 
     // Puts all orders, and closes the intake.
-    fn put_all(&self, put: PutEnd, orders: &[Job])
+    fn put_all(&self, put: PutEnd, orders: &[Job]) -> PutEnd
         requires { put.of ≡ self.now.intake }
+        ensures { result.of ≡ self.now.intake }
     {
         let mut put = put;
         let mut bursts = Bursts::new();
@@ -192,6 +206,7 @@ impl<'a, 'w, N: WriterName + Send + Sync, R: Threads + Wait + Clock + Abort + Sy
             }
         }
         self.intake.close(&mut put);
+        put
     }
 
     // Waits until all orders so far were taken. Behind each other burst it does as whoever reads, and behind each eighth it
