@@ -35,10 +35,12 @@ _lockd_mount() {
     local word=${COMP_WORDS[COMP_CWORD]} before=${COMP_WORDS[COMP_CWORD - 1]}
     case $before in
         --workers) mapfile -t COMPREPLY < <(compgen -W "$(seq 16)" -- "$word") ;;
+        --runs) mapfile -t COMPREPLY < <(compgen -W '1 4096 65536' -- "$word") ;;
+        --parked) mapfile -t COMPREPLY < <(compgen -W '1 256 1024' -- "$word") ;;
         --trace) mapfile -t COMPREPLY < <(compgen -f -- "$word") ;;
         *)
             case $word in
-                -*) mapfile -t COMPREPLY < <(compgen -W '--workers --allow-other --count --trace' -- "$word") ;;
+                -*) mapfile -t COMPREPLY < <(compgen -W '--workers --allow-other --count --trace --fair --runs --parked' -- "$word") ;;
                 *) mapfile -t COMPREPLY < <(compgen -d -- "$word") ;;
             esac
             ;;
