@@ -176,15 +176,14 @@ impl<
                 let posts = posts;
                 let Posts {
                     seats,
-                    ends,
-                    tolds,
-                    threads,
+                    mut ends,
+                    mut tolds,
+                    mut threads,
                     back,
                 } = posts;
                 let mut inbox = inbox;
-                let mut threads = threads;
                 let mut permit = permit;
-                let heard = if self.start_all(scope, seats, ends, tolds, &mut threads) {
+                let heard = if self.start_all(scope, seats, &mut ends, &mut tolds, &mut threads) {
                     self.begin(&mut permit);
                     hear_all(rt, &self.intake, &self.shared, &permit, put, r, &mut inbox)
                 } else {
@@ -218,16 +217,16 @@ impl<
         &'s self,
         scope: &Scope<'s, E>,
         seats: Vec<Seat<L>>,
-        ends: Vec<TakeEnd>,
-        tolds: Vec<Tolds>,
+        ends: &mut Vec<TakeEnd>,
+        tolds: &mut Vec<Tolds>,
         threads: &mut Vec<Thread<L>>,
     ) -> bool
     where
         'a: 's,
         'w: 's,
         requires fresh { All (λ seat. seat.count ≡ 0) seats.items }
-        requires ends { All (IsFresh self.now.intake) ends.items }
-        requires replies { All (HasRoom L.rules) tolds.items }
+        requires ends { All (IsFresh self.now.intake) ends.old.items }
+        requires replies { All (HasRoom L.rules) tolds.old.items }
         requires none { threads.old.items ≡ [] }
         requires room { length seats.items ≤ vec_capacity threads.old }
         ensures most { length threads.new.items ≤ length seats.items }
@@ -235,21 +234,37 @@ impl<
             → map (λ t. t.promise.worker) threads.new.items ≡ map (λ seat. seat.worker) seats.items }
         ensures ends { All (λ t. IsFresh self.now.intake t.promise.end.value) threads.new.items }
     {
-        let mut ends = ends;
-        let mut tolds = tolds;
         for seat in seats {
-            let Some(end) = ends.pop() else {
-                return false;
-            };
-            let Some(tolds) = tolds.pop() else {
-                return false;
-            };
-            let Some(thread) = self.start(scope, seat, end, tolds) else {
+            let Some(thread) = self.start_next(scope, seat, ends, tolds) else {
                 return false;
             };
             threads.push_reserved(thread);
         }
         true
+    }
+
+    // Starts a worker with the last of these ends and rooms, where there is one and a thread can be made.
+    fn start_next<'s, E>(
+        &'s self,
+        scope: &Scope<'s, E>,
+        seat: Seat<L>,
+        ends: &mut Vec<TakeEnd>,
+        tolds: &mut Vec<Tolds>,
+    ) -> Option<Thread<L>>
+    where
+        'a: 's,
+        'w: 's,
+        requires fresh { seat.count ≡ 0 }
+        requires ends { All (IsFresh self.now.intake) ends.old.items }
+        requires replies { All (HasRoom L.rules) tolds.old.items }
+        ensures whose { IfSome result (λ t. t.promise.worker ≡ seat.worker) }
+        ensures end { IfSome result (λ t. IsFresh self.now.intake t.promise.end.value) }
+        ensures ends { All (IsFresh self.now.intake) ends.new.items }
+        ensures replies { All (HasRoom L.rules) tolds.new.items }
+    {
+        let end = ends.pop()?;
+        let tolds = tolds.pop()?;
+        self.start(scope, seat, end, tolds)
     }
 
     // Starts a worker, where a thread can be made.

@@ -1,5 +1,4 @@
-use Rattle.std.proofs.Common.{rules, ◌≡◌, All, ap, ◌∙◌, sym, subst, []}
-use Rattle.std.specs.declared.thread.PromisedHandle.{PromisedHandle}
+use Rattle.std.proofs.Common.{rules, ◌≡◌, All, ◌∙◌, sym, subst}
 use Rattle.std.proofs.lemmas.List.Elements.{All-head, All-tail, All-push}
 use Rattle.fl_board.specs.Seats.{Place}
 use Rattle.fl_intake.specs.Ends.{TakeSide}
