@@ -1,21 +1,21 @@
 //! The calls of a directory whose numbers have come to their ends, where no caller can bring them soon.
 
-use crate::dir::Dir;
+use crate::dir::{Closed, Dir};
 use crate::node::Node;
 use crate::numbered::Numbered;
-use fl_order::{Answer, Attr, Errno, Name, NoMemory};
+use fl_order::{Answer, Attr, Errno, Name};
 use std::alloc::Global;
 use std::process::Abort;
-use std::test::Fail;
 
-const LAST_NUMBER: u64 = u64::MAX;
+// The last number that a node or an fh may have.
+const LAST: u64 = u64::MAX - 1;
 
 // An empty directory that goes on with these numbers.
-fn directory_at(alloc: Global, next_node: u64, next_fh: u64) -> Result<Dir, NoMemory> {
-    Ok(Dir {
-        nodes: Numbered::new(alloc, 256, next_node)?,
-        files: Numbered::new(alloc, 1024, next_fh)?,
-    })
+fn directory_at(rt: &impl Abort, alloc: Global, next_node: u64, next_fh: u64) -> Dir {
+    Dir {
+        nodes: Numbered::new(alloc, 256, next_node).expect(rt, "memory"),
+        files: Numbered::new(alloc, 1024, next_fh).expect(rt, "memory"),
+    }
 }
 
 // The node's lookup count can't grow any more.
@@ -36,8 +36,8 @@ fn open_all(dir: &mut Dir, node: u64) {
     }
 }
 
-fn name(bytes: &[u8]) -> Result<Name, Fail> {
-    Ok(Name::new(bytes).ok_or("no name")?)
+fn name(rt: &impl Abort, bytes: &[u8]) -> Name {
+    Name::new(bytes).expect(rt, "a name")
 }
 
 // A new file.
@@ -78,67 +78,68 @@ fn is_found(rt: &impl Abort, told: &Result<Answer, Errno>, node: u64) {
 }
 
 #[test]
-fn lookups_are_counted_to_their_last_count(rt: HostRuntime) -> Result<(), Fail> {
-    let mut dir = Dir::new(rt.alloc())?;
-    let a = name(b"a")?;
-    is_made(&rt, &made(&mut dir, &a), 2, 1);
-    fill_lookups(&mut dir, 2);
-    is_refused(&rt, &dir.lookup(1, &a), Errno::ENFILE);
-    is_refused(&rt, &made(&mut dir, &a), Errno::EEXIST);
-    is_refused(&rt, &opened(&mut dir, &a), Errno::ENFILE);
-    is(&rt, &dir.open(2), &Ok(Answer::Open(2)));
+fn lookups_are_counted_to_their_last_count(rt: HostRuntime) {
+    let mut dir = Dir::new(rt.alloc()).expect(&rt, "memory");
+    counts_lookups(&rt, &mut dir, &name(&rt, b"a"));
+}
+
+fn counts_lookups(rt: &impl Abort, dir: &mut Dir, a: &Name) {
+    is_made(rt, &made(dir, a), 2, 1);
+    fill_lookups(dir, 2);
+    is_refused(rt, &dir.lookup(1, a), Errno::ENFILE);
+    is_refused(rt, &made(dir, a), Errno::EEXIST);
+    is_refused(rt, &opened(dir, a), Errno::ENFILE);
+    is(rt, &dir.open(2), &Ok(Answer::Open(2)));
     dir.forget(2, 1);
-    is_found(&rt, &dir.lookup(1, &a), 2);
-    Ok(())
-}
-
-// A directory whose one file has the last number that a node may have.
-fn with_the_last_node(rt: &impl Abort, alloc: Global) -> Result<Dir, Fail> {
-    let mut dir = directory_at(alloc, LAST_NUMBER - 1, 1)?;
-    is_made(rt, &made(&mut dir, &name(b"a")?), LAST_NUMBER - 1, 1);
-    Ok(dir)
+    is_found(rt, &dir.lookup(1, a), 2);
 }
 
 #[test]
-fn nodes_are_numbered_to_the_last_number(rt: HostRuntime) -> Result<(), Fail> {
-    let mut dir = with_the_last_node(&rt, rt.alloc())?;
-    is_refused(&rt, &made(&mut dir, &name(b"b")?), Errno::ENOSPC);
-    is_refused(&rt, &made(&mut dir, &name(b".")?), Errno::EINVAL);
-    is_made(&rt, &opened(&mut dir, &name(b"a")?), LAST_NUMBER - 1, 2);
-    Ok(())
+fn nodes_are_numbered_to_the_last_number(rt: HostRuntime) {
+    let mut dir = directory_at(&rt, rt.alloc(), LAST, 1);
+    uses_nodes_up(&rt, &mut dir, &name(&rt, b"a"));
+}
+
+fn uses_nodes_up(rt: &impl Abort, dir: &mut Dir, a: &Name) {
+    is_made(rt, &made(dir, a), LAST, 1);
+    is_refused(rt, &made(dir, &name(rt, b"b")), Errno::ENOSPC);
+    is_refused(rt, &made(dir, &name(rt, b".")), Errno::EINVAL);
+    is_made(rt, &opened(dir, a), LAST, 2);
 }
 
 #[test]
-fn nodes_and_open_files_are_both_used_up(rt: HostRuntime) -> Result<(), Fail> {
-    let mut dir = with_the_last_node(&rt, rt.alloc())?;
-    let only = LAST_NUMBER - 1;
-    let a = name(b"a")?;
-    open_all(&mut dir, only);
-    is_refused(&rt, &dir.open(only), Errno::ENFILE);
-    is_refused(&rt, &dir.open(2), Errno::ENOENT);
-    is_refused(&rt, &dir.open(1), Errno::EISDIR);
-    is_refused(&rt, &opened(&mut dir, &a), Errno::ENFILE);
-    is_refused(&rt, &made(&mut dir, &a), Errno::EEXIST);
-    is_refused(&rt, &made(&mut dir, &name(b"b")?), Errno::ENOSPC);
-    is_refused(&rt, &made(&mut dir, &name(b".")?), Errno::EINVAL);
-    is_refused(
-        &rt,
-        &dir.create(only, 5, 6, true, 0o644, &a),
-        Errno::ENOTDIR,
-    );
-    is_found(&rt, &dir.lookup(1, &a), only);
-    Ok(())
+fn nodes_and_open_files_are_both_used_up(rt: HostRuntime) {
+    let mut dir = directory_at(&rt, rt.alloc(), LAST, 1);
+    uses_both_up(&rt, &mut dir, &name(&rt, b"a"));
+}
+
+fn uses_both_up(rt: &impl Abort, dir: &mut Dir, a: &Name) {
+    is_made(rt, &made(dir, a), LAST, 1);
+    open_all(dir, LAST);
+    is_refused(rt, &dir.open(LAST), Errno::ENFILE);
+    is_refused(rt, &dir.open(2), Errno::ENOENT);
+    is_refused(rt, &dir.open(1), Errno::EISDIR);
+    is_refused(rt, &opened(dir, a), Errno::ENFILE);
+    is_refused(rt, &made(dir, a), Errno::EEXIST);
+    is_refused(rt, &made(dir, &name(rt, b"b")), Errno::ENOSPC);
+    is_refused(rt, &made(dir, &name(rt, b".")), Errno::EINVAL);
+    let in_a_file = dir.create(LAST, 5, 6, true, 0o644, a);
+    is_refused(rt, &in_a_file, Errno::ENOTDIR);
+    is_found(rt, &dir.lookup(1, a), LAST);
 }
 
 #[test]
-fn open_files_are_numbered_to_the_last_number(rt: HostRuntime) -> Result<(), Fail> {
-    let mut dir = directory_at(rt.alloc(), 2, LAST_NUMBER - 1)?;
-    let a = name(b"a")?;
-    is_made(&rt, &made(&mut dir, &a), 2, LAST_NUMBER - 1);
-    is_refused(&rt, &made(&mut dir, &name(b"b")?), Errno::ENFILE);
-    is_refused(&rt, &opened(&mut dir, &a), Errno::ENFILE);
-    is_refused(&rt, &dir.open(2), Errno::ENFILE);
-    assert!(rt; dir.close(2, LAST_NUMBER - 1).is_ok());
-    is_refused(&rt, &dir.open(2), Errno::ENFILE);
-    Ok(())
+fn open_files_are_numbered_to_the_last_number(rt: HostRuntime) {
+    let mut dir = directory_at(&rt, rt.alloc(), 2, LAST);
+    uses_open_files_up(&rt, &mut dir, &name(&rt, b"a"));
+}
+
+fn uses_open_files_up(rt: &impl Abort, dir: &mut Dir, a: &Name) {
+    is_made(rt, &made(dir, a), 2, LAST);
+    is_refused(rt, &made(dir, &name(rt, b"b")), Errno::ENFILE);
+    is_refused(rt, &opened(dir, a), Errno::ENFILE);
+    is_refused(rt, &dir.open(2), Errno::ENFILE);
+    let closed = dir.close(2, LAST);
+    assert!(rt; matches!(closed, Ok(Closed { last: true, .. })));
+    is_refused(rt, &dir.open(2), Errno::ENFILE);
 }
