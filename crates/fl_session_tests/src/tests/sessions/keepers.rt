@@ -1,7 +1,7 @@
 //! A session whose lines go to a keeper of the caller's.
 
 use super::super::{count_is, fault_is};
-use super::faults::stream;
+use super::faults::{Worked, worked_session};
 use super::is_traced;
 use super::traced::two_locks;
 use fl_core::Rules;
@@ -49,9 +49,8 @@ fn is_told(rt: &impl Abort, input: &Source<'_>, pauses: usize) {
 
 // The worked session comes in pieces of at most so many bytes. Its lines are with the keeper, which is told as often as
 // is said.
-fn keeps(rt: &impl Abort, alloc: Global, most: usize, pauses: usize) {
-    let messages = stream(rt, alloc);
-    let mut input = Source::new(&messages, most, Trouble::none());
+fn keeps(rt: &impl Abort, alloc: Global, worked: &Worked, most: usize, pauses: usize) {
+    let mut input = Source::new(&worked.messages, most, Trouble::none());
     let mut output: Vec<u8> = Vec::new(alloc);
     let noted = Noted {
         lines: Lines::new(alloc),
@@ -74,6 +73,7 @@ fn keeps(rt: &impl Abort, alloc: Global, most: usize, pauses: usize) {
 // All at once and the stream's end; and 290 bytes in 29 pieces of 10 bytes, and the end.
 #[test]
 fn a_keeper_is_told_before_each_read(rt: HostRuntime) {
-    keeps(&rt, rt.alloc(), usize::MAX, 2);
-    keeps(&rt, rt.alloc(), 10, 30);
+    let worked = worked_session(&rt, rt.alloc());
+    keeps(&rt, rt.alloc(), &worked, usize::MAX, 2);
+    keeps(&rt, rt.alloc(), &worked, 10, 30);
 }
