@@ -1,7 +1,7 @@
 //! Replies through an outbox whose writer breaks.
 
 use super::are_bytes;
-use fl_session::{Broken, Outbox};
+use fl_session::Outbox;
 use fl_testing::{Sink, Trouble};
 use std::alloc::Global;
 use std::io::ErrorKind;
@@ -11,8 +11,7 @@ type Out<'a> = Outbox<&'a mut Sink>;
 
 // The reply goes out whole, or the outbox is broken.
 fn sends(rt: &impl Abort, outbox: &mut Out<'_>, reply: &[u8], whole: bool) {
-    let wanted = if whole { Ok(()) } else { Err(Broken) };
-    assert!(rt; outbox.send(reply) == wanted);
+    assert!(rt; outbox.send(reply).is_ok() == whole);
 }
 
 // Replies by way of a writer that takes pieces of at most 7 bytes until it fails or takes nothing. So many go out whole, and

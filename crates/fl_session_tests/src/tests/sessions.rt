@@ -20,14 +20,21 @@ use fl_testing::{bytes_after, fair_sessions, lines_after};
 use fl_trace::print_trace;
 use std::alloc::Global;
 use std::process::Abort;
-use traced::{TRACED, two_locks};
+use traced::{TRACED, TWO_LOCKS};
 use waiting::{BEGINNING, REQUESTS_THAT_WAIT};
+
+fn add(rt: &impl Abort, to: &mut Vec<u8>, bytes: &[u8]) {
+    to.extend_from_slice(bytes).expect(rt, "memory");
+}
 
 // The bytes that the lines with a mark spell in two texts, of which the first comes before the second.
 fn spelled(rt: &impl Abort, alloc: Global, before: &str, case: &str, mark: &str) -> Vec<u8> {
     let mut bytes = bytes_after(alloc, before, mark).expect(rt, "hex");
-    let behind = bytes_after(alloc, case, mark).expect(rt, "hex");
-    bytes.extend_from_slice(&behind).expect(rt, "memory");
+    add(
+        rt,
+        &mut bytes,
+        &bytes_after(alloc, case, mark).expect(rt, "hex"),
+    );
     bytes
 }
 
@@ -77,7 +84,7 @@ fn all_are_traced(rt: &impl Abort, alloc: Global, rules: Rules, cases: &str) -> 
 fn sessions_and_their_traces(rt: HostRuntime) {
     let rules = Rules::standard();
     let fair = rules.with_fair(true);
-    count_is(&rt, all_are_traced(&rt, rt.alloc(), rules, two_locks()), 1);
+    count_is(&rt, all_are_traced(&rt, rt.alloc(), rules, TWO_LOCKS), 1);
     count_is(&rt, all_are_traced(&rt, rt.alloc(), rules, TRACED), 3);
     count_is(&rt, all_are_traced(&rt, rt.alloc(), rules, BATCHES), 3);
     // In these a reader comes behind a writer that waits.

@@ -1,6 +1,7 @@
 //! BATCH_FORGET. The messages and replies are laid out by hand from `fuse.h` (protocol 7.31). A line that begins with `> ` is a message in
 //! hex, one with `< ` is a reply, and one with `= ` is a line of the trace.
 
+use super::add;
 use crate::tests::{count_is, fault_is};
 use fl_core::Rules;
 use fl_history::{History, Line};
@@ -145,10 +146,6 @@ says 0, 2 and 268,435,457; GETATTR, which is told the attributes.
 = tell 6 attr 2 33188 0 0 0
 ";
 
-fn add(rt: &impl Abort, stream: &mut Vec<u8>, bytes: &[u8]) {
-    stream.extend_from_slice(bytes).expect(rt, "memory");
-}
-
 // An INIT, and behind it a BATCH_FORGET of one lookup of each of the nodes from 1 on, so many.
 fn stream_of(rt: &impl Abort, alloc: Global, count: u32) -> Vec<u8> {
     let mut stream = bytes_after(alloc, init(), "").expect(rt, "hex");
@@ -169,7 +166,7 @@ fn is_forget(rt: &impl Abort, line: &Line, node: u64) {
     let Line::Asked { worker: 0, order } = line else {
         panic!(rt; "a FORGET")
     };
-    assert!(rt; order.unique == 5 && order.node == node && order.op == Op::Forget(1));
+    assert!(rt; order.unique == 5 && order.node == node && matches!(order.op, Op::Forget(1)));
 }
 
 // Each line is one of the next node.

@@ -1,6 +1,7 @@
 //! Replies that are collected: when they go out, and with how many writes.
 
 use super::super::{are_bytes, count_is, fault_is};
+use super::add;
 use super::faults::{Worked, worked_session};
 use fl_core::Rules;
 use fl_session::run_one;
@@ -86,13 +87,19 @@ fn no_reply_stays_behind_while_its_client_waits(rt: HostRuntime) {
 }
 
 // The first bytes of the worked session, and then those from a place up to another as often as is said.
-fn repeated(alloc: Global, bytes: &[u8], from: usize, to: usize, count: usize) -> Option<Vec<u8>> {
+fn repeated(
+    rt: &impl Abort,
+    alloc: Global,
+    bytes: &[u8],
+    (from, to): (usize, usize),
+    count: usize,
+) -> Vec<u8> {
     let mut all = Vec::new(alloc);
-    all.extend_from_slice(bytes.get(..from)?).ok()?;
+    add(rt, &mut all, bytes.get(..from).expect(rt, "bytes"));
     for _ in 0..count {
-        all.extend_from_slice(bytes.get(from..to)?).ok()?;
+        add(rt, &mut all, bytes.get(from..to).expect(rt, "bytes"));
     }
-    Some(all)
+    all
 }
 
 // These messages come with one read, and their replies go out with one write.
@@ -107,8 +114,8 @@ fn go_out_together(rt: &impl Abort, alloc: Global, messages: &[u8], replies: &[u
 
 // The last of the messages set one lock again and again.
 fn set_a_lock(rt: &impl Abort, alloc: Global, worked: &Worked, locks: usize) {
-    let messages = repeated(alloc, &worked.messages, 114, 202, locks).expect(rt, "memory");
-    let replies = repeated(alloc, &worked.replies, 240, 256, locks).expect(rt, "memory");
+    let messages = repeated(rt, alloc, &worked.messages, (114, 202), locks);
+    let replies = repeated(rt, alloc, &worked.replies, (240, 256), locks);
     go_out_together(rt, alloc, &messages, &replies);
 }
 

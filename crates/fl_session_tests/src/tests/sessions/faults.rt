@@ -1,8 +1,8 @@
 //! The worked session, a few bytes at a time, cut off, and with reads and writes that fail, one of them or all behind one.
 
 use super::super::{are_bytes, count_is, fault_is};
-use super::traced::two_locks;
-use super::{is_traced, spelled};
+use super::traced::TWO_LOCKS;
+use super::{add, is_traced, spelled};
 use fl_core::Rules;
 use fl_session::{Done, Ended, Fault, run_one, run_session};
 use fl_testing::{Sink, Source, Trouble};
@@ -21,8 +21,8 @@ pub(super) struct Worked {
 
 pub(super) fn worked_session(rt: &impl Abort, alloc: Global) -> Worked {
     Worked {
-        messages: spelled(rt, alloc, "", two_locks(), "> "),
-        replies: spelled(rt, alloc, "", two_locks(), "< "),
+        messages: spelled(rt, alloc, "", TWO_LOCKS, "> "),
+        replies: spelled(rt, alloc, "", TWO_LOCKS, "< "),
     }
 }
 
@@ -36,7 +36,7 @@ fn is_sent(rt: &impl Abort, output: &[u8], worked: &Worked, sent: usize) {
 fn is_whole(rt: &impl Abort, alloc: Global, done: &Done, fault: Option<Fault>) {
     fault_is(rt, done.fault, fault);
     assert!(rt; !done.refused);
-    is_traced(rt, alloc, &done.history, two_locks());
+    is_traced(rt, alloc, &done.history, TWO_LOCKS);
 }
 
 #[test]
@@ -76,25 +76,34 @@ fn over_a_socket(rt: HostRuntime) {
     is_sent(&rt, &received(&rt, rt.alloc(), &near), &worked, 272);
 }
 
-// Where the last whole message of so many bytes ends, and its reply.
-fn last_end(len: usize) -> (usize, usize) {
-    match len {
-        0..56 => (0, 0),
-        56..114 => (56, 80),
-        114..202 => (114, 240),
-        202..290 => (202, 256),
-        _ => (290, 272),
-    }
-}
-
-fn is_cut(rt: &impl Abort, alloc: Global, worked: &Worked, len: usize) {
-    let mut input = worked.messages.get(..len).unwrap_or(&[]);
+// The first so many bytes end with this fault, and this much is replied.
+fn is_cut(
+    rt: &impl Abort,
+    alloc: Global,
+    worked: &Worked,
+    len: usize,
+    fault: Option<Fault>,
+    sent: usize,
+) {
+    let mut input = worked.messages.get(..len).expect(rt, "messages");
     let mut output = Vec::new(alloc);
     let done = run_one(alloc, &mut input, &mut output, Rules::standard());
-    let (end, sent) = last_end(len);
-    let fault = if end == len { None } else { Some(Fault::Cut) };
     fault_is(rt, done.fault, fault);
     is_sent(rt, &output, worked, sent);
+}
+
+// A whole message ends at the first of these lengths, and none at the others.
+fn is_cut_between(
+    rt: &impl Abort,
+    alloc: Global,
+    worked: &Worked,
+    (end, next): (usize, usize),
+    sent: usize,
+) {
+    is_cut(rt, alloc, worked, end, None, sent);
+    for len in end.saturating_add(1)..next {
+        is_cut(rt, alloc, worked, len, Some(Fault::Cut), sent);
+    }
 }
 
 #[test]
@@ -102,40 +111,34 @@ fn cut_after_each_byte(rt: HostRuntime) {
     let worked = worked_session(&rt, rt.alloc());
     count_is(&rt, worked.messages.len(), 290);
     count_is(&rt, worked.replies.len(), 272);
-    for len in 0..=290 {
-        is_cut(&rt, rt.alloc(), &worked, len);
-    }
+    is_cut_between(&rt, rt.alloc(), &worked, (0, 56), 0);
+    is_cut_between(&rt, rt.alloc(), &worked, (56, 114), 80);
+    is_cut_between(&rt, rt.alloc(), &worked, (114, 202), 240);
+    is_cut_between(&rt, rt.alloc(), &worked, (202, 290), 256);
+    is_cut_between(&rt, rt.alloc(), &worked, (290, 291), 272);
 }
 
-// How many bytes of replies are sent by the time that a read fails, behind so many reads of 29 bytes.
-fn sent_after(reads: usize) -> usize {
-    match reads {
-        0..2 => 0,
-        2..4 => 80,
-        4..7 => 240,
-        7..10 => 256,
-        _ => 272,
-    }
-}
+// How many bytes of replies are sent by the time that a read fails, behind 0 to 10 reads of 29 bytes.
+const SENT: [usize; 11] = [0, 0, 80, 80, 240, 240, 240, 256, 256, 256, 272];
 
 // Behind so many reads of 29 bytes one fails, and none comes behind it.
-fn ends_by_a_read(rt: &impl Abort, alloc: Global, worked: &Worked, trouble: Trouble) {
+fn ends_by_a_read(rt: &impl Abort, alloc: Global, worked: &Worked, trouble: Trouble, sent: usize) {
     let mut input = Source::new(&worked.messages, 29, trouble);
     let mut output = Vec::new(alloc);
     let done = run_one(alloc, &mut input, &mut output, Rules::standard());
     fault_is(rt, done.fault, Some(Fault::Read));
     count_is(rt, input.reads, trouble.after.saturating_add(1));
-    is_sent(rt, &output, worked, sent_after(trouble.after));
+    is_sent(rt, &output, worked, sent);
 }
 
 // One that is interrupted once isn't tried again: the session takes it as any other that fails.
 #[test]
 fn each_read_fails(rt: HostRuntime) {
     let worked = worked_session(&rt, rt.alloc());
-    for reads in 0..11 {
-        ends_by_a_read(&rt, rt.alloc(), &worked, Trouble::behind(reads, None));
+    for (reads, sent) in SENT.into_iter().enumerate() {
+        ends_by_a_read(&rt, rt.alloc(), &worked, Trouble::behind(reads, None), sent);
         let once = Trouble::once(reads, Some(ErrorKind::Interrupted));
-        ends_by_a_read(&rt, rt.alloc(), &worked, once);
+        ends_by_a_read(&rt, rt.alloc(), &worked, once, sent);
     }
 }
 
@@ -155,12 +158,7 @@ fn each_write_fails_or_takes_nothing(rt: HostRuntime) {
     }
 }
 
-// The first bytes of the replies went out, and not all.
-fn is_a_part(rt: &impl Abort, output: &[u8], replies: &[u8]) {
-    assert!(rt; replies.starts_with(output) && output.len() < replies.len());
-}
-
-// After so many writes one fails or takes nothing.
+// After so many writes one fails or takes nothing. The first bytes of the replies went out, and not all.
 fn ends_by_a_write(
     rt: &impl Abort,
     alloc: Global,
@@ -172,7 +170,9 @@ fn ends_by_a_write(
     let mut output = Sink::new(alloc, 7, Trouble::behind(writes, kind));
     let done = run_one(alloc, &mut input, &mut output, Rules::standard());
     is_whole(rt, alloc, &done, Some(Fault::Write));
-    is_a_part(rt, &output.held, &worked.replies);
+    let sent = output.held.len();
+    assert!(rt; sent < 272);
+    is_sent(rt, &output.held, worked, sent);
 }
 
 // So many replies go out, each with a write, since a read gives 29 bytes, before the write that is interrupted. It isn't
@@ -205,7 +205,7 @@ const INIT: &str = "\
 070000001f0000000000000000000000
 ";
 
-// A further read is there to be made, and isn't: all bytes behind the end are left.
+// A further read is there to be made, and isn't: one was made, and all bytes behind the end are left.
 fn ends_before(rt: &impl Abort, alloc: Global, worked: &Worked, end: &str, fault: Option<Fault>) {
     let mut bytes = spelled(rt, alloc, INIT, end, "> ");
     let first = bytes.len();
@@ -216,13 +216,8 @@ fn ends_before(rt: &impl Abort, alloc: Global, worked: &Worked, end: &str, fault
     let mut output: Vec<u8> = Vec::new(alloc);
     let done = run_one(alloc, &mut input, &mut output, Rules::standard());
     fault_is(rt, done.fault, fault);
-    is_left(rt, &input, &worked.messages);
-}
-
-// One read was made, and these bytes are left.
-fn is_left(rt: &impl Abort, input: &Source<'_>, left: &[u8]) {
     count_is(rt, input.reads, 1);
-    are_bytes(rt, input.bytes, left);
+    are_bytes(rt, input.bytes, &worked.messages);
 }
 
 const DESTROY: &str =

@@ -3,7 +3,7 @@
 use super::super::{count_is, fault_is};
 use super::faults::{Worked, worked_session};
 use super::is_traced;
-use super::traced::two_locks;
+use super::traced::TWO_LOCKS;
 use fl_core::Rules;
 use fl_history::{History, Lines};
 use fl_keeper::Keeper;
@@ -42,13 +42,8 @@ impl Keeper for Noted {
     }
 }
 
-// It is told once before each read.
-fn is_told(rt: &impl Abort, input: &Source<'_>, pauses: usize) {
-    count_is(rt, input.reads, pauses);
-}
-
-// The worked session comes in pieces of at most so many bytes. Its lines are with the keeper, which is told as often as
-// is said.
+// The worked session comes in pieces of at most so many bytes. Its lines are with the keeper, which is told once
+// before each read, as often as is said.
 fn keeps(rt: &impl Abort, alloc: Global, worked: &Worked, most: usize, pauses: usize) {
     let mut input = Source::new(&worked.messages, most, Trouble::none());
     let mut output: Vec<u8> = Vec::new(alloc);
@@ -66,8 +61,8 @@ fn keeps(rt: &impl Abort, alloc: Global, worked: &Worked, most: usize, pauses: u
     fault_is(rt, fault, None);
     let noted = keeper.expect(rt, "a keeper");
     count_is(rt, noted.pauses, pauses);
-    is_told(rt, &input, pauses);
-    is_traced(rt, alloc, &History::of(noted.lines), two_locks());
+    count_is(rt, input.reads, pauses);
+    is_traced(rt, alloc, &History::of(noted.lines), TWO_LOCKS);
 }
 
 // All at once and the stream's end; and 290 bytes in 29 pieces of 10 bytes, and the end.
