@@ -1,6 +1,7 @@
 //! Tests of the arena, of the rows on it and of the directory, by what is public of them.
 
 mod arena;
+mod calls;
 mod dir;
 mod directory;
 mod lists;

@@ -1,5 +1,6 @@
 //! Tests of the lock table, by what is public of it.
 
+mod asked;
 mod blocker;
 mod crowd;
 mod grid;
@@ -7,6 +8,7 @@ mod locks;
 mod owners;
 mod ranges;
 mod rivals;
+mod script;
 mod strokes;
 
 use std::fmt::Debug;

@@ -143,18 +143,11 @@ fn fills_every_slot_twice(rt: HostRuntime) {
 }
 
 #[test]
-fn a_cursor_has_the_slot_of_its_item(rt: HostRuntime) {
-    let mut arena = Arena::new(rt.alloc(), 1, 3).expect(&rt, "memory");
-    is_done(&rt, &push_front(&mut arena, 0, b'b'));
-    let slot = arena.cursor(0).slot.map(usize::from);
-    same(&rt, &slot, &arena.slot_at(0, 0));
-}
-
-#[test]
 fn tells_where_an_item_comes_to_stand(rt: HostRuntime) {
     let mut arena = Arena::new(rt.alloc(), 1, 3).expect(&rt, "memory");
     is_done(&rt, &push_front(&mut arena, 0, b'b'));
     let slot = arena.slot_at(0, 0).expect(&rt, "no slot");
+    same(&rt, &arena.cursor(0).slot.map(usize::from), &Some(slot));
     is_done(&rt, &push_front(&mut arena, 0, b'a'));
     stands(&rt, &arena.place(slot), &Place::On(0, 1));
     gave(&rt, &pop_front(&mut arena, 0), &Some(b'a'));

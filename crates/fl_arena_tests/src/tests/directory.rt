@@ -41,17 +41,8 @@ pub(super) fn is_made(rt: &impl Abort, told: &Result<Answer, Errno>, node: u64, 
     is(rt, told, &Ok(Answer::Made(file(node, 1), fh)));
 }
 
-pub(super) fn is_found(rt: &impl Abort, told: &Result<Answer, Errno>, node: u64) {
-    is(rt, told, &Ok(Answer::Entry(file(node, 1))));
-}
-
 pub(super) fn is_open(rt: &impl Abort, told: &Result<Answer, Errno>, fh: u64) {
     is(rt, told, &Ok(Answer::Open(fh)));
-}
-
-// The node lives, and has so many names.
-pub(super) fn lives(rt: &impl Abort, dir: &Dir, node: u64, names: u32) {
-    is(rt, &dir.getattr(node), &Ok(Answer::Attr(file(node, names))));
 }
 
 pub(super) fn is_gone(rt: &impl Abort, dir: &Dir, node: u64) {
@@ -61,13 +52,4 @@ pub(super) fn is_gone(rt: &impl Abort, dir: &Dir, node: u64) {
 // The fh is closed, and is the last one on the node or not.
 pub(super) fn is_closed(rt: &impl Abort, told: &Result<Closed, Errno>, node: u64, last: bool) {
     same(rt, told, &Ok(Closed { node, last }));
-}
-
-// The fh is open on this node, or on none.
-pub(super) fn is_open_on(rt: &impl Abort, dir: &Dir, fh: u64, node: Option<u64>) {
-    same(rt, &dir.node_of(fh), &node);
-}
-
-pub(super) fn is_not_open(rt: &impl Abort, told: &Result<Closed, Errno>) {
-    same(rt, told, &Err(Errno::EBADF));
 }

@@ -4,6 +4,7 @@ use super::are_bytes;
 use fl_session::{Fault, Filled, Inbox};
 use fl_testing::{Source, Trouble};
 use fl_wire::Step;
+use std::alloc::Global;
 use std::process::Abort;
 
 // A message of 40 bytes, and one of 41 behind it.
@@ -33,27 +34,31 @@ fn takes(rt: &impl Abort, inbox: &mut Inbox, wanted: &[u8]) {
     inbox.skip(len);
 }
 
-#[test]
-fn two_messages_come_with_one_read(rt: HostRuntime) {
+// The two messages come with reads of at most so many bytes. Each letter is a step: `r` reads, `1` and `2` take a message.
+// Then a read ends the stream.
+fn comes(
+    rt: &impl Abort,
+    alloc: Global,
+    (most, whole): (usize, usize),
+    steps: &[u8],
+    end: Option<Fault>,
+) {
     let bytes = two_messages();
-    let mut source = Source::new(&bytes, 100, Trouble::behind(1, None));
-    let mut inbox = Inbox::new(rt.alloc()).expect(&rt, "no memory");
-    reads(&rt, &mut inbox, &mut source, Filled::More);
-    takes(&rt, &mut inbox, &bytes[..40]);
-    takes(&rt, &mut inbox, &bytes[40..]);
-    reads(&rt, &mut inbox, &mut source, Filled::End(Some(Fault::Read)));
+    let mut source = Source::new(&bytes, most, Trouble::behind(whole, None));
+    let mut inbox = Inbox::new(alloc).expect(rt, "no memory");
+    for step in steps {
+        match step {
+            b'r' => reads(rt, &mut inbox, &mut source, Filled::More),
+            b'1' => takes(rt, &mut inbox, &bytes[..40]),
+            _ => takes(rt, &mut inbox, &bytes[40..]),
+        }
+    }
+    reads(rt, &mut inbox, &mut source, Filled::End(end));
 }
 
-// The second read has the end of the first message and a part of the second, and the third has the rest.
 #[test]
-fn each_message_comes_with_two_reads(rt: HostRuntime) {
-    let bytes = two_messages();
-    let mut source = Source::new(&bytes, 30, Trouble::behind(4, None));
-    let mut inbox = Inbox::new(rt.alloc()).expect(&rt, "no memory");
-    reads(&rt, &mut inbox, &mut source, Filled::More);
-    reads(&rt, &mut inbox, &mut source, Filled::More);
-    takes(&rt, &mut inbox, &bytes[..40]);
-    reads(&rt, &mut inbox, &mut source, Filled::More);
-    takes(&rt, &mut inbox, &bytes[40..]);
-    reads(&rt, &mut inbox, &mut source, Filled::End(None));
+fn two_messages_come_with_one_read_or_each_with_two(rt: HostRuntime) {
+    comes(&rt, rt.alloc(), (100, 1), b"r12", Some(Fault::Read));
+    // The second read has the end of the first message and a part of the second, and the third has the rest.
+    comes(&rt, rt.alloc(), (30, 4), b"rr1r2", None);
 }

@@ -6,28 +6,35 @@ mod collected;
 mod fair;
 mod faults;
 mod keepers;
-mod once;
 mod traced;
 mod waiting;
 
-use super::are_bytes;
+use super::{are_bytes, count_is};
 use around::AROUND_AN_INIT;
 use batches::BATCHES;
+use fair::STANDARD;
 use fl_core::Rules;
 use fl_history::History;
 use fl_session::run_one;
-use fl_testing::{bytes_after, lines_after};
+use fl_testing::{bytes_after, fair_sessions, lines_after};
 use fl_trace::print_trace;
 use std::alloc::Global;
 use std::process::Abort;
-use traced::{TRACED, two_locks};
+use traced::{TRACED, TWO_LOCKS};
 use waiting::{BEGINNING, REQUESTS_THAT_WAIT};
+
+fn add(rt: &impl Abort, to: &mut Vec<u8>, bytes: &[u8]) {
+    to.extend_from_slice(bytes).expect(rt, "memory");
+}
 
 // The bytes that the lines with a mark spell in two texts, of which the first comes before the second.
 fn spelled(rt: &impl Abort, alloc: Global, before: &str, case: &str, mark: &str) -> Vec<u8> {
     let mut bytes = bytes_after(alloc, before, mark).expect(rt, "hex");
-    let behind = bytes_after(alloc, case, mark).expect(rt, "hex");
-    bytes.extend_from_slice(&behind).expect(rt, "memory");
+    add(
+        rt,
+        &mut bytes,
+        &bytes_after(alloc, case, mark).expect(rt, "hex"),
+    );
     bytes
 }
 
@@ -76,18 +83,25 @@ fn all_are_traced(rt: &impl Abort, alloc: Global, rules: Rules, cases: &str) -> 
 #[test]
 fn sessions_and_their_traces(rt: HostRuntime) {
     let rules = Rules::standard();
-    assert_eq!(rt; all_are_traced(&rt, rt.alloc(), rules, two_locks()), 1);
-    assert_eq!(rt; all_are_traced(&rt, rt.alloc(), rules, TRACED), 3);
-    assert_eq!(rt; all_are_traced(&rt, rt.alloc(), rules, BATCHES), 3);
+    let fair = rules.with_fair(true);
+    count_is(&rt, all_are_traced(&rt, rt.alloc(), rules, TWO_LOCKS), 1);
+    count_is(&rt, all_are_traced(&rt, rt.alloc(), rules, TRACED), 3);
+    count_is(&rt, all_are_traced(&rt, rt.alloc(), rules, BATCHES), 3);
+    // In these a reader comes behind a writer that waits.
+    count_is(
+        &rt,
+        all_are_traced(&rt, rt.alloc(), fair, fair_sessions()),
+        2,
+    );
+    count_is(&rt, all_are_traced(&rt, rt.alloc(), rules, STANDARD), 1);
 }
 
 #[test]
-fn before_and_after_an_init(rt: HostRuntime) {
-    assert_eq!(rt; all_answer(&rt, rt.alloc(), "", AROUND_AN_INIT), 8);
-}
-
-#[test]
-fn sessions_with_waiters(rt: HostRuntime) {
-    let found = all_answer(&rt, rt.alloc(), BEGINNING, REQUESTS_THAT_WAIT);
-    assert_eq!(rt; found, 9);
+fn sessions_around_an_init_and_with_waiters(rt: HostRuntime) {
+    count_is(&rt, all_answer(&rt, rt.alloc(), "", AROUND_AN_INIT), 8);
+    count_is(
+        &rt,
+        all_answer(&rt, rt.alloc(), BEGINNING, REQUESTS_THAT_WAIT),
+        9,
+    );
 }

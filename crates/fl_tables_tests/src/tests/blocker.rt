@@ -1,118 +1,55 @@
 //! The lock that F_GETLK names, where it is known, and against marks that are kept byte by byte.
 
-use super::grid::{BYTES, Grid, LAST_ROW, ROWS, Row, excludes, owners};
-use super::locks::{
-    OTHER_WRITE, READ, WRITE, elsewhere, erase, held, key, put, put_as, range, whole_file,
-};
+use super::grid::{BYTES, Grid, Row, excludes};
+use super::locks::{held, key};
 use super::same;
-use fl_ranges::{Held, Key, Kind, LAST_BYTE, Mark, Table};
-use fl_testing::Numbers;
-use std::alloc::Global;
+use super::script::all_hold;
+use fl_ranges::{Held, Kind, Mark, Table};
 use std::process::Abort;
 
-// Who asks, on which bytes, both included, and for what kind of lock.
-type Asked = (Key, u64, u64, Kind);
-
-// This lock is named, or none.
-fn is(rt: &impl Abort, told: &Option<Held>, wanted: &Option<Held>) {
-    same(rt, told, wanted);
-}
-
-fn names(rt: &impl Abort, table: &Table, asked: Asked, wanted: Option<Held>) {
-    let (key, start, end, kind) = asked;
-    let told = table.blocker(&key, &range(rt, start, end), kind);
-    is(rt, &told, &wanted);
-}
-
-fn reads(owner: u64, start: u64, end: u64) -> Asked {
-    (key(owner), start, end, Kind::Read)
-}
-
-fn writes(owner: u64, start: u64, end: u64) -> Asked {
-    (key(owner), start, end, Kind::Write)
-}
-
-// This lock is named to an owner who asks for a write lock of these bytes, or none.
-fn stops_writer(
-    rt: &impl Abort,
-    table: &Table,
-    owner: u64,
-    start: u64,
-    end: u64,
-    wanted: Option<Held>,
-) {
-    names(rt, table, writes(owner, start, end), wanted);
-}
-
-// So it is for a read lock.
-fn stops_reader(
-    rt: &impl Abort,
-    table: &Table,
-    owner: u64,
-    start: u64,
-    end: u64,
-    wanted: Option<Held>,
-) {
-    names(rt, table, reads(owner, start, end), wanted);
-}
+// Of owner 4, a write lock of all bytes is of one process up to byte 4 and of another from byte 5 on.
+const NAMED: &str = "\
+# names the lock at the least byte
+put record 7 5 30 39 read 1 = 1
+put record 7 9 10 19 write 1 = 1
+named record 7 1 12 35 write = 9 10 19 write 1
+named record 7 1 0 10 read = 9 10 19 write 1
+named record 7 1 19 19 read = 9 10 19 write 1
+named record 7 1 0 9 write =
+named record 7 1 20 35 write = 5 30 39 read 1
+named record 7 1 20 50 read =
+named record 7 9 0 29 write =
+named record 7 9 0 last write = 5 30 39 read 1
+# names the least owner at one byte
+put record 7 8 0 9 read 1 = 1
+put record 7 3 5 20 read 1 = 1
+put record 7 6 4 6 read 1 = 1
+named record 7 1 0 9 write = 8 0 9 read 1
+named record 7 1 4 20 write = 6 4 6 read 1
+named record 7 1 5 5 write = 3 5 20 read 1
+named record 7 3 5 5 write = 6 4 6 read 1
+named record 7 3 7 20 write = 8 0 9 read 1
+# names all bytes of one mark
+put record 7 4 0 9 write 1 = 1
+put record 7 4 5 9 write 2 = 1
+put record 7 4 10 last write 2 = 1
+named record 7 1 3 7 read = 4 0 4 write 1
+named record 7 1 7 7 read = 4 5 last write 2
+named record 7 1 last last read = 4 5 last write 2
+erase record 7 4 3 3 = 1
+named record 7 1 3 3 read =
+named record 7 1 2 3 read = 4 0 2 write 1
+named record 7 1 3 9 read = 4 4 4 write 1
+# names no lock of another class or node
+put file 7 5 0 last write 1 = 1
+put record 263 5 0 9 write 1 = 1
+named record 7 1 0 9 write =
+named file 7 1 0 last read = 5 0 last write 1
+";
 
 #[test]
-fn names_the_lock_at_the_least_byte(rt: HostRuntime) {
-    let mut table = Table::new(rt.alloc(), 8).expect(&rt, "memory");
-    put(&rt, &mut table, 5, 30, 39, READ);
-    put(&rt, &mut table, 9, 10, 19, WRITE);
-    stops_writer(&rt, &table, 1, 12, 35, held(9, 10, 19, WRITE));
-    stops_reader(&rt, &table, 1, 0, 10, held(9, 10, 19, WRITE));
-    stops_reader(&rt, &table, 1, 19, 19, held(9, 10, 19, WRITE));
-    stops_writer(&rt, &table, 1, 0, 9, None);
-    stops_writer(&rt, &table, 1, 20, 35, held(5, 30, 39, READ));
-    stops_reader(&rt, &table, 1, 20, 50, None);
-    stops_writer(&rt, &table, 9, 0, 29, None);
-    stops_writer(&rt, &table, 9, 0, LAST_BYTE, held(5, 30, 39, READ));
-}
-
-#[test]
-fn names_the_least_owner_at_one_byte(rt: HostRuntime) {
-    let mut table = Table::new(rt.alloc(), 8).expect(&rt, "memory");
-    put(&rt, &mut table, 8, 0, 9, READ);
-    put(&rt, &mut table, 3, 5, 20, READ);
-    put(&rt, &mut table, 6, 4, 6, READ);
-    stops_writer(&rt, &table, 1, 0, 9, held(8, 0, 9, READ));
-    stops_writer(&rt, &table, 1, 4, 20, held(6, 4, 6, READ));
-    stops_writer(&rt, &table, 1, 5, 5, held(3, 5, 20, READ));
-    stops_writer(&rt, &table, 3, 5, 5, held(6, 4, 6, READ));
-    stops_writer(&rt, &table, 3, 7, 20, held(8, 0, 9, READ));
-}
-
-// A write lock of owner 4 on all bytes, by one process up to byte 4 and by another from byte 5 on.
-fn put_two_processes(rt: &impl Abort, table: &mut Table) {
-    put(rt, table, 4, 0, 9, WRITE);
-    put(rt, table, 4, 5, 9, OTHER_WRITE);
-    put(rt, table, 4, 10, LAST_BYTE, OTHER_WRITE);
-}
-
-#[test]
-fn names_all_bytes_of_one_mark(rt: HostRuntime) {
-    let mut table = Table::new(rt.alloc(), 8).expect(&rt, "memory");
-    let last = held(4, 5, LAST_BYTE, OTHER_WRITE);
-    put_two_processes(&rt, &mut table);
-    stops_reader(&rt, &table, 1, 3, 7, held(4, 0, 4, WRITE));
-    stops_reader(&rt, &table, 1, 7, 7, last);
-    stops_reader(&rt, &table, 1, LAST_BYTE, LAST_BYTE, last);
-    erase(&rt, &mut table, 4, 3, 3, Ok(()));
-    stops_reader(&rt, &table, 1, 3, 3, None);
-    stops_reader(&rt, &table, 1, 2, 3, held(4, 0, 2, WRITE));
-    stops_reader(&rt, &table, 1, 3, 9, held(4, 4, 4, WRITE));
-}
-
-#[test]
-fn names_no_lock_of_another_class_or_node(rt: HostRuntime) {
-    let mut table = Table::new(rt.alloc(), 8).expect(&rt, "memory");
-    put_as(&rt, &mut table, whole_file(5), 0, LAST_BYTE, WRITE);
-    put_as(&rt, &mut table, elsewhere(5), 0, 9, WRITE);
-    stops_writer(&rt, &table, 1, 0, 9, None);
-    let asked = (whole_file(1), 0, LAST_BYTE, Kind::Read);
-    names(&rt, &table, asked, held(5, 0, LAST_BYTE, WRITE));
+fn names_the_lock_in_the_way(rt: HostRuntime) {
+    same(&rt, &all_hold(&rt, rt.alloc(), 8, NAMED), &4);
 }
 
 // The first of the bytes from which all up to this one have the same mark.
@@ -172,7 +109,7 @@ fn named(grid: &Grid, start: usize, end: usize, asker: usize, kind: Kind) -> Opt
 }
 
 // An owner asks for a range.
-fn compare_asker(
+pub(super) fn compare_asker(
     rt: &impl Abort,
     table: &Table,
     grid: &Grid,
@@ -183,31 +120,5 @@ fn compare_asker(
 ) {
     let range = grid.range(rt, start, end);
     let told = table.blocker(&key(asker as u64), &range, kind);
-    is(rt, &told, &named(grid, start, end, asker, kind));
-}
-
-// Each owner asks for each range from a byte on.
-fn compare(rt: &impl Abort, table: &Table, grid: &Grid, start: usize) {
-    for end in start..BYTES {
-        for asker in 0..ROWS {
-            compare_asker(rt, table, grid, asker, start, end, Kind::Read);
-            compare_asker(rt, table, grid, asker, start, end, Kind::Write);
-        }
-    }
-}
-
-fn follow(rt: &impl Abort, alloc: Global, first: u64) {
-    let mut table = Table::new(alloc, 64).expect(rt, "memory");
-    let mut grid = Grid::new(owners(), first, 64);
-    let mut numbers = Numbers { state: 2026 };
-    for step in 0..400 {
-        grid.random_stroke(rt, &mut table, &mut numbers);
-        compare(rt, &table, &grid, step % BYTES);
-    }
-}
-
-#[test]
-fn names_what_the_bytes_say(rt: HostRuntime) {
-    follow(&rt, rt.alloc(), 0);
-    follow(&rt, rt.alloc(), LAST_ROW);
+    same(rt, &told, &named(grid, start, end, asker, kind));
 }

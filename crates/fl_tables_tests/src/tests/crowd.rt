@@ -4,9 +4,8 @@
 use super::blocker::row_end;
 use super::grid::{BYTES, Row, count_runs, paint, random_bytes, random_mark, row_excludes, stroke};
 use super::locks::{READ, WRITE, elsewhere, erase, held, key, put_as, range, whole_file};
-use super::owners::in_the_way;
 use super::ranges::has_runs;
-use super::same;
+use super::{owners as in_the_way, same};
 use fl_ranges::{Class, Held, Key, Kind, LAST_BYTE, Mark, Range, Table};
 use fl_testing::Numbers;
 use std::alloc::Global;
@@ -126,40 +125,21 @@ fn compare_asker(rt: &impl Abort, table: &Table, rows: &[Row], asker: usize) {
     compare_bytes(rt, table, rows, asker, start, 15, Kind::Write);
 }
 
-// The owners whose mark on a byte excludes a lock of this kind, the least first.
-fn excluding(rt: &impl Abort, alloc: Global, rows: &[Row], byte: usize, kind: Kind) -> Vec<u64> {
-    let mut found = Vec::new(alloc);
-    for (owner, row) in rows.iter().enumerate() {
-        if row_excludes(row, byte, byte, kind) {
-            found.push(owner as u64).expect(rt, "memory");
-        }
-    }
-    found
-}
-
-// The owners in the way of a stranger's lock of a byte are those.
-fn compare_owners(
-    rt: &impl Abort,
-    alloc: Global,
-    table: &Table,
-    rows: &[Row],
-    byte: usize,
-    kind: Kind,
-) {
-    let wanted = excluding(rt, alloc, rows, byte, kind);
-    let asked = (key(STRANGER), byte as u64, byte as u64, kind);
-    in_the_way(rt, table, asked, &wanted);
+// The owners in the way of a stranger's lock of a byte are those whose mark on it excludes that.
+fn compare_owners(rt: &impl Abort, table: &Table, rows: &[Row], byte: usize, kind: Kind) {
+    let place = (&key(STRANGER), &bytes(rt, byte, byte));
+    in_the_way::compare_asker(rt, table, rows, place, STRANGER as usize, byte, byte, kind);
 }
 
 // Every owner asks, and some do who have no lock. Each byte tells its owners.
-fn compare(rt: &impl Abort, alloc: Global, table: &Table, rows: &[Row]) {
+fn compare(rt: &impl Abort, table: &Table, rows: &[Row]) {
     same(rt, &table.runs(), &count_runs(rows));
     for asker in 0..rows.len().max(BYTES) {
         compare_asker(rt, table, rows, asker);
     }
     for byte in 0..BYTES {
-        compare_owners(rt, alloc, table, rows, byte, Kind::Read);
-        compare_owners(rt, alloc, table, rows, byte, Kind::Write);
+        compare_owners(rt, table, rows, byte, Kind::Read);
+        compare_owners(rt, table, rows, byte, Kind::Write);
     }
 }
 
@@ -206,7 +186,7 @@ fn follow(rt: &impl Abort, alloc: Global, owners: u16) {
     for _ in 0..1500u32 {
         random_step(rt, &mut table, &mut rows, limit, &mut numbers);
     }
-    compare(rt, alloc, &table, &rows);
+    compare(rt, &table, &rows);
     for byte in 0..BYTES {
         take_byte(rt, &mut table, &mut rows, byte);
     }

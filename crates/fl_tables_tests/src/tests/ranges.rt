@@ -1,62 +1,67 @@
 //! The edges of a lock table's room, and of its bytes.
 ghost use Rattle.std.specs.Prelude.{◌≡◌, ◌<◌, IfSome};
 
-use super::locks::{READ, WRITE, erase, has_no_room, is, key, put, put_as, range};
+use super::locks::{READ, WRITE, erase, has_no_room, key, put, put_as};
 use super::same;
-use fl_ranges::{Key, Kind, LAST_BYTE, Mark, NoRoom, Place, Range, Table, laws};
+use super::script::all_hold;
+use fl_ranges::{Key, Place, Table, laws};
 use std::process::Abort;
-
-const OTHER_READ: Mark = Mark {
-    kind: Kind::Read,
-    pid: 2,
-};
 
 // The table has so many runs.
 pub(super) fn has_runs(rt: &impl Abort, table: &Table, wanted: u32) {
     same(rt, &table.runs(), &wanted);
 }
 
-// Four runs of owner 1, with gaps between them, in a table that has room for four.
-fn put_four_runs(rt: &impl Abort, table: &mut Table) {
-    put(rt, table, 1, 0, 4, READ);
-    put(rt, table, 1, 10, 14, READ);
-    put(rt, table, 1, 20, 24, READ);
-    put(rt, table, 1, 30, 34, READ);
-    has_runs(rt, table, 4);
-}
+// In a table that has room for four runs.
+const FOUR_RUNS: &str = "\
+# the fourth run fits and a fifth does not
+put record 7 1 0 4 read 1 = 1
+put record 7 1 10 14 read 1 = 1
+put record 7 1 20 24 read 1 = 1
+put record 7 1 30 34 read 1 = 1
+runs = 4
+put record 7 1 40 44 read 1 = 0
+put record 7 2 0 0 read 1 = 0
+erase record 7 1 11 12 = 0
+put record 7 1 22 22 write 1 = 0
+runs = 4
+# room comes back where runs are joined
+put record 7 1 0 4 read 1 = 1
+put record 7 1 10 14 read 1 = 1
+put record 7 1 20 24 read 1 = 1
+put record 7 1 30 34 read 1 = 1
+runs = 4
+erase record 7 1 14 14 = 1
+put record 7 1 0 34 write 1 = 1
+runs = 1
+put record 7 1 5 6 read 2 = 1
+runs = 3
+erase record 7 1 20 20 = 1
+erase record 7 1 30 30 = 0
+put record 7 1 6 7 read 2 = 1
+runs = 4
+# the last byte is a byte like any
+put record 7 1 last last read 1 = 1
+put record 7 1 9223372036854775806 9223372036854775806 read 1 = 1
+runs = 1
+put record 7 1 0 last write 1 = 1
+runs = 1
+clash record 7 2 last last read = 1
+clear record 7 1 0 last =
+runs = 0
+";
+
+const NO_RUN: &str = "\
+# a table with no room
+put record 7 1 0 0 read 1 = 0
+erase record 7 1 0 last = 1
+runs = 0
+";
 
 #[test]
-fn the_fourth_run_fits_and_a_fifth_does_not(rt: HostRuntime) {
-    let mut table = Table::new(rt.alloc(), 4).expect(&rt, "memory");
-    put_four_runs(&rt, &mut table);
-    has_no_room(&rt, &mut table, 1, 40, 44, READ);
-    has_no_room(&rt, &mut table, 2, 0, 0, READ);
-    erase(&rt, &mut table, 1, 11, 12, Err(NoRoom));
-    has_no_room(&rt, &mut table, 1, 22, 22, WRITE);
-    has_runs(&rt, &table, 4);
-}
-
-#[test]
-fn room_comes_back_where_runs_are_joined(rt: HostRuntime) {
-    let mut table = Table::new(rt.alloc(), 4).expect(&rt, "memory");
-    put_four_runs(&rt, &mut table);
-    erase(&rt, &mut table, 1, 14, 14, Ok(()));
-    put(&rt, &mut table, 1, 0, 34, WRITE);
-    has_runs(&rt, &table, 1);
-    put(&rt, &mut table, 1, 5, 6, OTHER_READ);
-    has_runs(&rt, &table, 3);
-    erase(&rt, &mut table, 1, 20, 20, Ok(()));
-    erase(&rt, &mut table, 1, 30, 30, Err(NoRoom));
-    put(&rt, &mut table, 1, 6, 7, OTHER_READ);
-    has_runs(&rt, &table, 4);
-}
-
-#[test]
-fn a_table_with_no_room(rt: HostRuntime) {
-    let mut table = Table::new(rt.alloc(), 0).expect(&rt, "memory");
-    has_no_room(&rt, &mut table, 1, 0, 0, READ);
-    erase(&rt, &mut table, 1, 0, LAST_BYTE, Ok(()));
-    has_runs(&rt, &table, 0);
+fn room_is_for_as_many_runs(rt: HostRuntime) {
+    same(&rt, &all_hold(&rt, rt.alloc(), 4, FOUR_RUNS), &3);
+    same(&rt, &all_hold(&rt, rt.alloc(), 0, NO_RUN), &1);
 }
 
 // At which indices of a chain the runs stand, of a table of three slots. The other slots are free.
@@ -71,15 +76,6 @@ fn indices(rt: &impl Abort, table: &Table) -> [bool; 2]
         }
     }
     found
-}
-
-#[test]
-fn slots_of_runs_are_free_or_on_a_chain(rt: HostRuntime) {
-    let mut table = Table::new(rt.alloc(), 3).expect(&rt, "memory");
-    same(&rt, &table.slot_place(0), &Place::Free);
-    put(&rt, &mut table, 1, 5, 9, READ);
-    put(&rt, &mut table, 1, 0, 1, READ);
-    same(&rt, &indices(&rt, &table), &[true, true]);
 }
 
 // The slot whose run stands at an index of its chain, of a table of three slots.
@@ -130,11 +126,13 @@ fn heads(rt: &impl Abort, table: &Table) -> [bool; 2]
 }
 
 #[test]
-fn a_key_is_on_its_nodes_chain_while_it_has_runs(rt: HostRuntime) {
+fn slots_are_free_or_on_a_chain_and_keys_on_their_nodes(rt: HostRuntime) {
     let mut table = Table::new(rt.alloc(), 3).expect(&rt, "memory");
+    same(&rt, &table.slot_place(0), &Place::Free);
     same(&rt, &heads(&rt, &table), &[false, false]);
     put(&rt, &mut table, 1, 5, 9, READ);
     put(&rt, &mut table, 1, 0, 1, READ);
+    same(&rt, &indices(&rt, &table), &[true, true]);
     same(&rt, &heads(&rt, &table), &[true, false]);
     put(&rt, &mut table, 2, 20, 20, READ);
     same(&rt, &heads(&rt, &table), &[true, true]);
@@ -189,21 +187,6 @@ fn room_for_4096_owners_comes_back(rt: HostRuntime) {
     fill(&rt, &mut table);
     clear(&rt, &mut table);
     is_free(&rt, &table);
-}
-
-#[test]
-fn the_last_byte_is_a_byte_like_any(rt: HostRuntime) {
-    let mut table = Table::new(rt.alloc(), 4).expect(&rt, "memory");
-    put(&rt, &mut table, 1, LAST_BYTE, LAST_BYTE, READ);
-    put(&rt, &mut table, 1, LAST_BYTE - 1, LAST_BYTE - 1, READ);
-    has_runs(&rt, &table, 1);
-    let whole = Range::whole();
-    is(&rt, &table.put(&key(1), &whole, WRITE), &Ok(()));
-    has_runs(&rt, &table, 1);
-    let last = range(&rt, LAST_BYTE, LAST_BYTE);
-    same(&rt, &table.clashes(&key(2), &last, Kind::Read), &true);
-    table.erase_owner(&key(1));
-    has_runs(&rt, &table, 0);
 }
 
 #[test]

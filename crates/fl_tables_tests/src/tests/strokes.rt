@@ -92,11 +92,7 @@ fn follow(rt: &impl Abort, alloc: Global, first: u64, seed: u64) {
 }
 
 #[test]
-fn answers_as_a_grid_does_from_byte_0(rt: HostRuntime) {
+fn answers_as_a_grid_does(rt: HostRuntime) {
     follow(&rt, rt.alloc(), 0, 2026);
-}
-
-#[test]
-fn answers_as_a_grid_does_up_to_the_last_byte(rt: HostRuntime) {
     follow(&rt, rt.alloc(), LAST_ROW, 731);
 }

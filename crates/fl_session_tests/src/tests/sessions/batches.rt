@@ -1,11 +1,12 @@
 //! BATCH_FORGET. The messages and replies are laid out by hand from `fuse.h` (protocol 7.31). A line that begins with `> ` is a message in
 //! hex, one with `< ` is a reply, and one with `= ` is a line of the trace.
 
+use super::add;
 use crate::tests::{count_is, fault_is};
 use fl_core::Rules;
 use fl_history::{History, Line};
 use fl_order::Op;
-use fl_session::{Done, Fault, run_one};
+use fl_session::{Fault, run_one};
 use fl_testing::{bytes_after, init};
 use std::alloc::Global;
 use std::process::Abort;
@@ -150,48 +151,44 @@ fn stream_of(rt: &impl Abort, alloc: Global, count: u32) -> Vec<u8> {
     let mut stream = bytes_after(alloc, init(), "").expect(rt, "hex");
     let len = count.wrapping_mul(16).wrapping_add(48);
     for field in [len, 42, 5, 0, 0, 0, 0, 0, 0, 0, count, 0] {
-        stream
-            .extend_from_slice(&field.to_le_bytes())
-            .expect(rt, "memory");
+        add(rt, &mut stream, &field.to_le_bytes());
     }
     for pair in 0..count {
         let node = u64::from(pair).wrapping_add(1);
-        stream
-            .extend_from_slice(&node.to_le_bytes())
-            .expect(rt, "memory");
-        stream
-            .extend_from_slice(&1u64.to_le_bytes())
-            .expect(rt, "memory");
+        add(rt, &mut stream, &node.to_le_bytes());
+        add(rt, &mut stream, &1u64.to_le_bytes());
     }
     stream
 }
 
-fn run(rt: &impl Abort, alloc: Global, count: u32) -> Done {
-    let stream = stream_of(rt, alloc, count);
-    let mut input = stream.as_slice();
-    run_one(alloc, &mut input, &mut Vec::new(alloc), Rules::standard())
+// A FORGET of one lookup of this node.
+fn is_forget(rt: &impl Abort, line: &Line, node: u64) {
+    let Line::Asked { worker: 0, order } = line else {
+        panic!(rt; "a FORGET")
+    };
+    assert!(rt; order.unique == 5 && order.node == node && matches!(order.op, Op::Forget(1)));
 }
 
-// Each line is a FORGET of one lookup of the next node.
+// Each line is one of the next node.
 fn are_forgets(rt: &impl Abort, history: &History) {
     for at in 0..history.len() {
-        let Line::Asked { worker: 0, order } = history.line(at) else {
-            panic!(rt; "a FORGET")
-        };
-        assert_eq!(rt; order.unique, 5);
-        assert_eq!(rt; order.node, (at as u64).wrapping_add(1));
-        assert_eq!(rt; order.op, Op::Forget(1));
+        is_forget(rt, &history.line(at), (at as u64).wrapping_add(1));
     }
+}
+
+// A session with a batch of so many pairs comes to this fault, and to so many lines.
+fn comes_to(rt: &impl Abort, alloc: Global, count: u32, fault: Option<Fault>, lines: usize) {
+    let stream = stream_of(rt, alloc, count);
+    let mut input = stream.as_slice();
+    let done = run_one(alloc, &mut input, &mut Vec::new(alloc), Rules::standard());
+    fault_is(rt, done.fault, fault);
+    count_is(rt, done.history.len(), lines);
+    are_forgets(rt, &done.history);
 }
 
 // With one pair more it would be longer than any message.
 #[test]
 fn the_most_pairs_that_a_message_has(rt: HostRuntime) {
-    let most = run(&rt, rt.alloc(), 509);
-    fault_is(&rt, most.fault, None);
-    count_is(&rt, most.history.len(), 509);
-    are_forgets(&rt, &most.history);
-    let more = run(&rt, rt.alloc(), 510);
-    fault_is(&rt, more.fault, Some(Fault::BadLength(8208)));
-    count_is(&rt, more.history.len(), 0);
+    comes_to(&rt, rt.alloc(), 509, None, 509);
+    comes_to(&rt, rt.alloc(), 510, Some(Fault::BadLength(8208)), 0);
 }

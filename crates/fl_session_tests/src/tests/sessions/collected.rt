@@ -1,9 +1,8 @@
 //! Replies that are collected: when they go out, and with how many writes.
 
 use super::super::{are_bytes, count_is, fault_is};
-use super::faults::{replies, stream};
-use super::spelled;
-use super::traced::two_locks;
+use super::add;
+use super::faults::{Worked, worked_session};
 use fl_core::Rules;
 use fl_session::run_one;
 use fl_testing::{Sink, Trouble};
@@ -69,11 +68,11 @@ impl Read for Asked<'_> {
 
 #[test]
 fn no_reply_stays_behind_while_its_client_waits(rt: HostRuntime) {
-    let messages = stream(&rt, rt.alloc());
+    let worked = worked_session(&rt, rt.alloc());
     let bytes = Cell::new(0);
     let mut input = Asked {
         told: &bytes,
-        messages: &messages,
+        messages: &worked.messages,
         sent: 0,
     };
     let mut output = Told {
@@ -84,36 +83,45 @@ fn no_reply_stays_behind_while_its_client_waits(rt: HostRuntime) {
     let done = run_one(rt.alloc(), &mut input, &mut output, Rules::standard());
     fault_is(&rt, done.fault, None);
     count_is(&rt, output.writes, 4);
-    are_bytes(&rt, &output.held, &replies(&rt, rt.alloc()));
+    are_bytes(&rt, &output.held, &worked.replies);
 }
 
 // The first bytes of the worked session, and then those from a place up to another as often as is said.
-fn repeated(alloc: Global, bytes: &[u8], from: usize, to: usize, count: usize) -> Option<Vec<u8>> {
+fn repeated(
+    rt: &impl Abort,
+    alloc: Global,
+    bytes: &[u8],
+    (from, to): (usize, usize),
+    count: usize,
+) -> Vec<u8> {
     let mut all = Vec::new(alloc);
-    all.extend_from_slice(bytes.get(..from)?).ok()?;
+    add(rt, &mut all, bytes.get(..from).expect(rt, "bytes"));
     for _ in 0..count {
-        all.extend_from_slice(bytes.get(from..to)?).ok()?;
+        add(rt, &mut all, bytes.get(from..to).expect(rt, "bytes"));
     }
-    Some(all)
+    all
 }
 
-// So many messages, the last of which set one lock again and again, come with one read. Says with how many writes their
-// replies went out.
-fn writes_for(rt: &impl Abort, alloc: Global, locks: usize) -> usize {
-    let messages = spelled(rt, alloc, "", two_locks(), "> ");
-    let replies = spelled(rt, alloc, "", two_locks(), "< ");
-    let stream = repeated(alloc, &messages, 114, 202, locks).expect(rt, "memory");
-    let wanted = repeated(alloc, &replies, 240, 256, locks).expect(rt, "memory");
-    let mut input = stream.as_slice();
+// These messages come with one read, and their replies go out with one write.
+fn go_out_together(rt: &impl Abort, alloc: Global, messages: &[u8], replies: &[u8]) {
+    let mut input = messages;
     let mut output = Sink::new(alloc, usize::MAX, Trouble::none());
     let done = run_one(alloc, &mut input, &mut output, Rules::standard());
     fault_is(rt, done.fault, None);
-    are_bytes(rt, &output.held, &wanted);
-    output.writes
+    are_bytes(rt, &output.held, replies);
+    count_is(rt, output.writes, 1);
+}
+
+// The last of the messages set one lock again and again.
+fn set_a_lock(rt: &impl Abort, alloc: Global, worked: &Worked, locks: usize) {
+    let messages = repeated(rt, alloc, &worked.messages, (114, 202), locks);
+    let replies = repeated(rt, alloc, &worked.replies, (240, 256), locks);
+    go_out_together(rt, alloc, &messages, &replies);
 }
 
 #[test]
 fn replies_to_what_one_read_gave_go_out_together(rt: HostRuntime) {
-    count_is(&rt, writes_for(&rt, rt.alloc(), 0), 1);
-    count_is(&rt, writes_for(&rt, rt.alloc(), 64), 1);
+    let worked = worked_session(&rt, rt.alloc());
+    set_a_lock(&rt, rt.alloc(), &worked, 0);
+    set_a_lock(&rt, rt.alloc(), &worked, 64);
 }

@@ -1,11 +1,7 @@
-//! Sessions in which a reader comes behind a writer that waits.
+//! A session in which a reader comes behind a writer that waits.
 
-use super::all_are_traced;
-use fl_core::Rules;
-use fl_testing::fair_sessions;
-
-// The second of them, under the standard rules.
-const STANDARD: &str = "\
+/// The second of those under fair rules, under the standard ones.
+pub(super) const STANDARD: &str = "\
 # the reader gets its lock at once
 INIT; CREATE; SETLK of a read lock of byte 0 by owner 7; SETLKW of a write lock of it by owner 8, with the unique 4, and of
 a read lock by owner 9, with the unique 5. Only owner 8 waits. INTERRUPT of the unique 4.
@@ -43,11 +39,3 @@ a read lock by owner 9, with the unique 5. Only owner 8 waits. INTERRUPT of the 
 = ask 0 6 0 0 0 0 interrupt 4
 = tell 4 err 4
 ";
-
-#[test]
-fn a_reader_behind_a_writer_that_waits(rt: HostRuntime) {
-    let standard = Rules::standard();
-    let fair = standard.with_fair(true);
-    assert_eq!(rt; all_are_traced(&rt, rt.alloc(), fair, fair_sessions()), 2);
-    assert_eq!(rt; all_are_traced(&rt, rt.alloc(), standard, STANDARD), 1);
-}

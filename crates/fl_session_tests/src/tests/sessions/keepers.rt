@@ -1,9 +1,9 @@
 //! A session whose lines go to a keeper of the caller's.
 
 use super::super::{count_is, fault_is};
-use super::faults::stream;
+use super::faults::{Worked, worked_session};
 use super::is_traced;
-use super::traced::two_locks;
+use super::traced::TWO_LOCKS;
 use fl_core::Rules;
 use fl_history::{History, Lines};
 use fl_keeper::Keeper;
@@ -42,16 +42,10 @@ impl Keeper for Noted {
     }
 }
 
-// It is told once before each read.
-fn is_told(rt: &impl Abort, input: &Source<'_>, pauses: usize) {
-    count_is(rt, input.reads, pauses);
-}
-
-// The worked session comes in pieces of at most so many bytes. Its lines are with the keeper, which is told as often as
-// is said.
-fn keeps(rt: &impl Abort, alloc: Global, most: usize, pauses: usize) {
-    let messages = stream(rt, alloc);
-    let mut input = Source::new(&messages, most, Trouble::none());
+// The worked session comes in pieces of at most so many bytes. Its lines are with the keeper, which is told once
+// before each read, as often as is said.
+fn keeps(rt: &impl Abort, alloc: Global, worked: &Worked, most: usize, pauses: usize) {
+    let mut input = Source::new(&worked.messages, most, Trouble::none());
     let mut output: Vec<u8> = Vec::new(alloc);
     let noted = Noted {
         lines: Lines::new(alloc),
@@ -67,13 +61,14 @@ fn keeps(rt: &impl Abort, alloc: Global, most: usize, pauses: usize) {
     fault_is(rt, fault, None);
     let noted = keeper.expect(rt, "a keeper");
     count_is(rt, noted.pauses, pauses);
-    is_told(rt, &input, pauses);
-    is_traced(rt, alloc, &History::of(noted.lines), two_locks());
+    count_is(rt, input.reads, pauses);
+    is_traced(rt, alloc, &History::of(noted.lines), TWO_LOCKS);
 }
 
 // All at once and the stream's end; and 290 bytes in 29 pieces of 10 bytes, and the end.
 #[test]
 fn a_keeper_is_told_before_each_read(rt: HostRuntime) {
-    keeps(&rt, rt.alloc(), usize::MAX, 2);
-    keeps(&rt, rt.alloc(), 10, 30);
+    let worked = worked_session(&rt, rt.alloc());
+    keeps(&rt, rt.alloc(), &worked, usize::MAX, 2);
+    keeps(&rt, rt.alloc(), &worked, 10, 30);
 }

@@ -2,8 +2,7 @@
 //! A line that begins with `> ` is a message in hex, one with `< ` is a reply, and one with `= ` is a line of the trace.
 
 /// The worked session.
-pub(super) fn two_locks() -> &'static str {
-    "\
+pub(super) const TWO_LOCKS: &str = "\
 # two locks
 INIT at 7.31; CREATE of `a` in the root; SETLK of a write lock of bytes 0 to 9 by owner 7; SETLK of a read lock of
 byte 9 by owner 8.
@@ -32,8 +31,7 @@ What is agreed; the file that is made; done; EAGAIN.
 = tell 3 ok
 = ask 0 4 2 0 0 0 setlk 1 8 9 9 0 12 0
 = tell 4 err 11
-"
-}
+";
 
 /// What else a trace has, or hasn't.
 pub(super) const TRACED: &str = "\
