@@ -26,26 +26,48 @@ fn read(rt: &(impl Abort + AllocGlobal), text: &str) -> History {
     read_trace(rt.alloc(), text.as_bytes()).expect(rt, "a trace")
 }
 
-// So a judge says of the lines of a text, after each of them; and some legal history begins with so many of them.
-fn is_heard(rt: &(impl Abort + AllocGlobal), text: &str, wanted: &[Verdict], beginning: usize) {
-    is_heard_under(rt, Rules::standard(), text, wanted, beginning);
+// What a judge says of the lines of a trace.
+#[derive(Clone, Copy)]
+struct Wanted<'a> {
+    // Its verdict after each of them.
+    verdicts: &'a [Verdict],
+    // With how many of them some legal history begins.
+    begins: usize,
+    // How many of them are quiet.
+    quiet: usize,
+}
+
+fn said(verdicts: &[Verdict], begins: usize, quiet: usize) -> Wanted<'_> {
+    Wanted {
+        verdicts,
+        begins,
+        quiet,
+    }
+}
+
+// So a judge says of the lines of a text.
+fn is_heard(rt: &(impl Abort + AllocGlobal), text: &str, wanted: &Wanted) {
+    is_heard_under(rt, Rules::standard(), text, wanted);
 }
 
 // So one says that judges by these rules.
-fn is_heard_under(
-    rt: &(impl Abort + AllocGlobal),
-    rules: Rules,
-    text: &str,
-    wanted: &[Verdict],
-    beginning: usize,
-) {
+fn is_heard_under(rt: &(impl Abort + AllocGlobal), rules: Rules, text: &str, wanted: &Wanted) {
     let history = read(rt, text);
-    assert_eq!(rt; history.len(), wanted.len());
+    is_judged(rt, rules, &history, wanted);
+}
+
+fn is_judged(rt: &(impl Abort + AllocGlobal), rules: Rules, history: &History, wanted: &Wanted) {
     let mut judge = Judge::new(rt.alloc(), rules).expect(rt, "memory");
-    assert!(rt; judge.verdict() == LEGAL && judge.begins());
-    for (at, verdict) in wanted.iter().enumerate() {
-        hear(rt, &mut judge, &history.line(at));
-        says(rt, &judge, at.saturating_add(1), verdict, at < beginning);
+    hears(rt, &mut judge, history, wanted);
+}
+
+// A judge that has heard no line says so of each line, and of no line.
+fn hears(rt: &impl Abort, judge: &mut Judge, history: &History, wanted: &Wanted) {
+    assert_eq!(rt; history.len(), wanted.verdicts.len());
+    says(rt, judge, 0, LEGAL, wanted);
+    for (at, verdict) in wanted.verdicts.iter().enumerate() {
+        hear(rt, judge, &history.line(at));
+        says(rt, judge, at.saturating_add(1), *verdict, wanted);
     }
 }
 
@@ -54,11 +76,12 @@ fn hear(rt: &impl Abort, judge: &mut Judge, line: &Line) {
     judge.hear(line);
 }
 
-// A judge that heard so many lines says this of them, and whether some legal history begins with them.
-fn says(rt: &impl Abort, judge: &Judge, heard: usize, verdict: &Verdict, begins: bool) {
+// A judge that heard so many lines says this of them.
+fn says(rt: &impl Abort, judge: &Judge, heard: usize, verdict: Verdict, wanted: &Wanted) {
     assert_eq!(rt; judge.heard(), heard);
-    assert_eq!(rt; judge.verdict(), *verdict);
-    assert_eq!(rt; judge.begins(), begins);
+    assert_eq!(rt; judge.verdict(), verdict);
+    assert_eq!(rt; judge.begins(), heard <= wanted.begins);
+    assert_eq!(rt; judge.quiet(), heard <= wanted.quiet);
 }
 
 #[test]
@@ -73,7 +96,7 @@ fn lines_are_legal_where_no_reply_is_missing(rt: HostRuntime) {
         Verdict::Differs(8),
         LEGAL,
     ];
-    is_heard(&rt, A_LOCK_IS_WAITED_FOR, &wanted, 8);
+    is_heard(&rt, A_LOCK_IS_WAITED_FOR, &said(&wanted, 8, 8));
 }
 
 #[test]
@@ -94,7 +117,7 @@ tell 3 err 2
         Verdict::Differs(4),
         Verdict::Differs(4),
     ];
-    is_heard(&rt, another_reply, &wanted, 3);
+    is_heard(&rt, another_reply, &said(&wanted, 3, 3));
 }
 
 #[test]
@@ -110,16 +133,12 @@ ask 0 2 2 0 0 0 getattr
 tell 1 err 2
 tell 2 err 2
 ";
-    is_heard(
-        &rt,
-        twice,
-        &[Verdict::Differs(2), LEGAL, Verdict::Differs(3)],
-        2,
-    );
-    is_heard(&rt, late, &[Verdict::Differs(2); 4], 1);
+    let once = [Verdict::Differs(2), LEGAL, Verdict::Differs(3)];
+    is_heard(&rt, twice, &said(&once, 2, 2));
+    is_heard(&rt, late, &said(&[Verdict::Differs(2); 4], 1, 1));
 }
 
-// Owner 8 waits for byte 0, which owner 7 has, and asks for another one; then one reply is wrong.
+// Owner 8 waits for byte 0, which owner 7 has, and asks for another one.
 const AN_OWNER_ASKS_WHILE_IT_WAITS: &str = "\
 ask 0 1 1 0 0 0 create 0 420 61
 tell 1 made 2 33188 1 0 0 1
@@ -134,35 +153,24 @@ ask 0 6 2 0 0 0 setlk 1 9 6 6 0 13 0
 tell 6 ok
 ";
 
-// After so many lines of a text a judge says last that they are quiet; it hears so many.
-fn is_quiet_for(rt: &(impl Abort + AllocGlobal), text: &str, quiet: usize, all: usize) {
-    is_quiet_under(rt, Rules::standard(), text, quiet, all);
-}
-
-// So one says that judges by these rules.
-fn is_quiet_under(
-    rt: &(impl Abort + AllocGlobal),
-    rules: Rules,
-    text: &str,
-    quiet: usize,
-    all: usize,
-) {
-    let history = read(rt, text);
-    assert_eq!(rt; history.len(), all);
-    let mut judge = Judge::new(rt.alloc(), rules).expect(rt, "memory");
-    assert!(rt; judge.quiet());
-    for at in 0..all {
-        hear(rt, &mut judge, &history.line(at));
-        assert_eq!(rt; judge.quiet(), at < quiet);
-    }
-}
-
 #[test]
 fn lines_are_quiet_until_an_owner_asks_while_it_waits(rt: HostRuntime) {
-    is_quiet_for(&rt, AN_OWNER_ASKS_WHILE_IT_WAITS, 7, 11);
-    is_quiet_for(&rt, A_LOCK_IS_WAITED_FOR, 8, 8);
+    let wanted = [
+        Verdict::Differs(2),
+        LEGAL,
+        Verdict::Differs(4),
+        LEGAL,
+        LEGAL,
+        Verdict::Differs(7),
+        LEGAL,
+        Verdict::Differs(9),
+        LEGAL,
+        Verdict::Differs(11),
+        LEGAL,
+    ];
+    is_heard(&rt, AN_OWNER_ASKS_WHILE_IT_WAITS, &said(&wanted, 11, 7));
     let differs = "ask 0 1 2 0 0 0 getattr\ntell 1 ok\nask 0 2 2 0 0 0 getattr\n";
-    is_quiet_for(&rt, differs, 1, 3);
+    is_heard(&rt, differs, &said(&[Verdict::Differs(2); 3], 1, 1));
 }
 
 // Owner 9 waits behind owner 8, who waits and is interrupted. Under the standard rules nothing keeps it waiting.
@@ -195,8 +203,7 @@ fn one_who_waits_behind_another_is_legal_under_fair_rules(rt: HostRuntime) {
         Verdict::Differs(9),
         LEGAL,
     ];
-    is_heard_under(&rt, fair(), ONE_WAITED_BEHIND_ANOTHER, &wanted, 9);
-    is_quiet_under(&rt, fair(), ONE_WAITED_BEHIND_ANOTHER, 9, 9);
+    is_heard_under(&rt, fair(), ONE_WAITED_BEHIND_ANOTHER, &said(&wanted, 9, 9));
 }
 
 #[test]
@@ -213,8 +220,7 @@ fn one_who_waits_behind_another_differs_under_the_standard_rules(rt: HostRuntime
         differs,
         differs,
     ];
-    is_heard(&rt, ONE_WAITED_BEHIND_ANOTHER, &wanted, 6);
-    is_quiet_for(&rt, ONE_WAITED_BEHIND_ANOTHER, 6, 9);
+    is_heard(&rt, ONE_WAITED_BEHIND_ANOTHER, &said(&wanted, 6, 6));
 }
 
 // Owner 9 waits behind owner 8, who waits, and asks for another byte.
@@ -230,5 +236,15 @@ ask 0 4 2 0 0 0 setlkw 1 9 0 0 0 13 0
 ask 0 5 2 0 0 0 setlk 1 9 5 5 0 13 0
 tell 5 ok
 ";
-    is_quiet_under(&rt, fair(), asks, 6, 8);
+    let wanted = [
+        Verdict::Differs(2),
+        LEGAL,
+        Verdict::Differs(4),
+        LEGAL,
+        LEGAL,
+        LEGAL,
+        Verdict::Differs(8),
+        LEGAL,
+    ];
+    is_heard_under(&rt, fair(), asks, &said(&wanted, 8, 6));
 }
