@@ -91,7 +91,7 @@ fn worked_at<'w, N: WriterName + Send + Sync, R: Threads + Wait + Clock + Abort 
     };
     let mut permit = permit;
     crew.begin(&mut permit);
-    let (ends, put) = crew.run(put, ends, orders);
+    let (ends, put) = crew.run(put, ends, &mut permit, orders);
     let Crew {
         intake,
         shared,
@@ -134,22 +134,41 @@ impl<'a, 'w, N: WriterName + Send + Sync, R: Threads + Wait + Clock + Abort + Sy
         shared.begin(permit);
     }
 
-    // Puts all orders while a worker for each end takes them. All ends come back.
-    fn run(&self, put: PutEnd, ends: Vec<TakeEnd>, orders: &[Job]) -> (Vec<TakeEnd>, PutEnd)
+    // Puts all orders while a worker for each end takes them. All ends come back. Each closure gives back an empty share, too:
+    // without one that its clauses speak of, nothing would be known here of its ends.
+    fn run(
+        &self,
+        put: PutEnd,
+        ends: Vec<TakeEnd>,
+        permit: &mut Share<N>,
+        orders: &[Job],
+    ) -> (Vec<TakeEnd>, PutEnd)
         requires put { put.of ≡ self.now.intake }
         requires ends { All (λ end. end.of ≡ self.now.intake) ends.items }
         ensures ends { All (λ end. end.of ≡ self.now.intake) result.0.items }
         ensures put { result.1.of ≡ self.now.intake }
+        ensures permit { permit.new ≡ permit.old }
     {
-        let work = move || -> Vec<TakeEnd>
-            requires { All (λ end. end.of ≡ self.now.intake) ends.items }
-            ensures { All (λ end. end.of ≡ self.entry.now.intake) result.items × (N.parts ≡ N.parts) }
-        { self.work_all(ends) };
-        let bring = move || -> PutEnd
-            requires { put.of ≡ self.now.intake }
-            ensures { (result.of ≡ self.entry.now.intake) × (N.parts ≡ N.parts) }
-        { self.put_all(put, orders) };
-        thread::join(self.rt, work, bring)
+        let mark = permit.empty();
+        let other = permit.empty();
+        let (worked, brought) = thread::join(
+            self.rt,
+            move || -> (Vec<TakeEnd>, Share<N>)
+                requires ends { All (λ end. end.of ≡ self.now.intake) ends.items }
+                requires mark { mark.parts ≤ N.parts }
+                ensures ends { All (λ end. end.of ≡ self.entry.now.intake) result.0.items }
+                ensures mark { result.1.parts ≤ N.parts }
+            { (self.work_all(ends), mark) },
+            move || -> (PutEnd, Share<N>)
+                requires put { put.of ≡ self.now.intake }
+                requires other { other.parts ≤ N.parts }
+                ensures put { result.0.of ≡ self.entry.now.intake }
+                ensures other { result.1.parts ≤ N.parts }
+            { (self.put_all(put, orders), other) },
+        );
+        let (ends, _mark) = worked;
+        let (put, _other) = brought;
+        (ends, put)
     }
 
     // A worker for each end, each in a thread of its own.
