@@ -1,7 +1,8 @@
 //! What came of orders, and what is wanted of them.
 
-use super::orders::{Reply, replies};
+use super::orders::replies;
 use super::tally::Seat;
+use fl_testing::Reply;
 use std::alloc::Global;
 use std::process::Abort;
 

@@ -2,13 +2,13 @@
 
 ghost use Rattle.std.specs.Prelude.{◌≡◌, ◌<◌, ◌≤◌, All, Some};
 
-use super::BATCH_BYTES;
 use super::came::Came;
+use super::handling::{begun, closed};
 use super::tally::{Seat, Tally};
 use super::watch::Watch;
 use fl_core::{Rules, Tolds};
 use fl_intake::{Intake, Job, PutEnd, TakeEnd};
-use fl_session::{Owed, ReplyBuffer};
+use fl_testing::of_workers;
 use fl_workers::{Shared, Worked, WriterName, worker_loop};
 use std::alloc::Global;
 use std::marker::Brand;
@@ -43,17 +43,6 @@ pub(super) fn worked<R: Threads + Wait + Clock + Abort + Sync>(
     came
 }
 
-// So many workers, of which there are 1 to 16.
-fn of_workers(workers: u32) -> u32
-    ensures { (0 < result) × (result ≤ 16) }
-{
-    if workers == 0 || workers > 16 {
-        1
-    } else {
-        workers
-    }
-}
-
 // How many workers there are, and where they hand in.
 #[derive(Clone, Copy)]
 struct Staff {
@@ -76,33 +65,41 @@ fn worked_at<'w, N: WriterName + Send + Sync, R: Threads + Wait + Clock + Abort 
     requires sending { (sending.name ≡ N.name) × (sending.parts ≡ N.parts) × (0 < N.parts) }
     requires workers { (0 < staff.workers) × (staff.workers ≤ 16) }
 {
-    let replies = ReplyBuffer::with_bytes(alloc, BATCH_BYTES).expect(rt, "memory");
+    let (shared, permit) = begun::<N, R>(rt, alloc, sending, out);
+    let mut permit = permit;
+    let came = handed_in(rt, alloc, staff, gate, orders, &shared, &mut permit);
+    (came, closed(rt, shared, permit))
+}
+
+// Has the workers hand in all orders. None is left behind them.
+fn handed_in<'w, N: WriterName + Send + Sync, R: Threads + Wait + Clock + Abort + Sync>(
+    rt: &R,
+    alloc: Global,
+    staff: Staff,
+    gate: &Watch,
+    orders: &[Job],
+    shared: &Mutex<Shared<'w, Vec<u8>, N>>,
+    permit: &mut Share<N>,
+) -> Came
+    requires workers { (0 < staff.workers) × (staff.workers ≤ 16) }
+    ensures permit { permit.new ≡ permit.old }
+{
     let (intake, put, ends) = Intake::new(alloc, staff.workers).expect(rt, "memory");
-    let (shared, permit) = Shared::<'w, Vec<u8>, N>::new(sending, replies, out);
     let crew = Crew {
         rt,
         alloc,
         tally: staff.tally,
         gate,
         intake,
-        shared: Mutex::new(shared),
+        shared,
         started: AtomicU64::new(0),
         came: Mutex::new(Came::new(alloc)),
     };
-    let mut permit = permit;
-    crew.begin(&mut permit);
-    let (ends, put) = crew.run(put, ends, orders);
-    let Crew {
-        intake,
-        shared,
-        came,
-        ..
-    } = crew;
+    let (ends, put) = crew.run(put, ends, permit, orders);
+    let Crew { intake, came, .. } = crew;
     let left = intake.finish(rt, put, ends).ok().expect(rt, "all ends");
     assert!(rt; left.is_empty());
-    let (out, broken) = shared.into_inner().close(permit, &Owed::Nothing);
-    assert!(rt; !broken);
-    (came.into_inner(), out)
+    came.into_inner()
 }
 
 // What the workers share.
@@ -113,7 +110,7 @@ struct Crew<'a, 'w, N: WriterName, R: Wait> {
     tally: Tally,
     gate: &'a Watch,
     intake: Intake,
-    shared: Mutex<Shared<'w, Vec<u8>, N>>,
+    shared: &'a Mutex<Shared<'w, Vec<u8>, N>>,
     // How many workers were started.
     started: AtomicU64,
     came: Mutex<Came>,
@@ -125,31 +122,41 @@ impl<'a, 'w, N: WriterName + Send + Sync, R: Threads + Wait + Clock + Abort + Sy
     N,
     R,
 > {
-    // Replies may go out from here on.
-    fn begin(&self, permit: &mut Share<N>)
-        requires { (0 < N.parts) × (permit.old.parts ≡ N.parts) × (permit.old.amount ≡ 0) }
-        ensures { permit.new.parts ≡ N.parts }
-    {
-        let mut shared = self.shared.lock(self.rt);
-        shared.begin(permit);
-    }
-
-    // Puts all orders while a worker for each end takes them. All ends come back.
-    fn run(&self, put: PutEnd, ends: Vec<TakeEnd>, orders: &[Job]) -> (Vec<TakeEnd>, PutEnd)
+    // Puts all orders while a worker for each end takes them. All ends come back. Each closure gives back an empty share, too:
+    // without one that its clauses speak of, nothing would be known here of its ends.
+    fn run(
+        &self,
+        put: PutEnd,
+        ends: Vec<TakeEnd>,
+        permit: &mut Share<N>,
+        orders: &[Job],
+    ) -> (Vec<TakeEnd>, PutEnd)
         requires put { put.of ≡ self.now.intake }
         requires ends { All (λ end. end.of ≡ self.now.intake) ends.items }
         ensures ends { All (λ end. end.of ≡ self.now.intake) result.0.items }
         ensures put { result.1.of ≡ self.now.intake }
+        ensures permit { permit.new ≡ permit.old }
     {
-        let work = move || -> Vec<TakeEnd>
-            requires { All (λ end. end.of ≡ self.now.intake) ends.items }
-            ensures { All (λ end. end.of ≡ self.entry.now.intake) result.items × (N.parts ≡ N.parts) }
-        { self.work_all(ends) };
-        let bring = move || -> PutEnd
-            requires { put.of ≡ self.now.intake }
-            ensures { (result.of ≡ self.entry.now.intake) × (N.parts ≡ N.parts) }
-        { self.put_all(put, orders) };
-        thread::join(self.rt, work, bring)
+        let mark = permit.empty();
+        let other = permit.empty();
+        let (worked, brought) = thread::join(
+            self.rt,
+            move || -> (Vec<TakeEnd>, Share<N>)
+                requires ends { All (λ end. end.of ≡ self.now.intake) ends.items }
+                requires mark { mark.parts ≤ N.parts }
+                ensures ends { All (λ end. end.of ≡ self.entry.now.intake) result.0.items }
+                ensures mark { result.1.parts ≤ N.parts }
+            { (self.work_all(ends), mark) },
+            move || -> (PutEnd, Share<N>)
+                requires put { put.of ≡ self.now.intake }
+                requires other { other.parts ≤ N.parts }
+                ensures put { result.0.of ≡ self.entry.now.intake }
+                ensures other { result.1.parts ≤ N.parts }
+            { (self.put_all(put, orders), other) },
+        );
+        let (ends, _mark) = worked;
+        let (put, _other) = brought;
+        (ends, put)
     }
 
     // A worker for each end, each in a thread of its own.
@@ -170,14 +177,14 @@ impl<'a, 'w, N: WriterName + Send + Sync, R: Threads + Wait + Clock + Abort + Sy
         ensures { result.of ≡ self.now.intake }
     {
         let worker = self.started.fetch_add(1, Ordering::SeqCst);
-        let seat = Seat::new(self.rt, self.alloc, worker);
         let tolds = Tolds::new(self.alloc, Rules::standard()).expect(self.rt, "memory");
+        let seat = Seat::new(self.rt, self.alloc, worker);
         let Worked { seat, end, refused } = worker_loop(
             self.rt,
             &self.tally,
             self.gate,
             &self.intake,
-            &self.shared,
+            self.shared,
             seat,
             end,
             tolds,

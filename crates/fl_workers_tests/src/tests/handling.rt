@@ -12,7 +12,7 @@ use fl_workers::{OpenGate, Shared, WriterName, handle_all};
 use std::alloc::Global;
 use std::marker::Brand;
 use std::process::Abort;
-use std::sync::ledger::Blank;
+use std::sync::ledger::{Blank, Share};
 use std::sync::{Mutex, Wait};
 
 /// Handles all orders at one seat, and puts the replies behind what was there.
@@ -41,18 +41,56 @@ fn handled_at<'w, N: WriterName, R: Wait + Abort>(
     requires named { out.ghost_name ≡ N.writer }
     requires sending { (sending.name ≡ N.name) × (sending.parts ≡ N.parts) × (0 < N.parts) }
 {
+    let (shared, permit) = begun::<N, R>(rt, alloc, sending, out);
+    let came = handed_in(rt, alloc, tally, orders, &shared);
+    (came, closed(rt, shared, permit))
+}
+
+/// What workers share, behind the bytes that are there. Replies may go out.
+pub(super) fn begun<'w, N: WriterName, R: Abort>(
+    rt: &R,
+    alloc: Global,
+    sending: Blank,
+    out: &'w mut Vec<u8>,
+) -> (Mutex<Shared<'w, Vec<u8>, N>>, Share<N>)
+    requires start { Some out.old.items ≡ N.start }
+    requires named { out.ghost_name ≡ N.writer }
+    requires sending { (sending.name ≡ N.name) × (sending.parts ≡ N.parts) × (0 < N.parts) }
+    ensures permit { result.1.parts ≡ N.parts }
+{
     let replies = ReplyBuffer::with_bytes(alloc, BATCH_BYTES).expect(rt, "memory");
-    let tolds = Tolds::new(alloc, Rules::standard()).expect(rt, "memory");
     let (shared, permit) = Shared::<'w, Vec<u8>, N>::new(sending, replies, out);
     let mut shared = shared;
     let mut permit = permit;
     shared.begin(&mut permit);
-    let shared = Mutex::new(shared);
-    let mut seat = Seat::new(rt, alloc, 0);
-    let refused = handle_all(rt, &tally, &OpenGate, &shared, &mut seat, tolds, orders);
+    (Mutex::new(shared), permit)
+}
+
+/// No write failed.
+pub(super) fn closed<'w, N: WriterName>(
+    rt: &impl Abort,
+    shared: Mutex<Shared<'w, Vec<u8>, N>>,
+    permit: Share<N>,
+) -> &'w mut Vec<u8>
+    requires permit { permit.parts ≡ N.parts }
+{
     let (out, broken) = shared.into_inner().close(permit, &Owed::Nothing);
     assert!(rt; !broken);
+    out
+}
+
+// Handles all orders at one seat.
+fn handed_in<'w, N: WriterName, R: Wait + Abort>(
+    rt: &R,
+    alloc: Global,
+    tally: Tally,
+    orders: Vec<Job>,
+    shared: &Mutex<Shared<'w, Vec<u8>, N>>,
+) -> Came {
+    let tolds = Tolds::new(alloc, Rules::standard()).expect(rt, "memory");
+    let mut seat = Seat::new(rt, alloc, 0);
+    let refused = handle_all(rt, &tally, &OpenGate, shared, &mut seat, tolds, orders);
     let mut came = Came::new(alloc);
     came.keep(rt, &seat, refused);
-    (came, out)
+    came
 }

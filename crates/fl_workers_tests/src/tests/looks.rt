@@ -3,10 +3,10 @@
 use super::came::{Wanted, is_wanted};
 use super::crew::worked;
 use super::handling::handled;
-use super::orders::{Reply, asked};
+use super::orders::asked;
 use super::tally::{Tally, WILLING};
 use super::watch::Watch;
-use fl_testing::bytes_after;
+use fl_testing::{Reply, bytes_after};
 use std::alloc::Global;
 use std::process::Abort;
 use std::sync::Wait;

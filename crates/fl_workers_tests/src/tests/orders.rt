@@ -1,14 +1,12 @@
-//! Orders that are handed in, and replies that are read. The layout of a reply is that of `struct fuse_out_header`.
+//! Orders that are handed in, and replies that are read.
 
 use fl_history::Line;
 use fl_intake::Job;
 use fl_order::{Name, Op, Order};
+use fl_testing::{Reply, first_reply};
 use fl_trace::read_trace;
 use std::alloc::Global;
 use std::process::Abort;
-
-/// The unique of a reply, and the number of its error, 0 where it has none.
-pub(super) type Reply = (u64, u32);
 
 /// The unique of the first order.
 pub(super) const FIRST: u64 = 2;
@@ -50,31 +48,17 @@ pub(super) fn lookups(rt: &impl Abort, alloc: Global, many: u64) -> Vec<Job> {
     orders
 }
 
-// The number in 4 bytes at a place.
-fn word_at(bytes: &[u8], at: usize) -> u32 {
-    match bytes.get(at..) {
-        Some([a, b, c, d, ..]) => u32::from_le_bytes([*a, *b, *c, *d]),
-        _ => 0,
-    }
-}
-
-// The first two fields of a reply are its length and its error, negative.
-fn reply_at_front(bytes: &[u8]) -> Reply {
-    let unique = u64::from(word_at(bytes, 12)) << 32 | u64::from(word_at(bytes, 8));
-    (unique, 0u32.wrapping_sub(word_at(bytes, 4)))
-}
-
-/// The replies that these bytes are, as they stand there.
+/// The replies that these bytes are, as they stand there; the bytes have to be whole replies.
 pub(super) fn replies(rt: &impl Abort, alloc: Global, bytes: &[u8]) -> Vec<Reply> {
     let mut replies = Vec::new(alloc);
     let mut rest = bytes;
     for _ in 0..bytes.len() {
-        if rest.is_empty() {
+        let Some((reply, behind)) = first_reply(rest) else {
             break;
-        }
-        replies.push(reply_at_front(rest)).expect(rt, "memory");
-        let behind = rest.get(word_at(rest, 0) as usize..);
-        rest = behind.expect(rt, "a whole reply");
+        };
+        replies.push(reply).expect(rt, "memory");
+        rest = behind;
     }
+    assert!(rt; rest.is_empty());
     replies
 }

@@ -2,10 +2,11 @@
 
 use super::came::{Came, are_replies};
 use super::crew::worked;
-use super::orders::{FIRST, Reply, lookups, replies};
+use super::orders::{FIRST, lookups, replies};
 use super::tally::WILLING;
 use super::watch::Watch;
 use fl_intake::Job;
+use fl_testing::Reply;
 use std::alloc::Global;
 use std::process::Abort;
 use std::sync::Wait;
