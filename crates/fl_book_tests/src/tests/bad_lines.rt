@@ -1,7 +1,7 @@
 //! Lines that are no spelling.
 
 use super::same;
-use super::text::lookup_text;
+use super::text::{joined, lookup_text};
 use fl_book::{TraceFault, read_trace};
 use std::process::Abort;
 
@@ -11,35 +11,36 @@ fn refuses(rt: &(impl Abort + AllocGlobal), trace: &[u8], line: usize) {
     same(rt, &fault, &TraceFault::BadLine(line));
 }
 
-// A trace breaks where this line stands in it.
-fn is_bad(rt: &(impl Abort + AllocGlobal), line: &str) {
-    let good = "tell 1 ok\n";
-    let first = format!(in rt.alloc(); "{line}\n{good}").expect(rt, "memory");
-    refuses(rt, first.as_bytes(), 1);
-    let third = format!(in rt.alloc(); "{good}{good}{line}\n{good}\n").expect(rt, "memory");
-    refuses(rt, third.as_bytes(), 3);
+const GOOD: &str = "tell 1 ok\n";
+
+// The text of these parts breaks at this line.
+fn breaks(rt: &(impl Abort + AllocGlobal), parts: &[&str], line: usize) {
+    refuses(rt, joined(rt, parts).as_bytes(), line);
 }
 
-// Each of so many lines is bad.
-fn are_bad(rt: &(impl Abort + AllocGlobal), lines: &str, count: usize) {
+// A trace breaks where a line of these two parts stands in it.
+fn is_bad(rt: &(impl Abort + AllocGlobal), front: &str, line: &str) {
+    breaks(rt, &[front, line, "\n", GOOD], 1);
+    breaks(rt, &[GOOD, GOOD, front, line, "\n", GOOD, "\n"], 3);
+}
+
+// Each of so many lines is bad behind this front.
+fn are_bad(rt: &(impl Abort + AllocGlobal), front: &str, lines: &str, count: usize) {
     same(rt, &lines.lines().count(), &count);
     for line in lines.lines() {
-        is_bad(rt, line);
+        is_bad(rt, front, line);
     }
 }
 
-// So many times, nothing can be asked by these words.
-fn ask_nothing(rt: &(impl Abort + AllocGlobal), words: &str, count: usize) {
-    same(rt, &words.lines().count(), &count);
-    for op in words.lines() {
-        asks_nothing(rt, op);
+// Each of these lines is bad behind this front.
+fn all_bad(rt: &(impl Abort + AllocGlobal), front: &str, lines: &[&str]) {
+    for line in lines {
+        is_bad(rt, front, line);
     }
 }
 
-fn asks_nothing(rt: &(impl Abort + AllocGlobal), op: &str) {
-    let line = format!(in rt.alloc(); "ask 0 1 1 0 0 0 {op}").expect(rt, "memory");
-    is_bad(rt, line.as_str());
-}
+// What stands before the words of an order.
+const ASK: &str = "ask 0 1 1 0 0 0 ";
 
 #[test]
 fn bad_first_words(rt: HostRuntime) {
@@ -57,7 +58,7 @@ tell 1 done
 tell 1 ok 1
 tell 18446744073709551616 ok
 ";
-    are_bad(&rt, lines, 12);
+    are_bad(&rt, "", lines, 12);
 }
 
 #[test]
@@ -78,7 +79,7 @@ tell 1 lock 0 9 1
 tell 1 lock 0 9 1 4294967296
 tell 1 lock 0 9 1 11 0
 ";
-    are_bad(&rt, lines, 14);
+    are_bad(&rt, "", lines, 14);
 }
 
 #[test]
@@ -95,12 +96,12 @@ ask 16 1 1 0 0 0 create 0 420 61
 ask 0 1 1 0 0 0
 tell 1 \u{e9}
 ";
-    are_bad(&rt, lines, 10);
+    are_bad(&rt, "", lines, 10);
 }
 
 #[test]
 fn lines_with_spaces_that_are_not_seen(rt: HostRuntime) {
-    for line in [
+    let lines = [
         "",
         " ",
         "tell 1 ",
@@ -110,9 +111,8 @@ fn lines_with_spaces_that_are_not_seen(rt: HostRuntime) {
         "tell\t1 ok",
         "tell 1 attr 2 33188 1 0 ",
         "tell 1 err 11 ",
-    ] {
-        is_bad(&rt, line);
-    }
+    ];
+    all_bad(&rt, "", &lines);
 }
 
 #[test]
@@ -150,7 +150,7 @@ create 0 420 6A
 create 0 420 616
 create 0 420 00
 ";
-    ask_nothing(&rt, lines, 20);
+    are_bad(&rt, ASK, lines, 20);
 }
 
 #[test]
@@ -175,7 +175,7 @@ destroy
 batch_forget
 batch_forget 1
 ";
-    ask_nothing(&rt, lines, 18);
+    are_bad(&rt, ASK, lines, 18);
 }
 
 #[test]
@@ -201,7 +201,7 @@ flush 18446744073709551616 7
 flush 1 18446744073709551616
 flush 1 7 0
 ";
-    ask_nothing(&rt, lines, 19);
+    are_bad(&rt, ASK, lines, 19);
 }
 
 #[test]
@@ -223,12 +223,12 @@ interrupt 01
 interrupt 1 1
 interrupt 18446744073709551616
 ";
-    ask_nothing(&rt, lines, 15);
+    are_bad(&rt, ASK, lines, 15);
 }
 
 #[test]
 fn orders_with_spaces_that_are_not_seen(rt: HostRuntime) {
-    for op in [
+    let ops = [
         "",
         " ",
         "lookup ",
@@ -246,9 +246,8 @@ fn orders_with_spaces_that_are_not_seen(rt: HostRuntime) {
         "setlkw 1 7 0 9 1 11 ",
         "interrupt ",
         "interrupt 1 ",
-    ] {
-        asks_nothing(&rt, op);
-    }
+    ];
+    all_bad(&rt, ASK, &ops);
 }
 
 #[test]

@@ -50,6 +50,29 @@ fn verdict_beside(history: &History, legal: &History) -> Verdict {
     Verdict::Legal
 }
 
+// What has to be said of a history, beside the legal one of its orders.
+fn verdict_of_orders(rt: &impl Abort, alloc: Global, history: &History) -> Verdict {
+    let legal = with_these_orders(rt, alloc, history);
+    verdict_beside(history, &legal)
+}
+
+// So is the history of a number judged.
+fn is_judged(
+    rt: &impl Abort,
+    alloc: Global,
+    history: &History,
+    wanted: &Verdict,
+    what: &str,
+    number: u64,
+) {
+    let verdict = check(alloc, history, Rules::standard()).expect(rt, "memory");
+    is_said(rt, &verdict, wanted, what, number);
+}
+
+fn is_said(rt: &impl Abort, verdict: &Verdict, wanted: &Verdict, what: &str, number: u64) {
+    assert_eq!(rt; *verdict, *wanted, "{what} {number}");
+}
+
 // Whether two histories have the same lines.
 fn alike(one: &History, other: &History) -> bool {
     one.len() == other.len() && verdict_beside(one, other) == Verdict::Legal
@@ -76,26 +99,34 @@ impl Tally {
         }
     }
 
-    // Each change of a legal history is judged as it is beside the legal history of its orders. If the orders are the
-    // same as before, that is the one that was changed.
     fn change(&mut self, rt: &impl Abort, alloc: Global, history: &History, numbers: &mut Numbers) {
         for (at, (change, effect)) in CHANGES.iter().enumerate() {
             let other = changed(rt, alloc, history, *change, numbers);
-            if alike(&other, history) {
-                continue;
-            }
-            let legal = with_these_orders(rt, alloc, &other);
-            let wanted = verdict_beside(&other, &legal);
-            assert_eq!(rt;
-                check(alloc, &other, Rules::standard()).expect(rt, "memory"),
-                wanted,
-                "change {at}"
-            );
-            if *effect == Effect::Differs {
-                assert_eq!(rt; verdict_beside(&other, history), wanted, "change {at}");
-            }
-            self.count(at, wanted);
+            self.judge(rt, alloc, history, &other, at, *effect);
         }
+    }
+
+    // Each change of a legal history is judged as it is beside the legal history of its orders. If the orders are the
+    // same as before, that is the one that was changed.
+    fn judge(
+        &mut self,
+        rt: &impl Abort,
+        alloc: Global,
+        history: &History,
+        other: &History,
+        at: usize,
+        effect: Effect,
+    ) {
+        if alike(other, history) {
+            return;
+        }
+        let wanted = verdict_of_orders(rt, alloc, other);
+        is_judged(rt, alloc, other, &wanted, "change", at as u64);
+        if effect == Effect::Differs {
+            let beside = verdict_beside(other, history);
+            is_said(rt, &beside, &wanted, "change", at as u64);
+        }
+        self.count(at, wanted);
     }
 
     // Each change was made often. One that keeps the orders always made the history differ, one of a worker never did,
@@ -105,17 +136,21 @@ impl Tally {
             let made = self.made.get(at).copied().unwrap_or(0);
             let differed = self.differed.get(at).copied().unwrap_or(0);
             assert!(rt; made >= 100, "change {at} was made {made} times");
-            match *effect {
-                Effect::Differs => assert_eq!(rt; differed, made, "change {at}"),
-                Effect::Legal => assert_eq!(rt; differed, 0, "change {at}"),
-                Effect::Either(least) => {
-                    assert!(rt; differed >= 40, "change {at} differed {differed} times");
-                    let legal = made.saturating_sub(differed);
-                    assert!(rt; legal >= least, "change {at} was legal {legal} times");
-                }
-            }
+            differed_so_often(rt, at, *effect, made, differed);
         }
     }
+}
+
+fn differed_so_often(rt: &impl Abort, at: usize, effect: Effect, made: u64, differed: u64) {
+    let (least, most) = match effect {
+        Effect::Differs => (made, made),
+        Effect::Legal => (0, 0),
+        Effect::Either(legal) => (40, made.saturating_sub(legal)),
+    };
+    assert!(rt;
+        least <= differed && differed <= most,
+        "change {at} differed {differed} times of {made}"
+    );
 }
 
 // The changes of 300 random histories are all judged right.
@@ -134,11 +169,7 @@ fn check_says_what_the_history_of_the_same_orders_says(rt: HostRuntime) {
     };
     for seed in 0..300 {
         let (history, seen) = random_history(&rt, alloc, names, seed);
-        assert_eq!(rt;
-            check(alloc, &history, Rules::standard()).expect(&rt, "memory"),
-            Verdict::Legal,
-            "seed {seed}"
-        );
+        is_judged(&rt, alloc, &history, &Verdict::Legal, "seed", seed);
         tally.seen.add(seen);
         tally.change(&rt, alloc, &history, &mut numbers);
     }

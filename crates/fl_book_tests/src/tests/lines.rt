@@ -64,10 +64,14 @@ impl Server {
         let Line::Asked { worker, order } = line else {
             return false;
         };
-        self.desk
-            .take(*worker, order, &mut self.tolds)
-            .expect(rt, "memory");
+        self.ask(rt, *worker, order);
         true
+    }
+
+    pub(super) fn ask(&mut self, rt: &impl Abort, worker: u32, order: &Order) {
+        self.desk
+            .take(worker, order, &mut self.tolds)
+            .expect(rt, "memory");
     }
 
     // What the last order was told.

@@ -1,10 +1,7 @@
 //! Histories of random orders of all kinds, many of which wait for locks.
 
-ghost use Rattle.fl_core.specs.Tolds.{HasRoom};
-
-use super::lines::order;
-use fl_book::{Desk, History, Rules};
-use fl_core::Tolds;
+use super::lines::{Server, order};
+use fl_book::History;
 use fl_order::{Answer, Errno, LockAsk, Name, Op, Order, Told};
 use fl_testing::Numbers;
 use std::alloc::Global;
@@ -49,18 +46,11 @@ impl Seen {
 
     // Each happened often.
     pub(super) fn assert_often(&self, rt: &impl Abort) {
-        let Seen {
-            waits,
-            grants,
-            deadlocks,
-            interrupted,
-            found,
-        } = *self;
-        assert!(rt; waits > 1500, "{waits} waited");
-        assert!(rt; grants > 500, "{grants} were granted");
-        assert!(rt; deadlocks > 150, "{deadlocks} circles were refused");
-        assert!(rt; interrupted > 40, "{interrupted} were interrupted");
-        assert!(rt; found > 300, "{found} locks were found");
+        happened(rt, self.waits, 1500, "waited");
+        happened(rt, self.grants, 500, "were granted");
+        happened(rt, self.deadlocks, 150, "circles were refused");
+        happened(rt, self.interrupted, 40, "were interrupted");
+        happened(rt, self.found, 300, "locks were found");
     }
 
     // A reply to an order of another unique answers a request that waited.
@@ -75,24 +65,26 @@ impl Seen {
     }
 }
 
-// A desk, the random numbers for what it is asked, and the fhs and nodes of four files that were opened last.
+// This happened more often than so many times.
+fn happened(rt: &impl Abort, count: u64, least: u64, what: &str) {
+    assert!(rt; count > least, "{count} {what}");
+}
+
+// A server, the random numbers for what it is asked, and the fhs and nodes of four files that were opened last.
 #[derive(Drop)]
 pub(super) struct Asking {
     pub(super) numbers: Numbers,
-    desk: Desk,
-    tolds: Tolds,
+    server: Server,
     names: [Name; 2],
     opened: [(u64, u64); 4],
     seen: Seen,
-    ghost room: { HasRoom desk.present.rules tolds },
 }
 
 impl Asking {
     fn new(rt: &impl Abort, alloc: Global, names: [Name; 2], seed: u64) -> Asking {
         Asking {
             numbers: Numbers { state: seed },
-            desk: Desk::new(alloc, Rules::standard()).expect(rt, "memory"),
-            tolds: Tolds::new(alloc, Rules::standard()).expect(rt, "memory"),
+            server: Server::new(rt, alloc),
             names,
             opened: [(1, 2); 4],
             seen: Seen::none(),
@@ -101,10 +93,8 @@ impl Asking {
 
     fn take(&mut self, rt: &impl Abort, order: &Order) {
         let worker = self.numbers.below(4) as u32;
-        self.desk
-            .take(worker, order, &mut self.tolds)
-            .expect(rt, "memory");
-        let tolds = self.tolds.as_slice();
+        self.server.ask(rt, worker, order);
+        let tolds = self.server.told();
         if matches!(order.op, Op::Setlkw(_)) && tolds.is_empty() {
             self.seen.waits = self.seen.waits.wrapping_add(1);
         }
@@ -244,6 +234,6 @@ pub(super) fn random_history(
         let order = asking.order(turn);
         asking.take(rt, &order);
     }
-    let Asking { desk, seen, .. } = asking;
-    (desk.into_history(), seen)
+    let Asking { server, seen, .. } = asking;
+    (server.into_history(), seen)
 }

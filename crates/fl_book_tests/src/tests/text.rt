@@ -3,7 +3,7 @@
 use super::lines::{history_of, is_line};
 use super::same;
 use super::traces::{is_text, read};
-use fl_book::{Line, first_line, has_text};
+use fl_book::{History, Line, first_line, has_text};
 use fl_order::{Answer, Attr, Errno, LockAsk, Name, Op, Order, Told};
 use fl_trace::laws;
 use std::process::Abort;
@@ -33,23 +33,39 @@ fn name(rt: &impl Abort, bytes: &[u8]) -> Name {
     Name::new(bytes).expect(rt, "a name")
 }
 
+fn add(rt: &impl Abort, text: &mut String, parts: &[&str]) {
+    for part in parts {
+        text.push_str(part).expect(rt, "memory");
+    }
+}
+
+// The text of these parts.
+pub(super) fn joined(rt: &(impl Abort + AllocGlobal), parts: &[&str]) -> String {
+    let mut text = String::new(rt.alloc());
+    add(rt, &mut text, parts);
+    text
+}
+
 // A line is printed as this text, and the text is read as the line.
 fn there_and_back(rt: &(impl Abort + AllocGlobal), line: &Line, text: &str) {
-    let history = history_of(rt, rt.alloc(), &[*line]);
-    same(rt, &has_text(&history), &true);
-    is_text(rt, &history, text);
+    is_printed(rt, &history_of(rt, rt.alloc(), &[*line]), text);
     is_line(rt, &read(rt, text, 1), 0, line);
+}
+
+fn is_printed(rt: &(impl Abort + AllocGlobal), history: &History, text: &str) {
+    same(rt, &has_text(history), &true);
+    is_text(rt, history, text);
 }
 
 // What worker 0 asks is printed and read as these words.
 fn asks(rt: &(impl Abort + AllocGlobal), op: Op, words: &str) {
-    let text = format!(in rt.alloc(); "ask 0 1 2 3 4 5 {words}\n").expect(rt, "memory");
+    let text = joined(rt, &["ask 0 1 2 3 4 5 ", words, "\n"]);
     there_and_back(rt, &asked(0, op), text.as_str());
 }
 
 // What is told is printed and read as these words.
 fn tells(rt: &(impl Abort + AllocGlobal), answer: Result<Answer, Errno>, words: &str) {
-    let text = format!(in rt.alloc(); "tell 9 {words}\n").expect(rt, "memory");
+    let text = joined(rt, &["tell 9 ", words, "\n"]);
     there_and_back(rt, &told(answer), text.as_str());
 }
 
@@ -62,16 +78,12 @@ fn create(name: Name, mode: u32) -> Op {
 }
 
 #[test]
-fn creates_there_and_back(rt: HostRuntime) {
-    asks(&rt, create(name(&rt, b"a\xff"), 420), "create 1 420 61ff");
-    let last = asked(15, create(name(&rt, b""), 511));
-    there_and_back(&rt, &last, "ask 15 1 2 3 4 5 create 1 511 -\n");
-}
-
-#[test]
 fn names_there_and_back(rt: HostRuntime) {
     let full = name(&rt, b"a\xff");
     let empty = name(&rt, b"");
+    asks(&rt, create(full, 420), "create 1 420 61ff");
+    let last = asked(15, create(empty, 511));
+    there_and_back(&rt, &last, "ask 15 1 2 3 4 5 create 1 511 -\n");
     asks(&rt, Op::Lookup(full), "lookup 61ff");
     asks(&rt, Op::Lookup(empty), "lookup -");
     asks(&rt, Op::Unlink(full), "unlink 61ff");
@@ -79,26 +91,21 @@ fn names_there_and_back(rt: HostRuntime) {
 }
 
 #[test]
-fn orders_of_a_node_there_and_back(rt: HostRuntime) {
+fn orders_of_a_number_or_none_there_and_back(rt: HostRuntime) {
     asks(&rt, Op::Forget(0), "forget 0");
     asks(&rt, Op::Forget(u64::MAX), "forget 18446744073709551615");
     asks(&rt, Op::Getattr, "getattr");
     asks(&rt, Op::Open, "open");
+    asks(&rt, Op::Interrupt(0), "interrupt 0");
+    asks(
+        &rt,
+        Op::Interrupt(u64::MAX),
+        "interrupt 18446744073709551615",
+    );
 }
 
 fn release(fh: u64, drop: bool, owner: u64) -> Op {
     Op::Release { fh, drop, owner }
-}
-
-#[test]
-fn releases_there_and_back(rt: HostRuntime) {
-    asks(&rt, release(1, false, 7), "release 1 0 7");
-    asks(&rt, release(7, true, 1), "release 7 1 1");
-    asks(
-        &rt,
-        release(u64::MAX, true, u64::MAX),
-        "release 18446744073709551615 1 18446744073709551615",
-    );
 }
 
 fn flush(fh: u64, owner: u64) -> Op {
@@ -106,7 +113,14 @@ fn flush(fh: u64, owner: u64) -> Op {
 }
 
 #[test]
-fn flushes_there_and_back(rt: HostRuntime) {
+fn releases_and_flushes_there_and_back(rt: HostRuntime) {
+    asks(&rt, release(1, false, 7), "release 1 0 7");
+    asks(&rt, release(7, true, 1), "release 7 1 1");
+    asks(
+        &rt,
+        release(u64::MAX, true, u64::MAX),
+        "release 18446744073709551615 1 18446744073709551615",
+    );
     asks(&rt, flush(1, 7), "flush 1 7");
     asks(&rt, flush(0, u64::MAX), "flush 0 18446744073709551615");
 }
@@ -121,13 +135,6 @@ const ASK: LockAsk = LockAsk {
     flags: 0,
 };
 
-#[test]
-fn locks_there_and_back(rt: HostRuntime) {
-    asks(&rt, Op::Getlk(ASK), "getlk 1 7 0 9 1 11 0");
-    asks(&rt, Op::Setlk(ASK), "setlk 1 7 0 9 1 11 0");
-    asks(&rt, Op::Setlkw(ASK), "setlkw 1 7 0 9 1 11 0");
-}
-
 const GREATEST: LockAsk = LockAsk {
     fh: u64::MAX,
     owner: u64::MAX,
@@ -139,7 +146,10 @@ const GREATEST: LockAsk = LockAsk {
 };
 
 #[test]
-fn the_greatest_locks_there_and_back(rt: HostRuntime) {
+fn locks_there_and_back(rt: HostRuntime) {
+    asks(&rt, Op::Getlk(ASK), "getlk 1 7 0 9 1 11 0");
+    asks(&rt, Op::Setlk(ASK), "setlk 1 7 0 9 1 11 0");
+    asks(&rt, Op::Setlkw(ASK), "setlkw 1 7 0 9 1 11 0");
     asks(
         &rt,
         Op::Setlk(GREATEST),
@@ -154,25 +164,13 @@ fn the_greatest_locks_there_and_back(rt: HostRuntime) {
     );
 }
 
-#[test]
-fn interrupts_there_and_back(rt: HostRuntime) {
-    asks(&rt, Op::Interrupt(0), "interrupt 0");
-    asks(
-        &rt,
-        Op::Interrupt(u64::MAX),
-        "interrupt 18446744073709551615",
-    );
-}
-
 // A LOOKUP's name of so many bytes.
 pub(super) fn lookup_text(rt: &(impl Abort + AllocGlobal), bytes: usize) -> String {
-    let mut text = String::new(rt.alloc());
-    text.push_str("ask 0 1 2 3 4 5 lookup ")
-        .expect(rt, "memory");
+    let mut text = joined(rt, &["ask 0 1 2 3 4 5 lookup "]);
     for _ in 0..bytes {
-        text.push_str("61").expect(rt, "memory");
+        add(rt, &mut text, &["61"]);
     }
-    text.push('\n').expect(rt, "memory");
+    add(rt, &mut text, &["\n"]);
     text
 }
 
@@ -208,29 +206,29 @@ fn answers_there_and_back(rt: HostRuntime) {
 }
 
 // The numbers of Linux.
+const ERRORS: [(Errno, &str); 16] = [
+    (Errno::ENOENT, "err 2"),
+    (Errno::EINTR, "err 4"),
+    (Errno::EBADF, "err 9"),
+    (Errno::EAGAIN, "err 11"),
+    (Errno::ENOMEM, "err 12"),
+    (Errno::EEXIST, "err 17"),
+    (Errno::ENOTDIR, "err 20"),
+    (Errno::EISDIR, "err 21"),
+    (Errno::EINVAL, "err 22"),
+    (Errno::ENFILE, "err 23"),
+    (Errno::ENOSPC, "err 28"),
+    (Errno::EDEADLK, "err 35"),
+    (Errno::ENAMETOOLONG, "err 36"),
+    (Errno::ENOLCK, "err 37"),
+    (Errno::ENOSYS, "err 38"),
+    (Errno::EPROTO, "err 71"),
+];
+
 #[test]
 fn errors_there_and_back(rt: HostRuntime) {
-    let errors = [
-        (Errno::ENOENT, 2),
-        (Errno::EINTR, 4),
-        (Errno::EBADF, 9),
-        (Errno::EAGAIN, 11),
-        (Errno::ENOMEM, 12),
-        (Errno::EEXIST, 17),
-        (Errno::ENOTDIR, 20),
-        (Errno::EISDIR, 21),
-        (Errno::EINVAL, 22),
-        (Errno::ENFILE, 23),
-        (Errno::ENOSPC, 28),
-        (Errno::EDEADLK, 35),
-        (Errno::ENAMETOOLONG, 36),
-        (Errno::ENOLCK, 37),
-        (Errno::ENOSYS, 38),
-        (Errno::EPROTO, 71),
-    ];
-    for (error, number) in errors {
-        let words = format!(in rt.alloc(); "err {number}").expect(&rt, "memory");
-        tells(&rt, Err(error), words.as_str());
+    for (error, words) in ERRORS.iter() {
+        tells(&rt, Err(*error), words);
     }
 }
 
@@ -265,12 +263,44 @@ fn a_line_at_a_time(rt: HostRuntime) {
     assert!(rt; first_line(rest).is_none());
 }
 
+const DIGITS: [&str; 10] = ["0", "1", "2", "3", "4", "5", "6", "7", "8", "9"];
+
+fn last_digit(number: u32) -> &'static str {
+    DIGITS[(number % 10) as usize]
+}
+
+// The last digit of what stands before others in a number, which is nothing where that is 0.
+fn digit_before(number: u32) -> &'static str {
+    match number {
+        0 => "",
+        _ => last_digit(number),
+    }
+}
+
+// A number below 10,000.
+fn number_text(rt: &(impl Abort + AllocGlobal), number: u32) -> String {
+    let parts = [
+        digit_before(number / 1000),
+        digit_before(number / 100),
+        digit_before(number / 10),
+        last_digit(number),
+    ];
+    joined(rt, &parts)
+}
+
+// A lock of the byte of this number is set, and its reply.
+fn add_lock(rt: &impl Abort, text: &mut String, i: &str) {
+    add(rt, text, &["ask 0 ", i, " 2 0 0 0 setlk 1 7 "]);
+    add(rt, text, &[i, " ", i, " 1 11 0\n"]);
+    add(rt, text, &["tell ", i, " ok\n"]);
+}
+
 // So many locks that are set at once, each with its reply.
 fn many_locks(rt: &(impl Abort + AllocGlobal), locks: u32) -> String {
     let mut text = String::new(rt.alloc());
     for i in 0..locks {
-        write!(text, "ask 0 {i} 2 0 0 0 setlk 1 7 {i} {i} 1 11 0\n").expect(rt, "memory");
-        write!(text, "tell {i} ok\n").expect(rt, "memory");
+        let i = number_text(rt, i);
+        add_lock(rt, &mut text, i.as_str());
     }
     text
 }

@@ -35,13 +35,19 @@ pub(super) fn is_text(rt: &(impl Abort + AllocGlobal), history: &History, text: 
 
 // So is a trace of so many lines judged.
 fn is_judged(rt: &(impl Abort + AllocGlobal), text: &str, lines: usize, wanted: Verdict) {
-    let trace = read(rt, text, lines);
-    is_judged_by(rt, Rules::standard(), &trace, wanted);
+    is_judged_by(rt, Rules::standard(), text, lines, wanted);
 }
 
-// So is a trace judged by rules.
-fn is_judged_by(rt: &(impl Abort + AllocGlobal), rules: Rules, trace: &History, wanted: Verdict) {
-    let verdict = check(rt.alloc(), trace, rules).expect(rt, "memory");
+// So is one judged by rules.
+fn is_judged_by(
+    rt: &(impl Abort + AllocGlobal),
+    rules: Rules,
+    text: &str,
+    lines: usize,
+    wanted: Verdict,
+) {
+    let trace = read(rt, text, lines);
+    let verdict = check(rt.alloc(), &trace, rules).expect(rt, "memory");
     same(rt, &verdict, &wanted);
 }
 
@@ -123,8 +129,8 @@ tell 4 ok
 
 #[test]
 fn what_is_legal_under_fair_rules_differs_under_the_standard_ones(rt: HostRuntime) {
-    let trace = read(&rt, ONE_WAITED_BEHIND_ANOTHER, 9);
+    let text = ONE_WAITED_BEHIND_ANOTHER;
     let fair = Rules::standard().with_fair(true);
-    is_judged_by(&rt, fair, &trace, Verdict::Legal);
-    is_judged_by(&rt, Rules::standard(), &trace, Verdict::Differs(7));
+    is_judged_by(&rt, fair, text, 9, Verdict::Legal);
+    is_judged(&rt, text, 9, Verdict::Differs(7));
 }
