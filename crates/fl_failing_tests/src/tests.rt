@@ -1,7 +1,5 @@
 //! Sessions with and without workers, whose memory, reads and writes fail, and whose streams were changed on the way.
 
-ghost use Rattle.std.specs.Prelude.{◌<◌, ◌≤◌};
-
 mod crowd;
 mod refusing;
 mod rows;
@@ -12,7 +10,7 @@ mod whole;
 
 use fl_book::{History, Rules, Verdict, check, print_trace};
 use fl_serve::{Done, Fault, OpenGate, run_one, serve};
-use fl_testing::{bytes_after, init, init_reply};
+use fl_testing::{bytes_after, init, init_reply, of_workers};
 use std::alloc::Global;
 use std::io::{Read, Write};
 use std::process::Abort;
@@ -65,17 +63,6 @@ fn replies_of(rt: &impl Abort, alloc: Global, case: &str) -> Vec<u8> {
     let behind = bytes_after(alloc, case, "< ").expect(rt, "hex");
     replies.extend_from_slice(&behind).expect(rt, "memory");
     replies
-}
-
-// So many workers, of which there are 1 to 16.
-fn of_workers(workers: u32) -> u32
-    ensures { (0 < result) × (result ≤ 16) }
-{
-    if workers == 0 || workers > 16 {
-        1
-    } else {
-        workers
-    }
 }
 
 // Serves with this many workers.

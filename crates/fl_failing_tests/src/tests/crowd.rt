@@ -2,10 +2,11 @@
 
 use super::refusing::{Came, Refusals, served_refusing};
 use super::sessions::CROWD;
-use super::whole::{Reply, replies};
+use super::whole::replies;
 use super::{are_bytes, count_is, fault_is, is_legal, served, spelled, stream_of};
 use fl_book::{History, Line};
-use fl_testing::{init, init_reply};
+use fl_serve::Done;
+use fl_testing::{Reply, init, init_reply};
 use std::alloc::Global;
 use std::process::Abort;
 use std::sync::Wait;
@@ -123,23 +124,32 @@ fn batch(rt: &impl Abort, alloc: Global) -> Vec<u8> {
     stream
 }
 
+// The nodes from 0 to 508, each once.
+fn are_all_nodes(rt: &impl Abort, nodes: &[u64]) {
+    count_is(rt, nodes.len(), 509);
+    let mut wanted = 0u64;
+    for node in nodes {
+        assert_eq!(rt; *node, wanted);
+        wanted = wanted.wrapping_add(1);
+    }
+}
+
+// A session of the batch ended so.
+fn has_forgotten(rt: &impl Abort, alloc: Global, done: &Done, out: &[u8]) {
+    fault_is(rt, done.fault, None);
+    is_legal(rt, alloc, &done.history);
+    are_bytes(rt, out, &spelled(rt, alloc, init_reply()));
+    let mut nodes = nodes_in(rt, alloc, &done.history);
+    nodes.sort_unstable();
+    are_all_nodes(rt, &nodes);
+}
+
 fn forgets_all<R: Abort + Threads + Wait + Sync>(rt: &R, alloc: Global, workers: u32) {
     let stream = batch(rt, alloc);
     let mut input = stream.as_slice();
     let mut out = Vec::new(alloc);
     let done = served(rt, alloc, &mut input, &mut out, workers);
-    fault_is(rt, done.fault, None);
-    is_legal(rt, alloc, &done.history);
-    are_bytes(rt, &out, &spelled(rt, alloc, init_reply()));
-    let mut nodes = nodes_in(rt, alloc, &done.history);
-    nodes.sort_unstable();
-    count_is(rt, nodes.len(), 509);
-    assert!(rt;
-        nodes
-            .iter()
-            .zip(0..509)
-            .all(|(node, wanted)| *node == wanted)
-    );
+    has_forgotten(rt, alloc, &done, &out);
 }
 
 #[test]
@@ -162,18 +172,23 @@ fn longest(rt: &impl Abort, alloc: Global) -> Vec<u8> {
 // The reply of ENAMETOOLONG to the unique 2.
 const TOO_LONG: &str = "10000000dcffffff0200000000000000";
 
+// A session of the longest message ended so.
+fn was_too_long(rt: &impl Abort, alloc: Global, done: &Done, out: &[u8]) {
+    fault_is(rt, done.fault, None);
+    assert!(rt; done.history.is_empty() && !done.refused);
+    let mut wanted = spelled(rt, alloc, init_reply());
+    let told = spelled(rt, alloc, TOO_LONG);
+    wanted.extend_from_slice(&told).expect(rt, "memory");
+    are_bytes(rt, out, &wanted);
+}
+
 fn is_too_long<R: Abort + Threads + Wait + Sync>(rt: &R, alloc: Global, workers: u32) {
     let stream = longest(rt, alloc);
     count_is(rt, stream.len(), 56 + 8192);
     let mut input = stream.as_slice();
     let mut out = Vec::new(alloc);
     let done = served(rt, alloc, &mut input, &mut out, workers);
-    fault_is(rt, done.fault, None);
-    assert!(rt; done.history.is_empty() && !done.refused);
-    let mut wanted = spelled(rt, alloc, init_reply());
-    let told = spelled(rt, alloc, TOO_LONG);
-    wanted.extend_from_slice(&told).expect(rt, "memory");
-    are_bytes(rt, &out, &wanted);
+    was_too_long(rt, alloc, &done, &out);
 }
 
 #[test]

@@ -3,11 +3,12 @@
 ghost use Rattle.std.specs.Prelude.{◌≡◌, [], min};
 
 use super::sessions::{BATCHED, ONE_BY_ONE, ORDERS};
-use super::whole::{long_at, place_of, word_at};
-use super::{Alone, are_alike, are_bytes, fault_is, of_workers, run_alone, stream_of};
+use super::whole::place_of;
+use super::{Alone, are_alike, are_bytes, fault_is, run_alone, stream_of};
 use fl_book::{History, Keeper, Lines, Rules};
 use fl_order::{NoMemory, Order, Told};
 use fl_serve::{Kept, OpenGate, run_over, serve_over};
+use fl_testing::{long_at, of_workers, word_at};
 use std::alloc::Global;
 use std::process::Abort;
 use std::sync::Wait;
@@ -129,50 +130,69 @@ fn add_refusal(rt: &impl Abort, out: &mut Vec<u8>, message: &[u8]) {
         36 => 11u32,
         _ => 12u32,
     };
-    let added = [
-        out.extend_from_slice(&16u32.to_le_bytes()),
-        out.extend_from_slice(&0u32.wrapping_sub(error).to_le_bytes()),
-        out.extend_from_slice(&long_at(message, 8).to_le_bytes()),
-    ];
-    assert!(rt; added.iter().all(|it| it.is_ok()));
+    put(rt, out, &16u32.to_le_bytes());
+    put(rt, out, &0u32.wrapping_sub(error).to_le_bytes());
+    put(rt, out, &long_at(message, 8).to_le_bytes());
+}
+
+fn put(rt: &impl Abort, out: &mut Vec<u8>, bytes: &[u8]) {
+    out.extend_from_slice(bytes).expect(rt, "memory");
 }
 
 // A stream without one of its messages.
 #[derive(Drop)]
-struct Without {
-    before: Vec<u8>,
-    message: Vec<u8>,
+struct Without<'a> {
+    before: &'a [u8],
+    message: &'a [u8],
     rest: Vec<u8>,
 }
 
-fn copied(rt: &impl Abort, alloc: Global, bytes: &[u8]) -> Vec<u8> {
-    let mut copy = Vec::new(alloc);
-    copy.extend_from_slice(bytes).expect(rt, "memory");
-    copy
-}
-
-fn split_at_message(rt: &impl Abort, alloc: Global, stream: &[u8], number: usize) -> Without {
+fn split_at_message<'a>(
+    rt: &impl Abort,
+    alloc: Global,
+    stream: &'a [u8],
+    number: usize,
+) -> Without<'a> {
     let (before, from) = stream.split_at(place_of(rt, stream, number).min(stream.len()));
     let (message, behind) = from.split_at(place_of(rt, from, 1).min(from.len()));
-    let mut rest = copied(rt, alloc, before);
-    rest.extend_from_slice(behind).expect(rt, "memory");
+    let mut rest = Vec::new(alloc);
+    put(rt, &mut rest, before);
+    put(rt, &mut rest, behind);
     Without {
-        before: copied(rt, alloc, before),
-        message: copied(rt, alloc, message),
+        before,
+        message,
         rest,
     }
+}
+
+// All replies of a session without workers.
+fn told_alone(alloc: Global, stream: &[u8]) -> Vec<u8> {
+    let Alone { done: _, out } = run_alone(alloc, stream);
+    out
+}
+
+// The first replies, then what a message is told that finds no memory, and then all the replies behind the first.
+fn with_refusal(
+    rt: &impl Abort,
+    alloc: Global,
+    first: &[u8],
+    message: &[u8],
+    all: &[u8],
+) -> Vec<u8> {
+    let mut out = Vec::new(alloc);
+    put(rt, &mut out, first);
+    add_refusal(rt, &mut out, message);
+    put(rt, &mut out, all.get(first.len()..).unwrap_or(&[]));
+    out
 }
 
 // The replies of a stream without one of its messages, with what that one is told in its place, and the history without it.
 fn wanted(rt: &impl Abort, alloc: Global, stream: &[u8], number: usize) -> Alone {
     let parts = split_at_message(rt, alloc, stream, number);
-    let before = run_alone(alloc, &parts.before);
+    let before = told_alone(alloc, parts.before);
     let Alone { done, out } = run_alone(alloc, &parts.rest);
-    let mut all = copied(rt, alloc, &before.out);
-    add_refusal(rt, &mut all, &parts.message);
-    let behind = out.get(before.out.len()..).unwrap_or(&[]);
-    all.extend_from_slice(behind).expect(rt, "memory");
-    Alone { done, out: all }
+    let out = with_refusal(rt, alloc, &before, parts.message, &out);
+    Alone { done, out }
 }
 
 fn came_so(rt: &impl Abort, alloc: Global, came: &Came, wanted: &Alone, refused: bool) {

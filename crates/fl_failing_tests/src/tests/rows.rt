@@ -2,7 +2,7 @@
 
 use super::whole::replies;
 use super::{are_bytes, count_is, fault_is, served, spelled, stream_of};
-use fl_serve::Fault;
+use fl_serve::{Done, Fault};
 use fl_testing::{Sink, Source, Trouble, init, init_reply, two_locks};
 use std::alloc::Global;
 use std::io::ErrorKind;
@@ -14,6 +14,21 @@ use std::thread::Threads;
 const CUT: &str =
     "5800000020000000020000000000000002000000000000000000000000000000000000000000000001";
 
+// An INIT, and these bytes.
+fn behind_init(rt: &impl Abort, alloc: Global, behind: &str) -> Vec<u8> {
+    let mut stream = spelled(rt, alloc, init());
+    let behind = spelled(rt, alloc, behind);
+    stream.extend_from_slice(&behind).expect(rt, "memory");
+    stream
+}
+
+// A session ended with this fault. It took no order, and the reply to the INIT went out.
+fn has_begun(rt: &impl Abort, alloc: Global, done: &Done, out: &[u8], fault: Fault) {
+    fault_is(rt, done.fault, Some(fault));
+    assert!(rt; done.history.is_empty() && !done.refused);
+    are_bytes(rt, out, &spelled(rt, alloc, init_reply()));
+}
+
 // Behind the INIT stand these bytes, which are no message. Its reply goes out, and the session ends with a fault.
 fn ends_behind_init<R: Abort + Threads + Wait + Sync>(
     rt: &R,
@@ -21,15 +36,11 @@ fn ends_behind_init<R: Abort + Threads + Wait + Sync>(
     behind: &str,
     fault: Fault,
 ) {
-    let mut stream = spelled(rt, alloc, init());
-    let behind = spelled(rt, alloc, behind);
-    stream.extend_from_slice(&behind).expect(rt, "memory");
+    let stream = behind_init(rt, alloc, behind);
     let mut input = stream.as_slice();
     let mut out = Vec::new(alloc);
     let done = served(rt, alloc, &mut input, &mut out, 2);
-    fault_is(rt, done.fault, Some(fault));
-    assert!(rt; done.history.is_empty() && !done.refused);
-    are_bytes(rt, &out, &spelled(rt, alloc, init_reply()));
+    has_begun(rt, alloc, &done, &out, fault);
 }
 
 #[test]
