@@ -263,44 +263,12 @@ fn a_line_at_a_time(rt: HostRuntime) {
     assert!(rt; first_line(rest).is_none());
 }
 
-const DIGITS: [&str; 10] = ["0", "1", "2", "3", "4", "5", "6", "7", "8", "9"];
-
-fn last_digit(number: u32) -> &'static str {
-    DIGITS[(number % 10) as usize]
-}
-
-// The last digit of what stands before others in a number, which is nothing where that is 0.
-fn digit_before(number: u32) -> &'static str {
-    match number {
-        0 => "",
-        _ => last_digit(number),
-    }
-}
-
-// A number below 10,000.
-fn number_text(rt: &(impl Abort + AllocGlobal), number: u32) -> String {
-    let parts = [
-        digit_before(number / 1000),
-        digit_before(number / 100),
-        digit_before(number / 10),
-        last_digit(number),
-    ];
-    joined(rt, &parts)
-}
-
-// A lock of the byte of this number is set, and its reply.
-fn add_lock(rt: &impl Abort, text: &mut String, i: &str) {
-    add(rt, text, &["ask 0 ", i, " 2 0 0 0 setlk 1 7 "]);
-    add(rt, text, &[i, " ", i, " 1 11 0\n"]);
-    add(rt, text, &["tell ", i, " ok\n"]);
-}
-
 // So many locks that are set at once, each with its reply.
 fn many_locks(rt: &(impl Abort + AllocGlobal), locks: u32) -> String {
     let mut text = String::new(rt.alloc());
     for i in 0..locks {
-        let i = number_text(rt, i);
-        add_lock(rt, &mut text, i.as_str());
+        write!(text, "ask 0 {i} 2 0 0 0 setlk 1 7 {i} {i} 1 11 0\n").expect(rt, "memory");
+        write!(text, "tell {i} ok\n").expect(rt, "memory");
     }
     text
 }
