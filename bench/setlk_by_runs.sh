@@ -1,6 +1,7 @@
 #!/bin/sh
 # Times lock requests on one file by how its locks stand, beside `fcntl` on a file in memory (bench/peers/locks.c), in turns in
-# one run: one owner with 1, 16, 256, 4,096 and 65,536 runs of bytes; 4,000 and 60,000 owners with one run each; 64 owners.
+# one run: one owner with 1, 16, 256, 4,096 and 65,536 runs of bytes; 4,000 owners, and 60,000 or as many as may have a file open each, with one run each;
+# 64 owners.
 # `bench/programs/locks_bench` says what is asked. It proves and builds that first, with `rt`, and needs a C compiler. Prints microseconds an order of both,
 # and their ratio: the least of five runs each, less that of a run with no order. Where more than 4,096 runs are held it is one run each, with
 # all that sets them: `fcntl` takes minutes for that. What is aimed at stands beside.
@@ -16,14 +17,15 @@ trap 'exit 1' INT TERM
 program=$(tools/build_bench locks_bench)
 cc -O2 -Wall -Wextra -o "$work/locks" bench/peers/locks.c
 python3 - "$program" "$work/locks" "${1:-}" <<'END'
-import re, subprocess, sys, time
+import re, resource, subprocess, sys, time
 
 OURS, KERNEL, OPTION = sys.argv[1:]
+MOST = min(60_000, resource.getrlimit(resource.RLIMIT_NOFILE)[1] - 16)
 # Owners, runs of each, what is asked, and the greatest ratio that is aimed at.
 CASES = [(1, 1, "anew", None), (1, 16, "anew", 2), (1, 256, "anew", None), (1, 4096, "anew", 0.5),
          (1, 16, "look", None), (1, 4096, "look", None), (4000, 1, "more", 0.5), (4000, 1, "amid", None),
          (4000, 1, "look", None), (64, 1, "turns", None), (1, 65536, "anew", None), (1, 65536, "look", None),
-         (60000, 1, "more", None), (60000, 1, "look", None)]
+         (MOST, 1, "more", None), (MOST, 1, "look", None)]
 
 # What `fcntl` is asked in place of it: it knows no order of owners.
 OF_KERNEL = {"amid": "more"}

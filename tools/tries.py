@@ -3,6 +3,9 @@
 A message's layout is that of `fuse.h` (protocol 7.31).
 """
 import os
+import re
+import resource
+import signal
 import socket
 import struct
 import subprocess
@@ -21,6 +24,7 @@ def message(opcode, unique, node, body):
 
 
 INIT = message(26, 1, 0, struct.pack("<IIII", 7, 31, 0, 0))
+INIT_REPLY = struct.pack("<IiQIIIIHHII36x", 80, 0, 1, 7, 31, 0, 0, 16, 12, 4096, 1)
 CREATE = message(35, 2, 1, struct.pack("<IIII", 0, 0o644, 0, 0) + b"a\0")
 
 
@@ -57,6 +61,22 @@ def replies(bytes_):
     return found
 
 
+def text_of(path):
+    with open(f"{TOP}/{path}", encoding="utf-8") as file:
+        return file.read()
+
+
+def cases(text):
+    """The titles and the lines of the cases in a text. One begins with a line of `# ` and its title. A line that ends with a backslash goes on in the next."""
+    found = re.split(r"^# (.*)\n", text.replace("\\\n", ""), flags=re.M)
+    return [*zip(found[1::2], found[2::2])]
+
+
+def marked(case, mark):
+    """The lines of a case that begin with a mark of two letters, without it."""
+    return "".join(f"{line[2:]}\n" for line in case.splitlines() if line[:2] in (mark, mark.strip()))
+
+
 def wait_until(is_so):
     last = time.monotonic() + PATIENCE
     while not is_so() and time.monotonic() < last:
@@ -65,6 +85,34 @@ def wait_until(is_so):
 
 def run(*words, text=b"", **how):
     return subprocess.run([PROGRAM, *words], input=text, capture_output=True, timeout=PATIENCE, **how)
+
+
+def limited(most_bytes):
+    """What a program does before it starts, so that its files can have so many bytes, and no more."""
+    def limit():
+        signal.signal(signal.SIGXFSZ, signal.SIG_IGN)
+        resource.setrlimit(resource.RLIMIT_FSIZE, (most_bytes, most_bytes))
+
+    return limit
+
+
+def fills_up(*words, text, left):
+    """What is told, and the status, where the output takes so many bytes."""
+    with tempfile.TemporaryFile() as full:
+        how = {"input": text, "stdout": full, "stderr": subprocess.PIPE, "timeout": PATIENCE, "preexec_fn": limited(left)}
+        ran = subprocess.run([PROGRAM, *words], check=False, **how)
+    return ran.stderr, ran.returncode
+
+
+def fails_to_read(*words, text):
+    """What is printed and told, and the status, where the input has this text and then fails: its other end goes with a byte unread."""
+    near, far = socket.socketpair()
+    with near:
+        near.sendall(b"x")
+        far.sendall(text)
+        far.close()
+        ran = subprocess.run([PROGRAM, *words], stdin=near, capture_output=True, timeout=PATIENCE, check=False)
+    return ran.stdout, ran.stderr, ran.returncode
 
 
 def judged(trace, *options):
@@ -124,13 +172,14 @@ class Server:
 
 
 def main(script, names):
-    """Runs each function `try_..` of a script, prints how each ended, and ends with `N passed, M failed`. The status is 1 where M isn't
-    0, and 77 where there is no program."""
+    """Runs each function `try_..` of a script, or those that its words name, prints how each ended, and ends with `N passed, M failed`. The status is 1
+    where M isn't 0, and 77 where there is no program."""
     if not os.access(PROGRAM, os.X_OK):
         print(f"{script}: not tried: there is no program at {PROGRAM}", file=sys.stderr)
         return NOT_TRIED
     failed = 0
     tries = {name: it for name, it in names.items() if name.startswith("try_")}
+    tries = {name: tries[name] for name in sys.argv[1:] if name in tries} or tries
     for name, it in tries.items():
         try:
             said = it()

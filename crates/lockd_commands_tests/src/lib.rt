@@ -1,4 +1,4 @@
-//! Tests of the commands of `lockd`.
+//! Tests of the commands of `lockd`, and of what answers their scripts.
 #![tactic(auto)]
 
 #[cfg(test)]

@@ -76,31 +76,14 @@ tell 1025 err 23
 /// 4,096 runs are all that there is room for: a lock that would make one more is refused, and so is an unlock that
 /// would cut one in two; a lock over all of them is set.
 pub(crate) fn no_room_for_locks(rt: &impl Abort, alloc: Global) -> String {
-    behind_4096_runs(rt, alloc, NO_ROOM)
-}
-
-/// Of 4,097 runs there is room for one more than 4,096: an unlock cuts one in two, and then no other lock is set.
-pub(crate) fn room_for_one_more_run(rt: &impl Abort, alloc: Global) -> String {
-    behind_4096_runs(rt, alloc, ONE_MORE)
-}
-
-// A file with 4,096 runs, and what is asked then.
-fn behind_4096_runs(rt: &impl Abort, alloc: Global, asked: &str) -> String {
     let mut trace = String::new(alloc);
     push_filled(rt, &mut trace, ONE_FILE, &[1]);
     for i in 0..4096u32 {
         push_filled(rt, &mut trace, ONE_RUN, &[i + 2, 4 * i, 4 * i + 2]);
     }
-    push_filled(rt, &mut trace, asked, &[]);
+    push_filled(rt, &mut trace, NO_ROOM, &[]);
     trace
 }
-
-const ONE_MORE: &str = "\
-ask 0 4098 2 0 0 0 setlk 1 7 1 1 2 11 0
-tell 4098 ok
-ask 0 4099 2 0 0 0 setlk 1 8 20000 20000 0 12 0
-tell 4099 err 37
-";
 
 const ONE_RUN: &str = "\
 ask 0 A 2 0 0 0 setlk 1 7 B C 1 11 0

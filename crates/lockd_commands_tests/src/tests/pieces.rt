@@ -1,12 +1,55 @@
 //! Traces that come in pieces, with lines that are too long, and that can't be read to their end.
 
-use super::check::THE_LAST_REPLY;
-use super::{CUT, Came, PLAIN, QUIET, is};
 use fl_testing::{Source, Trouble};
 use lockd_commands::{CheckOptions, Fault, Rules, Status, check_on};
 use std::alloc::Global;
 use std::io::{ErrorKind, Read};
 use std::process::Abort;
+
+// The trace of three orders, each with its reply.
+const THE_LAST_REPLY: &str = "\
+ask 0 1 1 0 0 0 create 0 420 61
+tell 1 made 2 33188 1 0 0 1
+ask 0 2 2 0 0 0 setlk 1 7 0 9 1 11 0
+tell 2 ok
+ask 0 3 2 0 0 0 setlk 1 8 9 9 0 12 0
+tell 3 err 11
+";
+
+const PLAIN: CheckOptions = CheckOptions {
+    tells_quiet: false,
+    cut: false,
+};
+
+const QUIET: CheckOptions = CheckOptions {
+    tells_quiet: true,
+    cut: false,
+};
+
+const CUT: CheckOptions = CheckOptions {
+    tells_quiet: false,
+    cut: true,
+};
+
+// What the command wrote, and how it ended.
+#[derive(Drop)]
+struct Came {
+    printed: Vec<u8>,
+    told: Vec<u8>,
+    status: Status,
+}
+
+// It printed this, told that, and ended with 2 where something was told, and else with 0. The words are shown where it didn't.
+fn is(rt: &impl Abort, what: &str, came: &Came, printed: &str, told: &str) {
+    is_text(rt, what, &came.told, told);
+    is_text(rt, what, &came.printed, printed);
+    let code = if told.is_empty() { 0 } else { 2 };
+    assert_eq!(rt; came.status.exit_code(), code, "{what}");
+}
+
+fn is_text(rt: &impl Abort, what: &str, found: &[u8], wanted: &str) {
+    assert_eq!(rt; str::from_utf8(found).ok(), Some(wanted), "{what}");
+}
 
 fn check<R: Read>(alloc: Global, options: CheckOptions, input: &mut R) -> Came {
     let rules = Rules::standard();

@@ -1,5 +1,0 @@
-//! Tests of `lockd check`.
-#![tactic(auto)]
-
-#[cfg(test)]
-mod tests;

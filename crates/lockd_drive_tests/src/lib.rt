@@ -1,5 +1,0 @@
-//! Tests of `lockd drive`, as a client alone.
-#![tactic(auto)]
-
-#[cfg(test)]
-mod tests;
