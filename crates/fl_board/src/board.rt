@@ -1,41 +1,24 @@
 //! The board: workers with seats hand in orders under one lock, and look without it. One history of all orders is kept.
 
-ghost use Rattle.std.specs.Prelude.{◌≡◌, ℕ, ◌<◌, ◌≤◌, ◌↔◌, ◌⊎◌, [], true, Err, List, All, IfOk, IfErr, IfSome, IsSome, OnOk, OnErr};
+ghost use Rattle.std.specs.Prelude.{◌≡◌, ◌<◌, ◌≤◌, ◌↔◌, ◌⊎◌, [], true, Err, List, All, IfOk, IfErr, IfSome, IsSome, OnOk, OnErr};
 ghost use Rattle.std.specs.Prelude.{length, map, sum_by};
 ghost use Rattle.std.specs.List.{range_with_len};
 ghost use Rattle.fl_board.specs.Shown.{HasAllOf, HaveMet, IsHandedIn, IsShown, KeepsHanded};
 ghost use Rattle.fl_core.specs.Tolds.{HasRoom};
 ghost use Rattle.fl_desk.specs.Legal.{IsLegal, orders_asked};
 ghost use Rattle.fl_order.specs.Order.{only_reads};
-ghost use Rattle.fl_waiting.specs.declared.rules.Rules.{Rules};
-ghost use Rattle.fl_waiting.specs.Waiting.{standard};
 
-use crate::publisher::Publisher;
 use crate::seat::{NoView, Seat};
 use crate::shared::{Shared, are_apart};
 use fl_core::{Rules, Tolds};
 use fl_history::{History, Lines};
 use fl_keeper::Keeper;
-use fl_log::{Beginning, FreshLog, LogName};
+use fl_log::{Beginning, FreshLog};
 use fl_order::{Answer, Errno, NoMemory, Order};
+use fl_published::{BoardName, Publisher};
 use std::alloc::{AllocError, Global};
-use std::marker::Brand;
-use std::sync::ledger::{Blank, Ledger, Share};
+use std::sync::ledger::{Blank, Share};
 use std::sync::{Mutex, Wait};
-
-/// The name of one board in contracts: a ledger with a part for each of its workers, the log of its orders, and by which rules
-/// requests wait there.
-pub trait BoardName: Ledger + LogName {
-    ghost workers: { ℕ };
-
-    ghost rules: { Rules };
-}
-
-impl BoardName for Brand {
-    ghost workers = { 0 };
-
-    ghost rules = { standard };
-}
 
 /// A board of 1 to 16 workers, whose lines go to a keeper: they stay in memory, if nothing else is said.
 #[derive(Drop)]

@@ -3,11 +3,10 @@
 
 mod asks;
 mod board;
-mod published;
-mod publisher;
 mod seat;
 mod shared;
 
-pub use board::{Board, BoardName, CloseFault, HandFault, OpenFault};
+pub use board::{Board, CloseFault, HandFault, OpenFault};
 pub use fl_log::{FreshLog, LogName};
+pub use fl_published::BoardName;
 pub use seat::{NoView, Seat};

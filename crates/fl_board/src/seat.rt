@@ -6,10 +6,9 @@ ghost use Rattle.fl_board.specs.Shown.{IsShown, KeepsHanded};
 ghost use Rattle.fl_order.specs.Order.{only_reads};
 
 use crate::asks::asks_lead;
-use crate::board::BoardName;
-use crate::published::{Published, glance};
 use fl_log::Beginning;
 use fl_order::{Answer, Errno, Order};
+use fl_published::{BoardName, Published, glance};
 use left_right::ReadHandle;
 use std::marker::Model;
 use std::sync::ledger::Share;

@@ -7,15 +7,14 @@ ghost use Rattle.fl_core.specs.Tolds.{HasRoom};
 ghost use Rattle.fl_desk.specs.Legal.{IsLegal, orders_asked};
 
 use crate::asks::asks_lead;
-use crate::board::{BoardName, HandFault};
-use crate::published::Update;
-use crate::publisher::Publisher;
+use crate::board::HandFault;
 use crate::seat::{NoView, Seat};
 use fl_core::{Rules, Tolds};
 use fl_desk::Desk;
 use fl_keeper::Keeper;
 use fl_log::{Ask, Beginning, FreshLog, Log, MOST_ASKS};
 use fl_order::{NoMemory, Order};
+use fl_published::{BoardName, Publisher, Update};
 use std::alloc::Global;
 use std::marker::Model;
 use std::sync::Wait;
@@ -34,9 +33,10 @@ pub(crate) struct Shared<L: BoardName, R: Wait + Drop, K: Keeper> {
 
 impl<L: BoardName, R: Wait + Drop, K: Keeper> Model for Shared<L, R, K> {
     ghost use Rattle.std.specs.Prelude.{◌≡◌, List};
-    ghost use Rattle.fl_board.specs.Inside.Asks.{history_of, present_after};
+    ghost use Rattle.fl_board.specs.Inside.Asks.{history_of};
     ghost use Rattle.fl_desk.specs.Legal.{orders_asked};
     ghost use Rattle.fl_log.specs.declared.ask.Ask.{Ask};
+    ghost use Rattle.fl_published.specs.Asks.{present_after};
 
     ghost Value = { List Ask };
 

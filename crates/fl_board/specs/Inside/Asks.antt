@@ -1,22 +1,15 @@
 -- What asks come to, one after another.
 use Rattle.std.specs.Prelude.{◌≢◌, ◌≤◌, List, [], ◌∷◌, ◌++◌}
-use Rattle.std.specs.List.{fold, AllPairs}
+use Rattle.std.specs.List.{AllPairs}
 use mathlib.Core.List.{IsPrefix}
 use Rattle.fl_board.specs.Seats.{Place, orders_by}
 use Rattle.fl_core.specs.State.{Snapshot, opening, snapshot_of}
-use Rattle.fl_core.specs.Step.{next, replies}
+use Rattle.fl_core.specs.Step.{replies}
 use Rattle.fl_desk.specs.Legal.{step_lines}
 use Rattle.fl_history.specs.declared.history.Line.{Line}
 use Rattle.fl_log.specs.declared.ask.Ask.{Ask}
+use Rattle.fl_published.specs.Asks.{stepped}
 use Rattle.fl_waiting.specs.declared.rules.Rules.{Rules}
-
--- what is there after an ask
-abbrev pub stepped : Snapshot → Ask → Snapshot
-stepped p ask = next p ask.order
-
--- what is there after these asks, under these rules
-abbrev pub present_after : Rules → List Ask → Snapshot
-present_after rules asks = fold stepped (snapshot_of (opening rules)) asks
 
 -- the lines of an ask
 abbrev pub lines_in : Snapshot → Ask → List Line

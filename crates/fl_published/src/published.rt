@@ -1,12 +1,12 @@
 //! The copies of the directory that looks read.
 
 ghost use Rattle.std.specs.Prelude.{◌≡◌, ◌↔◌, [], true, Some, IfOk, IfSome, IsSome};
-ghost use Rattle.fl_board.specs.Inside.Asks.{present_after};
 ghost use Rattle.fl_core.specs.Replies.{own_replies};
 ghost use Rattle.fl_core.specs.Step.{next, replies};
 ghost use Rattle.fl_order.specs.Order.{only_reads};
+ghost use Rattle.fl_published.specs.Asks.{present_after};
 
-use crate::board::BoardName;
+use crate::name::BoardName;
 use fl_core::{Core, Rules, Tolds};
 use fl_log::Beginning;
 use fl_order::{Answer, Errno, NoMemory, Order};
@@ -14,7 +14,7 @@ use left_right::{Absorb, ReadHandle};
 use std::alloc::{AllocError, Global};
 use std::marker::Model;
 
-/// An order, with the beginnings of the log before it and with it.
+/// An order to be published, with the beginnings of the log before it and with it.
 #[derive(Drop)]
 pub struct Update<L: BoardName> {
     order: Order,
@@ -24,9 +24,8 @@ pub struct Update<L: BoardName> {
 
 impl<L: BoardName> Model for Update<L> {
     ghost use Rattle.std.specs.Prelude.{◌≡◌};
-    ghost use Rattle.fl_board.specs.Inside.Asks.{present_after};
-    ghost use Rattle.fl_board.specs.Inside.Updates.{Extension};
     ghost use Rattle.fl_core.specs.Step.{next};
+    ghost use Rattle.fl_published.specs.Asks.{Extension, present_after};
 
     ghost Value = { Extension };
 
@@ -36,7 +35,8 @@ impl<L: BoardName> Model for Update<L> {
 }
 
 impl<L: BoardName> Update<L> {
-    pub(crate) fn new(order: Order, before: Beginning<L>, after: Beginning<L>) -> Update<L>
+    /// An update by this order, which stands behind the asks of `before`. Those of `after` are they and the order.
+    pub fn new(order: Order, before: Beginning<L>, after: Beginning<L>) -> Update<L>
         requires { present_after L.rules after ≡ next (present_after L.rules before) order }
         ensures { (result.before ≡ before) × (result.after ≡ after) × (result.order ≡ order) }
     {
@@ -59,9 +59,9 @@ pub struct Published<L: BoardName> {
 
 impl<L: BoardName> Model for Published<L> {
     ghost use Rattle.std.specs.Prelude.{◌≡◌, List};
-    ghost use Rattle.fl_board.specs.Inside.Asks.{present_after};
     ghost use Rattle.fl_core.specs.Tolds.{HasRoom};
     ghost use Rattle.fl_log.specs.declared.ask.Ask.{Ask};
+    ghost use Rattle.fl_published.specs.Asks.{present_after};
 
     ghost Value = { List Ask };
 
@@ -107,7 +107,7 @@ impl<L: BoardName> Published<L> {
 }
 
 impl<L: BoardName> Absorb<Update<L>> for Published<L> {
-    ghost use Rattle.fl_board.specs.Inside.Updates.{extended};
+    ghost use Rattle.fl_published.specs.Inside.Updates.{extended};
 
     type State = Beginning<L>;
 
@@ -132,7 +132,7 @@ impl<L: BoardName> Absorb<Update<L>> for Published<L> {
 
 /// What an order that only reads is answered by what is published, and the asks that led to that. None where no copy could be
 /// entered.
-pub(crate) fn glance<L: BoardName>(
+pub fn glance<L: BoardName>(
     reader: &mut ReadHandle<Published<L>>,
     order: &Order,
 ) -> Option<(Beginning<L>, Result<Answer, Errno>)>

@@ -1,7 +1,7 @@
 use Rattle.std.proofs.Common.{◌∙◌, ap, sym, arith}
-use Rattle.fl_board.specs.Inside.Asks.{present_after}
+use Rattle.fl_published.specs.Asks.{present_after}
 use Rattle.fl_core.specs.State.{Snapshot, opening, snapshot_of}
-use Rattle.fl_board.proofs.published.Published.new.Goals as goal
+use Rattle.fl_published.proofs.published.Published.new.Goals as goal
 
 pub invariant_of-result : goal.invariant_of-result
 invariant_of-result g c =

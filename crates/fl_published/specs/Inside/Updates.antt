@@ -2,13 +2,7 @@
 use Rattle.std.specs.Prelude.{cond, nat_eq, List, length}
 use Rattle.std.specs.List.{fold}
 use Rattle.fl_log.specs.declared.ask.Ask.{Ask}
-use Rattle.fl_order.specs.declared.order.Order.{Order}
-
--- an order, with the asks before it and with it
-pub record Extension : Type 0 where
-  pub order : Order
-  pub before : List Ask
-  pub after : List Ask
+use Rattle.fl_published.specs.Asks.{Extension}
 
 -- a copy of the asks before it takes the order; any other stays
 abbrev pub extended : List Ask → Extension → List Ask

@@ -1,9 +1,9 @@
 //! The writer of what looks read.
 
 ghost use Rattle.std.specs.Prelude.{◌≡◌, ◌<◌, ◌^◌, [], IfOk, OnOk, MatchResult};
-ghost use Rattle.fl_board.specs.Inside.Asks.{present_after};
+ghost use Rattle.fl_published.specs.Asks.{present_after};
 
-use crate::board::BoardName;
+use crate::name::BoardName;
 use crate::published::{Published, Update};
 use fl_core::Rules;
 use fl_log::Beginning;
@@ -13,8 +13,9 @@ use std::alloc::{AllocError, Global};
 use std::marker::Model;
 use std::sync::Wait;
 
-/// The writer. Contracts see it as the asks that lead to what is published, once all that waits is.
-pub(crate) struct Publisher<L: BoardName, R: Wait + Drop>
+/// The writer of both copies. Contracts see it as the asks that lead to what is published, once all that waits is. Letting it
+/// go waits for readers that are in a copy.
+pub struct Publisher<L: BoardName, R: Wait + Drop>
 where
     Published<L>: Absorb<Update<L>, State = Beginning<L>>,
 {
@@ -26,8 +27,8 @@ where
     Published<L>: Absorb<Update<L>, State = Beginning<L>>,
 {
     ghost use Rattle.std.specs.Prelude.{List};
-    ghost use Rattle.fl_board.specs.Inside.Updates.{in_the_end};
     ghost use Rattle.fl_log.specs.declared.ask.Ask.{Ask};
+    ghost use Rattle.fl_published.specs.Inside.Updates.{in_the_end};
     ghost use Rattle.left_right.specs.Handles.{published, pending};
 
     ghost Value = { List Ask };
@@ -43,7 +44,7 @@ impl<L: BoardName, R: Wait + Drop> Drop for Publisher<L, R> {
 
 impl<L: BoardName, R: Wait + Drop> Publisher<L, R> {
     /// A writer of the directory as it opens under these rules, with a place for so many readers.
-    pub(crate) fn new(
+    pub fn new(
         alloc: Global,
         rt: R,
         none: &Beginning<L>,
@@ -77,13 +78,13 @@ impl<L: BoardName, R: Wait + Drop> Publisher<L, R> {
         Ok(())
     }
 
-    /// A reader of what is published.
-    pub(crate) fn reader(&self) -> Result<ReadHandle<Published<L>>, AllocError> {
+    /// A reader of what is published. It is refused for want of memory, or where each place for a reader is taken.
+    pub fn reader(&self) -> Result<ReadHandle<Published<L>>, AllocError> {
         self.writer.handle()
     }
 
-    /// Keeps an update to be published. A refusal changes nothing.
-    pub(crate) fn add(&mut self, update: Update<L>) -> Result<(), AllocError>
+    /// Keeps an update to be published. It is refused for want of memory.
+    pub fn add(&mut self, update: Update<L>) -> Result<(), AllocError>
         requires { update.before ≡ self.old }
         ensures { MatchResult result (λ _. self.new ≡ update.after) (λ _. self.new ≡ self.old) }
     {
@@ -91,7 +92,7 @@ impl<L: BoardName, R: Wait + Drop> Publisher<L, R> {
     }
 
     /// Publishes all updates, once no reader is in the copy that was published before the last one.
-    pub(crate) fn publish(&mut self)
+    pub fn publish(&mut self)
         ensures { self.new ≡ self.old }
     {
         let _ = self.writer.publish();
