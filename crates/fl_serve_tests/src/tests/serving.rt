@@ -11,28 +11,15 @@ mod memory;
 mod replies;
 mod stacks;
 
-use fl_book::{History, Line, Rules, Verdict, check};
+use fl_book::{History, Rules, Verdict, check};
 use fl_serve::{Done, Fault, Gate, OpenGate, serve};
 use fl_testing::of_workers;
-use replies::sorted;
+use replies::count_replies;
 use std::alloc::Global;
-use std::io::{Read, Write};
+use std::io::Read;
 use std::process::Abort;
 use std::sync::Wait;
 use std::thread::Threads;
-
-// Serves under the standard rules with this many workers.
-fn served<R: Threads + Wait + Sync, I: Read, W: Write + Send + Drop, G: Gate + Sync>(
-    rt: &R,
-    alloc: Global,
-    r: &mut I,
-    w: &mut W,
-    workers: u32,
-    gate: &G,
-) -> Done {
-    let rules = Rules::standard();
-    serve(rt, alloc, r, w, of_workers(workers), rules, gate)
-}
 
 // What a session over memory came to, and all its replies.
 #[derive(Drop)]
@@ -41,7 +28,21 @@ struct Came {
     out: Vec<u8>,
 }
 
-// Serves these messages with this many workers.
+// Serves what a reader gives, by these rules and with this many workers.
+fn served<R: Threads + Wait + Sync, I: Read, G: Gate + Sync>(
+    rt: &R,
+    alloc: Global,
+    r: &mut I,
+    workers: u32,
+    rules: Rules,
+    gate: &G,
+) -> Came {
+    let mut out = Vec::new(alloc);
+    let done = serve(rt, alloc, r, &mut out, of_workers(workers), rules, gate);
+    Came { done, out }
+}
+
+// Serves these messages by the standard rules.
 fn serve_bytes<R: Threads + Wait + Sync>(
     rt: &R,
     alloc: Global,
@@ -49,22 +50,24 @@ fn serve_bytes<R: Threads + Wait + Sync>(
     workers: u32,
 ) -> Came {
     let mut input = messages;
-    let mut out = Vec::new(alloc);
-    let done = served(rt, alloc, &mut input, &mut out, workers, &OpenGate);
-    Came { done, out }
+    served(rt, alloc, &mut input, workers, Rules::standard(), &OpenGate)
 }
 
-// A session ended with this fault, after a legal history of so many lines.
+// A session ended with this fault, after a legal history of so many lines. So many whole replies went out, and no order was
+// refused.
 fn ended(
     rt: &impl Abort,
     alloc: Global,
-    done: &Done,
+    came: &Came,
     fault: Option<Fault>,
-    lines: usize,
+    counts: (usize, usize),
     workers: u32,
 ) {
+    let done = &came.done;
     assert_eq!(rt; done.fault, fault, "{workers} workers");
-    assert_eq!(rt; done.history.len(), lines, "{workers} workers");
+    let found = (done.history.len(), count_replies(rt, &came.out));
+    assert_eq!(rt; found, counts, "{workers} workers");
+    assert!(rt; !done.refused);
     is_legal(rt, alloc, &done.history);
 }
 
@@ -78,19 +81,15 @@ fn verdict_is(rt: &impl Abort, alloc: Global, history: &History, rules: Rules, w
     assert_eq!(rt; verdict, wanted);
 }
 
-// So many whole replies went out.
-fn replied(rt: &impl Abort, alloc: Global, out: &[u8], replies: usize, workers: u32) {
-    let found = sorted(rt, alloc, out).len();
-    assert_eq!(rt; found, replies, "{workers} workers");
-}
-
-// The uniques of the orders in a history, as they were asked.
-fn asked_in(rt: &impl Abort, alloc: Global, history: &History) -> Vec<u64> {
-    let mut uniques = Vec::new(alloc);
-    for at in 0..history.len() {
-        if let Line::Asked { worker: _, order } = history.line(at) {
-            uniques.push(order.unique).expect(rt, "memory");
-        }
-    }
-    uniques
+// Serves these messages. The session ends with this fault, after so many lines and replies.
+fn come_to<R: Abort + Threads + Wait + Sync>(
+    rt: &R,
+    alloc: Global,
+    messages: &[u8],
+    fault: Option<Fault>,
+    counts: (usize, usize),
+    workers: u32,
+) {
+    let came = serve_bytes(rt, alloc, messages, workers);
+    ended(rt, alloc, &came, fault, counts, workers);
 }

@@ -1,27 +1,26 @@
 //! BATCH_FORGETs: one before an INIT, and one of no pair.
 
-use super::{ended, replied, serve_bytes};
-use fl_testing::Messages;
-use std::alloc::{AllocError, Global};
+use super::come_to;
+use super::ends::put_spelled;
+use fl_testing::{Messages, init};
+use std::alloc::Global;
+use std::process::Abort;
 
 // A batch of two pairs, INIT, a batch of no pair, and two orders.
-fn batches(alloc: Global) -> Result<Messages, AllocError> {
-    let init = Messages::with_init(alloc)?;
+fn batches(rt: &impl Abort, alloc: Global) -> Messages {
     let mut messages = Messages::new(alloc);
-    messages.batch(2, &[9, 2])?;
-    messages.bytes.extend_from_slice(&init.bytes)?;
-    messages.batch(3, &[])?;
-    messages.seek(4)?;
-    messages.seek(5)?;
-    Ok(messages)
+    messages.batch(2, &[9, 2]).expect(rt, "memory");
+    put_spelled(rt, alloc, &mut messages.bytes, init());
+    messages.batch(3, &[]).expect(rt, "memory");
+    messages.seek(4).expect(rt, "memory");
+    messages.seek(5).expect(rt, "memory");
+    messages
 }
 
 #[test]
 fn batches_that_forget_nothing(rt: HostRuntime) {
-    let messages = batches(rt.alloc()).expect(&rt, "memory");
+    let messages = batches(&rt, rt.alloc());
     for workers in [1, 4] {
-        let came = serve_bytes(&rt, rt.alloc(), &messages.bytes, workers);
-        ended(&rt, rt.alloc(), &came.done, None, 4, workers);
-        replied(&rt, rt.alloc(), &came.out, 3, workers);
+        come_to(&rt, rt.alloc(), &messages.bytes, None, (4, 3), workers);
     }
 }

@@ -1,9 +1,9 @@
 //! Sessions with workers whose reads and writes both fail.
 
 use super::ends::twenty_orders_and;
-use super::served;
 use crate::tests::{count_is, fault_is};
-use fl_serve::{Fault, OpenGate};
+use fl_book::Rules;
+use fl_serve::{Done, Fault, OpenGate, serve};
 use fl_testing::{Sink, Source, Trouble};
 use std::alloc::Global;
 use std::io::ErrorKind;
@@ -11,7 +11,32 @@ use std::process::Abort;
 use std::sync::Wait;
 use std::thread::Threads;
 
-// Three writes take 16 bytes each, and the fourth fails. The reader comes to these bytes, or fails.
+fn serve_into<R: Threads + Wait + Sync>(
+    rt: &R,
+    alloc: Global,
+    messages: &[u8],
+    reads: Trouble,
+    output: &mut Sink,
+) -> Done {
+    let mut input = Source::new(messages, 100, reads);
+    serve(
+        rt,
+        alloc,
+        &mut input,
+        output,
+        4,
+        Rules::standard(),
+        &OpenGate,
+    )
+}
+
+// What a session came to three of whose writes took 16 bytes each, and the fourth failed.
+fn has_broken(rt: &impl Abort, done: &Done, output: &Sink, fault: Fault) {
+    fault_is(rt, done.fault, Some(fault));
+    count_is(rt, output.held.len(), 48);
+}
+
+// The reader comes to these bytes, or fails.
 fn has_fault<R: Abort + Threads + Wait + Sync>(
     rt: &R,
     alloc: Global,
@@ -20,11 +45,9 @@ fn has_fault<R: Abort + Threads + Wait + Sync>(
     fault: Fault,
 ) {
     let messages = twenty_orders_and(rt, alloc, end);
-    let mut input = Source::new(&messages.bytes, 100, reads);
     let mut output = Sink::new(alloc, 16, Trouble::behind(3, Some(ErrorKind::Other)));
-    let done = served(rt, alloc, &mut input, &mut output, 4, &OpenGate);
-    fault_is(rt, done.fault, Some(fault));
-    count_is(rt, output.held.len(), 48);
+    let done = serve_into(rt, alloc, &messages, reads, &mut output);
+    has_broken(rt, &done, &output, fault);
 }
 
 #[test]

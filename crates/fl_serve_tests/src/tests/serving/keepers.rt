@@ -1,10 +1,12 @@
 //! A session whose lines go to a keeper of the caller's.
 
+ghost use Rattle.std.specs.Prelude.{◌≡◌, []};
+
 use super::ends::twenty_orders;
-use super::{is_legal, replied};
+use super::{Came, ended};
 use fl_book::{History, Keeper, Lines, Rules};
 use fl_order::{NoMemory, Order, Told};
-use fl_serve::{Kept, OpenGate, serve_over};
+use fl_serve::{Done, Kept, OpenGate, serve_over};
 use fl_testing::of_workers;
 use std::alloc::Global;
 use std::process::Abort;
@@ -40,41 +42,68 @@ impl Keeper for Noted {
     }
 }
 
-// All lines are with the keeper, and each worker told it once at least that no order was at hand: at the end.
-fn keeps<R: Abort + Threads + Wait + Sync>(rt: &R, alloc: Global, messages: &[u8], workers: u32) {
+impl Noted {
+    fn new(alloc: Global) -> Noted
+        ensures { result.lines.items ≡ [] }
+    {
+        Noted {
+            lines: Lines::new(alloc),
+            pauses: 0,
+        }
+    }
+}
+
+fn serve_noted<R: Threads + Wait + Sync>(
+    rt: &R,
+    alloc: Global,
+    messages: &[u8],
+    out: &mut Vec<u8>,
+    workers: u32,
+) -> Kept<Noted> {
     let mut input = messages;
-    let mut out = Vec::new(alloc);
-    let noted = Noted {
-        lines: Lines::new(alloc),
-        pauses: 0,
-    };
-    let kept = serve_over(
-        rt,
-        alloc,
-        &mut input,
-        &mut out,
-        of_workers(workers),
-        Rules::standard(),
-        &OpenGate,
-        noted,
-    );
+    let rules = Rules::standard();
+    let workers = of_workers(workers);
+    let noted = Noted::new(alloc);
+    serve_over(rt, alloc, &mut input, out, workers, rules, &OpenGate, noted)
+}
+
+// Each worker told the keeper once at least that no order was at hand: at the end.
+fn done_of(rt: &impl Abort, kept: Kept<Noted>, workers: u32) -> Done {
     let Kept {
         keeper,
         fault,
         refused,
     } = kept;
-    assert!(rt; fault.is_none() && !refused);
     let Noted { lines, pauses } = keeper.expect(rt, "a keeper");
     assert!(rt; pauses >= workers);
-    let history = History::of(lines);
-    assert_eq!(rt; history.len(), 40);
-    is_legal(rt, alloc, &history);
-    replied(rt, alloc, &out, 21, workers);
+    Done {
+        history: History::of(lines),
+        fault,
+        refused,
+    }
+}
+
+fn came_of<R: Abort + Threads + Wait + Sync>(
+    rt: &R,
+    alloc: Global,
+    messages: &[u8],
+    workers: u32,
+) -> Came {
+    let mut out = Vec::new(alloc);
+    let kept = serve_noted(rt, alloc, messages, &mut out, workers);
+    let done = done_of(rt, kept, workers);
+    Came { done, out }
+}
+
+// All lines are with the keeper.
+fn keeps<R: Abort + Threads + Wait + Sync>(rt: &R, alloc: Global, messages: &[u8], workers: u32) {
+    let came = came_of(rt, alloc, messages, workers);
+    ended(rt, alloc, &came, None, (40, 21), workers);
 }
 
 #[test]
 fn lines_go_to_a_keeper(rt: HostRuntime) {
-    let messages = twenty_orders(rt.alloc()).expect(&rt, "memory");
+    let messages = twenty_orders(&rt, rt.alloc());
     for workers in [1, 4] {
         keeps(&rt, rt.alloc(), &messages.bytes, workers);
     }

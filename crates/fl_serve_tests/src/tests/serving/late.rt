@@ -1,9 +1,10 @@
 //! Orders that are held up until a DESTROY was read.
 
 use super::ends::{end_last, twenty_orders_and_a_destroy};
-use super::served;
+use super::{Came, served};
+use fl_book::Rules;
 use fl_serve::Gate;
-use fl_testing::{Messages, Source, Trouble};
+use fl_testing::{Source, Trouble};
 use std::alloc::Global;
 use std::io;
 use std::io::Read;
@@ -12,31 +13,14 @@ use std::sync::Wait;
 use std::sync::atomic::{AtomicBool, Ordering};
 use std::thread::{Threads, yield_now};
 
-// Says when the last byte was read.
-#[derive(Drop)]
-struct Watched<'a, 'f> {
-    source: Source<'a>,
-    all_read: &'f AtomicBool,
-}
-
-impl Read for Watched<'_, '_> {
-    fn read(&mut self, buf: &mut [u8]) -> io::Result<usize> {
-        let n = self.source.read(buf)?;
-        if self.source.bytes.is_empty() {
-            self.all_read.store(true, Ordering::SeqCst);
-        }
-        Ok(n)
-    }
-}
-
 // Holds each order until the last byte was read, and a while longer.
 #[derive(Drop)]
-struct Late<'f> {
-    all_read: &'f AtomicBool,
+struct Late {
+    all_read: AtomicBool,
     given_up: AtomicBool,
 }
 
-impl Gate for Late<'_> {
+impl Gate for Late {
     fn pass(&self, _unique: u64) {
         for _ in 0..10_000_000 {
             if self.all_read.load(Ordering::SeqCst) {
@@ -53,33 +37,59 @@ impl Gate for Late<'_> {
     fn sent(&self, _unique: u64) {}
 }
 
-// The DESTROY is read by itself, behind all others, whose orders are held up until then.
+// Tells the gate when the last byte was read.
+#[derive(Drop)]
+struct Watched<'a, 'g> {
+    source: Source<'a>,
+    gate: &'g Late,
+}
+
+impl Read for Watched<'_, '_> {
+    fn read(&mut self, buf: &mut [u8]) -> io::Result<usize> {
+        let n = self.source.read(buf)?;
+        if self.source.bytes.is_empty() {
+            self.gate.all_read.store(true, Ordering::SeqCst);
+        }
+        Ok(n)
+    }
+}
+
+// The last message is read by itself, behind all others, whose orders are held up until then.
+fn serve_late<R: Threads + Wait + Sync>(
+    rt: &R,
+    alloc: Global,
+    messages: &[u8],
+    workers: u32,
+    gate: &Late,
+) -> Came {
+    let most = messages.len().saturating_sub(40);
+    let mut input = Watched {
+        source: Source::new(messages, most, Trouble::none()),
+        gate,
+    };
+    served(rt, alloc, &mut input, workers, Rules::standard(), gate)
+}
+
+// The DESTROY waits for all of them.
 fn waits_for_all<R: Abort + Threads + Wait + Sync>(
     rt: &R,
     alloc: Global,
-    messages: Messages,
+    messages: &[u8],
     workers: u32,
 ) {
-    let all_read = AtomicBool::new(false);
     let gate = Late {
-        all_read: &all_read,
+        all_read: AtomicBool::new(false),
         given_up: AtomicBool::new(false),
     };
-    let most = messages.bytes.len().saturating_sub(40);
-    let mut input = Watched {
-        source: Source::new(&messages.bytes, most, Trouble::none()),
-        all_read: &all_read,
-    };
-    let mut out = Vec::new(alloc);
-    let done = served(rt, alloc, &mut input, &mut out, workers, &gate);
+    let came = serve_late(rt, alloc, messages, workers, &gate);
     assert!(rt; !gate.given_up.load(Ordering::SeqCst));
-    end_last(rt, alloc, &done, &out, workers);
+    end_last(rt, alloc, &came, workers);
 }
 
 #[test]
 fn destroy_waits_for_orders_that_are_held_up(rt: HostRuntime) {
+    let messages = twenty_orders_and_a_destroy(&rt, rt.alloc());
     for workers in [1, 4, 16] {
-        let messages = twenty_orders_and_a_destroy(rt.alloc()).expect(&rt, "memory");
-        waits_for_all(&rt, rt.alloc(), messages, workers);
+        waits_for_all(&rt, rt.alloc(), &messages.bytes, workers);
     }
 }

@@ -12,51 +12,50 @@ use std::sync::Wait;
 use std::sync::atomic::{AtomicBool, Ordering};
 use std::thread::{Threads, yield_now};
 
-// INIT, CREATE, a write lock of bytes 0 to 9 by owner 7, and a read lock of byte 9 by owner 8.
-fn four_messages(alloc: Global) -> Result<Messages, AllocError> {
-    let mut messages = Messages::with_init(alloc)?;
-    messages.create(2, 0)?;
-    let write = Lock {
-        end: 9,
-        ..byte_lock(7, WRITE)
-    };
-    messages.lock(SETLK, 3, 2, &write)?;
-    let read = Lock {
-        start: 9,
-        end: 9,
-        ..byte_lock(8, READ)
-    };
-    messages.lock(SETLK, 4, 2, &read)?;
-    Ok(messages)
+// A write lock of bytes 0 to 9 by owner 7.
+const TEN_BYTES: Lock = Lock {
+    fh: 1,
+    owner: 7,
+    start: 0,
+    end: 9,
+    kind: WRITE,
+};
+
+// A read lock of byte 9 by owner 8.
+const LAST_BYTE: Lock = Lock {
+    fh: 1,
+    owner: 8,
+    start: 9,
+    end: 9,
+    kind: READ,
+};
+
+// INIT, CREATE and both locks.
+fn four_messages(rt: &impl Abort, alloc: Global) -> Messages {
+    let mut messages = Messages::with_init(alloc).expect(rt, "memory");
+    messages.create(2, 0).expect(rt, "memory");
+    messages.lock(SETLK, 3, 2, &TEN_BYTES).expect(rt, "memory");
+    messages.lock(SETLK, 4, 2, &LAST_BYTE).expect(rt, "memory");
+    messages
 }
 
 // With several workers the locks may come before the CREATE.
 fn answers_once<R: Abort + Threads + Wait + Sync>(
     rt: &R,
     alloc: Global,
-    messages: &Messages,
+    messages: &[u8],
     workers: u32,
 ) {
-    let came = serve_bytes(rt, alloc, &messages.bytes, workers);
-    ended(rt, alloc, &came.done, None, 6, workers);
-    assert!(rt; !came.done.refused);
-    are_one_to_four(rt, &sorted(rt, alloc, &came.out));
-}
-
-fn are_one_to_four(rt: &impl Abort, replies: &[Reply]) {
-    let mut unique = 0u64;
-    for reply in replies {
-        unique = unique.wrapping_add(1);
-        assert_eq!(rt; reply.0, unique);
-    }
-    assert_eq!(rt; unique, 4);
+    let came = serve_bytes(rt, alloc, messages, workers);
+    ended(rt, alloc, &came, None, (6, 4), workers);
+    are_theirs(rt, &sorted(rt, alloc, &came.out), 4, false);
 }
 
 #[test]
 fn each_order_is_answered_once(rt: HostRuntime) {
-    let messages = four_messages(rt.alloc()).expect(&rt, "memory");
+    let messages = four_messages(&rt, rt.alloc());
     for workers in [1, 2, 4, 16] {
-        answers_once(&rt, rt.alloc(), &messages, workers);
+        answers_once(&rt, rt.alloc(), &messages.bytes, workers);
     }
 }
 
@@ -76,7 +75,7 @@ fn has_trace(rt: &impl Abort, alloc: Global, history: &History, wanted: &str) {
 
 #[test]
 fn one_worker_takes_orders_as_they_came(rt: HostRuntime) {
-    let messages = four_messages(rt.alloc()).expect(&rt, "memory");
+    let messages = four_messages(&rt, rt.alloc());
     let came = serve_bytes(&rt, rt.alloc(), &messages.bytes, 1);
     has_trace(&rt, rt.alloc(), &came.done.history, TRACE);
 }
@@ -104,12 +103,20 @@ fn unlock(messages: &mut Messages) -> Result<(), AllocError> {
 }
 
 // INIT, CREATE, and parked requests, are interrupted, and are granted.
-fn with_waiters(alloc: Global) -> Result<Messages, AllocError> {
-    let mut messages = four_messages(alloc)?;
-    wait(&mut messages)?;
-    interrupt(&mut messages)?;
-    unlock(&mut messages)?;
-    Ok(messages)
+fn with_waiters(rt: &impl Abort, alloc: Global) -> Messages {
+    let mut messages = four_messages(rt, alloc);
+    wait(&mut messages).expect(rt, "memory");
+    interrupt(&mut messages).expect(rt, "memory");
+    unlock(&mut messages).expect(rt, "memory");
+    messages
+}
+
+// What a session without workers comes to.
+fn run_alone(alloc: Global, messages: &[u8]) -> Came {
+    let mut input = messages;
+    let mut out = Vec::new(alloc);
+    let done = run_one(alloc, &mut input, &mut out, Rules::standard());
+    Came { done, out }
 }
 
 fn are_alike(rt: &impl Abort, found: &History, wanted: &History) {
@@ -123,39 +130,50 @@ fn is_line(rt: &impl Abort, found: &Line, wanted: &Line) {
     assert_eq!(rt; *found, *wanted);
 }
 
+fn came_alike(rt: &impl Abort, came: &Came, wanted: &Came) {
+    are_bytes(rt, &came.out, &wanted.out);
+    fault_is(rt, came.done.fault, None);
+    are_alike(rt, &came.done.history, &wanted.done.history);
+}
+
+fn serves_alike<R: Abort + Threads + Wait + Sync>(rt: &R, alloc: Global, messages: &[u8]) {
+    let came = serve_bytes(rt, alloc, messages, 1);
+    came_alike(rt, &came, &run_alone(alloc, messages));
+}
+
 // What one worker sends and records is what a session without workers sends and records, where no order only reads.
 #[test]
 fn one_worker_sends_the_same_bytes(rt: HostRuntime) {
-    let messages = with_waiters(rt.alloc()).expect(&rt, "memory");
-    let Came { done, out } = serve_bytes(&rt, rt.alloc(), &messages.bytes, 1);
-    let mut alone = Vec::new(rt.alloc());
-    let mut input = messages.bytes.as_slice();
-    let wanted = run_one(rt.alloc(), &mut input, &mut alone, Rules::standard());
-    are_bytes(&rt, &out, &alone);
-    fault_is(&rt, done.fault, None);
-    are_alike(&rt, &done.history, &wanted.history);
+    let messages = with_waiters(&rt, rt.alloc());
+    serves_alike(&rt, rt.alloc(), &messages.bytes);
 }
 
 // The four messages, and then a GETLK and a GETATTR.
-fn with_looks(alloc: Global) -> Result<Messages, AllocError> {
-    let mut messages = four_messages(alloc)?;
-    messages.lock(GETLK, 5, 2, &byte_lock(8, WRITE))?;
-    messages.getattr(6, 2)?;
-    Ok(messages)
+fn with_looks(rt: &impl Abort, alloc: Global) -> Messages {
+    let mut messages = four_messages(rt, alloc);
+    let write = byte_lock(8, WRITE);
+    messages.lock(GETLK, 5, 2, &write).expect(rt, "memory");
+    messages.getattr(6, 2).expect(rt, "memory");
+    messages
+}
+
+fn has_looked(rt: &impl Abort, alloc: Global, came: &Came, wanted: &Came) {
+    are_bytes(rt, &came.out, &wanted.out);
+    count_is(rt, wanted.done.history.len(), 10);
+    has_trace(rt, alloc, &came.done.history, TRACE);
+}
+
+fn looks<R: Abort + Threads + Wait + Sync>(rt: &R, alloc: Global, messages: &[u8]) {
+    let came = serve_bytes(rt, alloc, messages, 1);
+    has_looked(rt, alloc, &came, &run_alone(alloc, messages));
 }
 
 // A worker is shown all that it handed in. What it looks for is answered as a session without workers answers it, and is
 // no line of the history.
 #[test]
 fn looks_are_answered_and_are_no_lines(rt: HostRuntime) {
-    let messages = with_looks(rt.alloc()).expect(&rt, "memory");
-    let Came { done, out } = serve_bytes(&rt, rt.alloc(), &messages.bytes, 1);
-    let mut alone = Vec::new(rt.alloc());
-    let mut input = messages.bytes.as_slice();
-    let wanted = run_one(rt.alloc(), &mut input, &mut alone, Rules::standard());
-    are_bytes(&rt, &out, &alone);
-    count_is(&rt, wanted.history.len(), 10);
-    has_trace(&rt, rt.alloc(), &done.history, TRACE);
+    let messages = with_looks(&rt, rt.alloc());
+    looks(&rt, rt.alloc(), &messages.bytes);
 }
 
 // A lock of an open file that isn't there.
@@ -179,10 +197,10 @@ fn alike(messages: &mut Messages, unique: u64) -> Result<(), AllocError> {
     }
 }
 
-// The number of its error: ENOENT, EBADF, EAGAIN and ENOSYS, or none.
+// The number of its error: ENOENT, EBADF, EAGAIN and ENOSYS, or none. The unique 1 is that of the INIT.
 fn error_of(unique: u64) -> u32 {
     match unique % 6 {
-        1 => 2,
+        1 if unique > 1 => 2,
         2 => 9,
         3 => 11,
         5 => 38,
@@ -190,48 +208,42 @@ fn error_of(unique: u64) -> u32 {
     }
 }
 
-fn six_hundred(alloc: Global) -> Result<Messages, AllocError> {
-    let mut messages = Messages::with_init(alloc)?;
+fn six_hundred(rt: &impl Abort, alloc: Global) -> Messages {
+    let mut messages = Messages::with_init(alloc).expect(rt, "memory");
     for unique in 2..602 {
-        alike(&mut messages, unique)?;
+        alike(&mut messages, unique).expect(rt, "memory");
     }
-    Ok(messages)
+    messages
 }
 
-// Their replies, and the INIT's before them.
-fn wanted_replies(alloc: Global) -> Result<Vec<Reply>, AllocError> {
-    let mut wanted = Vec::new(alloc);
-    wanted.push((1, 0))?;
-    for unique in 2..602 {
-        wanted.push((unique, error_of(unique)))?;
+// The replies of the uniques from 1 to this one, with their errors where these are known.
+fn are_theirs(rt: &impl Abort, found: &[Reply], last: u64, known: bool) {
+    let mut unique = 1u64;
+    for reply in found {
+        assert_eq!(rt; reply.0, unique);
+        assert!(rt; !known || reply.1 == error_of(unique));
+        unique = unique.wrapping_add(1);
     }
-    Ok(wanted)
+    assert_eq!(rt; unique, last.wrapping_add(1));
 }
 
 fn are_answered<R: Abort + Threads + Wait + Sync>(
     rt: &R,
     alloc: Global,
-    messages: &Messages,
-    wanted: &[Reply],
+    messages: &[u8],
     workers: u32,
 ) {
-    let came = serve_bytes(rt, alloc, &messages.bytes, workers);
+    let came = serve_bytes(rt, alloc, messages, workers);
     // GETATTR is no line.
-    ended(rt, alloc, &came.done, None, 800, workers);
-    let found = sorted(rt, alloc, &came.out);
-    are_replies(rt, &found, wanted);
-}
-
-fn are_replies(rt: &impl Abort, found: &[Reply], wanted: &[Reply]) {
-    assert_eq!(rt; found, wanted);
+    ended(rt, alloc, &came, None, (800, 601), workers);
+    are_theirs(rt, &sorted(rt, alloc, &came.out), 601, true);
 }
 
 #[test]
 fn answers_that_are_alike_for_all_workers(rt: HostRuntime) {
-    let messages = six_hundred(rt.alloc()).expect(&rt, "memory");
-    let wanted = wanted_replies(rt.alloc()).expect(&rt, "memory");
+    let messages = six_hundred(&rt, rt.alloc());
     for workers in [1, 2, 4, 16] {
-        are_answered(&rt, rt.alloc(), &messages, &wanted, workers);
+        are_answered(&rt, rt.alloc(), &messages.bytes, workers);
     }
 }
 
@@ -262,18 +274,24 @@ impl Gate for Crossing {
     }
 }
 
-// The first order is taken last.
-fn has_crossed(rt: &impl Abort, alloc: Global, history: &History) {
-    let trace = print_trace(alloc, history).expect(rt, "memory");
-    assert!(rt; trace.as_str().contains("tell 2 made 3 33188 1 0 0 2"));
-    assert!(rt; trace.as_str().contains("tell 3 made 2 33188 1 0 0 1"));
+fn two_files(rt: &impl Abort, alloc: Global) -> Messages {
+    let mut messages = Messages::with_init(alloc).expect(rt, "memory");
+    messages.create(2, 0).expect(rt, "memory");
+    messages.create(3, 1).expect(rt, "memory");
+    messages
 }
 
-fn two_files(alloc: Global) -> Result<Messages, AllocError> {
-    let mut messages = Messages::with_init(alloc)?;
-    messages.create(2, 0)?;
-    messages.create(3, 1)?;
-    Ok(messages)
+// The first order is taken last.
+fn are_crossed(rt: &impl Abort, trace: &str) {
+    assert!(rt; trace.contains("tell 2 made 3 33188 1 0 0 2"));
+    assert!(rt; trace.contains("tell 3 made 2 33188 1 0 0 1"));
+}
+
+fn has_crossed(rt: &impl Abort, alloc: Global, came: &Came) {
+    ended(rt, alloc, came, None, (4, 3), 2);
+    let trace = print_trace(alloc, &came.done.history).expect(rt, "memory");
+    are_crossed(rt, trace.as_str());
+    count_is(rt, came.out.len(), 400);
 }
 
 // Two workers take both orders, the second before the first.
@@ -282,17 +300,14 @@ fn cross<R: Abort + Threads + Wait + Sync>(rt: &R, alloc: Global, messages: &[u8
         sent: AtomicBool::new(false),
         given_up: AtomicBool::new(false),
     };
-    let mut out = Vec::new(alloc);
     let mut input = messages;
-    let done = served(rt, alloc, &mut input, &mut out, 2, &gate);
+    let came = served(rt, alloc, &mut input, 2, Rules::standard(), &gate);
     assert!(rt; !gate.given_up.load(Ordering::SeqCst));
-    ended(rt, alloc, &done, None, 4, 2);
-    has_crossed(rt, alloc, &done.history);
-    count_is(rt, out.len(), 400);
+    has_crossed(rt, alloc, &came);
 }
 
 #[test]
 fn two_workers_run_at_once(rt: HostRuntime) {
-    let messages = two_files(rt.alloc()).expect(&rt, "memory");
+    let messages = two_files(&rt, rt.alloc());
     cross(&rt, rt.alloc(), &messages.bytes);
 }
