@@ -11,10 +11,12 @@ mod sockets;
 mod talker;
 mod waiting;
 
+use clients::Met;
 use fl_book::{History, Line, Rules, Verdict, check};
 use fl_serve::{Done, Fault, Gate, serve};
-use fl_testing::of_workers;
+use fl_testing::{Messages, of_workers};
 use std::alloc::Global;
+use std::io::Write;
 use std::net::Net;
 use std::os::unix::net::UnixStream;
 use std::process::Abort;
@@ -36,37 +38,41 @@ fn socket_pair(rt: &(impl Abort + Net)) -> (UnixStream, UnixStream) {
     UnixStream::pair(rt).expect(rt, "a socket")
 }
 
+// Sends these messages, and takes them out.
+fn send(rt: &impl Abort, stream: &UnixStream, messages: &mut Messages) {
+    let mut out = stream;
+    out.write_all(&messages.bytes).expect(rt, "a write");
+    messages.bytes.clear();
+}
+
 // Serves a client at the other end of a socket under the standard rules with this many workers.
 fn serve_stream<R: Threads + Wait + Sync, G: Gate + Sync>(
     rt: &R,
     alloc: Global,
-    stream: UnixStream,
+    stream: &UnixStream,
     workers: u32,
     gate: &G,
 ) -> Done {
+    let mut input = stream;
+    let mut output = stream;
     let rules = Rules::standard();
     serve(
         rt,
         alloc,
-        &mut &stream,
-        &mut &stream,
+        &mut input,
+        &mut output,
         of_workers(workers),
         rules,
         gate,
     )
 }
 
-// A session ended with this fault, after a legal history of so many lines.
-fn ended(
-    rt: &impl Abort,
-    alloc: Global,
-    done: &Done,
-    fault: Option<Fault>,
-    lines: usize,
-    workers: u32,
-) {
-    assert_eq!(rt; done.fault, fault, "{workers} workers");
-    assert_eq!(rt; done.history.len(), lines, "{workers} workers");
+// A session ended without a fault, after a legal history of so many lines, and its client counted so many replies.
+fn ended(rt: &impl Abort, alloc: Global, met: &Met, counts: (usize, usize), workers: u32) {
+    let done = &met.done;
+    fault_is(rt, done.fault, None);
+    let found = (done.history.len(), met.replies);
+    assert_eq!(rt; found, counts, "{workers} workers");
     is_legal(rt, alloc, &done.history);
 }
 

@@ -39,24 +39,27 @@ impl Gate for Meeting {
 
 // Orders of so many uniques from one on.
 fn fill(rt: &impl Abort, burst: &mut Messages, from: u64, size: u32) {
-    burst.bytes.clear();
     for at in 0..size {
         let unique = from.saturating_add(u64::from(at));
         burst.seek(unique).expect(rt, "memory");
     }
 }
 
+// Sends a burst, and takes all replies to it.
+fn send_burst(rt: &impl Abort, talker: &mut Talker<'_>, from: u64, size: u32) {
+    fill(rt, &mut talker.messages, from, size);
+    talker.send(rt);
+    for _ in 0..size {
+        talker.reply(rt);
+    }
+}
+
 /// Sends 100 bursts, each as soon as all replies to the one before have come, so that a worker looks and others sleep.
-pub(super) fn send_bursts(rt: &impl Abort, alloc: Global, stream: UnixStream, size: u32) -> usize {
+pub(super) fn send_bursts(rt: &impl Abort, alloc: Global, stream: &UnixStream, size: u32) -> usize {
     let mut talker = Talker::start(rt, alloc, stream);
-    let mut burst = talker.messages();
     let mut from = 2u64;
     for _ in 0..100 {
-        fill(rt, &mut burst, from, size);
-        talker.send(rt, &burst);
-        for _ in 0..size {
-            talker.reply(rt);
-        }
+        send_burst(rt, &mut talker, from, size);
         from = from.saturating_add(u64::from(size));
     }
     talker.end(rt)

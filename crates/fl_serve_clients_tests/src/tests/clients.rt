@@ -44,7 +44,7 @@ fn talk<R: Abort + Threads + Clock + CpuClock + Sync>(
     rt: &R,
     alloc: Global,
     client: Client,
-    stream: UnixStream,
+    stream: &UnixStream,
 ) -> usize {
     match client {
         Client::Bursts(size) => bursts::send_bursts(rt, alloc, stream, size),
@@ -53,8 +53,8 @@ fn talk<R: Abort + Threads + Clock + CpuClock + Sync>(
         Client::Looks => sockets::shown_locks(rt, alloc, stream),
         Client::SendsOneByOne => sockets::one_at_a_time(rt, alloc, stream),
         Client::LeavesRequests => waiting::ask_and_go(rt, alloc, stream),
-        Client::ReadsLate => piles::pile_up(rt, alloc, &stream),
-        Client::SendsAMillion => million::send_and_count(rt, alloc, &stream),
+        Client::ReadsLate => piles::pile_up(rt, alloc, stream),
+        Client::SendsAMillion => million::send_and_count(rt, alloc, stream),
     }
 }
 
@@ -69,8 +69,8 @@ pub(super) fn session<R: Abort + Threads + Wait + Net + Clock + CpuClock + Sync,
     let (near, far) = socket_pair(rt);
     let (replies, done) = thread::join(
         rt,
-        move || talk(rt, alloc, client, near),
-        move || serve_stream(rt, alloc, far, workers, gate),
+        move || talk(rt, alloc, client, &near),
+        move || serve_stream(rt, alloc, &far, workers, gate),
     );
     Met { done, replies }
 }

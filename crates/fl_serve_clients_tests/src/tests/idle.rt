@@ -10,22 +10,26 @@ use std::process::Abort;
 use std::thread;
 use std::time::{Clock, CpuClock, Duration};
 
-/// In a second in which the client asks nothing, the process uses less than 20 milliseconds of processor time.
+/// Asks nothing for a second, in which the process uses next to no processor time.
 pub(super) fn ask_nothing<R: Abort + Clock + CpuClock>(
     rt: &R,
     alloc: Global,
-    stream: UnixStream,
+    stream: &UnixStream,
 ) -> usize {
     let mut talker = Talker::start(rt, alloc, stream);
-    let mut message = talker.messages();
-    message.create(2, 0).expect(rt, "memory");
-    talker.ask(rt, &message, 2);
+    talker.messages.create(2, 0).expect(rt, "memory");
+    talker.ask(rt, 2);
+    sleep_idly(rt);
+    talker.end(rt)
+}
+
+// In a second the process uses less than 20 milliseconds of processor time.
+fn sleep_idly<R: Abort + Clock + CpuClock>(rt: &R) {
     thread::sleep(rt, Duration::from_millis(100));
     let before = rt.process_cpu_time().expect(rt, "a clock");
     thread::sleep(rt, Duration::from_secs(1));
     let after = rt.process_cpu_time().expect(rt, "a clock");
     assert!(rt; after.saturating_sub(before).as_millis() < 20);
-    talker.end(rt)
 }
 
 // Each test runs in a process of its own.

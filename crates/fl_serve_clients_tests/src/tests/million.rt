@@ -2,11 +2,11 @@
 
 use super::clients::{Client, Met, session};
 use super::replies::{MOST_BODY, next_reply};
-use super::{asked_in, count_is, fault_is, is_legal};
+use super::{asked_in, count_is, fault_is, is_legal, send};
 use fl_serve::OpenGate;
 use fl_testing::{GETLK, Lock, Messages, READ, SETLK, SETLKW, UNLOCK, WRITE};
 use std::alloc::{AllocError, Global};
-use std::io::{BufReader, Write};
+use std::io::{BufReader, Read};
 use std::net::Shutdown;
 use std::os::unix::net::UnixStream;
 use std::process::Abort;
@@ -97,14 +97,12 @@ fn put_orders(messages: &mut Messages, from: u64, orders: u64) -> Result<(), All
 
 // Sends INIT, CREATE and all orders, many together.
 fn send_all(rt: &impl Abort, alloc: Global, stream: &UnixStream) {
-    let mut out = stream;
     let mut messages = Messages::with_init(alloc).expect(rt, "memory");
     messages.create(2, 0).expect(rt, "memory");
     for part in 0..ORDERS / TOGETHER {
         let from = FIRST + part * TOGETHER;
         put_orders(&mut messages, from, TOGETHER).expect(rt, "memory");
-        out.write_all(&messages.bytes).expect(rt, "a write");
-        messages.bytes.clear();
+        send(rt, stream, &mut messages);
     }
     stream.shutdown(Shutdown::Write).expect(rt, "a socket");
 }
@@ -117,6 +115,14 @@ struct Counted {
 }
 
 impl Counted {
+    fn none(rt: &impl Abort, alloc: Global) -> Counted {
+        let of_unique = vec![in alloc; 0; (FIRST + ORDERS) as usize];
+        Counted {
+            of_unique: of_unique.expect(rt, "memory"),
+            all: 0,
+        }
+    }
+
     fn count(&mut self, unique: u64) {
         self.all = self.all.saturating_add(1);
         if let Some(found) = self.of_unique.get_mut(unique as usize) {
@@ -149,21 +155,21 @@ impl Counted {
 }
 
 // Counts replies up to the stream's end.
-fn count_replies(rt: &impl Abort, alloc: Global, stream: &UnixStream) -> Counted {
-    let of_unique = vec![in alloc; 0; (FIRST + ORDERS) as usize];
-    let mut counted = Counted {
-        of_unique: of_unique.expect(rt, "memory"),
-        all: 0,
-    };
+fn count_each<R: Read>(rt: &impl Abort, r: &mut R, counted: &mut Counted) {
     let mut room = [0; MOST_BODY];
-    let replies = BufReader::with_capacity(alloc, 65_536, stream);
-    let mut replies = replies.expect(rt, "memory");
     for _ in 0..u64::MAX {
-        match next_reply(rt, &mut replies, &mut room) {
+        match next_reply(rt, r, &mut room) {
             Some(reply) => counted.count(reply.0),
             None => break,
         }
     }
+}
+
+fn count_replies(rt: &impl Abort, alloc: Global, stream: &UnixStream) -> Counted {
+    let replies = BufReader::with_capacity(alloc, 65_536, stream);
+    let mut replies = replies.expect(rt, "memory");
+    let mut counted = Counted::none(rt, alloc);
+    count_each(rt, &mut replies, &mut counted);
     counted
 }
 

@@ -1,12 +1,11 @@
 //! A client that doesn't read its replies for a long time.
 
 use super::clients::{Client, Met, session};
-use super::replies::read_replies;
-use super::{count_is, fault_is};
+use super::replies::count_replies;
+use super::{count_is, fault_is, send};
 use fl_serve::OpenGate;
 use fl_testing::Messages;
 use std::alloc::Global;
-use std::io::Write;
 use std::net::Shutdown;
 use std::os::unix::net::UnixStream;
 use std::process::Abort;
@@ -20,14 +19,12 @@ const MANY: u64 = 10_000;
 
 // Sends INIT, CREATE and 10,000 LOOKUPs, and counts those that went out.
 fn send_many(rt: &impl Abort, alloc: Global, stream: &UnixStream, sent: &AtomicU64) {
-    let mut out = stream;
     let mut message = Messages::with_init(alloc).expect(rt, "memory");
     message.create(2, 0).expect(rt, "memory");
-    out.write_all(&message.bytes).expect(rt, "a write");
+    send(rt, stream, &mut message);
     for unique in 3..MANY + 3 {
-        message.bytes.clear();
         message.lookup(unique, 0).expect(rt, "memory");
-        out.write_all(&message.bytes).expect(rt, "a write");
+        send(rt, stream, &mut message);
         sent.fetch_add(1, Ordering::SeqCst);
     }
     stream.shutdown(Shutdown::Write).expect(rt, "a socket");
@@ -48,18 +45,13 @@ fn stands_still(clock: &impl Clock, sent: &AtomicU64) -> u64 {
 }
 
 // Reads only when the sender stands still, when some LOOKUPs went out, and not all. Says how many replies came.
-fn read_late<R: Abort + Clock>(
-    rt: &R,
-    alloc: Global,
-    stream: &UnixStream,
-    sent: &AtomicU64,
-) -> usize {
+fn read_late<R: Abort + Clock>(rt: &R, stream: &UnixStream, sent: &AtomicU64) -> usize {
     let before = stands_still(rt, sent);
     assert!(rt; 0 < before && before < MANY, "{before}");
     let mut reads = stream;
     let most = Some(Duration::from_secs(20));
     reads.set_read_timeout(most).expect(rt, "a socket");
-    read_replies(rt, alloc, &mut reads).len()
+    count_replies(rt, &mut reads)
 }
 
 /// Sends orders in one thread, and reads the replies in another.
@@ -72,7 +64,7 @@ pub(super) fn pile_up<R: Abort + Threads + Clock + Sync>(
     let ((), replies) = thread::join(
         rt,
         || send_many(rt, alloc, stream, &sent),
-        || read_late(rt, alloc, stream, &sent),
+        || read_late(rt, stream, &sent),
     );
     replies
 }

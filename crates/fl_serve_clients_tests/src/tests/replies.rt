@@ -1,7 +1,6 @@
 //! Replies that are read from a socket, each whole.
 
 use fl_testing::{Reply, reply_of, word_at};
-use std::alloc::Global;
 use std::io::Read;
 use std::process::Abort;
 
@@ -27,15 +26,15 @@ fn read_body<R: Read>(rt: &impl Abort, r: &mut R, len: u32, room: &mut [u8]) {
     r.read_exact(body).expect(rt, "a whole reply");
 }
 
-/// Reads whole replies up to the stream's end.
-pub(super) fn read_replies<R: Read>(rt: &impl Abort, alloc: Global, r: &mut R) -> Vec<Reply> {
+/// Says how many whole replies come up to the stream's end.
+pub(super) fn count_replies<R: Read>(rt: &impl Abort, r: &mut R) -> usize {
     let mut room = [0; MOST_BODY];
-    let mut replies = Vec::new(alloc);
+    let mut count = 0usize;
     for _ in 0..u64::MAX {
-        match next_reply(rt, r, &mut room) {
-            Some(reply) => replies.push(reply).expect(rt, "memory"),
-            None => break,
+        if next_reply(rt, r, &mut room).is_none() {
+            break;
         }
+        count = count.saturating_add(1);
     }
-    replies
+    count
 }

@@ -10,10 +10,9 @@ use std::os::unix::net::UnixStream;
 use std::process::Abort;
 
 // Makes a file, and says which node and which fh it has.
-fn make(rt: &impl Abort, talker: &mut Talker, name: u64) -> (u64, u64) {
-    let mut create = talker.messages();
-    create.create(2, name).expect(rt, "memory");
-    talker.ask(rt, &create, 2);
+fn make(rt: &impl Abort, talker: &mut Talker<'_>, name: u64) -> (u64, u64) {
+    talker.messages.create(2, name).expect(rt, "memory");
+    talker.ask(rt, 2);
     node_and_fh(&talker.body)
 }
 
@@ -21,8 +20,24 @@ fn node_and_fh(made: &[u8]) -> (u64, u64) {
     (long_at(made, 0), long_at(made, 128))
 }
 
+// Asks about bytes 0 to 9 of a file.
+fn ask_of_ten(
+    rt: &impl Abort,
+    talker: &mut Talker<'_>,
+    opcode: u32,
+    unique: u64,
+    node: u64,
+    lock: &Lock,
+) {
+    let messages = &mut talker.messages;
+    messages
+        .lock(opcode, unique, node, lock)
+        .expect(rt, "memory");
+    talker.ask(rt, unique);
+}
+
 // Sets a write lock of bytes 0 to 9 by owner 7, and asks for a read lock of the same by owner 8.
-fn set_and_get(rt: &impl Abort, talker: &mut Talker, node: u64, fh: u64) {
+fn set_and_get(rt: &impl Abort, talker: &mut Talker<'_>, node: u64, fh: u64) {
     let mut lock = Lock {
         fh,
         owner: 7,
@@ -30,23 +45,19 @@ fn set_and_get(rt: &impl Abort, talker: &mut Talker, node: u64, fh: u64) {
         end: 9,
         kind: WRITE,
     };
-    let mut set = talker.messages();
-    set.lock(SETLK, 3, node, &lock).expect(rt, "memory");
-    talker.ask(rt, &set, 3);
+    ask_of_ten(rt, talker, SETLK, 3, node, &lock);
     lock.owner = 8;
     lock.kind = READ;
-    let mut get = talker.messages();
-    get.lock(GETLK, 4, node, &lock).expect(rt, "memory");
-    talker.ask(rt, &get, 4);
+    ask_of_ten(rt, talker, GETLK, 4, node, &lock);
 }
 
 /// In each of 100 new files the lock that was set is shown to another owner.
-pub(super) fn shown_locks(rt: &impl Abort, alloc: Global, stream: UnixStream) -> usize {
+pub(super) fn shown_locks(rt: &impl Abort, alloc: Global, stream: &UnixStream) -> usize {
     let mut talker = Talker::start(rt, alloc, stream);
     for name in 0..100 {
         let (node, fh) = make(rt, &mut talker, name);
         set_and_get(rt, &mut talker, node, fh);
-        is_shown(rt, talker.body.as_slice());
+        is_shown(rt, &talker.body);
     }
     talker.end(rt)
 }
@@ -63,7 +74,7 @@ fn is_shown(rt: &impl Abort, shown: &[u8]) {
 fn a_lock_that_was_set_is_shown(rt: HostRuntime) {
     let met = session(&rt, rt.alloc(), Client::Looks, 4, &OpenGate);
     // GETLK is no line.
-    ended(&rt, rt.alloc(), &met.done, None, 400, 4);
+    ended(&rt, rt.alloc(), &met, (400, 0), 4);
 }
 
 // A lock, a GETATTR or an unlock of the file that was made first.
@@ -76,14 +87,12 @@ fn put_order(message: &mut Messages, unique: u64) -> Result<(), AllocError> {
 }
 
 /// Sends 10,000 orders, each when the reply before it came, and says how many more replies come.
-pub(super) fn one_at_a_time(rt: &impl Abort, alloc: Global, stream: UnixStream) -> usize {
+pub(super) fn one_at_a_time(rt: &impl Abort, alloc: Global, stream: &UnixStream) -> usize {
     let mut talker = Talker::start(rt, alloc, stream);
     make(rt, &mut talker, 0);
-    let mut message = talker.messages();
     for unique in 3..10_003 {
-        message.bytes.clear();
-        put_order(&mut message, unique).expect(rt, "memory");
-        talker.ask(rt, &message, unique);
+        put_order(&mut talker.messages, unique).expect(rt, "memory");
+        talker.ask(rt, unique);
     }
     talker.end(rt)
 }

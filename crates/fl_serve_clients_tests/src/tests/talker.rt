@@ -1,9 +1,10 @@
 //! A client over a socket.
 
-use super::replies::{MOST_BODY, next_reply, read_replies};
+use super::replies::{MOST_BODY, count_replies, next_reply};
+use super::send;
 use fl_testing::{Messages, Reply};
 use std::alloc::Global;
-use std::io::{BufReader, Write};
+use std::io::BufReader;
 use std::net::Shutdown;
 use std::os::unix::net::UnixStream;
 use std::process::Abort;
@@ -11,38 +12,33 @@ use std::time::Duration;
 
 /// A client of a session. It waits 20 seconds at most, and ends the process where anything fails.
 #[derive(Drop)]
-pub(super) struct Talker {
-    alloc: Global,
-    stream: UnixStream,
-    replies: BufReader<UnixStream>,
+pub(super) struct Talker<'a> {
+    stream: &'a UnixStream,
+    replies: BufReader<&'a UnixStream>,
+    /// The messages that are sent next.
+    pub messages: Messages,
     /// The body of the last reply, and zeros or what came before behind it.
-    pub body: Vec<u8>,
+    pub body: [u8; MOST_BODY],
 }
 
-impl Talker {
+impl<'a> Talker<'a> {
     /// A client whose INIT was agreed.
-    pub(super) fn start(rt: &impl Abort, alloc: Global, stream: UnixStream) -> Talker {
-        let most = Some(Duration::from_secs(20));
-        stream.set_read_timeout(most).expect(rt, "a socket");
-        stream.set_write_timeout(most).expect(rt, "a socket");
-        let reads = stream.try_clone().expect(rt, "a socket");
+    pub(super) fn start(rt: &impl Abort, alloc: Global, stream: &'a UnixStream) -> Talker<'a> {
+        waits_for_seconds(rt, stream);
+        let replies = BufReader::new(alloc, stream).expect(rt, "memory");
         let mut talker = Talker {
-            alloc,
-            replies: BufReader::new(alloc, reads).expect(rt, "memory"),
             stream,
-            body: vec![in alloc; 0; MOST_BODY].expect(rt, "memory"),
+            replies,
+            messages: Messages::with_init(alloc).expect(rt, "memory"),
+            body: [0; MOST_BODY],
         };
-        let init = Messages::with_init(alloc).expect(rt, "memory");
-        talker.ask(rt, &init, 1);
+        talker.ask(rt, 1);
         talker
     }
 
-    pub(super) fn messages(&self) -> Messages {
-        Messages::new(self.alloc)
-    }
-
-    pub(super) fn send(&mut self, rt: &impl Abort, messages: &Messages) {
-        self.stream.write_all(&messages.bytes).expect(rt, "a write");
+    /// Sends the messages that were put.
+    pub(super) fn send(&mut self, rt: &impl Abort) {
+        send(rt, self.stream, &mut self.messages);
     }
 
     /// The next reply.
@@ -50,21 +46,22 @@ impl Talker {
         next_reply(rt, &mut self.replies, &mut self.body).expect(rt, "a reply")
     }
 
-    /// The next reply has to be of this unique and without error.
-    pub(super) fn granted(&mut self, rt: &impl Abort, unique: u64) {
+    /// Sends one message, of this unique, and waits for its reply, which has to be without error.
+    pub(super) fn ask(&mut self, rt: &impl Abort, unique: u64) {
+        self.send(rt);
         let reply = self.reply(rt);
         assert_eq!(rt; reply, (unique, 0));
-    }
-
-    /// Sends one message and waits for its reply, which has to be without error.
-    pub(super) fn ask(&mut self, rt: &impl Abort, message: &Messages, unique: u64) {
-        self.send(rt, message);
-        self.granted(rt, unique);
     }
 
     /// Sends no more, and says how many replies come up to the stream's end.
     pub(super) fn end(&mut self, rt: &impl Abort) -> usize {
         self.stream.shutdown(Shutdown::Write).expect(rt, "a socket");
-        read_replies(rt, self.alloc, &mut self.replies).len()
+        count_replies(rt, &mut self.replies)
     }
+}
+
+fn waits_for_seconds(rt: &impl Abort, stream: &UnixStream) {
+    let most = Some(Duration::from_secs(20));
+    stream.set_read_timeout(most).expect(rt, "a socket");
+    stream.set_write_timeout(most).expect(rt, "a socket");
 }

@@ -9,34 +9,32 @@ use std::alloc::Global;
 use std::os::unix::net::UnixStream;
 use std::process::Abort;
 
-// Makes a file and sets a lock on its first byte.
-fn set_lock(rt: &impl Abort, talker: &mut Talker) {
-    let mut create = talker.messages();
-    create.create(2, 0).expect(rt, "memory");
-    talker.ask(rt, &create, 2);
-    let mut set = talker.messages();
-    let write = byte_lock(3, WRITE);
-    set.lock(SETLK, 3, 2, &write).expect(rt, "memory");
-    talker.ask(rt, &set, 3);
+// Asks for a write lock of a file's first byte, by the owner of the unique's number.
+fn put_lock(rt: &impl Abort, talker: &mut Talker<'_>, opcode: u32, unique: u64) {
+    let write = byte_lock(unique, WRITE);
+    let messages = &mut talker.messages;
+    messages
+        .lock(opcode, unique, 2, &write)
+        .expect(rt, "memory");
 }
 
-/// The lock is asked for by 200 other owners. Says how many replies come to these.
-pub(super) fn ask_and_go(rt: &impl Abort, alloc: Global, stream: UnixStream) -> usize {
+/// A lock is set on the first byte of a file, and asked for by 200 other owners. Says how many replies come to these.
+pub(super) fn ask_and_go(rt: &impl Abort, alloc: Global, stream: &UnixStream) -> usize {
     let mut talker = Talker::start(rt, alloc, stream);
-    set_lock(rt, &mut talker);
-    let mut waiting = talker.messages();
+    talker.messages.create(2, 0).expect(rt, "memory");
+    talker.ask(rt, 2);
+    put_lock(rt, &mut talker, SETLK, 3);
+    talker.ask(rt, 3);
     for unique in 4..204 {
-        let write = byte_lock(unique, WRITE);
-        waiting.lock(SETLKW, unique, 2, &write).expect(rt, "memory");
+        put_lock(rt, &mut talker, SETLKW, unique);
     }
-    talker.send(rt, &waiting);
+    talker.send(rt);
     talker.end(rt)
 }
 
 // CREATE, the first lock and 200 requests were asked, of which only the first two have a reply.
 fn has_no_replies(rt: &impl Abort, alloc: Global, met: &Met, workers: u32) {
-    ended(rt, alloc, &met.done, None, 204, workers);
-    count_is(rt, met.replies, 0);
+    ended(rt, alloc, met, (204, 0), workers);
     count_is(rt, asked_in(rt, alloc, &met.done.history).len(), 202);
 }
 
