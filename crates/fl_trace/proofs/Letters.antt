@@ -1,11 +1,11 @@
 -- The bytes of a trace: words of visible ASCII characters, with spaces between them.
 use Rattle.std.proofs.Common.{◌≡◌, ℕ, suc, ◌<◌, ◌≤◌, ◌^◌, ◌/◌, ◌%◌, inl, inr, Bool, true, false, ◌&&◌, List, [], ◌∷◌, length, get_or, All}
-use Rattle.std.proofs.Common.{slice_index, refl, arith, lit≤, lit<}
+use Rattle.std.proofs.Common.{◌++◌, slice_index, refl, sym, subst, arith, lit≤, lit<}
 use Rattle.std.proofs.Math.Dec.{leb, eqb}
 use Rattle.std.proofs.lemmas.Bool.{and_parts, leb-true, cases_lt, ne_eqb}
 use Rattle.std.proofs.lemmas.List.{get_or_default, get_or_past}
 use Rattle.std.proofs.lemmas.List.Elements.{All-cons, All-nil, All-append}
-use Rattle.std.proofs.lemmas.Str.{IsUtf8-from_ascii}
+use Rattle.std.proofs.lemmas.Str.{IsUtf8-append, IsUtf8-from_ascii}
 use Rattle.std.specs.Fmt.{decimal}
 use Rattle.std.specs.Str.{IsUtf8}
 use Rattle.std.specs.Str.Iter.{LacksByte}
@@ -98,3 +98,11 @@ letters_utf8 low bs letters = IsUtf8-from_ascii bs (λ i. elim (cases_lt i (leng
   | inr past ↦ rw
       (get_or_past bs i 0 past) (lit< tt)
 ])
+
+-- words behind a text make it no less one
+pub more_utf8 : (low : ℕ) (old new word : List ℕ) → AreLetters low word → new ≡ old ++ word → IsUtf8 old → IsUtf8 new
+more_utf8 low old new word letters is before = subst IsUtf8 (sym is) (IsUtf8-append old word before (letters_utf8 low word letters))
+
+pub name_utf8 : (old new name : List ℕ) → IsBytes name → new ≡ old ++ 32 ∷ name_text name → IsUtf8 old → IsUtf8 new
+name_utf8 old new name bytes = more_utf8 32 old new (32 ∷ name_text name)
+    (All-cons (IsLetter 32) 32 (name_text name) (lit≤ tt, lit< tt) (more_letters (name_text name) (name_word name bytes)))

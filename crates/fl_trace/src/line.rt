@@ -2,6 +2,7 @@
 
 ghost use Rattle.std.specs.Prelude.{◌≡◌, ◌+◌, ◌*◌, ◌≤◌, ◌<◌, ◌++◌, ◌∷◌, [], length, map, vec_capacity};
 ghost use Rattle.std.specs.Fmt.{decimal};
+ghost use Rattle.std.specs.Str.{IsUtf8};
 ghost use Rattle.fl_history.specs.declared.history.Line.TheVariants as line;
 ghost use Rattle.fl_order.specs.OpKind.{word_for};
 ghost use Rattle.fl_trace.specs.Text.{spaced, flag_text, name_text, lock_ask_text, fields_text, behind};
@@ -19,12 +20,13 @@ pub fn push_line(text: &mut Vec<u8>, line: &Line)
     ensures bytes { text.new.items ≡ text.old.items ++ (line_text line.now ++ 10 ∷ []) }
     ensures few { length text.new.items ≤ length text.old.items + 700 }
     ensures capacity { vec_capacity text.old ≤ vec_capacity text.new }
+    ensures utf8 { IsUtf8 text.old.items → IsUtf8 text.new.items }
 {
     match line {
         Line::Asked { worker, order } => push_asked(text, *worker, order),
         Line::Told(told) => push_told(text, told),
     }
-    push(text, b"\n");
+    push(text, "\n");
 }
 
 // The line of an order.
@@ -33,6 +35,7 @@ fn push_asked(text: &mut Vec<u8>, worker: u32, order: &Order)
     ensures bytes { text.new.items ≡ text.old.items ++ line_text (line.Asked worker order.now) }
     ensures few { length text.new.items ≤ length text.old.items + 690 }
     ensures capacity { vec_capacity text.old ≤ vec_capacity text.new }
+    ensures utf8 { IsUtf8 text.old.items → IsUtf8 text.new.items }
 {
     let Order {
         unique,
@@ -42,7 +45,7 @@ fn push_asked(text: &mut Vec<u8>, worker: u32, order: &Order)
         pid,
         op,
     } = order;
-    push(text, b"ask");
+    push(text, "ask");
     push_numbers(
         text,
         &[
@@ -63,20 +66,22 @@ fn push_told(text: &mut Vec<u8>, told: &Told)
     ensures bytes { text.new.items ≡ text.old.items ++ line_text (line.Told told.now) }
     ensures few { length text.new.items ≤ length text.old.items + 690 }
     ensures capacity { vec_capacity text.old ≤ vec_capacity text.new }
+    ensures utf8 { IsUtf8 text.old.items → IsUtf8 text.new.items }
 {
-    push(text, b"tell");
+    push(text, "tell");
     push_numbers(text, &[told.unique]);
     push_result(text, &told.result);
 }
 
-// Bytes behind those that are there.
-fn push(text: &mut Vec<u8>, bytes: &[u8])
-    requires room { length text.old.items + length bytes.now ≤ vec_capacity text.old }
-    ensures bytes { text.new.items ≡ text.old.items ++ bytes.now }
-    ensures few { length text.new.items ≤ length text.old.items + length bytes.now }
+// A word, a space or a newline, behind what is there.
+fn push(text: &mut Vec<u8>, word: &str)
+    requires room { length text.old.items + length word.now ≤ vec_capacity text.old }
+    ensures bytes { text.new.items ≡ text.old.items ++ word.now }
+    ensures few { length text.new.items ≤ length text.old.items + length word.now }
     ensures capacity { vec_capacity text.old ≤ vec_capacity text.new }
+    ensures utf8 { IsUtf8 text.old.items → IsUtf8 text.new.items }
 {
-    let _ = text.extend_from_slice(bytes);
+    let _ = text.extend_from_slice(word.as_bytes());
 }
 
 // A space and a number.
@@ -85,8 +90,9 @@ fn push_number(text: &mut Vec<u8>, number: u64)
     ensures bytes { text.new.items ≡ text.old.items ++ 32 ∷ decimal number }
     ensures few { length text.new.items ≤ length text.old.items + 21 }
     ensures capacity { vec_capacity text.old ≤ vec_capacity text.new }
+    ensures utf8 { IsUtf8 text.old.items → IsUtf8 text.new.items }
 {
-    push(text, b" ");
+    push(text, " ");
     push_digits(text, number);
 }
 
@@ -112,6 +118,7 @@ fn push_numbers(text: &mut Vec<u8>, numbers: &[u64])
     ensures bytes { text.new.items ≡ text.old.items ++ 32 ∷ spaced (map decimal numbers.now) }
     ensures few { length text.new.items ≤ length text.old.items + 21 * length numbers.now }
     ensures capacity { vec_capacity text.old ≤ vec_capacity text.new }
+    ensures utf8 { IsUtf8 text.old.items → IsUtf8 text.new.items }
 {
     for number in numbers {
         push_number(text, *number);
@@ -124,11 +131,12 @@ fn push_flag(text: &mut Vec<u8>, flag: bool)
     ensures bytes { text.new.items ≡ text.old.items ++ 32 ∷ flag_text flag }
     ensures few { length text.new.items ≤ length text.old.items + 2 }
     ensures capacity { vec_capacity text.old ≤ vec_capacity text.new }
+    ensures utf8 { IsUtf8 text.old.items → IsUtf8 text.new.items }
 {
     if flag {
-        push(text, b" 1");
+        push(text, " 1");
     } else {
-        push(text, b" 0");
+        push(text, " 0");
     }
 }
 
@@ -138,17 +146,18 @@ fn push_name(text: &mut Vec<u8>, name: &Name)
     ensures bytes { text.new.items ≡ text.old.items ++ 32 ∷ name_text name.now }
     ensures few { length text.new.items ≤ length text.old.items + 511 }
     ensures capacity { vec_capacity text.old ≤ vec_capacity text.new }
+    ensures utf8 { IsUtf8 text.old.items → IsUtf8 text.new.items }
 {
     let bytes = name.as_bytes();
     if bytes.is_empty() {
-        push(text, b" -");
+        push(text, " -");
         return;
     }
     let mut digits = [0; 510];
     let digits = &mut digits[..2 * bytes.len()];
     let _ = hex::encode_to_slice(bytes, digits);
-    push(text, b" ");
-    push(text, digits);
+    push(text, " ");
+    let _ = text.extend_from_slice(digits);
 }
 
 // A space, and the word of a kind.
@@ -157,9 +166,10 @@ fn push_word(text: &mut Vec<u8>, kind: OpKind)
     ensures bytes { text.new.items ≡ text.old.items ++ 32 ∷ word_for kind }
     ensures few { length text.new.items ≤ length text.old.items + 13 }
     ensures capacity { vec_capacity text.old ≤ vec_capacity text.new }
+    ensures utf8 { IsUtf8 text.old.items → IsUtf8 text.new.items }
 {
-    push(text, b" ");
-    push(text, kind.word().as_bytes());
+    push(text, " ");
+    push(text, kind.word());
 }
 
 // A space, and what is asked.
@@ -168,6 +178,7 @@ fn push_op(text: &mut Vec<u8>, op: &Op)
     ensures bytes { text.new.items ≡ text.old.items ++ 32 ∷ op_text op.now }
     ensures few { length text.new.items ≤ length text.old.items + 560 }
     ensures capacity { vec_capacity text.old ≤ vec_capacity text.new }
+    ensures utf8 { IsUtf8 text.old.items → IsUtf8 text.new.items }
 {
     let (kind, body) = op.parts();
     push_word(text, kind);
@@ -180,6 +191,7 @@ fn push_fields(text: &mut Vec<u8>, body: &Body)
     ensures bytes { text.new.items ≡ text.old.items ++ behind (fields_text body.now) }
     ensures few { length text.new.items ≤ length text.old.items + 540 }
     ensures capacity { vec_capacity text.old ≤ vec_capacity text.new }
+    ensures utf8 { IsUtf8 text.old.items → IsUtf8 text.new.items }
 {
     match body {
         Body::Lock(ask) => push_lock_ask(text, ask),
@@ -206,6 +218,7 @@ fn push_lock_ask(text: &mut Vec<u8>, ask: &LockAsk)
     ensures bytes { text.new.items ≡ text.old.items ++ 32 ∷ lock_ask_text ask.now }
     ensures few { length text.new.items ≤ length text.old.items + 147 }
     ensures capacity { vec_capacity text.old ≤ vec_capacity text.new }
+    ensures utf8 { IsUtf8 text.old.items → IsUtf8 text.new.items }
 {
     let LockAsk {
         fh,
@@ -226,11 +239,12 @@ fn push_result(text: &mut Vec<u8>, result_told: &Result<Answer, Errno>)
     ensures bytes { text.new.items ≡ text.old.items ++ 32 ∷ result_text result_told.now }
     ensures few { length text.new.items ≤ length text.old.items + 150 }
     ensures capacity { vec_capacity text.old ≤ vec_capacity text.new }
+    ensures utf8 { IsUtf8 text.old.items → IsUtf8 text.new.items }
 {
     match result_told {
         Ok(answer) => push_answer(text, answer),
         Err(error) => {
-            push(text, b" err");
+            push(text, " err");
             push_number(text, u64::from(error.number()));
         }
     }
@@ -242,23 +256,24 @@ fn push_answer(text: &mut Vec<u8>, answer: &Answer)
     ensures bytes { text.new.items ≡ text.old.items ++ 32 ∷ answer_text answer.now }
     ensures few { length text.new.items ≤ length text.old.items + 150 }
     ensures capacity { vec_capacity text.old ≤ vec_capacity text.new }
+    ensures utf8 { IsUtf8 text.old.items → IsUtf8 text.new.items }
 {
     match answer {
-        Answer::Done => push(text, b" ok"),
+        Answer::Done => push(text, " ok"),
         Answer::Entry(attr) => {
-            push(text, b" entry");
+            push(text, " entry");
             push_attr(text, attr);
         }
         Answer::Attr(attr) => {
-            push(text, b" attr");
+            push(text, " attr");
             push_attr(text, attr);
         }
         Answer::Open(fh) => {
-            push(text, b" open");
+            push(text, " open");
             push_number(text, *fh);
         }
         Answer::Made(attr, fh) => {
-            push(text, b" made");
+            push(text, " made");
             push_attr(text, attr);
             push_number(text, *fh);
         }
@@ -268,7 +283,7 @@ fn push_answer(text: &mut Vec<u8>, answer: &Answer)
             kind,
             pid,
         } => {
-            push(text, b" lock");
+            push(text, " lock");
             push_numbers(text, &[*start, *end, u64::from(*kind), u64::from(*pid)]);
         }
     }
@@ -280,6 +295,7 @@ fn push_attr(text: &mut Vec<u8>, attr: &Attr)
     ensures bytes { text.new.items ≡ text.old.items ++ 32 ∷ attr_text attr.now }
     ensures few { length text.new.items ≤ length text.old.items + 105 }
     ensures capacity { vec_capacity text.old ≤ vec_capacity text.new }
+    ensures utf8 { IsUtf8 text.old.items → IsUtf8 text.new.items }
 {
     let Attr {
         node,
