@@ -1,8 +1,8 @@
 -- What the workers of a session have done together.
-use Rattle.std.proofs.Common.{◌≡◌, ℕ, ◌+◌, ◌<◌, Bool, true, false, true≢false, List, [], ◌∷◌, ◌++◌, All, Option, length, map, sum_by, refl, sym, ap, ◌∙◌, subst, arith, append_assoc, length-append}
+use Rattle.std.proofs.Common.{◌≡◌, ℕ, ◌+◌, ◌<◌, Bool, true, false, true≢false, List, [], ◌∷◌, ◌++◌, All, Option, Some, IfSome, option_to_list, length, map, sum_by, refl, sym, ap, ◌∙◌, subst, arith, append_assoc, length-append}
 use Rattle.std.specs.Prelude.{◌||◌}
 use Rattle.std.proofs.lemmas.List.{length-map, map-append}
-use Rattle.std.proofs.lemmas.List.Elements.{All-append, All-cons, All-head, All-nil, All-push, All-tail}
+use Rattle.std.proofs.lemmas.List.Elements.{All-append, All-cons, All-head, All-nil, All-pop, All-push, All-tail}
 use Rattle.std.proofs.lemmas.List.Sums.{sum_by-append, sum_by_push}
 use mathlib.Core.List.{Sublistᴰ, nil≢cons, head-eq_of_cons-eq, tail-eq_of_cons-eq}
 use Rattle.fl_board.specs.Seats.{Place}
@@ -203,3 +203,9 @@ pub heard_as : (rules : Rules) (left before now : Option (List ℕ)) (fault told
     → HasHeard rules left now told all owed
 heard_as rules left before now fault told put all goodbye owed same_left same_fault same_put same_owed heard =
     rw (same_left, same_fault, same_put, same_owed) heard
+
+-- what was taken from behind a list is as all of it, and so is what is left
+pub popped : {X : Type 0} (P : X → Type 0) (xs left : List X) (taken : Option X) (x : X) → xs ≡ left ++ option_to_list taken
+    → taken ≡ Some x → All P xs → All P left × P x
+popped P xs left taken x items is all =
+    let both = All-pop P xs left taken items all in (both.0, subst (λ (o : _). IfSome o P) is both.1)

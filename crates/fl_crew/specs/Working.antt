@@ -7,10 +7,18 @@ use Rattle.fl_intake.specs.Ends.{TakeSide, weight_taken}
 use Rattle.fl_intake.specs.Often.{Weight}
 use Rattle.fl_order.specs.Order.{only_reads}
 use Rattle.fl_workers.specs.Asked.{Orders, asked_by}
+use Rattle.fl_workers.specs.Worked.{HasDone}
 
 -- the end is this intake's, and took nothing
 abbrev pub IsFresh : TableId → TakeSide → Type 0
 IsFresh of end = (end.of ≡ of) × (end.taken ≡ [])
+
+-- The place of this worker came back, and its end of the same intake. What the end took since was handed in there, looked for or
+-- refused.
+pub record HasComeBack (worker : ℕ) (end : TakeSide) (place : Place) (end_now : TakeSide) (any : Bool) : Type 0 where
+  pub own : place.worker ≡ worker
+  pub same : end_now.of ≡ end.of
+  pub did : HasDone end.taken end_now.taken (asked_by place.worker place.own) place.count any
 
 -- a worker's place, and the orders that were handed in there
 pub record Post : Type 0 where

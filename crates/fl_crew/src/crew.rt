@@ -4,11 +4,9 @@ ghost use Rattle.std.specs.Prelude.{◌≡◌, ◌≢◌, ◌≤◌, ◌<◌, �
 ghost use Rattle.fl_intake.specs.Often.{Weight};
 ghost use Rattle.std.specs.Io.KnownBytes.{Keeps};
 ghost use Rattle.fl_intake.specs.Ends.{weight_taken};
-ghost use Rattle.fl_workers.specs.Asked.{asked_by};
 ghost use Rattle.fl_core.specs.Tolds.{HasRoom};
 ghost use Rattle.fl_hearing.specs.Heard.{HasHeard};
-ghost use Rattle.fl_crew.specs.Working.{HaveDone, HaveWorked, IsFresh};
-ghost use Rattle.fl_workers.specs.Worked.{HasDone};
+ghost use Rattle.fl_crew.specs.Working.{HasComeBack, HaveDone, HaveWorked, IsFresh};
 ghost use Rattle.fl_session.specs.Inbox.{IsUnread};
 
 use core::thread::Stack;
@@ -55,13 +53,9 @@ pub struct AtSeat {
 }
 
 impl<L: BoardName> Promise<Worked<Seat<L>>> for AtSeat {
-    ghost use Rattle.std.specs.Prelude.{◌≡◌};
-    ghost use Rattle.fl_intake.specs.Ends.{weight_taken};
-    ghost use Rattle.fl_workers.specs.Asked.{asked_by};
-    ghost use Rattle.fl_workers.specs.Worked.{HasDone};
+    ghost use Rattle.fl_crew.specs.Working.{HasComeBack};
 
-    ghost kept_by = { λ p r. (r.seat.worker ≡ p.worker) × (r.end.of ≡ p.end.value.of)
-        × HasDone p.end.value.taken r.end.taken (asked_by r.seat.worker r.seat.own) r.seat.count r.refused };
+    ghost kept_by = { λ p r. HasComeBack p.worker p.end.value r.seat r.end r.refused };
 }
 
 /// A worker that was started.
@@ -262,9 +256,22 @@ impl<
         ensures ends { All (IsFresh self.now.intake) ends.new.items }
         ensures replies { All (HasRoom L.rules) tolds.new.items }
     {
+        let (end, tolds) = self.last_of(ends, tolds)?;
+        self.start(scope, seat, end, tolds)
+    }
+
+    // The last of these ends and the last of these rooms, where there are both.
+    fn last_of(&self, ends: &mut Vec<TakeEnd>, tolds: &mut Vec<Tolds>) -> Option<(TakeEnd, Tolds)>
+        requires ends { All (IsFresh self.now.intake) ends.old.items }
+        requires replies { All (HasRoom L.rules) tolds.old.items }
+        ensures end { IfSome result (λ last. IsFresh self.now.intake last.0) }
+        ensures room { IfSome result (λ last. HasRoom L.rules last.1) }
+        ensures ends { All (IsFresh self.now.intake) ends.new.items }
+        ensures replies { All (HasRoom L.rules) tolds.new.items }
+    {
         let end = ends.pop()?;
         let tolds = tolds.pop()?;
-        self.start(scope, seat, end, tolds)
+        Some((end, tolds))
     }
 
     // Starts a worker, where a thread can be made.
@@ -295,9 +302,7 @@ impl<
                 at,
                 move || -> Worked<Seat<L>>
                     requires { (seat.count ≡ 0) × (end.of ≡ self.now.intake) × HasRoom L.rules tolds }
-                    ensures { (result.seat.worker ≡ seat.worker) × (result.end.of ≡ end.of)
-                        × HasDone end.taken result.end.taken (asked_by result.seat.worker result.seat.own) result.seat.count
-                        result.refused }
+                    ensures { HasComeBack seat.worker end result.seat result.end result.refused }
                 { self.work(seat, end, tolds) },
             )
             .ok()
@@ -308,10 +313,7 @@ impl<
         requires fresh { seat.count ≡ 0 }
         requires end { end.of ≡ self.now.intake }
         requires replies { HasRoom L.rules tolds }
-        ensures own { result.seat.worker ≡ seat.worker }
-        ensures end { result.end.of ≡ self.now.intake }
-        ensures did { HasDone end.taken result.end.taken (asked_by result.seat.worker result.seat.own) result.seat.count
-            result.refused }
+        ensures { HasComeBack seat.worker end result.seat result.end result.refused }
     {
         worker_loop(
             self.rt,

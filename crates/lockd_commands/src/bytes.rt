@@ -1,6 +1,6 @@
 //! `lockd bytes`: a session over lines of hex.
 
-ghost use Rattle.std.specs.Prelude.{◌≡◌, ◌≢◌, ◌⊎◌, ℕ, None, Some, Err, IfSome, IfOk, IfErr};
+ghost use Rattle.std.specs.Prelude.{◌≡◌, ◌≢◌, ◌⊎◌, ℕ, false, None, Some, Err, IfSome, IfOk, IfErr};
 ghost use Rattle.std.specs.Io.KnownBytes.{Keeps};
 ghost use Rattle.lockd_commands.specs.Bytes.{IsPrinted, IsSession};
 ghost use Rattle.lockd_commands.specs.Bytes.Inside.{Did, IsOfStream};
@@ -94,16 +94,28 @@ fn print_session(alloc: Global, rules: Rules, stream: &[u8]) -> Result<Printed, 
     let mut rest = stream;
     let mut sent = Vec::new(alloc);
     let Ended { done, broken } = run_session(alloc, &mut rest, &mut sent, rules);
-    match done.fault {
+    let cause = done.fault;
+    drop(done);
+    let fault = fault_printed(cause, broken)?;
+    let lines = print_replies(alloc, &sent)?;
+    Ok(Printed { lines, fault })
+}
+
+// The fault of a session's stream, if there is one, where its replies are printed.
+fn fault_printed(
+    fault: Option<fl_serve::Fault>,
+    broken: bool,
+) -> Result<Option<fl_serve::Fault>, Fault>
+    ensures printed { IfOk result (λ printed. (printed ≡ fault) × (broken ≡ false) × IfSome printed IsOfStream) }
+    ensures error { IfErr result (λ fault. (fault ≡ Fault.NoMemory) ⊎ (fault ≡ Fault.Read)) }
+{
+    match fault {
         Some(fl_serve::Fault::Read) => Err(Fault::Read),
         // One worker at a desk needs no reader, so that fault doesn't come.
         Some(fl_serve::Fault::Write | fl_serve::Fault::NoMemory | fl_serve::Fault::NoReader) => Err(
             Fault::NoMemory,
         ),
         _ if broken => Err(Fault::NoMemory),
-        fault => {
-            let lines = print_replies(alloc, &sent)?;
-            Ok(Printed { lines, fault })
-        }
+        fault => Ok(fault),
     }
 }

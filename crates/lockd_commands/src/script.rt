@@ -1,6 +1,6 @@
 //! `lockd script`: takes orders from text, one after another.
 
-ghost use Rattle.std.specs.Prelude.{◌≡◌, ◌≢◌, ℕ, ◌++◌, ◌∷◌, List, map, filter, Err, All, IfSome, IsNone, IfOk, OnOk, IfErr};
+ghost use Rattle.std.specs.Prelude.{◌≡◌, ◌≢◌, ℕ, ◌++◌, ◌∷◌, [], List, map, filter, Err, All, IfSome, IsNone, IfOk, OnOk, IfErr};
 ghost use Rattle.std.specs.Io.KnownBytes.{Keeps, Appends};
 ghost use Rattle.fl_desk.specs.Legal.{IsLegal, is_asked};
 ghost use Rattle.fl_trace.specs.Text.{line_text, text_of, BreaksAt};
@@ -13,13 +13,13 @@ ghost use Rattle.lockd_faults.specs.declared.fault.Fault.{Fault};
 use crate::printing::print;
 use fl_book::{Desk, History, Line, TraceRoom, first_line};
 use fl_core::{Rules, Tolds};
-use fl_order::Order;
+use fl_order::{NoMemory, Order};
 use lockd_faults::{Fault, Status, end, read_all};
 use std::alloc::Global;
 use std::io::{Read, Write};
 
 /// An order, and the worker who hands it in.
-#[derive(Clone, Copy, Debug, PartialEq, Eq)]
+#[derive(Clone, Copy)]
 struct AskLine {
     worker: u32,
     order: Order,
@@ -124,9 +124,22 @@ fn take_all(alloc: Global, rules: Rules, asks: &[AskLine]) -> Result<History, Fa
     ensures error { IfErr result (λ fault. fault ≡ Fault.NoMemory) }
 {
     let mut desk = Desk::new(alloc, rules)?;
+    let taken = take_each(alloc, rules, &mut desk, asks);
+    let history = desk.into_history();
+    taken?;
+    Ok(history)
+}
+
+// Takes these orders in turn at a desk under these rules that has taken none.
+fn take_each(alloc: Global, rules: Rules, desk: &mut Desk, asks: &[AskLine]) -> Result<(), NoMemory>
+    requires none { desk.old.lines ≡ [] }
+    requires rules { desk.old.present.rules ≡ rules }
+    ensures asked { OnOk result (filter is_asked desk.new.lines ≡ map line_of asks.now) }
+    ensures rules { desk.new.present.rules ≡ rules }
+{
     let mut tolds = Tolds::new(alloc, rules)?;
     for ask in asks {
         desk.take(ask.worker, &ask.order, &mut tolds)?;
     }
-    Ok(desk.into_history())
+    Ok(())
 }

@@ -142,7 +142,7 @@ fn connection<R: Net + Files>(rt: &R, path: Path<'_>) -> Result<UnixStream, Faul
 }
 
 // Which file a socket at a path is. No other file has these two numbers while the socket is open.
-#[derive(Clone, Copy, PartialEq, Eq)]
+#[derive(Clone, Copy, PartialEq)]
 struct SocketFile {
     device: u64,
     inode: u64,

@@ -30,10 +30,10 @@ loop-thread-preserved g c =
       search rules,
       search rules,
       moves (λ (s : Place). s.worker) (λ t. t.promise.worker) _ _ c.join-seat.result.seat _ _ c.in-Some.thread _ i.3
-          seats steps kept.0,
+          seats steps kept.own,
       All-tail (λ t. IsFresh c.args.intake.now t.promise.end.value) _ _ all,
       subst (All (λ (e : TakeSide). e.of ≡ c.args.intake.now)) (sym ends)
           (All-push (λ (e : TakeSide). e.of ≡ c.args.intake.now) c.loop-thread.back.ends.items c.join-seat.result.end i.5
-          (kept.1 ∙ here.0)),
-      one_back _ _ _ _ _ _ _ c.join-seat.result.end c.join-seat.result.seat i.6 here.1 kept.2 ends seats,
+          (kept.same ∙ here.0)),
+      one_back _ _ _ _ _ _ _ c.join-seat.result.end c.join-seat.result.seat i.6 here.1 kept.did ends seats,
     )

@@ -2,7 +2,7 @@ use Rattle.std.proofs.Common.{◌≡◌, take, map, filter}
 use Rattle.fl_core.specs.Tolds.{HasRoom}
 use Rattle.fl_desk.specs.Legal.{is_asked}
 use Rattle.lockd_commands.specs.Script.{line_of}
-use Rattle.lockd_commands.proofs.script.take_all.Given as goal
+use Rattle.lockd_commands.proofs.script.take_each.Given as goal
 
 -- the desk keeps its rules, there is room for the replies of an order by them, and was asked what is asked so far
 abbrev pub invariant-loop-ask : goal.invariant-loop-ask

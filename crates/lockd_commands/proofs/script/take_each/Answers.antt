@@ -1,6 +1,6 @@
 use Rattle.std.proofs.Common.{rules, ◌∙◌}
 use Rattle.lockd_commands.proofs.ScriptLemmas.{take_more_asks}
-use Rattle.lockd_commands.proofs.script.take_all.Goals as goal
+use Rattle.lockd_commands.proofs.script.take_each.Goals as goal
 
 pub loop-ask-preserved : goal.loop-ask-preserved
 loop-ask-preserved c = (
