@@ -12,11 +12,17 @@ import subprocess
 import sys
 import tempfile
 import time
+import weakref
 
 TOP = os.path.dirname(os.path.dirname(os.path.realpath(__file__)))
 PROGRAM = os.path.realpath(os.environ.get("LOCKD", f"{TOP}/crates/lockd/out/lockd"))
 PATIENCE = 20
 NOT_TRIED = 77
+
+
+def line_of(bytes_):
+    """The line of hex that spells these bytes."""
+    return f"{bytes_.hex()}\n"
 
 
 def message(opcode, unique, node, body):
@@ -128,6 +134,8 @@ class Server:
         self.path, self.file = f"{self.folder.name}/socket", f"{self.folder.name}/trace"
         words = [program, "serve", self.path, "--workers", str(workers), *(it.format(file=self.file) for it in options)]
         self.serving = subprocess.Popen(words, stdout=printed, stderr=subprocess.PIPE, preexec_fn=before, env=env)
+        # So that none is left behind where a try fails.
+        weakref.finalize(self, self.serving.kill)
 
     def listens(self):
         """Waits until it does: its file is there a moment before."""
@@ -173,12 +181,16 @@ class Server:
 
 def main(script, names):
     """Runs each function `try_..` of a script, or those that its words name, prints how each ended, and ends with `N passed, M failed`. The status is 1
-    where M isn't 0, and 77 where there is no program."""
+    where M isn't 0, 2 where one that is named isn't there, and 77 where there is no program."""
     if not os.access(PROGRAM, os.X_OK):
         print(f"{script}: not tried: there is no program at {PROGRAM}", file=sys.stderr)
         return NOT_TRIED
     failed = 0
     tries = {name: it for name, it in names.items() if name.startswith("try_")}
+    lacking = [it for it in sys.argv[1:] if it.startswith("try_") and it not in tries]
+    if lacking:
+        print(f"{script}: tries none of {', '.join(lacking)}", file=sys.stderr)
+        return 2
     tries = {name: tries[name] for name in sys.argv[1:] if name in tries} or tries
     for name, it in tries.items():
         try:
