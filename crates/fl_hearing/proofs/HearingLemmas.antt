@@ -11,7 +11,6 @@ use Rattle.fl_hearing.specs.Said.{orders_said, said_from, said_in}
 use Rattle.fl_order.specs.OpKind.{kind_of_opcode}
 use Rattle.fl_wire.specs.Layout.{opcode_of}
 use Rattle.fl_wire.specs.Says.{said}
-use Rattle.fl_workers.specs.Asked.{Orders}
 use Rattle.std.proofs.lemmas.Grind.{fold-append}
 use Rattle.fl_hearing.specs.Inside.Hearing.{Hears, IsHearing, IsPutAs, IsThisFar}
 use Rattle.fl_session.specs.Inbox.{Inflow, IsEnding, IsUnread, ReadsOn, Takes}
@@ -30,7 +29,7 @@ stands_there : (s : Session) (talk : Talk) → IsThisFar s talk → standing s t
 stands_there s talk far = rw (← far.agreed, ← far.over) refl
 
 -- orders change nothing of how far a session is, nor whether some order was refused, where they are taken
-taken_on : (s : Session) (orders : Orders) → ((with_orders s orders []).agreed ≡ s.agreed)
+taken_on : (s : Session) (orders : List Order) → ((with_orders s orders []).agreed ≡ s.agreed)
     × ((with_orders s orders []).over ≡ s.over) × ((with_orders s orders []).refused ≡ s.refused)
 taken_on s [] = (refl, refl, refl)
 taken_on s (order ∷ orders) = taken_on (with_order s false order) orders
@@ -68,12 +67,12 @@ said_order : (order : Order) (old new : Talk) (message : List ℕ) → old.over 
     → IsHeard (met.Order order) old new message → (s : Session) → IsThisFar s old → orders_said s message ≡ order ∷ []
 said_order order old new message live heard s far = rw (far.over, live, far.agreed, heard.0, heard.2) refl
 
-said_batch : (orders : Orders) (old new : Talk) (message : List ℕ) → old.over ≡ false
+said_batch : (orders : List Order) (old new : Talk) (message : List ℕ) → old.over ≡ false
     → IsHeard (met.Batch orders) old new message → (s : Session) → IsThisFar s old → orders_said s message ≡ orders
 said_batch orders old new message live heard s far = rw (far.over, live, far.agreed, heard.0, heard.2) (sym heard.3)
 
 -- orders of which the first is refused are none, or some order is refused
-first_lost : (s : Session) (orders : Orders) → (orders ≡ []) ⊎ ((with_orders s orders (true ∷ [])).refused ≡ true)
+first_lost : (s : Session) (orders : List Order) → (orders ≡ []) ⊎ ((with_orders s orders (true ∷ [])).refused ≡ true)
 first_lost s [] = inl refl
 first_lost s (order ∷ orders) = inr ((taken_on (with_order s true order) orders).2)
 
@@ -108,7 +107,7 @@ said_none owed old new message live heard s far = go old.agreed refl
     go true after = of_agreed after (none_or_lost (standing (unlost s) old) message (said message))
 
 -- what a message says is put
-pub puts : (result : Met) (old new : Talk) (message : List ℕ) (put put_now : Orders) → old.over ≡ false
+pub puts : (result : Met) (old new : Talk) (message : List ℕ) (put put_now : List Order) → old.over ≡ false
     → IsHeard result old new message → IsPutAs result put put_now → (s : Session) → IsThisFar s old
     → put_now ≡ put ++ orders_said s message
 puts (met.Order order) old new message put put_now live heard is_put s far =
@@ -119,7 +118,7 @@ puts (met.Owed owed) old new message put put_now live heard is_put s far =
     is_put ∙ sym (append-nil put) ∙ ap (λ l. put ++ l) (sym (said_none owed old new message live heard s far))
 
 -- the order at this place of a batch is put behind those before it
-pub put_more : (put put_now put_next orders : Orders) (i : ℕ) (order : Order) → slice_get orders i ≡ Some order
+pub put_more : (put put_now put_next orders : List Order) (i : ℕ) (order : Order) → slice_get orders i ≡ Some order
     → put_now ≡ put ++ take i orders → put_next ≡ put_now ++ order ∷ [] → put_next ≡ put ++ take (i + 1) orders
 put_more put put_now put_next orders i order at so_far one =
     let next : i + 1 ≡ suc i = omega arith in
@@ -140,7 +139,7 @@ said_one_more rules came c = said_more (opening_session rules) came (c ∷ [])
     ∙ ap (λ l. said_in rules came ++ l) (append-nil (orders_said (session_of rules came) c.message))
 
 -- nothing is heard yet
-pub hearing_first : (rules : Rules) (left : Option (List ℕ)) (talk : Talk) (put : Orders) (goodbye : Owed) (inbox : Inflow)
+pub hearing_first : (rules : Rules) (left : Option (List ℕ)) (talk : Talk) (put : List Order) (goodbye : Owed) (inbox : Inflow)
     → talk.agreed ≡ false → talk.over ≡ false → put ≡ [] → goodbye ≡ Nothing → IsUnread inbox
     → IsHearing rules left left talk put goodbye inbox.rest
 hearing_first rules left talk put goodbye inbox agreed live none unowed unread = record {
@@ -153,7 +152,7 @@ hearing_first rules left talk put goodbye inbox agreed live none unowed unread =
 }
 
 -- one message more is heard
-pub hearing_more : (rules : Rules) (left left_now : Option (List ℕ)) (old new : Talk) (put put_now : Orders)
+pub hearing_more : (rules : Rules) (left left_now : Option (List ℕ)) (old new : Talk) (put put_now : List Order)
     (goodbye goodbye_now : Owed) (message rest rest_now : List ℕ)
     → old.over ≡ false → Takes message rest rest_now → Hears old new message
     → ((s : Session) → IsThisFar s old → put_now ≡ put ++ orders_said s message)
@@ -175,7 +174,7 @@ hearing_more rules left left_now old new put put_now goodbye goodbye_now message
     }
 
 -- more is read, or nothing
-pub hearing_read : (rules : Rules) (left before now : Option (List ℕ)) (talk : Talk) (put : Orders) (goodbye : Owed)
+pub hearing_read : (rules : Rules) (left before now : Option (List ℕ)) (talk : Talk) (put : List Order) (goodbye : Owed)
     (rest rest_now : List ℕ) → ReadsOn before now rest rest_now → IsHearing rules left before talk put goodbye rest
     → IsHearing rules left now talk put goodbye rest_now
 hearing_read rules left before now talk put goodbye rest rest_now read hearing = record {
@@ -188,7 +187,7 @@ hearing_read rules left before now talk put goodbye rest rest_now read hearing =
 }
 
 -- the reader ends
-pub hearing_ends : (rules : Rules) (left left_now : Option (List ℕ)) (talk : Talk) (put : Orders) (goodbye : Owed)
+pub hearing_ends : (rules : Rules) (left left_now : Option (List ℕ)) (talk : Talk) (put : List Order) (goodbye : Owed)
     (rest : List ℕ) (fault : Option Fault) → length rest ≤ 8192 → IsEnding fault talk.over rest left_now
     → IsHearing rules left left_now talk put goodbye rest → HasHeard rules left left_now fault put goodbye
 hearing_ends rules left left_now talk put goodbye rest fault bounded ending hearing =

@@ -1,6 +1,7 @@
 -- What the reader of a session with workers heard.
 use Rattle.std.specs.Prelude.{◌≡◌, ℕ, ◌≤◌, true, false, List, [], ◌∷◌, ◌++◌, length, Option}
 use Rattle.fl_hearing.specs.Said.{said_in}
+use Rattle.fl_order.specs.declared.order.Order.{Order}
 use Rattle.fl_session.specs.Inbox.{IsEnding}
 use Rattle.fl_session.specs.Served.{IsRead}
 use Rattle.fl_session.specs.Session.{Came, session_of}
@@ -9,7 +10,6 @@ use Rattle.fl_session.specs.declared.server.Owed.{Owed}
 use Rattle.fl_session.specs.declared.server.Owed.TheVariants.{Nothing}
 use Rattle.fl_session.specs.declared.session.Fault.{Fault}
 use Rattle.fl_waiting.specs.declared.rules.Rules.{Rules}
-use Rattle.fl_workers.specs.Asked.{Orders}
 
 -- the last message is a DESTROY, to which this is owed
 pub record IsLast (came : List Came) (goodbye : Owed) : Type 0 where
@@ -20,7 +20,7 @@ pub record IsLast (came : List Came) (goodbye : Owed) : Type 0 where
 
 -- The reader of a session under these rules ended, with this fault. What was read is whole messages and a rest, the orders
 -- of these messages were put, and where a DESTROY ended the session, this is owed to it. Else nothing is owed.
-pub record HasHeard (rules : Rules) (left left_now : Option (List ℕ)) (fault : Option Fault) (put : Orders) (goodbye : Owed)
+pub record HasHeard (rules : Rules) (left left_now : Option (List ℕ)) (fault : Option Fault) (put : List Order) (goodbye : Owed)
     : Type 0 where
   pub came : List Came
   pub rest : List ℕ

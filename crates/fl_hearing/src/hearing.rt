@@ -11,9 +11,9 @@ ghost use Rattle.fl_waiting.specs.declared.rules.Rules.{Rules};
 
 use fl_intake::{Intake, PutEnd};
 use fl_order::Order;
+use fl_sending::{Shared, WriterName};
 use fl_session::{Fault, Filled, Inbox, Met, Owed, Talk};
 use fl_wire::{Batch, Frame, Step};
-use fl_workers::{Shared, WriterName};
 use std::io::{Read, Write};
 use std::sync::ledger::Share;
 use std::sync::{Mutex, Wait};

@@ -24,7 +24,7 @@ use Rattle.fl_serve.specs.Serve.{HasNoHistory, IsAsked, IsServedBy}
 use Rattle.fl_workers.specs.Asked.{Orders, asked}
 use Rattle.fl_session.specs.Served.{EndsBy, IsRead}
 use Rattle.fl_session.specs.Session.{Came, session_of}
-use Rattle.fl_workers.specs.Shared.{HasSent, HasSentLast, IsSpelling}
+use Rattle.fl_sending.specs.Shared.{HasSent, HasSentLast, IsSpelling}
 use Rattle.fl_wire.specs.Spell.{IsReply}
 use Rattle.fl_session.specs.declared.session.Fault.{Fault}
 use Rattle.fl_session.specs.declared.session.Fault.TheVariants.{NoMemory, NoReader}

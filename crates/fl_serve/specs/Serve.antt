@@ -12,7 +12,7 @@ use Rattle.fl_session.specs.declared.session.Done.{Done}
 use Rattle.fl_session.specs.declared.session.Fault.TheVariants.{NoReader}
 use Rattle.fl_waiting.specs.declared.rules.Rules.{Rules}
 use Rattle.fl_workers.specs.Asked.{Orders, asked}
-use Rattle.fl_workers.specs.Shared.{HasSent, HasSentLast}
+use Rattle.fl_sending.specs.Shared.{HasSent, HasSentLast}
 
 -- A DESTROY came last, and its reply was written last, behind whole replies.
 pub record SaysGoodbye (came : List Came) (held held_now : Option (List ℕ)) : Type 0 where

@@ -1,3 +1,2 @@
 pub mod AskedLemmas
-pub mod SharedLemmas
 pub mod WorkedLemmas

@@ -5,10 +5,10 @@ ghost use Rattle.fl_order.specs.Order.{only_reads};
 ghost use Rattle.fl_workers.specs.Worked.{HasDone, HasWorked};
 
 use crate::counter::{Counter, Gate};
-use crate::shared::{Shared, WriterName};
 use fl_core::Tolds;
 use fl_intake::{Intake, Job, TakeEnd};
 use fl_order::{Order, Told};
+use fl_sending::{Shared, WriterName};
 use fl_session::Owed;
 use std::io::Write;
 use std::sync::{Mutex, Wait};

@@ -1,5 +1,5 @@
 //! `lockd`: keeps the locks of a directory of lock files. `lockd_cli` reads the command line, and each command is a
-//! function of `lockd_commands`.
+//! function of `lockd_commands` or of `lockd_serve`.
 #![tactic(auto)]
 
 ghost use Rattle.std.specs.Prelude.{◌≤◌, IfOk};
@@ -7,10 +7,8 @@ ghost use Rattle.lockd_cli.specs.Numbers.{HasWorkers};
 
 use descriptors::hold_closed_streams;
 use lockd_cli::{Asked, Refusal, Trace, WhenFull, print_version, read_words};
-use lockd_commands::{
-    CheckOptions, Fault, Rules, Status, WhenWriterFails, bytes_on, check_on, drive_on, script_on,
-    serve_on, serve_traced_on, serve_untraced_on, trace_at,
-};
+use lockd_commands::{CheckOptions, Fault, Rules, Status, bytes_on, check_on, drive_on, script_on};
+use lockd_serve::{WhenWriterFails, serve_on, serve_traced_on, serve_untraced_on, trace_at};
 use std::fs::Files;
 use std::io::Write;
 use std::net::Net;

@@ -3,4 +3,3 @@ pub mod Check
 pub mod Faults
 pub mod Hex
 pub mod Script
-pub mod Serve

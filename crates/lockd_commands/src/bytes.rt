@@ -11,7 +11,7 @@ ghost use Rattle.lockd_faults.specs.declared.fault.Fault.{Fault};
 ghost use Rattle.fl_session.specs.declared.session.Fault.{Fault as SessionFault};
 
 use fl_core::Rules;
-use fl_serve::{Ended, run_session};
+use fl_session::{Ended, run_session};
 use hex_text::read_stream;
 use lockd_faults::{Fault, Status, end, read_all, write_all};
 use replies::print_replies;
@@ -81,7 +81,7 @@ fn bytes<R: Read, W: Write>(
 #[derive(Drop)]
 struct Printed {
     lines: Vec<u8>,
-    fault: Option<fl_serve::Fault>,
+    fault: Option<fl_session::Fault>,
 }
 
 // A session under these rules over these bytes, and a line for each of its replies. A vector takes what is written to it
@@ -103,18 +103,18 @@ fn print_session(alloc: Global, rules: Rules, stream: &[u8]) -> Result<Printed, 
 
 // The fault of a session's stream, if there is one, where its replies are printed.
 fn fault_printed(
-    fault: Option<fl_serve::Fault>,
+    fault: Option<fl_session::Fault>,
     broken: bool,
-) -> Result<Option<fl_serve::Fault>, Fault>
+) -> Result<Option<fl_session::Fault>, Fault>
     ensures printed { IfOk result (λ printed. (printed ≡ fault) × (broken ≡ false) × IfSome printed IsOfStream) }
     ensures error { IfErr result (λ fault. (fault ≡ Fault.NoMemory) ⊎ (fault ≡ Fault.Read)) }
 {
     match fault {
-        Some(fl_serve::Fault::Read) => Err(Fault::Read),
+        Some(fl_session::Fault::Read) => Err(Fault::Read),
         // One worker at a desk needs no reader, so that fault doesn't come.
-        Some(fl_serve::Fault::Write | fl_serve::Fault::NoMemory | fl_serve::Fault::NoReader) => Err(
-            Fault::NoMemory,
-        ),
+        Some(
+            fl_session::Fault::Write | fl_session::Fault::NoMemory | fl_session::Fault::NoReader,
+        ) => Err(Fault::NoMemory),
         _ if broken => Err(Fault::NoMemory),
         fault => Ok(fault),
     }

@@ -10,11 +10,10 @@ ghost use Rattle.fl_history.specs.declared.history.Line.{Line};
 ghost use Rattle.lockd_faults.specs.Faults.{IsTold};
 ghost use Rattle.lockd_faults.specs.declared.fault.Fault.{Fault};
 
-use crate::printing::print;
 use fl_book::{Desk, History, Line, TraceRoom, first_line};
 use fl_core::{Rules, Tolds};
 use fl_order::{NoMemory, Order};
-use lockd_faults::{Fault, Status, end, read_all};
+use lockd_faults::{Fault, Status, end, print, read_all};
 use std::alloc::Global;
 use std::io::{Read, Write};
 

@@ -3,9 +3,11 @@
 
 mod fault;
 mod line;
+mod printing;
 mod status;
 mod streams;
 
 pub use fault::{Fault, tell};
+pub use printing::print;
 pub use status::{Status, end};
 pub use streams::{read_all, write_all};

@@ -1,6 +1,6 @@
 use Rattle.std.proofs.Common.{rules, ◌≡◌, ◌∙◌, sym, true}
-use Rattle.fl_workers.proofs.SharedLemmas.{sent_last}
-use Rattle.fl_workers.proofs.shared.Shared.close.Goals as goal
+use Rattle.fl_sending.proofs.SharedLemmas.{sent_last}
+use Rattle.fl_sending.proofs.shared.Shared.close.Goals as goal
 
 pub returns-clause-last : goal.returns-clause-last
 returns-clause-last g c one whole =

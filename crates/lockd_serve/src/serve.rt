@@ -5,20 +5,19 @@ ghost use Rattle.std.specs.Io.KnownBytes.{Keeps};
 ghost use Rattle.std.specs.Path.{path_bytes};
 ghost use Rattle.fl_desk.specs.Legal.{IsLegal};
 ghost use Rattle.fl_session.specs.declared.session.Fault.{Fault as SessionFault};
-ghost use Rattle.lockd_commands.specs.Serve.{IsTraced, IsTracedInPart, IsOfNoSession, IsOfSession};
-ghost use Rattle.lockd_commands.specs.Serve.Inside.{Did, TellsOf};
-ghost use Rattle.lockd_commands.specs.Faults.{IsOfServe};
+ghost use Rattle.lockd_serve.specs.Serve.{IsTraced, IsTracedInPart, IsOfNoSession, IsOfSession};
+ghost use Rattle.lockd_serve.specs.Serve.Inside.{Did, TellsOf};
+ghost use Rattle.lockd_serve.specs.Faults.{IsOfServe};
 ghost use Rattle.lockd_faults.specs.Faults.{IsTold};
 ghost use Rattle.lockd_faults.specs.declared.fault.Fault.{Fault};
 
 mod traced;
 
 use crate::looking::Looking;
-use crate::printing::print;
 use fl_book::{Keeper, Lines, TraceRoom};
 use fl_core::Rules;
 use fl_serve::{Done, Kept, OpenGate, run_over, serve_over};
-use lockd_faults::{Fault, Status, end};
+use lockd_faults::{Fault, Status, end, print};
 use std::alloc::Global;
 use std::fs;
 use std::fs::Files;

@@ -9,7 +9,7 @@ use Rattle.fl_session.specs.Collecting.{Collects, IsGiven}
 use Rattle.fl_session.specs.Talk.{bytes_of}
 use Rattle.fl_session.specs.declared.server.Owed.{Owed}
 use Rattle.fl_session.specs.declared.server.Owed.TheVariants.{Nothing, Init, One, Replies}
-use Rattle.fl_workers.specs.Shared.{IsSpelling, told, greeted, HasSent, HasSentLast}
+use Rattle.fl_sending.specs.Shared.{IsSpelling, told, greeted, HasSent, HasSentLast}
 use Rattle.fl_wire.specs.Spell.{spelling_of, IsReply}
 
 -- before the first reply

@@ -5,7 +5,7 @@ use Rattle.fl_stream.specs.Streams.{WroteSome}
 use Rattle.fl_trace.specs.Text.{text_of}
 use Rattle.fl_history.specs.declared.history.Line.{Line}
 use Rattle.fl_waiting.specs.declared.rules.Rules.{Rules}
-use Rattle.lockd_commands.specs.Serve.{IsTraced, IsTracedInPart}
+use Rattle.lockd_serve.specs.Serve.{IsTraced, IsTracedInPart}
 use Rattle.lockd_faults.specs.declared.fault.Fault.{Fault}
 use Rattle.lockd_faults.specs.declared.fault.Fault.TheVariants.{BadLine, NoMemory, NoReader, Read, Write, Cut, BadLength, Listen, Connect, BadReply, Trace, TraceFailed}
 

@@ -7,8 +7,8 @@ ghost use Rattle.fl_desk.specs.Legal.{IsLegal};
 ghost use Rattle.fl_session.specs.declared.session.Fault.{Fault as SessionFault};
 ghost use Rattle.fl_stream.specs.Streams.{IsBegun, IsBlank, Wrote};
 ghost use Rattle.fl_trace.specs.Text.{text_of};
-ghost use Rattle.lockd_commands.specs.Faults.{IsOfServe, IsOfTraced};
-ghost use Rattle.lockd_commands.specs.Serve.{HasBegun, HasTrace};
+ghost use Rattle.lockd_serve.specs.Faults.{IsOfServe, IsOfTraced};
+ghost use Rattle.lockd_serve.specs.Serve.{HasBegun, HasTrace};
 ghost use Rattle.lockd_faults.specs.Faults.{AreBothTold, IsTold};
 ghost use Rattle.lockd_faults.specs.declared.fault.Fault.{Fault};
 

@@ -2,7 +2,7 @@
 
 ghost use Rattle.std.specs.Prelude.{◌≡◌, ◌<◌, [], true, false};
 ghost use Rattle.fl_session.specs.Collecting.{Collects};
-ghost use Rattle.fl_workers.specs.Shared.{HasSent, HasSentLast};
+ghost use Rattle.fl_sending.specs.Shared.{HasSent, HasSentLast};
 ghost use Rattle.fl_session.specs.Talk.{bytes_of};
 
 use fl_session::{Batch, Outbox, Owed, ReplyBuffer};
@@ -42,7 +42,7 @@ pub struct Shared<'a, W: Write, N: WriterName> {
 impl<'a, W: Write, N: WriterName> Model for Shared<'a, W, N> {
     ghost use Rattle.std.specs.Prelude.{◌≡◌, [], true, false};
     ghost use Rattle.fl_session.specs.Outbox.{is_broken, writer_of};
-    ghost use Rattle.fl_workers.specs.Shared.{Outgoing, HasSent};
+    ghost use Rattle.fl_sending.specs.Shared.{Outgoing, HasSent};
 
     ghost Value = { Outgoing };
 

@@ -6,16 +6,13 @@ ghost use Rattle.fl_stream.specs.Streams.{WroteSome};
 ghost use Rattle.fl_trace.specs.Text.{text_of};
 ghost use Rattle.lockd_faults.specs.declared.fault.Fault.{Fault};
 
-use fl_book::{History, TraceRoom, Unwritten, write_trace};
-use lockd_faults::Fault;
+use crate::fault::Fault;
+use fl_history::History;
+use fl_stream::{TraceRoom, Unwritten, write_trace};
 use std::io::Write;
 
 /// Writes the text of a history in pieces, and hands it on.
-pub(crate) fn print<W: Write>(
-    room: &mut TraceRoom,
-    history: &History,
-    output: &mut W,
-) -> Result<(), Fault>
+pub fn print<W: Write>(room: &mut TraceRoom, history: &History, output: &mut W) -> Result<(), Fault>
     ensures written { OnOk result (Appends (W.contents output.old) (W.contents output.new) (text_of history.now)) }
     ensures error { IfErr result (λ fault. fault ≡ Fault.Write) }
     ensures begun { WroteSome (text_of history.now) (W.contents output.old) (W.contents output.new) }

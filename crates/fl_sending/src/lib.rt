@@ -1,0 +1,6 @@
+//! How the workers of a session share one writer.
+#![tactic(auto)]
+
+mod shared;
+
+pub use shared::{Shared, WriterName};
