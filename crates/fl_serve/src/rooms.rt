@@ -67,13 +67,19 @@ impl<L: BoardName, R: Wait + Drop, K: Keeper + Drop> Rooms<L, R, K> {
             intake,
             put,
             ends,
+            own,
+            each,
+        } = stock;
+        let Own {
             tolds,
             inbox,
             replies,
-            each,
+        } = own;
+        let Each {
+            tolds: each,
             threads,
             back,
-        } = stock;
+        } = each;
         let posts = Posts {
             seats,
             ends,
@@ -99,12 +105,24 @@ struct Stock<L: BoardName> {
     intake: Intake,
     put: PutEnd,
     ends: Vec<TakeEnd>,
+    own: Own,
+    each: Each<L>,
+}
+
+// What a session has once.
+#[derive(Drop)]
+struct Own {
     // For the orders that no worker takes.
     tolds: Tolds,
     inbox: Inbox,
     replies: ReplyBuffer,
-    // For the replies of an order, for each worker.
-    each: Vec<Tolds>,
+}
+
+// What a session has for each worker.
+#[derive(Drop)]
+struct Each<L: BoardName> {
+    // For the replies of an order.
+    tolds: Vec<Tolds>,
     threads: Vec<Thread<L>>,
     back: Back<L>,
 }
@@ -115,22 +133,50 @@ impl<L: BoardName> Stock<L> {
         ensures ends { IfOk result (λ stock. All (IsFresh stock.intake) stock.ends.items) }
         ensures put { IfOk result (λ stock. (stock.put.of ≡ stock.intake) × (stock.put.takers ≡ workers)
             × (stock.put.closed ≡ false) × (stock.put.put ≡ [])) }
-        ensures unread { IfOk result (λ stock. IsUnread stock.inbox) }
-        ensures none { IfOk result (λ stock. (stock.replies ≡ []) × (stock.threads.items ≡ [])
-            × (stock.back.seats.items ≡ []) × (stock.back.ends.items ≡ [])) }
-        ensures room { IfOk result (λ stock. (workers ≤ vec_capacity stock.threads)
-            × (workers ≤ vec_capacity stock.back.seats) × (workers ≤ vec_capacity stock.back.ends)) }
-        ensures replies { IfOk result (λ stock. HasRoom rules stock.tolds × All (HasRoom rules) stock.each.items) }
+        ensures unread { IfOk result (λ stock. IsUnread stock.own.inbox) }
+        ensures none { IfOk result (λ stock. (stock.own.replies ≡ []) × (stock.each.threads.items ≡ [])
+            × (stock.each.back.seats.items ≡ []) × (stock.each.back.ends.items ≡ [])) }
+        ensures room { IfOk result (λ stock. (workers ≤ vec_capacity stock.each.threads)
+            × (workers ≤ vec_capacity stock.each.back.seats) × (workers ≤ vec_capacity stock.each.back.ends)) }
+        ensures replies { IfOk result (λ stock. HasRoom rules stock.own.tolds × All (HasRoom rules) stock.each.tolds.items) }
     {
+        let own = Own::new(alloc, rules)?;
+        let each = Each::new(alloc, workers, rules)?;
         let (intake, put, ends) = Intake::new(alloc, workers)?;
         Ok(Stock {
             intake,
             put,
             ends,
+            own,
+            each,
+        })
+    }
+}
+
+impl Own {
+    fn new(alloc: Global, rules: Rules) -> Result<Own, NoMemory>
+        ensures unread { IfOk result (λ own. IsUnread own.inbox) }
+        ensures none { IfOk result (λ own. own.replies ≡ []) }
+        ensures replies { IfOk result (λ own. HasRoom rules own.tolds) }
+    {
+        Ok(Own {
             tolds: Tolds::new(alloc, rules)?,
             inbox: Inbox::new(alloc)?,
             replies: ReplyBuffer::with_bytes(alloc, BATCH_BYTES)?,
-            each: rooms_for_replies(alloc, workers, rules)?,
+        })
+    }
+}
+
+impl<L: BoardName> Each<L> {
+    fn new(alloc: Global, workers: u32, rules: Rules) -> Result<Each<L>, NoMemory>
+        ensures none { IfOk result (λ each. (each.threads.items ≡ [])
+            × (each.back.seats.items ≡ []) × (each.back.ends.items ≡ [])) }
+        ensures room { IfOk result (λ each. (workers ≤ vec_capacity each.threads)
+            × (workers ≤ vec_capacity each.back.seats) × (workers ≤ vec_capacity each.back.ends)) }
+        ensures replies { IfOk result (λ each. All (HasRoom rules) each.tolds.items) }
+    {
+        Ok(Each {
+            tolds: rooms_for_replies(alloc, workers, rules)?,
             threads: Vec::with_capacity(alloc, workers as usize)?,
             back: Back::with_room(alloc, workers)?,
         })

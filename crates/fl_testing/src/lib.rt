@@ -14,10 +14,10 @@ mod writers;
 
 pub use messages::{GETLK, Lock, Messages, READ, SETLK, SETLKW, UNLOCK, WRITE, byte_lock};
 pub use numbers::Numbers;
-pub use readers::{Newlines, Source};
+pub use readers::Source;
 pub use replies::{Reply, first_reply, long_at, reply_of, word_at};
 pub use sessions::{fair_sessions, init, init_reply, two_locks};
 pub use stored::{bytes_after, lines_after};
 pub use trouble::Trouble;
 pub use workers::of_workers;
-pub use writers::{Full, Sink};
+pub use writers::Sink;

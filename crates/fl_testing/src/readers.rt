@@ -1,10 +1,9 @@
 //! Readers over memory, which give a few bytes at a time and fail where they are told to.
 
-ghost use Rattle.std.specs.Prelude.{◌≡◌, ◌⊎◌, ◌<◌, ◌+◌, ◌-◌, ◌^◌, length, replicate, min, max, IfSome, IsErrAnd, Ok, Some};
+ghost use Rattle.std.specs.Prelude.{◌≡◌, ◌+◌, ◌-◌, ◌^◌, length, min, max, IfSome, IsErrAnd, Ok, Some};
 ghost use Rattle.std.specs.Io.{ReadsAtMost};
 ghost use Rattle.std.specs.Io.KnownBytes.{ReadConsumes};
 ghost use Rattle.std.specs.IoError.{error_kind};
-ghost use Rattle.std.specs.declared.io.ErrorKind.TheVariants.{Other};
 ghost use Rattle.fl_testing.specs.Trouble.{Meets};
 
 use crate::trouble::Trouble;
@@ -61,32 +60,5 @@ impl Read for Source<'_> {
         buf[..n].copy_from_slice(&self.bytes[..n]);
         self.bytes = &self.bytes[n..];
         Ok(n)
-    }
-}
-
-/// Gives newlines, one with a read, and fails after this many.
-#[derive(Drop)]
-pub struct Newlines {
-    /// How many more it gives.
-    pub left: usize,
-}
-
-impl Read for Newlines {
-    ghost remaining = { λ s. Some (replicate s.left 10) };
-
-    fn read(&mut self, buf: &mut [u8]) -> io::Result<usize>
-        ensures bound { ReadsAtMost result buf.new }
-        ensures bytes { ReadConsumes (Some (replicate self.old.left 10)) (Some (replicate self.new.left 10))
-            result buf.new }
-        ensures gives { 0 < self.old.left → 0 < length buf.old → (result ≡ Ok 1) × (self.old.left ≡ self.new.left + 1) }
-        ensures fails { (self.old.left ≡ 0) ⊎ (length buf.old ≡ 0) →
-            IsErrAnd result (λ e. error_kind e ≡ Other) × (self.new ≡ self.old) }
-    {
-        if self.left == 0 || buf.is_empty() {
-            return Err(io::Error::from(ErrorKind::Other));
-        }
-        buf[0] = b'\n';
-        self.left -= 1;
-        Ok(1)
     }
 }

@@ -1,10 +1,9 @@
 //! Writers over memory, which take a few bytes at a time and fail where they are told to.
 
-ghost use Rattle.std.specs.Prelude.{◌≡◌, ◌⊎◌, ◌<◌, ◌+◌, ◌-◌, ◌^◌, [], true, length, min, IfOk, IfSome, IsErrAnd, IsNone, IsOk, Ok, Some};
+ghost use Rattle.std.specs.Prelude.{◌≡◌, ◌+◌, ◌-◌, ◌^◌, [], true, length, min, IfOk, IfSome, IsErrAnd, IsNone, Ok, Some};
 ghost use Rattle.std.specs.Io.{WritesAtMost};
 ghost use Rattle.std.specs.Io.KnownBytes.{WriteAppends};
 ghost use Rattle.std.specs.IoError.{error_kind};
-ghost use Rattle.std.specs.declared.io.ErrorKind.TheVariants.{Other};
 ghost use Rattle.fl_testing.specs.Trouble.{Meets};
 
 use crate::trouble::Trouble;
@@ -77,35 +76,6 @@ impl Write for Sink {
     }
 
     fn flush(&mut self) -> io::Result<()> {
-        Ok(())
-    }
-}
-
-/// Takes this many bytes, one with a write, keeps none, and then fails.
-#[derive(Drop)]
-pub struct Full {
-    /// How many more bytes it takes.
-    pub left: usize,
-}
-
-impl Write for Full {
-    fn write(&mut self, buf: &[u8]) -> io::Result<usize>
-        ensures bound { WritesAtMost result buf.now }
-        ensures takes { 0 < self.old.left → 0 < length buf.now → (result ≡ Ok 1) × (self.old.left ≡ self.new.left + 1) }
-        ensures fails { (self.old.left ≡ 0) ⊎ (length buf.now ≡ 0) →
-            IsErrAnd result (λ e. error_kind e ≡ Other) × (self.new ≡ self.old) }
-    {
-        if self.left == 0 || buf.is_empty() {
-            return Err(io::Error::from(ErrorKind::Other));
-        }
-        self.left -= 1;
-        Ok(1)
-    }
-
-    fn flush(&mut self) -> io::Result<()>
-        ensures done { IsOk result }
-        ensures same { self.new ≡ self.old }
-    {
         Ok(())
     }
 }

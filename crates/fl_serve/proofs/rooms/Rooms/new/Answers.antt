@@ -15,5 +15,5 @@ invariant_of-posts g c =
 
 pub returns-clause-replies : goal.returns-clause-replies
 returns-clause-replies g c =
-    let P : Rules → Type 0 = λ by. HasRoom by c.in_ok-stock.stock.tolds × All (HasRoom by) c.in_ok-stock.stock.each.items in
+    let P : Rules → Type 0 = λ by. HasRoom by c.in_ok-stock.stock.own.tolds × All (HasRoom by) c.in_ok-stock.stock.each.tolds.items in
     subst P c.requires.rules c.in_ok-stock.ensures.replies
