@@ -7,6 +7,7 @@ use Rattle.std.proofs.lemmas.List.FromFn.{length-range_with_len}
 use Rattle.std.proofs.lemmas.List.Sums.{sum_by-append}
 use Rattle.std.specs.List.{range_with_len}
 use Rattle.std.specs.Prelude.{IfSome}
+use Rattle.std.specs.Io.KnownBytes.{Keeps}
 use Rattle.fl_board.specs.Seats.{Place}
 use Rattle.fl_desk.specs.Legal.{IsLegal, nothing}
 use Rattle.fl_history.specs.declared.history.Line.{Line}
@@ -17,7 +18,7 @@ use Rattle.fl_order.specs.Order.{only_reads}
 use Rattle.fl_order.specs.declared.order.Order.{Order}
 use Rattle.fl_serve.proofs.AskedLemmas.{all_is_handed_in}
 use Rattle.fl_crew.specs.Working.{HaveDone}
-use Rattle.fl_serve.specs.Inside.Closing.{HasAll}
+use Rattle.fl_serve.specs.Inside.Closing.{HasAll, IsKeptBy}
 use Rattle.fl_session.specs.Kept.{lines_kept}
 use Rattle.fl_hearing.specs.Said.{said_in}
 use Rattle.fl_serve.specs.Serve.{HasNoHistory, IsAsked, IsServedBy}
@@ -124,4 +125,18 @@ unserved rules left left_now held held_now broken done fault unread sent told un
     none = λ _. refl;
     some = λ e. absurd (true≢false (sym e ∙ untold));
   });
+}
+
+-- the same, of which no lines were kept
+pub none_kept : {K : Type 0} (lines : K → List Line) (rules : Rules) (left left_now held held_now : Option (List ℕ)) (broken : Bool)
+    (keeper : Option K) (told : Option Fault) (any : Bool) (fault : Fault) → keeper ≡ None → told ≡ Some fault → any ≡ false
+    → IsRead rules left left_now [] [] → HasSent held held_now [] broken → (fault ≡ NoMemory) ⊎ (fault ≡ NoReader)
+    → Keeps left left_now → Keeps held held_now → IsKeptBy lines rules left left_now held held_now keeper told any
+none_kept lines rules left left_now held held_now broken keeper told any fault none is untold unread sent why read wrote = record {
+  legal = subst (λ k. IfSome k (λ k. IsLegal rules (lines k))) (sym none) tt;
+  served = unserved rules left left_now held held_now broken _ fault unread sent is untold (ap (lines_kept lines) none) why;
+  back = ⊎_elim (λ memory. inr (inl (is ∙ ap Some memory))) (λ reader. inr (inr (is ∙ ap Some reader))) why;
+  nothing = λ _. (none, read);
+  unwritten = λ _. wrote;
+  untold = λ _. none;
 }

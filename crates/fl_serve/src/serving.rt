@@ -10,7 +10,7 @@ ghost use Rattle.fl_intake.specs.Ends.{weight_taken};
 ghost use Rattle.fl_intake.specs.Often.{Weight};
 ghost use Rattle.fl_hearing.specs.Heard.{HasHeard};
 ghost use Rattle.fl_crew.specs.Working.{HaveDone};
-ghost use Rattle.fl_serve.specs.Inside.Closing.{HasAll};
+ghost use Rattle.fl_serve.specs.Inside.Closing.{HasAll, IsKeptBy};
 ghost use Rattle.fl_session.specs.Kept.{came_to};
 ghost use Rattle.fl_serve.specs.Serve.{HasNoHistory, IsServedBy};
 
@@ -140,14 +140,8 @@ where
     R: Threads + Wait + Sync,
     requires workers { (0 < staff.workers) × (staff.workers ≤ 16) }
     requires none { K.lines keeper ≡ [] }
-    ensures legal { IfSome result.keeper (λ keeper. IsLegal staff.rules (K.lines keeper)) }
-    ensures served { IsServedBy staff.rules (I.remaining r.old) (I.remaining r.new) (W.contents w.old) (W.contents w.new)
-        (came_to K.lines result.keeper result.fault result.refused) }
-    ensures back { IsSome result.keeper ⊎ (result.fault ≡ Some Fault.NoMemory) ⊎ (result.fault ≡ Some Fault.NoReader) }
-    ensures nothing { result.fault ≡ Some Fault.NoMemory
-        → (result.keeper ≡ None) × Keeps (I.remaining r.old) (I.remaining r.new) }
-    ensures unwritten { result.fault ≡ Some Fault.NoMemory → Keeps (W.contents w.old) (W.contents w.new) }
-    ensures untold { result.fault ≡ Some Fault.NoReader → result.keeper ≡ None }
+    ensures { IsKeptBy K.lines staff.rules (I.remaining r.old) (I.remaining r.new) (W.contents w.old) (W.contents w.new)
+        result.keeper result.fault result.refused }
 {
     let blank = Blank::new(u64::from(staff.workers));
     let log = FreshLog::new();
@@ -192,15 +186,8 @@ fn serve_at<
     requires writer { w.ghost_name ≡ N.writer }
     requires sending { (sending.name ≡ N.name) × (sending.parts ≡ N.parts) × (0 < N.parts) }
     ensures writer { result.1.ghost_name ≡ w.entry.ghost_name }
-    ensures legal { IfSome result.0.keeper (λ keeper. IsLegal staff.rules (K.lines keeper)) }
-    ensures served { IsServedBy staff.rules (I.remaining r.old) (I.remaining r.new) (W.contents w.old) (W.contents result.1.now)
-        (came_to K.lines result.0.keeper result.0.fault result.0.refused) }
-    ensures back { IsSome result.0.keeper
-        ⊎ (result.0.fault ≡ Some Fault.NoMemory) ⊎ (result.0.fault ≡ Some Fault.NoReader) }
-    ensures nothing { result.0.fault ≡ Some Fault.NoMemory
-        → (result.0.keeper ≡ None) × Keeps (I.remaining r.old) (I.remaining r.new) }
-    ensures unwritten { result.0.fault ≡ Some Fault.NoMemory → Keeps (W.contents w.old) (W.contents result.1.now) }
-    ensures untold { result.0.fault ≡ Some Fault.NoReader → result.0.keeper ≡ None }
+    ensures kept { IsKeptBy K.lines staff.rules (I.remaining r.old) (I.remaining r.new) (W.contents w.old) (W.contents result.1.now)
+        result.0.keeper result.0.fault result.0.refused }
 {
     let rooms = match Rooms::<L, &R, K>::new(
         alloc,

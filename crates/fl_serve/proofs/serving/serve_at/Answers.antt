@@ -1,23 +1,28 @@
-use Rattle.std.proofs.Common.{rules, ◌≡◌, ◌≢◌, Some, false, inl, inr, ⊎_elim, refl, ◌∙◌, ap, arith, length, map}
+use Rattle.std.proofs.Common.{rules, ◌≡◌, ◌≢◌, Some, false, inl, inr, ⊎_elim, refl, sym, subst, ap, arith, length, map}
 use Rattle.std.proofs.KnownBytes.{Keeps-refl}
 use Rattle.std.proofs.lemmas.List.{length-map}
 use Rattle.std.proofs.lemmas.List.FromFn.{length-range_with_len}
+use Rattle.std.specs.Prelude.{IfSome}
 use Rattle.fl_board.specs.Seats.{Place}
-use Rattle.fl_serve.proofs.ServingLemmas.{nothing_sent, served_by, unserved}
-use Rattle.fl_session.specs.Kept.{lines_kept}
+use Rattle.fl_desk.specs.Legal.{IsLegal}
+use Rattle.fl_serve.proofs.ServingLemmas.{none_kept, nothing_sent}
 use Rattle.fl_session.specs.declared.session.Fault.TheVariants.{NoMemory}
+use Rattle.fl_waiting.specs.declared.rules.Rules.{Rules}
 use Rattle.fl_serve.proofs.serving.serve_at.Goals as goal
 
-pub returns-in-Err-clause-served : goal.returns-in-Err-clause-served
-returns-in-Err-clause-served g c = unserved _ _ _ _ _ false _ _ (c.nothing.ensures.read _ _ _ (Keeps-refl _)) (nothing_sent _)
-    c.nothing.ensures.fault c.nothing.ensures.refused (ap (lines_kept g.K.Keeper.lines) c.nothing.ensures.keeper) (⊎_elim (λ m. inl m.1) (λ r. inr r.1) c.unopened.ensures)
+pub returns-in-Err-clause-kept : goal.returns-in-Err-clause-kept
+returns-in-Err-clause-kept g c = none_kept _ _ _ _ _ _ false _ _ _ _ c.nothing.ensures.keeper c.nothing.ensures.fault
+    c.nothing.ensures.refused (c.nothing.ensures.read _ _ _ (Keeps-refl _)) (nothing_sent _)
+    (⊎_elim (λ m. inl m.1) (λ r. inr r.1) c.unopened.ensures) (Keeps-refl _) (Keeps-refl _)
 
-pub returns-then-eq-clause-served : goal.returns-then-eq-clause-served
-returns-then-eq-clause-served g c =
+pub returns-then-eq-clause-kept : goal.returns-then-eq-clause-kept
+returns-then-eq-clause-kept g c =
     let none : c.run-back.result.1.fault ≡ Some NoMemory = search rules in
-    unserved _ _ _ _ _ c.close-w.result.1 _ _ (c.nothing-then-eq.ensures.read _ _ _ (c.run-back.ensures.unread none))
-    (rw c.requires.start c.close-w.ensures.sent) c.nothing-then-eq.ensures.fault c.nothing-then-eq.ensures.refused (ap (lines_kept g.K.Keeper.lines) c.nothing-then-eq.ensures.keeper)
-    (inl refl)
+    let unread = c.run-back.ensures.unread none in
+    none_kept _ _ _ _ _ _ c.close-w.result.1 _ _ _ _ c.nothing-then-eq.ensures.keeper c.nothing-then-eq.ensures.fault
+    c.nothing-then-eq.ensures.refused (c.nothing-then-eq.ensures.read _ _ _ unread)
+    (rw c.requires.start c.close-w.ensures.sent) (inl refl) unread
+    (rw (c.requires.start, c.close-w.ensures.nothing (c.run-back.ensures.unbegun none)) (Keeps-refl _))
 
 pub finished-requires : goal.finished-requires
 finished-requires g c =
@@ -40,12 +45,17 @@ finished-requires g c =
       permit = (c.run-back.ensures.permit, c.run-back.ensures.begun some);
     }
 
-pub returns-clause-served : goal.returns-clause-served
-returns-clause-served g c =
+pub returns-clause-kept : goal.returns-clause-kept
+returns-clause-kept g c =
     let some : c.run-back.result.1.fault ≢ Some NoMemory = search rules in
-    rw (c.requires.rules, c.requires.start) (c.finished.ensures.served _ _ (c.run-back.ensures.heard some))
-
-pub returns-clause-untold : goal.returns-clause-untold
-returns-clause-untold g c =
-    let some : c.run-back.result.1.fault ≢ Some NoMemory = search rules in
-    c.finished.ensures.untold _ _ (c.run-back.ensures.heard some)
+    let heard = c.run-back.ensures.heard some in
+    let done = c.finished.ensures in
+    let P : Rules → Type 0 = λ by. IfSome c.finished.result.0.keeper (λ keeper. IsLegal by (g.K.Keeper.lines keeper)) in
+    record {
+      legal = subst P (sym c.requires.rules) done.legal;
+      served = rw (c.requires.rules, c.requires.start) (done.served _ _ heard);
+      back = ⊎_elim inl (λ none. inr (inr none)) done.back;
+      nothing = λ memory. absurd (done.memory some memory);
+      unwritten = λ memory. absurd (done.memory some memory);
+      untold = done.untold _ _ heard;
+    }
