@@ -209,3 +209,11 @@ pub popped : {X : Type 0} (P : X → Type 0) (xs left : List X) (taken : Option 
     → taken ≡ Some x → All P xs → All P left × P x
 popped P xs left taken x items is all =
     let both = All-pop P xs left taken items all in (both.0, subst (λ (o : _). IfSome o P) is both.1)
+
+-- one more behind a list of which all are so
+pub all_pushed : {X : Type 0} (P : X → Type 0) (xs ys : List X) (x : X) → ys ≡ xs ++ x ∷ [] → All P xs → P x → All P ys
+all_pushed P xs ys x is all this = subst (All P) (sym is) (All-push P xs x all this)
+
+-- the first and the others of a list of which all are so
+pub first_and_rest : {X : Type 0} (P : X → Type 0) (xs rest : List X) (x : X) → xs ≡ x ∷ rest → All P xs → P x × All P rest
+first_and_rest P xs rest x is all = let both = subst (All P) is all in (All-head P x rest both, All-tail P x rest both)

@@ -1,11 +1,16 @@
 -- What the workers of a session did together.
-use Rattle.std.specs.Prelude.{◌≡◌, ℕ, ◌+◌, ◌<◌, Bool, true, false, List, [], ◌++◌, All, length, map, sum_by}
+use Rattle.std.specs.Prelude.{◌≡◌, ◌≢◌, ℕ, ◌+◌, ◌<◌, Bool, true, false, List, [], ◌++◌, All, Option, Some, length, map, sum_by}
+use Rattle.std.specs.Io.KnownBytes.{Keeps}
 use mathlib.Core.List.{Sublistᴰ}
 use Rattle.atomic_table.specs.Seated.{TableId}
 use Rattle.fl_board.specs.Seats.{Place}
+use Rattle.fl_hearing.specs.Heard.{HasHeard}
+use Rattle.fl_hearing.specs.declared.hearing.Heard.{Heard}
 use Rattle.fl_intake.specs.Ends.{TakeSide, weight_taken}
 use Rattle.fl_intake.specs.Often.{Weight}
 use Rattle.fl_order.specs.Order.{only_reads}
+use Rattle.fl_session.specs.declared.session.Fault.TheVariants.{NoMemory}
+use Rattle.fl_waiting.specs.declared.rules.Rules.{Rules}
 use Rattle.fl_workers.specs.Asked.{Orders, asked_by}
 use Rattle.fl_workers.specs.Worked.{HasDone}
 
@@ -52,3 +57,16 @@ pub record HaveWorked (places back : List Place) (ends : List TakeSide) (any : B
   pub whose : map (λ place. place.worker) back ≡ map (λ place. place.worker) places
   pub all : length ends ≡ length places
   pub did : HaveDone (λ weight. weight_taken weight ends) back any
+
+-- What a session came to whose workers are joined: their places and ends, how the reader's part ended, and the parts and amount of the
+-- permit to begin. At NoMemory a worker couldn't be started: nothing was read, and the session didn't begin.
+pub record HasRun (rules : Rules) (of : TableId) (takers all : ℕ) (left left_now : Option (List ℕ)) (places back : List Place)
+    (back_ends : List TakeSide) (any : Bool) (reader : Heard) (parts amount : ℕ) : Type 0 where
+  pub put : (reader.put.of ≡ of) × (reader.put.takers ≡ takers)
+  pub ends : All (λ end. end.of ≡ of) back_ends
+  pub worked : reader.fault ≢ Some NoMemory → HaveWorked places back back_ends any
+  pub heard : reader.fault ≢ Some NoMemory → HasHeard rules left left_now reader.fault reader.put.put reader.goodbye
+  pub unread : reader.fault ≡ Some NoMemory → Keeps left left_now
+  pub permit : parts ≡ all
+  pub begun : reader.fault ≢ Some NoMemory → amount ≡ 1
+  pub unbegun : reader.fault ≡ Some NoMemory → amount ≡ 0

@@ -1,12 +1,10 @@
 //! The workers of a session, from start to join.
 
-ghost use Rattle.std.specs.Prelude.{◌≡◌, ◌≢◌, ◌≤◌, ◌<◌, ◌+◌, ◌||◌, ℕ, Bool, [], All, IfOk, IfSome, true, false, Some, length, map, sum_by, vec_capacity};
+ghost use Rattle.std.specs.Prelude.{◌≡◌, ◌≤◌, ◌<◌, ◌+◌, ◌||◌, ℕ, Bool, [], All, IfOk, IfSome, true, false, length, map, sum_by, vec_capacity};
 ghost use Rattle.fl_intake.specs.Often.{Weight};
-ghost use Rattle.std.specs.Io.KnownBytes.{Keeps};
 ghost use Rattle.fl_intake.specs.Ends.{weight_taken};
 ghost use Rattle.fl_core.specs.Tolds.{HasRoom};
-ghost use Rattle.fl_hearing.specs.Heard.{HasHeard};
-ghost use Rattle.fl_crew.specs.Working.{HasComeBack, HaveDone, HaveWorked, IsFresh};
+ghost use Rattle.fl_crew.specs.Working.{HasComeBack, HasRun, HaveDone, IsFresh};
 ghost use Rattle.fl_session.specs.Inbox.{IsUnread};
 
 use core::thread::Stack;
@@ -131,17 +129,8 @@ impl<
         requires ends { All (IsFresh self.now.intake) posts.ends.items }
         requires replies { All (HasRoom L.rules) posts.tolds.items }
         requires permit { (0 < N.parts) × (permit.parts ≡ N.parts) × (permit.amount ≡ 0) }
-        ensures put { (result.1.put.of ≡ self.now.intake) × (result.1.put.takers ≡ put.takers) }
-        ensures ends { All (λ end. end.of ≡ self.now.intake) result.0.ends.items }
-        ensures worked { result.1.fault ≢ Some Fault.NoMemory
-            → HaveWorked posts.seats.items result.0.seats.items result.0.ends.items result.0.refused }
-        ensures heard { result.1.fault ≢ Some Fault.NoMemory
-            → HasHeard L.rules (I.remaining r.old) (I.remaining r.new) result.1.fault result.1.put.put
-            result.1.goodbye }
-        ensures unread { result.1.fault ≡ Some Fault.NoMemory → Keeps (I.remaining r.old) (I.remaining r.new) }
-        ensures permit { result.2.parts ≡ N.parts }
-        ensures begun { result.1.fault ≢ Some Fault.NoMemory → result.2.amount ≡ 1 }
-        ensures unbegun { result.1.fault ≡ Some Fault.NoMemory → result.2.amount ≡ 0 }
+        ensures { HasRun L.rules self.now.intake put.takers N.parts (I.remaining r.old) (I.remaining r.new) posts.seats.items
+            result.0.seats.items result.0.ends.items result.0.refused result.1 result.2.parts result.2.amount }
     {
         let rt = self.rt;
         let (back, heard, permit, r) = thread::scope(
@@ -153,19 +142,10 @@ impl<
                 requires ends { All (IsFresh self.now.intake) posts.ends.items }
                 requires replies { All (HasRoom L.rules) posts.tolds.items }
                 requires permit { (0 < N.parts) × (permit.parts ≡ N.parts) × (permit.amount ≡ 0) }
-                ensures put { (result.1.put.of ≡ self.entry.now.intake) × (result.1.put.takers ≡ put.takers) }
-                ensures ends { All (λ end. end.of ≡ self.entry.now.intake) result.0.ends.items }
-                ensures worked { result.1.fault ≢ Some Fault.NoMemory
-                    → HaveWorked posts.seats.items result.0.seats.items result.0.ends.items result.0.refused }
                 ensures same { result.3.ghost_name ≡ r.entry.ghost_name }
-                ensures heard { result.1.fault ≢ Some Fault.NoMemory
-                    → HasHeard L.rules (I.remaining r.entry.now) (I.remaining result.3.now) result.1.fault
-                    result.1.put.put result.1.goodbye }
-                ensures unread { result.1.fault ≡ Some Fault.NoMemory
-                    → Keeps (I.remaining r.entry.now) (I.remaining result.3.now) }
-                ensures permit { result.2.parts ≡ N.parts }
-                ensures begun { result.1.fault ≢ Some Fault.NoMemory → result.2.amount ≡ 1 }
-                ensures unbegun { result.1.fault ≡ Some Fault.NoMemory → result.2.amount ≡ 0 }
+                ensures ran { HasRun L.rules self.entry.now.intake put.takers N.parts (I.remaining r.entry.now)
+                    (I.remaining result.3.now) posts.seats.items result.0.seats.items result.0.ends.items result.0.refused
+                    result.1 result.2.parts result.2.amount }
             {
                 // Taken whole, so that what its type keeps is known here.
                 let posts = posts;

@@ -13,9 +13,8 @@ use Rattle.fl_desk.specs.Legal.{is_asked, orders_asked}
 use Rattle.fl_history.specs.declared.history.Line.{Line}
 use Rattle.fl_history.specs.declared.history.Line.TheVariants as line
 use Rattle.fl_intake.specs.Often.{Weight}
-use Rattle.fl_order.specs.declared.order.Order.{Order}
 use Rattle.fl_crew.specs.Working.{IsCounted, Post, handed_at}
-use Rattle.fl_workers.specs.Asked.{Orders, asked, asked_by, order_asked, order_asked_by}
+use Rattle.fl_workers.specs.Asked.{Orders, asked, asked_by, order_asked_by}
 
 -- ---- what was handed in at a place is what the history asks for its worker
 

@@ -1,15 +1,15 @@
 -- What a session with workers did.
-use Rattle.std.proofs.Common.{◌≡◌, ◌≢◌, ℕ, ◌+◌, ◌⊎◌, inl, inr, ⊎_elim, Bool, true, false, true≢false, List, [], ◌++◌, Option, Some, None, length, map, sum_by, refl, sym, ap, subst, ◌∙◌, arith}
+use Rattle.std.proofs.Common.{◌≡◌, ◌≢◌, ℕ, ◌⊎◌, inl, inr, ⊎_elim, Bool, true, false, true≢false, List, [], ◌++◌, Option, Some, None, length, map, sum_by, refl, sym, ap, subst, ◌∙◌, arith}
 use Rattle.std.proofs.KnownBytes.{Appends-nil}
 use Rattle.std.proofs.lemmas.List.{length-map}
 use Rattle.std.proofs.lemmas.List.Elements.{All-nil}
 use Rattle.std.proofs.lemmas.List.FromFn.{length-range_with_len}
 use Rattle.std.proofs.lemmas.List.Sums.{sum_by-append}
 use Rattle.std.specs.List.{range_with_len}
-use Rattle.std.specs.Prelude.{IfSome}
+use Rattle.std.specs.Prelude.{IfSome, IsSome}
 use Rattle.std.specs.Io.KnownBytes.{Keeps}
 use Rattle.fl_board.specs.Seats.{Place}
-use Rattle.fl_desk.specs.Legal.{IsLegal, nothing}
+use Rattle.fl_desk.specs.Legal.{IsLegal}
 use Rattle.fl_history.specs.declared.history.Line.{Line}
 use Rattle.fl_hearing.specs.Heard.{HasHeard}
 use Rattle.fl_session.specs.Inbox.{IsEnding}
@@ -19,7 +19,7 @@ use Rattle.fl_order.specs.declared.order.Order.{Order}
 use Rattle.fl_serve.proofs.AskedLemmas.{all_is_handed_in}
 use Rattle.fl_crew.specs.Working.{HaveDone}
 use Rattle.fl_serve.specs.Inside.Closing.{HasAll, IsKeptBy}
-use Rattle.fl_session.specs.Kept.{lines_kept}
+use Rattle.fl_session.specs.Kept.{came_to, lines_kept}
 use Rattle.fl_hearing.specs.Said.{said_in}
 use Rattle.fl_serve.specs.Serve.{HasNoHistory, IsAsked, IsServedBy}
 use Rattle.fl_workers.specs.Asked.{Orders, asked}
@@ -139,4 +139,19 @@ none_kept lines rules left left_now held held_now broken keeper told any fault n
   nothing = λ _. (none, read);
   unwritten = λ _. wrote;
   untold = λ _. none;
+}
+
+-- the same, whose board was told; its rules, and what its writer held, have a name each
+pub all_kept : {K : Type 0} (lines : K → List Line) (rules by : Rules) (left left_now held start held_now : Option (List ℕ))
+    (keeper : Option K) (fault : Option Fault) (any : Bool) → rules ≡ by → held ≡ start
+    → IfSome keeper (λ k. IsLegal by (lines k)) → IsServedBy by left left_now start held_now (came_to lines keeper fault any)
+    → IsSome keeper ⊎ (fault ≡ Some NoReader) → fault ≢ Some NoMemory → (fault ≡ Some NoReader → keeper ≡ None)
+    → IsKeptBy lines rules left left_now held held_now keeper fault any
+all_kept lines rules by left left_now held start held_now keeper fault any same begun legal served back some untold = record {
+  legal = rw same legal;
+  served = rw (same, begun) served;
+  back = ⊎_elim inl (λ none. inr (inr none)) back;
+  nothing = λ memory. absurd (some memory);
+  unwritten = λ memory. absurd (some memory);
+  untold = untold;
 }

@@ -1,9 +1,8 @@
-use Rattle.std.proofs.Common.{rules, ◌≡◌, All, ◌∙◌, sym, subst}
-use Rattle.std.proofs.lemmas.List.Elements.{All-head, All-tail, All-push}
+use Rattle.std.proofs.Common.{rules, ◌≡◌, ◌∙◌}
 use Rattle.fl_board.specs.Seats.{Place}
 use Rattle.fl_intake.specs.Ends.{TakeSide}
 use Rattle.fl_crew.specs.Working.{IsFresh}
-use Rattle.fl_crew.proofs.WorkingLemmas.{moves, none_back, one_back}
+use Rattle.fl_crew.proofs.WorkingLemmas.{all_pushed, first_and_rest, moves, none_back, one_back}
 use Rattle.fl_crew.proofs.crew.joined.Goals as goal
 
 pub loop-thread-init : goal.loop-thread-init
@@ -23,17 +22,15 @@ loop-thread-preserved g c =
     let steps = c.in-Some.ensures.steps.0 in
     let seats = c.push_reserved.ensures.items in
     let ends = c.push_reserved-in-loop-thread.ensures.items in
-    let all = subst (All (λ t. IsFresh c.args.intake.now t.promise.end.value)) steps i.4 in
-    let here = All-head (λ t. IsFresh c.args.intake.now t.promise.end.value) _ _ all in
+    let thread = first_and_rest (λ t. IsFresh c.args.intake.now t.promise.end.value) _ _ c.in-Some.thread steps i.4 in
     let kept = c.join-seat.ensures in (
       search rules,
       search rules,
       search rules,
       moves (λ (s : Place). s.worker) (λ t. t.promise.worker) _ _ c.join-seat.result.seat _ _ c.in-Some.thread _ i.3
           seats steps kept.own,
-      All-tail (λ t. IsFresh c.args.intake.now t.promise.end.value) _ _ all,
-      subst (All (λ (e : TakeSide). e.of ≡ c.args.intake.now)) (sym ends)
-          (All-push (λ (e : TakeSide). e.of ≡ c.args.intake.now) c.loop-thread.back.ends.items c.join-seat.result.end i.5
-          (kept.same ∙ here.0)),
-      one_back _ _ _ _ _ _ _ c.join-seat.result.end c.join-seat.result.seat i.6 here.1 kept.did ends seats,
+      thread.1,
+      all_pushed (λ (e : TakeSide). e.of ≡ c.args.intake.now) c.loop-thread.back.ends.items _ c.join-seat.result.end ends i.5
+          (kept.same ∙ thread.0.0),
+      one_back _ _ _ _ _ _ _ c.join-seat.result.end c.join-seat.result.seat i.6 thread.0.1 kept.did ends seats,
     )

@@ -1,4 +1,4 @@
-use Rattle.std.proofs.Common.{rules, ◌≡◌, ◌∙◌}
+use Rattle.std.proofs.Common.{◌∙◌}
 use Rattle.fl_serve.proofs.ServingLemmas.{never_no_reader, served_by}
 use Rattle.fl_serve.proofs.serving.finished.Goals as goal
 

@@ -1,13 +1,10 @@
-use Rattle.std.proofs.Common.{rules, ◌≡◌, ◌≢◌, Some, false, inl, inr, ⊎_elim, refl, sym, subst, ap, arith, length, map}
+use Rattle.std.proofs.Common.{rules, ◌≡◌, ◌≢◌, Some, false, inl, inr, ⊎_elim, refl, ap, arith, length}
 use Rattle.std.proofs.KnownBytes.{Keeps-refl}
 use Rattle.std.proofs.lemmas.List.{length-map}
 use Rattle.std.proofs.lemmas.List.FromFn.{length-range_with_len}
-use Rattle.std.specs.Prelude.{IfSome}
 use Rattle.fl_board.specs.Seats.{Place}
-use Rattle.fl_desk.specs.Legal.{IsLegal}
-use Rattle.fl_serve.proofs.ServingLemmas.{none_kept, nothing_sent}
+use Rattle.fl_serve.proofs.ServingLemmas.{all_kept, none_kept, nothing_sent}
 use Rattle.fl_session.specs.declared.session.Fault.TheVariants.{NoMemory}
-use Rattle.fl_waiting.specs.declared.rules.Rules.{Rules}
 use Rattle.fl_serve.proofs.serving.serve_at.Goals as goal
 
 pub returns-in-Err-clause-kept : goal.returns-in-Err-clause-kept
@@ -50,12 +47,5 @@ returns-clause-kept g c =
     let some : c.run-back.result.1.fault ≢ Some NoMemory = search rules in
     let heard = c.run-back.ensures.heard some in
     let done = c.finished.ensures in
-    let P : Rules → Type 0 = λ by. IfSome c.finished.result.0.keeper (λ keeper. IsLegal by (g.K.Keeper.lines keeper)) in
-    record {
-      legal = subst P (sym c.requires.rules) done.legal;
-      served = rw (c.requires.rules, c.requires.start) (done.served _ _ heard);
-      back = ⊎_elim inl (λ none. inr (inr none)) done.back;
-      nothing = λ memory. absurd (done.memory some memory);
-      unwritten = λ memory. absurd (done.memory some memory);
-      untold = done.untold _ _ heard;
-    }
+    all_kept _ _ _ _ _ _ _ _ _ _ _ c.requires.rules c.requires.start done.legal (done.served _ _ heard) done.back
+    (done.memory some) (done.untold _ _ heard)

@@ -1,8 +1,7 @@
-use Rattle.std.proofs.Common.{rules, ◌≡◌, All, sym, subst}
-use Rattle.std.proofs.lemmas.List.Elements.{All-tail, All-push}
+use Rattle.std.proofs.Common.{rules, ◌≡◌}
 use Rattle.fl_board.specs.Seats.{Place}
 use Rattle.fl_crew.specs.Working.{IsFresh}
-use Rattle.fl_crew.proofs.WorkingLemmas.{moves}
+use Rattle.fl_crew.proofs.WorkingLemmas.{all_pushed, first_and_rest, moves}
 use Rattle.fl_crew.proofs.crew.Crew.start_all.Goals as goal
 
 pub loop-seat-preserved : goal.loop-seat-preserved
@@ -15,10 +14,9 @@ loop-seat-preserved g c =
       search rules,
       moves (λ t. t.promise.worker) (λ (s : Place). s.worker) _ _ c.in-Some-start_next.thread _ _ c.in-Some.seat _ i.2 threads
           steps c.in-Some-start_next.ensures.whose,
-      All-tail (λ (s : Place). s.count ≡ 0) _ _ (subst (All (λ (s : Place). s.count ≡ 0)) steps i.3),
+      (first_and_rest (λ (s : Place). s.count ≡ 0) _ _ c.in-Some.seat steps i.3).1,
       search rules,
       search rules,
-      subst (All (λ t. IsFresh of t.promise.end.value)) (sym threads)
-          (All-push (λ t. IsFresh of t.promise.end.value) c.loop-seat.threads.items c.in-Some-start_next.thread i.6
-          c.in-Some-start_next.ensures.end),
+      all_pushed (λ t. IsFresh of t.promise.end.value) c.loop-seat.threads.items _ c.in-Some-start_next.thread threads i.6
+          c.in-Some-start_next.ensures.end,
     )

@@ -1,4 +1,4 @@
-use Rattle.std.proofs.Common.{rules, arith, All, subst}
+use Rattle.std.proofs.Common.{rules, All, subst}
 use Rattle.fl_core.specs.Tolds.{HasRoom}
 use Rattle.fl_serve.proofs.ServingLemmas.{as_many}
 use Rattle.fl_waiting.specs.declared.rules.Rules.{Rules}
