@@ -14,7 +14,7 @@ use Rattle.fl_history.specs.declared.records.ShortOrder.{ShortOrder}
 use Rattle.fl_history.specs.declared.records.Answered.{Answered}
 use Rattle.fl_history.specs.declared.records.ShortLine.{ShortLine}
 use Rattle.fl_history.specs.declared.records.ShortLine.TheVariants as record_of
-use Rattle.fl_history.specs.Inside.Records.{name_in, short_op, ask_of, bytes_at, opened_parts, opened_op, line_asking, asked_line, answered_line}
+use Rattle.fl_history.specs.Inside.Records.{ask_of, bytes_at, opened_parts, opened_op, line_asking, asked_line, answered_line}
 use Rattle.fl_history.proofs.Packing.{get_left, get_right}
 use Rattle.fl_history.specs.Inside.Records.{line_or_none, opened, opened_all, Begins, IsNamed, NamesAreThere, LeadsBack, IsThere, AreKept}
 use Rattle.fl_order.specs.Name.{IsName}
@@ -51,39 +51,19 @@ all_at P (y ∷ xs) (suc i) x a e = all_at P xs i x a.1 e
 
 -- ---- one order, there and back
 
-parts_back : (names : List ℕ) (span : Span) (kind : OpKind) (b : Body) → bytes_at names span ≡ name_in b → opened_parts names (short_op span kind b) ≡ (kind, b)
-parts_back names span kind (body.Lock ask) e = refl
-parts_back names span kind (body.Create excl mode name) e = ap (λ n. (kind, body.Create excl mode n)) e
-parts_back names span kind (body.Name name) e = ap (λ n. (kind, body.Name n)) e
-parts_back names span kind (body.Number n) e = refl
-parts_back names span kind (body.Flush fh owner) e = refl
-parts_back names span kind (body.Release fh unlocks owner) e = refl
-parts_back names span kind body.Getattr e = refl
-parts_back names span kind body.Open e = refl
-
-named_short : (names : List ℕ) (span : Span) (kind : OpKind) (b : Body) → IsNamed names span → NamesAreThere names (short_op span kind b)
-named_short names span kind (body.Lock ask) n = tt
-named_short names span kind (body.Create excl mode name) n = n
-named_short names span kind (body.Name name) n = n
-named_short names span kind (body.Number m) n = tt
-named_short names span kind (body.Flush fh owner) n = tt
-named_short names span kind (body.Release fh unlocks owner) n = tt
-named_short names span kind body.Getattr n = tt
-named_short names span kind body.Open n = tt
-
 -- an order is that of its parts
 of_its_parts : (o : Op) → op_of (parts_of o).0 (parts_of o).1 ≡ Some o
 of_its_parts o = grind arith
 
-module _ (names : List ℕ) (span : Span) (o : Order) (parts : OpKind × Body) (of : parts ≡ parts_of o.op) (there : bytes_at names span ≡ name_in parts.1) where
-  op_back : opened_op names (short_op span parts.0 parts.1) ≡ Some o.op
-  op_back = ap (λ (p : OpKind × Body). op_of p.0 p.1) (parts_back names span parts.0 parts.1 there ∙ of) ∙ of_its_parts o.op
+module _ (names : List ℕ) (o : Order) (op : ShortOp) (named : NamesAreThere names op) (opened : opened_parts names op ≡ parts_of o.op) where
+  op_back : opened_op names op ≡ Some o.op
+  op_back = ap (λ (p : OpKind × Body). op_of p.0 p.1) opened ∙ of_its_parts o.op
 
-  leads_back : IsNamed names span → LeadsBack names (short_op span parts.0 parts.1)
-  leads_back n = record { named = named_short names span parts.0 parts.1 n; asked = o.op; is = op_back }
+  leads_back : LeadsBack names op
+  leads_back = record { named = named; asked = o.op; is = op_back }
 
-  asked_back : (worker : ℕ) → asked_line names (ask_of worker o (short_op span parts.0 parts.1)) ≡ line.Asked worker o
-  asked_back worker = ap (line_or_none (line_asking (ask_of worker o (short_op span parts.0 parts.1)))) op_back
+  asked_back : (worker : ℕ) → asked_line names (ask_of worker o op) ≡ line.Asked worker o
+  asked_back worker = ap (line_or_none (line_asking (ask_of worker o op))) op_back
 
 -- ---- names with more names behind them
 
@@ -175,20 +155,19 @@ module _ (asks : List ShortOrder) (answers : List Answered) (names : List ℕ) (
 -- ---- in the words of the calls
 
 pub asked_kept : (records records′ : List ShortLine) (asks asks′ : List ShortOrder) (answers : List Answered) (names names′ : List ℕ) (worker : ℕ) (o : Order)
-    (parts : OpKind × Body) (span : Span) (new : ShortOrder) → AreKept records asks answers names → parts ≡ parts_of o.op → names′ ≡ names ++ name_in parts.1
-    → IsNamed names′ span → bytes_at names′ span ≡ name_in parts.1 → new ≡ ask_of worker o (short_op span parts.0 parts.1) → asks′ ≡ asks ++ new ∷ []
+    (op : ShortOp) (new : ShortOrder) → AreKept records asks answers names → Begins names names′ → NamesAreThere names′ op
+    → opened_parts names′ op ≡ parts_of o.op → new ≡ ask_of worker o op → asks′ ≡ asks ++ new ∷ []
     → records′ ≡ records ++ record_of.Asked (length asks) ∷ []
     → AreKept records′ asks′ answers names′ × (opened_all asks′ answers names′ records′ ≡ opened_all asks answers names records ++ line.Asked worker o ∷ [])
-asked_kept records records′ asks asks′ answers names names′ worker o parts span new k of more named there is joins last =
+asked_kept records records′ asks asks′ answers names names′ worker o op new k n named of is joins last =
     let a : Begins asks asks′ = record { rest = new ∷ []; is = joins } in
-    let n : Begins names names′ = record { rest = name_in parts.1; is = more } in
     let t = begins_itself answers in
     let inside : length asks < length asks′ = subst (λ l. length asks < length l) (sym joins) (omega (arith, length-append asks (new ∷ []))) in
-    let back : LeadsBack names′ new.op = subst (λ (x : ShortOrder). LeadsBack names′ x.op) (sym is) (leads_back names′ span o parts of there named) in
+    let back : LeadsBack names′ new.op = subst (λ (x : ShortOrder). LeadsBack names′ x.op) (sym is) (leads_back names′ o op named of) in
     let found : line_or_none (asked_line names′) (slice_get asks′ (length asks)) ≡ line.Asked worker o =
     ap (λ l. line_or_none (asked_line names′) (slice_get l (length asks))) joins
     ∙ ap (line_or_none (asked_line names′)) (get_right asks (new ∷ []) (length asks) 0 (omega arith))
-    ∙ ap (asked_line names′) is ∙ asked_back names′ span o parts of there worker in
+    ∙ ap (asked_line names′) is ∙ asked_back names′ o op named of worker in
     subst (λ rs. AreKept rs asks′ answers names′ × (opened_all asks′ answers names′ rs ≡ opened_all asks answers names records ++ line.Asked worker o ∷ []))
     (sym last) (
       kept_still asks answers names asks′ answers names′ a t n records (record_of.Asked (length asks)) k inside (back, tt),

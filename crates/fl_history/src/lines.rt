@@ -7,10 +7,13 @@ ghost use Rattle.fl_history.specs.Inside.Records.{Begins, IsNamed, IsThere, Name
 ghost use Rattle.fl_history.specs.declared.records.ShortOrder.{ShortOrder};
 ghost use Rattle.fl_history.specs.declared.history.Line.TheVariants as line;
 ghost use Rattle.fl_order.specs.Name.{IsName};
+ghost use Rattle.fl_order.specs.Order.{parts_of};
 
 use crate::chunks::ChunkedVec;
 use crate::history::Line;
-use crate::records::{Answered, ShortLine, ShortOp, ShortOrder, Span, name_in, short_op};
+use crate::records::{
+    Answered, ShortLine, ShortOp, ShortOrder, Span, name_in, short_lock, short_op,
+};
 use fl_order::{Answer, Body, LockAsk, Name, Op, OpKind, Order, Told};
 use std::alloc::{AllocError, Global};
 use std::marker::Model;
@@ -115,9 +118,7 @@ impl Lines {
         ensures items { self.new.items ≡ self.old.items ++ line.Asked worker order.now ∷ [] }
         ensures room { self.new.room + 1 ≡ self.old.room }
     {
-        let parts = order.op.parts();
-        let name = push_name(&mut self.names, name_in(&parts.1));
-        let op = short_op(parts.0, &parts.1, name);
+        let op = keep_op(&mut self.names, &order.op);
         let at = self.asks.len();
         self.asks.push(ShortOrder::new(worker, order, op));
         self.records.push(ShortLine::Asked(at));
@@ -155,6 +156,23 @@ fn keep_told(answers: &mut ChunkedVec<Answered>, told: &Told) -> ShortLine
             ShortLine::Answered(at)
         }
     }
+}
+
+// What is kept of what an order asks, whose name joins the others. A lock request is kept without its `Body`, whose room for a
+// name would be cleared and copied.
+fn keep_op(names: &mut ChunkedVec<u8>, op: &Op) -> ShortOp
+    requires { 255 ≤ names.old.room }
+    ensures names { Begins names.old.items names.new.items }
+    ensures room { names.old.room ≤ names.new.room + 255 }
+    ensures there { NamesAreThere names.new.items result }
+    ensures opened { opened_parts names.new.items result ≡ parts_of op.now }
+{
+    if let Some((kind, ask)) = op.lock_parts() {
+        return short_lock(kind, &ask);
+    }
+    let parts = op.parts();
+    let name = push_name(names, name_in(&parts.1));
+    short_op(parts.0, &parts.1, name)
 }
 
 // Puts the bytes of a name behind those of all others.

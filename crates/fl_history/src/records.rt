@@ -145,7 +145,8 @@ pub(crate) fn short_op(what: OpKind, body: &Body, name: Span) -> ShortOp
     }
 }
 
-fn short_lock(what: OpKind, ask: &LockAsk) -> ShortOp
+/// What is kept of a lock request.
+pub(crate) fn short_lock(what: OpKind, ask: &LockAsk) -> ShortOp
     ensures { result ≡ short_lock what ask.now }
 {
     ShortOp::Lock {

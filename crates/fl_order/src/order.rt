@@ -3,7 +3,7 @@
 ghost use Rattle.std.specs.Prelude.{◌≡◌, ◌↔◌, Some, IsSome, Ok};
 ghost use Rattle.fl_order.specs.Order.{only_reads};
 
-use crate::body::Body;
+use crate::body::{Body, Shape};
 use crate::kind::OpKind;
 use crate::name::Name;
 
@@ -135,6 +135,34 @@ impl Op {
             (OpKind::Setlk, Body::Lock(ask)) => Some(Op::Setlk(ask)),
             (OpKind::Setlkw, Body::Lock(ask)) => Some(Op::Setlkw(ask)),
             (OpKind::Interrupt, Body::Number(unique)) => Some(Op::Interrupt(unique)),
+            _ => None,
+        }
+    }
+
+    /// The kind of its message and the lock request; none where it asks for no lock. Unlike [`Op::parts`] it makes no [`Body`],
+    /// which has room for a name.
+    pub fn lock_parts(&self) -> Option<(OpKind, LockAsk)>
+        ensures { (kind : OpKind) (ask : LockAsk) →
+            (result ≡ Some (kind, ask)) ↔ (parts_of self.now ≡ (kind, Body.Lock ask)) }
+    {
+        match *self {
+            Op::Getlk(ask) => Some((OpKind::Getlk, ask)),
+            Op::Setlk(ask) => Some((OpKind::Setlk, ask)),
+            Op::Setlkw(ask) => Some((OpKind::Setlkw, ask)),
+            _ => None,
+        }
+    }
+
+    /// The order of this kind with this lock request, as [`Op::of`] makes it; none where orders of the kind ask for no lock.
+    pub fn of_lock(kind: OpKind, ask: LockAsk) -> Option<Op>
+        ensures value { result ≡ op_of kind (Body.Lock ask) }
+        ensures inverse { (op : Op) → (result ≡ Some op) ↔ (parts_of op ≡ (kind, Body.Lock ask)) }
+        ensures shaped { IsSome result ↔ (shape_for kind ≡ Ok Shape.Lock) }
+    {
+        match kind {
+            OpKind::Getlk => Some(Op::Getlk(ask)),
+            OpKind::Setlk => Some(Op::Setlk(ask)),
+            OpKind::Setlkw => Some(Op::Setlkw(ask)),
             _ => None,
         }
     }

@@ -2,12 +2,12 @@
 
 ghost use Rattle.std.specs.Prelude.{◌≡◌, ◌+◌, ◌<◌, ◌≤◌, ◌==◌, length, IfOk, OnOk, Ok, Err};
 ghost use Rattle.std.specs.Prelude.{if◌then◌else◌};
-ghost use Rattle.fl_order.specs.OpKind.{shape_for};
+ghost use Rattle.std.specs.Result.{result_map_both};
 ghost use Rattle.fl_order.specs.Name.{IsName};
-ghost use Rattle.fl_order.specs.Sayable.{FitsBody, FitsOp, IsSayable};
+ghost use Rattle.fl_order.specs.Sayable.{FitsBody, FitsLock, FitsOp, IsSayable};
 ghost use Rattle.fl_wire.specs.Body.{name_behind, name_in};
 ghost use Rattle.fl_wire.specs.Message.{ReadsBack};
-ghost use Rattle.fl_wire.specs.Says.{asked_by, body_in, said};
+ghost use Rattle.fl_wire.specs.Says.{asked_by, body_in, order_of, said};
 
 use crate::frame::Frame;
 use crate::layout::{u32_at, u64_at};
@@ -41,26 +41,41 @@ fn order_in(frame: &Frame) -> Result<Order, Refusal>
     if frame.batch().is_some() {
         return Err(Refusal::Batch);
     }
-    let bytes = frame.as_bytes();
     let kind = OpKind::of_opcode(frame.opcode()).ok_or(Refusal::Answer(Errno::ENOSYS))?;
-    let op = op_in(kind, bytes)?;
-    Ok(Order {
+    let shape = kind.shape()?;
+    if shape == Shape::Lock {
+        return lock_order(kind, frame);
+    }
+    let body = body_in(shape, frame.as_bytes()).map_err(|e| kind.refusal(e))?;
+    let op = Op::of(kind, body).ok_or(Refusal::Answer(Errno::ENOSYS))?;
+    Ok(order_asking(op, frame))
+}
+
+// What a message of this kind says whose body is a lock request. It makes no `Body`, whose room for a name would be cleared and
+// copied.
+fn lock_order(kind: OpKind, frame: &Frame) -> Result<Order, Refusal>
+    ensures said { result ≡ order_of frame.now (asked_by kind (Ok Shape.Lock) frame.now) }
+    ensures sayable { IfOk result IsSayable }
+{
+    let ask = lock_ask(frame.as_bytes()).map_err(|e| kind.refusal(e))?;
+    let op = Op::of_lock(kind, ask).ok_or(Refusal::Answer(Errno::ENOSYS))?;
+    Ok(order_asking(op, frame))
+}
+
+// The order with this message's header that asks this.
+fn order_asking(op: Op, frame: &Frame) -> Order
+    ensures said { Ok result ≡ order_of frame.now (Ok op) }
+    ensures sayable { FitsOp op → IsSayable result }
+{
+    let bytes = frame.as_bytes();
+    Order {
         unique: frame.unique(),
         node: u64_at(bytes, 16),
         uid: u32_at(bytes, 24),
         gid: u32_at(bytes, 28),
         pid: u32_at(bytes, 32),
         op,
-    })
-}
-
-// What a message of this kind asks.
-fn op_in(kind: OpKind, message: &[u8]) -> Result<Op, Refusal>
-    ensures value { result ≡ asked_by kind (shape_for kind) message.now }
-    ensures fits { IfOk result FitsOp }
-{
-    let body = body_in(kind.shape()?, message).map_err(|e| kind.refusal(e))?;
-    Op::of(kind, body).ok_or(Refusal::Answer(Errno::ENOSYS))
+    }
 }
 
 // The body of this shape.
@@ -69,7 +84,7 @@ fn body_in(shape: Shape, message: &[u8]) -> Result<Body, Errno>
     ensures fits { IfOk result FitsBody }
 {
     match shape {
-        Shape::Lock => lock_body(message),
+        Shape::Lock => Ok(Body::Lock(lock_ask(message)?)),
         Shape::Create => create_body(message),
         Shape::Name => Ok(Body::Name(name_behind(message, 0)?)),
         Shape::Number => number_body(message),
@@ -81,14 +96,14 @@ fn body_in(shape: Shape, message: &[u8]) -> Result<Body, Errno>
 }
 
 // A lock request.
-fn lock_body(message: &[u8]) -> Result<Body, Errno>
-    ensures value { result ≡ body_in Shape.Lock message.now }
-    ensures fits { IfOk result FitsBody }
+fn lock_ask(message: &[u8]) -> Result<LockAsk, Errno>
+    ensures value { result_map_both (λ ask. Body.Lock ask) (λ e. e) result ≡ body_in Shape.Lock message.now }
+    ensures fits { IfOk result FitsLock }
 {
     if message.len() != 88 {
         return Err(Errno::EINVAL);
     }
-    Ok(Body::Lock(LockAsk {
+    Ok(LockAsk {
         fh: u64_at(message, 40),
         owner: u64_at(message, 48),
         start: u64_at(message, 56),
@@ -96,7 +111,7 @@ fn lock_body(message: &[u8]) -> Result<Body, Errno>
         kind: u32_at(message, 72),
         pid: u32_at(message, 76),
         flags: u32_at(message, 80),
-    }))
+    })
 }
 
 // The body of a CREATE.

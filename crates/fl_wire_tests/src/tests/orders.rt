@@ -83,6 +83,21 @@ fn orders_of_locks_and_their_parts(rt: HostRuntime) {
     has_parts(&rt, Op::Setlkw(ASK), OpKind::Setlkw, Body::Lock(ASK));
 }
 
+// The order asks for this lock, and is made of it.
+fn has_lock(rt: &impl Abort, op: Op, kind: OpKind) {
+    same(rt, &op.lock_parts(), &Some((kind, ASK)));
+    same(rt, &Op::of_lock(kind, ASK), &Some(op));
+}
+
+#[test]
+fn orders_of_locks_and_their_lock_requests(rt: HostRuntime) {
+    has_lock(&rt, Op::Getlk(ASK), OpKind::Getlk);
+    has_lock(&rt, Op::Setlk(ASK), OpKind::Setlk);
+    has_lock(&rt, Op::Setlkw(ASK), OpKind::Setlkw);
+    same(&rt, &Op::Getattr.lock_parts(), &None);
+    same(&rt, &Op::of_lock(OpKind::Init, ASK), &None);
+}
+
 // No order has these parts.
 fn is_no_order(rt: &impl Abort, kind: OpKind, body: Body) {
     same(rt, &Op::of(kind, body), &None);
