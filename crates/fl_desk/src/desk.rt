@@ -116,7 +116,8 @@ impl Desk {
         ensures lines { result ≡ self.lines }
         ensures legal { IsLegal self.present.rules result }
     {
-        History::of(self.into_kept())
+        let kept = self.into_kept();
+        History::of(kept)
     }
 }
 

@@ -4,6 +4,6 @@ use Rattle.fl_desk.proofs.desk.Desk.into_history.Goals as goal
 
 pub returns : goal.returns
 returns c = record {
-  lines = c.of.ensures ∙ c.into_kept.ensures.lines;
-  legal = subst (IsLegal c.args.self.present.rules) (sym c.of.ensures) c.into_kept.ensures.legal;
+  lines = c.of.ensures ∙ c.into_kept-kept.ensures.lines;
+  legal = subst (IsLegal c.args.self.present.rules) (sym c.of.ensures) c.into_kept-kept.ensures.legal;
 }
