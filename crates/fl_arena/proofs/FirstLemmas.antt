@@ -1,13 +1,14 @@
 -- A walk to the first item that passes a test.
-use Rattle.std.proofs.Common.{◌≡◌, ℕ, zero, suc, ◌+◌, ◌≤◌, Bool, true, false, not, List, [], ◌∷◌, length, drop, Some, None, slice_get, sym, ◌∙◌, ap, inl, inr}
-use Rattle.std.proofs.Common.{arith}
+use Rattle.std.proofs.Common.{◌≡◌, ℕ, zero, suc, ◌+◌, ◌≤◌, Bool, true, false, not, List, [], ◌∷◌, length, drop, Option, Some, None, slice_get, refl, sym, ◌∙◌, ap, subst, inl, inr}
+use Rattle.std.proofs.Common.{MatchOption, arith}
+use Rattle.std.specs.Bool.{⊤}
 use Rattle.std.specs.List.{find, position_or_len}
 use Rattle.std.proofs.lemmas.List.{drop_all}
 use Rattle.std.proofs.lemmas.List.Folds.{find_at}
 use Rattle.std.proofs.lemmas.List.Sums.{prefix_len-drop_yes, prefix_len-drop_no}
 use Rattle.std.proofs.lemmas.Option.{none-some, slice_get_within, slice_get_past, slice_get_cases, get_or_from_slice_get}
-use Rattle.fl_arena.specs.Chains.{Chains, items}
-use Rattle.fl_arena.specs.Cursors.{cursor_at, item_of}
+use Rattle.fl_arena.specs.Chains.{Chains, items, slot_at}
+use Rattle.fl_arena.specs.Cursors.{cursor_at, item_of, IsInPlace}
 use Rattle.fl_arena.specs.declared.cursors.Cursor.{Cursor}
 use Rattle.fl_arena.proofs.ChainLaws.{item_of-at}
 
@@ -36,6 +37,14 @@ module _ {A : Type 0} (p : A → Bool) (xs : List A) (n i : ℕ) (so_far : n ≡
       ] in
       let rest : position_or_len p (drop i xs) ≡ 0 = ap (position_or_len p) (drop_all i xs past) in
       omega (arith, so_far, rest)
+
+-- a cursor at an index is in place
+pub at_in_place : {T : Type 0} (a : Chains T) (c i : ℕ) (cursor : Cursor) → cursor ≡ cursor_at a c i → IsInPlace a cursor
+at_in_place a c i cursor at = subst (IsInPlace a) (sym at) (each (slot_at a c i))
+  where
+    each : (o : Option ℕ) → MatchOption o ⊤ (λ s. o ≡ Some s)
+    each None = tt
+    each (Some s) = refl
 
 -- an item counted from an index on
 slice_get-drop : {A : Type 0} (xs : List A) (k j : ℕ) → slice_get (drop k xs) j ≡ slice_get xs (k + j)

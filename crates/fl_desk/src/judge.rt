@@ -1,7 +1,9 @@
 //! The judge of a history: whether it is one of one thread, under the rules by which requests wait.
 
-ghost use Rattle.std.specs.Prelude.{◌≡◌, ◌≢◌, ◌↔◌, ◌≤◌, ◌<◌, ◌^◌, true, Some, IfOk, length, map, take, drop};
+ghost use Rattle.std.specs.Prelude.{◌≡◌, ◌≢◌, ◌↔◌, ◌≤◌, ◌<◌, ◌^◌, true, Some, [], IfOk, length, map, take, drop};
 ghost use Rattle.std.specs.List.{slice_get};
+ghost use Rattle.fl_core.specs.Tolds.{HasRoom};
+ghost use Rattle.fl_desk.specs.Kept.{IsKept};
 ghost use Rattle.fl_desk.specs.Verdicts.{IsVerdict};
 ghost use Rattle.fl_history.specs.declared.history.Line.TheVariants as line;
 ghost use Rattle.fl_order.specs.declared.told.Told.{Told};
@@ -28,22 +30,31 @@ pub enum Verdict {
 pub fn check(alloc: Global, history: &History, rules: Rules) -> Result<Verdict, NoMemory>
     ensures { IfOk result (λ verdict. IsVerdict rules history.now verdict) }
 {
-    let mut core = Core::new(alloc, rules)?;
     let mut tolds = Tolds::new(alloc, rules)?;
+    let mut core = Core::new(alloc, rules)?;
+    Ok(judged(history, &mut core, &mut tolds))
+}
+
+// Judges a history by a core that has taken no order, and with room for the replies of one.
+fn judged(history: &History, core: &mut Core, tolds: &mut Tolds) -> Verdict
+    requires opening { IsKept [] core.old }
+    requires room { HasRoom core.old.rules tolds.old }
+    ensures { IsVerdict core.old.rules history.now result }
+{
     let mut at = 0;
     while at < history.len() {
         let Line::Asked { worker: _, order } = history.line(at) else {
-            return Ok(Verdict::Differs(at + 1));
+            return Verdict::Differs(at + 1);
         };
-        core.step(&order, &mut tolds);
+        core.step(&order, tolds);
         let replies = tolds.as_slice();
         let told = told_alike(history, at + 1, replies);
         if told < replies.len() {
-            return Ok(Verdict::Differs(at + told + 2));
+            return Verdict::Differs(at + told + 2);
         }
         at += told + 1;
     }
-    Ok(Verdict::Legal)
+    Verdict::Legal
 }
 
 // How many of the replies the lines from a place on begin with.

@@ -28,6 +28,30 @@ module _ {X : Type 0} where
   taken_more [] (suc i) (suc k) less = refl
   taken_more (x ∷ xs) (suc i) (suc k) less = ap (λ l. x ∷ l) (taken_more xs i k (omega (arith, less)))
 
+  -- a front of so many, and what stands behind it
+  take_front : (xs ys : List X) (i : ℕ) → i ≤ length xs → take i (take i xs ++ ys) ≡ take i xs
+  take_front xs ys zero less = refl
+  take_front [] ys (suc i) less = absurd (omega (arith, less))
+  take_front (x ∷ xs) ys (suc i) less = ap (λ l. x ∷ l) (take_front xs ys i (omega (arith, less)))
+
+  drop_front : (xs ys : List X) (i : ℕ) → i ≤ length xs → drop i (take i xs ++ ys) ≡ ys
+  drop_front xs ys zero less = refl
+  drop_front [] ys (suc i) less = absurd (omega (arith, less))
+  drop_front (x ∷ xs) ys (suc i) less = drop_front xs ys i (omega (arith, less))
+
+  pub past_front : (xs ys : List X) (i : ℕ) → i ≤ length xs → i ≤ length (take i xs ++ ys)
+  past_front xs ys zero less = omega arith
+  past_front [] ys (suc i) less = absurd (omega (arith, less))
+  past_front (x ∷ xs) ys (suc i) less = omega (arith, past_front xs ys i (omega (arith, less)))
+
+  -- items that are put in behind a front
+  pub put_behind : (xs ys l one two : List X) (i : ℕ) → i ≤ length xs → one ≡ take i xs ++ ys → two ≡ take i one ++ (l ++ drop i one)
+      → two ≡ take i xs ++ (l ++ ys)
+  put_behind xs ys l one two i less one_is two_is =
+      two_is
+      ∙ ap (λ o. take i o ++ (l ++ drop i o)) one_is
+      ∙ (λ t. take_front xs ys i less t ++ (l ++ drop_front xs ys i less t))
+
   pub long_insert : (xs : List X) (i : ℕ) (y : X) → length (insert xs i y) ≡ length xs + 1
   long_insert xs zero y = omega arith
   long_insert [] (suc i) y = omega arith

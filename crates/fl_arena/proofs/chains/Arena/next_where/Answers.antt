@@ -1,10 +1,11 @@
-use Rattle.std.proofs.Common.{◌≡◌, ◌+◌, drop, Some, slice_get, refl, sym, ap, ◌∙◌}
+use Rattle.std.proofs.Common.{◌≡◌, ◌+◌, drop, Some, slice_get, refl, sym, ap, ◌∙◌, arith}
 use Rattle.std.specs.List.{position_or_len}
 use Rattle.std.specs.Option.{option_copied}
+use Rattle.std.proofs.lemmas.Option.{slice_get_within}
 use Rattle.fl_arena.specs.Chains.{items}
 use Rattle.fl_arena.specs.Cursors.{cursor_at}
 use Rattle.fl_arena.specs.declared.cursors.Cursor.{Cursor}
-use Rattle.fl_arena.proofs.FirstLemmas.{first_more, first_here, first_none, found_first}
+use Rattle.fl_arena.proofs.FirstLemmas.{at_in_place, first_more, first_here, first_none, found_first}
 use Rattle.fl_arena.proofs.chains.Arena.next_where.Goals as goal
 use Rattle.fl_arena.proofs.chains.Arena.next_where.Goals.{in-Some+then-test, in_default}
 
@@ -40,3 +41,26 @@ returns-clause-first g c p tests =
 
 pub returns-clause-found : goal.returns-clause-found
 returns-clause-found g c p tests = found_first c.args.self.now c.args.from.chain c.args.from.index p c.loop-item.cursor (returns-clause-first g c p tests)
+
+pub loop-item-init : goal.loop-item-init
+loop-item-init g c = record { at = c.requires.at; first = λ p tests. refl }
+
+pub item-requires : goal.item-requires
+item-requires g c = at_in_place c.args.self.now _ _ _ c.loop-item.invariant.at
+
+pub step-requires : goal.step-requires
+step-requires g c = at_in_place c.args.self.now _ _ _ c.loop-item.invariant.at
+
+pub loop-item-smaller : goal.loop-item-smaller
+loop-item-smaller g c =
+    let i = c.loop-item.cursor.index in
+    let here = c.loop-item.invariant.at in
+    let found : slice_get (items c.args.self.now c.args.from.chain) i ≡ Some c.in-Some.item.now = sym (c.in-Some.ensures.at_index c.args.from.chain i here) in
+    let inside = slice_get_within (items c.args.self.now c.args.from.chain) i c.in-Some.item.now found in
+    omega (arith, inside, ap (λ (k : Cursor). k.index) (c.step.ensures.at_index c.args.from.chain i (c.in-Some.ensures.some.0 refl) here))
+
+pub returns-clause-chain : goal.returns-clause-chain
+returns-clause-chain g c = ap (λ (k : Cursor). k.chain) c.loop-item.invariant.at
+
+pub returns-clause-in_place : goal.returns-clause-in_place
+returns-clause-in_place g c = at_in_place c.args.self.now _ _ _ c.loop-item.invariant.at
