@@ -1,8 +1,8 @@
 -- How many orders of each worker a history has.
-use Rattle.std.proofs.Common.{◌≡◌, ◌≢◌, ℕ, suc, ◌+◌, ◌≤◌, ◌==◌, Bool, true, false, cond, List, [], ◌∷◌, ◌++◌, All, map, sum_by, refl, ap, sym, ◌∙◌, subst, arith}
+use Rattle.std.proofs.Common.{◌≡◌, ◌≢◌, ℕ, suc, ◌+◌, ◌≤◌, ◌==◌, Bool, true, false, cond, List, [], ◌∷◌, ◌++◌, All, Option, Some, option_to_list, length, length-append, map, sum_by, refl, ap, sym, ◌∙◌, subst, arith}
 use Rattle.std.proofs.lemmas.Bool.Decides.{nat_tests}
 use Rattle.std.proofs.lemmas.List.Elements.{All-head, All-tail, All-cons}
-use Rattle.std.proofs.lemmas.List.Sums.{sum_by-append, sum_by-cons}
+use Rattle.std.proofs.lemmas.List.Sums.{sum_by-append, sum_by-cons, sum_by_push}
 use mathlib.Core.List.{IsPrefix}
 use Rattle.fl_board.specs.Inside.Asks.{AreApart, HasMostOf}
 use Rattle.fl_board.specs.Seats.{Place, is_asked_by, orders_by}
@@ -137,3 +137,10 @@ exactly lines (p ∷ places) most small =
 pub has_all : (lines : List Line) (places : List Place) → AreApart places → All (λ (p : Place). HasMostOf lines p) places
     → orders_asked lines ≡ sum_by (λ (p : Place). p.count) places → All (λ (p : Place). HasAllOf lines p) places
 has_all lines places apart most total = exactly lines places most (omega (arith, no_more_than_all lines places apart, total))
+
+-- one less is left behind a list from whose end one was taken, and the others count the rest
+pub one_popped : {X : Type 0} (f : X → ℕ) (xs left : List X) (taken : Option X) (x : X) → xs ≡ left ++ option_to_list taken
+    → taken ≡ Some x → (length xs ≡ length left + 1) × (sum_by f xs ≡ sum_by f left + f x)
+one_popped f xs left taken x items is =
+    let all : xs ≡ left ++ x ∷ [] = items ∙ ap (λ o. left ++ option_to_list o) is in
+    (ap length all ∙ length-append left (x ∷ []), ap (sum_by f) all ∙ sum_by_push f left x)
