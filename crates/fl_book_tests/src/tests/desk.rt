@@ -1,8 +1,7 @@
 //! The desk, against a stored trace, and a history of many lines.
 
 use super::lines::{Server, is_line, order};
-use super::same;
-use super::traces::{LOCKS, is_text, read};
+use super::traces::{LOCKS, has_lines, is_text, read};
 use fl_book::{History, Line, laws};
 use fl_order::{Answer, Attr, Errno, LockAsk, Name, Op, Told};
 use std::alloc::Global;
@@ -30,13 +29,17 @@ fn asked_again(rt: &impl Abort, alloc: Global, trace: &History) -> History {
     server.into_history()
 }
 
+// A new desk that is asked what a trace asks records this text, of ten lines.
+fn records(rt: &(impl Abort + AllocGlobal), trace: &History, text: &str) {
+    let history = asked_again(rt, rt.alloc(), trace);
+    has_lines(rt, &history, 10);
+    is_text(rt, &history, text);
+}
+
 #[test]
 fn a_desk_answers_and_records(rt: HostRuntime) {
     laws::own_reply_comes_first();
-    let trace = read(&rt, LOCKS, 10);
-    let history = asked_again(&rt, rt.alloc(), &trace);
-    same(&rt, &history.len(), &10);
-    is_text(&rt, &history, LOCKS);
+    records(&rt, &read(&rt, LOCKS, 10), LOCKS);
 }
 
 // What another place doesn't ask, with names of any length.
@@ -91,23 +94,33 @@ fn told_for(place: u64) -> Line {
     })
 }
 
+// Each place has two lines: what is asked, and what is told.
+fn line_at(rt: &impl Abort, at: u64) -> Line {
+    let place = at / 2;
+    if at % 2 == 0 {
+        asked_for(place, op_for(rt, place))
+    } else {
+        told_for(place)
+    }
+}
+
+fn history_of_many_chunks(rt: &impl Abort, alloc: Global) -> History {
+    let mut history = History::new(alloc);
+    for at in 0..20_000 {
+        history.push(&line_at(rt, at)).expect(rt, "memory");
+    }
+    history
+}
+
+fn gives_each_line_back(rt: &impl Abort, history: &History) {
+    for at in 0..history.len() {
+        is_line(rt, history, at, &line_at(rt, at as u64));
+    }
+}
+
 #[test]
 fn a_history_of_many_chunks_gives_each_line_back(rt: HostRuntime) {
-    let mut history = History::new(rt.alloc());
-    for place in 0..10_000 {
-        let op = op_for(&rt, place);
-        history.push(&asked_for(place, op)).expect(&rt, "memory");
-        history.push(&told_for(place)).expect(&rt, "memory");
-    }
-    same(&rt, &history.len(), &20_000);
-    for at in 0..history.len() {
-        let place = at as u64 / 2;
-        let op = op_for(&rt, place);
-        let wanted = if at % 2 == 0 {
-            asked_for(place, op)
-        } else {
-            told_for(place)
-        };
-        is_line(&rt, &history, at, &wanted);
-    }
+    let history = history_of_many_chunks(&rt, rt.alloc());
+    has_lines(&rt, &history, 20_000);
+    gives_each_line_back(&rt, &history);
 }

@@ -87,6 +87,14 @@ struct Tally {
 }
 
 impl Tally {
+    fn new() -> Tally {
+        Tally {
+            made: [0; 28],
+            differed: [0; 28],
+            seen: Seen::none(),
+        }
+    }
+
     fn count(&mut self, at: usize, verdict: Verdict) {
         if let Some(made) = self.made.get_mut(at) {
             *made = made.wrapping_add(1);
@@ -129,6 +137,21 @@ impl Tally {
         self.count(at, wanted);
     }
 
+    // The random history of a seed is legal, and it and its changes are judged right.
+    fn judge_seed(
+        &mut self,
+        rt: &impl Abort,
+        alloc: Global,
+        names: [Name; 2],
+        seed: u64,
+        numbers: &mut Numbers,
+    ) {
+        let (history, seen) = random_history(rt, alloc, names, seed);
+        is_judged(rt, alloc, &history, &Verdict::Legal, "seed", seed);
+        self.seen.add(seen);
+        self.change(rt, alloc, &history, numbers);
+    }
+
     // Each change was made often. One that keeps the orders always made the history differ, one of a worker never did,
     // and the others did often, and left it legal at least as often as is said of them.
     fn assert_often(&self, rt: &impl Abort) {
@@ -153,25 +176,21 @@ fn differed_so_often(rt: &impl Abort, at: usize, effect: Effect, made: u64, diff
     );
 }
 
+fn two_names(rt: &impl Abort) -> [Name; 2] {
+    [
+        Name::new(b"a").expect(rt, "a name"),
+        Name::new(b"b").expect(rt, "a name"),
+    ]
+}
+
 // The changes of 300 random histories are all judged right.
 #[test]
 fn check_says_what_the_history_of_the_same_orders_says(rt: HostRuntime) {
-    let alloc = rt.alloc();
-    let names = [
-        Name::new(b"a").expect(&rt, "a name"),
-        Name::new(b"b").expect(&rt, "a name"),
-    ];
+    let names = two_names(&rt);
     let mut numbers = Numbers { state: 1 };
-    let mut tally = Tally {
-        made: [0; 28],
-        differed: [0; 28],
-        seen: Seen::none(),
-    };
+    let mut tally = Tally::new();
     for seed in 0..300 {
-        let (history, seen) = random_history(&rt, alloc, names, seed);
-        is_judged(&rt, alloc, &history, &Verdict::Legal, "seed", seed);
-        tally.seen.add(seen);
-        tally.change(&rt, alloc, &history, &mut numbers);
+        tally.judge_seed(&rt, rt.alloc(), names, seed, &mut numbers);
     }
     tally.assert_often(&rt);
     tally.seen.assert_often(&rt);

@@ -48,13 +48,20 @@ pub(super) fn joined(rt: &(impl Abort + AllocGlobal), parts: &[&str]) -> String 
 
 // A line is printed as this text, and the text is read as the line.
 fn there_and_back(rt: &(impl Abort + AllocGlobal), line: &Line, text: &str) {
-    is_printed(rt, &history_of(rt, rt.alloc(), &[*line]), text);
+    is_printed(rt, line, text);
     is_line(rt, &read(rt, text, 1), 0, line);
 }
 
-fn is_printed(rt: &(impl Abort + AllocGlobal), history: &History, text: &str) {
-    same(rt, &has_text(history), &true);
-    is_text(rt, history, text);
+// The history of a line can be read back, and is printed as this text.
+fn is_printed(rt: &(impl Abort + AllocGlobal), line: &Line, text: &str) {
+    let history = history_of(rt, rt.alloc(), &[*line]);
+    can_be_read(rt, &history, true);
+    is_text(rt, &history, text);
+}
+
+// Whether a history can be read back.
+fn can_be_read(rt: &impl Abort, history: &History, can: bool) {
+    same(rt, &has_text(history), &can);
 }
 
 // What worker 0 asks is printed and read as these words.
@@ -233,17 +240,16 @@ fn errors_there_and_back(rt: HostRuntime) {
 }
 
 // Whether the creation of a file can be read back.
-fn can_be_read(rt: &(impl Abort + AllocGlobal), worker: u32, mode: u32, can: bool) {
+fn creation_can_be_read(rt: &(impl Abort + AllocGlobal), worker: u32, mode: u32, can: bool) {
     let line = asked(worker, create(name(rt, b"a"), mode));
-    let history = history_of(rt, rt.alloc(), &[line]);
-    same(rt, &has_text(&history), &can);
+    can_be_read(rt, &history_of(rt, rt.alloc(), &[line]), can);
 }
 
 #[test]
 fn what_can_be_read_back(rt: HostRuntime) {
-    can_be_read(&rt, 15, 511, true);
-    can_be_read(&rt, 16, 511, false);
-    can_be_read(&rt, 15, 512, false);
+    creation_can_be_read(&rt, 15, 511, true);
+    creation_can_be_read(&rt, 16, 511, false);
+    creation_can_be_read(&rt, 15, 512, false);
 }
 
 #[test]
@@ -263,12 +269,20 @@ fn a_line_at_a_time(rt: HostRuntime) {
     assert!(rt; first_line(rest).is_none());
 }
 
+// A lock that is set at once, with its reply.
+fn add_lock(rt: &impl Abort, text: &mut String, i: u32) {
+    write!(
+        text,
+        "ask 0 {i} 2 0 0 0 setlk 1 7 {i} {i} 1 11 0\ntell {i} ok\n"
+    )
+    .expect(rt, "memory");
+}
+
 // So many locks that are set at once, each with its reply.
 fn many_locks(rt: &(impl Abort + AllocGlobal), locks: u32) -> String {
     let mut text = String::new(rt.alloc());
     for i in 0..locks {
-        write!(text, "ask 0 {i} 2 0 0 0 setlk 1 7 {i} {i} 1 11 0\n").expect(rt, "memory");
-        write!(text, "tell {i} ok\n").expect(rt, "memory");
+        add_lock(rt, &mut text, i);
     }
     text
 }

@@ -20,11 +20,20 @@ tell 5 ok
 
 // The trace of a text that has so many lines.
 pub(super) fn read(rt: &(impl Abort + AllocGlobal), text: &str, lines: usize) -> History {
-    let trace = read_trace(rt.alloc(), text.as_bytes())
-        .ok()
-        .expect(rt, "a trace");
-    same(rt, &trace.len(), &lines);
+    let trace = read_text(rt, text);
+    has_lines(rt, &trace, lines);
     trace
+}
+
+fn read_text(rt: &(impl Abort + AllocGlobal), text: &str) -> History {
+    read_trace(rt.alloc(), text.as_bytes())
+        .ok()
+        .expect(rt, "a trace")
+}
+
+// A history has so many lines.
+pub(super) fn has_lines(rt: &impl Abort, trace: &History, lines: usize) {
+    same(rt, &trace.len(), &lines);
 }
 
 // A history is printed as this text.
