@@ -64,11 +64,19 @@ fn ended(
     workers: u32,
 ) {
     let done = &came.done;
-    assert_eq!(rt; done.fault, fault, "{workers} workers");
+    has_fault(rt, done.fault, fault, workers);
     let found = (done.history.len(), count_replies(rt, &came.out));
-    assert_eq!(rt; found, counts, "{workers} workers");
+    has_counts(rt, found, counts, workers);
     assert!(rt; !done.refused);
     is_legal(rt, alloc, &done.history);
+}
+
+fn has_fault(rt: &impl Abort, found: Option<Fault>, wanted: Option<Fault>, workers: u32) {
+    assert_eq!(rt; found, wanted, "{workers} workers");
+}
+
+fn has_counts(rt: &impl Abort, found: (usize, usize), wanted: (usize, usize), workers: u32) {
+    assert_eq!(rt; found, wanted, "{workers} workers");
 }
 
 fn is_legal(rt: &impl Abort, alloc: Global, history: &History) {
