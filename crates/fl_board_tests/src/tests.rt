@@ -1,17 +1,21 @@
 //! Tests of a board and of looks, by what is public of it.
 
-ghost use Rattle.std.specs.Prelude.{◌≡◌};
+ghost use Rattle.std.specs.Prelude.{◌≡◌, ◌<◌, ◌≤◌};
 ghost use Rattle.fl_core.specs.Tolds.{HasRoom};
 
 mod fair;
 mod looks;
 mod missing;
 
-use fl_board::{Board, BoardName, Seat};
-use fl_core::Tolds;
-use fl_order::{LockAsk, Name, Op, Order};
+use fl_board::{Board, BoardName, FreshLog, Seat};
+use fl_core::{Rules, Tolds};
+use fl_desk::{Verdict, check};
+use fl_history::History;
+use fl_order::{Answer, Errno, LockAsk, Name, Op, Order};
+use std::alloc::Global;
 use std::process::Abort;
 use std::sync::Wait;
+use std::sync::ledger::Blank;
 
 fn order(unique: u64, node: u64, op: Op) -> Order
     ensures { result.op ≡ op }
@@ -63,4 +67,52 @@ fn take<L: BoardName, R: Wait + Abort>(
 {
     let handed = board.hand_in(rt, seat, order, tolds).is_ok();
     assert!(rt; handed);
+}
+
+// A board, and its seats.
+fn opened<L: BoardName, R: Wait + Abort>(
+    rt: &R,
+    alloc: Global,
+    blank: Blank,
+    log: FreshLog,
+    workers: u32,
+    rules: Rules,
+) -> (Board<L, &R>, Vec<Seat<L>>)
+    requires named { (blank.name ≡ L.name) × (blank.parts ≡ L.parts) }
+    requires log { log ≡ L.log }
+    requires rules { rules ≡ L.rules }
+    requires parts { (workers ≡ L.parts) × (L.workers ≡ L.parts) }
+    requires workers { (0 < workers) × (workers ≤ 16) }
+{
+    Board::<L, &R>::new(alloc, rt, blank, log, workers, rules)
+        .ok()
+        .expect(rt, "a board")
+}
+
+// The history of a board all of whose seats are handed back.
+fn closed<L: BoardName, R: Wait + Abort>(
+    rt: &R,
+    board: Board<L, &R>,
+    seats: Vec<Seat<L>>,
+) -> History
+    requires { L.workers ≡ L.parts }
+{
+    board.close(seats).ok().expect(rt, "all seats")
+}
+
+fn new_tolds(rt: &impl Abort, alloc: Global, rules: Rules) -> Tolds
+    ensures { HasRoom rules result }
+{
+    Tolds::new(alloc, rules).expect(rt, "memory")
+}
+
+// By these rules this is said of a history.
+fn is_judged(rt: &impl Abort, alloc: Global, history: &History, rules: Rules, wanted: Verdict) {
+    let verdict = check(alloc, history, rules).expect(rt, "memory");
+    assert!(rt; verdict == wanted);
+}
+
+// This is the answer that is wanted.
+fn is_answer(rt: &impl Abort, found: Result<Answer, Errno>, wanted: Result<Answer, Errno>) {
+    assert!(rt; found == wanted);
 }

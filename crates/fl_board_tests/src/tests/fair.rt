@@ -3,10 +3,10 @@
 ghost use Rattle.std.specs.Prelude.{◌≡◌};
 ghost use Rattle.fl_core.specs.Tolds.{HasRoom};
 
-use super::{order, take, upto};
+use super::{closed, is_answer, is_judged, new_tolds, opened, order, take, upto};
 use fl_board::{Board, BoardName, FreshLog, Seat};
 use fl_core::{Rules, Tolds};
-use fl_desk::{Verdict, check};
+use fl_desk::Verdict;
 use fl_history::{History, Line};
 use fl_order::{Answer, Errno, Op};
 use fl_trace::read_trace;
@@ -96,6 +96,20 @@ fn views_of<L: BoardName, R: Wait + Abort>(
     }
 }
 
+fn all_views<L: BoardName, R: Wait + Abort>(
+    rt: &R,
+    alloc: Global,
+    rules: Rules,
+    board: &Board<L, &R>,
+    seats: &mut [Seat<L>],
+    trace: &History,
+) -> Views
+    requires { rules ≡ L.rules }
+{
+    let mut tolds = new_tolds(rt, alloc, rules);
+    views_of(rt, board, seats, trace, &mut tolds)
+}
+
 // The orders of a trace at a board of two seats.
 fn followed<L: BoardName, R: Wait + Abort>(
     rt: &R,
@@ -110,12 +124,9 @@ fn followed<L: BoardName, R: Wait + Abort>(
     requires rules { rules ≡ L.rules }
     requires parts { (2 ≡ L.parts) × (L.workers ≡ L.parts) }
 {
-    let (board, mut seats) = Board::<L, &R>::new(alloc, rt, blank, log, 2, rules)
-        .ok()
-        .expect(rt, "a board");
-    let mut tolds = Tolds::new(alloc, rules).expect(rt, "memory");
-    let views = views_of(rt, &board, &mut seats, trace, &mut tolds);
-    (views, board.close(seats).ok().expect(rt, "all seats"))
+    let (board, mut seats) = opened::<L, R>(rt, alloc, blank, log, 2, rules);
+    let views = all_views(rt, alloc, rules, &board, &mut seats, trace);
+    (views, closed(rt, board, seats))
 }
 
 // Both histories have the same lines.
@@ -128,28 +139,38 @@ fn are_same(rt: &impl Abort, found: &History, wanted: &History) {
 
 // Only owner 7 locks the byte while both wait, and only owner 9 once both were granted.
 fn are_shown(rt: &impl Abort, views: &Views) {
-    let lock = |kind, pid| {
-        Ok(Answer::Lock {
-            start: 0,
-            end: 0,
-            kind,
-            pid,
-        })
-    };
-    assert!(rt; views.waiting == lock(2, 11));
-    assert!(rt; views.granted == lock(0, 13));
+    is_answer(rt, views.waiting, Ok(byte_lock(2, 11)));
+    is_answer(rt, views.granted, Ok(byte_lock(0, 13)));
+}
+
+fn byte_lock(kind: u32, pid: u32) -> Answer {
+    Answer::Lock {
+        start: 0,
+        end: 0,
+        kind,
+        pid,
+    }
+}
+
+fn fair() -> Rules {
+    Rules::standard().with_fair(true)
+}
+
+// A board follows a trace under fair rules.
+fn follow<R: Wait + Abort>(rt: &R, alloc: Global, trace: &History) {
+    let (blank, log) = (Blank::new(2), FreshLog::new());
+    let (views, history) = followed::<Brand, _>(rt, alloc, blank, log, fair(), trace);
+    are_same(rt, &history, trace);
+    are_shown(rt, &views);
 }
 
 #[test]
 fn a_reader_waits_behind_a_writer_of_another_seat(rt: HostRuntime) {
     let text = A_READER_WAITS_BEHIND_A_WRITER_WHO_WAITS;
     let trace = read_trace(rt.alloc(), text.as_bytes()).expect(&rt, "a trace");
-    let rules = Rules::standard().with_fair(true);
-    let (blank, log) = (Blank::new(2), FreshLog::new());
-    let (views, history) = followed::<Brand, _>(&rt, rt.alloc(), blank, log, rules, &trace);
-    are_same(&rt, &history, &trace);
-    are_shown(&rt, &views);
-    assert!(rt; check(rt.alloc(), &trace, rules) == Ok(Verdict::Legal));
+    follow(&rt, rt.alloc(), &trace);
+    is_judged(&rt, rt.alloc(), &trace, fair(), Verdict::Legal);
     // By the standard rules the reader passes.
-    assert!(rt; check(rt.alloc(), &trace, Rules::standard()) == Ok(Verdict::Differs(7)));
+    let standard = Rules::standard();
+    is_judged(&rt, rt.alloc(), &trace, standard, Verdict::Differs(7));
 }

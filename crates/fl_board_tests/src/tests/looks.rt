@@ -3,10 +3,10 @@
 ghost use Rattle.std.specs.Prelude.{◌≡◌};
 ghost use Rattle.fl_core.specs.Tolds.{HasRoom};
 
-use super::{create, order, take, upto};
+use super::{closed, create, is_answer, is_judged, new_tolds, opened, order, take, upto};
 use fl_board::{Board, BoardName, FreshLog, Seat};
 use fl_core::{Rules, Tolds};
-use fl_desk::{Verdict, check};
+use fl_desk::Verdict;
 use fl_history::History;
 use fl_order::{Answer, Attr, Errno, Op};
 use std::alloc::Global;
@@ -70,6 +70,23 @@ fn views_of<L: BoardName, R: Wait + Abort>(
     }
 }
 
+// The views of the first two of these seats.
+fn both_views<L: BoardName, R: Wait + Abort>(
+    rt: &R,
+    alloc: Global,
+    rules: Rules,
+    board: &Board<L, &R>,
+    seats: &mut [Seat<L>],
+) -> Views
+    requires { rules ≡ L.rules }
+{
+    let mut tolds = new_tolds(rt, alloc, rules);
+    let (one, two) = seats.split_at_mut(seats.len().min(1));
+    let one = one.first_mut().expect(rt, "a seat");
+    let two = two.first_mut().expect(rt, "a second seat");
+    views_of(rt, board, one, two, &mut tolds)
+}
+
 fn looked<L: BoardName, R: Wait + Abort>(
     rt: &R,
     alloc: Global,
@@ -82,28 +99,14 @@ fn looked<L: BoardName, R: Wait + Abort>(
     requires rules { rules ≡ L.rules }
     requires parts { (2 ≡ L.parts) × (L.workers ≡ L.parts) }
 {
-    let (board, mut seats) = Board::<L, &R>::new(alloc, rt, blank, log, 2, rules)
-        .ok()
-        .expect(rt, "a board");
-    let mut tolds = Tolds::new(alloc, rules).expect(rt, "memory");
-    let mut two = seats.pop().expect(rt, "a seat");
-    let mut one = seats.pop().expect(rt, "a seat");
-    let views = views_of(rt, &board, &mut one, &mut two, &mut tolds);
-    seats.push(two).expect(rt, "memory");
-    seats.push(one).expect(rt, "memory");
-    (views, board.close(seats).ok().expect(rt, "all seats"))
+    let (board, mut seats) = opened::<L, R>(rt, alloc, blank, log, 2, rules);
+    let views = both_views(rt, alloc, rules, &board, &mut seats);
+    seats.rotate_left(seats.len().min(1));
+    (views, closed(rt, board, seats))
 }
 
-#[test]
-fn a_lock_is_shown_to_both_seats(rt: HostRuntime) {
-    let rules = Rules::standard();
-    let (told, history) = looked::<Brand, _>(
-        &rt,
-        rt.alloc(),
-        Blank::new(2),
-        FreshLog::new(),
-        rules,
-    );
+// What both are shown.
+fn are_shown(rt: &impl Abort, told: &Views) {
     let locked = Answer::Lock {
         start: 0,
         end: 9,
@@ -117,14 +120,32 @@ fn a_lock_is_shown_to_both_seats(rt: HostRuntime) {
         uid: 0,
         gid: 0,
     };
-    assert!(rt; told.before == Err(Errno::EBADF));
-    assert!(rt; told.unknown == Err(Errno::ENOENT));
-    assert!(rt; told.first == Ok(locked));
-    assert!(rt; told.second == Ok(locked));
-    assert!(rt; told.known == Ok(Answer::Attr(attr)));
+    is_answer(rt, told.before, Err(Errno::EBADF));
+    is_answer(rt, told.unknown, Err(Errno::ENOENT));
+    is_answer(rt, told.first, Ok(locked));
+    is_answer(rt, told.second, Ok(locked));
+    is_answer(rt, told.known, Ok(Answer::Attr(attr)));
+}
+
+// A legal history of so many lines.
+fn is_legal(rt: &impl Abort, alloc: Global, history: &History, lines: usize) {
+    assert!(rt; history.len() == lines);
+    is_judged(rt, alloc, history, Rules::standard(), Verdict::Legal);
+}
+
+#[test]
+fn a_lock_is_shown_to_both_seats(rt: HostRuntime) {
+    let rules = Rules::standard();
+    let (told, history) = looked::<Brand, _>(
+        &rt,
+        rt.alloc(),
+        Blank::new(2),
+        FreshLog::new(),
+        rules,
+    );
+    are_shown(&rt, &told);
     // Looks are no lines: two orders, with a reply each.
-    assert!(rt; history.len() == 4);
-    assert!(rt; check(rt.alloc(), &history, rules) == Ok(Verdict::Legal));
+    is_legal(&rt, rt.alloc(), &history, 4);
 }
 
 // The last byte that owner 7 is shown to lock. It is given the seat alone, and so has no right to wait.
@@ -153,6 +174,21 @@ fn lock_more_and_more<L: BoardName, R: Wait + Abort>(
     }
 }
 
+// The first of these seats does.
+fn first_locks<L: BoardName, R: Wait + Abort>(
+    rt: &R,
+    alloc: Global,
+    rules: Rules,
+    board: &Board<L, &R>,
+    seats: &mut [Seat<L>],
+)
+    requires { rules ≡ L.rules }
+{
+    let mut tolds = new_tolds(rt, alloc, rules);
+    let seat = seats.first_mut().expect(rt, "a seat");
+    lock_more_and_more(rt, board, seat, &mut tolds);
+}
+
 fn shown_each<L: BoardName, R: Wait + Abort>(
     rt: &R,
     alloc: Global,
@@ -165,20 +201,14 @@ fn shown_each<L: BoardName, R: Wait + Abort>(
     requires rules { rules ≡ L.rules }
     requires parts { (1 ≡ L.parts) × (L.workers ≡ L.parts) }
 {
-    let (board, mut seats) = Board::<L, &R>::new(alloc, rt, blank, log, 1, rules)
-        .ok()
-        .expect(rt, "a board");
-    let mut tolds = Tolds::new(alloc, rules).expect(rt, "memory");
-    let mut seat = seats.pop().expect(rt, "a seat");
-    lock_more_and_more(rt, &board, &mut seat, &mut tolds);
-    seats.push(seat).expect(rt, "memory");
-    board.close(seats).ok().expect(rt, "all seats")
+    let (board, mut seats) = opened::<L, R>(rt, alloc, blank, log, 1, rules);
+    first_locks(rt, alloc, rules, &board, &mut seats);
+    closed(rt, board, seats)
 }
 
 #[test]
 fn a_seat_without_the_right_to_wait_is_shown_each_order(rt: HostRuntime) {
     let rules = Rules::standard();
     let history = shown_each::<Brand, _>(&rt, rt.alloc(), Blank::new(1), FreshLog::new(), rules);
-    assert!(rt; history.len() == 42);
-    assert!(rt; check(rt.alloc(), &history, rules) == Ok(Verdict::Legal));
+    is_legal(&rt, rt.alloc(), &history, 42);
 }

@@ -1,4 +1,4 @@
-use Rattle.fl_board_tests.proofs.tests.fair.a_reader_waits_behind_a_writer_of_another_seat.Given as goal
+use Rattle.fl_board_tests.proofs.tests.fair.follow.Given as goal
 
 abbrev pub ghosts-followed-L-BoardName : goal.ghosts-followed-L-BoardName
 ghosts-followed-L-BoardName g a = record { workers = a.blank.parts; rules = a.rules }
