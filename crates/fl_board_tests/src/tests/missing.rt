@@ -56,10 +56,10 @@ fn not_closed<'a, L: BoardName, R: Wait + Abort>(
 ) -> (Board<L, &'a R>, Vec<Seat<L>>)
     requires { L.workers ≡ L.parts }
 {
-    let Err(CloseFault::NotAll { board, seats }) = board.close(seats) else {
-        panic!(rt; "a seat is missing")
-    };
-    (board, seats)
+    match board.close(seats) {
+        Err(CloseFault::NotAll { board, seats }) => (board, seats),
+        _ => panic!(rt; "a seat is missing"),
+    }
 }
 
 // Both seats ask for locks, the second while it is kept back.
@@ -161,8 +161,9 @@ fn not_kept<'a, L: BoardName, R: Wait + Abort>(
 ) -> Board<L, &'a R>
     requires { L.workers ≡ L.parts }
 {
-    let Err(CloseFault::NotAll { board, seats: none }) = board.into_kept(Vec::new(alloc)) else {
-        panic!(rt; "a seat is missing")
+    let (board, none) = match board.into_kept(Vec::new(alloc)) {
+        Err(CloseFault::NotAll { board, seats }) => (board, seats),
+        _ => panic!(rt; "a seat is missing"),
     };
     assert!(rt; none.is_empty());
     board
