@@ -58,10 +58,12 @@ pub record HaveWorked (places back : List Place) (ends : List TakeSide) (any : B
   pub all : length ends ≡ length places
   pub did : HaveDone (λ weight. weight_taken weight ends) back any
 
--- What a session came to whose workers are joined: their places and ends, how the reader's part ended, and the parts and amount of the
--- permit to begin. At NoMemory a worker couldn't be started: nothing was read, and the session didn't begin.
-pub record HasRun (rules : Rules) (of : TableId) (takers all : ℕ) (left left_now : Option (List ℕ)) (places back : List Place)
-    (back_ends : List TakeSide) (any : Bool) (reader : Heard) (parts amount : ℕ) : Type 0 where
+-- What a session came to whose workers are joined: their places and ends, how the reader's part ended, and the parts
+-- and amount of the permit to begin. At NoMemory a worker couldn't be started: nothing was read, and the session didn't
+-- begin.
+pub record HasRun (rules : Rules) (of : TableId) (takers all : ℕ) (left left_now : Option (List ℕ))
+    (places back : List Place) (back_ends : List TakeSide) (any : Bool) (reader : Heard) (parts amount : ℕ)
+    : Type 0 where
   pub put : (reader.put.of ≡ of) × (reader.put.takers ≡ takers)
   pub ends : All (λ end. end.of ≡ of) back_ends
   pub worked : reader.fault ≢ Some NoMemory → HaveWorked places back back_ends any

@@ -129,8 +129,9 @@ impl<
         requires ends { All (IsFresh self.now.intake) posts.ends.items }
         requires replies { All (HasRoom L.rules) posts.tolds.items }
         requires permit { (0 < N.parts) × (permit.parts ≡ N.parts) × (permit.amount ≡ 0) }
-        ensures { HasRun L.rules self.now.intake put.takers N.parts (I.remaining r.old) (I.remaining r.new) posts.seats.items
-            result.0.seats.items result.0.ends.items result.0.refused result.1 result.2.parts result.2.amount }
+        ensures { HasRun L.rules self.now.intake put.takers N.parts (I.remaining r.old) (I.remaining r.new)
+            posts.seats.items result.0.seats.items result.0.ends.items result.0.refused result.1 result.2.parts
+            result.2.amount }
     {
         let rt = self.rt;
         let (back, heard, permit, r) = thread::scope(
@@ -144,8 +145,8 @@ impl<
                 requires permit { (0 < N.parts) × (permit.parts ≡ N.parts) × (permit.amount ≡ 0) }
                 ensures same { result.3.ghost_name ≡ r.entry.ghost_name }
                 ensures ran { HasRun L.rules self.entry.now.intake put.takers N.parts (I.remaining r.entry.now)
-                    (I.remaining result.3.now) posts.seats.items result.0.seats.items result.0.ends.items result.0.refused
-                    result.1 result.2.parts result.2.amount }
+                    (I.remaining result.3.now) posts.seats.items result.0.seats.items result.0.ends.items
+                    result.0.refused result.1 result.2.parts result.2.amount }
             {
                 // Taken whole, so that what its type keeps is known here.
                 let posts = posts;

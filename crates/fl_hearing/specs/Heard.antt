@@ -20,8 +20,8 @@ pub record IsLast (came : List Came) (goodbye : Owed) : Type 0 where
 
 -- The reader of a session under these rules ended, with this fault. What was read is whole messages and a rest, the orders
 -- of these messages were put, and where a DESTROY ended the session, this is owed to it. Else nothing is owed.
-pub record HasHeard (rules : Rules) (left left_now : Option (List ℕ)) (fault : Option Fault) (put : List Order) (goodbye : Owed)
-    : Type 0 where
+pub record HasHeard (rules : Rules) (left left_now : Option (List ℕ)) (fault : Option Fault) (put : List Order)
+    (goodbye : Owed) : Type 0 where
   pub came : List Came
   pub rest : List ℕ
   pub is_read : IsRead rules left left_now came rest

@@ -138,7 +138,8 @@ impl<L: BoardName> Stock<L> {
             × (stock.each.back.seats.items ≡ []) × (stock.each.back.ends.items ≡ [])) }
         ensures room { IfOk result (λ stock. (workers ≤ vec_capacity stock.each.threads)
             × (workers ≤ vec_capacity stock.each.back.seats) × (workers ≤ vec_capacity stock.each.back.ends)) }
-        ensures replies { IfOk result (λ stock. HasRoom rules stock.own.tolds × All (HasRoom rules) stock.each.tolds.items) }
+        ensures replies { IfOk result (λ stock.
+            HasRoom rules stock.own.tolds × All (HasRoom rules) stock.each.tolds.items) }
     {
         let own = Own::new(alloc, rules)?;
         let each = Each::new(alloc, workers, rules)?;

@@ -51,7 +51,8 @@ pub fn serve<R: Threads + Wait + Sync, I: Read, W: Write + Send + Drop, G: Gate 
 ) -> Done
     requires workers { (0 < workers) × (workers ≤ 16) }
     ensures legal { IsLegal rules result.history }
-    ensures served { IsServedBy rules (I.remaining r.old) (I.remaining r.new) (W.contents w.old) (W.contents w.new) result }
+    ensures served { IsServedBy rules (I.remaining r.old) (I.remaining r.new) (W.contents w.old) (W.contents w.new)
+        result }
     ensures nothing { result.fault ≡ Some Fault.NoMemory
         → (result.history ≡ []) × Keeps (I.remaining r.old) (I.remaining r.new) }
     ensures unwritten { result.fault ≡ Some Fault.NoMemory → Keeps (W.contents w.old) (W.contents w.new) }
@@ -72,7 +73,8 @@ pub fn serve_on_stack<R: Threads + Wait + Sync, I: Read, W: Write + Send + Drop,
 ) -> Done
     requires workers { (0 < workers) × (workers ≤ 16) }
     ensures legal { IsLegal rules result.history }
-    ensures served { IsServedBy rules (I.remaining r.old) (I.remaining r.new) (W.contents w.old) (W.contents w.new) result }
+    ensures served { IsServedBy rules (I.remaining r.old) (I.remaining r.new) (W.contents w.old) (W.contents w.new)
+        result }
     ensures nothing { result.fault ≡ Some Fault.NoMemory
         → (result.history ≡ []) × Keeps (I.remaining r.old) (I.remaining r.new) }
     ensures unwritten { result.fault ≡ Some Fault.NoMemory → Keeps (W.contents w.old) (W.contents w.new) }
@@ -186,8 +188,8 @@ fn serve_at<
     requires writer { w.ghost_name ≡ N.writer }
     requires sending { (sending.name ≡ N.name) × (sending.parts ≡ N.parts) × (0 < N.parts) }
     ensures writer { result.1.ghost_name ≡ w.entry.ghost_name }
-    ensures kept { IsKeptBy K.lines staff.rules (I.remaining r.old) (I.remaining r.new) (W.contents w.old) (W.contents result.1.now)
-        result.0.keeper result.0.fault result.0.refused }
+    ensures kept { IsKeptBy K.lines staff.rules (I.remaining r.old) (I.remaining r.new) (W.contents w.old)
+        (W.contents result.1.now) result.0.keeper result.0.fault result.0.refused }
 {
     let rooms = match Rooms::<L, &R, K>::new(
         alloc,

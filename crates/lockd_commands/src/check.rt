@@ -47,7 +47,8 @@ pub fn check_on<R: Read, W: Write, F: Write>(
         IsJudged rules options (R.remaining input.old) (W.contents output.old) (W.contents output.new) said.Begins }
     ensures differs { result ≡ Status.Different →
         (n : ℕ) ×
-        IsJudged rules options (R.remaining input.old) (W.contents output.old) (W.contents output.new) (said.Differs n) }
+        IsJudged rules options (R.remaining input.old) (W.contents output.old) (W.contents output.new)
+        (said.Differs n) }
 
     // The first n - 1 lines of what is judged of the input are lines of a trace, and the next is none.
     ensures bad { (n : ℕ) → result ≡ Status.Faulted (Fault.BadLine n) →

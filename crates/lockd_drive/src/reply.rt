@@ -48,7 +48,8 @@ fn fill<R: Read>(input: &mut R, room: &mut [u8], from: usize, to: usize) -> Resu
     requires order { from ≤ to }
     requires within { to ≤ length room.old }
     ensures front { take from room.new ≡ take from room.old }
-    ensures read { OnOk result (Consumes (R.remaining input.old) (R.remaining input.new) (drop from (take to room.new))) }
+    ensures read { OnOk result
+        (Consumes (R.remaining input.old) (R.remaining input.new) (drop from (take to room.new))) }
     ensures stopped { IfErr result (λ fault.
         IsShortBy fault from to room.new (R.remaining input.old) (R.remaining input.new)) }
 {

@@ -1,4 +1,4 @@
-//! How a command ends, and what it tells; whole inputs and outputs.
+//! How a command ends, and what it tells; whole inputs and outputs; a trace that is printed.
 #![tactic(auto)]
 
 mod fault;

@@ -11,7 +11,8 @@ use fl_history::History;
 use fl_stream::{TraceRoom, Unwritten, write_trace};
 use std::io::Write;
 
-/// Writes the text of a history in pieces, and hands it on.
+/// Writes the text of a history in pieces, and hands it on. Where a write fails, that is `Fault::Write`, and a beginning
+/// of the text may be written, which may end within a line.
 pub fn print<W: Write>(room: &mut TraceRoom, history: &History, output: &mut W) -> Result<(), Fault>
     ensures written { OnOk result (Appends (W.contents output.old) (W.contents output.new) (text_of history.now)) }
     ensures error { IfErr result (λ fault. fault ≡ Fault.Write) }

@@ -31,7 +31,8 @@ pub record HasTrace {W : Type 0} (rules : Rules) (contents : W → Option (List 
   pub wrote : Wrote contents (contents one) (text_of lines)
 
 -- a beginning of the trace of such a history was written, which may end within a line
-pub record IsTraceBegun {W : Type 0} (rules : Rules) (contents : W → Option (List ℕ)) (held : Option (List ℕ)) : Type 0 where
+pub record IsTraceBegun {W : Type 0} (rules : Rules) (contents : W → Option (List ℕ)) (held : Option (List ℕ))
+    : Type 0 where
   pub lines : List Line
   pub legal : IsLegal rules lines
   pub begun : IsBegun contents held lines

@@ -101,6 +101,7 @@ fn looked<L: BoardName, R: Wait + Abort>(
 {
     let (board, mut seats) = opened::<L, R>(rt, alloc, blank, log, 2, rules);
     let views = both_views(rt, alloc, rules, &board, &mut seats);
+    // Seats are handed back in another order than they came in.
     seats.rotate_left(seats.len().min(1));
     (views, closed(rt, board, seats))
 }

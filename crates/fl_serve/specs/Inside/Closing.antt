@@ -19,8 +19,8 @@ pub record HasAll (places : List Place) (refused : Bool) (fault : Option Fault) 
   pub each : All (HasAllOf done.history) places
   pub counted : orders_asked done.history ≡ sum_by (λ place. place.count) places
 
--- What came of a session under these rules whose lines went to a keeper. They are legal, and with them it served what was read. The
--- keeper is there but at NoMemory, where nothing was read or written, and at NoReader.
+-- What came of a session under these rules whose lines went to a keeper. They are legal, and with them it served what
+-- was read. The keeper is there but at NoMemory, where nothing was read or written, and at NoReader.
 pub record IsKeptBy {K : Type 0} (lines : K → List Line) (rules : Rules) (left left_now held held_now : Option (List ℕ))
     (keeper : Option K) (fault : Option Fault) (refused : Bool) : Type 0 where
   pub legal : IfSome keeper (λ keeper. IsLegal rules (lines keeper))

@@ -94,7 +94,8 @@ pub record HasDone (lines : List Said) (left left_now held held_now old new : Op
   pub received : HasReceived (awaited_by lines) [] left left_now old new
 
 -- these lines, of which all before the one that waits for the replies that didn't come were done
-pub record HasStopped (lines : List Said) (fault : Fault) (left left_now held held_now old new : Option (List ℕ)) : Type 0 where
+pub record HasStopped (lines : List Said) (fault : Fault) (left left_now held held_now old new : Option (List ℕ))
+    : Type 0 where
   pub done : List Said
   pub count : ℕ
   pub later : List Said
