@@ -1,3 +1,4 @@
 pub mod Boards
 pub mod Histories
 pub mod Counts
+pub mod AskedLemmas

@@ -8,9 +8,10 @@ ghost use Rattle.fl_core.specs.Tolds.{HasRoom};
 ghost use Rattle.fl_desk.specs.Legal.{IsLegal, orders_asked};
 ghost use Rattle.fl_order.specs.Order.{only_reads};
 
-use crate::seat::{NoView, Seat};
+use crate::seat::Seat;
 use crate::shared::{Shared, are_apart};
 use fl_core::{Rules, Tolds};
+use fl_counter::{HandFault, NoView};
 use fl_history::{History, Lines};
 use fl_keeper::Keeper;
 use fl_log::{Beginning, FreshLog};
@@ -36,15 +37,6 @@ pub enum OpenFault {
     NoMemory,
     /// A worker got no reader of what is published.
     NoReader,
-}
-
-/// Why an order is refused.
-#[derive(Clone, Copy, Debug, PartialEq, Eq)]
-pub enum HandFault {
-    /// Want of memory.
-    NoMemory,
-    /// The history is shorter than what the worker handed in or was shown, or has 2^62 orders.
-    NoView,
 }
 
 /// Why a board is not closed. Board and seats come back.

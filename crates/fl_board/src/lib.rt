@@ -3,10 +3,12 @@
 
 mod asks;
 mod board;
+mod counter;
 mod seat;
 mod shared;
 
-pub use board::{Board, CloseFault, HandFault, OpenFault};
+pub use board::{Board, CloseFault, OpenFault};
+pub use fl_counter::{HandFault, NoView};
 pub use fl_log::{FreshLog, LogName};
 pub use fl_published::BoardName;
-pub use seat::{NoView, Seat};
+pub use seat::Seat;

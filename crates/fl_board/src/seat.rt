@@ -6,17 +6,13 @@ ghost use Rattle.fl_board.specs.Shown.{IsShown, KeepsHanded};
 ghost use Rattle.fl_order.specs.Order.{only_reads};
 
 use crate::asks::asks_lead;
+use fl_counter::NoView;
 use fl_log::Beginning;
 use fl_order::{Answer, Errno, Order};
 use fl_published::{BoardName, Published, glance};
 use left_right::ReadHandle;
 use std::marker::Model;
 use std::sync::ledger::Share;
-
-/// Nothing could be shown to a worker: it can't enter what is published, or what is published is shorter than what the worker
-/// handed in or was shown.
-#[derive(Clone, Copy, Debug, PartialEq, Eq)]
-pub struct NoView;
 
 /// A worker's place at a board. Contracts see it as its worker, how many orders were handed in through it, the history up to
 /// the last of these, and the longest history that was shown through it.

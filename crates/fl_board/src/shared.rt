@@ -7,9 +7,9 @@ ghost use Rattle.fl_core.specs.Tolds.{HasRoom};
 ghost use Rattle.fl_desk.specs.Legal.{IsLegal, orders_asked};
 
 use crate::asks::asks_lead;
-use crate::board::HandFault;
-use crate::seat::{NoView, Seat};
+use crate::seat::Seat;
 use fl_core::{Rules, Tolds};
+use fl_counter::{HandFault, NoView};
 use fl_desk::Desk;
 use fl_keeper::Keeper;
 use fl_log::{Ask, Beginning, FreshLog, Log, MOST_ASKS};

@@ -6,6 +6,7 @@ use Rattle.std.proofs.lemmas.List.Elements.{All-append, All-cons, All-head, All-
 use Rattle.std.proofs.lemmas.List.Sums.{sum_by-append, sum_by_push}
 use mathlib.Core.List.{Sublistᴰ, nil≢cons, head-eq_of_cons-eq, tail-eq_of_cons-eq}
 use Rattle.fl_board.specs.Seats.{Place}
+use Rattle.fl_counter.specs.Asked.{Orders, asked_by}
 use Rattle.fl_hearing.specs.Heard.{HasHeard}
 use Rattle.fl_intake.specs.Ends.{TakeSide, weight_taken}
 use Rattle.fl_intake.specs.Often.{Weight}
@@ -15,7 +16,6 @@ use Rattle.fl_crew.specs.Working.{HaveDone, HaveWorked, IsCounted, Post, handed_
 use Rattle.fl_session.specs.declared.server.Owed.{Owed}
 use Rattle.fl_session.specs.declared.session.Fault.{Fault}
 use Rattle.fl_waiting.specs.declared.rules.Rules.{Rules}
-use Rattle.fl_workers.specs.Asked.{Orders, asked_by}
 use Rattle.fl_workers.specs.Worked.{HasDone, HasWorked}
 
 abbrev Reads : Order → Type 0

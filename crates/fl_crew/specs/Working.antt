@@ -4,6 +4,7 @@ use Rattle.std.specs.Io.KnownBytes.{Keeps}
 use mathlib.Core.List.{Sublistᴰ}
 use Rattle.atomic_table.specs.Seated.{TableId}
 use Rattle.fl_board.specs.Seats.{Place}
+use Rattle.fl_counter.specs.Asked.{Orders, asked_by}
 use Rattle.fl_hearing.specs.Heard.{HasHeard}
 use Rattle.fl_hearing.specs.declared.hearing.Heard.{Heard}
 use Rattle.fl_intake.specs.Ends.{TakeSide, weight_taken}
@@ -11,7 +12,6 @@ use Rattle.fl_intake.specs.Often.{Weight}
 use Rattle.fl_order.specs.Order.{only_reads}
 use Rattle.fl_session.specs.declared.session.Fault.TheVariants.{NoMemory}
 use Rattle.fl_waiting.specs.declared.rules.Rules.{Rules}
-use Rattle.fl_workers.specs.Asked.{Orders, asked_by}
 use Rattle.fl_workers.specs.Worked.{HasDone}
 
 -- the end is this intake's, and took nothing

@@ -9,12 +9,12 @@ use mathlib.Core.List.{IsPrefix, Sublistᴰ, nil≢cons, head-eq_of_cons-eq, tai
 use mathlib.Core.List.Sublistᴰ as sublist
 use Rattle.fl_board.specs.Seats.{Place, is_asked_by, orders_by}
 use Rattle.fl_board.specs.Shown.{HasAllOf}
+use Rattle.fl_counter.specs.Asked.{Orders, asked, asked_by, order_asked_by}
 use Rattle.fl_desk.specs.Legal.{is_asked, orders_asked}
 use Rattle.fl_history.specs.declared.history.Line.{Line}
 use Rattle.fl_history.specs.declared.history.Line.TheVariants as line
 use Rattle.fl_intake.specs.Often.{Weight}
 use Rattle.fl_crew.specs.Working.{IsCounted, Post, handed_at}
-use Rattle.fl_workers.specs.Asked.{Orders, asked, asked_by, order_asked_by}
 
 -- ---- what was handed in at a place is what the history asks for its worker
 

@@ -9,6 +9,7 @@ use Rattle.std.specs.List.{range_with_len}
 use Rattle.std.specs.Prelude.{IfSome, IsSome}
 use Rattle.std.specs.Io.KnownBytes.{Keeps}
 use Rattle.fl_board.specs.Seats.{Place}
+use Rattle.fl_counter.specs.Asked.{Orders, asked}
 use Rattle.fl_desk.specs.Legal.{IsLegal}
 use Rattle.fl_history.specs.declared.history.Line.{Line}
 use Rattle.fl_hearing.specs.Heard.{HasHeard}
@@ -22,7 +23,6 @@ use Rattle.fl_serve.specs.Inside.Closing.{HasAll, IsKeptBy}
 use Rattle.fl_session.specs.Kept.{came_to, lines_kept}
 use Rattle.fl_hearing.specs.Said.{said_in}
 use Rattle.fl_serve.specs.Serve.{HasNoHistory, IsAsked, IsServedBy}
-use Rattle.fl_workers.specs.Asked.{Orders, asked}
 use Rattle.fl_session.specs.Served.{EndsBy, IsRead}
 use Rattle.fl_session.specs.Session.{Came, session_of}
 use Rattle.fl_sending.specs.Shared.{HasSent, HasSentLast, IsSpelling}

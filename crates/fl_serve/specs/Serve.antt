@@ -1,5 +1,6 @@
 -- What a session with workers did.
 use Rattle.std.specs.Prelude.{◌≡◌, ℕ, ◌<◌, ◌≤◌, ◌⊎◌, Bool, true, false, List, [], ◌++◌, All, length, Option, Some}
+use Rattle.fl_counter.specs.Asked.{Orders, asked}
 use Rattle.fl_hearing.specs.Heard.{IsLast}
 use Rattle.fl_hearing.specs.Said.{said_in}
 use Rattle.fl_intake.specs.Often.{AreAsOften}
@@ -11,7 +12,6 @@ use Rattle.fl_session.specs.declared.server.Owed.{Owed}
 use Rattle.fl_session.specs.declared.session.Done.{Done}
 use Rattle.fl_session.specs.declared.session.Fault.TheVariants.{NoReader}
 use Rattle.fl_waiting.specs.declared.rules.Rules.{Rules}
-use Rattle.fl_workers.specs.Asked.{Orders, asked}
 use Rattle.fl_sending.specs.Shared.{HasSent, HasSentLast}
 
 -- A DESTROY came last, and its reply was written last, behind whole replies.

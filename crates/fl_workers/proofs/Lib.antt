@@ -1,2 +1,1 @@
-pub mod AskedLemmas
 pub mod WorkedLemmas

@@ -5,11 +5,11 @@ use Rattle.std.proofs.lemmas.List.Elements.{All-append, All-cons, All-nil}
 use Rattle.std.proofs.lemmas.List.Sums.{sum_by-append}
 use mathlib.Core.List.{IsPrefix, Sublistᴰ}
 use mathlib.Core.List.Sublistᴰ as sublist
+use Rattle.fl_counter.specs.Asked.{IsAskedLast, Orders}
 use Rattle.fl_intake.specs.Often.{Weight}
 use Rattle.fl_order.specs.Order.{only_reads}
 use Rattle.fl_order.specs.declared.order.Order.{Order}
-use Rattle.fl_workers.specs.Asked.{Orders}
-use Rattle.fl_workers.specs.Worked.{HasDone, HasWorked, IsAskedLast}
+use Rattle.fl_workers.specs.Worked.{HasDone, HasWorked}
 
 abbrev Reads : Order → Type 0
 Reads order = only_reads order.op ≡ true

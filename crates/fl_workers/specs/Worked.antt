@@ -1,16 +1,10 @@
 -- What a worker does with the orders that its end of the intake takes.
-use Rattle.std.specs.Prelude.{◌≡◌, ℕ, ◌+◌, ◌<◌, Bool, true, false, [], ◌∷◌, ◌++◌, All, length}
-use mathlib.Core.List.{IsPrefix, Sublistᴰ}
+use Rattle.std.specs.Prelude.{◌≡◌, ℕ, ◌+◌, ◌<◌, Bool, true, false, [], ◌++◌, All, length}
+use mathlib.Core.List.{Sublistᴰ}
+use Rattle.fl_counter.specs.Asked.{Orders}
 use Rattle.fl_intake.specs.Often.{AreAsOften}
 use Rattle.fl_order.specs.Order.{only_reads}
 use Rattle.fl_order.specs.declared.order.Order.{Order}
-use Rattle.fl_workers.specs.Asked.{Orders}
-
--- an order is asked behind all that was asked before
-pub record IsAskedLast (asked : Orders) (order : Order) (asked_now : Orders) : Type 0 where
-  pub before : Orders
-  pub had : IsPrefix asked before
-  pub now : asked_now ≡ before ++ order ∷ []
 
 -- At one seat these orders, each as often, were handed in, looked for or refused. Those handed in were counted, and are asked
 -- behind all that was asked before. A refusal is told where some order was refused, and nowhere else.

@@ -4,8 +4,8 @@ ghost use Rattle.std.specs.Prelude.{◌≡◌, ◌≤◌, ◌++◌, ◌∷◌, [
 ghost use Rattle.fl_order.specs.Order.{only_reads};
 ghost use Rattle.fl_workers.specs.Worked.{HasDone, HasWorked};
 
-use crate::counter::{Counter, Gate};
 use fl_core::Tolds;
+use fl_counter::{Counter, Gate};
 use fl_intake::{Intake, Job, TakeEnd};
 use fl_order::{Order, Told};
 use fl_sending::{Shared, WriterName};

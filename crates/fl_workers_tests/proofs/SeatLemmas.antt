@@ -1,8 +1,7 @@
 -- What is handed in at a seat.
 use Rattle.std.proofs.Common.{◌≡◌, [], ◌∷◌, ◌++◌, append-nil}
+use Rattle.fl_counter.specs.Asked.{IsAskedLast, Orders}
 use Rattle.fl_order.specs.declared.order.Order.{Order}
-use Rattle.fl_workers.specs.Asked.{Orders}
-use Rattle.fl_workers.specs.Worked.{IsAskedLast}
 
 -- an order that is kept behind the others is asked last
 pub asked_last : (asked asked_now : Orders) (order : Order) → asked_now ≡ asked ++ order ∷ []

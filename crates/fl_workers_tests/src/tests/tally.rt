@@ -2,10 +2,9 @@
 
 ghost use Rattle.std.specs.Prelude.{◌≡◌, []};
 
-use fl_board::{HandFault, NoView};
 use fl_core::{Core, Rules, Tolds};
+use fl_counter::{Counter, HandFault, NoView};
 use fl_order::{Answer, Errno, Op, Order};
-use fl_workers::Counter;
 use std::alloc::Global;
 use std::process::Abort;
 use std::sync::Wait;

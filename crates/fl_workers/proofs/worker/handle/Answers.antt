@@ -1,6 +1,6 @@
 use Rattle.std.proofs.Common.{rules, ◌≡◌, ◌+◌, ◌∙◌, ap, subst}
+use Rattle.fl_counter.specs.Asked.{IsAskedLast}
 use Rattle.fl_workers.proofs.WorkedLemmas.{one_handed, one_looked, one_refused}
-use Rattle.fl_workers.specs.Worked.{IsAskedLast}
 use Rattle.fl_workers.proofs.worker.handle.Goals as goal
 
 pub returns-in-Some-clause-did : goal.returns-in-Some-clause-did

@@ -4,14 +4,13 @@ use Rattle.std.proofs.lemmas.Bool.Decides.{nat_tests}
 use Rattle.std.specs.Prelude.{if◌then◌else◌}
 use Rattle.fl_board.specs.Seats.{Place}
 use Rattle.fl_board.specs.Shown.{IsHandedIn}
+use Rattle.fl_counter.specs.Asked.{IsAskedLast, asked_by, order_asked_by}
 use Rattle.fl_desk.specs.Legal.{step_lines}
 use Rattle.fl_history.specs.declared.history.Line.{Line}
 use Rattle.fl_history.specs.declared.history.Line.TheVariants as line
 use Rattle.fl_order.specs.declared.order.Order.{Order}
 use Rattle.fl_order.specs.declared.told.Told.{Told}
 use Rattle.fl_waiting.specs.declared.rules.Rules.{Rules}
-use Rattle.fl_workers.specs.Asked.{Orders, asked_by, order_asked_by}
-use Rattle.fl_workers.specs.Worked.{IsAskedLast}
 
 asked_more : (worker : ℕ) (xs ys : List Line) → asked_by worker (xs ++ ys) ≡ asked_by worker xs ++ asked_by worker ys
 asked_more worker [] ys = refl

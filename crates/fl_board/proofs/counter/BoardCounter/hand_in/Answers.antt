@@ -1,9 +1,9 @@
 use Rattle.std.proofs.Common.{◌≡◌, ap}
 use Rattle.std.specs.Prelude.{Result, Ok, Err, OnOk, OnErr}
+use Rattle.fl_board.proofs.AskedLemmas.{handed_in_last}
 use Rattle.fl_board.specs.Seats.{Place}
-use Rattle.fl_workers.proofs.AskedLemmas.{handed_in_last}
-use Rattle.fl_workers.specs.Asked.{asked_by}
-use Rattle.fl_workers.proofs.counter.BoardCounter.hand_in.Goals as goal
+use Rattle.fl_counter.specs.Asked.{asked_by}
+use Rattle.fl_board.proofs.counter.BoardCounter.hand_in.Goals as goal
 
 on_ok : {A B : Type 0} {P Q : Type 0} (result : Result A B) → OnOk result P → (P → Q) → OnOk result Q
 on_ok (Ok a) holds f = f holds

@@ -1,13 +1,11 @@
 //! What a worker needs: a counter at which it hands orders in and looks, and a gate that is told of them.
 
 ghost use Rattle.std.specs.Prelude.{◌≡◌, ◌≤◌, ℕ, ◌+◌, true, OnOk, OnErr};
+ghost use Rattle.fl_counter.specs.Asked.{IsAskedLast, Orders};
 ghost use Rattle.fl_order.specs.Order.{only_reads};
-ghost use Rattle.fl_workers.specs.Asked.{Orders, asked_by};
-ghost use Rattle.fl_workers.specs.Worked.{IsAskedLast};
 
-use fl_board::{Board, BoardName, HandFault, NoView, Seat};
+use crate::fault::{HandFault, NoView};
 use fl_core::Tolds;
-use fl_keeper::Keeper;
 use fl_order::{Answer, Errno, Order};
 use std::sync::Wait;
 
@@ -53,36 +51,6 @@ pub trait Counter {
     /// A worker has no order at hand and is about to sleep: what the counter holds back of what it keeps may go on now. It
     /// concerns no seat.
     fn pause<R: Wait>(&self, rt: &R);
-}
-
-impl<L: BoardName, P: Wait + Drop, K: Keeper> Counter for Board<L, P, K> {
-    type Seat = Seat<L>;
-
-    ghost count = { λ seat. seat.count };
-
-    ghost worker = { λ seat. seat.worker };
-
-    ghost asked = { λ seat. asked_by seat.worker seat.own };
-
-    ghost most_tolds = { L.rules.parked + 1 };
-
-    fn hand_in<R: Wait>(
-        &self,
-        rt: &R,
-        seat: &mut Seat<L>,
-        order: &Order,
-        tolds: &mut Tolds,
-    ) -> Result<(), HandFault> {
-        Board::hand_in(self, rt, seat, order, tolds)
-    }
-
-    fn look(&self, seat: &mut Seat<L>, order: &Order) -> Result<Result<Answer, Errno>, NoView> {
-        seat.look(order)
-    }
-
-    fn pause<R: Wait>(&self, rt: &R) {
-        Board::pause(self, rt);
-    }
 }
 
 /// Told of each order that a worker took: before it is handed in, and behind each reply of it that was given out to be sent.

@@ -1,0 +1,43 @@
+//! A board is a counter.
+
+ghost use Rattle.std.specs.Prelude.{◌+◌};
+ghost use Rattle.fl_counter.specs.Asked.{asked_by};
+
+use crate::board::Board;
+use crate::seat::Seat;
+use fl_core::Tolds;
+use fl_counter::{Counter, HandFault, NoView};
+use fl_keeper::Keeper;
+use fl_order::{Answer, Errno, Order};
+use fl_published::BoardName;
+use std::sync::Wait;
+
+impl<L: BoardName, P: Wait + Drop, K: Keeper> Counter for Board<L, P, K> {
+    type Seat = Seat<L>;
+
+    ghost count = { λ seat. seat.count };
+
+    ghost worker = { λ seat. seat.worker };
+
+    ghost asked = { λ seat. asked_by seat.worker seat.own };
+
+    ghost most_tolds = { L.rules.parked + 1 };
+
+    fn hand_in<R: Wait>(
+        &self,
+        rt: &R,
+        seat: &mut Seat<L>,
+        order: &Order,
+        tolds: &mut Tolds,
+    ) -> Result<(), HandFault> {
+        Board::hand_in(self, rt, seat, order, tolds)
+    }
+
+    fn look(&self, seat: &mut Seat<L>, order: &Order) -> Result<Result<Answer, Errno>, NoView> {
+        seat.look(order)
+    }
+
+    fn pause<R: Wait>(&self, rt: &R) {
+        Board::pause(self, rt);
+    }
+}
