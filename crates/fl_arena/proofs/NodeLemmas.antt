@@ -15,23 +15,11 @@ module _ {X : Type 0} where
   alter-set f (y ∷ xs) zero x h = let same : y ≡ x = cc in cc
   alter-set f (y ∷ xs) (suc i) x h = ap (λ (l : List X). y ∷ l) (alter-set f xs i x h)
 
-  -- a function that leaves the element leaves the list
-  pub alter_kept : (f : X → X) (xs : List X) (i : ℕ) (x : X) → slice_get xs i ≡ Some x → f x ≡ x → alter f xs i ≡ xs
-  alter_kept f [] i x h e = refl
-  alter_kept f (y ∷ xs) zero x h e = let same : y ≡ x = cc in cc
-  alter_kept f (y ∷ xs) (suc i) x h e = ap (λ (l : List X). y ∷ l) (alter_kept f xs i x h e)
-
   -- an element that was read is written, at the slot that the link names
   pub alter_link-read : (f : X → X) (xs : List X) (link : Option ℕ) (i at : ℕ) (x : X) → link ≡ Some i → at ≡ i → i < length xs → x ≡ get_or xs at x →
       set xs at (f x) ≡ alter_link f xs link
   alter_link-read f xs link i at x named same within read =
       rw (named, same) (sym (alter-set f xs i x (slice_get_read xs (length xs) i x refl within (rw same at read))))
-
-  -- an element that was read is left as it is
-  pub alter_link_kept : (f : X → X) (xs : List X) (link : Option ℕ) (i at : ℕ) (x : X) → link ≡ Some i → at ≡ i → i < length xs → x ≡ get_or xs at x → f x ≡ x →
-      xs ≡ alter_link f xs link
-  alter_link_kept f xs link i at x named same within read stays =
-      rw named (sym (alter_kept f xs i x (slice_get_read xs (length xs) i x refl within (rw same at read)) stays))
 
   slice_get-append_left : (xs ys : List X) (i : ℕ) (x : X) → slice_get xs i ≡ Some x → slice_get (xs ++ ys) i ≡ Some x
   slice_get-append_left [] ys i x h = absurd (none-some x h)

@@ -125,10 +125,8 @@ fn set_next<T: Copy>(nodes: &mut Vec<Node<T>>, slot: Option<u16>, next: Option<u
     ensures { nodes.new.items ≡ alter_link (with_next next) nodes.old.items slot }
 {
     if let Some(slot) = slot {
-        let at = usize::from(slot);
-        let node = nodes[at];
-        if let Node::Taken(member) = node {
-            nodes[at] = Node::Taken(Member { next, ..member });
+        if let Node::Taken(member) = &mut nodes[usize::from(slot)] {
+            member.next = next;
         }
     }
 }
@@ -138,10 +136,8 @@ fn set_previous<T: Copy>(nodes: &mut Vec<Node<T>>, slot: Option<u16>, previous: 
     ensures { nodes.new.items ≡ alter_link (with_previous previous) nodes.old.items slot }
 {
     if let Some(slot) = slot {
-        let at = usize::from(slot);
-        let node = nodes[at];
-        if let Node::Taken(member) = node {
-            nodes[at] = Node::Taken(Member { previous, ..member });
+        if let Node::Taken(member) = &mut nodes[usize::from(slot)] {
+            member.previous = previous;
         }
     }
 }

@@ -1,6 +1,6 @@
-use Rattle.std.proofs.Common.{◌≡◌, ◌+◌, ◌<◌, suc, Some, set, sym, ap, ◌∙◌, refl, arith}
+use Rattle.std.proofs.Common.{suc, Some, set, sym, ap, ◌∙◌, refl, arith}
 use Rattle.std.proofs.lemmas.List.{length-set}
-use Rattle.fl_arena.specs.Chains.{entries, items, slot_at, free_count}
+use Rattle.fl_arena.specs.Chains.{entries, items, free_count}
 use Rattle.fl_arena.specs.Cursors.{cursor_at, index_of}
 use Rattle.fl_arena.specs.Inside.Links.{Spells}
 use Rattle.fl_arena.proofs.CursorLemmas.{is_at, is_taken, slot_there, linked_within, before_within}
