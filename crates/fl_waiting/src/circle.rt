@@ -72,7 +72,9 @@ impl Parked {
     }
 }
 
-// Whether this lock would close a circle among these requests. It makes room for N of them, and takes no memory.
+// Whether this lock would close a circle among these requests. It makes room for N of them, and takes no memory. That room, of up
+// to 75 kB on the stack, is for the orders that need it alone.
+#[inline(never)]
 fn closes_among<const N: usize>(
     rules: Rules,
     locks: &Table,
