@@ -164,10 +164,11 @@ impl<K: Keeper> Server<K> {
             (W.contents (writer_of batch.old.out).now) (W.contents (writer_of batch.new.out).now)
             batch.old.replies batch.new.replies (is_broken batch.old.out) (is_broken batch.new.out) frame.now }
     {
-        match self.talk.meet(frame) {
-            Met::Order(order) => self.take(batch, &order),
-            Met::Batch(orders) => self.take_all(batch, &orders),
-            Met::Owed(owed) => batch.collect(&owed),
+        // By reference, so that no order is copied once more.
+        match &self.talk.meet(frame) {
+            Met::Order(order) => self.take(batch, order),
+            Met::Batch(orders) => self.take_all(batch, orders),
+            Met::Owed(owed) => batch.collect(owed),
         }
     }
 

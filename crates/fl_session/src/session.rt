@@ -27,8 +27,8 @@ use std::alloc::Global;
 use std::io::{Read, Write};
 use thiserror::Error;
 
-// The most bytes of replies that go out together.
-const BATCH_BYTES: usize = 4096;
+// The most bytes of replies that go out together: some thirty that are done. A client then reads those while others are answered.
+const BATCH_BYTES: usize = 672;
 
 /// Why a session ended before its stream did. Its text is the line on standard error.
 #[derive(Clone, Copy, Debug, PartialEq, Eq, Error)]
