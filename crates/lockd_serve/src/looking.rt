@@ -1,23 +1,27 @@
-//! A reader that looks for bytes before it sleeps in a read.
+//! A reader that looks for bytes before it sleeps in a read, and a writer that bears such looks.
 
 ghost use Rattle.std.specs.Prelude.{◌≡◌, true, IsErr, MatchOption};
 ghost use Rattle.std.specs.Io.{ReadsAtMost};
 ghost use Rattle.std.specs.Io.KnownBytes.{Keeps, ReadConsumes};
 
 use std::io;
-use std::io::{ErrorKind, Read};
+use std::io::{ErrorKind, Read, Write};
 use std::os::unix::net::UnixStream;
 
 // How many reads a look tries, some tens of microseconds long. A client that waits for each reply needs less until its
 // next message.
-const TRIES: u32 = 64;
+const TRIES: u32 = 128;
 
 // How many reads come without a look behind one that found nothing.
 const UNLOOKED: u32 = 64;
 
+// How often a write is tried that finds a full socket which doesn't wait. It is made to wait before each further try, so
+// that only a look that begins in just that moment makes one more needed.
+const WRITES: u32 = 1000;
+
 /// Reads what a socket has, and looks for bytes before a read sleeps, since to be woken takes longer than an order. Behind
 /// a look that found nothing the next 64 reads come without one. So a slow client costs little, and one that is silent
-/// nothing. While it looks the socket doesn't wait, so no other thread may use it.
+/// nothing. While it looks the socket doesn't wait, so others write to it by a `Patient` alone.
 #[derive(Drop)]
 pub(crate) struct Looking<'a, R> {
     stream: R,
@@ -73,6 +77,44 @@ impl<R: Read> Read for Looking<'_, R> {
     }
 }
 
+/// Writes to a socket at which another thread may look. Where the socket is full and doesn't wait, it is made to wait again,
+/// and the write is tried anew. The look then ends with a read that sleeps.
+#[derive(Drop)]
+pub(crate) struct Patient<'a, W> {
+    stream: W,
+    // What `stream` writes to. Contracts see that the stream is written to, whatever this is.
+    socket: &'a UnixStream,
+}
+
+impl<'a, W: Write> Patient<'a, W> {
+    /// Over a stream that writes to this socket.
+    pub(crate) fn new(stream: W, socket: &'a UnixStream) -> Patient<'a, W>
+        ensures { result.stream ≡ stream }
+    {
+        Patient { stream, socket }
+    }
+}
+
+impl<W: Write> Write for Patient<'_, W> {
+    ghost contents = { λ p. W.contents p.stream };
+
+    fn write(&mut self, buf: &[u8]) -> io::Result<usize> {
+        for _ in 1..WRITES {
+            let written = self.stream.write(buf);
+            if !would_wait(&written) {
+                return written;
+            }
+            // Where this is refused, the write is told as one that failed at last.
+            let _ = self.socket.set_nonblocking(false);
+        }
+        self.stream.write(buf)
+    }
+
+    fn flush(&mut self) -> io::Result<()> {
+        self.stream.flush()
+    }
+}
+
 // Reads again and again for a while, until a read has more to say than that it would wait.
 fn read_soon<R: Read>(stream: &mut R, buf: &mut [u8]) -> Option<io::Result<usize>>
     ensures { MatchOption result (Keeps (R.remaining stream.old) (R.remaining stream.new))
@@ -88,9 +130,9 @@ fn read_soon<R: Read>(stream: &mut R, buf: &mut [u8]) -> Option<io::Result<usize
     None
 }
 
-// Whether a read says no more than that it would wait.
-fn would_wait(read: &io::Result<usize>) -> bool
-    ensures { result ≡ true → IsErr read.now }
+// Whether a read or a write says no more than that it would wait.
+fn would_wait(done: &io::Result<usize>) -> bool
+    ensures { result ≡ true → IsErr done.now }
 {
-    matches!(read, Err(e) if e.kind() == ErrorKind::WouldBlock)
+    matches!(done, Err(e) if e.kind() == ErrorKind::WouldBlock)
 }

@@ -13,7 +13,7 @@ ghost use Rattle.lockd_faults.specs.declared.fault.Fault.{Fault};
 
 mod traced;
 
-use crate::looking::Looking;
+use crate::looking::{Looking, Patient};
 use fl_book::{Keeper, Lines, TraceRoom};
 use fl_core::Rules;
 use fl_serve::{Done, Kept, OpenGate, run_over, serve_over};
@@ -99,13 +99,12 @@ fn served<R: Threads + Wait + Sync, K: Keeper + Send + Drop>(
     ensures back { IsSome result.keeper
         ⊎ (result.fault ≡ Some SessionFault.NoMemory) ⊎ (result.fault ≡ Some SessionFault.NoReader) }
 {
-    let mut w = stream;
+    let mut r = Looking::new(stream, stream);
+    let mut w = Patient::new(stream, stream);
     if workers == 1 {
-        let mut r = Looking::new(stream, stream);
         let (kept, _) = run_over(alloc, &mut r, &mut w, keeper, rules);
         return kept;
     }
-    let mut r = stream;
     serve_over(rt, alloc, &mut r, &mut w, workers, rules, &OpenGate, keeper)
 }
 
