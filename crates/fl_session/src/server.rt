@@ -15,7 +15,7 @@ use fl_core::{Rules, Tolds};
 use fl_desk::Desk;
 use fl_keeper::Keeper;
 use fl_order::{Answer, Errno, NoMemory, OpKind, Order, Refusal, Told};
-use fl_wire::{Frame, InitStep, read_init, read_order};
+use fl_wire::{Frame, InitStep, read_init, read_lock, read_order};
 use std::alloc::Global;
 use std::io::Write;
 
@@ -105,6 +105,18 @@ impl Talk {
 
     // What a message comes to after an INIT is agreed.
     fn meet_after_init<'a>(&mut self, frame: &Frame<'a>) -> Met<'a>
+        ensures heard { IsHeardAs result self.old self.new frame.now (said frame.now) }
+        ensures ends { self.old.over ≡ false → self.new.over ≡ true → result ≡ Met.Owed (goodbye_to frame.now) }
+    {
+        match read_lock(frame) {
+            Some(order) => Met::Order(order),
+            None => self.meet_other(frame),
+        }
+    }
+
+    // The same, and it isn't known that the message asks for a lock. Apart, since room for names is cleared in it.
+    #[inline(never)]
+    fn meet_other<'a>(&mut self, frame: &Frame<'a>) -> Met<'a>
         ensures heard { IsHeardAs result self.old self.new frame.now (said frame.now) }
         ensures ends { self.old.over ≡ false → self.new.over ≡ true → result ≡ Met.Owed (goodbye_to frame.now) }
     {

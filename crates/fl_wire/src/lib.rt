@@ -14,5 +14,5 @@ pub use batch::Batch;
 pub use cut::{Step, next_frame};
 pub use frame::Frame;
 pub use init::{InitStep, read_init, write_init};
-pub use reading::read_order;
+pub use reading::{read_lock, read_order};
 pub use writing::write_told;

@@ -1,13 +1,15 @@
 //! The reading of a message: the order that it says, or how it is refused.
 
-ghost use Rattle.std.specs.Prelude.{◌≡◌, ◌+◌, ◌<◌, ◌≤◌, ◌==◌, length, IfOk, OnOk, Ok, Err};
-ghost use Rattle.std.specs.Prelude.{if◌then◌else◌};
+ghost use Rattle.std.specs.Prelude.{◌≡◌, ◌+◌, ◌<◌, ◌≤◌, ◌==◌, length, IfOk, IfSome, IsErr, IsNone, IsSome, OnOk};
+ghost use Rattle.std.specs.Prelude.{Some, Ok, Err, if◌then◌else◌};
 ghost use Rattle.std.specs.Result.{result_map_both};
 ghost use Rattle.fl_order.specs.Name.{IsName};
+ghost use Rattle.fl_order.specs.OpKind.{kind_of_opcode, shape_for};
 ghost use Rattle.fl_order.specs.Sayable.{FitsBody, FitsLock, FitsOp, IsSayable};
 ghost use Rattle.fl_wire.specs.Body.{name_behind, name_in};
+ghost use Rattle.fl_wire.specs.Layout.{opcode_of};
 ghost use Rattle.fl_wire.specs.Message.{ReadsBack};
-ghost use Rattle.fl_wire.specs.Says.{asked_by, body_in, order_of, said};
+ghost use Rattle.fl_wire.specs.Says.{body_in, order_of, said};
 
 use crate::frame::Frame;
 use crate::layout::{u32_at, u64_at};
@@ -33,6 +35,29 @@ pub fn read_order(frame: &Frame) -> Result<Order, Refusal>
     order_in(frame)
 }
 
+/// The order that a message says, where it asks for a lock (GETLK, SETLK or SETLKW); none where it says anything else.
+/// Most messages ask for locks, and no room for a name is cleared for those.
+pub fn read_lock(frame: &Frame) -> Option<Order>
+    ensures said { IfSome result (λ order. said frame.now ≡ Ok order) }
+    ensures sayable { IfSome result IsSayable }
+    ensures lock { (kind : OpKind) → kind_of_opcode (opcode_of frame.now) ≡ Some kind →
+        IsSome result → shape_for kind ≡ Ok Shape.Lock }
+    ensures all { (kind : OpKind) → kind_of_opcode (opcode_of frame.now) ≡ Some kind →
+        shape_for kind ≡ Ok Shape.Lock → IsNone result → IsErr (said frame.now) }
+{
+    if frame.batch().is_some() {
+        return None;
+    }
+    let kind = OpKind::of_opcode(frame.opcode())?;
+    if kind.shape() != Ok(Shape::Lock) {
+        return None;
+    }
+    let ask = lock_ask(frame.as_bytes()).ok()?;
+    // The prover has to be told of the op's type.
+    let op: Op = Op::of_lock(kind, ask)?;
+    Some(order_asking(op, frame))
+}
+
 // What a message says.
 fn order_in(frame: &Frame) -> Result<Order, Refusal>
     ensures said { result ≡ said frame.now }
@@ -43,22 +68,8 @@ fn order_in(frame: &Frame) -> Result<Order, Refusal>
     }
     let kind = OpKind::of_opcode(frame.opcode()).ok_or(Refusal::Answer(Errno::ENOSYS))?;
     let shape = kind.shape()?;
-    if shape == Shape::Lock {
-        return lock_order(kind, frame);
-    }
     let body = body_in(shape, frame.as_bytes()).map_err(|e| kind.refusal(e))?;
     let op = Op::of(kind, body).ok_or(Refusal::Answer(Errno::ENOSYS))?;
-    Ok(order_asking(op, frame))
-}
-
-// What a message of this kind says whose body is a lock request. It makes no `Body`, whose room for a name would be cleared and
-// copied.
-fn lock_order(kind: OpKind, frame: &Frame) -> Result<Order, Refusal>
-    ensures said { result ≡ order_of frame.now (asked_by kind (Ok Shape.Lock) frame.now) }
-    ensures sayable { IfOk result IsSayable }
-{
-    let ask = lock_ask(frame.as_bytes()).map_err(|e| kind.refusal(e))?;
-    let op = Op::of_lock(kind, ask).ok_or(Refusal::Answer(Errno::ENOSYS))?;
     Ok(order_asking(op, frame))
 }
 

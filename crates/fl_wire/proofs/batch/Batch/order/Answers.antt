@@ -1,8 +1,7 @@
-use Rattle.std.proofs.Common.{◌≡◌, ◌<◌, ◌∙◌, Some, ap, arith, length, slice_get, subst, sym}
+use Rattle.std.proofs.Common.{◌<◌, ◌∙◌, Some, ap, arith, length, slice_get, subst, sym}
 use Rattle.fl_order.specs.declared.order.Op.TheVariants.{Forget}
-use Rattle.fl_order.specs.declared.order.Order.{Order}
 use Rattle.fl_wire.proofs.Batches.{forgets_at, forgets_count}
-use Rattle.fl_wire.specs.Batch.{forget_at, forgets_in, pairs_said}
+use Rattle.fl_wire.specs.Batch.{forgets_in, pairs_said}
 use Rattle.fl_wire.proofs.batch.Batch.order.Goals as goal
 
 pub u64_at-requires-2 : goal.u64_at-requires-2
