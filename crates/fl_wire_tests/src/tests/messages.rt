@@ -2,7 +2,7 @@
 
 use super::{same, whole};
 use fl_order::{LockAsk, Name, Op, Order};
-use fl_wire::read_order;
+use fl_wire::{read_lock, read_order};
 use std::process::Abort;
 
 // The messages below are laid out by hand from `fuse.h` (protocol 7.31): len, opcode, unique, nodeid, then
@@ -136,6 +136,17 @@ pub(super) const GETLK: [u8; 88] = [
     0, 0, 0, 0, 12, 0, 0, 0, 0, 0, 0, 0, 0, 0, 0, 0,
 ];
 
+// The message says this order. One that asks for a lock is read as a lock too, and no other.
+fn says(rt: &impl Abort, bytes: &[u8], order: Order) {
+    let frame = whole(rt, bytes);
+    same(rt, &read_order(&frame), &Ok(order));
+    let lock = match order.op {
+        Op::Getlk(_) | Op::Setlk(_) | Op::Setlkw(_) => Some(order),
+        _ => None,
+    };
+    same(rt, &read_lock(&frame), &lock);
+}
+
 // The message is this order of unique 5, by user 1000, group 100 and process 21.
 fn is_order(rt: &impl Abort, bytes: &[u8], node: u64, op: Op) {
     let order = Order {
@@ -146,7 +157,7 @@ fn is_order(rt: &impl Abort, bytes: &[u8], node: u64, op: Op) {
         pid: 21,
         op,
     };
-    same(rt, &read_order(&whole(rt, bytes)), &Ok(order));
+    says(rt, bytes, order);
 }
 
 fn name(rt: &impl Abort) -> Name {
@@ -206,7 +217,7 @@ fn is_superusers(rt: &impl Abort, bytes: &[u8], unique: u64, node: u64, op: Op) 
         pid: 0,
         op,
     };
-    same(rt, &read_order(&whole(rt, bytes)), &Ok(order));
+    says(rt, bytes, order);
 }
 
 #[test]

@@ -3,7 +3,7 @@
 use super::messages::SETLK;
 use super::{message, same, whole};
 use fl_order::{Errno, Refusal};
-use fl_wire::{Step, next_frame, read_order};
+use fl_wire::{Step, next_frame, read_lock, read_order};
 use std::process::Abort;
 
 // No message has this length, which stands in the first two bytes, the low one first.
@@ -32,7 +32,9 @@ fn messages_that_have_not_come_whole(rt: HostRuntime) {
 fn is_refused(rt: &(impl Abort + AllocGlobal), opcode: u8, len: usize, refusal: Refusal) {
     let body = vec![in rt.alloc(); 0; len].expect(rt, "memory");
     let bytes = message(rt, opcode, &body);
-    same(rt, &read_order(&whole(rt, &bytes)), &Err(refusal));
+    let frame = whole(rt, &bytes);
+    same(rt, &read_order(&frame), &Err(refusal));
+    same(rt, &read_lock(&frame), &None);
 }
 
 #[test]
