@@ -139,12 +139,11 @@ pub(super) const GETLK: [u8; 88] = [
 // The message says this order. One that asks for a lock is read as a lock too, and no other.
 fn says(rt: &impl Abort, bytes: &[u8], order: Order) {
     let frame = whole(rt, bytes);
-    same(rt, &read_order(&frame), &Ok(order));
-    let lock = match order.op {
-        Op::Getlk(_) | Op::Setlk(_) | Op::Setlkw(_) => Some(order),
-        _ => None,
-    };
-    same(rt, &read_lock(&frame), &lock);
+    // GETLK, SETLK and SETLKW.
+    let is_lock = frame.opcode() >= 31 && frame.opcode() <= 33;
+    let said = Ok(order);
+    same(rt, &read_order(&frame), &said);
+    same(rt, &read_lock(&frame), &said.ok().filter(|_| is_lock));
 }
 
 // The message is this order of unique 5, by user 1000, group 100 and process 21.
