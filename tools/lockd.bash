@@ -1,4 +1,4 @@
-# Completion of `lockd` and of `tools/lockd_mount` for bash: `. tools/lockd.bash`, or put it into
+# Completion of `lockd` and of `lockd_mount` for bash: `. tools/lockd.bash`, or put it into
 # /etc/bash_completion.d. tools/check_man compares its words with what `lockd --help` says.
 _lockd() {
     local word=${COMP_WORDS[COMP_CWORD]} before=${COMP_WORDS[COMP_CWORD - 1]} command=${COMP_WORDS[1]}
@@ -33,14 +33,18 @@ complete -o default -F _lockd lockd
 
 _lockd_mount() {
     local word=${COMP_WORDS[COMP_CWORD]} before=${COMP_WORDS[COMP_CWORD - 1]}
+    local words='--workers --trace --trace-full --fair --runs --parked --no-check --allow-other --mode --uid --gid --discard-writes --nonempty --grace --count --help --version'
     case $before in
         --workers) mapfile -t COMPREPLY < <(compgen -W "$(seq 16)" -- "$word") ;;
         --runs) mapfile -t COMPREPLY < <(compgen -W '1 4096 65536' -- "$word") ;;
         --parked) mapfile -t COMPREPLY < <(compgen -W '1 256 1024' -- "$word") ;;
-        --trace) mapfile -t COMPREPLY < <(compgen -f -- "$word") ;;
+        --trace) mapfile -t COMPREPLY < <(compgen -W 'none' -f -- "$word") ;;
+        --trace-full) mapfile -t COMPREPLY < <(compgen -W 'go-on refuse' -- "$word") ;;
+        --mode) mapfile -t COMPREPLY < <(compgen -W '0755 1777' -- "$word") ;;
+        --uid | --gid | --grace) COMPREPLY=() ;;
         *)
             case $word in
-                -*) mapfile -t COMPREPLY < <(compgen -W '--workers --allow-other --count --trace --fair --runs --parked' -- "$word") ;;
+                -*) mapfile -t COMPREPLY < <(compgen -W "$words" -- "$word") ;;
                 *) mapfile -t COMPREPLY < <(compgen -d -- "$word") ;;
             esac
             ;;

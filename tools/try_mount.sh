@@ -2,11 +2,13 @@
 # Mounts a lock directory under this machine's kernel, in a mount namespace of its own, and has shell scripts and Python
 # lock files there. Prints a line for each that goes wrong, with why; then what `lockd check` says of the traces, and
 # `N passed, M failed`. The status is 0 where none failed, and 77, with a line, where something is missing that it wants:
-# root, /dev/fuse, a right to mount, a C compiler, Python 3, `unshare` and `flock`. It takes less than two minutes, and is killed then.
+# root, /dev/fuse, a right to mount, a C compiler, Python 3.9, `unshare` and `flock`. It takes some 40 seconds, and is killed after
+# 900.
 #
 #     tools/try_mount.sh [NAME ..]      (only what has one of these words in its name)
 #
-# LOCKD names another program to take as `lockd`. Else it is built where it isn't.
+# LOCKD names another program to take as `lockd`. Else it is built where it isn't. LOCKD_MOUNT names another one to take as
+# lockd_mount; else mount/build builds it, and a second one, with sanitizers, for the tries with 4 workers.
 set -eu
 cd "$(dirname "$0")/.."
 skip() {
@@ -25,8 +27,15 @@ export LOCKD
 if [ ! -x "$LOCKD" ]; then
     (cd crates/lockd && rt run < stdin > /dev/null)
 fi
+if [ -z "${LOCKD_MOUNT:-}" ]; then
+    mount/build
+    checked=mount/out/lockd_mount_checked
+    mount/build "$checked" -g -fsanitize=address,undefined -fno-sanitize-recover=undefined 2> /dev/null || checked=
+    [ -z "$checked" ] || LOCKD_MOUNT_CHECKED=$PWD/$checked
+    export LOCKD_MOUNT_CHECKED="${LOCKD_MOUNT_CHECKED:-}"
+fi
 # All processes are in a namespace of their own, so that none is left. The one that runs out of time is killed.
 status=0
-timeout -s KILL 115 $apart python3 tools/try_mount.py "$@" || status=$?
-[ "$status" -ne 137 ] || echo 'try_mount: killed after 115 seconds'
+timeout -s KILL 900 $apart python3 tools/try_mount.py "$@" || status=$?
+[ "$status" -ne 137 ] || echo 'try_mount: killed after 900 seconds'
 exit "$status"

@@ -1,0 +1,378 @@
+// Mounts a lock directory at a folder, over a server of its own, until the folder is unmounted or a signal comes.
+#include "mount.h"
+
+#include <errno.h>
+#include <poll.h>
+#include <signal.h>
+#include <stdio.h>
+#include <stdlib.h>
+#include <string.h>
+#include <sys/eventfd.h>
+#include <sys/signalfd.h>
+#include <unistd.h>
+
+enum { TICK = 3000, STEP = 50, INIT_PATIENCE = 20 }; // milliseconds; seconds until INIT has to be answered
+enum { ABORT_TRIES = 40 };
+
+static struct {
+    struct options options;
+    struct place place;
+    struct server server;
+    int signals, news;
+    bool starts; // until it is mounted: what was begun is taken away at exit
+} it;
+
+// ---- Signals ----
+
+// They are blocked in every thread and read from a descriptor. A shell starts what is in its background with SIGINT
+// ignored, so that is undone. Where nobody reads what it prints, it has to unmount all the same.
+static void take_signals(void)
+{
+    const int taken[] = {SIGHUP, SIGINT, SIGTERM, SIGUSR1};
+    sigset_t set;
+    sigemptyset(&set);
+    for (size_t i = 0; i < sizeof taken / sizeof *taken; i++) {
+        sigaddset(&set, taken[i]);
+        signal(taken[i], SIG_DFL);
+    }
+    signal(SIGPIPE, SIG_IGN);
+    signal(SIGCHLD, SIG_DFL);
+    signal(SIGXFSZ, SIG_IGN);
+    sigprocmask(SIG_BLOCK, &set, NULL);
+    it.signals = signalfd(-1, &set, SFD_CLOEXEC | SFD_NONBLOCK);
+    it.news = eventfd(0, EFD_CLOEXEC | EFD_NONBLOCK);
+    if (it.signals < 0 || it.news < 0)
+        fail("cannot wait for signals");
+}
+
+static const char *counts_text(void)
+{
+    static char text[200];
+    struct counts counts;
+    carrier_counts(&counts);
+    table_lock();
+    unsigned files = nodes_count(), opened = opens_count();
+    table_unlock();
+    snprintf(text, sizeof text, "%u files, %u open; %llu messages, %llu replies, %llu refused by the kernel", files, opened,
+             counts.messages, counts.replies, counts.refused);
+    return text;
+}
+
+// The signal that asks for the end, if one came, or 0.
+static int signal_to_end(void)
+{
+    struct signalfd_siginfo came;
+    while (read(it.signals, &came, sizeof came) == sizeof came) {
+        if (came.ssi_signo == SIGUSR1 && !it.starts)
+            say("%s", counts_text());
+        else if (came.ssi_signo == SIGTERM || came.ssi_signo == SIGINT)
+            return (int)came.ssi_signo;
+    }
+    return 0;
+}
+
+static bool stops(void)
+{
+    return signal_to_end() != 0;
+}
+
+static void sleep_for(int milliseconds)
+{
+    struct pollfd events[] = {{.fd = it.signals, .events = POLLIN}, {.fd = it.news, .events = POLLIN}};
+    uint64_t count;
+    poll(events, 2, milliseconds);
+    if (events[1].revents && read(it.news, &count, sizeof count) < 0)
+        return;
+}
+
+// ---- Beginning ----
+
+static void take_away(void)
+{
+    if (!it.starts)
+        return;
+    server_drop(&it.server);
+    if (record_read())
+        record_release();
+    else
+        record_remove();
+}
+
+static void never_mounted(const char *why)
+{
+    place_unmount(&it.place, true);
+    carrier_stop();
+    record_remove();
+    errno = 0;
+    fail("%s; nothing is mounted", why);
+}
+
+static const char *init_fault(enum end end, int fault)
+{
+    static char text[200];
+    if (end == NOT_AGREED && session.minor < 31)
+        snprintf(text, sizeof text, "this kernel speaks FUSE 7.%u, and 7.31 is wanted, which came with Linux 5.2", session.minor);
+    else if (end == NOT_AGREED)
+        snprintf(text, sizeof text, "the server refuses INIT: %s", strerror(fault));
+    else if (end == SERVER_ENDED)
+        snprintf(text, sizeof text, "the server ended before INIT was agreed");
+    else if (end == BAD_REPLY)
+        snprintf(text, sizeof text, "the server sent a reply of a length that none has");
+    else
+        snprintf(text, sizeof text, end == RUNNING ? "the server doesn't answer INIT" : "/dev/fuse cannot be read");
+    return text;
+}
+
+static bool is_over(void)
+{
+    int fault;
+    return carrier_end(&fault) != RUNNING;
+}
+
+static bool gives_up(void)
+{
+    return is_over() || stops();
+}
+
+// Ready is said once INIT was agreed and a name was looked up.
+static void wait_until_ready(void)
+{
+    double last = seconds() + INIT_PATIENCE;
+    int fault = 0;
+    enum end end;
+    while ((end = carrier_end(&fault)) == RUNNING && !carrier_is_agreed() && seconds() < last) {
+        if (stops())
+            never_mounted("ended while it was mounted");
+        sleep_for(STEP);
+    }
+    if (!carrier_is_agreed())
+        never_mounted(init_fault(end, fault));
+    if (!place_answers(&it.place, gives_up))
+        never_mounted("no name could be looked up");
+}
+
+static void begin(void)
+{
+    it.starts = true;
+    atexit(take_away);
+    place_open(&it.place, &it.options, stops);
+    server_start(&it.server, &it.options, stops);
+    const struct options *options = &it.options;
+    names_start(options->mode < 0 ? it.place.below.st_mode : (mode_t)options->mode,
+                options->uid < 0 ? it.place.below.st_uid : (uid_t)options->uid,
+                options->gid < 0 ? it.place.below.st_gid : (gid_t)options->gid);
+    int device = place_mount(&it.place, options);
+    if (device < 0)
+        exit(STATUS_NOT_MOUNTED);
+    carrier_start(device, it.server.socket, it.news, options->discard_writes);
+    wait_until_ready();
+    it.starts = false;
+    printf("mounted at %s\n", it.place.path);
+    fflush(stdout);
+    notify("READY=1\nSTATUS=mounted at %s", it.place.path);
+}
+
+// ---- While it runs ----
+
+// Says once that orders were answered for a while and the trace's file didn't grow.
+static void watch_trace(void)
+{
+    static struct {
+        unsigned long long lines;
+        off_t size;
+    } before[2];
+    static bool said;
+    struct counts counts;
+    struct stat trace;
+    if (!it.server.trace[0] || stat(it.server.trace, &trace))
+        return;
+    carrier_counts(&counts);
+    bool stands = before[0].lines > before[1].lines && before[1].size == trace.st_size && before[1].lines;
+    if (stands && !said)
+        say("the trace %s doesn't grow: is its disk full?", it.server.trace);
+    said = stands;
+    before[1] = before[0];
+    before[0].lines = counts.lines;
+    before[0].size = trace.st_size;
+}
+
+static void tick(void)
+{
+    static unsigned long long last;
+    struct counts counts;
+    carrier_counts(&counts);
+    watch_trace();
+    if (counts.messages != last)
+        notify("STATUS=%s", counts_text());
+    last = counts.messages;
+}
+
+// Waits for an end, and gives the signal that asked for it, or 0.
+static int run(void)
+{
+    int fault, signal;
+    double next = seconds() + TICK / 1000.0;
+    while (carrier_end(&fault) == RUNNING) {
+        if ((signal = signal_to_end()) != 0)
+            return signal;
+        if (seconds() >= next) {
+            tick();
+            next = seconds() + TICK / 1000.0;
+        }
+        sleep_for(TICK);
+    }
+    return 0;
+}
+
+// ---- The end ----
+
+static unsigned open_files(struct holders *holders)
+{
+    find_holders(it.place.mounted, holders);
+    table_lock();
+    unsigned count = opens_count();
+    if (!holders->count)
+        openers(holders);
+    table_unlock();
+    return count;
+}
+
+// Unmounts as soon as no file is open, or else after the grace or at a second signal. Gives whether nobody was cut off.
+static bool unmount_by(int signal)
+{
+    struct holders holders = {0};
+    double begun = seconds(), last = begun + (double)it.options.grace;
+    bool said = false;
+    notify("STOPPING=1\nSTATUS=waiting for open files");
+    for (;;) {
+        bool gone = place_unmount(&it.place, false);
+        // The kernel tells the carrier in a moment, unless the mount is elsewhere too.
+        for (int i = 0; gone && i < 4 && !is_over(); i++)
+            sleep_for(STEP);
+        if (is_over())
+            return true;
+        unsigned count = open_files(&holders);
+        if (!said && !count && !holders.count)
+            say("SIG%s came; no file is open, but it is mounted in another namespace too", sigabbrev_np(signal));
+        else if (!said)
+            say("SIG%s came; %u files are open, of processes %s", sigabbrev_np(signal), count, holders_text(&holders));
+        if (!said && it.options.grace)
+            say("waiting %ld seconds for them; a second signal ends it at once", it.options.grace);
+        said = true;
+        if (stops() || seconds() >= last)
+            return !count && !holders.count;
+        sleep_for(STEP);
+    }
+}
+
+static int end_by(int signal)
+{
+    struct holders holders;
+    if (unmount_by(signal)) {
+        say("the folder was unmounted");
+        place_unmount(&it.place, true);
+        carrier_stop();
+        record_remove();
+        return STATUS_UNMOUNTED;
+    }
+    unsigned count = open_files(&holders);
+    place_unmount(&it.place, true);
+    carrier_stop();
+    say("ended with %u files open, and their locks are lost, of processes %s", count, holders_text(&holders));
+    record_release();
+    return STATUS_LOST;
+}
+
+// Files are still open, and their processes think that they hold locks. So the folder stays mounted, and each access there
+// fails: nobody locks a file of the folder below instead.
+static void leave_dead(const struct holders *holders)
+{
+    bool mounted = place_is_mounted(&it.place);
+    carrier_stop();
+    say("their locks are lost: files were open, of processes %s", holders_text(holders));
+    if (mounted)
+        say("%s stays unusable, so that nobody takes these locks meanwhile: end the processes and mount again, or `umount -l` it",
+            it.place.path);
+    record_release();
+}
+
+static int say_unexpected(enum end end, int fault)
+{
+    const char *colon = fault ? ": " : "";
+    switch (end) {
+    case SERVER_ENDED:
+        say("the server ended%s%s", colon, fault ? strerror(fault) : "");
+        return STATUS_SERVER;
+    case BAD_REPLY:
+        say("the server sent a reply of a length that none has");
+        return STATUS_FAULT;
+    case NOT_AGREED:
+        say("the kernel began anew, and the server refused it%s%s", colon, fault ? strerror(fault) : "");
+        return STATUS_FAULT;
+    default:
+        say("/dev/fuse cannot be read%s%s", colon, fault ? strerror(fault) : "");
+        return STATUS_FAULT;
+    }
+}
+
+// Whether files are still open although the kernel ended the connection. It tells of that a moment before it is gone, and a
+// RELEASE that it hadn't sent by then is lost.
+static bool is_aborted(struct holders *holders)
+{
+    for (int i = 0; i < ABORT_TRIES; i++) {
+        if (!connection_lives(it.place.mounted, holders))
+            return false;
+        if (holders->count)
+            return true;
+        usleep(STEP * 1000 / 2);
+    }
+    return true;
+}
+
+static int end_unmounted(void)
+{
+    struct holders holders;
+    unsigned count = open_files(&holders);
+    if (count && is_aborted(&holders)) {
+        say("the connection was aborted while %u files were open", count);
+        leave_dead(&holders);
+        return STATUS_LOST;
+    }
+    say(place_is_mounted(&it.place) ? "the connection was aborted; no file was open" : "the folder was unmounted");
+    place_unmount(&it.place, true);
+    carrier_stop();
+    record_remove();
+    return STATUS_UNMOUNTED;
+}
+
+static int end_unexpected(enum end end, int fault)
+{
+    struct holders holders;
+    int status = say_unexpected(end, fault);
+    if (open_files(&holders)) {
+        leave_dead(&holders);
+        return status;
+    }
+    place_unmount(&it.place, true);
+    carrier_stop();
+    record_remove();
+    return status;
+}
+
+int main(int argc, char **argv)
+{
+    read_options(argc, argv, &it.options);
+    take_signals();
+    begin();
+    int fault, signal = run();
+    enum end end = carrier_end(&fault);
+    notify("STOPPING=1");
+    int status = signal ? end_by(signal) : end == UNMOUNTED ? end_unmounted() : end_unexpected(end, fault);
+    if (it.options.count)
+        carrier_print_opcodes();
+    opens_end();
+    names_end();
+    status = server_finish(&it.server, &it.options, status);
+    fflush(NULL);
+    return status;
+}

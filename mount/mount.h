@@ -1,0 +1,246 @@
+// What the files of lockd_mount share. docs/MOUNT.md says what the program does.
+#ifndef LOCKD_MOUNT_H
+#define LOCKD_MOUNT_H
+
+#ifndef _GNU_SOURCE
+#define _GNU_SOURCE
+#endif
+#include <limits.h>
+#include <linux/fuse.h>
+#include <stdatomic.h>
+#include <stdbool.h>
+#include <stddef.h>
+#include <stdint.h>
+#include <sys/stat.h>
+#include <sys/types.h>
+#include <time.h>
+
+// The kernel refuses to write into less than this, and a message that is longer would be none of the server's.
+enum { MOST = FUSE_MIN_READ_BUFFER };
+enum { ROOT = FUSE_ROOT_ID };
+// As many files as the server has at once.
+enum { FILES = 256 };
+// Attributes change only by calls of this very kernel, so it may keep them for so many seconds.
+enum { ATTRIBUTES_HOLD = 3600 };
+
+// Ends of the program.
+enum status { STATUS_UNMOUNTED = 0, STATUS_SERVER = 1, STATUS_NOT_MOUNTED = 2, STATUS_FAULT = 3, STATUS_LOST = 4 };
+
+// ---- options.c ----
+
+struct options {
+    const char *folder;
+    const char *trace; // NULL: a new file in a new folder; "none": nowhere
+    const char *trace_full;
+    const char *workers;
+    const char *rules[8]; // those that `serve` and `check` take alike
+    int rule_count;
+    bool allow_other, count, discard_writes, nonempty, no_check;
+    long grace; // seconds
+    long mode, uid, gid; // -1: those of the folder below
+};
+
+// Reads the command line. Ends the program after --help, --version and words that it doesn't know.
+void read_options(int argc, char **argv, struct options *options);
+
+// ---- say.c ----
+
+// One line on standard error; `fail` ends the program with STATUS_NOT_MOUNTED, and says the error's name too if there is one.
+void say(const char *what, ...) __attribute__((format(printf, 1, 2)));
+void fail(const char *what, ...) __attribute__((format(printf, 1, 2), noreturn));
+// What the service manager reads, where one started the program.
+void notify(const char *what, ...) __attribute__((format(printf, 1, 2)));
+// Seconds of a clock that nobody sets.
+double seconds(void);
+
+// ---- server.c ----
+
+struct server {
+    pid_t pid; // 0 once it was waited for
+    int status;
+    int socket;
+    bool was_killed; // by this program, since it didn't end
+    char *program;
+    char work[PATH_MAX]; // its folder, or ""
+    char trace[PATH_MAX];
+};
+
+// Starts `lockd serve` and connects to it. `stops` says whether to give up.
+void server_start(struct server *server, const struct options *options, bool (*stops)(void));
+// Kills a server that nobody will ask anything, and takes its files away.
+void server_drop(struct server *server);
+// Waits for its end, after its connection was closed, and judges the trace. Gives the status, which is at least this one.
+int server_finish(struct server *server, const struct options *options, int status);
+
+// ---- place.c ----
+
+struct place {
+    int folder; // what is below the mount, opened once
+    struct stat below;
+    char path[PATH_MAX];
+    dev_t mounted; // the device number of the mount, or 0
+    bool is_root;
+};
+
+// Opens the folder and refuses what can't be mounted at. Waits for an earlier mount of it until `grace` seconds are over.
+void place_open(struct place *place, const struct options *options, bool (*stops)(void));
+// Mounts, and gives the open device, or -1 with a line said.
+int place_mount(struct place *place, const struct options *options);
+// Whether the mount is still at its folder.
+bool place_is_mounted(const struct place *place);
+// Unmounts, or tries to: `force` takes it away from under open files.
+bool place_unmount(const struct place *place, bool force);
+// Whether a name can be looked up there. `stops` says whether to give up.
+bool place_answers(const struct place *place, bool (*stops)(void));
+
+// ---- holders.c ----
+
+enum { MOST_HOLDERS = 16 };
+struct holders {
+    int count; // also those that have no room here
+    pid_t pids[MOST_HOLDERS];
+};
+
+// The processes that have a file, or their current or root folder, in the file system of this number.
+void find_holders(dev_t device, struct holders *holders);
+// Their numbers as text: "12, 15 and 3 more".
+const char *holders_text(const struct holders *holders);
+// Where a process sees this number mounted: a lockd's at the path or elsewhere, and what isn't a lockd's.
+struct mounts {
+    bool here, elsewhere, others;
+};
+struct mounts find_mounts(pid_t pid, dev_t device, const char *path);
+// Whether the connection that was mounted under this number is in use, perhaps by processes that can't be seen.
+bool connection_lives(dev_t device, struct holders *holders);
+
+// ---- record.c ----
+
+// The record of the mount at a path.
+enum record { RECORD_FREE, RECORD_TAKEN, RECORD_NONE };
+enum record record_take(const char *path);
+// The device number of the mount that the record tells of, or 0.
+dev_t record_read(void);
+bool record_of_living(dev_t device);
+void record_write(const char *path, dev_t device);
+void record_remove(void);
+// Lets it go, as it is.
+void record_release(void);
+
+// ---- carrier.c ----
+
+// Why it ends.
+enum end { RUNNING, UNMOUNTED, NOT_AGREED, SERVER_ENDED, BAD_REPLY, DEVICE_FAILED };
+
+struct counts {
+    unsigned long long messages, replies, refused, lines;
+};
+
+void carrier_start(int device, int server, int news, bool discards_writes);
+// Ends its threads, and closes the device: who waits at the folder gets an error.
+void carrier_stop(void);
+enum end carrier_end(int *fault);
+// Whether INIT was agreed.
+bool carrier_is_agreed(void);
+void carrier_counts(struct counts *counts);
+void carrier_print_opcodes(void);
+// For the kernel, of either thread. False where nothing is mounted any more.
+bool write_reply(const char *reply, size_t size);
+bool answer(uint64_t unique, int error, const void *body, size_t size);
+// For the server, by the thread that carries messages.
+void send_later(const void *message, size_t size);
+void carrier_agreed(void);
+void carrier_refused_init(int error);
+
+// ---- messages.c ----
+
+// Numbers of the carrier's own messages. The kernel's begin low.
+#define OURS ((uint64_t)1 << 63)
+struct asked;
+
+// What is changed in a message of the kernel before the server gets it: its size from then on, or 0 where it doesn't get it.
+// There is room for 16 bytes more.
+size_t change_message(char *message, size_t size);
+// Closes what MKDIR or MKNOD made, at the server. Under table_lock.
+void release_now(const struct asked *asked, uint64_t node, uint64_t fh);
+
+// What both directions know of the session. `minor` is the kernel's.
+extern struct session {
+    atomic_uint_least64_t init; // unique of the INIT that waits for its reply, or 0
+    uint32_t minor;
+    bool offers_truncation, discards;
+} session;
+
+// ---- replies.c ----
+
+// What is changed in a reply: its size from then on, or 0 where the kernel doesn't get it.
+size_t change_reply(char *reply, size_t size);
+
+// ---- answers.c ----
+
+// Answers a message that the server never sees. False where it is none of these.
+bool answer_here(const struct fuse_in_header *head, const char *body, size_t size);
+
+// ---- names.c: all under table_lock ----
+
+struct node {
+    struct node *next; // of its bucket
+    struct node *before, *after; // of those with names, the oldest first
+    uint64_t number, lookups, cookie;
+    uint32_t mode, uid, gid;
+    struct timespec atime, mtime, ctime;
+    char name[NAME_MAX + 1]; // empty once it is unlinked
+};
+
+void table_lock(void);
+void table_unlock(void);
+void names_start(uint32_t mode, uint32_t uid, uint32_t gid);
+void names_end(void);
+struct node *node_of(uint64_t number);
+struct node *node_named(const char *name);
+struct node *node_made(uint64_t number, const char *name, uint32_t mode, uint32_t uid, uint32_t gid);
+// The node of an entry that the server gave; it has one lookup more.
+struct node *node_looked_up(const struct fuse_attr *attr);
+void node_unlinked(const char *name);
+void node_forgotten(uint64_t number, uint64_t lookups);
+// The first one that was made after the one with this cookie.
+struct node *node_after(uint64_t cookie);
+unsigned nodes_count(void);
+bool is_folder(const struct node *node);
+struct timespec now(void);
+void describe(struct fuse_attr *attr, const struct node *node);
+
+// ---- opens.c: all under table_lock ----
+
+struct open_file;
+void open_made(uint64_t fh, uint64_t node, uint32_t pid);
+// This owner asked for a record lock through the open file, or its FLUSH came through it.
+void open_owner_asks(uint64_t fh, uint64_t owner);
+void open_owner_flushes(uint64_t fh, uint64_t owner);
+// The file is closed. Gives how many owners have to be flushed first, in `owners`, at most so many.
+size_t open_closed(uint64_t fh, uint64_t *owners, size_t most);
+unsigned opens_count(void);
+// Those who opened what is still open.
+void openers(struct holders *holders);
+void opens_end(void);
+
+// A message whose reply means something to the table.
+struct asked {
+    struct asked *next;
+    uint64_t unique, node;
+    uint32_t opcode, mode, uid, gid, pid, flags;
+    struct held *held;
+    char name[];
+};
+// A RELEASE that waits until the FLUSHes before it are answered.
+struct held {
+    unsigned flushes;
+    size_t size;
+    char message[sizeof(struct fuse_in_header) + sizeof(struct fuse_release_in)];
+};
+
+struct asked *asked_new(uint64_t unique, uint32_t opcode, const char *name);
+struct asked *asked_taken(uint64_t unique);
+// Whether there may be one, without the lock.
+bool asked_any(void);
+
+#endif

@@ -1,0 +1,131 @@
+// The command line.
+#include "mount.h"
+
+#include <errno.h>
+#include <getopt.h>
+#include <stdio.h>
+#include <stdlib.h>
+#include <string.h>
+
+#ifndef VERSION
+#define VERSION "of no version"
+#endif
+
+static const char HELP[] =
+    "use: lockd_mount [OPTIONS] [--] FOLDER\n"
+    "\n"
+    "Mounts a lock directory at FOLDER, which has to be there and empty, until it is unmounted or SIGTERM or SIGINT\n"
+    "comes. Starts `lockd serve` for it, and at the end judges the trace by `lockd check`. The program `lockd` is the one\n"
+    "that $LOCKD names, else the one beside this program, else that of the repository.\n"
+    "\n"
+    "  --workers N           1 to 16 workers of the server; 1, if not said\n"
+    "  --trace FILE          a new file for the trace, or `none`; else one in a new folder in $TMPDIR or /tmp\n"
+    "  --trace-full go-on|refuse\n"
+    "                        what the server does while the trace can't be written\n"
+    "  --fair, --runs N, --parked N\n"
+    "                        the rules of the server, as `lockd serve --help` says\n"
+    "  --no-check            don't judge the trace\n"
+    "  --allow-other         let other users in\n"
+    "  --mode M, --uid N, --gid N\n"
+    "                        mode (octal) and owner of the mounted folder; those of FOLDER, if not said\n"
+    "  --discard-writes      take what is written and throw it away; else a write fails with EFBIG\n"
+    "  --nonempty            mount over a folder that has files\n"
+    "  --grace S             wait so many seconds for open files, at the end and before it mounts; 0, if not said\n"
+    "  --count               print at the end how many messages of each opcode the kernel sent\n"
+    "  --help, --version\n"
+    "\n"
+    "Signals: TERM and INT end the mount, a second one at once; USR1 prints a line of counts; HUP does nothing.\n"
+    "Status: 0 the folder was unmounted, 1 the server ended, 2 nothing was mounted, 3 another fault or a trace that isn't\n"
+    "legal, 4 the mount was ended while files were open, so that locks were lost.\n";
+
+static void misused(const char *what)
+{
+    errno = 0;
+    fail("%s; `lockd_mount --help` tells the options", what);
+}
+
+static long number(const char *word, const char *name, int base, long least, long most)
+{
+    char *end = NULL;
+    errno = 0;
+    long it = *word >= '0' && *word <= '9' ? strtol(word, &end, base) : -1;
+    if (errno || !end || *end || it < least || it > most) {
+        errno = 0;
+        fail("--%s: a number from %ld to %ld, and not `%s`", name, least, most, word);
+    }
+    return it;
+}
+
+static void take_number(struct options *options, const char *name, const char *word)
+{
+    const long most_id = (long)UINT32_MAX - 1;
+    if (!strcmp(name, "mode"))
+        options->mode = number(word, "mode (octal)", 8, 0, 07777);
+    else if (!strcmp(name, "uid"))
+        options->uid = number(word, name, 10, 0, most_id);
+    else if (!strcmp(name, "gid"))
+        options->gid = number(word, name, 10, 0, most_id);
+    else
+        options->grace = number(word, name, 10, 0, 86400);
+}
+
+static void take_rule(struct options *options, const char *name, const char *word)
+{
+    if (options->rule_count + 2 > (int)(sizeof options->rules / sizeof *options->rules))
+        misused("too many options");
+    options->rules[options->rule_count++] = name;
+    if (word)
+        options->rules[options->rule_count++] = word;
+}
+
+enum { ALLOW = 1, COUNT, DISCARD, NONEMPTY, NO_CHECK, WORKERS, TRACE, TRACE_FULL, FAIR, RUNS, PARKED, NUMBER, HELPS, VERSIONS };
+
+static void take(struct options *options, int option, const char *name)
+{
+    switch (option) {
+    case ALLOW: options->allow_other = true; break;
+    case COUNT: options->count = true; break;
+    case DISCARD: options->discard_writes = true; break;
+    case NONEMPTY: options->nonempty = true; break;
+    case NO_CHECK: options->no_check = true; break;
+    case WORKERS:
+        number(optarg, name, 10, 1, 16);
+        options->workers = optarg;
+        break;
+    case TRACE: options->trace = optarg; break;
+    case TRACE_FULL: options->trace_full = optarg; break;
+    case FAIR: take_rule(options, "--fair", NULL); break;
+    case RUNS: take_rule(options, "--runs", optarg); break;
+    case PARKED: take_rule(options, "--parked", optarg); break;
+    case NUMBER: take_number(options, name, optarg); break;
+    case HELPS:
+        fputs(HELP, stdout);
+        exit(0);
+    case VERSIONS:
+        puts("lockd_mount " VERSION);
+        exit(0);
+    default: misused("unknown words");
+    }
+}
+
+void read_options(int argc, char **argv, struct options *options)
+{
+    static const struct option known[] = {
+        {"allow-other", no_argument, NULL, ALLOW},       {"count", no_argument, NULL, COUNT},
+        {"discard-writes", no_argument, NULL, DISCARD},  {"nonempty", no_argument, NULL, NONEMPTY},
+        {"no-check", no_argument, NULL, NO_CHECK},       {"workers", required_argument, NULL, WORKERS},
+        {"trace", required_argument, NULL, TRACE},       {"trace-full", required_argument, NULL, TRACE_FULL},
+        {"fair", no_argument, NULL, FAIR},               {"runs", required_argument, NULL, RUNS},
+        {"parked", required_argument, NULL, PARKED},     {"mode", required_argument, NULL, NUMBER},
+        {"uid", required_argument, NULL, NUMBER},        {"gid", required_argument, NULL, NUMBER},
+        {"grace", required_argument, NULL, NUMBER},      {"help", no_argument, NULL, HELPS},
+        {"version", no_argument, NULL, VERSIONS},        {NULL, 0, NULL, 0},
+    };
+    *options = (struct options){.workers = "1", .mode = -1, .uid = -1, .gid = -1};
+    int option, at = 0;
+    while ((option = getopt_long(argc, argv, "", known, &at)) != -1)
+        take(options, option, known[at].name);
+    if (argc - optind != 1 || !*argv[optind])
+        misused(argc - optind > 1 ? "more than one folder" : "no folder");
+    options->folder = argv[optind];
+}

@@ -1,0 +1,310 @@
+// The folder: opens it, refuses what can't be mounted at, mounts and unmounts.
+#include "mount.h"
+
+#include <dirent.h>
+#include <errno.h>
+#include <fcntl.h>
+#include <signal.h>
+#include <stdio.h>
+#include <stdlib.h>
+#include <string.h>
+#include <sys/file.h>
+#include <sys/mount.h>
+#include <sys/socket.h>
+#include <sys/syscall.h>
+#include <sys/sysmacros.h>
+#include <sys/wait.h>
+#include <unistd.h>
+
+enum { STEP = 50000, PATIENCE = 10 }; // microseconds between two tries; seconds until a lookup has to be answered
+
+// ---- fusermount3 ----
+
+// A child that has become `fusermount3` with these words; its channel is the socket that it sends the device through.
+static pid_t fusermount(int channel, const char *const words[], bool silent)
+{
+    pid_t child = fork();
+    if (child)
+        return child;
+    if (channel >= 0) {
+        char number[16];
+        snprintf(number, sizeof number, "%d", channel);
+        setenv("_FUSE_COMMFD", number, 1);
+        fcntl(channel, F_SETFD, 0);
+    }
+    sigset_t none;
+    sigemptyset(&none);
+    sigprocmask(SIG_SETMASK, &none, NULL);
+    if (silent)
+        dup2(open("/dev/null", O_WRONLY), STDERR_FILENO);
+    execvp("fusermount3", (char *const *)(uintptr_t)words);
+    say("who isn't root needs fusermount3, of the package fuse3");
+    _exit(127);
+}
+
+// The open file that came through the channel with one byte, or -1.
+static int received(int channel)
+{
+    char byte;
+    union {
+        char room[CMSG_SPACE(sizeof(int))];
+        struct cmsghdr head;
+    } control;
+    struct iovec one = {&byte, 1};
+    struct msghdr message = {.msg_iov = &one, .msg_iovlen = 1, .msg_control = &control, .msg_controllen = sizeof control};
+    int device = -1;
+    ssize_t got;
+    while ((got = recvmsg(channel, &message, MSG_CMSG_CLOEXEC)) < 0 && errno == EINTR)
+        ;
+    struct cmsghdr *head = got > 0 ? CMSG_FIRSTHDR(&message) : NULL;
+    if (head && head->cmsg_level == SOL_SOCKET && head->cmsg_type == SCM_RIGHTS)
+        memcpy(&device, CMSG_DATA(head), sizeof device);
+    return device;
+}
+
+static int mounted_by_fusermount(const struct place *place, const struct options *options)
+{
+    int channel[2];
+    const char *const words[] = {"fusermount3", "-o",
+                                 options->allow_other ? "nosuid,nodev,default_permissions,fsname=lockd,subtype=lockd,allow_other"
+                                                      : "nosuid,nodev,default_permissions,fsname=lockd,subtype=lockd",
+                                 "--", place->path, NULL};
+    if (socketpair(AF_UNIX, SOCK_STREAM | SOCK_CLOEXEC, 0, channel))
+        return -1;
+    pid_t child = fusermount(channel[0], words, false);
+    close(channel[0]);
+    int device = child < 0 ? -1 : received(channel[1]);
+    close(channel[1]);
+    if (child > 0)
+        waitpid(child, NULL, 0);
+    errno = 0;
+    return device;
+}
+
+// ---- Mounting and unmounting ----
+
+static int mounted_by_root(const struct place *place, const struct options *options)
+{
+    char words[160], target[64];
+    int device = open("/dev/fuse", O_RDWR | O_CLOEXEC);
+    if (device < 0)
+        return -1;
+    snprintf(words, sizeof words, "fd=%d,rootmode=40000,user_id=%u,group_id=%u,default_permissions%s", device,
+             (unsigned)getuid(), (unsigned)getgid(), options->allow_other ? ",allow_other" : "");
+    // Through the descriptor: what stands at the path by now doesn't count.
+    snprintf(target, sizeof target, "/proc/self/fd/%d", place->folder);
+    if (!mount("lockd", target, "fuse.lockd", MS_NOSUID | MS_NODEV, words))
+        return device;
+    int error = errno;
+    close(device);
+    errno = error;
+    return -1;
+}
+
+// The number of the file system at the path, asked of the kernel alone, or 0.
+static dev_t device_at(const char *path)
+{
+    struct statx at;
+    if (statx(AT_FDCWD, path, AT_STATX_DONT_SYNC | AT_NO_AUTOMOUNT | AT_SYMLINK_NOFOLLOW, 0, &at))
+        return 0;
+    return makedev(at.stx_dev_major, at.stx_dev_minor);
+}
+
+// The folder was moved before it was mounted at, and the mount is where it is by now.
+static void unmount_moved(const struct place *place)
+{
+    char link[64], path[PATH_MAX];
+    snprintf(link, sizeof link, "/proc/self/fd/%d", place->folder);
+    ssize_t size = readlink(link, path, sizeof path - 1);
+    if (size > 0) {
+        path[size] = 0;
+        umount2(path, UMOUNT_NOFOLLOW | MNT_DETACH);
+    }
+}
+
+int place_mount(struct place *place, const struct options *options)
+{
+    int device = place->is_root ? mounted_by_root(place, options) : mounted_by_fusermount(place, options);
+    if (device < 0) {
+        int error = errno;
+        say("cannot mount %s%s%s", place->path, error ? ": " : "", error ? strerror(error) : "");
+        return -1;
+    }
+    place->mounted = device_at(place->path);
+    if (place->mounted == place->below.st_dev || !find_mounts(getpid(), place->mounted, place->path).here) {
+        say("%s isn't where it was, and nothing stays mounted", place->path);
+        unmount_moved(place);
+        close(device);
+        return -1;
+    }
+    record_write(place->path, place->mounted);
+    return device;
+}
+
+bool place_is_mounted(const struct place *place)
+{
+    return place->mounted && device_at(place->path) == place->mounted;
+}
+
+static bool unmount(const char *path, bool is_root, bool force)
+{
+    if (is_root)
+        return !umount2(path, UMOUNT_NOFOLLOW | (force ? MNT_FORCE | MNT_DETACH : 0));
+    const char *const plain[] = {"fusermount3", "-u", "--", path, NULL};
+    const char *const lazy[] = {"fusermount3", "-u", "-z", "--", path, NULL};
+    int status = 1;
+    pid_t child = fusermount(-1, force ? lazy : plain, true);
+    bool well = child > 0 && waitpid(child, &status, 0) == child && !status;
+    errno = well ? 0 : EBUSY;
+    return well;
+}
+
+bool place_unmount(const struct place *place, bool force)
+{
+    return !place_is_mounted(place) || unmount(place->path, place->is_root, force);
+}
+
+// ---- Before it is mounted ----
+
+static void refuse_nonempty(const struct place *place)
+{
+    DIR *list = fdopendir(dup(place->folder));
+    if (!list)
+        fail("cannot read %s", place->path);
+    rewinddir(list);
+    for (struct dirent *it; (it = readdir(list));)
+        if (strcmp(it->d_name, ".") != 0 && strcmp(it->d_name, "..") != 0) {
+            errno = 0;
+            fail("%s isn't empty, and a mount hides what is in it; --nonempty allows that", place->path);
+        }
+    closedir(list);
+}
+
+// Opens what is at the path. Gives the number of its file system.
+static dev_t open_folder(struct place *place, const char *path)
+{
+    char link[64];
+    int folder = open(path, O_PATH | O_DIRECTORY | O_CLOEXEC);
+    if (folder < 0)
+        fail("no folder at %s", path);
+    snprintf(link, sizeof link, "/proc/self/fd/%d", folder);
+    ssize_t size = readlink(link, place->path, sizeof place->path - 1);
+    if (size <= 0)
+        fail("cannot find the path of %s; is /proc mounted", path);
+    place->path[size] = 0;
+    dev_t device = device_at(place->path);
+    close(folder);
+    return device;
+}
+
+// Refuses a folder where a carrier's mount is. One whose carrier was killed is taken away if nobody is left in it.
+static bool is_free(struct place *place, const struct options *options, enum record record, struct holders *holders)
+{
+    dev_t device = open_folder(place, options->folder);
+    struct mounts found = find_mounts(getpid(), device, place->path);
+    errno = 0;
+    if (!found.here && found.elsewhere)
+        fail("%s is in a folder that is mounted by lockd_mount", place->path);
+    if (!found.here)
+        return true;
+    if (record != RECORD_FREE || record_read() != device)
+        fail("%s is mounted by lockd_mount already", place->path);
+    find_holders(device, holders);
+    if (holders->count)
+        return false;
+    if (!unmount(place->path, place->is_root, false) && !unmount(place->path, place->is_root, true))
+        fail("cannot take the dead mount at %s away", place->path);
+    return is_free(place, options, record, holders);
+}
+
+static bool has_earlier_mount(struct holders *holders)
+{
+    dev_t device = record_read();
+    return device && connection_lives(device, holders);
+}
+
+// Opens the folder below. A carrier of it that still runs, perhaps after `umount -l`, has it locked.
+static bool take_folder(struct place *place)
+{
+    struct stat at;
+    if (place->folder >= 0)
+        close(place->folder);
+    place->folder = open(place->path, O_RDONLY | O_DIRECTORY | O_NOFOLLOW | O_CLOEXEC);
+    if (place->folder < 0 || fstat(place->folder, &at))
+        fail("cannot open %s", place->path);
+    place->below = at;
+    return !flock(place->folder, LOCK_EX | LOCK_NB) || errno != EWOULDBLOCK;
+}
+
+// Whether it can be mounted at. Else `why` says what is in the way, which may go.
+static bool is_ready(struct place *place, const struct options *options, char *why, size_t size)
+{
+    struct holders holders = {0};
+    dev_t device = open_folder(place, options->folder);
+    enum record record = record_take(place->path);
+    const char *rest = "";
+    if (record == RECORD_TAKEN && find_mounts(getpid(), device, place->path).here) {
+        errno = 0;
+        fail("%s is mounted by lockd_mount already", place->path);
+    }
+    if (record == RECORD_TAKEN || (is_free(place, options, record, &holders) && !take_folder(place)))
+        rest = "another lockd_mount, whose mount was taken away, still serves open files";
+    else if (holders.count || has_earlier_mount(&holders))
+        rest = "files are still open there, and who has them thinks that he holds his locks";
+    if (!*rest)
+        return true;
+    snprintf(why, size, "an earlier mount of %s isn't over: %s; processes %s", place->path, rest, holders_text(&holders));
+    record_release();
+    return false;
+}
+
+void place_open(struct place *place, const struct options *options, bool (*stops)(void))
+{
+    char why[PATH_MAX + 512];
+    double last = seconds() + (double)options->grace;
+    *place = (struct place){.folder = -1, .is_root = !geteuid()};
+    for (bool said = false; !is_ready(place, options, why, sizeof why); said = true) {
+        if (stops() || seconds() >= last) {
+            errno = 0;
+            fail("%s", why);
+        }
+        if (!said)
+            say("%s; waiting %ld seconds at most", why, options->grace);
+        usleep(STEP);
+    }
+    if (!options->nonempty)
+        refuse_nonempty(place);
+}
+
+// ---- When it is mounted ----
+
+static void close_others(void)
+{
+    if (!syscall(SYS_close_range, 3u, ~0u, 0u))
+        return;
+    for (int fd = 3; fd < 1024; fd++)
+        close(fd);
+}
+
+// A child looks, since a server that stands still would keep it for ever.
+bool place_answers(const struct place *place, bool (*stops)(void))
+{
+    char path[PATH_MAX + 32];
+    struct stat at;
+    int status = 1;
+    snprintf(path, sizeof path, "%s/.lockd_mount", place->path);
+    pid_t child = fork();
+    if (!child) {
+        // A child that waits for ever must not keep the device open.
+        close_others();
+        bool well = !lstat(path, &at) || errno == ENOENT || errno == EACCES;
+        _exit(!well);
+    }
+    double last = seconds() + PATIENCE;
+    pid_t ended;
+    while (child > 0 && !(ended = waitpid(child, &status, WNOHANG)) && !stops() && seconds() < last)
+        usleep(1000);
+    if (child > 0 && !ended)
+        kill(child, SIGKILL);
+    return !status;
+}

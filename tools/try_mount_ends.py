@@ -1,0 +1,397 @@
+"""How a mount ends: by umount, signals, a server or a carrier that is killed, an abort."""
+import fcntl, os, signal, subprocess, tempfile, threading, time
+from try_mount_kit import *
+
+
+def held_and_waited_for(mount, name="held"):
+    """One process with the file's lock, and one that waits for it."""
+    one, two = children(f"{mount.folder}/{name}", 2)
+    same(one.ask("flock", "a", ALONE), "ok")
+    two.begin("flock", "a", ALONE)
+    assert two.waits()
+    return one, two
+
+
+def lock_fails(folder, error="ENOTCONN"):
+    """Nobody gets the lock, neither in the mount nor in the folder below."""
+    same(outcome(os.open, f"{folder}/held", os.O_RDWR | os.O_CREAT), error)
+
+
+def mounts_again(folder, *words):
+    mount = Mount(*words, folder=folder)
+    shell(mount, "flock -n held echo in", "in")
+    same(mount.end(), (0, "legal"))
+
+
+def try_end_by_umount():
+    mount = Mount()
+    shell(mount, "flock job echo in", "in")
+    same(mount.end(), (0, "legal"))
+    assert not mount.is_mounted()
+    mount.says("the folder was unmounted")
+
+
+def try_umount_is_refused_while_a_file_is_open():
+    mount = Mount()
+    (one,) = children(f"{mount.folder}/held", 1)
+    ran = subprocess.run(["umount", mount.folder], capture_output=True, timeout=PATIENCE)
+    same((ran.returncode != 0, mount.running.poll(), one.ask("close", "a")), (True, None, "ok"))
+    same(mount.end(), (0, "legal"))
+
+
+def try_end_by_signals_without_open_files():
+    for which in signal.SIGTERM, signal.SIGINT:
+        mount = Mount()
+        shell(mount, "flock job echo in", "in")
+        same(mount.end(lambda: mount.running.send_signal(which)), (0, "legal"))
+        assert not mount.is_mounted()
+
+
+def try_term_with_open_files_ends_it_and_says_of_whom():
+    mount = Mount()
+    one, two = held_and_waited_for(mount)
+    same(mount.end(mount.term), (4, "legal"))
+    same(two.answer(), "ECONNABORTED")
+    assert not mount.is_mounted()
+    mount.says("SIGTERM came; 2 files are open", "their locks are lost", f" {one.pid} ", f" {two.pid}\n")
+    same(one.ask("flock", "a", NOT_HELD), "ENOTCONN")
+    # They still think that they hold what they had, so nobody else gets it.
+    contains(refusal(folder=mount.folder), "an earlier mount", str(one.pid))
+    one.kill()
+    two.kill()
+    mounts_again(mount.folder)
+
+
+def try_term_waits_for_open_files():
+    mount = Mount("--grace", "15")
+    (one,) = children(f"{mount.folder}/held", 1)
+    same(one.ask("flock", "a", ALONE), "ok")
+    mount.term()
+    until(lambda: "waiting 15 seconds" in mount.output())
+    time.sleep(0.2)
+    same((mount.running.poll(), one.ask("flock", "a", SHARED), one.ask("close", "a")), (None, "ok", "ok"))
+    same(mount.end(lambda: None), (0, "legal"))
+    assert not mount.is_mounted()
+
+
+def try_term_ends_it_when_its_grace_is_over():
+    mount = Mount("--grace", "1")
+    one, two = held_and_waited_for(mount)
+    begun = time.monotonic()
+    same(mount.end(mount.term), (4, "legal"))
+    assert 0.9 < time.monotonic() - begun < 9
+    same(two.answer(), "ECONNABORTED")
+
+
+def try_a_second_term_ends_it_at_once():
+    mount = Mount("--grace", "1000")
+    one, two = held_and_waited_for(mount)
+    mount.term()
+    until(lambda: "waiting 1000 seconds" in mount.output())
+    same(mount.end(mount.term), (4, "legal"))
+    same(two.answer(), "ECONNABORTED")
+
+
+def try_term_with_a_process_that_stands_in_the_folder():
+    mount = Mount()
+    os.mkdir(f"{mount.folder}/held.d")
+    inside = subprocess.Popen(["sleep", "100"], cwd=mount.folder)
+    try:
+        same(mount.end(mount.term), (4, "legal"))
+        mount.says("0 files are open, of processes", str(inside.pid))
+        assert not mount.is_mounted()
+    finally:
+        inside.kill()
+        inside.wait()
+
+
+def try_hup_does_nothing_and_usr1_prints_counts():
+    mount = Mount()
+    (one,) = children(f"{mount.folder}/held", 1)
+    for which in signal.SIGHUP, signal.SIGUSR1:
+        mount.running.send_signal(which)
+    until(lambda: "lockd_mount: 1 files, 1 open; " in mount.output())
+    same(one.ask("flock", "a", ALONE), "ok")
+    one.kill()
+    same(mount.end(), (0, "legal"))
+
+
+def try_a_lazy_umount_keeps_others_out_while_files_are_open():
+    mount = Mount()
+    one, two = held_and_waited_for(mount)
+    subprocess.run(["umount", "-l", mount.folder], timeout=PATIENCE, check=True)
+    assert two.waits() and not mount.is_mounted()
+    contains(refusal(folder=mount.folder), "an earlier mount", "still serves open files")
+    waiting = subprocess.Popen([PROGRAM, "--grace", "15", "--trace", "none", mount.folder], stdout=subprocess.PIPE, stderr=subprocess.DEVNULL, text=True)
+    time.sleep(0.3)
+    same((waiting.poll(), is_mounted(mount.folder)), (None, False))
+    same([one.ask("close", "a"), two.answer()], ["ok", "ok"])
+    assert mount.running.poll() is None
+    same(two.ask("close", "a"), "ok")
+    same(mount.end(lambda: None), (0, "legal"))
+    same(waiting.stdout.readline(), f"mounted at {mount.folder}\n")
+    waiting.terminate()
+    same(waiting.wait(PATIENCE), 0)
+
+
+def try_files_that_close_with_the_last_of_the_mount():
+    """The kernel tells of no more than 16 closed files before it ends the connection."""
+    for _ in range(4):
+        mount = Mount("--trace", "none")
+        holder = Child()
+        for at in range(300):
+            same(holder.ask("open", f"f{at}", f"{mount.folder}/held", os.O_RDWR | os.O_CREAT), "ok")
+        same(holder.ask("flock", "f7", ALONE), "ok")
+        subprocess.run(["umount", "-l", mount.folder], timeout=PATIENCE, check=True)
+        holder.kill()
+        status, said = mount.end(lambda: None)
+        same((status, said), (0, "lockd_mount: the folder was unmounted"))
+
+
+def try_a_mount_kept_in_another_namespace_keeps_others_out():
+    mount = Mount()
+    inside = subprocess.Popen(["unshare", "--mount", "--propagation", "private", "sh", "-c", f"exec 9> {mount.folder}/held; flock 9; echo in; read end"],
+                              stdin=subprocess.PIPE, stdout=subprocess.PIPE, text=True)
+    same(inside.stdout.readline(), "in\n")
+    subprocess.run(["umount", mount.folder], timeout=PATIENCE, check=True)
+    same((mount.running.poll(), mount.is_mounted()), (None, False))
+    contains(refusal(folder=mount.folder), "an earlier mount")
+    inside.communicate("end\n", timeout=PATIENCE)
+    same(mount.end(lambda: None), (0, "legal"))
+    mounts_again(mount.folder, "--grace", "9")
+
+
+def try_term_where_another_namespace_has_it_mounted():
+    mount = Mount()
+    inside = subprocess.Popen(["unshare", "--mount", "--propagation", "private", "sh", "-c", "echo in; read end"],
+                              stdin=subprocess.PIPE, stdout=subprocess.PIPE, text=True)
+    same(inside.stdout.readline(), "in\n")
+    same(mount.end(mount.term), (0, "legal"))
+    mount.says("mounted in another namespace too")
+    mounts_again(mount.folder)
+    inside.communicate("end\n", timeout=PATIENCE)
+
+
+def try_a_container_keeps_a_dead_mount_at_another_path():
+    mount, beside = Mount(), tempfile.mkdtemp(dir=WORK)
+    inside = subprocess.Popen(["unshare", "--mount", "--propagation", "private", "sh", "-c", f"mount --bind {mount.folder} {beside}; "
+                               f"umount {mount.folder}; exec 9> {beside}/held; flock 9; echo in; read end"], stdin=subprocess.PIPE, stdout=subprocess.PIPE, text=True)
+    same(inside.stdout.readline(), "in\n")
+    mount.end(mount.running.kill)
+    subprocess.run(["umount", "-l", mount.folder], timeout=PATIENCE, check=True)
+    contains(refusal(folder=mount.folder), "an earlier mount", str(inside.pid))
+    inside.communicate("end\n", timeout=PATIENCE)
+    # The kernel ends the container's mounts in a moment.
+    mounts_again(mount.folder, "--grace", "9")
+
+
+def try_a_container_with_a_dead_mount_and_no_open_file_keeps_nobody_out():
+    mount = Mount()
+    inside = subprocess.Popen(["unshare", "--mount", "--propagation", "private", "sh", "-c", "echo in; read end"],
+                              stdin=subprocess.PIPE, stdout=subprocess.PIPE, text=True)
+    same(inside.stdout.readline(), "in\n")
+    mount.end(mount.running.kill)
+    subprocess.run(["umount", "-l", mount.folder], timeout=PATIENCE, check=True)
+    mounts_again(mount.folder)
+    inside.communicate("end\n", timeout=PATIENCE)
+
+
+def try_the_server_is_killed_while_processes_wait():
+    mount = Mount()
+    one, *waiting = children(f"{mount.folder}/held", 7)
+    same([one.ask("flock", "a", ALONE), one.ask("record", "a", WRITE)], ["ok", "ok"])
+    for at, child in enumerate(waiting):
+        child.begin(*(("flock", "a", ALONE) if at % 2 else ("record", "a", WRITE, 0, 0, True)))
+        assert child.waits()
+    status, _ = mount.end(lambda: os.kill(mount.server(), signal.SIGKILL))
+    mount.says("the server ended", "the end of its trace is lost", f"{mount.folder} stays unusable")
+    same((status, [child.answer() for child in waiting]), (1, ["ECONNABORTED"] * 6))
+    lock_fails(mount.folder)
+    contains(refusal(folder=mount.folder), "an earlier mount", str(one.pid))
+    lock_fails(mount.folder)
+    for it in one, *waiting:
+        it.kill()
+    mounts_again(mount.folder)
+    assert not mount.is_mounted()
+
+
+def try_the_server_is_killed_without_open_files():
+    mount = Mount()
+    shell(mount, "flock job echo in", "in")
+    same(mount.end(lambda: os.kill(mount.server(), signal.SIGKILL))[0], 1)
+    assert not mount.is_mounted()
+
+
+def try_the_carrier_is_killed():
+    mount = Mount()
+    one, two = held_and_waited_for(mount)
+    server = mount.server()
+    same(mount.end(lambda: mount.running.kill())[0], -signal.SIGKILL)
+    same(two.answer(), "ECONNABORTED")
+    until(lambda: not os.path.exists(f"/proc/{server}") or "Z" in open(f"/proc/{server}/stat", encoding="ascii").read())
+    lock_fails(mount.folder)
+    contains(refusal(folder=mount.folder), "an earlier mount", str(one.pid))
+    # Where the dead mount is taken away by hand, they still think that they hold it.
+    subprocess.run(["umount", "-l", mount.folder], timeout=PATIENCE, check=True)
+    contains(refusal(folder=mount.folder), "an earlier mount", str(one.pid))
+    one.kill()
+    begun = time.monotonic()
+    threading.Timer(0.5, two.kill).start()
+    mounts_again(mount.folder, "--grace", "10")
+    assert time.monotonic() - begun > 0.4
+
+
+def try_the_carrier_is_killed_without_open_files():
+    mount = Mount()
+    shell(mount, "flock job echo in", "in")
+    mount.end(lambda: mount.running.kill())
+    assert mount.is_mounted()
+    lock_fails(mount.folder)
+    mounts_again(mount.folder)
+
+
+def abort(mount):
+    number = os.minor(os.stat(mount.folder).st_dev)
+    with open(f"/sys/fs/fuse/connections/{number}/abort", "w", encoding="ascii") as it:
+        it.write("1")
+
+
+def can_abort():
+    if not os.path.ismount("/sys/fs/fuse/connections"):
+        print("not tried by fusectl: this kernel has none", flush=True)
+    return os.path.ismount("/sys/fs/fuse/connections")
+
+
+def try_an_abort_is_no_unmounting():
+    for how in [abort] * can_abort() + [lambda mount: subprocess.run(["umount", "-f", mount.folder], timeout=PATIENCE, stderr=subprocess.DEVNULL)]:
+        mount = Mount()
+        one, two = held_and_waited_for(mount)
+        same(mount.end(lambda: how(mount)), (4, "legal"))
+        same(two.answer(), "ECONNABORTED")
+        mount.says("the connection was aborted while 2 files were open", "their locks are lost", str(one.pid))
+        lock_fails(mount.folder)
+        contains(refusal(folder=mount.folder), "an earlier mount", str(one.pid))
+        one.kill()
+        two.kill()
+        mounts_again(mount.folder)
+
+
+def try_an_abort_without_open_files():
+    if not can_abort():
+        return
+    mount = Mount()
+    shell(mount, "flock job echo in", "in")
+    same(mount.end(lambda: abort(mount)), (0, "legal"))
+    mount.says("no file was open")
+    assert not mount.is_mounted()
+
+
+def try_a_server_that_stands_still_keeps_nobody_from_the_end():
+    mount = Mount()
+    one, two = held_and_waited_for(mount)
+    (three,) = children(f"{mount.folder}/held", 1)
+    server = mount.server()
+    os.kill(server, signal.SIGSTOP)
+    three.begin("flock", "a", ALONE)
+    assert three.waits()
+    begun = time.monotonic()
+    mount.term()
+    same([two.answer(), three.answer()], ["ECONNABORTED"] * 2)
+    assert time.monotonic() - begun < 5
+    same(mount.end(lambda: None), (4, "legal"))
+
+
+def try_a_server_that_stands_still_loses_nothing():
+    """More messages wait for it than its socket has room for, which takes less than 300 that are sent one by one."""
+    mount, path = Mount(), "still"
+    fds = [os.open(f"{mount.folder}/{path}", os.O_RDWR | os.O_CREAT) for _ in range(900)]
+    said, serving = ["waits"] * len(fds), mount.server()
+
+    def lock(at):
+        said[at] = outcome(fcntl.flock, fds[at], SHARED | AT_ONCE)
+
+    threads = [threading.Thread(target=lock, args=(at,), daemon=True) for at in range(len(fds))]
+    os.kill(serving, signal.SIGSTOP)
+    try:
+        for it in threads:
+            it.start()
+        time.sleep(1)
+        same(set(said), {"waits"})
+    finally:
+        os.kill(serving, signal.SIGCONT)
+    for it in threads:
+        it.join(PATIENCE)
+    same(said, [None] * len(fds))
+    for fd in fds[1:]:
+        os.close(fd)
+    shell(mount, f"flock -n {path} echo in || echo held; flock -s -w 10 {path} echo both", "held both")
+    os.close(fds[0])
+    shell(mount, f"flock -w 10 {path} echo in", "in")
+    same(mount.end(), (0, "legal"))
+
+
+def try_a_trace_that_goes_nowhere():
+    mount = Mount("--trace", "none")
+    shell(mount, "flock job echo in", "in")
+    same(mount.end()[0], 0)
+    mount = Mount("--no-check")
+    shell(mount, "flock job echo in", "in")
+    status, said = mount.end()
+    same((status, said.startswith("trace: ")), (0, True))
+
+
+def lock_for_a_while(mount, seconds):
+    last = time.monotonic() + seconds
+    while time.monotonic() < last and "doesn't grow" not in mount.output():
+        shell(mount, "for one in 1 2 3 4 5 6 7 8 9; do flock job true; done", "")
+        time.sleep(0.2)
+
+
+def try_a_full_trace_is_said_while_it_runs():
+    disk = tempfile.mkdtemp(dir=WORK)
+    subprocess.run(["mount", "-t", "tmpfs", "-o", "size=4k", "none", disk], check=True, timeout=PATIENCE)
+    mount = Mount("--trace", f"{disk}/trace")
+    lock_for_a_while(mount, 19)
+    mount.says("doesn't grow")
+    status, _ = mount.end()
+    assert status == 3
+    mount.says("trace failed", "the server ended with status 2")
+    subprocess.run(["umount", disk], check=True, timeout=PATIENCE)
+
+
+def try_a_limit_of_a_file_ends_no_server():
+    import resource
+    limited = f"{WORK}/limited"
+    with open(limited, "w", encoding="ascii") as it:
+        it.write(f'#!/bin/sh\nulimit -f 8\nexec {PROGRAM} "$@"\n')
+    os.chmod(limited, 0o700)
+    mount = Mount("--trace", f"{WORK}/limited.trace", program=limited)
+    for _ in range(20):
+        shell(mount, "for one in 1 2 3 4 5 6 7 8 9; do flock job true; done", "")
+    shell(mount, "flock -n job flock -n job echo in || echo held", "held")
+    same(mount.end()[0], 3)
+    mount.says("the server ended with status 2")
+
+
+def try_rules():
+    """With room for one request, the second that waits is refused, and `check` knows of it."""
+    mount = Mount("--fair", "--runs", "100", "--parked", "1")
+    one, two, three = children(f"{mount.folder}/rules", 3)
+    same(one.ask("record", "a", WRITE), "ok")
+    two.begin("record", "a", WRITE, 0, 0, True)
+    assert two.waits()
+    same(three.ask("record", "a", WRITE, 0, 0, True), "ENOLCK")
+    same([one.ask("record", "a", UNLOCK), two.answer()], ["ok", "ok"])
+    for it in one, two, three:
+        it.kill()
+    same(mount.end(), (0, "legal"))
+
+
+def try_count():
+    mount = Mount("--count")
+    shell(mount, "flock job echo in", "in")
+    same(mount.end(), (0, "legal"))
+    counted = next(line for line in mount.output().splitlines() if line.startswith("messages of the kernel, opcode and how many: "))
+    counts = dict(it.split(":") for it in counted.rpartition(": ")[2].split())
+    # INIT, CREATE, SETLKW, and the RELEASE of the last process that had the file.
+    same([counts.get(it) for it in ("26", "35", "33", "18")], ["1"] * 4)

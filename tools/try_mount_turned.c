@@ -1,0 +1,106 @@
+// Gives the part of lockd_mount that changes messages and replies random ones of both: try_mount_turned ROUNDS. It is built
+// with sanitizers, which end it at the first fault. Kernel and server send no such messages.
+#include "../mount/mount.h"
+
+#include <stdio.h>
+#include <stdlib.h>
+#include <string.h>
+
+enum { SENT = 64, NODES = 20, NUMBERS = 200, FHS = 50 };
+
+static uint64_t sent[SENT]; // numbers of the carrier's own messages
+static int sent_count;
+
+bool answer(uint64_t unique, int error, const void *body, size_t size)
+{
+    volatile char seen = 0;
+    for (size_t i = 0; i < size && !error; i++)
+        seen ^= ((const char *)body)[i];
+    return unique != 1;
+}
+
+void send_later(const void *message, size_t size)
+{
+    struct fuse_in_header head;
+    if (size < sizeof head)
+        abort();
+    memcpy(&head, message, sizeof head);
+    if (sent_count < SENT)
+        sent[sent_count++] = head.unique;
+}
+
+void carrier_agreed(void)
+{
+}
+
+void carrier_refused_init(int error)
+{
+    if (!error)
+        abort();
+}
+
+static unsigned below(unsigned most)
+{
+    return (unsigned)rand() % most;
+}
+
+static void turn_message(char *message)
+{
+    static const uint32_t opcodes[] = {1,  2,  3,  4,  5,  6,  8,  9,  10, 11, 12, 13, 14, 15, 16, 17, 18,
+                                       20, 25, 26, 27, 28, 29, 30, 31, 32, 33, 35, 36, 42, 43, 45, 51};
+    struct fuse_in_header head = {.opcode = opcodes[below(sizeof opcodes / sizeof *opcodes)], .unique = 2 * below(NUMBERS), .nodeid = 1 + below(NODES)};
+    size_t before = head.opcode == FUSE_CREATE || head.opcode == FUSE_MKNOD ? 16 : head.opcode == FUSE_MKDIR ? 8 : 0;
+    size_t size = below(20) ? below(100) : below(MOST - sizeof head);
+    if (below(2))
+        size = before + 1 + below(4);
+    for (size_t i = 0; i < size; i++)
+        message[sizeof head + i] = (char)(i >= before && size < 40 ? 'a' + (int)below(3) : (int)below(below(3) ? 4 : 256));
+    if (size && below(4))
+        message[sizeof head + size - 1] = 0;
+    head.len = (uint32_t)(sizeof head + size);
+    memcpy(message, &head, sizeof head);
+    size_t left = change_message(message, head.len);
+    volatile char seen = 0;
+    for (size_t i = 0; i < left; i++)
+        seen ^= message[i];
+}
+
+static void turn_reply(char *reply)
+{
+    static const uint32_t sizes[] = {0, 16, 24, 64, 104, 128, 144, 7, 200};
+    struct fuse_out_header head = {.unique = 2 * below(NUMBERS), .error = below(4) ? 0 : -(int)below(40)};
+    size_t size = sizes[below(sizeof sizes / sizeof *sizes)];
+    char *body = reply + sizeof head;
+    if (sent_count && below(3))
+        head.unique = sent[--sent_count];
+    memset(body, 0, size);
+    // Where numbers of nodes and open files stand in an entry, in attributes and after OPEN.
+    if (size >= 128)
+        body[0] = body[40] = (char)(1 + below(NODES));
+    if (size == 144)
+        body[128] = (char)below(FHS);
+    if (size == 104)
+        body[16] = (char)(1 + below(NODES));
+    if (size == 16)
+        body[0] = (char)below(FHS);
+    head.len = (uint32_t)(sizeof head + size);
+    memcpy(reply, &head, sizeof head);
+    if (change_reply(reply, head.len) > head.len)
+        abort();
+}
+
+int main(int argc, char **argv)
+{
+    static _Alignas(8) char bytes[MOST + 16];
+    names_start(0755, 0, 0);
+    for (long round = argc > 1 ? atol(argv[1]) : 0; round > 0; round--) {
+        session.discards = below(2);
+        if (below(2))
+            turn_message(bytes);
+        else
+            turn_reply(bytes);
+    }
+    opens_end();
+    names_end();
+    return 0;
+}
