@@ -1,5 +1,6 @@
 -- A change to one chain, put together from what it does to that chain, to the others and to the free list.
-use Rattle.std.proofs.Common.{◌≡◌, ◌≢◌, ℕ, ◌+◌, ◌<◌, List, length, set, count_by, Option, Some, slice_get, sym, ◌∙◌, subst, inl, inr, arith, length-set}
+use Rattle.std.proofs.Common.{◌≡◌, ◌≢◌, ℕ, ◌+◌, ◌<◌, List, length, set, count_by, Option, Some, slice_get, sym, ◌∙◌}
+use Rattle.std.proofs.Common.{subst, inl, inr, arith, length-set}
 use Rattle.std.proofs.lemmas.Bool.{cases_eq}
 use Rattle.fl_arena.specs.Chains.{Entry, Chains, entries, with_entries}
 use Rattle.fl_arena.specs.Inside.Links.{is_free, link_at, member_of, SpellsChain, SpellsFree, IsOnChain, Spells}

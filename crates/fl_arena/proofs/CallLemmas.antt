@@ -1,5 +1,6 @@
 -- Each call of the arena, from what it read to what it wrote.
-use Rattle.std.proofs.Common.{◌≡◌, ℕ, zero, suc, ◌+◌, ◌-◌, ◌<◌, ◌≤◌, ◌^◌, List, [], ◌∷◌, length, set, get_or, replicate, sum_by, IfSome, Option, Some, None}
+use Rattle.std.proofs.Common.{◌≡◌, ℕ, zero, suc, ◌+◌, ◌-◌, ◌<◌, ◌≤◌, ◌^◌, List, [], ◌∷◌, length, set, get_or, replicate}
+use Rattle.std.proofs.Common.{sum_by, IfSome, Option, Some, None}
 use Rattle.std.proofs.Common.{slice_get, refl, sym, ◌∙◌, ap, subst, arith, add-one}
 use Rattle.std.specs.List.{insert, remove}
 use Rattle.std.proofs.lemmas.List.{length-replicate}
@@ -7,7 +8,8 @@ use Rattle.std.proofs.lemmas.List.Sums.{sum_by-cons}
 use Rattle.std.proofs.lemmas.Option.{slice_get_read, slice_get-get_or, none-some}
 use Rattle.fl_arena.specs.Chains.{Entry, Chains, entries, slot_at, with_entries}
 use Rattle.fl_arena.specs.Cursors.{cursor_at, IsInPlace, index_of, item_of, with_item, without}
-use Rattle.fl_arena.specs.Inside.Links.{link_at, link_before, relinked, ends_with, ends_without, IsSpare, SpellsChain, SpellsFree, AreFree, Spells, spelled}
+use Rattle.fl_arena.specs.Inside.Links.{link_at, link_before, relinked, ends_with, ends_without, IsSpare, SpellsChain}
+use Rattle.fl_arena.specs.Inside.Links.{SpellsFree, AreFree, Spells, spelled}
 use Rattle.fl_arena.specs.declared.cursors.Cursor.{Cursor}
 use Rattle.fl_arena.specs.declared.nodes.Node.{Node}
 use Rattle.fl_arena.specs.declared.nodes.Node.TheVariants.{Free, Taken}

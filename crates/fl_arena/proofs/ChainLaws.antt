@@ -1,10 +1,12 @@
 -- What callers need of the chains: a change to one of them leaves every other as it is, and the items
 -- change as the entries do.
-use Rattle.std.proofs.Common.{◌≡◌, ◌≢◌, ℕ, ◌+◌, ◌<◌, List, [], length, set, map, take, drop, zero, suc, inl, inr, ◌≤◌, ◌++◌, ◌∷◌, ◌∙◌, Some, slice_get, refl}
+use Rattle.std.proofs.Common.{◌≡◌, ◌≢◌, ℕ, ◌+◌, ◌<◌, List, [], length, set, map, take, drop, zero, suc, inl, inr, ◌≤◌}
+use Rattle.std.proofs.Common.{◌++◌, ◌∷◌, ◌∙◌, Some, slice_get, refl}
 use Rattle.std.proofs.Common.{sym, ap, subst, arith}
 use Rattle.std.specs.List.{insert, remove}
 use Rattle.std.specs.Option.{option_map}
-use Rattle.std.proofs.lemmas.List.{length-set, get_or-set_same, get_or-set_other, map-append, take-map, drop-map, take_all, drop_all, map-set, length-map}
+use Rattle.std.proofs.lemmas.List.{length-set, get_or-set_same, get_or-set_other, map-append, take-map, drop-map}
+use Rattle.std.proofs.lemmas.List.{take_all, drop_all, map-set, length-map}
 use Rattle.std.proofs.lemmas.Option.{slice_get_past, slice_get-map}
 use Rattle.std.proofs.lemmas.Bool.{cases_lt}
 use Rattle.std.proofs.lemmas.List.Sums.{sum_by-set}

@@ -1,5 +1,6 @@
 -- An insert, from the links before it to the links after it.
-use Rattle.std.proofs.Common.{◌≡◌, ◌≢◌, ℕ, zero, suc, ◌<◌, ◌≤◌, List, [], ◌∷◌, length, set, Option, Some, None, is_some, if◌then◌else◌, slice_get, refl, sym}
+use Rattle.std.proofs.Common.{◌≡◌, ◌≢◌, ℕ, zero, suc, ◌<◌, ◌≤◌, List, [], ◌∷◌, length, set, Option, Some, None, is_some}
+use Rattle.std.proofs.Common.{if◌then◌else◌, slice_get, refl, sym}
 use Rattle.std.proofs.Common.{◌∙◌, ap, subst, inl, inr, arith, length-set, ◌-◌}
 use Rattle.std.proofs.Math.Numerals.{sub-one}
 use Rattle.std.specs.List.{insert}
@@ -8,12 +9,14 @@ use Rattle.std.proofs.lemmas.Bool.{cases_lt, cases_eq, cases_order}
 use Rattle.std.proofs.lemmas.List.Edits.{length-insert}
 use Rattle.std.proofs.lemmas.Option.{slice_get_within, slice_get_past}
 use Rattle.fl_arena.specs.Chains.{Entry, Chains, entries, slot_at, with_entries}
-use Rattle.fl_arena.specs.Inside.Links.{is_free, ends_with, link_at, link_before, member_of, relinked, SpellsChain, SpellsFree, IsOnChain, Spells}
+use Rattle.fl_arena.specs.Inside.Links.{is_free, ends_with, link_at, link_before, member_of, relinked, SpellsChain}
+use Rattle.fl_arena.specs.Inside.Links.{SpellsFree, IsOnChain, Spells}
 use Rattle.fl_arena.specs.declared.nodes.Node.{Node}
 use Rattle.fl_arena.specs.declared.nodes.Node.TheVariants.{Free, Taken}
 use Rattle.fl_arena.specs.declared.nodes.Member.{Member}
 use Rattle.fl_arena.specs.declared.nodes.Ends.{Ends}
-use Rattle.fl_arena.proofs.ReadLemmas.{slice_get-set_same, slice_get-set_other, slice_get-insert_below, slice_get-insert_at, slice_get-insert_above}
+use Rattle.fl_arena.proofs.ReadLemmas.{slice_get-set_same, slice_get-set_other, slice_get-insert_below}
+use Rattle.fl_arena.proofs.ReadLemmas.{slice_get-insert_at, slice_get-insert_above}
 use Rattle.fl_arena.proofs.PlaceLemmas.{linked_at, same_member}
 use Rattle.fl_arena.proofs.AssembleLemmas.{assembled, on_changed, on_other}
 use Rattle.fl_arena.proofs.LinkLemmas.{at_link-same, length-relinked, free_in_relinked}

@@ -1,5 +1,6 @@
 -- What each node reads once the links beside a slot were written.
-use Rattle.std.proofs.Common.{◌≡◌, ◌≢◌, ℕ, true, false, cond, eqb, List, length, Option, Some, None, slice_get, refl, ◌∙◌, ap, inl, inr, eq-eqb}
+use Rattle.std.proofs.Common.{◌≡◌, ◌≢◌, ℕ, true, false, cond, eqb, List, length, Option, Some, None, slice_get, refl}
+use Rattle.std.proofs.Common.{◌∙◌, ap, inl, inr, eq-eqb}
 use Rattle.std.specs.Option.{option_map}
 use Rattle.std.proofs.lemmas.Bool.{cases_eq, ne_eqb}
 use Rattle.fl_arena.proofs.ReadLemmas.{slice_get-alter_same, slice_get-alter_other, length-alter}

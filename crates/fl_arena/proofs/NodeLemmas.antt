@@ -1,5 +1,6 @@
 -- Writes of one link, and a list of free nodes.
-use Rattle.std.proofs.Common.{◌≡◌, ℕ, zero, suc, ◌+◌, ◌<◌, List, [], ◌∷◌, ◌++◌, length, set, get_or, cond, Option, Some, None, slice_get, refl, sym, ap, inl}
+use Rattle.std.proofs.Common.{◌≡◌, ℕ, zero, suc, ◌+◌, ◌<◌, List, [], ◌∷◌, ◌++◌, length, set, get_or, cond, Option, Some}
+use Rattle.std.proofs.Common.{None, slice_get, refl, sym, ap, inl}
 use Rattle.std.proofs.Common.{inr, ◌⊎◌, arith, add-one, length-append}
 use Rattle.std.proofs.lemmas.List.Sums.{sum_by_push}
 use Rattle.std.proofs.lemmas.Option.{slice_get_read, none-some}

@@ -1,17 +1,20 @@
 -- A remove, from the links before it to the links after it.
-use Rattle.std.proofs.Common.{◌≡◌, ◌≢◌, ℕ, zero, suc, ◌+◌, ◌<◌, ◌≤◌, List, length, set, Option, Some, is_some, if◌then◌else◌, slice_get, refl, sym, ◌∙◌, ap}
+use Rattle.std.proofs.Common.{◌≡◌, ◌≢◌, ℕ, zero, suc, ◌+◌, ◌<◌, ◌≤◌, List, length, set, Option, Some, is_some}
+use Rattle.std.proofs.Common.{if◌then◌else◌, slice_get, refl, sym, ◌∙◌, ap}
 use Rattle.std.proofs.Common.{subst, inl, inr, arith, length-set, add-one}
 use Rattle.std.specs.List.{remove}
 use Rattle.std.specs.Option.{option_map}
 use Rattle.std.proofs.lemmas.Bool.{cases_lt, cases_eq}
 use Rattle.std.proofs.lemmas.List.Edits.{length-remove}
 use Rattle.fl_arena.specs.Chains.{Entry, Chains, entries, slot_at, with_entries}
-use Rattle.fl_arena.specs.Inside.Links.{is_free, ends_without, link_at, link_before, member_of, relinked, SpellsChain, SpellsFree, IsOnChain, Spells}
+use Rattle.fl_arena.specs.Inside.Links.{is_free, ends_without, link_at, link_before, member_of, relinked, SpellsChain}
+use Rattle.fl_arena.specs.Inside.Links.{SpellsFree, IsOnChain, Spells}
 use Rattle.fl_arena.specs.declared.nodes.Node.{Node}
 use Rattle.fl_arena.specs.declared.nodes.Node.TheVariants.{Free, Taken}
 use Rattle.fl_arena.specs.declared.nodes.Member.{Member}
 use Rattle.fl_arena.specs.declared.nodes.Ends.{Ends}
-use Rattle.fl_arena.proofs.ReadLemmas.{slice_get-set_same, slice_get-set_other, slice_get-remove_below, slice_get-remove_above}
+use Rattle.fl_arena.proofs.ReadLemmas.{slice_get-set_same, slice_get-set_other, slice_get-remove_below}
+use Rattle.fl_arena.proofs.ReadLemmas.{slice_get-remove_above}
 use Rattle.fl_arena.proofs.PlaceLemmas.{linked_at, same_place}
 use Rattle.fl_arena.proofs.AssembleLemmas.{assembled, on_changed, on_other}
 use Rattle.fl_arena.proofs.LinkLemmas.{at_link-same, length-relinked, free_in_relinked, taken_in_relinked}

@@ -1,12 +1,14 @@
 -- A shift: a remove, and then an insert in the slot that it freed.
-use Rattle.std.proofs.Common.{◌≡◌, ◌≢◌, ℕ, zero, suc, ◌+◌, ◌-◌, ◌<◌, ◌≤◌, List, [], ◌∷◌, map, length, set, Option, Some, None, slice_get, refl, sym, ◌∙◌, ap}
+use Rattle.std.proofs.Common.{◌≡◌, ◌≢◌, ℕ, zero, suc, ◌+◌, ◌-◌, ◌<◌, ◌≤◌, List, [], ◌∷◌, map, length, set, Option, Some}
+use Rattle.std.proofs.Common.{None, slice_get, refl, sym, ◌∙◌, ap}
 use Rattle.std.proofs.Common.{arith}
 use Rattle.std.specs.List.{insert, remove}
 use Rattle.std.proofs.lemmas.List.{set-set, length-set}
 use Rattle.std.proofs.lemmas.Option.{slice_get_within}
 use Rattle.fl_arena.specs.Chains.{Entry, Chains, entries, items, slot_at, with_entries, free_count, HasSizeOf}
 use Rattle.fl_arena.specs.Cursors.{cursor_at, index_of, without}
-use Rattle.fl_arena.specs.Inside.Links.{alter, alter_link, with_links, with_previous, with_next, link_at, link_before, relinked}
+use Rattle.fl_arena.specs.Inside.Links.{alter, alter_link, with_links, with_previous, with_next, link_at, link_before}
+use Rattle.fl_arena.specs.Inside.Links.{relinked}
 use Rattle.fl_arena.specs.Inside.Links.{ends_with, ends_without, Spells}
 use Rattle.fl_arena.specs.declared.cursors.Cursor.{Cursor}
 use Rattle.fl_arena.specs.declared.nodes.Node.{Node}

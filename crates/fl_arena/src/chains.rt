@@ -1,5 +1,6 @@
 //! The arena.
-ghost use Rattle.std.specs.Prelude.{◌≡◌, ◌≢◌, ◌↔◌, ◌+◌, ◌-◌, ◌<◌, ◌≤◌, ◌^◌, ℕ, Bool, [], length, drop, replicate, insert};
+ghost use Rattle.std.specs.Prelude.{◌≡◌, ◌≢◌, ◌↔◌, ◌+◌, ◌-◌, ◌<◌, ◌≤◌, ◌^◌, ℕ, Bool, [], length, drop, replicate};
+ghost use Rattle.std.specs.Prelude.{insert};
 ghost use Rattle.std.specs.Prelude.{remove, slice_get, slice_set, Some, IsSome, IsNone, IsErr, OnOk, OnErr, IfOk};
 ghost use Rattle.std.specs.Prelude.{IfSome};
 ghost use Rattle.std.specs.Option.{option_copied};

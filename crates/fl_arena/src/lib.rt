@@ -1,7 +1,11 @@
 //! Chains of items over a fixed number of slots.
 //!
-//! An `Arena` is made once, with a number of chains and a number of slots, and takes no memory
-//! afterwards. Each slot is free or holds one item of one chain.
+//! An `Arena` is made once, with a number of chains and a number of slots, and takes no memory afterwards. Each slot
+//! is free or holds one item of one chain.
+//!
+//! Which free slot `insert` takes is left open. After `new` no call can be refused for memory. That none takes any is
+//! no clause: the prover refuses an `insert` that makes room in its vector at a step of the proof (edit
+//! `insert_makes_room_in_its_vector`). `fl_arena_tests` compares calls with plain lists, and fills all slots twice.
 #![tactic(auto)]
 
 mod chains;

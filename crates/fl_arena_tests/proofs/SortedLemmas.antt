@@ -1,5 +1,6 @@
 -- The place of an item in a list that is kept in order.
-use Rattle.std.proofs.Common.{◌≡◌, ℕ, suc, ◌+◌, Bool, true, false, cond, not, nat_le, List, [], ◌∷◌, Result, Ok, Err, OnOk, refl, sym, ◌∙◌, ap, arith}
+use Rattle.std.proofs.Common.{◌≡◌, ℕ, suc, ◌+◌, Bool, true, false, cond, not, nat_le, List, [], ◌∷◌, Result, Ok, Err}
+use Rattle.std.proofs.Common.{OnOk, refl, sym, ◌∙◌, ap, arith}
 use Rattle.std.specs.List.{insert, position_or_len}
 use Rattle.fl_arena_tests.specs.Sorted.{insert_sorted}
 

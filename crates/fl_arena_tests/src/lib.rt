@@ -1,4 +1,4 @@
-//! Tests of the arena, of the rows on it and of the directory.
+//! Tests of `fl_arena`.
 #![tactic(auto)]
 
 #[cfg(test)]

@@ -1,13 +1,7 @@
-//! Tests of the arena, of the rows on it and of the directory, by what is public of them.
+//! Tests of the arena, by what is public of it.
 
 mod arena;
-mod calls;
-mod dir;
-mod directory;
 mod lists;
-mod lives;
-mod rooms;
-mod rows;
 mod shift;
 
 use std::fmt::Debug;

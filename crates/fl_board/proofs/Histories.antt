@@ -10,9 +10,9 @@ use Rattle.fl_core.specs.Step.{next, replies}
 use Rattle.fl_desk.specs.Leading.{LeadsTo}
 use Rattle.fl_desk.specs.Legal.{step_lines}
 use Rattle.fl_history.specs.declared.history.Line.{Line}
-use Rattle.fl_log.specs.declared.ask.Ask.{Ask}
+use Rattle.fl_replica.specs.declared.ask.Ask.{Ask}
 use Rattle.fl_order.specs.declared.order.Order.{Order}
-use Rattle.fl_published.specs.Asks.{stepped, present_after}
+use Rattle.fl_replica.specs.Asks.{stepped, present_after}
 use Rattle.fl_waiting.specs.declared.rules.Rules.{Rules}
 
 -- one ask more

@@ -3,8 +3,8 @@ use Rattle.std.specs.Prelude.{ℕ, ◌==◌, Bool, false, List, count_by}
 use Rattle.fl_history.specs.declared.history.Line.{Line}
 use Rattle.fl_history.specs.declared.history.Line.TheVariants as line
 
--- Whose it is; how many orders were handed in through it; the history up to the last of them with its replies, or nothing
--- before the first; and the longest history that the worker was shown.
+-- Whose it is; how many orders were handed in through it; the history up to the last of them with its replies, or
+-- nothing before the first; and the longest history that the worker was shown.
 pub record Place : Type 0 where
   pub worker : ℕ
   pub count : ℕ

@@ -13,8 +13,9 @@ use Rattle.fl_order.specs.declared.told.Answer.{Answer}
 use Rattle.fl_order.specs.declared.told.Told.{Told}
 use Rattle.fl_waiting.specs.declared.rules.Rules.{Rules}
 
--- The order stands with these replies at the end of a history that is legal under these rules, behind all that the worker had
--- handed in and was shown before. One order more was handed in, and the history has as many of this worker at least.
+-- The order stands with these replies at the end of a history that is legal under these rules, behind all that the
+-- worker had handed in and was shown before. One order more was handed in, and the history has as many of this worker
+-- at least.
 pub record IsHandedIn (rules : Rules) (old : Place) (order : Order) (tolds : List Told) (new : Place) : Type 0 where
   pub before : List Line
   pub own : new.own ≡ before ++ step_lines old.worker order tolds
@@ -31,16 +32,17 @@ pub record KeepsHanded (old new : Place) : Type 0 where
   pub count : new.count ≡ old.count
   pub own : new.own ≡ old.own
 
--- A history that is legal under these rules was shown, which begins with all that the worker had handed in and was shown before.
--- The result is what the order is answered there.
-pub record IsShown (rules : Rules) (old : Place) (order : Order) (result : Result Answer Errno) (new : Place) : Type 0 where
+-- A history that is legal under these rules was shown, which begins with all that the worker had handed in and was
+-- shown before. The result is what the order is answered there.
+pub record IsShown (rules : Rules) (old : Place) (order : Order) (result : Result Answer Errno)
+    (new : Place) : Type 0 where
   pub legal : IsLegal rules new.seen
   pub had : IsPrefix old.own new.seen
   pub saw : IsPrefix old.seen new.seen
   pub answer : replies_in (state_after rules new.seen) order ≡ own_replies order (Some result)
 
--- Two workers were shown one history that is legal under these rules, which begins with all that both had handed in and were
--- shown before.
+-- Two workers were shown one history that is legal under these rules, which begins with all that both had handed in
+-- and were shown before.
 pub record HaveMet (rules : Rules) (one other one_now other_now : Place) : Type 0 where
   pub legal : IsLegal rules one_now.seen
   pub same : other_now.seen ≡ one_now.seen
@@ -49,8 +51,8 @@ pub record HaveMet (rules : Rules) (one other one_now other_now : Place) : Type 
   pub other_had : IsPrefix other.own one_now.seen
   pub other_saw : IsPrefix other.seen one_now.seen
 
--- The history begins with all that the worker handed in and was shown, and its orders of this worker are those that were handed
--- in, as many.
+-- The history begins with all that the worker handed in and was shown, and its orders of this worker are those that
+-- were handed in, as many.
 pub record HasAllOf (lines : List Line) (place : Place) : Type 0 where
   pub had : IsPrefix place.own lines
   pub saw : IsPrefix place.seen lines

@@ -1,6 +1,7 @@
 //! The board: workers with seats hand in orders under one lock, and look without it. One history of all orders is kept.
 
-ghost use Rattle.std.specs.Prelude.{◌≡◌, ◌<◌, ◌≤◌, ◌↔◌, ◌⊎◌, [], true, Err, List, All, IfOk, IfErr, IfSome, IsSome, OnOk, OnErr};
+ghost use Rattle.std.specs.Prelude.{◌≡◌, ◌<◌, ◌≤◌, ◌↔◌, ◌⊎◌, [], true, Err, List, All, IfOk, IfErr, IfSome, IsSome};
+ghost use Rattle.std.specs.Prelude.{OnOk, OnErr};
 ghost use Rattle.std.specs.Prelude.{length, map, sum_by};
 ghost use Rattle.std.specs.List.{range_with_len};
 ghost use Rattle.fl_board.specs.Shown.{HasAllOf, HaveMet, IsHandedIn, IsShown, KeepsHanded};
@@ -11,20 +12,18 @@ ghost use Rattle.fl_order.specs.Order.{only_reads};
 use crate::seat::Seat;
 use crate::shared::{Shared, are_apart};
 use fl_core::{Rules, Tolds};
-use fl_counter::{HandFault, NoView};
-use fl_history::{History, Lines};
-use fl_keeper::Keeper;
-use fl_log::{Beginning, FreshLog};
+use fl_desk::{HandFault, NoView};
+use fl_history::{History, Journal, Lines};
 use fl_order::{Answer, Errno, NoMemory, Order};
-use fl_published::{BoardName, Publisher};
+use fl_replica::{Beginning, BoardName, FreshLog, ReplicaWriter};
 use std::alloc::{AllocError, Global};
 use std::sync::ledger::{Blank, Share};
 use std::sync::{Mutex, Wait};
 
-/// A board of 1 to 16 workers, whose lines go to a keeper: they stay in memory, if nothing else is said.
+/// A board of 1 to 16 workers, whose lines go to a journal: they stay in memory, if nothing else is said.
 #[derive(Drop)]
-pub struct Board<L: BoardName, R: Wait + Drop, K: Keeper = Lines> {
-    shared: Mutex<Shared<L, R, K>>,
+pub struct Board<L: BoardName, R: Wait + Drop, J: Journal = Lines> {
+    shared: Mutex<Shared<L, R, J>>,
     workers: usize,
     ghost all: { workers ≡ L.workers },
     ghost some: { (0 < workers) × (workers ≤ 16) },
@@ -41,18 +40,18 @@ pub enum OpenFault {
 
 /// Why a board is not closed. Board and seats come back.
 #[derive(Drop)]
-pub enum CloseFault<L: BoardName, R: Wait + Drop, K: Keeper = Lines> {
+pub enum CloseFault<L: BoardName, R: Wait + Drop, J: Journal = Lines> {
     /// There are fewer seats than were made.
     NotAll {
         /// The board, as it was.
-        board: Board<L, R, K>,
+        board: Board<L, R, J>,
         /// The seats that were handed back.
         seats: Vec<Seat<L>>,
     },
     /// The history is shorter than what some worker handed in or was shown, or two seats are of one worker.
     NoView {
         /// The board.
-        board: Board<L, R, K>,
+        board: Board<L, R, J>,
         /// The seats that were handed back.
         seats: Vec<Seat<L>>,
     },
@@ -70,22 +69,22 @@ impl From<AllocError> for OpenFault {
     }
 }
 
-impl<L: BoardName, R: Wait + Drop, K: Keeper> Board<L, R, K> {
-    /// A board whose lines go to this keeper, which has none so far, and a seat for each of 1 to 16 workers: the seat at
-    /// place i is worker i's. `rt` waits for readers. Requests will wait by these rules. Where it is refused, the keeper is let
-    /// go.
+impl<L: BoardName, R: Wait + Drop, J: Journal> Board<L, R, J> {
+    /// A board whose lines go to this journal, which has none so far, and a seat for each of 1 to 16 workers: the
+    /// seat at place i is worker i's. `rt` waits for readers. Requests will wait by these rules. Where it is refused,
+    /// the journal is let go.
     pub fn over(
         alloc: Global,
         rt: R,
-        kept: K,
+        kept: J,
         blank: Blank,
         log: FreshLog,
         workers: u32,
         rules: Rules,
-    ) -> Result<(Board<L, R, K>, Vec<Seat<L>>), OpenFault>
+    ) -> Result<(Board<L, R, J>, Vec<Seat<L>>), OpenFault>
     where
-        K: Drop,
-        requires none { K.lines kept ≡ [] }
+        J: Drop,
+        requires none { J.lines kept ≡ [] }
         requires named { (blank.name ≡ L.name) × (blank.parts ≡ L.parts) }
         requires log { log ≡ L.log }
         requires parts { (workers ≡ L.parts) × (L.workers ≡ L.parts) }
@@ -97,7 +96,7 @@ impl<L: BoardName, R: Wait + Drop, K: Keeper> Board<L, R, K> {
     {
         let (book, rest) = blank.open::<L>();
         let shared = Shared::over(alloc, rt, kept, book, log, workers as usize, rules)?;
-        let seats = seats_of(alloc, &shared.publisher, &shared.all, rest, workers)?;
+        let seats = seats_of(alloc, &shared.writer, &shared.all, rest, workers)?;
         let board = Board {
             shared: Mutex::new(shared),
             workers: workers as usize,
@@ -150,20 +149,21 @@ impl<L: BoardName, R: Wait + Drop, K: Keeper> Board<L, R, K> {
         shared.meet(one, other)
     }
 
-    /// No order is at hand: what the keeper of its lines holds back may go on now. No line, lock, count or seat changes.
+    /// No order is at hand: what the journal of its lines holds back may go on now. No line, lock, count or seat
+    /// changes.
     pub fn pause<W: Wait>(&self, rt: &W) {
         let mut shared = self.shared.lock(rt);
         shared.pause();
     }
 
-    /// The keeper of its lines, which are the history of all that was handed in, where no seat is missing. It is legal under the
-    /// board's rules, begins with all that was handed in and shown through each seat, and has as many orders of each worker as
-    /// its seat's count.
-    pub fn into_kept(self, seats: Vec<Seat<L>>) -> Result<K, CloseFault<L, R, K>>
+    /// The journal of its lines, which are the history of all that was handed in, where no seat is missing. It is
+    /// legal under the board's rules, begins with all that was handed in and shown through each seat, and has as many
+    /// orders of each worker as its seat's count.
+    pub fn into_kept(self, seats: Vec<Seat<L>>) -> Result<J, CloseFault<L, R, J>>
         requires { L.workers ≡ L.parts }
-        ensures legal { IfOk result (λ kept. IsLegal L.rules (K.lines kept)) }
-        ensures counted { IfOk result (λ kept. orders_asked (K.lines kept) ≡ sum_by (λ seat. seat.count) seats.items) }
-        ensures each { IfOk result (λ kept. All (λ seat. HasAllOf (K.lines kept) seat) seats.items) }
+        ensures legal { IfOk result (λ kept. IsLegal L.rules (J.lines kept)) }
+        ensures counted { IfOk result (λ kept. orders_asked (J.lines kept) ≡ sum_by (λ seat. seat.count) seats.items) }
+        ensures each { IfOk result (λ kept. All (λ seat. HasAllOf (J.lines kept) seat) seats.items) }
         ensures not_all { (result ≡ Err (CloseFault.NotAll self seats)) ↔ (length seats.items < L.workers) }
         ensures back { IfErr result (λ fault. (fault ≡ CloseFault.NotAll self seats)
             ⊎ ((board : _) × (fault ≡ CloseFault.NoView board seats))) }
@@ -188,8 +188,8 @@ impl<L: BoardName, R: Wait + Drop, K: Keeper> Board<L, R, K> {
 }
 
 impl<L: BoardName, R: Wait + Drop> Board<L, R> {
-    /// A board, and a seat for each of 1 to 16 workers: the seat at place i is worker i's. `rt` waits for readers. Requests will
-    /// wait by these rules.
+    /// A board, and a seat for each of 1 to 16 workers: the seat at place i is worker i's. `rt` waits for readers.
+    /// Requests will wait by these rules.
     pub fn new(
         alloc: Global,
         rt: R,
@@ -210,8 +210,9 @@ impl<L: BoardName, R: Wait + Drop> Board<L, R> {
         Board::over(alloc, rt, Lines::new(alloc), blank, log, workers, rules)
     }
 
-    /// The history of all that was handed in, where no seat is missing. It is legal under the board's rules, begins with all that
-    /// was handed in and shown through each seat, and has as many orders of each worker as its seat's count.
+    /// The history of all that was handed in, where no seat is missing. It is legal under the board's rules, begins
+    /// with all that was handed in and shown through each seat, and has as many orders of each worker as its seat's
+    /// count.
     pub fn close(self, seats: Vec<Seat<L>>) -> Result<History, CloseFault<L, R>>
         requires { L.workers ≡ L.parts }
         ensures legal { IfOk result (IsLegal L.rules) }
@@ -231,7 +232,7 @@ impl<L: BoardName, R: Wait + Drop> Board<L, R> {
 // A seat for each worker, with a part of the ledger.
 fn seats_of<L: BoardName, R: Wait + Drop>(
     alloc: Global,
-    publisher: &Publisher<L, R>,
+    writer: &ReplicaWriter<L, R>,
     none: &Beginning<L>,
     parts: Share<L>,
     workers: u32,
@@ -246,7 +247,7 @@ fn seats_of<L: BoardName, R: Wait + Drop>(
     let mut seats = Vec::with_capacity(alloc, workers as usize)?;
     for worker in 0..workers {
         let share = rest.split_off(1, 0);
-        let Ok(reader) = publisher.reader() else {
+        let Ok(reader) = writer.reader() else {
             return Err(OpenFault::NoReader);
         };
         seats.push_reserved(Seat {

@@ -1,18 +1,18 @@
 //! A board is a counter.
 
 ghost use Rattle.std.specs.Prelude.{◌+◌};
-ghost use Rattle.fl_counter.specs.Asked.{asked_by};
+ghost use Rattle.fl_desk.specs.Asked.{asked_by};
 
 use crate::board::Board;
 use crate::seat::Seat;
 use fl_core::Tolds;
-use fl_counter::{Counter, HandFault, NoView};
-use fl_keeper::Keeper;
+use fl_desk::{Counter, HandFault, NoView};
+use fl_history::Journal;
 use fl_order::{Answer, Errno, Order};
-use fl_published::BoardName;
+use fl_replica::BoardName;
 use std::sync::Wait;
 
-impl<L: BoardName, P: Wait + Drop, K: Keeper> Counter for Board<L, P, K> {
+impl<L: BoardName, P: Wait + Drop, J: Journal> Counter for Board<L, P, J> {
     type Seat = Seat<L>;
 
     ghost count = { λ seat. seat.count };

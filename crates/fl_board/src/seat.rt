@@ -6,21 +6,20 @@ ghost use Rattle.fl_board.specs.Shown.{IsShown, KeepsHanded};
 ghost use Rattle.fl_order.specs.Order.{only_reads};
 
 use crate::asks::asks_lead;
-use fl_counter::NoView;
-use fl_log::Beginning;
+use fl_desk::NoView;
 use fl_order::{Answer, Errno, Order};
-use fl_published::{BoardName, Published, glance};
+use fl_replica::{Beginning, BoardName, Replica, look_at};
 use left_right::ReadHandle;
 use std::marker::Model;
 use std::sync::ledger::Share;
 
-/// A worker's place at a board. Contracts see it as its worker, how many orders were handed in through it, the history up to
-/// the last of these, and the longest history that was shown through it.
+/// A worker's place at a board. Contracts see it as its worker, how many orders were handed in through it, the
+/// history up to the last of these, and the longest history that was shown through it.
 #[derive(Drop)]
 pub struct Seat<L: BoardName> {
     pub(crate) worker: u32,
     pub(crate) share: Share<L>,
-    pub(crate) reader: ReadHandle<Published<L>>,
+    pub(crate) reader: ReadHandle<Replica<L>>,
     pub(crate) own: Beginning<L>,
     pub(crate) seen: Beginning<L>,
 }
@@ -50,8 +49,8 @@ impl<L: BoardName> Seat<L> {
         self.worker
     }
 
-    /// What an order that only reads, GETLK or GETATTR, is answered after some beginning of the history, which the worker is
-    /// shown. It waits for nobody, takes no memory, and is no line of the history.
+    /// What an order that only reads, GETLK or GETATTR, is answered after some beginning of the history, which the
+    /// worker is shown. It waits for nobody, takes no memory, and is no line of the history.
     pub fn look(&mut self, order: &Order) -> Result<Result<Answer, Errno>, NoView>
         requires { only_reads order.now.op ≡ true }
         ensures same { KeepsHanded self.old self.new }
@@ -59,7 +58,7 @@ impl<L: BoardName> Seat<L> {
         ensures refused { OnErr result (self.new ≡ self.old) }
     {
         asks_lead();
-        let Some((shown, answer)) = glance(&mut self.reader, order) else {
+        let Some((shown, answer)) = look_at(&mut self.reader, order) else {
             return Err(NoView);
         };
         if !self.begins(&shown) {

@@ -1,6 +1,7 @@
 //! What lies under a board's lock.
 
-ghost use Rattle.std.specs.Prelude.{◌≡◌, ◌≢◌, ◌<◌, ◌^◌, ◌++◌, ◌∷◌, [], true, false, All, IfOk, OnOk, OnErr, MatchResult};
+ghost use Rattle.std.specs.Prelude.{◌≡◌, ◌≢◌, ◌<◌, ◌^◌, ◌++◌, ◌∷◌, [], true, false, All, IfOk, OnOk, OnErr};
+ghost use Rattle.std.specs.Prelude.{MatchResult};
 ghost use Rattle.fl_board.specs.Inside.Asks.{AreApart, HasMostOf, history_of};
 ghost use Rattle.fl_board.specs.Shown.{HaveMet, IsHandedIn, KeepsHanded};
 ghost use Rattle.fl_core.specs.Tolds.{HasRoom};
@@ -9,57 +10,56 @@ ghost use Rattle.fl_desk.specs.Legal.{IsLegal, orders_asked};
 use crate::asks::asks_lead;
 use crate::seat::Seat;
 use fl_core::{Rules, Tolds};
-use fl_counter::{HandFault, NoView};
-use fl_desk::Desk;
-use fl_keeper::Keeper;
-use fl_log::{Ask, Beginning, FreshLog, Log, MOST_ASKS};
+use fl_desk::{Desk, HandFault, NoView};
+use fl_history::Journal;
 use fl_order::{NoMemory, Order};
-use fl_published::{BoardName, Publisher, Update};
+use fl_replica::{Ask, Beginning, BoardName, FreshLog, Log, MOST_ASKS, ReplicaWriter, Update};
 use std::alloc::Global;
 use std::marker::Model;
 use std::sync::Wait;
 use std::sync::ledger::{Book, Share};
 
-/// One desk; the ledger's book, whose total is the number of orders in the desk's history; the log of what was handed in, and
-/// all of it; and what is published. Contracts see it as the asks that were handed in.
+/// One desk; the ledger's book, whose total is the number of orders in the desk's history; the log of what was handed
+/// in, and all of it; and what is published. Contracts see it as the asks that were handed in.
 #[derive(Drop)]
-pub(crate) struct Shared<L: BoardName, R: Wait + Drop, K: Keeper> {
-    pub desk: Desk<K>,
+pub(crate) struct Shared<L: BoardName, R: Wait + Drop, J: Journal> {
+    pub desk: Desk<J>,
     pub book: Book<L>,
     pub log: Log<L>,
     pub all: Beginning<L>,
-    pub publisher: Publisher<L, R>,
+    pub writer: ReplicaWriter<L, R>,
 }
 
-impl<L: BoardName, R: Wait + Drop, K: Keeper> Model for Shared<L, R, K> {
+impl<L: BoardName, R: Wait + Drop, J: Journal> Model for Shared<L, R, J> {
     ghost use Rattle.std.specs.Prelude.{◌≡◌, List};
     ghost use Rattle.fl_board.specs.Inside.Asks.{history_of};
     ghost use Rattle.fl_desk.specs.Legal.{orders_asked};
-    ghost use Rattle.fl_log.specs.declared.ask.Ask.{Ask};
-    ghost use Rattle.fl_published.specs.Asks.{present_after};
+    ghost use Rattle.fl_replica.specs.declared.ask.Ask.{Ask};
+    ghost use Rattle.fl_replica.specs.Asks.{present_after};
 
     ghost Value = { List Ask };
 
     ghost view = { λ s. s.all };
 
-    ghost invariant = { λ s. (s.publisher ≡ s.all) × (s.desk.lines ≡ history_of L.rules s.all)
+    ghost invariant = { λ s. (s.writer ≡ s.all) × (s.desk.lines ≡ history_of L.rules s.all)
         × (s.desk.present ≡ present_after L.rules s.all) × (s.book.total ≡ orders_asked s.desk.lines) };
 }
 
-impl<L: BoardName, R: Wait + Drop, K: Keeper> Shared<L, R, K> {
-    /// What lies under the lock of a board that has taken no order, with a place for so many readers. `rt` waits for these.
+impl<L: BoardName, R: Wait + Drop, J: Journal> Shared<L, R, J> {
+    /// What lies under the lock of a board that has taken no order, with a place for so many readers. `rt` waits for
+    /// these.
     pub(crate) fn over(
         alloc: Global,
         rt: R,
-        kept: K,
+        kept: J,
         ledger: Book<L>,
         log: FreshLog,
         readers: usize,
         rules: Rules,
-    ) -> Result<Shared<L, R, K>, NoMemory>
+    ) -> Result<Shared<L, R, J>, NoMemory>
     where
-        K: Drop,
-        requires none { K.lines kept ≡ [] }
+        J: Drop,
+        requires none { J.lines kept ≡ [] }
         requires ledger { ledger.total ≡ 0 }
         requires log { log ≡ L.log }
         requires readers { (0 < readers) × (readers < 2 ^ 32) }
@@ -67,13 +67,13 @@ impl<L: BoardName, R: Wait + Drop, K: Keeper> Shared<L, R, K> {
         ensures { IfOk result (λ shared. shared ≡ []) }
     {
         let (log, all) = log.named::<L>();
-        let publisher = Publisher::new(alloc, rt, &all, readers, rules)?;
+        let writer = ReplicaWriter::new(alloc, rt, &all, readers, rules)?;
         Ok(Shared {
             desk: Desk::over(alloc, kept, rules)?,
             book: ledger,
             log,
             all,
-            publisher,
+            writer,
         })
     }
 
@@ -96,7 +96,7 @@ impl<L: BoardName, R: Wait + Drop, K: Keeper> Shared<L, R, K> {
             book,
             log,
             all,
-            publisher,
+            writer,
         } = self;
         asks_lead();
         if desk.ready().is_err() {
@@ -109,12 +109,12 @@ impl<L: BoardName, R: Wait + Drop, K: Keeper> Shared<L, R, K> {
             worker: seat.worker,
             order: *order,
         };
-        let next = added(publisher, log, all, &ask)?;
+        let next = added(writer, log, all, &ask)?;
         if desk.take(seat.worker, order, tolds).is_err() {
             unreachable!();
         }
         book.add(&mut seat.share, 1);
-        publisher.publish();
+        writer.publish();
         seat.own = next.again();
         *all = next;
         Ok(())
@@ -148,26 +148,26 @@ impl<L: BoardName, R: Wait + Drop, K: Keeper> Shared<L, R, K> {
         true
     }
 
-    /// No order is at hand: what the desk's keeper holds back may go on now.
+    /// No order is at hand: what the desk's journal holds back may go on now.
     pub(crate) fn pause(&mut self)
         ensures { self.new ≡ self.old }
     {
         self.desk.pause();
     }
 
-    /// The desk's keeper, for the whole of the ledger.
-    pub(crate) fn into_kept(self, whole: &mut Share<L>) -> K
+    /// The desk's journal, for the whole of the ledger.
+    pub(crate) fn into_kept(self, whole: &mut Share<L>) -> J
         requires { whole.old.parts ≡ L.parts }
-        ensures lines { K.lines result ≡ history_of L.rules self }
-        ensures legal { IsLegal L.rules (K.lines result) }
-        ensures counted { orders_asked (K.lines result) ≡ whole.old.amount }
+        ensures lines { J.lines result ≡ history_of L.rules self }
+        ensures legal { IsLegal L.rules (J.lines result) }
+        ensures counted { orders_asked (J.lines result) ≡ whole.old.amount }
     {
         let Shared {
             desk,
             mut book,
             log: _log,
             all: _all,
-            publisher: _publisher,
+            writer: _writer,
         } = self;
         asks_lead();
         book.audit(whole);
@@ -175,18 +175,18 @@ impl<L: BoardName, R: Wait + Drop, K: Keeper> Shared<L, R, K> {
     }
 }
 
-// Adds an ask to the log, keeps it to be published, and gives all that was asked then. Where it is refused, nothing more is to be
-// published.
+// Adds an ask to the log, keeps it to be published, and gives all that was asked then. Where it is refused, nothing
+// more is to be published.
 fn added<L: BoardName, R: Wait + Drop>(
-    publisher: &mut Publisher<L, R>,
+    writer: &mut ReplicaWriter<L, R>,
     log: &Log<L>,
     all: &Beginning<L>,
     ask: &Ask,
 ) -> Result<Beginning<L>, HandFault>
-    requires { publisher.old ≡ all.now }
+    requires { writer.old ≡ all.now }
     ensures { MatchResult result
-        (λ next. (next ≡ all.now ++ ask.now ∷ []) × (publisher.new ≡ next))
-        (λ _. publisher.new ≡ publisher.old) }
+        (λ next. (next ≡ all.now ++ ask.now ∷ []) × (writer.new ≡ next))
+        (λ _. writer.new ≡ writer.old) }
 {
     if all.len() >= MOST_ASKS {
         return Err(HandFault::NoView);
@@ -196,7 +196,7 @@ fn added<L: BoardName, R: Wait + Drop>(
         return Err(HandFault::NoView);
     }
     let update = Update::new(ask.order, all.again(), next.again());
-    if publisher.add(update).is_err() {
+    if writer.add(update).is_err() {
         return Err(HandFault::NoMemory);
     }
     Ok(next)

@@ -6,6 +6,7 @@ ghost use Rattle.fl_core.specs.Tolds.{HasRoom};
 mod fair;
 mod looks;
 mod missing;
+mod threaded;
 
 use fl_board::{Board, BoardName, FreshLog, Seat};
 use fl_core::{Rules, Tolds};

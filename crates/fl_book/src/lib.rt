@@ -1,5 +1,5 @@
-//! The book of the lock directory: the names of the desk, the judges, their rules, the board, the keepers of lines and the text of
-//! a history in one place.
+//! The book of the lock directory: the names of the desk, the judges, their rules, the board, the journals of lines
+//! and the text of a history in one place.
 #![tactic(auto)]
 
 pub use fl_board::{
@@ -7,8 +7,7 @@ pub use fl_board::{
 };
 pub use fl_core::Rules;
 pub use fl_desk::{Desk, Verdict, check, laws};
-pub use fl_history::{History, Line, Lines};
-pub use fl_keeper::{Forgetful, Keeper};
-pub use fl_quiet::quiet;
+pub use fl_history::{History, Journal, Line, Lines, NoJournal};
+pub use fl_judge::quiet;
 pub use fl_stream::{Streamed, TraceRoom, Unwritten, WhenWriterFails, write_trace};
 pub use fl_trace::{TraceFault, first_line, has_text, print_trace, read_trace};

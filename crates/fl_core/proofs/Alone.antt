@@ -1,8 +1,10 @@
 -- What keeps a request waiting: locks that are held, whichever requests are older, or an older one.
-use Rattle.std.proofs.Common.{◌≡◌, Bool, true, false, ◌&&◌, ◌||◌, Option, Some, None, List, [], ◌∷◌, ◌++◌, append_assoc, append-nil, refl, sym, ap, ◌∙◌, subst}
+use Rattle.std.proofs.Common.{◌≡◌, Bool, true, false, ◌&&◌, ◌||◌, Option, Some, None, List, [], ◌∷◌, ◌++◌, append_assoc}
+use Rattle.std.proofs.Common.{append-nil, refl, sym, ap, ◌∙◌, subst}
 use Rattle.std.specs.List.{list_any, cons_option}
 use Rattle.fl_waiting.specs.LockRequest.{mark_of, stroke_of}
-use Rattle.fl_waiting.specs.Waiting.{Wish, wish_on, wish_of, wishes, passes, goes_first, goes_before, keeps_waiting, anyone, is_behind, is_excluded, waits, AllBehind}
+use Rattle.fl_waiting.specs.Waiting.{Wish, wish_on, wish_of, wishes, passes, older_blocks, any_older_blocks}
+use Rattle.fl_waiting.specs.Waiting.{is_blocked_by, anyone, is_blocked_by_older, conflicts_with_held, waits, AllBehind}
 use Rattle.fl_waiting.specs.declared.parked.Request.{Request}
 use Rattle.fl_waiting.specs.declared.rules.Rules.{Rules}
 use Rattle.fl_ranges.specs.declared.lock.Mark.{Mark}
@@ -11,23 +13,23 @@ use Rattle.fl_ranges.specs.Marking.{Marking, Stroke}
 
 -- a lock that is held keeps a request waiting
 abbrev pub waits_alone : Marking → Request → Bool
-waits_alone m r = is_excluded m (stroke_of r.node r.ask) (mark_of r.ask)
+waits_alone m r = conflicts_with_held m (stroke_of r.node r.ask) (mark_of r.ask)
 
 -- by that, or by an older one
-pub waits_by : (rules : Rules) (m : Marking) (older : List Request) (r : Request) → waits rules m older r ≡ (waits_alone m r || is_behind rules older r)
+pub waits_by : (rules : Rules) (m : Marking) (older : List Request) (r : Request) → waits rules m older r ≡ (waits_alone m r || is_blocked_by_older rules older r)
 waits_by rules m older r = go (stroke_of r.node r.ask) (mark_of r.ask)
   where
-    go : (s : Stroke) (mark : Option Mark) → passes (λ (k : Mark). keeps_waiting rules anyone m (wishes older) (wish_on s k)) mark
-        ≡ (passes (λ (k : Mark). conflicts m s.key s.start s.end k.kind) mark || passes (λ (k : Mark). goes_before rules anyone (wishes older) (wish_on s k)) mark)
+    go : (s : Stroke) (mark : Option Mark) → passes (λ (k : Mark). is_blocked_by rules anyone m (wishes older) (wish_on s k)) mark
+        ≡ (passes (λ (k : Mark). conflicts m s.key s.start s.end k.kind) mark || passes (λ (k : Mark). any_older_blocks rules anyone (wishes older) (wish_on s k)) mark)
     go s None = refl
     go s (Some k) = refl
 
-pub never_behind : (rules : Rules) (older : List Request) (r : Request) → rules.fair ≡ false → is_behind rules older r ≡ false
+pub never_behind : (rules : Rules) (older : List Request) (r : Request) → rules.fair ≡ false → is_blocked_by_older rules older r ≡ false
 never_behind rules older r unfair = go (stroke_of r.node r.ask) (mark_of r.ask)
   where
-    go : (s : Stroke) (mark : Option Mark) → passes (λ (k : Mark). goes_before rules anyone (wishes older) (wish_on s k)) mark ≡ false
+    go : (s : Stroke) (mark : Option Mark) → passes (λ (k : Mark). any_older_blocks rules anyone (wishes older) (wish_on s k)) mark ≡ false
     go s None = refl
-    go s (Some k) = ap (λ f. f && list_any (goes_first (wish_on s k)) (wishes older)) unfair
+    go s (Some k) = ap (λ f. f && list_any (older_blocks (wish_on s k)) (wishes older)) unfair
 
 -- where no request waits behind another the older ones have no say
 pub waits_unfair : (rules : Rules) (m : Marking) (older others : List Request) (r : Request) → rules.fair ≡ false → waits rules m older r ≡ waits rules m others r
@@ -40,8 +42,8 @@ neither_left true b e = absurd (cc e)
 neither_left false b e = refl
 
 -- a request that doesn't wait isn't excluded
-pub not_excluded : (rules : Rules) (m : Marking) (older : List Request) (r : Request) → waits rules m older r ≡ false → waits_alone m r ≡ false
-not_excluded rules m older r free = neither_left (waits_alone m r) (is_behind rules older r) (sym (waits_by rules m older r) ∙ free)
+pub not_in_conflict : (rules : Rules) (m : Marking) (older : List Request) (r : Request) → waits rules m older r ≡ false → waits_alone m r ≡ false
+not_in_conflict rules m older r free = neither_left (waits_alone m r) (is_blocked_by_older rules older r) (sym (waits_by rules m older r) ∙ free)
 
 -- ---- what is asked of each request with the older ones
 
@@ -95,8 +97,8 @@ any_without test (a ∷ older) gone younger none = go (wish_of a) (any_without t
 
 -- it waits behind the others as before
 pub behind_without : (rules : Rules) (older : List Request) (gone : Request) (younger : List Request) (r : Request)
-    → ((k : Mark) (v : Wish) → wish_of gone ≡ Some v → goes_before rules anyone (v ∷ []) (wish_on (stroke_of r.node r.ask) k) ≡ false)
-    → is_behind rules (older ++ gone ∷ younger) r ≡ is_behind rules (older ++ younger) r
+    → ((k : Mark) (v : Wish) → wish_of gone ≡ Some v → any_older_blocks rules anyone (v ∷ []) (wish_on (stroke_of r.node r.ask) k) ≡ false)
+    → is_blocked_by_older rules (older ++ gone ∷ younger) r ≡ is_blocked_by_older rules (older ++ younger) r
 behind_without rules older gone younger r none = go (mark_of r.ask)
   where
     one : (fair b : Bool) → (fair && (b || false)) ≡ false → (fair && b) ≡ false
@@ -109,7 +111,7 @@ behind_without rules older gone younger r none = go (mark_of r.ask)
     under true test apart = any_without test older gone younger apart
     under false test apart = refl
 
-    go : (mark : Option Mark) → passes (λ (k : Mark). goes_before rules anyone (wishes (older ++ gone ∷ younger)) (wish_on (stroke_of r.node r.ask) k)) mark
-        ≡ passes (λ (k : Mark). goes_before rules anyone (wishes (older ++ younger)) (wish_on (stroke_of r.node r.ask) k)) mark
+    go : (mark : Option Mark) → passes (λ (k : Mark). any_older_blocks rules anyone (wishes (older ++ gone ∷ younger)) (wish_on (stroke_of r.node r.ask) k)) mark
+        ≡ passes (λ (k : Mark). any_older_blocks rules anyone (wishes (older ++ younger)) (wish_on (stroke_of r.node r.ask) k)) mark
     go None = refl
     go (Some k) = under rules.fair _ (λ v is. one rules.fair _ (none k v is))

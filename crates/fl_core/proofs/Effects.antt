@@ -1,5 +1,6 @@
 -- Effects on a state, and on what contracts see of it.
-use Rattle.std.proofs.Common.{◌≡◌, ◌≢◌, ℕ, true, false, cond, ◌==◌, Option, Some, None, Result, Err, List, [], ◌∷◌, ◌++◌, refl, sym, ap, ◌∙◌, arith}
+use Rattle.std.proofs.Common.{◌≡◌, ◌≢◌, ℕ, true, false, cond, ◌==◌, Option, Some, None, Result, Err, List, [], ◌∷◌}
+use Rattle.std.proofs.Common.{◌++◌, refl, sym, ap, ◌∙◌, arith}
 use Rattle.std.proofs.lemmas.Bool.Decides.{nat_tests}
 use Rattle.std.specs.FinMap.{empty}
 use Rattle.std.specs.List.{fold, AllByRecursion}
@@ -7,7 +8,8 @@ use Rattle.fl_core.specs.State.{View, State, Snapshot, snapshot_of}
 use Rattle.fl_core.specs.Replies.{own_replies}
 use Rattle.fl_waiting.specs.Waiting.{taken_out}
 use Rattle.fl_waiting.specs.declared.parked.Request.{Request}
-use Rattle.fl_core.specs.Effects.{Effect, leaving, at_once, later_to, later, followed_by, told_first, replied, recorded, made}
+use Rattle.fl_core.specs.Effects.{Effect, leaving, at_once, later_to, later, followed_by, told_first, replied, recorded}
+use Rattle.fl_core.specs.Effects.{made}
 use Rattle.fl_order.specs.declared.errno.Errno.{Errno}
 use Rattle.fl_order.specs.declared.told.Answer.{Answer}
 use Rattle.fl_order.specs.declared.told.Told.{Told}

@@ -1,5 +1,7 @@
 -- No request passes an older one under fair rules.
-use Rattle.std.proofs.Common.{◌≡◌, ◌≢◌, ℕ, zero, suc, ◌<◌, nat_le, Bool, true, false, cond, ◌&&◌, ◌||◌, Option, Some, None, option_map, Result, Ok, Err, List, [], ◌∷◌, length, get_or, refl, sym, ap, ◌∙◌, arith}
+use Rattle.std.proofs.Common.{◌≡◌, ◌≢◌, ℕ, zero, suc, ◌<◌, nat_le, Bool, true, false, cond, ◌&&◌, ◌||◌, Option, Some}
+use Rattle.std.proofs.Common.{None, option_map, Result, Ok, Err, List, [], ◌∷◌, length, get_or, refl, sym, ap, ◌∙◌}
+use Rattle.std.proofs.Common.{arith}
 use Rattle.std.specs.List.{Contains, list_any}
 use Rattle.fl_core.specs.Effects.{request_of}
 use Rattle.fl_core.specs.Replies.{ask_error, at_once_unless, own_reply, reply_to, room_reply, taken_reply}
@@ -15,7 +17,7 @@ use Rattle.fl_ranges.specs.declared.lock.Mark.{Mark}
 use Rattle.fl_ranges.specs.Marking.{Marking, Stroke}
 use Rattle.fl_waiting.specs.Circle.{is_deadlock}
 use Rattle.fl_waiting.specs.LockRequest.{is_flock, mark_of, stroke_of}
-use Rattle.fl_waiting.specs.Waiting.{Wish, wish_on, wish_of, wishes, goes_first, is_parked, must_wait, waits}
+use Rattle.fl_waiting.specs.Waiting.{Wish, wish_on, wish_of, wishes, older_blocks, is_parked, is_blocked, waits}
 use Rattle.fl_waiting.specs.declared.parked.Request.{Request}
 use Rattle.fl_waiting.specs.declared.rules.Rules.{Rules}
 
@@ -34,17 +36,17 @@ found test xs x among passes = go xs among.0 among.1 among.2
 
 -- behind one that goes first a request has to wait
 behind_waits : (rules : Rules) (m : Marking) (parked : List Request) (s : Stroke) (w older : Wish) → rules.fair ≡ true → Contains (wishes parked) older
-    → goes_first w older ≡ true → (flock : Bool) (mark : Option Mark) → cond flock None (option_map (wish_on s) mark) ≡ Some w
-    → must_wait rules m parked s mark ≡ true
+    → older_blocks w older ≡ true → (flock : Bool) (mark : Option Mark) → cond flock None (option_map (wish_on s) mark) ≡ Some w
+    → is_blocked rules m parked s mark ≡ true
 behind_waits rules m parked s w older fair among first true mark wants = absurd (cc wants)
 behind_waits rules m parked s w older fair among first false None wants = absurd (cc wants)
 behind_waits rules m parked s w older fair among first false (Some k) wants =
     let same : w ≡ wish_on s k = cc wants in
-    or_true _ _ (λ i. fair i && found (goes_first (wish_on s k)) (wishes parked) older among (ap (λ v. goes_first v older) (sym same) ∙ first) i)
+    or_true _ _ (λ i. fair i && found (older_blocks (wish_on s k)) (wishes parked) older among (ap (λ v. older_blocks v older) (sym same) ∙ first) i)
 
 -- and so does one that is parked behind it
 pub stays_behind : (rules : Rules) (m : Marking) (parked : List Request) (r : Request) (w older : Wish) → rules.fair ≡ true → wish_of r ≡ Some w
-    → Contains (wishes parked) older → goes_first w older ≡ true → waits rules m parked r ≡ true
+    → Contains (wishes parked) older → older_blocks w older ≡ true → waits rules m parked r ≡ true
 stays_behind rules m parked r w older fair wants among first =
     behind_waits rules m parked (stroke_of r.node r.ask) w older fair among first (is_flock r.ask) (mark_of r.ask) wants
 
@@ -58,13 +60,13 @@ waits_ungranted None true false false room x y answer waits is = cc is
 waits_ungranted None false deadlock full room x y answer waits is = cc waits
 
 pub not_passed : (p : Snapshot) (order : Order) (ask : LockAsk) (w older : Wish) → p.rules.fair ≡ true → order.op ≡ Setlkw ask
-    → wish_of (request_of order ask) ≡ Some w → Contains (wishes p.view.parked) older → goes_first w older ≡ true
+    → wish_of (request_of order ask) ≡ Some w → Contains (wishes p.view.parked) older → older_blocks w older ≡ true
     → (answer : Answer) → own_reply p.rules p.view p.marking order ≢ Some (Ok answer)
 not_passed p order ask w older fair is wants among first answer granted =
     go (is_parked order.unique p.view.parked)
     (ap (λ (op : Op). cond (is_parked order.unique p.view.parked) (taken_reply op) (reply_to p.rules p.view p.marking order op)) (sym is) ∙ granted)
   where
-    waits : must_wait p.rules p.marking p.view.parked (stroke_of order.node ask) (mark_of ask) ≡ true
+    waits : is_blocked p.rules p.marking p.view.parked (stroke_of order.node ask) (mark_of ask) ≡ true
     waits = behind_waits p.rules p.marking p.view.parked (stroke_of order.node ask) w older fair among first (is_flock ask) (mark_of ask) wants
 
     go : (b : Bool) → cond b (taken_reply (Setlkw ask)) (reply_to p.rules p.view p.marking order (Setlkw ask)) ≡ Some (Ok answer) → ⊥
@@ -73,5 +75,5 @@ not_passed p order ask w older fair is wants among first answer granted =
         let rules = p.rules in
         let parked = p.view.parked in
         let s = stroke_of order.node ask in
-        waits_ungranted (ask_error p.view.directory order.node ask) (must_wait rules p.marking parked s (mark_of ask))
+        waits_ungranted (ask_error p.view.directory order.node ask) (is_blocked rules p.marking parked s (mark_of ask))
         (is_deadlock rules p.marking parked s (mark_of ask)) (nat_le rules.parked (length parked)) (room_reply rules.runs p.marking s) EDEADLK ENOLCK answer waits told

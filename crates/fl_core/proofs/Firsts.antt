@@ -1,13 +1,17 @@
 -- The first replies as a function, and in words.
-use Rattle.std.proofs.Common.{◌≡◌, ◌≢◌, ◌↔◌, ℕ, ◌==◌, ◌≤◌, ◌<◌, nat_le, Bool, true, false, cond, ◌||◌, Option, Some, None, Ok, Err, List, [], ◌∷◌, ◌++◌, append-nil, length, map, refl, sym, ap, ◌∙◌, subst, arith}
+use Rattle.std.proofs.Common.{◌≡◌, ◌≢◌, ◌↔◌, ℕ, ◌==◌, ◌≤◌, ◌<◌, nat_le, Bool, true, false, cond, ◌||◌, Option, Some}
+use Rattle.std.proofs.Common.{None, Ok, Err, List, [], ◌∷◌, ◌++◌, append-nil, length, map, refl, sym, ap, ◌∙◌, subst}
+use Rattle.std.proofs.Common.{arith}
 use Rattle.std.proofs.lemmas.Bool.Decides.{nat_tests}
 use Rattle.std.specs.List.{filter, AllByRecursion}
 use Rattle.fl_core.specs.First.{IsWaiter, IsNew, is_alone, own, IsAnswered, IsFirst}
-use Rattle.fl_core.specs.First.{alone, not_open, closes, interrupts, interrupts_none, fails, is_free, closes_one, is_one_too_many, waits_now}
+use Rattle.fl_core.specs.First.{alone, not_open, closes, interrupts, interrupts_none, fails, is_free, closes_one}
+use Rattle.fl_core.specs.First.{is_one_too_many, waits_now}
 use Rattle.fl_core.specs.First.{forget_of_a_waiter, as_a_waiter, as_no_waiter}
 use Rattle.fl_waiting.specs.Circle.{is_deadlock, ClosesCircle}
 use Rattle.fl_core.specs.Effects.{request_of}
-use Rattle.fl_core.specs.Replies.{ask_error, reply_to, taken_reply, own_replies, ended_with, ended_all, ended_by, first_told, at_once_unless}
+use Rattle.fl_core.specs.Replies.{ask_error, reply_to, taken_reply, own_replies, ended_with, ended_all, ended_by}
+use Rattle.fl_core.specs.Replies.{first_told, at_once_unless}
 use Rattle.fl_waiting.specs.LockRequest.{mark_of, stroke_of}
 use Rattle.fl_core.specs.Settling.{grant_reply}
 use Rattle.fl_core.specs.State.{Snapshot}

@@ -1,5 +1,6 @@
 -- An order that is told an error itself changes nothing.
-use Rattle.std.proofs.Common.{◌≡◌, ◌≢◌, ℕ, zero, suc, ◌<◌, false, Option, Some, None, Result, Ok, Err, List, [], ◌∷◌, ◌++◌, slice_index_or, length, refl, sym, ap, ◌∙◌, subst, arith}
+use Rattle.std.proofs.Common.{◌≡◌, ◌≢◌, ℕ, zero, suc, ◌<◌, false, Option, Some, None, Result, Ok, Err, List, [], ◌∷◌}
+use Rattle.std.proofs.Common.{◌++◌, slice_index_or, length, refl, sym, ap, ◌∙◌, subst, arith}
 use Rattle.std.specs.List.{AllByRecursion}
 use Rattle.fl_core.specs.Effects.{answered, by_reply, leaving, made}
 use Rattle.fl_core.specs.First.{own}
@@ -45,7 +46,7 @@ all_left_if P None parked all = all
 all_left_if P (Some ending) parked all = all_passing P _ parked all
 
 -- an error changes nothing
-error_leaves : (order : Order) (e : Errno) (v : View) (op : Op) → answered order op (Err e) v ≡ leaving v
+pub error_leaves : (order : Order) (e : Errno) (v : View) (op : Op) → answered order op (Err e) v ≡ leaving v
 error_leaves order e v (Lookup name) = refl
 error_leaves order e v op = refl
 

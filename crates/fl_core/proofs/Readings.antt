@@ -1,5 +1,6 @@
 -- How later replies are read: those of settling, and those that end requests.
-use Rattle.std.proofs.Common.{◌≡◌, Bool, true, false, not, cond, Some, Err, List, [], ◌∷◌, ◌++◌, append_assoc, map, refl, sym, ap, ◌∙◌, subst}
+use Rattle.std.proofs.Common.{◌≡◌, Bool, true, false, not, cond, Some, Err, List, [], ◌∷◌, ◌++◌, append_assoc, map}
+use Rattle.std.proofs.Common.{refl, sym, ap, ◌∙◌, subst}
 use Rattle.std.specs.List.{filter}
 use Rattle.fl_core.specs.State.{Snapshot}
 use Rattle.fl_waiting.specs.Waiting.{taken_out, AreApart}

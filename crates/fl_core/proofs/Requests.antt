@@ -1,11 +1,12 @@
 -- What a lock request asks for, and the range that was read off it.
-use Rattle.std.proofs.Common.{◌≡◌, ◌∙◌, ℕ, Option, Bool, cond, nat_le, Some, None, length, Result, Ok, Err, OnOk, OnErr, ap}
+use Rattle.std.proofs.Common.{◌≡◌, ◌∙◌, ℕ, Option, Bool, cond, nat_le, Some, None, length, Result, Ok, Err, OnOk, OnErr}
+use Rattle.std.proofs.Common.{ap}
 use Rattle.fl_core.specs.Effects.{locked}
 use Rattle.fl_waiting.specs.declared.rules.Rules.{Rules}
 use Rattle.fl_core.specs.Replies.{ask_error, at_once_unless, room_reply, setlkw_reply}
 use Rattle.fl_core.specs.State.{View}
 use Rattle.fl_waiting.specs.Circle.{is_deadlock}
-use Rattle.fl_waiting.specs.Waiting.{must_wait}
+use Rattle.fl_waiting.specs.Waiting.{is_blocked}
 use Rattle.fl_waiting.specs.LockRequest.{key_of, start_of, end_of, mark_of, stroke_of}
 use Rattle.fl_order.specs.declared.errno.Errno.{Errno}
 use Rattle.fl_order.specs.declared.errno.Errno.TheVariants.{EDEADLK, ENOLCK}
@@ -29,7 +30,7 @@ set_marking (Err e) m n s node ask is ok err = err
 
 -- a SETLKW by its tests
 pub setlkw_is : (rules : Rules) (v : View) (m : Marking) (node : ℕ) (ask : LockAsk) (e : Option Errno) (conflict deadlock full : Bool) → ask_error v.directory node ask ≡ e
-    → must_wait rules m v.parked (stroke_of node ask) (mark_of ask) ≡ conflict
+    → is_blocked rules m v.parked (stroke_of node ask) (mark_of ask) ≡ conflict
     → is_deadlock rules m v.parked (stroke_of node ask) (mark_of ask) ≡ deadlock → nat_le rules.parked (length v.parked) ≡ full
     → setlkw_reply rules v m node ask ≡ at_once_unless e
     (cond conflict (cond deadlock (Some (Err EDEADLK)) (cond full (Some (Err ENOLCK)) None)) (Some (room_reply rules.runs m (stroke_of node ask))))

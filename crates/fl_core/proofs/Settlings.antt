@@ -1,9 +1,11 @@
 -- Settling as a function, and in words.
-use Rattle.std.proofs.Common.{◌≡◌, ◌↔◌, ℕ, zero, suc, Bool, true, false, cond, Option, Some, None, List, [], ◌∷◌, ◌++◌, append_assoc, append-nil, length, refl, sym, ap, ◌∙◌, subst, arith}
+use Rattle.std.proofs.Common.{◌≡◌, ◌↔◌, ℕ, zero, suc, Bool, true, false, cond, Option, Some, None, List, [], ◌∷◌, ◌++◌}
+use Rattle.std.proofs.Common.{append_assoc, append-nil, length, refl, sym, ap, ◌∙◌, subst, arith}
 use Rattle.fl_waiting.specs.declared.parked.Request.{Request}
 use Rattle.fl_waiting.specs.declared.rules.Rules.{Rules}
 use Rattle.fl_waiting.specs.Waiting.{waits, AllBehind, AllWait, AreApart}
-use Rattle.fl_core.specs.Settling.{Present, Settled, present, granted_told, marking_granted, free_behind, oldest_free, with_told, answered_first, settled_within, settled, IsSettled, done, one}
+use Rattle.fl_core.specs.Settling.{Present, Settled, present, granted_told, marking_granted, free_behind, oldest_free}
+use Rattle.fl_core.specs.Settling.{with_told, answered_first, settled_within, settled, IsSettled, done, one}
 use Rattle.fl_core.proofs.Taken.{keep, apart_without}
 use Rattle.fl_order.specs.declared.told.Told.{Told}
 use Rattle.fl_ranges.specs.Marking.{Marking}

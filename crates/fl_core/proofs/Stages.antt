@@ -1,13 +1,17 @@
 -- An order is taken in stages.
-use Rattle.std.proofs.Common.{◌≡◌, ◌≢◌, ℕ, ◌==◌, nat_lt, Bool, true, false, cond, not, ◌&&◌, ◌||◌, Option, Some, None, option_map, Result, Ok, Err, List, [], ◌∷◌, ◌++◌, refl, sym, ap, ◌∙◌, subst, arith}
+use Rattle.std.proofs.Common.{◌≡◌, ◌≢◌, ℕ, ◌==◌, nat_lt, Bool, true, false, cond, not, ◌&&◌, ◌||◌, Option, Some, None}
+use Rattle.std.proofs.Common.{is_some, option_map, Result, Ok, Err, List, [], ◌∷◌, ◌++◌, refl, sym, ap, ◌∙◌, subst}
+use Rattle.std.proofs.Common.{arith}
 use Rattle.std.proofs.lemmas.Bool.Decides.{nat_tests}
 use Rattle.fl_waiting.specs.Circle.{is_deadlock, is_record}
-use Rattle.fl_core.specs.Effects.{locked, unlocked, dropped, locks_answered, request_of, waited_for, with_waiter, by_reply, made}
+use Rattle.fl_core.specs.Effects.{locked, unlocked, dropped, locks_answered, request_of, waited_for, with_waiter}
+use Rattle.fl_core.specs.Effects.{by_reply, made}
 use Rattle.fl_core.specs.Inside.Parts.{left_if}
 use Rattle.fl_waiting.specs.LockRequest.{is_flock, key_of, start_of, end_of, mark_of, stroke_of}
 use Rattle.fl_core.specs.Replies.{at_once_unless, picks, reply_to}
 use Rattle.fl_core.specs.Settling.{Present, present, IsSettled, done, one, grant_reply}
-use Rattle.fl_core.specs.Stages.{asker_of, asked_by, wanted_by, GainsAtMost, OwnStage, changes, parks, leave, granted, AreLater, none, more}
+use Rattle.fl_core.specs.Stages.{asker_of, asked_by, wanted_by, GainsAtMost, OwnStage, changes, parks, leave, granted}
+use Rattle.fl_core.specs.Stages.{AreLater, none, more}
 use Rattle.fl_core.specs.Stages.{IsTakenInStages}
 use Rattle.fl_core.specs.State.{Snapshot}
 use Rattle.fl_core.specs.Step.{next}
@@ -25,7 +29,7 @@ use Rattle.fl_order.specs.declared.told.Answer.{Answer}
 use Rattle.fl_order.specs.declared.told.Told.{Told}
 use Rattle.fl_order.specs.declared.order.LockAsk.{LockAsk}
 use Rattle.fl_order.specs.declared.order.Op.{Op}
-use Rattle.fl_order.specs.declared.order.Op.TheVariants.{Release, Flush, Setlk, Setlkw}
+use Rattle.fl_order.specs.declared.order.Op.TheVariants.{Release, Setlk, Setlkw}
 use Rattle.fl_order.specs.declared.order.Order.{Order}
 use Rattle.fl_ranges.specs.declared.lock.Class.{Class}
 use Rattle.fl_ranges.specs.declared.lock.Class.TheVariants.{Record, Flock}
@@ -33,7 +37,7 @@ use Rattle.fl_ranges.specs.declared.lock.Key.{Key}
 use Rattle.fl_ranges.specs.declared.lock.Kind.{Kind}
 use Rattle.fl_ranges.specs.declared.lock.Kind.TheVariants.{Read, Write}
 use Rattle.fl_ranges.specs.declared.lock.Mark.{Mark}
-use Rattle.fl_ranges.specs.Change.{cleared, after_change, after_changes}
+use Rattle.fl_ranges.specs.Change.{Change, struck, cleared, after_change, after_changes}
 use Rattle.fl_ranges.specs.Conflict.{owner_conflicts}
 use Rattle.fl_ranges.specs.Marking.{Marking, Stroke, stroked}
 use Rattle.fl_ranges.specs.Runs.{without_node}
@@ -78,6 +82,16 @@ raised false x y c f h = absurd (cc h)
 no_flock : (c : Class) → is_record c ≡ true → c ≢ Flock
 no_flock Record e same = cc same
 no_flock Flock e same = cc e
+
+-- changes that give no mark
+abbrev take_away : List Change → Bool
+take_away [] = true
+take_away (struck s ∷ earlier) = not (is_some s.mark) && take_away earlier
+take_away (cleared node ∷ earlier) = take_away earlier
+
+none_given : (mark : Option Mark) (rest : Bool) → (not (is_some mark) && rest) ≡ true → (mark ≡ None) × (rest ≡ true)
+none_given None rest e = (refl, e)
+none_given (Some k) rest e = absurd (cc e)
 
 -- what a table of locks says of its changes
 pub record Counts : Type 0 where
@@ -130,17 +144,24 @@ module _ (count : Counts) (rules : Rules) where
   gains_released false true node owner m = λ w q other h.
       gains_unlocked Flock node owner m w q other (gains_by_clear None (after_changes (dropped true node owner) m) node w q other h)
 
+  -- nobody gains by them
+  gains_taken : (g : Option ℕ) (changes : List Change) (m : Marking) → take_away changes ≡ true → GainsAtMost rules g m (after_changes changes m)
+  gains_taken g [] m away = λ w q other h. h
+  gains_taken g (struck s ∷ earlier) m away = λ w q other h.
+      let parts = none_given s.mark _ away in
+      gains_taken g earlier m parts.1 w q other (gains_by_unlock g (after_changes earlier m) s parts.0 w q other h)
+  gains_taken g (cleared node ∷ earlier) m away = λ w q other h.
+      gains_taken g earlier m away w q other (gains_by_clear g (after_changes earlier m) node w q other h)
+
   -- an order that is answered so
   gains_answered : (order : Order) (op : Op) (reply : Result Answer Errno) (d : Listing) (m : Marking)
       → GainsAtMost rules (asked_by op) m (after_changes (locks_answered order op reply d) m)
   gains_answered order (Release fh unlocks owner) (Ok answer) d m =
       gains_released (has_open_file (without_file d fh) order.node) unlocks order.node owner m
-  gains_answered order (Release fh unlocks owner) (Err e) d m = λ w q other h. h
-  gains_answered order (Flush fh owner) (Ok answer) d m = gains_unlocked Record order.node owner m
-  gains_answered order (Flush fh owner) (Err e) d m = λ w q other h. h
   gains_answered order (Setlk ask) reply d m = gains_locked order.node ask reply m
   gains_answered order (Setlkw ask) reply d m = gains_locked order.node ask reply m
-  gains_answered order op reply d m = λ w q other h. h
+  gains_answered order op (Err e) d m = λ w q other h. h
+  gains_answered order op (Ok answer) d m = gains_taken (asked_by op) (locks_answered order op (Ok answer) d) m refl
 
   -- ---- stages that come later
 
@@ -163,12 +184,12 @@ module _ (count : Counts) (rules : Rules) where
 
 module _ (count : Counts) (deadlock_words : CirclesInWords) where
   -- a request that has no reply yet closes no circle
-  waits_well : (e : Option Errno) (excluded deadlock full : Bool) (room : Result Answer Errno) (x y : Errno)
-      → at_once_unless e (cond excluded (cond deadlock (Some (Err x)) (cond full (Some (Err y)) None)) (Some room)) ≡ None → deadlock ≡ false
+  waits_well : (e : Option Errno) (in_conflict deadlock full : Bool) (room : Result Answer Errno) (x y : Errno)
+      → at_once_unless e (cond in_conflict (cond deadlock (Some (Err x)) (cond full (Some (Err y)) None)) (Some room)) ≡ None → deadlock ≡ false
   waits_well None true false full room x y is = refl
   waits_well None true true full room x y is = absurd (cc is)
   waits_well None false deadlock full room x y is = absurd (cc is)
-  waits_well (Some e) excluded deadlock full room x y is = absurd (cc is)
+  waits_well (Some e) in_conflict deadlock full room x y is = absurd (cc is)
 
   unanswered_stage : (order : Order) (p : Snapshot) (op : Op) → asked_by op ≡ asked_by order.op → reply_to p.rules p.view p.marking order op ≡ None
       → OwnStage p.rules order (present p.marking p.view.parked) (present p.marking (with_waiter order (waited_for op) p.view.parked))

@@ -1,10 +1,14 @@
 -- A whole step: its replies, and what they change.
-use Rattle.std.proofs.Common.{◌≡◌, ◌≢◌, ℕ, Bool, true, false, cond, Option, Some, None, Result, Err, List, [], ◌∷◌, ◌++◌, append_assoc, append-nil, map, length, suc, ◌+◌, ◌≤◌, ◌<◌, nat_le, refl, sym, ap, ◌∙◌, subst, arith}
+use Rattle.std.proofs.Common.{◌≡◌, ◌≢◌, ℕ, Bool, true, false, cond, Option, Some, None, Result, Err, List, [], ◌∷◌}
+use Rattle.std.proofs.Common.{◌++◌, append_assoc, append-nil, map, length, suc, ◌+◌, ◌≤◌, ◌<◌, nat_le, refl, sym, ap}
+use Rattle.std.proofs.Common.{◌∙◌, subst, arith}
 use Rattle.std.proofs.lemmas.Bool.Decides.{nat_tests}
 use Rattle.std.specs.List.{filter, AllByRecursion}
-use Rattle.fl_core.specs.Effects.{Effect, leaving, answered, unanswered, request_of, waited_for, with_waiter, by_reply, at_once, replied, made}
+use Rattle.fl_core.specs.Effects.{Effect, leaving, answered, unanswered, request_of, waited_for, with_waiter, by_reply}
+use Rattle.fl_core.specs.Effects.{at_once, replied, made}
 use Rattle.fl_core.specs.Inside.Parts.{left_by, left_if, with_parked}
-use Rattle.fl_core.specs.Replies.{at_once_unless, taken_reply, reply_to, own_reply, own_replies, ended_with, ended_all, ending_of, error_of, picks, ended_if, ended_by, ended, first_told}
+use Rattle.fl_core.specs.Replies.{at_once_unless, taken_reply, reply_to, own_reply, own_replies, ended_with, ended_all}
+use Rattle.fl_core.specs.Replies.{ending_of, error_of, picks, ended_if, ended_by, ended, first_told}
 use Rattle.fl_core.specs.Settling.{Present, Settled, present, settled, IsSettled, done, one}
 use Rattle.fl_core.specs.State.{Snapshot}
 use Rattle.fl_core.specs.Step.{after_first, settling, replies, with_present, next}
@@ -80,10 +84,10 @@ apart_left parked None apart = apart
 apart_left parked (Some ending) apart = apart_passing _ parked apart
 
 -- a lock request with no reply of its own conflicts
-excluded : (e : Option Errno) (b : Bool) (wait : Option (Result Answer Errno)) (room : Result Answer Errno)
+pub in_conflict : (e : Option Errno) (b : Bool) (wait : Option (Result Answer Errno)) (room : Result Answer Errno)
     → at_once_unless e (cond b wait (Some room)) ≡ None → b ≡ true
-excluded None true wait room is = refl
-excluded e b wait room is = absurd (cc is)
+in_conflict None true wait room is = refl
+in_conflict e b wait room is = absurd (cc is)
 
 -- ---- replies to others
 
@@ -114,7 +118,7 @@ rest_others : (order : Order) (p : Snapshot) → AllByRecursion (λ (r : Request
     → AreOthers order.unique (settled p.rules (present p.marking (left_by (with_waiter order (waited_for op) p.view.parked) op None))).tolds
 rest_others order p fresh all (Setlkw ask) none =
     let r = request_of order ask in
-    let more = all_wait_more p.rules p.marking p.view.parked r all (excluded _ _ _ _ none) in
+    let more = all_wait_more p.rules p.marking p.view.parked r all (in_conflict _ _ _ _ none) in
     subst (λ (s : Settled). AreOthers order.unique s.tolds) (sym (settled_none p.rules p.marking (p.view.parked ++ r ∷ []) more)) tt
 rest_others order p fresh all (Interrupt unique) none =
     settled_others p.rules order.unique p.marking _ (all_passing (λ (r : Request). r.unique ≢ order.unique) _ p.view.parked fresh)

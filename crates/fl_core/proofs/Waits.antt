@@ -1,42 +1,38 @@
 -- Which requests still wait once locks have changed.
-use Rattle.std.proofs.Common.{◌≡◌, ℕ, ◌==◌, ◌&&◌, Bool, true, false, cond, not, ◌||◌, nat_le, option_map, Option, Some, None, IfSome, IsNone, Result, Ok, Err, List, [], ◌∷◌, ◌++◌, append-nil, refl, sym, ap, ◌∙◌, subst, arith}
+use Rattle.std.proofs.Common.{◌≡◌, ℕ, ◌==◌, ◌&&◌, Bool, true, false, cond, not, ◌||◌, nat_le, option_map, Option, Some}
+use Rattle.std.proofs.Common.{None, List, [], ◌∷◌, ◌++◌, append-nil, refl, sym, ap, ◌∙◌, subst, arith}
 use Rattle.std.proofs.lemmas.Bool.Decides.{nat_tests}
 use Rattle.std.specs.List.{filter, AllByRecursion}
-use Rattle.fl_core.specs.Effects.{flushed, locked, released}
-use Rattle.fl_core.specs.Inside.Touched.{concerns, concerns_request, touched_by, OthersWait, WaitsNow}
+use Rattle.fl_core.specs.Inside.Touched.{concerns, concerns_request, SameOff, OthersWait}
 use Rattle.fl_waiting.specs.LockRequest.{is_flock, key_of, start_of, end_of, mark_of, stroke_of}
-use Rattle.fl_waiting.specs.Waiting.{Wish, wish_on, wish_of, goes_first, goes_before, anyone, is_behind, is_excluded, passes_free, waits, taken_behind, AllBehind, AllWait}
+use Rattle.fl_waiting.specs.Waiting.{Wish, wish_on, wish_of, older_blocks, any_older_blocks, anyone}
+use Rattle.fl_waiting.specs.Waiting.{is_blocked_by_older, conflicts_with_held, passes_free, waits, taken_behind}
+use Rattle.fl_waiting.specs.Waiting.{AllBehind, AllWait}
 use Rattle.fl_core.specs.Settling.{free_behind, oldest_free}
 use Rattle.fl_waiting.specs.declared.parked.Request.{Request}
 use Rattle.fl_waiting.specs.declared.rules.Rules.{Rules}
 use Rattle.fl_core.specs.declared.settling.Touched.{Touched}
 use Rattle.fl_core.specs.declared.settling.Touched.TheVariants.{Nothing, OfClass, OfNode, Anything}
-use Rattle.fl_core.proofs.Alone.{waits_alone, waits_by, waits_unfair, each_so, behind_more, behind_parts, behind_both, behind_less, behind_without}
+use Rattle.fl_core.proofs.Alone.{waits_alone, waits_by, waits_unfair, each_so, behind_more, behind_parts, behind_both}
+use Rattle.fl_core.proofs.Alone.{behind_less, behind_without}
 use Rattle.fl_core.proofs.Taken.{keep}
-use Rattle.fl_dir.specs.Directory.{Listing}
-use Rattle.fl_order.specs.declared.errno.Errno.{Errno}
-use Rattle.fl_order.specs.declared.order.LockAsk.{LockAsk}
-use Rattle.fl_order.specs.declared.order.Op.TheVariants.{Release, Flush, Setlk, Setlkw}
-use Rattle.fl_order.specs.declared.told.Answer.{Answer}
 use Rattle.fl_ranges.specs.declared.lock.Class.{Class}
-use Rattle.fl_ranges.specs.declared.lock.Class.TheVariants.{Record}
 use Rattle.fl_ranges.specs.declared.lock.Key.{Key}
 use Rattle.fl_ranges.specs.declared.lock.Kind.{Kind}
 use Rattle.fl_ranges.specs.declared.lock.Mark.{Mark}
-use Rattle.fl_ranges.specs.Change.{after_changes}
-use Rattle.fl_ranges.specs.Conflict.{conflicts, excludes, SameElsewhere, SameOffNode}
+use Rattle.fl_ranges.specs.Conflict.{conflicts, kinds_conflict, SameElsewhere}
 use Rattle.fl_ranges.specs.Marking.{Marking, Stroke, class_number}
 
-excluded_same : (m n : Marking) (s : Stroke) (mark : Option Mark)
-    → ((kind : Kind) → conflicts n s.key s.start s.end kind ≡ conflicts m s.key s.start s.end kind) → is_excluded n s mark ≡ is_excluded m s mark
-excluded_same m n s None same = refl
-excluded_same m n s (Some mark) same = same mark.kind
+conflict_same : (m n : Marking) (s : Stroke) (mark : Option Mark)
+    → ((kind : Kind) → conflicts n s.key s.start s.end kind ≡ conflicts m s.key s.start s.end kind) → conflicts_with_held n s mark ≡ conflicts_with_held m s mark
+conflict_same m n s None same = refl
+conflict_same m n s (Some mark) same = same mark.kind
 
 -- where nothing changed for requests that aren't concerned, they still wait
 pub others_after : (t : Touched) (rules : Rules) (m n : Marking) (parked : List Request)
     → ((r : Request) → concerns_request t r ≡ false → waits_alone n r ≡ waits_alone m r) → OthersWait t rules m parked → OthersWait t rules n parked
 others_after t rules m n parked same all = each_so _ _ (λ older r waits apart.
-    waits_by rules n older r ∙ ap (λ b. b || is_behind rules older r) (same r apart) ∙ sym (waits_by rules m older r) ∙ waits apart) [] parked all
+    waits_by rules n older r ∙ ap (λ b. b || is_blocked_by_older rules older r) (same r apart) ∙ sym (waits_by rules m older r) ∙ waits apart) [] parked all
 
 pub others_kept : (t : Touched) (rules : Rules) (m : Marking) (parked : List Request) → AllWait rules m parked → OthersWait t rules m parked
 others_kept t rules m parked all = each_so _ _ (λ older r waits apart. waits) [] parked all
@@ -52,40 +48,11 @@ none_concerned t rules m parked none all = go [] parked none all
     go older [] none all = tt
     go older (r ∷ parked) none all = (all.0 none.0, go (older ++ r ∷ []) parked none.1 all.1)
 
-pub off_class : (key : Key) (m n : Marking) → SameElsewhere key m n → (r : Request) → concerns_request (OfClass key.node key.class) r ≡ false
-    → waits_alone n r ≡ waits_alone m r
-off_class key m n elsewhere r apart =
-    let s = stroke_of r.node r.ask in
-    excluded_same m n s (mark_of r.ask) (λ kind. elsewhere s.key s.start s.end kind apart)
-
-pub off_node : (node : ℕ) (m n : Marking) → SameOffNode node m n → (r : Request) → concerns_request (OfNode node) r ≡ false
-    → waits_alone n r ≡ waits_alone m r
-off_node node m n elsewhere r apart =
-    let s = stroke_of r.node r.ask in
-    excluded_same m n s (mark_of r.ask) (λ kind. elsewhere s.key s.start s.end kind apart)
-
--- after a lock request that is answered so
-pub others_set : (rules : Rules) (node : ℕ) (ask : LockAsk) (reply : Result Answer Errno) (m n : Marking) (parked : List Request) → n ≡ after_changes (locked node ask reply) m
-    → SameElsewhere (key_of node ask) m n
-    → AllWait rules m parked → OthersWait (touched_by node (Setlk ask) (Some reply)) rules n parked
-others_set rules node ask (Ok answer) m n parked is elsewhere all =
-    others_after (OfClass node (key_of node ask).class) rules m n parked (off_class (key_of node ask) m n elsewhere)
-    (others_kept (OfClass node (key_of node ask).class) rules m parked all)
-others_set rules node ask (Err e) m n parked is elsewhere all = others_kept Nothing rules n parked (subst (λ k. AllWait rules k parked) (sym is) all)
-
-pub others_waited : (rules : Rules) (node : ℕ) (ask : LockAsk) (reply : Result Answer Errno) (m n : Marking) (parked : List Request)
-    → n ≡ after_changes (locked node ask reply) m → SameElsewhere (key_of node ask) m n
-    → AllWait rules m parked → OthersWait (touched_by node (Setlkw ask) (Some reply)) rules n parked
-others_waited rules node ask (Ok answer) m n parked is elsewhere all = others_set rules node ask (Ok answer) m n parked is elsewhere all
-others_waited rules node ask (Err e) m n parked is elsewhere all = others_kept Nothing rules n parked (subst (λ k. AllWait rules k parked) (sym is) all)
-
-pub others_flushed : (rules : Rules) (node fh owner : ℕ) (reply : Result Answer Errno) (m n : Marking) (parked : List Request) → n ≡ after_changes (flushed node owner reply) m
-    → SameElsewhere (record { class = Record; node = node; owner = owner }) m n
-    → AllWait rules m parked → OthersWait (touched_by node (Flush fh owner) (Some reply)) rules n parked
-others_flushed rules node fh owner (Ok answer) m n parked is elsewhere all =
-    others_after (OfClass node Record) rules m n parked (off_class (record { class = Record; node = node; owner = owner }) m n elsewhere)
-    (others_kept (OfClass node Record) rules m parked all)
-others_flushed rules node fh owner (Err e) m n parked is elsewhere all = others_kept Nothing rules n parked (subst (λ k. AllWait rules k parked) (sym is) all)
+-- where no other lock was touched each that isn't concerned still waits
+pub others_off : (t : Touched) (rules : Rules) (m n : Marking) (parked : List Request) → SameOff t m n → AllWait rules m parked → OthersWait t rules n parked
+others_off t rules m n parked off all =
+    others_after t rules m n parked (λ r apart. let s = stroke_of r.node r.ask in conflict_same m n s (mark_of r.ask) (λ kind. off s.key s.start s.end kind apart))
+    (others_kept t rules m parked all)
 
 -- a test of those alone that are concerned finds the oldest that is free
 pub free_found : (t : Touched) (rules : Rules) (m : Marking) (parked : List Request) → OthersWait t rules m parked
@@ -109,7 +76,7 @@ free_found t rules m parked others = go [] parked others
     go older [] all = refl
     go older (r ∷ parked) all =
         by _ (waits rules m older r) r parked
-        (one (concerns_request t r) (waits_alone m r) (is_behind rules older r) (waits rules m older r) (waits_by rules m older r) all.0)
+        (one (concerns_request t r) (waits_alone m r) (is_blocked_by_older rules older r) (waits rules m older r) (waits_by rules m older r) all.0)
         (go (older ++ r ∷ []) parked all.1)
 
 concerns_alike : (t : Touched) (n k : ℕ) (a b : Class) → class_number a ≡ class_number b → n ≡ k → concerns t n a ≡ concerns t k b
@@ -142,14 +109,14 @@ concerned : (t : Touched) (waiting : Bool) (r : Request) (b : Bool) → concerns
 concerned t waiting r true e others free = e
 concerned t waiting r false e others free = absurd (cc (sym (others e) ∙ free))
 
-no_rival : (a b c d : Bool) → (a && b) ≡ false → ((a && (b && c)) && d) ≡ false
-no_rival true true c d e = absurd (cc e)
-no_rival true false c d e = refl
-no_rival false b c d e = refl
+no_contender : (a b c d : Bool) → (a && b) ≡ false → ((a && (b && c)) && d) ≡ false
+no_contender true true c d e = absurd (cc e)
+no_contender true false c d e = refl
+no_contender false b c d e = refl
 
 -- a request that is concerned goes before none that isn't
 no_say : (t : Touched) (rules : Rules) (gone r : Request) → concerns_request t gone ≡ true → concerns_request t r ≡ false
-    → (k : Mark) (v : Wish) → wish_of gone ≡ Some v → goes_before rules anyone (v ∷ []) (wish_on (stroke_of r.node r.ask) k) ≡ false
+    → (k : Mark) (v : Wish) → wish_of gone ≡ Some v → any_older_blocks rules anyone (v ∷ []) (wish_on (stroke_of r.node r.ask) k) ≡ false
 no_say t rules gone r there apart k v wants = go (is_flock gone.ask) refl (mark_of gone.ask) wants
   where
     key_there : (o : Option Mark) → option_map
@@ -164,17 +131,17 @@ no_say t rules gone r there apart k v wants = go (is_flock gone.ask) refl (mark_
     unfair_or true b e = ap (λ c. c || false) e
     unfair_or false b e = refl
 
-    apart_keys : (key : Key) → key ≡ key_of gone.node gone.ask → goes_first (wish_on (stroke_of r.node r.ask) k) (record v { key = key }) ≡ false
+    apart_keys : (key : Key) → key ≡ key_of gone.node gone.ask → older_blocks (wish_on (stroke_of r.node r.ask) k) (record v { key = key }) ≡ false
     apart_keys key is =
-        ap (λ (x : Key). goes_first (wish_on (stroke_of r.node r.ask) k) (record v { key = x })) is
-        ∙ no_rival (class_number (key_of r.node r.ask).class == class_number (key_of gone.node gone.ask).class) (r.node == gone.node)
-        (not (r.ask.owner == gone.ask.owner)) ((nat_le v.start (end_of r.ask) && nat_le (start_of r.ask) v.end) && excludes k.kind v.kind)
+        ap (λ (x : Key). older_blocks (wish_on (stroke_of r.node r.ask) k) (record v { key = x })) is
+        ∙ no_contender (class_number (key_of r.node r.ask).class == class_number (key_of gone.node gone.ask).class) (r.node == gone.node)
+        (not (r.ask.owner == gone.ask.owner)) ((nat_le v.start (end_of r.ask) && nat_le (start_of r.ask) v.end) && kinds_conflict k.kind v.kind)
         (off_granted t gone r there apart)
 
     go : (flock : Bool) → is_flock gone.ask ≡ flock → (mark : Option Mark)
         → cond flock None (option_map
         (λ (mark : Mark). record { key = key_of gone.node gone.ask; start = start_of gone.ask; end = end_of gone.ask; kind = mark.kind }) mark) ≡ Some v
-        → goes_before rules anyone (v ∷ []) (wish_on (stroke_of r.node r.ask) k) ≡ false
+        → any_older_blocks rules anyone (v ∷ []) (wish_on (stroke_of r.node r.ask) k) ≡ false
     go true f mark e = absurd (cc e)
     go false f mark e = unfair_or rules.fair _ (apart_keys v.key (key_there mark e))
 
@@ -198,16 +165,9 @@ others_granted t rules m n older given younger elsewhere free all =
     let P : List Request → Request → Type 0 = λ older r. concerns_request t r ≡ false → waits rules m older r ≡ true in
     let parts = behind_parts P [] older (given ∷ younger) all in
     let there = concerned t (waits rules m older given) given _ refl parts.1.0 free in
-    others_after t rules m n (older ++ younger) (λ r apart. let s = stroke_of r.node r.ask in excluded_same m n s (mark_of r.ask)
+    others_after t rules m n (older ++ younger) (λ r apart. let s = stroke_of r.node r.ask in conflict_same m n s (mark_of r.ask)
     (λ kind. elsewhere s.key s.start s.end kind (off_granted t given r there apart)))
     (others_without t rules m older given younger there all)
-
-pub others_released : (rules : Rules) (node fh : ℕ) (unlocks : Bool) (owner : ℕ) (reply : Result Answer Errno) (d : Listing) (m n : Marking) (parked : List Request)
-    → n ≡ after_changes (released node fh unlocks owner reply d) m → SameOffNode node m n
-    → AllWait rules m parked → OthersWait (touched_by node (Release fh unlocks owner) (Some reply)) rules n parked
-others_released rules node fh unlocks owner (Ok answer) d m n parked is elsewhere all =
-    others_after (OfNode node) rules m n parked (off_node node m n elsewhere) (others_kept (OfNode node) rules m parked all)
-others_released rules node fh unlocks owner (Err e) d m n parked is elsewhere all = others_kept Nothing rules n parked (subst (λ k. AllWait rules k parked) (sym is) all)
 
 -- one request more that waits, behind the others
 pub all_wait_more : (rules : Rules) (m : Marking) (parked : List Request) (r : Request) → AllWait rules m parked → waits rules m parked r ≡ true
@@ -241,19 +201,3 @@ anything_may rules m parked = go [] parked
     go : (older parked : List Request) → AllBehind (λ older r. concerns_request Anything r ≡ false → waits rules m older r ≡ true) older parked
     go older [] = tt
     go older (r ∷ parked) = ((λ apart. absurd (cc apart)), go (older ++ r ∷ []) parked)
-
--- after a lock request that may wait now
-module _ (rules : Rules) (node : ℕ) (ask : LockAsk) (unique : ℕ) (m n : Marking) (parked left : List Request) where
-  abbrev pub request : Request
-  request = record { unique = unique; node = node; ask = ask }
-
-  pub others_parked : (own : Option (Result Answer Errno)) → IfSome own (λ reply. (n ≡ after_changes (locked node ask reply) m) × (left ≡ parked))
-      → (IsNone own → WaitsNow rules m n parked left request) → SameElsewhere (key_of node ask) m n
-      → AllWait rules m parked → OthersWait (touched_by node (Setlkw ask) own) rules n left
-  others_parked (Some reply) told waiting elsewhere all =
-      subst (λ xs. OthersWait (touched_by node (Setlkw ask) (Some reply)) rules n xs) (sym told.1)
-      (others_waited rules node ask reply m n parked told.0 elsewhere all)
-  others_parked None told waiting elsewhere all =
-      let w = waiting refl in
-      others_kept Nothing rules n left (subst (λ k. AllWait rules k left) (sym w.locks)
-      (subst (AllWait rules m) (sym w.last) (all_wait_more rules m parked request all w.waits)))

@@ -1,6 +1,7 @@
 -- The replies that an order gives before any lock that came free is given to a parked request, in words: a case for
 -- each thing that can befall an order (POSIX.1-2017 `fcntl`, F_SETLKW; Linux `fuse.h`, FUSE_SETLKW and FUSE_INTERRUPT).
-use Rattle.std.specs.Prelude.{◌≡◌, ◌≢◌, ◌==◌, ◌≤◌, ◌<◌, ℕ, Bool, true, false, Some, None, Result, Ok, Err, List, [], ◌∷◌, ◌++◌}
+use Rattle.std.specs.Prelude.{◌≡◌, ◌≢◌, ◌==◌, ◌≤◌, ◌<◌, ℕ, Bool, true, false, Some, None, Result, Ok, Err, List, []}
+use Rattle.std.specs.Prelude.{◌∷◌, ◌++◌}
 use Rattle.std.specs.Prelude.{length}
 use Rattle.std.specs.List.{AllByRecursion}
 use Rattle.fl_waiting.specs.Circle.{ClosesCircle}
@@ -59,9 +60,9 @@ pub data IsAnswered (p : Snapshot) (order : Order) : Op → List Told → Type 0
       → IsAnswered p order (Interrupt unique) (ended_with EINTR r ∷ [])
   interrupts_none : (unique : ℕ) → IsNew unique p.view.parked
       → IsAnswered p order (Interrupt unique) (own order (Err EAGAIN) ∷ [])
-  -- SETLKW: of a request that fails a test whatever locks are held; that needn't wait behind those that are parked; that
-  -- has to, and would close a circle; that has to, when as many wait already as the rules allow; that has to, and does
-  -- from now on
+  -- SETLKW: of a request that fails a test whatever locks are held; that needn't wait behind those that are parked;
+  -- that has to, and would close a circle; that has to, when as many wait already as the rules allow; that has to,
+  -- and does from now on
   fails : (ask : LockAsk) (e : Errno) → ask_error p.view.directory order.node ask ≡ Some e
       → IsAnswered p order (Setlkw ask) (own order (Err e) ∷ [])
   is_free : (ask : LockAsk) → ask_error p.view.directory order.node ask ≡ None

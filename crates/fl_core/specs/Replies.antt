@@ -6,7 +6,7 @@ use Rattle.std.specs.List.{filter}
 use Rattle.fl_waiting.specs.Circle.{is_deadlock}
 use Rattle.fl_waiting.specs.LockRequest.{is_flock, key_of, mark_of, stroke_of}
 use Rattle.fl_core.specs.State.{View, Snapshot}
-use Rattle.fl_waiting.specs.Waiting.{must_wait, is_excluded, is_parked}
+use Rattle.fl_waiting.specs.Waiting.{is_blocked, conflicts_with_held, is_parked}
 use Rattle.fl_core.specs.declared.ending.Ending.{Ending}
 use Rattle.fl_core.specs.declared.ending.Ending.TheVariants.{Through, Named}
 use Rattle.fl_waiting.specs.declared.parked.Request.{Request}
@@ -45,7 +45,7 @@ room_reply most m s = if nat_lt most (runs (stroked s m)) then Err ENOLCK else O
 
 -- a lock is set where it conflicts with none that is held
 abbrev pub set_reply : ℕ → Marking → Stroke → Option Mark → Result Answer Errno
-set_reply most m s mark = if is_excluded m s mark then Err EAGAIN else room_reply most m s
+set_reply most m s mark = if conflicts_with_held m s mark then Err EAGAIN else room_reply most m s
 
 -- the first test that a lock request fails whatever locks are held, if there is one
 abbrev pub ask_error : Listing → ℕ → LockAsk → Option Errno
@@ -55,9 +55,11 @@ ask_error d node ask =
 
 -- what a SETLK is answered, where there may be so many runs
 abbrev pub setlk_reply : ℕ → Listing → Marking → ℕ → LockAsk → Result Answer Errno
-setlk_reply most d m node ask = unless_error (ask_error d node ask) (set_reply most m (stroke_of node ask) (mark_of ask))
+setlk_reply most d m node ask =
+    unless_error (ask_error d node ask) (set_reply most m (stroke_of node ask) (mark_of ask))
 
--- a request that has to wait has no reply yet, unless it would close a circle, or as many wait already as the rules allow
+-- a request that has to wait has no reply yet, unless it would close a circle, or as many wait already as the rules
+-- allow
 abbrev pub wait_reply : Rules → Marking → List Request → Stroke → Option Mark → Option (Result Answer Errno)
 wait_reply rules m parked s mark =
     if is_deadlock rules m parked s mark then Some (Err EDEADLK)
@@ -74,14 +76,16 @@ setlkw_reply rules v m node ask =
     let s = stroke_of node ask in
     let mark = mark_of ask in
     at_once_unless (ask_error v.directory node ask)
-    (if must_wait rules m v.parked s mark then wait_reply rules m v.parked s mark else Some (room_reply rules.runs m s))
+    (if is_blocked rules m v.parked s mark then wait_reply rules m v.parked s mark
+    else Some (room_reply rules.runs m s))
 
 -- the type of a lock record: 0 is read and 1 is write
 abbrev pub type_of : Kind → ℕ
 type_of Read = 0
 type_of Write = 1
 
--- the lock that is named; where none excludes the one that was asked for, that one's own record with type 2, unlock
+-- the lock that is named; where none conflicts with the one that was asked for, that one's own record with type 2,
+-- unlock
 abbrev pub lock_answer : LockAsk → Option Held → Answer
 lock_answer ask None = Lock ask.start ask.end 2 ask.pid
 lock_answer ask (Some held) = Lock held.start held.end (type_of held.mark.kind) held.mark.pid

@@ -1,5 +1,6 @@
 -- Which parked requests are answered once locks have changed.
-use Rattle.std.specs.Prelude.{◌≡◌, ℕ, zero, suc, false, Option, Some, None, option_map, Result, List, [], ◌∷◌, ◌++◌, length}
+use Rattle.std.specs.Prelude.{◌≡◌, ℕ, zero, suc, false, Option, Some, None, option_map, Result, List, [], ◌∷◌, ◌++◌}
+use Rattle.std.specs.Prelude.{length}
 use Rattle.std.specs.Prelude.{if◌then◌else◌}
 use Rattle.fl_core.specs.Effects.{locked}
 use Rattle.fl_waiting.specs.LockRequest.{stroke_of}
@@ -18,6 +19,7 @@ pub record Present : Type 0 where
   pub marking : Marking
   pub parked : List Request
 
+-- these locks and these parked requests
 abbrev pub present : Marking → List Request → Present
 present marking parked = record { marking = marking; parked = parked }
 
@@ -71,8 +73,8 @@ settled_within rules (suc n) m parked =
 abbrev pub settled : Rules → Present → Settled
 settled rules s = settled_within rules (length s.parked) s.marking s.parked
 
--- The same in words: nothing is told where every request waits. Else the oldest that doesn't is taken out, its lock is set
--- where there is room, and it is told; and so on.
+-- The same in words: nothing is told where every request waits. Else the oldest that doesn't is taken out, its lock
+-- is set where there is room, and it is told; and so on.
 pub data IsSettled (rules : Rules) : Present → List Told → Present → Type 0 where
   done : {m : Marking} {parked : List Request} → AllWait rules m parked
       → IsSettled rules (present m parked) [] (present m parked)

@@ -1,9 +1,10 @@
--- In which stages an order changes who waits for whom: its own change of locks, or it waits; then requests leave, or are
--- granted, one after another.
-use Rattle.std.specs.Prelude.{◌≡◌, ◌≢◌, ℕ, Bool, true, not, ◌&&◌, nat_lt, Option, Some, None, option_map, List, [], ◌∷◌, ◌++◌}
+-- In which stages an order changes who waits for whom: its own change of locks, or it waits; then requests leave, or
+-- are granted, one after another.
+use Rattle.std.specs.Prelude.{◌≡◌, ◌≢◌, ℕ, Bool, true, not, ◌&&◌, nat_lt, Option, Some, None, option_map, List, [], ◌∷◌}
+use Rattle.std.specs.Prelude.{◌++◌}
 use Rattle.std.specs.Prelude.{if◌then◌else◌}
 use Rattle.std.specs.List.{filter}
-use Rattle.fl_waiting.specs.Circle.{Waiter, hinders, ClosesCircle}
+use Rattle.fl_waiting.specs.Circle.{Waiter, blocks, ClosesCircle}
 use Rattle.fl_waiting.specs.LockRequest.{is_flock}
 use Rattle.fl_core.specs.Settling.{Present}
 use Rattle.fl_waiting.specs.Waiting.{owner_of, wish_of}
@@ -33,15 +34,15 @@ asked_by op = None
 abbrev pub wanted_by : Request → Option ℕ
 wanted_by r = option_map owner_of (wish_of r)
 
--- no owner keeps a waiter waiting afterwards who didn't before, but for this one, if one is named
+-- no owner blocks a waiter afterwards who didn't before, but for this one, if one is named
 abbrev pub GainsAtMost : Rules → Option ℕ → Marking → Marking → Type 0
 GainsAtMost rules gainer before after =
-    (w : Waiter) (owner : ℕ) → gainer ≢ Some owner → hinders rules after w owner ≡ true
-    → hinders rules before w owner ≡ true
+    (w : Waiter) (owner : ℕ) → gainer ≢ Some owner → blocks rules after w owner ≡ true
+    → blocks rules before w owner ≡ true
 
--- The order's own change: nobody gains but the owner who asks for a record lock, and the same requests are parked. Or a
--- request of that owner is parked behind the others, for a lock that it asks for, or one of the whole file; it closes no
--- circle, and the locks stay.
+-- The order's own change: nobody gains but the owner who asks for a record lock, and the same requests are parked. Or
+-- a request of that owner is parked behind the others, for a lock that it asks for, or one of the whole file; it
+-- closes no circle, and the locks stay.
 pub data OwnStage (rules : Rules) (order : Order) (before after : Present) : Type 0 where
   changes : GainsAtMost rules (asked_by order.op) before.marking after.marking → after.parked ≡ before.parked
       → OwnStage rules order before after

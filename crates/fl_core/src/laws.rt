@@ -9,7 +9,7 @@ ghost use Rattle.fl_core.specs.Settling.{Present, present, settled, IsSettled};
 ghost use Rattle.fl_core.specs.Stages.{IsTakenInStages};
 ghost use Rattle.fl_core.specs.State.{View, State, Snapshot, snapshot_of};
 ghost use Rattle.fl_core.specs.Step.{next, replies};
-ghost use Rattle.fl_waiting.specs.Waiting.{Wish, wish_of, wishes, goes_first, waits, AllWait, AreApart, taken_out};
+ghost use Rattle.fl_waiting.specs.Waiting.{Wish, wish_of, wishes, older_blocks, waits, AllWait, AreApart, taken_out};
 ghost use Rattle.fl_waiting.specs.declared.parked.Request.{Request};
 ghost use Rattle.fl_waiting.specs.declared.rules.Rules.{Rules};
 ghost use Rattle.fl_order.specs.declared.errno.Errno.{Errno};
@@ -72,13 +72,14 @@ pub fn an_order_is_taken_in_stages()
     fl_waiting::laws::a_circle_is_a_row_of_owners_who_wait();
 }
 
-/// What fair rules promise: while a request for a record lock is parked, a later SETLKW for a lock that conflicts with it is
-/// granted none. It is refused, or parked behind; and while it is parked, it waits as long as the older one is there.
+/// What fair rules promise: while a request for a record lock is parked, a later SETLKW for a lock that conflicts
+/// with it is granted none. It is refused, or parked behind; and while it is parked, it waits as long as the older
+/// one is there.
 pub fn no_request_passes_an_older_one_under_fair_rules()
     ensures asked { (p : Snapshot) (order : Order) (ask : LockAsk) (w older : Wish) → p.rules.fair ≡ true →
         order.op ≡ Setlkw ask → wish_of (request_of order ask) ≡ Some w → Contains (wishes p.view.parked) older →
-        goes_first w older ≡ true → (answer : Answer) → own_reply p.rules p.view p.marking order ≢ Some (Ok answer) }
+        older_blocks w older ≡ true → (answer : Answer) → own_reply p.rules p.view p.marking order ≢ Some (Ok answer) }
     ensures parked { (rules : Rules) (m : Marking) (parked : List Request) (r : Request) (w older : Wish) →
-        rules.fair ≡ true → wish_of r ≡ Some w → Contains (wishes parked) older → goes_first w older ≡ true →
+        rules.fair ≡ true → wish_of r ≡ Some w → Contains (wishes parked) older → older_blocks w older ≡ true →
         waits rules m parked r ≡ true }
 {}

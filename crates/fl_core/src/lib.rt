@@ -1,4 +1,18 @@
 //! One order: what it is answered, and what it changes in the directory and in the table of locks.
+//!
+//! What the definitions of its replies say, in short:
+//! - An order's own reply comes first, if it has one, then those to requests that it ends, then those of settling. A
+//!   FORGET has none of its own, nor has a SETLKW that is parked, nor an INTERRUPT that finds its request.
+//! - An order with the unique of a parked request is EINVAL and changes nothing. Such a FORGET does nothing.
+//! - A RELEASE ends the requests that came through its fh with EBADF, an INTERRUPT the one that it names with EINTR.
+//! - Settling takes out the oldest request that nothing blocks, sets its lock if there is room, and starts again.
+//! - A SETLKW is EDEADLK exactly if it is blocked and would close a circle of owners. It is ENOLCK if it would close
+//!   none and as many are parked as the rules allow.
+//! - A FLUSH takes away all record locks of its owner on the node, and no whole-file lock. A RELEASE takes away its
+//!   owner's whole-file lock if it says so, and all locks of the node if no fh is open there any more.
+//!
+//! Contracts let through a `Tolds::new` that is always refused, or has more room than its rules want; tests refuse
+//! it.
 #![tactic(auto)]
 
 mod ending;

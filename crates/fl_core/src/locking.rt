@@ -1,15 +1,17 @@
 //! Lock requests: the tests that they meet, and the locks that they set or tell.
 
-ghost use Rattle.std.specs.Prelude.{◌≡◌, ◌↔◌, true, false, Some, None, [], ◌∷◌, ◌++◌, if◌then◌else◌, IfErr, IfOk, IfSome, OnOk, OnErr, IsNone};
+ghost use Rattle.std.specs.Prelude.{◌≡◌, ◌↔◌, true, false, Some, None, [], ◌∷◌, ◌++◌, if◌then◌else◌, IfErr, IfOk};
+ghost use Rattle.std.specs.Prelude.{IfSome, OnOk, OnErr, IsNone};
 ghost use Rattle.fl_ranges.specs.Marking.{stroke_on, stroked};
 ghost use Rattle.fl_ranges.specs.Conflict.{IsLawful, SameElsewhere, SameOffNode};
 ghost use Rattle.fl_ranges.specs.Change.{cleared, after_change, after_changes};
 ghost use Rattle.fl_waiting.specs.Circle.{is_deadlock};
 ghost use Rattle.fl_waiting.specs.LockRequest.{is_flock, key_of, start_of, end_of, mark_of};
 ghost use Rattle.fl_core.specs.Effects.{dropped, locked, unlocked};
-ghost use Rattle.fl_core.specs.Replies.{ask_error, is_malformed, type_of, lock_answer, room_reply, set_reply, setlk_reply, setlkw_reply, getlk_reply};
+ghost use Rattle.fl_core.specs.Replies.{ask_error, is_malformed, type_of, lock_answer, room_reply, set_reply};
+ghost use Rattle.fl_core.specs.Replies.{setlk_reply, setlkw_reply, getlk_reply};
 ghost use Rattle.fl_core.specs.Inside.Touched.{WaitsNow};
-ghost use Rattle.fl_waiting.specs.Waiting.{is_excluded, must_wait};
+ghost use Rattle.fl_waiting.specs.Waiting.{conflicts_with_held, is_blocked};
 
 use fl_dir::Dir;
 use fl_order::{Answer, Errno, LockAsk};
@@ -94,7 +96,7 @@ pub(crate) fn set_or_wait(
     };
     let key = key_of(node, ask);
     let mark = mark_of(ask);
-    if !must_wait(rules, locks, parked, &key, &range, mark) {
+    if !is_blocked(rules, locks, parked, &key, &range, mark) {
         return Some(store(locks, &key, &range, mark));
     }
     if is_deadlock(rules, locks, parked, &key, &range, mark) {
@@ -135,7 +137,7 @@ fn is_deadlock(
 }
 
 // Whether a lock has to wait, behind all that are parked.
-fn must_wait(
+fn is_blocked(
     rules: Rules,
     locks: &Table,
     parked: &Parked,
@@ -143,19 +145,20 @@ fn must_wait(
     range: &Range,
     mark: Option<Mark>,
 ) -> bool
-    ensures wait { result ≡ must_wait rules locks.now.marking parked.now (stroke_on key.now range.now mark) mark }
-    ensures clear { result ≡ false → is_excluded locks.now.marking (stroke_on key.now range.now mark) mark ≡ false }
+    ensures wait { result ≡ is_blocked rules locks.now.marking parked.now (stroke_on key.now range.now mark) mark }
+    ensures clear { result ≡ false
+        → conflicts_with_held locks.now.marking (stroke_on key.now range.now mark) mark ≡ false }
 {
     match mark {
         None => false,
         Some(mark) => {
-            locks.clashes(key, range, mark.kind)
-                || (rules.fair && parked.goes_before(key, range, mark.kind))
+            locks.conflicts(key, range, mark.kind)
+                || (rules.fair && parked.any_older_blocks(key, range, mark.kind))
         }
     }
 }
 
-// The bytes of the range get the mark, or lose theirs: where no lock that is held excludes it, and where there is
+// The bytes of the range get the mark, or lose theirs: where no lock that is held conflicts with it, and where there is
 // room for the runs afterwards.
 fn change(locks: &mut Table, key: &Key, range: &Range, mark: Option<Mark>) -> Result<Answer, Errno>
     ensures reply { result ≡ set_reply locks.old.limit locks.old.marking (stroke_on key.now range.now mark) mark }
@@ -165,30 +168,35 @@ fn change(locks: &mut Table, key: &Key, range: &Range, mark: Option<Mark>) -> Re
     ensures elsewhere { SameElsewhere key.now locks.old.marking locks.new.marking }
     ensures limit { locks.new.limit ≡ locks.old.limit }
 {
-    if is_excluded(locks, key, range, mark) {
+    if conflicts_with_held(locks, key, range, mark) {
         return Err(Errno::EAGAIN);
     }
     store(locks, key, range, mark)
 }
 
 /// Whether a lock that is held keeps this one from being set.
-pub(crate) fn is_excluded(locks: &Table, key: &Key, range: &Range, mark: Option<Mark>) -> bool
-    ensures { result ≡ is_excluded locks.now.marking (stroke_on key.now range.now mark) mark }
+pub(crate) fn conflicts_with_held(
+    locks: &Table,
+    key: &Key,
+    range: &Range,
+    mark: Option<Mark>,
+) -> bool
+    ensures { result ≡ conflicts_with_held locks.now.marking (stroke_on key.now range.now mark) mark }
 {
     match mark {
-        Some(own) => locks.clashes(key, range, own.kind),
+        Some(own) => locks.conflicts(key, range, own.kind),
         None => false,
     }
 }
 
-/// The same for locks that nothing excludes.
+/// The same for locks that nothing conflicts with.
 pub(crate) fn store(
     locks: &mut Table,
     key: &Key,
     range: &Range,
     mark: Option<Mark>,
 ) -> Result<Answer, Errno>
-    requires { is_excluded locks.old.marking (stroke_on key.now range.now mark) mark ≡ false }
+    requires { conflicts_with_held locks.old.marking (stroke_on key.now range.now mark) mark ≡ false }
     ensures reply { result ≡ room_reply locks.old.limit locks.old.marking (stroke_on key.now range.now mark) }
     ensures granted { OnOk result (locks.new.marking ≡ stroked (stroke_on key.now range.now mark) locks.old.marking) }
     ensures refused { OnErr result (locks.new.marking ≡ locks.old.marking) }
@@ -226,7 +234,7 @@ pub(crate) fn test_lock(
     Ok(lock_answer(ask, locks.blocker(&key, &range, mark.kind)))
 }
 
-// What a GETLK is told where this lock excludes it, or none.
+// What a GETLK is told where this lock conflicts with it, or none.
 fn lock_answer(ask: &LockAsk, held: Option<Held>) -> Answer
     ensures { result ≡ lock_answer ask.now held }
 {

@@ -4,7 +4,7 @@ ghost use Rattle.std.specs.Prelude.{◌≡◌, ◌≤◌, ◌↔◌, ◌+◌, �
 ghost use Rattle.std.specs.List.{AllByRecursion};
 ghost use Rattle.fl_core.specs.Effects.{by_reply, flushed, listing_replied, released, made};
 ghost use Rattle.fl_core.specs.Inside.Parts.{left_by, with_parked};
-ghost use Rattle.fl_core.specs.Inside.Touched.{touched_by, OthersWait};
+ghost use Rattle.fl_core.specs.Inside.Touched.{SameOff, OthersWait};
 ghost use Rattle.fl_core.specs.Replies.{directory_reply, ended_by, file_reply, reply_to};
 ghost use Rattle.fl_core.specs.State.{opening, snapshot_of};
 ghost use Rattle.fl_core.specs.Step.{settling, with_present};
@@ -26,7 +26,8 @@ use fl_waiting::{Parked, Rules};
 use std::alloc::Global;
 use std::marker::Model;
 
-/// The directory (names, nodes and open files), the locks that are held, and the parked requests. Contracts see a `Snapshot`.
+/// The directory (names, nodes and open files), the locks that are held, and the parked requests. Contracts see a
+/// `Snapshot`.
 #[derive(Drop)]
 pub(crate) struct Parts {
     pub rules: Rules,
@@ -81,41 +82,52 @@ impl Parts {
         }
     }
 
-    /// The order's own reply, if it has one now, with its change made.
-    pub(crate) fn take(&mut self, order: &Order) -> Option<Result<Answer, Errno>>
+    /// The order's own reply, if it has one now, with its change made. Beside it, which locks may have gone by that.
+    pub(crate) fn take(&mut self, order: &Order) -> (Option<Result<Answer, Errno>>, Touched)
         requires { is_parked order.now.unique self.old.view.parked ≡ false }
-        ensures reply { result ≡ reply_to self.old.rules self.old.view self.old.marking order.now order.now.op }
-        ensures changed { self.new ≡ made (by_reply order.now result) self.old }
+        ensures reply { result.0 ≡ reply_to self.old.rules self.old.view self.old.marking order.now order.now.op }
+        ensures changed { self.new ≡ made (by_reply order.now result.0) self.old }
         ensures lawful { IsLawful self.old.marking → IsLawful self.new.marking }
-
-        // Only parked requests for locks which the order touched can be free now.
-        ensures others { AllWait self.old.rules self.old.marking self.old.view.parked →
-            OthersWait (touched_by order.now.node order.now.op result) self.new.rules self.new.marking
-            self.new.view.parked }
+        ensures elsewhere { SameOff result.1 self.old.marking self.new.marking }
     {
         let node = order.node;
         match &order.op {
-            Op::Release { fh, drop, owner } => Some(self.release(node, *fh, *drop, *owner)),
-            Op::Flush { fh, owner } => Some(self.flush(node, *fh, *owner)),
-            Op::Getlk(ask) => Some(test_lock(&self.directory, &self.locks, node, ask)),
-            Op::Setlk(ask) => Some(set_lock(&self.directory, &mut self.locks, node, ask)),
-            Op::Setlkw(ask) => set_or_wait(
-                self.rules,
-                &self.directory,
-                &mut self.locks,
-                &mut self.parked,
-                order.unique,
-                node,
-                ask,
-            ),
-            Op::Interrupt(unique) if self.parked.has(*unique) => None,
-            Op::Interrupt(_) => Some(Err(Errno::EAGAIN)),
-            _ => in_directory(&mut self.directory, order),
+            Op::Release { fh, drop, owner } => {
+                let own = self.release(node, *fh, *drop, *owner);
+                (Some(own), Touched::OfNode(node))
+            }
+            Op::Flush { fh, owner } => {
+                let own = self.flush(node, *fh, *owner);
+                (Some(own), Touched::OfClass(node, Class::Record))
+            }
+            Op::Getlk(ask) => {
+                let own = test_lock(&self.directory, &self.locks, node, ask);
+                (Some(own), Touched::Nothing)
+            }
+            Op::Setlk(ask) => {
+                let own = set_lock(&self.directory, &mut self.locks, node, ask);
+                (Some(own), Touched::of_ask(node, ask))
+            }
+            Op::Setlkw(ask) => {
+                let own = set_or_wait(
+                    self.rules,
+                    &self.directory,
+                    &mut self.locks,
+                    &mut self.parked,
+                    order.unique,
+                    node,
+                    ask,
+                );
+                (own, Touched::of_ask(node, ask))
+            }
+            Op::Interrupt(unique) if self.parked.has(*unique) => (None, Touched::Nothing),
+            Op::Interrupt(_) => (Some(Err(Errno::EAGAIN)), Touched::Nothing),
+            _ => (in_directory(&mut self.directory, order), Touched::Nothing),
         }
     }
 
-    /// Ends the parked requests which the order ends, by what it was answered itself, and tells them. Gives what was touched
-    /// then, where the order's own change touched this.
+    /// Ends the parked requests which the order ends, by what it was answered itself, and tells them. Gives what was
+    /// touched then, where the order's own change touched this.
     pub(crate) fn end(
         &mut self,
         order: &Order,
@@ -182,7 +194,8 @@ impl Parts {
         Ok(Answer::Done)
     }
 
-    // FUSE_RELEASE: the fh is closed, with `drop` the owner's whole-file lock goes, and with the last fh all locks of the node.
+    // FUSE_RELEASE: the fh is closed, with `drop` the owner's whole-file lock goes, and with the last fh all locks of
+    // the node.
     fn release(&mut self, node: u64, fh: u64, drop: bool, owner: u64) -> Result<Answer, Errno>
         ensures reply { result ≡ file_reply self.old.view.directory node fh }
         ensures rules { self.new.rules ≡ self.old.rules }

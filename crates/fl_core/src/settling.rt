@@ -4,14 +4,15 @@ ghost use Rattle.std.specs.Prelude.{◌≡◌, ◌≤◌, ◌+◌, ◌++◌, fal
 ghost use Rattle.std.specs.List.{AllByRecursion};
 ghost use Rattle.fl_ranges.specs.Conflict.{IsLawful, SameElsewhere};
 ghost use Rattle.fl_waiting.specs.LockRequest.{key_of, mark_of, stroke_of};
-ghost use Rattle.fl_core.specs.Inside.Touched.{concerns_request, touched_by, OthersWait};
+ghost use Rattle.fl_core.specs.Inside.Touched.{concerns_request, touched_if_done, OthersWait};
+ghost use Rattle.fl_core.specs.declared.settling.Touched.TheVariants as touched;
 ghost use Rattle.fl_core.specs.Settling.{granted_told, marking_granted, oldest_free, present, settled};
-ghost use Rattle.fl_waiting.specs.Waiting.{is_excluded, AreApart};
+ghost use Rattle.fl_waiting.specs.Waiting.{conflicts_with_held, AreApart};
 ghost use Rattle.fl_waiting.specs.declared.parked.Request.{Request};
 
-use crate::locking::{is_excluded, key_of, store};
+use crate::locking::{conflicts_with_held, key_of, store};
 use crate::tolds::Tolds;
-use fl_order::{Answer, Errno, Op, Order, Told};
+use fl_order::{Answer, Errno, LockAsk, Told};
 use fl_ranges::{Class, Table};
 use fl_waiting::{Claim, Parked, Rules};
 
@@ -27,24 +28,27 @@ pub(crate) enum Touched {
     Anything,
 }
 
-/// What an order touches that is answered so.
-pub(crate) fn touched_by(order: &Order, own: &Option<Result<Answer, Errno>>) -> Touched
-    ensures { result ≡ touched_by order.now.node order.now.op own.now }
-{
-    let Some(Ok(_)) = own else {
-        return Touched::Nothing;
-    };
-    match &order.op {
-        Op::Setlk(ask) | Op::Setlkw(ask) => {
-            Touched::OfClass(order.node, key_of(order.node, ask).class)
+impl Touched {
+    /// Locks of the class and node that a request asks for.
+    pub(crate) fn of_ask(node: u64, ask: &LockAsk) -> Touched
+        ensures { result ≡ touched.OfClass node (key_of node ask.now).class }
+    {
+        Touched::OfClass(node, key_of(node, ask).class)
+    }
+
+    /// What an order touched that is answered so, where it touches this if it is done.
+    pub(crate) fn if_done(self, own: &Option<Result<Answer, Errno>>) -> Touched
+        ensures { result ≡ touched_if_done own.now self }
+    {
+        match own {
+            Some(Ok(_)) => self,
+            _ => Touched::Nothing,
         }
-        Op::Flush { .. } => Touched::OfClass(order.node, Class::Record),
-        Op::Release { .. } => Touched::OfNode(order.node),
-        _ => Touched::Nothing,
     }
 }
 
-/// Answers requests, always the oldest that doesn't wait, until each waits. It tests those alone whose locks were touched.
+/// Answers requests, always the oldest that doesn't wait, until each waits. It tests those alone whose locks were
+/// touched.
 pub(crate) fn settle(
     rules: Rules,
     locks: &mut Table,
@@ -91,13 +95,13 @@ fn take_free(rules: Rules, locks: &Table, parked: &mut Parked, touched: Touched)
         (λ taken. oldest_free rules locks.now.marking parked.old ≡ Some (taken.request, parked.new)) }
 {
     parked.take_free(rules, |claim| {
-        concerns(touched, claim) && !excluded(locks, claim)
+        concerns(touched, claim) && !in_conflict(locks, claim)
     })
 }
 
 // The request's lock is set where there is room.
 fn grant(locks: &mut Table, claim: &Claim) -> Told
-    requires { is_excluded locks.old.marking (stroke_of claim.now.request.node claim.now.request.ask)
+    requires { conflicts_with_held locks.old.marking (stroke_of claim.now.request.node claim.now.request.ask)
         (mark_of claim.now.request.ask) ≡ false }
     ensures told { result ≡ granted_told locks.old.limit locks.old.marking claim.now.request }
     ensures marking { locks.new.marking ≡ marking_granted locks.old.limit locks.old.marking claim.now.request }
@@ -123,10 +127,10 @@ fn concerns(touched: Touched, claim: &Claim) -> bool
     }
 }
 
-// Whether a lock that is held keeps a request waiting.
-fn excluded(locks: &Table, claim: &Claim) -> bool
-    ensures { result ≡ is_excluded locks.now.marking (stroke_of claim.now.request.node claim.now.request.ask)
+// Whether a lock that is held blocks a request.
+fn in_conflict(locks: &Table, claim: &Claim) -> bool
+    ensures { result ≡ conflicts_with_held locks.now.marking (stroke_of claim.now.request.node claim.now.request.ask)
         (mark_of claim.now.request.ask) }
 {
-    is_excluded(locks, &claim.key, &claim.range, claim.mark)
+    conflicts_with_held(locks, &claim.key, &claim.range, claim.mark)
 }

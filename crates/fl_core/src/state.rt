@@ -12,7 +12,6 @@ ghost use Rattle.fl_order.specs.Order.{only_reads};
 ghost use Rattle.fl_ranges.specs.Conflict.{IsLawful};
 
 use crate::parts::Parts;
-use crate::settling::touched_by;
 use crate::tolds::Tolds;
 use fl_order::{Answer, Errno, NoMemory, Op, Order, Told};
 use fl_ranges::{Key, Kind, Range};
@@ -77,9 +76,9 @@ impl Core {
             tell(order, &refusal(order), tolds);
             return;
         }
-        let own = self.parts.take(order);
+        let (own, touched) = self.parts.take(order);
         tell(order, &own, tolds);
-        let touched = self.parts.end(order, &own, touched_by(order, &own), tolds);
+        let touched = self.parts.end(order, &own, touched.if_done(&own), tolds);
         self.parts.settle(touched, tolds);
     }
 
@@ -98,8 +97,8 @@ impl Core {
         Some(result)
     }
 
-    /// Whether a request for this lock would close a circle of owners who wait for each other, if it waited: an owner in
-    /// its way waits for the owner who asks, through others or not. Requests for whole-file locks never do.
+    /// Whether a request for this lock would close a circle of owners who wait for each other, if it waited: an owner
+    /// in its way waits for the owner who asks, through others or not. Requests for whole-file locks never do.
     pub fn circle(&self, key: &Key, range: &Range, kind: Kind) -> bool
         ensures { result ≡ closes_circle self.now.rules self.now.marking self.now.view.parked
             (record { key = key.now; start = range.now.start; end = range.now.end; kind = kind }) }

@@ -8,8 +8,8 @@ use fl_waiting::Rules;
 use std::alloc::Global;
 use std::marker::Model;
 
-/// The replies that one order gives, with room for all that one gives under the rules that it was made by. Contracts see
-/// their list and the room.
+/// The replies that one order gives, with room for all that one gives under the rules that it was made by. Contracts
+/// see their list and the room.
 #[derive(Drop)]
 pub struct Tolds {
     tolds: Vec<Told>,

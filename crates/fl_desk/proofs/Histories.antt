@@ -1,9 +1,11 @@
 -- A legal history with one more order is legal, and what is there after it is what the history gives.
-use Rattle.std.proofs.Common.{◌≡◌, ℕ, cond, Option, Some, None, List, [], ◌∷◌, ◌++◌, map, append_assoc, refl, ap, sym, ◌∙◌, subst}
+use Rattle.std.proofs.Common.{◌≡◌, ℕ, cond, Option, Some, None, List, [], ◌∷◌, ◌++◌, map, append_assoc, refl, ap, sym}
+use Rattle.std.proofs.Common.{◌∙◌, subst}
 use Rattle.std.proofs.lemmas.List.Sums.{fold-append}
 use Rattle.std.specs.List.{fold}
 use Rattle.std.proofs.lemmas.Bool.{eq-eqb, ne_eqb}
-use Rattle.fl_desk.specs.Replay.{Reading, unread, committed, read_reply, read_line, state_at_end, state_after, all_later, AllOthers}
+use Rattle.fl_desk.specs.Replay.{Reading, unread, committed, read_reply, read_line, state_at_end, state_after}
+use Rattle.fl_desk.specs.Replay.{all_later, AllOthers}
 use Rattle.fl_desk.specs.Legal.{IsLegal, nothing, step, step_lines}
 use Rattle.fl_desk.specs.Kept.{IsKept}
 use Rattle.fl_core.specs.State.{View, State, Snapshot, opening, snapshot_of}

@@ -1,9 +1,11 @@
 -- A legal history is the one that its orders give.
-use Rattle.std.proofs.Common.{◌≡◌, ◌≢◌, ℕ, zero, suc, ◌+◌, ◌-◌, ◌≤◌, ◌<◌, inl, inr, ◌⊎◌, ⊎_elim, Some, Option, List, [], ◌∷◌, ◌++◌, map, length, take, drop}
+use Rattle.std.proofs.Common.{◌≡◌, ◌≢◌, ℕ, zero, suc, ◌+◌, ◌-◌, ◌≤◌, ◌<◌, inl, inr, ◌⊎◌, ⊎_elim, Some, Option, List, []}
+use Rattle.std.proofs.Common.{◌∷◌, ◌++◌, map, length, take, drop}
 use Rattle.std.proofs.Common.{get_or, slice_get, append_assoc, append-nil, refl, sym, ap, ◌∙◌, subst, arith}
 use Rattle.std.proofs.lemmas.Option.{none-some, slice_get_within}
 use Rattle.std.proofs.Math.Seq.{take-append-add}
-use Rattle.std.proofs.lemmas.List.{append_cancel_left, length-append, map-append, take_all, take-append-drop, length-drop, length-take-le}
+use Rattle.std.proofs.lemmas.List.{append_cancel_left, length-append, map-append, take_all, take-append-drop}
+use Rattle.std.proofs.lemmas.List.{length-drop, length-take-le}
 use Rattle.std.proofs.Math.Numerals.{add-one}
 use Rattle.fl_desk.specs.Legal.{IsLegal, nothing, step, step_lines}
 use Rattle.fl_desk.specs.Replay.{state_after}

@@ -1,6 +1,7 @@
-pub mod Replay
-pub mod Legal
-pub mod Kept
+pub mod Asked
 pub mod BookCode
-pub mod Verdicts
+pub mod Kept
 pub mod Leading
+pub mod Legal
+pub mod Replay
+pub mod Verdicts

@@ -9,21 +9,21 @@ ghost use Rattle.fl_desk.specs.Legal.{IsLegal, step_lines};
 ghost use Rattle.fl_desk.specs.Kept.{IsKept, opening_book};
 
 use fl_core::{Core, Rules, Tolds};
-use fl_history::{History, Lines};
-use fl_keeper::Keeper;
+use fl_history::{History, Journal, Lines};
 use fl_order::{NoMemory, Order, Told};
 use std::alloc::Global;
 use std::marker::Model;
 
-/// A desk that takes orders one after another, and keeps their history where its keeper puts the lines: in memory, if nothing
-/// else is said. Contracts see it as a `Book`: its lines, what is there now, and for how many more lines there is room.
+/// A desk that takes orders one after another, and keeps their history where its journal puts the lines: in memory,
+/// if nothing else is said. Contracts see it as a `Book`: its lines, what is there now, and for how many more lines
+/// there is room.
 #[derive(Drop)]
-pub struct Desk<K: Keeper = Lines> {
-    kept: K,
+pub struct Desk<J: Journal = Lines> {
+    kept: J,
     present: Core,
 }
 
-impl<K: Keeper> Model for Desk<K> {
+impl<J: Journal> Model for Desk<J> {
     ghost use Rattle.fl_desk.specs.Kept.{Book, IsKept};
     ghost use Rattle.fl_desk.specs.BookCode.{book_code};
 
@@ -31,28 +31,29 @@ impl<K: Keeper> Model for Desk<K> {
 
     ghost coded = { book_code };
 
-    ghost view = { λ d. record { lines = K.lines d.kept; present = d.present; room = K.room d.kept } };
+    ghost view = { λ d. record { lines = J.lines d.kept; present = d.present; room = J.room d.kept } };
 
-    ghost invariant = { λ d. IsKept (K.lines d.kept) d.present };
+    ghost invariant = { λ d. IsKept (J.lines d.kept) d.present };
 }
 
-impl<K: Keeper> Desk<K> {
-    /// A desk that has taken no order, whose lines go to this keeper, which has none so far. Requests will wait by these
-    /// rules. Where it is refused, the keeper is let go.
-    pub fn over(alloc: Global, kept: K, rules: Rules) -> Result<Desk<K>, NoMemory>
+impl<J: Journal> Desk<J> {
+    /// A desk that has taken no order, whose lines go to this journal, which has none so far. Requests will wait by
+    /// these rules. Where it is refused, the journal is let go.
+    pub fn over(alloc: Global, kept: J, rules: Rules) -> Result<Desk<J>, NoMemory>
     where
-        K: Drop,
-        requires none { K.lines kept ≡ [] }
+        J: Drop,
+        requires none { J.lines kept ≡ [] }
         ensures lines { IfOk result (λ desk. desk.lines ≡ []) }
         ensures present { IfOk result (λ desk. desk.present ≡ snapshot_of (opening rules)) }
-        ensures room { IfOk result (λ desk. desk.room ≡ K.room kept) }
+        ensures room { IfOk result (λ desk. desk.room ≡ J.room kept) }
     {
         let present = Core::new(alloc, rules)?;
         Ok(Desk { kept, present })
     }
 
-    /// Makes room for the lines of one order by its rules, its own and one for each reply: 258 by the standard rules. The next
-    /// `take` succeeds, and takes no memory. A refusal changes no line, and doesn't come where there is that room.
+    /// Makes room for the lines of one order by its rules, its own and one for each reply: 258 by the standard rules.
+    /// The next `take` succeeds, and takes no memory. A refusal changes no line, and doesn't come where there is that
+    /// room.
     pub fn ready(&mut self) -> Result<(), NoMemory>
         ensures same { (self.new.lines ≡ self.old.lines) × (self.new.present ≡ self.old.present) }
         ensures room { OnOk result (self.old.present.rules.parked + 2 ≤ self.new.room) }
@@ -62,8 +63,8 @@ impl<K: Keeper> Desk<K> {
         self.kept.reserve(count)
     }
 
-    /// Takes an order of a worker: records it, answers it, and hands out the replies that it records.
-    /// A refusal changes nothing, and doesn't come where there is room for the lines of one order by its rules, which `ready`
+    /// Takes an order of a worker: records it, answers it, and hands out the replies that it records. A refusal
+    /// changes nothing, and doesn't come where there is room for the lines of one order by its rules, which `ready`
     /// makes.
     pub fn take(&mut self, worker: u32, order: &Order, tolds: &mut Tolds) -> Result<(), NoMemory>
         requires { HasRoom self.old.present.rules tolds.old }
@@ -85,7 +86,7 @@ impl<K: Keeper> Desk<K> {
         Ok(())
     }
 
-    /// No order is at hand: what its keeper holds back may go on now. Neither lines nor what is there change.
+    /// No order is at hand: what its journal holds back may go on now. Neither lines nor what is there change.
     pub fn pause(&mut self)
         ensures lines { self.new.lines ≡ self.old.lines }
         ensures present { self.new.present ≡ self.old.present }
@@ -93,10 +94,10 @@ impl<K: Keeper> Desk<K> {
         self.kept.pause();
     }
 
-    /// Its keeper, with the lines of all that it took. They are legal under its rules.
-    pub fn into_kept(self) -> K
-        ensures lines { K.lines result ≡ self.lines }
-        ensures legal { IsLegal self.present.rules (K.lines result) }
+    /// Its journal, with the lines of all that it took. They are legal under its rules.
+    pub fn into_kept(self) -> J
+        ensures lines { J.lines result ≡ self.lines }
+        ensures legal { IsLegal self.present.rules (J.lines result) }
     {
         let Desk { kept, present: _ } = self;
         kept
@@ -122,9 +123,9 @@ impl Desk {
 }
 
 // Adds an order and its replies to the lines.
-fn append<K: Keeper>(kept: &mut K, worker: u32, order: &Order, tolds: &[Told])
-    requires { 1 + length tolds.now ≤ K.room kept.old }
-    ensures { K.lines kept.new ≡ K.lines kept.old ++ step_lines worker order.now tolds.now }
+fn append<J: Journal>(kept: &mut J, worker: u32, order: &Order, tolds: &[Told])
+    requires { 1 + length tolds.now ≤ J.room kept.old }
+    ensures { J.lines kept.new ≡ J.lines kept.old ++ step_lines worker order.now tolds.now }
 {
     kept.push_asked(worker, order);
     for told in tolds {

@@ -16,17 +16,17 @@ use std::alloc::Global;
 /// What a judge says of a history.
 #[derive(Clone, Copy, Debug, PartialEq, Eq)]
 pub enum Verdict {
-    /// It is one of one thread: each order is answered, at once or later, as the sequential directory answers then, under
-    /// the rules that it is judged by.
+    /// It is one of one thread: each order is answered, at once or later, as the sequential directory answers then,
+    /// under the rules that it is judged by.
     Legal,
     /// It isn't. The lines before this one, counted from 1, are a beginning of a legal history, and no more are. Where
     /// only replies are missing at its end, this is the line after its last.
     Differs(usize),
 }
 
-/// Judges a history under these rules: takes its orders anew, one after another, and compares the replies. What is legal
-/// under some rules needn't be so under others. It goes through the lines once, and takes memory for one directory and
-/// one list of replies.
+/// Judges a history under these rules: takes its orders anew, one after another, and compares the replies. What is
+/// legal under some rules needn't be so under others. It goes through the lines once, and takes memory for one
+/// directory and one list of replies.
 pub fn check(alloc: Global, history: &History, rules: Rules) -> Result<Verdict, NoMemory>
     ensures { IfOk result (λ verdict. IsVerdict rules history.now verdict) }
 {

@@ -1,9 +1,19 @@
-//! A desk that takes orders of the lock directory one after another and keeps their history, and the judge of a history.
+//! The desk, which takes orders one after another and keeps their history, and the judge of a whole history; and the
+//! counter, which is what a worker needs of one who takes orders of several.
+//!
+//! All that a desk promises holds for every journal of its lines, by one proof. `Counter` states a contract, and a
+//! board of `fl_board` keeps it. Contracts let through a `take` that is refused when its journal has no room yet,
+//! though memory is there; tests refuse it. `fl_book_tests` judges 300 random histories, and 28 kinds of change of
+//! each.
 #![tactic(auto)]
 
+mod counter;
 mod desk;
+mod fault;
 mod judge;
 pub mod laws;
 
+pub use counter::{Counter, Gate, OpenGate};
 pub use desk::Desk;
+pub use fault::{HandFault, NoView};
 pub use judge::{Verdict, check};

@@ -1,6 +1,8 @@
 -- Changes in the chain of an arena, as changes of entries and of a finite map.
-use Rattle.std.proofs.Common.{◌≡◌, ◌≢◌, ℕ, ◌+◌, ◌<◌, ◌≤◌, Bool, true, false, cond, not, sum_by, slice_index_or, ◌==◌, ◌||◌, nat_le, Option, Some, None, IsSome}
-use Rattle.std.proofs.Common.{option_map, slice_get, slice_set, List, [], ◌∷◌, ◌++◌, length, refl, ap, sym, ◌∙◌, subst, arith}
+use Rattle.std.proofs.Common.{◌≡◌, ◌≢◌, ℕ, ◌+◌, ◌<◌, ◌≤◌, Bool, true, false, cond, not, sum_by, slice_index_or, ◌==◌}
+use Rattle.std.proofs.Common.{◌||◌, nat_le, Option, Some, None, IsSome}
+use Rattle.std.proofs.Common.{option_map, slice_get, slice_set, List, [], ◌∷◌, ◌++◌, length, refl, ap, sym, ◌∙◌, subst}
+use Rattle.std.proofs.Common.{arith}
 use Rattle.std.proofs.lemmas.Bool.Decides.{nat_tests}
 use Rattle.std.proofs.lemmas.List.{length-map}
 use Rattle.std.proofs.lemmas.Option.{none-some}
@@ -14,7 +16,8 @@ use Rattle.fl_arena.specs.Cursors.{cursor_at}
 use Rattle.fl_arena.specs.declared.cursors.Cursor.{Cursor}
 use Rattle.fl_dir.specs.Inside.Listed.{AreListed, IsList}
 use Rattle.fl_dir.specs.Inside.Numbers.{Numbers}
-use Rattle.fl_dir.proofs.Entries.{set_put, remove_where, listed_pushed, listed_put, listed_where, get_listed, len_listed}
+use Rattle.fl_dir.proofs.Entries.{set_put, remove_where, listed_pushed, listed_put, listed_where, get_listed}
+use Rattle.fl_dir.proofs.Entries.{len_listed}
 
 some_entry : {A : Type 0} (o : Option A) → IsSome o → (x : A) × (o ≡ Some x)
 some_entry None h = absurd (cc h)

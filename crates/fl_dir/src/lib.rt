@@ -1,4 +1,8 @@
 //! The lock directory: names, nodes and open files.
+//!
+//! Each call answers by the first of its tests that fails, and a refusal changes nothing. A node is gone in the
+//! change that takes its last name, lookup or open file away. No call but `Dir::new` can be refused for memory. The
+//! tests stand inside, since some need what is private: the ends of counts and numbers, which no caller reaches soon.
 #![tactic(auto)]
 
 mod chain;

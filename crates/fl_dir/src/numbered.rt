@@ -11,8 +11,8 @@ use fl_order::NoMemory;
 use std::alloc::Global;
 use std::marker::Model;
 
-/// Values, each under a number that is given once. Contracts see the values by number, the number that comes next, and how
-/// many values there may be.
+/// Values, each under a number that is given once. Contracts see the values by number, the number that comes next,
+/// and how many values there may be.
 #[derive(Drop)]
 pub(crate) struct Numbered<T: Copy> {
     // One chain, in the order of the numbers.

@@ -1,145 +1,16 @@
-//! The calls of a directory whose numbers have come to their ends, where no caller can bring them soon.
+//! Tests of the directory: by what is public of it, and where its numbers come to their ends.
 
-use crate::dir::{Closed, Dir};
-use crate::node::Node;
-use crate::numbered::Numbered;
-use fl_order::{Answer, Attr, Errno, Name};
-use std::alloc::Global;
+mod calls;
+mod dir;
+mod directory;
+mod last_numbers;
+mod lives;
+mod rooms;
+
+use std::fmt::Debug;
 use std::process::Abort;
 
-// The last number that a node or an fh may have.
-const LAST: u64 = u64::MAX - 1;
-
-// An empty directory that goes on with these numbers.
-fn directory_at(rt: &impl Abort, alloc: Global, next_node: u64, next_fh: u64) -> Dir {
-    Dir {
-        nodes: Numbered::new(alloc, 256, next_node).expect(rt, "memory"),
-        files: Numbered::new(alloc, 1024, next_fh).expect(rt, "memory"),
-    }
-}
-
-// The node's lookup count can't grow any more.
-fn fill_lookups(dir: &mut Dir, number: u64) {
-    if let Some(node) = dir.node_at(number) {
-        let full = Node {
-            lookups: u64::MAX,
-            ..node
-        };
-        dir.change(number, &full);
-    }
-}
-
-// Opens the node until no fh is left.
-fn open_all(dir: &mut Dir, node: u64) {
-    for _ in 0..1024 {
-        let _ = dir.open(node);
-    }
-}
-
-fn name(rt: &impl Abort, bytes: &[u8]) -> Name {
-    Name::new(bytes).expect(rt, "a name")
-}
-
-// A new file.
-fn made(dir: &mut Dir, name: &Name) -> Result<Answer, Errno> {
-    dir.create(1, 5, 6, true, 0o644, name)
-}
-
-// A new file, or the one of this name.
-fn opened(dir: &mut Dir, name: &Name) -> Result<Answer, Errno> {
-    dir.create(1, 5, 6, false, 0o644, name)
-}
-
-// What is told of a file that was made so.
-fn file(node: u64) -> Attr {
-    Attr {
-        node,
-        mode: 0o100644,
-        nlink: 1,
-        uid: 5,
-        gid: 6,
-    }
-}
-
-fn is(rt: &impl Abort, told: &Result<Answer, Errno>, wanted: &Result<Answer, Errno>) {
+// What was told is what is wanted.
+fn same<T: Debug + PartialEq>(rt: &impl Abort, told: &T, wanted: &T) {
     assert_eq!(rt; *told, *wanted);
-}
-
-fn is_refused(rt: &impl Abort, told: &Result<Answer, Errno>, error: Errno) {
-    is(rt, told, &Err(error));
-}
-
-fn is_made(rt: &impl Abort, told: &Result<Answer, Errno>, node: u64, fh: u64) {
-    is(rt, told, &Ok(Answer::Made(file(node), fh)));
-}
-
-fn is_found(rt: &impl Abort, told: &Result<Answer, Errno>, node: u64) {
-    is(rt, told, &Ok(Answer::Entry(file(node))));
-}
-
-#[test]
-fn lookups_are_counted_to_their_last_count(rt: HostRuntime) {
-    let mut dir = Dir::new(rt.alloc()).expect(&rt, "memory");
-    counts_lookups(&rt, &mut dir, &name(&rt, b"a"));
-}
-
-fn counts_lookups(rt: &impl Abort, dir: &mut Dir, a: &Name) {
-    is_made(rt, &made(dir, a), 2, 1);
-    fill_lookups(dir, 2);
-    is_refused(rt, &dir.lookup(1, a), Errno::ENFILE);
-    is_refused(rt, &made(dir, a), Errno::EEXIST);
-    is_refused(rt, &opened(dir, a), Errno::ENFILE);
-    is(rt, &dir.open(2), &Ok(Answer::Open(2)));
-    dir.forget(2, 1);
-    is_found(rt, &dir.lookup(1, a), 2);
-}
-
-#[test]
-fn nodes_are_numbered_to_the_last_number(rt: HostRuntime) {
-    let mut dir = directory_at(&rt, rt.alloc(), LAST, 1);
-    uses_nodes_up(&rt, &mut dir, &name(&rt, b"a"));
-}
-
-fn uses_nodes_up(rt: &impl Abort, dir: &mut Dir, a: &Name) {
-    is_made(rt, &made(dir, a), LAST, 1);
-    is_refused(rt, &made(dir, &name(rt, b"b")), Errno::ENOSPC);
-    is_refused(rt, &made(dir, &name(rt, b".")), Errno::EINVAL);
-    is_made(rt, &opened(dir, a), LAST, 2);
-}
-
-#[test]
-fn nodes_and_open_files_are_both_used_up(rt: HostRuntime) {
-    let mut dir = directory_at(&rt, rt.alloc(), LAST, 1);
-    uses_both_up(&rt, &mut dir, &name(&rt, b"a"));
-}
-
-fn uses_both_up(rt: &impl Abort, dir: &mut Dir, a: &Name) {
-    is_made(rt, &made(dir, a), LAST, 1);
-    open_all(dir, LAST);
-    is_refused(rt, &dir.open(LAST), Errno::ENFILE);
-    is_refused(rt, &dir.open(2), Errno::ENOENT);
-    is_refused(rt, &dir.open(1), Errno::EISDIR);
-    is_refused(rt, &opened(dir, a), Errno::ENFILE);
-    is_refused(rt, &made(dir, a), Errno::EEXIST);
-    is_refused(rt, &made(dir, &name(rt, b"b")), Errno::ENOSPC);
-    is_refused(rt, &made(dir, &name(rt, b".")), Errno::EINVAL);
-    let in_a_file = dir.create(LAST, 5, 6, true, 0o644, a);
-    is_refused(rt, &in_a_file, Errno::ENOTDIR);
-    is_found(rt, &dir.lookup(1, a), LAST);
-}
-
-#[test]
-fn open_files_are_numbered_to_the_last_number(rt: HostRuntime) {
-    let mut dir = directory_at(&rt, rt.alloc(), 2, LAST);
-    uses_open_files_up(&rt, &mut dir, &name(&rt, b"a"));
-}
-
-fn uses_open_files_up(rt: &impl Abort, dir: &mut Dir, a: &Name) {
-    is_made(rt, &made(dir, a), 2, LAST);
-    is_refused(rt, &made(dir, &name(rt, b"b")), Errno::ENFILE);
-    is_refused(rt, &opened(dir, a), Errno::ENFILE);
-    is_refused(rt, &dir.open(2), Errno::ENFILE);
-    let closed = dir.close(2, LAST);
-    assert!(rt; matches!(closed, Ok(Closed { last: true, .. })));
-    is_refused(rt, &dir.open(2), Errno::ENFILE);
 }

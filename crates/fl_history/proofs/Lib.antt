@@ -1,2 +1,3 @@
-pub mod Packing
+mod PastWalks
 pub mod Opening
+pub mod Packing

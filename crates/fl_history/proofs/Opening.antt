@@ -1,5 +1,6 @@
 -- What is kept of lines leads back to them, and goes on to do so when more is kept.
-use Rattle.std.proofs.Common.{◌≡◌, ℕ, ◌+◌, ◌<◌, ◌≤◌, zero, suc, Option, Some, List, [], ◌∷◌, ◌++◌, length, take, drop, refl, ap, sym, ◌∙◌, subst}
+use Rattle.std.proofs.Common.{◌≡◌, ℕ, ◌+◌, ◌<◌, ◌≤◌, zero, suc, Option, Some, List, [], ◌∷◌, ◌++◌, length, take, drop}
+use Rattle.std.proofs.Common.{refl, ap, sym, ◌∙◌, subst}
 use Rattle.std.proofs.Common.{arith, length-append}
 use Rattle.std.proofs.lemmas.List.{append-nil, map-append, take-append-le, drop-append-le, length-drop}
 use Rattle.std.proofs.lemmas.Option.{slice_get-map}
@@ -7,16 +8,18 @@ use Rattle.std.specs.List.{slice_get, AllByRecursion}
 use Rattle.std.specs.Option.{option_map}
 use Rattle.fl_history.specs.declared.history.Line.{Line}
 use Rattle.fl_history.specs.declared.history.Line.TheVariants as line
-use Rattle.fl_history.specs.declared.records.Span.{Span}
+use Rattle.fl_history.specs.declared.records.NameSpan.{NameSpan}
 use Rattle.fl_history.specs.declared.records.ShortOp.{ShortOp}
 use Rattle.fl_history.specs.declared.records.ShortOp.TheVariants as short
 use Rattle.fl_history.specs.declared.records.ShortOrder.{ShortOrder}
 use Rattle.fl_history.specs.declared.records.Answered.{Answered}
 use Rattle.fl_history.specs.declared.records.ShortLine.{ShortLine}
 use Rattle.fl_history.specs.declared.records.ShortLine.TheVariants as record_of
-use Rattle.fl_history.specs.Inside.Records.{ask_of, bytes_at, opened_parts, opened_op, line_asking, asked_line, answered_line}
+use Rattle.fl_history.specs.Inside.Records.{ask_of, bytes_at, opened_parts, opened_op, line_asking, asked_line}
+use Rattle.fl_history.specs.Inside.Records.{answered_line}
 use Rattle.fl_history.proofs.Packing.{get_left, get_right}
-use Rattle.fl_history.specs.Inside.Records.{line_or_none, opened, opened_all, Begins, IsNamed, NamesAreThere, LeadsBack, IsThere, AreKept}
+use Rattle.fl_history.specs.Inside.Records.{line_or_none, opened, opened_all, Begins, IsNamed, NamesAreThere, LeadsBack}
+use Rattle.fl_history.specs.Inside.Records.{IsThere, AreKept}
 use Rattle.fl_order.specs.Name.{IsName}
 use Rattle.fl_order.specs.Order.{parts_of, op_of}
 use Rattle.fl_order.specs.declared.body.Body.{Body}
@@ -67,12 +70,12 @@ module _ (names : List ℕ) (o : Order) (op : ShortOp) (named : NamesAreThere na
 
 -- ---- names with more names behind them
 
-bytes_stay : (names more : List ℕ) (span : Span) → span.start + span.len ≤ length names → bytes_at (names ++ more) span ≡ bytes_at names span
+bytes_stay : (names more : List ℕ) (span : NameSpan) → span.start + span.len ≤ length names → bytes_at (names ++ more) span ≡ bytes_at names span
 bytes_stay names more span within =
     ap (take span.len) (drop-append-le span.start names more (omega arith))
     ∙ take-append-le span.len (drop span.start names) more (omega (arith, length-drop span.start names))
 
-named_stay : (names more : List ℕ) (span : Span) → IsNamed names span → IsNamed (names ++ more) span
+named_stay : (names more : List ℕ) (span : NameSpan) → IsNamed names span → IsNamed (names ++ more) span
 named_stay names more span n = record {
   within = omega (arith, n.within, length-append names more);
   name = subst IsName (sym (bytes_stay names more span n.within)) n.name;

@@ -1,5 +1,6 @@
 -- Where the items of chunks stand, and one item or one chunk more.
-use Rattle.std.proofs.Common.{◌≡◌, ℕ, ◌+◌, ◌*◌, ◌-◌, ◌<◌, ◌≤◌, ◌/◌, ◌%◌, ◌^◌, get_or, zero, suc, List, [], ◌∷◌, ◌++◌, length, slice_set, append_assoc}
+use Rattle.std.proofs.Common.{◌≡◌, ℕ, ◌+◌, ◌*◌, ◌-◌, ◌<◌, ◌≤◌, ◌/◌, ◌%◌, ◌^◌, get_or, zero, suc, List, [], ◌∷◌, ◌++◌}
+use Rattle.std.proofs.Common.{length, slice_set, append_assoc}
 use Rattle.std.proofs.Common.{refl, ap, sym, ◌∙◌, subst, arith, length-append}
 use Rattle.std.proofs.lemmas.List.{length_push, nil_from_length, append-nil}
 use Rattle.std.proofs.lemmas.Nat.{div-add-mod', mod_below}

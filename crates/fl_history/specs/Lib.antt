@@ -1,2 +1,2 @@
-pub mod Stock
 pub mod Inside
+pub mod Stock

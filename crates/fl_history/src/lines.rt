@@ -12,7 +12,7 @@ ghost use Rattle.fl_order.specs.Order.{parts_of};
 use crate::chunks::ChunkedVec;
 use crate::history::Line;
 use crate::records::{
-    Answered, ShortLine, ShortOp, ShortOrder, Span, name_in, short_lock, short_op,
+    Answered, NameSpan, ShortLine, ShortOp, ShortOrder, name_in, short_lock, short_op,
 };
 use fl_order::{Answer, Body, LockAsk, Name, Op, OpKind, Order, Told};
 use std::alloc::{AllocError, Global};
@@ -158,8 +158,8 @@ fn keep_told(answers: &mut ChunkedVec<Answered>, told: &Told) -> ShortLine
     }
 }
 
-// What is kept of what an order asks, whose name joins the others. A lock request is kept without its `Body`, whose room for a
-// name would be cleared and copied.
+// What is kept of what an order asks, whose name joins the others. A lock request is kept without its `Body`, whose
+// room for a name would be cleared and copied.
 fn keep_op(names: &mut ChunkedVec<u8>, op: &Op) -> ShortOp
     requires { 255 ≤ names.old.room }
     ensures names { Begins names.old.items names.new.items }
@@ -176,7 +176,7 @@ fn keep_op(names: &mut ChunkedVec<u8>, op: &Op) -> ShortOp
 }
 
 // Puts the bytes of a name behind those of all others.
-fn push_name(names: &mut ChunkedVec<u8>, name: &[u8]) -> Span
+fn push_name(names: &mut ChunkedVec<u8>, name: &[u8]) -> NameSpan
     requires room { length name.now ≤ names.old.room }
     requires name { IsName name.now }
     ensures names { names.new.items ≡ names.old.items ++ name.now }
@@ -184,7 +184,7 @@ fn push_name(names: &mut ChunkedVec<u8>, name: &[u8]) -> Span
     ensures named { IsNamed names.new.items result }
     ensures there { bytes_at names.new.items result ≡ name.now }
 {
-    let span = Span {
+    let span = NameSpan {
         len: name.len() as u8,
         start: names.len(),
     };
@@ -193,7 +193,7 @@ fn push_name(names: &mut ChunkedVec<u8>, name: &[u8]) -> Span
 }
 
 // The name at a place.
-fn name_at(names: &ChunkedVec<u8>, span: Span) -> Name
+fn name_at(names: &ChunkedVec<u8>, span: NameSpan) -> Name
     requires { IsNamed names.now.items span }
     ensures { result ≡ bytes_at names.now.items span }
 {

@@ -37,7 +37,7 @@ pub(crate) struct Answered {
 
 /// Where a name stands in the bytes of all names.
 #[derive(Clone, Copy, Debug)]
-pub(crate) struct Span {
+pub(crate) struct NameSpan {
     /// How many bytes the name has.
     pub len: u8,
     /// The place of its first byte, from 0.
@@ -81,9 +81,9 @@ pub(crate) enum ShortOp {
         what: OpKind,
         excl: bool,
         mode: u32,
-        name: Span,
+        name: NameSpan,
     },
-    Name(OpKind, Span),
+    Name(OpKind, NameSpan),
     Number(OpKind, u64),
     Flush {
         what: OpKind,
@@ -112,7 +112,7 @@ pub(crate) fn name_in(body: &Body) -> &[u8]
 }
 
 /// What is kept of a kind and a body whose name stands there.
-pub(crate) fn short_op(what: OpKind, body: &Body, name: Span) -> ShortOp
+pub(crate) fn short_op(what: OpKind, body: &Body, name: NameSpan) -> ShortOp
     ensures { result ≡ short_op name what body.now }
 {
     match body {

@@ -152,14 +152,15 @@ impl Intake {
         job
     }
 
-    /// Looks for a job for some 70 microseconds, where no other worker does. It doesn't sleep. Whoever has looked has to call
-    /// `take` next, since nobody is woken for a job that comes while it looks.
-    pub fn look(&self) {
-        self.waking.look();
+    /// Spins for some 70 microseconds, until a job is inside, where no other worker does. It doesn't sleep. Whoever
+    /// has spun has to call `take` next, since nobody is woken for a job that comes while it spins.
+    pub fn spin(&self) {
+        self.waking.spin();
     }
 
-    /// Wakes one more worker, where jobs are inside and one sleeps, for the case that those awake are held up. Whoever puts
-    /// calls it before it does anything else that may take long, as a read: no `put` comes then that wakes one.
+    /// Wakes one more worker, where jobs are inside and one sleeps, for the case that those awake are held up.
+    /// Whoever puts calls it before it does anything else that may take long, as a read: no `put` comes then that
+    /// wakes one.
     pub fn call_one_more(&self) {
         self.waking.call_one_more();
     }
@@ -174,8 +175,8 @@ impl Intake {
         self.waking.close();
     }
 
-    /// The jobs that are left inside, the oldest first, where no end that takes is missing. What was put is, each as often,
-    /// what was taken and what is left.
+    /// The jobs that are left inside, the oldest first, where no end that takes is missing. What was put is, each as
+    /// often, what was taken and what is left.
     pub fn finish<R: Wait>(
         self,
         rt: &R,

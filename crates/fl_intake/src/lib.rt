@@ -1,5 +1,12 @@
-//! The intake of a session with workers: orders on their way from the one who reads them to those who answer them. It is a
-//! queue without a lock, whose rule says that no order is lost and none comes twice.
+//! The intake of a session with workers: orders on their way from the one who reads them to those who answer them. It
+//! is a queue without a lock, whose rule says that no order is lost and none comes twice.
+//!
+//! Contracts don't speak of waking. They let through:
+//! - a `take` or `take_now` that gives none while jobs are inside, or gives them in another order;
+//! - a `finish` that gives what is left in another order, a `new` that is always refused, and a call that waits for
+//!   ever;
+//! - one that wakes nobody or all, a `spin` or `call_one_more` that does nothing, a `close` that only marks its end.
+//! Tests refuse these. Only `fl_serve_clients_tests` sees that nobody wakes a second worker.
 #![tactic(auto)]
 
 mod ends;

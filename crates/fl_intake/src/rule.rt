@@ -5,7 +5,8 @@ use crossbeam_queue::{Pass, RuledArrayQueue};
 use fl_order::Order;
 use std::collections::LinkedList;
 
-/// What an end knows: its shares of the 17 that there are, and the orders that it put and took. It is there for proofs alone.
+/// What an end knows: its shares of the 17 that there are, and the orders that it put and took. It is there for
+/// proofs alone.
 pub struct Known {
     pub shares: u64,
     pub put: LinkedList<Order>,

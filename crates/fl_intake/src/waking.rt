@@ -1,27 +1,28 @@
-//! Who sleeps and who is woken. No contract speaks of it. A wrong rule here loses no job, but one could lie inside while all
-//! workers sleep. These are the reasons why none does. To *look* is to compare how many jobs were put and taken. A worker is
-//! *announced* from before it sleeps until after it has left its sleep.
+//! Who sleeps and who is woken. No contract speaks of it. A wrong rule here loses no job, but one could lie inside
+//! while all workers sleep. These are the reasons why none does. To *check* is to compare how many jobs were put and
+//! taken. A worker is *announced* from before it sleeps until after it has left its sleep.
 //!
-//! - Whoever puts counts the job, then sees whether all workers are announced, and calls one if they are. So while one is
-//!   awake nobody is called. That one looks once more before it sleeps, and announces itself before this look. If it sees no
-//!   job, the job was counted after the look, so whoever put it sees the announcement.
-//! - To call is to raise the number `came`, and then to wake one. A worker reads that number before it announces itself, and
-//!   sleeps only while it is still the same. So of those that were announced at a call one leaves its sleep, or doesn't fall
-//!   asleep.
-//! - `called` keeps another call from being made before one was heard. A worker clears it after it has announced itself, and
-//!   again when it leaves its sleep. A call sets it before it raises `came`. So whoever cleared it before that has the
-//!   old number, and one of these leaves its sleep and clears it again; whoever clears it later only makes a call more.
-//! - One that is awake may be held up by an order, by a lock or by the machine. So whoever puts calls one more before it
-//!   reads or waits for room, if jobs are inside and one sleeps. One that is called while another is awake only *watches*:
-//!   it stays announced, sleeps for a millisecond at a time, and takes a job once none was taken for so long. With the first
-//!   job that it takes it calls one more, since others may be left. So workers that are held up, however many, hold up
-//!   nobody else, and those that aren't have the board for themselves.
-//! - A call by a `put` finds all announced. Whoever hears it clears `called` first and then sees whether all are announced.
-//!   If they are, it takes a job at once. If they aren't, one was awake after that `put`, and looks again.
-//! - Whoever watches goes back to sleep when nothing is inside and nothing comes. It tells first that it doesn't watch any
-//!   more, and then looks once more. So no job is left to one that watches no longer.
+//! - Whoever puts counts the job, then sees whether all workers are announced, and calls one if they are. So while
+//! one is awake nobody is called. That one checks once more before it sleeps, and announces itself before it does. If
+//! it sees no job, the job was counted after the check, so whoever put it sees the announcement.
+//! - To call is to raise the number `came`, and then to wake one. A worker reads that number before it announces
+//! itself, and sleeps only while it is still the same. So of those that were announced at a call one leaves its
+//! sleep, or doesn't fall asleep.
+//! - `called` keeps another call from being made before one was heard. A worker clears it after it has announced
+//! itself, and again when it leaves its sleep. A call sets it before it raises `came`. So whoever cleared it before
+//! that has the old number, and one of these leaves its sleep and clears it again; whoever clears it later only makes
+//! a call more.
+//! - One that is awake may be held up by an order, by a lock or by the machine. So whoever puts calls one more before
+//! it reads or waits for room, if jobs are inside and one sleeps. One that is called while another is awake only
+//! *watches*: it stays announced, sleeps for a millisecond at a time, and takes a job once none was taken for so
+//! long. With the first job that it takes it calls one more, since others may be left. So workers that are held up,
+//! however many, hold up nobody else, and those that aren't have the board for themselves.
+//! - A call by a `put` finds all announced. Whoever hears it clears `called` first and then sees whether all are
+//! announced. If they are, it takes a job at once. If they aren't, one was awake after that `put`, and checks again.
+//! - Whoever watches goes back to sleep when nothing is inside and nothing comes. It tells first that it doesn't
+//! watch any more, and then checks once more. So no job is left to one that watches no longer.
 //!
-//! One worker looks for a while before it sleeps, since to be woken takes longer than an order. It counts as awake.
+//! One worker spins for a while before it sleeps, since to be woken takes longer than an order. It counts as awake.
 
 use crate::intake::MOST_JOBS;
 use crossbeam_utils::CachePadded;
@@ -30,12 +31,12 @@ use std::sync::Wait;
 use std::sync::atomic::{AtomicBool, AtomicU64, Ordering};
 use std::time::Duration;
 
-// How often `look` looks: some 70 microseconds. It lets no other thread run meanwhile, since where processors are short it
-// would get its own back only after milliseconds.
-const LOOKS: u32 = 10_000;
+// How often `spin` checks: some 70 microseconds. It lets no other thread run meanwhile, since where processors are
+// short it would get its own back only after milliseconds.
+const SPINS: u32 = 10_000;
 
-// How often the putting end looks for room before it sleeps: some 10 microseconds, in which several jobs are taken.
-const LOOKS_FOR_ROOM: u32 = 1_500;
+// How often the putting end checks for room before it sleeps: some 10 microseconds, in which several jobs are taken.
+const CHECKS_FOR_ROOM: u32 = 1_500;
 
 // How many milliseconds one that watches sleeps at a time.
 const TURN: u64 = 1;
@@ -49,8 +50,8 @@ pub(crate) struct Waking {
     put: CachePadded<AtomicU64>,
     taken: CachePadded<AtomicU64>,
     closed: AtomicBool,
-    // One worker looks.
-    looking: AtomicBool,
+    // One worker spins.
+    spinning: AtomicBool,
     // How many workers are announced.
     asleep: AtomicU64,
     // They sleep on this number. It is raised by each call.
@@ -71,7 +72,7 @@ impl Waking {
             put: CachePadded::new(AtomicU64::new(0)),
             taken: CachePadded::new(AtomicU64::new(0)),
             closed: AtomicBool::new(false),
-            looking: AtomicBool::new(false),
+            spinning: AtomicBool::new(false),
             asleep: AtomicU64::new(0),
             came: AtomicU64::new(0),
             called: AtomicBool::new(false),
@@ -142,18 +143,18 @@ impl Waking {
         self.came.wake_all();
     }
 
-    /// Looks for a job for a while, if no other worker does.
-    pub(crate) fn look(&self) {
-        if self.looking.swap(true, Ordering::SeqCst) {
+    /// Spins for a while, until a job is inside, if no other worker does.
+    pub(crate) fn spin(&self) {
+        if self.spinning.swap(true, Ordering::SeqCst) {
             return;
         }
-        for _ in 0..LOOKS {
+        for _ in 0..SPINS {
             if !self.is_idle() {
                 break;
             }
             spin_loop();
         }
-        self.looking.store(false, Ordering::SeqCst);
+        self.spinning.store(false, Ordering::SeqCst);
     }
 
     /// Sleeps until it is called, and watches if another worker is awake then. It may end for no reason.
@@ -190,9 +191,9 @@ impl Waking {
         self.watched.store(false, Ordering::SeqCst);
     }
 
-    /// Looks for room for a while, and then sleeps until a job was taken. It may end for no reason.
+    /// Checks for room for a while, and then sleeps until a job was taken. It may end for no reason.
     pub(crate) fn wait_for_room<R: Wait>(&self, rt: &R) {
-        for _ in 0..LOOKS_FOR_ROOM {
+        for _ in 0..CHECKS_FOR_ROOM {
             if !self.is_full() {
                 return;
             }
@@ -201,7 +202,7 @@ impl Waking {
         self.call_one_more();
         let mark = self.left.load(Ordering::SeqCst);
         self.wants_room.store(true, Ordering::SeqCst);
-        // Whoever counts a job as taken after this look sees that room is wanted, and raises `left`.
+        // Whoever counts a job as taken after this check sees that room is wanted, and raises `left`.
         if self.is_full() {
             self.left.park(rt, low_half(mark));
         }

@@ -1,8 +1,8 @@
 //! Tests of an intake.
 
 mod bursts;
-mod crew;
 mod left;
+mod pool;
 
 use fl_order::{Op, Order};
 

@@ -1,3 +1,10 @@
+pub mod Circles
+pub mod Following
+pub mod Hearing
+pub mod Listening
+pub mod Newlines
 pub mod Quiets
 pub mod Replays
+pub mod Runs
+pub mod Stages
 pub mod Verdicts

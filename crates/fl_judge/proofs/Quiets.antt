@@ -1,12 +1,13 @@
 -- Whether lines are quiet, line by line.
-use Rattle.std.proofs.Common.{◌≡◌, ◌↔◌, ℕ, Bool, true, false, not, ◌&&◌, ◌⊎◌, inl, inr, ⊎_elim, List, [], ◌∷◌, ◌++◌, length, refl, ap, sym, ◌∙◌, subst, arith, append_assoc, length-append}
+use Rattle.std.proofs.Common.{◌≡◌, ◌↔◌, ℕ, Bool, true, false, not, ◌&&◌, ◌⊎◌, inl, inr, ⊎_elim, List, [], ◌∷◌, ◌++◌}
+use Rattle.std.proofs.Common.{length, refl, ap, sym, ◌∙◌, subst, arith, append_assoc, length-append}
 use Rattle.fl_core.specs.Stages.{asked_by}
 use Rattle.fl_desk.specs.Replay.{state_after}
 use Rattle.fl_history.specs.declared.history.Line.{Line}
 use Rattle.fl_history.specs.declared.history.Line.TheVariants as line
 use Rattle.fl_order.specs.declared.order.Order.{Order}
 use Rattle.fl_order.specs.declared.told.Told.{Told}
-use Rattle.fl_quiet.specs.Quiet.{asks_while_waiting, IsQuiet}
+use Rattle.fl_judge.specs.Quiet.{asks_while_waiting, IsQuiet}
 use Rattle.fl_waiting.specs.declared.rules.Rules.{Rules}
 
 -- a line among lines and one more: it is that one, or one of the lines

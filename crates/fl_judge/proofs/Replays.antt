@@ -1,5 +1,6 @@
 -- What a replay leads up to, line by line.
-use Rattle.std.proofs.Common.{◌≡◌, ◌≢◌, ◌↔◌, ℕ, zero, suc, ◌+◌, Bool, true, false, not, ◌&&◌, Option, Some, None, List, [], ◌∷◌, ◌++◌, drop, slice_get}
+use Rattle.std.proofs.Common.{◌≡◌, ◌≢◌, ◌↔◌, ℕ, zero, suc, ◌+◌, Bool, true, false, not, ◌&&◌, Option, Some, None, List}
+use Rattle.std.proofs.Common.{[], ◌∷◌, ◌++◌, drop, slice_get}
 use Rattle.std.proofs.Common.{append_assoc, ap, sym, ◌∙◌, subst}
 use Rattle.std.proofs.lemmas.List.{append-nil}
 use Rattle.std.proofs.lemmas.Option.{none-some}
@@ -18,7 +19,7 @@ use Rattle.fl_judge.specs.Inside.Heard.{told_lines, BeginsWith, due_lines, Leads
 use Rattle.fl_order.specs.declared.order.Order.{Order}
 use Rattle.fl_order.specs.declared.told.Told.{Told}
 use Rattle.fl_judge.proofs.Quiets.{quiet_nothing, quiet_told, quiet_asked}
-use Rattle.fl_quiet.specs.Quiet.{asks_while_waiting, IsQuiet}
+use Rattle.fl_judge.specs.Quiet.{asks_while_waiting, IsQuiet}
 
 -- ---- what is left of a list from a place on
 

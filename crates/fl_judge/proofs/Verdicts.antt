@@ -1,5 +1,6 @@
 -- What is said of the lines that were heard.
-use Rattle.std.proofs.Common.{◌≡◌, ◌↔◌, ℕ, suc, ◌+◌, ◌-◌, ◌^◌, ◌<◌, ◌≤◌, Bool, true, false, not, Option, Some, None, List, [], ◌∷◌, ◌++◌, length, take, drop, slice_get}
+use Rattle.std.proofs.Common.{◌≡◌, ◌↔◌, ℕ, suc, ◌+◌, ◌-◌, ◌^◌, ◌<◌, ◌≤◌, Bool, true, false, not, Option, Some, None}
+use Rattle.std.proofs.Common.{List, [], ◌∷◌, ◌++◌, length, take, drop, slice_get}
 use Rattle.std.proofs.Common.{append_assoc, refl, ap, sym, ◌∙◌, subst, arith}
 use Rattle.std.proofs.lemmas.List.{append-nil, length-append, take-append-drop, take-append-le, take_all}
 use Rattle.std.specs.Option.{is_some}
@@ -13,7 +14,7 @@ use Rattle.fl_judge.specs.Hearing.{Hearing}
 use Rattle.fl_judge.specs.Inside.Heard.{told_lines, due_lines, LeadsUpTo, GoesOnAlike, DiffersIn, Stands, IsHeard}
 use Rattle.fl_judge.proofs.Replays.{left_from, all_told}
 use Rattle.fl_order.specs.declared.told.Told.{Told}
-use Rattle.fl_quiet.specs.Quiet.{IsQuiet}
+use Rattle.fl_judge.specs.Quiet.{IsQuiet}
 use Rattle.fl_waiting.specs.declared.rules.Rules.{Rules}
 
 -- what contracts see of a judge that heard these lines

@@ -1,2 +1,4 @@
+pub mod Audit
 pub mod Hearing
 pub mod Inside
+pub mod Quiet

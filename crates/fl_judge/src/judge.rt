@@ -3,21 +3,20 @@
 ghost use Rattle.std.specs.Prelude.{◌≡◌, ◌↔◌, ◌<◌, ◌^◌, ◌++◌, ◌∷◌, [], true, length, IfOk};
 ghost use Rattle.fl_desk.specs.Verdicts.{IsBeginning, IsVerdict};
 ghost use Rattle.fl_judge.specs.Hearing.{unheard};
-ghost use Rattle.fl_quiet.specs.Quiet.{IsQuiet, HasNoCircles};
+ghost use Rattle.fl_judge.specs.Quiet.{IsQuiet, HasNoCircles};
 
+use crate::laws::quiet_histories_have_no_circle;
 use crate::replay::Replay;
 use fl_core::Rules;
 use fl_desk::Verdict;
-use fl_history::Line;
+use fl_history::{Line, Past};
 use fl_order::NoMemory;
-use fl_past::Past;
-use fl_quiet::laws::quiet_histories_have_no_circle;
 use std::alloc::Global;
 use std::marker::Model;
 
-/// A judge of a history, which hears its lines one after another. It takes the orders anew, and compares the replies. Its
-/// memory is that of one directory and one list of replies, however many lines it hears. Contracts see it as a `Hearing`: the
-/// rules that it judges by, and the lines that it heard.
+/// A judge of a history, which hears its lines one after another. It takes the orders anew, and compares the replies.
+/// Its memory is that of one directory and one list of replies, however many lines it hears. Contracts see it as a
+/// `Hearing`: the rules that it judges by, and the lines that it heard.
 #[derive(Drop)]
 pub struct Judge {
     replay: Replay,
@@ -90,8 +89,8 @@ impl Judge {
         self.differs.is_none()
     }
 
-    /// Whether some history that is legal under its rules begins with the lines that it heard, and they are quiet: no owner
-    /// asks for a record lock while it waits for one, as `fl_quiet` says. Then owners never wait in a circle.
+    /// Whether some history that is legal under its rules begins with the lines that it heard, and they are quiet: no
+    /// owner asks for a record lock while it waits for one, as `fl_judge` says. Then owners never wait in a circle.
     pub fn quiet(&self) -> bool
         ensures exact { (result ≡ true) ↔
             (IsBeginning self.now.rules self.now.lines × IsQuiet self.now.rules self.now.lines) }

@@ -6,15 +6,15 @@ ghost use Rattle.fl_history.specs.declared.history.Line.TheVariants as line;
 ghost use Rattle.fl_core.specs.Tolds.{HasRoom};
 ghost use Rattle.fl_judge.specs.Inside.Heard.{LeadsUpTo, GoesOnAlike};
 
+use crate::asking::asks_while_waiting;
 use fl_core::{Core, Rules, Tolds};
 use fl_desk::laws::{a_legal_history_goes_on_by_orders, an_order_leads_on};
 use fl_history::Line;
 use fl_order::{NoMemory, Told};
-use fl_quiet::asks_while_waiting;
 use std::alloc::Global;
 
-// The directory after the last order that was heard, the replies that it gives, how many of them were heard, and whether
-// no owner asked so far for a record lock while it waited for one.
+// The directory after the last order that was heard, the replies that it gives, how many of them were heard, and
+// whether no owner asked so far for a record lock while it waited for one.
 #[derive(Drop)]
 pub(crate) struct Replay {
     core: Core,

@@ -1,5 +1,7 @@
 //! What a judge says while it hears. A table of orders and their replies is a trace, as `docs/TRACE.md` says.
 
+mod quiet;
+
 use fl_core::Rules;
 use fl_desk::Verdict;
 use fl_history::{History, Line};

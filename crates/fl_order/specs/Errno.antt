@@ -1,7 +1,9 @@
 -- The error numbers of Linux on most machines (`errno.h`).
 use Rattle.std.specs.Prelude.{ℕ}
 use Rattle.fl_order.specs.declared.errno.Errno.{Errno}
-use Rattle.fl_order.specs.declared.errno.Errno.TheVariants.{ENOENT, EINTR, EBADF, EAGAIN, ENOMEM, EEXIST, ENOTDIR, EISDIR, EINVAL, ENFILE, ENOSPC, EDEADLK, ENAMETOOLONG, ENOLCK, ENOSYS, EPROTO}
+use Rattle.fl_order.specs.declared.errno.Errno.TheVariants.{ENOENT, EINTR, EBADF, EAGAIN, ENOMEM, EEXIST, ENOTDIR}
+use Rattle.fl_order.specs.declared.errno.Errno.TheVariants.{EISDIR, EINVAL, ENFILE, ENOSPC, EDEADLK, ENAMETOOLONG}
+use Rattle.fl_order.specs.declared.errno.Errno.TheVariants.{ENOLCK, ENOSYS, EPROTO}
 
 -- the number of an error
 abbrev pub number_of : Errno → ℕ

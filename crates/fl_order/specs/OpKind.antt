@@ -10,7 +10,8 @@ use Rattle.fl_order.specs.declared.errno.Errno.{Errno}
 use Rattle.fl_order.specs.declared.errno.Errno.TheVariants.{EPROTO}
 use Rattle.fl_order.specs.declared.kind.OpKind.{OpKind}
 use Rattle.fl_order.specs.declared.kind.OpKind.TheVariants.{Lookup, Forget, Getattr, Unlink, Open, Release, Flush, Init}
-use Rattle.fl_order.specs.declared.kind.OpKind.TheVariants.{Getlk, Setlk, Setlkw, Create, Interrupt, Destroy, BatchForget}
+use Rattle.fl_order.specs.declared.kind.OpKind.TheVariants.{Getlk, Setlk, Setlkw, Create, Interrupt, Destroy}
+use Rattle.fl_order.specs.declared.kind.OpKind.TheVariants.{BatchForget}
 use Rattle.fl_order.specs.declared.refusal.Refusal.{Refusal}
 use Rattle.fl_order.specs.declared.refusal.Refusal.TheVariants.{Answer, Silent, Destroy as Ends}
 
@@ -28,6 +29,7 @@ pub record Row : Type 0 where
   pub word : List ℕ
   pub shape : Result Shape Refusal
 
+-- the row of these three
 abbrev pub row : ℕ → List ℕ → Result Shape Refusal → Row
 row opcode word shape = record { opcode = opcode; word = word; shape = shape }
 

@@ -25,7 +25,7 @@ pub enum OpKind {
     Flush = 25,
     /// Opens a session.
     Init = 26,
-    /// Tells a lock that excludes the one asked for.
+    /// Tells a lock that conflicts with the one asked for.
     Getlk = 31,
     /// Sets or takes away a lock, and doesn't wait.
     Setlk = 32,

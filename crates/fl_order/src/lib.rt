@@ -1,5 +1,8 @@
-//! What is said to the lock directory and what it answers, as types: orders with their kinds and bodies, replies, error
-//! numbers and names. How they are spelled in bytes is another crate's.
+//! What is said to the lock directory and what it answers, as types: orders with their kinds and bodies, replies,
+//! error numbers and names. How they are spelled in bytes is another crate's.
+//!
+//! No two kinds share an opcode or a word. An op is its kind and its body, and nothing else; one that asks for a lock
+//! is its kind and its lock request. `fl_wire_tests` has the tests.
 #![tactic(auto)]
 
 mod body;

@@ -1,6 +1,6 @@
 //! Orders: the messages that reach the lock state, by what they ask.
 
-ghost use Rattle.std.specs.Prelude.{◌≡◌, ◌↔◌, Some, IsSome, Ok};
+ghost use Rattle.std.specs.Prelude.{◌≡◌, ◌≢◌, ◌↔◌, Some, IsSome, Ok};
 ghost use Rattle.fl_order.specs.Order.{only_reads};
 
 use crate::body::{Body, Shape};
@@ -73,7 +73,7 @@ pub enum Op {
         /// The file's name.
         name: Name,
     },
-    /// Tells a lock that excludes the one asked for (FUSE_GETLK; POSIX.1-2017 `fcntl`, F_GETLK).
+    /// Tells a lock that conflicts with the one asked for (FUSE_GETLK; POSIX.1-2017 `fcntl`, F_GETLK).
     Getlk(LockAsk),
     /// Sets or takes away a lock, and doesn't wait (FUSE_SETLK).
     Setlk(LockAsk),
@@ -86,12 +86,16 @@ pub enum Op {
 impl Op {
     ghost use Rattle.fl_order.specs.Body.{body_shape};
     ghost use Rattle.fl_order.specs.OpKind.{shape_for};
+    ghost use Rattle.fl_order.specs.declared.body.Shape.TheVariants as shape;
     ghost use Rattle.fl_order.specs.Order.{kind_of, op_of, parts_of};
 
     /// The kind of its message, and the body.
     pub fn parts(&self) -> (OpKind, Body)
         ensures { result ≡ parts_of self.now }
     {
+        if let Some((kind, ask)) = self.lock_parts() {
+            return (kind, Body::Lock(ask));
+        }
         match *self {
             Op::Lookup(name) => (OpKind::Lookup, Body::Name(name)),
             Op::Forget(n) => (OpKind::Forget, Body::Number(n)),
@@ -101,15 +105,27 @@ impl Op {
             Op::Release { fh, drop, owner } => (OpKind::Release, Body::Release { fh, drop, owner }),
             Op::Flush { fh, owner } => (OpKind::Flush, Body::Flush { fh, owner }),
             Op::Create { excl, mode, name } => (OpKind::Create, Body::Create { excl, mode, name }),
-            Op::Getlk(ask) => (OpKind::Getlk, Body::Lock(ask)),
-            Op::Setlk(ask) => (OpKind::Setlk, Body::Lock(ask)),
-            Op::Setlkw(ask) => (OpKind::Setlkw, Body::Lock(ask)),
             Op::Interrupt(unique) => (OpKind::Interrupt, Body::Number(unique)),
+            // It asks for a lock.
+            _ => unreachable!(),
         }
     }
 
     /// The order of these parts; none where the kind is no order's, or its orders have bodies of another shape.
     pub fn of(kind: OpKind, body: Body) -> Option<Op>
+        ensures value { result ≡ op_of kind body }
+        ensures inverse { (op : Op) → (result ≡ Some op) ↔ (parts_of op ≡ (kind, body)) }
+        ensures shaped { IsSome result ↔ (shape_for kind ≡ Ok (body_shape body)) }
+    {
+        if let Body::Lock(ask) = body {
+            return Op::of_lock(kind, ask);
+        }
+        Op::of_other(kind, body)
+    }
+
+    // The same for a body that is no lock request.
+    fn of_other(kind: OpKind, body: Body) -> Option<Op>
+        requires { body_shape body ≢ shape.Lock }
         ensures value { result ≡ op_of kind body }
         ensures inverse { (op : Op) → (result ≡ Some op) ↔ (parts_of op ≡ (kind, body)) }
         ensures shaped { IsSome result ↔ (shape_for kind ≡ Ok (body_shape body)) }
@@ -131,16 +147,13 @@ impl Op {
                 mode,
                 name,
             }),
-            (OpKind::Getlk, Body::Lock(ask)) => Some(Op::Getlk(ask)),
-            (OpKind::Setlk, Body::Lock(ask)) => Some(Op::Setlk(ask)),
-            (OpKind::Setlkw, Body::Lock(ask)) => Some(Op::Setlkw(ask)),
             (OpKind::Interrupt, Body::Number(unique)) => Some(Op::Interrupt(unique)),
             _ => None,
         }
     }
 
-    /// The kind of its message and the lock request; none where it asks for no lock. Unlike [`Op::parts`] it makes no [`Body`],
-    /// which has room for a name.
+    /// The kind of its message and the lock request; none where it asks for no lock. It makes no [`Body`], which has
+    /// room for a name. [`Op::parts`] asks here for all that ask for locks.
     pub fn lock_parts(&self) -> Option<(OpKind, LockAsk)>
         ensures { (kind : OpKind) (ask : LockAsk) →
             (result ≡ Some (kind, ask)) ↔ (parts_of self.now ≡ (kind, Body.Lock ask)) }
@@ -153,7 +166,8 @@ impl Op {
         }
     }
 
-    /// The order of this kind with this lock request, as [`Op::of`] makes it; none where orders of the kind ask for no lock.
+    /// The order of this kind with this lock request; none where orders of the kind ask for no lock. [`Op::of`] has
+    /// these from here.
     pub fn of_lock(kind: OpKind, ask: LockAsk) -> Option<Op>
         ensures value { result ≡ op_of kind (Body.Lock ask) }
         ensures inverse { (op : Op) → (result ≡ Some op) ↔ (parts_of op ≡ (kind, Body.Lock ask)) }

@@ -1,5 +1,6 @@
 -- The lock that is named, as a function and in words.
-use Rattle.std.proofs.Common.{◌≡◌, ◌↔◌, ℕ, ◌+◌, ◌-◌, ◌≤◌, false, Option, Some, None, option_map, refl, ap, sym, ◌∙◌, subst, arith}
+use Rattle.std.proofs.Common.{◌≡◌, ◌↔◌, ℕ, ◌+◌, ◌-◌, ◌≤◌, false, Option, Some, None, option_map, refl, ap, sym, ◌∙◌}
+use Rattle.std.proofs.Common.{subst, arith}
 use Rattle.std.specs.FinMap.{get}
 use Rattle.std.proofs.lemmas.Bool.{false_from_ne_true}
 use Rattle.std.proofs.Math.Nat.{le_antisymm}
@@ -9,10 +10,11 @@ use Rattle.fl_ranges.specs.declared.lock.Mark.{Mark}
 use Rattle.fl_ranges.specs.declared.held.Held.{Held}
 use Rattle.fl_ranges.specs.Marking.{Spot, Marking}
 use Rattle.fl_ranges.specs.Conflict.{conflicts, IsConflict}
-use Rattle.fl_ranges.specs.Blocker.{of_owner, IsExcluder, IsRow, IsBlocker, first_excluder, row_start, row_end, lock_around, blocker}
+use Rattle.fl_ranges.specs.Blocker.{of_owner, IsConflicting, IsRow, IsBlocker, first_conflicting, row_start, row_end}
+use Rattle.fl_ranges.specs.Blocker.{lock_around, blocker}
 use Rattle.fl_ranges.proofs.ConflictWords.{conflict_words}
 use Rattle.fl_ranges.proofs.BlockersRows.{at_most, row_around, same_start, same_end}
-use Rattle.fl_ranges.proofs.BlockersFirst.{IsFirst, first_found, none_excludes}
+use Rattle.fl_ranges.proofs.BlockersFirst.{IsFirst, first_found, none_conflicts}
 
 module _ (m : Marking) (key : Key) (start end : ℕ) (kind : Kind) where
   -- the lock around the first excluder is the one that is named
@@ -24,25 +26,25 @@ module _ (m : Marking) (key : Key) (start end : ℕ) (kind : Kind) where
         byte = e.0.1;
         from = f.from;
         upto = omega arith;
-        excluder = f.excluder;
+        conflicting = f.conflicting;
         least_byte = f.least_byte;
         least_owner = f.least_owner;
         row = subst (λ (k : Key). IsRow m (of_owner key e.0.0.owner) e.1 e.0.1 (row_start m k e.1 e.0.1) (row_end m k e.1 e.0.1 (9223372036854775807 - e.0.1)))
             (sym f.holder)
-            (row_around m (of_owner key e.0.0.owner) e.1 e.0.1 f.excluder.held (omega arith));
+            (row_around m (of_owner key e.0.0.owner) e.1 e.0.1 f.conflicting.held (omega arith));
       }
 
   no_later : (a b : Held) (x : IsBlocker m key start end kind a) (y : IsBlocker m key start end kind b) → x.byte ≤ y.byte
-  no_later a b x y = at_most x.byte y.byte (λ before. x.least_byte y.byte b.owner b.mark y.from before y.excluder)
+  no_later a b x y = at_most x.byte y.byte (λ before. x.least_byte y.byte b.owner b.mark y.from before y.conflicting)
 
   -- there is at most one
   pub same_lock : (a b : Held) → IsBlocker m key start end kind a → IsBlocker m key start end kind b → a ≡ b
   same_lock a b x y =
       let byte : x.byte ≡ y.byte = le_antisymm (no_later a b x y) (no_later b a y x) in
-      let at_one : IsExcluder m key kind x.byte b.owner b.mark = subst (λ n. IsExcluder m key kind n b.owner b.mark) (sym byte) y.excluder in
-      let at_other : IsExcluder m key kind y.byte a.owner a.mark = subst (λ n. IsExcluder m key kind n a.owner a.mark) byte x.excluder in
+      let at_one : IsConflicting m key kind x.byte b.owner b.mark = subst (λ n. IsConflicting m key kind n b.owner b.mark) (sym byte) y.conflicting in
+      let at_other : IsConflicting m key kind y.byte a.owner a.mark = subst (λ n. IsConflicting m key kind n a.owner a.mark) byte x.conflicting in
       let owner : a.owner ≡ b.owner = le_antisymm (x.least_owner b.owner b.mark at_one) (y.least_owner a.owner a.mark at_other) in
-      let mark : a.mark ≡ b.mark = cc (x.excluder.held, at_one.held, ap (λ o. get m (of_owner key o, x.byte)) owner) in
+      let mark : a.mark ≡ b.mark = cc (x.conflicting.held, at_one.held, ap (λ o. get m (of_owner key o, x.byte)) owner) in
       let other : IsRow m (of_owner key a.owner) a.mark x.byte b.start b.end =
       subst (λ n. IsRow m (of_owner key a.owner) a.mark n b.start b.end) (sym byte)
       (subst (λ (t : Mark). IsRow m (of_owner key a.owner) t y.byte b.start b.end) (sym mark)
@@ -53,32 +55,32 @@ module _ (m : Marking) (key : Key) (start end : ℕ) (kind : Kind) where
 
   pub named_words : (held : Held) → end ≤ 9223372036854775807 → (blocker m key start end kind ≡ Some held) ↔ IsBlocker m key start end kind held
   named_words held within =
-      (λ h. words (first_excluder m key kind start (end + 1 - start)) refl h, λ b. found b (first_excluder m key kind start (end + 1 - start)) refl)
+      (λ h. words (first_conflicting m key kind start (end + 1 - start)) refl h, λ b. found b (first_conflicting m key kind start (end + 1 - start)) refl)
     where
-      words : (o : Option (Spot × Mark)) → first_excluder m key kind start (end + 1 - start) ≡ o → option_map (lock_around m) o ≡ Some held →
+      words : (o : Option (Spot × Mark)) → first_conflicting m key kind start (end + 1 - start) ≡ o → option_map (lock_around m) o ≡ Some held →
           IsBlocker m key start end kind held
       words (Some e) is h =
           let same : lock_around m e ≡ held = cc h in
           subst (IsBlocker m key start end kind) same (named_lock within e (first_found m key kind (end + 1 - start) start e is))
       words None is h = absurd (cc h)
 
-      found : IsBlocker m key start end kind held → (o : Option (Spot × Mark)) → first_excluder m key kind start (end + 1 - start) ≡ o →
+      found : IsBlocker m key start end kind held → (o : Option (Spot × Mark)) → first_conflicting m key kind start (end + 1 - start) ≡ o →
           option_map (lock_around m) o ≡ Some held
       found b (Some e) is = ap Some (same_lock (lock_around m e) held (named_lock within e (first_found m key kind (end + 1 - start) start e is)) b)
       found b None is =
           let from = b.from in
           let upto = b.upto in
-          absurd (none_excludes m key kind (end + 1 - start) start is b.byte held.owner held.mark b.from (omega arith) b.excluder)
+          absurd (none_conflicts m key kind (end + 1 - start) start is b.byte held.owner held.mark b.from (omega arith) b.conflicting)
 
-  excluder_of_conflict : (c : IsConflict m key start end kind) → IsExcluder m key kind c.byte c.rival.owner c.mark
-  excluder_of_conflict c =
-      let rival : c.rival ≡ of_owner key c.rival.owner = λ i. record { class = c.class i; node = c.node i; owner = c.rival.owner } in
-      record { held = ap (λ (k : Key). get m (k, c.byte)) (sym rival) ∙ c.held; other = c.other; write = c.write }
+  conflicting_of_conflict : (c : IsConflict m key start end kind) → IsConflicting m key kind c.byte c.contender.owner c.mark
+  conflicting_of_conflict c =
+      let contender : c.contender ≡ of_owner key c.contender.owner = λ i. record { class = c.class i; node = c.node i; owner = c.contender.owner } in
+      record { held = ap (λ (k : Key). get m (k, c.byte)) (sym contender) ∙ c.held; other = c.other; write = c.write }
 
-  pub conflict_of_excluder : (byte owner : ℕ) (mark : Mark) → start ≤ byte → byte ≤ end → IsExcluder m key kind byte owner mark →
+  pub conflict_of_conflicting : (byte owner : ℕ) (mark : Mark) → start ≤ byte → byte ≤ end → IsConflicting m key kind byte owner mark →
       IsConflict m key start end kind
-  conflict_of_excluder byte owner mark from upto x = record {
-    rival = of_owner key owner;
+  conflict_of_conflicting byte owner mark from upto x = record {
+    contender = of_owner key owner;
     byte = byte;
     mark = mark;
     held = x.held;
@@ -92,24 +94,24 @@ module _ (m : Marking) (key : Key) (start end : ℕ) (kind : Kind) where
 
   pub none_words : (blocker m key start end kind ≡ None) ↔ (conflicts m key start end kind ≡ false)
   none_words = (
-    λ h. false_from_ne_true (conflicts m key start end kind) (λ is. clash (first_excluder m key kind start (end + 1 - start)) refl h
+    λ h. false_from_ne_true (conflicts m key start end kind) (λ is. conflict (first_conflicting m key kind start (end + 1 - start)) refl h
         ((conflict_words m key start end kind).0 is)),
-    λ clear. none clear (first_excluder m key kind start (end + 1 - start)) refl,
+    λ clear. none clear (first_conflicting m key kind start (end + 1 - start)) refl,
   )
     where
-      clash : (o : Option (Spot × Mark)) → first_excluder m key kind start (end + 1 - start) ≡ o → option_map (lock_around m) o ≡ None →
+      conflict : (o : Option (Spot × Mark)) → first_conflicting m key kind start (end + 1 - start) ≡ o → option_map (lock_around m) o ≡ None →
           IsConflict m key start end kind → ⊥
-      clash (Some e) is h c = absurd (cc h)
-      clash None is h c =
+      conflict (Some e) is h c = absurd (cc h)
+      conflict None is h c =
           let from = c.from in
           let upto = c.upto in
-          none_excludes m key kind (end + 1 - start) start is c.byte c.rival.owner c.mark c.from (omega arith) (excluder_of_conflict c)
+          none_conflicts m key kind (end + 1 - start) start is c.byte c.contender.owner c.mark c.from (omega arith) (conflicting_of_conflict c)
 
-      none : conflicts m key start end kind ≡ false → (o : Option (Spot × Mark)) → first_excluder m key kind start (end + 1 - start) ≡ o →
+      none : conflicts m key start end kind ≡ false → (o : Option (Spot × Mark)) → first_conflicting m key kind start (end + 1 - start) ≡ o →
           option_map (lock_around m) o ≡ None
       none clear (Some e) is =
           let f = first_found m key kind (end + 1 - start) start e is in
           let from = f.from in
           let upto = f.upto in
-          absurd (cc (clear, (conflict_words m key start end kind).1 (conflict_of_excluder e.0.1 e.0.0.owner e.1 f.from (omega arith) f.excluder)))
+          absurd (cc (clear, (conflict_words m key start end kind).1 (conflict_of_conflicting e.0.1 e.0.0.owner e.1 f.from (omega arith) f.conflicting)))
       none clear None is = refl

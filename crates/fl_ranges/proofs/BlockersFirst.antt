@@ -1,5 +1,6 @@
--- The first byte of a range at which another owner's mark excludes a lock, and the least such owner there.
-use Rattle.std.proofs.Common.{◌≡◌, ◌≢◌, ℕ, zero, suc, ◌+◌, ◌<◌, ◌≤◌, Bool, true, false, cond, ◌||◌, nat_lt, Option, Some, None, List, [], ◌∷◌, refl, ap, sym}
+-- The first byte of a range at which another owner's mark conflicts with a lock, and the least such owner there.
+use Rattle.std.proofs.Common.{◌≡◌, ◌≢◌, ℕ, zero, suc, ◌+◌, ◌<◌, ◌≤◌, Bool, true, false, cond, ◌||◌, nat_lt, Option}
+use Rattle.std.proofs.Common.{Some, None, List, [], ◌∷◌, refl, ap, sym}
 use Rattle.std.proofs.Common.{◌∙◌, subst, arith}
 use Rattle.std.proofs.lemmas.Bool.Decides.{nat_tests}
 use Rattle.std.specs.Option.{option_or}
@@ -16,8 +17,8 @@ use Rattle.fl_ranges.specs.declared.lock.Key.{Key}
 use Rattle.fl_ranges.specs.declared.lock.Kind.{Kind}
 use Rattle.fl_ranges.specs.declared.lock.Mark.{Mark}
 use Rattle.fl_ranges.specs.Marking.{class_number, spot_cmp, Spot, Marking}
-use Rattle.fl_ranges.specs.Conflict.{excludes, excludes_lock}
-use Rattle.fl_ranges.specs.Blocker.{of_owner, IsExcluder, first_excluder}
+use Rattle.fl_ranges.specs.Conflict.{kinds_conflict, mark_conflicts}
+use Rattle.fl_ranges.specs.Blocker.{of_owner, IsConflicting, first_conflicting}
 use Rattle.fl_ranges.proofs.Markings.{spots_total, exact_spots, same_class}
 use Rattle.fl_ranges.proofs.Entries.{found_above, get_found, entry_passes, truth}
 use Rattle.fl_ranges.proofs.ConflictWords.{parts, all_parts}
@@ -80,46 +81,46 @@ no_lower_owner class node p q byte not = no_lower p q (λ less. not (
 
 module _ (m : Marking) (key : Key) (kind : Kind) where
   -- an excluder passes the test of entries
-  excluder_passes : (first byte end owner : ℕ) (mark : Mark) → first ≤ byte → byte ≤ end → IsExcluder m key kind byte owner mark →
-      excludes_lock key first end kind ((of_owner key owner, byte), mark) ≡ true
-  excluder_passes first byte end owner mark from upto x =
-      all_parts (class_number key.class) (class_number key.class) key.node key.node key.owner owner first byte end (excludes kind mark.kind) refl refl
+  conflicting_passes : (first byte end owner : ℕ) (mark : Mark) → first ≤ byte → byte ≤ end → IsConflicting m key kind byte owner mark →
+      mark_conflicts key first end kind ((of_owner key owner, byte), mark) ≡ true
+  conflicting_passes first byte end owner mark from upto x =
+      all_parts (class_number key.class) (class_number key.class) key.node key.node key.owner owner first byte end (kinds_conflict kind mark.kind) refl refl
       (λ same. x.other (sym same)) from upto x.write
 
   -- the least excluder at a byte
   record IsLeast (byte : ℕ) (e : Spot × Mark) : Type 0 where
     pub spot : e.0 ≡ (of_owner key e.0.0.owner, byte)
-    pub excluder : IsExcluder m key kind byte e.0.0.owner e.1
-    pub least : (owner : ℕ) (mark : Mark) → IsExcluder m key kind byte owner mark → e.0.0.owner ≤ owner
+    pub conflicting : IsConflicting m key kind byte e.0.0.owner e.1
+    pub least : (owner : ℕ) (mark : Mark) → IsConflicting m key kind byte owner mark → e.0.0.owner ≤ owner
 
-  least_found : (byte : ℕ) (e : Spot × Mark) → list.find (excludes_lock key byte byte kind) (entries m) ≡ Some e → IsLeast byte e
+  least_found : (byte : ℕ) (e : Spot × Mark) → list.find (mark_conflicts key byte byte kind) (entries m) ≡ Some e → IsLeast byte e
   least_found byte e found =
-      let passes = found_passes (excludes_lock key byte byte kind) (entries m) e found in
-      let t = parts (class_number key.class) (class_number e.0.0.class) key.node e.0.0.node key.owner e.0.0.owner byte e.0.1 byte (excludes kind e.1.kind)
+      let passes = found_passes (mark_conflicts key byte byte kind) (entries m) e found in
+      let t = parts (class_number key.class) (class_number e.0.0.class) key.node e.0.0.node key.owner e.0.0.owner byte e.0.1 byte (kinds_conflict kind e.1.kind)
       passes in
       let class : e.0.0.class ≡ key.class = sym (same_class key.class e.0.0.class t.class) in
       let node : e.0.0.node ≡ key.node = sym t.node in
       let place : e.0.1 ≡ byte = le_antisymm t.upto t.from in
       let spot : e.0 ≡ (of_owner key e.0.0.owner, byte) = λ i. (record { class = class i; node = node i; owner = e.0.0.owner }, place i) in
       let held : get m (of_owner key e.0.0.owner, byte) ≡ Some e.1 =
-      ap (get m) (sym spot) ∙ get_found spots_total (excludes_lock key byte byte kind) m e found in
+      ap (get m) (sym spot) ∙ get_found spots_total (mark_conflicts key byte byte kind) m e found in
       record {
         spot = spot;
-        excluder = record { held = held; other = λ same. t.other (sym same); write = t.write };
+        conflicting = record { held = held; other = λ same. t.other (sym same); write = t.write };
         least = λ owner mark x. no_lower_owner (class_number key.class) key.node owner e.0.0.owner byte (λ less.
-            none_before spots_total exact_spots (excludes_lock key byte byte kind) (entries m) e (of_owner key owner, byte) mark (truth _ (entries_sorted m))
+            none_before spots_total exact_spots (mark_conflicts key byte byte kind) (entries m) e (of_owner key owner, byte) mark (truth _ (entries_sorted m))
             found
-            (sym (get-entries m (of_owner key owner, byte)) ∙ x.held) (excluder_passes byte byte byte owner mark (omega arith) (omega arith) x)
+            (sym (get-entries m (of_owner key owner, byte)) ∙ x.held) (conflicting_passes byte byte byte owner mark (omega arith) (omega arith) x)
             (ap (spot_cmp (of_owner key owner, byte)) spot ∙ less));
       }
 
-  none_found : (byte : ℕ) → list.find (excludes_lock key byte byte kind) (entries m) ≡ None → (owner : ℕ) (mark : Mark) →
-      IsExcluder m key kind byte owner mark → ⊥
+  none_found : (byte : ℕ) → list.find (mark_conflicts key byte byte kind) (entries m) ≡ None → (owner : ℕ) (mark : Mark) →
+      IsConflicting m key kind byte owner mark → ⊥
   none_found byte none owner mark x =
       cc (
-        none_passes (excludes_lock key byte byte kind) (entries m) none,
-        entry_passes spots_total exact_spots (excludes_lock key byte byte kind) m (of_owner key owner, byte) mark x.held
-            (excluder_passes byte byte byte owner mark (omega arith) (omega arith) x),
+        none_passes (mark_conflicts key byte byte kind) (entries m) none,
+        entry_passes spots_total exact_spots (mark_conflicts key byte byte kind) m (of_owner key owner, byte) mark x.held
+            (conflicting_passes byte byte byte owner mark (omega arith) (omega arith) x),
       )
 
   -- ---- at so many bytes
@@ -129,9 +130,9 @@ module _ (m : Marking) (key : Key) (kind : Kind) where
     pub holder : e.0.0 ≡ of_owner key e.0.0.owner
     pub from : first ≤ e.0.1
     pub upto : e.0.1 < first + count
-    pub excluder : IsExcluder m key kind e.0.1 e.0.0.owner e.1
-    pub least_byte : (b owner : ℕ) (mark : Mark) → first ≤ b → b < e.0.1 → IsExcluder m key kind b owner mark → ⊥
-    pub least_owner : (owner : ℕ) (mark : Mark) → IsExcluder m key kind e.0.1 owner mark → e.0.0.owner ≤ owner
+    pub conflicting : IsConflicting m key kind e.0.1 e.0.0.owner e.1
+    pub least_byte : (b owner : ℕ) (mark : Mark) → first ≤ b → b < e.0.1 → IsConflicting m key kind b owner mark → ⊥
+    pub least_owner : (owner : ℕ) (mark : Mark) → IsConflicting m key kind e.0.1 owner mark → e.0.0.owner ≤ owner
 
   first_here : (count first : ℕ) (e : Spot × Mark) → IsLeast first e → IsFirst first (suc count) e
   first_here count first e l =
@@ -140,52 +141,52 @@ module _ (m : Marking) (key : Key) (kind : Kind) where
         holder = ap (λ (q : Spot). q.0) l.spot;
         from = omega arith;
         upto = omega arith;
-        excluder = subst (λ n. IsExcluder m key kind n e.0.0.owner e.1) (sym place) l.excluder;
+        conflicting = subst (λ n. IsConflicting m key kind n e.0.0.owner e.1) (sym place) l.conflicting;
         least_byte = λ b owner mark from below x. absurd (omega arith);
-        least_owner = λ owner mark x. l.least owner mark (subst (λ n. IsExcluder m key kind n owner mark) place x);
+        least_owner = λ owner mark x. l.least owner mark (subst (λ n. IsConflicting m key kind n owner mark) place x);
       }
 
-  first_later : (count first : ℕ) (e : Spot × Mark) → ((owner : ℕ) (mark : Mark) → IsExcluder m key kind first owner mark → ⊥) → IsFirst (first + 1) count e →
+  first_later : (count first : ℕ) (e : Spot × Mark) → ((owner : ℕ) (mark : Mark) → IsConflicting m key kind first owner mark → ⊥) → IsFirst (first + 1) count e →
       IsFirst first (suc count) e
   first_later count first e none f = record {
     holder = f.holder;
     from = let a = f.from in omega arith;
     upto = let a = f.upto in omega arith;
-    excluder = f.excluder;
+    conflicting = f.conflicting;
     least_byte = λ b owner mark from below x. go b owner mark from below x (nat_lt first b) refl;
     least_owner = f.least_owner;
   }
     where
-      go : (b owner : ℕ) (mark : Mark) → first ≤ b → b < e.0.1 → IsExcluder m key kind b owner mark → (t : Bool) → nat_lt first b ≡ t → ⊥
+      go : (b owner : ℕ) (mark : Mark) → first ≤ b → b < e.0.1 → IsConflicting m key kind b owner mark → (t : Bool) → nat_lt first b ≡ t → ⊥
       go b owner mark from below x true after = f.least_byte b owner mark (grind (arith, nat_tests)) below x
       go b owner mark from below x false after =
           let same : b ≡ first = grind (arith, nat_tests) in
-          none owner mark (subst (λ n. IsExcluder m key kind n owner mark) same x)
+          none owner mark (subst (λ n. IsConflicting m key kind n owner mark) same x)
 
-  pub first_found : (count first : ℕ) (e : Spot × Mark) → first_excluder m key kind first count ≡ Some e → IsFirst first count e
-  unfolding first_excluder
+  pub first_found : (count first : ℕ) (e : Spot × Mark) → first_conflicting m key kind first count ≡ Some e → IsFirst first count e
+  unfolding first_conflicting
   first_found zero first e is = absurd (cc is)
-  first_found (suc count) first e is = go (first_found count (first + 1) e) (list.find (excludes_lock key first first kind) (entries m)) refl is
+  first_found (suc count) first e is = go (first_found count (first + 1) e) (list.find (mark_conflicts key first first kind) (entries m)) refl is
     where
-      go : (first_excluder m key kind (first + 1) count ≡ Some e → IsFirst (first + 1) count e) → (o : Option (Spot × Mark)) →
-          list.find (excludes_lock key first first kind) (entries m) ≡ o
-          → option_or o (first_excluder m key kind (first + 1) count) ≡ Some e → IsFirst first (suc count) e
+      go : (first_conflicting m key kind (first + 1) count ≡ Some e → IsFirst (first + 1) count e) → (o : Option (Spot × Mark)) →
+          list.find (mark_conflicts key first first kind) (entries m) ≡ o
+          → option_or o (first_conflicting m key kind (first + 1) count) ≡ Some e → IsFirst first (suc count) e
       go later (Some f) found h = first_here count first e (least_found first e (found ∙ h))
       go later None found h = first_later count first e (none_found first found) (later h)
 
-  pub none_excludes : (count first : ℕ) → first_excluder m key kind first count ≡ None → (b owner : ℕ) (mark : Mark) → first ≤ b → b < first + count →
-      IsExcluder m key kind b owner mark → ⊥
-  unfolding first_excluder
-  none_excludes zero first none b owner mark from upto x = absurd (omega arith)
-  none_excludes (suc count) first none b owner mark from upto x =
-      go (λ h from. none_excludes count (first + 1) h b owner mark from (omega arith) x) (list.find (excludes_lock key first first kind) (entries m)) refl none
+  pub none_conflicts : (count first : ℕ) → first_conflicting m key kind first count ≡ None → (b owner : ℕ) (mark : Mark) → first ≤ b → b < first + count →
+      IsConflicting m key kind b owner mark → ⊥
+  unfolding first_conflicting
+  none_conflicts zero first none b owner mark from upto x = absurd (omega arith)
+  none_conflicts (suc count) first none b owner mark from upto x =
+      go (λ h from. none_conflicts count (first + 1) h b owner mark from (omega arith) x) (list.find (mark_conflicts key first first kind) (entries m)) refl none
       (nat_lt first b) refl
     where
-      go : (first_excluder m key kind (first + 1) count ≡ None → first + 1 ≤ b → ⊥) → (o : Option (Spot × Mark)) →
-          list.find (excludes_lock key first first kind) (entries m) ≡ o
-          → option_or o (first_excluder m key kind (first + 1) count) ≡ None → (t : Bool) → nat_lt first b ≡ t → ⊥
+      go : (first_conflicting m key kind (first + 1) count ≡ None → first + 1 ≤ b → ⊥) → (o : Option (Spot × Mark)) →
+          list.find (mark_conflicts key first first kind) (entries m) ≡ o
+          → option_or o (first_conflicting m key kind (first + 1) count) ≡ None → (t : Bool) → nat_lt first b ≡ t → ⊥
       go later (Some f) found h t after = absurd (cc h)
       go later None found h true after = later h (grind (arith, nat_tests))
       go later None found h false after =
           let same : b ≡ first = grind (arith, nat_tests) in
-          none_found first found owner mark (subst (λ n. IsExcluder m key kind n owner mark) same x)
+          none_found first found owner mark (subst (λ n. IsConflicting m key kind n owner mark) same x)

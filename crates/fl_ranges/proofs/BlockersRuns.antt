@@ -1,5 +1,6 @@
 -- The lock that is named, found among the runs that a marking is kept as.
-use Rattle.std.proofs.Common.{◌≡◌, ◌≢◌, ℕ, ◌+◌, ◌-◌, ◌≤◌, max, Bool, true, false, cond, not, ◌&&◌, ◌||◌, ◌==◌, nat_lt, nat_le, Option, Some, None, option_map}
+use Rattle.std.proofs.Common.{◌≡◌, ◌≢◌, ℕ, ◌+◌, ◌-◌, ◌≤◌, max, Bool, true, false, cond, not, ◌&&◌, ◌||◌, ◌==◌, nat_lt}
+use Rattle.std.proofs.Common.{nat_le, Option, Some, None, option_map}
 use Rattle.std.proofs.Common.{List, [], ◌∷◌, ◌++◌, map, refl, ap, sym, ◌∙◌, subst, arith}
 use Rattle.std.proofs.lemmas.Bool.Decides.{nat_tests}
 use Rattle.std.specs.List.{AllByRecursion}
@@ -10,9 +11,9 @@ use Rattle.fl_ranges.specs.declared.lock.Mark.{Mark}
 use Rattle.fl_ranges.specs.declared.held.Held.{Held}
 use Rattle.fl_ranges.specs.declared.run.Run.{Run}
 use Rattle.fl_ranges.specs.Marking.{class_number, Spot, marking_of}
-use Rattle.fl_ranges.specs.Conflict.{excludes}
-use Rattle.fl_ranges.specs.Blocker.{of_owner, IsExcluder, IsRow, IsBlocker, blocker}
-use Rattle.fl_ranges.specs.Inside.RunList.{meant, has_spot, run_at, held_at, IsWhole, AreRuns, run_excludes}
+use Rattle.fl_ranges.specs.Conflict.{kinds_conflict}
+use Rattle.fl_ranges.specs.Blocker.{of_owner, IsConflicting, IsRow, IsBlocker, blocker}
+use Rattle.fl_ranges.specs.Inside.RunList.{meant, has_spot, run_at, held_at, IsWhole, AreRuns, run_conflicts}
 use Rattle.fl_ranges.specs.Inside.Nearest.{is_nearer, nearer_of, nearest_with, nearest_from, lock_of}
 use Rattle.fl_ranges.proofs.RunLists.{IsAt, at_spot, spot_of, each_at, each_found, each_ordered, run_has, same_run}
 use Rattle.fl_ranges.proofs.Counting.{Held as HeldBy, get-runs, held_by, held_of}
@@ -23,7 +24,7 @@ use Rattle.fl_ranges.proofs.Each.{all_both, all_weaker}
 
 -- ---- the tests, as facts
 
-pub record ExcludingParts (a b n o p q start end from to : ℕ) (x : Bool) : Type 0 where
+pub record ConflictingParts (a b n o p q start end from to : ℕ) (x : Bool) : Type 0 where
   pub class : a ≡ b
   pub node : n ≡ o
   pub other : p ≢ q
@@ -31,9 +32,9 @@ pub record ExcludingParts (a b n o p q start end from to : ℕ) (x : Bool) : Typ
   pub ends : start ≤ to
   pub write : x ≡ true
 
-pub excluding_parts : (a b n o p q start end from to : ℕ) (x : Bool) →
-    (((a == b) && ((n == o) && not (p == q))) && ((nat_le from end && nat_le start to) && x)) ≡ true → ExcludingParts a b n o p q start end from to x
-excluding_parts a b n o p q start end from to true e = record {
+pub conflicting_parts : (a b n o p q start end from to : ℕ) (x : Bool) →
+    (((a == b) && ((n == o) && not (p == q))) && ((nat_le from end && nat_le start to) && x)) ≡ true → ConflictingParts a b n o p q start end from to x
+conflicting_parts a b n o p q start end from to true e = record {
   class = grind (arith, nat_tests);
   node = grind (arith, nat_tests);
   other = grind (arith, nat_tests);
@@ -41,12 +42,12 @@ excluding_parts a b n o p q start end from to true e = record {
   ends = grind (arith, nat_tests);
   write = refl;
 }
-excluding_parts a b n o p q start end from to false e = absurd (and_and_false ((a == b) && ((n == o) && not (p == q))) (nat_le from end && nat_le start to) e)
+conflicting_parts a b n o p q start end from to false e = absurd (and_and_false ((a == b) && ((n == o) && not (p == q))) (nat_le from end && nat_le start to) e)
 
-pub excluding_all : (a b n o p q start end from to : ℕ) (x : Bool) → a ≡ b → n ≡ o → (p ≢ q) → from ≤ end → start ≤ to → x ≡ true →
+pub conflicting_all : (a b n o p q start end from to : ℕ) (x : Bool) → a ≡ b → n ≡ o → (p ≢ q) → from ≤ end → start ≤ to → x ≡ true →
     (((a == b) && ((n == o) && not (p == q))) && ((nat_le from end && nat_le start to) && x)) ≡ true
-excluding_all a b n o p q start end from to true class node other begins ends write = grind (arith, nat_tests)
-excluding_all a b n o p q start end from to false class node other begins ends write = absurd (cc write)
+conflicting_all a b n o p q start end from to true class node other begins ends write = grind (arith, nat_tests)
+conflicting_all a b n o p q start end from to false class node other begins ends write = absurd (cc write)
 
 not_nearer_itself : (x p : ℕ) → (nat_lt x x || ((x == x) && nat_lt p p)) ≡ false
 not_nearer_itself x p = grind (arith, nat_tests)
@@ -77,7 +78,7 @@ module _ (key : Key) (start end : ℕ) (kind : Kind) where
 
   record IsNearest (best : Option Run) (rs : List Run) (r : Run) : Type 0 where
     pub than_best : (b : Run) → best ≡ Some b → is_nearer start b r ≡ false
-    pub than_each : AllByRecursion (λ (s : Run). run_excludes key start end kind s ≡ true → is_nearer start s r ≡ false) rs
+    pub than_each : AllByRecursion (λ (s : Run). run_conflicts key start end kind s ≡ true → is_nearer start s r ≡ false) rs
 
   through : (r s t : Run) → is_nearer start r s ≡ false → is_nearer start s t ≡ false → is_nearer start r t ≡ false
   through r s t e f = not_nearer_through (max r.start start) (max s.start start) (max t.start start) r.key.owner s.key.owner t.key.owner e f
@@ -102,19 +103,19 @@ module _ (key : Key) (start end : ℕ) (kind : Kind) where
         subst (λ (y : Run). is_nearer start y r ≡ false) same (not_nearer_itself (max r.start start) r.key.owner);
     than_each = tt;
   }
-  nearest_is (x ∷ xs) best r e = go (run_excludes key start end kind x) refl (nearest_is xs (nearest_with key start end kind best x) r e)
+  nearest_is (x ∷ xs) best r e = go (run_conflicts key start end kind x) refl (nearest_is xs (nearest_with key start end kind best x) r e)
     where
-      go : (t : Bool) → run_excludes key start end kind x ≡ t → IsNearest (cond t (Some (nearer_of start best x)) best) xs r → IsNearest best (x ∷ xs) r
+      go : (t : Bool) → run_conflicts key start end kind x ≡ t → IsNearest (cond t (Some (nearer_of start best x)) best) xs r → IsNearest best (x ∷ xs) r
       go true is n =
           let both = passed_by best x r (n.than_best (nearer_of start best x) refl) in
           record { than_best = both.0; than_each = (λ h. both.1, n.than_each) }
       go false is n = record { than_best = n.than_best; than_each = (λ h. absurd (cc (sym is ∙ h)), n.than_each) }
 
   nearest_among : (Q : Run → Type 0) (rs : List Run) (best : Option Run) (r : Run) → ((b : Run) → best ≡ Some b → Q b) →
-      AllByRecursion (λ (s : Run). run_excludes key start end kind s ≡ true → Q s) rs → nearest_from key start end kind best rs ≡ Some r → Q r
+      AllByRecursion (λ (s : Run). run_conflicts key start end kind s ≡ true → Q s) rs → nearest_from key start end kind best rs ≡ Some r → Q r
   nearest_among Q [] best r of_best each e = of_best r e
   nearest_among Q (x ∷ xs) best r of_best each e =
-      nearest_among Q xs (nearest_with key start end kind best x) r (λ b. go (run_excludes key start end kind x) refl b) each.1 e
+      nearest_among Q xs (nearest_with key start end kind best x) r (λ b. go (run_conflicts key start end kind x) refl b) each.1 e
     where
       of_nearer : (o : Option Run) → ((b : Run) → o ≡ Some b → Q b) → Q x → Q (nearer_of start o x)
       of_nearer None of_o q = q
@@ -124,19 +125,19 @@ module _ (key : Key) (start end : ℕ) (kind : Kind) where
           pick true = q
           pick false = of_o a refl
 
-      go : (t : Bool) → run_excludes key start end kind x ≡ t → (b : Run) → cond t (Some (nearer_of start best x)) best ≡ Some b → Q b
+      go : (t : Bool) → run_conflicts key start end kind x ≡ t → (b : Run) → cond t (Some (nearer_of start best x)) best ≡ Some b → Q b
       go true is b h = let same : nearer_of start best x ≡ b = cc h in subst Q same (of_nearer best of_best (each.0 is))
       go false is b h = of_best b h
 
-  record NoneExcludes (best : Option Run) (rs : List Run) : Type 0 where
+  record NoneConflicts (best : Option Run) (rs : List Run) : Type 0 where
     pub no_best : best ≡ None
-    pub each : AllByRecursion (λ (s : Run). run_excludes key start end kind s ≡ false) rs
+    pub each : AllByRecursion (λ (s : Run). run_conflicts key start end kind s ≡ false) rs
 
-  none_nearest : (rs : List Run) (best : Option Run) → nearest_from key start end kind best rs ≡ None → NoneExcludes best rs
+  none_nearest : (rs : List Run) (best : Option Run) → nearest_from key start end kind best rs ≡ None → NoneConflicts best rs
   none_nearest [] best e = record { no_best = e; each = tt }
-  none_nearest (x ∷ xs) best e = go (run_excludes key start end kind x) refl (none_nearest xs (nearest_with key start end kind best x) e)
+  none_nearest (x ∷ xs) best e = go (run_conflicts key start end kind x) refl (none_nearest xs (nearest_with key start end kind best x) e)
     where
-      go : (t : Bool) → run_excludes key start end kind x ≡ t → NoneExcludes (cond t (Some (nearer_of start best x)) best) xs → NoneExcludes best (x ∷ xs)
+      go : (t : Bool) → run_conflicts key start end kind x ≡ t → NoneConflicts (cond t (Some (nearer_of start best x)) best) xs → NoneConflicts best (x ∷ xs)
       go true is n = let none = n.no_best in absurd (cc none)
       go false is n = record { no_best = n.no_best; each = (is, n.each) }
 
@@ -148,15 +149,15 @@ module _ (key : Key) (start end : ℕ) (kind : Kind) where
   -- ---- the lock that is named
 
   module _ (rs : List Run) (good : AreRuns rs) where
-    -- an excluder is on a run that excludes the lock
+    -- an excluder is on a run that conflicts with the lock
     record OnRun (byte owner : ℕ) : Type 0 where
       pub run : Run
       pub found : run_at rs (of_owner key owner, byte) ≡ Some run
-      pub excludes : run_excludes key start end kind run ≡ true
+      pub kinds_conflict : run_conflicts key start end kind run ≡ true
       pub owner_is : run.key.owner ≡ owner
       pub from : run.start ≤ byte
 
-    on_run : (byte owner : ℕ) (mark : Mark) → start ≤ byte → byte ≤ end → IsExcluder (marking_of (map meant rs)) key kind byte owner mark → OnRun byte owner
+    on_run : (byte owner : ℕ) (mark : Mark) → start ≤ byte → byte ≤ end → IsConflicting (marking_of (map meant rs)) key kind byte owner mark → OnRun byte owner
     on_run byte owner mark from upto x =
         let h = held_by rs (of_owner key owner, byte) mark (sym (get-runs rs (of_owner key owner, byte)) ∙ x.held) in
         let at = at_spot h.run (of_owner key owner, byte) (run_has rs (of_owner key owner, byte) h.run h.found) in
@@ -166,11 +167,11 @@ module _ (key : Key) (start end : ℕ) (kind : Kind) where
         record {
           run = h.run;
           found = h.found;
-          excludes = excluding_all (class_number key.class) (class_number h.run.key.class) key.node h.run.key.node key.owner h.run.key.owner start end
-              h.run.start h.run.end (excludes kind h.run.mark.kind)
+          kinds_conflict = conflicting_all (class_number key.class) (class_number h.run.key.class) key.node h.run.key.node key.owner h.run.key.owner start end
+              h.run.start h.run.end (kinds_conflict kind h.run.mark.kind)
               (ap (λ (k : Key). class_number k.class) (sym at.key)) (ap (λ (k : Key). k.node) (sym at.key)) (λ same. x.other (sym owner_is ∙ sym same))
               (omega arith) (omega arith)
-              (ap (λ (t : Mark). excludes kind t.kind) h.mark_is ∙ x.write);
+              (ap (λ (t : Mark). kinds_conflict kind t.kind) h.mark_is ∙ x.write);
           owner_is = owner_is;
           from = begins;
         }
@@ -226,13 +227,13 @@ module _ (key : Key) (start end : ℕ) (kind : Kind) where
 
     -- no excluder comes before the nearest run
     none_first : (r : Run) → IsNearest None rs r → (byte owner : ℕ) (mark : Mark) → start ≤ byte → byte ≤ end →
-        IsExcluder (marking_of (map meant rs)) key kind byte owner mark → NotNearer byte (max r.start start) owner r.key.owner
+        IsConflicting (marking_of (map meant rs)) key kind byte owner mark → NotNearer byte (max r.start start) owner r.key.owner
     none_first r near byte owner mark from upto x =
         let on = on_run byte owner mark from upto x in
         let begins = on.from in
         let owner_is = on.owner_is in
-        let test = each_at (λ (s : Run). run_excludes key start end kind s ≡ true → is_nearer start s r ≡ false) rs (has_spot (of_owner key owner, byte)) on.run
-        near.than_each on.found on.excludes in
+        let test = each_at (λ (s : Run). run_conflicts key start end kind s ≡ true → is_nearer start s r ≡ false) rs (has_spot (of_owner key owner, byte)) on.run
+        near.than_each on.found on.kinds_conflict in
         let n = not_nearer (max on.run.start start) (max r.start start) on.run.key.owner r.key.owner test in
         let place = n.place in
         record { place = omega arith; owner = λ same. let least = n.owner (omega arith) in omega arith }
@@ -241,11 +242,11 @@ module _ (key : Key) (start end : ℕ) (kind : Kind) where
         IsBlocker (marking_of (map meant rs)) key start end kind (lock_of r)
     named_run some r e =
         let listed = nearest_among (IsListed rs) rs None r (λ b is. absurd (cc is))
-        (all_weaker (IsListed rs) (λ s. run_excludes key start end kind s ≡ true → IsListed rs s) (λ s l h. l) rs each_listed) e in
-        let excluding = nearest_among (λ s. run_excludes key start end kind s ≡ true) rs None r (λ b is. absurd (cc is)) (all_weaker (IsListed rs)
-        (λ s. run_excludes key start end kind s ≡ true → run_excludes key start end kind s ≡ true) (λ s l h. h) rs each_listed) e in
-        let p = excluding_parts (class_number key.class) (class_number r.key.class) key.node r.key.node key.owner r.key.owner start end r.start r.end
-        (excludes kind r.mark.kind) excluding in
+        (all_weaker (IsListed rs) (λ s. run_conflicts key start end kind s ≡ true → IsListed rs s) (λ s l h. l) rs each_listed) e in
+        let conflicting = nearest_among (λ s. run_conflicts key start end kind s ≡ true) rs None r (λ b is. absurd (cc is)) (all_weaker (IsListed rs)
+        (λ s. run_conflicts key start end kind s ≡ true → run_conflicts key start end kind s ≡ true) (λ s l h. h) rs each_listed) e in
+        let p = conflicting_parts (class_number key.class) (class_number r.key.class) key.node r.key.node key.owner r.key.owner start end r.start r.end
+        (kinds_conflict kind r.mark.kind) conflicting in
         let near = nearest_is rs None r e in
         let class : r.key.class ≡ key.class = sym (same_class key.class r.key.class p.class) in
         let node : r.key.node ≡ key.node = sym p.node in
@@ -258,7 +259,7 @@ module _ (key : Key) (start end : ℕ) (kind : Kind) where
           byte = max r.start start;
           from = omega arith;
           upto = omega arith;
-          excluder = record {
+          conflicting = record {
             held = ap (λ (k : Key). get (marking_of (map meant rs)) (k, max r.start start)) (sym holder)
                 ∙ row.each (max r.start start) row.from row.upto;
             other = λ same. p.other (sym same);
@@ -269,18 +270,18 @@ module _ (key : Key) (start end : ℕ) (kind : Kind) where
           row = subst (λ (k : Key). IsRow (marking_of (map meant rs)) k r.mark (max r.start start) r.start r.end) holder row;
         }
 
-    -- the nearest of the runs that exclude the lock is the one that is named
+    -- the nearest of the runs that conflict with the lock is the one that is named
     pub blocker_of_runs : start ≤ end → end ≤ 9223372036854775807 →
         option_map lock_of (nearest_from key start end kind None rs) ≡ blocker (marking_of (map meant rs)) key start end kind
     blocker_of_runs some within = go (nearest_from key start end kind None rs) refl
       where
-        none : NoneExcludes None rs → (o : Option Held) → blocker (marking_of (map meant rs)) key start end kind ≡ o → None ≡ o
+        none : NoneConflicts None rs → (o : Option Held) → blocker (marking_of (map meant rs)) key start end kind ≡ o → None ≡ o
         none n None is = refl
         none n (Some h) is =
             let b = (named_words (marking_of (map meant rs)) key start end kind h within).0 is in
-            let on = on_run b.byte h.owner h.mark b.from b.upto b.excluder in
-            let no = each_at (λ (s : Run). run_excludes key start end kind s ≡ false) rs (has_spot (of_owner key h.owner, b.byte)) on.run n.each on.found in
-            absurd (cc (sym no ∙ on.excludes))
+            let on = on_run b.byte h.owner h.mark b.from b.upto b.conflicting in
+            let no = each_at (λ (s : Run). run_conflicts key start end kind s ≡ false) rs (has_spot (of_owner key h.owner, b.byte)) on.run n.each on.found in
+            absurd (cc (sym no ∙ on.kinds_conflict))
 
         go : (o : Option Run) → nearest_from key start end kind None rs ≡ o → option_map lock_of o ≡ blocker (marking_of (map meant rs)) key start end kind
         go (Some r) is = sym ((named_words (marking_of (map meant rs)) key start end kind (lock_of r) within).1 (named_run some r is))

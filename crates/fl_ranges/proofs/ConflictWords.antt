@@ -4,7 +4,7 @@ use Rattle.std.proofs.lemmas.Bool.Decides.{nat_tests}
 use Rattle.fl_ranges.specs.declared.lock.Key.{Key}
 use Rattle.fl_ranges.specs.declared.lock.Kind.{Kind}
 use Rattle.fl_ranges.specs.Marking.{class_number, Marking}
-use Rattle.fl_ranges.specs.Conflict.{excludes, excludes_lock, conflicts, IsConflict}
+use Rattle.fl_ranges.specs.Conflict.{kinds_conflict, mark_conflicts, conflicts, IsConflict}
 use Rattle.fl_ranges.proofs.Markings.{spots_total, exact_spots, same_class}
 use Rattle.fl_ranges.proofs.Entries.{any_entry, entry_passes}
 use Rattle.fl_ranges.proofs.Spots.{and_and_false}
@@ -38,11 +38,11 @@ all_parts a b n o p q start byte end false class node other from upto write = ab
 pub conflict_words : (m : Marking) (key : Key) (start end : ℕ) (kind : Kind) → (conflicts m key start end kind ≡ true) ↔ IsConflict m key start end kind
 conflict_words m key start end kind = (
   λ h.
-      let e = any_entry spots_total (excludes_lock key start end kind) m h in
-      let t = parts (class_number key.class) (class_number e.0.0.class) key.node e.0.0.node key.owner e.0.0.owner start e.0.1 end (excludes kind e.1.kind)
+      let e = any_entry spots_total (mark_conflicts key start end kind) m h in
+      let t = parts (class_number key.class) (class_number e.0.0.class) key.node e.0.0.node key.owner e.0.0.owner start e.0.1 end (kinds_conflict kind e.1.kind)
       e.3 in
       record {
-        rival = e.0.0;
+        contender = e.0.0;
         byte = e.0.1;
         mark = e.1;
         held = e.2;
@@ -54,8 +54,8 @@ conflict_words m key start end kind = (
         write = t.write;
       },
   λ c.
-      entry_passes spots_total exact_spots (excludes_lock key start end kind) m (c.rival, c.byte) c.mark c.held
-      (all_parts (class_number key.class) (class_number c.rival.class) key.node c.rival.node key.owner c.rival.owner start c.byte end
-      (excludes kind c.mark.kind)
+      entry_passes spots_total exact_spots (mark_conflicts key start end kind) m (c.contender, c.byte) c.mark c.held
+      (all_parts (class_number key.class) (class_number c.contender.class) key.node c.contender.node key.owner c.contender.owner start c.byte end
+      (kinds_conflict kind c.mark.kind)
       (ap class_number (sym c.class)) (sym c.node) (λ same. c.other (sym same)) c.from c.upto c.write),
 )

@@ -1,5 +1,6 @@
 -- The number of runs of a marking is the length of a list of runs that means it.
-use Rattle.std.proofs.Common.{◌≡◌, ◌-◌, ◌<◌, ◌≤◌, Bool, true, false, cond, ◌||◌, nat_lt, Option, Some, None, List, [], ◌∷◌, map, length, refl, ap, sym, ◌∙◌}
+use Rattle.std.proofs.Common.{◌≡◌, ◌-◌, ◌<◌, ◌≤◌, Bool, true, false, cond, ◌||◌, nat_lt, Option, Some, None, List, []}
+use Rattle.std.proofs.Common.{◌∷◌, map, length, refl, ap, sym, ◌∙◌}
 use Rattle.std.proofs.Common.{subst, arith}
 use Rattle.std.proofs.lemmas.Bool.Decides.{nat_tests}
 use Rattle.std.proofs.lemmas.List.{length-map}
@@ -18,7 +19,8 @@ use Rattle.fl_ranges.specs.Inside.RunList.{meant, has_spot, run_at, held_at, Are
 use Rattle.fl_ranges.proofs.Markings.{get-marking_of}
 use Rattle.fl_ranges.proofs.Spots.{same_spot, spot_itself}
 use Rattle.fl_ranges.proofs.Starts.{starts_counted, spots_decided}
-use Rattle.fl_ranges.proofs.RunLists.{at_spot, spot_of, each_at, run_has, same_run, each_found, each_ordered, mark_at-runs}
+use Rattle.fl_ranges.proofs.RunLists.{at_spot, spot_of, each_at, run_has, same_run, each_found, each_ordered}
+use Rattle.fl_ranges.proofs.RunLists.{mark_at-runs}
 use Rattle.fl_ranges.proofs.Each.{all_both, all_weaker}
 
 pub get-runs : (rs : List Run) (q : Spot) → get (marking_of (map meant rs)) q ≡ held_at rs q

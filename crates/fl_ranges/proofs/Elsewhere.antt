@@ -1,5 +1,6 @@
 -- A change of locks leaves every conflict of other classes and nodes as it was.
-use Rattle.std.proofs.Common.{◌≡◌, ℕ, Bool, true, false, cond, ◌&&◌, ◌==◌, None, Result, Ok, Err, OnOk, OnErr, refl, ap, sym, ◌∙◌, subst, arith}
+use Rattle.std.proofs.Common.{◌≡◌, ℕ, Bool, true, false, cond, ◌&&◌, ◌==◌, None, Result, Ok, Err, OnOk, OnErr, refl, ap}
+use Rattle.std.proofs.Common.{sym, ◌∙◌, subst, arith}
 use Rattle.std.proofs.lemmas.Bool.Decides.{nat_tests}
 use Rattle.std.specs.Ordering.{eq_by_cmp}
 use Rattle.std.specs.FinMap.{get}
@@ -25,10 +26,10 @@ IsSameFor key m n = (q : Spot) → q.0.class ≡ key.class → q.0.node ≡ key.
 
 carried : (m n : Marking) (key : Key) (start end : ℕ) (kind : Kind) → IsSameFor key m n → IsConflict m key start end kind → IsConflict n key start end kind
 carried m n key start end kind same c = record {
-  rival = c.rival;
+  contender = c.contender;
   byte = c.byte;
   mark = c.mark;
-  held = same (c.rival, c.byte) c.class c.node ∙ c.held;
+  held = same (c.contender, c.byte) c.class c.node ∙ c.held;
   class = c.class;
   node = c.node;
   other = c.other;

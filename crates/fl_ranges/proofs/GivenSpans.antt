@@ -13,7 +13,8 @@ use Rattle.fl_ranges.specs.declared.lock.Key.{Key}
 use Rattle.fl_ranges.specs.declared.lock.Mark.{Mark}
 use Rattle.fl_ranges.specs.Marking.{class_number, key_cmp}
 use Rattle.fl_ranges.specs.Placing.{home}
-use Rattle.fl_ranges.specs.Inside.LockRows.{LockRow, run_of, runs_of, runs_in, place_cmp, goes_before, AreInOrder, spans_of, row_before}
+use Rattle.fl_ranges.specs.Inside.LockRows.{LockRow, run_of, runs_of, runs_in, place_cmp, key_precedes, AreInOrder}
+use Rattle.fl_ranges.specs.Inside.LockRows.{spans_of, row_before}
 use Rattle.fl_ranges.specs.Inside.LockRows.{given_spans, AreLockRows}
 use Rattle.fl_ranges.proofs.Entries.{is_Less}
 use Rattle.fl_ranges.proofs.Markings.{same_class}
@@ -23,7 +24,7 @@ use Rattle.fl_ranges.proofs.RowRuns.{IsOther, no_spans, turned_key, before_diffe
 
 -- ---- the order of keys
 
-pub before_both : (a b c : Key) → goes_before a b ≡ true → goes_before b c ≡ true → goes_before a c ≡ true
+pub before_both : (a b c : Key) → key_precedes a b ≡ true → key_precedes b c ≡ true → key_precedes a c ≡ true
 before_both a b c first second = ap is_lt (keys_placed.trans a b c (is_Less (place_cmp a b) first) (is_Less (place_cmp b c) second))
 
 three_tied : (a b c d e f : ℕ) → ordering_then (ordering_then (nat_cmp a b) (nat_cmp c d)) (nat_cmp e f) ≡ Equal → (a ≡ b) × (c ≡ d) × (e ≡ f)
@@ -38,25 +39,25 @@ placed_same a b tied =
     λ i. record { class = class i; node = node i; owner = owner i }
 
 -- of two keys that differ one goes before the other
-pub one_before : (a b : Key) → goes_before a b ≡ false → eq_by_cmp key_cmp a b ≡ false → goes_before b a ≡ true
+pub one_before : (a b : Key) → key_precedes a b ≡ false → eq_by_cmp key_cmp a b ≡ false → key_precedes b a ≡ true
 one_before a b before other = go (place_cmp a b) refl
   where
-    go : (o : Ordering) → place_cmp a b ≡ o → goes_before b a ≡ true
+    go : (o : Ordering) → place_cmp a b ≡ o → key_precedes b a ≡ true
     go Less is = absurd (cc (sym before ∙ ap is_lt is))
     go Equal is = absurd (cc (sym other ∙ ap (eq_by_cmp key_cmp a) (sym (placed_same a b is)) ∙ key_itself a))
     go Greater is = ap is_lt (keys_placed.antisymm b a ∙ ap ordering_reverse is)
 
 -- behind a row, what goes before it goes before all
-pub all_behind : (key : Key) (r : LockRow) (rs : List LockRow) → goes_before key r.key ≡ true →
-    AllByRecursion (λ (x : LockRow). goes_before r.key x.key ≡ true) rs →
-    AllByRecursion (λ (x : LockRow). goes_before key x.key ≡ true) rs
+pub all_behind : (key : Key) (r : LockRow) (rs : List LockRow) → key_precedes key r.key ≡ true →
+    AllByRecursion (λ (x : LockRow). key_precedes r.key x.key ≡ true) rs →
+    AllByRecursion (λ (x : LockRow). key_precedes key x.key ≡ true) rs
 all_behind key r rs before each =
-    all_weaker (λ (x : LockRow). goes_before r.key x.key ≡ true) (λ (x : LockRow). goes_before key x.key ≡ true)
+    all_weaker (λ (x : LockRow). key_precedes r.key x.key ≡ true) (λ (x : LockRow). key_precedes key x.key ≡ true)
     (λ x after. before_both key r.key x.key before after) rs each
 
-pub behind_others : (key : Key) (rs : List LockRow) → AllByRecursion (λ (x : LockRow). goes_before key x.key ≡ true) rs → AllByRecursion (IsOther key) rs
+pub behind_others : (key : Key) (rs : List LockRow) → AllByRecursion (λ (x : LockRow). key_precedes key x.key ≡ true) rs → AllByRecursion (IsOther key) rs
 behind_others key rs each =
-    all_weaker (λ (x : LockRow). goes_before key x.key ≡ true) (IsOther key) (λ x after. before_differs key x.key after) rs each
+    all_weaker (λ (x : LockRow). key_precedes key x.key ≡ true) (IsOther key) (λ x after. before_differs key x.key after) rs each
 
 -- ---- a row of the key before rows that stand behind it
 
@@ -69,7 +70,7 @@ module _ (key : Key) (ss : List (Span Mark)) where
       go [] is = each
       go (s ∷ ts) is = (own s ts is, each)
 
-  in_order_before : (rs : List LockRow) → AllByRecursion (λ (x : LockRow). goes_before key x.key ≡ true) rs → AreInOrder rs → AreInOrder (row_before key ss rs)
+  in_order_before : (rs : List LockRow) → AllByRecursion (λ (x : LockRow). key_precedes key x.key ≡ true) rs → AreInOrder rs → AreInOrder (row_before key ss rs)
   in_order_before rs behind order = go ss
     where
       go : (l : List (Span Mark)) → AreInOrder (row_before key l rs)
@@ -97,7 +98,7 @@ module _ (key : Key) (ss : List (Span Mark)) where
   pub each_given : (P : LockRow → Type 0) → ((s : Span Mark) (ts : List (Span Mark)) → ss ≡ s ∷ ts → P (record { key = key; runs = s ∷ ts })) →
       (rs : List LockRow) → AllByRecursion P rs → AllByRecursion P (given_spans key ss rs)
   each_given P own [] each = each_row_before P own [] each
-  each_given P own (r ∷ rs) each = go (each_given P own rs each.1) (goes_before r.key key) (eq_by_cmp key_cmp r.key key)
+  each_given P own (r ∷ rs) each = go (each_given P own rs each.1) (key_precedes r.key key) (eq_by_cmp key_cmp r.key key)
     where
       go : AllByRecursion P (given_spans key ss rs) → (b c : Bool) →
           AllByRecursion P (cond b (r ∷ given_spans key ss rs) (cond c (row_before key ss rs) (row_before key ss (r ∷ rs))))
@@ -107,13 +108,13 @@ module _ (key : Key) (ss : List (Span Mark)) where
 
   pub in_order_given : (rs : List LockRow) → AreInOrder rs → AreInOrder (given_spans key ss rs)
   in_order_given [] order = in_order_before [] tt tt
-  in_order_given (r ∷ rs) order = go (in_order_given rs order.1) (goes_before r.key key) (eq_by_cmp key_cmp r.key key) refl refl
+  in_order_given (r ∷ rs) order = go (in_order_given rs order.1) (key_precedes r.key key) (eq_by_cmp key_cmp r.key key) refl refl
     where
-      go : AreInOrder (given_spans key ss rs) → (b c : Bool) → goes_before r.key key ≡ b → eq_by_cmp key_cmp r.key key ≡ c →
+      go : AreInOrder (given_spans key ss rs) → (b c : Bool) → key_precedes r.key key ≡ b → eq_by_cmp key_cmp r.key key ≡ c →
           AreInOrder (cond b (r ∷ given_spans key ss rs) (cond c (row_before key ss rs) (row_before key ss (r ∷ rs))))
-      go rest true c before same = (each_given (λ (x : LockRow). goes_before r.key x.key ≡ true) (λ s ts is. before) rs order.0, rest)
+      go rest true c before same = (each_given (λ (x : LockRow). key_precedes r.key x.key ≡ true) (λ s ts is. before) rs order.0, rest)
       go rest false true before same =
-          in_order_before rs (subst (λ (k : Key). AllByRecursion (λ (x : LockRow). goes_before k x.key ≡ true) rs) (same_key r.key key same) order.0) order.1
+          in_order_before rs (subst (λ (k : Key). AllByRecursion (λ (x : LockRow). key_precedes k x.key ≡ true) rs) (same_key r.key key same) order.0) order.1
       go rest false false before same =
           let ahead = one_before r.key key before same in
           in_order_before (r ∷ rs) (ahead, all_behind key r rs ahead order.0) order
@@ -121,7 +122,7 @@ module _ (key : Key) (ss : List (Span Mark)) where
   pub spans_given : (rs : List LockRow) → AreInOrder rs → (k : Key) →
       spans_of k (given_spans key ss rs) ≡ cond (eq_by_cmp key_cmp key k) ss (spans_of k rs)
   spans_given [] order k = spans_before [] k (λ same. refl)
-  spans_given (r ∷ rs) order k = go (spans_given rs order.1 k) (goes_before r.key key) (eq_by_cmp key_cmp r.key key) refl refl
+  spans_given (r ∷ rs) order k = go (spans_given rs order.1 k) (key_precedes r.key key) (eq_by_cmp key_cmp r.key key) refl refl
     where
       other_way : (b c : Bool) (rest : List (Span Mark)) → (b ≡ true → c ≡ true → ⊥) →
           cond b r.runs (cond c ss rest) ≡ cond c ss (cond b r.runs rest)
@@ -133,7 +134,7 @@ module _ (key : Key) (ss : List (Span Mark)) where
       without true c is = refl
       without false c is = ap (λ (x : Bool). cond x r.runs (spans_of k rs)) (sym is)
 
-      go : spans_of k (given_spans key ss rs) ≡ cond (eq_by_cmp key_cmp key k) ss (spans_of k rs) → (b c : Bool) → goes_before r.key key ≡ b →
+      go : spans_of k (given_spans key ss rs) ≡ cond (eq_by_cmp key_cmp key k) ss (spans_of k rs) → (b c : Bool) → key_precedes r.key key ≡ b →
           eq_by_cmp key_cmp r.key key ≡ c →
           spans_of k (cond b (r ∷ given_spans key ss rs) (cond c (row_before key ss rs) (row_before key ss (r ∷ rs))))
           ≡ cond (eq_by_cmp key_cmp key k) ss (cond (eq_by_cmp key_cmp r.key k) r.runs (spans_of k rs))
@@ -157,10 +158,10 @@ module _ (key : Key) (ss : List (Span Mark)) where
 
   pub long_given : (rs : List LockRow) → AreInOrder rs → length (runs_in (given_spans key ss rs)) + length (spans_of key rs) ≡ length (runs_in rs) + length ss
   long_given [] order = let long = long_before [] in omega (arith, long)
-  long_given (r ∷ rs) order = go (long_given rs order.1) (goes_before r.key key) (eq_by_cmp key_cmp r.key key) refl refl
+  long_given (r ∷ rs) order = go (long_given rs order.1) (key_precedes r.key key) (eq_by_cmp key_cmp r.key key) refl refl
     where
       go : length (runs_in (given_spans key ss rs)) + length (spans_of key rs) ≡ length (runs_in rs) + length ss → (b c : Bool) →
-          goes_before r.key key ≡ b → eq_by_cmp key_cmp r.key key ≡ c →
+          key_precedes r.key key ≡ b → eq_by_cmp key_cmp r.key key ≡ c →
           length (runs_in (cond b (r ∷ given_spans key ss rs) (cond c (row_before key ss rs) (row_before key ss (r ∷ rs)))))
           + length (cond (eq_by_cmp key_cmp r.key key) r.runs (spans_of key rs)) ≡ length (runs_in (r ∷ rs)) + length ss
       go rest true c before same =

@@ -1,5 +1,6 @@
 -- What a marking has at a spot after strokes.
-use Rattle.std.proofs.Common.{◌≡◌, ℕ, zero, suc, ◌+◌, ◌-◌, Bool, true, false, cond, not, ◌&&◌, ◌==◌, nat_lt, nat_le, Option, Some, None, List, [], ◌∷◌, refl}
+use Rattle.std.proofs.Common.{◌≡◌, ℕ, zero, suc, ◌+◌, ◌-◌, Bool, true, false, cond, not, ◌&&◌, ◌==◌, nat_lt, nat_le}
+use Rattle.std.proofs.Common.{Option, Some, None, List, [], ◌∷◌, refl}
 use Rattle.std.proofs.Common.{ap, sym, ◌∙◌, arith}
 use Rattle.std.proofs.lemmas.Bool.Decides.{nat_tests}
 use Rattle.std.proofs.lemmas.Cmp.{on_total, then_total}
@@ -14,7 +15,8 @@ use Rattle.fl_ranges.specs.declared.lock.Class.TheVariants.{Record, Flock}
 use Rattle.fl_ranges.specs.declared.lock.Key.{Key}
 use Rattle.fl_ranges.specs.declared.lock.Mark.{Mark}
 use Rattle.fl_ranges.specs.Runs.{without_node}
-use Rattle.fl_ranges.specs.Marking.{class_number, key_cmp, Spot, spot_cmp, Marking, Stroke, mark_spot, mark_bytes, stroked, marking_of, covers, mark_at}
+use Rattle.fl_ranges.specs.Marking.{class_number, key_cmp, Spot, spot_cmp, Marking, Stroke, mark_spot, mark_bytes}
+use Rattle.fl_ranges.specs.Marking.{stroked, marking_of, covers, mark_at}
 
 -- ---- the orders
 

@@ -1,5 +1,6 @@
 -- The places of the slots.
-use Rattle.std.proofs.Common.{◌≡◌, ◌≢◌, ℕ, zero, suc, ◌-◌, ◌≤◌, ◌<◌, Bool, true, false, cond, ◌==◌, List, [], ◌∷◌, ◌++◌, Option, Some, None, map, length}
+use Rattle.std.proofs.Common.{◌≡◌, ◌≢◌, ℕ, zero, suc, ◌-◌, ◌≤◌, ◌<◌, Bool, true, false, cond, ◌==◌, List, [], ◌∷◌, ◌++◌}
+use Rattle.std.proofs.Common.{Option, Some, None, map, length}
 use Rattle.std.proofs.Common.{get_or, length-append, refl, ap, sym, ◌∙◌, subst, arith}
 use Rattle.std.proofs.lemmas.Bool.{false_from_ne_true, eqb-true, eq-eqb}
 use Rattle.std.proofs.lemmas.List.{append-nil, length-map}
@@ -8,7 +9,7 @@ use Rattle.std.specs.List.{flat_map, filter, AllByRecursion}
 use Rattle.std.specs.Option.{option_map}
 use Rattle.std.specs.FinMap.{same_map, retain_keys}
 use Rattle.fl_spans.specs.declared.span.Span.{Span}
-use Rattle.fl_rows.specs.Rows.{row_lists, rows, limit_of, run_count}
+use Rattle.fl_spans.specs.Rows.{row_lists, rows, limit_of, run_count}
 use Rattle.fl_ranges.specs.declared.lock.Key.{Key}
 use Rattle.fl_ranges.specs.declared.lock.Mark.{Mark}
 use Rattle.fl_ranges.specs.declared.run.Run.{Run}
@@ -17,7 +18,8 @@ use Rattle.fl_ranges.specs.Runs.{runs}
 use Rattle.fl_ranges.specs.LockTable.{LockTable}
 use Rattle.fl_ranges.specs.Placing.{home, on_chain}
 use Rattle.fl_ranges.specs.Inside.RunList.{meant, run_at, held_at, IsWhole, AreRuns}
-use Rattle.fl_ranges.specs.Inside.LockRows.{LockRow, LockRows, run_of, runs_of, runs_in, table_runs, row_marks, AreOnChain, IsLockTable}
+use Rattle.fl_ranges.specs.Inside.LockRows.{LockRow, LockRows, run_of, runs_of, runs_in, table_runs, row_marks}
+use Rattle.fl_ranges.specs.Inside.LockRows.{AreOnChain, IsLockTable}
 use Rattle.fl_ranges.proofs.Each.{all_append, all_weaker}
 use Rattle.fl_ranges.proofs.Markings.{spots_total, exact_spots, get-kept_nodes}
 use Rattle.fl_ranges.proofs.RunLists.{at_spot, run_has, each_filter, keep, run_at-filter, apart-filter}

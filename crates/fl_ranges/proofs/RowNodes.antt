@@ -1,5 +1,6 @@
 -- The rows of a node, taken out of its chain one after another.
-use Rattle.std.proofs.Common.{◌≡◌, ◌≢◌, ℕ, zero, suc, ◌+◌, ◌<◌, ◌≤◌, Bool, true, false, cond, ◌||◌, ◌==◌, Some, None, List, [], ◌∷◌, take, drop, length, set}
+use Rattle.std.proofs.Common.{◌≡◌, ◌≢◌, ℕ, zero, suc, ◌+◌, ◌<◌, ◌≤◌, Bool, true, false, cond, ◌||◌, ◌==◌, Some, None}
+use Rattle.std.proofs.Common.{List, [], ◌∷◌, take, drop, length, set}
 use Rattle.std.proofs.Common.{remove, slice_get, get_or, refl, ap, sym, ◌∙◌, subst, arith}
 use Rattle.std.proofs.lemmas.Bool.{eqb-true, eq-eqb, false_from_ne_true}
 use Rattle.std.proofs.lemmas.Bool.Decides.{nat_tests}
@@ -10,13 +11,14 @@ use Rattle.std.specs.FinMap.{get, same_map}
 use Rattle.fl_arena.specs.declared.cursors.Cursor.{Cursor}
 use Rattle.fl_spans.specs.declared.span.Span.{Span}
 use Rattle.fl_spans.specs.Spans.{mark_at}
-use Rattle.fl_rows.specs.Rows.{row_lists, rows, keys, limit_of, row_cursor, HasRoomOf, IsRow}
+use Rattle.fl_spans.specs.Rows.{row_lists, rows, keys, limit_of, row_cursor, HasRoomOf, IsRow}
 use Rattle.fl_ranges.specs.declared.lock.Key.{Key}
 use Rattle.fl_ranges.specs.declared.lock.Mark.{Mark}
 use Rattle.fl_ranges.specs.Marking.{class_number, key_cmp, Spot, Marking, stroked}
 use Rattle.fl_ranges.specs.Runs.{without_node}
 use Rattle.fl_ranges.specs.Placing.{home}
-use Rattle.fl_ranges.specs.Inside.LockRows.{LockRow, LockRows, goes_before, AreInOrder, row_marks, row_index, has_row, spans_of, IsLockTable}
+use Rattle.fl_ranges.specs.Inside.LockRows.{LockRow, LockRows, key_precedes, AreInOrder, row_marks, row_index, has_row}
+use Rattle.fl_ranges.specs.Inside.LockRows.{spans_of, IsLockTable}
 use Rattle.fl_ranges.proofs.Markings.{spots_total, exact_spots, get-stroked, get-without_node}
 use Rattle.fl_ranges.proofs.Spots.{same_key, key_itself, within, home_less}
 use Rattle.fl_ranges.proofs.Each.{all_weaker, all_append}
@@ -30,7 +32,7 @@ IsOff node r = r.key.node ≢ node
 
 -- ---- the place of a row in order
 
-not_itself : (key : Key) → goes_before key key ≡ false
+not_itself : (key : Key) → key_precedes key key ≡ false
 not_itself key = false_from_ne_true _ (λ before. cc (sym (before_differs key key before) ∙ key_itself key))
 
 -- a row of a list in order stands at its key's place
@@ -39,16 +41,16 @@ own_index [] zero r more order here = absurd (cc here)
 own_index [] (suc j) r more order here = absurd (cc here)
 own_index (x ∷ xs) zero r more order here =
     let is : x ≡ r = cc here in
-    index_end r.key x xs (ap (λ (y : LockRow). goes_before y.key r.key) is ∙ not_itself r.key)
+    index_end r.key x xs (ap (λ (y : LockRow). key_precedes y.key r.key) is ∙ not_itself r.key)
 own_index (x ∷ xs) (suc j) r more order here =
     let rest = own_index xs j r more order.1 here in
     index_more r.key x xs (later xs j order.0 here) ∙ ap suc rest
   where
-    later : (ys : List LockRow) (i : ℕ) → AllByRecursion (λ (y : LockRow). goes_before x.key y.key ≡ true) ys → drop i ys ≡ r ∷ more →
-        goes_before x.key r.key ≡ true
+    later : (ys : List LockRow) (i : ℕ) → AllByRecursion (λ (y : LockRow). key_precedes x.key y.key ≡ true) ys → drop i ys ≡ r ∷ more →
+        key_precedes x.key r.key ≡ true
     later [] zero each at = absurd (cc at)
     later [] (suc i) each at = absurd (cc at)
-    later (y ∷ ys) zero each at = let is : y ≡ r = cc at in ap (λ (z : LockRow). goes_before x.key z.key) (sym is) ∙ each.0
+    later (y ∷ ys) zero each at = let is : y ≡ r = cc at in ap (λ (z : LockRow). key_precedes x.key z.key) (sym is) ∙ each.0
     later (y ∷ ys) (suc i) each at = later ys i each.1 at
 
 pub own_row : (rs : List LockRow) (j : ℕ) (r : LockRow) (more : List LockRow) → drop j rs ≡ r ∷ more → has_row r.key rs ≡ true
@@ -86,7 +88,7 @@ less_node a b c d e f before = grind (arith, nat_tests)
 pub off_behind : (node : ℕ) (r : LockRow) (rs : List LockRow) → AreInOrder (r ∷ rs) → node < r.key.node → AllByRecursion (IsOff node) (r ∷ rs)
 off_behind node r rs order past = (
   λ same. omega (arith, past, same),
-  all_weaker (λ (x : LockRow). goes_before r.key x.key ≡ true) (IsOff node)
+  all_weaker (λ (x : LockRow). key_precedes r.key x.key ≡ true) (IsOff node)
       (λ x before same.
       let upto = less_node r.key.node x.key.node (class_number r.key.class) (class_number x.key.class) r.key.owner x.key.owner before in
       omega (arith, past, upto, same)) rs order.0,

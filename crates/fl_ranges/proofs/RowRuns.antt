@@ -1,5 +1,6 @@
 -- The runs of rows: they are runs, and give a spot the mark that the spans of its key's row give.
-use Rattle.std.proofs.Common.{◌≡◌, ◌≢◌, ℕ, zero, suc, ◌-◌, Bool, true, false, cond, Option, Some, None, List, [], ◌∷◌, ◌++◌, map, length, get_or, refl, ap, sym}
+use Rattle.std.proofs.Common.{◌≡◌, ◌≢◌, ℕ, zero, suc, ◌-◌, Bool, true, false, cond, Option, Some, None, List, [], ◌∷◌}
+use Rattle.std.proofs.Common.{◌++◌, map, length, get_or, refl, ap, sym}
 use Rattle.std.proofs.Common.{◌∙◌, subst, arith}
 use Rattle.std.proofs.lemmas.Bool.{false_from_ne_true}
 use Rattle.std.proofs.lemmas.Cmp.{on_total, then_total}
@@ -18,13 +19,15 @@ use Rattle.fl_ranges.specs.Marking.{class_number, key_cmp, Spot, marking_of}
 use Rattle.fl_ranges.specs.Runs.{runs}
 use Rattle.fl_ranges.specs.Placing.{home}
 use Rattle.fl_ranges.specs.Inside.RunList.{meant, has_spot, run_at, held_at, AreApart, IsWhole, AreRuns}
-use Rattle.fl_ranges.specs.Inside.LockRows.{LockRow, run_of, runs_of, runs_in, place_cmp, goes_before, AreInOrder, spans_of, AreOnChain, AreLockRows}
+use Rattle.fl_ranges.specs.Inside.LockRows.{LockRow, run_of, runs_of, runs_in, place_cmp, key_precedes, AreInOrder}
+use Rattle.fl_ranges.specs.Inside.LockRows.{spans_of, AreOnChain, AreLockRows}
 use Rattle.fl_ranges.proofs.Markings.{keys_total}
 use Rattle.fl_ranges.proofs.Spots.{same_key, key_itself}
 use Rattle.fl_ranges.proofs.RunLists.{at_spot}
 use Rattle.fl_ranges.proofs.Counting.{get-runs, runs_length}
 use Rattle.fl_ranges.proofs.Each.{all_weaker, all_both, all_append}
-use Rattle.fl_ranges.proofs.SpanMarks.{Begins, begin_all, each_span, held_row, unheld, held_append, apart_row, apart_append}
+use Rattle.fl_ranges.proofs.SpanMarks.{Begins, begin_all, each_span, held_row, unheld, held_append, apart_row}
+use Rattle.fl_ranges.proofs.SpanMarks.{apart_append}
 
 -- ---- keys
 
@@ -37,10 +40,10 @@ pub turned_key : (a b : Key) → eq_by_cmp key_cmp a b ≡ false → eq_by_cmp k
 turned_key a b other = sym ((eq_by_cmp_equiv keys_total).symm a b) ∙ other
 
 -- a key that goes before another isn't that one
-pub before_differs : (a b : Key) → goes_before a b ≡ true → eq_by_cmp key_cmp b a ≡ false
+pub before_differs : (a b : Key) → key_precedes a b ≡ true → eq_by_cmp key_cmp b a ≡ false
 before_differs a b before = false_from_ne_true _ (λ same.
     let is : b ≡ a = same_key b a same in
-    cc (sym before ∙ ap (goes_before a) is ∙ ap is_lt (tied_itself keys_placed a)))
+    cc (sym before ∙ ap (key_precedes a) is ∙ ap is_lt (tied_itself keys_placed a)))
 
 -- ---- rows of different keys
 
@@ -141,7 +144,7 @@ each_row P (rs ∷ rss) each = all_append P rs (rows_in rss) (each 0) (each_row 
 distinct_chain : (rs : List LockRow) → AreInOrder rs → AreDistinct rs
 distinct_chain [] order = tt
 distinct_chain (r ∷ rs) order = (
-  all_weaker (λ (x : LockRow). goes_before r.key x.key ≡ true) (IsOther r.key) (λ x before. before_differs r.key x.key before) rs order.0,
+  all_weaker (λ (x : LockRow). key_precedes r.key x.key ≡ true) (IsOther r.key) (λ x before. before_differs r.key x.key before) rs order.0,
   distinct_chain rs order.1,
 )
 

@@ -1,5 +1,6 @@
 -- A stroke on rows: on the row of its key, or on none.
-use Rattle.std.proofs.Common.{◌≡◌, ◌≢◌, ◌↔◌, ℕ, ◌+◌, ◌<◌, ◌≤◌, Bool, true, false, cond, ◌&&◌, nat_le, Option, Some, None, List, [], ◌∷◌, length, set}
+use Rattle.std.proofs.Common.{◌≡◌, ◌≢◌, ◌↔◌, ℕ, ◌+◌, ◌<◌, ◌≤◌, Bool, true, false, cond, ◌&&◌, nat_le, Option, Some}
+use Rattle.std.proofs.Common.{None, List, [], ◌∷◌, length, set}
 use Rattle.std.proofs.Common.{insert, remove}
 use Rattle.std.proofs.Common.{refl, ap, sym, ◌∙◌, subst, inl, inr, arith}
 use Rattle.std.specs.Prelude.{Result, Ok, Err, IsErr, OnOk, OnErr}
@@ -11,13 +12,14 @@ use Rattle.fl_arena.specs.declared.cursors.Cursor.{Cursor}
 use Rattle.fl_spans.specs.declared.span.Span.{Span}
 use Rattle.fl_spans.specs.Spans.{mark_at, AreSpans}
 use Rattle.fl_spans.specs.Row.{spans_at, with_spans}
-use Rattle.fl_rows.specs.Rows.{row_lists, rows, limit_of, run_count, runs_at, with_runs, row_cursor, HasRoomOf}
+use Rattle.fl_spans.specs.Rows.{row_lists, rows, limit_of, run_count, runs_at, with_runs, row_cursor, HasRoomOf}
 use Rattle.fl_ranges.specs.declared.lock.Key.{Key}
 use Rattle.fl_ranges.specs.declared.lock.Mark.{Mark}
 use Rattle.fl_ranges.specs.Marking.{key_cmp, stroked}
 use Rattle.fl_ranges.specs.Runs.{runs}
 use Rattle.fl_ranges.specs.Placing.{home}
-use Rattle.fl_ranges.specs.Inside.LockRows.{LockRow, LockRows, row_marks, row_index, has_row, spans_of, given_spans, IsLockTable}
+use Rattle.fl_ranges.specs.Inside.LockRows.{LockRow, LockRows, row_marks, row_index, has_row, spans_of, given_spans}
+use Rattle.fl_ranges.specs.Inside.LockRows.{IsLockTable}
 use Rattle.fl_ranges.proofs.SpanMarks.{in_time, none_past}
 use Rattle.fl_ranges.proofs.RowPlaces.{inserted_row, unchanged_rows, no_row_spans, changed_row, row_spans, removed_row}
 use Rattle.fl_ranges.proofs.RowTables.{table_given, table_stroked, table_room}

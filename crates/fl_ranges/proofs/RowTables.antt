@@ -1,5 +1,6 @@
 -- A table in rows once one key's row has other spans: it is one again, with as many runs more, and other marks of that key alone.
-use Rattle.std.proofs.Common.{◌≡◌, ◌≢◌, ℕ, ◌+◌, ◌<◌, ◌≤◌, Bool, true, false, cond, ◌&&◌, ◌==◌, nat_le, Option, List, [], ◌∷◌, map, length, get_or}
+use Rattle.std.proofs.Common.{◌≡◌, ◌≢◌, ℕ, ◌+◌, ◌<◌, ◌≤◌, Bool, true, false, cond, ◌&&◌, ◌==◌, nat_le, Option, List, []}
+use Rattle.std.proofs.Common.{◌∷◌, map, length, get_or}
 use Rattle.std.proofs.Common.{set, refl, ap, sym, ◌∙◌, subst, arith, length-append, sum_by}
 use Rattle.std.proofs.lemmas.Bool.{eqb-true, eq-eqb}
 use Rattle.std.proofs.lemmas.List.{get_or-set_same, get_or-set_other, length-map}
@@ -10,14 +11,15 @@ use Rattle.std.specs.Ordering.{eq_by_cmp}
 use Rattle.std.specs.FinMap.{get, same_map}
 use Rattle.fl_spans.specs.declared.span.Span.{Span}
 use Rattle.fl_spans.specs.Spans.{mark_at, AreSpans}
-use Rattle.fl_rows.specs.Rows.{row_lists, rows, run_count, HasRoomOf}
+use Rattle.fl_spans.specs.Rows.{row_lists, rows, run_count, HasRoomOf}
 use Rattle.fl_ranges.specs.declared.lock.Key.{Key}
 use Rattle.fl_ranges.specs.declared.lock.Mark.{Mark}
 use Rattle.fl_ranges.specs.Marking.{key_cmp, Spot, Marking, stroked, marking_of}
 use Rattle.fl_ranges.specs.Runs.{runs}
 use Rattle.fl_ranges.specs.Placing.{home}
 use Rattle.fl_ranges.specs.Inside.RunList.{meant}
-use Rattle.fl_ranges.specs.Inside.LockRows.{LockRow, LockRows, run_of, runs_of, runs_in, table_runs, row_marks, spans_of, given_spans, AreLockRows, IsLockTable}
+use Rattle.fl_ranges.specs.Inside.LockRows.{LockRow, LockRows, run_of, runs_of, runs_in, table_runs, row_marks}
+use Rattle.fl_ranges.specs.Inside.LockRows.{spans_of, given_spans, AreLockRows, IsLockTable}
 use Rattle.fl_ranges.proofs.Markings.{spots_total, exact_spots, get-stroked}
 use Rattle.fl_ranges.proofs.Spots.{same_key, home_less}
 use Rattle.fl_ranges.proofs.RowRuns.{mark_kept, runs_kept}

@@ -23,10 +23,10 @@ held_still m n key start end kind owner stays h =
     let c = w.conflict in
     (owner_conflict_words n key start end kind owner).1 (record {
       conflict = record {
-        rival = c.rival;
+        contender = c.contender;
         byte = c.byte;
         mark = c.mark;
-        held = stays c.rival c.byte c.mark w.of c.class c.held;
+        held = stays c.contender c.byte c.mark w.of c.class c.held;
         class = c.class;
         node = c.node;
         other = c.other;

@@ -1,7 +1,8 @@
 -- The calls of a table: what contracts see of it.
-use Rattle.std.proofs.Common.{◌≡◌, ℕ, ◌+◌, ◌-◌, ◌≤◌, zero, suc, List, [], replicate, get_or, length, refl, ap, sym, ◌∙◌, subst, arith}
+use Rattle.std.proofs.Common.{◌≡◌, ℕ, ◌+◌, ◌-◌, ◌≤◌, zero, suc, List, [], replicate, get_or, length, refl, ap, sym, ◌∙◌}
+use Rattle.std.proofs.Common.{subst, arith}
 use Rattle.std.specs.List.{flat_map}
-use Rattle.fl_rows.specs.Rows.{row_lists, limit_of, run_count}
+use Rattle.fl_spans.specs.Rows.{row_lists, limit_of, run_count}
 use Rattle.fl_ranges.specs.Marking.{Marking}
 use Rattle.fl_ranges.specs.Runs.{runs}
 use Rattle.fl_ranges.specs.LockTable.{LockTable}

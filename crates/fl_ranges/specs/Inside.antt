@@ -3,4 +3,4 @@ pub mod RunList
 pub mod LockRows
 pub mod Nearest
 pub mod Owners
-pub mod Rivals
+pub mod Contenders

@@ -1,12 +1,12 @@
 //! The lock that F_GETLK names.
 ghost use Rattle.std.specs.Prelude.{◌≡◌, ℕ, None, option_map};
-ghost use Rattle.fl_rows.specs.Rows.{rows, chain_count};
+ghost use Rattle.fl_spans.specs.Rows.{rows, chain_count};
 ghost use Rattle.fl_ranges.specs.Inside.LockRows.{table_runs, AreLockRows};
 ghost use Rattle.fl_ranges.specs.Inside.Nearest.{nearest_from, lock_of};
 
+use crate::contenders::{conflicting_span, first_of_class, owner_at};
 use crate::held::Held;
 use crate::lock::{Key, Kind, Mark, Range};
-use crate::rivals::{excluding_span, first_of_class, owner_at};
 use crate::run::Run;
 use crate::table::Table;
 use fl_spans::{Rows, Span};
@@ -15,8 +15,8 @@ impl Table {
     ghost use Rattle.fl_ranges.specs.Blocker.{blocker};
 
     /// The lock that F_GETLK names (POSIX.1-2017 `fcntl`): at the least byte of the range at which a lock of
-    /// another owner excludes one of this kind, that of the least such owner, on all the bytes around that one
-    /// on which it has the same mark. None where no lock excludes it.
+    /// another owner conflicts with one of this kind, that of the least such owner, on all the bytes around that one
+    /// on which it has the same mark. None where no lock conflicts with it.
     pub fn blocker(&self, key: &Key, range: &Range, kind: Kind) -> Option<Held>
         ensures { result ≡ blocker self.now.marking key.now range.now.start range.now.end kind }
     {
@@ -37,9 +37,9 @@ fn lock_of(run: Option<Run>) -> Option<Held>
     })
 }
 
-// Of the runs that exclude a lock of this kind, by this key, on the range, that with the least first byte in the range,
-// and of those the least owner's. Rows stand in the order of their owners, so a later one is looked at up to the byte
-// before that of the nearest so far.
+// Of the runs that conflict with a lock of this kind, by this key, on the range, that with the least first byte in
+// the range, and of those the least owner's. Rows stand in the order of their owners, so a later one is looked at up
+// to the byte before that of the nearest so far.
 fn nearest(table: &Rows<Key, Span<Mark>>, key: &Key, range: &Range, kind: Kind) -> Option<Run>
     requires chains { chain_count table.now ≡ 256 }
     requires kept { (c : ℕ) → AreLockRows c (rows table.now c) }
@@ -54,7 +54,7 @@ fn nearest(table: &Rows<Key, Span<Mark>>, key: &Key, range: &Range, kind: Kind) 
             start: range.start,
             end: last,
         };
-        if let Some(span) = excluding_span(table, &row, owner, key, &part, kind) {
+        if let Some(span) = conflicting_span(table, &row, owner, key, &part, kind) {
             best = Some(Run {
                 key: Key { owner, ..*key },
                 start: span.start,

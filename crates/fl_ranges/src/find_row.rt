@@ -1,18 +1,18 @@
 //! Locks in rows, one for each key that has a mark, in the order of keys.
 ghost use Rattle.std.specs.Prelude.{◌≡◌, ◌+◌, true, IsSome, drop};
 ghost use Rattle.std.specs.Ordering.{eq_by_cmp};
-ghost use Rattle.fl_rows.specs.Rows.{rows, limit_of, row_cursor, IsRow};
+ghost use Rattle.fl_spans.specs.Rows.{rows, limit_of, row_cursor, IsRow};
 ghost use Rattle.fl_ranges.specs.Marking.{key_cmp};
 ghost use Rattle.fl_ranges.specs.Placing.{home};
-ghost use Rattle.fl_ranges.specs.Inside.LockRows.{goes_before, row_index, has_row, IsLockTable};
+ghost use Rattle.fl_ranges.specs.Inside.LockRows.{key_precedes, row_index, has_row, IsLockTable};
 
 use crate::chain::home;
 use crate::lock::{Key, Mark};
 use fl_spans::{Cursor, Rows, Span};
 
 // Whether the row of a key stands before that of another one: by node, then class, then owner.
-fn goes_before(a: &Key, b: &Key) -> bool
-    ensures { result ≡ goes_before a.now b.now }
+fn key_precedes(a: &Key, b: &Key) -> bool
+    ensures { result ≡ key_precedes a.now b.now }
 {
     if a.node != b.node {
         return a.node < b.node;
@@ -30,8 +30,8 @@ fn is_same(a: &Key, b: &Key) -> bool
     *a == *b
 }
 
-// Where the walk to a key's place begins: at its chain's last row where that stands before it, since what is greater than all
-// before comes last, and else at the first.
+// Where the walk to a key's place begins: at its chain's last row where that stands before it, since what is greater
+// than all before comes last, and else at the first.
 fn walk_start(table: &Rows<Key, Span<Mark>>, key: &Key) -> Cursor
     requires table { IsLockTable table.now (limit_of table.now) }
     ensures row { IsRow table.now result }
@@ -44,19 +44,20 @@ fn walk_start(table: &Rows<Key, Span<Mark>>, key: &Key) -> Cursor
     let chain = home(key.node);
     let last = table.last_row(chain);
     if let Some(here) = table.key(&last) {
-        if goes_before(here, key) {
+        if key_precedes(here, key) {
             return last;
         }
     }
     table.first_row(chain)
 }
 
-// The cursor at the first row of the key's chain that doesn't go before the key's, and whether it is the key's own. It looks
-// at the last row first.
+// The cursor at the first row of the key's chain that doesn't precede the key's, and whether it is the key's own.
+// It looks at the last row first.
 #[inline(always)]
 pub(crate) fn find_row(table: &Rows<Key, Span<Mark>>, key: &Key) -> (Cursor, bool)
     requires table { IsLockTable table.now (limit_of table.now) }
-    ensures at { result.0 ≡ row_cursor table.now (home key.now.node) (row_index key.now (rows table.now (home key.now.node))) }
+    ensures at { result.0 ≡ row_cursor table.now (home key.now.node)
+        (row_index key.now (rows table.now (home key.now.node))) }
     ensures row { IsRow table.now result.0 }
     ensures own { result.1 ≡ has_row key.now (rows table.now (home key.now.node)) }
     ensures at_row { result.1 ≡ true → IsSome result.0.slot }
@@ -73,14 +74,15 @@ pub(crate) fn find_row(table: &Rows<Key, Span<Mark>>, key: &Key) -> (Cursor, boo
 // The same, by a walk along the rows.
 fn walk_to_row(table: &Rows<Key, Span<Mark>>, key: &Key) -> (Cursor, bool)
     requires table { IsLockTable table.now (limit_of table.now) }
-    ensures at { result.0 ≡ row_cursor table.now (home key.now.node) (row_index key.now (rows table.now (home key.now.node))) }
+    ensures at { result.0 ≡ row_cursor table.now (home key.now.node)
+        (row_index key.now (rows table.now (home key.now.node))) }
     ensures row { IsRow table.now result.0 }
     ensures own { result.1 ≡ has_row key.now (rows table.now (home key.now.node)) }
     ensures at_row { result.1 ≡ true → IsSome result.0.slot }
 {
     let mut row = walk_start(table, key);
     while let Some(here) = table.key(&row) {
-        if !goes_before(here, key) {
+        if !key_precedes(here, key) {
             return (row, is_same(here, key));
         }
         table.next_row(&mut row);

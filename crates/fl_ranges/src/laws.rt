@@ -47,9 +47,9 @@ pub fn no_mark_is_left_on_the_node()
         get (without_node node m) spot ≡ (if spot.0.node == node then None else get m spot) }
 {}
 
-/// The lock that is named for a request is that of the least owner that excludes it at the least byte at which
+/// The lock that is named for a request is that of the least owner that conflicts with it at the least byte at which
 /// one does, on the longest row of bytes around that byte; none is named exactly where there is no conflict.
-pub fn blocker_is_the_first_lock_that_excludes()
+pub fn blocker_is_the_first_lock_in_conflict()
     ensures named { (m : Marking) (key : Holder) (start end : ℕ) (kind : Sharing) (held : Lock) →
         end ≤ 9223372036854775807 → (blocker m key start end kind ≡ Some held) ↔ IsBlocker m key start end kind held }
     ensures none { (m : Marking) (key : Holder) (start end : ℕ) (kind : Sharing) →

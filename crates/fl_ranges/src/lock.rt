@@ -15,9 +15,9 @@ pub enum Class {
 /// Shared or exclusive.
 #[derive(Clone, Copy, Debug, PartialEq, Eq)]
 pub enum Kind {
-    /// Shared: it excludes write locks (F_RDLCK of POSIX.1-2017 `fcntl`).
+    /// Shared: it conflicts with write locks (F_RDLCK of POSIX.1-2017 `fcntl`).
     Read,
-    /// Exclusive: it excludes every other lock (F_WRLCK).
+    /// Exclusive: it conflicts with every other lock (F_WRLCK).
     Write,
 }
 

@@ -1,27 +1,27 @@
-//! The owners whose locks exclude one that is asked for: one after another, or all that are asked for at once.
+//! The owners whose locks conflict with one that is asked for: one after another, or all that are asked for at once.
 ghost use Rattle.std.specs.Prelude.{◌≡◌, ◌≤◌, ◌<◌, ◌||◌, ℕ, false, None, IsSome, is_some, length, slice_index_or};
 ghost use Rattle.std.specs.List.{find, list_any};
 ghost use Rattle.std.specs.List.Sorted.{IsNonDecreasing};
-ghost use Rattle.fl_rows.specs.Rows.{rows, chain_count, IsRow};
+ghost use Rattle.fl_spans.specs.Rows.{rows, chain_count, IsRow};
 ghost use Rattle.fl_spans.specs.Row.{spans_at};
 ghost use Rattle.fl_spans.specs.Spans.{AreSpans};
 ghost use Rattle.fl_ranges.specs.Conflict.{AreFound};
 ghost use Rattle.fl_ranges.specs.Inside.LockRows.{table_runs, AreLockRows};
-ghost use Rattle.fl_ranges.specs.Inside.Owners.{is_after, least_from, run_excludes_by};
-ghost use Rattle.fl_ranges.specs.Inside.Rivals.{span_excludes};
+ghost use Rattle.fl_ranges.specs.Inside.Owners.{is_after, least_from, run_conflicts_by};
+ghost use Rattle.fl_ranges.specs.Inside.Contenders.{span_conflicts};
 
 use crate::asked::{all_set, set_all, skip_less, skip_same};
+use crate::contenders::{conflicting_span, first_of_class, owner_at};
 use crate::lock::{Key, Kind, Mark, Range};
-use crate::rivals::{excluding_span, first_of_class, owner_at};
 use crate::table::Table;
 use fl_spans::{Cursor, Rows, Span};
 
 impl Table {
     ghost use Rattle.fl_ranges.specs.Conflict.{owner_conflicts, IsLeastAfter};
 
-    /// The least owner with a lock that excludes one of this kind, of those owners that are greater than the one that
-    /// is given; of all where none is given. None where no such owner has one.
-    pub fn clash_owner_after(
+    /// The least owner with a lock that conflicts with one of this kind, of those owners that are greater than the
+    /// one that is given; of all where none is given. None where no such owner has one.
+    pub fn conflicting_owner_after(
         &self,
         key: &Key,
         range: &Range,
@@ -33,10 +33,10 @@ impl Table {
         least_after(&self.rows, key, range, kind, after)
     }
 
-    /// Finds those of these owners who have a lock that excludes one of this kind, in one walk along the owners of the
-    /// node: `found` is set at the place of each. What is set already stays, and isn't asked for again. The owners are
-    /// in ascending order, and one may stand there more than once.
-    pub fn find_rivals(
+    /// Finds those of these owners who have a lock that conflicts with one of this kind, in one walk along the owners
+    /// of the node: `found` is set at the place of each. What is set already stays, and isn't asked for again. The
+    /// owners are in ascending order, and one may stand there more than once.
+    pub fn find_conflicting_owners(
         &self,
         key: &Key,
         range: &Range,
@@ -63,8 +63,9 @@ fn is_after(after: Option<u64>, owner: u64) -> bool
     }
 }
 
-// The least owner that has a lock which excludes one of this kind, by this key, on the range, of those greater than the
-// one that is given. The rows stand in the order of their owners, so it is that of the first row that has one.
+// The least owner that has a lock which conflicts with one of this kind, by this key, on the range, of those greater
+// than the one that is given. The rows stand in the order of their owners, so it is that of the first row that has
+// one.
 fn least_after(
     table: &Rows<Key, Span<Mark>>,
     key: &Key,
@@ -80,7 +81,7 @@ fn least_after(
     let mut row = first_of_class(table, key);
     while let Some(owner) = owner_at(table, key, &row) {
         if is_after(after, owner)
-            && excluding_span(table, &row, owner, key, range, kind).is_some()
+            && conflicting_span(table, &row, owner, key, range, kind).is_some()
         {
             return Some(owner);
         }
@@ -89,8 +90,8 @@ fn least_after(
     None
 }
 
-// Sets the places of those of these owners who have a lock which excludes one of this kind, by this key, on the range.
-// The rows stand in the order of their owners too, so it is one walk along both.
+// Sets the places of those of these owners who have a lock which conflicts with one of this kind, by this key, on the
+// range. The rows stand in the order of their owners too, so it is one walk along both.
 fn find_among(
     table: &Rows<Key, Span<Mark>>,
     key: &Key,
@@ -104,7 +105,7 @@ fn find_among(
     requires chains { chain_count table.now ≡ 256 }
     requires kept { (c : ℕ) → AreLockRows c (rows table.now c) }
     ensures { AreFound
-        (λ o. list_any (run_excludes_by key.now range.now.start range.now.end kind o) (table_runs table.now))
+        (λ o. list_any (run_conflicts_by key.now range.now.start range.now.end kind o) (table_runs table.now))
         owners.now found.old found.new }
 {
     let mut row = first_of_class(table, key);
@@ -120,8 +121,8 @@ fn find_among(
     }
 }
 
-// Sets the places from one up to another where the row at the cursor has a span that excludes the lock. It doesn't look
-// into the row where all of them are set. The row is this owner's, of the key's class and node.
+// Sets the places from one up to another where the row at the cursor has a span that conflicts with the lock. It
+// doesn't look into the row where all of them are set. The row is this owner's, of the key's class and node.
 fn look_into(
     table: &Rows<Key, Span<Mark>>,
     row: &Cursor,
@@ -140,12 +141,14 @@ fn look_into(
     requires within { end ≤ length found.old }
     ensures set { (k : ℕ) → from ≤ k → k < end → slice_index_or found.new k false
         ≡ (slice_index_or found.old k false
-        || is_some (find (span_excludes key.now owner range.now.start range.now.end kind)
+        || is_some (find (span_conflicts key.now owner range.now.start range.now.end kind)
         (spans_at table.now row.now))) }
     ensures before { (k : ℕ) → k < from → slice_index_or found.new k false ≡ slice_index_or found.old k false }
     ensures behind { (k : ℕ) → end ≤ k → slice_index_or found.new k false ≡ slice_index_or found.old k false }
 {
-    if !all_set(found, from, end) && excluding_span(table, row, owner, key, range, kind).is_some() {
+    if !all_set(found, from, end)
+        && conflicting_span(table, row, owner, key, range, kind).is_some()
+    {
         set_all(found, from, end);
     }
 }

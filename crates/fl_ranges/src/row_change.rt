@@ -1,6 +1,6 @@
 //! Changes of locks in rows.
 ghost use Rattle.std.specs.Prelude.{◌≡◌, ◌<◌, ◌↔◌, None, IsErr, OnOk, OnErr};
-ghost use Rattle.fl_rows.specs.Rows.{limit_of};
+ghost use Rattle.fl_spans.specs.Rows.{limit_of};
 ghost use Rattle.fl_ranges.specs.Marking.{stroke_on, stroked};
 ghost use Rattle.fl_ranges.specs.Runs.{runs, without_node};
 ghost use Rattle.fl_ranges.specs.Inside.LockRows.{row_marks, IsLockTable};

@@ -3,7 +3,7 @@ ghost use Rattle.std.specs.Prelude.{◌≡◌, ◌≢◌, ◌≤◌, ◌<◌, �
 ghost use Rattle.std.specs.FinMap as map;
 
 use crate::chain::CHAINS;
-use crate::conflict::some_excludes;
+use crate::conflict::some_conflicts;
 use crate::lock::{Class, Key, Kind, LAST_BYTE, Mark, Range};
 use crate::row_change;
 use fl_arena::Place;
@@ -135,15 +135,16 @@ impl Table {
         row_change::erase_node(&mut self.rows, node);
     }
 
-    /// Whether some lock that is held excludes a lock of this kind.
-    pub fn clashes(&self, key: &Key, range: &Range, kind: Kind) -> bool
+    /// Whether some lock that is held conflicts with a lock of this kind.
+    pub fn conflicts(&self, key: &Key, range: &Range, kind: Kind) -> bool
         ensures { result ≡ conflicts self.now.marking key.now range.now.start range.now.end kind }
     {
-        some_excludes(&self.rows, key, range, kind)
+        some_conflicts(&self.rows, key, range, kind)
     }
 
-    /// Where the slot of a run is: slots are numbered from 0, and each is free or holds a run, which stands on the chain
-    /// of its key. This walks along its chain.
+    /// Where the slot of a run is: slots are numbered from 0, and each is free or holds a run, which stands on the
+    /// chain of its key. This walks along its chain. No clause says that the answer is about this very slot: one that
+    /// says that the first slots are in use is let through, and tests refuse it.
     pub fn slot_place(&self, slot: usize) -> Place
         requires { slot < self.now.limit }
         ensures on { (chain index : ℕ) → result ≡ Place.On chain index → index < runs self.now.marking }
@@ -152,8 +153,8 @@ impl Table {
         self.rows.slot_place(slot)
     }
 
-    /// Where the slot of a key is: on chain `node mod 256` where its key has runs, or else on chain 256. This walks along
-    /// its chain.
+    /// Where the slot of a key is: on chain `node mod 256` where its key has runs, or else on chain 256. This walks
+    /// along its chain. One that always says chain 256 is let through by the clauses, and refused by tests.
     pub fn head_place(&self, slot: usize) -> Place
         requires { slot < self.now.limit }
         ensures on { (chain index : ℕ) → result ≡ Place.On chain index → chain < 256

@@ -1,5 +1,7 @@
 -- What a history asks for all of its workers is what it asks.
-use Rattle.std.proofs.Common.{◌≡◌, ℕ, zero, suc, ◌+◌, ◌≤◌, ◌==◌, Bool, true, false, List, [], ◌∷◌, ◌++◌, All, length, map, sum_by, refl, sym, ap, ◌∙◌, subst, arith, append-nil, append_assoc, length-append, ⊎_elim}
+use Rattle.std.proofs.Common.{◌≡◌, ℕ, zero, suc, ◌+◌, ◌≤◌, ◌==◌, Bool, true, false, List, [], ◌∷◌, ◌++◌, All, length}
+use Rattle.std.proofs.Common.{map, sum_by, refl, sym, ap, ◌∙◌, subst, arith, append-nil, append_assoc, length-append}
+use Rattle.std.proofs.Common.{⊎_elim}
 use Rattle.std.proofs.lemmas.Bool.Decides.{eqb_tells, leb_tells}
 use Rattle.std.proofs.lemmas.List.Elements.{All-head, All-tail}
 use Rattle.std.proofs.lemmas.List.Sums.{sum_by-append, sum_by-cons}
@@ -9,12 +11,12 @@ use mathlib.Core.List.{IsPrefix, Sublistᴰ, nil≢cons, head-eq_of_cons-eq, tai
 use mathlib.Core.List.Sublistᴰ as sublist
 use Rattle.fl_board.specs.Seats.{Place, is_asked_by, orders_by}
 use Rattle.fl_board.specs.Shown.{HasAllOf}
-use Rattle.fl_counter.specs.Asked.{Orders, asked, asked_by, order_asked_by}
+use Rattle.fl_desk.specs.Asked.{Orders, asked, asked_by, order_asked_by}
 use Rattle.fl_desk.specs.Legal.{is_asked, orders_asked}
 use Rattle.fl_history.specs.declared.history.Line.{Line}
 use Rattle.fl_history.specs.declared.history.Line.TheVariants as line
 use Rattle.fl_intake.specs.Often.{Weight}
-use Rattle.fl_crew.specs.Working.{IsCounted, Post, handed_at}
+use Rattle.fl_pool.specs.Working.{IsCounted, Post, handed_at}
 
 -- ---- what was handed in at a place is what the history asks for its worker
 

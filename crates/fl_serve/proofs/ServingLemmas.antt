@@ -1,5 +1,6 @@
 -- What a session with workers did.
-use Rattle.std.proofs.Common.{◌≡◌, ◌≢◌, ℕ, ◌⊎◌, inl, inr, ⊎_elim, Bool, true, false, true≢false, List, [], ◌++◌, Option, Some, None, length, map, sum_by, refl, sym, ap, subst, ◌∙◌, arith}
+use Rattle.std.proofs.Common.{◌≡◌, ◌≢◌, ℕ, ◌⊎◌, inl, inr, ⊎_elim, Bool, true, false, true≢false, List, [], ◌++◌, Option}
+use Rattle.std.proofs.Common.{Some, None, length, map, sum_by, refl, sym, ap, subst, ◌∙◌, arith}
 use Rattle.std.proofs.KnownBytes.{Appends-nil}
 use Rattle.std.proofs.lemmas.List.{length-map}
 use Rattle.std.proofs.lemmas.List.Elements.{All-nil}
@@ -9,30 +10,30 @@ use Rattle.std.specs.List.{range_with_len}
 use Rattle.std.specs.Prelude.{IfSome, IsSome}
 use Rattle.std.specs.Io.KnownBytes.{Keeps}
 use Rattle.fl_board.specs.Seats.{Place}
-use Rattle.fl_counter.specs.Asked.{Orders, asked}
+use Rattle.fl_desk.specs.Asked.{Orders, asked}
 use Rattle.fl_desk.specs.Legal.{IsLegal}
 use Rattle.fl_history.specs.declared.history.Line.{Line}
-use Rattle.fl_hearing.specs.Heard.{HasHeard}
-use Rattle.fl_session.specs.Inbox.{IsEnding}
 use Rattle.fl_intake.specs.Often.{Weight}
 use Rattle.fl_order.specs.Order.{only_reads}
 use Rattle.fl_order.specs.declared.order.Order.{Order}
+use Rattle.fl_pool.specs.Working.{HaveDone}
 use Rattle.fl_serve.proofs.AskedLemmas.{all_is_handed_in}
-use Rattle.fl_crew.specs.Working.{HaveDone}
-use Rattle.fl_serve.specs.Inside.Closing.{HasAll, IsKeptBy}
-use Rattle.fl_session.specs.Kept.{came_to, lines_kept}
-use Rattle.fl_hearing.specs.Said.{said_in}
-use Rattle.fl_serve.specs.Serve.{HasNoHistory, IsAsked, IsServedBy}
-use Rattle.fl_session.specs.Served.{EndsBy, IsRead}
-use Rattle.fl_session.specs.Session.{Came, session_of}
-use Rattle.fl_sending.specs.Shared.{HasSent, HasSentLast, IsSpelling}
-use Rattle.fl_wire.specs.Spell.{IsReply}
-use Rattle.fl_session.specs.declared.session.Fault.{Fault}
-use Rattle.fl_session.specs.declared.session.Fault.TheVariants.{NoMemory, NoReader}
-use Rattle.fl_session.specs.Talk.{bytes_of}
-use Rattle.fl_session.specs.declared.server.Owed.{Owed}
-use Rattle.fl_session.specs.declared.session.Done.{Done}
+use Rattle.fl_serve.specs.Inside.Closing.{HasAll}
+use Rattle.fl_serve.specs.Serve.{HasNoHistory, IsAsked, IsRecordedBy, IsServedBy, Streams}
+use Rattle.fl_session.specs.Recorded.{done_of, journal_lines}
+use Rattle.fl_session.specs.declared.done.Done.{Done}
+use Rattle.fl_session.specs.declared.recorded.Recorded.{Recorded}
+use Rattle.fl_transport.specs.Ending.{EndsBy, IsEnding, IsRead}
+use Rattle.fl_transport.specs.Handshake.{handshake_of}
+use Rattle.fl_transport.specs.Response.{bytes_of}
+use Rattle.fl_transport.specs.Said.{said_in}
+use Rattle.fl_transport.specs.declared.fault.Fault.{Fault}
+use Rattle.fl_transport.specs.declared.fault.Fault.TheVariants.{NoMemory, NoReader}
+use Rattle.fl_transport.specs.declared.response.Response.{Response}
 use Rattle.fl_waiting.specs.declared.rules.Rules.{Rules}
+use Rattle.fl_wire.specs.Spell.{IsReply}
+use Rattle.fl_workers.specs.Received.{HasReceived}
+use Rattle.fl_workers.specs.Sent.{HasSent, HasSentLast, IsSpelling}
 
 -- there is a seat for each worker
 pub as_many : (seats : List Place) (workers : ℕ) → map (λ seat. seat.worker) seats ≡ range_with_len 0 workers
@@ -41,10 +42,10 @@ as_many seats workers each =
     sym (length-map seats (λ seat. seat.worker)) ∙ ap length each ∙ length-range_with_len 0 workers
 
 -- no session ends by want of a reader, as long as its board is told
-pub never_no_reader : (rules : Rules) (told : Option Fault) (broken : Bool) (came : List Came) (rest : List ℕ)
-    (left : Option (List ℕ)) → EndsBy rules told broken came rest left → told ≢ Some NoReader
-never_no_reader rules told broken came rest left ends none =
-    subst (λ fault. EndsBy rules fault broken came rest left) none ends
+pub never_no_reader : (told : Option Fault) (broken : Bool) (messages : List (List ℕ)) (rest : List ℕ)
+    (left : Option (List ℕ)) → EndsBy told broken messages rest left → told ≢ Some NoReader
+never_no_reader told broken messages rest left ends none =
+    subst (λ fault. EndsBy fault broken messages rest left) none ends
 
 -- nothing was sent
 pub nothing_sent : (start : Option (List ℕ)) → HasSent start start [] false
@@ -55,11 +56,11 @@ nothing_sent start = record {
 }
 
 -- a session whose orders were put, and handed in, looked for or refused
-pub asked_as_said : (rules : Rules) (workers : ℕ) (came : List Came) (put : Orders) (orders : Weight → ℕ) (places : List Place)
-    (any : Bool) (fault : Option Fault) (done : Done) → put ≡ said_in rules came
+pub asked_as_said : (workers : ℕ) (messages : List (List ℕ)) (put : Orders) (orders : Weight → ℕ) (places : List Place)
+    (any : Bool) (fault : Option Fault) (done : Done) → put ≡ said_in messages
     → ((weight : Weight) → sum_by weight put ≡ orders weight) → HaveDone orders places any
-    → map (λ (p : Place). p.worker) places ≡ range_with_len 0 workers → HasAll places any fault done → IsAsked rules came done
-asked_as_said rules workers came put orders places any fault done said is did whose all = record {
+    → map (λ (p : Place). p.worker) places ≡ range_with_len 0 workers → HasAll places any fault done → IsAsked messages done
+asked_as_said workers messages put orders places any fault done said is did whose all = record {
   looked = did.looked;
   refused = did.refused;
   each = λ weight. omega (
@@ -78,36 +79,35 @@ asked_as_said rules workers came put orders places any fault done said is did wh
 }
 
 -- what a session did whose reader ended
-pub served_by : (rules : Rules) (workers : ℕ) (left left_now held held_now : Option (List ℕ)) (fault : Option Fault) (put : Orders)
-    (goodbye : Owed) (broken any : Bool) (orders : Weight → ℕ) (places : List Place) (done : Done)
-    → HasHeard rules left left_now fault put goodbye → HasSent held held_now [] broken
+pub served_by : (workers : ℕ) (left left_now held held_now : Option (List ℕ)) (fault : Option Fault) (put : Orders)
+    (goodbye : Response) (broken any : Bool) (orders : Weight → ℕ) (places : List Place) (done : Done)
+    → HasReceived left left_now fault put goodbye → HasSent held held_now [] broken
     → (broken ≡ false → HasSentLast held held_now (bytes_of goodbye))
-    → (told : Option Fault) → ((came : List Came) (rest : List ℕ) (left : Option (List ℕ))
-    → IsEnding fault (session_of rules came).over rest left → EndsBy rules told broken came rest left)
+    → (told : Option Fault) → ((messages : List (List ℕ)) (rest : List ℕ) (left : Option (List ℕ))
+    → IsEnding fault (handshake_of messages).over rest left → EndsBy told broken messages rest left)
     → ((weight : Weight) → sum_by weight put ≡ orders weight) → HaveDone orders places any
     → map (λ (p : Place). p.worker) places ≡ range_with_len 0 workers
-    → HasAll places any told done ⊎ HasNoHistory done → IsServedBy rules left left_now held held_now done
-served_by rules workers left left_now held held_now fault put goodbye broken any orders places done heard sent last told
+    → HasAll places any told done ⊎ HasNoHistory done → IsServedBy left left_now held held_now done
+served_by workers left left_now held held_now fault put goodbye broken any orders places done received sent last told
     ends is did whose closed = record {
-      came = heard.came;
-      rest = heard.rest;
+      messages = received.messages;
+      rest = received.rest;
       broken = broken;
-      is_read = heard.is_read;
-      bounded = heard.bounded;
+      is_read = received.is_read;
+      bounded = received.bounded;
       sent = sent;
-      goodbye = λ whole over. record { goodbye = goodbye; last = heard.over over; sent = last whole };
-      ending = ⊎_elim (λ all. inl (rw all.told (ends heard.came heard.rest left_now heard.ending))) inr closed;
+      goodbye = λ whole over. record { goodbye = goodbye; last = received.over over; sent = last whole };
+      ending = ⊎_elim (λ all. inl (rw all.told (ends received.messages received.rest left_now received.ending))) inr closed;
       orders = ⊎_elim
-          (λ all. inl (asked_as_said rules workers heard.came put orders places any told done heard.said is did whose all)) inr closed;
+          (λ all. inl (asked_as_said workers received.messages put orders places any told done received.said is did whose all)) inr closed;
     }
 
 -- what a session did that had no memory, or no reader
-pub unserved : (rules : Rules) (left left_now held held_now : Option (List ℕ)) (broken : Bool) (done : Done) (fault : Fault)
-    → IsRead rules left left_now [] []
-    → HasSent held held_now [] broken → done.fault ≡ Some fault → done.refused ≡ false → done.history ≡ []
-    → (fault ≡ NoMemory) ⊎ (fault ≡ NoReader) → IsServedBy rules left left_now held held_now done
-unserved rules left left_now held held_now broken done fault unread sent told untold none why = record {
-  came = [];
+pub unserved : (left left_now held held_now : Option (List ℕ)) (broken : Bool) (done : Done) (fault : Fault)
+    → IsRead left left_now [] [] → HasSent held held_now [] broken → done.fault ≡ Some fault → done.refused ≡ false → done.history ≡ []
+    → (fault ≡ NoMemory) ⊎ (fault ≡ NoReader) → IsServedBy left left_now held held_now done
+unserved left left_now held held_now broken done fault unread sent told untold none why = record {
+  messages = [];
   rest = [];
   broken = broken;
   is_read = unread;
@@ -115,7 +115,7 @@ unserved rules left left_now held held_now broken done fault unread sent told un
   sent = sent;
   goodbye = λ whole over. cc;
   ending = ⊎_elim (λ memory. inl
-      (subst (λ fault. EndsBy rules fault broken [] [] left_now) (sym (told ∙ ap Some memory)) (refl, refl)))
+      (subst (λ fault. EndsBy fault broken [] [] left_now) (sym (told ∙ ap Some memory)) (refl, refl)))
       (λ reader. inr (record { fault = told ∙ ap Some reader; history = none })) why;
   orders = inl (record {
     looked = [];
@@ -127,14 +127,16 @@ unserved rules left left_now held held_now broken done fault unread sent told un
   });
 }
 
--- the same, of which no lines were kept
-pub none_kept : {K : Type 0} (lines : K → List Line) (rules : Rules) (left left_now held held_now : Option (List ℕ)) (broken : Bool)
-    (keeper : Option K) (told : Option Fault) (any : Bool) (fault : Fault) → keeper ≡ None → told ≡ Some fault → any ≡ false
-    → IsRead rules left left_now [] [] → HasSent held held_now [] broken → (fault ≡ NoMemory) ⊎ (fault ≡ NoReader)
-    → Keeps left left_now → Keeps held held_now → IsKeptBy lines rules left left_now held held_now keeper told any
-none_kept lines rules left left_now held held_now broken keeper told any fault none is untold unread sent why read wrote = record {
+-- the same, of which nothing was recorded
+pub none_recorded : {K : Type 0} (lines : K → List Line) (rules : Rules) (streams : Streams) (broken : Bool)
+    (it : Recorded K) (fault : Fault) → it.journal ≡ None → it.fault ≡ Some fault → it.refused ≡ false
+    → IsRead streams.left streams.left_now [] [] → HasSent streams.held streams.held_now [] broken
+    → (fault ≡ NoMemory) ⊎ (fault ≡ NoReader) → Keeps streams.left streams.left_now
+    → Keeps streams.held streams.held_now → IsRecordedBy lines rules streams it
+none_recorded lines rules streams broken it fault none is untold unread sent why read wrote = record {
   legal = subst (λ k. IfSome k (λ k. IsLegal rules (lines k))) (sym none) tt;
-  served = unserved rules left left_now held held_now broken _ fault unread sent is untold (ap (lines_kept lines) none) why;
+  served = unserved streams.left streams.left_now streams.held streams.held_now broken (done_of lines it) fault unread
+      sent is untold (ap (journal_lines lines) none) why;
   back = ⊎_elim (λ memory. inr (inl (is ∙ ap Some memory))) (λ reader. inr (inr (is ∙ ap Some reader))) why;
   nothing = λ _. (none, read);
   unwritten = λ _. wrote;
@@ -142,14 +144,15 @@ none_kept lines rules left left_now held held_now broken keeper told any fault n
 }
 
 -- the same, whose board was told; its rules, and what its writer held, have a name each
-pub all_kept : {K : Type 0} (lines : K → List Line) (rules by : Rules) (left left_now held start held_now : Option (List ℕ))
-    (keeper : Option K) (fault : Option Fault) (any : Bool) → rules ≡ by → held ≡ start
-    → IfSome keeper (λ k. IsLegal by (lines k)) → IsServedBy by left left_now start held_now (came_to lines keeper fault any)
-    → IsSome keeper ⊎ (fault ≡ Some NoReader) → fault ≢ Some NoMemory → (fault ≡ Some NoReader → keeper ≡ None)
-    → IsKeptBy lines rules left left_now held held_now keeper fault any
-all_kept lines rules by left left_now held start held_now keeper fault any same begun legal served back some untold = record {
+pub all_recorded : {K : Type 0} (lines : K → List Line) (rules by : Rules) (streams : Streams)
+    (start : Option (List ℕ)) (it : Recorded K) → rules ≡ by → streams.held ≡ start
+    → IfSome it.journal (λ k. IsLegal by (lines k))
+    → IsServedBy streams.left streams.left_now start streams.held_now (done_of lines it)
+    → IsSome it.journal ⊎ (it.fault ≡ Some NoReader) → it.fault ≢ Some NoMemory
+    → (it.fault ≡ Some NoReader → it.journal ≡ None) → IsRecordedBy lines rules streams it
+all_recorded lines rules by streams start it same begun legal served back some untold = record {
   legal = rw same legal;
-  served = rw (same, begun) served;
+  served = rw begun served;
   back = ⊎_elim inl (λ none. inr (inr none)) back;
   nothing = λ memory. absurd (some memory);
   unwritten = λ memory. absurd (some memory);

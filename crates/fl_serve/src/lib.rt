@@ -1,11 +1,21 @@
 //! A session of the FUSE protocol with workers, over any reader and any writer.
+//!
+//! `serve` is `record_with_workers` with lines in memory, and both are one proof. No clause says that `NoReader`
+//! comes only if a board can't be opened or closed, nor in which order the replies of several orders leave. Contracts
+//! let through a `serve`
+//! - that refuses every order for memory, drops orders and tells `refused`, or drops GETLK and GETATTR;
+//! - that tells `Read` or `Write` early, `NoMemory` having read nothing, or `NoReader` with an empty history;
+//! - whose replies are not to the messages that were read, but for the reply to a DESTROY;
+//! - of which one worker does all.
+//! `fl_serve_tests`, `fl_serve_clients_tests` and `fl_serve_failing_tests` refuse these.
 #![tactic(auto)]
 
 mod rooms;
 mod serving;
 
 pub use fl_intake::{Closed, Intake, Job, MOST_JOBS, NotAll, PutEnd, TakeEnd};
-pub use fl_sending::{Shared, WriterName};
-pub use fl_session::{Broken, Done, Ended, Fault, Kept, Outbox, run_one, run_over, run_session};
-pub use fl_workers::{Counter, Gate, OpenGate, Worked, worker_loop};
-pub use serving::{serve, serve_on_stack, serve_over};
+pub use fl_session::{
+    Broken, Done, Ended, Fault, Outbox, Recorded, record_session, run_one, run_session,
+};
+pub use fl_workers::{Counter, Gate, OpenGate, SharedSender, Worked, WriterName, worker_loop};
+pub use serving::{Staff, record_with_workers, serve};

@@ -3,16 +3,16 @@
 ghost use Rattle.std.specs.Prelude.{◌≡◌, ◌≤◌, ◌<◌, [], All, false, map, vec_capacity, IfOk};
 ghost use Rattle.std.specs.List.{range_with_len};
 ghost use Rattle.fl_core.specs.Tolds.{HasRoom};
-ghost use Rattle.fl_crew.specs.Working.{IsFresh};
-ghost use Rattle.fl_session.specs.Inbox.{IsUnread};
+ghost use Rattle.fl_pool.specs.Working.{IsFresh};
+ghost use Rattle.fl_transport.specs.Inbox.{IsUnread};
 
 use fl_board::{Board, BoardName, FreshLog, OpenFault};
 use fl_core::{Rules, Tolds};
-use fl_crew::{Back, Posts, Thread};
+use fl_history::Journal;
 use fl_intake::{Intake, PutEnd, TakeEnd};
-use fl_keeper::Keeper;
 use fl_order::NoMemory;
-use fl_session::{Inbox, ReplyBuffer};
+use fl_pool::{Back, Posts, Thread};
+use fl_transport::{Inbox, ReplyBuffer};
 use std::alloc::Global;
 use std::sync::Wait;
 use std::sync::ledger::Blank;
@@ -22,8 +22,8 @@ use std::sync::ledger::Blank;
 const BATCH_BYTES: usize = 672;
 
 /// All that a session has before its first read.
-pub(crate) struct Rooms<L: BoardName, R: Wait + Drop, K: Keeper> {
-    pub board: Board<L, R, K>,
+pub(crate) struct Rooms<L: BoardName, R: Wait + Drop, J: Journal> {
+    pub board: Board<L, R, J>,
     pub intake: Intake,
     pub put: PutEnd,
     pub posts: Posts<L>,
@@ -33,19 +33,19 @@ pub(crate) struct Rooms<L: BoardName, R: Wait + Drop, K: Keeper> {
     pub replies: ReplyBuffer,
 }
 
-impl<L: BoardName, R: Wait + Drop, K: Keeper + Drop> Rooms<L, R, K> {
-    /// A board over this keeper, with so many workers, and memory for all that is to come under these rules.
+impl<L: BoardName, R: Wait + Drop, J: Journal + Drop> Rooms<L, R, J> {
+    /// A board over this journal, with so many workers, and memory for all that is to come under these rules.
     #[tactic(auto, using(crate::proofs::ServingLemmas::as_many))]
     pub(crate) fn new(
         alloc: Global,
         rt: R,
-        keeper: K,
+        journal: J,
         blank: Blank,
         log: FreshLog,
         workers: u32,
         rules: Rules,
-    ) -> Result<Rooms<L, R, K>, OpenFault>
-        requires none { K.lines keeper ≡ [] }
+    ) -> Result<Rooms<L, R, J>, OpenFault>
+        requires none { J.lines journal ≡ [] }
         requires named { (blank.name ≡ L.name) × (blank.parts ≡ L.parts) }
         requires log { log ≡ L.log }
         requires parts { (workers ≡ L.parts) × (L.workers ≡ L.parts) }
@@ -62,7 +62,9 @@ impl<L: BoardName, R: Wait + Drop, K: Keeper + Drop> Rooms<L, R, K> {
             HasRoom L.rules rooms.tolds × All (HasRoom L.rules) rooms.posts.tolds.items) }
     {
         let stock = Stock::<L>::new(alloc, workers, rules)?;
-        let (board, seats) = Board::<L, R, K>::over(alloc, rt, keeper, blank, log, workers, rules)?;
+        let (board, seats) = Board::<L, R, J>::over(
+            alloc, rt, journal, blank, log, workers, rules,
+        )?;
         let Stock {
             intake,
             put,

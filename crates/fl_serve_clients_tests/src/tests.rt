@@ -12,7 +12,9 @@ mod talker;
 mod waiting;
 
 use clients::Met;
-use fl_book::{History, Line, Rules, Verdict, check};
+use fl_core::Rules;
+use fl_desk::{Verdict, check};
+use fl_history::{History, Line};
 use fl_serve::{Done, Fault, Gate, serve};
 use fl_testing::{Messages, of_workers};
 use std::alloc::Global;

@@ -1,44 +1,68 @@
--- What a message comes to at a server.
-use Rattle.std.proofs.Common.{◌≡◌, ℕ, suc, ◌+◌, ◌≤◌, Bool, false, List, [], ◌∷◌, ◌++◌, length, drop, Option, Some, refl, sym, ap, subst, ◌∙◌, arith, append_assoc, append-nil, drop-cons}
-use Rattle.std.specs.Prelude.{slice_get}
+-- What a message is at a server.
+use Rattle.std.proofs.Common.{◌≡◌, ℕ, suc, ◌+◌, ◌≤◌, Bool, false, List, [], ◌∷◌, ◌++◌, length, drop, Option, Some, refl}
+use Rattle.std.proofs.Common.{sym, ap, subst, ◌∙◌, arith, append_assoc, append-nil, drop-cons}
+use Rattle.std.specs.Prelude.{if◌then◌else◌, slice_get}
 use Rattle.std.proofs.lemmas.List.{at_drop_all}
 use Rattle.std.proofs.lemmas.Option.{get_or_from_slice_get, slice_get_within}
 use Rattle.fl_order.specs.declared.order.Order.{Order}
-use Rattle.fl_session.proofs.BatchLemmas.{Collects-none, Collects-trans}
 use Rattle.fl_session.specs.Inside.Serving.{session_with, AreTaken, IsMet, IsTaken}
 use Rattle.fl_session.specs.Inside.UnderWay.{TakesMany, TakesOne}
-use Rattle.fl_session.specs.Talk.{bytes_of, IsHeard}
-use Rattle.fl_session.specs.Session.{with_order, with_orders}
-use Rattle.fl_session.specs.declared.server.Met.TheVariants as met
-use Rattle.fl_session.specs.declared.server.Owed.{Owed}
+use Rattle.fl_session.specs.Session.{Session, with_incoming, with_message, with_orders}
 use Rattle.fl_session.specs.declared.server.Server.{Server}
-use Rattle.fl_session.specs.declared.server.Talk.{Talk}
+use Rattle.fl_transport.specs.Collecting.{Collects, IsGiven}
+use Rattle.fl_transport.specs.Handshake.{advanced, incoming_of}
+use Rattle.fl_transport.specs.Response.{bytes_of}
+use Rattle.fl_transport.specs.declared.handshake.Handshake.{Handshake}
+use Rattle.fl_transport.specs.declared.handshake.Incoming.{Incoming}
+use Rattle.fl_transport.specs.declared.handshake.Incoming.TheVariants as incoming
+use Rattle.fl_transport.specs.declared.response.Response.{Response}
+
+-- a message of a session that isn't over, which is this to it and brings it there
+met_as : (s : Session) (handshake : Handshake) (it : Incoming) (message : List ℕ) (refused : List Bool)
+    → s.handshake.over ≡ false → incoming_of s.handshake message ≡ it → handshake ≡ advanced s.handshake message
+    → with_message s (record { message = message; refused = refused })
+    ≡ with_incoming (record s { handshake = handshake }) refused it
+met_as s handshake it message refused live is there =
+    ap (λ over. if over then s
+    else with_incoming (record s { handshake = advanced s.handshake message }) refused (incoming_of s.handshake message))
+    live
+    ∙ ap (with_incoming (record s { handshake = advanced s.handshake message }) refused) is
+    ∙ ap (λ h. with_incoming (record s { handshake = h }) refused it) (sym there)
 
 -- an order is taken
-pub met_order : {K : Type 0} (old new : Server K) (talk : Talk) (order : Order) (owed : List (List ℕ)) (message : List ℕ)
-    → old.talk.over ≡ false → IsHeard (met.Order order) old.talk talk message
-    → IsTaken (record old { talk = talk }) new owed order
-    → IsMet old new owed message
-met_order old new talk order owed message live heard taken = record {
+pub met_order : {K : Type 0} (old new : Server K) (handshake : Handshake) (order : Order) (replies : List (List ℕ))
+    (message : List ℕ) → old.handshake.over ≡ false → incoming_of old.handshake message ≡ incoming.Order order
+    → handshake ≡ advanced old.handshake message → IsTaken (record old { handshake = handshake }) new replies order
+    → IsMet old new replies message
+met_order old new handshake order replies message live is there taken = record {
   refused = taken.refused ∷ [];
-  is = λ replies. taken.is replies
-      ∙ ap (λ talk. with_order (session_with (record old { talk = talk }) replies) taken.refused order) heard.1
-      ∙ sym (rw (live, heard.0, heard.2) refl);
+  is = λ before. taken.is before
+      ∙ sym (met_as (session_with old before) handshake (incoming.Order order) message (taken.refused ∷ []) live is there);
 }
 
 -- a batch is taken
-pub met_batch : {K : Type 0} (old new : Server K) (talk : Talk) (orders : List Order) (owed : List (List ℕ))
-    (message : List ℕ) → old.talk.over ≡ false → IsHeard (met.Batch orders) old.talk talk message
-    → AreTaken (record old { talk = talk }) new owed orders [] → IsMet old new owed message
-met_batch old new talk orders owed message live heard taken =
+pub met_batch : {K : Type 0} (old new : Server K) (handshake : Handshake) (orders : List Order) (replies : List (List ℕ))
+    (message : List ℕ) → old.handshake.over ≡ false → incoming_of old.handshake message ≡ incoming.Batch orders
+    → handshake ≡ advanced old.handshake message → AreTaken (record old { handshake = handshake }) new replies orders []
+    → IsMet old new replies message
+met_batch old new handshake orders replies message live is there taken =
     let flags : List Bool = taken.refused ++ [] in
     record {
       refused = flags;
-      is = λ replies. taken.is replies []
-          ∙ ap (λ talk. with_orders (session_with (record old { talk = talk }) replies) orders flags) heard.1
-          ∙ ap (λ orders. with_orders (session_with old replies) orders flags) heard.3
-          ∙ sym (rw (live, heard.0, heard.2) refl);
+      is = λ before. taken.is before []
+          ∙ sym (met_as (session_with old before) handshake (incoming.Batch orders) message flags live is there);
     }
+
+-- the session itself answers
+pub met_by_itself : {K : Type 0} (old : Server K) (handshake : Handshake) (response : Response) (message : List ℕ)
+    → old.handshake.over ≡ false → incoming_of old.handshake message ≡ incoming.Response response
+    → handshake ≡ advanced old.handshake message
+    → IsMet old (record old { handshake = handshake }) (bytes_of response) message
+met_by_itself old handshake response message live is there = record {
+  refused = [];
+  is = λ before.
+      sym (met_as (session_with old before) handshake (incoming.Response response) message [] live is there);
+}
 
 -- ---- the orders of a batch, one after another
 
@@ -46,12 +70,14 @@ met_batch old new talk orders owed message live heard taken =
 pub many_first : {K : Type 0} (server : Server K) (held : Option (List ℕ)) (waiting : List ℕ) (broken : Bool)
     (orders : List Order) → TakesMany server server held held waiting waiting broken broken orders orders
 many_first server held waiting broken orders = record {
-  owed = [];
+  replies = [];
   taken = record {
     refused = [];
-    is = λ replies later. ap (λ replies. with_orders (session_with server replies) orders later) (append-nil replies);
+    is = λ before later. ap (λ before. with_orders (session_with server before) orders later) (append-nil before);
   };
-  collected = Collects-none held waiting broken;
+  collected = record {
+    onward = λ start replies given. subst (IsGiven start held waiting broken) (sym (append-nil replies)) given;
+  };
 }
 
 -- the first that is left stands at the place of how many there were before it
@@ -71,27 +97,23 @@ many_more : {K : Type 0} (old now next : Server K) (a b c : Option (List ℕ)) (
 many_more old now next a b c u v w x y z orders left rest order first many one =
     let flag : Bool = one.taken.refused in
     record {
-      owed = many.owed ++ one.owed;
+      replies = many.replies ++ one.replies;
       taken = record {
         refused = many.taken.refused ++ flag ∷ [];
-        is = λ replies later.
-            ap (λ replies. with_orders (session_with next replies) rest later) (sym (append_assoc replies many.owed one.owed))
-            ∙ ap (λ s. with_orders s rest later) (one.taken.is (replies ++ many.owed))
-            ∙ ap (λ left. with_orders (session_with now (replies ++ many.owed)) left (flag ∷ later)) (sym first)
-            ∙ many.taken.is replies (flag ∷ later)
-            ∙ ap (with_orders (session_with old replies) orders) (sym (append_assoc many.taken.refused (flag ∷ []) later));
+        is = λ before later.
+            ap (λ replies. with_orders (session_with next replies) rest later)
+            (sym (append_assoc before many.replies one.replies))
+            ∙ ap (λ s. with_orders s rest later) (one.taken.is (before ++ many.replies))
+            ∙ ap (λ left. with_orders (session_with now (before ++ many.replies)) left (flag ∷ later)) (sym first)
+            ∙ many.taken.is before (flag ∷ later)
+            ∙ ap (with_orders (session_with old before) orders)
+            (sym (append_assoc many.taken.refused (flag ∷ []) later));
       };
-      collected = Collects-trans a b c u v w x y z many.owed one.owed many.collected one.collected;
+      collected = record {
+        onward = λ start replies given. subst (IsGiven start c w z) (append_assoc replies many.replies one.replies)
+            (one.collected.onward start (replies ++ many.replies) (many.collected.onward start replies given));
+      };
     }
-
--- the session itself answers
-pub met_owed : {K : Type 0} (old : Server K) (talk : Talk) (owed : Owed) (message : List ℕ)
-    → IsHeard (met.Owed owed) old.talk talk message
-    → IsMet old (record old { talk = talk }) (bytes_of owed) message
-met_owed old talk owed message heard = record {
-  refused = [];
-  is = λ replies. heard (session_with old replies) [];
-}
 
 -- the order at this place is taken
 pub many_next : {K : Type 0} (old now next : Server K) (a b c : Option (List ℕ)) (u v w : List ℕ) (x y z : Bool)

@@ -1,70 +1,79 @@
--- The rules of a session stay.
-use Rattle.std.proofs.Common.{◌≡◌, ℕ, Bool, true, false, List, [], ◌∷◌, Option, None, Some, refl, ◌∙◌}
-use Rattle.std.specs.Prelude.{fold, if◌then◌else◌, Result, Ok, Err}
+-- What stays of a session from message to message: its rules, and how far the messages alone bring it.
+use Rattle.std.proofs.Common.{◌≡◌, ℕ, Bool, true, false, List, [], ◌∷◌, refl, ap, ◌∙◌, subst}
+use Rattle.std.specs.Prelude.{fold, if◌then◌else◌}
 use Rattle.fl_core.specs.Step.{replies_in}
 use Rattle.fl_desk.specs.Replay.{state_after}
-use Rattle.fl_order.specs.OpKind.{is_silent, kind_of_opcode}
-use Rattle.fl_order.specs.Order.{kind_of}
-use Rattle.fl_order.specs.declared.errno.Errno.{Errno}
-use Rattle.fl_order.specs.declared.errno.Errno.TheVariants.{EPROTO}
-use Rattle.fl_order.specs.declared.kind.OpKind.{OpKind}
-use Rattle.fl_order.specs.declared.kind.OpKind.TheVariants.{Init}
 use Rattle.fl_order.specs.declared.order.Order.{Order}
-use Rattle.fl_order.specs.declared.refusal.Refusal.{Refusal}
-use Rattle.fl_order.specs.declared.refusal.Refusal.TheVariants.{Answer, Silent, Batch, Destroy}
-use Rattle.fl_wire.specs.Batch.{forgets_in}
-use Rattle.fl_wire.specs.Layout.{opcode_of, unique_of}
-use Rattle.fl_wire.specs.Says.{said}
-use Rattle.fl_wire.specs.Spell.{reply_bytes}
-use Rattle.fl_session.specs.Session.{Came, Session, after_init, before_init, opening_session, replied, session_of, with_error, with_message, with_order, with_orders, with_refusal, with_step, without_memory}
+use Rattle.fl_session.specs.Session.{Came, Session, messages_of, opening_session, session_of}
+use Rattle.fl_session.specs.Session.{with_incoming, with_message, with_order, with_orders, with_refusal, with_step}
+use Rattle.fl_transport.specs.Handshake.{advanced, handshake_of, incoming_of}
+use Rattle.fl_transport.specs.declared.handshake.Handshake.{Handshake}
+use Rattle.fl_transport.specs.declared.handshake.Incoming.{Incoming}
+use Rattle.fl_transport.specs.declared.handshake.Incoming.TheVariants as incoming
 use Rattle.fl_waiting.specs.declared.rules.Rules.{Rules}
 
--- one of two sessions that both have these rules
-either : (b : Bool) (rules : Rules) (s t : Session) → s.rules ≡ rules → t.rules ≡ rules
-    → (if b then s else t).rules ≡ rules
-either true rules s t one other = one
-either false rules s t one other = other
+-- these two are the same in both
+record IsAlike (s t : Session) : Type 0 where
+  rules : s.rules ≡ t.rules
+  handshake : s.handshake ≡ t.handshake
 
-by_error : (s : Session) (kind : OpKind) (unique : ℕ) (e : Errno) → (with_error s kind unique e).rules ≡ s.rules
-by_error s kind unique e = either (is_silent kind) s.rules s (replied s (reply_bytes unique (Err e))) refl refl
+alike_on : (s t u : Session) → IsAlike s t → IsAlike t u → IsAlike s u
+alike_on s t u first second =
+    record { rules = first.rules ∙ second.rules; handshake = first.handshake ∙ second.handshake }
 
-by_order : (s : Session) (refused : Bool) (order : Order) → (with_order s refused order).rules ≡ s.rules
-by_order s refused order = either refused s.rules (with_refusal s order)
-    (with_step s order (replies_in (state_after s.rules s.lines) order))
-    (by_error s (kind_of order.op) order.unique (without_memory (kind_of order.op))) refl
+by_order : (s : Session) (refused : Bool) (order : Order) → IsAlike (with_order s refused order) s
+by_order s true order = record { rules = refl; handshake = refl }
+by_order s false order = record { rules = refl; handshake = refl }
 
-by_orders : (s : Session) (orders : List Order) (refused : List Bool) → (with_orders s orders refused).rules ≡ s.rules
-by_orders s [] refused = refl
-by_orders s (order ∷ orders) [] = by_orders (with_order s false order) orders [] ∙ by_order s false order
+by_orders : (s : Session) (orders : List Order) (refused : List Bool) → IsAlike (with_orders s orders refused) s
+by_orders s [] refused = record { rules = refl; handshake = refl }
+by_orders s (order ∷ orders) [] =
+    alike_on _ _ s (by_orders (with_order s false order) orders []) (by_order s false order)
 by_orders s (order ∷ orders) (first ∷ refused) =
-    by_orders (with_order s first order) orders refused ∙ by_order s first order
+    alike_on _ _ s (by_orders (with_order s first order) orders refused) (by_order s first order)
 
-after_said : (s : Session) (refused : List Bool) (message : List ℕ) (says : Result Order Refusal)
-    → (after_init s refused message says).rules ≡ s.rules
-after_said s refused message (Ok order) = by_orders s (order ∷ []) refused
-after_said s refused message (Err (Answer e)) = refl
-after_said s refused message (Err Silent) = refl
-after_said s refused message (Err Batch) = by_orders s (forgets_in message) refused
-after_said s refused message (Err Destroy) = refl
+by_incoming : (s : Session) (refused : List Bool) (it : Incoming) → IsAlike (with_incoming s refused it) s
+by_incoming s refused (incoming.Order order) = by_orders s (order ∷ []) refused
+by_incoming s refused (incoming.Batch orders) = by_orders s orders refused
+by_incoming s refused (incoming.Response response) = record { rules = refl; handshake = refl }
 
-before_said : (s : Session) (kind : Option OpKind) (message : List ℕ) → (before_init s kind message).rules ≡ s.rules
-before_said s None message = refl
-before_said s (Some Init) message = refl
-before_said s (Some kind) message = by_error s kind (unique_of message) EPROTO
+-- what one message more leaves, of a session that is over or not
+record IsMoved (s now : Session) (message : List ℕ) : Type 0 where
+  rules : now.rules ≡ s.rules
+  handshake : now.handshake ≡ advanced s.handshake message
 
-by_message : (s : Session) (c : Came) → (with_message s c).rules ≡ s.rules
-by_message s c =
-    let says = said c.message in
-    let kind = kind_of_opcode (opcode_of c.message) in
-    let later : Session = after_init s c.refused c.message says in
-    let before : Session = before_init s kind c.message in
-    either s.over s.rules s (if s.agreed then later else before) refl
-    (either s.agreed s.rules later before (after_said s c.refused c.message says) (before_said s kind c.message))
+by_message : (s : Session) (c : Came) → IsMoved s (with_message s c) c.message
+by_message s c = go s.handshake.over refl
+  where
+    there : Session
+    there = with_incoming (record s { handshake = advanced s.handshake c.message }) c.refused
+        (incoming_of s.handshake c.message)
+
+    on : IsAlike there (record s { handshake = advanced s.handshake c.message })
+    on = by_incoming (record s { handshake = advanced s.handshake c.message }) c.refused
+        (incoming_of s.handshake c.message)
+
+    go : (over : Bool) → s.handshake.over ≡ over → IsMoved s (with_message s c) c.message
+    go true is = record { rules = rw is refl; handshake = rw is refl }
+    go false is = record {
+      rules = ap (λ over. (if over then s else there).rules) is ∙ on.rules;
+      handshake = ap (λ over. (if over then s else there).handshake) is ∙ on.handshake;
+    }
 
 by_messages : (s : Session) (came : List Came) → (fold with_message s came).rules ≡ s.rules
 by_messages s [] = refl
-by_messages s (c ∷ came) = by_messages (with_message s c) came ∙ by_message s c
+by_messages s (c ∷ came) = by_messages (with_message s c) came ∙ (by_message s c).rules
 
 -- the rules of a session are those that it began with
 pub rules_of : (rules : Rules) (came : List Came) → (session_of rules came).rules ≡ rules
 rules_of rules came = by_messages (opening_session rules) came
+
+brought_by : (s : Session) (came : List Came)
+    → (fold with_message s came).handshake ≡ fold advanced s.handshake (messages_of came)
+brought_by s [] = refl
+brought_by s (c ∷ came) = brought_by (with_message s c) came
+    ∙ ap (λ handshake. fold advanced handshake (messages_of came)) (by_message s c).handshake
+
+-- a session is as far as its messages alone bring it
+pub as_far : (rules : Rules) (came : List Came) → (session_of rules came).handshake ≡ handshake_of (messages_of came)
+as_far rules came = brought_by (opening_session rules) came

@@ -1,23 +1,36 @@
 -- What a whole session did.
-use Rattle.std.proofs.Common.{◌≡◌, ℕ, Bool, true, false, List, [], Option, None, Some, refl, sym, ap, subst, append-nil, ◌∙◌, arith}
+use Rattle.std.proofs.Common.{◌≡◌, ℕ, Bool, true, false, List, [], ◌∷◌, Option, None, Some, refl, sym, ap, subst}
+use Rattle.std.proofs.Common.{append-nil, length, length-append, ◌∙◌, arith}
 use Rattle.std.proofs.lemmas.List.Elements.{All-nil}
-use Rattle.std.proofs.KnownBytes.{Appends-nil}
+use Rattle.std.proofs.KnownBytes.{Appends-nil, Consumes-kept, Consumes-nil}
+use Rattle.std.specs.Io.KnownBytes.{Keeps}
+use Rattle.std.specs.Prelude.{IfSome}
 use Rattle.fl_desk.specs.Legal.{IsLegal, nothing}
 use Rattle.fl_history.specs.declared.history.Line.{Line}
-use Rattle.fl_wire.specs.Spell.{IsReply}
-use Rattle.fl_session.specs.Collecting.{AreGiven}
-use Rattle.fl_session.specs.Served.{AreSent, IsRead, IsServed, EndsBy}
-use Rattle.fl_session.specs.Session.{Came, Session, session_of}
-use Rattle.fl_session.specs.Inbox.{IsEnding}
-use Rattle.fl_session.specs.Kept.{lines_kept}
-use Rattle.std.specs.Prelude.{IfSome}
+use Rattle.fl_session.proofs.RulesLemmas.{as_far, rules_of}
 use Rattle.fl_session.specs.Inside.UnderWay.{HasEnded}
-use Rattle.fl_session.proofs.RulesLemmas.{rules_of}
-use Rattle.fl_session.specs.declared.session.Done.{Done}
-use Rattle.fl_session.specs.declared.session.Fault.{Fault}
-use Rattle.fl_session.specs.declared.session.Fault.TheVariants.{NoMemory}
+use Rattle.fl_session.specs.Recorded.{journal_lines}
+use Rattle.fl_session.specs.Served.{AreSent, IsServed}
+use Rattle.fl_session.specs.Session.{Session, messages_of, session_of}
+use Rattle.fl_session.specs.declared.done.Done.{Done}
 use Rattle.fl_session.specs.declared.server.Server.{Server}
+use Rattle.fl_transport.specs.Collecting.{AreGiven}
+use Rattle.fl_transport.specs.Ending.{EndsBy, IsEnding, IsRead}
+use Rattle.fl_transport.specs.Handshake.{handshake_of}
+use Rattle.fl_transport.specs.declared.fault.Fault.{Fault}
+use Rattle.fl_transport.specs.declared.fault.Fault.TheVariants.{NoMemory}
 use Rattle.fl_waiting.specs.declared.rules.Rules.{Rules}
+use Rattle.fl_wire.specs.Frame.{IsMessage}
+use Rattle.fl_wire.specs.Spell.{IsReply}
+
+-- nothing was read
+pub nothing_read : (left left_now : Option (List ℕ)) → Keeps left left_now → IsRead left left_now [] []
+nothing_read left left_now kept = record {
+  read = [];
+  consumed = Consumes-kept left left left_now [] (Consumes-nil left) kept;
+  cut = record { parts = refl; whole = All-nil IsMessage };
+  live = λ front last e. let none = ap length e in absurd (omega (arith, none, length-append front (last ∷ [])));
+}
 
 -- a history of no line is legal
 pub nothing_legal : (rules : Rules) (history : List Line) → history ≡ [] → IsLegal rules history
@@ -41,8 +54,8 @@ under by rules left left_now held held_now broken server fault same began =
 pub served : {K : Type 0} (by rules : Rules) (left left_now held held_now : Option (List ℕ)) (broken : Bool)
     (server : Server K) (fault : Option Fault) (done : Done) → by ≡ rules
     → HasEnded by left left_now held held_now [] broken server fault → done.history ≡ server.desk.lines
-    → ((came : List Came) (rest : List ℕ) (left : Option (List ℕ)) → IsEnding fault (session_of rules came).over rest left
-    → EndsBy rules done.fault broken came rest left) → done.refused ≡ server.refused
+    → ((messages : List (List ℕ)) (rest : List ℕ) (left : Option (List ℕ))
+    → IsEnding fault (handshake_of messages).over rest left → EndsBy done.fault broken messages rest left) → done.refused ≡ server.refused
     → IsServed rules left left_now held held_now broken done
 served by rules left left_now held held_now broken server fault done same began history told refused =
     let ended = under by rules left left_now held held_now broken server fault same began in
@@ -59,19 +72,20 @@ served by rules left left_now held held_now broken server fault done same began 
       framed = way.given.framed;
       written = way.given.written;
       are_sent = all_sent broken way.given.sent (session_of rules way.came).replies way.given.are_given;
-      ending = told way.came ended.rest left_now (subst P (ap (λ s. s.over) way.stands) ended.ending);
+      ending = told (messages_of way.came) ended.rest left_now
+          (subst P (ap (λ h. h.over) (ap (λ s. s.handshake) way.stands ∙ as_far rules way.came)) ended.ending);
     }
 
 -- its desk has these rules
-pub desk_under : {K : Type 0} (by rules : Rules) (left left_now held held_now : Option (List ℕ)) (broken : Bool)
-    (server : Server K) (fault : Option Fault) → by ≡ rules
-    → HasEnded by left left_now held held_now [] broken server fault → server.desk.present.rules ≡ rules
-desk_under by rules left left_now held held_now broken server fault same began =
+pub desk_under : {K : Type 0} (by rules : Rules) (left left_now held held_now : Option (List ℕ)) (waiting : List ℕ)
+    (broken : Bool) (server : Server K) (fault : Option Fault) → by ≡ rules
+    → HasEnded by left left_now held held_now waiting broken server fault → server.desk.present.rules ≡ rules
+desk_under by rules left left_now held held_now waiting broken server fault same began =
     ap (λ (s : Session). s.rules) began.way.stands ∙ rules_of by began.way.came ∙ same
 
 -- what a session did that had no memory
 pub unserved : (rules : Rules) (left held : Option (List ℕ)) (done : Done) → done.history ≡ []
-    → done.fault ≡ Some NoMemory → done.refused ≡ false → IsRead rules left left [] [] → IsServed rules left left held held false done
+    → done.fault ≡ Some NoMemory → done.refused ≡ false → IsRead left left [] [] → IsServed rules left left held held false done
 unserved rules left held done history fault refused unread = record {
   came = [];
   rest = [];
@@ -86,8 +100,8 @@ unserved rules left held done history fault refused unread = record {
   ending = rw fault (refl, refl);
 }
 
--- the lines of a keeper are legal, and no lines where there is none
-pub kept_legal : {K : Type 0} (rules : Rules) (lines : K → List Line) (keeper : Option K)
-    → IfSome keeper (λ k. IsLegal rules (lines k)) → IsLegal rules (lines_kept lines keeper)
-kept_legal rules lines None legal = nothing
-kept_legal rules lines (Some keeper) legal = legal
+-- the lines of a journal are legal, and no lines where there is none
+pub recorded_legal : {K : Type 0} (rules : Rules) (lines : K → List Line) (journal : Option K)
+    → IfSome journal (λ k. IsLegal rules (lines k)) → IsLegal rules (journal_lines lines journal)
+recorded_legal rules lines None legal = nothing
+recorded_legal rules lines (Some journal) legal = legal

@@ -1,8 +1,4 @@
-pub mod Collecting
-pub mod Inbox
 pub mod Inside
-pub mod Kept
-pub mod Outbox
+pub mod Recorded
 pub mod Served
 pub mod Session
-pub mod Talk

@@ -1,26 +1,24 @@
 //! How a session reads its stream, and answers one message after another.
 
 ghost use Rattle.std.specs.Prelude.{◌≡◌, ℕ, Option, List, [], false};
-ghost use Rattle.fl_session.specs.Inbox.{IsUnread};
 ghost use Rattle.fl_session.specs.Inside.Serving.{IsFresh, IsReady};
 ghost use Rattle.fl_session.specs.Inside.UnderWay.{HasEnded, Rests};
-ghost use Rattle.fl_session.specs.Outbox.{is_broken, writer_of};
+ghost use Rattle.fl_transport.specs.Inbox.{IsUnread};
+ghost use Rattle.fl_transport.specs.Outbox.{is_broken, writer_of};
 
-use crate::batch::Batch;
-use crate::inbox::{Filled, Inbox};
 use crate::server::Server;
-use crate::session::Fault;
-use fl_keeper::Keeper;
+use fl_history::Journal;
+use fl_transport::{Fault, Filled, Inbox, ReplyBatch};
 use fl_wire::Step;
 use std::io::{Read, Write};
 
 /// Reads and answers until the session ends, and tells the fault of its reader, if any. Replies that didn't go out yet
 /// are left in the batch.
-pub(crate) fn answer_all<R: Read, W: Write, K: Keeper>(
+pub(crate) fn answer_all<R: Read, W: Write, J: Journal>(
     r: &mut R,
     inbox: &mut Inbox,
-    server: &mut Server<K>,
-    batch: &mut Batch<'_, W>,
+    server: &mut Server<J>,
+    batch: &mut ReplyBatch<'_, W>,
 ) -> Option<Fault>
     requires unread { IsUnread inbox.old }
     requires fresh { IsFresh server.old }
@@ -31,7 +29,7 @@ pub(crate) fn answer_all<R: Read, W: Write, K: Keeper>(
         (W.contents (writer_of batch.old.out).now) (W.contents (writer_of batch.new.out).now)
         batch.new.replies (is_broken batch.new.out) server.new result }
 {
-    while !server.talk.over {
+    while !server.handshake.over {
         match inbox.next() {
             Step::Whole(frame) => {
                 server.answer(batch, &frame);
@@ -50,11 +48,11 @@ pub(crate) fn answer_all<R: Read, W: Write, K: Keeper>(
     None
 }
 
-// No whole message is at hand, and the next read may wait for one: what is collected goes out, and then what the keeper
-// holds back.
-fn rest<W: Write, K: Keeper>(server: &mut Server<K>, batch: &mut Batch<'_, W>)
+// No whole message is at hand, and the next read may wait for one: what is collected goes out, and then what the
+// journal holds back.
+fn rest<W: Write, J: Journal>(server: &mut Server<J>, batch: &mut ReplyBatch<'_, W>)
     ensures same { (writer_of batch.new.out).ghost_name ≡ (writer_of batch.old.out).ghost_name }
-    ensures over { server.new.talk.over ≡ server.old.talk.over }
+    ensures over { server.new.handshake.over ≡ server.old.handshake.over }
     ensures ready { IsReady server.old → IsReady server.new }
     ensures rests { Rests server.old server.new
         (W.contents (writer_of batch.old.out).now) (W.contents (writer_of batch.new.out).now)

@@ -1,20 +1,21 @@
-//! A session of the FUSE protocol: what its messages are answered, how its stream is cut, how its replies go out, and a whole one
-//! with one worker.
+//! A session of the FUSE protocol with one worker: each message is answered at a desk, over any reader and any
+//! writer.
+//!
+//! `run_one`, `run_session` and `record_session` are one proof. A batch is its FORGETs one after another, each a line
+//! of its own, or lost if memory for it was refused. Contracts let through a session that
+//! - refuses every order for memory, or loses all of a batch after one that is refused;
+//! - tells `Read` or `Write` early, since contracts see no failure of a reader or a writer;
+//! - sends its replies only at its end, or never tells its journal that it may pause.
+//! `fl_session_tests` and `fl_serve_failing_tests` refuse these.
 #![tactic(auto)]
 
 mod answering;
-mod batch;
-mod inbox;
-mod kept;
-mod outbox;
-mod reply_buffer;
+mod done;
+mod recorded;
 mod server;
 mod session;
 
-pub use batch::Batch;
-pub use inbox::{Filled, Inbox};
-pub use kept::Kept;
-pub use outbox::{Broken, Outbox};
-pub use reply_buffer::ReplyBuffer;
-pub use server::{Met, Owed, Talk};
-pub use session::{Done, Ended, Fault, run_one, run_over, run_session};
+pub use done::Done;
+pub use fl_transport::{Broken, Fault, Outbox};
+pub use recorded::Recorded;
+pub use session::{Ended, record_session, run_one, run_session};

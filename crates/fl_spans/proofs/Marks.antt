@@ -1,12 +1,15 @@
 -- The mark of each byte, of spans that were cut and joined.
-use Rattle.std.proofs.Common.{◌≡◌, ℕ, ◌+◌, ◌-◌, ◌<◌, ◌≤◌, Bool, true, false, ◌&&◌, nat_le, cond, min, max, Option, Some, None, List, [], ◌∷◌, ◌++◌, refl, sym}
+use Rattle.std.proofs.Common.{◌≡◌, ℕ, ◌+◌, ◌-◌, ◌<◌, ◌≤◌, Bool, true, false, ◌&&◌, nat_le, cond, min, max, Option, Some}
+use Rattle.std.proofs.Common.{None, List, [], ◌∷◌, ◌++◌, refl, sym}
 use Rattle.std.proofs.Common.{ap, ◌∙◌, inl, inr, arith}
 use Rattle.std.proofs.lemmas.Bool.{cases_lt, cases_Bool, le-leb, lt-leb, and_from, and_left, and_right}
 use Rattle.fl_spans.specs.declared.span.Span.{Span}
 use Rattle.fl_spans.specs.Spans.{overlaps, mark_at, IsSpan, AreSpans}
 use Rattle.fl_spans.specs.Stroke.{before, behind, struck, touches, join, joined, after_stroke}
-use Rattle.fl_spans.proofs.Parts.{StartsFrom, AreApart, apart_of, next_from, before_cut, before_skip, behind_cut, behind_skip, behind_from, behind_apart}
-use Rattle.fl_spans.proofs.Parts.{join_touching, join_apart, joined_are, touching_marks, touching_next, before_with, from_less}
+use Rattle.fl_spans.proofs.Parts.{StartsFrom, AreApart, apart_of, next_from, before_cut, before_skip, behind_cut}
+use Rattle.fl_spans.proofs.Parts.{behind_skip, behind_from, behind_apart}
+use Rattle.fl_spans.proofs.Parts.{join_touching, join_apart, joined_are, touching_marks, touching_next, before_with}
+use Rattle.fl_spans.proofs.Parts.{from_less}
 
 module _ {M : Type 0} where
   has : (s : Span M) (b : ℕ) → s.start ≤ b → b ≤ s.end → overlaps b b s ≡ true

@@ -1,19 +1,23 @@
 -- A stroke's walk: what it takes out and puts in leaves the spans of the stroke.
-use Rattle.std.proofs.Common.{◌≡◌, ℕ, suc, ◌+◌, ◌-◌, ◌<◌, ◌≤◌, Bool, true, false, not, ◌&&◌, ◌||◌, ◌==◌, nat_lt, cond, min, max, Option, Some, None, List, []}
+use Rattle.std.proofs.Common.{◌≡◌, ℕ, suc, ◌+◌, ◌-◌, ◌<◌, ◌≤◌, Bool, true, false, not, ◌&&◌, ◌||◌, ◌==◌, nat_lt, cond}
+use Rattle.std.proofs.Common.{min, max, Option, Some, None, List, []}
 use Rattle.std.proofs.Common.{◌∷◌, ◌++◌, length, drop, refl, sym, ap, ◌∙◌, subst, inl, inr, arith}
 use Rattle.std.specs.List.{prefix_len, position_or_len}
-use Rattle.std.proofs.lemmas.Bool.{cases_lt, cases_Bool, lt-ltb, le-ltb, le-leb, lt-leb, eqb-true, eq-eqb, ne_eqb, and_parts, and_from, and_left, and_right}
+use Rattle.std.proofs.lemmas.Bool.{cases_lt, cases_Bool, lt-ltb, le-ltb, le-leb, lt-leb, eqb-true, eq-eqb, ne_eqb}
+use Rattle.std.proofs.lemmas.Bool.{and_parts, and_from, and_left, and_right}
 use Rattle.std.proofs.lemmas.Bool.{both_ways}
-use Rattle.fl_rows.specs.Rows.{listed, pieces_of, spliced}
-use Rattle.fl_rows.specs.declared.rows.Pieces.{Pieces}
+use Rattle.fl_spans.specs.Rows.{listed, pieces_of, spliced}
+use Rattle.fl_spans.specs.declared.rows.Pieces.{Pieces}
 use Rattle.fl_spans.specs.declared.span.Span.{Span}
 use Rattle.fl_spans.specs.declared.change.Change.{Change}
 use Rattle.fl_spans.specs.Spans.{PrecedesNext, AreSpans}
 use Rattle.fl_spans.specs.Stroke.{before, behind, struck, touches, join, joined, after_stroke}
 use Rattle.fl_spans.specs.Inside.Walk.{is_mark, reaches, begins_by, absorbed, gathered, new_span, pieces_with}
 use Rattle.fl_spans.proofs.Walks.{count_more, count_end, spliced_more, counts_within, long_spliced}
-use Rattle.fl_spans.proofs.Parts.{StartsFrom, AreApart, apart_of, from_less, next_from, before_cut, before_none, behind_cut, behind_skip, behind_all}
-use Rattle.fl_spans.proofs.Parts.{behind_from, touches_first, join_apart, join_touching, is_touching, far_apart, touching_marks, first_kept}
+use Rattle.fl_spans.proofs.Parts.{StartsFrom, AreApart, apart_of, from_less, next_from, before_cut, before_none}
+use Rattle.fl_spans.proofs.Parts.{behind_cut, behind_skip, behind_all}
+use Rattle.fl_spans.proofs.Parts.{behind_from, touches_first, join_apart, join_touching, is_touching, far_apart}
+use Rattle.fl_spans.proofs.Parts.{touching_marks, first_kept}
 use Rattle.fl_spans.proofs.Parts.{none_touching, joined_whole}
 
 module _ {M : Type 0} where

@@ -1,4 +1,5 @@
-pub mod Spans
-pub mod Row
-pub mod Stroke
 pub mod Inside
+pub mod Row
+pub mod Rows
+pub mod Spans
+pub mod Stroke

@@ -1,7 +1,7 @@
 -- The spans of one row.
 use Rattle.std.specs.Prelude.{◌<◌, List, length, slice_set}
 use Rattle.fl_arena.specs.declared.cursors.Cursor.{Cursor}
-use Rattle.fl_rows.specs.Rows.{Row, RowChains, row_lists, rows, runs_at, with_runs}
+use Rattle.fl_spans.specs.Rows.{Row, RowChains, row_lists, rows, runs_at, with_runs}
 use Rattle.fl_spans.specs.declared.span.Span.{Span}
 
 module _ {K M : Type 0} where

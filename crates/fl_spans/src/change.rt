@@ -2,15 +2,16 @@
 ghost use Rattle.std.specs.Prelude.{◌≡◌, ◌↔◌, ◌+◌, ◌≤◌, ◌<◌, ℕ, true, IsSome, IsErr, OnOk, OnErr, length, drop};
 ghost use Rattle.std.specs.Prelude.{nat_le, ◌&&◌, if◌then◌else◌};
 ghost use Rattle.std.specs.List.{prefix_len, position_or_len};
-ghost use Rattle.fl_rows.specs.Rows.{row_lists, run_count, limit_of, pieces_of, row_cursor, run_cursor, IsRow};
-ghost use Rattle.fl_rows.specs.Rows.{HasRoomOf};
+ghost use Rattle.fl_spans.specs.Rows.{row_lists, run_count, limit_of, pieces_of, row_cursor, run_cursor, IsRow};
+ghost use Rattle.fl_spans.specs.Rows.{HasRoomOf};
 ghost use Rattle.fl_spans.specs.Row.{spans_at, with_spans, IsThere};
 ghost use Rattle.fl_spans.specs.Spans.{mark_at, AreSpans};
 ghost use Rattle.fl_spans.specs.Stroke.{after_stroke};
 ghost use Rattle.fl_spans.specs.Inside.Walk.{reaches, begins_by, absorbed, gathered, pieces_with};
 
+use crate::rows::{Pieces, Rows};
 use crate::span::{LAST_BYTE, Span, begins_by, is_mark, reaches};
-use fl_rows::{Cursor, Full, Pieces, Rows};
+use fl_arena::{Cursor, Full};
 use std::cmp::{max, min};
 
 // The bytes that a stroke makes one span of, and what it leaves of the spans around.

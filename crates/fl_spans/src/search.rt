@@ -2,12 +2,13 @@
 ghost use Rattle.std.specs.Prelude.{◌≡◌, ◌≤◌, Bool, IsSome, ◌&&◌};
 ghost use Rattle.std.specs.List.{find};
 ghost use Rattle.fl_arena.specs.Cursors.{Tests};
-ghost use Rattle.fl_rows.specs.Rows.{IsRow};
+ghost use Rattle.fl_spans.specs.Rows.{IsRow};
 ghost use Rattle.fl_spans.specs.Row.{spans_at};
 ghost use Rattle.fl_spans.specs.Spans.{overlaps, AreSpans};
 
+use crate::rows::Rows;
 use crate::span::{LAST_BYTE, Span};
-use fl_rows::{Cursor, Rows};
+use fl_arena::Cursor;
 
 /// The first span of the row at the cursor that has a byte from `start` to `end` and whose mark passes the test, or
 /// none. The walk stops at the first span that starts past `end`.

@@ -1,11 +1,13 @@
 -- One row of spans, before and after a change.
-use Rattle.std.proofs.Common.{◌≡◌, ◌≤◌, false, List, [], ◌∷◌, length, set, slice_get, get_or, refl, sym, ap, ◌∙◌, subst, arith}
+use Rattle.std.proofs.Common.{◌≡◌, ◌≤◌, false, List, [], ◌∷◌, length, set, slice_get, get_or, refl, sym, ap, ◌∙◌, subst}
+use Rattle.std.proofs.Common.{arith}
 use Rattle.std.proofs.Common.{Option, None, Some, Result, Ok, Err, OnOk, OnErr, Bor}
 use Rattle.std.specs.List.{insert}
 use Rattle.std.specs.Option.{is_some, option_copied}
 use Rattle.std.proofs.lemmas.List.{get_or-set_same}
 use Rattle.fl_arena.specs.declared.cursors.Cursor.{Cursor}
-use Rattle.fl_rows.specs.Rows.{Row, RowChains, chain_count, row_lists, rows, keys, runs_at, with_runs, row_cursor, HasRoomOf}
+use Rattle.fl_spans.specs.Rows.{Row, RowChains, chain_count, row_lists, rows, keys, runs_at, with_runs, row_cursor}
+use Rattle.fl_spans.specs.Rows.{HasRoomOf}
 use Rattle.fl_spans.specs.Row.{with_spans}
 use Rattle.fl_spans.specs.declared.span.Span.{Span}
 use Rattle.fl_spans.specs.Spans.{IsSpan, AreSpans}

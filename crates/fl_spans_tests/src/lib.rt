@@ -1,4 +1,4 @@
-//! Tests of spans.
+//! Tests of `fl_spans`: rows, and spans in them.
 #![tactic(auto)]
 
 #[cfg(test)]

@@ -1,6 +1,7 @@
-//! Tests of spans, by what is public of them.
+//! Tests of rows and of spans, by what is public of them.
 
 mod row;
+mod rows;
 mod spans;
 
 use std::fmt::Debug;

@@ -32,11 +32,13 @@ impl TraceRoom {
     }
 }
 
-/// A write failed or took nothing, or the writer couldn't hand on what it took: the text of a history isn't all written.
+/// A write failed or took nothing, or the writer couldn't hand on what it took: the text of a history isn't all
+/// written.
 #[derive(Clone, Copy, Debug, PartialEq, Eq)]
 pub struct Unwritten;
 
-/// Writes the text of a history, as `print_trace` spells it, and hands it on. It takes no memory, however long the history is.
+/// Writes the text of a history, as `print_trace` spells it, and hands it on. It takes no memory, however long the
+/// history is.
 pub fn write_trace<W: Write>(
     room: &mut TraceRoom,
     history: &History,

@@ -9,10 +9,8 @@ ghost use Rattle.fl_trace.specs.Text.{text_of};
 
 use crate::manner::WhenWriterFails;
 use crate::writing::send;
-use fl_history::Line;
-use fl_keeper::Keeper;
+use fl_history::{Journal, Line, Past};
 use fl_order::{NoMemory, Order, Told};
-use fl_past::Past;
 use fl_trace::{LINE_ROOM, push_line};
 use std::alloc::Global;
 use std::io::Write;
@@ -212,7 +210,7 @@ impl<W: Write> Streamed<W> {
     }
 }
 
-impl<W: Write> Keeper for Streamed<W> {
+impl<W: Write> Journal for Streamed<W> {
     ghost lines = { λ s. s.lines };
 
     ghost room = { λ s. s.room };

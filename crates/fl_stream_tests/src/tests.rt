@@ -1,4 +1,4 @@
-//! What a keeper is handed, and what a writer holds then.
+//! What a journal is handed, and what a writer holds then.
 
 ghost use Rattle.fl_stream.specs.Streams.{IsBlank};
 
@@ -7,8 +7,7 @@ mod printing;
 mod refused;
 mod whole;
 
-use fl_history::{History, Line};
-use fl_keeper::Keeper;
+use fl_history::{History, Journal, Line};
 use fl_stream::{Streamed, WhenWriterFails};
 use fl_trace::read_trace;
 use std::alloc::Global;
@@ -63,7 +62,8 @@ fn holds(rt: &impl Abort, held: &[u8], wanted: &[u8]) {
     assert_eq!(rt; *held, *wanted);
 }
 
-// What became of a stream: how many lines it took, whether the last flush said that all is written, and whether it broke.
+// What became of a stream: how many lines it took, whether the last flush said that all is written, and whether it
+// broke.
 #[derive(Clone, Copy, Debug, PartialEq, Eq)]
 struct Course {
     taken: usize,
@@ -143,8 +143,8 @@ fn finished<W: Write>(stream: Streamed<W>, taken: usize) -> (Course, W) {
 // What may go to another thread.
 fn may_go<T: Send>(_sent: &T) {}
 
-// Hands a line to a keeper, and says whether it took it.
-fn hand<K: Keeper>(kept: &mut K, line: &Line) -> bool {
+// Hands a line to a journal, and says whether it took it.
+fn hand<J: Journal>(kept: &mut J, line: &Line) -> bool {
     if kept.reserve(1).is_err() {
         return false;
     }
@@ -155,8 +155,8 @@ fn hand<K: Keeper>(kept: &mut K, line: &Line) -> bool {
     true
 }
 
-// Hands all lines of a history to a keeper, with a pause behind each, and says how many it took.
-fn hand_all<K: Keeper>(kept: &mut K, history: &History) -> usize {
+// Hands all lines of a history to a journal, with a pause behind each, and says how many it took.
+fn hand_all<J: Journal>(kept: &mut J, history: &History) -> usize {
     let mut taken = 0usize;
     for at in 0..history.len() {
         if hand(kept, &history.line(at)) {
@@ -167,8 +167,8 @@ fn hand_all<K: Keeper>(kept: &mut K, history: &History) -> usize {
     taken
 }
 
-// Hands one line to a keeper so many times, with no pause, and says how often it took it.
-fn hand_often<K: Keeper>(kept: &mut K, line: &Line, times: usize) -> usize {
+// Hands one line to a journal so many times, with no pause, and says how often it took it.
+fn hand_often<J: Journal>(kept: &mut J, line: &Line, times: usize) -> usize {
     let mut taken = 0usize;
     for _ in 0..times {
         if hand(kept, line) {

@@ -1,5 +1,8 @@
-//! What the tests of several crates need: readers and writers over memory that fail where they are told to, numbers that
-//! only look random, stored texts, messages that are laid out, replies that are read, and some sessions as text.
+//! What the tests of several crates need: readers and writers over memory that fail where they are told to, numbers
+//! that only look random, stored texts, messages that are laid out, replies that are read, and some sessions as text.
+//!
+//! `Source` and `Sink` fail at exactly the calls that their `Trouble` names, and count all calls. Contracts let
+//! through a call that asks for memory and is always refused.
 #![tactic(auto)]
 
 mod messages;

@@ -1,5 +1,6 @@
 -- What is written of a number, digit by digit.
-use Rattle.std.proofs.Common.{◌^◌, ◌%◌, ◌/◌, ◌∙◌, ◌≡◌, ◌≤◌, ◌<◌, ◌+◌, ◌++◌, ◌∷◌, [], ℕ, length, ap, arith, length-append}
+use Rattle.std.proofs.Common.{◌^◌, ◌%◌, ◌/◌, ◌∙◌, ◌≡◌, ◌≤◌, ◌<◌, ◌+◌, ◌++◌, ◌∷◌, [], ℕ, length, ap, arith}
+use Rattle.std.proofs.Common.{length-append}
 use Rattle.std.specs.Fmt.{decimal}
 use Rattle.std.proofs.lemmas.Fmt.{decimal_step, decimal_digit}
 

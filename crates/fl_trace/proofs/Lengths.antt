@@ -1,5 +1,6 @@
 -- How long the text of a line can be.
-use Rattle.std.proofs.Common.{ℕ, ◌+◌, ◌<◌, ◌≤◌, ◌^◌, Bool, true, false, List, [], ◌∷◌, length, codes, Result, Ok, Err, ap, arith, length-append}
+use Rattle.std.proofs.Common.{ℕ, ◌+◌, ◌<◌, ◌≤◌, ◌^◌, Bool, true, false, List, [], ◌∷◌, length, codes, Result, Ok, Err}
+use Rattle.std.proofs.Common.{ap, arith, length-append}
 use Rattle.std.proofs.lemmas.Fmt.{length-decimal-le}
 use Rattle.std.specs.Fmt.{decimal}
 use Rattle.hex.proofs.HexLemmas.{length-encode_with}
@@ -20,7 +21,8 @@ use Rattle.fl_order.specs.declared.told.Answer.{Answer}
 use Rattle.fl_order.specs.declared.told.Answer.TheVariants.{Done, Entry, Attr, Open, Made, Lock}
 use Rattle.fl_order.specs.declared.told.Attr.{Attr as Attributes}
 use Rattle.fl_trace.specs.Text.{spaced, flag_text, name_text, line_text, LineFits}
-use Rattle.fl_trace.proofs.LineWords.{lock_ask_words, field_words, attr_words, result_words, line_words, line_spaced, small, number_small}
+use Rattle.fl_trace.proofs.LineWords.{lock_ask_words, field_words, attr_words, result_words, line_words, line_spaced}
+use Rattle.fl_trace.proofs.LineWords.{small, number_small}
 
 -- a word in front of others
 word : (w : List ℕ) (ws : List (List ℕ)) (a m : ℕ) → length w ≤ a → length (spaced ws) ≤ m → length (spaced (w ∷ ws)) ≤ a + 1 + m

@@ -1,5 +1,6 @@
 -- The bytes of a trace: words of visible ASCII characters, with spaces between them.
-use Rattle.std.proofs.Common.{◌≡◌, ℕ, suc, ◌<◌, ◌≤◌, ◌^◌, ◌/◌, ◌%◌, inl, inr, Bool, true, false, ◌&&◌, List, [], ◌∷◌, length, get_or, All}
+use Rattle.std.proofs.Common.{◌≡◌, ℕ, suc, ◌<◌, ◌≤◌, ◌^◌, ◌/◌, ◌%◌, inl, inr, Bool, true, false, ◌&&◌, List, [], ◌∷◌}
+use Rattle.std.proofs.Common.{length, get_or, All}
 use Rattle.std.proofs.Common.{◌++◌, slice_index, refl, sym, subst, arith, lit≤, lit<}
 use Rattle.std.proofs.Math.Dec.{leb, eqb}
 use Rattle.std.proofs.lemmas.Bool.{and_parts, leb-true, cases_lt, ne_eqb}

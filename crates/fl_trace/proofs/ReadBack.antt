@@ -1,5 +1,6 @@
 -- A line is found again in its text: its words are what stands between spaces, and each field is read off its word.
-use Rattle.std.proofs.Common.{◌≡◌, ℕ, ◌<◌, ◌^◌, ◌==◌, Bool, true, false, if◌then◌else◌, Option, None, Some, List, [], ◌∷◌, get_or, drop, codes}
+use Rattle.std.proofs.Common.{◌≡◌, ℕ, ◌<◌, ◌^◌, ◌==◌, Bool, true, false, if◌then◌else◌, Option, None, Some, List, []}
+use Rattle.std.proofs.Common.{◌∷◌, get_or, drop, codes}
 use Rattle.std.proofs.Common.{Result, Ok, Err, refl, sym, ap, ◌∙◌, arith, lit<}
 use Rattle.std.proofs.Math.Dec.{eqb}
 use Rattle.std.proofs.lemmas.Fmt.{digits_value-decimal}
@@ -25,7 +26,8 @@ use Rattle.fl_order.specs.declared.body.Shape.{Shape}
 use Rattle.fl_order.specs.declared.body.Shape.TheVariants as shape
 use Rattle.fl_order.specs.declared.refusal.Refusal.{Refusal}
 use Rattle.fl_order.specs.declared.errno.Errno.{Errno}
-use Rattle.fl_order.specs.declared.errno.Errno.TheVariants.{ENOENT, EINTR, EBADF, EAGAIN, ENOMEM, EEXIST, ENOTDIR, EISDIR, EINVAL, ENFILE, ENOSPC}
+use Rattle.fl_order.specs.declared.errno.Errno.TheVariants.{ENOENT, EINTR, EBADF, EAGAIN, ENOMEM, EEXIST, ENOTDIR}
+use Rattle.fl_order.specs.declared.errno.Errno.TheVariants.{EISDIR, EINVAL, ENFILE, ENOSPC}
 use Rattle.fl_order.specs.declared.errno.Errno.TheVariants.{EDEADLK, ENAMETOOLONG, ENOLCK, ENOSYS, EPROTO}
 use Rattle.fl_order.specs.declared.kind.OpKind.{OpKind}
 use Rattle.fl_order.specs.declared.order.LockAsk.{LockAsk}
@@ -38,7 +40,8 @@ use Rattle.fl_order.specs.declared.told.Attr.{Attr as Attributes}
 use Rattle.fl_trace.specs.Text.{spaced, flag_text, name_text, line_text, LineFits}
 use Rattle.fl_trace.proofs.Letters.{AreWords, AreLetters, no_low, spaced_letters}
 use Rattle.fl_trace.proofs.WordLemmas.{own}
-use Rattle.fl_trace.proofs.LineWords.{lock_ask_words, field_words, attr_words, result_words, order_words, line_words, line_spaced, small}
+use Rattle.fl_trace.proofs.LineWords.{lock_ask_words, field_words, attr_words, result_words, order_words, line_words}
+use Rattle.fl_trace.proofs.LineWords.{line_spaced, small}
 use Rattle.fl_trace.proofs.LineWords.{number_small, line_are}
 
 -- ---- the line of its words

@@ -1,6 +1,7 @@
 //! Lines and histories, read from their text.
 
-ghost use Rattle.std.specs.Prelude.{◌≡◌, ◌⊎◌, ℕ, ◌<◌, ◌++◌, ◌∷◌, List, length, Ok, Err, IfOk, IfSome, IsSome, IsSomeAnd, codes};
+ghost use Rattle.std.specs.Prelude.{◌≡◌, ◌⊎◌, ℕ, ◌<◌, ◌++◌, ◌∷◌, List, length, Ok, Err, IfOk, IfSome, IsSome};
+ghost use Rattle.std.specs.Prelude.{IsSomeAnd, codes};
 ghost use Rattle.fl_history.specs.declared.history.Line.{Line};
 ghost use Rattle.fl_history.specs.declared.history.Line.TheVariants.{Asked};
 ghost use Rattle.fl_order.specs.declared.order.Order.{Order};

@@ -1,23 +1,24 @@
 -- The search among copied wishes, in whatever order, says what the definition says of the parked requests.
-use Rattle.std.proofs.Common.{◌≡◌, ℕ, suc, ◌+◌, ◌<◌, ◌≤◌, Bool, true, false, cond, ◌&&◌, ◌||◌, ◌==◌, nat_lt, List, [], ◌∷◌, ◌++◌, append_assoc, append-nil, length, map, refl, sym, ap, ◌∙◌, subst, arith}
+use Rattle.std.proofs.Common.{◌≡◌, ℕ, suc, ◌+◌, ◌<◌, ◌≤◌, Bool, true, false, cond, ◌&&◌, ◌||◌, ◌==◌, nat_lt, List, []}
+use Rattle.std.proofs.Common.{◌∷◌, ◌++◌, append_assoc, append-nil, length, map, refl, sym, ap, ◌∙◌, subst, arith}
 use Rattle.std.proofs.lemmas.Bool.Decides.{nat_tests}
 use Rattle.std.proofs.lemmas.List.{map-append}
 use Rattle.std.proofs.lemmas.List.Sorted.{list_any-IsPermutation, IsPermutation-sym}
 use Rattle.std.specs.FinMap.{entries}
 use Rattle.std.specs.List.{filter, list_any}
 use Rattle.std.specs.List.Sorted.{IsPermutation}
-use Rattle.fl_ranges.specs.Conflict.{excludes_by}
+use Rattle.fl_ranges.specs.Conflict.{mark_conflicts_by}
 use Rattle.fl_ranges.specs.declared.lock.Class.{Class}
 use Rattle.fl_ranges.specs.declared.lock.Class.TheVariants.{Record, Flock}
 use Rattle.fl_ranges.specs.Marking.{Marking}
-use Rattle.fl_waiting.specs.Circle.{leads, waiter_of, behind, waiters_behind, is_record, hinders, closes_circle}
-use Rattle.fl_waiting.specs.Inside.Searching.{meant, older_than, waiter_among, hinders_among, precedes_by, AreNumbered}
-use Rattle.fl_waiting.specs.Waiting.{Wish, owner_of, wishes, goes_first}
+use Rattle.fl_waiting.specs.Circle.{leads, waiter_of, behind, waiters_behind, is_record, blocks, closes_circle}
+use Rattle.fl_waiting.specs.Inside.Searching.{meant, older_than, waiter_among, blocks_among, precedes_by, AreNumbered}
+use Rattle.fl_waiting.specs.Waiting.{Wish, owner_of, wishes, older_blocks}
 use Rattle.fl_waiting.specs.declared.circle.Wanted.{Wanted}
 use Rattle.fl_waiting.specs.declared.parked.Request.{Request}
 use Rattle.fl_waiting.specs.declared.rules.Rules.{Rules}
 use Rattle.fl_waiting.proofs.Circles.{leads_moved, leads_alike}
-use Rattle.fl_waiting.proofs.Wishes.{hinders_not_itself}
+use Rattle.fl_waiting.proofs.Wishes.{blocks_not_itself}
 
 -- ---- the older ones are tested among all
 
@@ -41,20 +42,20 @@ swapped false true c = refl
 swapped false false c = refl
 
 pub older_by : (ws : List Wanted) (w : Wanted) (owner : ℕ)
-    → list_any (λ (v : Wish). (owner_of v == owner) && goes_first (meant w) v) (older_than ws w) ≡ list_any (precedes_by w owner) ws
+    → list_any (λ (v : Wish). (owner_of v == owner) && older_blocks (meant w) v) (older_than ws w) ≡ list_any (precedes_by w owner) ws
 older_by ws w owner = older_any _ ws w ∙ each ws
   where
-    each : (xs : List Wanted) → list_any (λ (v : Wanted). nat_lt v.place w.place && ((v.key.owner == owner) && goes_first (meant w) (meant v))) xs
+    each : (xs : List Wanted) → list_any (λ (v : Wanted). nat_lt v.place w.place && ((v.key.owner == owner) && older_blocks (meant w) (meant v))) xs
         ≡ list_any (precedes_by w owner) xs
     each [] = refl
-    each (v ∷ xs) = λ i. swapped (nat_lt v.place w.place) (v.key.owner == owner) (goes_first (meant w) (meant v)) i || each xs i
+    each (v ∷ xs) = λ i. swapped (nat_lt v.place w.place) (v.key.owner == owner) (older_blocks (meant w) (meant v)) i || each xs i
 
 -- ---- the order of those that are copied has no say
 
-hinders_moved : (rules : Rules) (m : Marking) (xs ys : List Wanted) → IsPermutation xs ys → (w : Wanted) (owner : ℕ)
-    → hinders_among rules m xs w owner ≡ hinders_among rules m ys w owner
-hinders_moved rules m xs ys moved w owner =
-    ap (λ b. is_record w.key.class && (list_any (excludes_by w.key w.range.start w.range.end w.kind owner) (entries m) || (rules.fair && b)))
+blocks_moved : (rules : Rules) (m : Marking) (xs ys : List Wanted) → IsPermutation xs ys → (w : Wanted) (owner : ℕ)
+    → blocks_among rules m xs w owner ≡ blocks_among rules m ys w owner
+blocks_moved rules m xs ys moved w owner =
+    ap (λ b. is_record w.key.class && (list_any (mark_conflicts_by w.key w.range.start w.range.end w.kind owner) (entries m) || (rules.fair && b)))
     (older_by xs w owner ∙ list_any-IsPermutation (precedes_by w owner) xs ys moved ∙ sym (older_by ys w owner))
 
 -- ---- they are numbered as they stand
@@ -118,14 +119,14 @@ numbered_waiters done (w ∷ rest) before after =
 
 pub found_among : (rules : Rules) (m : Marking) (parked : List Request) (copied sorted : List Wanted) (asked : Wanted) → map meant copied ≡ wishes parked
     → AreNumbered 0 copied → asked.place ≡ length copied → IsPermutation copied sorted
-    → leads (λ (w : Wanted). w.key.owner) (hinders_among rules m sorted) sorted asked asked.key.owner ≡ closes_circle rules m parked (meant asked)
+    → leads (λ (w : Wanted). w.key.owner) (blocks_among rules m sorted) sorted asked asked.key.owner ≡ closes_circle rules m parked (meant asked)
 found_among rules m parked copied sorted asked are numbered last moved =
-    sym (leads_moved (λ (w : Wanted). w.key.owner) (hinders_among rules m sorted) copied sorted asked moved (hinders_not_itself rules m (waiter_among sorted asked)))
-    ∙ (λ i. leads (λ (w : Wanted). w.key.owner) (λ w q. hinders_moved rules m sorted copied (IsPermutation-sym copied sorted moved) w q i) copied asked asked.key.owner)
-    ∙ leads_alike (waiter_among copied) waiter_of (hinders rules m) copied asked asked.key.owner
-    ∙ (λ i. leads waiter_of (hinders rules m) (numbered_waiters [] copied tt numbered i) (behind (map meant (all_older 0 copied asked numbered (omega (arith, last)) i)) (meant asked))
+    sym (leads_moved (λ (w : Wanted). w.key.owner) (blocks_among rules m sorted) copied sorted asked moved (blocks_not_itself rules m (waiter_among sorted asked)))
+    ∙ (λ i. leads (λ (w : Wanted). w.key.owner) (λ w q. blocks_moved rules m sorted copied (IsPermutation-sym copied sorted moved) w q i) copied asked asked.key.owner)
+    ∙ leads_alike (waiter_among copied) waiter_of (blocks rules m) copied asked asked.key.owner
+    ∙ (λ i. leads waiter_of (blocks rules m) (numbered_waiters [] copied tt numbered i) (behind (map meant (all_older 0 copied asked numbered (omega (arith, last)) i)) (meant asked))
     asked.key.owner)
-    ∙ (λ i. leads waiter_of (hinders rules m) (waiters_behind [] (are i)) (behind (are i) (meant asked)) asked.key.owner)
+    ∙ (λ i. leads waiter_of (blocks rules m) (waiters_behind [] (are i)) (behind (are i) (meant asked)) asked.key.owner)
 
 -- ---- what keeps one waiting is found in two parts
 

@@ -1,8 +1,11 @@
 -- The oldest request that passes a test of it and of the older ones.
-use Rattle.std.proofs.Common.{◌≡◌, ℕ, zero, suc, ◌+◌, ◌≤◌, Bool, true, false, cond, not, ◌&&◌, ◌||◌, nat_lt, Option, Some, None, List, [], ◌∷◌, ◌++◌, append_assoc, append-nil, length, take, remove, slice_get, refl, sym, ap, ◌∙◌, subst, arith}
+use Rattle.std.proofs.Common.{◌≡◌, ℕ, zero, suc, ◌+◌, ◌≤◌, Bool, true, false, cond, not, ◌&&◌, ◌||◌, nat_lt, Option}
+use Rattle.std.proofs.Common.{Some, None, List, [], ◌∷◌, ◌++◌, append_assoc, append-nil, length, take, remove}
+use Rattle.std.proofs.Common.{slice_get, refl, sym, ap, ◌∙◌, subst, arith}
 use Rattle.std.proofs.lemmas.Bool.Decides.{nat_tests}
 use Rattle.std.specs.List.{list_any, position_or_len, cons_option}
-use Rattle.fl_waiting.specs.Waiting.{Wish, wish_of, wishes, passes, is_behind, passes_free, AllBehind, taken_first, taken_behind}
+use Rattle.fl_waiting.specs.Waiting.{Wish, wish_of, wishes, passes, is_blocked_by_older, passes_free, AllBehind}
+use Rattle.fl_waiting.specs.Waiting.{taken_first, taken_behind}
 use Rattle.fl_waiting.specs.declared.parked.Request.{Request}
 use Rattle.fl_waiting.specs.Inside.Claims.{ruled}
 use Rattle.fl_waiting.specs.declared.rules.Rules.{Rules}
@@ -29,8 +32,8 @@ behind_first p older (r ∷ parked) = ap (λ o. cond (p r) (Some (r, parked)) (k
 
 -- ---- where no rule is fair none is behind another
 
-never_behind : (rules : Rules) (older : List Request) (r : Request) → rules.fair ≡ false → is_behind rules older r ≡ false
-never_behind rules older r unfair = ap (λ f. is_behind (ruled f) older r) unfair ∙ go _
+never_behind : (rules : Rules) (older : List Request) (r : Request) → rules.fair ≡ false → is_blocked_by_older rules older r ≡ false
+never_behind rules older r unfair = ap (λ f. is_blocked_by_older (ruled f) older r) unfair ∙ go _
   where
     go : (mark : Option Mark) → passes (λ (k : Mark). false) mark ≡ false
     go None = refl
@@ -43,7 +46,7 @@ and_not_false false b e = refl
 pub free_unfair : (rules : Rules) (p : Request → Bool) (parked : List Request) → rules.fair ≡ false → taken_behind (passes_free rules p) [] parked ≡ taken_first p parked
 free_unfair rules p parked unfair =
     behind_alike (passes_free rules p) (λ older r. p r) [] parked
-    (always_behind (λ older r. passes_free rules p older r ≡ p r) (λ older r. and_not_false (p r) (is_behind rules older r) (never_behind rules older r unfair)) [] parked)
+    (always_behind (λ older r. passes_free rules p older r ≡ p r) (λ older r. and_not_false (p r) (is_blocked_by_older rules older r) (never_behind rules older r unfair)) [] parked)
     ∙ behind_first p [] parked
 
 -- ---- one after another

@@ -1,5 +1,6 @@
 -- The test for a circle, and a circle in words.
-use Rattle.std.proofs.Common.{◌≡◌, ◌↔◌, ℕ, zero, suc, ◌<◌, Bool, true, false, ◌&&◌, ◌||◌, ◌⊎◌, inl, inr, ⊎_elim, List, [], ◌∷◌, ◌++◌, length, map, get_or, refl, sym, subst, arith}
+use Rattle.std.proofs.Common.{◌≡◌, ◌↔◌, ℕ, zero, suc, ◌<◌, Bool, true, false, ◌&&◌, ◌||◌, ◌⊎◌, inl, inr, ⊎_elim, List}
+use Rattle.std.proofs.Common.{[], ◌∷◌, ◌++◌, length, map, get_or, refl, sym, subst, arith}
 use Rattle.std.specs.List.{Contains}
 use Rattle.std.specs.List.Sorted.{IsPermutation}
 use Rattle.std.proofs.lemmas.List.Sorted.{Contains-permutation, IsPermutation-sym}
@@ -58,37 +59,37 @@ meet_first : (a_r r_r r_q a_q : Bool) → (a_r ≡ true) ⊎ ((a_r ≡ true) × 
     → (a_q || (a_r && r_q)) ≡ true
 meet_first a_r r_r r_q a_q p q = through a_q a_r r_q (⊎_elim (λ h. h) (λ h. h.0) p) (⊎_elim (λ h. h) (λ h. h.1) q)
 
-module _ {A : Type 0} (owner_of : A → ℕ) (hinders : A → ℕ → Bool) where
+module _ {A : Type 0} (owner_of : A → ℕ) (blocks : A → ℕ → Bool) where
   abbrev L : List A → A → ℕ → Bool
-  L = leads owner_of hinders
+  L = leads owner_of blocks
 
   -- an owner in the way is led to
-  pub leads_directly : (rs : List A) (a : A) (q : ℕ) → hinders a q ≡ true → leads owner_of hinders rs a q ≡ true
+  pub leads_directly : (rs : List A) (a : A) (q : ℕ) → blocks a q ≡ true → leads owner_of blocks rs a q ≡ true
   unfolding leads
   leads_directly [] a q h = h
   leads_directly (r ∷ rs) a q h = without (L rs a q) (L rs a (owner_of r)) (L rs r q) (leads_directly rs a q h)
 
-  on : (rs : List A) (a s : A) (q : ℕ) → Stands rs s → leads owner_of hinders rs a (owner_of s) ≡ true → leads owner_of hinders rs s q ≡ true
-      → leads owner_of hinders rs a q ≡ true
+  on : (rs : List A) (a s : A) (q : ℕ) → Stands rs s → leads owner_of blocks rs a (owner_of s) ≡ true → leads owner_of blocks rs s q ≡ true
+      → leads owner_of blocks rs a q ≡ true
   unfolding leads Stands
   on [] a s q i h k = absurd i
   on (r ∷ rs) a s q (inl e) h k =
       meet_first (L rs a (owner_of r)) (L rs r (owner_of r)) (L rs r q) (L rs a q)
-      (by_two _ _ _ (subst (λ t. leads owner_of hinders (r ∷ rs) a (owner_of t) ≡ true) (sym e) h))
-      (by_two _ _ _ (subst (λ t. leads owner_of hinders (r ∷ rs) t q ≡ true) (sym e) k))
+      (by_two _ _ _ (subst (λ t. leads owner_of blocks (r ∷ rs) a (owner_of t) ≡ true) (sym e) h))
+      (by_two _ _ _ (subst (λ t. leads owner_of blocks (r ∷ rs) t q ≡ true) (sym e) k))
   on (r ∷ rs) a s q (inr i) h k =
       meet (L rs a (owner_of s)) (L rs a (owner_of r)) (L rs r (owner_of s)) (L rs s q) (L rs s (owner_of r)) (L rs r q) (L rs a q)
       (on rs a s q i) (on rs a s (owner_of r) i) (on rs r s q i)
       (by_two (L rs a (owner_of s)) (L rs a (owner_of r)) (L rs r (owner_of s)) h) (by_two (L rs s q) (L rs s (owner_of r)) (L rs r q) k)
 
   -- and so is an owner whom a request waits for, of an owner that is led to
-  pub leads_on : (rs : List A) (a s : A) (q : ℕ) → Contains rs s → leads owner_of hinders rs a (owner_of s) ≡ true → hinders s q ≡ true
-      → leads owner_of hinders rs a q ≡ true
+  pub leads_on : (rs : List A) (a s : A) (q : ℕ) → Contains rs s → leads owner_of blocks rs a (owner_of s) ≡ true → blocks s q ≡ true
+      → leads owner_of blocks rs a q ≡ true
   leads_on rs a s q i h k = on rs a s q (stands rs s i) h (leads_directly rs s q k)
 
   module _ (waiting : List A) where
     abbrev Row : ℕ → List ℕ → ℕ → Type 0
-    Row = AreInRow owner_of hinders waiting
+    Row = AreInRow owner_of blocks waiting
 
     joined : (p : ℕ) (xs : List ℕ) (m : ℕ) (ys : List ℕ) (q : ℕ) → Row p xs m → Row m ys q → Row p (xs ++ m ∷ ys) q
     joined p [] m ys q w row = (w, row)
@@ -96,64 +97,64 @@ module _ {A : Type 0} (owner_of : A → ℕ) (hinders : A → ℕ → Bool) wher
 
     -- what the test says, in words
     Led : A → ℕ → Type 0
-    Led a q = (hinders a q ≡ true) ⊎ ((p : ℕ) × (others : List ℕ) × (hinders a p ≡ true) × Row p others q)
+    Led a q = (blocks a q ≡ true) ⊎ ((p : ℕ) × (others : List ℕ) × (blocks a p ≡ true) × Row p others q)
 
     -- a request of the list waits as its owner
     as_owner : (r : A) (q : ℕ) → Contains waiting r → Led r q → (others : List ℕ) × Row (owner_of r) others q
     unfolding Led
-    as_owner r q i (inl h) = ([], record { request = r; among = i; of = refl; hindered = h })
-    as_owner r q i (inr w) = (w.0 ∷ w.1, (record { request = r; among = i; of = refl; hindered = w.2 }, w.3))
+    as_owner r q i (inl h) = ([], record { request = r; among = i; of = refl; blocked = h })
+    as_owner r q i (inr w) = (w.0 ∷ w.1, (record { request = r; among = i; of = refl; blocked = w.2 }, w.3))
 
     both : (a r : A) (q : ℕ) → Contains waiting r → Led a (owner_of r) → Led r q → Led a q
     unfolding Led
     both a r q i (inl h) led = let w = as_owner r q i led in inr (owner_of r, w.0, h, w.1)
     both a r q i (inr d) led = let w = as_owner r q i led in inr (d.0, d.1 ++ owner_of r ∷ w.0, d.2, joined d.0 d.1 (owner_of r) w.0 q d.3 w.1)
 
-    in_words : (rs : List A) → ((s : A) → Stands rs s → Contains waiting s) → (a : A) (q : ℕ) → leads owner_of hinders rs a q ≡ true → Led a q
+    in_words : (rs : List A) → ((s : A) → Stands rs s → Contains waiting s) → (a : A) (q : ℕ) → leads owner_of blocks rs a q ≡ true → Led a q
     unfolding leads Stands Led
     in_words [] all a q h = inl h
     in_words (r ∷ rs) all a q h =
         let rest = in_words rs (λ s i. all s (inr i)) in
         ⊎_elim (rest a q) (λ w. both a r q (all r (inl refl)) (rest a (owner_of r) w.0) (rest r q w.1)) (by_two (L rs a q) (L rs a (owner_of r)) (L rs r q) h)
 
-    as_told : (p : ℕ) (others : List ℕ) (a : A) (q : ℕ) → hinders a p ≡ true → Row p others q → leads owner_of hinders waiting a q ≡ true
+    as_told : (p : ℕ) (others : List ℕ) (a : A) (q : ℕ) → blocks a p ≡ true → Row p others q → leads owner_of blocks waiting a q ≡ true
     as_told p [] a q h w =
         on waiting a w.request q (stands waiting w.request w.among)
-        (leads_directly waiting a (owner_of w.request) (subst (λ x. hinders a x ≡ true) (sym w.of) h)) (leads_directly waiting w.request q w.hindered)
+        (leads_directly waiting a (owner_of w.request) (subst (λ x. blocks a x ≡ true) (sym w.of) h)) (leads_directly waiting w.request q w.blocked)
     as_told p (x ∷ others) a q h w =
         let v = w.0 in
         on waiting a v.request q (stands waiting v.request v.among)
-        (leads_directly waiting a (owner_of v.request) (subst (λ y. hinders a y ≡ true) (sym v.of) h)) (as_told x others v.request q v.hindered w.1)
+        (leads_directly waiting a (owner_of v.request) (subst (λ y. blocks a y ≡ true) (sym v.of) h)) (as_told x others v.request q v.blocked w.1)
 
-    pub circle_words : (a : A) → hinders a (owner_of a) ≡ false → (leads owner_of hinders waiting a (owner_of a) ≡ true) ↔ IsCircle owner_of hinders waiting a
+    pub circle_words : (a : A) → blocks a (owner_of a) ≡ false → (leads owner_of blocks waiting a (owner_of a) ≡ true) ↔ IsCircle owner_of blocks waiting a
     unfolding Led
     circle_words a own = (
       λ h.
-          ⊎_elim (λ e. absurd (cc (e, own))) (λ w. record { first = w.0; others = w.1; hindered = w.2; row = w.3 })
+          ⊎_elim (λ e. absurd (cc (e, own))) (λ w. record { first = w.0; others = w.1; blocked = w.2; row = w.3 })
           (in_words waiting (contains waiting) a (owner_of a) h),
-      λ w. as_told w.first w.others a (owner_of a) w.hindered w.row,
+      λ w. as_told w.first w.others a (owner_of a) w.blocked w.row,
     )
 
     -- the same requests in another order
     module _ (others : List A) (moved : IsPermutation waiting others) where
-      waits_there : (p q : ℕ) → Waits owner_of hinders waiting p q → Waits owner_of hinders others p q
-      waits_there p q w = record { request = w.request; among = Contains-permutation waiting others w.request moved w.among; of = w.of; hindered = w.hindered }
+      waits_there : (p q : ℕ) → Waits owner_of blocks waiting p q → Waits owner_of blocks others p q
+      waits_there p q w = record { request = w.request; among = Contains-permutation waiting others w.request moved w.among; of = w.of; blocked = w.blocked }
 
-      row_there : (p : ℕ) (xs : List ℕ) (q : ℕ) → Row p xs q → AreInRow owner_of hinders others p xs q
+      row_there : (p : ℕ) (xs : List ℕ) (q : ℕ) → Row p xs q → AreInRow owner_of blocks others p xs q
       row_there p [] q w = waits_there p q w
       row_there p (x ∷ xs) q w = (waits_there p x w.0, row_there x xs q w.1)
 
-      pub circle_there : (a : A) → IsCircle owner_of hinders waiting a → IsCircle owner_of hinders others a
-      circle_there a w = record { first = w.first; others = w.others; hindered = w.hindered; row = row_there w.first w.others (owner_of a) w.row }
+      pub circle_there : (a : A) → IsCircle owner_of blocks waiting a → IsCircle owner_of blocks others a
+      circle_there a w = record { first = w.first; others = w.others; blocked = w.blocked; row = row_there w.first w.others (owner_of a) w.row }
 
 -- a request leads back to its owner through requests in whatever order
-pub leads_moved : {A : Type 0} (owner_of : A → ℕ) (hinders : A → ℕ → Bool) (xs ys : List A) (a : A) → IsPermutation xs ys → hinders a (owner_of a) ≡ false
-    → leads owner_of hinders xs a (owner_of a) ≡ leads owner_of hinders ys a (owner_of a)
-leads_moved owner_of hinders xs ys a moved own =
-    let here = circle_words owner_of hinders xs a own in
-    let there = circle_words owner_of hinders ys a own in
-    same_test _ _ (λ e. there.1 (circle_there owner_of hinders xs ys moved a (here.0 e)))
-    (λ e. here.1 (circle_there owner_of hinders ys xs (IsPermutation-sym xs ys moved) a (there.0 e)))
+pub leads_moved : {A : Type 0} (owner_of : A → ℕ) (blocks : A → ℕ → Bool) (xs ys : List A) (a : A) → IsPermutation xs ys → blocks a (owner_of a) ≡ false
+    → leads owner_of blocks xs a (owner_of a) ≡ leads owner_of blocks ys a (owner_of a)
+leads_moved owner_of blocks xs ys a moved own =
+    let here = circle_words owner_of blocks xs a own in
+    let there = circle_words owner_of blocks ys a own in
+    same_test _ _ (λ e. there.1 (circle_there owner_of blocks xs ys moved a (here.0 e)))
+    (λ e. here.1 (circle_there owner_of blocks ys xs (IsPermutation-sym xs ys moved) a (there.0 e)))
   where
     same_test : (b c : Bool) → (b ≡ true → c ≡ true) → (c ≡ true → b ≡ true) → b ≡ c
     same_test true c f g = sym (f refl)
@@ -161,9 +162,9 @@ leads_moved owner_of hinders xs ys a moved own =
     same_test false false f g = refl
 
 -- requests that mean others lead where these do
-pub leads_alike : {A B : Type 0} (f : A → B) (owner_of : B → ℕ) (hinders : B → ℕ → Bool) (rs : List A) (a : A) (q : ℕ)
-    → leads (λ r. owner_of (f r)) (λ r. hinders (f r)) rs a q ≡ leads owner_of hinders (map f rs) (f a) q
+pub leads_alike : {A B : Type 0} (f : A → B) (owner_of : B → ℕ) (blocks : B → ℕ → Bool) (rs : List A) (a : A) (q : ℕ)
+    → leads (λ r. owner_of (f r)) (λ r. blocks (f r)) rs a q ≡ leads owner_of blocks (map f rs) (f a) q
 unfolding leads
-leads_alike f owner_of hinders [] a q = refl
-leads_alike f owner_of hinders (r ∷ rs) a q =
-    λ i. leads_alike f owner_of hinders rs a q i || (leads_alike f owner_of hinders rs a (owner_of (f r)) i && leads_alike f owner_of hinders rs r q i)
+leads_alike f owner_of blocks [] a q = refl
+leads_alike f owner_of blocks (r ∷ rs) a q =
+    λ i. leads_alike f owner_of blocks rs a q i || (leads_alike f owner_of blocks rs a (owner_of (f r)) i && leads_alike f owner_of blocks rs r q i)

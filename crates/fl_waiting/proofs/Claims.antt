@@ -1,5 +1,6 @@
 -- Claims, and the requests that they are of.
-use Rattle.std.proofs.Common.{◌≡◌, ◌∙◌, ℕ, zero, suc, ◌+◌, ◌<◌, ◌||◌, Bool, true, false, not, cond, Option, Some, None, option_map, List, [], ◌∷◌, length, map, remove, get_or, slice_get, refl, sym, ap, arith}
+use Rattle.std.proofs.Common.{◌≡◌, ◌∙◌, ℕ, zero, suc, ◌+◌, ◌<◌, ◌||◌, Bool, true, false, not, cond, Option, Some, None}
+use Rattle.std.proofs.Common.{option_map, List, [], ◌∷◌, length, map, remove, get_or, slice_get, refl, sym, ap, arith}
 use Rattle.std.proofs.lemmas.List.{length-map, get_or-map}
 use Rattle.std.specs.List.{find, list_any, position_or_len}
 use Rattle.fl_arena.specs.Chains.{Chains, items, item_count}

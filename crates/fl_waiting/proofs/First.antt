@@ -1,13 +1,14 @@
 -- An older wish goes first where the two conflict.
-use Rattle.std.proofs.Common.{◌≡◌, ◌≢◌, ◌↔◌, ℕ, ◌==◌, ◌≤◌, nat_le, Bool, true, false, not, ◌&&◌, inl, inr, ◌⊎◌, refl, sym, ap, ◌∙◌, arith}
+use Rattle.std.proofs.Common.{◌≡◌, ◌≢◌, ◌↔◌, ℕ, ◌==◌, ◌≤◌, nat_le, Bool, true, false, not, ◌&&◌, inl, inr, ◌⊎◌, refl}
+use Rattle.std.proofs.Common.{sym, ap, ◌∙◌, arith}
 use Rattle.std.proofs.lemmas.Bool.Decides.{nat_tests}
 use Rattle.fl_ranges.specs.declared.lock.Class.{Class}
 use Rattle.fl_ranges.specs.declared.lock.Class.TheVariants.{Record, Flock}
 use Rattle.fl_ranges.specs.declared.lock.Kind.{Kind}
 use Rattle.fl_ranges.specs.declared.lock.Kind.TheVariants.{Read, Write}
-use Rattle.fl_ranges.specs.Conflict.{excludes}
+use Rattle.fl_ranges.specs.Conflict.{kinds_conflict}
 use Rattle.fl_ranges.specs.Marking.{class_number}
-use Rattle.fl_waiting.specs.Waiting.{Wish, goes_first, GoesFirst}
+use Rattle.fl_waiting.specs.Waiting.{Wish, older_blocks, OlderBlocks}
 
 all_true : (c n o f u e : Bool) → ((c && (n && not o)) && ((f && u) && e)) ≡ true
     → (c ≡ true) × (n ≡ true) × (o ≡ false) × (f ≡ true) × (u ≡ true) × (e ≡ true)
@@ -50,25 +51,25 @@ same_class Record Flock e = absurd (cc e)
 same_class Flock Record e = absurd (cc e)
 same_class Flock Flock e = refl
 
-a_write : (a b : Kind) → excludes a b ≡ true → (a ≡ Write) ⊎ (b ≡ Write)
+a_write : (a b : Kind) → kinds_conflict a b ≡ true → (a ≡ Write) ⊎ (b ≡ Write)
 a_write Read Read e = absurd (cc e)
 a_write Read Write e = inr refl
 a_write Write b e = inl refl
 
-excluded : (a b : Kind) → (a ≡ Write) ⊎ (b ≡ Write) → excludes a b ≡ true
-excluded a b (inl e) = ap (λ k. excludes k b) e
-excluded Read b (inr e) = ap (excludes Read) e
-excluded Write b (inr e) = refl
+in_conflict : (a b : Kind) → (a ≡ Write) ⊎ (b ≡ Write) → kinds_conflict a b ≡ true
+in_conflict a b (inl e) = ap (λ k. kinds_conflict k b) e
+in_conflict Read b (inr e) = ap (kinds_conflict Read) e
+in_conflict Write b (inr e) = refl
 
-words_of : (w older : Wish) → w.start ≤ w.end → older.start ≤ older.end → goes_first w older ≡ true → GoesFirst w older
+words_of : (w older : Wish) → w.start ≤ w.end → older.start ≤ older.end → older_blocks w older ≡ true → OlderBlocks w older
 words_of w older some others h =
     let t = all_true (class_number w.key.class == class_number older.key.class) (w.key.node == older.key.node) (w.key.owner == older.key.owner)
-    (nat_le older.start w.end) (nat_le w.start older.end) (excludes w.kind older.kind) h in
+    (nat_le older.start w.end) (nat_le w.start older.end) (kinds_conflict w.kind older.kind) h in
     go (nat_le w.start older.start) refl (differ _ _ t.2) (same_class _ _ t.0, sym (equals _ _ t.1)) (upto _ _ t.3) (upto _ _ t.4) (a_write w.kind older.kind t.5)
   where
     go : (b : Bool) → nat_le w.start older.start ≡ b → older.key.owner ≢ w.key.owner
         → (older.key.class ≡ w.key.class) × (older.key.node ≡ w.key.node) → older.start ≤ w.end → w.start ≤ older.end
-        → (w.kind ≡ Write) ⊎ (older.kind ≡ Write) → GoesFirst w older
+        → (w.kind ≡ Write) ⊎ (older.kind ≡ Write) → OlderBlocks w older
     go true e other file before after write = record {
       byte = older.start;
       other = other;
@@ -84,15 +85,15 @@ words_of w older some others h =
       write = write;
     }
 
-test_of : (w older : Wish) → GoesFirst w older → goes_first w older ≡ true
+test_of : (w older : Wish) → OlderBlocks w older → older_blocks w older ≡ true
 test_of w older g =
     let class : (class_number w.key.class == class_number older.key.class) ≡ true = yes_equal _ _ (ap class_number (sym g.file.0)) in
     let node : (w.key.node == older.key.node) ≡ true = yes_equal _ _ (sym g.file.1) in
     let owner : (w.key.owner == older.key.owner) ≡ false = not_equal _ _ g.other in
     let before : nat_le older.start w.end ≡ true = yes_upto _ _ (omega (arith, g.common.0.0, g.common.1.1)) in
     let after : nat_le w.start older.end ≡ true = yes_upto _ _ (omega (arith, g.common.1.0, g.common.0.1)) in
-    let write = excluded w.kind older.kind g.write in
+    let write = in_conflict w.kind older.kind g.write in
     λ i. (class i && (node i && not (owner i))) && ((before i && after i) && write i)
 
-pub first_words : (w older : Wish) → w.start ≤ w.end → older.start ≤ older.end → (goes_first w older ≡ true) ↔ GoesFirst w older
+pub first_words : (w older : Wish) → w.start ≤ w.end → older.start ≤ older.end → (older_blocks w older ≡ true) ↔ OlderBlocks w older
 first_words w older some others = (words_of w older some others, test_of w older)

@@ -1,5 +1,7 @@
 -- The search for a circle: what is reached and visited so far.
-use Rattle.std.proofs.Common.{◌≡◌, ◌≢◌, ℕ, zero, suc, ◌<◌, Bool, true, false, cond, ◌||◌, List, [], ◌∷◌, length, sum_by, get_or, set, length-set, get_or-set_other, take, replicate, inl, inr, ◌⊎◌, ⊎_elim, refl, sym, ap, ◌∙◌, subst, arith}
+use Rattle.std.proofs.Common.{◌≡◌, ◌≢◌, ℕ, zero, suc, ◌<◌, Bool, true, false, cond, ◌||◌, List, [], ◌∷◌, length, sum_by}
+use Rattle.std.proofs.Common.{get_or, set, length-set, get_or-set_other, take, replicate, inl, inr, ◌⊎◌, ⊎_elim, refl}
+use Rattle.std.proofs.Common.{sym, ap, ◌∙◌, subst, arith}
 use Rattle.std.proofs.lemmas.Bool.{cases_eq}
 use Rattle.std.proofs.lemmas.List.{length-map, length-replicate}
 use Rattle.std.proofs.lemmas.List.Sums.{sum_by-set}
@@ -72,17 +74,17 @@ unset_part (suc k) (suc n) (suc i) = unset_part k n i
 
 -- Owners that are reached are led to. Those in the way of the request are reached, and those in the way of a request that
 -- was visited; and none that was visited waits for the one who asks.
-pub record IsSearching (most : ℕ) (hinders : Wanted → ℕ → Bool) (ws : List Wanted) (asked : Wanted) (reached visited : List Bool) : Type 0 where
+pub record IsSearching (most : ℕ) (blocks : Wanted → ℕ → Bool) (ws : List Wanted) (asked : Wanted) (reached visited : List Bool) : Type 0 where
   pub long : length visited ≡ most
   pub wide : length reached ≡ length ws
   pub by_owner : IsReachedByOwner ws reached
-  pub led : (i : ℕ) → i < length ws → is_set reached i ≡ true → leads owner hinders ws asked (owner_at ws i) ≡ true
-  pub start : (i : ℕ) → i < length ws → hinders asked (owner_at ws i) ≡ true → is_set reached i ≡ true
-  pub clear : (i : ℕ) (w : Wanted) → i < length ws → get_or ws i w ≡ w → is_set visited i ≡ true → hinders w (owner asked) ≡ false
-  pub closed : (i j : ℕ) (w : Wanted) → i < length ws → j < length ws → get_or ws i w ≡ w → is_set visited i ≡ true → hinders w (owner_at ws j) ≡ true
+  pub led : (i : ℕ) → i < length ws → is_set reached i ≡ true → leads owner blocks ws asked (owner_at ws i) ≡ true
+  pub start : (i : ℕ) → i < length ws → blocks asked (owner_at ws i) ≡ true → is_set reached i ≡ true
+  pub clear : (i : ℕ) (w : Wanted) → i < length ws → get_or ws i w ≡ w → is_set visited i ≡ true → blocks w (owner asked) ≡ false
+  pub closed : (i j : ℕ) (w : Wanted) → i < length ws → j < length ws → get_or ws i w ≡ w → is_set visited i ≡ true → blocks w (owner_at ws j) ≡ true
       → is_set reached j ≡ true
 
-module _ (most : ℕ) (hinders : Wanted → ℕ → Bool) (ws : List Wanted) (asked : Wanted) where
+module _ (most : ℕ) (blocks : Wanted → ℕ → Bool) (ws : List Wanted) (asked : Wanted) where
   at_place : (test : ℕ → Bool) (old new : List Bool) → AreFound test (owners_of ws) old new → (i : ℕ) → i < length ws
       → is_set new i ≡ (is_set old i || test (owner_at ws i))
   at_place test old new more i h = more i (omega (arith, length-map ws owner, h))
@@ -93,37 +95,37 @@ module _ (most : ℕ) (hinders : Wanted → ℕ → Bool) (ws : List Wanted) (as
       at_place test old new more i h ∙ (λ n. by i j h k same n || test (same n)) ∙ sym (at_place test old new more j k)
 
   -- where nothing was reached before
-  pub starts : (none new : List Bool) → ((i : ℕ) → is_set none i ≡ false) → length new ≡ length ws → AreFound (hinders asked) (owners_of ws) none new
-      → IsSearching most hinders ws asked new (replicate most false)
+  pub starts : (none new : List Bool) → ((i : ℕ) → is_set none i ≡ false) → length new ≡ length ws → AreFound (blocks asked) (owners_of ws) none new
+      → IsSearching most blocks ws asked new (replicate most false)
   starts none new unset wide more = record {
     long = length-replicate most false;
     wide = wide;
-    by_owner = goes_by_owner (hinders asked) none new (λ i j h k same. unset i ∙ sym (unset j)) more;
-    led = λ i h e. leads_directly owner hinders ws asked (owner_at ws i)
-        (⊎_elim (λ old. absurd (cc (sym (unset i) ∙ old))) (λ now. now) (or_cases _ _ _ (at_place (hinders asked) none new more i h) e));
-    start = λ i h e. or_right _ _ _ (at_place (hinders asked) none new more i h) e;
+    by_owner = goes_by_owner (blocks asked) none new (λ i j h k same. unset i ∙ sym (unset j)) more;
+    led = λ i h e. leads_directly owner blocks ws asked (owner_at ws i)
+        (⊎_elim (λ old. absurd (cc (sym (unset i) ∙ old))) (λ now. now) (or_cases _ _ _ (at_place (blocks asked) none new more i h) e));
+    start = λ i h e. or_right _ _ _ (at_place (blocks asked) none new more i h) e;
     clear = λ i w h at e. absurd (none_set most i e);
     closed = λ i j w h k at e f. absurd (none_set most i e);
   }
 
-  module _ (reached visited : List Bool) (so_far : IsSearching most hinders ws asked reached visited) where
-    onward : (i : ℕ) (w : Wanted) (q : ℕ) → i < length ws → get_or ws i w ≡ w → is_set reached i ≡ true → hinders w q ≡ true
-        → leads owner hinders ws asked q ≡ true
+  module _ (reached visited : List Bool) (so_far : IsSearching most blocks ws asked reached visited) where
+    onward : (i : ℕ) (w : Wanted) (q : ℕ) → i < length ws → get_or ws i w ≡ w → is_set reached i ≡ true → blocks w q ≡ true
+        → leads owner blocks ws asked q ≡ true
     onward i w q h at e k =
-        leads_on owner hinders ws asked w q (i, h, at) (subst (λ o. leads owner hinders ws asked o ≡ true) (owner_is ws i w h at) (so_far.led i h e)) k
+        leads_on owner blocks ws asked w q (i, h, at) (subst (λ o. leads owner blocks ws asked o ≡ true) (owner_is ws i w h at) (so_far.led i h e)) k
 
-    pub finds : (i : ℕ) (w : Wanted) → i < length ws → get_or ws i w ≡ w → is_set reached i ≡ true → hinders w (owner asked) ≡ true
-        → leads owner hinders ws asked (owner asked) ≡ true
+    pub finds : (i : ℕ) (w : Wanted) → i < length ws → get_or ws i w ≡ w → is_set reached i ≡ true → blocks w (owner asked) ≡ true
+        → leads owner blocks ws asked (owner asked) ≡ true
     finds i w h at e k = onward i w (owner asked) h at e k
 
-    pub goes_on : (new : List Bool) (i : ℕ) (w : Wanted) → i < length ws → get_or ws i w ≡ w → is_set reached i ≡ true → hinders w (owner asked) ≡ false
-        → length new ≡ length ws → AreFound (hinders w) (owners_of ws) reached new → IsSearching most hinders ws asked new (set visited i true)
+    pub goes_on : (new : List Bool) (i : ℕ) (w : Wanted) → i < length ws → get_or ws i w ≡ w → is_set reached i ≡ true → blocks w (owner asked) ≡ false
+        → length new ≡ length ws → AreFound (blocks w) (owners_of ws) reached new → IsSearching most blocks ws asked new (set visited i true)
     goes_on new i w h at e free wide more = record {
       wide = wide;
       long = length-set visited i true ∙ so_far.long;
-      by_owner = goes_by_owner (hinders w) reached new so_far.by_owner more;
-      led = λ j k f. ⊎_elim (so_far.led j k) (onward i w (owner_at ws j) h at e) (or_cases _ _ _ (at_place (hinders w) reached new more j k) f);
-      start = λ j k f. or_left _ _ _ (at_place (hinders w) reached new more j k) (so_far.start j k f);
+      by_owner = goes_by_owner (blocks w) reached new so_far.by_owner more;
+      led = λ j k f. ⊎_elim (so_far.led j k) (onward i w (owner_at ws j) h at e) (or_cases _ _ _ (at_place (blocks w) reached new more j k) f);
+      start = λ j k f. or_left _ _ _ (at_place (blocks w) reached new more j k) (so_far.start j k f);
       clear = λ j v k there f. clear_at j v k there f (cases_eq j i);
       closed = λ j l v k m there f g. closed_at j l v k m there f g (cases_eq j i);
     }
@@ -137,39 +139,39 @@ module _ (most : ℕ) (hinders : Wanted → ℕ → Bool) (ws : List Wanted) (as
             any (z ∷ xs) (suc n) x y below = any xs n x y (omega arith)
 
         clear_at : (j : ℕ) (v : Wanted) → j < length ws → get_or ws j v ≡ v → is_set (set visited i true) j ≡ true → (j ≡ i) ⊎ (j ≢ i)
-            → hinders v (owner asked) ≡ false
-        clear_at j v k there f (inl same) = ap (λ x. hinders x (owner asked)) (it j v k there same) ∙ free
+            → blocks v (owner asked) ≡ false
+        clear_at j v k there f (inl same) = ap (λ x. blocks x (owner asked)) (it j v k there same) ∙ free
         clear_at j v k there f (inr other) = so_far.clear j v k there (sym (get_or-set_other visited i j true false other) ∙ f)
 
         closed_at : (j l : ℕ) (v : Wanted) → j < length ws → l < length ws → get_or ws j v ≡ v → is_set (set visited i true) j ≡ true
-            → hinders v (owner_at ws l) ≡ true → (j ≡ i) ⊎ (j ≢ i) → is_set new l ≡ true
-        closed_at j l v k m there f g (inl same) = or_right _ _ _ (at_place (hinders w) reached new more l m) (ap (λ x. hinders x (owner_at ws l)) (sym (it j v k there same)) ∙ g)
+            → blocks v (owner_at ws l) ≡ true → (j ≡ i) ⊎ (j ≢ i) → is_set new l ≡ true
+        closed_at j l v k m there f g (inl same) = or_right _ _ _ (at_place (blocks w) reached new more l m) (ap (λ x. blocks x (owner_at ws l)) (sym (it j v k there same)) ∙ g)
         closed_at j l v k m there f g (inr other) =
-            or_left _ _ _ (at_place (hinders w) reached new more l m) (so_far.closed j l v k m there (sym (get_or-set_other visited i j true false other) ∙ f) g)
+            or_left _ _ _ (at_place (blocks w) reached new more l m) (so_far.closed j l v k m there (sym (get_or-set_other visited i j true false other) ∙ f) g)
 
     -- where a row of owners begins
-    place_of : (p : ℕ) (others : List ℕ) (q : ℕ) → AreInRow owner hinders ws p others q → (i : ℕ) × (i < length ws) × (owner_at ws i ≡ p)
+    place_of : (p : ℕ) (others : List ℕ) (q : ℕ) → AreInRow owner blocks ws p others q → (i : ℕ) × (i < length ws) × (owner_at ws i ≡ p)
     place_of p [] q w = (w.among.0, w.among.1, owner_is ws w.among.0 w.request w.among.1 w.among.2 ∙ w.of)
     place_of p (x ∷ others) q w = let v = w.0 in (v.among.0, v.among.1, owner_is ws v.among.0 v.request v.among.1 v.among.2 ∙ v.of)
 
     module _ (all : (i : ℕ) → i < length ws → is_set reached i ≡ true → is_set visited i ≡ true) where
-      seen : {p q : ℕ} (w : Waits owner hinders ws p q) (i : ℕ) → i < length ws → owner_at ws i ≡ p → is_set reached i ≡ true → is_set visited w.among.0 ≡ true
+      seen : {p q : ℕ} (w : Waits owner blocks ws p q) (i : ℕ) → i < length ws → owner_at ws i ≡ p → is_set reached i ≡ true → is_set visited w.among.0 ≡ true
       seen w i h at e =
           all w.among.0 w.among.1 (so_far.by_owner w.among.0 i w.among.1 h (owner_is ws w.among.0 w.request w.among.1 w.among.2 ∙ w.of ∙ sym at) ∙ e)
 
       no_row : (p : ℕ) (others : List ℕ) (i : ℕ) → i < length ws → owner_at ws i ≡ p → is_set reached i ≡ true
-          → AreInRow owner hinders ws p others (owner asked) → ⊥
-      no_row p [] i h at e w = cc (sym (so_far.clear w.among.0 w.request w.among.1 w.among.2 (seen w i h at e)) ∙ w.hindered)
+          → AreInRow owner blocks ws p others (owner asked) → ⊥
+      no_row p [] i h at e w = cc (sym (so_far.clear w.among.0 w.request w.among.1 w.among.2 (seen w i h at e)) ∙ w.blocked)
       no_row p (x ∷ others) i h at e w =
           let v = w.0 in
           let n = place_of x others (owner asked) w.1 in
           no_row x others n.0 n.1 n.2 (so_far.closed v.among.0 n.0 v.request v.among.1 n.1 v.among.2 (seen v i h at e)
-          (ap (hinders v.request) n.2 ∙ v.hindered)) w.1
+          (ap (blocks v.request) n.2 ∙ v.blocked)) w.1
 
-      no_circle : IsCircle owner hinders ws asked → ⊥
+      no_circle : IsCircle owner blocks ws asked → ⊥
       no_circle w =
           let n = place_of w.first w.others (owner asked) w.row in
-          no_row w.first w.others n.0 n.1 n.2 (so_far.start n.0 n.1 (ap (hinders asked) n.2 ∙ w.hindered)) w.row
+          no_row w.first w.others n.0 n.1 n.2 (so_far.start n.0 n.1 (ap (blocks asked) n.2 ∙ w.blocked)) w.row
 
-      pub ends : hinders asked (owner asked) ≡ false → leads owner hinders ws asked (owner asked) ≡ false
-      ends own = only_false (leads owner hinders ws asked (owner asked)) (λ h. no_circle ((circle_words owner hinders ws asked own).0 h))
+      pub ends : blocks asked (owner asked) ≡ false → leads owner blocks ws asked (owner asked) ≡ false
+      ends own = only_false (leads owner blocks ws asked (owner asked)) (λ h. no_circle ((circle_words owner blocks ws asked own).0 h))

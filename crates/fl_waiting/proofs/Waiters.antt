@@ -1,9 +1,10 @@
 -- Who has a record request parked, and who waits.
-use Rattle.std.proofs.Common.{◌≡◌, ℕ, zero, suc, ◌<◌, Bool, true, false, ◌||◌, ◌==◌, List, [], ◌∷◌, ◌++◌, length, get_or, refl, sym, ap, ◌∙◌, arith}
+use Rattle.std.proofs.Common.{◌≡◌, ℕ, zero, suc, ◌<◌, Bool, true, false, ◌||◌, ◌==◌, List, [], ◌∷◌, ◌++◌, length}
+use Rattle.std.proofs.Common.{get_or, refl, sym, ap, ◌∙◌, arith}
 use Rattle.std.proofs.lemmas.Bool.Decides.{nat_tests}
 use Rattle.std.specs.List.{list_any}
 use Rattle.fl_ranges.specs.Marking.{Marking}
-use Rattle.fl_waiting.specs.Circle.{Waiter, Waits, waiter_of, waiters, waiters_behind, hinders}
+use Rattle.fl_waiting.specs.Circle.{Waiter, Waits, waiter_of, waiters, waiters_behind, blocks}
 use Rattle.fl_waiting.specs.Waiting.{Wish, owner_of, is_waiting, wishes}
 use Rattle.fl_waiting.specs.declared.parked.Request.{Request}
 use Rattle.fl_waiting.specs.declared.rules.Rules.{Rules}
@@ -26,6 +27,6 @@ not_among older (v ∷ ws) owner none (suc i) w below at of =
     not_among (older ++ v ∷ []) ws owner (neither (owner_of v == owner) _ none).1 i w (omega (arith, below)) at of
 
 pub waits_for_nobody : (rules : Rules) (m : Marking) (parked : List Request) (owner q : ℕ) → is_waiting owner parked ≡ false
-    → Waits waiter_of (hinders rules m) (waiters parked) owner q → ⊥
+    → Waits waiter_of (blocks rules m) (waiters parked) owner q → ⊥
 waits_for_nobody rules m parked owner q none waits =
     not_among [] (wishes parked) owner none waits.among.0 waits.request waits.among.1 waits.among.2 waits.of

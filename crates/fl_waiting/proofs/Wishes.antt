@@ -1,5 +1,7 @@
 -- Locks that are wanted, and who keeps them from being set.
-use Rattle.std.proofs.Common.{◌≡◌, ◌↔◌, ℕ, Bool, true, false, cond, not, ◌&&◌, ◌||◌, ◌==◌, nat_le, Option, Some, None, option_map, List, [], ◌∷◌, length, inl, inr, ◌⊎◌, ⊎_elim, refl, sym, ap, ◌∙◌, subst, arith}
+use Rattle.std.proofs.Common.{◌≡◌, ◌↔◌, ℕ, Bool, true, false, cond, not, ◌&&◌, ◌||◌, ◌==◌, nat_le, Option, Some, None}
+use Rattle.std.proofs.Common.{option_map, List, [], ◌∷◌, length, inl, inr, ◌⊎◌, ⊎_elim, refl, sym, ap, ◌∙◌, subst}
+use Rattle.std.proofs.Common.{arith}
 use Rattle.std.proofs.lemmas.Bool.Decides.{nat_tests}
 use Rattle.std.specs.List.{list_any}
 use Rattle.std.specs.FinMap.{entries}
@@ -8,10 +10,12 @@ use Rattle.fl_ranges.specs.declared.lock.Key.{Key}
 use Rattle.fl_ranges.specs.declared.lock.Kind.{Kind}
 use Rattle.fl_ranges.specs.declared.lock.Mark.{Mark}
 use Rattle.fl_ranges.specs.Marking.{Marking, Spot, class_number}
-use Rattle.fl_ranges.specs.Conflict.{excludes, excludes_by, excludes_lock}
-use Rattle.fl_waiting.specs.Circle.{leads, IsCircle, Waiter, waiter_of, behind, waiters, is_record, hinders, closes_circle, is_deadlock, ClosesCircle}
+use Rattle.fl_ranges.specs.Conflict.{kinds_conflict, mark_conflicts_by, mark_conflicts}
+use Rattle.fl_waiting.specs.Circle.{leads, IsCircle, Waiter, waiter_of, behind, waiters, is_record, blocks}
+use Rattle.fl_waiting.specs.Circle.{closes_circle, is_deadlock, ClosesCircle}
 use Rattle.fl_waiting.specs.LockRequest.{is_flock, key_of, start_of, end_of, mark_of, stroke_of}
-use Rattle.fl_waiting.specs.Waiting.{Wish, owner_of, wish_on, wish_of, wishes, goes_first, keeps_waiting, anyone, only}
+use Rattle.fl_waiting.specs.Waiting.{Wish, owner_of, wish_on, wish_of, wishes, older_blocks, is_blocked_by, anyone}
+use Rattle.fl_waiting.specs.Waiting.{only}
 use Rattle.fl_waiting.specs.declared.parked.Request.{Request}
 use Rattle.fl_waiting.specs.declared.rules.Rules.{Rules}
 use Rattle.fl_waiting.proofs.Circles.{circle_words}
@@ -32,35 +36,35 @@ never x y false b c = none (x == y)
     none true = refl
     none false = refl
 
-never_own : (es : List (Spot × Mark)) (key : Key) (start end : ℕ) (kind : Kind) → list_any (excludes_by key start end kind key.owner) es ≡ false
+never_own : (es : List (Spot × Mark)) (key : Key) (start end : ℕ) (kind : Kind) → list_any (mark_conflicts_by key start end kind key.owner) es ≡ false
 never_own [] key start end kind = refl
 never_own (e ∷ es) key start end kind =
     λ i. never e.0.0.owner key.owner (class_number key.class == class_number e.0.0.class) (key.node == e.0.0.node)
-    ((nat_le start e.0.1 && nat_le e.0.1 end) && excludes kind e.1.kind) i || never_own es key start end kind i
+    ((nat_le start e.0.1 && nat_le e.0.1 end) && kinds_conflict kind e.1.kind) i || never_own es key start end kind i
 
 and_false : (b c : Bool) → c ≡ false → (b && c) ≡ false
 and_false true c e = e
 and_false false c e = refl
 
-never_older : (older : List Wish) (w : Wish) → list_any (λ (v : Wish). (owner_of v == owner_of w) && goes_first w v) older ≡ false
+never_older : (older : List Wish) (w : Wish) → list_any (λ (v : Wish). (owner_of v == owner_of w) && older_blocks w v) older ≡ false
 never_older [] w = refl
 never_older (v ∷ older) w =
     λ i. never (owner_of v) (owner_of w) (class_number w.key.class == class_number v.key.class) (w.key.node == v.key.node)
-    ((nat_le v.start w.end && nat_le w.start v.end) && excludes w.kind v.kind) i || never_older older w i
+    ((nat_le v.start w.end && nat_le w.start v.end) && kinds_conflict w.kind v.kind) i || never_older older w i
 
 neither : (fair : Bool) → (false || (fair && false)) ≡ false
 neither true = refl
 neither false = refl
 
-pub hinders_not_itself : (rules : Rules) (m : Marking) (w : Waiter) → hinders rules m w (waiter_of w) ≡ false
-hinders_not_itself rules m w =
+pub blocks_not_itself : (rules : Rules) (m : Marking) (w : Waiter) → blocks rules m w (waiter_of w) ≡ false
+blocks_not_itself rules m w =
     let k = w.wish in
     and_false (is_record k.key.class) _ ((λ i. never_own (entries m) k.key k.start k.end k.kind i || (rules.fair && never_older w.older k i)) ∙ neither rules.fair)
 
 pub closes_words : (rules : Rules) (m : Marking) (parked : List Request) (w : Wish)
-    → (closes_circle rules m parked w ≡ true) ↔ IsCircle waiter_of (hinders rules m) (waiters parked) (behind (wishes parked) w)
+    → (closes_circle rules m parked w ≡ true) ↔ IsCircle waiter_of (blocks rules m) (waiters parked) (behind (wishes parked) w)
 closes_words rules m parked w =
-    circle_words waiter_of (hinders rules m) (waiters parked) (behind (wishes parked) w) (hinders_not_itself rules m (behind (wishes parked) w))
+    circle_words waiter_of (blocks rules m) (waiters parked) (behind (wishes parked) w) (blocks_not_itself rules m (behind (wishes parked) w))
 
 -- ---- a lock waits where an owner keeps it waiting
 
@@ -112,20 +116,20 @@ owner_of_spot : Spot × Mark → ℕ
 owner_of_spot e = e.0.0.owner
 
 pub waits_for_someone : (rules : Rules) (m : Marking) (older : List Wish) (w : Wish)
-    → (keeps_waiting rules anyone m older w ≡ true) ↔ ((owner : ℕ) × (keeps_waiting rules (only owner) m older w ≡ true))
+    → (is_blocked_by rules anyone m older w ≡ true) ↔ ((owner : ℕ) × (is_blocked_by rules (only owner) m older w ≡ true))
 unfolding owner_of_spot
 waits_for_someone rules m older w = (
   λ h. ⊎_elim (λ a. let t = some_owner owner_of_spot held (entries m) a in (t.0, first _ _ t.1))
-      (λ b. let t = some_owner owner_of (goes_first w) older b.1 in (t.0, second _ _ (and_true rules.fair _ b.0 t.1)))
-      (by_either (list_any held (entries m)) rules.fair (list_any (goes_first w) older) h),
+      (λ b. let t = some_owner owner_of (older_blocks w) older b.1 in (t.0, second _ _ (and_true rules.fair _ b.0 t.1)))
+      (by_either (list_any held (entries m)) rules.fair (list_any (older_blocks w) older) h),
   λ t. ⊎_elim (λ a. first _ _ (whoever owner_of_spot held t.0 (entries m) a))
-      (λ b. second _ _ (and_true rules.fair _ b.0 (whoever owner_of (goes_first w) t.0 older b.1)))
+      (λ b. second _ _ (and_true rules.fair _ b.0 (whoever owner_of (older_blocks w) t.0 older b.1)))
       (by_either (list_any (λ e. (owner_of_spot e == t.0) && held e) (entries m)) rules.fair
-      (list_any (λ (v : Wish). (owner_of v == t.0) && goes_first w v) older) t.1),
+      (list_any (λ (v : Wish). (owner_of v == t.0) && older_blocks w v) older) t.1),
 )
   where
     held : Spot × Mark → Bool
-    held = excludes_lock w.key w.start w.end w.kind
+    held = mark_conflicts w.key w.start w.end w.kind
 
 -- ---- whole-file locks have no part in circles
 
@@ -136,11 +140,11 @@ only_false false f = refl
 pub flock_closes_none : (rules : Rules) (m : Marking) (parked : List Request) (w : Wish) → w.key.class ≡ Flock → closes_circle rules m parked w ≡ false
 flock_closes_none rules m parked w flock = only_false _ (λ h.
     let c = (closes_words rules m parked w).0 h in
-    cc (sym c.hindered ∙ ap (λ k. is_record k && keeps_waiting rules (only c.first) m (wishes parked) w) flock))
+    cc (sym c.blocked ∙ ap (λ k. is_record k && is_blocked_by rules (only c.first) m (wishes parked) w) flock))
 
 pub empty_closes_none : (rules : Rules) (m : Marking) (parked : List Request) (w : Wish) → length parked ≡ 0 → closes_circle rules m parked w ≡ false
 unfolding leads
-empty_closes_none rules m [] w e = hinders_not_itself rules m (behind [] w)
+empty_closes_none rules m [] w e = blocks_not_itself rules m (behind [] w)
 empty_closes_none rules m (r ∷ parked) w e = absurd (omega arith)
 
 -- ---- a request that would close a circle
@@ -171,7 +175,7 @@ deadlock_is rules m parked r false f (Some mark) e =
     (option_map (λ (k : Mark). record { key = key_of r.node r.ask; start = start_of r.ask; end = end_of r.ask; kind = k.kind }) (e i)) in
     let words = closes_words rules m parked (wish_on (stroke_of r.node r.ask) mark) in (
       λ h. record { wish = wish_on (stroke_of r.node r.ask) mark; wants = wanted; circle = words.0 h },
-      λ c. words.1 (subst (λ (k : Wish). IsCircle waiter_of (hinders rules m) (waiters parked) (behind (wishes parked) k))
+      λ c. words.1 (subst (λ (k : Wish). IsCircle waiter_of (blocks rules m) (waiters parked) (behind (wishes parked) k))
           (same c.wish (wish_on (stroke_of r.node r.ask) mark) (sym c.wants ∙ wanted)) c.circle),
     )
   where

@@ -1,5 +1,6 @@
--- Lock parked requests, in the order of asking, and what keeps them waiting.
-use Rattle.std.specs.Prelude.{◌≡◌, ◌≢◌, ◌⊎◌, ℕ, ◌==◌, ◌≤◌, Bool, true, false, not, ◌&&◌, ◌||◌, nat_le, Option, Some, None, option_map, List, [], ◌∷◌, ◌++◌, if◌then◌else◌}
+-- Lock parked requests, in the order of asking, and what blocks them.
+use Rattle.std.specs.Prelude.{◌≡◌, ◌≢◌, ◌⊎◌, ℕ, ◌==◌, ◌≤◌, Bool, true, false, not, ◌&&◌, ◌||◌, nat_le, Option, Some}
+use Rattle.std.specs.Prelude.{None, option_map, List, [], ◌∷◌, ◌++◌, if◌then◌else◌}
 use Rattle.std.proofs.Math.Dec.{lit≤}
 use Rattle.std.specs.List.{list_any, filter_map, AllByRecursion}
 use Rattle.std.specs.FinMap.{entries}
@@ -8,7 +9,7 @@ use Rattle.fl_ranges.specs.declared.lock.Kind.{Kind}
 use Rattle.fl_ranges.specs.declared.lock.Kind.TheVariants.{Write}
 use Rattle.fl_ranges.specs.declared.lock.Mark.{Mark}
 use Rattle.fl_ranges.specs.Marking.{Marking, Spot, Stroke}
-use Rattle.fl_ranges.specs.Conflict.{conflicts, excludes, excludes_lock, are_rivals}
+use Rattle.fl_ranges.specs.Conflict.{conflicts, kinds_conflict, mark_conflicts, are_of_two_owners}
 use Rattle.fl_waiting.specs.LockRequest.{is_flock, key_of, start_of, end_of, mark_of, stroke_of}
 use Rattle.fl_waiting.specs.declared.parked.Request.{Request}
 use Rattle.fl_waiting.specs.declared.rules.Rules.{Rules}
@@ -22,9 +23,11 @@ pub record Wish : Type 0 where
   pub end : ℕ
   pub kind : Kind
 
+-- the owner who wants it
 abbrev pub owner_of : Wish → ℕ
 owner_of w = w.key.owner
 
+-- the lock that a stroke with this mark would set
 abbrev pub wish_on : Stroke → Mark → Wish
 wish_on s mark = record { key = s.key; start = s.start; end = s.end; kind = mark.kind }
 
@@ -33,7 +36,8 @@ abbrev pub wish_of : Request → Option Wish
 wish_of r =
     if is_flock r.ask then None
     else option_map
-    (λ (mark : Mark). record { key = key_of r.node r.ask; start = start_of r.ask; end = end_of r.ask; kind = mark.kind })
+    (λ (mark : Mark).
+    record { key = key_of r.node r.ask; start = start_of r.ask; end = end_of r.ask; kind = mark.kind })
     (mark_of r.ask)
 
 -- those that the requests want, the oldest first
@@ -52,30 +56,32 @@ standard = record {
   some_parked = (lit≤ tt, lit≤ tt);
 }
 
--- an older wish goes before another one: of another owner, for the same node, with a byte in common, and one of the two
+-- an older wish blocks another one: of another owner, for the same node, with a byte in common, and one of the two
 -- is for a write lock
-abbrev pub goes_first : Wish → Wish → Bool
-goes_first w older =
-    are_rivals w.key older.key && ((nat_le older.start w.end && nat_le w.start older.end) && excludes w.kind older.kind)
+abbrev pub older_blocks : Wish → Wish → Bool
+older_blocks w older =
+    are_of_two_owners w.key older.key
+    && ((nat_le older.start w.end && nat_le w.start older.end) && kinds_conflict w.kind older.kind)
 
 -- the same in words, where each is for some bytes
-pub record GoesFirst (w older : Wish) : Type 0 where
+pub record OlderBlocks (w older : Wish) : Type 0 where
   pub byte : ℕ
   pub other : older.key.owner ≢ w.key.owner
   pub file : (older.key.class ≡ w.key.class) × (older.key.node ≡ w.key.node)
   pub common : ((older.start ≤ byte) × (byte ≤ older.end)) × ((w.start ≤ byte) × (byte ≤ w.end))
   pub write : (w.kind ≡ Write) ⊎ (older.kind ≡ Write)
 
--- under fair rules one of these older wishes, of an owner who passes the test, goes before this one
-abbrev pub goes_before : Rules → (ℕ → Bool) → List Wish → Wish → Bool
-goes_before rules whose older w = rules.fair && list_any (λ (v : Wish). whose (owner_of v) && goes_first w v) older
+-- under fair rules one of these older wishes, of an owner who passes the test, blocks this one
+abbrev pub any_older_blocks : Rules → (ℕ → Bool) → List Wish → Wish → Bool
+any_older_blocks rules whose older w =
+    rules.fair && list_any (λ (v : Wish). whose (owner_of v) && older_blocks w v) older
 
--- What keeps a lock that is wanted waiting, behind these older wishes: a lock that is held, of an owner who passes the
+-- What blocks a lock that is wanted, behind these older wishes: a lock that is held, of an owner who passes the
 -- test, or an older wish of such an owner. All that is said of who waits, and for whom, rests on this.
-abbrev pub keeps_waiting : Rules → (ℕ → Bool) → Marking → List Wish → Wish → Bool
-keeps_waiting rules whose m older w =
-    list_any (λ (e : Spot × Mark). whose e.0.0.owner && excludes_lock w.key w.start w.end w.kind e) (entries m)
-    || goes_before rules whose older w
+abbrev pub is_blocked_by : Rules → (ℕ → Bool) → Marking → List Wish → Wish → Bool
+is_blocked_by rules whose m older w =
+    list_any (λ (e : Spot × Mark). whose e.0.0.owner && mark_conflicts w.key w.start w.end w.kind e) (entries m)
+    || any_older_blocks rules whose older w
 
 -- whoever it is
 abbrev pub anyone : ℕ → Bool
@@ -91,21 +97,22 @@ passes test None = false
 passes test (Some mark) = test mark
 
 -- a lock that is asked for has to wait, behind these older requests; unlocking never does
-abbrev pub must_wait : Rules → Marking → List Request → Stroke → Option Mark → Bool
-must_wait rules m older s mark = passes (λ (k : Mark). keeps_waiting rules anyone m (wishes older) (wish_on s k)) mark
+abbrev pub is_blocked : Rules → Marking → List Request → Stroke → Option Mark → Bool
+is_blocked rules m older s mark = passes (λ (k : Mark). is_blocked_by rules anyone m (wishes older) (wish_on s k)) mark
 
 -- and so does a request
 abbrev pub waits : Rules → Marking → List Request → Request → Bool
-waits rules m older r = must_wait rules m older (stroke_of r.node r.ask) (mark_of r.ask)
+waits rules m older r = is_blocked rules m older (stroke_of r.node r.ask) (mark_of r.ask)
 
--- one of these older requests goes before it, whoever's it is
-abbrev pub is_behind : Rules → List Request → Request → Bool
-is_behind rules older r =
-    passes (λ (k : Mark). goes_before rules anyone (wishes older) (wish_on (stroke_of r.node r.ask) k)) (mark_of r.ask)
+-- one of these older requests blocks it, whoever's it is
+abbrev pub is_blocked_by_older : Rules → List Request → Request → Bool
+is_blocked_by_older rules older r =
+    passes (λ (k : Mark). any_older_blocks rules anyone (wishes older) (wish_on (stroke_of r.node r.ask) k))
+    (mark_of r.ask)
 
 -- a lock is set against one that is held, whoever waits: what a SETLK meets; unlocking never is
-abbrev pub is_excluded : Marking → Stroke → Option Mark → Bool
-is_excluded m s mark = passes (λ (k : Mark). conflicts m s.key s.start s.end k.kind) mark
+abbrev pub conflicts_with_held : Marking → Stroke → Option Mark → Bool
+conflicts_with_held m s mark = passes (λ (k : Mark). conflicts m s.key s.start s.end k.kind) mark
 
 -- each of the requests passes a test of it and of the older ones, which are these and those before it
 abbrev pub AllBehind : (List Request → Request → Type 0) → List Request → List Request → Type 0
@@ -146,9 +153,9 @@ taken_behind test older (r ∷ parked) =
     if test older r then Some (r, parked)
     else option_map (λ (p : Request × List Request). (p.0, r ∷ p.1)) (taken_behind test (older ++ r ∷ []) parked)
 
--- a request passes a test, and none of the older ones goes before it
+-- a request passes a test, and none of the older ones blocks it
 abbrev pub passes_free : Rules → (Request → Bool) → List Request → Request → Bool
-passes_free rules test older r = test r && not (is_behind rules older r)
+passes_free rules test older r = test r && not (is_blocked_by_older rules older r)
 
 -- the request of a unique, and the others
 abbrev pub taken_out : ℕ → List Request → Option (Request × List Request)

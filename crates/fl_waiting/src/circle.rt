@@ -1,14 +1,16 @@
-//! The search for a circle of owners, each of whom the next one keeps waiting.
+//! The search for a circle of owners, each of whom the next one blocks.
 
-ghost use Rattle.std.specs.Prelude.{◌≡◌, ◌+◌, ◌++◌, ◌∷◌, [], ◌≤◌, ◌<◌, ℕ, false, true, map, option_map, length, take, MatchOption, ◌&&◌, ◌==◌, nat_lt, slice_index_or};
+ghost use Rattle.std.specs.Prelude.{◌≡◌, ◌+◌, ◌++◌, ◌∷◌, [], ◌≤◌, ◌<◌, ℕ, false, true, map, option_map, length, take};
+ghost use Rattle.std.specs.Prelude.{MatchOption, ◌&&◌, ◌==◌, nat_lt, slice_index_or};
 ghost use Rattle.std.specs.List.{list_any};
 ghost use Rattle.fl_arena.specs.Chains.{items};
 ghost use Rattle.std.specs.List.Sorted.{IsPermutation, IsNonDecreasing};
-ghost use Rattle.fl_ranges.specs.Conflict.{excludes, owner_conflicts, AreFound};
+ghost use Rattle.fl_ranges.specs.Conflict.{kinds_conflict, owner_conflicts, AreFound};
 ghost use Rattle.fl_waiting.specs.Circle.{closes_circle, leads};
 ghost use Rattle.fl_waiting.specs.Inside.Claims.{requests_of};
-ghost use Rattle.fl_waiting.specs.Inside.Searching.{meant, hinders_among, precedes, precedes_by, one_of, numbered, is_set, owners_of, AreNumbered, IsByOwner, IsReachedByOwner};
-ghost use Rattle.fl_waiting.specs.Waiting.{is_waiting, goes_first, wish_of, wishes};
+ghost use Rattle.fl_waiting.specs.Inside.Searching.{meant, blocks_among, precedes, precedes_by, one_of, numbered};
+ghost use Rattle.fl_waiting.specs.Inside.Searching.{is_set, owners_of, AreNumbered, IsByOwner, IsReachedByOwner};
+ghost use Rattle.fl_waiting.specs.Waiting.{is_waiting, older_blocks, wish_of, wishes};
 
 use crate::claim::Claim;
 use crate::parked::{MOST_PARKED, Parked};
@@ -72,8 +74,8 @@ impl Parked {
     }
 }
 
-// Whether this lock would close a circle among these requests. It makes room for N of them, and takes no memory. That room, of up
-// to 75 kB on the stack, is for the orders that need it alone.
+// Whether this lock would close a circle among these requests. It makes room for N of them, and takes no memory. That
+// room, of up to 75 kB on the stack, is for the orders that need it alone.
 #[inline(never)]
 fn closes_among<const N: usize>(
     rules: Rules,
@@ -95,7 +97,8 @@ fn closes_among<const N: usize>(
     leads_back::<N>(rules, locks, wanted, &asked)
 }
 
-// Copies the record locks that requests wait for, the oldest first, to the front of the room, and tells how many they are.
+// Copies the record locks that requests wait for, the oldest first, to the front of the room, and tells how many they
+// are.
 fn copy_wanted(claims: &Arena<Claim>, room: &mut [Wanted]) -> usize
     requires chain { 0 < length claims.now.chains }
     requires few { length (items claims.now 0) ≤ length room.old }
@@ -145,26 +148,26 @@ pub(crate) fn wanted_of(claim: &Claim) -> Option<Wanted>
     }
 }
 
-// Whether an older lock that is wanted goes before this one.
-pub(crate) fn goes_first(wanted: &Wanted, older: &Wanted) -> bool
-    ensures { result ≡ goes_first (meant wanted.now) (meant older.now) }
+// Whether an older lock that is wanted blocks this one.
+pub(crate) fn older_blocks(wanted: &Wanted, older: &Wanted) -> bool
+    ensures { result ≡ older_blocks (meant wanted.now) (meant older.now) }
 {
     let (own, other) = (&wanted.key, &older.key);
     (own.class == other.class && (own.node == other.node && own.owner != other.owner))
         && ((older.range.start <= wanted.range.end && wanted.range.start <= older.range.end)
-            && excludes(wanted.kind, older.kind))
+            && kinds_conflict(wanted.kind, older.kind))
 }
 
-// Whether an older one, of those that are copied, goes before this one.
+// Whether an older one, of those that are copied, blocks this one.
 fn precedes(wanted: &Wanted, older: &Wanted) -> bool
     ensures { result ≡ precedes wanted.now older.now }
 {
-    older.place < wanted.place && goes_first(wanted, older)
+    older.place < wanted.place && older_blocks(wanted, older)
 }
 
 // Whether one of the two is for a write lock.
-fn excludes(kind: Kind, other: Kind) -> bool
-    ensures { result ≡ excludes kind other }
+fn kinds_conflict(kind: Kind, other: Kind) -> bool
+    ensures { result ≡ kinds_conflict kind other }
 {
     match kind {
         Kind::Read => other == Kind::Write,
@@ -182,7 +185,7 @@ fn leads_back<const N: usize>(
     requires few { length wanted.now ≤ N }
     requires fits { N ≤ MOST_PARKED }
     requires sorted { IsByOwner wanted.now }
-    ensures { result ≡ leads (λ (w : Wanted). w.key.owner) (hinders_among rules locks.now.marking wanted.now) wanted.now
+    ensures { result ≡ leads (λ (w : Wanted). w.key.owner) (blocks_among rules locks.now.marking wanted.now) wanted.now
         asked.now asked.now.key.owner }
 {
     let room = owners_of::<N>(wanted);
@@ -231,7 +234,7 @@ fn next<const N: usize>(reached: &[bool], visited: &[bool; N]) -> Option<usize>
     None
 }
 
-// The places of all owners are reached that keep the request waiting. The table is asked once.
+// Marks every owner that blocks the request. The table is asked once.
 fn reach(
     rules: Rules,
     locks: &Table,
@@ -244,19 +247,19 @@ fn reach(
     requires long { length reached.old ≡ length owners.now }
     requires sorted { IsNonDecreasing owners.now }
     requires by_owner { IsReachedByOwner wanted.now reached.old }
-    ensures { AreFound (hinders_among rules locks.now.marking wanted.now request.now) owners.now reached.old
+    ensures { AreFound (blocks_among rules locks.now.marking wanted.now request.now) owners.now reached.old
         reached.new }
 {
     if let Class::Flock = request.key.class {
         return;
     }
-    locks.find_rivals(&request.key, &request.range, request.kind, owners, reached);
+    locks.find_conflicting_owners(&request.key, &request.range, request.kind, owners, reached);
     if rules.fair {
         reach_older(request, wanted, owners, reached);
     }
 }
 
-// The same for those alone who wanted a lock before that goes first.
+// The same for those alone whose older request blocks it.
 fn reach_older(request: &Wanted, wanted: &[Wanted], owners: &[u64], reached: &mut [bool])
     requires owners { owners.now ≡ owners_of wanted.now }
     requires long { length reached.old ≡ length owners.now }
@@ -269,8 +272,8 @@ fn reach_older(request: &Wanted, wanted: &[Wanted], owners: &[u64], reached: &mu
     }
 }
 
-// The places of the owner are reached of one lock that is wanted, if that was wanted before and goes first. Where its own
-// place is reached, they all are.
+// Marks the owner of one lock that is wanted, if that was wanted before and blocks the request. Where its
+// own place is reached, they all are.
 fn reach_one(
     request: &Wanted,
     older: &Wanted,
@@ -300,23 +303,23 @@ fn reach_owner(owner: u64, owners: &[u64], reached: &mut [bool])
     }
 }
 
-// Whether this owner keeps the request waiting.
+// Whether this owner blocks the request.
 fn waits_for(rules: Rules, locks: &Table, request: &Wanted, wanted: &[Wanted], owner: u64) -> bool
-    ensures { result ≡ hinders_among rules locks.now.marking wanted.now request.now owner }
+    ensures { result ≡ blocks_among rules locks.now.marking wanted.now request.now owner }
 {
     if let Class::Flock = request.key.class {
         return false;
     }
-    is_held_by(locks, request, owner) || (rules.fair && is_behind(request, wanted, owner))
+    is_held_by(locks, request, owner) || (rules.fair && is_blocked_by_older(request, wanted, owner))
 }
 
-// Whether a lock of this owner excludes the one that is wanted.
+// Whether a lock of this owner conflicts with the one that is wanted.
 fn is_held_by(locks: &Table, request: &Wanted, owner: u64) -> bool
     ensures { result ≡ owner_conflicts locks.now.marking request.now.key request.now.range.start request.now.range.end
         request.now.kind owner }
 {
     let mut found = [false];
-    locks.find_rivals(
+    locks.find_conflicting_owners(
         &request.key,
         &request.range,
         request.kind,
@@ -326,8 +329,8 @@ fn is_held_by(locks: &Table, request: &Wanted, owner: u64) -> bool
     found[0]
 }
 
-// Whether this owner wanted a lock before that goes first.
-fn is_behind(request: &Wanted, wanted: &[Wanted], owner: u64) -> bool
+// Whether an older request of this owner blocks it.
+fn is_blocked_by_older(request: &Wanted, wanted: &[Wanted], owner: u64) -> bool
     ensures { result ≡ list_any (precedes_by request.now owner) wanted.now }
 {
     for older in wanted {

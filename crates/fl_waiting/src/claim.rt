@@ -7,8 +7,8 @@ ghost use Rattle.fl_ranges.specs.Marking.{stroke_on};
 use crate::parked::Request;
 use fl_ranges::{Key, Mark, Range};
 
-/// A parked request, and the lock that it wants, read off what it asks: the owner's key, the bytes, and what each of them is to
-/// carry. Contracts see the request alone.
+/// A parked request, and the lock that it wants, read off what it asks: the owner's key, the bytes, and what each of
+/// them is to carry. Contracts see the request alone.
 #[derive(Clone, Copy, Debug)]
 pub struct Claim {
     pub request: Request,

@@ -1,4 +1,9 @@
-//! Requests that wait for locks: which are parked, who keeps them waiting, and circles of owners among them.
+//! Requests that wait for locks: which are parked, who blocks them, and circles of owners among them.
+//!
+//! `laws` says in words what the definitions say. A lock has to wait exactly if an owner blocks it. A request closes
+//! a circle exactly if there is a row of owners, at least one: the first blocks the request, each waits for the next,
+//! and the last waits for the owner who asks. No call but `Parked::new` can be refused for memory. `fl_core_tests`
+//! and `fl_core_random_tests` have the tests.
 #![tactic(auto)]
 
 mod circle;

@@ -1,16 +1,18 @@
 //! Parked requests, in the order of asking.
 
-ghost use Rattle.std.specs.Prelude.{◌≡◌, ◌==◌, ◌↔◌, ◌≤◌, ◌<◌, ◌%◌, ◌++◌, ◌∷◌, [], nat_le, Bool, true, false, None, Some, IfOk, MatchOption, length, take};
+ghost use Rattle.std.specs.Prelude.{◌≡◌, ◌==◌, ◌↔◌, ◌≤◌, ◌<◌, ◌%◌, ◌++◌, ◌∷◌, [], nat_le, Bool, true, false, None};
+ghost use Rattle.std.specs.Prelude.{Some, IfOk, MatchOption, length, take};
 ghost use Rattle.std.specs.List.{list_any, AllByRecursion};
 ghost use Rattle.fl_arena.specs.Chains.{items};
 ghost use Rattle.fl_arena.specs.Cursors.{Tests, cursor_at};
 ghost use Rattle.fl_waiting.specs.Inside.Claims.{requests_of, ruled, IsFirstBehind};
 ghost use Rattle.fl_waiting.specs.Inside.Searching.{meant};
-ghost use Rattle.fl_waiting.specs.Waiting.{goes_first, is_behind, is_parked, passes_free, taken_behind, taken_first, wishes};
+ghost use Rattle.fl_waiting.specs.Waiting.{older_blocks, is_blocked_by_older, is_parked, passes_free, taken_behind};
+ghost use Rattle.fl_waiting.specs.Waiting.{taken_first, wishes};
 ghost use Rattle.fl_waiting.specs.declared.claim.Claim.{Claim};
 ghost use Rattle.fl_waiting.specs.declared.parked.Request.{Request};
 
-use crate::circle::{Wanted, goes_first, wanted_of};
+use crate::circle::{Wanted, older_blocks, wanted_of};
 use crate::claim::Claim;
 use crate::rules::Rules;
 use fl_arena::{Arena, Cursor};
@@ -111,7 +113,8 @@ impl Parked {
         self.claims.item(&cursor).is_some()
     }
 
-    /// Whether a request on this node may wait; where none may, none does.
+    /// Whether a request on this node may wait; where none may, none does. One that always says yes meets the clause,
+    /// and no test refuses it: it would cost a walk along the parked requests, and change no reply.
     pub fn may_be_on(&self, node: u64) -> bool
         ensures { result ≡ false → AllByRecursion (λ (r : Request). (r.node == node) ≡ false) self.now }
     {
@@ -171,9 +174,9 @@ impl Parked {
     }
 
     /// Whether some request goes, under fair rules, before one for this lock which is younger.
-    pub fn goes_before(&self, key: &Key, range: &Range, kind: Kind) -> bool
+    pub fn any_older_blocks(&self, key: &Key, range: &Range, kind: Kind) -> bool
         ensures { result ≡ list_any
-            (goes_first (record { key = key.now; start = range.now.start; end = range.now.end; kind = kind }))
+            (older_blocks (record { key = key.now; start = range.now.start; end = range.now.end; kind = kind }))
             (wishes self.now) }
     {
         let wanted = Wanted {
@@ -184,7 +187,7 @@ impl Parked {
         };
         let cursor = self
             .claims
-            .first_where(0, |claim| goes_before(claim, &wanted));
+            .first_where(0, |claim| any_older_blocks(claim, &wanted));
         self.claims.item(&cursor).is_some()
     }
 }
@@ -199,7 +202,7 @@ fn first_free<F: Fn(&Claim) -> bool>(claims: &Arena<Claim>, test: F) -> Cursor
 {
     let mut cursor = claims.cursor(0);
     while let Some(claim) = claims.item(&cursor) {
-        if test(claim) && !is_behind(claims, claim, cursor.index) {
+        if test(claim) && !is_blocked_by_older(claims, claim, cursor.index) {
             break;
         }
         claims.step(&mut cursor);
@@ -207,11 +210,11 @@ fn first_free<F: Fn(&Claim) -> bool>(claims: &Arena<Claim>, test: F) -> Cursor
     cursor
 }
 
-// Whether one of the requests before this place goes before this one.
-fn is_behind(claims: &Arena<Claim>, claim: &Claim, place: usize) -> bool
+// Whether one of the requests before this place blocks this one.
+fn is_blocked_by_older(claims: &Arena<Claim>, claim: &Claim, place: usize) -> bool
     requires chain { 0 < length claims.now.chains }
     requires within { place ≤ length (items claims.now 0) }
-    ensures { result ≡ is_behind (ruled true) (take place (requests_of claims.now)) claim.now.request }
+    ensures { result ≡ is_blocked_by_older (ruled true) (take place (requests_of claims.now)) claim.now.request }
 {
     let Some(mark) = claim.mark else {
         return false;
@@ -222,16 +225,16 @@ fn is_behind(claims: &Arena<Claim>, claim: &Claim, place: usize) -> bool
         kind: mark.kind,
         place: 0,
     };
-    let first = claims.first_where(0, |older| goes_before(older, &wanted));
+    let first = claims.first_where(0, |older| any_older_blocks(older, &wanted));
     first.index < place
 }
 
-// Whether a request that is older goes before one for this lock.
-fn goes_before(older: &Claim, wanted: &Wanted) -> bool
-    ensures { result ≡ list_any (goes_first (meant wanted.now)) (wishes (older.now.request ∷ [])) }
+// Whether a request that is older blocks one for this lock.
+fn any_older_blocks(older: &Claim, wanted: &Wanted) -> bool
+    ensures { result ≡ list_any (older_blocks (meant wanted.now)) (wishes (older.now.request ∷ [])) }
 {
     match wanted_of(older) {
-        Some(older) => goes_first(wanted, &older),
+        Some(older) => older_blocks(wanted, &older),
         None => false,
     }
 }

@@ -15,8 +15,8 @@ const STANDARD_PARKED: u32 = 256;
 /// By which rules requests wait, and how many locks and parked requests there may be.
 #[derive(Clone, Copy, Debug, PartialEq, Eq)]
 pub struct Rules {
-    /// Whether a request for a record lock also waits behind an older one that waits: of another owner, on the same node, with
-    /// a byte in common, where one of the two is for a write lock. Whole-file locks have no part in it.
+    /// Whether a request for a record lock also waits behind an older one that waits: of another owner, on the same
+    /// node, with a byte in common, where one of the two is for a write lock. Whole-file locks have no part in it.
     pub fair: bool,
     /// The most runs of locked bytes, over all files and both classes.
     pub runs: u32,
@@ -31,8 +31,8 @@ impl Rules {
     ghost use Rattle.fl_waiting.specs.Limits.{AllowsRuns, AllowsParked};
     ghost use Rattle.fl_waiting.specs.Waiting.{standard};
 
-    /// The rules if nothing else is said: no request waits behind another, and there are at most 4,096 runs of locked bytes and
-    /// 256 parked requests.
+    /// The rules if nothing else is said: no request waits behind another, and there are at most 4,096 runs of locked
+    /// bytes and 256 parked requests.
     pub fn standard() -> Rules
         ensures { result ≡ standard }
     {

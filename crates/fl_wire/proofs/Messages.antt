@@ -1,5 +1,8 @@
 -- The message of an order says that order.
-use Rattle.std.proofs.Common.{◌≡◌, ◌<◌, ◌^◌, ◌+◌, ◌-◌, ℕ, zero, suc, ◌==◌, ◌*◌, ◌||◌, ◌&&◌, Bool, true, false, not, nat_lt, if◌then◌else◌, List, [], ◌∷◌, ◌++◌, length, sum, take, drop, slice_index, slice_index_or, Contains, Some, Result, Ok, Err, refl, sym, ap, ◌∙◌, arith, lit<, bit_and, append_assoc, append-nil, length-append}
+use Rattle.std.proofs.Common.{◌≡◌, ◌<◌, ◌^◌, ◌+◌, ◌-◌, ℕ, zero, suc, ◌==◌, ◌*◌, ◌||◌, ◌&&◌, Bool, true, false, not}
+use Rattle.std.proofs.Common.{nat_lt, if◌then◌else◌, List, [], ◌∷◌, ◌++◌, length, sum, take, drop, slice_index}
+use Rattle.std.proofs.Common.{slice_index_or, Contains, Some, Result, Ok, Err, refl, sym, ap, ◌∙◌, arith, lit<, bit_and}
+use Rattle.std.proofs.Common.{append_assoc, append-nil, length-append}
 use Rattle.std.proofs.Math.Dec.{eqb-suc-zero}
 use Rattle.std.proofs.Math.Nat.{mod-eq_of_lt}
 use Rattle.std.proofs.Math.Seq.{drop-append_seam, get_or-append_seam, take-append_seam}
@@ -28,8 +31,10 @@ use Rattle.fl_order.specs.declared.refusal.Refusal.{Refusal}
 use Rattle.fl_order.specs.declared.refusal.Refusal.TheVariants.{Answer, Batch}
 use Rattle.fl_wire.specs.Batch.{is_batch, pairs_said}
 use Rattle.fl_wire.specs.Body.{name_bytes, name_in, by_fields, by_fields_and_name}
-use Rattle.fl_wire.specs.Layout.{number_at, values_at, field, laid_out, in_header, create_in, flush_in, forget_in, getattr_in, lk_in, open_in, release_in, opcode_of, unique_of}
-use Rattle.fl_wire.specs.Message.{lock_values, create_values, release_values, body_bytes, request, message_of, ReadsBack}
+use Rattle.fl_wire.specs.Layout.{number_at, values_at, field, laid_out, in_header, create_in, flush_in, forget_in}
+use Rattle.fl_wire.specs.Layout.{getattr_in, lk_in, open_in, release_in, opcode_of, unique_of}
+use Rattle.fl_wire.specs.Message.{lock_values, create_values, release_values, body_bytes, request, message_of}
+use Rattle.fl_wire.specs.Message.{ReadsBack}
 use Rattle.fl_wire.specs.Says.{said, asked, asked_by, asked_with, body_in, order_of, lock_of, create_of, release_of}
 
 -- what stands in the fields of a header

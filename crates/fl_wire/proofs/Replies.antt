@@ -1,5 +1,6 @@
 -- Each reply is as long as it says itself.
-use Rattle.std.proofs.Common.{◌≡◌, ℕ, ◌+◌, ◌<◌, ◌≤◌, ◌^◌, List, [], ◌++◌, length, drop, refl, sym, ap, subst, ◌∙◌, arith, append-nil, length-append, Result, Ok, Err}
+use Rattle.std.proofs.Common.{◌≡◌, ℕ, ◌+◌, ◌<◌, ◌≤◌, ◌^◌, List, [], ◌++◌, length, drop, refl, sym, ap, subst, ◌∙◌}
+use Rattle.std.proofs.Common.{arith, append-nil, length-append, Result, Ok, Err}
 use Rattle.std.proofs.lemmas.List.{take_at}
 use Rattle.byteorder.specs.Endian.{little_from}
 use Rattle.byteorder.specs.Numbers.{little_from-take, little_number-reads_back}
@@ -10,7 +11,8 @@ use Rattle.fl_order.specs.declared.told.Told.{Told}
 use Rattle.fl_wire.proofs.Appending.{length-attr, length-entry, length-open, length-lock}
 use Rattle.fl_wire.specs.Init.{init_spelling, agreed_bytes, again_bytes}
 use Rattle.fl_wire.specs.Layout.{field, number_at, out_header}
-use Rattle.fl_wire.specs.Spell.{header_bytes, answer_bytes, entry_bytes, open_bytes, reply_bytes, spelling_of, minus, IsReply}
+use Rattle.fl_wire.specs.Spell.{header_bytes, answer_bytes, entry_bytes, open_bytes, reply_bytes, spelling_of, minus}
+use Rattle.fl_wire.specs.Spell.{IsReply}
 use Rattle.fl_wire.specs.declared.init.InitStep.{InitStep}
 use Rattle.fl_wire.specs.declared.init.InitStep.TheVariants.{Refused, Again, Agreed}
 

@@ -1,5 +1,6 @@
 -- The message that a kernel sends for an order, or for a batch of them. Fields that aren't read are zeros here.
-use Rattle.std.specs.Prelude.{◌≡◌, ℕ, ◌+◌, ◌<◌, ◌^◌, Bool, if◌then◌else◌, List, [], ◌∷◌, ◌++◌, length, map, All, Option, Some, Result, Ok}
+use Rattle.std.specs.Prelude.{◌≡◌, ℕ, ◌+◌, ◌<◌, ◌^◌, Bool, if◌then◌else◌, List, [], ◌∷◌, ◌++◌, length, map, All, Option}
+use Rattle.std.specs.Prelude.{Some, Result, Ok}
 use Rattle.fl_order.specs.OpKind.{opcode_for}
 use Rattle.fl_order.specs.Order.{body_of, kind_of}
 use Rattle.fl_order.specs.Sayable.{IsSayable}
@@ -11,7 +12,8 @@ use Rattle.fl_order.specs.declared.order.Order.{Order}
 use Rattle.fl_order.specs.declared.order.LockAsk.{LockAsk}
 use Rattle.fl_order.specs.declared.refusal.Refusal.{Refusal}
 use Rattle.fl_wire.specs.Body.{name_bytes}
-use Rattle.fl_wire.specs.Layout.{laid_out, in_header, create_in, flush_in, forget_in, getattr_in, lk_in, open_in, release_in}
+use Rattle.fl_wire.specs.Layout.{laid_out, in_header, create_in, flush_in, forget_in, getattr_in, lk_in, open_in}
+use Rattle.fl_wire.specs.Layout.{release_in}
 use Rattle.fl_wire.specs.Layout.{batch_forget_in, forget_one}
 
 -- the values of a lock request's fields

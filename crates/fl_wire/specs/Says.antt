@@ -1,5 +1,6 @@
 -- What a message says as an order, and how one that says none is refused.
-use Rattle.std.specs.Prelude.{ℕ, ◌==◌, not, bit_and, if◌then◌else◌, List, [], slice_index, Option, None, Some, Result, Ok, Err}
+use Rattle.std.specs.Prelude.{ℕ, ◌==◌, not, bit_and, if◌then◌else◌, List, [], slice_index, Option, None, Some, Result}
+use Rattle.std.specs.Prelude.{Ok, Err}
 use Rattle.std.specs.Option.{ok_or}
 use Rattle.fl_order.specs.OpKind.{kind_of_opcode, refusal_for, shape_for}
 use Rattle.fl_order.specs.Order.{op_of}
@@ -17,7 +18,8 @@ use Rattle.fl_order.specs.declared.refusal.Refusal.{Refusal}
 use Rattle.fl_order.specs.declared.refusal.Refusal.TheVariants.{Answer, Batch}
 use Rattle.fl_wire.specs.Batch.{is_batch}
 use Rattle.fl_wire.specs.Body.{by_fields, by_fields_and_name}
-use Rattle.fl_wire.specs.Layout.{field, in_header, create_in, flush_in, forget_in, getattr_in, lk_in, open_in, release_in}
+use Rattle.fl_wire.specs.Layout.{field, in_header, create_in, flush_in, forget_in, getattr_in, lk_in, open_in}
+use Rattle.fl_wire.specs.Layout.{release_in}
 use Rattle.fl_wire.specs.Layout.{opcode_of, unique_of}
 
 -- the lock request of these fields

@@ -1,4 +1,11 @@
 //! The messages of the lock directory as the bytes of the FUSE kernel protocol 7.31 (Linux `fuse.h`).
+//!
+//! Reading is total: each message of 40 to 8,192 bytes is an order, a batch of FORGETs or an INIT, or it is refused.
+//! A message that is laid out from an order reads back as that order, and one that is laid out from pairs as their
+//! FORGETs. No call that reads can be refused for memory.
+//!
+//! No proof says that a Linux kernel sends and reads these bytes: the layouts were copied from `fuse.h` by hand.
+//! `fl_wire_tests` has messages and replies that were laid out from it by hand as well.
 #![tactic(auto)]
 
 mod append;

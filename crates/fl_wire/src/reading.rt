@@ -23,10 +23,10 @@ const PERMISSIONS: u32 = 0o777;
 // `FUSE_RELEASE_FLOCK_UNLOCK` of the release flags.
 const RELEASE_FLOCK_UNLOCK: u32 = 0b10;
 
-/// The order that a message says, or how it is refused: EPROTO for an INIT, ENOSYS for a kind that isn't
-/// served, EINVAL for a body of another length than its kind's or a name that no zero byte ends, and
-/// ENAMETOOLONG for a name of more than 255 bytes. A FORGET or BATCH_FORGET of another length has no reply, so it is refused
-/// silently. A BATCH_FORGET with as many pairs as it says is refused as a batch, whose orders `Frame::batch` gives.
+/// The order that a message says, or how it is refused: EPROTO for an INIT, ENOSYS for a kind that isn't served,
+/// EINVAL for a body of another length than its kind's or a name that no zero byte ends, and ENAMETOOLONG for a name
+/// of more than 255 bytes. A FORGET or BATCH_FORGET of another length has no reply, so it is refused silently. A
+/// BATCH_FORGET with as many pairs as it says is refused as a batch, whose orders `Frame::batch` gives.
 pub fn read_order(frame: &Frame) -> Result<Order, Refusal>
     ensures said { result ≡ said frame.now }
     ensures sayable { IfOk result IsSayable }

@@ -2,7 +2,8 @@
 
 ghost use Rattle.std.specs.Prelude.{◌≡◌, ◌+◌, ◌≤◌, ◌++◌, length, IsOk, OnErr, OnOk, vec_len, vec_capacity};
 ghost use Rattle.fl_wire.specs.Append.{Appends};
-ghost use Rattle.fl_wire.specs.Spell.{answer_bytes, attr_bytes, entry_bytes, header_bytes, lock_bytes, minus, open_bytes, reply_bytes, spelling_of, IsReply};
+ghost use Rattle.fl_wire.specs.Spell.{answer_bytes, attr_bytes, entry_bytes, header_bytes, lock_bytes, minus};
+ghost use Rattle.fl_wire.specs.Spell.{open_bytes, reply_bytes, spelling_of, IsReply};
 
 use crate::append::{make_room, push_u32, push_u64, push_zeros};
 use fl_order::{Answer, Attr, Errno, NoMemory, Told};

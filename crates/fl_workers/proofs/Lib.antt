@@ -1,1 +1,3 @@
+pub mod ReceivingLemmas
+pub mod SenderLemmas
 pub mod WorkedLemmas

@@ -1,11 +1,12 @@
 -- What was done with orders at one seat.
-use Rattle.std.proofs.Common.{◌≡◌, ℕ, ◌+◌, ◌<◌, Bool, true, false, true≢false, List, [], ◌∷◌, ◌++◌, length, sym, refl, ap, ◌∙◌, subst, arith, append_assoc, append-nil, length-append, All}
+use Rattle.std.proofs.Common.{◌≡◌, ℕ, ◌+◌, ◌<◌, Bool, true, false, true≢false, List, [], ◌∷◌, ◌++◌, length, sym, refl}
+use Rattle.std.proofs.Common.{ap, ◌∙◌, subst, arith, append_assoc, append-nil, length-append, All}
 use Rattle.std.specs.Prelude.{◌||◌, sum_by}
 use Rattle.std.proofs.lemmas.List.Elements.{All-append, All-cons, All-nil}
 use Rattle.std.proofs.lemmas.List.Sums.{sum_by-append}
 use mathlib.Core.List.{IsPrefix, Sublistᴰ}
 use mathlib.Core.List.Sublistᴰ as sublist
-use Rattle.fl_counter.specs.Asked.{IsAskedLast, Orders}
+use Rattle.fl_desk.specs.Asked.{IsAskedLast, Orders}
 use Rattle.fl_intake.specs.Often.{Weight}
 use Rattle.fl_order.specs.Order.{only_reads}
 use Rattle.fl_order.specs.declared.order.Order.{Order}

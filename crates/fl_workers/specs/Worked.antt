@@ -1,13 +1,13 @@
 -- What a worker does with the orders that its end of the intake takes.
 use Rattle.std.specs.Prelude.{◌≡◌, ℕ, ◌+◌, ◌<◌, Bool, true, false, [], ◌++◌, All, length}
 use mathlib.Core.List.{Sublistᴰ}
-use Rattle.fl_counter.specs.Asked.{Orders}
+use Rattle.fl_desk.specs.Asked.{Orders}
 use Rattle.fl_intake.specs.Often.{AreAsOften}
 use Rattle.fl_order.specs.Order.{only_reads}
 use Rattle.fl_order.specs.declared.order.Order.{Order}
 
--- At one seat these orders, each as often, were handed in, looked for or refused. Those handed in were counted, and are asked
--- behind all that was asked before. A refusal is told where some order was refused, and nowhere else.
+-- At one seat these orders, each as often, were handed in, looked for or refused. Those handed in were counted, and are
+-- asked behind all that was asked before. A refusal is told where some order was refused, and nowhere else.
 pub record HasWorked (orders asked asked_now : Orders) (count count_now : ℕ) (any : Bool) : Type 0 where
   pub handed : Orders
   pub looked : Orders
@@ -19,9 +19,9 @@ pub record HasWorked (orders asked asked_now : Orders) (count count_now : ℕ) (
   pub none : any ≡ false → refused ≡ []
   pub some : any ≡ true → 0 < length refused
 
--- An end took some orders more. Each of them, as often, was handed in, looked for or refused. Those handed in are as many as
--- the count, and stand in this order among those that are asked. Those looked for only read. A refusal is told where some order
--- was refused, and nowhere else.
+-- An end took some orders more. Each of them, as often, was handed in, looked for or refused. Those handed in are as
+-- many as the count, and stand in this order among those that are asked. Those looked for only read. A refusal is told
+-- where some order was refused, and nowhere else.
 pub record HasDone (taken taken_now asked : Orders) (count : ℕ) (any : Bool) : Type 0 where
   pub took : Orders
   pub handed : Orders

@@ -4,12 +4,12 @@ ghost use Rattle.std.specs.Prelude.{◌≡◌, ◌≤◌, ◌++◌, ◌∷◌, [
 ghost use Rattle.fl_order.specs.Order.{only_reads};
 ghost use Rattle.fl_workers.specs.Worked.{HasDone, HasWorked};
 
+use crate::sender::{SharedSender, WriterName};
 use fl_core::Tolds;
-use fl_counter::{Counter, Gate};
+use fl_desk::{Counter, Gate};
 use fl_intake::{Intake, Job, TakeEnd};
 use fl_order::{Order, Told};
-use fl_sending::{Shared, WriterName};
-use fl_session::Owed;
+use fl_transport::Response;
 use std::io::Write;
 use std::sync::{Mutex, Wait};
 
@@ -24,16 +24,16 @@ pub struct Worked<S> {
     pub refused: bool,
 }
 
-/// Takes orders until the intake is closed and empty. It looks for those that only read, and hands in all others, and those
-/// for which nothing could be shown, at its seat. Seat and end come back. It gives all replies to be sent; of an
-/// order that is refused, the reply that says so, if one is owed. Before it waits for an order it sends what is collected, and
-/// before it sleeps it tells the counter. There has to be room for the replies of any order.
+/// Takes orders until the intake is closed and empty. It looks for those that only read, and hands in all others, and
+/// those for which nothing could be shown, at its seat. Seat and end come back. It gives all replies to be sent; of an
+/// order that is refused, the reply that says so, if one is owed. Before it waits for an order it sends what is
+/// collected, and before it sleeps it tells the counter. There has to be room for the replies of any order.
 pub fn worker_loop<R: Wait, C: Counter, G: Gate, W: Write, N: WriterName>(
     rt: &R,
     counter: &C,
     gate: &G,
     intake: &Intake,
-    shared: &Mutex<Shared<'_, W, N>>,
+    sender: &Mutex<SharedSender<'_, W, N>>,
     seat: C::Seat,
     end: TakeEnd,
     tolds: Tolds,
@@ -50,10 +50,10 @@ pub fn worker_loop<R: Wait, C: Counter, G: Gate, W: Write, N: WriterName>(
     let mut tolds = tolds;
     let mut refused = false;
     for _ in rt.forever() {
-        let Some(job) = next_job(rt, counter, intake, &mut end, shared) else {
+        let Some(job) = next_job(rt, counter, intake, &mut end, sender) else {
             break;
         };
-        refused |= handle(rt, counter, gate, shared, &mut seat, &mut tolds, &job);
+        refused |= handle(rt, counter, gate, sender, &mut seat, &mut tolds, &job);
     }
     Worked { seat, end, refused }
 }
@@ -63,7 +63,7 @@ pub fn handle_all<R: Wait, C: Counter, G: Gate, W: Write, N: WriterName>(
     rt: &R,
     counter: &C,
     gate: &G,
-    shared: &Mutex<Shared<'_, W, N>>,
+    sender: &Mutex<SharedSender<'_, W, N>>,
     seat: &mut C::Seat,
     tolds: Tolds,
     orders: Vec<Job>,
@@ -76,18 +76,18 @@ pub fn handle_all<R: Wait, C: Counter, G: Gate, W: Write, N: WriterName>(
     let mut tolds = tolds;
     let mut refused = false;
     for order in orders {
-        refused |= handle(rt, counter, gate, shared, seat, &mut tolds, &order);
+        refused |= handle(rt, counter, gate, sender, seat, &mut tolds, &order);
     }
     refused
 }
 
-// Looks for an order that only reads, and hands in any other, and one for which nothing could be shown. Its replies are given
-// to be sent. True if it was refused.
+// Looks for an order that only reads, and hands in any other, and one for which nothing could be shown. Its replies are
+// given to be sent. True if it was refused.
 fn handle<R: Wait, C: Counter, G: Gate, W: Write, N: WriterName>(
     rt: &R,
     counter: &C,
     gate: &G,
-    shared: &Mutex<Shared<'_, W, N>>,
+    sender: &Mutex<SharedSender<'_, W, N>>,
     seat: &mut C::Seat,
     tolds: &mut Tolds,
     order: &Order,
@@ -100,16 +100,21 @@ fn handle<R: Wait, C: Counter, G: Gate, W: Write, N: WriterName>(
 {
     gate.pass(order.unique);
     if let Some(told) = looked(counter, seat, order) {
-        give(rt, gate, shared, &Owed::One(told));
+        give(rt, gate, sender, &Response::One(told));
         return false;
     }
     match counter.hand_in(rt, seat, order, tolds) {
         Ok(()) => {
-            give(rt, gate, shared, &Owed::Replies(tolds.as_slice()));
+            give(rt, gate, sender, &Response::Replies(tolds.as_slice()));
             false
         }
         Err(_) => {
-            give(rt, gate, shared, &Owed::lost(order.op.kind(), order.unique));
+            give(
+                rt,
+                gate,
+                sender,
+                &Response::lost(order.op.kind(), order.unique),
+            );
             true
         }
     }
@@ -132,14 +137,14 @@ fn looked<C: Counter>(counter: &C, seat: &mut C::Seat, order: &Order) -> Option<
     })
 }
 
-// The next order. Where none is there, what is collected is sent first, and a worker looks for a while before it sleeps. Where
-// none came then either, the counter is told before it sleeps.
+// The next order. Where none is there, what is collected is sent first, and a worker spins for a while before it
+// sleeps. Where none came then either, the counter is told before it sleeps.
 fn next_job<R: Wait, C: Counter, W: Write, N: WriterName>(
     rt: &R,
     counter: &C,
     intake: &Intake,
     end: &mut TakeEnd,
-    shared: &Mutex<Shared<'_, W, N>>,
+    sender: &Mutex<SharedSender<'_, W, N>>,
 ) -> Option<Job>
     requires { end.old.of ≡ intake.now }
     ensures of { end.new.of ≡ intake.now }
@@ -148,8 +153,8 @@ fn next_job<R: Wait, C: Counter, W: Write, N: WriterName>(
     if let Some(job) = intake.take_now(rt, end) {
         return Some(job);
     }
-    flush(rt, shared);
-    intake.look();
+    flush(rt, sender);
+    intake.spin();
     if let Some(job) = intake.take_now(rt, end) {
         return Some(job);
     }
@@ -157,39 +162,39 @@ fn next_job<R: Wait, C: Counter, W: Write, N: WriterName>(
     intake.take(rt, end)
 }
 
-// Collects what is owed, with nothing of another worker's between, and tells the gate of each reply.
+// Collects a response, with nothing of another worker's between, and tells the gate of each reply.
 fn give<R: Wait, G: Gate, W: Write, N: WriterName>(
     rt: &R,
     gate: &G,
-    shared: &Mutex<Shared<'_, W, N>>,
-    owed: &Owed,
+    sender: &Mutex<SharedSender<'_, W, N>>,
+    response: &Response,
 ) {
-    collect(rt, shared, owed);
-    tell(gate, owed);
+    collect(rt, sender, response);
+    tell(gate, response);
 }
 
 fn collect<R: Wait, W: Write, N: WriterName>(
     rt: &R,
-    shared: &Mutex<Shared<'_, W, N>>,
-    owed: &Owed,
+    sender: &Mutex<SharedSender<'_, W, N>>,
+    response: &Response,
 ) {
-    let mut shared = shared.lock(rt);
-    shared.collect(owed);
+    let mut sender = sender.lock(rt);
+    sender.collect(response);
 }
 
 // Sends what is collected.
-fn flush<R: Wait, W: Write, N: WriterName>(rt: &R, shared: &Mutex<Shared<'_, W, N>>) {
-    let mut shared = shared.lock(rt);
-    shared.flush();
+fn flush<R: Wait, W: Write, N: WriterName>(rt: &R, sender: &Mutex<SharedSender<'_, W, N>>) {
+    let mut sender = sender.lock(rt);
+    sender.flush();
 }
 
 // Tells the gate of each reply.
-fn tell<G: Gate>(gate: &G, owed: &Owed) {
-    match owed {
-        Owed::Nothing => {}
-        Owed::Init(unique, _) => gate.sent(*unique),
-        Owed::One(told) => gate.sent(told.unique),
-        Owed::Replies(tolds) => {
+fn tell<G: Gate>(gate: &G, response: &Response) {
+    match response {
+        Response::Nothing => {}
+        Response::Init(unique, _) => gate.sent(*unique),
+        Response::One(told) => gate.sent(told.unique),
+        Response::Replies(tolds) => {
             for told in *tolds {
                 gate.sent(told.unique);
             }

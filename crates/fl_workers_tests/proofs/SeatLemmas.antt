@@ -1,6 +1,6 @@
 -- What is handed in at a seat.
 use Rattle.std.proofs.Common.{◌≡◌, [], ◌∷◌, ◌++◌, append-nil}
-use Rattle.fl_counter.specs.Asked.{IsAskedLast, Orders}
+use Rattle.fl_desk.specs.Asked.{IsAskedLast, Orders}
 use Rattle.fl_order.specs.declared.order.Order.{Order}
 
 -- an order that is kept behind the others is asked last

@@ -1,12 +1,12 @@
 //! Workers of a session, whose orders are answered in memory.
 
 mod came;
-mod crew;
 mod crossing;
 mod handling;
 mod left;
 mod looks;
 mod orders;
+mod pool;
 mod refusals;
 mod tally;
 mod thirds;

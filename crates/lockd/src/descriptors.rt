@@ -7,9 +7,10 @@ use std::os::fd::{AsRawFd, IntoRawFd};
 // What holds the place of a stream that is closed.
 const NULL_DEVICE: &str = "/dev/null";
 
-/// Keeps sockets off the numbers 0, 1 and 2, where they would be taken for a standard stream. A file that is opened gets
-/// the least number that is free. So the null device takes the place of each stream that is closed, the wrong way round:
-/// an input from there, and an output to it, fail as they would on a closed stream. Where it can't be opened, nothing changes.
+/// Keeps sockets off the numbers 0, 1 and 2, where they would be taken for a standard stream. A file that is opened
+/// gets the least number that is free. So the null device takes the place of each stream that is closed, the wrong way
+/// round: an input from there, and an output to it, fail as they would on a closed stream. Where it can't be opened,
+/// nothing changes.
 pub(crate) fn hold_closed_streams(rt: &HostRuntime) {
     for _ in 0..3 {
         match hold_next(rt) {

@@ -1,15 +1,16 @@
 //! `lockd`: keeps the locks of a directory of lock files. `lockd_cli` reads the command line, and each command is a
-//! function of `lockd_commands` or of `lockd_serve`.
+//! function of `lockd_commands` or of `lockd_serve`. Contracts let through a `main` that runs another command; the
+//! scripts of the gate would meet it.
 #![tactic(auto)]
 
-ghost use Rattle.std.specs.Prelude.{◌≤◌, IfOk};
+ghost use Rattle.std.specs.Prelude.{IfOk};
 ghost use Rattle.lockd_cli.specs.Numbers.{HasWorkers};
 
 use descriptors::hold_closed_streams;
-use lockd_cli::{Asked, Refusal, Trace, WhenFull, print_version, read_words};
-use lockd_commands::{CheckOptions, Fault, Rules, Status, bytes_on, check_on, drive_on, script_on};
-use lockd_serve::{WhenWriterFails, serve_on, serve_traced_on, serve_untraced_on, trace_at};
-use std::fs::Files;
+use lockd_cli::{Asked, Trace, UsageError, WhenFull, print_version, read_words};
+use lockd_commands::{CheckOptions, CommandFault, Status, bytes_on, check_on, drive_on, script_on};
+use lockd_serve::{ServeOptions, TraceTo, WhenWriterFails, serve_on, trace_at};
+use std::fs::{File, Files};
 use std::io::Write;
 use std::net::Net;
 use std::path::Path;
@@ -30,7 +31,7 @@ fn main(rt: HostRuntime) -> ExitCode {
     }
 }
 
-fn asked(rt: &HostRuntime) -> Result<Asked, Refusal>
+fn asked(rt: &HostRuntime) -> Result<Asked, UsageError>
     ensures workers { IfOk result HasWorkers }
 {
     let words: Vec<String> = env::args(rt)?.collect(rt.alloc())?;
@@ -69,17 +70,27 @@ fn run<T: Threads + Wait + Net + Files + Sync>(
             trace,
             rules,
         } => {
+            let to = match opened(rt, trace, &mut faults) {
+                Ok(to) => to,
+                Err(status) => return status,
+            };
+            let options = ServeOptions {
+                workers: *workers,
+                rules: *rules,
+                trace: to,
+                when_full: when_full(trace),
+            };
             let path = Path::new(socket.as_str());
-            serve(
-                rt,
+            let (status, _trace) = serve_on(
                 threads,
-                *rules,
+                alloc,
                 path,
-                *workers,
-                trace,
+                options,
                 &mut output,
                 &mut faults,
-            )
+            );
+            remove_unused(rt, trace, status);
+            status
         }
         Asked::Drive(socket) => {
             let path = Path::new(socket.as_str());
@@ -88,68 +99,38 @@ fn run<T: Threads + Wait + Net + Files + Sync>(
     }
 }
 
-// `lockd serve`: its trace is printed, or goes where it is said.
-fn serve<T: Threads + Wait + Net + Files + Sync, W: Write, F: Write>(
+// Where the trace of `lockd serve` goes. Its file is made before the server listens.
+fn opened<F: Write>(
     rt: &HostRuntime,
-    threads: &T,
-    rules: Rules,
-    path: Path<'_>,
-    workers: u32,
     trace: &Trace,
-    output: &mut W,
     faults: &mut F,
-) -> Status
-    requires workers { (1 ≤ workers) × (workers ≤ 16) }
-{
+) -> Result<TraceTo<File>, Status> {
     match trace {
-        Trace::Printed => serve_on(threads, rt.alloc(), rules, path, workers, output, faults),
-        Trace::Nowhere => serve_untraced_on(threads, rt.alloc(), rules, path, workers, faults),
-        Trace::File(file, full) => {
-            let file = Path::new(file.as_str());
-            serve_to_file(rt, threads, rules, path, workers, file, *full, faults)
+        Trace::Printed => Ok(TraceTo::Output),
+        Trace::Nowhere => Ok(TraceTo::Nowhere),
+        Trace::File(file, _) => {
+            let made = trace_at(rt, Path::new(file.as_str()), faults)?;
+            Ok(TraceTo::Writer(made))
         }
     }
 }
 
-// `lockd serve --trace FILE`: the trace's file is made before the server listens. Where no session is served it is taken away again.
-fn serve_to_file<T: Threads + Wait + Net + Files + Sync, F: Write>(
-    rt: &HostRuntime,
-    threads: &T,
-    rules: Rules,
-    path: Path<'_>,
-    workers: u32,
-    file: Path<'_>,
-    full: WhenFull,
-    faults: &mut F,
-) -> Status
-    requires workers { (1 ≤ workers) × (workers ≤ 16) }
-{
-    let trace = match trace_at(rt, file, faults) {
-        Ok(trace) => trace,
-        Err(status) => return status,
-    };
-    let full = when_full(full);
-    let (status, _trace) = serve_traced_on(
-        threads,
-        rt.alloc(),
-        rules,
-        path,
-        trace,
-        full,
-        workers,
-        faults,
-    );
-    if let Status::Faulted(Fault::Listen | Fault::NoMemory) = status {
-        let _ = fs::remove_file(rt, file);
+// Takes the trace's file away where no session was served.
+fn remove_unused(rt: &HostRuntime, trace: &Trace, status: Status) {
+    if let (
+        Trace::File(file, _),
+        Status::Faulted(CommandFault::Listen | CommandFault::NoMemory),
+    ) = (trace, status)
+    {
+        let _ = fs::remove_file(rt, Path::new(file.as_str()));
     }
-    status
 }
 
 // What orders come to when the trace's file can't be written.
-fn when_full(asked: WhenFull) -> WhenWriterFails {
-    match asked {
-        WhenFull::GoOn => WhenWriterFails::GoOn,
-        WhenFull::Refuse => WhenWriterFails::Refuse,
+fn when_full(trace: &Trace) -> WhenWriterFails {
+    match trace {
+        Trace::File(_, WhenFull::Refuse) => WhenWriterFails::Refuse,
+        Trace::File(_, WhenFull::GoOn) | Trace::Printed | Trace::Nowhere => WhenWriterFails::GoOn,
     }
 }
 
@@ -158,7 +139,7 @@ fn version_on<W: Write, F: Write>(output: &mut W, faults: &mut F) -> Status {
     match print_version(output) {
         Ok(()) => Status::Good,
         Err(_) => {
-            let fault = Fault::Write;
+            let fault = CommandFault::Write;
             let _ = writeln!(faults, "{fault}");
             Status::Faulted(fault)
         }

@@ -1,5 +1,5 @@
-//! The commands of `lockd` and their options, as `clap` takes them. A call that may fail lets go all that is there by then, and
-//! the proof of a function grows with the product of both. So each part is made where it is put in.
+//! The commands of `lockd` and their options, as `clap` takes them. A call that may fail lets go all that is there by
+//! then, and the proof of a function grows with the product of both. So each part is made where it is put in.
 
 use crate::options::MOST_WORKERS;
 use crate::version::VERSION;

@@ -1,11 +1,17 @@
 //! The command line of `lockd`: which command its words ask for, or why none is run.
+//!
+//! A server has 1 to 16 workers (`workers`), and `Rules` keeps the other limits in its type. Contracts let through:
+//! - a `print_version` that always fails, and another version;
+//! - a `read_words` that refuses everything, takes one command for another, names another socket, or asks for other
+//!   rules than its words say.
+//! `tools/try_words` refuses most of these. The wording of `clap`'s texts is neither proved nor tested.
 #![tactic(auto)]
 
 mod command;
 mod options;
-mod refusal;
+mod usage_error;
 mod version;
 
 pub use options::{Asked, Trace, WhenFull, read_words};
-pub use refusal::Refusal;
+pub use usage_error::UsageError;
 pub use version::{VERSION, print_version};

@@ -5,7 +5,7 @@ ghost use Rattle.fl_waiting.specs.Limits.{AllowsRuns, AllowsParked};
 ghost use Rattle.lockd_cli.specs.Numbers.{HasWorkers};
 
 use crate::command::lockd;
-use crate::refusal::Refusal;
+use crate::usage_error::UsageError;
 use clap::ArgMatches;
 use clap::error::ErrorKind;
 use fl_waiting::{MOST_PARKED, MOST_RUNS, Rules};
@@ -24,8 +24,8 @@ pub enum Asked {
     Script(Rules),
     /// Answers messages in lines of hex and prints their replies.
     Bytes(Rules),
-    /// Judges a trace. It says whether the trace is quiet where that is asked, and takes one that may be cut off where that
-    /// is said.
+    /// Judges a trace. It says whether the trace is quiet where that is asked, and takes one that may be cut off
+    /// where that is said.
     Check {
         /// Whether it is asked if the trace is quiet.
         quiet: bool,
@@ -73,18 +73,18 @@ pub enum WhenFull {
 
 /// What the words of a command line ask for; the first is the program's name. A word that no command takes, a number
 /// out of its option's range, a request for help and want of memory are refused, each with its text.
-pub fn read_words(alloc: Global, words: &[String]) -> Result<Asked, Refusal>
+pub fn read_words(alloc: Global, words: &[String]) -> Result<Asked, UsageError>
     ensures workers { IfOk result HasWorkers }
 {
     match lockd(alloc)?.try_get_matches_from(words) {
         Ok(matches) => asked_by(alloc, &matches),
         Err(error) if error.kind() == ErrorKind::DisplayVersion => Ok(Asked::Version),
-        Err(error) => Err(Refusal::from(error)),
+        Err(error) => Err(UsageError::from(error)),
     }
 }
 
 // What words ask for that `clap` took.
-fn asked_by(alloc: Global, matches: &ArgMatches<'_>) -> Result<Asked, Refusal>
+fn asked_by(alloc: Global, matches: &ArgMatches<'_>) -> Result<Asked, UsageError>
     ensures workers { IfOk result HasWorkers }
 {
     match matches.subcommand() {
@@ -111,7 +111,8 @@ fn rules_of(options: &ArgMatches<'_>) -> Rules {
     )
 }
 
-// The rules of these numbers. `clap` lets none through that is out of its range; such a one would become the nearest that isn't.
+// The rules of these numbers. `clap` lets none through that is out of its range; such a one would become the nearest
+// that isn't.
 fn rules_with(fair: bool, runs: u32, parked: u32) -> Rules
     ensures fair { result.fair ≡ fair }
     ensures runs { AllowsRuns runs → result.runs ≡ runs }
@@ -124,7 +125,7 @@ fn rules_with(fair: bool, runs: u32, parked: u32) -> Rules
 }
 
 // What the options of `serve` ask for.
-fn serve_of(alloc: Global, options: &ArgMatches<'_>) -> Result<Asked, Refusal>
+fn serve_of(alloc: Global, options: &ArgMatches<'_>) -> Result<Asked, UsageError>
     ensures workers { IfOk result HasWorkers }
 {
     let workers = options
@@ -141,13 +142,13 @@ fn serve_of(alloc: Global, options: &ArgMatches<'_>) -> Result<Asked, Refusal>
 }
 
 // The socket that a command's options name; it is required.
-fn socket_of(alloc: Global, options: &ArgMatches<'_>) -> Result<String, Refusal> {
+fn socket_of(alloc: Global, options: &ArgMatches<'_>) -> Result<String, UsageError> {
     let socket = options.get_str("SOCKET").unwrap_or("");
     Ok(String::from_str(alloc, socket)?)
 }
 
 // Where the options send the trace. A file named none is ./none.
-fn trace_of(alloc: Global, options: &ArgMatches<'_>) -> Result<Trace, Refusal> {
+fn trace_of(alloc: Global, options: &ArgMatches<'_>) -> Result<Trace, UsageError> {
     let Some(trace) = options.get_str("trace") else {
         return Ok(Trace::Printed);
     };

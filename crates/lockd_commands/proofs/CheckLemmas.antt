@@ -1,14 +1,14 @@
 -- What an audit says, as `check` says it.
 use Rattle.std.proofs.Common.{◌≡◌, ◌↔◌, ℕ, Bool, true, false, Option, List, [], refl, sym, subst, append-nil}
 use Rattle.std.specs.Io.KnownBytes.{Appends}
-use Rattle.fl_audit.specs.Audit.{IsFinding, IsAudited}
-use Rattle.fl_audit.specs.declared.finding.Audited.{Audited}
-use Rattle.fl_audit.specs.declared.finding.Finding.{Finding}
-use Rattle.fl_audit.specs.declared.finding.Finding.TheVariants.{Legal, Begins, Differs}
+use Rattle.fl_judge.specs.Audit.{IsFinding, IsAudited}
+use Rattle.fl_judge.specs.declared.finding.Audited.{Audited}
+use Rattle.fl_judge.specs.declared.finding.Finding.{Finding}
+use Rattle.fl_judge.specs.declared.finding.Finding.TheVariants.{Legal, Begins, Differs}
 use Rattle.fl_desk.specs.Legal.{IsLegal}
 use Rattle.fl_desk.specs.Verdicts.{IsBeginning}
 use Rattle.fl_history.specs.declared.history.Line.{Line}
-use Rattle.fl_quiet.specs.Quiet.{IsQuiet}
+use Rattle.fl_judge.specs.Quiet.{IsQuiet}
 use Rattle.fl_waiting.specs.declared.rules.Rules.{Rules}
 use Rattle.lockd_commands.specs.Check.{answer_text, SaysQuiet, IsJudged}
 use Rattle.lockd_commands.specs.Check.Inside.{quiet_told}

@@ -1,12 +1,13 @@
 -- Lines of hex, one after another.
-use Rattle.std.proofs.Common.{◌≡◌, ℕ, ◌+◌, ◌<◌, ◌≤◌, ◌⊎◌, inl, inr, List, [], ◌∷◌, ◌++◌, length, refl, sym, ap, subst, ◌∙◌, arith, append_assoc, append-nil, Result, Ok, Err, IsErr}
+use Rattle.std.proofs.Common.{◌≡◌, ℕ, ◌+◌, ◌<◌, ◌≤◌, ◌⊎◌, inl, inr, List, [], ◌∷◌, ◌++◌, length, refl, sym, ap, subst}
+use Rattle.std.proofs.Common.{◌∙◌, arith, append_assoc, append-nil, Result, Ok, Err, IsErr}
 use Rattle.hex.specs.Hex.{decode_of}
 use Rattle.hex.specs.declared.error.FromHexError.{FromHexError}
 use Rattle.lockd_commands.specs.Bytes.Inside.{TextSays}
 use Rattle.lockd_commands.specs.Hex.{joined, spelled_from, hex_stream}
-use Rattle.lockd_faults.specs.declared.fault.Fault.{Fault}
-use Rattle.lockd_faults.specs.declared.fault.Fault.TheVariants.{BadLine, NoMemory}
-use Rattle.lockd_hex.specs.Lines.{lines_of, HasLine}
+use Rattle.lockd_faults.specs.declared.fault.CommandFault.{CommandFault}
+use Rattle.lockd_faults.specs.declared.fault.CommandFault.TheVariants.{BadLine, NoMemory}
+use Rattle.lockd_faults.specs.HexLines.{lines_of, HasLine}
 
 -- these bytes stand before what the lines behind them spell
 abbrev pub after : List ℕ → Result (List ℕ) ℕ → Result (List ℕ) ℕ
@@ -69,7 +70,7 @@ joined_err number (Err e) later bad = refl
 joined_err number (Ok bytes) later bad = absurd (cc bad)
 
 -- a line that is no hex is a bad line
-pub read_bad : (text stream rest line after_it : List ℕ) (number : ℕ) (fault : Fault)
+pub read_bad : (text stream rest line after_it : List ℕ) (number : ℕ) (fault : CommandFault)
     → IsReadSoFar text stream rest number → lines_of rest ≡ line ∷ lines_of after_it → HasLine after_it
     → (fault ≡ NoMemory) ⊎ ((fault ≡ BadLine number) × IsErr (decode_of line)) → TextSays text fault
 read_bad text stream rest line after_it number fault read first behind (inl e) = subst (TextSays text) (sym e) tt

@@ -1,5 +1,6 @@
 -- Replies, cut apart by the length that each says itself.
-use Rattle.std.proofs.Common.{◌≡◌, ℕ, ◌<◌, ◌≤◌, Bool, false, List, [], ◌∷◌, ◌++◌, length, take, drop, refl, sym, ap, subst, ◌∙◌, arith, append_assoc, append-nil, length-append, All, Some}
+use Rattle.std.proofs.Common.{◌≡◌, ℕ, ◌<◌, ◌≤◌, Bool, false, List, [], ◌∷◌, ◌++◌, length, take, drop, refl, sym, ap}
+use Rattle.std.proofs.Common.{subst, ◌∙◌, arith, append_assoc, append-nil, length-append, All, Some}
 use Rattle.std.proofs.lemmas.Grind.{flat_map-append}
 use Rattle.std.proofs.lemmas.List.{take_at, drop_at}
 use Rattle.std.proofs.lemmas.List.Elements.{All-head, All-tail}
@@ -10,10 +11,10 @@ use Rattle.hex.specs.Hex.{encode_lower}
 use Rattle.fl_wire.specs.Layout.{len_of, number_at}
 use Rattle.lockd_commands.specs.Bytes.{IsSession}
 use Rattle.lockd_commands.specs.Bytes.Inside.{AreReplies}
-use Rattle.lockd_hex.specs.Lines.{hex_lines}
+use Rattle.lockd_faults.specs.HexLines.{hex_lines}
 use Rattle.fl_session.specs.Served.{IsServed}
 use Rattle.fl_wire.specs.Spell.{IsReply}
-use Rattle.fl_session.specs.declared.session.Done.{Done}
+use Rattle.fl_session.specs.declared.done.Done.{Done}
 use Rattle.fl_session.specs.Session.{session_of}
 use Rattle.fl_waiting.specs.declared.rules.Rules.{Rules}
 

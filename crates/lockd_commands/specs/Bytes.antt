@@ -5,15 +5,15 @@ use Rattle.std.specs.List.{concat}
 use Rattle.std.specs.Io.KnownBytes.{Appends, Keeps}
 use Rattle.fl_waiting.specs.declared.rules.Rules.{Rules}
 use Rattle.lockd_commands.specs.Hex.{hex_stream}
-use Rattle.lockd_hex.specs.Lines.{hex_lines}
+use Rattle.lockd_faults.specs.HexLines.{hex_lines}
 use Rattle.fl_session.specs.Served.{IsServed}
 use Rattle.fl_wire.specs.Spell.{IsReply}
 use Rattle.fl_session.specs.Session.{session_of}
-use Rattle.fl_session.specs.declared.session.Done.{Done}
-use Rattle.fl_session.specs.declared.session.Fault.{Fault as SessionFault}
+use Rattle.fl_session.specs.declared.done.Done.{Done}
+use Rattle.fl_transport.specs.declared.fault.Fault.{Fault as SessionFault}
 
--- A session under these rules over this stream, no write of which failed and whose fault is this one, and the lines that are
--- printed for it: one for each of its replies.
+-- A session under these rules over this stream, no write of which failed and whose fault is this one, and the lines
+-- that are printed for it: one for each of its replies.
 pub record IsSession (rules : Rules) (stream lines : List ℕ) (fault : Option SessionFault) : Type 0 where
   pub done : Done
   pub unread : List ℕ

@@ -4,11 +4,11 @@ use Rattle.std.specs.Prelude.{◌≡◌, ◌↔◌, ℕ, Bool, true, false, List
 use Rattle.std.specs.Fmt.{decimal}
 use Rattle.std.specs.Io.KnownBytes.{Appends}
 use Rattle.fl_trace.specs.Text.{text_of, Fits}
-use Rattle.fl_audit.specs.Audit.{judged_part, IsFinding}
-use Rattle.fl_audit.specs.declared.finding.Finding.{Finding}
-use Rattle.fl_audit.specs.declared.finding.Finding.TheVariants.{Legal, Begins, Differs}
+use Rattle.fl_judge.specs.Audit.{judged_part, IsFinding}
+use Rattle.fl_judge.specs.declared.finding.Finding.{Finding}
+use Rattle.fl_judge.specs.declared.finding.Finding.TheVariants.{Legal, Begins, Differs}
 use Rattle.fl_history.specs.declared.history.Line.{Line}
-use Rattle.fl_quiet.specs.Quiet.{IsQuiet}
+use Rattle.fl_judge.specs.Quiet.{IsQuiet}
 use Rattle.fl_waiting.specs.declared.rules.Rules.{Rules}
 use Rattle.lockd_commands.specs.declared.check.CheckOptions.{CheckOptions}
 
@@ -34,8 +34,8 @@ SaysQuiet rules true Legal lines None = ⊥
 SaysQuiet rules true Legal lines (Some quiet) = (quiet ≡ true) ↔ IsQuiet rules lines
 SaysQuiet rules asked finding lines told = told ≡ None
 
--- What is judged of all that was left to read is the trace of a history. What is found of this history under these rules was
--- written, and whether it is quiet, where that is asked and it is legal.
+-- What is judged of all that was left to read is the trace of a history. What is found of this history under these
+-- rules was written, and whether it is quiet, where that is asked and it is legal.
 pub record IsJudged (rules : Rules) (options : CheckOptions) (left old new : Option (List ℕ)) (finding : Finding)
     : Type 0 where
   pub trace : List ℕ

@@ -2,7 +2,7 @@
 use Rattle.std.specs.Prelude.{ℕ, ◌+◌, List, [], ◌∷◌, ◌++◌, Result, Ok, Err}
 use Rattle.hex.specs.Hex.{decode_of}
 use Rattle.hex.specs.declared.error.FromHexError.{FromHexError}
-use Rattle.lockd_hex.specs.Lines.{lines_of}
+use Rattle.lockd_faults.specs.HexLines.{lines_of}
 
 -- the bytes of line n before those of the lines behind it; the first bad line is the one that counts
 abbrev pub joined : ℕ → Result (List ℕ) FromHexError → Result (List ℕ) ℕ → Result (List ℕ) ℕ

@@ -1,5 +1,6 @@
 pub mod Bytes
 pub mod Check
+pub mod Drive
 pub mod Faults
 pub mod Hex
 pub mod Script

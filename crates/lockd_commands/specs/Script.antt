@@ -7,9 +7,11 @@ use Rattle.fl_trace.specs.Text.{text_of, LineFits, Fits, BreaksAt}
 use Rattle.fl_history.specs.declared.history.Line.{Line}
 use Rattle.fl_history.specs.declared.history.Line.TheVariants.{Asked}
 use Rattle.fl_waiting.specs.declared.rules.Rules.{Rules}
-use Rattle.lockd_faults.specs.declared.fault.Fault.{Fault}
+use Rattle.lockd_faults.specs.declared.fault.CommandFault.{CommandFault}
 use Rattle.lockd_commands.specs.declared.script.AskLine.{AskLine}
-use Rattle.lockd_faults.specs.declared.fault.Fault.TheVariants.{BadLine, NoMemory, NoReader, Listen, Read, Write, Cut, BadLength, Connect, BadReply, Trace, TraceFailed}
+use Rattle.lockd_faults.specs.declared.fault.CommandFault.TheVariants.{BadLine, NoMemory, NoReader, Listen, Read, Write}
+use Rattle.lockd_faults.specs.declared.fault.CommandFault.TheVariants.{Cut, BadLength, Connect, BadReply, Trace}
+use Rattle.lockd_faults.specs.declared.fault.CommandFault.TheVariants.{TraceFailed}
 
 -- an ask line that can be read back
 abbrev pub IsAskLine : Line → Type 0
@@ -28,7 +30,7 @@ pub record IsTraceOf (rules : Rules) (script trace : List ℕ) : Type 0 where
   pub printed : trace ≡ text_of lines
 
 -- what a fault says of a script
-abbrev pub FaultSays : List ℕ → Fault → Type 0
+abbrev pub FaultSays : List ℕ → CommandFault → Type 0
 FaultSays script (BadLine n) = BreaksAt IsAskLine script n
 FaultSays script NoMemory = Unit {0}
 FaultSays script NoReader = ⊥

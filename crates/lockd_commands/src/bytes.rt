@@ -7,13 +7,13 @@ ghost use Rattle.lockd_commands.specs.Bytes.Inside.{Did, IsOfStream};
 ghost use Rattle.lockd_commands.specs.Faults.{IsOfBytes};
 ghost use Rattle.lockd_commands.specs.Hex.{hex_stream};
 ghost use Rattle.lockd_faults.specs.Faults.{IsTold};
-ghost use Rattle.lockd_faults.specs.declared.fault.Fault.{Fault};
-ghost use Rattle.fl_session.specs.declared.session.Fault.{Fault as SessionFault};
+ghost use Rattle.lockd_faults.specs.declared.fault.CommandFault.{CommandFault};
+ghost use Rattle.fl_transport.specs.declared.fault.Fault.{Fault as SessionFault};
 
 use fl_core::Rules;
 use fl_session::{Ended, run_session};
 use hex_text::read_stream;
-use lockd_faults::{Fault, Status, end, read_all, write_all};
+use lockd_faults::{CommandFault, Status, end, read_all, write_all};
 use replies::print_replies;
 use std::alloc::Global;
 use std::io::{Read, Write};
@@ -21,9 +21,10 @@ use std::io::{Read, Write};
 pub(crate) mod hex_text;
 pub(crate) mod replies;
 
-/// `lockd bytes`: reads lines of hex, serves a session under these rules over the bytes that they spell, and writes each
-/// reply as a line of lower case hex. All input is read and checked, and the whole session is over, before any output. A
-/// fault is told as one line on `faults`; before `cut` and `bad length` all replies up to there are written.
+/// `lockd bytes`: reads lines of hex, serves a session under these rules over the bytes that they spell, and writes
+/// each reply as a line of lower case hex. All input is read and checked, and the whole session is over, before any
+/// output. A fault is told as one line on `faults`; before `cut` and `bad length` all replies up to there are
+/// written.
 pub fn bytes_on<R: Read, W: Write, F: Write>(
     alloc: Global,
     rules: Rules,
@@ -33,25 +34,25 @@ pub fn bytes_on<R: Read, W: Write, F: Write>(
 ) -> Status
     ensures good { result ≡ Status.Good
         → IsPrinted rules (R.remaining input.old) (W.contents output.old) (W.contents output.new) None }
-    ensures cut { result ≡ Status.Faulted Fault.Cut
+    ensures cut { result ≡ Status.Faulted CommandFault.Cut
         → IsPrinted rules (R.remaining input.old) (W.contents output.old) (W.contents output.new)
         (Some SessionFault.Cut) }
-    ensures bad_length { (n : ℕ) → result ≡ Status.Faulted (Fault.BadLength n)
+    ensures bad_length { (n : ℕ) → result ≡ Status.Faulted (CommandFault.BadLength n)
         → IsPrinted rules (R.remaining input.old) (W.contents output.old) (W.contents output.new)
         (Some (SessionFault.BadLength n)) }
 
     // A bad line is told, and nothing else is.
-    ensures bad { (n : ℕ) → result ≡ Status.Faulted (Fault.BadLine n)
+    ensures bad { (n : ℕ) → result ≡ Status.Faulted (CommandFault.BadLine n)
         → IfSome (R.remaining input.old) (λ text. hex_stream text ≡ Err n) }
     ensures told { (n : ℕ) → IfSome (R.remaining input.old) (λ text. hex_stream text ≡ Err n
-        → (result ≡ Status.Faulted (Fault.BadLine n))
-        ⊎ ((result ≡ Status.Faulted Fault.NoMemory) ⊎ (result ≡ Status.Faulted Fault.Read))) }
+        → (result ≡ Status.Faulted (CommandFault.BadLine n))
+        ⊎ ((result ≡ Status.Faulted CommandFault.NoMemory) ⊎ (result ≡ Status.Faulted CommandFault.Read))) }
 
     // Only these faults leave anything on the output.
-    ensures kept { (fault : Fault) → result ≡ Status.Faulted fault
-        → fault ≢ Fault.Write → fault ≢ Fault.Cut → ((n : ℕ) → fault ≢ Fault.BadLength n)
+    ensures kept { (fault : CommandFault) → result ≡ Status.Faulted fault
+        → fault ≢ CommandFault.Write → fault ≢ CommandFault.Cut → ((n : ℕ) → fault ≢ CommandFault.BadLength n)
         → Keeps (W.contents output.old) (W.contents output.new) }
-    ensures faulted { (fault : Fault) → result ≡ Status.Faulted fault →
+    ensures faulted { (fault : CommandFault) → result ≡ Status.Faulted fault →
         IsOfBytes fault × IsTold fault (F.contents faults.old) (F.contents faults.new) }
     ensures quiet { result ≡ Status.Good → Keeps (F.contents faults.old) (F.contents faults.new) }
     ensures ended { result ≢ Status.Different }
@@ -64,7 +65,7 @@ fn bytes<R: Read, W: Write>(
     rules: Rules,
     input: &mut R,
     output: &mut W,
-) -> Result<(), Fault>
+) -> Result<(), CommandFault>
     ensures { Did rules (R.remaining input.old) (W.contents output.old) (W.contents output.new) result }
 {
     let text = read_all(alloc, input)?;
@@ -73,7 +74,7 @@ fn bytes<R: Read, W: Write>(
     write_all(output, &printed.lines)?;
     match printed.fault {
         None => Ok(()),
-        Some(fault) => Err(Fault::from(fault)),
+        Some(fault) => Err(CommandFault::from(fault)),
     }
 }
 
@@ -84,12 +85,12 @@ struct Printed {
     fault: Option<fl_session::Fault>,
 }
 
-// A session under these rules over these bytes, and a line for each of its replies. A vector takes what is written to it
-// where there is memory: a write that failed is want of memory, also where the stream has a fault.
-fn print_session(alloc: Global, rules: Rules, stream: &[u8]) -> Result<Printed, Fault>
+// A session under these rules over these bytes, and a line for each of its replies. A vector takes what is written to
+// it where there is memory: a write that failed is want of memory, also where the stream has a fault.
+fn print_session(alloc: Global, rules: Rules, stream: &[u8]) -> Result<Printed, CommandFault>
     ensures session { IfOk result (λ printed. IsSession rules stream.now printed.lines.items printed.fault) }
     ensures fault { IfOk result (λ printed. IfSome printed.fault IsOfStream) }
-    ensures error { IfErr result (λ fault. (fault ≡ Fault.NoMemory) ⊎ (fault ≡ Fault.Read)) }
+    ensures error { IfErr result (λ fault. (fault ≡ CommandFault.NoMemory) ⊎ (fault ≡ CommandFault.Read)) }
 {
     let mut rest = stream;
     let mut sent = Vec::new(alloc);
@@ -105,17 +106,17 @@ fn print_session(alloc: Global, rules: Rules, stream: &[u8]) -> Result<Printed, 
 fn fault_printed(
     fault: Option<fl_session::Fault>,
     broken: bool,
-) -> Result<Option<fl_session::Fault>, Fault>
+) -> Result<Option<fl_session::Fault>, CommandFault>
     ensures printed { IfOk result (λ printed. (printed ≡ fault) × (broken ≡ false) × IfSome printed IsOfStream) }
-    ensures error { IfErr result (λ fault. (fault ≡ Fault.NoMemory) ⊎ (fault ≡ Fault.Read)) }
+    ensures error { IfErr result (λ fault. (fault ≡ CommandFault.NoMemory) ⊎ (fault ≡ CommandFault.Read)) }
 {
     match fault {
-        Some(fl_session::Fault::Read) => Err(Fault::Read),
+        Some(fl_session::Fault::Read) => Err(CommandFault::Read),
         // One worker at a desk needs no reader, so that fault doesn't come.
         Some(
             fl_session::Fault::Write | fl_session::Fault::NoMemory | fl_session::Fault::NoReader,
-        ) => Err(Fault::NoMemory),
-        _ if broken => Err(Fault::NoMemory),
+        ) => Err(CommandFault::NoMemory),
+        _ if broken => Err(CommandFault::NoMemory),
         fault => Ok(fault),
     }
 }

@@ -2,18 +2,18 @@
 
 ghost use Rattle.std.specs.Prelude.{◌≡◌, ◌≢◌, ◌⊎◌, ℕ, false, string_bytes, IfSome, IfOk, OnOk, IfErr};
 ghost use Rattle.std.specs.Io.KnownBytes.{Keeps};
-ghost use Rattle.fl_audit.specs.Audit.{judged_part};
-ghost use Rattle.fl_audit.specs.declared.finding.Finding.TheVariants as said;
+ghost use Rattle.fl_judge.specs.Audit.{judged_part};
+ghost use Rattle.fl_judge.specs.declared.finding.Finding.TheVariants as said;
 ghost use Rattle.fl_trace.specs.Text.{BreaksAt, LineFits};
 ghost use Rattle.lockd_commands.specs.Check.{answer_text, IsJudged};
 ghost use Rattle.lockd_commands.specs.Check.Inside.{quiet_told, audit_fault};
 ghost use Rattle.lockd_commands.specs.Faults.{IsOfText};
 ghost use Rattle.lockd_faults.specs.Faults.{IsTold};
-ghost use Rattle.lockd_faults.specs.declared.fault.Fault.{Fault};
+ghost use Rattle.lockd_faults.specs.declared.fault.CommandFault.{CommandFault};
 
-use fl_audit::{AuditFault, Audited, Finding, audit};
 use fl_core::Rules;
-use lockd_faults::{Fault, Status, end, write_all};
+use fl_judge::{AuditFault, Audited, Finding, audit};
+use lockd_faults::{CommandFault, Status, end, write_all};
 use std::alloc::Global;
 use std::io::{Read, Write};
 
@@ -26,12 +26,12 @@ pub struct CheckOptions {
     pub cut: bool,
 }
 
-/// `lockd check`: reads a trace, and writes `legal`, or `differs N` where it isn't: the lines before line N, and no more,
-/// are a beginning of a trace that is legal under these rules. With the option `--quiet` `legal` is followed by a line
-/// `quiet` or `not quiet`, which says whether any owner asked for a record lock while it waited for one. With the option
-/// `--cut` what follows the last newline isn't judged, and a trace that isn't legal, but that a legal one begins with, is
-/// said to be so by `begins`. All input is read and checked before any output, in memory that doesn't grow. A fault is told
-/// as one line on `faults`.
+/// `lockd check`: reads a trace, and writes `legal`, or `differs N` where it isn't: the lines before line N, and no
+/// more, are a beginning of a trace that is legal under these rules. With the option `--quiet` `legal` is followed by
+/// a line `quiet` or `not quiet`, which says whether any owner asked for a record lock while it waited for one. With
+/// the option `--cut` what follows the last newline isn't judged, and a trace that isn't legal, but that a legal one
+/// begins with, is said to be so by `begins`. All input is read and checked before any output, in memory that doesn't
+/// grow. A fault is told as one line on `faults`.
 pub fn check_on<R: Read, W: Write, F: Write>(
     alloc: Global,
     rules: Rules,
@@ -51,13 +51,13 @@ pub fn check_on<R: Read, W: Write, F: Write>(
         (said.Differs n) }
 
     // The first n - 1 lines of what is judged of the input are lines of a trace, and the next is none.
-    ensures bad { (n : ℕ) → result ≡ Status.Faulted (Fault.BadLine n) →
+    ensures bad { (n : ℕ) → result ≡ Status.Faulted (CommandFault.BadLine n) →
         IfSome (R.remaining input.old) (λ bytes. BreaksAt LineFits (judged_part options.cut bytes) n) }
 
     // Only a write that fails leaves anything on the output.
-    ensures kept { (fault : Fault) → result ≡ Status.Faulted fault → fault ≢ Fault.Write →
+    ensures kept { (fault : CommandFault) → result ≡ Status.Faulted fault → fault ≢ CommandFault.Write →
         Keeps (W.contents output.old) (W.contents output.new) }
-    ensures faulted { (fault : Fault) → result ≡ Status.Faulted fault →
+    ensures faulted { (fault : CommandFault) → result ≡ Status.Faulted fault →
         IsOfText fault × IsTold fault (F.contents faults.old) (F.contents faults.new) }
     ensures quiet { (result ≡ Status.Good) ⊎ (result ≡ Status.Different) →
         Keeps (F.contents faults.old) (F.contents faults.new) }
@@ -76,12 +76,13 @@ fn judge<R: Read, W: Write>(
     options: CheckOptions,
     input: &mut R,
     output: &mut W,
-) -> Result<Finding, Fault>
+) -> Result<Finding, CommandFault>
     ensures judged { IfOk result
         (IsJudged rules options (R.remaining input.old) (W.contents output.old) (W.contents output.new)) }
-    ensures bad { IfErr result (λ fault. (n : ℕ) → fault ≡ Fault.BadLine n →
+    ensures bad { IfErr result (λ fault. (n : ℕ) → fault ≡ CommandFault.BadLine n →
         IfSome (R.remaining input.old) (λ bytes. BreaksAt LineFits (judged_part options.cut bytes) n)) }
-    ensures kept { IfErr result (λ fault. fault ≢ Fault.Write → Keeps (W.contents output.old) (W.contents output.new)) }
+    ensures kept { IfErr result (λ fault. fault ≢ CommandFault.Write
+        → Keeps (W.contents output.old) (W.contents output.new)) }
     ensures fault { IfErr result IsOfText }
 {
     let audited = match audit(alloc, rules, options.cut, input) {
@@ -95,13 +96,13 @@ fn judge<R: Read, W: Write>(
 }
 
 // A fault of an audit, as a command tells it.
-fn fault_of(fault: AuditFault) -> Fault
+fn fault_of(fault: AuditFault) -> CommandFault
     ensures { result ≡ audit_fault fault }
 {
     match fault {
-        AuditFault::BadLine(n) => Fault::BadLine(n),
-        AuditFault::NoMemory => Fault::NoMemory,
-        AuditFault::Read => Fault::Read,
+        AuditFault::BadLine(n) => CommandFault::BadLine(n),
+        AuditFault::NoMemory => CommandFault::NoMemory,
+        AuditFault::Read => CommandFault::Read,
     }
 }
 
@@ -115,9 +116,9 @@ fn quiet_told(asked: bool, audited: Audited) -> Option<bool>
     }
 }
 
-fn answer_text(alloc: Global, finding: Finding, told: Option<bool>) -> Result<String, Fault>
+fn answer_text(alloc: Global, finding: Finding, told: Option<bool>) -> Result<String, CommandFault>
     ensures text { IfOk result (λ text. string_bytes text ≡ answer_text finding told) }
-    ensures error { IfErr result (λ fault. fault ≡ Fault.NoMemory) }
+    ensures error { IfErr result (λ fault. fault ≡ CommandFault.NoMemory) }
 {
     let mut text = String::new(alloc);
     match (finding, told) {

@@ -1,6 +1,7 @@
 //! `lockd script`: takes orders from text, one after another.
 
-ghost use Rattle.std.specs.Prelude.{◌≡◌, ◌≢◌, ℕ, ◌++◌, ◌∷◌, [], List, map, filter, Err, All, IfSome, IsNone, IfOk, OnOk, IfErr};
+ghost use Rattle.std.specs.Prelude.{◌≡◌, ◌≢◌, ℕ, ◌++◌, ◌∷◌, [], List, map, filter, Err, All, IfSome, IsNone, IfOk};
+ghost use Rattle.std.specs.Prelude.{OnOk, IfErr};
 ghost use Rattle.std.specs.Io.KnownBytes.{Keeps, Appends};
 ghost use Rattle.fl_desk.specs.Legal.{IsLegal, is_asked};
 ghost use Rattle.fl_trace.specs.Text.{line_text, text_of, BreaksAt};
@@ -8,12 +9,15 @@ ghost use Rattle.lockd_commands.specs.Faults.{IsOfText};
 ghost use Rattle.lockd_commands.specs.Script.{line_of, IsAskLine, IsTraceOf, FaultSays, IsAnswered, IsAnsweredInPart};
 ghost use Rattle.fl_history.specs.declared.history.Line.{Line};
 ghost use Rattle.lockd_faults.specs.Faults.{IsTold};
-ghost use Rattle.lockd_faults.specs.declared.fault.Fault.{Fault};
+ghost use Rattle.lockd_faults.specs.declared.fault.CommandFault.{CommandFault};
 
-use fl_book::{Desk, History, Line, TraceRoom, first_line};
 use fl_core::{Rules, Tolds};
+use fl_desk::Desk;
+use fl_history::{History, Line};
 use fl_order::{NoMemory, Order};
-use lockd_faults::{Fault, Status, end, print, read_all};
+use fl_stream::TraceRoom;
+use fl_trace::first_line;
+use lockd_faults::{CommandFault, Status, end, print, read_all};
 use std::alloc::Global;
 use std::io::{Read, Write};
 
@@ -24,8 +28,8 @@ struct AskLine {
     order: Order,
 }
 
-/// `lockd script`: reads `ask` lines of workers 0 to 15, takes each order in turn at a desk under these rules, and writes
-/// the trace of the desk's history. All input is read and checked before any output. A fault is told as one
+/// `lockd script`: reads `ask` lines of workers 0 to 15, takes each order in turn at a desk under these rules, and
+/// writes the trace of the desk's history. All input is read and checked before any output. A fault is told as one
 /// line on `faults`.
 pub fn script_on<R: Read, W: Write, F: Write>(
     alloc: Global,
@@ -38,15 +42,15 @@ pub fn script_on<R: Read, W: Write, F: Write>(
         IsAnswered rules (R.remaining input.old) (W.contents output.old) (W.contents output.new) }
 
     // The first n - 1 lines of the input are ask lines, and the next is none.
-    ensures bad { (n : ℕ) → result ≡ Status.Faulted (Fault.BadLine n) →
+    ensures bad { (n : ℕ) → result ≡ Status.Faulted (CommandFault.BadLine n) →
         IfSome (R.remaining input.old) (λ script. BreaksAt IsAskLine script n) }
 
     // Only a write that fails leaves anything on the output: a beginning of the trace.
-    ensures begun { result ≡ Status.Faulted Fault.Write →
+    ensures begun { result ≡ Status.Faulted CommandFault.Write →
         IsAnsweredInPart rules (R.remaining input.old) (W.contents output.old) (W.contents output.new) }
-    ensures kept { (fault : Fault) → result ≡ Status.Faulted fault → fault ≢ Fault.Write →
+    ensures kept { (fault : CommandFault) → result ≡ Status.Faulted fault → fault ≢ CommandFault.Write →
         Keeps (W.contents output.old) (W.contents output.new) }
-    ensures faulted { (fault : Fault) → result ≡ Status.Faulted fault →
+    ensures faulted { (fault : CommandFault) → result ≡ Status.Faulted fault →
         IsOfText fault × IsTold fault (F.contents faults.old) (F.contents faults.new) }
     ensures quiet { result ≡ Status.Good → Keeps (F.contents faults.old) (F.contents faults.new) }
     ensures ended { result ≢ Status.Different }
@@ -59,14 +63,15 @@ fn script<R: Read, W: Write>(
     rules: Rules,
     input: &mut R,
     output: &mut W,
-) -> Result<(), Fault>
+) -> Result<(), CommandFault>
     ensures good { OnOk result
         (IsAnswered rules (R.remaining input.old) (W.contents output.old) (W.contents output.new)) }
-    ensures bad { IfErr result (λ fault. (n : ℕ) → fault ≡ Fault.BadLine n →
+    ensures bad { IfErr result (λ fault. (n : ℕ) → fault ≡ CommandFault.BadLine n →
         IfSome (R.remaining input.old) (λ script. BreaksAt IsAskLine script n)) }
-    ensures begun { result ≡ Err Fault.Write →
+    ensures begun { result ≡ Err CommandFault.Write →
         IsAnsweredInPart rules (R.remaining input.old) (W.contents output.old) (W.contents output.new) }
-    ensures kept { IfErr result (λ fault. fault ≢ Fault.Write → Keeps (W.contents output.old) (W.contents output.new)) }
+    ensures kept { IfErr result (λ fault. fault ≢ CommandFault.Write
+        → Keeps (W.contents output.old) (W.contents output.new)) }
     ensures fault { IfErr result IsOfText }
 {
     let text = read_all(alloc, input)?;
@@ -77,7 +82,7 @@ fn script<R: Read, W: Write>(
 
 // The history of a script under these rules.
 #[tactic(auto, using(crate::proofs::ScriptLemmas::fits_of_asks))]
-fn history_of(alloc: Global, rules: Rules, script: &[u8]) -> Result<History, Fault>
+fn history_of(alloc: Global, rules: Rules, script: &[u8]) -> Result<History, CommandFault>
     ensures trace { IfOk result (λ history. IsTraceOf rules script.now (text_of history)) }
     ensures error { IfErr result (FaultSays script.now) }
 {
@@ -86,7 +91,7 @@ fn history_of(alloc: Global, rules: Rules, script: &[u8]) -> Result<History, Fau
 }
 
 // What the ask lines of a script ask.
-fn read_asks(alloc: Global, script: &[u8]) -> Result<Vec<AskLine>, Fault>
+fn read_asks(alloc: Global, script: &[u8]) -> Result<Vec<AskLine>, CommandFault>
     ensures spelled { IfOk result (λ asks. script.now ≡ text_of (map line_of asks.items)) }
     ensures fits { IfOk result (λ asks. All IsAskLine (map line_of asks.items)) }
     ensures error { IfErr result (FaultSays script.now) }
@@ -95,7 +100,7 @@ fn read_asks(alloc: Global, script: &[u8]) -> Result<Vec<AskLine>, Fault>
     let mut rest = script;
     while !rest.is_empty() {
         let Some((ask, after)) = first_ask(rest) else {
-            return Err(Fault::BadLine(asks.len() + 1));
+            return Err(CommandFault::BadLine(asks.len() + 1));
         };
         asks.push(ask)?;
         rest = after;
@@ -117,10 +122,10 @@ fn first_ask(text: &[u8]) -> Option<(AskLine, &[u8])>
 }
 
 // The history of a desk under these rules that takes these orders in turn.
-fn take_all(alloc: Global, rules: Rules, asks: &[AskLine]) -> Result<History, Fault>
+fn take_all(alloc: Global, rules: Rules, asks: &[AskLine]) -> Result<History, CommandFault>
     ensures asked { IfOk result (λ history. filter is_asked history ≡ map line_of asks.now) }
     ensures legal { IfOk result (IsLegal rules) }
-    ensures error { IfErr result (λ fault. fault ≡ Fault.NoMemory) }
+    ensures error { IfErr result (λ fault. fault ≡ CommandFault.NoMemory) }
 {
     let mut desk = Desk::new(alloc, rules)?;
     let taken = take_each(alloc, rules, &mut desk, asks);

@@ -1,6 +1,6 @@
-//! The worked scripts at boards and over keepers, and a command whose input comes in pieces.
+//! The worked scripts at boards and over journals, and a command whose input comes in pieces.
 
 mod boards;
-mod keepers;
+mod journals;
 mod pieces;
 mod scripts;

@@ -2,11 +2,13 @@
 use Rattle.std.specs.Prelude.{◌≡◌, ℕ, List, [], ◌∷◌, ◌++◌, codes, Option}
 use Rattle.std.specs.Fmt.{decimal}
 use Rattle.std.specs.Io.KnownBytes.{Appends}
-use Rattle.lockd_faults.specs.declared.fault.Fault.{Fault}
-use Rattle.lockd_faults.specs.declared.fault.Fault.TheVariants.{BadLine, NoMemory, NoReader, Listen, Read, Write, Cut, BadLength, Connect, BadReply, Trace, TraceFailed}
+use Rattle.lockd_faults.specs.declared.fault.CommandFault.{CommandFault}
+use Rattle.lockd_faults.specs.declared.fault.CommandFault.TheVariants.{BadLine, NoMemory, NoReader, Listen, Read, Write}
+use Rattle.lockd_faults.specs.declared.fault.CommandFault.TheVariants.{Cut, BadLength, Connect, BadReply, Trace}
+use Rattle.lockd_faults.specs.declared.fault.CommandFault.TheVariants.{TraceFailed}
 
 -- the text of a fault
-abbrev pub fault_text : Fault → List ℕ
+abbrev pub fault_text : CommandFault → List ℕ
 fault_text (BadLine n) = codes "bad line " ++ decimal n
 fault_text NoMemory = codes "no memory"
 fault_text NoReader = codes "no reader"
@@ -28,11 +30,11 @@ pub record IsBegun (bytes : List ℕ) (old new : Option (List ℕ)) : Type 0 whe
   pub written : Appends old new part
 
 -- a fault was told: its text as one line, or a beginning of it where that couldn't be written
-abbrev pub IsTold : Fault → Option (List ℕ) → Option (List ℕ) → Type 0
+abbrev pub IsTold : CommandFault → Option (List ℕ) → Option (List ℕ) → Type 0
 IsTold fault old new = IsBegun (fault_text fault ++ 10 ∷ []) old new
 
 -- two faults were told, one behind the other
-pub record AreBothTold (first second : Fault) (old new : Option (List ℕ)) : Type 0 where
+pub record AreBothTold (first second : CommandFault) (old new : Option (List ℕ)) : Type 0 where
   pub between : Option (List ℕ)
   pub before : IsTold first old between
   pub behind : IsTold second between new

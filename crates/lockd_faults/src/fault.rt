@@ -2,7 +2,7 @@
 ghost use Rattle.std.specs.Prelude.{◌≡◌};
 ghost use Rattle.lockd_faults.specs.Faults.{IsTold};
 
-use crate::line::Line;
+use crate::line_buffer::LineBuffer;
 use crate::streams::begin;
 use fl_order::NoMemory;
 use std::alloc::{AllocError, AllocFailed};
@@ -13,7 +13,7 @@ use std::io::Write;
 
 /// Why a command gave up. Its text is the line on standard error.
 #[derive(Clone, Copy, Debug, PartialEq, Eq)]
-pub enum Fault {
+pub enum CommandFault {
     /// This line of the input, from 1, is the first that is wrong.
     BadLine(usize),
     /// Want of memory.
@@ -40,7 +40,7 @@ pub enum Fault {
     TraceFailed,
 }
 
-impl Display for Fault {
+impl Display for CommandFault {
     ghost use Rattle.std.specs.Prelude.{Some};
     ghost use Rattle.lockd_faults.specs.Faults.{fault_text};
 
@@ -48,77 +48,77 @@ impl Display for Fault {
 
     fn fmt<W: fmt::Write>(&self, f: &mut Formatter<W>) -> fmt::Result {
         match self {
-            Fault::BadLine(n) => write!(f, "bad line {n}"),
-            Fault::NoMemory => f.write_str("no memory"),
-            Fault::NoReader => f.write_str("no reader"),
-            Fault::Listen => f.write_str("cannot listen"),
-            Fault::Read => f.write_str("read failed"),
-            Fault::Write => f.write_str("write failed"),
-            Fault::Cut => f.write_str("cut"),
-            Fault::BadLength(n) => write!(f, "bad length {n}"),
-            Fault::Connect => f.write_str("cannot connect"),
-            Fault::BadReply => f.write_str("bad reply"),
-            Fault::Trace => f.write_str("cannot trace"),
-            Fault::TraceFailed => f.write_str("trace failed"),
+            CommandFault::BadLine(n) => write!(f, "bad line {n}"),
+            CommandFault::NoMemory => f.write_str("no memory"),
+            CommandFault::NoReader => f.write_str("no reader"),
+            CommandFault::Listen => f.write_str("cannot listen"),
+            CommandFault::Read => f.write_str("read failed"),
+            CommandFault::Write => f.write_str("write failed"),
+            CommandFault::Cut => f.write_str("cut"),
+            CommandFault::BadLength(n) => write!(f, "bad length {n}"),
+            CommandFault::Connect => f.write_str("cannot connect"),
+            CommandFault::BadReply => f.write_str("bad reply"),
+            CommandFault::Trace => f.write_str("cannot trace"),
+            CommandFault::TraceFailed => f.write_str("trace failed"),
         }
     }
 }
 
-impl Error for Fault {}
+impl Error for CommandFault {}
 
 /// Tells a fault as one line, and takes no memory for it.
-pub fn tell<F: Write>(faults: &mut F, fault: Fault)
+pub fn tell<F: Write>(faults: &mut F, fault: CommandFault)
     ensures { IsTold fault (F.contents faults.old) (F.contents faults.new) }
 {
-    let mut line = Line::new();
+    let mut line = LineBuffer::new();
     if writeln!(line, "{fault}").is_ok() {
         begin(faults, line.as_bytes());
     }
 }
 
-impl From<NoMemory> for Fault {
-    ghost use Rattle.lockd_faults.specs.declared.fault.Fault.TheVariants.{NoMemory};
+impl From<NoMemory> for CommandFault {
+    ghost use Rattle.lockd_faults.specs.declared.fault.CommandFault.TheVariants.{NoMemory};
 
     ghost from_gives = { λ _ fault. fault ≡ NoMemory };
 
-    fn from(_e: NoMemory) -> Fault {
-        Fault::NoMemory
+    fn from(_e: NoMemory) -> CommandFault {
+        CommandFault::NoMemory
     }
 }
 
-impl<T: Drop> From<AllocFailed<T>> for Fault {
-    ghost use Rattle.lockd_faults.specs.declared.fault.Fault.TheVariants.{NoMemory};
+impl<T: Drop> From<AllocFailed<T>> for CommandFault {
+    ghost use Rattle.lockd_faults.specs.declared.fault.CommandFault.TheVariants.{NoMemory};
 
     ghost from_gives = { λ _ fault. fault ≡ NoMemory };
 
-    fn from(_e: AllocFailed<T>) -> Fault {
-        Fault::NoMemory
+    fn from(_e: AllocFailed<T>) -> CommandFault {
+        CommandFault::NoMemory
     }
 }
 
-impl From<fl_session::Fault> for Fault {
+impl From<fl_transport::Fault> for CommandFault {
     ghost use Rattle.lockd_faults.specs.Causes.{fault_of};
 
     ghost from_gives = { λ told fault. fault ≡ fault_of told };
 
-    fn from(told: fl_session::Fault) -> Fault {
+    fn from(told: fl_transport::Fault) -> CommandFault {
         match told {
-            fl_session::Fault::Cut => Fault::Cut,
-            fl_session::Fault::BadLength(len) => Fault::BadLength(len),
-            fl_session::Fault::Read => Fault::Read,
-            fl_session::Fault::Write => Fault::Write,
-            fl_session::Fault::NoMemory => Fault::NoMemory,
-            fl_session::Fault::NoReader => Fault::NoReader,
+            fl_transport::Fault::Cut => CommandFault::Cut,
+            fl_transport::Fault::BadLength(len) => CommandFault::BadLength(len),
+            fl_transport::Fault::Read => CommandFault::Read,
+            fl_transport::Fault::Write => CommandFault::Write,
+            fl_transport::Fault::NoMemory => CommandFault::NoMemory,
+            fl_transport::Fault::NoReader => CommandFault::NoReader,
         }
     }
 }
 
-impl From<AllocError> for Fault {
-    ghost use Rattle.lockd_faults.specs.declared.fault.Fault.TheVariants.{NoMemory};
+impl From<AllocError> for CommandFault {
+    ghost use Rattle.lockd_faults.specs.declared.fault.CommandFault.TheVariants.{NoMemory};
 
     ghost from_gives = { λ _ fault. fault ≡ NoMemory };
 
-    fn from(_e: AllocError) -> Fault {
-        Fault::NoMemory
+    fn from(_e: AllocError) -> CommandFault {
+        CommandFault::NoMemory
     }
 }

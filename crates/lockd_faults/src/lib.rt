@@ -1,13 +1,20 @@
-//! How a command ends, and what it tells; whole inputs and outputs; a trace that is printed.
+//! How a command ends, and what it tells; whole inputs and outputs; a trace that is printed; lines of a text and
+//! lines of hex.
+//!
+//! `tell` and `end` wrote the fault's line or a beginning of it, the empty one too, and their signatures give them no
+//! memory. Contracts let through a `read_all`, a `write_all`, a `print` or a `read_line` that is always refused, and
+//! a `tell` that tells nothing. Tests and the scripts in `tools` refuse these.
 #![tactic(auto)]
 
 mod fault;
-mod line;
+mod hex_lines;
+mod line_buffer;
 mod printing;
 mod status;
 mod streams;
 
-pub use fault::{Fault, tell};
+pub use fault::{CommandFault, tell};
+pub use hex_lines::{push_line, read_line, split_line};
 pub use printing::print;
 pub use status::{Status, end};
 pub use streams::{read_all, write_all};

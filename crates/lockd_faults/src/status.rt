@@ -4,7 +4,7 @@ ghost use Rattle.std.specs.Prelude.{◌≡◌, IfErr, OnOk};
 ghost use Rattle.std.specs.Io.KnownBytes.{Keeps};
 ghost use Rattle.lockd_faults.specs.Faults.{IsTold};
 
-use crate::fault::{Fault, tell};
+use crate::fault::{CommandFault, tell};
 use std::io::Write;
 
 /// How a command ended.
@@ -15,7 +15,7 @@ pub enum Status {
     /// It did what was asked, and the trace that it judged isn't legal.
     Different,
     /// It gave up, for this reason.
-    Faulted(Fault),
+    Faulted(CommandFault),
 }
 
 impl Status {
@@ -34,7 +34,7 @@ impl Status {
 }
 
 /// Ends a command: tells the fault by which it gave up, if it did.
-pub fn end<F: Write>(faults: &mut F, done: Result<(), Fault>) -> Status
+pub fn end<F: Write>(faults: &mut F, done: Result<(), CommandFault>) -> Status
     ensures good { OnOk done ((result ≡ Status.Good) × Keeps (F.contents faults.old) (F.contents faults.new)) }
     ensures faulted { IfErr done (λ fault. (result ≡ Status.Faulted fault)
         × IsTold fault (F.contents faults.old) (F.contents faults.new)) }

@@ -1,10 +1,12 @@
 -- Which faults a server can end with.
 use Rattle.std.specs.Prelude.{◌≡◌, ◌⊎◌, ⊤}
-use Rattle.lockd_faults.specs.declared.fault.Fault.{Fault}
-use Rattle.lockd_faults.specs.declared.fault.Fault.TheVariants.{NoMemory, NoReader, Listen, Read, Write, Cut, BadLength, TraceFailed}
+use Rattle.lockd_faults.specs.declared.fault.CommandFault.{CommandFault}
+use Rattle.lockd_faults.specs.declared.fault.CommandFault.TheVariants.{NoMemory, NoReader, Listen, Read, Write, Cut}
+use Rattle.lockd_faults.specs.declared.fault.CommandFault.TheVariants.{BadLength}
+use Rattle.lockd_faults.specs.declared.fault.CommandFault.TheVariants.{TraceFailed}
 
 -- a fault of a server
-abbrev pub IsOfServe : Fault → Type 0
+abbrev pub IsOfServe : CommandFault → Type 0
 IsOfServe NoMemory = ⊤
 IsOfServe NoReader = ⊤
 IsOfServe Listen = ⊤
@@ -15,5 +17,5 @@ IsOfServe (BadLength n) = ⊤
 IsOfServe fault = ⊥
 
 -- a fault of a server whose trace goes to a writer: the server's, or that the trace failed
-abbrev pub IsOfTraced : Fault → Type 0
+abbrev pub IsOfTraced : CommandFault → Type 0
 IsOfTraced fault = IsOfServe fault ⊎ (fault ≡ TraceFailed)

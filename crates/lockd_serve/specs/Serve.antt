@@ -7,8 +7,8 @@ use Rattle.fl_stream.specs.Streams.{IsBegun, Wrote, WroteSome}
 use Rattle.fl_trace.specs.Text.{text_of}
 use Rattle.fl_history.specs.declared.history.Line.{Line}
 use Rattle.fl_waiting.specs.declared.rules.Rules.{Rules}
-use Rattle.lockd_faults.specs.declared.fault.Fault.{Fault}
-use Rattle.lockd_faults.specs.declared.fault.Fault.TheVariants.{NoMemory, NoReader, Listen, Cut, BadLength, Read}
+use Rattle.lockd_faults.specs.declared.fault.CommandFault.{CommandFault}
+use Rattle.lockd_faults.specs.declared.fault.CommandFault.TheVariants.{NoMemory, NoReader, Listen, Cut, BadLength, Read}
 
 -- the trace of a history that is legal under these rules was written
 pub record IsTraced (rules : Rules) (old new : Option (List ℕ)) : Type 0 where
@@ -42,14 +42,14 @@ abbrev pub HasBegun : {W : Type 0} → Rules → (W → Option (List ℕ)) → O
 HasBegun rules contents writer = IfSome writer (λ w. IsTraceBegun rules contents (contents w))
 
 -- a fault of a session that was served: the stream's, or of reading it
-abbrev pub IsOfSession : Fault → Type 0
+abbrev pub IsOfSession : CommandFault → Type 0
 IsOfSession Cut = ⊤
 IsOfSession (BadLength n) = ⊤
 IsOfSession Read = ⊤
 IsOfSession fault = ⊥
 
 -- a fault at which no trace is printed: nobody came, nothing was served, or the board of workers couldn't be closed
-abbrev pub IsOfNoSession : Fault → Type 0
+abbrev pub IsOfNoSession : CommandFault → Type 0
 IsOfNoSession Listen = ⊤
 IsOfNoSession NoMemory = ⊤
 IsOfNoSession NoReader = ⊤

@@ -1,40 +1,120 @@
 //! `lockd serve`: one session over a socket, with workers.
 
-ghost use Rattle.std.specs.Prelude.{◌≡◌, ◌≢◌, ◌⊎◌, ◌≤◌, ◌<◌, [], Err, Some, IfErr, IfSome, IsSome};
+ghost use Rattle.std.specs.Prelude.{◌≡◌, ◌≢◌, ◌⊎◌, ◌≤◌, ◌<◌, [], Err, Some, IfErr, IfOk, IfSome, IsSome};
 ghost use Rattle.std.specs.Io.KnownBytes.{Keeps};
 ghost use Rattle.std.specs.Path.{path_bytes};
 ghost use Rattle.fl_desk.specs.Legal.{IsLegal};
-ghost use Rattle.fl_session.specs.declared.session.Fault.{Fault as SessionFault};
-ghost use Rattle.lockd_serve.specs.Serve.{IsTraced, IsTracedInPart, IsOfNoSession, IsOfSession};
-ghost use Rattle.lockd_serve.specs.Serve.Inside.{Did, TellsOf};
-ghost use Rattle.lockd_serve.specs.Faults.{IsOfServe};
-ghost use Rattle.lockd_faults.specs.Faults.{IsTold};
-ghost use Rattle.lockd_faults.specs.declared.fault.Fault.{Fault};
+ghost use Rattle.fl_stream.specs.Streams.{IsBlank};
+ghost use Rattle.fl_transport.specs.declared.fault.Fault.{Fault as SessionFault};
+ghost use Rattle.lockd_faults.specs.Faults.{AreBothTold, IsTold};
+ghost use Rattle.lockd_faults.specs.declared.fault.CommandFault.{CommandFault};
+ghost use Rattle.lockd_serve.specs.Faults.{IsOfServe, IsOfTraced};
+ghost use Rattle.lockd_serve.specs.Serve.{HasBegun, HasTrace, IsOfNoSession, IsOfSession, IsTraced, IsTracedInPart};
+ghost use Rattle.lockd_serve.specs.Serve.Inside.{Did};
 
-mod traced;
-
-use crate::looking::{Looking, Patient};
-use fl_book::{Keeper, Lines, TraceRoom};
+use crate::ending::{end_stream, print_recorded, told_of};
+use crate::options::{ServeOptions, TraceTo};
+use crate::socket::connection;
+use crate::spinning::{Patient, Spinning};
 use fl_core::Rules;
-use fl_serve::{Done, Kept, OpenGate, run_over, serve_over};
-use lockd_faults::{Fault, Status, end, print};
+use fl_history::{Journal, Lines, NoJournal};
+use fl_serve::{OpenGate, Recorded, Staff, record_session, record_with_workers};
+use fl_stream::{Streamed, TraceRoom, WhenWriterFails};
+use lockd_faults::{CommandFault, Status, end};
 use std::alloc::Global;
-use std::fs;
-use std::fs::Files;
+use std::fs::{Files, OpenOptions};
 use std::io::Write;
 use std::net::Net;
-use std::os::unix::fs::{FileTypeExt, MetadataExt};
-use std::os::unix::net::{UnixListener, UnixStream};
+use std::os::unix::net::UnixStream;
 use std::path::Path;
 use std::sync::Wait;
 use std::thread::Threads;
-pub use traced::{serve_traced_on, serve_untraced_on, trace_at};
 
-/// `lockd serve`: listens at a path with a Unix stream socket, serves the first connection under these rules with 1 to 16
-/// workers, and writes the trace of the session once it is over. The socket's file is taken away when the connection is
-/// there, and no other file that stands at the path by then. At an empty path it doesn't listen. A fault is told as one
-/// line on `faults`, behind the trace if there is one.
-pub fn serve_on<R: Threads + Wait + Net + Files + Sync, W: Write, F: Write>(
+/// `lockd serve`: listens at a path with a Unix stream socket, and serves the first connection as these options say.
+/// The socket's file is taken away when the connection is there, and no other file that stands at the path by then. At
+/// an empty path it doesn't listen.
+///
+/// A trace that is printed is written once the session is over, and a fault is told as one line on `faults` after it.
+/// With a trace that goes nowhere or to a writer nothing is printed. A writer gets the trace as orders come. When it
+/// can't be written, orders go on without a trace or are refused, as `when_full` says, and then it is told that the
+/// trace failed, after a fault of the session if there is one. The writer comes back where a session was served, with
+/// the text of a beginning of its history.
+pub fn serve_on<R: Threads + Wait + Net + Files + Sync, T: Write + Send + Drop, W: Write, F: Write>(
+    rt: &R,
+    alloc: Global,
+    path: Path<'_>,
+    options: ServeOptions<T>,
+    output: &mut W,
+    faults: &mut F,
+) -> (Status, Option<T>)
+    requires workers { (0 < options.workers) × (options.workers ≤ 16) }
+    requires blank { (writer : T) → options.trace ≡ TraceTo.Writer writer → IsBlank (T.contents writer) }
+    ensures good { options.trace ≡ TraceTo.Output → result.0 ≡ Status.Good
+        → IsTraced options.rules (W.contents output.old) (W.contents output.new) }
+    ensures traced { (fault : CommandFault) → options.trace ≡ TraceTo.Output → result.0 ≡ Status.Faulted fault
+        → IsOfSession fault → IsTraced options.rules (W.contents output.old) (W.contents output.new) }
+    ensures begun { options.trace ≡ TraceTo.Output → result.0 ≡ Status.Faulted CommandFault.Write
+        → IsTracedInPart options.rules (W.contents output.old) (W.contents output.new) }
+    ensures kept { (fault : CommandFault) → result.0 ≡ Status.Faulted fault → IsOfNoSession fault
+        → Keeps (W.contents output.old) (W.contents output.new) }
+    ensures unprinted { options.trace ≢ TraceTo.Output → Keeps (W.contents output.old) (W.contents output.new) }
+    ensures streamed { (writer : T) → options.trace ≡ TraceTo.Writer writer → result.0 ≡ Status.Good
+        → HasTrace options.rules T.contents result.1 }
+    ensures streaming { HasBegun options.rules T.contents result.1 }
+    ensures faulted { (fault : CommandFault) → result.0 ≡ Status.Faulted fault → IsOfTraced fault
+        × (IsTold fault (F.contents faults.old) (F.contents faults.new)
+        ⊎ AreBothTold fault CommandFault.TraceFailed (F.contents faults.old) (F.contents faults.new)) }
+    ensures unstreamed { (fault : CommandFault) → (options.trace ≡ TraceTo.Output) ⊎ (options.trace ≡ TraceTo.Nowhere)
+        → result.0 ≡ Status.Faulted fault
+        → IsOfServe fault × IsTold fault (F.contents faults.old) (F.contents faults.new) }
+    ensures quiet { result.0 ≡ Status.Good → Keeps (F.contents faults.old) (F.contents faults.new) }
+    ensures unnamed { (options.trace ≡ TraceTo.Output) ⊎ (options.trace ≡ TraceTo.Nowhere)
+        → path_bytes path.entry ≡ [] → result.0 ≡ Status.Faulted CommandFault.Listen }
+    ensures ended { result.0 ≢ Status.Different }
+{
+    let ServeOptions {
+        workers,
+        rules,
+        trace,
+        when_full,
+    } = options;
+    match trace {
+        TraceTo::Output => {
+            let status = print_session(rt, alloc, rules, path, workers, output, faults);
+            (status, None)
+        }
+        TraceTo::Nowhere => {
+            let status = run_untraced(rt, alloc, rules, path, workers, faults);
+            (status, None)
+        }
+        TraceTo::Writer(writer) => {
+            stream_session(rt, alloc, rules, path, workers, writer, when_full, faults)
+        }
+    }
+}
+
+/// A new file for a trace at a path. Where a file is there already, or none can be made, it is told that the server
+/// can't trace.
+pub fn trace_at<R: Files, F: Write>(
+    rt: &R,
+    path: Path<'_>,
+    faults: &mut F,
+) -> Result<R::File, Status>
+    ensures told { IfErr result (λ status. (status ≡ Status.Faulted CommandFault.Trace)
+        × IsTold CommandFault.Trace (F.contents faults.old) (F.contents faults.new)) }
+{
+    let made = OpenOptions::new()
+        .write(true)
+        .create_new(true)
+        .open(rt, path);
+    match made {
+        Ok(file) => Ok(file),
+        Err(_) => Err(end(faults, Err(CommandFault::Trace))),
+    }
+}
+
+// Serves a session whose trace is printed once it is over.
+fn print_session<R: Threads + Wait + Net + Files + Sync, W: Write, F: Write>(
     rt: &R,
     alloc: Global,
     rules: Rules,
@@ -45,122 +125,138 @@ pub fn serve_on<R: Threads + Wait + Net + Files + Sync, W: Write, F: Write>(
 ) -> Status
     requires workers { (0 < workers) × (workers ≤ 16) }
     ensures good { result ≡ Status.Good → IsTraced rules (W.contents output.old) (W.contents output.new) }
-    ensures traced { (fault : Fault) → result ≡ Status.Faulted fault → IsOfSession fault
+    ensures traced { (fault : CommandFault) → result ≡ Status.Faulted fault → IsOfSession fault
         → IsTraced rules (W.contents output.old) (W.contents output.new) }
-    ensures begun { result ≡ Status.Faulted Fault.Write
+    ensures begun { result ≡ Status.Faulted CommandFault.Write
         → IsTracedInPart rules (W.contents output.old) (W.contents output.new) }
-    ensures kept { (fault : Fault) → result ≡ Status.Faulted fault → IsOfNoSession fault
+    ensures kept { (fault : CommandFault) → result ≡ Status.Faulted fault → IsOfNoSession fault
         → Keeps (W.contents output.old) (W.contents output.new) }
-    ensures faulted { (fault : Fault) → result ≡ Status.Faulted fault →
+    ensures faulted { (fault : CommandFault) → result ≡ Status.Faulted fault →
         IsOfServe fault × IsTold fault (F.contents faults.old) (F.contents faults.new) }
     ensures quiet { result ≡ Status.Good → Keeps (F.contents faults.old) (F.contents faults.new) }
-    ensures unnamed { path_bytes path.entry ≡ [] → result ≡ Status.Faulted Fault.Listen }
+    ensures unnamed { path_bytes path.entry ≡ [] → result ≡ Status.Faulted CommandFault.Listen }
     ensures ended { result ≢ Status.Different }
 {
     end(
         faults,
-        serve_and_print(rt, alloc, rules, path, workers, output),
+        record_and_print(rt, alloc, rules, path, workers, output),
     )
 }
 
 #[tactic(auto, using(crate::proofs::PrintLemmas::did))]
-fn serve_and_print<R: Threads + Wait + Net + Files + Sync, W: Write>(
+fn record_and_print<R: Threads + Wait + Net + Files + Sync, W: Write>(
     rt: &R,
     alloc: Global,
     rules: Rules,
     path: Path<'_>,
     workers: u32,
     output: &mut W,
-) -> Result<(), Fault>
+) -> Result<(), CommandFault>
     requires workers { (0 < workers) × (workers ≤ 16) }
     ensures did { Did rules (W.contents output.old) (W.contents output.new) result }
-    ensures unnamed { path_bytes path.entry ≡ [] → result ≡ Err Fault.Listen }
+    ensures unnamed { path_bytes path.entry ≡ [] → result ≡ Err CommandFault.Listen }
 {
     let stream = connection(rt, path)?;
     // No session is served whose trace can't be printed for want of memory.
-    let mut room = TraceRoom::new(alloc)?;
-    let done = served(rt, alloc, rules, &stream, workers, Lines::new(alloc)).into_done(alloc);
-    drop(stream);
-    print_done(&mut room, &done, output)
+    let room = TraceRoom::new(alloc)?;
+    let recorded = record(rt, alloc, rules, stream, workers, Lines::new(alloc));
+    print_recorded(alloc, room, recorded, output)
 }
 
-// Serves a session under these rules over a connection, whose lines go to this keeper. One worker serves it all in this thread.
-fn served<R: Threads + Wait + Sync, K: Keeper + Send + Drop>(
+// Serves a session of which no line is kept.
+fn run_untraced<R: Threads + Wait + Net + Files + Sync, F: Write>(
     rt: &R,
     alloc: Global,
     rules: Rules,
-    stream: &UnixStream,
+    path: Path<'_>,
     workers: u32,
-    keeper: K,
-) -> Kept<K>
+    faults: &mut F,
+) -> Status
     requires workers { (0 < workers) × (workers ≤ 16) }
-    requires none { K.lines keeper ≡ [] }
-    ensures legal { IfSome result.keeper (λ keeper. IsLegal rules (K.lines keeper)) }
-    ensures back { IsSome result.keeper
+    ensures faulted { (fault : CommandFault) → result ≡ Status.Faulted fault →
+        IsOfServe fault × IsTold fault (F.contents faults.old) (F.contents faults.new) }
+    ensures quiet { result ≡ Status.Good → Keeps (F.contents faults.old) (F.contents faults.new) }
+    ensures unnamed { path_bytes path.entry ≡ [] → result ≡ Status.Faulted CommandFault.Listen }
+    ensures ended { result ≢ Status.Different }
+{
+    match connection(rt, path) {
+        Ok(stream) => {
+            let recorded = record(rt, alloc, rules, stream, workers, NoJournal::new());
+            end(faults, told_of(recorded.fault))
+        }
+        Err(fault) => end(faults, Err(fault)),
+    }
+}
+
+// Serves a session whose trace goes to this writer.
+fn stream_session<R: Threads + Wait + Net + Files + Sync, T: Write + Send + Drop, F: Write>(
+    rt: &R,
+    alloc: Global,
+    rules: Rules,
+    path: Path<'_>,
+    workers: u32,
+    writer: T,
+    when_full: WhenWriterFails,
+    faults: &mut F,
+) -> (Status, Option<T>)
+    requires workers { (0 < workers) × (workers ≤ 16) }
+    requires blank { IsBlank (T.contents writer) }
+    ensures good { result.0 ≡ Status.Good → HasTrace rules T.contents result.1 }
+    ensures begun { HasBegun rules T.contents result.1 }
+    ensures faulted { (fault : CommandFault) → result.0 ≡ Status.Faulted fault → IsOfTraced fault
+        × (IsTold fault (F.contents faults.old) (F.contents faults.new)
+        ⊎ AreBothTold fault CommandFault.TraceFailed (F.contents faults.old) (F.contents faults.new)) }
+    ensures quiet { result.0 ≡ Status.Good → Keeps (F.contents faults.old) (F.contents faults.new) }
+    ensures ended { result.0 ≢ Status.Different }
+{
+    match ready_to_stream(rt, alloc, path, writer, when_full) {
+        Ok((stream, journal)) => {
+            let recorded = record(rt, alloc, rules, stream, workers, journal);
+            end_stream(faults, recorded)
+        }
+        Err(fault) => (end(faults, Err(fault)), None),
+    }
+}
+
+// A connection, and a journal whose lines go to this writer.
+fn ready_to_stream<R: Net + Files, T: Write + Send + Drop>(
+    rt: &R,
+    alloc: Global,
+    path: Path<'_>,
+    writer: T,
+    when_full: WhenWriterFails,
+) -> Result<(UnixStream, Streamed<T>), CommandFault>
+    requires blank { IsBlank (T.contents writer) }
+    ensures of { IfErr result (λ fault. (fault ≡ CommandFault.Listen) ⊎ (fault ≡ CommandFault.NoMemory)) }
+    ensures none { IfOk result (λ ready. ready.1.lines ≡ []) }
+{
+    let journal = Streamed::new(alloc, writer, when_full)?;
+    let stream = connection(rt, path)?;
+    Ok((stream, journal))
+}
+
+// Serves a session under these rules over a connection, whose lines go to this journal. One worker serves it all in
+// this thread.
+fn record<R: Threads + Wait + Sync, J: Journal + Send + Drop>(
+    rt: &R,
+    alloc: Global,
+    rules: Rules,
+    stream: UnixStream,
+    workers: u32,
+    journal: J,
+) -> Recorded<J>
+    requires workers { (0 < workers) × (workers ≤ 16) }
+    requires none { J.lines journal ≡ [] }
+    ensures legal { IfSome result.journal (λ journal. IsLegal rules (J.lines journal)) }
+    ensures back { IsSome result.journal
         ⊎ (result.fault ≡ Some SessionFault.NoMemory) ⊎ (result.fault ≡ Some SessionFault.NoReader) }
 {
-    let mut r = Looking::new(stream, stream);
-    let mut w = Patient::new(stream, stream);
+    let mut r = Spinning::new(&stream, &stream);
+    let mut w = Patient::new(&stream, &stream);
     if workers == 1 {
-        let (kept, _) = run_over(alloc, &mut r, &mut w, keeper, rules);
-        return kept;
+        let (recorded, _) = record_session(alloc, &mut r, &mut w, journal, rules);
+        return recorded;
     }
-    serve_over(rt, alloc, &mut r, &mut w, workers, rules, &OpenGate, keeper)
-}
-
-// Writes the trace of a session, and then tells its fault.
-#[tactic(auto, using(crate::proofs::PrintLemmas::not_printed, crate::proofs::PrintLemmas::printed))]
-fn print_done<W: Write>(room: &mut TraceRoom, done: &Done, output: &mut W) -> Result<(), Fault>
-    ensures tells { TellsOf done.now.history (W.contents output.old) (W.contents output.new) result }
-{
-    if let Some(fault @ (fl_serve::Fault::NoMemory | fl_serve::Fault::NoReader)) = done.fault {
-        return Err(Fault::from(fault));
-    }
-    print(room, &done.history, output)?;
-    match done.fault {
-        None => Ok(()),
-        Some(fault) => Err(Fault::from(fault)),
-    }
-}
-
-// The first connection at a path, whose file is then taken away. A socket with no path has no file, and nobody finds it.
-fn connection<R: Net + Files>(rt: &R, path: Path<'_>) -> Result<UnixStream, Fault>
-    ensures error { IfErr result (λ fault. fault ≡ Fault.Listen) }
-    ensures unnamed { path_bytes path.entry ≡ [] → result ≡ Err Fault.Listen }
-{
-    if path.as_str().is_empty() {
-        return Err(Fault::Listen);
-    }
-    let listener = UnixListener::bind(rt, path).map_err(|_| Fault::Listen)?;
-    let made = socket_at(rt, path);
-    let accepted = listener.accept().map_err(|_| Fault::Listen);
-    remove_socket(rt, path, made);
-    let (stream, _) = accepted?;
-    Ok(stream)
-}
-
-// Which file a socket at a path is. No other file has these two numbers while the socket is open.
-#[derive(Clone, Copy, PartialEq)]
-struct SocketFile {
-    device: u64,
-    inode: u64,
-}
-
-// The socket at a path, where there is one and the file system tells.
-fn socket_at<R: Files>(rt: &R, path: Path<'_>) -> Option<SocketFile> {
-    let found = fs::symlink_metadata(rt, path).ok()?;
-    if !found.file_type().is_socket() {
-        return None;
-    }
-    Some(SocketFile {
-        device: found.dev(),
-        inode: found.ino(),
-    })
-}
-
-// Takes the file at a path away where it is the socket that was made, and no other file.
-fn remove_socket<R: Files>(rt: &R, path: Path<'_>, made: Option<SocketFile>) {
-    if made.is_some() && socket_at(rt, path) == made {
-        let _ = fs::remove_file(rt, path);
-    }
+    let staff = Staff::new(workers, rules);
+    record_with_workers(rt, alloc, &mut r, &mut w, staff, &OpenGate, journal)
 }

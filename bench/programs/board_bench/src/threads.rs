@@ -59,7 +59,7 @@ fn plan_of(threads: u32, task: Task, times: u64) -> Plan
 
 // What the threads share: the board, the plan, and how many of them still look.
 #[derive(Drop)]
-struct Crew<'a, L: BoardName, R: Wait> {
+struct WorkerPool<'a, L: BoardName, R: Wait> {
     rt: &'a R,
     alloc: Global,
     board: Board<L, &'a R>,
@@ -70,37 +70,37 @@ struct Crew<'a, L: BoardName, R: Wait> {
 }
 
 // Looks, up to a look that shows nothing.
-fn look<L: BoardName, R: Wait>(crew: &Crew<'_, L, R>, seat: Seat<L>) -> Seat<L> {
+fn look<L: BoardName, R: Wait>(pool: &WorkerPool<'_, L, R>, seat: Seat<L>) -> Seat<L> {
     let mut seat = seat;
     let ask = ask();
-    for _ in 0..crew.plan.looks {
+    for _ in 0..pool.plan.looks {
         if seat.look(&ask).is_err() {
             break;
         }
     }
-    crew.looking.fetch_sub(1, Ordering::SeqCst);
+    pool.looking.fetch_sub(1, Ordering::SeqCst);
     seat
 }
 
 // Others look, and none does any more.
-fn is_left_alone<L: BoardName, R: Wait>(crew: &Crew<'_, L, R>) -> bool {
-    crew.plan.lookers > 0 && crew.looking.load(Ordering::SeqCst) == 0
+fn is_left_alone<L: BoardName, R: Wait>(pool: &WorkerPool<'_, L, R>) -> bool {
+    pool.plan.lookers > 0 && pool.looking.load(Ordering::SeqCst) == 0
 }
 
 // Hands in the orders of the seat's worker, up to one that is refused, or until nobody looks any more.
-fn hand_in<L: BoardName, R: Wait>(crew: &Crew<'_, L, R>, seat: Seat<L>) -> Seat<L> {
+fn hand_in<L: BoardName, R: Wait>(pool: &WorkerPool<'_, L, R>, seat: Seat<L>) -> Seat<L> {
     let mut seat = seat;
-    let Ok(mut tolds) = Tolds::new(crew.alloc, crew.rules) else {
+    let Ok(mut tolds) = Tolds::new(pool.alloc, pool.rules) else {
         return seat;
     };
-    for place in 0..crew.plan.orders {
-        if is_left_alone(crew) {
+    for place in 0..pool.plan.orders {
+        if is_left_alone(pool) {
             break;
         }
         let order = lock(seat.worker(), place);
-        if crew
+        if pool
             .board
-            .hand_in(crew.rt, &mut seat, &order, &mut tolds)
+            .hand_in(pool.rt, &mut seat, &order, &mut tolds)
             .is_err()
         {
             break;
@@ -110,46 +110,46 @@ fn hand_in<L: BoardName, R: Wait>(crew: &Crew<'_, L, R>, seat: Seat<L>) -> Seat<
 }
 
 // The first workers look, and the others hand in.
-fn work<L: BoardName, R: Wait>(crew: &Crew<'_, L, R>, seat: Seat<L>) -> Seat<L> {
-    if seat.worker() < crew.plan.lookers {
-        look(crew, seat)
+fn work<L: BoardName, R: Wait>(pool: &WorkerPool<'_, L, R>, seat: Seat<L>) -> Seat<L> {
+    if seat.worker() < pool.plan.lookers {
+        look(pool, seat)
     } else {
-        hand_in(crew, seat)
+        hand_in(pool, seat)
     }
 }
 
 fn start<'s, 'a: 's, E, L: BoardName + Send + Sync, R: Threads + Wait + Sync>(
     scope: &Scope<'s, E>,
-    crew: &'s Crew<'a, L, R>,
+    pool: &'s WorkerPool<'a, L, R>,
     seat: Seat<L>,
 ) -> Option<JoinHandle<Seat<L>>> {
-    scope.spawn(move || work(crew, seat)).ok()
+    scope.spawn(move || work(pool, seat)).ok()
 }
 
 fn run<'s, 'a: 's, E, L: BoardName + Send + Sync, R: Threads + Wait + Sync>(
     scope: &Scope<'s, E>,
-    crew: &'s Crew<'a, L, R>,
+    pool: &'s WorkerPool<'a, L, R>,
     seats: Vec<Seat<L>>,
 ) -> Option<Vec<Seat<L>>> {
-    let mut threads = Vec::new(crew.alloc);
+    let mut threads = Vec::new(pool.alloc);
     for seat in seats {
-        threads.push(start(scope, crew, seat)?).ok()?;
+        threads.push(start(scope, pool, seat)?).ok()?;
     }
-    let mut back = Vec::new(crew.alloc);
+    let mut back = Vec::new(pool.alloc);
     for thread in threads {
-        back.push(thread.join(crew.rt)).ok()?;
+        back.push(thread.join(pool.rt)).ok()?;
     }
     Some(back)
 }
 
 fn scoped<L: BoardName + Send + Sync, R: Threads + Wait + Sync>(
-    crew: &Crew<'_, L, R>,
+    pool: &WorkerPool<'_, L, R>,
     seats: Vec<Seat<L>>,
 ) -> Option<Vec<Seat<L>>> {
     thread::scope(
         thread::scope_env(),
-        crew.rt,
-        |scope| run(scope, crew, seats),
+        pool.rt,
+        |scope| run(scope, pool, seats),
     )
 }
 
@@ -177,7 +177,7 @@ fn at_a_board<L: BoardName + Send + Sync, R: Threads + Wait + Sync>(
         .hand_in(rt, seat, &create(), &mut tolds)
         .ok()
         .ok_or(anyhow!("memory"))?;
-    let crew = Crew {
+    let pool = WorkerPool {
         rt,
         alloc,
         board,
@@ -185,8 +185,8 @@ fn at_a_board<L: BoardName + Send + Sync, R: Threads + Wait + Sync>(
         plan,
         looking: AtomicU32::new(plan.lookers),
     };
-    let back = scoped(&crew, seats).ok_or(anyhow!("threads"))?;
-    let Crew { board, .. } = crew;
+    let back = scoped(&pool, seats).ok_or(anyhow!("threads"))?;
+    let WorkerPool { board, .. } = pool;
     let history = board.close(back).ok().ok_or(anyhow!("all seats"))?;
     Ok(history.len())
 }

@@ -8,7 +8,7 @@ ghost use Rattle.std.specs.Prelude.{◌≡◌};
 ghost use Rattle.fl_core.specs.Tolds.{HasRoom};
 
 use anyhow::anyhow;
-use fl_book::{Desk, Forgetful, Keeper, Streamed, WhenWriterFails};
+use fl_book::{Desk, NoJournal, Journal, Streamed, WhenWriterFails};
 use fl_core::{Rules, Tolds};
 use fl_order::{LockAsk, Name, Op, Order};
 use std::alloc::Global;
@@ -51,7 +51,7 @@ fn op(kind: &str, place: u64, name: Name) -> Op {
 }
 
 // A file with one open file, and a lock on its first byte.
-fn begin<K: Keeper>(desk: &mut Desk<K>, name: Name, tolds: &mut Tolds) -> anyhow::Result<()>
+fn begin<K: Journal>(desk: &mut Desk<K>, name: Name, tolds: &mut Tolds) -> anyhow::Result<()>
     requires { HasRoom desk.old.present.rules tolds.old }
     ensures rules { desk.new.present.rules ≡ desk.old.present.rules }
     ensures room { tolds.new.room ≡ tolds.old.room }
@@ -67,7 +67,7 @@ fn begin<K: Keeper>(desk: &mut Desk<K>, name: Name, tolds: &mut Tolds) -> anyhow
 }
 
 // Takes so many orders, and tells how long the longest took.
-fn take_all<R: Clock, K: Keeper>(
+fn take_all<R: Clock, K: Journal>(
     rt: &R,
     alloc: Global,
     desk: &mut Desk<K>,
@@ -105,7 +105,7 @@ fn main(rt: HostRuntime) -> anyhow::Result<()> {
         lines = desk.into_history().len();
         longest
     } else if place == "none" {
-        let mut desk = Desk::over(alloc, Forgetful::new(), rules)?;
+        let mut desk = Desk::over(alloc, NoJournal::new(), rules)?;
         take_all(&rt, alloc, &mut desk, kind, orders, rules)?
     } else {
         let file = File::create(&rt, Path::new(place))?;

@@ -134,7 +134,7 @@ fn a_board_goes_on_where_a_seat_is_missing(rt: HostRuntime) {
     ends_with(&rt, &history, &last);
 }
 
-// A board of one seat over a keeper.
+// A board of one seat over a journal.
 fn opened_over_lines<L: BoardName, R: Wait + Abort>(
     rt: &R,
     alloc: Global,
@@ -153,7 +153,7 @@ fn opened_over_lines<L: BoardName, R: Wait + Abort>(
         .expect(rt, "a board")
 }
 
-// A board's keeper does not come back without a seat. The board does, and no seat.
+// A board's journal does not come back without a seat. The board does, and no seat.
 fn not_kept<'a, L: BoardName, R: Wait + Abort>(
     rt: &'a R,
     alloc: Global,
@@ -176,7 +176,7 @@ fn kept<L: BoardName, R: Wait + Abort>(rt: &R, board: Board<L, &R>, seats: Vec<S
     board.into_kept(seats).ok().expect(rt, "all seats")
 }
 
-// A board of one seat over a keeper. The seat is kept back at first.
+// A board of one seat over a journal. The seat is kept back at first.
 fn kept_late<L: BoardName, R: Wait + Abort>(
     rt: &R,
     alloc: Global,
@@ -197,7 +197,7 @@ fn kept_late<L: BoardName, R: Wait + Abort>(
 }
 
 #[test]
-fn a_keeper_comes_back_with_all_seats(rt: HostRuntime) {
+fn a_journal_comes_back_with_all_seats(rt: HostRuntime) {
     let rules = Rules::standard();
     let lines = kept_late::<Brand, _>(&rt, rt.alloc(), Blank::new(1), FreshLog::new(), rules);
     let history = History::of(lines);

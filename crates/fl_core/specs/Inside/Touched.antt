@@ -8,10 +8,10 @@ use Rattle.fl_core.specs.declared.settling.Touched.{Touched}
 use Rattle.fl_core.specs.declared.settling.Touched.TheVariants.{Nothing, OfClass, OfNode, Anything}
 use Rattle.fl_order.specs.declared.errno.Errno.{Errno}
 use Rattle.fl_order.specs.declared.told.Answer.{Answer}
-use Rattle.fl_order.specs.declared.order.Op.{Op}
-use Rattle.fl_order.specs.declared.order.Op.TheVariants.{Release, Flush, Setlk, Setlkw}
 use Rattle.fl_ranges.specs.declared.lock.Class.{Class}
-use Rattle.fl_ranges.specs.declared.lock.Class.TheVariants.{Record}
+use Rattle.fl_ranges.specs.declared.lock.Key.{Key}
+use Rattle.fl_ranges.specs.declared.lock.Kind.{Kind}
+use Rattle.fl_ranges.specs.Conflict.{conflicts}
 use Rattle.fl_ranges.specs.Marking.{Marking, class_number}
 
 -- locks of this class and node may have gone
@@ -37,15 +37,13 @@ pub record WaitsNow (rules : Rules) (before after : Marking) (parked parked_afte
   pub last : parked_after ≡ parked ++ r ∷ []
   pub waits : waits rules before parked r ≡ true
 
--- what an order touches that isn't refused
-abbrev pub touched_if_done : ℕ → Op → Touched
-touched_if_done node (Setlk ask) = OfClass node (key_of node ask).class
-touched_if_done node (Setlkw ask) = OfClass node (key_of node ask).class
-touched_if_done node (Flush fh owner) = OfClass node Record
-touched_if_done node (Release fh unlocks owner) = OfNode node
-touched_if_done node op = Nothing
+-- no other locks changed than those that were touched: any other request has the same conflicts before and after
+abbrev pub SameOff : Touched → Marking → Marking → Type 0
+SameOff t before after =
+    (key : Key) (start end : ℕ) (kind : Kind) → concerns t key.node key.class ≡ false
+    → conflicts after key start end kind ≡ conflicts before key start end kind
 
--- what an order touches that is answered so
-abbrev pub touched_by : ℕ → Op → Option (Result Answer Errno) → Touched
-touched_by node op (Some (Ok answer)) = touched_if_done node op
-touched_by node op own = Nothing
+-- what an order touched that is answered so, where it touches this if it is done
+abbrev pub touched_if_done : Option (Result Answer Errno) → Touched → Touched
+touched_if_done (Some (Ok answer)) touched = touched
+touched_if_done own touched = Nothing

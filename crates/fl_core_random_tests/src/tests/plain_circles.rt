@@ -49,7 +49,7 @@ impl PlainLocks {
     // Whether a request of owner p that waits is kept waiting by owner q.
     fn waits_for(&self, p: u64, q: u64) -> bool {
         for (place, request) in self.parked.iter().enumerate() {
-            if request.ask.owner == p && self.hinders(request, place, q) {
+            if request.ask.owner == p && self.blocks(request, place, q) {
                 return true;
             }
         }
@@ -66,11 +66,11 @@ impl PlainLocks {
         waits
     }
 
-    // Whether an owner who keeps the request waiting waits for the one who asks.
+    // Whether an owner who blocks the request waits for the one who asks.
     pub(super) fn closes(&self, request: &Request, waits: &Waits) -> bool {
         for (p, row) in waits.iter().enumerate() {
             let asker = row.get((request.ask.owner % 4) as usize);
-            if asker == Some(&true) && self.hinders(request, self.parked.len(), p as u64) {
+            if asker == Some(&true) && self.blocks(request, self.parked.len(), p as u64) {
                 return true;
             }
         }

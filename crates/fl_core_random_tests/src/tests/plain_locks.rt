@@ -33,7 +33,7 @@ pub(super) struct Counts {
     pub(super) granted: u64,
     // Those that are older than the one that was granted just before, and so were freed by it.
     pub(super) freed_by_grants: u64,
-    // Those that wait though no lock excludes them, behind an older one.
+    // Those that wait though no lock conflicts with them, behind an older one.
     pub(super) parked_behind: u64,
     // Those that were granted as another was interrupted.
     pub(super) freed_by_interrupts: u64,
@@ -74,7 +74,7 @@ fn bytes_of(ask: &LockAsk) -> (u64, u64) {
 }
 
 // Whether another owner's mark keeps a lock of this kind from being set.
-fn excludes(mark: Option<Mark>, kind: u32) -> bool {
+fn kinds_conflict(mark: Option<Mark>, kind: u32) -> bool {
     match mark {
         Some(mark) if mark.kind == WRITE => kind == READ || kind == WRITE,
         Some(_) => kind == WRITE,
@@ -82,9 +82,9 @@ fn excludes(mark: Option<Mark>, kind: u32) -> bool {
     }
 }
 
-// Whether an older request goes before this one by the fair rule: of another owner, both for record locks of one node with a
-// byte in common, one of them for a write lock.
-fn goes_first(request: &Request, older: &Request) -> bool {
+// Whether an older request blocks this one by the fair rule: of another owner, both for record locks of one node
+// with a byte in common, one of them for a write lock.
+fn older_blocks(request: &Request, older: &Request) -> bool {
     let (asked, first) = (&request.ask, &older.ask);
     let meets = asked.start <= first.end && first.start <= asked.end;
     let kinds = asked.kind == WRITE || asked.kind == READ && first.kind == WRITE;
@@ -207,13 +207,13 @@ impl PlainLocks {
         *self.marks.get(place_of(request, owner, byte))?
     }
 
-    // The least byte on which another owner's mark excludes the request, and there the least such owner.
-    fn excluder(&self, request: &Request) -> Option<(u64, u64)> {
+    // The least byte on which another owner's mark conflicts with the request, and there the least such owner.
+    fn conflicting(&self, request: &Request) -> Option<(u64, u64)> {
         let (first, end) = bytes_of(&request.ask);
         for byte in first..end {
             for owner in 0..OWNERS {
                 let mark = self.mark(request, owner, byte);
-                if owner != request.ask.owner && excludes(mark, request.ask.kind) {
+                if owner != request.ask.owner && kinds_conflict(mark, request.ask.kind) {
                     return Some((byte, owner));
                 }
             }
@@ -221,15 +221,16 @@ impl PlainLocks {
         None
     }
 
-    fn is_excluded(&self, request: &Request) -> bool {
-        self.excluder(request).is_some()
+    fn conflicts_with_held(&self, request: &Request) -> bool {
+        self.conflicting(request).is_some()
     }
 
-    // Whether one of the parked requests before this place goes first, by the fair rule, of those of owners who pass the test.
-    fn is_behind(&self, request: &Request, place: usize, owner: Option<u64>) -> bool {
+    // Whether one of the parked requests before this place blocks it, by the fair rule, of those of owners who pass
+    // the test.
+    fn is_blocked_by_older(&self, request: &Request, place: usize, owner: Option<u64>) -> bool {
         for (at, older) in self.parked.iter().enumerate() {
             let named = owner.is_none_or(|owner| owner == older.ask.owner);
-            if self.rules.fair && at < place && named && goes_first(request, older) {
+            if self.rules.fair && at < place && named && older_blocks(request, older) {
                 return true;
             }
         }
@@ -237,23 +238,24 @@ impl PlainLocks {
     }
 
     // Whether a request waits that stands at this place, or would.
-    fn must_wait(&self, request: &Request, place: usize) -> bool {
-        self.is_excluded(request) || self.is_behind(request, place, None)
+    fn is_blocked(&self, request: &Request, place: usize) -> bool {
+        self.conflicts_with_held(request) || self.is_blocked_by_older(request, place, None)
     }
 
-    // Whether this owner keeps a request for a record lock waiting that stands at this place, or would.
-    pub(super) fn hinders(&self, request: &Request, place: usize, owner: u64) -> bool {
-        self.excludes_by(request, owner) || self.is_behind(request, place, Some(owner))
+    // Whether this owner blocks a request for a record lock that stands at this place, or would.
+    pub(super) fn blocks(&self, request: &Request, place: usize, owner: u64) -> bool {
+        self.mark_conflicts_by(request, owner)
+            || self.is_blocked_by_older(request, place, Some(owner))
     }
 
-    // Whether a mark of this owner excludes a request for a record lock.
-    fn excludes_by(&self, request: &Request, owner: u64) -> bool {
+    // Whether a mark of this owner conflicts with a request for a record lock.
+    fn mark_conflicts_by(&self, request: &Request, owner: u64) -> bool {
         if request.ask.flags == 1 || owner == request.ask.owner {
             return false;
         }
         let (first, end) = bytes_of(&request.ask);
         for byte in first..end {
-            if excludes(self.mark(request, owner, byte), request.ask.kind) {
+            if kinds_conflict(self.mark(request, owner, byte), request.ask.kind) {
                 return true;
             }
         }
@@ -285,7 +287,7 @@ impl PlainLocks {
     }
 
     fn park(&mut self, rt: &impl Abort, request: &Request) {
-        if !self.is_excluded(request) {
+        if !self.conflicts_with_held(request) {
             self.counts.parked_behind = self.counts.parked_behind.saturating_add(1);
         }
         self.counts.parked = self.counts.parked.saturating_add(1);
@@ -298,8 +300,8 @@ impl PlainLocks {
         let unique = request.unique;
         if let Some(errno) = self.error_of(request) {
             self.tell(rt, unique, Err(errno));
-        } else if !self.is_excluded(request)
-            && !(may_wait && self.must_wait(request, self.parked.len()))
+        } else if !self.conflicts_with_held(request)
+            && !(may_wait && self.is_blocked(request, self.parked.len()))
         {
             self.set_in_room(rt, request);
         } else if !may_wait {
@@ -326,7 +328,7 @@ impl PlainLocks {
     }
 
     fn lock_answer(&self, request: &Request) -> Answer {
-        match self.excluder(request) {
+        match self.conflicting(request) {
             Some((byte, owner)) => self.lock_of(request, owner, byte),
             None => Answer::Lock {
                 start: request.ask.start,
@@ -468,7 +470,7 @@ impl PlainLocks {
 
     fn first_free(&self) -> Option<(usize, Request)> {
         for (place, request) in self.parked.iter().enumerate() {
-            if !self.must_wait(request, place) {
+            if !self.is_blocked(request, place) {
                 return Some((place, *request));
             }
         }

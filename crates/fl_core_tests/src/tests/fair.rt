@@ -67,7 +67,7 @@ tell 3 err 9
 tell 4 ok
 ";
 
-const NONE_BUT_A_RIVAL_OF_ANOTHER_OWNER_GOES_FIRST: &str = "\
+const NONE_BUT_A_CONFLICTING_ONE_OF_ANOTHER_OWNER_BLOCKS: &str = "\
 ask 0 2 2 5 6 0 setlk 1 7 0 0 1 7 0
 tell 2 ok
 ask 0 3 2 5 6 0 setlkw 1 8 0 5 1 8 0
@@ -213,7 +213,7 @@ fn record_requests_pass_older_ones_under_the_standard_rules(rt: HostRuntime) {
 #[test]
 fn others_pass_requests_that_wait(rt: HostRuntime) {
     let texts = [
-        NONE_BUT_A_RIVAL_OF_ANOTHER_OWNER_GOES_FIRST,
+        NONE_BUT_A_CONFLICTING_ONE_OF_ANOTHER_OWNER_BLOCKS,
         TWO_READERS_DO_NOT_WAIT_FOR_EACH_OTHER,
         WHOLE_FILE_LOCKS_HAVE_NO_PART_IN_IT,
     ];

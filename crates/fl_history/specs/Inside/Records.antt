@@ -1,9 +1,10 @@
 -- How lines are kept in few bytes: a small record for each, and what it leads to.
-use Rattle.std.specs.Prelude.{◌≡◌, ℕ, ◌+◌, ◌*◌, ◌≤◌, ◌<◌, Option, Some, None, Ok, Err, List, [], ◌++◌, map, length, take, drop}
+use Rattle.std.specs.Prelude.{◌≡◌, ℕ, ◌+◌, ◌*◌, ◌≤◌, ◌<◌, Option, Some, None, Ok, Err, List, [], ◌++◌, map, length}
+use Rattle.std.specs.Prelude.{take, drop}
 use Rattle.std.specs.List.{slice_get, AllByRecursion}
 use Rattle.fl_history.specs.declared.history.Line.{Line}
 use Rattle.fl_history.specs.declared.history.Line.TheVariants as line
-use Rattle.fl_history.specs.declared.records.Span.{Span}
+use Rattle.fl_history.specs.declared.records.NameSpan.{NameSpan}
 use Rattle.fl_history.specs.declared.records.ShortOp.{ShortOp}
 use Rattle.fl_history.specs.declared.records.ShortOp.TheVariants as short
 use Rattle.fl_history.specs.declared.records.ShortOrder.{ShortOrder}
@@ -31,7 +32,7 @@ abbrev pub short_lock : OpKind → LockAsk → ShortOp
 short_lock kind a = short.Lock kind a.kind a.pid a.flags a.fh a.owner a.start a.end
 
 -- a kind and a body, with a place in the names instead of the name
-abbrev pub short_op : Span → OpKind → Body → ShortOp
+abbrev pub short_op : NameSpan → OpKind → Body → ShortOp
 short_op span kind (body.Lock ask) = short_lock kind ask
 short_op span kind (body.Create excl mode name) = short.Create kind excl mode span
 short_op span kind (body.Name name) = short.Name kind span
@@ -54,13 +55,16 @@ ask_of worker o op = record {
 }
 
 -- the bytes at a place in the names
-abbrev pub bytes_at : List ℕ → Span → List ℕ
+abbrev pub bytes_at : List ℕ → NameSpan → List ℕ
 bytes_at names span = take span.len (drop span.start names)
 
 -- the kind and the body of what was asked
 abbrev pub opened_parts : List ℕ → ShortOp → OpKind × Body
-opened_parts names (short.Lock what kind pid flags fh owner start end) =
-    (what, body.Lock (record { fh = fh; owner = owner; start = start; end = end; kind = kind; pid = pid; flags = flags }))
+opened_parts names (short.Lock what kind pid flags fh owner start end) = (
+  what,
+  body.Lock
+      (record { fh = fh; owner = owner; start = start; end = end; kind = kind; pid = pid; flags = flags }),
+)
 opened_parts names (short.Create what excl mode span) = (what, body.Create excl mode (bytes_at names span))
 opened_parts names (short.Name what span) = (what, body.Name (bytes_at names span))
 opened_parts names (short.Number what n) = (what, body.Number n)
@@ -118,7 +122,7 @@ pub record Begins {A : Type 0} (xs ys : List A) : Type 0 where
   pub is : ys ≡ xs ++ rest
 
 -- a name is at this place
-pub record IsNamed (names : List ℕ) (span : Span) : Type 0 where
+pub record IsNamed (names : List ℕ) (span : NameSpan) : Type 0 where
   pub within : span.start + span.len ≤ length names
   pub name : IsName (bytes_at names span)
 
@@ -141,7 +145,8 @@ IsThere asks answers (record_of.Answered at) = at < answers
 IsThere asks answers _ = Unit {0}
 
 -- All that is kept leads to what is there.
-pub record AreKept (records : List ShortLine) (asks : List ShortOrder) (answers : List Answered) (names : List ℕ) : Type 0 where
+pub record AreKept (records : List ShortLine) (asks : List ShortOrder) (answers : List Answered) (names : List ℕ)
+    : Type 0 where
   pub there : AllByRecursion (IsThere (length asks) (length answers)) records
   pub back : AllByRecursion (λ (a : ShortOrder). LeadsBack names a.op) asks
 

@@ -2,8 +2,8 @@
 
 ghost use Rattle.std.specs.Prelude.{◌≡◌, ◌<◌, ◌≤◌};
 
-use super::crew::{Crew, Putter, run};
 use super::order;
+use super::pool::{Putter, WorkerPool, run};
 use fl_intake::{Intake, PutEnd};
 use std::alloc::Global;
 use std::process::Abort;
@@ -14,22 +14,22 @@ use std::thread::Threads;
 const ORDERS: u64 = 10_000;
 
 // Puts a burst of orders, whose uniques go on from this one.
-fn burst<R: Wait + Abort>(rt: &R, crew: &Crew, put: &mut PutEnd, from: u64, size: u64)
-    requires { put.old.of ≡ crew.now.intake }
-    ensures { put.new.of ≡ crew.now.intake }
+fn burst<R: Wait + Abort>(rt: &R, pool: &WorkerPool, put: &mut PutEnd, from: u64, size: u64)
+    requires { put.old.of ≡ pool.now.intake }
+    ensures { put.new.of ≡ pool.now.intake }
 {
     for at in 0..size {
         let job = order(from.saturating_add(at));
-        assert!(rt; crew.intake.put(rt, put, job).is_ok());
+        assert!(rt; pool.intake.put(rt, put, job).is_ok());
     }
-    crew.intake.call_one_more();
+    pool.intake.call_one_more();
 }
 
 // Bursts of 1 to 64, of which each other one is awaited, so that workers sleep.
 struct Growing;
 
 impl Putter for Growing {
-    fn put_all<R: Wait + Abort>(&self, rt: &R, crew: &Crew, put: &mut PutEnd) {
+    fn put_all<R: Wait + Abort>(&self, rt: &R, pool: &WorkerPool, put: &mut PutEnd) {
         let mut from = 0u64;
         let mut size = 1u64;
         for _ in rt.forever() {
@@ -37,10 +37,10 @@ impl Putter for Growing {
             if size_now == 0 {
                 break;
             }
-            burst(rt, crew, put, from, size_now);
+            burst(rt, pool, put, from, size_now);
             from = from.saturating_add(size_now);
             if size % 2 == 0 {
-                assert!(rt; crew.await_come(from));
+                assert!(rt; pool.await_come(from));
             }
             size = size % 64 + 1;
         }
@@ -53,12 +53,12 @@ struct Held {
 }
 
 impl Putter for Held {
-    fn put_all<R: Wait + Abort>(&self, rt: &R, crew: &Crew, put: &mut PutEnd) {
+    fn put_all<R: Wait + Abort>(&self, rt: &R, pool: &WorkerPool, put: &mut PutEnd) {
         let mut from = 0u64;
         for _ in 0..100 {
-            burst(rt, crew, put, from, self.size);
+            burst(rt, pool, put, from, self.size);
             from = from.saturating_add(self.size);
-            assert!(rt; crew.await_come(from));
+            assert!(rt; pool.await_come(from));
         }
     }
 }
@@ -87,15 +87,15 @@ fn goes_through<R: Threads + Wait + Sync + Abort, P: Putter>(
     requires { (0 < workers) × (workers ≤ 16) }
 {
     let (intake, put, ends) = Intake::new(alloc, workers).expect(rt, "memory");
-    let crew = Crew {
+    let pool = WorkerPool {
         alloc,
         intake,
         come: AtomicU64::new(0),
         held,
     };
-    let (put, ends, uniques) = run(rt, &crew, put, ends, putter);
+    let (put, ends, uniques) = run(rt, &pool, put, ends, putter);
     are_first(rt, uniques, many);
-    let Crew { intake, .. } = crew;
+    let WorkerPool { intake, .. } = pool;
     let left = intake.finish(rt, put, ends).ok().expect(rt, "all ends");
     assert!(rt; left.is_empty());
 }

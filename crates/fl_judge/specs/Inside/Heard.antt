@@ -1,5 +1,6 @@
 -- What is always so of a judge, and of the lines that it heard.
-use Rattle.std.specs.Prelude.{◌≡◌, ◌↔◌, ℕ, ◌-◌, ◌^◌, ◌≤◌, Bool, true, false, Option, Some, None, List, [], ◌∷◌, ◌++◌, length, map, take, drop}
+use Rattle.std.specs.Prelude.{◌≡◌, ◌↔◌, ℕ, ◌-◌, ◌^◌, ◌≤◌, Bool, true, false, Option, Some, None, List, [], ◌∷◌, ◌++◌}
+use Rattle.std.specs.Prelude.{length, map, take, drop}
 use Rattle.fl_core.specs.Tolds.{HasRoom}
 use Rattle.fl_desk.specs.Leading.{LeadsTo}
 use Rattle.fl_desk.specs.Legal.{IsLegal}
@@ -8,7 +9,7 @@ use Rattle.fl_history.specs.declared.history.Line.{Line}
 use Rattle.fl_history.specs.declared.history.Line.TheVariants as line
 use Rattle.fl_judge.specs.declared.replay.Replay.{Replay}
 use Rattle.fl_order.specs.declared.told.Told.{Told}
-use Rattle.fl_quiet.specs.Quiet.{IsQuiet}
+use Rattle.fl_judge.specs.Quiet.{IsQuiet}
 use Rattle.fl_waiting.specs.declared.rules.Rules.{Rules}
 
 -- replies, as lines
@@ -23,14 +24,15 @@ BeginsWith first lines = (more : List Line) × (lines ≡ first ++ more)
 abbrev pub due_lines : Replay → List Line
 due_lines r = told_lines (drop r.told r.tolds.told)
 
--- The lines lack only the replies that are due: with these they lead to what is there, and a history that begins with the
--- lines, and is legal under the rules of what is there, goes on by these. It knows whether the lines are quiet.
+-- The lines lack only the replies that are due: with these they lead to what is there, and a history that begins with
+-- the lines, and is legal under the rules of what is there, goes on by these. It knows whether the lines are quiet.
 pub record LeadsUpTo (lines : List Line) (r : Replay) : Type 0 where
   pub leads : LeadsTo (lines ++ due_lines r) r.core
   pub due : (rest : List Line) → IsLegal r.core.rules (lines ++ rest) → BeginsWith (due_lines r) rest
   pub quiet : (r.quiet ≡ true) ↔ IsQuiet r.core.rules lines
 
--- Behind lines that a replay led up to comes one more: either it leads up to that too, or no legal history begins with them.
+-- Behind lines that a replay led up to comes one more: either it leads up to that too, or no legal history begins
+-- with them.
 abbrev pub GoesOnAlike : Replay → Line → Bool → Replay → Type 0
 GoesOnAlike before l true after = (lines : List Line) → LeadsUpTo lines before → LeadsUpTo (lines ++ l ∷ []) after
 GoesOnAlike before l false after =

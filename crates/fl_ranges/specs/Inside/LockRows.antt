@@ -3,7 +3,7 @@ use Rattle.std.specs.Prelude.{◌≡◌, ◌≢◌, ℕ, ◌≤◌, Bool, true, 
 use Rattle.std.specs.List.{flat_map, list_any, prefix_len, AllByRecursion}
 use Rattle.std.specs.Ordering.{nat_cmp, ordering_then, is_lt, eq_by_cmp}
 use Rattle.std.specs.declared.cmp.Ordering.{Ordering}
-use Rattle.fl_rows.specs.Rows.{Row, RowChains, row_lists, rows, chain_count, limit_of, run_count}
+use Rattle.fl_spans.specs.Rows.{Row, RowChains, row_lists, rows, chain_count, limit_of, run_count}
 use Rattle.fl_spans.specs.declared.span.Span.{Span}
 use Rattle.fl_spans.specs.Spans.{AreSpans}
 use Rattle.fl_ranges.specs.declared.lock.Key.{Key}
@@ -49,13 +49,13 @@ place_cmp a b =
     (nat_cmp a.owner b.owner)
 
 -- the row of the first of two keys stands before that of the other
-abbrev pub goes_before : Key → Key → Bool
-goes_before a b = is_lt (place_cmp a b)
+abbrev pub key_precedes : Key → Key → Bool
+key_precedes a b = is_lt (place_cmp a b)
 
 -- each row stands before all later ones
 abbrev pub AreInOrder : List LockRow → Type 0
 AreInOrder [] = Unit {0}
-AreInOrder (r ∷ rs) = AllByRecursion (λ x. goes_before r.key x.key ≡ true) rs × AreInOrder rs
+AreInOrder (r ∷ rs) = AllByRecursion (λ x. key_precedes r.key x.key ≡ true) rs × AreInOrder rs
 
 -- the spans of the key's row, and none where no row is the key's
 abbrev pub spans_of : Key → List LockRow → List (Span Mark)
@@ -64,7 +64,7 @@ spans_of key (r ∷ rs) = if eq_by_cmp key_cmp r.key key then r.runs else spans_
 
 -- how many rows stand before the place of the key's
 abbrev pub row_index : Key → List LockRow → ℕ
-row_index key rs = prefix_len (λ r. goes_before r.key key) rs
+row_index key rs = prefix_len (λ r. key_precedes r.key key) rs
 
 -- some row is the key's
 abbrev pub has_row : Key → List LockRow → Bool
@@ -79,7 +79,7 @@ row_before key (s ∷ ss) rs = record { key = key; runs = s ∷ ss } ∷ rs
 abbrev pub given_spans : Key → List (Span Mark) → List LockRow → List LockRow
 given_spans key ss [] = row_before key ss []
 given_spans key ss (r ∷ rs) =
-    if goes_before r.key key then r ∷ given_spans key ss rs else
+    if key_precedes r.key key then r ∷ given_spans key ss rs else
     if eq_by_cmp key_cmp r.key key then row_before key ss rs else row_before key ss (r ∷ rs)
 
 -- the node of each row's key has this chain

@@ -4,7 +4,7 @@ use Rattle.fl_ranges.specs.declared.lock.Key.{Key}
 use Rattle.fl_ranges.specs.declared.lock.Kind.{Kind}
 use Rattle.fl_ranges.specs.declared.held.Held.{Held}
 use Rattle.fl_ranges.specs.declared.run.Run.{Run}
-use Rattle.fl_ranges.specs.Inside.RunList.{run_excludes}
+use Rattle.fl_ranges.specs.Inside.RunList.{run_conflicts}
 
 -- the run's first byte in a range that begins there is less than the other's, or is the same, and the run's owner
 -- is less
@@ -21,9 +21,9 @@ nearer_of start (Some best) r = if is_nearer start r best then r else best
 -- the nearest run so far, once one more run has been looked at
 abbrev pub nearest_with : Key → ℕ → ℕ → Kind → Option Run → Run → Option Run
 nearest_with key start end kind best r =
-    if run_excludes key start end kind r then Some (nearer_of start best r) else best
+    if run_conflicts key start end kind r then Some (nearer_of start best r) else best
 
--- the nearest of the runs that exclude the lock, and of the nearest so far
+-- the nearest of the runs that conflict with the lock, and of the nearest so far
 abbrev pub nearest_from : Key → ℕ → ℕ → Kind → Option Run → List Run → Option Run
 nearest_from key start end kind best [] = best
 nearest_from key start end kind best (r ∷ rs) =

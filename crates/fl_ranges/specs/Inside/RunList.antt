@@ -7,7 +7,7 @@ use Rattle.fl_ranges.specs.declared.lock.Kind.{Kind}
 use Rattle.fl_ranges.specs.declared.lock.Mark.{Mark}
 use Rattle.fl_ranges.specs.declared.run.Run.{Run}
 use Rattle.fl_ranges.specs.Marking.{Spot, Stroke, covers}
-use Rattle.fl_ranges.specs.Conflict.{are_rivals, excludes}
+use Rattle.fl_ranges.specs.Conflict.{are_of_two_owners, kinds_conflict}
 
 -- a run means the stroke that would set it
 abbrev pub meant : Run → Stroke
@@ -40,7 +40,7 @@ pub record AreRuns (rs : List Run) : Type 0 where
   pub apart : AreApart rs
   pub whole : AllByRecursion (IsWhole (held_at rs)) rs
 
--- a run excludes a lock of this kind, by this key, on the bytes from start to end
-abbrev pub run_excludes : Key → ℕ → ℕ → Kind → Run → Bool
-run_excludes key start end kind r =
-    are_rivals key r.key && ((nat_le r.start end && nat_le start r.end) && excludes kind r.mark.kind)
+-- a run conflicts with a lock of this kind, by this key, on the bytes from start to end
+abbrev pub run_conflicts : Key → ℕ → ℕ → Kind → Run → Bool
+run_conflicts key start end kind r =
+    are_of_two_owners key r.key && ((nat_le r.start end && nat_le start r.end) && kinds_conflict kind r.mark.kind)

@@ -205,8 +205,8 @@ fn reads() -> usize {
     reads
 }
 
-// The CREATE and all orders but those that only read are in the history, and each line of it that isn't one of them is a
-// reply. The INIT's reply and those to orders that only read are no lines.
+// The CREATE and all orders but those that only read are in the history, and each line of it that isn't one of them
+// is a reply. The INIT's reply and those to orders that only read are no lines.
 fn has_all(rt: &impl Abort, lines: usize, asked: usize, replies: usize) {
     let reads = reads();
     count_is(rt, asked.saturating_add(reads), 1_000_001);

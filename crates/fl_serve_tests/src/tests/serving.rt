@@ -5,13 +5,15 @@ mod each_order;
 mod ends;
 mod failures;
 mod fair;
-mod keepers;
+mod journals;
 mod late;
 mod memory;
 mod replies;
 mod stacks;
 
-use fl_book::{History, Rules, Verdict, check};
+use fl_core::Rules;
+use fl_desk::{Verdict, check};
+use fl_history::History;
 use fl_serve::{Done, Fault, Gate, OpenGate, serve};
 use fl_testing::of_workers;
 use replies::count_replies;
@@ -53,8 +55,8 @@ fn serve_bytes<R: Threads + Wait + Sync>(
     served(rt, alloc, &mut input, workers, Rules::standard(), &OpenGate)
 }
 
-// A session ended with this fault, after a legal history of so many lines. So many whole replies went out, and no order was
-// refused.
+// A session ended with this fault, after a legal history of so many lines. So many whole replies went out, and no
+// order was refused.
 fn ended(
     rt: &impl Abort,
     alloc: Global,

@@ -1,8 +1,8 @@
 //! A stream that is cut into messages.
 
 use super::are_bytes;
-use fl_session::{Fault, Filled, Inbox};
 use fl_testing::{Source, Trouble};
+use fl_transport::{Fault, Filled, Inbox};
 use fl_wire::Step;
 use std::alloc::Global;
 use std::process::Abort;
@@ -34,8 +34,8 @@ fn takes(rt: &impl Abort, inbox: &mut Inbox, wanted: &[u8]) {
     inbox.skip(len);
 }
 
-// The two messages come with reads of at most so many bytes. Each letter is a step: `r` reads, `1` and `2` take a message.
-// Then a read ends the stream.
+// The two messages come with reads of at most so many bytes. Each letter is a step: `r` reads, `1` and `2` take a
+// message. Then a read ends the stream.
 fn comes(
     rt: &impl Abort,
     alloc: Global,

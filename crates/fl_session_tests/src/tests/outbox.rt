@@ -1,8 +1,8 @@
 //! Replies through an outbox whose writer breaks.
 
 use super::are_bytes;
-use fl_session::Outbox;
 use fl_testing::{Sink, Trouble};
+use fl_transport::Outbox;
 use std::alloc::Global;
 use std::io::ErrorKind;
 use std::process::Abort;
@@ -14,8 +14,8 @@ fn sends(rt: &impl Abort, outbox: &mut Out<'_>, reply: &[u8], whole: bool) {
     assert!(rt; outbox.send(reply).is_ok() == whole);
 }
 
-// Replies by way of a writer that takes pieces of at most 7 bytes until it fails or takes nothing. So many go out whole, and
-// none behind them; these bytes are written.
+// Replies by way of a writer that takes pieces of at most 7 bytes until it fails or takes nothing. So many go out
+// whole, and none behind them; these bytes are written.
 fn go_out(
     rt: &impl Abort,
     alloc: Global,

@@ -5,7 +5,7 @@ mod batches;
 mod collected;
 mod fair;
 mod faults;
-mod keepers;
+mod journals;
 mod traced;
 mod waiting;
 
@@ -51,8 +51,8 @@ fn answers(rt: &impl Abort, alloc: Global, rules: Rules, before: &str, case: &st
     done.history
 }
 
-// Runs each session in a stored text behind what comes before, and says how many there are. It begins with a line of `# `
-// and a title.
+// Runs each session in a stored text behind what comes before, and says how many there are. It begins with a line of
+// `# ` and a title.
 fn all_answer(rt: &impl Abort, alloc: Global, before: &str, cases: &str) -> usize {
     let mut count = 0usize;
     for case in cases.split('#').skip(1) {

@@ -1,7 +1,7 @@
 -- What a stroke's walk takes from the spans that it passes.
 use Rattle.std.specs.Prelude.{ℕ, ◌+◌, ◌-◌, Bool, false, ◌&&◌, ◌||◌, ◌==◌, nat_lt, nat_le, min, max, Option, Some, None}
 use Rattle.std.specs.Prelude.{List, [], ◌∷◌, if◌then◌else◌}
-use Rattle.fl_rows.specs.declared.rows.Pieces.{Pieces}
+use Rattle.fl_spans.specs.declared.rows.Pieces.{Pieces}
 use Rattle.fl_spans.specs.declared.span.Span.{Span}
 use Rattle.fl_spans.specs.declared.change.Change.{Change}
 

@@ -4,7 +4,7 @@ use super::{
     Course, LINES, TRACE, count_is, course_is, hand_all, history_of, holds, is_written, may_go,
     streamed, streamed_often,
 };
-use fl_keeper::Forgetful;
+use fl_history::NoJournal;
 use fl_stream::{Streamed, WhenWriterFails};
 use fl_testing::{Sink, Trouble};
 use std::io::ErrorKind;
@@ -53,10 +53,10 @@ fn lines_are_written_when_the_room_is_full(rt: HostRuntime) {
 #[test]
 fn lines_are_forgotten_without_memory(rt: HostRuntime) {
     let history = history_of(&rt, rt.alloc(), TRACE);
-    let mut forgetful = Forgetful::new();
-    count_is(&rt, hand_all(&mut forgetful, &history), LINES);
-    count_is(&rt, size_of::<Forgetful>(), 0);
-    may_go(&forgetful);
+    let mut no_journal = NoJournal::new();
+    count_is(&rt, hand_all(&mut no_journal, &history), LINES);
+    count_is(&rt, size_of::<NoJournal>(), 0);
+    may_go(&no_journal);
 }
 
 #[test]

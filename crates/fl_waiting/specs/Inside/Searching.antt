@@ -1,9 +1,10 @@
 -- What the search for a circle keeps of the parked requests.
-use Rattle.std.specs.Prelude.{◌≡◌, ℕ, suc, Bool, false, ◌&&◌, ◌==◌, ◌<◌, nat_lt, Option, Some, None, List, [], ◌∷◌, length, map, slice_index_or}
+use Rattle.std.specs.Prelude.{◌≡◌, ℕ, suc, Bool, false, ◌&&◌, ◌==◌, ◌<◌, nat_lt, Option, Some, None, List, [], ◌∷◌}
+use Rattle.std.specs.Prelude.{length, map, slice_index_or}
 use Rattle.std.specs.List.{filter}
 use Rattle.std.specs.List.Sorted.{IsNonDecreasingBy}
-use Rattle.fl_waiting.specs.Circle.{Waiter, behind, hinders}
-use Rattle.fl_waiting.specs.Waiting.{Wish, goes_first}
+use Rattle.fl_waiting.specs.Circle.{Waiter, behind, blocks}
+use Rattle.fl_waiting.specs.Waiting.{Wish, older_blocks}
 use Rattle.fl_waiting.specs.declared.circle.Wanted.{Wanted}
 use Rattle.fl_waiting.specs.declared.rules.Rules.{Rules}
 use Rattle.fl_ranges.specs.Marking.{Marking}
@@ -20,13 +21,13 @@ older_than ws w = map meant (filter (λ (v : Wanted). nat_lt v.place w.place) ws
 abbrev pub waiter_among : List Wanted → Wanted → Waiter
 waiter_among ws w = behind (older_than ws w) (meant w)
 
--- this owner keeps it waiting, of the wanted locks by one that was wanted before
-abbrev pub hinders_among : Rules → Marking → List Wanted → Wanted → ℕ → Bool
-hinders_among rules m ws w owner = hinders rules m (waiter_among ws w) owner
+-- this owner blocks it, of the wanted locks by one that was wanted before
+abbrev pub blocks_among : Rules → Marking → List Wanted → Wanted → ℕ → Bool
+blocks_among rules m ws w owner = blocks rules m (waiter_among ws w) owner
 
--- a lock was wanted before this one, and goes first
+-- a lock was wanted before this one, and blocks it
 abbrev pub precedes : Wanted → Wanted → Bool
-precedes w v = nat_lt v.place w.place && goes_first (meant w) (meant v)
+precedes w v = nat_lt v.place w.place && older_blocks (meant w) (meant v)
 
 -- so was one by this owner
 abbrev pub precedes_by : Wanted → ℕ → Wanted → Bool

@@ -5,7 +5,8 @@ use fl_order::{Op, Order, Refusal};
 use fl_wire::read_order;
 use std::process::Abort;
 
-// Of 3 lookups of node 258, and of one of node 7: the unique is 5, the uid 1, the gid 2, the pid 3, and the message's node 9.
+// Of 3 lookups of node 258, and of one of node 7: the unique is 5, the uid 1, the gid 2, the pid 3, and the message's
+// node 9.
 const TWO: [u8; 80] = [
     80, 0, 0, 0, 42, 0, 0, 0, 5, 0, 0, 0, 0, 0, 0, 0, 9, 0, 0, 0, 0, 0, 0, 0, 1, 0, 0, 0, 2, 0, 0,
     0, 3, 0, 0, 0, 0, 0, 0, 0, 2, 0, 0, 0, 0, 0, 0, 0, 2, 1, 0, 0, 0, 0, 0, 0, 3, 0, 0, 0, 0, 0, 0,

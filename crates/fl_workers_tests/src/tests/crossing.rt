@@ -1,8 +1,8 @@
 //! An order that is held up while another one is answered.
 
 use super::came::{Came, are_replies, are_uniques};
-use super::crew::worked;
 use super::orders::{FIRST, lookups, replies};
+use super::pool::worked;
 use super::tally::WILLING;
 use super::watch::Watch;
 use std::alloc::Global;

@@ -7,9 +7,8 @@ use super::came::Came;
 use super::tally::{Seat, Tally};
 use fl_core::{Rules, Tolds};
 use fl_intake::Job;
-use fl_sending::{Shared, WriterName};
-use fl_session::{Owed, ReplyBuffer};
-use fl_workers::{OpenGate, handle_all};
+use fl_transport::{ReplyBuffer, Response};
+use fl_workers::{OpenGate, SharedSender, WriterName, handle_all};
 use std::alloc::Global;
 use std::marker::Brand;
 use std::process::Abort;
@@ -42,9 +41,9 @@ fn handled_at<'w, N: WriterName, R: Wait + Abort>(
     requires named { out.ghost_name ≡ N.writer }
     requires sending { (sending.name ≡ N.name) × (sending.parts ≡ N.parts) × (0 < N.parts) }
 {
-    let (shared, permit) = begun::<N, R>(rt, alloc, sending, out);
-    let came = handed_in(rt, alloc, tally, orders, &shared);
-    (came, closed(rt, shared, permit))
+    let (sender, permit) = begun::<N, R>(rt, alloc, sending, out);
+    let came = handed_in(rt, alloc, tally, orders, &sender);
+    (came, closed(rt, sender, permit))
 }
 
 /// What workers share, behind the bytes that are there. Replies may go out.
@@ -53,29 +52,29 @@ pub(super) fn begun<'w, N: WriterName, R: Abort>(
     alloc: Global,
     sending: Blank,
     out: &'w mut Vec<u8>,
-) -> (Mutex<Shared<'w, Vec<u8>, N>>, Share<N>)
+) -> (Mutex<SharedSender<'w, Vec<u8>, N>>, Share<N>)
     requires start { Some out.old.items ≡ N.start }
     requires named { out.ghost_name ≡ N.writer }
     requires sending { (sending.name ≡ N.name) × (sending.parts ≡ N.parts) × (0 < N.parts) }
     ensures permit { result.1.parts ≡ N.parts }
 {
     let replies = ReplyBuffer::with_bytes(alloc, BATCH_BYTES).expect(rt, "memory");
-    let (shared, permit) = Shared::<'w, Vec<u8>, N>::new(sending, replies, out);
-    let mut shared = shared;
+    let (sender, permit) = SharedSender::<'w, Vec<u8>, N>::new(sending, replies, out);
+    let mut sender = sender;
     let mut permit = permit;
-    shared.begin(&mut permit);
-    (Mutex::new(shared), permit)
+    sender.begin(&mut permit);
+    (Mutex::new(sender), permit)
 }
 
 /// No write failed.
 pub(super) fn closed<'w, N: WriterName>(
     rt: &impl Abort,
-    shared: Mutex<Shared<'w, Vec<u8>, N>>,
+    sender: Mutex<SharedSender<'w, Vec<u8>, N>>,
     permit: Share<N>,
 ) -> &'w mut Vec<u8>
     requires permit { permit.parts ≡ N.parts }
 {
-    let (out, broken) = shared.into_inner().close(permit, &Owed::Nothing);
+    let (out, broken) = sender.into_inner().close(permit, &Response::Nothing);
     assert!(rt; !broken);
     out
 }
@@ -86,11 +85,11 @@ fn handed_in<'w, N: WriterName, R: Wait + Abort>(
     alloc: Global,
     tally: Tally,
     orders: Vec<Job>,
-    shared: &Mutex<Shared<'w, Vec<u8>, N>>,
+    sender: &Mutex<SharedSender<'w, Vec<u8>, N>>,
 ) -> Came {
     let tolds = Tolds::new(alloc, Rules::standard()).expect(rt, "memory");
     let mut seat = Seat::new(rt, alloc, 0);
-    let refused = handle_all(rt, &tally, &OpenGate, shared, &mut seat, tolds, orders);
+    let refused = handle_all(rt, &tally, &OpenGate, sender, &mut seat, tolds, orders);
     let mut came = Came::new(alloc);
     came.keep(rt, &seat, refused);
     came

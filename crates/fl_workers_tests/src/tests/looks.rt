@@ -1,9 +1,9 @@
 //! Orders that only read.
 
 use super::came::{Wanted, is_wanted};
-use super::crew::worked;
 use super::handling::handled;
 use super::orders::asked;
+use super::pool::worked;
 use super::tally::{Tally, WILLING};
 use super::watch::Watch;
 use fl_testing::{Reply, bytes_after};

@@ -1,9 +1,9 @@
 //! Orders that are refused.
 
 use super::came::{Wanted, is_wanted};
-use super::crew::worked;
 use super::handling::handled;
 use super::orders::asked;
+use super::pool::worked;
 use super::tally::{Tally, WILLING};
 use super::watch::Watch;
 use std::alloc::Global;

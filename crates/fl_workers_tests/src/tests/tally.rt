@@ -3,7 +3,7 @@
 ghost use Rattle.std.specs.Prelude.{◌≡◌, []};
 
 use fl_core::{Core, Rules, Tolds};
-use fl_counter::{Counter, HandFault, NoView};
+use fl_desk::{Counter, HandFault, NoView};
 use fl_order::{Answer, Errno, Op, Order};
 use std::alloc::Global;
 use std::process::Abort;

@@ -1,8 +1,8 @@
 //! Thousands of orders, of which each third at a seat is refused.
 
 use super::came::{Came, are_replies};
-use super::crew::worked;
 use super::orders::{FIRST, lookups, replies};
+use super::pool::worked;
 use super::tally::Tally;
 use super::watch::Watch;
 use fl_testing::Reply;

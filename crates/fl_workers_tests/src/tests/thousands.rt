@@ -1,8 +1,8 @@
 //! Thousands of orders in bursts.
 
 use super::came::{Came, are_replies};
-use super::crew::worked;
 use super::orders::{FIRST, lookups, replies};
+use super::pool::worked;
 use super::tally::WILLING;
 use super::watch::Watch;
 use fl_intake::Job;

@@ -6,13 +6,13 @@ use Rattle.fl_wire.specs.Spell.{IsReply}
 use Rattle.fl_waiting.specs.declared.rules.Rules.{Rules}
 use Rattle.lockd_commands.specs.Bytes.{IsPrinted}
 use Rattle.lockd_commands.specs.Hex.{hex_stream}
-use Rattle.lockd_faults.specs.declared.fault.Fault.{Fault}
-use Rattle.lockd_faults.specs.declared.fault.Fault.TheVariants as command
-use Rattle.fl_session.specs.declared.session.Fault.{Fault as SessionFault}
-use Rattle.fl_session.specs.declared.session.Fault.TheVariants as session
+use Rattle.lockd_faults.specs.declared.fault.CommandFault.{CommandFault}
+use Rattle.lockd_faults.specs.declared.fault.CommandFault.TheVariants as command
+use Rattle.fl_transport.specs.declared.fault.Fault.{Fault as SessionFault}
+use Rattle.fl_transport.specs.declared.fault.Fault.TheVariants as session
 
 -- what a fault says of a text of hex lines
-abbrev pub TextSays : List ℕ → Fault → Type 0
+abbrev pub TextSays : List ℕ → CommandFault → Type 0
 TextSays text (command.BadLine n) = hex_stream text ≡ Err n
 TextSays text command.NoMemory = ⊤
 TextSays text command.NoReader = ⊥
@@ -33,7 +33,7 @@ pub record AreReplies (bytes : List ℕ) : Type 0 where
   pub is : bytes ≡ concat replies
 
 -- What was done, by how the command ended: only after a session is anything printed.
-abbrev pub Did : Rules → Option (List ℕ) → Option (List ℕ) → Option (List ℕ) → Result Unit Fault → Type 0
+abbrev pub Did : Rules → Option (List ℕ) → Option (List ℕ) → Option (List ℕ) → Result Unit CommandFault → Type 0
 Did rules left old new (Ok done) = IsPrinted rules left old new None
 Did rules left old new (Err command.Cut) = IsPrinted rules left old new (Some session.Cut)
 Did rules left old new (Err (command.BadLength n)) = IsPrinted rules left old new (Some (session.BadLength n))

@@ -4,16 +4,15 @@ ghost use Rattle.std.specs.List.{concat};
 ghost use Rattle.fl_wire.specs.Spell.{IsReply};
 ghost use Rattle.fl_wire.specs.Layout.{len_of};
 ghost use Rattle.lockd_commands.specs.Bytes.Inside.{AreReplies};
-ghost use Rattle.lockd_faults.specs.declared.fault.Fault.TheVariants.{NoMemory};
-ghost use Rattle.lockd_hex.specs.Lines.{hex_lines};
+ghost use Rattle.lockd_faults.specs.declared.fault.CommandFault.TheVariants.{NoMemory};
+ghost use Rattle.lockd_faults.specs.HexLines.{hex_lines};
 
 use byteorder::{ByteOrder, LittleEndian};
-use lockd_faults::Fault;
-use lockd_hex::push_line;
+use lockd_faults::{CommandFault, push_line};
 use std::alloc::Global;
 
 /// Each of the replies in these bytes, as a line of lower case hex.
-pub(crate) fn print_replies(alloc: Global, sent: &[u8]) -> Result<Vec<u8>, Fault>
+pub(crate) fn print_replies(alloc: Global, sent: &[u8]) -> Result<Vec<u8>, CommandFault>
     requires { AreReplies sent.now }
     ensures lines { IfOk result (λ lines. (replies : List (List ℕ)) → All IsReply replies → sent.now ≡ concat replies
         → lines.items ≡ hex_lines replies) }

@@ -9,11 +9,12 @@ use super::scripts::limits::{
 };
 use super::scripts::locks::locks_and_files;
 use super::scripts::waiting::{an_owner_waits_twice, requests_that_wait};
-use fl_book::{
-    Board, BoardName, FreshLog, History, Line, Seat, Verdict, check, print_trace, read_trace,
-};
+use fl_board::{Board, BoardName, FreshLog, Seat};
 use fl_core::{Rules, Tolds};
+use fl_desk::{Verdict, check};
+use fl_history::{History, Line};
 use fl_order::Order;
+use fl_trace::{print_trace, read_trace};
 use std::alloc::Global;
 use std::marker::Brand;
 use std::process::Abort;

@@ -1,7 +1,7 @@
 //! Traces that come in pieces, with lines that are too long, and that can't be read to their end.
 
 use fl_testing::{Source, Trouble};
-use lockd_commands::{CheckOptions, Fault, Rules, Status, check_on};
+use lockd_commands::{CheckOptions, CommandFault, Rules, Status, check_on};
 use std::alloc::Global;
 use std::io::{ErrorKind, Read};
 use std::process::Abort;
@@ -39,7 +39,8 @@ struct Came {
     status: Status,
 }
 
-// It printed this, told that, and ended with 2 where something was told, and else with 0. The words are shown where it didn't.
+// It printed this, told that, and ended with 2 where something was told, and else with 0. The words are shown where
+// it didn't.
 fn is(rt: &impl Abort, what: &str, came: &Came, printed: &str, told: &str) {
     is_text(rt, what, &came.told, told);
     is_text(rt, what, &came.printed, printed);
@@ -102,7 +103,8 @@ fn add(rt: &impl Abort, text: &mut Vec<u8>, piece: &[u8]) {
     text.extend_from_slice(piece).expect(rt, "memory");
 }
 
-// A line of so many bytes more than a good beginning is bad, however it comes. Where it has no newline it may be cut off.
+// A line of so many bytes more than a good beginning is bad, however it comes. Where it has no newline it may be cut
+// off.
 fn is_too_long(rt: &impl Abort, alloc: Global, more: usize, most: usize) {
     let ended = long_line(
         rt,
@@ -140,7 +142,7 @@ fn fails(rt: &impl Abort, alloc: Global, text: &[u8], reads: usize) {
         let mut input = Source::new(text, 8, Trouble::behind(reads, None));
         let came = check(alloc, options, &mut input);
         is(rt, "read failed", &came, "", "read failed\n");
-        assert!(rt; came.status == Status::Faulted(Fault::Read));
+        assert!(rt; came.status == Status::Faulted(CommandFault::Read));
     }
 }
 

@@ -6,11 +6,13 @@ use Rattle.fl_trace.specs.Text.{text_of}
 use Rattle.fl_history.specs.declared.history.Line.{Line}
 use Rattle.fl_waiting.specs.declared.rules.Rules.{Rules}
 use Rattle.lockd_serve.specs.Serve.{IsTraced, IsTracedInPart}
-use Rattle.lockd_faults.specs.declared.fault.Fault.{Fault}
-use Rattle.lockd_faults.specs.declared.fault.Fault.TheVariants.{BadLine, NoMemory, NoReader, Read, Write, Cut, BadLength, Listen, Connect, BadReply, Trace, TraceFailed}
+use Rattle.lockd_faults.specs.declared.fault.CommandFault.{CommandFault}
+use Rattle.lockd_faults.specs.declared.fault.CommandFault.TheVariants.{BadLine, NoMemory, NoReader, Read, Write, Cut}
+use Rattle.lockd_faults.specs.declared.fault.CommandFault.TheVariants.{BadLength, Listen, Connect, BadReply, Trace}
+use Rattle.lockd_faults.specs.declared.fault.CommandFault.TheVariants.{TraceFailed}
 
 -- What was done, by how the command ended: only after a session is anything printed.
-abbrev pub Did : Rules → Option (List ℕ) → Option (List ℕ) → Result Unit Fault → Type 0
+abbrev pub Did : Rules → Option (List ℕ) → Option (List ℕ) → Result Unit CommandFault → Type 0
 Did rules old new (Ok done) = IsTraced rules old new
 Did rules old new (Err Cut) = IsTraced rules old new
 Did rules old new (Err (BadLength n)) = IsTraced rules old new
@@ -30,7 +32,7 @@ abbrev pub HasWritten : List Line → Option (List ℕ) → Option (List ℕ) �
 HasWritten lines old new = Appends old new (text_of lines)
 
 -- What was written of a session with this history, by how the command ended.
-abbrev pub TellsOf : List Line → Option (List ℕ) → Option (List ℕ) → Result Unit Fault → Type 0
+abbrev pub TellsOf : List Line → Option (List ℕ) → Option (List ℕ) → Result Unit CommandFault → Type 0
 TellsOf lines old new (Ok done) = HasWritten lines old new
 TellsOf lines old new (Err Cut) = HasWritten lines old new
 TellsOf lines old new (Err (BadLength n)) = HasWritten lines old new

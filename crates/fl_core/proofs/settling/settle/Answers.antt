@@ -1,7 +1,7 @@
 use Rattle.std.proofs.Common.{◌∙◌, ◌++◌, append-nil, ap, refl, sym, subst, length, arith}
 use Rattle.fl_core.specs.Settling.{Settled, present, granted_told, marking_granted}
 use Rattle.fl_core.specs.Inside.Touched.{OthersWait}
-use Rattle.fl_core.proofs.Alone.{not_excluded}
+use Rattle.fl_core.proofs.Alone.{not_in_conflict}
 use Rattle.fl_core.proofs.Settlings.{is_oldest, one_shorter, settled_none, settling_goes_on, settling_ends}
 use Rattle.fl_core.proofs.Taken.{apart_without, one_longer}
 use Rattle.fl_core.proofs.Waits.{none_concerned, others_granted}
@@ -14,7 +14,7 @@ pub grant-requires : goal.grant-requires
 grant-requires c =
     let m = c.loop-claim.locks.marking in
     let oldest = is_oldest c.args.rules m _ _ _ c.in-Some.ensures in
-    not_excluded c.args.rules m oldest.older c.in-Some.claim.request oldest.free
+    not_in_conflict c.args.rules m oldest.older c.in-Some.claim.request oldest.free
 
 pub push-requires : goal.push-requires
 push-requires c =

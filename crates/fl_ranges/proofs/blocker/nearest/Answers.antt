@@ -1,15 +1,17 @@
 use Rattle.std.proofs.Common.{◌≡◌, ◌≤◌, Some, None, slice_get, refl, sym, ap, ◌∙◌, arith}
 use Rattle.std.specs.List.{find}
 use Rattle.fl_arena.specs.declared.cursors.Cursor.{Cursor}
-use Rattle.fl_rows.specs.Rows.{rows, keys, runs_at}
+use Rattle.fl_spans.specs.Rows.{rows, keys, runs_at}
 use Rattle.fl_ranges.specs.Placing.{home}
 use Rattle.fl_ranges.specs.Inside.LockRows.{runs_in}
 use Rattle.fl_ranges.specs.Inside.Nearest.{nearest_from}
-use Rattle.fl_ranges.specs.Inside.Rivals.{class_rows, kin_owner, span_excludes}
-use Rattle.fl_ranges.proofs.RivalRows.{kin_spans}
-use Rattle.fl_ranges.proofs.RivalNearest.{nearest_class, GoesOn, nearest_next, nearest_more, nearest_stop, nearest_none}
+use Rattle.fl_ranges.specs.Inside.Contenders.{class_rows, kin_owner, span_conflicts}
+use Rattle.fl_ranges.proofs.ContenderRows.{kin_spans}
+use Rattle.fl_ranges.proofs.ContenderNearest.{nearest_class, GoesOn, nearest_next, nearest_more, nearest_stop}
+use Rattle.fl_ranges.proofs.ContenderNearest.{nearest_none}
 use Rattle.fl_ranges.proofs.blocker.nearest.Goals as goal
-use Rattle.fl_ranges.proofs.blocker.nearest.Goals.{in-Some-excluding_span+else-span-range, in_default-excluding_span}
+use Rattle.fl_ranges.proofs.blocker.nearest.Goals.{in-Some-conflicting_span+else-span-range}
+use Rattle.fl_ranges.proofs.blocker.nearest.Goals.{in_default-conflicting_span}
 
 pub loop-owner-init : goal.loop-owner-init
 loop-owner-init c =
@@ -25,8 +27,8 @@ loop-owner-init c =
           ∙ ap (λ rs. nearest_from key range.start range.end c.args.kind None (runs_in (class_rows key rs))) (sym first.first);
     }
 
-pub excluding_span-requires-clause-spans : goal.excluding_span-requires-clause-spans
-excluding_span-requires-clause-spans c =
+pub conflicting_span-requires-clause-spans : goal.conflicting_span-requires-clause-spans
+conflicting_span-requires-clause-spans c =
     let rs = rows c.args.table.now c.loop-owner.row.chain in
     let are = c.requires.kept c.loop-owner.row.chain in
     kin_spans c.args.key.now rs c.loop-owner.row.index c.in-Some.owner (sym c.in-Some.ensures.owner) are.spans
@@ -43,23 +45,23 @@ loop-owner-preserved c =
     let are = c.requires.kept (home key.node) in
     let found : kin_owner key (slice_get (keys rs) i) ≡ Some c.in-Some.owner =
     ap (λ d. kin_owner key (slice_get (keys (rows v d)) i)) (sym inv.chain) ∙ sym c.in-Some.ensures.owner in
-    let seen : find (span_excludes key c.in-Some.owner range.start c.loop-owner.last c.args.kind) (runs_at rs i) ≡ c.excluding_span.result =
-    ap (λ d. find (span_excludes key c.in-Some.owner range.start c.loop-owner.last c.args.kind) (runs_at (rows v d) i)) (sym inv.chain)
-    ∙ sym c.excluding_span.ensures in
-    let goes : (range.start ≤ c.match-excluding_span.last)
+    let seen : find (span_conflicts key c.in-Some.owner range.start c.loop-owner.last c.args.kind) (runs_at rs i) ≡ c.conflicting_span.result =
+    ap (λ d. find (span_conflicts key c.in-Some.owner range.start c.loop-owner.last c.args.kind) (runs_at (rows v d) i)) (sym inv.chain)
+    ∙ sym c.conflicting_span.ensures in
+    let goes : (range.start ≤ c.match-conflicting_span.last)
     × GoesOn key range.start range.end c.args.kind rs i c.in-Some.owner found c.loop-owner.last inv.some c.loop-owner.best inv.best
-    c.match-excluding_span.last c.match-excluding_span.best =
-    elim c.match-excluding_span.branch [
-      | in-Some-excluding_span+else-span-range w ↦ (
+    c.match-conflicting_span.last c.match-conflicting_span.best =
+    elim c.match-conflicting_span.branch [
+      | in-Some-conflicting_span+else-span-range w ↦ (
         omega (arith, w.last-is, w.if-span-range.false),
         rw w.last-is (rw w.best-is (nearest_more key range.start range.end c.args.kind rs i c.in-Some.owner found c.loop-owner.last inv.some
-            c.loop-owner.best inv.best are.in_order (kin_spans key rs i c.in-Some.owner found are.spans) w.in-Some-excluding_span.span
-            (seen ∙ w.in-Some-excluding_span.is) w.if-span-range.false)),
+            c.loop-owner.best inv.best are.in_order (kin_spans key rs i c.in-Some.owner found are.spans) w.in-Some-conflicting_span.span
+            (seen ∙ w.in-Some-conflicting_span.is) w.if-span-range.false)),
       )
-      | in_default-excluding_span w ↦ (
+      | in_default-conflicting_span w ↦ (
         omega (arith, w.last-is, inv.some),
         rw w.last-is (rw w.best-is (nearest_next key range.start range.end c.args.kind rs i c.in-Some.owner found c.loop-owner.last inv.some
-            c.loop-owner.best inv.best (seen ∙ w.in_default-excluding_span.is))),
+            c.loop-owner.best inv.best (seen ∙ w.in_default-conflicting_span.is))),
       )
     ] in
     let next = goes.1 in
@@ -82,11 +84,11 @@ returns-then-span-range c =
     let are = c.requires.kept (home key.node) in
     let found : kin_owner key (slice_get (keys rs) i) ≡ Some c.in-Some.owner =
     ap (λ d. kin_owner key (slice_get (keys (rows v d)) i)) (sym inv.chain) ∙ sym c.in-Some.ensures.owner in
-    let seen : find (span_excludes key c.in-Some.owner range.start c.loop-owner.last c.args.kind) (runs_at rs i) ≡ Some c.in-Some-excluding_span.span =
-    ap (λ d. find (span_excludes key c.in-Some.owner range.start c.loop-owner.last c.args.kind) (runs_at (rows v d) i)) (sym inv.chain)
-    ∙ sym c.excluding_span.ensures ∙ c.in-Some-excluding_span.is in
+    let seen : find (span_conflicts key c.in-Some.owner range.start c.loop-owner.last c.args.kind) (runs_at rs i) ≡ Some c.in-Some-conflicting_span.span =
+    ap (λ d. find (span_conflicts key c.in-Some.owner range.start c.loop-owner.last c.args.kind) (runs_at (rows v d) i)) (sym inv.chain)
+    ∙ sym c.conflicting_span.ensures ∙ c.in-Some-conflicting_span.is in
     sym (inv.rest ∙ nearest_stop key range.start range.end c.args.kind rs i c.in-Some.owner found c.loop-owner.last inv.some c.loop-owner.best inv.best
-    are.in_order (kin_spans key rs i c.in-Some.owner found are.spans) c.in-Some-excluding_span.span seen c.if-span-range.true)
+    are.in_order (kin_spans key rs i c.in-Some.owner found are.spans) c.in-Some-conflicting_span.span seen c.if-span-range.true)
 
 pub returns-in_default : goal.returns-in_default
 returns-in_default c =

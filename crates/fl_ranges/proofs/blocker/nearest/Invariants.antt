@@ -1,10 +1,10 @@
 use Rattle.std.proofs.Common.{◌≡◌, ◌-◌, ◌≤◌, None, length, drop}
-use Rattle.fl_rows.specs.Rows.{rows, IsRow}
+use Rattle.fl_spans.specs.Rows.{rows, IsRow}
 use Rattle.fl_ranges.specs.Placing.{home}
 use Rattle.fl_ranges.specs.Inside.LockRows.{table_runs, runs_in}
 use Rattle.fl_ranges.specs.Inside.Nearest.{nearest_from}
-use Rattle.fl_ranges.specs.Inside.Rivals.{class_rows}
-use Rattle.fl_ranges.proofs.RivalNearest.{IsBestOf}
+use Rattle.fl_ranges.specs.Inside.Contenders.{class_rows}
+use Rattle.fl_ranges.proofs.ContenderNearest.{IsBestOf}
 use Rattle.fl_ranges.proofs.blocker.nearest.Given as goal
 
 abbrev pub invariant-loop-owner : goal.invariant-loop-owner

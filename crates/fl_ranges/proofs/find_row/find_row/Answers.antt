@@ -1,6 +1,6 @@
 use Rattle.std.proofs.Common.{◌≡◌, Some, slice_get, sym, ap, ◌∙◌}
 use Rattle.fl_arena.specs.declared.cursors.Cursor.{Cursor}
-use Rattle.fl_rows.specs.Rows.{rows, keys, row_cursor}
+use Rattle.fl_spans.specs.Rows.{rows, keys, row_cursor}
 use Rattle.fl_ranges.specs.Placing.{home}
 use Rattle.fl_ranges.proofs.Spots.{same_key}
 use Rattle.fl_ranges.proofs.RowPlaces.{own_row}

@@ -1,5 +1,5 @@
 use Rattle.std.proofs.Common.{◌≡◌, ◌+◌, ◌-◌, length, drop}
-use Rattle.fl_rows.specs.Rows.{rows, IsRow}
+use Rattle.fl_spans.specs.Rows.{rows, IsRow}
 use Rattle.fl_ranges.specs.Placing.{home}
 use Rattle.fl_ranges.specs.Inside.LockRows.{row_index, has_row}
 use Rattle.fl_ranges.proofs.find_row.walk_to_row.Given as goal

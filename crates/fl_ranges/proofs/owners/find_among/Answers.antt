@@ -1,13 +1,14 @@
 use Rattle.std.proofs.Common.{◌≡◌, ◌||◌, ℕ, false, Some, None, is_some, slice_get, slice_index_or, sym, ap, ◌∙◌, arith}
 use Rattle.std.specs.List.{find, list_any}
 use Rattle.fl_arena.specs.declared.cursors.Cursor.{Cursor}
-use Rattle.fl_rows.specs.Rows.{rows, keys, runs_at}
+use Rattle.fl_spans.specs.Rows.{rows, keys, runs_at}
 use Rattle.fl_ranges.specs.Placing.{home}
 use Rattle.fl_ranges.specs.Inside.LockRows.{runs_in}
-use Rattle.fl_ranges.specs.Inside.Owners.{run_excludes_by}
-use Rattle.fl_ranges.specs.Inside.Rivals.{class_rows, kin_owner, span_excludes}
-use Rattle.fl_ranges.proofs.RivalRows.{kin_spans}
-use Rattle.fl_ranges.proofs.RivalMarks.{rival_class, rival_end, more_behind, AreMarked, still_passed, next_passed, next_rest, or_none}
+use Rattle.fl_ranges.specs.Inside.Owners.{run_conflicts_by}
+use Rattle.fl_ranges.specs.Inside.Contenders.{class_rows, kin_owner, span_conflicts}
+use Rattle.fl_ranges.proofs.ContenderRows.{kin_spans}
+use Rattle.fl_ranges.proofs.ContenderMarks.{contender_class, contender_end, more_behind, AreMarked, still_passed}
+use Rattle.fl_ranges.proofs.ContenderMarks.{next_passed, next_rest, or_none}
 use Rattle.fl_ranges.proofs.owners.find_among.Goals as goal
 
 pub loop-owner-init : goal.loop-owner-init
@@ -23,8 +24,8 @@ loop-owner-init c =
       rest = λ k within.
           let o = slice_index_or c.args.owners.now k 0 in
           sym (ap (λ b. slice_index_or c.args.found.now k false || b)
-          (rival_class key range.start range.end c.args.kind c.args.table.now c.requires.kept o
-          ∙ ap (λ rs. list_any (run_excludes_by key range.start range.end c.args.kind o) (runs_in (class_rows key rs))) (sym first.first)));
+          (contender_class key range.start range.end c.args.kind c.args.table.now c.requires.kept o
+          ∙ ap (λ rs. list_any (run_conflicts_by key range.start range.end c.args.kind o) (runs_in (class_rows key rs))) (sym first.first)));
     }
 
 pub returns-then-first-owners : goal.returns-then-first-owners
@@ -65,7 +66,7 @@ loop-owner-preserved c =
     let are = c.requires.kept (home key.node) in
     let more = more_behind c.args.owners.now c.in-Some.owner first.result last.result c.requires.ascending last.ensures.from first.ensures.stop
     last.ensures.stop in
-    let seen = λ (d : ℕ). is_some (find (span_excludes key c.in-Some.owner range.start range.end c.args.kind) (runs_at (rows v d) i)) in
+    let seen = λ (d : ℕ). is_some (find (span_conflicts key c.in-Some.owner range.start range.end c.args.kind) (runs_at (rows v d) i)) in
     let marked : AreMarked c.loop-owner.found c.look_into.new.found first.result last.result (seen (home key.node)) = record {
       set = λ k from before. c.look_into.ensures.set k from before ∙ ap (λ d. slice_index_or c.loop-owner.found k false || seen d) inv.chain;
       before = c.look_into.ensures.before;
@@ -96,5 +97,5 @@ returns c =
     λ k within.
     sym (or_none (slice_index_or c.loop-owner.found k false))
     ∙ ap (λ b. slice_index_or c.loop-owner.found k false || b)
-    (sym (rival_end key range.start range.end c.args.kind (rows v (home key.node)) i none (slice_index_or c.args.owners.now k 0)))
+    (sym (contender_end key range.start range.end c.args.kind (rows v (home key.node)) i none (slice_index_or c.args.owners.now k 0)))
     ∙ inv.rest k within

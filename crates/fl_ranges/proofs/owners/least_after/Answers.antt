@@ -1,15 +1,16 @@
 use Rattle.std.proofs.Common.{◌≡◌, ◌+◌, true, false, Some, None, is_some, drop, slice_get, sym, ap, ◌∙◌}
 use Rattle.std.specs.List.{find}
 use Rattle.fl_arena.specs.declared.cursors.Cursor.{Cursor}
-use Rattle.fl_rows.specs.Rows.{rows, keys, runs_at}
+use Rattle.fl_spans.specs.Rows.{rows, keys, runs_at}
 use Rattle.fl_ranges.specs.Placing.{home}
 use Rattle.fl_ranges.specs.Inside.LockRows.{runs_in}
 use Rattle.fl_ranges.specs.Inside.Owners.{least_from}
-use Rattle.fl_ranges.specs.Inside.Rivals.{class_rows, kin_owner, span_excludes}
-use Rattle.fl_ranges.proofs.RivalRows.{kin_spans}
-use Rattle.fl_ranges.proofs.RivalOwners.{least_class, least_before, least_next, least_here, least_none}
+use Rattle.fl_ranges.specs.Inside.Contenders.{class_rows, kin_owner, span_conflicts}
+use Rattle.fl_ranges.proofs.ContenderRows.{kin_spans}
+use Rattle.fl_ranges.proofs.ContenderOwners.{least_class, least_before, least_next, least_here, least_none}
 use Rattle.fl_ranges.proofs.owners.least_after.Goals as goal
-use Rattle.fl_ranges.proofs.owners.least_after.Goals.{else-is_after-via-then-is_after+else-is_some, else-is_after-via-else-is_after}
+use Rattle.fl_ranges.proofs.owners.least_after.Goals.{else-is_after-via-then-is_after+else-is_some}
+use Rattle.fl_ranges.proofs.owners.least_after.Goals.{else-is_after-via-else-is_after}
 
 pub loop-owner-init : goal.loop-owner-init
 loop-owner-init c =
@@ -23,8 +24,8 @@ loop-owner-init c =
           ∙ ap (λ rs. least_from key range.start range.end c.args.kind c.args.after None (runs_in (class_rows key rs))) (sym first.first);
     }
 
-pub excluding_span-requires-clause-spans : goal.excluding_span-requires-clause-spans
-excluding_span-requires-clause-spans c =
+pub conflicting_span-requires-clause-spans : goal.conflicting_span-requires-clause-spans
+conflicting_span-requires-clause-spans c =
     let rs = rows c.args.table.now c.loop-owner.row.chain in
     let are = c.requires.kept c.loop-owner.row.chain in
     kin_spans c.args.key.now rs c.loop-owner.row.index c.in-Some.owner (sym c.in-Some.ensures.owner) are.spans
@@ -38,9 +39,9 @@ returns-then-is_some c =
     let i = c.loop-owner.row.index in
     let found : kin_owner key (slice_get (keys (rows v (home key.node))) i) ≡ Some c.in-Some.owner =
     ap (λ d. kin_owner key (slice_get (keys (rows v d)) i)) (sym inv.chain) ∙ sym c.in-Some.ensures.owner in
-    let some : is_some (find (span_excludes key c.in-Some.owner range.start range.end c.args.kind) (runs_at (rows v (home key.node)) i)) ≡ true =
-    ap (λ d. is_some (find (span_excludes key c.in-Some.owner range.start range.end c.args.kind) (runs_at (rows v d) i))) (sym inv.chain)
-    ∙ ap is_some (sym c.excluding_span.ensures) ∙ sym c.is_some.ensures ∙ c.if-is_some.true in
+    let some : is_some (find (span_conflicts key c.in-Some.owner range.start range.end c.args.kind) (runs_at (rows v (home key.node)) i)) ≡ true =
+    ap (λ d. is_some (find (span_conflicts key c.in-Some.owner range.start range.end c.args.kind) (runs_at (rows v d) i))) (sym inv.chain)
+    ∙ ap is_some (sym c.conflicting_span.ensures) ∙ sym c.is_some.ensures ∙ c.if-is_some.true in
     let are = c.requires.kept (home key.node) in
     sym (inv.rest ∙ least_here key range.start range.end c.args.kind c.args.after (rows v (home key.node)) i c.in-Some.owner found are.in_order
     (sym c.is_after.ensures ∙ c.if-is_after.true) some)
@@ -59,9 +60,9 @@ loop-owner-preserved c =
     ≡ least_from key range.start range.end c.args.kind c.args.after None (runs_in (class_rows key (drop (i + 1) (rows v (home key.node))))) =
     elim c.else-is_after.branch [
       | else-is_after-via-then-is_after+else-is_some w ↦
-          let none : is_some (find (span_excludes key c.in-Some.owner range.start range.end c.args.kind) (runs_at (rows v (home key.node)) i)) ≡ false =
-          ap (λ d. is_some (find (span_excludes key c.in-Some.owner range.start range.end c.args.kind) (runs_at (rows v d) i))) (sym inv.chain)
-          ∙ ap is_some (sym w.excluding_span.ensures) ∙ sym w.is_some.ensures ∙ w.if-is_some.false in
+          let none : is_some (find (span_conflicts key c.in-Some.owner range.start range.end c.args.kind) (runs_at (rows v (home key.node)) i)) ≡ false =
+          ap (λ d. is_some (find (span_conflicts key c.in-Some.owner range.start range.end c.args.kind) (runs_at (rows v d) i))) (sym inv.chain)
+          ∙ ap is_some (sym w.conflicting_span.ensures) ∙ sym w.is_some.ensures ∙ w.if-is_some.false in
           least_next key range.start range.end c.args.kind c.args.after (rows v (home key.node)) i c.in-Some.owner found none
       | else-is_after-via-else-is_after w ↦
           least_before key range.start range.end c.args.kind c.args.after (rows v (home key.node)) i c.in-Some.owner found

@@ -1,13 +1,15 @@
-use Rattle.std.proofs.Common.{◌≡◌, ◌≢◌, ◌+◌, ◌-◌, ◌<◌, List, ◌∷◌, None, length, take, drop, slice_get, sym, ap, subst, ◌∙◌, arith}
+use Rattle.std.proofs.Common.{◌≡◌, ◌≢◌, ◌+◌, ◌-◌, ◌<◌, List, ◌∷◌, None, length, take, drop, slice_get, sym, ap, subst}
+use Rattle.std.proofs.Common.{◌∙◌, arith}
 use Rattle.std.specs.List.{AllByRecursion}
 use Rattle.std.specs.Option.{option_copied}
 use Rattle.fl_arena.specs.declared.cursors.Cursor.{Cursor}
-use Rattle.fl_rows.specs.Rows.{rows, keys}
+use Rattle.fl_spans.specs.Rows.{rows, keys}
 use Rattle.fl_ranges.specs.declared.lock.Key.{Key}
 use Rattle.fl_ranges.specs.Placing.{home}
 use Rattle.fl_ranges.specs.Inside.LockRows.{LockRow, AreInOrder}
 use Rattle.fl_ranges.proofs.RowPlaces.{row_end, in_order_drop}
-use Rattle.fl_ranges.proofs.RowNodes.{IsOff, here, gone_table, gone_marks, gone_rows, gone_long, off_still, off_more, off_behind, off_all, off_marks}
+use Rattle.fl_ranges.proofs.RowNodes.{IsOff, here, gone_table, gone_marks, gone_rows, gone_long, off_still, off_more}
+use Rattle.fl_ranges.proofs.RowNodes.{off_behind, off_all, off_marks}
 use Rattle.fl_ranges.proofs.RowNodes.{within_here}
 use Rattle.fl_ranges.proofs.row_change.erase_node.Goals as goal
 

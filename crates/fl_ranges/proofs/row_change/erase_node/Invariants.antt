@@ -1,6 +1,6 @@
 use Rattle.std.proofs.Common.{◌≡◌, ◌-◌, length, take}
 use Rattle.std.specs.List.{AllByRecursion}
-use Rattle.fl_rows.specs.Rows.{rows, limit_of, IsRow}
+use Rattle.fl_spans.specs.Rows.{rows, limit_of, IsRow}
 use Rattle.fl_ranges.specs.Placing.{home}
 use Rattle.fl_ranges.specs.Runs.{without_node}
 use Rattle.fl_ranges.specs.Inside.LockRows.{row_marks, IsLockTable}

@@ -1,10 +1,11 @@
 use Rattle.std.proofs.Common.{◌↔◌, ◌<◌, sym, ap, subst, ◌∙◌}
 use Rattle.std.specs.Prelude.{IsErr}
-use Rattle.fl_rows.specs.Rows.{limit_of}
+use Rattle.fl_spans.specs.Rows.{limit_of}
 use Rattle.fl_ranges.specs.Marking.{stroked}
 use Rattle.fl_ranges.specs.Runs.{runs}
 use Rattle.fl_ranges.specs.Inside.LockRows.{row_marks, IsLockTable}
-use Rattle.fl_ranges.proofs.RowStrokes.{either_way, then_ok, are_here, here_full, here_stroked, here_kept, new_full, new_stroked, new_kept}
+use Rattle.fl_ranges.proofs.RowStrokes.{either_way, then_ok, are_here, here_full, here_stroked, here_kept, new_full}
+use Rattle.fl_ranges.proofs.RowStrokes.{new_stroked, new_kept}
 use Rattle.fl_ranges.proofs.RowStrokes.{left_stroked, left_room}
 use Rattle.fl_ranges.proofs.row_change.stroke.Goals as goal
 

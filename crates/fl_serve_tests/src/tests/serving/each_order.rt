@@ -2,7 +2,7 @@
 
 use super::ends::orders_before;
 use super::serve_bytes;
-use fl_book::{History, Line};
+use fl_history::{History, Line};
 use std::alloc::Global;
 use std::process::Abort;
 use std::sync::Wait;

@@ -2,7 +2,7 @@
 
 use super::{Came, come_to, ended, served};
 use crate::tests::count_is;
-use fl_book::Rules;
+use fl_core::Rules;
 use fl_serve::{Fault, OpenGate};
 use fl_testing::{Messages, Source, Trouble, bytes_after};
 use std::alloc::Global;

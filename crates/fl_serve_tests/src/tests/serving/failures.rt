@@ -2,7 +2,7 @@
 
 use super::ends::twenty_orders_and;
 use crate::tests::{count_is, fault_is};
-use fl_book::Rules;
+use fl_core::Rules;
 use fl_serve::{Done, Fault, OpenGate, serve};
 use fl_testing::{Sink, Source, Trouble};
 use std::alloc::Global;

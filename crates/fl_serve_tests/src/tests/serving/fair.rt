@@ -2,7 +2,8 @@
 
 use super::{Came, served, verdict_is};
 use crate::tests::{are_bytes, fault_is};
-use fl_book::{Rules, Verdict};
+use fl_core::Rules;
+use fl_desk::Verdict;
 use fl_serve::OpenGate;
 use fl_testing::{bytes_after, fair_sessions};
 use std::alloc::Global;
@@ -24,8 +25,8 @@ fn serve_fairly<R: Threads + Wait + Sync>(rt: &R, alloc: Global, messages: &[u8]
     served(rt, alloc, &mut input, 1, fair(), &OpenGate)
 }
 
-// Under fair rules a session gets these replies. By the standard rules the reader would have a reply first, which is missing on the
-// seventh line.
+// Under fair rules a session gets these replies. By the standard rules the reader would have a reply first, which is
+// missing on the seventh line.
 fn has_waited(rt: &impl Abort, alloc: Global, came: &Came, replies: &[u8]) {
     fault_is(rt, came.done.fault, None);
     are_bytes(rt, &came.out, replies);

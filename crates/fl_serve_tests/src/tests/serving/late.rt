@@ -2,7 +2,7 @@
 
 use super::ends::{end_last, twenty_orders_and_a_destroy};
 use super::{Came, served};
-use fl_book::Rules;
+use fl_core::Rules;
 use fl_serve::Gate;
 use fl_testing::{Source, Trouble};
 use std::alloc::Global;

@@ -3,9 +3,11 @@
 use super::replies::sorted;
 use super::{Came, ended, serve_bytes, served};
 use crate::tests::{are_bytes, count_is, fault_is};
-use fl_book::{History, Line, Rules, print_trace};
+use fl_core::Rules;
+use fl_history::{History, Line};
 use fl_serve::{Gate, run_one};
 use fl_testing::{GETLK, Lock, Messages, READ, Reply, SETLK, SETLKW, UNLOCK, WRITE, byte_lock};
+use fl_trace::print_trace;
 use std::alloc::{AllocError, Global};
 use std::process::Abort;
 use std::sync::Wait;
@@ -168,8 +170,8 @@ fn looks<R: Abort + Threads + Wait + Sync>(rt: &R, alloc: Global, messages: &[u8
     has_looked(rt, alloc, &came, &run_alone(alloc, messages));
 }
 
-// A worker is shown all that it handed in. What it looks for is answered as a session without workers answers it, and is
-// no line of the history.
+// A worker is shown all that it handed in. What it looks for is answered as a session without workers answers it, and
+// is no line of the history.
 #[test]
 fn looks_are_answered_and_are_no_lines(rt: HostRuntime) {
     let messages = with_looks(&rt, rt.alloc());

@@ -2,8 +2,9 @@
 
 use super::Came;
 use crate::tests::{count_is, fault_is};
-use fl_book::Rules;
-use fl_serve::{Fault, OpenGate, serve_on_stack};
+use fl_core::Rules;
+use fl_history::Lines;
+use fl_serve::{Fault, OpenGate, Staff, record_with_workers};
 use std::alloc::Global;
 use std::process::Abort;
 use std::sync::Wait;
@@ -12,9 +13,12 @@ use std::thread::Threads;
 // Serves with stacks that no thread can have.
 fn serve_nobody<R: Threads + Wait + Sync>(rt: &R, alloc: Global, input: &mut &[u8]) -> Came {
     let mut out = Vec::new(alloc);
-    let rules = Rules::standard();
-    let stack = usize::MAX;
-    let done = serve_on_stack(rt, alloc, input, &mut out, 4, rules, &OpenGate, stack);
+    let mut staff = Staff::new(4, Rules::standard());
+    staff.stack = usize::MAX;
+    let lines = Lines::new(alloc);
+    let done = record_with_workers(rt, alloc, input, &mut out, staff, &OpenGate, lines).into_done(
+        alloc,
+    );
     Came { done, out }
 }
 

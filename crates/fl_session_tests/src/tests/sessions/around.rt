@@ -1,5 +1,5 @@
-//! Messages that come once before an INIT and once after it. A line that begins with `> ` is a message in hex, and one with
-//! `< ` is a reply.
+//! Messages that come once before an INIT and once after it. A line that begins with `> ` is a message in hex, and
+//! one with `< ` is a reply.
 
 /// Each with its replies, if it has any.
 pub(super) const AROUND_AN_INIT: &str = "\

@@ -1,5 +1,5 @@
-//! BATCH_FORGET. The messages and replies are laid out by hand from `fuse.h` (protocol 7.31). A line that begins with `> ` is a message in
-//! hex, one with `< ` is a reply, and one with `= ` is a line of the trace.
+//! BATCH_FORGET. The messages and replies are laid out by hand from `fuse.h` (protocol 7.31). A line that begins with
+//! `> ` is a message in hex, one with `< ` is a reply, and one with `= ` is a line of the trace.
 
 use super::add;
 use crate::tests::{count_is, fault_is};

@@ -1,4 +1,5 @@
-//! The worked session, a few bytes at a time, cut off, and with reads and writes that fail, one of them or all behind one.
+//! The worked session, a few bytes at a time, cut off, and with reads and writes that fail, one of them or all behind
+//! one.
 
 use super::super::{are_bytes, count_is, fault_is};
 use super::traced::TWO_LOCKS;
@@ -175,8 +176,8 @@ fn ends_by_a_write(
     is_sent(rt, &output.held, worked, sent);
 }
 
-// So many replies go out, each with a write, since a read gives 29 bytes, before the write that is interrupted. It isn't
-// tried again, and no write comes behind it.
+// So many replies go out, each with a write, since a read gives 29 bytes, before the write that is interrupted. It
+// isn't tried again, and no write comes behind it.
 fn ends_by_the_write(rt: &impl Abort, alloc: Global, worked: &Worked, writes: usize, sent: usize) {
     let mut input = Source::new(&worked.messages, 29, Trouble::none());
     let mut output = Sink::failing_once(alloc, writes, ErrorKind::Interrupted);

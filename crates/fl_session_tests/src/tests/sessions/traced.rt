@@ -1,5 +1,6 @@
-//! Sessions, their replies and their traces. The messages and replies are laid out by hand from `fuse.h` (protocol 7.31).
-//! A line that begins with `> ` is a message in hex, one with `< ` is a reply, and one with `= ` is a line of the trace.
+//! Sessions, their replies and their traces. The messages and replies are laid out by hand from `fuse.h` (protocol
+//! 7.31). A line that begins with `> ` is a message in hex, one with `< ` is a reply, and one with `= ` is a line of
+//! the trace.
 
 /// The worked session.
 pub(super) const TWO_LOCKS: &str = "\

@@ -2,7 +2,7 @@ use Rattle.std.proofs.Common.{◌≡◌, ◌+◌, true, drop, ◌∷◌, sym, ap
 use Rattle.std.specs.List.{prefix_len}
 use Rattle.std.specs.Option.{option_copied}
 use Rattle.fl_arena.specs.declared.cursors.Cursor.{Cursor}
-use Rattle.fl_rows.specs.Rows.{run_cursor}
+use Rattle.fl_spans.specs.Rows.{run_cursor}
 use Rattle.fl_spans.specs.Row.{spans_at}
 use Rattle.fl_spans.specs.Inside.Walk.{begins_by, gathered}
 use Rattle.fl_spans.proofs.Walks.{drop_here, drop_end, count_more, count_end, gathered_more, gathered_end}

@@ -1,6 +1,6 @@
 use Rattle.std.proofs.Common.{◌≡◌, ◌≤◌, ◌+◌, ◌-◌, length, drop, None}
 use Rattle.std.specs.List.{prefix_len}
-use Rattle.fl_rows.specs.Rows.{run_cursor}
+use Rattle.fl_spans.specs.Rows.{run_cursor}
 use Rattle.fl_spans.specs.Row.{spans_at}
 use Rattle.fl_spans.specs.Inside.Walk.{begins_by, gathered}
 use Rattle.fl_spans.proofs.change.gather.Given as goal

@@ -1,6 +1,6 @@
 use Rattle.std.proofs.Common.{◌≡◌, ◌+◌, ◌-◌, length, drop}
 use Rattle.std.specs.List.{position_or_len}
-use Rattle.fl_rows.specs.Rows.{run_cursor}
+use Rattle.fl_spans.specs.Rows.{run_cursor}
 use Rattle.fl_spans.specs.Row.{spans_at}
 use Rattle.fl_spans.specs.Inside.Walk.{reaches}
 use Rattle.fl_spans.proofs.change.seek.Given as goal

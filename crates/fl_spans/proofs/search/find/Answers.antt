@@ -1,16 +1,18 @@
-use Rattle.std.proofs.Common.{◌≡◌, ◌+◌, ◌-◌, ◌<◌, false, length, drop, ◌∷◌, Some, None, slice_get, sym, ap, subst, ◌∙◌, arith}
+use Rattle.std.proofs.Common.{◌≡◌, ◌+◌, ◌-◌, ◌<◌, false, length, drop, ◌∷◌, Some, None, slice_get, sym, ap, subst, ◌∙◌}
+use Rattle.std.proofs.Common.{arith}
 use Rattle.std.specs.List.{find}
 use Rattle.std.specs.Option.{option_copied}
 use Rattle.std.proofs.lemmas.Option.{slice_get_within}
 use Rattle.fl_arena.specs.declared.cursors.Cursor.{Cursor}
-use Rattle.fl_rows.specs.Rows.{run_cursor}
+use Rattle.fl_spans.specs.Rows.{run_cursor}
 use Rattle.fl_spans.specs.Row.{spans_at}
 use Rattle.fl_spans.specs.Spans.{AreSpans}
 use Rattle.fl_spans.proofs.Walks.{drop_here, drop_end}
 use Rattle.fl_spans.proofs.Found.{drop_are, passes, found_next, found_at, fails, too_early, none_from}
 use Rattle.fl_spans.proofs.search.find.Goals as goal
 use Rattle.fl_spans.proofs.search.find.Goals.{in-Some+then-end-span, in_default}
-use Rattle.fl_spans.proofs.search.find.Goals.{else-start-span-via-then-start-span+else-test, else-start-span-via-else-start-span}
+use Rattle.fl_spans.proofs.search.find.Goals.{else-start-span-via-then-start-span+else-test}
+use Rattle.fl_spans.proofs.search.find.Goals.{else-start-span-via-else-start-span}
 
 pub loop-span-preserved : goal.loop-span-preserved
 loop-span-preserved g c =

@@ -1,7 +1,7 @@
 use Rattle.std.proofs.Common.{◌≡◌, ◌-◌, Bool, ◌&&◌, length, drop}
 use Rattle.std.specs.List.{find}
 use Rattle.fl_arena.specs.Cursors.{Tests}
-use Rattle.fl_rows.specs.Rows.{run_cursor}
+use Rattle.fl_spans.specs.Rows.{run_cursor}
 use Rattle.fl_spans.specs.Row.{spans_at}
 use Rattle.fl_spans.specs.Spans.{overlaps}
 use Rattle.fl_spans.proofs.search.find.Given as goal

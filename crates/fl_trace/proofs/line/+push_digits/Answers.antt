@@ -1,4 +1,5 @@
-use Rattle.std.proofs.Common.{◌%◌, ◌/◌, ◌∙◌, ◌≤◌, ◌+◌, ◌++◌, ◌∷◌, [], length, arith, ap, sym, append_assoc, length-append}
+use Rattle.std.proofs.Common.{◌%◌, ◌/◌, ◌∙◌, ◌≤◌, ◌+◌, ◌++◌, ◌∷◌, [], length, arith, ap, sym, append_assoc}
+use Rattle.std.proofs.Common.{length-append}
 use Rattle.std.specs.Fmt.{decimal}
 use Rattle.fl_trace.proofs.Digits.{last_digit, one_fewer, one_digit}
 use Rattle.fl_trace.proofs.line.+push_digits.Goals as goal

@@ -1,11 +1,11 @@
 use Rattle.std.proofs.Common.{◌∙◌, ℕ, Bool, false, length, take, replicate, sym, subst, arith}
 use Rattle.std.proofs.lemmas.List.{length-take-le, length-replicate}
 use Rattle.std.specs.List.Sorted.{IsNonDecreasing}
-use Rattle.fl_waiting.specs.Inside.Searching.{hinders_among, waiter_among}
+use Rattle.fl_waiting.specs.Inside.Searching.{blocks_among, waiter_among}
 use Rattle.fl_ranges.specs.Conflict.{AreFound}
 use Rattle.fl_waiting.specs.declared.circle.Wanted.{Wanted}
 use Rattle.fl_waiting.proofs.Searches.{rising, unset_part, starts, finds, goes_on, ends, fewer_left}
-use Rattle.fl_waiting.proofs.Wishes.{hinders_not_itself}
+use Rattle.fl_waiting.proofs.Wishes.{blocks_not_itself}
 use Rattle.fl_waiting.proofs.circle.leads_back.Goals as goal
 
 pub reach-requires-clause-sorted : goal.reach-requires-clause-sorted
@@ -17,7 +17,7 @@ reach-requires-clause-by_owner g c = λ i j h k same.
 
 pub loop-place-init : goal.loop-place-init
 loop-place-init g c =
-    let h : Wanted → ℕ → Bool = hinders_among c.args.rules c.args.locks.now.marking c.args.wanted.now in
+    let h : Wanted → ℕ → Bool = blocks_among c.args.rules c.args.locks.now.marking c.args.wanted.now in
     starts g.row.N h c.args.wanted.now c.args.asked.now (take (length c.args.wanted.now) (replicate g.row.N false)) c.reach.new.reached
     (unset_part (length c.args.wanted.now) g.row.N) (c.reach.auto.reached
     ∙ length-take-le (length c.args.wanted.now) (replicate g.row.N false) (omega (arith, length-replicate g.row.N false, c.requires.few)))
@@ -25,7 +25,7 @@ loop-place-init g c =
 
 pub returns-then-waits_for : goal.returns-then-waits_for
 returns-then-waits_for g c =
-    let h : Wanted → ℕ → Bool = hinders_among c.args.rules c.args.locks.now.marking c.args.wanted.now in
+    let h : Wanted → ℕ → Bool = blocks_among c.args.rules c.args.locks.now.marking c.args.wanted.now in
     sym (finds g.row.N h c.args.wanted.now c.args.asked.now c.loop-place.reached c.loop-place.visited c.loop-place.invariant c.in-Some.place
     c.index-wanted-place.result (omega (arith, c.loop-place.invariant.wide, c.in-Some.ensures.0)) (sym c.index-wanted-place.is) c.in-Some.ensures.1 (sym c.if-waits_for.ensures))
 
@@ -38,7 +38,7 @@ loop-place-smaller g c =
 
 pub loop-place-preserved : goal.loop-place-preserved
 loop-place-preserved g c =
-    let h : Wanted → ℕ → Bool = hinders_among c.args.rules c.args.locks.now.marking c.args.wanted.now in
+    let h : Wanted → ℕ → Bool = blocks_among c.args.rules c.args.locks.now.marking c.args.wanted.now in
     goes_on g.row.N h c.args.wanted.now c.args.asked.now c.loop-place.reached c.loop-place.visited
     c.loop-place.invariant c.reach-in-Some.new.reached c.in-Some.place c.index-wanted-place.result
     (omega (arith, c.loop-place.invariant.wide, c.in-Some.ensures.0)) (sym c.index-wanted-place.is) c.in-Some.ensures.1 (sym c.if-waits_for.ensures)
@@ -48,6 +48,6 @@ loop-place-preserved g c =
 pub returns : goal.returns
 returns g c =
     let asked = c.args.asked.now in
-    sym (ends g.row.N (hinders_among c.args.rules c.args.locks.now.marking c.args.wanted.now) c.args.wanted.now asked c.loop-place.reached c.loop-place.visited
+    sym (ends g.row.N (blocks_among c.args.rules c.args.locks.now.marking c.args.wanted.now) c.args.wanted.now asked c.loop-place.reached c.loop-place.visited
     c.loop-place.invariant (λ i h. c.in_default.ensures i (omega (arith, c.loop-place.invariant.wide, h)))
-    (hinders_not_itself c.args.rules c.args.locks.now.marking (waiter_among c.args.wanted.now asked)))
+    (blocks_not_itself c.args.rules c.args.locks.now.marking (waiter_among c.args.wanted.now asked)))

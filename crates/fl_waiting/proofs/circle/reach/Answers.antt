@@ -10,5 +10,5 @@ returns-then-rules c i h =
     let wanted = c.args.wanted.now in
     let owner = slice_index_or c.args.owners.now i 0 in
     c.reach_older.ensures i h
-    ∙ ap (λ b. b || list_any (precedes_by request owner) wanted) (c.find_rivals.ensures i h)
+    ∙ ap (λ b. b || list_any (precedes_by request owner) wanted) (c.find_conflicting_owners.ensures i h)
     ∙ in_parts _ _ _ _ c.args.rules.fair _ (no_flock request.key.class c.in_default.not-Flock) c.if-rules.true (older_by wanted request owner)

@@ -9,5 +9,5 @@ returns-then-rules c =
     let request = c.args.request.now in
     let wanted = c.args.wanted.now in
     let older = list_any (precedes_by request c.args.owner) wanted in
-    c.is_behind.ensures ∙ ap (λ b. b || older) (sym c.if-is_held_by.false ∙ c.is_held_by.ensures)
+    c.is_blocked_by_older.ensures ∙ ap (λ b. b || older) (sym c.if-is_held_by.false ∙ c.is_held_by.ensures)
     ∙ in_parts false _ older _ c.args.rules.fair _ (no_flock request.key.class c.in_default.not-Flock) c.if-rules.true (older_by wanted request c.args.owner)

@@ -1,5 +1,5 @@
 use Rattle.std.proofs.Common.{rules, ◌≡◌, ◌+◌, ◌∙◌, ap, subst}
-use Rattle.fl_counter.specs.Asked.{IsAskedLast}
+use Rattle.fl_desk.specs.Asked.{IsAskedLast}
 use Rattle.fl_workers.proofs.WorkedLemmas.{one_handed, one_looked, one_refused}
 use Rattle.fl_workers.proofs.worker.handle.Goals as goal
 

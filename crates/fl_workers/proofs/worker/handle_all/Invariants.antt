@@ -1,5 +1,5 @@
 use Rattle.std.proofs.Common.{◌≡◌, ◌≤◌, ◌++◌}
-use Rattle.fl_counter.specs.Asked.{Orders}
+use Rattle.fl_desk.specs.Asked.{Orders}
 use Rattle.fl_workers.specs.Worked.{HasWorked}
 use Rattle.fl_workers.proofs.worker.handle_all.Given as goal
 

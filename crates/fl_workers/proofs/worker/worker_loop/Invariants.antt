@@ -2,7 +2,8 @@ use Rattle.std.proofs.Common.{◌≡◌, ◌≤◌}
 use Rattle.fl_workers.proofs.WorkedLemmas.{TookAndWorked}
 use Rattle.fl_workers.proofs.worker.worker_loop.Given as goal
 
--- the end is this intake's and the seat this worker's, there is room for the replies of any order, and what the end took so far was done
+-- the end is this intake's and the seat this worker's, there is room for the replies of any order, and what the end
+-- took so far was done
 abbrev pub invariant-loop : goal.invariant-loop
 invariant-loop g l = (l.end.of ≡ l.intake) × (g.C.Counter.worker l.seat ≡ g.C.Counter.worker l.fn.seat)
     × (g.C.Counter.most_tolds ≤ l.tolds.room)

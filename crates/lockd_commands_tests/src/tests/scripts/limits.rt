@@ -103,8 +103,8 @@ ask 0 4102 2 0 0 0 getlk 1 8 9 9 0 12 0
 tell 4102 lock 0 16383 1 11
 ";
 
-/// 256 requests wait, and no more can. An interrupt makes room for one. One that would close a circle is told so, whether there
-/// is room or not. Closing the file ends them all.
+/// 256 requests wait, and no more can. An interrupt makes room for one. One that would close a circle is told so,
+/// whether there is room or not. Closing the file ends them all.
 pub(crate) fn no_room_to_wait(rt: &impl Abort, alloc: Global) -> String {
     let mut trace = String::new(alloc);
     push_filled(rt, &mut trace, ONE_FILE, &[1]);

@@ -8,7 +8,8 @@ use Rattle.fl_arena.proofs.ChainLaws.{HasSizeOf-with, items-insert, entries-with
 use Rattle.fl_arena.proofs.CursorLemmas.{linked_within, before_within}
 use Rattle.fl_arena.proofs.InsertLemmas.{unused_slot}
 use Rattle.fl_arena.proofs.WalkLemmas.{spelled_is}
-use Rattle.fl_arena.proofs.CallLemmas.{spells_value, spells_own, end_read, inserted, stands, spare_is_free, room, cursor_at_new}
+use Rattle.fl_arena.proofs.CallLemmas.{spells_value, spells_own, end_read, inserted, stands, spare_is_free, room}
+use Rattle.fl_arena.proofs.CallLemmas.{cursor_at_new}
 use Rattle.fl_arena.proofs.chains.Arena.insert.Goals as goal
 use Rattle.fl_arena.proofs.chains.Arena.insert.Goals.{After-with}
 

@@ -16,7 +16,7 @@ returns-clause-each g c =
     let most : All (λ (p : Place). HasMostOf (history_of g.L.BoardName.rules c.into_inner-shared.result) p) seats =
     subst (λ (l : List Place). All (λ (p : Place). HasMostOf (history_of g.L.BoardName.rules c.into_inner-shared.result) p) l) c.deref.ensures.value
     (c.if-not-begins_with.ensures refl) in
-    let kept = g.K.Keeper.lines c.into_kept.result in
+    let kept = g.J.Journal.lines c.into_kept.result in
     let history = c.into_kept.ensures in
     let total : orders_asked kept ≡ sum_by (λ (p : Place). p.count) seats = history.counted ∙ c.in-Some.ensures.amount in
     has_all kept seats apart (subst (λ (l : List Line). All (λ (p : Place). HasMostOf l p) seats) (sym history.lines) most) total

@@ -2,7 +2,7 @@ use Rattle.std.proofs.Common.{◌≡◌, ap}
 use Rattle.std.specs.Prelude.{Result, Ok, Err, OnOk, OnErr}
 use Rattle.fl_board.proofs.AskedLemmas.{handed_in_last}
 use Rattle.fl_board.specs.Seats.{Place}
-use Rattle.fl_counter.specs.Asked.{asked_by}
+use Rattle.fl_desk.specs.Asked.{asked_by}
 use Rattle.fl_board.proofs.counter.BoardCounter.hand_in.Goals as goal
 
 on_ok : {A B : Type 0} {P Q : Type 0} (result : Result A B) → OnOk result P → (P → Q) → OnOk result Q

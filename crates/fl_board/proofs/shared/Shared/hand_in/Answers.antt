@@ -3,8 +3,8 @@ use Rattle.fl_core.specs.State.{Snapshot}
 use Rattle.fl_core.specs.Step.{next, replies, replies_in}
 use Rattle.fl_desk.specs.Legal.{step_lines, orders_asked}
 use Rattle.fl_desk.specs.Replay.{state_after}
-use Rattle.fl_log.specs.declared.ask.Ask.{Ask}
-use Rattle.fl_published.specs.Asks.{present_after}
+use Rattle.fl_replica.specs.declared.ask.Ask.{Ask}
+use Rattle.fl_replica.specs.Asks.{present_after}
 use Rattle.fl_board.specs.Inside.Asks.{HasMostOf, history_of}
 use Rattle.fl_board.specs.Seats.{Place, orders_by}
 use Rattle.fl_board.proofs.Boards.{step_asks_one_order}

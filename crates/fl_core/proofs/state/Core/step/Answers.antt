@@ -1,4 +1,5 @@
-use Rattle.std.proofs.Common.{◌≡◌, ◌+◌, ◌++◌, ◌≤◌, ◌∙◌, true, List, Option, Result, length, length-append, sym, subst, ap, arith}
+use Rattle.std.proofs.Common.{◌≡◌, ◌+◌, ◌++◌, ◌≤◌, ◌∙◌, true, List, Option, Result, length, length-append, sym, subst}
+use Rattle.std.proofs.Common.{ap, arith}
 use Rattle.fl_core.specs.Effects.{by_reply, replied, recorded, made}
 use Rattle.fl_core.specs.Inside.Touched.{OthersWait}
 use Rattle.fl_core.specs.Replies.{own_replies, ended_by, reply_to}
@@ -7,6 +8,7 @@ use Rattle.fl_core.specs.Step.{settling, ChangesNothing}
 use Rattle.fl_core.specs.declared.state.Core.TheInside.{Inside}
 use Rattle.fl_waiting.specs.Waiting.{is_parked, AllWait, AreApart}
 use Rattle.fl_core.proofs.Nexts.{next_read, next_waits, next_apart}
+use Rattle.fl_core.proofs.Others.{others_taken}
 use Rattle.fl_core.proofs.Quiet.{alone_quiet, step_quiet}
 use Rattle.fl_core.proofs.Steps as steps
 use Rattle.fl_core.proofs.state.Core.step.Goals as goal
@@ -53,7 +55,7 @@ pub end-touched-requires : goal.end-touched-requires
 end-touched-requires c =
     let order = c.args.order.now in
     let p : Snapshot = c.args.self.now in
-    let own = c.take-own.result in
+    let own = c.take-own.result.0 in
     let s_is : c.take-own.new.self ≡ made (by_reply order own) p = c.take-own.ensures.changed ∙ ap (made (by_reply order own)) c.self.view_is in
     let few : length p.view.parked ≤ p.rules.parked = subst (λ (t : Snapshot). length t.view.parked ≤ t.rules.parked) c.self.view_is c.self.invariant.2 in
     omega (arith, in_room order own p c.take-own.new.self c.tell-2.new.tolds.told s_is c.tell-2.ensures.told few, c.requires, c.clear.ensures.room, c.tell-2.ensures.room)
@@ -62,7 +64,7 @@ pub settle-requires-clause-room : goal.settle-requires-clause-room
 settle-requires-clause-room c =
     let order = c.args.order.now in
     let p : Snapshot = c.args.self.now in
-    let own = c.take-own.result in
+    let own = c.take-own.result.0 in
     let s_is : c.take-own.new.self ≡ made (by_reply order own) p = c.take-own.ensures.changed ∙ ap (made (by_reply order own)) c.self.view_is in
     let few : length p.view.parked ≤ p.rules.parked = subst (λ (t : Snapshot). length t.view.parked ≤ t.rules.parked) c.self.view_is c.self.invariant.2 in
     omega (
@@ -77,18 +79,24 @@ settle-requires-clause-room c =
 
 pub settle-requires-clause-others : goal.settle-requires-clause-others
 settle-requires-clause-others c =
+    let order = c.args.order.now in
+    let before : Snapshot = c.self.inside.parts in
     let s : Snapshot = c.take-own.new.self in
-    c.end-touched.ensures.others (subst (λ t. OthersWait t s.rules s.marking s.view.parked) (sym c.touched_by.ensures) (c.take-own.ensures.others c.self.invariant.0))
+    let own = c.take-own.result.0 in
+    let touched = c.take-own.result.1 in
+    let ensured = c.take-own.ensures in
+    let others = others_taken order before c.self.invariant.0 own touched s ensured.reply ensured.changed ensured.elsewhere in
+    c.end-touched.ensures.others (subst (λ t. OthersWait t s.rules s.marking s.view.parked) (sym c.if_done.ensures) others)
 
 -- what is known of the parts before the order, after its own step, and before settling
-known : (c : goal.After-settle) → steps.IsFresh c.args.order.now c.take-own.result c.args.self.now c.take-own.new.self c.end-touched.new.self
+known : (c : goal.After-settle) → steps.IsFresh c.args.order.now c.take-own.result.0 c.args.self.now c.take-own.new.self c.end-touched.new.self
 known c =
     let order = c.args.order.now in
     record {
       fresh = ap (λ (t : Snapshot). is_parked order.unique t.view.parked) (sym c.self.view_is)
           ∙ ap (λ (i : Inside). is_parked order.unique i.parts.view.parked) (sym c.self-inside.view_is) ∙ sym c.has.ensures.found ∙ c.if-has.false;
       own_is = c.take-own.ensures.reply ∙ ap (λ (t : Snapshot). reply_to t.rules t.view t.marking order order.op) c.self.view_is;
-      s_is = c.take-own.ensures.changed ∙ ap (made (by_reply order c.take-own.result)) c.self.view_is;
+      s_is = c.take-own.ensures.changed ∙ ap (made (by_reply order c.take-own.result.0)) c.self.view_is;
       q_is = c.end-touched.ensures.parked;
       all = subst (λ (t : Snapshot). AllWait t.rules t.marking t.view.parked) c.self.view_is c.self.invariant.0;
       apart = subst (λ (t : Snapshot). AreApart t.view.parked) c.self.view_is c.self.invariant.1;
@@ -102,7 +110,7 @@ few_before c = subst (λ (t : Snapshot). length t.view.parked ≤ t.rules.parked
 few_after : (c : goal.After-settle) → length c.settle.new.self.view.parked ≤ c.args.self.now.rules.parked
 few_after c =
     let order = c.args.order.now in
-    let own = c.take-own.result in
+    let own = c.take-own.result.0 in
     let k = known c in
     let ended = ended_by c.take-own.new.self.view.parked order.op own in
     let later = (settling c.end-touched.new.self).tolds in
@@ -121,7 +129,7 @@ few_after c =
 pub returns-clause-few : goal.returns-clause-few
 returns-clause-few c =
     let order = c.args.order.now in
-    let own = c.take-own.result in
+    let own = c.take-own.result.0 in
     let k = known c in
     omega (
       arith,
@@ -132,28 +140,28 @@ returns-clause-few c =
 
 -- what is told by then
 told : (c : goal.After-settle) → c.settle.new.tolds.told
-    ≡ (own_replies c.args.order.now c.take-own.result ++ ended_by c.take-own.new.self.view.parked c.args.order.now.op c.take-own.result)
+    ≡ (own_replies c.args.order.now c.take-own.result.0 ++ ended_by c.take-own.new.self.view.parked c.args.order.now.op c.take-own.result.0)
     ++ (settling c.end-touched.new.self).tolds
 told c =
     let order = c.args.order.now in
-    let own = c.take-own.result in
+    let own = c.take-own.result.0 in
     let s : Snapshot = c.take-own.new.self in
     c.settle.ensures.tolds
     ∙ ap (λ xs. xs ++ (settling c.end-touched.new.self).tolds)
     (c.end-touched.ensures.tolds ∙ ap (λ xs. xs ++ ended_by s.view.parked order.op own) c.tell-2.ensures.told)
 
 pub returns-clause-replies : goal.returns-clause-replies
-returns-clause-replies c = told c ∙ sym (steps.replies_are c.args.order.now c.take-own.result c.args.self.now c.take-own.new.self c.end-touched.new.self (known c))
+returns-clause-replies c = told c ∙ sym (steps.replies_are c.args.order.now c.take-own.result.0 c.args.self.now c.take-own.new.self c.end-touched.new.self (known c))
 
 pub returns-clause-next : goal.returns-clause-next
 returns-clause-next c =
-    c.settle.ensures.present ∙ sym (steps.next_is c.args.order.now c.take-own.result c.args.self.now c.take-own.new.self c.end-touched.new.self (known c))
+    c.settle.ensures.present ∙ sym (steps.next_is c.args.order.now c.take-own.result.0 c.args.self.now c.take-own.new.self c.end-touched.new.self (known c))
 
 pub returns-clause-an_error_changes_nothing : goal.returns-clause-an_error_changes_nothing
 returns-clause-an_error_changes_nothing c =
     let order = c.args.order.now in
     let p : Snapshot = c.args.self.now in
-    let own = c.take-own.result in
+    let own = c.take-own.result.0 in
     let s : Snapshot = c.take-own.new.self in
     let q : Snapshot = c.end-touched.new.self in
     let k = known c in

@@ -1,4 +1,5 @@
-use Rattle.std.proofs.Common.{◌≡◌, ◌||◌, ◌∙◌, Bool, true, false, cond, Option, Some, None, is_some, Bor, List, [], ◌∷◌, refl, subst, sym, ap}
+use Rattle.std.proofs.Common.{◌≡◌, ◌||◌, ◌∙◌, Bool, true, false, cond, Option, Some, None, is_some, Bor, List, [], ◌∷◌}
+use Rattle.std.proofs.Common.{refl, subst, sym, ap}
 use Rattle.std.specs.Option.{option_copied}
 use Rattle.std.specs.List.{find, list_any}
 use Rattle.std.specs.FinMap.{entries}

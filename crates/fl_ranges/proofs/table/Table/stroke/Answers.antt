@@ -1,6 +1,6 @@
 use Rattle.std.proofs.Common.{◌<◌, ℕ, refl, sym, subst}
 use Rattle.std.specs.Prelude.{IsErr}
-use Rattle.fl_rows.specs.Rows.{limit_of}
+use Rattle.fl_spans.specs.Rows.{limit_of}
 use Rattle.fl_ranges.specs.LockTable.{LockTable}
 use Rattle.fl_ranges.specs.Marking.{stroke_on, stroked}
 use Rattle.fl_ranges.specs.Runs.{runs}

@@ -1,20 +1,15 @@
-use Rattle.std.proofs.Common.{◌≡◌, ℕ, List, subst}
-use Rattle.fl_session.specs.Talk.{bytes_of, IsHeard}
-use Rattle.fl_session.specs.declared.server.Met.{Met}
-use Rattle.fl_session.specs.declared.server.Talk.{Talk}
-use Rattle.fl_session.proofs.MeetLemmas.{met_batch, met_order, met_owed}
+use Rattle.std.proofs.Common.{sym, ◌∙◌}
+use Rattle.fl_session.proofs.MeetLemmas.{met_batch, met_by_itself, met_order}
+use Rattle.fl_transport.specs.Response.{bytes_of}
 use Rattle.fl_session.proofs.server.Server.answer.Goals as goal
-
-heard_as : {a b : Met} (old new : Talk) (message : List ℕ) → a ≡ b → IsHeard a old new message → IsHeard b old new message
-heard_as old new message same heard = subst (λ met. IsHeard met old new message) same heard
 
 pub returns-in-Order-clause-answered : goal.returns-in-Order-clause-answered
 returns-in-Order-clause-answered g c =
     let one = c.take.ensures.taken in
     record {
-      owed = one.owed;
-      met = met_order c.args.self.now c.take.new.self c.meet.new.self c.in-Order.order one.owed c.args.frame.now c.requires.live
-          (heard_as c.args.self.now.talk c.meet.new.self c.args.frame.now c.in-Order.is c.meet.ensures.heard) one.taken;
+      replies = one.replies;
+      met = met_order c.args.self.now c.take.new.self c.meet.new.self c.in-Order.order one.replies c.args.frame.now
+          c.requires.live (sym c.meet.ensures.incoming ∙ c.in-Order.is) c.meet.ensures.advanced one.taken;
       collected = one.collected;
     }
 
@@ -22,15 +17,16 @@ pub returns-in-Batch-clause-answered : goal.returns-in-Batch-clause-answered
 returns-in-Batch-clause-answered g c =
     let many = c.take_all.ensures.taken in
     record {
-      owed = many.owed;
-      met = met_batch c.args.self.now c.take_all.new.self c.meet.new.self c.in-Batch.orders many.owed c.args.frame.now
-          c.requires.live (heard_as c.args.self.now.talk c.meet.new.self c.args.frame.now c.in-Batch.is c.meet.ensures.heard) many.taken;
+      replies = many.replies;
+      met = met_batch c.args.self.now c.take_all.new.self c.meet.new.self c.in-Batch.orders many.replies c.args.frame.now
+          c.requires.live (sym c.meet.ensures.incoming ∙ c.in-Batch.is) c.meet.ensures.advanced many.taken;
       collected = many.collected;
     }
 
-pub returns-in-Owed-clause-answered : goal.returns-in-Owed-clause-answered
-returns-in-Owed-clause-answered g c = record {
-  owed = bytes_of c.in-Owed.owed;
-  met = met_owed c.args.self.now c.meet.new.self c.in-Owed.owed c.args.frame.now (heard_as c.args.self.now.talk c.meet.new.self c.args.frame.now c.in-Owed.is c.meet.ensures.heard);
+pub returns-in-Response-clause-answered : goal.returns-in-Response-clause-answered
+returns-in-Response-clause-answered g c = record {
+  replies = bytes_of c.in-Response.response;
+  met = met_by_itself c.args.self.now c.meet.new.self c.in-Response.response c.args.frame.now c.requires.live
+      (sym c.meet.ensures.incoming ∙ c.in-Response.is) c.meet.ensures.advanced;
   collected = c.collect.ensures.collected;
 }

@@ -1,4 +1,5 @@
-use Rattle.std.proofs.Common.{rules, ◌≡◌, ℕ, suc, ◌==◌, ◌∙◌, true, false, List, [], ◌∷◌, is_some, length, refl, sym, ap, arith}
+use Rattle.std.proofs.Common.{rules, ◌≡◌, ℕ, suc, ◌==◌, ◌∙◌, true, false, List, [], ◌∷◌, is_some, length, refl, sym, ap}
+use Rattle.std.proofs.Common.{arith}
 use Rattle.std.proofs.lemmas.Bool.Decides.{nat_tests}
 use Rattle.std.specs.List.{list_any}
 use Rattle.fl_arena.specs.Chains.{items}
@@ -10,7 +11,8 @@ use Rattle.fl_waiting.proofs.Chain.{some_copied, any_found}
 use Rattle.fl_waiting.proofs.Claims.{any_request}
 use Rattle.fl_waiting.proofs.Counts.{none_past}
 use Rattle.fl_waiting.proofs.parked.Parked.has.Goals as goal
-use Rattle.fl_waiting.proofs.parked.Parked.has.Goals.{then-is_empty-via-then-is_empty, then-is_empty-via-else-is_empty+then-unique-self}
+use Rattle.fl_waiting.proofs.parked.Parked.has.Goals.{then-is_empty-via-then-is_empty}
+use Rattle.fl_waiting.proofs.parked.Parked.has.Goals.{then-is_empty-via-else-is_empty+then-unique-self}
 
 pub returns-clause-found : goal.returns-clause-found
 returns-clause-found c =

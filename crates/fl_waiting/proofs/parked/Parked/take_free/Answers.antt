@@ -1,4 +1,5 @@
-use Rattle.std.proofs.Common.{◌≡◌, ◌∙◌, Bor, Bool, true, false, not, Option, Some, None, MatchOption, List, [], is_some, option_map, slice_get, map, remove, refl, ap, sym, subst}
+use Rattle.std.proofs.Common.{◌≡◌, ◌∙◌, Bor, Bool, true, false, not, Option, Some, None, MatchOption, List, [], is_some}
+use Rattle.std.proofs.Common.{option_map, slice_get, map, remove, refl, ap, sym, subst}
 use Rattle.std.proofs.lemmas.Option.{slice_get-map}
 use Rattle.std.specs.Option.{option_copied}
 use Rattle.fl_arena.specs.Chains.{items}

@@ -1,4 +1,0 @@
-pub mod Newlines
-pub mod Following
-pub mod Hearing
-pub mod Listening

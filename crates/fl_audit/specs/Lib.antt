@@ -1,2 +1,0 @@
-pub mod Audit
-pub mod Inside

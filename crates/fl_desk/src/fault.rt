@@ -1,0 +1,15 @@
+//! Why an order is refused, and why nothing is shown.
+
+/// Why an order is refused.
+#[derive(Clone, Copy, Debug, PartialEq, Eq)]
+pub enum HandFault {
+    /// Want of memory.
+    NoMemory,
+    /// The history is shorter than what the worker handed in or was shown, or has 2^62 orders.
+    NoView,
+}
+
+/// Nothing could be shown to a worker: it can't enter what is published, or what is published is shorter than what
+/// the worker handed in or was shown.
+#[derive(Clone, Copy, Debug, PartialEq, Eq)]
+pub struct NoView;

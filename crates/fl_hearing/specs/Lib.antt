@@ -1,3 +1,0 @@
-pub mod Heard
-pub mod Inside
-pub mod Said

@@ -1,0 +1,58 @@
+//! Lines that nothing keeps.
+
+ghost use Rattle.std.specs.Prelude.{◌≡◌, []};
+
+use crate::history::Line;
+use crate::journal::Journal;
+use crate::past::Past;
+use fl_order::{NoMemory, Order, Told};
+use std::marker::Model;
+
+/// Lines that go nowhere: they take no memory, and there is always room. Contracts see them all the same, as their
+/// list.
+#[derive(Drop)]
+pub struct NoJournal {
+    past: Past<Line>,
+}
+
+impl Model for NoJournal {
+    ghost use Rattle.std.specs.Prelude.{List};
+    ghost use Rattle.fl_history.specs.declared.history.Line.{Line};
+
+    ghost Value = { List Line };
+
+    ghost view = { λ f. f.past.items };
+}
+
+impl NoJournal {
+    /// No lines.
+    pub fn new() -> NoJournal
+        ensures { result ≡ [] }
+    {
+        NoJournal { past: Past::new() }
+    }
+}
+
+impl Journal for NoJournal {
+    ghost lines = { λ lines. lines };
+
+    ghost room = { λ _. 2048 };
+
+    fn reserve(&mut self, _count: usize) -> Result<(), NoMemory> {
+        Ok(())
+    }
+
+    fn push_asked(&mut self, worker: u32, order: &Order) {
+        let line = Line::Asked {
+            worker,
+            order: *order,
+        };
+        self.past = self.past.and(&line);
+    }
+
+    fn push_told(&mut self, told: &Told) {
+        self.past = self.past.and(&Line::Told(*told));
+    }
+
+    fn pause(&mut self) {}
+}

@@ -1,5 +1,0 @@
-use Rattle.std.proofs.Common.{◌≡◌}
-use Rattle.fl_intake_tests.proofs.tests.crew.work.Given as goal
-
-abbrev pub invariant-loop : goal.invariant-loop
-invariant-loop g l = (l.end.of ≡ l.crew.intake) × (l.end.of ≡ l.fn.end.of)

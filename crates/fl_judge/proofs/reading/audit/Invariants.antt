@@ -1,0 +1,11 @@
+use Rattle.std.proofs.Common.{◌≡◌, ◌≤◌, ◌*◌, length}
+use Rattle.fl_judge.specs.Inside.Hearing.{IsRoomy, HasRead}
+use Rattle.fl_judge.proofs.reading.audit.Given as goal
+
+abbrev pub invariant-loop-reads : goal.invariant-loop-reads
+invariant-loop-reads g l = record {
+  room : IsRoomy l.listener;
+  few : length l.listener.judge.lines ≤ 65536 * l.reads;
+  rules : l.listener.judge.rules ≡ l.fn.rules;
+  read : HasRead (g.R.Read.remaining l.initial.input) (g.R.Read.remaining l.input) l.listener;
+}

@@ -1,0 +1,62 @@
+//! What an audit finds, and why one gives up.
+
+ghost use Rattle.fl_judge.specs.Audit.{IsFinding};
+
+use crate::judge::Judge;
+use fl_desk::Verdict;
+use fl_order::NoMemory;
+
+/// What an audit says of a trace.
+#[derive(Clone, Copy, Debug, PartialEq, Eq)]
+pub enum Finding {
+    /// It is one of one thread, under the rules that it is judged by.
+    Legal,
+    /// It isn't, but some legal trace begins with it: replies are missing at its end. This is said of a trace that
+    /// may be cut off, and of no other.
+    Begins,
+    /// It isn't. The lines before this one, counted from 1, are a beginning of a legal trace, and no more are. Where
+    /// only replies are missing at its end, this is the line after its last.
+    Differs(usize),
+}
+
+/// What an audit says of a trace, and whether it begins a legal one and is quiet, as `Judge::quiet` says.
+#[derive(Clone, Copy, Debug, PartialEq, Eq)]
+pub struct Audited {
+    /// Whether it is legal.
+    pub finding: Finding,
+    /// Whether it begins a legal one, and no owner asks for a record lock while it waits for one.
+    pub quiet: bool,
+}
+
+/// Why an audit gave up.
+#[derive(Clone, Copy, Debug, PartialEq, Eq)]
+pub enum AuditFault {
+    /// This line of the trace, from 1, is the first that is no spelling of a line.
+    BadLine(usize),
+    /// Want of memory.
+    NoMemory,
+    /// The trace can't be read to its end.
+    Read,
+}
+
+impl From<NoMemory> for AuditFault {
+    ghost use Rattle.std.specs.Prelude.{◌≡◌};
+    ghost use Rattle.fl_judge.specs.declared.finding.AuditFault.TheVariants.{NoMemory};
+
+    ghost from_gives = { λ _ fault. fault ≡ NoMemory };
+
+    fn from(_e: NoMemory) -> AuditFault {
+        AuditFault::NoMemory
+    }
+}
+
+/// What is found of the lines that a judge heard.
+pub(crate) fn finding_of(judge: &Judge, cut: bool) -> Finding
+    ensures { IsFinding judge.now.rules cut judge.now.lines result }
+{
+    match judge.verdict() {
+        Verdict::Legal => Finding::Legal,
+        Verdict::Differs(_) if cut && judge.begins() => Finding::Begins,
+        Verdict::Differs(n) => Finding::Differs(n),
+    }
+}

@@ -1,2 +1,0 @@
-mod Prefixes
-mod Adding

@@ -1,2 +1,0 @@
--- What the word of a log has. No contract of a public function cites these definitions.
-pub mod Counting

@@ -1,7 +1,0 @@
--- A past owns nothing, so it may go to another thread.
-use denote.RattleType.{RattleType}
-use denote.Param.Send.{IsSend, owning_send, sendable}
-use Rattle.fl_past.specs.contracts.Past.{the_row, the_type}
-
-pub send : (A : RattleType) → IsSend A → IsSend (the_row A)
-send A a = owning_send (the_type A) (search sendable, tt) (λ d. tt) (λ k x w. tt)

@@ -1,0 +1,36 @@
+use Rattle.std.proofs.Common.{rules, ◌≡◌, ◌∙◌}
+use Rattle.fl_board.specs.Seats.{Place}
+use Rattle.fl_intake.specs.Ends.{TakeSide}
+use Rattle.fl_pool.specs.Working.{IsFresh}
+use Rattle.fl_pool.proofs.WorkingLemmas.{all_pushed, first_and_rest, moves, none_back, one_back}
+use Rattle.fl_pool.proofs.pool.joined.Goals as goal
+
+pub loop-thread-init : goal.loop-thread-init
+loop-thread-init g c = (
+  search rules,
+  search rules,
+  search rules,
+  search rules,
+  search rules,
+  search rules,
+  none_back _ _ c.requires.none.1 c.requires.none.0,
+)
+
+pub loop-thread-preserved : goal.loop-thread-preserved
+loop-thread-preserved g c =
+    let i = c.loop-thread.invariant in
+    let steps = c.in-Some.ensures.steps.0 in
+    let seats = c.push_reserved.ensures.items in
+    let ends = c.push_reserved-in-loop-thread.ensures.items in
+    let thread = first_and_rest (λ t. IsFresh c.args.intake.now t.promise.end.value) _ _ c.in-Some.thread steps i.4 in
+    let kept = c.join-seat.ensures in (
+      search rules,
+      search rules,
+      search rules,
+      moves (λ (s : Place). s.worker) (λ t. t.promise.worker) _ _ c.join-seat.result.seat _ _ c.in-Some.thread _ i.3
+          seats steps kept.own,
+      thread.1,
+      all_pushed (λ (e : TakeSide). e.of ≡ c.args.intake.now) c.loop-thread.back.ends.items _ c.join-seat.result.end ends i.5
+          (kept.same ∙ thread.0.0),
+      one_back _ _ _ _ _ _ _ c.join-seat.result.end c.join-seat.result.seat i.6 thread.0.1 kept.did ends seats,
+    )

@@ -1,3 +1,0 @@
-pub mod Circles
-pub mod Stages
-pub mod Runs

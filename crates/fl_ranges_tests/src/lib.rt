@@ -1,0 +1,5 @@
+//! Tests of `fl_ranges`.
+#![tactic(auto)]
+
+#[cfg(test)]
+mod tests;

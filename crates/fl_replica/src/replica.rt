@@ -1,0 +1,151 @@
+//! The copies of the directory that looks read.
+
+ghost use Rattle.std.specs.Prelude.{◌≡◌, ◌↔◌, [], true, Some, IfOk, IfSome, IsSome};
+ghost use Rattle.fl_core.specs.Replies.{own_replies};
+ghost use Rattle.fl_core.specs.Step.{next, replies};
+ghost use Rattle.fl_order.specs.Order.{only_reads};
+ghost use Rattle.fl_replica.specs.Asks.{present_after};
+
+use crate::beginning::Beginning;
+use crate::name::BoardName;
+use fl_core::{Core, Rules, Tolds};
+use fl_order::{Answer, Errno, NoMemory, Order};
+use left_right::{Absorb, ReadHandle};
+use std::alloc::{AllocError, Global};
+use std::marker::Model;
+
+/// An order to be published, with the beginnings of the log before it and with it.
+#[derive(Drop)]
+pub struct Update<L: BoardName> {
+    order: Order,
+    before: Beginning<L>,
+    after: Beginning<L>,
+}
+
+impl<L: BoardName> Model for Update<L> {
+    ghost use Rattle.std.specs.Prelude.{◌≡◌};
+    ghost use Rattle.fl_core.specs.Step.{next};
+    ghost use Rattle.fl_replica.specs.Asks.{Extension, present_after};
+
+    ghost Value = { Extension };
+
+    ghost view = { λ u. record { order = u.order; before = u.before; after = u.after } };
+
+    ghost invariant = { λ u. present_after L.rules u.after ≡ next (present_after L.rules u.before) u.order };
+}
+
+impl<L: BoardName> Update<L> {
+    /// An update by this order, which stands behind the asks of `before`. Those of `after` are they and the order.
+    pub fn new(order: Order, before: Beginning<L>, after: Beginning<L>) -> Update<L>
+        requires { present_after L.rules after ≡ next (present_after L.rules before) order }
+        ensures { (result.before ≡ before) × (result.after ≡ after) × (result.order ≡ order) }
+    {
+        Update {
+            order,
+            before,
+            after,
+        }
+    }
+}
+
+/// A copy of the directory. Contracts see it as the asks that led to it.
+#[derive(Drop)]
+pub struct Replica<L: BoardName> {
+    core: Core,
+    asks: Beginning<L>,
+    // Room for the replies of an order that it takes.
+    tolds: Tolds,
+}
+
+impl<L: BoardName> Model for Replica<L> {
+    ghost use Rattle.std.specs.Prelude.{◌≡◌, List};
+    ghost use Rattle.fl_core.specs.Tolds.{HasRoom};
+    ghost use Rattle.fl_replica.specs.declared.ask.Ask.{Ask};
+    ghost use Rattle.fl_replica.specs.Asks.{present_after};
+
+    ghost Value = { List Ask };
+
+    ghost view = { λ p. p.asks };
+
+    ghost invariant = { λ p. (p.core ≡ present_after L.rules p.asks) × HasRoom p.core.rules p.tolds };
+}
+
+impl<L: BoardName> Replica<L> {
+    /// The directory as it opens, under these rules.
+    pub(crate) fn new(
+        alloc: Global,
+        none: &Beginning<L>,
+        rules: Rules,
+    ) -> Result<Replica<L>, NoMemory>
+        requires none { none.now ≡ [] }
+        requires rules { rules ≡ L.rules }
+        ensures { IfOk result (λ replica. replica ≡ []) }
+    {
+        let tolds = Tolds::new(alloc, rules)?;
+        let core = Core::new(alloc, rules)?;
+        Ok(Replica {
+            core,
+            asks: none.again(),
+            tolds,
+        })
+    }
+
+    // The asks that led to it.
+    fn asks(&self) -> Beginning<L>
+        ensures { result ≡ self.now }
+    {
+        self.asks.again()
+    }
+
+    // What an order that only reads is answered.
+    fn answer(&self, order: &Order) -> Option<Result<Answer, Errno>>
+        ensures reads { IsSome result ↔ (only_reads order.now.op ≡ true) }
+        ensures replies { IsSome result
+            → replies (present_after L.rules self.now) order.now ≡ own_replies order.now result }
+    {
+        self.core.answer(order)
+    }
+}
+
+impl<L: BoardName> Absorb<Update<L>> for Replica<L> {
+    ghost use Rattle.fl_replica.specs.Inside.Updates.{extended};
+
+    type State = Beginning<L>;
+
+    ghost state = { λ p. p };
+
+    ghost applied = { extended };
+
+    ghost never_fails = { Unit {0} };
+
+    fn absorb_first(
+        &mut self,
+        operation: &Update<L>,
+        _other: &Replica<L>,
+    ) -> Result<(), AllocError> {
+        if self.asks.is(&operation.before) {
+            self.core.step(&operation.order, &mut self.tolds);
+            self.asks = operation.after.again();
+        }
+        Ok(())
+    }
+}
+
+/// What an order that only reads is answered by what is published, and the asks that led to that. None where no copy
+/// could be entered.
+pub fn look_at<L: BoardName>(
+    reader: &mut ReadHandle<Replica<L>>,
+    order: &Order,
+) -> Option<(Beginning<L>, Result<Answer, Errno>)>
+    requires { only_reads order.now.op ≡ true }
+    ensures { IfSome result (λ shown.
+        replies (present_after L.rules shown.0) order.now ≡ own_replies order.now (Some shown.1)) }
+{
+    let guard = reader.enter()?;
+    let replica: &Replica<L> = &guard;
+    let asks = replica.asks();
+    let Some(answer) = replica.answer(order) else {
+        unreachable!();
+    };
+    Some((asks, answer))
+}

@@ -1,9 +1,0 @@
-mod Lists
-mod Weights
-mod Kept
-mod Values
-mod Reading
-mod Loops
-mod RowChanges
-mod Calls
-mod Made

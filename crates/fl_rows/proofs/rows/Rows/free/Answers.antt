@@ -1,5 +1,0 @@
-use Rattle.fl_rows.proofs.Reading.{free_told}
-use Rattle.fl_rows.proofs.rows.Rows.free.Goals as goal
-
-pub returns : goal.returns
-returns g c = free_told _ _ _ c.self.view_is _ _ c.self.invariant c.free.ensures.total

@@ -1,2 +1,0 @@
--- How rows are kept. No public clause cites this module.
-pub mod Kept

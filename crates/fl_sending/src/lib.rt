@@ -1,6 +1,0 @@
-//! How the workers of a session share one writer.
-#![tactic(auto)]
-
-mod shared;
-
-pub use shared::{Shared, WriterName};

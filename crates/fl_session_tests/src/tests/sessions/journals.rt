@@ -1,0 +1,79 @@
+//! A session whose lines go to a journal of the caller's.
+
+use super::super::{count_is, fault_is};
+use super::faults::{Worked, worked_session};
+use super::is_traced;
+use super::traced::TWO_LOCKS;
+use fl_core::Rules;
+use fl_history::{History, Journal, Lines};
+use fl_order::{NoMemory, Order, Told};
+use fl_session::{Recorded, record_session};
+use fl_testing::{Source, Trouble};
+use std::alloc::Global;
+use std::process::Abort;
+
+// Lines in memory, and how often it was told that no order is at hand.
+#[derive(Drop)]
+struct Noted {
+    lines: Lines,
+    pauses: usize,
+}
+
+impl Journal for Noted {
+    ghost lines = { λ noted. noted.lines.items };
+
+    ghost room = { λ noted. noted.lines.room };
+
+    fn reserve(&mut self, count: usize) -> Result<(), NoMemory> {
+        Ok(self.lines.reserve(count)?)
+    }
+
+    fn push_asked(&mut self, worker: u32, order: &Order) {
+        self.lines.push_asked(worker, order);
+    }
+
+    fn push_told(&mut self, told: &Told) {
+        self.lines.push_told(told);
+    }
+
+    fn pause(&mut self) {
+        self.pauses = self.pauses.saturating_add(1);
+    }
+}
+
+// The worked session comes in pieces of at most so many bytes. Its lines are with the journal, which is told once
+// before each read, as often as is said.
+fn keeps(rt: &impl Abort, alloc: Global, worked: &Worked, most: usize, pauses: usize) {
+    let mut input = Source::new(&worked.messages, most, Trouble::none());
+    let mut output: Vec<u8> = Vec::new(alloc);
+    let noted = Noted {
+        lines: Lines::new(alloc),
+        pauses: 0,
+    };
+    let (recorded, broken) = record_session(
+        alloc,
+        &mut input,
+        &mut output,
+        noted,
+        Rules::standard(),
+    );
+    let Recorded {
+        journal,
+        fault,
+        refused,
+    } = recorded;
+    assert!(rt; !broken && !refused);
+    fault_is(rt, fault, None);
+    let noted = journal.expect(rt, "a journal");
+    count_is(rt, noted.pauses, pauses);
+    count_is(rt, input.reads, pauses);
+    is_traced(rt, alloc, &History::of(noted.lines), TWO_LOCKS);
+}
+
+// All at once and the stream's end; and 290 bytes in 29 pieces of 10 bytes, and the end.
+#[test]
+fn a_journal_is_told_before_each_read(rt: HostRuntime) {
+    let worked = worked_session(&rt, rt.alloc());
+    keeps(&rt, rt.alloc(), &worked, usize::MAX, 2);
+    keeps(&rt, rt.alloc(), &worked, 10, 30);
+}

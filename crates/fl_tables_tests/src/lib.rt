@@ -1,5 +1,0 @@
-//! Tests of the lock table.
-#![tactic(auto)]
-
-#[cfg(test)]
-mod tests;

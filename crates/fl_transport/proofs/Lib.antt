@@ -1,0 +1,3 @@
+pub mod BatchLemmas
+pub mod InboxLemmas
+pub mod WriteLemmas

@@ -1,0 +1,7 @@
+pub mod Collecting
+pub mod Ending
+pub mod Handshake
+pub mod Inbox
+pub mod Outbox
+pub mod Response
+pub mod Said

@@ -1,0 +1,41 @@
+-- What a message of a session is answered (Linux `fuse.h`, protocol 7.31).
+use Rattle.std.specs.Prelude.{ℕ, List, [], ◌∷◌, map, Ok, Err, if◌then◌else◌}
+use Rattle.fl_order.specs.OpKind.{is_silent}
+use Rattle.fl_order.specs.declared.errno.Errno.{Errno}
+use Rattle.fl_order.specs.declared.errno.Errno.TheVariants.{EAGAIN, ENOMEM}
+use Rattle.fl_order.specs.declared.kind.OpKind.{OpKind}
+use Rattle.fl_order.specs.declared.kind.OpKind.TheVariants.{Interrupt}
+use Rattle.fl_order.specs.declared.told.Answer.TheVariants.{Done}
+use Rattle.fl_transport.specs.declared.response.Response.{Response}
+use Rattle.fl_transport.specs.declared.response.Response.TheVariants.{Nothing, Init, One, Replies}
+use Rattle.fl_wire.specs.Init.{init_spelling}
+use Rattle.fl_wire.specs.Layout.{unique_of}
+use Rattle.fl_wire.specs.Spell.{spelling_of}
+
+-- the bytes of each reply
+abbrev pub bytes_of : Response → List (List ℕ)
+bytes_of Nothing = []
+bytes_of (Init unique step) = init_spelling unique step ∷ []
+bytes_of (One told) = spelling_of told ∷ []
+bytes_of (Replies tolds) = map spelling_of tolds.now
+
+-- a reply that is an error
+abbrev pub error_to : ℕ → Errno → Response
+error_to unique e = One (record { unique = unique; result = Err e })
+
+-- a reply that is an error, or nothing where no reply is owed to a message of this kind
+abbrev pub refusal_of : OpKind → ℕ → Errno → Response
+refusal_of kind unique e = if is_silent kind then Nothing else error_to unique e
+
+-- the error of an order that was refused for want of memory: an INTERRUPT may come again
+abbrev pub without_memory : OpKind → Errno
+without_memory Interrupt = EAGAIN
+without_memory _ = ENOMEM
+
+-- what an order of this kind is answered that was refused for want of memory
+abbrev pub lost : OpKind → ℕ → Response
+lost kind unique = refusal_of kind unique (without_memory kind)
+
+-- what a DESTROY is answered
+abbrev pub goodbye_to : List ℕ → Response
+goodbye_to message = One (record { unique = unique_of message; result = Ok Done })

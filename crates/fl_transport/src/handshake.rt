@@ -1,0 +1,118 @@
+//! How far its messages bring a session, and what each message is to it.
+
+ghost use Rattle.std.specs.Prelude.{◌≡◌, true, false};
+ghost use Rattle.fl_order.specs.OpKind.{kind_of_opcode};
+ghost use Rattle.fl_transport.specs.Handshake.{advanced, agrees, incoming_of, incoming_by, opening, own_answer};
+ghost use Rattle.fl_transport.specs.Handshake.{says_destroy};
+ghost use Rattle.fl_transport.specs.Response.{goodbye_to};
+ghost use Rattle.fl_wire.specs.Layout.{opcode_of};
+ghost use Rattle.fl_wire.specs.Says.{said};
+
+use crate::response::Response;
+use fl_order::{Answer, Errno, OpKind, Order, Refusal, Told};
+use fl_wire::{Batch, Frame, InitStep, read_init, read_lock, read_order};
+
+/// What a message is to a session.
+#[derive(Drop)]
+pub enum Incoming<'a> {
+    /// An order, which the lock directory answers.
+    Order(Order),
+    /// Several orders, which the lock directory takes one after another.
+    Batch(Batch<'a>),
+    /// An answer of the session itself.
+    Response(Response<'static>),
+}
+
+/// How far a session is.
+#[derive(Clone, Copy, Debug)]
+pub struct Handshake {
+    /// An INIT was agreed.
+    pub agreed: bool,
+    /// A DESTROY ended the session.
+    pub over: bool,
+}
+
+impl Handshake {
+    /// No message came yet.
+    pub fn new() -> Handshake
+        ensures { result ≡ opening }
+    {
+        Handshake {
+            agreed: false,
+            over: false,
+        }
+    }
+
+    /// What a message of a session that isn't over is to it.
+    pub fn meet<'a>(&mut self, frame: &Frame<'a>) -> Incoming<'a>
+        requires { self.old.over ≡ false }
+        ensures incoming { result ≡ incoming_of self.old frame.now }
+        ensures advanced { self.new ≡ advanced self.old frame.now }
+        ensures ends { self.new.over ≡ true → result ≡ Incoming.Response (goodbye_to frame.now) }
+    {
+        if self.agreed {
+            self.meet_after_init(frame)
+        } else {
+            Incoming::Response(self.meet_before_init(frame))
+        }
+    }
+
+    // The answer of the session before an INIT is agreed.
+    fn meet_before_init(&mut self, frame: &Frame) -> Response<'static>
+        requires { self.old.agreed ≡ false }
+        ensures response { result ≡ own_answer frame.now (kind_of_opcode (opcode_of frame.now)) }
+        ensures agreed { self.new.agreed ≡ agrees frame.now (kind_of_opcode (opcode_of frame.now)) }
+        ensures live { self.new.over ≡ self.old.over }
+    {
+        match OpKind::of_opcode(frame.opcode()) {
+            Some(OpKind::Init) => {
+                let step = read_init(frame);
+                self.agreed = matches!(step, InitStep::Agreed { .. });
+                Response::Init(frame.unique(), step)
+            }
+            Some(kind) => Response::refusal(kind, frame.unique(), Errno::EPROTO),
+            None => Response::error(frame.unique(), Errno::EPROTO),
+        }
+    }
+
+    // What a message is after an INIT is agreed.
+    fn meet_after_init<'a>(&mut self, frame: &Frame<'a>) -> Incoming<'a>
+        requires { self.old.over ≡ false }
+        ensures incoming { result ≡ incoming_by frame.now (said frame.now) }
+        ensures agreed { self.new.agreed ≡ self.old.agreed }
+        ensures over { self.new.over ≡ says_destroy (said frame.now) }
+        ensures ends { self.new.over ≡ true → result ≡ Incoming.Response (goodbye_to frame.now) }
+    {
+        match read_lock(frame) {
+            Some(order) => Incoming::Order(order),
+            None => self.meet_other(frame),
+        }
+    }
+
+    // The same, and it isn't known that the message asks for a lock. Apart, since room for names is cleared in it.
+    #[inline(never)]
+    fn meet_other<'a>(&mut self, frame: &Frame<'a>) -> Incoming<'a>
+        requires { self.old.over ≡ false }
+        ensures incoming { result ≡ incoming_by frame.now (said frame.now) }
+        ensures agreed { self.new.agreed ≡ self.old.agreed }
+        ensures over { self.new.over ≡ says_destroy (said frame.now) }
+        ensures ends { self.new.over ≡ true → result ≡ Incoming.Response (goodbye_to frame.now) }
+    {
+        match read_order(frame) {
+            Ok(order) => Incoming::Order(order),
+            Err(Refusal::Answer(e)) => Incoming::Response(Response::error(frame.unique(), e)),
+            Err(Refusal::Silent) => Incoming::Response(Response::Nothing),
+            Err(Refusal::Batch) => match frame.batch() {
+                Some(orders) => Incoming::Batch(orders),
+                None => unreachable!(),
+            },
+            Err(Refusal::Destroy) => {
+                self.over = true;
+                Incoming::Response(Response::One(Told {
+                    unique: frame.unique(),
+                    result: Ok(Answer::Done),
+                }))
+            }
+        }
+    }
+}

@@ -1,0 +1,25 @@
+//! The transport of a session: how its stream is cut into messages, what each message is to it, and how its replies
+//! go out. No lock is known here.
+//!
+//! Contracts see the bytes that a reader has left and those that a writer holds, and no failure of either. Only tests
+//! show that a read or a write failed if that is told, and that none is tried again. Contracts let through:
+//! - an `Outbox::send` that is broken at once, and an `Inbox::fill` that tells a failed read though none failed;
+//! - a `ReplyBuffer` with room for one reply alone, so that replies go out one by one.
+//! `fl_session_tests` and `fl_serve_failing_tests` refuse these.
+#![tactic(auto)]
+
+mod fault;
+mod handshake;
+mod inbox;
+mod outbox;
+mod reply_batch;
+mod reply_buffer;
+mod response;
+
+pub use fault::Fault;
+pub use handshake::{Handshake, Incoming};
+pub use inbox::{Filled, Inbox};
+pub use outbox::{Broken, Outbox};
+pub use reply_batch::ReplyBatch;
+pub use reply_buffer::ReplyBuffer;
+pub use response::Response;

@@ -1,0 +1,87 @@
+//! Replies that are collected, and go out together.
+
+ghost use Rattle.std.specs.Prelude.{◌≡◌, [], ◌∷◌, map};
+ghost use Rattle.fl_wire.specs.Init.{init_spelling};
+ghost use Rattle.fl_wire.specs.Spell.{spelling_of};
+ghost use Rattle.fl_transport.specs.Collecting.{Collects};
+ghost use Rattle.fl_transport.specs.Outbox.{is_broken, writer_of};
+ghost use Rattle.fl_transport.specs.Response.{bytes_of};
+
+use crate::outbox::Outbox;
+use crate::reply_buffer::ReplyBuffer;
+use crate::response::Response;
+use fl_order::Told;
+use fl_wire::InitStep;
+use std::io::Write;
+
+/// Replies that are collected, and the outbox that sends them together.
+#[derive(Drop)]
+pub struct ReplyBatch<'a, W> {
+    /// Those that didn't go out yet.
+    pub replies: ReplyBuffer,
+    /// Where they go.
+    pub out: Outbox<&'a mut W>,
+}
+
+impl<W: Write> ReplyBatch<'_, W> {
+    /// Collects what a message is answered. Where there is no more room, what was collected before goes out.
+    pub fn collect(&mut self, response: &Response)
+        ensures same { (writer_of self.new.out).ghost_name ≡ (writer_of self.old.out).ghost_name }
+        ensures collected { Collects
+            (W.contents (writer_of self.old.out).now) (W.contents (writer_of self.new.out).now)
+            self.old.replies self.new.replies (is_broken self.old.out) (is_broken self.new.out) (bytes_of response.now) }
+    {
+        match response {
+            Response::Nothing => {}
+            Response::Init(unique, step) => self.collect_init(*unique, step),
+            Response::One(told) => self.collect_one(told),
+            Response::Replies(tolds) => self.collect_all(tolds),
+        }
+    }
+
+    fn collect_init(&mut self, unique: u64, step: &InitStep)
+        ensures same { (writer_of self.new.out).ghost_name ≡ (writer_of self.old.out).ghost_name }
+        ensures collected { Collects (W.contents (writer_of self.old.out).now) (W.contents (writer_of self.new.out).now)
+            self.old.replies self.new.replies (is_broken self.old.out) (is_broken self.new.out)
+            (init_spelling unique step.now ∷ []) }
+    {
+        self.flush();
+        self.replies.lay_out_init(unique, step);
+    }
+
+    fn collect_one(&mut self, told: &Told)
+        ensures same { (writer_of self.new.out).ghost_name ≡ (writer_of self.old.out).ghost_name }
+        ensures collected { Collects (W.contents (writer_of self.old.out).now) (W.contents (writer_of self.new.out).now)
+            self.old.replies self.new.replies (is_broken self.old.out) (is_broken self.new.out)
+            (spelling_of told.now ∷ []) }
+    {
+        if !self.replies.append(told) {
+            self.flush();
+            self.replies.lay_out(told);
+        }
+    }
+
+    fn collect_all(&mut self, tolds: &[Told])
+        ensures same { (writer_of self.new.out).ghost_name ≡ (writer_of self.old.out).ghost_name }
+        ensures collected { Collects (W.contents (writer_of self.old.out).now) (W.contents (writer_of self.new.out).now)
+            self.old.replies self.new.replies (is_broken self.old.out) (is_broken self.new.out)
+            (map spelling_of tolds.now) }
+    {
+        for told in tolds {
+            self.collect_one(told);
+        }
+    }
+
+    /// Sends what is collected.
+    pub fn flush(&mut self)
+        ensures same { (writer_of self.new.out).ghost_name ≡ (writer_of self.old.out).ghost_name }
+        ensures none { self.new.replies ≡ [] }
+        ensures sent { Collects (W.contents (writer_of self.old.out).now) (W.contents (writer_of self.new.out).now)
+            self.old.replies self.new.replies (is_broken self.old.out) (is_broken self.new.out) [] }
+    {
+        if !self.replies.is_empty() {
+            self.out.post(self.replies.as_slice());
+            self.replies.clear();
+        }
+    }
+}

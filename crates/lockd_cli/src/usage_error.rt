@@ -1,0 +1,41 @@
+//! Why no command is run.
+
+use clap::error::ErrorKind;
+use std::alloc::AllocError;
+use std::io;
+use thiserror::Error;
+
+/// Why no command was run: its text goes to standard error, also where help was asked for.
+#[derive(Debug, Drop, Error)]
+pub enum UsageError {
+    #[error("no memory\n")]
+    NoMemory,
+    #[error("the command line can't be read: {0}\n")]
+    Words(io::Error),
+    #[error("{0}")]
+    CommandLine(clap::Error),
+}
+
+impl From<AllocError> for UsageError {
+    fn from(_e: AllocError) -> UsageError {
+        UsageError::NoMemory
+    }
+}
+
+impl From<io::Error> for UsageError {
+    fn from(error: io::Error) -> UsageError {
+        match error.kind() {
+            io::ErrorKind::OutOfMemory => UsageError::NoMemory,
+            _ => UsageError::Words(error),
+        }
+    }
+}
+
+impl From<clap::Error> for UsageError {
+    fn from(error: clap::Error) -> UsageError {
+        match error.kind() {
+            ErrorKind::OutOfMemory => UsageError::NoMemory,
+            _ => UsageError::CommandLine(error),
+        }
+    }
+}

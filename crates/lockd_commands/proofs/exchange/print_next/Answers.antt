@@ -1,0 +1,13 @@
+use Rattle.std.proofs.Common.{rules}
+use Rattle.lockd_commands.proofs.ExchangeLemmas.{received_more, short_after}
+use Rattle.lockd_commands.proofs.exchange.print_next.Goals as goal
+
+pub returns-in_err-print_reply-clause-stopped : goal.returns-in_err-print_reply-clause-stopped
+returns-in_err-print_reply-clause-stopped g c =
+    let short = short_after c.loop.counter c.args.count c.in_err-print_reply.field-0.0 _ _ _ _ _ _ c.loop.invariant
+    c.in_err-print_reply.ensures.stopped c.loop-test.true in
+    search rules
+
+pub loop-preserved : goal.loop-preserved
+loop-preserved g c =
+    received_more c.loop.counter 1 _ _ _ _ _ _ _ c.loop.invariant c.in_ok-print_reply.ensures.done

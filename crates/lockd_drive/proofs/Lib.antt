@@ -1,4 +1,0 @@
-pub mod DriveLemmas
-pub mod ExchangeLemmas
-pub mod FillLemmas
-pub mod ActionLemmas

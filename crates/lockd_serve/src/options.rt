@@ -1,0 +1,28 @@
+//! How `lockd serve` serves.
+
+use fl_core::Rules;
+use fl_stream::WhenWriterFails;
+
+/// Where the trace of a session goes.
+#[derive(Drop)]
+pub enum TraceTo<T> {
+    /// It is kept in memory, and printed once the session is over.
+    Output,
+    /// Nowhere: no line is kept, so that memory doesn't grow.
+    Nowhere,
+    /// To this writer, which has nothing yet, as orders come. Memory doesn't grow.
+    Writer(T),
+}
+
+/// How a connection is served.
+#[derive(Drop)]
+pub struct ServeOptions<T> {
+    /// How many workers, 1 to 16.
+    pub workers: u32,
+    /// By which rules requests wait.
+    pub rules: Rules,
+    /// Where the trace goes.
+    pub trace: TraceTo<T>,
+    /// What orders come to when the trace's writer can't be written.
+    pub when_full: WhenWriterFails,
+}

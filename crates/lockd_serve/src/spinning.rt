@@ -1,0 +1,138 @@
+//! A reader that spins before it sleeps in a read, and a writer that retries while the reader spins.
+
+ghost use Rattle.std.specs.Prelude.{◌≡◌, true, IsErr, MatchOption};
+ghost use Rattle.std.specs.Io.{ReadsAtMost};
+ghost use Rattle.std.specs.Io.KnownBytes.{Keeps, ReadConsumes};
+
+use std::io;
+use std::io::{ErrorKind, Read, Write};
+use std::os::unix::net::UnixStream;
+
+// How many reads one spin tries, some tens of microseconds long. A client that waits for each reply needs less until
+// its next message.
+const TRIES: u32 = 128;
+
+// How many reads come without a spin after one that found nothing.
+const WITHOUT_SPIN: u32 = 64;
+
+// How often a write is tried that finds a full socket which doesn't wait. It is made to wait before each further try,
+// so that only a spin that begins in just that moment makes one more needed.
+const WRITES: u32 = 1000;
+
+/// Reads what a socket has, and spins before a read sleeps, since to be woken takes longer than an order. After a spin
+/// that found nothing the next 64 reads come without one. So a slow client costs little, and one that is silent
+/// nothing. While it spins the socket doesn't wait, so others write to it by a `Patient` alone.
+#[derive(Drop)]
+pub(crate) struct Spinning<'a, R> {
+    stream: R,
+    // What `stream` reads from. Contracts see that the stream is read, whatever this is.
+    socket: &'a UnixStream,
+    // How many reads come before the next spin.
+    without_spin: u32,
+}
+
+impl<'a, R: Read> Spinning<'a, R> {
+    /// Over a stream that reads from this socket.
+    pub(crate) fn new(stream: R, socket: &'a UnixStream) -> Spinning<'a, R>
+        ensures { result.stream ≡ stream }
+    {
+        Spinning {
+            stream,
+            socket,
+            without_spin: 0,
+        }
+    }
+
+    // What a spin reads; none where it found nothing, or where it isn't time for one.
+    fn spin(&mut self, buf: &mut [u8]) -> Option<io::Result<usize>>
+        ensures { MatchOption result (Keeps (R.remaining self.old.stream) (R.remaining self.new.stream))
+            (λ read. ReadsAtMost read buf.new
+            × ReadConsumes (R.remaining self.old.stream) (R.remaining self.new.stream) read buf.new) }
+    {
+        if self.without_spin > 0 {
+            self.without_spin -= 1;
+            return None;
+        }
+        if self.socket.set_nonblocking(true).is_err() {
+            return None;
+        }
+        let read = read_soon(&mut self.stream, buf);
+        // Where this is refused, a later read or write is told as one that failed.
+        let _ = self.socket.set_nonblocking(false);
+        if read.is_none() {
+            self.without_spin = WITHOUT_SPIN;
+        }
+        read
+    }
+}
+
+impl<R: Read> Read for Spinning<'_, R> {
+    ghost remaining = { λ l. R.remaining l.stream };
+
+    fn read(&mut self, buf: &mut [u8]) -> io::Result<usize> {
+        match self.spin(buf) {
+            Some(read) => read,
+            None => self.stream.read(buf),
+        }
+    }
+}
+
+/// Writes to a socket at which another thread may spin. Where the socket is full and doesn't wait, it is made to wait
+/// again, and the write is tried anew. The spin then ends with a read that sleeps.
+#[derive(Drop)]
+pub(crate) struct Patient<'a, W> {
+    stream: W,
+    // What `stream` writes to. Contracts see that the stream is written to, whatever this is.
+    socket: &'a UnixStream,
+}
+
+impl<'a, W: Write> Patient<'a, W> {
+    /// Over a stream that writes to this socket.
+    pub(crate) fn new(stream: W, socket: &'a UnixStream) -> Patient<'a, W>
+        ensures { result.stream ≡ stream }
+    {
+        Patient { stream, socket }
+    }
+}
+
+impl<W: Write> Write for Patient<'_, W> {
+    ghost contents = { λ p. W.contents p.stream };
+
+    fn write(&mut self, buf: &[u8]) -> io::Result<usize> {
+        for _ in 1..WRITES {
+            let written = self.stream.write(buf);
+            if !would_wait(&written) {
+                return written;
+            }
+            // Where this is refused, the write is told as one that failed at last.
+            let _ = self.socket.set_nonblocking(false);
+        }
+        self.stream.write(buf)
+    }
+
+    fn flush(&mut self) -> io::Result<()> {
+        self.stream.flush()
+    }
+}
+
+// Reads again and again for a while, until a read has more to say than that it would wait.
+fn read_soon<R: Read>(stream: &mut R, buf: &mut [u8]) -> Option<io::Result<usize>>
+    ensures { MatchOption result (Keeps (R.remaining stream.old) (R.remaining stream.new))
+        (λ read. ReadsAtMost read buf.new
+        × ReadConsumes (R.remaining stream.old) (R.remaining stream.new) read buf.new) }
+{
+    for _ in 0..TRIES {
+        let read = stream.read(buf);
+        if !would_wait(&read) {
+            return Some(read);
+        }
+    }
+    None
+}
+
+// Whether a read or a write says no more than that it would wait.
+fn would_wait(done: &io::Result<usize>) -> bool
+    ensures { result ≡ true → IsErr done.now }
+{
+    matches!(done, Err(e) if e.kind() == ErrorKind::WouldBlock)
+}
