@@ -58,22 +58,28 @@ pub record HaveWorked (places back : List Place) (ends : List TakeSide) (any : B
   pub all : length ends ≡ length places
   pub did : HaveDone (λ weight. weight_taken weight ends) back any
 
--- the places that the workers of a session were given, and what came back: places, ends, and whether some order was
--- refused
-pub record Shift : Type 0 where
+-- A session whose workers are joined: its intake and how many take from that, what was left of its reader and is left
+-- now, the places that its workers were given and what came back (places, ends, whether some order was refused), how
+-- its receiver ended, and the amount of the permit to begin.
+pub record Run : Type 0 where
+  pub of : TableId
+  pub takers : ℕ
+  pub left : Option (List ℕ)
+  pub left_now : Option (List ℕ)
   pub places : List Place
   pub back : List Place
   pub ends : List TakeSide
   pub any : Bool
+  pub reader : Received
+  pub amount : ℕ
 
--- What a session came to whose workers are joined: their shift, how the receiver ended, and the amount of the permit to
--- begin. At NoMemory a worker couldn't be started: nothing was read, and the session didn't begin.
-pub record HasRun (of : TableId) (takers : ℕ) (left left_now : Option (List ℕ)) (shift : Shift) (reader : Received)
-    (amount : ℕ) : Type 0 where
-  pub put : (reader.put.of ≡ of) × (reader.put.takers ≡ takers)
-  pub ends : All (λ end. end.of ≡ of) shift.ends
-  pub worked : reader.fault ≢ Some NoMemory → HaveWorked shift.places shift.back shift.ends shift.any
-  pub received : reader.fault ≢ Some NoMemory → HasReceived left left_now reader.fault reader.put.put reader.goodbye
-  pub unread : reader.fault ≡ Some NoMemory → Keeps left left_now
-  pub begun : reader.fault ≢ Some NoMemory → amount ≡ 1
-  pub unbegun : reader.fault ≡ Some NoMemory → amount ≡ 0
+-- What a session came to. At NoMemory a worker couldn't be started: nothing was read, and the session didn't begin.
+pub record HasRun (run : Run) : Type 0 where
+  pub put : (run.reader.put.of ≡ run.of) × (run.reader.put.takers ≡ run.takers)
+  pub ends : All (λ end. end.of ≡ run.of) run.ends
+  pub worked : run.reader.fault ≢ Some NoMemory → HaveWorked run.places run.back run.ends run.any
+  pub received : run.reader.fault ≢ Some NoMemory
+      → HasReceived run.left run.left_now run.reader.fault run.reader.put.put run.reader.goodbye
+  pub unread : run.reader.fault ≡ Some NoMemory → Keeps run.left run.left_now
+  pub begun : run.reader.fault ≢ Some NoMemory → run.amount ≡ 1
+  pub unbegun : run.reader.fault ≡ Some NoMemory → run.amount ≡ 0

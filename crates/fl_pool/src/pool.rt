@@ -131,13 +131,18 @@ impl<
         requires replies { All (HasRoom L.rules) posts.tolds.items }
         requires permit { (0 < N.parts) × (permit.parts ≡ N.parts) × (permit.amount ≡ 0) }
         ensures permit { result.2.parts ≡ N.parts }
-        ensures ran { HasRun self.now.intake put.takers (I.remaining r.old) (I.remaining r.new)
-            (record {
-              places = posts.seats.items;
-              back = result.0.seats.items;
-              ends = result.0.ends.items;
-              any = result.0.refused;
-            }) result.1 result.2.amount }
+        ensures ran { HasRun (record {
+          of = self.now.intake;
+          takers = put.takers;
+          left = I.remaining r.old;
+          left_now = I.remaining r.new;
+          places = posts.seats.items;
+          back = result.0.seats.items;
+          ends = result.0.ends.items;
+          any = result.0.refused;
+          reader = result.1;
+          amount = result.2.amount;
+        }) }
     {
         let rt = self.rt;
         let (back, received, permit, r) = thread::scope(
@@ -151,13 +156,18 @@ impl<
                 requires permit { (0 < N.parts) × (permit.parts ≡ N.parts) × (permit.amount ≡ 0) }
                 ensures same { result.3.ghost_name ≡ r.entry.ghost_name }
                 ensures permit { result.2.parts ≡ N.parts }
-                ensures ran { HasRun self.entry.now.intake put.takers (I.remaining r.entry.now)
-                    (I.remaining result.3.now) (record {
-                      places = posts.seats.items;
-                      back = result.0.seats.items;
-                      ends = result.0.ends.items;
-                      any = result.0.refused;
-                    }) result.1 result.2.amount }
+                ensures ran { HasRun (record {
+                  of = self.entry.now.intake;
+                  takers = put.takers;
+                  left = I.remaining r.entry.now;
+                  left_now = I.remaining result.3.now;
+                  places = posts.seats.items;
+                  back = result.0.seats.items;
+                  ends = result.0.ends.items;
+                  any = result.0.refused;
+                  reader = result.1;
+                  amount = result.2.amount;
+                }) }
             {
                 // Taken whole, so that what its type keeps is known here.
                 let posts = posts;

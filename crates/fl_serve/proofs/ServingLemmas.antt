@@ -19,7 +19,7 @@ use Rattle.fl_order.specs.declared.order.Order.{Order}
 use Rattle.fl_pool.specs.Working.{HaveDone}
 use Rattle.fl_serve.proofs.AskedLemmas.{all_is_handed_in}
 use Rattle.fl_serve.specs.Inside.Closing.{HasAll}
-use Rattle.fl_serve.specs.Serve.{HasNoHistory, IsAsked, IsRecordedBy, IsServedBy, Streams}
+use Rattle.fl_serve.specs.Serve.{HasNoHistory, IsAsked, IsRecordedBy, IsServedBy}
 use Rattle.fl_session.specs.Recorded.{done_of, journal_lines}
 use Rattle.fl_session.specs.declared.done.Done.{Done}
 use Rattle.fl_session.specs.declared.recorded.Recorded.{Recorded}
@@ -27,6 +27,7 @@ use Rattle.fl_transport.specs.Ending.{EndsBy, IsEnding, IsRead}
 use Rattle.fl_transport.specs.Handshake.{handshake_of}
 use Rattle.fl_transport.specs.Response.{bytes_of}
 use Rattle.fl_transport.specs.Said.{said_in}
+use Rattle.fl_transport.specs.Streams.{Streams}
 use Rattle.fl_transport.specs.declared.fault.Fault.{Fault}
 use Rattle.fl_transport.specs.declared.fault.Fault.TheVariants.{NoMemory, NoReader}
 use Rattle.fl_transport.specs.declared.response.Response.{Response}
@@ -48,7 +49,7 @@ never_no_reader told broken messages rest left ends none =
     subst (λ fault. EndsBy fault broken messages rest left) none ends
 
 -- nothing was sent
-pub nothing_sent : (start : Option (List ℕ)) → HasSent start start [] false
+pub nothing_sent : (start : Option (List ℕ)) → HasSent start (record { held = start; waiting = []; broken = false })
 nothing_sent start = record {
   replies = [];
   each = All-nil IsSpelling;
@@ -79,17 +80,18 @@ asked_as_said workers messages put orders places any fault done said is did whos
 }
 
 -- what a session did whose reader ended
-pub served_by : (workers : ℕ) (left left_now held held_now : Option (List ℕ)) (fault : Option Fault) (put : Orders)
-    (goodbye : Response) (broken any : Bool) (orders : Weight → ℕ) (places : List Place) (done : Done)
-    → HasReceived left left_now fault put goodbye → HasSent held held_now [] broken
-    → (broken ≡ false → HasSentLast held held_now (bytes_of goodbye))
+pub served_by : (workers : ℕ) (streams : Streams) (fault : Option Fault) (put : Orders) (goodbye : Response)
+    (broken any : Bool) (orders : Weight → ℕ) (places : List Place) (done : Done)
+    → HasReceived streams.left streams.left_now fault put goodbye
+    → HasSent streams.held (record { held = streams.held_now; waiting = []; broken = broken })
+    → (broken ≡ false → HasSentLast streams.held streams.held_now (bytes_of goodbye))
     → (told : Option Fault) → ((messages : List (List ℕ)) (rest : List ℕ) (left : Option (List ℕ))
     → IsEnding fault (handshake_of messages).over rest left → EndsBy told broken messages rest left)
     → ((weight : Weight) → sum_by weight put ≡ orders weight) → HaveDone orders places any
     → map (λ (p : Place). p.worker) places ≡ range_with_len 0 workers
-    → HasAll places any told done ⊎ HasNoHistory done → IsServedBy left left_now held held_now done
-served_by workers left left_now held held_now fault put goodbye broken any orders places done received sent last told
-    ends is did whose closed = record {
+    → HasAll places any told done ⊎ HasNoHistory done → IsServedBy streams done
+served_by workers streams fault put goodbye broken any orders places done received sent last told ends is did whose
+    closed = record {
       messages = received.messages;
       rest = received.rest;
       broken = broken;
@@ -97,16 +99,19 @@ served_by workers left left_now held held_now fault put goodbye broken any order
       bounded = received.bounded;
       sent = sent;
       goodbye = λ whole over. record { goodbye = goodbye; last = received.over over; sent = last whole };
-      ending = ⊎_elim (λ all. inl (rw all.told (ends received.messages received.rest left_now received.ending))) inr closed;
+      ending = ⊎_elim
+          (λ all. inl (rw all.told (ends received.messages received.rest streams.left_now received.ending))) inr closed;
       orders = ⊎_elim
           (λ all. inl (asked_as_said workers received.messages put orders places any told done received.said is did whose all)) inr closed;
     }
 
 -- what a session did that had no memory, or no reader
-pub unserved : (left left_now held held_now : Option (List ℕ)) (broken : Bool) (done : Done) (fault : Fault)
-    → IsRead left left_now [] [] → HasSent held held_now [] broken → done.fault ≡ Some fault → done.refused ≡ false → done.history ≡ []
-    → (fault ≡ NoMemory) ⊎ (fault ≡ NoReader) → IsServedBy left left_now held held_now done
-unserved left left_now held held_now broken done fault unread sent told untold none why = record {
+pub unserved : (streams : Streams) (broken : Bool) (done : Done) (fault : Fault)
+    → IsRead streams.left streams.left_now [] []
+    → HasSent streams.held (record { held = streams.held_now; waiting = []; broken = broken })
+    → done.fault ≡ Some fault → done.refused ≡ false → done.history ≡ []
+    → (fault ≡ NoMemory) ⊎ (fault ≡ NoReader) → IsServedBy streams done
+unserved streams broken done fault unread sent told untold none why = record {
   messages = [];
   rest = [];
   broken = broken;
@@ -115,7 +120,7 @@ unserved left left_now held held_now broken done fault unread sent told untold n
   sent = sent;
   goodbye = λ whole over. cc;
   ending = ⊎_elim (λ memory. inl
-      (subst (λ fault. EndsBy fault broken [] [] left_now) (sym (told ∙ ap Some memory)) (refl, refl)))
+      (subst (λ fault. EndsBy fault broken [] [] streams.left_now) (sym (told ∙ ap Some memory)) (refl, refl)))
       (λ reader. inr (record { fault = told ∙ ap Some reader; history = none })) why;
   orders = inl (record {
     looked = [];
@@ -130,13 +135,13 @@ unserved left left_now held held_now broken done fault unread sent told untold n
 -- the same, of which nothing was recorded
 pub none_recorded : {K : Type 0} (lines : K → List Line) (rules : Rules) (streams : Streams) (broken : Bool)
     (it : Recorded K) (fault : Fault) → it.journal ≡ None → it.fault ≡ Some fault → it.refused ≡ false
-    → IsRead streams.left streams.left_now [] [] → HasSent streams.held streams.held_now [] broken
+    → IsRead streams.left streams.left_now [] []
+    → HasSent streams.held (record { held = streams.held_now; waiting = []; broken = broken })
     → (fault ≡ NoMemory) ⊎ (fault ≡ NoReader) → Keeps streams.left streams.left_now
     → Keeps streams.held streams.held_now → IsRecordedBy lines rules streams it
 none_recorded lines rules streams broken it fault none is untold unread sent why read wrote = record {
   legal = subst (λ k. IfSome k (λ k. IsLegal rules (lines k))) (sym none) tt;
-  served = unserved streams.left streams.left_now streams.held streams.held_now broken (done_of lines it) fault unread
-      sent is untold (ap (journal_lines lines) none) why;
+  served = unserved streams broken (done_of lines it) fault unread sent is untold (ap (journal_lines lines) none) why;
   back = ⊎_elim (λ memory. inr (inl (is ∙ ap Some memory))) (λ reader. inr (inr (is ∙ ap Some reader))) why;
   nothing = λ _. (none, read);
   unwritten = λ _. wrote;
@@ -147,12 +152,12 @@ none_recorded lines rules streams broken it fault none is untold unread sent why
 pub all_recorded : {K : Type 0} (lines : K → List Line) (rules by : Rules) (streams : Streams)
     (start : Option (List ℕ)) (it : Recorded K) → rules ≡ by → streams.held ≡ start
     → IfSome it.journal (λ k. IsLegal by (lines k))
-    → IsServedBy streams.left streams.left_now start streams.held_now (done_of lines it)
+    → IsServedBy (record streams { held = start }) (done_of lines it)
     → IsSome it.journal ⊎ (it.fault ≡ Some NoReader) → it.fault ≢ Some NoMemory
     → (it.fault ≡ Some NoReader → it.journal ≡ None) → IsRecordedBy lines rules streams it
 all_recorded lines rules by streams start it same begun legal served back some untold = record {
   legal = rw same legal;
-  served = rw begun served;
+  served = subst (λ held. IsServedBy (record streams { held = held }) (done_of lines it)) (sym begun) served;
   back = ⊎_elim inl (λ none. inr (inr none)) back;
   nothing = λ memory. absurd (some memory);
   unwritten = λ memory. absurd (some memory);

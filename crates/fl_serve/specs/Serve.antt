@@ -14,6 +14,7 @@ use Rattle.fl_transport.specs.Ending.{EndsBy, IsRead}
 use Rattle.fl_transport.specs.Handshake.{handshake_of}
 use Rattle.fl_transport.specs.Response.{bytes_of}
 use Rattle.fl_transport.specs.Said.{said_in}
+use Rattle.fl_transport.specs.Streams.{Streams}
 use Rattle.fl_transport.specs.declared.fault.Fault.TheVariants.{NoMemory, NoReader}
 use Rattle.fl_transport.specs.declared.response.Response.{Response}
 use Rattle.fl_waiting.specs.declared.rules.Rules.{Rules}
@@ -45,30 +46,24 @@ pub record HasNoHistory (done : Done) : Type 0 where
 -- session. Whole replies were written behind what the writer held; where a write failed (`broken`), a beginning of
 -- them. Where none failed, the last of them answers the DESTROY that ended the session, if one did. The fault is that
 -- of the end, or the history couldn't be told. Else the history asks what the messages say.
-pub record IsServedBy (left left_now held held_now : Option (List ℕ)) (done : Done) : Type 0 where
+pub record IsServedBy (streams : Streams) (done : Done) : Type 0 where
   pub messages : List (List ℕ)
   pub rest : List ℕ
   pub broken : Bool
-  pub is_read : IsRead left left_now messages rest
+  pub is_read : IsRead streams.left streams.left_now messages rest
   pub bounded : length rest ≤ 8192
-  pub sent : HasSent held held_now [] broken
-  pub goodbye : broken ≡ false → (handshake_of messages).over ≡ true → SaysGoodbye messages held held_now
-  pub ending : EndsBy done.fault broken messages rest left_now ⊎ HasNoHistory done
+  pub sent : HasSent streams.held (record { held = streams.held_now; waiting = []; broken = broken })
+  pub goodbye : broken ≡ false → (handshake_of messages).over ≡ true
+      → SaysGoodbye messages streams.held streams.held_now
+  pub ending : EndsBy done.fault broken messages rest streams.left_now ⊎ HasNoHistory done
   pub orders : IsAsked messages done ⊎ HasNoHistory done
-
--- what a session's reader and its writer had before it and have now
-pub record Streams : Type 0 where
-  pub left : Option (List ℕ)
-  pub left_now : Option (List ℕ)
-  pub held : Option (List ℕ)
-  pub held_now : Option (List ℕ)
 
 -- What came of a session under these rules whose lines went to a journal. They are legal, and with them it served what
 -- was read. The journal is there but at NoMemory, where nothing was read or written, and at NoReader.
 pub record IsRecordedBy {K : Type 0} (lines : K → List Line) (rules : Rules) (streams : Streams) (it : Recorded K)
     : Type 0 where
   pub legal : IfSome it.journal (λ journal. IsLegal rules (lines journal))
-  pub served : IsServedBy streams.left streams.left_now streams.held streams.held_now (done_of lines it)
+  pub served : IsServedBy streams (done_of lines it)
   pub back : IsSome it.journal ⊎ (it.fault ≡ Some NoMemory) ⊎ (it.fault ≡ Some NoReader)
   pub nothing : it.fault ≡ Some NoMemory → (it.journal ≡ None) × Keeps streams.left streams.left_now
   pub unwritten : it.fault ≡ Some NoMemory → Keeps streams.held streams.held_now

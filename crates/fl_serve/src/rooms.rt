@@ -17,10 +17,6 @@ use std::alloc::Global;
 use std::sync::Wait;
 use std::sync::ledger::Blank;
 
-// The most bytes of replies that go out together: those of some 32 locks. Fewer would cost more writes, and more would
-// keep a client waiting that has its next orders ready by then.
-const BATCH_BYTES: usize = 672;
-
 /// All that a session has before its first read.
 pub(crate) struct Rooms<L: BoardName, R: Wait + Drop, J: Journal> {
     pub board: Board<L, R, J>,
@@ -165,7 +161,7 @@ impl Own {
         Ok(Own {
             tolds: Tolds::new(alloc, rules)?,
             inbox: Inbox::new(alloc)?,
-            replies: ReplyBuffer::with_bytes(alloc, BATCH_BYTES)?,
+            replies: ReplyBuffer::new(alloc)?,
         })
     }
 }

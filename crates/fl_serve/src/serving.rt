@@ -49,8 +49,12 @@ pub fn serve<R: Threads + Wait + Sync, I: Read, W: Write + Send + Drop, G: Gate 
 ) -> Done
     requires workers { (0 < workers) × (workers ≤ 16) }
     ensures legal { IsLegal rules result.history }
-    ensures served { IsServedBy (I.remaining r.old) (I.remaining r.new) (W.contents w.old) (W.contents w.new)
-        result }
+    ensures served { IsServedBy (record {
+      left = I.remaining r.old;
+      left_now = I.remaining r.new;
+      held = W.contents w.old;
+      held_now = W.contents w.new;
+    }) result }
     ensures nothing { result.fault ≡ Some Fault.NoMemory
         → (result.history ≡ []) × Keeps (I.remaining r.old) (I.remaining r.new) }
     ensures unwritten { result.fault ≡ Some Fault.NoMemory → Keeps (W.contents w.old) (W.contents w.new) }
@@ -215,8 +219,12 @@ fn finish<'w, L: BoardName, N: WriterName, R: Wait, W: Write, G: Gate, J: Journa
     ensures legal { IfSome result.0.journal (λ journal. IsLegal L.rules (J.lines journal)) }
     ensures served { (left left_now : Option (List ℕ))
         → HasReceived left left_now received.fault received.put.put received.goodbye
-        → IsServedBy left left_now N.start (W.contents result.1.now)
-        (done_of J.lines result.0) }
+        → IsServedBy (record {
+          left = left;
+          left_now = left_now;
+          held = N.start;
+          held_now = W.contents result.1.now;
+        }) (done_of J.lines result.0) }
     ensures back { IsSome result.0.journal ⊎ (result.0.fault ≡ Some Fault.NoReader) }
     ensures untold { (left left_now : Option (List ℕ))
         → HasReceived left left_now received.fault received.put.put received.goodbye

@@ -11,7 +11,7 @@ mod sockets;
 mod talker;
 mod waiting;
 
-use clients::Met;
+use clients::Outcome;
 use fl_core::Rules;
 use fl_desk::{Verdict, check};
 use fl_history::{History, Line};
@@ -70,10 +70,10 @@ fn serve_stream<R: Threads + Wait + Sync, G: Gate + Sync>(
 }
 
 // A session ended without a fault, after a legal history of so many lines, and its client counted so many replies.
-fn ended(rt: &impl Abort, alloc: Global, met: &Met, counts: (usize, usize), workers: u32) {
-    let done = &met.done;
+fn ended(rt: &impl Abort, alloc: Global, outcome: &Outcome, counts: (usize, usize), workers: u32) {
+    let done = &outcome.done;
     fault_is(rt, done.fault, None);
-    let found = (done.history.len(), met.replies);
+    let found = (done.history.len(), outcome.replies);
     assert_eq!(rt; found, counts, "{workers} workers");
     is_legal(rt, alloc, &done.history);
 }

@@ -9,7 +9,7 @@ use Rattle.fl_session.specs.Inside.Serving.{session_with, AreTaken, IsMet, IsTak
 use Rattle.fl_session.specs.Inside.UnderWay.{TakesMany, TakesOne}
 use Rattle.fl_session.specs.Session.{Session, with_incoming, with_message, with_orders}
 use Rattle.fl_session.specs.declared.server.Server.{Server}
-use Rattle.fl_transport.specs.Collecting.{Collects, IsGiven}
+use Rattle.fl_transport.specs.Collecting.{Collects, IsGiven, Outgoing}
 use Rattle.fl_transport.specs.Handshake.{advanced, incoming_of}
 use Rattle.fl_transport.specs.Response.{bytes_of}
 use Rattle.fl_transport.specs.declared.handshake.Handshake.{Handshake}
@@ -67,16 +67,16 @@ met_by_itself old handshake response message live is there = record {
 -- ---- the orders of a batch, one after another
 
 -- none is taken yet
-pub many_first : {K : Type 0} (server : Server K) (held : Option (List ℕ)) (waiting : List ℕ) (broken : Bool)
-    (orders : List Order) → TakesMany server server held held waiting waiting broken broken orders orders
-many_first server held waiting broken orders = record {
+pub many_first : {K : Type 0} (server : Server K) (out : Outgoing) (orders : List Order)
+    → TakesMany server server out out orders orders
+many_first server out orders = record {
   replies = [];
   taken = record {
     refused = [];
     is = λ before later. ap (λ before. with_orders (session_with server before) orders later) (append-nil before);
   };
   collected = record {
-    onward = λ start replies given. subst (IsGiven start held waiting broken) (sym (append-nil replies)) given;
+    onward = λ start replies given. subst (IsGiven start out) (sym (append-nil replies)) given;
   };
 }
 
@@ -90,11 +90,10 @@ left_first orders i order at =
     ∙ ap (λ n. order ∷ drop n orders) next
 
 -- one more is taken
-many_more : {K : Type 0} (old now next : Server K) (a b c : Option (List ℕ)) (u v w : List ℕ) (x y z : Bool)
-    (orders left rest : List Order) (order : Order) → left ≡ order ∷ rest
-    → TakesMany old now a b u v x y orders left → TakesOne now next b c v w y z order
-    → TakesMany old next a c u w x z orders rest
-many_more old now next a b c u v w x y z orders left rest order first many one =
+pub many_more : {K : Type 0} (old now next : Server K) (a b c : Outgoing) (orders left rest : List Order)
+    (order : Order) → left ≡ order ∷ rest → TakesMany old now a b orders left → TakesOne now next b c order
+    → TakesMany old next a c orders rest
+many_more old now next a b c orders left rest order first many one =
     let flag : Bool = one.taken.refused in
     record {
       replies = many.replies ++ one.replies;
@@ -110,23 +109,20 @@ many_more old now next a b c u v w x y z orders left rest order first many one =
             (sym (append_assoc many.taken.refused (flag ∷ []) later));
       };
       collected = record {
-        onward = λ start replies given. subst (IsGiven start c w z) (append_assoc replies many.replies one.replies)
+        onward = λ start replies given. subst (IsGiven start c) (append_assoc replies many.replies one.replies)
             (one.collected.onward start (replies ++ many.replies) (many.collected.onward start replies given));
       };
     }
 
 -- the order at this place is taken
-pub many_next : {K : Type 0} (old now next : Server K) (a b c : Option (List ℕ)) (u v w : List ℕ) (x y z : Bool)
-    (orders : List Order) (i : ℕ) (order : Order) → slice_get orders i ≡ Some order
-    → TakesMany old now a b u v x y orders (drop i orders) → TakesOne now next b c v w y z order
-    → TakesMany old next a c u w x z orders (drop (i + 1) orders)
-many_next old now next a b c u v w x y z orders i order at many one =
-    many_more old now next a b c u v w x y z orders (drop i orders) (drop (i + 1) orders) order (left_first orders i order at)
-    many one
+pub many_next : {K : Type 0} (old now next : Server K) (a b c : Outgoing) (orders : List Order) (i : ℕ)
+    (order : Order) → slice_get orders i ≡ Some order → TakesMany old now a b orders (drop i orders)
+    → TakesOne now next b c order → TakesMany old next a c orders (drop (i + 1) orders)
+many_next old now next a b c orders i order at many one =
+    many_more old now next a b c orders (drop i orders) (drop (i + 1) orders) order (left_first orders i order at) many one
 
 -- all are taken
-pub many_all : {K : Type 0} (old now : Server K) (a b : Option (List ℕ)) (u v : List ℕ) (x y : Bool)
-    (orders : List Order) (i : ℕ) → length orders ≤ i → TakesMany old now a b u v x y orders (drop i orders)
-    → TakesMany old now a b u v x y orders []
-many_all old now a b u v x y orders i past many =
-    subst (TakesMany old now a b u v x y orders) (at_drop_all (λ left. left) orders i past) many
+pub many_all : {K : Type 0} (old now : Server K) (a b : Outgoing) (orders : List Order) (i : ℕ) → length orders ≤ i
+    → TakesMany old now a b orders (drop i orders) → TakesMany old now a b orders []
+many_all old now a b orders i past many =
+    subst (TakesMany old now a b orders) (at_drop_all (λ left. left) orders i past) many

@@ -8,7 +8,7 @@ use Rattle.std.specs.Prelude.{IfSome}
 use Rattle.fl_desk.specs.Legal.{IsLegal, nothing}
 use Rattle.fl_history.specs.declared.history.Line.{Line}
 use Rattle.fl_session.proofs.RulesLemmas.{as_far, rules_of}
-use Rattle.fl_session.specs.Inside.UnderWay.{HasEnded}
+use Rattle.fl_session.specs.Inside.UnderWay.{HasEnded, Way}
 use Rattle.fl_session.specs.Recorded.{journal_lines}
 use Rattle.fl_session.specs.Served.{AreSent, IsServed}
 use Rattle.fl_session.specs.Session.{Session, messages_of, session_of}
@@ -23,7 +23,7 @@ use Rattle.fl_waiting.specs.declared.rules.Rules.{Rules}
 use Rattle.fl_wire.specs.Frame.{IsMessage}
 use Rattle.fl_wire.specs.Spell.{IsReply}
 
--- nothing was read
+-- nothing was read; fl_transport has the same, and another crate's lemma can't be used
 pub nothing_read : (left left_now : Option (List ℕ)) → Keeps left left_now → IsRead left left_now [] []
 nothing_read left left_now kept = record {
   read = [];
@@ -43,49 +43,53 @@ all_sent true sent replies given = given
 all_sent false sent replies given = sym (append-nil sent) ∙ given
 
 -- the rules are those that the desk began with
-under : {K : Type 0} (by rules : Rules) (left left_now held held_now : Option (List ℕ)) (broken : Bool)
-    (server : Server K) (fault : Option Fault) → by ≡ rules
-    → HasEnded by left left_now held held_now [] broken server fault
-    → HasEnded rules left left_now held held_now [] broken server fault
-under by rules left left_now held held_now broken server fault same began =
-    let P : Rules → Type 0 = λ r. HasEnded r left left_now held held_now [] broken server fault in subst P same began
+under : {K : Type 0} (by rules : Rules) (way : Way) (server : Server K) (fault : Option Fault) → by ≡ rules
+    → HasEnded by way server fault → HasEnded rules way server fault
+under by rules way server fault same began =
+    let P : Rules → Type 0 = λ r. HasEnded r way server fault in subst P same began
 
--- a session that ended is served, under the rules that its desk began with
-pub served : {K : Type 0} (by rules : Rules) (left left_now held held_now : Option (List ℕ)) (broken : Bool)
-    (server : Server K) (fault : Option Fault) (done : Done) → by ≡ rules
-    → HasEnded by left left_now held held_now [] broken server fault → done.history ≡ server.desk.lines
+-- a session that ended, of which nothing waits, is served under the rules that its desk began with
+pub served : {K : Type 0} (by rules : Rules) (way : Way) (server : Server K) (fault : Option Fault) (done : Done)
+    → by ≡ rules → way.out.waiting ≡ [] → HasEnded by way server fault → done.history ≡ server.desk.lines
     → ((messages : List (List ℕ)) (rest : List ℕ) (left : Option (List ℕ))
-    → IsEnding fault (handshake_of messages).over rest left → EndsBy done.fault broken messages rest left) → done.refused ≡ server.refused
-    → IsServed rules left left_now held held_now broken done
-served by rules left left_now held held_now broken server fault done same began history told refused =
-    let ended = under by rules left left_now held held_now broken server fault same began in
-    let way = ended.way in
-    let P : Bool → Type 0 = λ over. IsEnding fault over ended.rest left_now in
+    → IsEnding fault (handshake_of messages).over rest left → EndsBy done.fault way.out.broken messages rest left)
+    → done.refused ≡ server.refused
+    → IsServed rules
+    (record { left = way.left; left_now = way.left_now; held = way.start; held_now = way.out.held })
+    way.out.broken done
+served by rules way server fault done same none began history told refused =
+    let ended = under by rules way server fault same began in
+    let session = ended.under in
+    let given = session.given in
+    let P : Bool → Type 0 = λ over. IsEnding fault over ended.rest way.left_now in
+    let Q : List ℕ → Type 0 = λ waiting.
+    AreGiven way.out.broken given.sent waiting (session_of rules session.came).replies in
     record {
-      came = way.came;
+      came = session.came;
       rest = ended.rest;
-      sent = way.given.sent;
-      is_read = way.is_read;
+      sent = given.sent;
+      is_read = session.is_read;
       bounded = ended.bounded;
-      history = history ∙ ap (λ s. s.lines) way.stands;
-      refused = refused ∙ ap (λ s. s.refused) way.stands;
-      framed = way.given.framed;
-      written = way.given.written;
-      are_sent = all_sent broken way.given.sent (session_of rules way.came).replies way.given.are_given;
-      ending = told (messages_of way.came) ended.rest left_now
-          (subst P (ap (λ h. h.over) (ap (λ s. s.handshake) way.stands ∙ as_far rules way.came)) ended.ending);
+      history = history ∙ ap (λ s. s.lines) session.stands;
+      refused = refused ∙ ap (λ s. s.refused) session.stands;
+      framed = given.framed;
+      written = given.written;
+      are_sent = all_sent way.out.broken given.sent (session_of rules session.came).replies
+          (subst Q none given.are_given);
+      ending = told (messages_of session.came) ended.rest way.left_now
+          (subst P (ap (λ h. h.over) (ap (λ s. s.handshake) session.stands ∙ as_far rules session.came)) ended.ending);
     }
 
 -- its desk has these rules
-pub desk_under : {K : Type 0} (by rules : Rules) (left left_now held held_now : Option (List ℕ)) (waiting : List ℕ)
-    (broken : Bool) (server : Server K) (fault : Option Fault) → by ≡ rules
-    → HasEnded by left left_now held held_now waiting broken server fault → server.desk.present.rules ≡ rules
-desk_under by rules left left_now held held_now waiting broken server fault same began =
-    ap (λ (s : Session). s.rules) began.way.stands ∙ rules_of by began.way.came ∙ same
+pub desk_under : {K : Type 0} (by rules : Rules) (way : Way) (server : Server K) (fault : Option Fault) → by ≡ rules
+    → HasEnded by way server fault → server.desk.present.rules ≡ rules
+desk_under by rules way server fault same began =
+    ap (λ (s : Session). s.rules) began.under.stands ∙ rules_of by began.under.came ∙ same
 
 -- what a session did that had no memory
 pub unserved : (rules : Rules) (left held : Option (List ℕ)) (done : Done) → done.history ≡ []
-    → done.fault ≡ Some NoMemory → done.refused ≡ false → IsRead left left [] [] → IsServed rules left left held held false done
+    → done.fault ≡ Some NoMemory → done.refused ≡ false → IsRead left left [] []
+    → IsServed rules (record { left = left; left_now = left; held = held; held_now = held }) false done
 unserved rules left held done history fault refused unread = record {
   came = [];
   rest = [];

@@ -1,11 +1,12 @@
 -- What a session did with a reader and a writer.
-use Rattle.std.specs.Prelude.{◌≡◌, ℕ, ◌≤◌, Bool, true, false, List, length, All, Option}
+use Rattle.std.specs.Prelude.{◌≡◌, ℕ, ◌≤◌, Bool, true, false, List, length, All}
 use Rattle.std.specs.List.{concat}
 use Rattle.std.specs.Io.KnownBytes.{Appends}
 use Rattle.fl_session.specs.Session.{Came, messages_of, session_of}
 use Rattle.fl_session.specs.declared.done.Done.{Done}
 use Rattle.fl_transport.specs.Collecting.{IsProperPrefix}
 use Rattle.fl_transport.specs.Ending.{EndsBy, IsRead}
+use Rattle.fl_transport.specs.Streams.{Streams}
 use Rattle.fl_waiting.specs.declared.rules.Rules.{Rules}
 use Rattle.fl_wire.specs.Spell.{IsReply}
 
@@ -18,16 +19,15 @@ AreSent true sent replies = IsProperPrefix sent (concat replies)
 -- What was read is whole messages and a rest of at most 8192 bytes. The history is the lines of the session of these
 -- messages under these rules, and its replies were written, each of which says its own length: all of them, but where a
 -- write failed (`broken`) a beginning.
-pub record IsServed (rules : Rules) (left left_now held held_now : Option (List ℕ)) (broken : Bool) (done : Done)
-    : Type 0 where
+pub record IsServed (rules : Rules) (streams : Streams) (broken : Bool) (done : Done) : Type 0 where
   pub came : List Came
   pub rest : List ℕ
   pub sent : List ℕ
-  pub is_read : IsRead left left_now (messages_of came) rest
+  pub is_read : IsRead streams.left streams.left_now (messages_of came) rest
   pub bounded : length rest ≤ 8192
   pub history : done.history ≡ (session_of rules came).lines
   pub refused : done.refused ≡ (session_of rules came).refused
   pub framed : All IsReply (session_of rules came).replies
-  pub written : Appends held held_now sent
+  pub written : Appends streams.held streams.held_now sent
   pub are_sent : AreSent broken sent (session_of rules came).replies
-  pub ending : EndsBy done.fault broken (messages_of came) rest left_now
+  pub ending : EndsBy done.fault broken (messages_of came) rest streams.left_now

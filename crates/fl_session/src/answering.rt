@@ -3,6 +3,7 @@
 ghost use Rattle.std.specs.Prelude.{◌≡◌, ℕ, Option, List, [], false};
 ghost use Rattle.fl_session.specs.Inside.Serving.{IsFresh, IsReady};
 ghost use Rattle.fl_session.specs.Inside.UnderWay.{HasEnded, Rests};
+ghost use Rattle.fl_transport.specs.Collecting.{outgoing};
 ghost use Rattle.fl_transport.specs.Inbox.{IsUnread};
 ghost use Rattle.fl_transport.specs.Outbox.{is_broken, writer_of};
 
@@ -25,9 +26,12 @@ pub(crate) fn answer_all<R: Read, W: Write, J: Journal>(
     requires whole { is_broken batch.old.out ≡ false }
     requires empty { batch.old.replies ≡ [] }
     ensures same { (writer_of batch.new.out).ghost_name ≡ (writer_of batch.old.out).ghost_name }
-    ensures ended { HasEnded server.old.desk.present.rules (R.remaining r.old) (R.remaining r.new)
-        (W.contents (writer_of batch.old.out).now) (W.contents (writer_of batch.new.out).now)
-        batch.new.replies (is_broken batch.new.out) server.new result }
+    ensures ended { HasEnded server.old.desk.present.rules (record {
+      left = R.remaining r.old;
+      left_now = R.remaining r.new;
+      start = W.contents (writer_of batch.old.out).now;
+      out = outgoing W.contents batch.new;
+    }) server.new result }
 {
     while !server.handshake.over {
         match inbox.next() {
@@ -54,9 +58,7 @@ fn rest<W: Write, J: Journal>(server: &mut Server<J>, batch: &mut ReplyBatch<'_,
     ensures same { (writer_of batch.new.out).ghost_name ≡ (writer_of batch.old.out).ghost_name }
     ensures over { server.new.handshake.over ≡ server.old.handshake.over }
     ensures ready { IsReady server.old → IsReady server.new }
-    ensures rests { Rests server.old server.new
-        (W.contents (writer_of batch.old.out).now) (W.contents (writer_of batch.new.out).now)
-        batch.old.replies batch.new.replies (is_broken batch.old.out) (is_broken batch.new.out) }
+    ensures rests { Rests server.old server.new (outgoing W.contents batch.old) (outgoing W.contents batch.new) }
 {
     batch.flush();
     server.desk.pause();

@@ -3,7 +3,8 @@
 ghost use Rattle.std.specs.Prelude.{◌≡◌, [], false, IfOk};
 ghost use Rattle.fl_session.specs.Inside.Serving.{IsFresh, IsReady};
 ghost use Rattle.fl_session.specs.Inside.UnderWay.{IsAnswered, TakesMany, TakesOne};
-ghost use Rattle.fl_transport.specs.Outbox.{writer_of, is_broken};
+ghost use Rattle.fl_transport.specs.Collecting.{outgoing};
+ghost use Rattle.fl_transport.specs.Outbox.{writer_of};
 
 use fl_core::{Rules, Tolds};
 use fl_desk::Desk;
@@ -47,12 +48,11 @@ impl<J: Journal> Server<J> {
         requires ready { IsReady self.old }
         ensures ready { IsReady self.new }
         ensures same { (writer_of batch.new.out).ghost_name ≡ (writer_of batch.old.out).ghost_name }
-        ensures answered { IsAnswered self.old self.new
-            (W.contents (writer_of batch.old.out).now) (W.contents (writer_of batch.new.out).now)
-            batch.old.replies batch.new.replies (is_broken batch.old.out) (is_broken batch.new.out) frame.now }
+        ensures answered { IsAnswered self.old self.new (outgoing W.contents batch.old)
+            (outgoing W.contents batch.new) frame.now }
     {
         // By reference, so that no order is copied once more.
-        match &self.handshake.meet(frame) {
+        match &self.handshake.receive(frame) {
             Incoming::Order(order) => self.take(batch, order),
             Incoming::Batch(orders) => self.take_all(batch, orders),
             Incoming::Response(response) => batch.collect(response),
@@ -64,9 +64,8 @@ impl<J: Journal> Server<J> {
         requires { IsReady self.old }
         ensures ready { IsReady self.new }
         ensures same { (writer_of batch.new.out).ghost_name ≡ (writer_of batch.old.out).ghost_name }
-        ensures taken { TakesMany self.old self.new
-            (W.contents (writer_of batch.old.out).now) (W.contents (writer_of batch.new.out).now)
-            batch.old.replies batch.new.replies (is_broken batch.old.out) (is_broken batch.new.out) orders.now [] }
+        ensures taken { TakesMany self.old self.new (outgoing W.contents batch.old)
+            (outgoing W.contents batch.new) orders.now [] }
     {
         for i in 0..orders.count() {
             self.take(batch, &orders.order(i));
@@ -78,9 +77,8 @@ impl<J: Journal> Server<J> {
         requires { IsReady self.old }
         ensures ready { IsReady self.new }
         ensures same { (writer_of batch.new.out).ghost_name ≡ (writer_of batch.old.out).ghost_name }
-        ensures taken { TakesOne self.old self.new
-            (W.contents (writer_of batch.old.out).now) (W.contents (writer_of batch.new.out).now)
-            batch.old.replies batch.new.replies (is_broken batch.old.out) (is_broken batch.new.out) order.now }
+        ensures taken { TakesOne self.old self.new (outgoing W.contents batch.old)
+            (outgoing W.contents batch.new) order.now }
     {
         match self.desk.take(0, order, &mut self.tolds) {
             Ok(()) => batch.collect(&Response::Replies(self.tolds.as_slice())),

@@ -19,10 +19,6 @@ use fl_transport::{Fault, Inbox, Outbox, ReplyBatch, ReplyBuffer};
 use std::alloc::Global;
 use std::io::{Read, Write};
 
-// The most bytes of replies that go out together: some thirty that are done. A client then reads those while others are
-// answered.
-const BATCH_BYTES: usize = 672;
-
 /// What a session came to, and whether a write failed.
 #[derive(Debug, Drop)]
 pub struct Ended {
@@ -38,8 +34,12 @@ pub struct Ended {
 /// the history is made before the first read. A read that fails ends the session, and so does a DESTROY after an INIT
 /// is agreed. After a write that failed it goes on, and writes no more.
 pub fn run_one<R: Read, W: Write>(alloc: Global, r: &mut R, w: &mut W, rules: Rules) -> Done
-    ensures { (broken : Bool)
-        × IsServed rules (R.remaining r.old) (R.remaining r.new) (W.contents w.old) (W.contents w.new) broken result }
+    ensures { (broken : Bool) × IsServed rules (record {
+      left = R.remaining r.old;
+      left_now = R.remaining r.new;
+      held = W.contents w.old;
+      held_now = W.contents w.new;
+    }) broken result }
 {
     let Ended { done, broken: _ } = run_session(alloc, r, w, rules);
     done
@@ -47,8 +47,12 @@ pub fn run_one<R: Read, W: Write>(alloc: Global, r: &mut R, w: &mut W, rules: Ru
 
 /// The same, and tells beside it whether a write failed.
 pub fn run_session<R: Read, W: Write>(alloc: Global, r: &mut R, w: &mut W, rules: Rules) -> Ended
-    ensures { IsServed rules (R.remaining r.old) (R.remaining r.new) (W.contents w.old) (W.contents w.new)
-        result.broken result.done }
+    ensures { IsServed rules (record {
+      left = R.remaining r.old;
+      left_now = R.remaining r.new;
+      held = W.contents w.old;
+      held_now = W.contents w.new;
+    }) result.broken result.done }
 {
     let (recorded, broken) = record_session(alloc, r, w, Lines::new(alloc), rules);
     let done = recorded.into_done(alloc);
@@ -66,8 +70,12 @@ pub fn record_session<R: Read, W: Write, J: Journal + Drop>(
     rules: Rules,
 ) -> (Recorded<J>, bool)
     requires none { J.lines journal ≡ [] }
-    ensures served { IsServed rules (R.remaining r.old) (R.remaining r.new) (W.contents w.old) (W.contents w.new)
-        result.1 (done_of J.lines result.0) }
+    ensures served { IsServed rules (record {
+      left = R.remaining r.old;
+      left_now = R.remaining r.new;
+      held = W.contents w.old;
+      held_now = W.contents w.new;
+    }) result.1 (done_of J.lines result.0) }
     ensures legal { IfSome result.0.journal (λ journal. IsLegal rules (J.lines journal)) }
     ensures back { IsSome result.0.journal ⊎ (result.0.fault ≡ Some Fault.NoMemory) }
     ensures nothing { result.0.fault ≡ Some Fault.NoMemory
@@ -112,6 +120,6 @@ fn memory<J: Journal + Drop>(
 {
     let inbox = Inbox::new(alloc)?;
     let server = Server::new(alloc, journal, rules)?;
-    let replies = ReplyBuffer::with_bytes(alloc, BATCH_BYTES)?;
+    let replies = ReplyBuffer::new(alloc)?;
     Ok((inbox, server, replies))
 }

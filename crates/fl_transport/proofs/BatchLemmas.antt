@@ -6,34 +6,39 @@ use Rattle.std.proofs.lemmas.List.Folds.{concat-append}
 use Rattle.std.specs.List.{concat}
 use Rattle.std.proofs.KnownBytes.{Appends-trans, Appends-kept}
 use Rattle.fl_wire.specs.Spell.{IsReply}
-use Rattle.fl_transport.specs.Collecting.{Collects}
+use Rattle.fl_transport.specs.Collecting.{Collects, IsGiven, Outgoing}
 use Rattle.fl_transport.specs.Outbox.{IsSentBy}
-use Rattle.fl_transport.specs.Collecting.{IsGiven}
+
+-- such a writer, such bytes that wait, and whether a write failed
+abbrev with : Option (List ℕ) → List ℕ → Bool → Outgoing
+with held waiting broken =
+    record {
+      held = held;
+      waiting = waiting;
+      broken = broken;
+    }
 
 -- no reply more
-given_none : (start held : Option (List ℕ)) (waiting : List ℕ) (broken : Bool) (replies : List (List ℕ))
-    → IsGiven start held waiting broken replies → IsGiven start held waiting broken (replies ++ [])
-given_none start held waiting broken replies before =
-    subst (IsGiven start held waiting broken) (sym (append-nil replies)) before
+given_none : (start : Option (List ℕ)) (out : Outgoing) (replies : List (List ℕ)) → IsGiven start out replies
+    → IsGiven start out (replies ++ [])
+given_none start out replies before = subst (IsGiven start out) (sym (append-nil replies)) before
 
 -- nothing is collected
-pub Collects-none : (held : Option (List ℕ)) (waiting : List ℕ) (broken : Bool)
-    → Collects held held waiting waiting broken broken []
-Collects-none held waiting broken = record
-    { onward = λ start replies before. given_none start held waiting broken replies before }
+pub Collects-none : (out : Outgoing) → Collects out out []
+Collects-none out = record { onward = λ start replies before. given_none start out replies before }
 
 -- these replies, and then those
-pub Collects-trans : (a b c : Option (List ℕ)) (u v w : List ℕ) (x y z : Bool) (more others : List (List ℕ))
-    → Collects a b u v x y more → Collects b c v w y z others → Collects a c u w x z (more ++ others)
-Collects-trans a b c u v w x y z more others first second = record {
-  onward = λ start replies before. subst (IsGiven start c w z) (append_assoc replies more others)
-      (second.onward start (replies ++ more) (first.onward start replies before));
+pub Collects-trans : (first between last : Outgoing) (more others : List (List ℕ)) → Collects first between more
+    → Collects between last others → Collects first last (more ++ others)
+Collects-trans first between last more others one two = record {
+  onward = λ start replies before. subst (IsGiven start last) (append_assoc replies more others)
+      (two.onward start (replies ++ more) (one.onward start replies before));
 }
 
 -- a reply is laid out behind those that wait
 given_one : (start held : Option (List ℕ)) (waiting : List ℕ) (broken : Bool) (replies : List (List ℕ))
-    (reply : List ℕ) → IsReply reply
-    → IsGiven start held waiting broken replies → IsGiven start held (waiting ++ reply) broken (replies ++ reply ∷ [])
+    (reply : List ℕ) → IsReply reply → IsGiven start (with held waiting broken) replies
+    → IsGiven start (with held (waiting ++ reply) broken) (replies ++ reply ∷ [])
 given_one start held waiting true replies reply is before =
     let cut = before.are_given in
     let one : concat (replies ++ reply ∷ []) ≡ concat replies ++ reply = simp (concat-append, append-nil) in
@@ -59,17 +64,18 @@ given_one start held waiting false replies reply is before =
     }
 
 -- a reply is collected
-pub Collects-one : (held : Option (List ℕ)) (waiting now : List ℕ) (broken : Bool) (reply : List ℕ)
-    → now ≡ waiting ++ reply → IsReply reply → Collects held held waiting now broken broken (reply ∷ [])
-Collects-one held waiting now broken reply same is = record {
-  onward = λ start replies before. subst (λ now. IsGiven start held now broken (replies ++ reply ∷ [])) (sym same)
-      (given_one start held waiting broken replies reply is before);
+pub Collects-one : (out : Outgoing) (now reply : List ℕ) → now ≡ out.waiting ++ reply → IsReply reply
+    → Collects out (record out { waiting = now }) (reply ∷ [])
+Collects-one out now reply same is = record {
+  onward = λ start replies before.
+      subst (λ now. IsGiven start (record out { waiting = now }) (replies ++ reply ∷ [])) (sym same)
+      (given_one start out.held out.waiting out.broken replies reply is before);
 }
 
 -- what waits is written, as far as a write goes
 given_written : (start held held_now : Option (List ℕ)) (waiting : List ℕ) (broken broken_now : Bool)
     (replies : List (List ℕ)) → IsSentBy held held_now broken broken_now waiting
-    → IsGiven start held waiting broken replies → IsGiven start held_now [] broken_now replies
+    → IsGiven start (with held waiting broken) replies → IsGiven start (with held_now [] broken_now) replies
 given_written start held held_now waiting true true replies kept before = record {
   sent = before.sent;
   written = Appends-kept start held held_now before.sent before.written kept;
@@ -99,22 +105,20 @@ given_written start held held_now waiting false false replies written before = r
 }
 
 -- what waits goes out
-pub Collects-sent : (held held_now : Option (List ℕ)) (waiting bytes now : List ℕ) (broken broken_now : Bool)
-    → bytes ≡ waiting → now ≡ [] → IsSentBy held held_now broken broken_now bytes
-    → Collects held held_now waiting now broken broken_now []
-Collects-sent held held_now waiting bytes now broken broken_now same none sent = record {
-  onward = λ start replies before. given_none start held_now now broken_now replies
-      (subst (λ now. IsGiven start held_now now broken_now replies) (sym none)
-      (given_written start held held_now waiting broken broken_now replies
-      (subst (IsSentBy held held_now broken broken_now) same sent) before));
+pub Collects-sent : (before after : Outgoing) (bytes : List ℕ) → bytes ≡ before.waiting → after.waiting ≡ []
+    → IsSentBy before.held after.held before.broken after.broken bytes → Collects before after []
+Collects-sent before after bytes same none sent = record {
+  onward = λ start replies given. given_none start after replies
+      (subst (λ now. IsGiven start (with after.held now after.broken) replies) (sym none)
+      (given_written start before.held after.held before.waiting before.broken after.broken replies
+      (subst (IsSentBy before.held after.held before.broken after.broken) same sent) given));
 }
 
 -- what waited goes out, and then a reply is collected
-pub Collects-next : (held held_now : Option (List ℕ)) (waiting before between now : List ℕ) (broken broken_now : Bool)
-    (reply : List ℕ) → before ≡ waiting → between ≡ []
-    → Collects held held_now before between broken broken_now [] → now ≡ reply
-    → IsReply reply → Collects held held_now waiting now broken broken_now (reply ∷ [])
-Collects-next held held_now waiting before between now broken broken_now reply kept none sent same is =
-    Collects-trans held held_now held_now waiting between now broken broken_now broken_now [] (reply ∷ [])
-    (subst (λ front. Collects held held_now front between broken broken_now []) kept sent)
-    (Collects-one held_now between now broken_now reply (same ∙ ap (λ front. front ++ reply) (sym none)) is)
+pub Collects-next : (before between : Outgoing) (waiting now reply : List ℕ) → before.waiting ≡ waiting
+    → between.waiting ≡ [] → Collects before between [] → now ≡ reply → IsReply reply
+    → Collects (record before { waiting = waiting }) (record between { waiting = now }) (reply ∷ [])
+Collects-next before between waiting now reply kept none sent same is =
+    Collects-trans (record before { waiting = waiting }) between (record between { waiting = now }) [] (reply ∷ [])
+    (subst (λ front. Collects (record before { waiting = front }) between []) kept sent)
+    (Collects-one between now reply (same ∙ ap (λ front. front ++ reply) (sym none)) is)

@@ -5,3 +5,4 @@ pub mod Inbox
 pub mod Outbox
 pub mod Response
 pub mod Said
+pub mod Streams

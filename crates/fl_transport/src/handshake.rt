@@ -44,21 +44,21 @@ impl Handshake {
     }
 
     /// What a message of a session that isn't over is to it.
-    pub fn meet<'a>(&mut self, frame: &Frame<'a>) -> Incoming<'a>
+    pub fn receive<'a>(&mut self, frame: &Frame<'a>) -> Incoming<'a>
         requires { self.old.over ≡ false }
         ensures incoming { result ≡ incoming_of self.old frame.now }
         ensures advanced { self.new ≡ advanced self.old frame.now }
         ensures ends { self.new.over ≡ true → result ≡ Incoming.Response (goodbye_to frame.now) }
     {
         if self.agreed {
-            self.meet_after_init(frame)
+            self.receive_after_init(frame)
         } else {
-            Incoming::Response(self.meet_before_init(frame))
+            Incoming::Response(self.receive_before_init(frame))
         }
     }
 
     // The answer of the session before an INIT is agreed.
-    fn meet_before_init(&mut self, frame: &Frame) -> Response<'static>
+    fn receive_before_init(&mut self, frame: &Frame) -> Response<'static>
         requires { self.old.agreed ≡ false }
         ensures response { result ≡ own_answer frame.now (kind_of_opcode (opcode_of frame.now)) }
         ensures agreed { self.new.agreed ≡ agrees frame.now (kind_of_opcode (opcode_of frame.now)) }
@@ -76,7 +76,7 @@ impl Handshake {
     }
 
     // What a message is after an INIT is agreed.
-    fn meet_after_init<'a>(&mut self, frame: &Frame<'a>) -> Incoming<'a>
+    fn receive_after_init<'a>(&mut self, frame: &Frame<'a>) -> Incoming<'a>
         requires { self.old.over ≡ false }
         ensures incoming { result ≡ incoming_by frame.now (said frame.now) }
         ensures agreed { self.new.agreed ≡ self.old.agreed }
@@ -85,13 +85,13 @@ impl Handshake {
     {
         match read_lock(frame) {
             Some(order) => Incoming::Order(order),
-            None => self.meet_other(frame),
+            None => self.receive_other(frame),
         }
     }
 
     // The same, and it isn't known that the message asks for a lock. Apart, since room for names is cleared in it.
     #[inline(never)]
-    fn meet_other<'a>(&mut self, frame: &Frame<'a>) -> Incoming<'a>
+    fn receive_other<'a>(&mut self, frame: &Frame<'a>) -> Incoming<'a>
         requires { self.old.over ≡ false }
         ensures incoming { result ≡ incoming_by frame.now (said frame.now) }
         ensures agreed { self.new.agreed ≡ self.old.agreed }

@@ -3,8 +3,8 @@
 ghost use Rattle.std.specs.Prelude.{◌≡◌, [], ◌∷◌, map};
 ghost use Rattle.fl_wire.specs.Init.{init_spelling};
 ghost use Rattle.fl_wire.specs.Spell.{spelling_of};
-ghost use Rattle.fl_transport.specs.Collecting.{Collects};
-ghost use Rattle.fl_transport.specs.Outbox.{is_broken, writer_of};
+ghost use Rattle.fl_transport.specs.Collecting.{Collects, outgoing};
+ghost use Rattle.fl_transport.specs.Outbox.{writer_of};
 ghost use Rattle.fl_transport.specs.Response.{bytes_of};
 
 use crate::outbox::Outbox;
@@ -27,9 +27,8 @@ impl<W: Write> ReplyBatch<'_, W> {
     /// Collects what a message is answered. Where there is no more room, what was collected before goes out.
     pub fn collect(&mut self, response: &Response)
         ensures same { (writer_of self.new.out).ghost_name ≡ (writer_of self.old.out).ghost_name }
-        ensures collected { Collects
-            (W.contents (writer_of self.old.out).now) (W.contents (writer_of self.new.out).now)
-            self.old.replies self.new.replies (is_broken self.old.out) (is_broken self.new.out) (bytes_of response.now) }
+        ensures collected { Collects (outgoing W.contents self.old) (outgoing W.contents self.new)
+            (bytes_of response.now) }
     {
         match response {
             Response::Nothing => {}
@@ -41,8 +40,7 @@ impl<W: Write> ReplyBatch<'_, W> {
 
     fn collect_init(&mut self, unique: u64, step: &InitStep)
         ensures same { (writer_of self.new.out).ghost_name ≡ (writer_of self.old.out).ghost_name }
-        ensures collected { Collects (W.contents (writer_of self.old.out).now) (W.contents (writer_of self.new.out).now)
-            self.old.replies self.new.replies (is_broken self.old.out) (is_broken self.new.out)
+        ensures collected { Collects (outgoing W.contents self.old) (outgoing W.contents self.new)
             (init_spelling unique step.now ∷ []) }
     {
         self.flush();
@@ -51,8 +49,7 @@ impl<W: Write> ReplyBatch<'_, W> {
 
     fn collect_one(&mut self, told: &Told)
         ensures same { (writer_of self.new.out).ghost_name ≡ (writer_of self.old.out).ghost_name }
-        ensures collected { Collects (W.contents (writer_of self.old.out).now) (W.contents (writer_of self.new.out).now)
-            self.old.replies self.new.replies (is_broken self.old.out) (is_broken self.new.out)
+        ensures collected { Collects (outgoing W.contents self.old) (outgoing W.contents self.new)
             (spelling_of told.now ∷ []) }
     {
         if !self.replies.append(told) {
@@ -63,8 +60,7 @@ impl<W: Write> ReplyBatch<'_, W> {
 
     fn collect_all(&mut self, tolds: &[Told])
         ensures same { (writer_of self.new.out).ghost_name ≡ (writer_of self.old.out).ghost_name }
-        ensures collected { Collects (W.contents (writer_of self.old.out).now) (W.contents (writer_of self.new.out).now)
-            self.old.replies self.new.replies (is_broken self.old.out) (is_broken self.new.out)
+        ensures collected { Collects (outgoing W.contents self.old) (outgoing W.contents self.new)
             (map spelling_of tolds.now) }
     {
         for told in tolds {
@@ -76,8 +72,7 @@ impl<W: Write> ReplyBatch<'_, W> {
     pub fn flush(&mut self)
         ensures same { (writer_of self.new.out).ghost_name ≡ (writer_of self.old.out).ghost_name }
         ensures none { self.new.replies ≡ [] }
-        ensures sent { Collects (W.contents (writer_of self.old.out).now) (W.contents (writer_of self.new.out).now)
-            self.old.replies self.new.replies (is_broken self.old.out) (is_broken self.new.out) [] }
+        ensures sent { Collects (outgoing W.contents self.old) (outgoing W.contents self.new) [] }
     {
         if !self.replies.is_empty() {
             self.out.post(self.replies.as_slice());

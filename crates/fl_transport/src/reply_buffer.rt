@@ -12,6 +12,10 @@ use std::marker::Model;
 // The most bytes of a reply.
 const REPLY_BYTES: usize = 160;
 
+// The most bytes of replies that go out together: those of some 32 locks. Fewer would cost more writes, and more would
+// keep a client waiting that could read those while others are answered.
+const BATCH_BYTES: usize = 672;
+
 /// Where replies are laid out, each by itself or one behind the other. Contracts see the bytes that lie there.
 #[derive(Drop)]
 pub struct ReplyBuffer {
@@ -29,13 +33,12 @@ impl Model for ReplyBuffer {
 }
 
 impl ReplyBuffer {
-    /// Room for this many bytes, at least those of one reply, and no reply there yet.
-    pub fn with_bytes(alloc: Global, bytes: usize) -> Result<ReplyBuffer, NoMemory>
-        requires { 160 ≤ bytes }
+    /// Room for the replies that go out together, and no reply there yet.
+    pub fn new(alloc: Global) -> Result<ReplyBuffer, NoMemory>
         ensures { IfOk result (λ made. made ≡ []) }
     {
         Ok(ReplyBuffer {
-            bytes: Vec::with_capacity(alloc, bytes)?,
+            bytes: Vec::with_capacity(alloc, BATCH_BYTES)?,
         })
     }
 

@@ -6,7 +6,7 @@ use Rattle.std.proofs.KnownBytes.{Appends-nil}
 use Rattle.std.specs.Io.KnownBytes.{Appends}
 use Rattle.std.specs.List.{concat}
 use Rattle.fl_order.specs.declared.told.Told.{Told}
-use Rattle.fl_transport.specs.Collecting.{Collects, IsGiven}
+use Rattle.fl_transport.specs.Collecting.{AreGiven, Collects, Outgoing}
 use Rattle.fl_transport.specs.Response.{bytes_of}
 use Rattle.fl_transport.specs.declared.response.Response.{Response}
 use Rattle.fl_transport.specs.declared.response.Response.TheVariants.{Nothing, Init, One, Replies}
@@ -14,7 +14,7 @@ use Rattle.fl_workers.specs.Sent.{IsSpelling, told, greeted, HasSent, HasSentLas
 use Rattle.fl_wire.specs.Spell.{spelling_of, IsReply}
 
 -- before the first reply
-pub starts : (start : Option (List ℕ)) → HasSent start start [] false
+pub starts : (start : Option (List ℕ)) → HasSent start (record { held = start; waiting = []; broken = false })
 starts start = record {
   replies = [];
   each = All-nil IsSpelling;
@@ -33,42 +33,46 @@ each_owed (One t) = All-cons IsSpelling _ [] (told t) (All-nil IsSpelling)
 each_owed (Replies tolds) = each_told tolds.now
 
 -- more replies
-pub collects : (start held held_now : Option (List ℕ)) (waiting waiting_now : List ℕ) (broken broken_now : Bool)
-    (response : Response) → HasSent start held waiting broken
-    → Collects held held_now waiting waiting_now broken broken_now (bytes_of response)
-    → HasSent start held_now waiting_now broken_now
-collects start held held_now waiting waiting_now broken broken_now response before more = record {
+pub collects : (start : Option (List ℕ)) (old now : Outgoing) (response : Response) → HasSent start old
+    → Collects old now (bytes_of response) → HasSent start now
+collects start old now response before more = record {
   replies = before.replies ++ bytes_of response;
   each = All-append IsSpelling before.replies (bytes_of response) before.each (each_owed response);
   given = more.onward start before.replies before.given;
 }
 
 -- no more replies
-pub flushes : (start held held_now : Option (List ℕ)) (waiting waiting_now : List ℕ) (broken broken_now : Bool)
-    → HasSent start held waiting broken → Collects held held_now waiting waiting_now broken broken_now []
-    → HasSent start held_now waiting_now broken_now
-flushes start held held_now waiting waiting_now broken broken_now before none = record {
+pub flushes : (start : Option (List ℕ)) (old now : Outgoing) → HasSent start old → Collects old now []
+    → HasSent start now
+flushes start old now before none = record {
   replies = before.replies ++ [];
   each = subst (All IsSpelling) (sym (append-nil before.replies)) before.each;
   given = none.onward start before.replies before.given;
 }
 
 -- the last response goes out, and nothing waits after it
-pub sent_last : (start held between held_now : Option (List ℕ)) (waiting among waiting_now : List ℕ)
-    (broken broken_then broken_now : Bool) (more : List (List ℕ)) → HasSent start held waiting broken
-    → Collects held between waiting among broken broken_then more
-    → Collects between held_now among waiting_now broken_then broken_now [] → waiting_now ≡ [] → broken_now ≡ false
-    → HasSentLast start held_now more
-sent_last start held between held_now waiting among waiting_now broken broken_then broken_now more before first second
-    none whole =
+pub sent_last : (start : Option (List ℕ)) (old between now : Outgoing) (more : List (List ℕ)) → HasSent start old
+    → Collects old between more → Collects between now [] → now.waiting ≡ [] → now.broken ≡ false
+    → HasSentLast start now.held more
+sent_last start old between now more before first second none whole =
     let replies = before.replies ++ more in
-    let P : List ℕ → Type 0 = λ waiting. IsGiven start held_now waiting broken_now (replies ++ []) in
-    let Q : Bool → Type 0 = λ broken. IsGiven start held_now [] broken (replies ++ []) in
-    let given : IsGiven start held_now [] false (replies ++ []) = subst Q whole
-    (subst P none (second.onward start replies (first.onward start before.replies before.given))) in
+    let given = second.onward start replies (first.onward start before.replies before.given) in
+    let P : List ℕ → Type 0 = λ waiting. AreGiven now.broken given.sent waiting (replies ++ []) in
+    let Q : Bool → Type 0 = λ broken. AreGiven broken given.sent [] (replies ++ []) in
+    let all : AreGiven false given.sent [] (replies ++ []) = subst Q whole (subst P none given.are_given) in
     record {
       replies = before.replies;
       each = before.each;
-      written = subst (Appends start held_now)
-          (sym (append-nil given.sent) ∙ given.are_given ∙ ap concat (append-nil replies)) given.written;
+      written = subst (Appends start now.held)
+          (sym (append-nil given.sent) ∙ all ∙ ap concat (append-nil replies)) given.written;
     }
+
+-- nothing waits any more
+pub at_rest : (start held : Option (List ℕ)) (broken : Bool) (out : Outgoing) → held ≡ out.held → broken ≡ out.broken
+    → out.waiting ≡ [] → HasSent start out
+    → HasSent start (record { held = held; waiting = []; broken = broken })
+at_rest start held broken out same whole none before =
+    let P : Option (List ℕ) → Type 0 = λ held. HasSent start (record { held = held; waiting = []; broken = broken }) in
+    let Q : Bool → Type 0 = λ broken. HasSent start (record out { waiting = []; broken = broken }) in
+    let R : List ℕ → Type 0 = λ waiting. HasSent start (record out { waiting = waiting }) in
+    subst P (sym same) (subst Q (sym whole) (subst R none before))

@@ -143,7 +143,7 @@ impl<'r, 'a, 'w, R: Wait, W: Write, N: WriterName> Receiver<'r, 'a, 'w, R, W, N>
         ensures ends { self.new.handshake.over ≡ true → self.new.goodbye ≡ goodbye_to frame.now }
         ensures live { self.new.handshake.over ≡ false → self.new.goodbye ≡ self.old.goodbye }
     {
-        match self.handshake.meet(frame) {
+        match self.handshake.receive(frame) {
             Incoming::Order(order) => self.put(order),
             Incoming::Batch(orders) => self.put_all(&orders),
             Incoming::Response(response) if self.handshake.over => self.goodbye = response,

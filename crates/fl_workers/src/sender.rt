@@ -1,7 +1,7 @@
 //! The replies of a session whose workers share one writer.
 
 ghost use Rattle.std.specs.Prelude.{◌≡◌, ◌<◌, [], true, false};
-ghost use Rattle.fl_transport.specs.Collecting.{Collects};
+ghost use Rattle.fl_transport.specs.Collecting.{Collects, Outgoing};
 ghost use Rattle.fl_workers.specs.Sent.{HasSent, HasSentLast};
 ghost use Rattle.fl_transport.specs.Response.{bytes_of};
 
@@ -41,20 +41,16 @@ pub struct SharedSender<'a, W: Write, N: WriterName> {
 
 impl<'a, W: Write, N: WriterName> Model for SharedSender<'a, W, N> {
     ghost use Rattle.std.specs.Prelude.{◌≡◌, [], true, false};
-    ghost use Rattle.fl_transport.specs.Outbox.{is_broken, writer_of};
-    ghost use Rattle.fl_workers.specs.Sent.{Outgoing, HasSent};
+    ghost use Rattle.fl_transport.specs.Collecting.{outgoing};
+    ghost use Rattle.fl_transport.specs.Outbox.{writer_of};
+    ghost use Rattle.fl_workers.specs.Sent.{Sending, HasSent};
 
-    ghost Value = { Outgoing };
+    ghost Value = { Sending };
 
-    ghost view = { λ s. record {
-      held = W.contents (writer_of s.batch.out).now;
-      waiting = s.batch.replies;
-      broken = is_broken s.batch.out;
-      begun = s.begun;
-    } };
+    ghost view = { λ s. record { out = outgoing W.contents s.batch; begun = s.begun } };
 
     ghost invariant = { λ s. ((writer_of s.batch.out).ghost_name ≡ N.writer)
-        × HasSent N.start (W.contents (writer_of s.batch.out).now) s.batch.replies (is_broken s.batch.out)
+        × HasSent N.start (outgoing W.contents s.batch)
         × (s.begun ≡ true → s.book.total ≡ 1)
         × (s.begun ≡ false
         → (s.book.total ≡ 0) × (W.contents (writer_of s.batch.out).now ≡ N.start) × (s.batch.replies ≡ [])) };
@@ -72,7 +68,10 @@ impl<'a, W: Write, N: WriterName> SharedSender<'a, W, N> {
         requires empty { replies ≡ [] }
         requires start { W.contents writer.old ≡ N.start }
         requires named { writer.ghost_name ≡ N.writer }
-        ensures unsent { result.0 ≡ record { held = N.start; waiting = []; broken = false; begun = false } }
+        ensures unsent { result.0 ≡ record {
+          out = record { held = N.start; waiting = []; broken = false };
+          begun = false;
+        } }
         ensures permit { (result.1.parts ≡ N.parts) × (result.1.amount ≡ 0) }
     {
         let (book, permit) = blank.open::<N>();
@@ -102,12 +101,11 @@ impl<'a, W: Write, N: WriterName> SharedSender<'a, W, N> {
     /// Collects a response, to be sent by the next flush or before. Before the session begins nothing is collected.
     #[tactic(auto, using(crate::proofs::SenderLemmas::collects))]
     pub fn collect(&mut self, response: &Response)
-        ensures before { HasSent N.start self.old.held self.old.waiting self.old.broken }
+        ensures before { HasSent N.start self.old.out }
         ensures unbegun { self.old.begun ≡ false → self.new ≡ self.old }
         ensures begun { self.new.begun ≡ self.old.begun }
         ensures collected { self.old.begun ≡ true
-            → Collects self.old.held self.new.held self.old.waiting self.new.waiting
-            self.old.broken self.new.broken (bytes_of response.now) }
+            → Collects self.old.out self.new.out (bytes_of response.now) }
     {
         if self.begun {
             self.batch.collect(response);
@@ -117,11 +115,10 @@ impl<'a, W: Write, N: WriterName> SharedSender<'a, W, N> {
     /// Sends what is collected.
     #[tactic(auto, using(crate::proofs::SenderLemmas::flushes))]
     pub fn flush(&mut self)
-        ensures none { self.new.waiting ≡ [] }
+        ensures none { self.new.out.waiting ≡ [] }
         ensures unbegun { self.old.begun ≡ false → self.new ≡ self.old }
         ensures begun { self.new.begun ≡ self.old.begun }
-        ensures sent { self.old.begun ≡ true → Collects self.old.held self.new.held self.old.waiting self.new.waiting
-            self.old.broken self.new.broken [] }
+        ensures sent { self.old.begun ≡ true → Collects self.old.out self.new.out [] }
     {
         if self.begun {
             self.batch.flush();
@@ -133,7 +130,7 @@ impl<'a, W: Write, N: WriterName> SharedSender<'a, W, N> {
     pub fn close(self, permit: Share<N>, goodbye: &Response) -> (&'a mut W, bool)
         requires all { permit.parts ≡ N.parts }
         ensures same { result.0.ghost_name ≡ N.writer }
-        ensures sent { HasSent N.start (W.contents result.0.now) [] result.1 }
+        ensures sent { HasSent N.start (record { held = W.contents result.0.now; waiting = []; broken = result.1 }) }
         ensures last { permit.amount ≡ 1 → result.1 ≡ false
             → HasSentLast N.start (W.contents result.0.now) (bytes_of goodbye.now) }
         ensures nothing { permit.amount ≡ 0 → W.contents result.0.now ≡ N.start }
@@ -149,9 +146,9 @@ impl<'a, W: Write, N: WriterName> SharedSender<'a, W, N> {
     // Gives the writer back, and says whether a write failed. What is collected and wasn't sent is lost.
     fn into_writer(self) -> (&'a mut W, bool)
         ensures same { result.0.ghost_name ≡ N.writer }
-        ensures held { W.contents result.0.now ≡ self.entry.held }
-        ensures broken { result.1 ≡ self.entry.broken }
-        ensures sent { HasSent N.start (W.contents result.0.now) self.entry.waiting result.1 }
+        ensures held { W.contents result.0.now ≡ self.entry.out.held }
+        ensures broken { result.1 ≡ self.entry.out.broken }
+        ensures sent { HasSent N.start self.entry.out }
         ensures unbegun { self.entry.begun ≡ false → W.contents result.0.now ≡ N.start }
     {
         let SharedSender {

@@ -12,6 +12,3 @@ mod tally;
 mod thirds;
 mod thousands;
 mod watch;
-
-// Bytes of replies that go out together: those of some 40 replies without a body.
-const BATCH_BYTES: usize = 672;

@@ -13,6 +13,7 @@ use Rattle.lockd_commands.specs.Bytes.{IsSession}
 use Rattle.lockd_commands.specs.Bytes.Inside.{AreReplies}
 use Rattle.lockd_faults.specs.HexLines.{hex_lines}
 use Rattle.fl_session.specs.Served.{IsServed}
+use Rattle.fl_transport.specs.Streams.{Streams}
 use Rattle.fl_wire.specs.Spell.{IsReply}
 use Rattle.fl_session.specs.declared.done.Done.{Done}
 use Rattle.fl_session.specs.Session.{session_of}
@@ -139,22 +140,32 @@ tells_all sent [] lines so_far none replies framed e =
     t.lines_are ∙ ap hex_lines (sym all)
 tells_all sent (c ∷ rest) lines so_far none replies framed e = absurd (omega arith)
 
+-- a stream that was read, what of it is unread, and what was written to a vector that held this
+abbrev through : List ℕ → List ℕ → List ℕ → List ℕ → Streams
+through stream unread old held =
+    record {
+      left = Some stream;
+      left_now = Some unread;
+      held = Some old;
+      held_now = Some held;
+    }
+
 -- a session whose writes didn't fail, over a stream, by what was written to an empty vector
 pub record Held (rules : Rules) (stream unread empty held : List ℕ) (broken : Bool) (done : Done) : Type 0 where
   pub none : empty ≡ []
   pub whole : broken ≡ false
-  pub served : IsServed rules (Some stream) (Some unread) (Some empty) (Some held) broken done
+  pub served : IsServed rules (through stream unread empty held) broken done
 
 served_whole : (rules : Rules) (stream unread empty held : List ℕ) (broken : Bool) (done : Done)
     → Held rules stream unread empty held broken done
-    → IsServed rules (Some stream) (Some unread) (Some []) (Some held) false done
+    → IsServed rules (through stream unread [] held) false done
 served_whole rules stream unread empty held broken done h =
-    let P : Bool → Type 0 = λ b. IsServed rules (Some stream) (Some unread) (Some empty) (Some held) b done in
-    let Q : List ℕ → Type 0 = λ old. IsServed rules (Some stream) (Some unread) (Some old) (Some held) false done in
+    let P : Bool → Type 0 = λ b. IsServed rules (through stream unread empty held) b done in
+    let Q : List ℕ → Type 0 = λ old. IsServed rules (through stream unread old held) false done in
     subst Q h.none (subst P h.whole h.served)
 
-held_is : (rules : Rules) (stream unread held : List ℕ) (done : Done) (served : IsServed rules (Some stream) (Some unread) (Some [])
-    (Some held) false done)
+held_is : (rules : Rules) (stream unread held : List ℕ) (done : Done)
+    (served : IsServed rules (through stream unread [] held) false done)
     → held ≡ concat (session_of rules served.came).replies
 held_is rules stream unread held done served = served.written ∙ served.are_sent
 

@@ -18,7 +18,12 @@ pub record IsSession (rules : Rules) (stream lines : List ℕ) (fault : Option S
   pub done : Done
   pub unread : List ℕ
   pub sent : List ℕ
-  pub served : IsServed rules (Some stream) (Some unread) (Some []) (Some sent) false done
+  pub served : IsServed rules (record {
+    left = Some stream;
+    left_now = Some unread;
+    held = Some [];
+    held_now = Some sent;
+  }) false done
   pub fault_is : done.fault ≡ fault
   pub printed : lines ≡ hex_lines (session_of rules served.came).replies
 

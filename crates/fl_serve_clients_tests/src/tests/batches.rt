@@ -54,6 +54,6 @@ pub(super) fn forget_together(rt: &impl Abort, alloc: Global, stream: &UnixStrea
 // CREATE, UNLINK and RELEASE with their replies, and two FORGETs. GETATTR is no line.
 #[test]
 fn a_file_goes_by_a_batch(rt: HostRuntime) {
-    let met = session(&rt, rt.alloc(), Client::Forgets, 4, &OpenGate);
-    ended(&rt, rt.alloc(), &met, (8, 0), 4);
+    let outcome = session(&rt, rt.alloc(), Client::Forgets, 4, &OpenGate);
+    ended(&rt, rt.alloc(), &outcome, (8, 0), 4);
 }

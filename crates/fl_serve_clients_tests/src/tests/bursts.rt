@@ -80,7 +80,7 @@ fn no_order_waits_for_a_worker_while_another_sleeps(rt: HostRuntime) {
             come: AtomicU64::new(0),
             given_up: AtomicBool::new(false),
         };
-        let met = session(&rt, rt.alloc(), Client::Bursts(workers), workers, &gate);
-        has_met(&rt, &met.done, &gate, workers);
+        let outcome = session(&rt, rt.alloc(), Client::Bursts(workers), workers, &gate);
+        has_met(&rt, &outcome.done, &gate, workers);
     }
 }

@@ -34,13 +34,13 @@ pub(super) enum Client {
 
 /// What a session came to, and how many replies its client counted up to the stream's end.
 #[derive(Drop)]
-pub(super) struct Met {
+pub(super) struct Outcome {
     pub done: Done,
     pub replies: usize,
 }
 
 // What this client does at its end of a socket.
-fn talk<R: Abort + Threads + Clock + CpuClock + Sync>(
+fn run_client<R: Abort + Threads + Clock + CpuClock + Sync>(
     rt: &R,
     alloc: Global,
     client: Client,
@@ -65,12 +65,12 @@ pub(super) fn session<R: Abort + Threads + Wait + Net + Clock + CpuClock + Sync,
     client: Client,
     workers: u32,
     gate: &G,
-) -> Met {
+) -> Outcome {
     let (near, far) = socket_pair(rt);
     let (replies, done) = thread::join(
         rt,
-        move || talk(rt, alloc, client, &near),
+        move || run_client(rt, alloc, client, &near),
         move || serve_stream(rt, alloc, &far, workers, gate),
     );
-    Met { done, replies }
+    Outcome { done, replies }
 }

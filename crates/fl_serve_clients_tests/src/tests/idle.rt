@@ -36,7 +36,7 @@ fn sleep_idly<R: Abort + Clock + CpuClock>(rt: &R) {
 #[test]
 fn an_idle_server_uses_no_processor_time(rt: HostRuntime) {
     for workers in [1, 16] {
-        let met = session(&rt, rt.alloc(), Client::Idles, workers, &OpenGate);
-        fault_is(&rt, met.done.fault, None);
+        let outcome = session(&rt, rt.alloc(), Client::Idles, workers, &OpenGate);
+        fault_is(&rt, outcome.done.fault, None);
     }
 }

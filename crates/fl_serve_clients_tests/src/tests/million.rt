@@ -1,6 +1,6 @@
 //! A long session of mixed orders over a socket.
 
-use super::clients::{Client, Met, session};
+use super::clients::{Client, Outcome, session};
 use super::replies::{MOST_BODY, next_reply};
 use super::{asked_in, count_is, fault_is, is_legal, send};
 use fl_serve::OpenGate;
@@ -227,19 +227,19 @@ fn has_no_reads(rt: &impl Abort, asked: &[u64]) {
 }
 
 // The session ended with the stream, with all orders and a legal history.
-fn is_whole(rt: &impl Abort, alloc: Global, met: &Met) {
-    let history = &met.done.history;
-    fault_is(rt, met.done.fault, None);
+fn is_whole(rt: &impl Abort, alloc: Global, outcome: &Outcome) {
+    let history = &outcome.done.history;
+    fault_is(rt, outcome.done.fault, None);
     let asked = asked_in(rt, alloc, history);
     has_no_reads(rt, &asked);
-    has_all(rt, history.len(), asked.len(), met.replies);
+    has_all(rt, history.len(), asked.len(), outcome.replies);
     is_legal(rt, alloc, history);
 }
 
 #[test]
 fn a_million_orders(rt: HostRuntime) {
     for workers in [1, 4, 16] {
-        let met = session(&rt, rt.alloc(), Client::SendsAMillion, workers, &OpenGate);
-        is_whole(&rt, rt.alloc(), &met);
+        let outcome = session(&rt, rt.alloc(), Client::SendsAMillion, workers, &OpenGate);
+        is_whole(&rt, rt.alloc(), &outcome);
     }
 }

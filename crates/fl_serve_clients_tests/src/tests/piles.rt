@@ -1,6 +1,6 @@
 //! A client that doesn't read its replies for a long time.
 
-use super::clients::{Client, Met, session};
+use super::clients::{Client, Outcome, session};
 use super::replies::count_replies;
 use super::{count_is, fault_is, send};
 use fl_serve::OpenGate;
@@ -70,16 +70,16 @@ pub(super) fn pile_up<R: Abort + Threads + Clock + Sync>(
 }
 
 // All orders have a reply.
-fn has_piled_up(rt: &impl Abort, met: &Met) {
-    count_is(rt, met.replies, 10_002);
-    fault_is(rt, met.done.fault, None);
-    count_is(rt, met.done.history.len(), 20_002);
+fn has_piled_up(rt: &impl Abort, outcome: &Outcome) {
+    count_is(rt, outcome.replies, 10_002);
+    fault_is(rt, outcome.done.fault, None);
+    count_is(rt, outcome.done.history.len(), 20_002);
 }
 
 #[test]
 fn replies_pile_up(rt: HostRuntime) {
     for workers in [1, 4] {
-        let met = session(&rt, rt.alloc(), Client::ReadsLate, workers, &OpenGate);
-        has_piled_up(&rt, &met);
+        let outcome = session(&rt, rt.alloc(), Client::ReadsLate, workers, &OpenGate);
+        has_piled_up(&rt, &outcome);
     }
 }

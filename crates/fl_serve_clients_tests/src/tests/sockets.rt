@@ -1,6 +1,6 @@
 //! Sessions over a socket with clients that wait for their replies.
 
-use super::clients::{Client, Met, session};
+use super::clients::{Client, Outcome, session};
 use super::talker::Talker;
 use super::{count_is, ended, fault_is};
 use fl_serve::OpenGate;
@@ -72,9 +72,9 @@ fn is_shown(rt: &impl Abort, shown: &[u8]) {
 
 #[test]
 fn a_lock_that_was_set_is_shown(rt: HostRuntime) {
-    let met = session(&rt, rt.alloc(), Client::Looks, 4, &OpenGate);
+    let outcome = session(&rt, rt.alloc(), Client::Looks, 4, &OpenGate);
     // GETLK is no line.
-    ended(&rt, rt.alloc(), &met, (400, 0), 4);
+    ended(&rt, rt.alloc(), &outcome, (400, 0), 4);
 }
 
 // A lock, a GETATTR or an unlock of the file that was made first.
@@ -97,17 +97,17 @@ pub(super) fn one_at_a_time(rt: &impl Abort, alloc: Global, stream: &UnixStream)
     talker.end(rt)
 }
 
-fn has_all_replies(rt: &impl Abort, met: &Met) {
-    count_is(rt, met.replies, 0);
-    fault_is(rt, met.done.fault, None);
+fn has_all_replies(rt: &impl Abort, outcome: &Outcome) {
+    count_is(rt, outcome.replies, 0);
+    fault_is(rt, outcome.done.fault, None);
     // The 3,333 GETATTR are no lines.
-    count_is(rt, met.done.history.len(), 13_336);
+    count_is(rt, outcome.done.history.len(), 13_336);
 }
 
 #[test]
 fn no_reply_stays_behind(rt: HostRuntime) {
     for workers in [1, 16] {
-        let met = session(&rt, rt.alloc(), Client::SendsOneByOne, workers, &OpenGate);
-        has_all_replies(&rt, &met);
+        let outcome = session(&rt, rt.alloc(), Client::SendsOneByOne, workers, &OpenGate);
+        has_all_replies(&rt, &outcome);
     }
 }

@@ -1,6 +1,6 @@
 //! A client whose requests wait when it goes.
 
-use super::clients::{Client, Met, session};
+use super::clients::{Client, Outcome, session};
 use super::talker::Talker;
 use super::{asked_in, count_is, ended};
 use fl_serve::OpenGate;
@@ -33,15 +33,15 @@ pub(super) fn ask_and_go(rt: &impl Abort, alloc: Global, stream: &UnixStream) ->
 }
 
 // CREATE, the first lock and 200 requests were asked, of which only the first two have a reply.
-fn has_no_replies(rt: &impl Abort, alloc: Global, met: &Met, workers: u32) {
-    ended(rt, alloc, met, (204, 0), workers);
-    count_is(rt, asked_in(rt, alloc, &met.done.history).len(), 202);
+fn has_no_replies(rt: &impl Abort, alloc: Global, outcome: &Outcome, workers: u32) {
+    ended(rt, alloc, outcome, (204, 0), workers);
+    count_is(rt, asked_in(rt, alloc, &outcome.done.history).len(), 202);
 }
 
 #[test]
 fn requests_that_wait_have_no_reply(rt: HostRuntime) {
     for workers in [1, 16] {
-        let met = session(&rt, rt.alloc(), Client::LeavesRequests, workers, &OpenGate);
-        has_no_replies(&rt, rt.alloc(), &met, workers);
+        let outcome = session(&rt, rt.alloc(), Client::LeavesRequests, workers, &OpenGate);
+        has_no_replies(&rt, rt.alloc(), &outcome, workers);
     }
 }

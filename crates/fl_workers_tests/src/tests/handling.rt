@@ -2,7 +2,6 @@
 
 ghost use Rattle.std.specs.Prelude.{◌≡◌, ◌<◌, Some};
 
-use super::BATCH_BYTES;
 use super::came::Came;
 use super::tally::{Seat, Tally};
 use fl_core::{Rules, Tolds};
@@ -58,7 +57,7 @@ pub(super) fn begun<'w, N: WriterName, R: Abort>(
     requires sending { (sending.name ≡ N.name) × (sending.parts ≡ N.parts) × (0 < N.parts) }
     ensures permit { result.1.parts ≡ N.parts }
 {
-    let replies = ReplyBuffer::with_bytes(alloc, BATCH_BYTES).expect(rt, "memory");
+    let replies = ReplyBuffer::new(alloc).expect(rt, "memory");
     let (sender, permit) = SharedSender::<'w, Vec<u8>, N>::new(sending, replies, out);
     let mut sender = sender;
     let mut permit = permit;

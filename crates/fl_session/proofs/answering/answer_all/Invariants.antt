@@ -1,8 +1,9 @@
 use Rattle.std.proofs.Common.{◌≡◌, ◌≤◌, length}
 use Rattle.fl_session.specs.Inside.Serving.{IsReady}
 use Rattle.fl_session.specs.Inside.UnderWay.{IsUnderWay}
+use Rattle.fl_transport.specs.Collecting.{outgoing}
 use Rattle.fl_transport.specs.Inbox.{work}
-use Rattle.fl_transport.specs.Outbox.{is_broken, writer_of}
+use Rattle.fl_transport.specs.Outbox.{writer_of}
 use Rattle.fl_session.proofs.answering.answer_all.Given as goal
 
 -- what was read so far is answered, but for what is left in the inbox, and the server is ready for an order
@@ -11,9 +12,12 @@ invariant-loop-server g l = record {
   same : (writer_of l.batch.out).ghost_name ≡ (writer_of l.initial.batch.out).ghost_name;
   bounded : length l.inbox.rest ≤ 8192;
   ready : IsReady l.server;
-  way : IsUnderWay l.initial.server.desk.present.rules (g.R.Read.remaining l.initial.r) (g.R.Read.remaining l.r)
-      (g.W.Write.contents (writer_of l.initial.batch.out).now) (g.W.Write.contents (writer_of l.batch.out).now)
-      l.batch.replies (is_broken l.batch.out) l.server l.inbox.rest;
+  under : IsUnderWay l.initial.server.desk.present.rules (record {
+    left = g.R.Read.remaining l.initial.r;
+    left_now = g.R.Read.remaining l.r;
+    start = g.W.Write.contents (writer_of l.initial.batch.out).now;
+    out = outgoing g.W.Write.contents l.batch;
+  }) l.server l.inbox.rest;
 }
 
 abbrev pub decreases-loop-server : goal.decreases-loop-server

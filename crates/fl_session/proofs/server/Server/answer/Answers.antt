@@ -8,8 +8,8 @@ returns-in-Order-clause-answered g c =
     let one = c.take.ensures.taken in
     record {
       replies = one.replies;
-      met = met_order c.args.self.now c.take.new.self c.meet.new.self c.in-Order.order one.replies c.args.frame.now
-          c.requires.live (sym c.meet.ensures.incoming ∙ c.in-Order.is) c.meet.ensures.advanced one.taken;
+      met = met_order c.args.self.now c.take.new.self c.receive.new.self c.in-Order.order one.replies c.args.frame.now
+          c.requires.live (sym c.receive.ensures.incoming ∙ c.in-Order.is) c.receive.ensures.advanced one.taken;
       collected = one.collected;
     }
 
@@ -18,15 +18,15 @@ returns-in-Batch-clause-answered g c =
     let many = c.take_all.ensures.taken in
     record {
       replies = many.replies;
-      met = met_batch c.args.self.now c.take_all.new.self c.meet.new.self c.in-Batch.orders many.replies c.args.frame.now
-          c.requires.live (sym c.meet.ensures.incoming ∙ c.in-Batch.is) c.meet.ensures.advanced many.taken;
+      met = met_batch c.args.self.now c.take_all.new.self c.receive.new.self c.in-Batch.orders many.replies c.args.frame.now
+          c.requires.live (sym c.receive.ensures.incoming ∙ c.in-Batch.is) c.receive.ensures.advanced many.taken;
       collected = many.collected;
     }
 
 pub returns-in-Response-clause-answered : goal.returns-in-Response-clause-answered
 returns-in-Response-clause-answered g c = record {
   replies = bytes_of c.in-Response.response;
-  met = met_by_itself c.args.self.now c.meet.new.self c.in-Response.response c.args.frame.now c.requires.live
-      (sym c.meet.ensures.incoming ∙ c.in-Response.is) c.meet.ensures.advanced;
+  met = met_by_itself c.args.self.now c.receive.new.self c.in-Response.response c.args.frame.now c.requires.live
+      (sym c.receive.ensures.incoming ∙ c.in-Response.is) c.receive.ensures.advanced;
   collected = c.collect.ensures.collected;
 }

@@ -7,17 +7,17 @@ pub loop-i-init : goal.loop-i-init
 loop-i-init g c = record {
   ready = c.requires;
   same = refl;
-  taken = many_first _ _ _ _ _;
+  taken = many_first _ _ _;
 }
 
 pub loop-i-preserved : goal.loop-i-preserved
 loop-i-preserved g c = record {
   ready = c.take.ensures.ready;
   same = c.take.ensures.same ∙ c.loop-i.invariant.same;
-  taken = many_next _ _ _ _ _ _ _ _ _ _ _ _ _ _ _ c.order.ensures c.loop-i.invariant.taken c.take.ensures.taken;
+  taken = many_next _ _ _ _ _ _ _ _ _ c.order.ensures c.loop-i.invariant.taken c.take.ensures.taken;
 }
 
 pub returns-clause-taken : goal.returns-clause-taken
 returns-clause-taken g c =
     let past : length c.args.orders.now ≤ c.loop-i.i = grind (arith, common_steps) in
-    many_all _ _ _ _ _ _ _ _ _ _ past c.loop-i.invariant.taken
+    many_all _ _ _ _ _ _ past c.loop-i.invariant.taken
