@@ -44,7 +44,7 @@ impl<T: Copy> Model for Arena<T> {
 
 impl<T: Copy> Arena<T> {
     /// An arena of so many empty chains and so many free slots, which are numbered from 0. It fails
-    /// only for want of memory.
+    /// only if memory runs out.
     pub fn new(alloc: Global, chains: usize, slots: usize) -> Result<Self, AllocError>
         requires chains { chains ≤ 2 ^ 16 }
         requires slots { slots ≤ 2 ^ 16 }

@@ -32,7 +32,7 @@ pub struct Board<L: BoardName, R: Wait + Drop, J: Journal = Lines> {
 /// Why no board is there.
 #[derive(Clone, Copy, Debug, PartialEq, Eq)]
 pub enum OpenFault {
-    /// Want of memory.
+    /// Out of memory.
     NoMemory,
     /// A worker got no reader of what is published.
     NoReader,
@@ -149,8 +149,7 @@ impl<L: BoardName, R: Wait + Drop, J: Journal> Board<L, R, J> {
         shared.meet(one, other)
     }
 
-    /// No order is at hand: what the journal of its lines holds back may go on now. No line, lock, count or seat
-    /// changes.
+    /// Flushes the journal of its lines: a worker has no order at hand. No line, lock, count or seat changes.
     pub fn pause<W: Wait>(&self, rt: &W) {
         let mut shared = self.shared.lock(rt);
         shared.pause();

@@ -148,7 +148,7 @@ impl<L: BoardName, R: Wait + Drop, J: Journal> Shared<L, R, J> {
         true
     }
 
-    /// No order is at hand: what the desk's journal holds back may go on now.
+    /// Flushes the desk's journal: no order is at hand.
     pub(crate) fn pause(&mut self)
         ensures { self.new ≡ self.old }
     {

@@ -60,9 +60,9 @@ pub data IsAnswered (p : Snapshot) (order : Order) : Op → List Told → Type 0
       → IsAnswered p order (Interrupt unique) (ended_with EINTR r ∷ [])
   interrupts_none : (unique : ℕ) → IsNew unique p.view.parked
       → IsAnswered p order (Interrupt unique) (own order (Err EAGAIN) ∷ [])
-  -- SETLKW: of a request that fails a test whatever locks are held; that needn't wait behind those that are parked;
-  -- that has to, and would close a circle; that has to, when as many wait already as the rules allow; that has to,
-  -- and does from now on
+  -- SETLKW: of a request that fails a test whatever locks are held; that needn't wait
+  -- behind those that are parked; that has to, and would close a circle; that has to, when as many wait already as the
+  -- rules allow; that has to, and is parked
   fails : (ask : LockAsk) (e : Errno) → ask_error p.view.directory order.node ask ≡ Some e
       → IsAnswered p order (Setlkw ask) (own order (Err e) ∷ [])
   is_free : (ask : LockAsk) → ask_error p.view.directory order.node ask ≡ None

@@ -47,7 +47,7 @@ impl Touched {
     }
 }
 
-/// Answers requests, always the oldest that doesn't wait, until each waits. It tests those alone whose locks were
+/// Grants waiting requests, oldest first, until all that are left are blocked. It tests only those for locks that were
 /// touched.
 pub(crate) fn settle(
     rules: Rules,
@@ -76,7 +76,7 @@ pub(crate) fn settle(
     }
 }
 
-// Whether locks were touched that a request waits for; where this says no, it is so.
+// Whether locks were touched that a request waits for. It may give false positives, never false negatives.
 fn may_concern(touched: Touched, parked: &Parked) -> bool
     ensures { result ≡ false → AllByRecursion (λ (r : Request). concerns_request touched r ≡ false) parked.now }
 {

@@ -48,8 +48,7 @@ pub trait Counter {
         ensures own { worker seat.new ≡ worker seat.old }
         ensures kept { (count seat.new ≡ count seat.old) × (asked seat.new ≡ asked seat.old) };
 
-    /// A worker has no order at hand and is about to sleep: what the counter holds back of what it keeps may go on
-    /// now. It concerns no seat.
+    /// Flushes buffered output: a worker has no order at hand and is about to sleep. It concerns no seat.
     fn pause<R: Wait>(&self, rt: &R);
 }
 

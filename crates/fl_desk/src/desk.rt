@@ -86,7 +86,7 @@ impl<J: Journal> Desk<J> {
         Ok(())
     }
 
-    /// No order is at hand: what its journal holds back may go on now. Neither lines nor what is there change.
+    /// Flushes its journal: no order is at hand. Neither lines nor what is there change.
     pub fn pause(&mut self)
         ensures lines { self.new.lines ≡ self.old.lines }
         ensures present { self.new.present ≡ self.old.present }

@@ -80,7 +80,7 @@ impl Model for Dir {
 }
 
 impl Dir {
-    /// An empty directory, with room for all that it may hold. It fails only for want of memory.
+    /// An empty directory, with room for all that it may hold. It fails only if memory runs out.
     pub fn new(alloc: Global) -> Result<Dir, NoMemory>
         ensures { IfOk result (λ d. d ≡ opening_listing) }
     {

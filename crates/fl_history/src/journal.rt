@@ -35,7 +35,7 @@ pub trait Journal {
         ensures lines { lines self.new ≡ lines self.old ++ line.Told told.now ∷ [] }
         ensures room { room self.old ≤ room self.new + 1 };
 
-    /// No order is at hand: what it holds back may go on now. No line changes.
+    /// Flushes what it holds back: no order is at hand. No line changes.
     fn pause(&mut self)
         ensures lines { lines self.new ≡ lines self.old };
 }

@@ -32,8 +32,7 @@ HasNoCircle p =
     (first : ℕ) (others : List ℕ)
     → AreInRow waiter_of (blocks p.rules p.marking) (waiters p.view.parked) first others first → ⊥
 
--- There are none after any order of the lines: what a beginning of them that is legal under these rules leads to has
--- none.
+-- There are none after any order of the lines: no beginning of them that is legal under these rules leads to a circle.
 abbrev pub HasNoCircles : Rules → List Line → Type 0
 HasNoCircles rules lines =
     (before rest : List Line) → lines ≡ before ++ rest → IsLegal rules before

@@ -353,7 +353,7 @@ fn joined<L: BoardName, R: Threads>(
     back
 }
 
-/// Hands in, at the last seat, the orders that no worker took, or looks for them. Tells whether one was refused.
+/// Orders that no worker took are handed in, or looked for, at the last seat. Tells whether one was refused.
 pub fn handed_in<
     L: BoardName,
     N: WriterName,

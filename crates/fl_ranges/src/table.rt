@@ -50,7 +50,7 @@ impl Table {
     ghost use Rattle.fl_ranges.specs.Runs.{runs, without_node};
     ghost use Rattle.fl_ranges.specs.Placing.{on_chain};
 
-    /// A table with no locks. It fails only for want of memory.
+    /// A table with no locks. It fails only if memory runs out.
     pub fn new(alloc: Global, limit: u32) -> Result<Table, AllocError>
         requires { limit ≤ 65536 }
         ensures empty { IfOk result (λ t. t ≡ record { limit = limit; marking = map.empty }) }

@@ -261,8 +261,8 @@ fn unopened(fault: OpenFault) -> Fault
     }
 }
 
-// What a session came to whose workers gave all seats back, with this fault. Where the board can't tell the history, it
-// is told as want of a reader.
+// The result of a session whose workers gave all seats back, with this fault. If the board can't give the history, the
+// fault is `NoReader`.
 fn close_board<L: BoardName, R: Wait + Drop, J: Journal + Drop>(
     alloc: Global,
     board: Board<L, R, J>,

@@ -36,7 +36,7 @@ nothing_read left left_now kept = record {
 pub nothing_legal : (rules : Rules) (history : List Line) → history ≡ [] → IsLegal rules history
 nothing_legal rules history none = subst (IsLegal rules) (sym none) nothing
 
--- where nothing waits, all bytes of the replies were written, or a beginning of them
+-- if nothing waits, all bytes of the replies were written, or a prefix of them
 all_sent : (broken : Bool) (sent : List ℕ) (replies : List (List ℕ)) → AreGiven broken sent [] replies
     → AreSent broken sent replies
 all_sent true sent replies given = given

@@ -20,12 +20,12 @@ pub struct Recorded<K> {
     pub journal: Option<K>,
     /// Why it ended early, if it did: the reader's fault before the writer's.
     pub fault: Option<Fault>,
-    /// Some order was refused for want of memory.
+    /// Some order was refused because memory ran out.
     pub refused: bool,
 }
 
 impl<K> Recorded<K> {
-    /// What a session comes to that ends with this fault and has no journal.
+    /// The result of a session that ends with this fault and has no journal.
     pub fn nothing(alloc: Global, fault: Fault) -> Recorded<K>
         ensures journal { result.journal ≡ None }
         ensures fault { result.fault ≡ Some fault }

@@ -62,7 +62,7 @@ impl<K: Copy, R: Copy> Model for Rows<K, R> {
 }
 
 impl<K: Copy, R: Copy> Rows<K, R> {
-    /// So many chains without rows, and room for so many runs. It fails only for want of memory. The key is what
+    /// So many chains without rows, and room for so many runs. It fails only if memory runs out. The key is what
     /// the heads have that no row had yet: nothing reads it.
     pub fn new(alloc: Global, chains: usize, limit: usize, key: K) -> Result<Self, AllocError>
         requires chains { chains < 65536 }

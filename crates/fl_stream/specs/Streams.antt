@@ -19,7 +19,7 @@ pub record Wrote {W : Type 0} (contents : W → Option (List ℕ)) (held : Optio
   pub blank : IsBlank (contents first)
   pub appended : Appends (contents first) held bytes
 
--- these bytes were written, or a beginning of them
+-- these bytes were written, or a prefix of them
 pub record WroteSome (bytes : List ℕ) (held held_now : Option (List ℕ)) : Type 0 where
   pub sent : List ℕ
   pub rest : List ℕ

@@ -19,7 +19,7 @@ use std::alloc::Global;
 pub enum TraceFault {
     /// This line, from 1, is the first that is no spelling of a line.
     BadLine(usize),
-    /// Want of memory.
+    /// Out of memory.
     NoMemory,
 }
 

@@ -1,4 +1,4 @@
-//! The agreement at the start of a session: what an INIT comes to, and the reply to it.
+//! The agreement at the start of a session: what an INIT results in, and the reply to it.
 
 ghost use Rattle.std.specs.Prelude.{◌≡◌, ◌+◌, ◌≤◌, ◌++◌, IsOk, OnErr, OnOk, vec_len, vec_capacity};
 ghost use Rattle.fl_wire.specs.Append.{Appends};
@@ -29,7 +29,7 @@ const MAX_WRITE: u32 = 4096;
 
 const TIME_GRAN: u32 = 1;
 
-/// What an INIT comes to.
+/// What an INIT results in.
 #[derive(Clone, Copy, Debug, PartialEq, Eq)]
 pub enum InitStep {
     /// It is answered with this error, and another INIT has to come.
@@ -45,7 +45,7 @@ pub enum InitStep {
     },
 }
 
-/// What a message comes to, read as an INIT: EINVAL where its body is shorter than 16 bytes, EPROTO for
+/// What a message results in, read as an INIT: EINVAL if its body is shorter than 16 bytes, EPROTO for
 /// a version below 7.31.
 pub fn read_init(frame: &Frame) -> InitStep
     ensures { result ≡ init_step frame.now }

@@ -72,7 +72,7 @@ pub enum WhenFull {
 }
 
 /// What the words of a command line ask for; the first is the program's name. A word that no command takes, a number
-/// out of its option's range, a request for help and want of memory are refused, each with its text.
+/// out of its option's range, a request for help, and running out of memory, are refused, each with its text.
 pub fn read_words(alloc: Global, words: &[String]) -> Result<Asked, UsageError>
     ensures workers { IfOk result HasWorkers }
 {

@@ -133,7 +133,7 @@ done_waiting lines count left left_now left_later held held_now old new newer d 
           (received_more (awaited_by lines) count [] left left_now left_later old new newer d.received more);
     }
 
--- a whole reply that isn't printed for want of memory
+-- a whole reply that isn't printed, since memory ran out
 pub unprinted : (reply : List ℕ) (fault : CommandFault) (left left_now old : Option (List ℕ)) → Consumes left left_now reply
     → fault ≡ NoMemory → fault ≢ Write → HasFallenShort 1 fault left left_now old old
 unprinted reply fault left left_now old read e =

@@ -86,7 +86,7 @@ struct Printed {
 }
 
 // A session under these rules over these bytes, and a line for each of its replies. A vector takes what is written to
-// it where there is memory: a write that failed is want of memory, also where the stream has a fault.
+// it if there is memory: so a write that failed ran out of memory, also if the stream has a fault.
 fn print_session(alloc: Global, rules: Rules, stream: &[u8]) -> Result<Printed, CommandFault>
     ensures session { IfOk result (λ printed. IsSession rules stream.now printed.lines.items printed.fault) }
     ensures fault { IfOk result (λ printed. IfSome printed.fault IsOfStream) }

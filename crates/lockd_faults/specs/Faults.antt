@@ -22,7 +22,7 @@ fault_text BadReply = codes "bad reply"
 fault_text Trace = codes "cannot trace"
 fault_text TraceFailed = codes "trace failed"
 
--- these bytes were written, or a beginning of them where a write failed
+-- these bytes were written, or after a failed write a prefix of them
 pub record IsBegun (bytes : List ℕ) (old new : Option (List ℕ)) : Type 0 where
   pub part : List ℕ
   pub rest : List ℕ

@@ -16,7 +16,7 @@ use std::io::Write;
 pub enum CommandFault {
     /// This line of the input, from 1, is the first that is wrong.
     BadLine(usize),
-    /// Want of memory.
+    /// Out of memory.
     NoMemory,
     /// A worker got no reader of what the board publishes, or the board couldn't tell its history.
     NoReader,

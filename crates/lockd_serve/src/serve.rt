@@ -157,7 +157,7 @@ fn record_and_print<R: Threads + Wait + Net + Files + Sync, W: Write>(
     ensures unnamed { path_bytes path.entry ≡ [] → result ≡ Err CommandFault.Listen }
 {
     let stream = connection(rt, path)?;
-    // No session is served whose trace can't be printed for want of memory.
+    // Room for printing is made first, so that no session is served whose trace can't be printed.
     let room = TraceRoom::new(alloc)?;
     let recorded = record(rt, alloc, rules, stream, workers, Lines::new(alloc));
     print_recorded(alloc, room, recorded, output)

@@ -323,7 +323,7 @@ fn waits_as_a_plain_program_does_by_other_numbers(rt: HostRuntime) {
     run_all(&rt, rt.alloc(), 4, 8);
 }
 
-// Few runs and few requests that wait are allowed, so that many are refused for want of room.
+// Few runs and few requests that wait are allowed, so that many are refused since there is no room.
 fn run_limited(rt: &impl Abort, alloc: Global, rules: Rules, first: u64, end: u64) {
     for seed in first..end {
         let counts = run(rt, alloc, rules, seed, 3000);

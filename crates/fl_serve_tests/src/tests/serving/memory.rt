@@ -113,7 +113,7 @@ fn with_waiters(rt: &impl Abort, alloc: Global) -> Messages {
     messages
 }
 
-// What a session without workers comes to.
+// The result of a session without workers.
 fn run_alone(alloc: Global, messages: &[u8]) -> Came {
     let mut input = messages;
     let mut out = Vec::new(alloc);
