@@ -73,7 +73,7 @@ impl<T: Copy> Arena<T> {
         }
     }
 
-    /// The cursor at the last item of the chain, or at its end where it has no item.
+    /// The cursor at the last item of the chain, or at its end if it has no item.
     pub fn last(&self, chain: usize) -> Cursor
         requires { chain < length self.now.chains }
         ensures last { result ≡ cursor_at self.now chain (length (entries self.now chain) - 1) }

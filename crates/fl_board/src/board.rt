@@ -71,7 +71,7 @@ impl From<AllocError> for OpenFault {
 
 impl<L: BoardName, R: Wait + Drop, J: Journal> Board<L, R, J> {
     /// A board whose lines go to this journal, which has none so far, and a seat for each of 1 to 16 workers: the
-    /// seat at place i is worker i's. `rt` waits for readers. Requests will wait by these rules. Where it is refused,
+    /// seat at place i is worker i's. `rt` waits for readers. Requests will wait by these rules. If it is refused,
     /// the journal is let go.
     pub fn over(
         alloc: Global,
@@ -155,7 +155,7 @@ impl<L: BoardName, R: Wait + Drop, J: Journal> Board<L, R, J> {
         shared.pause();
     }
 
-    /// The journal of its lines, which are the history of all that was handed in, where no seat is missing. It is
+    /// The journal of its lines, which are the history of all that was handed in, if no seat is missing. It is
     /// legal under the board's rules, begins with all that was handed in and shown through each seat, and has as many
     /// orders of each worker as its seat's count.
     pub fn into_kept(self, seats: Vec<Seat<L>>) -> Result<J, CloseFault<L, R, J>>
@@ -209,7 +209,7 @@ impl<L: BoardName, R: Wait + Drop> Board<L, R> {
         Board::over(alloc, rt, Lines::new(alloc), blank, log, workers, rules)
     }
 
-    /// The history of all that was handed in, where no seat is missing. It is legal under the board's rules, begins
+    /// The history of all that was handed in, if no seat is missing. It is legal under the board's rules, begins
     /// with all that was handed in and shown through each seat, and has as many orders of each worker as its seat's
     /// count.
     pub fn close(self, seats: Vec<Seat<L>>) -> Result<History, CloseFault<L, R>>

@@ -83,7 +83,7 @@ pub data IsAnswered (p : Snapshot) (order : Order) : Op → List Told → Type 0
       → length p.view.parked < p.rules.parked
       → IsAnswered p order (Setlkw ask) []
 
--- what any order gives: where a request waits that has its unique, a FORGET gives nothing, and any other EINVAL
+-- what any order gives: if a request waits that has its unique, a FORGET gives nothing, and any other EINVAL
 pub data IsFirst (p : Snapshot) (order : Order) : List Told → Type 0 where
   forget_of_a_waiter : (n : ℕ) (r : Request) → order.op ≡ Forget n → IsWaiter order.unique p.view.parked r
       → IsFirst p order []

@@ -25,7 +25,7 @@ pub fn effects_are_shown_alike()
     ensures { (effect : View → Effect) (s : State) → snapshot_of (recorded effect s) ≡ made effect (snapshot_of s) }
 {}
 
-/// The first replies of an order are those that its case says, where no two parked requests have one unique.
+/// The first replies of an order are those that its case says, if no two parked requests have one unique.
 pub fn first_replies_are_those_of_the_orders_case()
     ensures { (p : Snapshot) (order : Order) (tolds : List Told) → AreApart p.view.parked →
         (tolds ≡ first_told p order) ↔ IsFirst p order tolds }

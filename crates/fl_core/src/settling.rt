@@ -36,7 +36,7 @@ impl Touched {
         Touched::OfClass(node, key_of(node, ask).class)
     }
 
-    /// What an order touched that is answered so, where it touches this if it is done.
+    /// What an order with this answer touched; `self` is what it touches if it is done.
     pub(crate) fn if_done(self, own: &Option<Result<Answer, Errno>>) -> Touched
         ensures { result ≡ touched_if_done own.now self }
     {
@@ -99,7 +99,7 @@ fn take_free(rules: Rules, locks: &Table, parked: &mut Parked, touched: Touched)
     })
 }
 
-// The request's lock is set where there is room.
+// The request's lock is set if there is room.
 fn grant(locks: &mut Table, claim: &Claim) -> Told
     requires { conflicts_with_held locks.old.marking (stroke_of claim.now.request.node claim.now.request.ask)
         (mark_of claim.now.request.ask) ≡ false }

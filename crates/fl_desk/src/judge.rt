@@ -19,8 +19,8 @@ pub enum Verdict {
     /// A single thread could have produced it: each order is answered, at once or later, as the sequential directory
     /// answers then, under the rules that it is judged by.
     Legal,
-    /// It isn't. The lines before this one, counted from 1, are a beginning of a legal history, and no more are. Where
-    /// only replies are missing at its end, this is the line after its last.
+    /// It isn't. This line, counted from 1, is the first that breaks the rules. If only replies are missing at its
+    /// end, this is the line after its last.
     Differs(usize),
 }
 

@@ -15,7 +15,7 @@ pub trait Journal {
     /// For how many more lines there is room.
     ghost room: { Self → ℕ };
 
-    /// Makes room for so many lines more, at most 2,048. A refusal changes no line, and doesn't come where there is
+    /// Makes room for so many lines more, at most 2,048. A refusal changes no line, and doesn't come if there is
     /// room.
     fn reserve(&mut self, count: usize) -> Result<(), NoMemory>
         requires few { count ≤ 2048 }

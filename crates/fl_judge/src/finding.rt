@@ -14,8 +14,8 @@ pub enum Finding {
     /// It isn't, but some legal trace begins with it: replies are missing at its end. This is said of a trace that
     /// may be cut off, and of no other.
     Begins,
-    /// It isn't. The lines before this one, counted from 1, are a beginning of a legal trace, and no more are. Where
-    /// only replies are missing at its end, this is the line after its last.
+    /// It isn't. This line, counted from 1, is the first that breaks the rules. If only replies are missing at its
+    /// end, this is the line after its last.
     Differs(usize),
 }
 

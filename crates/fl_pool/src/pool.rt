@@ -116,7 +116,7 @@ impl<
     J: Journal + Send + Drop,
 > WorkerPool<'a, 'w, L, N, R, W, G, J> {
     /// Runs a session: starts a worker at each seat, begins, reads until the session ends, closes the intake, and joins
-    /// the workers. Where a worker can't be started nothing is read, and the permit to begin comes back as it was.
+    /// the workers. If a worker can't be started nothing is read, and the permit to begin comes back as it was.
     pub fn run<I: Read>(
         &self,
         r: &mut I,
@@ -236,7 +236,7 @@ impl<
         true
     }
 
-    // Starts a worker with the last of these ends and rooms, where there is one and a thread can be made.
+    // Starts a worker with the last of these ends and rooms, if there is one and a thread can be made.
     fn start_next<'s, E>(
         &'s self,
         scope: &Scope<'s, E>,
@@ -259,7 +259,7 @@ impl<
         self.start(scope, seat, end, tolds)
     }
 
-    // The last of these ends and the last of these rooms, where there are both.
+    // The last of these ends and the last of these rooms, if there are both.
     fn last_of(&self, ends: &mut Vec<TakeEnd>, tolds: &mut Vec<Tolds>) -> Option<(TakeEnd, Tolds)>
         requires ends { All (IsFresh self.now.intake) ends.old.items }
         requires replies { All (HasRoom L.rules) tolds.old.items }
@@ -273,7 +273,7 @@ impl<
         Some((end, tolds))
     }
 
-    // Starts a worker, where a thread can be made.
+    // Starts a worker, if a thread can be made.
     fn start<'s, E>(
         &'s self,
         scope: &Scope<'s, E>,

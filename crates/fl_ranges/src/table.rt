@@ -153,7 +153,7 @@ impl Table {
         self.rows.slot_place(slot)
     }
 
-    /// Where the slot of a key is: on chain `node mod 256` where its key has runs, or else on chain 256. This walks
+    /// Where the slot of a key is: on chain `node mod 256` if its key has runs, or else on chain 256. This walks
     /// along its chain. One that always says chain 256 is let through by the clauses, and refused by tests.
     pub fn head_place(&self, slot: usize) -> Place
         requires { slot < self.now.limit }

@@ -26,8 +26,8 @@ pub record SaysGoodbye (messages : List (List ℕ)) (held held_now : Option (Lis
   pub last : IsLast messages goodbye
   pub sent : HasSentLast held held_now (bytes_of goodbye)
 
--- The orders that the messages of a session say are, each as often, those that the history asks, some that were looked
--- for, which only read, and some that were refused. A refusal is told where there is one of these, and nowhere else.
+-- The orders of the messages are of three kinds, each order as often: those of the history; some that were looked for,
+-- which only read; and some that were refused. A refusal is told exactly if some order was refused.
 pub record IsAsked (messages : List (List ℕ)) (done : Done) : Type 0 where
   pub looked : Orders
   pub refused : Orders
@@ -42,9 +42,9 @@ pub record HasNoHistory (done : Done) : Type 0 where
   pub history : done.history ≡ []
 
 -- What was read is whole messages and a rest of at most 8192 bytes, and no message came after one that ended the
--- session. Whole replies were written behind what the writer held; where a write failed (`broken`), a beginning of
--- them. Where none failed, the last of them answers the DESTROY that ended the session, if one did. The fault is that
--- of the end, or the history couldn't be told. Else the history asks what the messages say.
+-- session. Whole replies were written behind what the writer held; after a failed write (`broken`), a prefix of them.
+-- If none failed, the last of them answers the DESTROY that ended the session, if one did. The fault is that of the
+-- end, or the history can't be had. Otherwise the history has the orders of the messages, as `IsAsked` says.
 pub record IsServedBy (left left_now held held_now : Option (List ℕ)) (done : Done) : Type 0 where
   pub messages : List (List ℕ)
   pub rest : List ℕ

@@ -60,7 +60,7 @@ pub fn serve<R: Threads + Wait + Sync, I: Read, W: Write + Send + Drop, G: Gate 
 }
 
 /// How a session with workers is served: by how many of them, under which rules, and with how many bytes for each
-/// worker's stack. Where a thread can't be made with such a stack, that is told as out of memory.
+/// worker's stack. If a thread can't be made with such a stack, that is told as out of memory.
 #[derive(Clone, Copy, Debug)]
 pub struct Staff {
     /// How many workers, 1 to 16.

@@ -100,7 +100,7 @@ unserved rules left held done history fault refused unread = record {
   ending = rw fault (refl, refl);
 }
 
--- the lines of a journal are legal, and no lines where there is none
+-- the lines of a journal are legal, and no lines if there is none
 pub recorded_legal : {K : Type 0} (rules : Rules) (lines : K → List Line) (journal : Option K)
     → IfSome journal (λ k. IsLegal rules (lines k)) → IsLegal rules (journal_lines lines journal)
 recorded_legal rules lines None legal = nothing

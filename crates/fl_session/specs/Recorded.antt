@@ -4,7 +4,7 @@ use Rattle.fl_history.specs.declared.history.Line.{Line}
 use Rattle.fl_session.specs.declared.done.Done.{Done}
 use Rattle.fl_session.specs.declared.recorded.Recorded.{Recorded}
 
--- the lines of a journal, and none where there is no journal
+-- the lines of a journal, and none if there is no journal
 abbrev pub journal_lines : {K : Type 0} → (K → List Line) → Option K → List Line
 journal_lines lines None = []
 journal_lines lines (Some journal) = lines journal

@@ -16,8 +16,8 @@ AreSent false sent replies = sent ≡ concat replies
 AreSent true sent replies = IsProperPrefix sent (concat replies)
 
 -- What was read is whole messages and a rest of at most 8192 bytes. The history is the lines of the session of these
--- messages under these rules, and its replies were written, each of which says its own length: all of them, but where a
--- write failed (`broken`) a beginning.
+-- messages under these rules, and its replies were written, each of which says its own length: all of them, or after a
+-- failed write (`broken`) a prefix.
 pub record IsServed (rules : Rules) (left left_now held held_now : Option (List ℕ)) (broken : Bool) (done : Done)
     : Type 0 where
   pub came : List Came

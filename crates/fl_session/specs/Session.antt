@@ -16,7 +16,7 @@ use Rattle.fl_transport.specs.declared.response.Response.{Response}
 use Rattle.fl_waiting.specs.declared.rules.Rules.{Rules}
 use Rattle.fl_wire.specs.Spell.{spelling_of}
 
--- A message that came, and for each of its orders, in their order, whether it was refused because memory ran out. Where
+-- A message that came, and for each of its orders, in their order, whether it was refused because memory ran out. If
 -- the list ends early, the orders left were not refused.
 pub record Came : Type 0 where
   pub message : List ℕ

@@ -34,7 +34,7 @@ pub struct Ended {
 }
 
 /// Serves a whole session in this thread, under these rules: each message is answered when it is whole. Replies are
-/// collected, and go out together where their room is full, before each read, and at the end. All memory but that of
+/// collected, and go out together when their room is full, before each read, and at the end. All memory but that of
 /// the history is made before the first read. A read that fails ends the session, and so does a DESTROY after an INIT
 /// is agreed. After a write that failed it goes on, and writes no more.
 pub fn run_one<R: Read, W: Write>(alloc: Global, r: &mut R, w: &mut W, rules: Rules) -> Done
@@ -84,7 +84,7 @@ pub fn record_session<R: Read, W: Write, J: Journal + Drop>(
     let fault = answer_all(r, &mut inbox, &mut server, &mut batch);
     batch.flush();
     let ReplyBatch { replies, out } = batch;
-    // Here, since the proof finds no more what the writer holds where something is dropped behind it.
+    // Here, since the proof finds no more what the writer holds if something is dropped behind it.
     drop(replies);
     let (writer, broken) = out.into_parts();
     // No effect at run time: the proof reads here what the writer holds.

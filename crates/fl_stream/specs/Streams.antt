@@ -44,7 +44,7 @@ pub record IsBegun {W : Type 0} (contents : W → Option (List ℕ)) (held : Opt
   pub wrote : Wrote contents held sent
   pub parts : sent ++ rest ≡ text_of lines
 
--- What was sent, what waits and what is lost are together the text of all lines. Something is lost only where the
+-- What was sent, what waits and what is lost are together the text of all lines. Something is lost only if the
 -- stream is broken, and then nothing waits. A stream that refuses never breaks.
 pub record IsStreamed {W : Type 0} (contents : W → Option (List ℕ)) (held : Option (List ℕ)) (unsent : List ℕ)
     (broken : Bool) (manner : WhenWriterFails) (lines : List Line) : Type 0 where

@@ -23,7 +23,7 @@ bytes_of (Replies tolds) = map spelling_of tolds.now
 abbrev pub error_to : ℕ → Errno → Response
 error_to unique e = One (record { unique = unique; result = Err e })
 
--- a reply that is an error, or nothing where no reply is owed to a message of this kind
+-- a reply that is an error, or nothing if no reply is owed to a message of this kind
 abbrev pub refusal_of : OpKind → ℕ → Errno → Response
 refusal_of kind unique e = if is_silent kind then Nothing else error_to unique e
 

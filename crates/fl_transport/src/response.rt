@@ -27,7 +27,7 @@ impl<'a> Response<'a> {
         Response::refusal(kind, unique, without_memory(kind))
     }
 
-    // A reply that is an error, or nothing where no reply is owed to a message of this kind.
+    // A reply that is an error, or nothing if no reply is owed to a message of this kind.
     pub(crate) fn refusal(kind: OpKind, unique: u64, e: Errno) -> Response<'a>
         ensures { result ≡ refusal_of kind unique e }
     {

@@ -70,7 +70,7 @@ pub fn read_init(frame: &Frame) -> InitStep
     }
 }
 
-/// Appends the reply to an INIT: at most 80 bytes. An `Err` changes nothing, and doesn't come where there is
+/// Appends the reply to an INIT: at most 80 bytes. An `Err` changes nothing, and doesn't come if there is
 /// room for 80 more bytes; no memory is taken then.
 pub fn write_init(unique: u64, step: &InitStep, out: &mut Vec<u8>) -> Result<(), NoMemory>
     ensures ok { OnOk result (out.new.items ≡ out.old.items ++ init_spelling unique step.now) }

@@ -115,7 +115,7 @@ fn opened<F: Write>(
     }
 }
 
-// Takes the trace's file away where no session was served.
+// Takes the trace's file away if no session was served.
 fn remove_unused(rt: &HostRuntime, trace: &Trace, status: Status) {
     if let (
         Trace::File(file, _),

@@ -61,7 +61,7 @@ received_one reply left left_now old new framed read written =
       written = subst (Appends old new) line written;
     }
 
--- one reply, where its line was written
+-- one reply, if its line was written
 pub printed_one : (r : Result Unit CommandFault) (reply line : List ℕ) (left left_now old new : Option (List ℕ))
     → IsFramed reply → Consumes left left_now reply → line ≡ encode_lower reply ++ 10 ∷ []
     → OnOk r (Appends old new line) → OnOk r (HasReceived 1 [] left left_now old new)

@@ -102,7 +102,7 @@ fn print_session(alloc: Global, rules: Rules, stream: &[u8]) -> Result<Printed, 
     Ok(Printed { lines, fault })
 }
 
-// The fault of a session's stream, if there is one, where its replies are printed.
+// The fault of a session's stream, if there is one. Its replies are printed before it.
 fn fault_printed(
     fault: Option<fl_session::Fault>,
     broken: bool,

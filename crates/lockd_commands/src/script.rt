@@ -108,7 +108,7 @@ fn read_asks(alloc: Global, script: &[u8]) -> Result<Vec<AskLine>, CommandFault>
     Ok(asks)
 }
 
-// What the first line of a text asks, and the text after it; none where it is no ask line.
+// What the first line of a text asks, and the text after it; none if it is no ask line.
 fn first_ask(text: &[u8]) -> Option<(AskLine, &[u8])>
     ensures fits { IfSome result (λ read. IsAskLine (line_of read.0)) }
     ensures spelled { IfSome result (λ read. text.now ≡ line_text (line_of read.0) ++ 10 ∷ read.1.now) }

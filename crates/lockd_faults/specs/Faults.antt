@@ -29,7 +29,7 @@ pub record IsBegun (bytes : List ℕ) (old new : Option (List ℕ)) : Type 0 whe
   pub parts : bytes ≡ part ++ rest
   pub written : Appends old new part
 
--- a fault was told: its text as one line, or a beginning of it where that couldn't be written
+-- a fault was told: its text as one line, or after a failed write a prefix of it
 abbrev pub IsTold : CommandFault → Option (List ℕ) → Option (List ℕ) → Type 0
 IsTold fault old new = IsBegun (fault_text fault ++ 10 ∷ []) old new
 

@@ -56,7 +56,7 @@ fn print_done<W: Write>(
 }
 
 /// Ends a command whose trace went to a writer: tells the session's fault, and that the trace failed. The writer comes
-/// back where a session was served.
+/// back if a session was served.
 pub(crate) fn end_stream<W: Write + Drop, F: Write>(
     faults: &mut F,
     recorded: Recorded<Streamed<W>>,

@@ -295,7 +295,7 @@ impl PlainLocks {
         self.counts.most = self.counts.most.max(self.parked.len());
     }
 
-    // SETLK, or SETLKW where it may wait.
+    // SETLK, or SETLKW if it may wait.
     fn lock(&mut self, rt: &impl Abort, request: &Request, may_wait: bool) {
         let unique = request.unique;
         if let Some(errno) = self.error_of(request) {

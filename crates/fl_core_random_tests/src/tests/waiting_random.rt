@@ -9,7 +9,7 @@ use fl_testing::Numbers;
 use std::alloc::Global;
 use std::process::Abort;
 
-// A request of this unique waits in the core where it does in the plain program. No order is answered that bears its
+// A request of this unique waits in the core if it does in the plain program. No order is answered that bears its
 // unique.
 fn check_unique(rt: &impl Abort, core: &Core, plain: &PlainLocks, unique: u64) {
     let reply = core.answer(&order(unique, 1, Op::Getattr));
@@ -32,7 +32,7 @@ fn check_parked(rt: &impl Abort, core: &Core, plain: &PlainLocks, unique: u64) {
     }
 }
 
-// A request that can wait would close a circle where the plain program says so, whether it has to wait or not.
+// A request that can wait would close a circle if the plain program says so, whether it has to wait or not.
 fn check_circle(rt: &impl Abort, core: &Core, plain: &PlainLocks, order: &Order) {
     let Op::Setlkw(ask) = &order.op else {
         return;
@@ -286,7 +286,7 @@ fn run_all(rt: &impl Abort, alloc: Global, first: u64, end: u64) {
     }
 }
 
-// The same where requests wait behind older ones, too.
+// The same if requests wait behind older ones, too.
 fn run_fair(rt: &impl Abort, alloc: Global, first: u64, end: u64) {
     for seed in first..end {
         let counts = run(rt, alloc, Rules::standard().with_fair(true), seed, 3000);

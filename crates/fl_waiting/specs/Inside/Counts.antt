@@ -7,7 +7,7 @@ use Rattle.fl_waiting.specs.declared.parked.Request.{Request}
 abbrev pub AreUpTo : ℕ → List Request → Type 0
 AreUpTo greatest parked = AllByRecursion (λ (r : Request). r.unique ≤ greatest) parked
 
--- 1 where the request is on a node whose number has this remainder, else 0
+-- 1 if the request is on a node whose number has this remainder, else 0
 abbrev pub counts_in : ℕ → Request → ℕ
 counts_in bucket r = if r.node % 256 == bucket then 1 else 0
 

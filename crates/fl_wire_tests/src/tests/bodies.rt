@@ -22,7 +22,7 @@ fn drops(rt: &(impl Abort + AllocGlobal), flags: u32, release_flags: u32, drop: 
     same(rt, &order.op, &op);
 }
 
-// The owner's whole-file lock goes where bit 1 of release_flags is set, whatever stands in flags.
+// The owner's whole-file lock goes if bit 1 of release_flags is set, whatever stands in flags.
 #[test]
 fn flags_of_a_release(rt: HostRuntime) {
     drops(&rt, 0, 2, true);
