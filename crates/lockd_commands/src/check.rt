@@ -28,9 +28,9 @@ pub struct CheckOptions {
 
 /// `lockd check`: reads a trace, and writes `legal`, or `differs N` if it isn't: line N is the first that breaks these
 /// rules. With the option `--quiet` a line `quiet` or `not quiet` follows `legal`: whether no owner asked for a record
-/// lock while it waited for one. With the option `--cut` the text after the last newline isn't judged, and `begins` says
-/// that the trace isn't legal, but that a legal one begins with it. All input is read and checked before any output, in
-/// memory that doesn't grow. A fault is one line on `faults`.
+/// lock while it waited for one. With the option `--cut` the text after the last newline isn't judged, and `begins`
+/// says that the trace isn't legal, but that a legal one begins with it. All input is read and checked before any
+/// output, in memory that doesn't grow. A fault is one line on `faults`.
 pub fn check_on<R: Read, W: Write, F: Write>(
     alloc: Global,
     rules: Rules,
