@@ -66,8 +66,8 @@ pub record Shift : Type 0 where
   pub ends : List TakeSide
   pub any : Bool
 
--- What a session came to whose workers are joined: their shift, how the receiver ended, and the amount of the permit to
--- begin. At NoMemory a worker couldn't be started: nothing was read, and the session didn't begin.
+-- The result of a session whose workers are joined: their shift, how the receiver ended, and the amount of the permit
+-- to begin. At NoMemory a worker couldn't be started: nothing was read, and the session didn't begin.
 pub record HasRun (of : TableId) (takers : ℕ) (left left_now : Option (List ℕ)) (shift : Shift) (reader : Received)
     (amount : ℕ) : Type 0 where
   pub put : (reader.put.of ≡ of) × (reader.put.takers ≡ takers)

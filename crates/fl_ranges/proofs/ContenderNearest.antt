@@ -88,7 +88,7 @@ module _ (key : Key) (start end : ℕ) (kind : Kind) where
       either true = refl
       either false = refl
 
-  -- Where a walk has come to: no span that starts past the last byte is nearer than the nearest so far, which is of a
+  -- How far a walk is: no span that starts past the last byte is nearer than the nearest so far, which is of a
   -- lower owner.
   abbrev pub IsBest : ℕ → ℕ → Option Run → Type 0
   IsBest owner last None = last ≡ end

@@ -1,4 +1,4 @@
-//! What a session came to.
+//! The result of a session.
 
 ghost use Rattle.std.specs.Prelude.{◌≡◌, ℕ, List, [], Option, Some, false};
 ghost use Rattle.std.specs.Io.KnownBytes.{Keeps};
@@ -10,7 +10,7 @@ use fl_history::History;
 use fl_transport::Fault;
 use std::alloc::Global;
 
-/// What a session came to.
+/// The result of a session.
 #[derive(Debug, Drop)]
 pub struct Done {
     /// The orders that it took and their replies.

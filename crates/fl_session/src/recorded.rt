@@ -1,4 +1,4 @@
-//! What a session came to whose lines went to a journal.
+//! The result of a session whose lines went to a journal.
 
 ghost use Rattle.std.specs.Prelude.{◌≡◌, ℕ, List, [], Option, None, Some, false, IfSome};
 ghost use Rattle.std.specs.Io.KnownBytes.{Keeps};
@@ -12,7 +12,7 @@ use fl_history::{History, Lines};
 use fl_transport::Fault;
 use std::alloc::Global;
 
-/// What a session came to whose lines went to a journal.
+/// The result of a session whose lines went to a journal.
 #[derive(Drop)]
 pub struct Recorded<K> {
     /// Where its lines went: the orders that it took and their replies. It is there but at `NoMemory` and `NoReader`,

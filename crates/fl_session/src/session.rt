@@ -23,10 +23,10 @@ use std::io::{Read, Write};
 // answered.
 const BATCH_BYTES: usize = 672;
 
-/// What a session came to, and whether a write failed.
+/// The result of a session, and whether a write failed.
 #[derive(Debug, Drop)]
 pub struct Ended {
-    /// What it came to.
+    /// Its result.
     pub done: Done,
     /// A write failed, or took nothing: a reply didn't go out whole, and those behind it didn't go out. A fault of
     /// the reader doesn't hide it.

@@ -149,7 +149,7 @@ impl<W: Write> Streamed<W> {
         }
     }
 
-    // Writes what waits. If a write fails, all that it left waits on, or is lost, as its manner is.
+    // Writes what waits. If a write fails, what is left waits on, or is lost, by its manner.
     fn write_waiting(&mut self)
         ensures lines { self.new.lines ≡ self.old.lines }
         ensures manner { self.new.manner ≡ self.old.manner }

@@ -126,7 +126,7 @@ fn remove_unused(rt: &HostRuntime, trace: &Trace, status: Status) {
     }
 }
 
-// What orders come to when the trace's file can't be written.
+// What happens to orders when the trace's file can't be written.
 fn when_full(trace: &Trace) -> WhenWriterFails {
     match trace {
         Trace::File(_, WhenFull::Refuse) => WhenWriterFails::Refuse,

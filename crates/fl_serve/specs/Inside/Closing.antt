@@ -1,4 +1,4 @@
--- What a session came to once its board is closed.
+-- The result of a session once its board is closed.
 use Rattle.std.specs.Prelude.{◌≡◌, Bool, List, All, Option, sum_by}
 use Rattle.fl_board.specs.Seats.{Place}
 use Rattle.fl_board.specs.Shown.{HasAllOf}

@@ -82,7 +82,7 @@ impl Refusing {
     }
 }
 
-/// What a session came to some of whose orders were refused.
+/// The result of a session some of whose orders were refused.
 #[derive(Drop)]
 pub(super) struct Came {
     pub history: History,

@@ -39,7 +39,7 @@ fn zeros(rt: &(impl Abort + AllocGlobal), opcode: u8, len: usize, wanted: Option
     same(rt, &read_order(&whole(rt, &bytes)).err(), &wanted);
 }
 
-// Bodies of this kind have this length; one byte less and one more come to this.
+// Bodies of this kind have this length; one byte less and one more result in this.
 fn has_length(rt: &(impl Abort + AllocGlobal), opcode: u8, len: usize, refusal: Refusal) {
     zeros(rt, opcode, len, None);
     zeros(rt, opcode, len.saturating_sub(1), Some(refusal));
