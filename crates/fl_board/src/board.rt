@@ -72,7 +72,7 @@ impl From<AllocError> for OpenFault {
 impl<L: BoardName, R: Wait + Drop, J: Journal> Board<L, R, J> {
     /// A board whose lines go to this journal, which has none so far, and a seat for each of 1 to 16 workers: the
     /// seat at place i is worker i's. `rt` waits for readers. Requests will wait by these rules. If it is refused,
-    /// the journal is let go.
+    /// the journal is dropped.
     pub fn over(
         alloc: Global,
         rt: R,

@@ -55,7 +55,7 @@ pub data IsAnswered (p : Snapshot) (order : Order) : Op → List Told → Type 0
   closes : (fh : ℕ) (unlocks : Bool) (owner : ℕ) → is_open_on p.view.directory fh order.node ≡ true
       → IsAnswered p order (Release fh unlocks owner)
       (own order (Ok Done) ∷ ended_all EBADF (λ r. r.ask.fh == fh) p.view.parked)
-  -- INTERRUPT: of a parked request, which alone is told; or of none
+  -- INTERRUPT: of a parked request, which alone gets a reply; or of none
   interrupts : (unique : ℕ) (r : Request) → IsWaiter unique p.view.parked r
       → IsAnswered p order (Interrupt unique) (ended_with EINTR r ∷ [])
   interrupts_none : (unique : ℕ) → IsNew unique p.view.parked

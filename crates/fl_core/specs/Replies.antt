@@ -143,7 +143,7 @@ abbrev pub own_replies : Order → Option (Result Answer Errno) → List Told
 own_replies order None = []
 own_replies order (Some result) = record { unique = order.unique; result = result } ∷ []
 
--- a parked request is told an error, and goes
+-- a parked request is rejected with an error, and goes
 abbrev pub ended_with : Errno → Request → Told
 ended_with e r = record { unique = r.unique; result = Err e }
 
@@ -163,7 +163,7 @@ abbrev pub picks : Ending → Request → Bool
 picks (Through fh) r = r.ask.fh == fh
 picks (Named unique) r = r.unique == unique
 
--- what they are told
+-- the error that they get
 abbrev pub error_of : Ending → Errno
 error_of (Through fh) = EBADF
 error_of (Named unique) = EINTR

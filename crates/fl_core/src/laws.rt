@@ -43,7 +43,7 @@ pub fn settling_answers_the_oldest_first()
         AllWait rules (settled rules s).present.marking (settled rules s).present.parked }
 {}
 
-/// A parked request that is told an error is parked no more, and that is all that changes.
+/// A parked request that is rejected with an error is parked no more, and that is all that changes.
 pub fn a_late_error_changes_no_lock()
     ensures { (told : Told) (e : Errno) (v : View) (r : Request) (others : List Request) →
         taken_out told.unique v.parked ≡ Some (r, others) → told.result ≡ Err e →

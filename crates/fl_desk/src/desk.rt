@@ -38,7 +38,7 @@ impl<J: Journal> Model for Desk<J> {
 
 impl<J: Journal> Desk<J> {
     /// A desk that has taken no order, whose lines go to this journal, which has none so far. Requests will wait by
-    /// these rules. If it is refused, the journal is let go.
+    /// these rules. If it is refused, the journal is dropped.
     pub fn over(alloc: Global, kept: J, rules: Rules) -> Result<Desk<J>, NoMemory>
     where
         J: Drop,

@@ -39,7 +39,7 @@ pub record IsCounted (post : Post) : Type 0 where
 abbrev pub handed_at : Weight → List Post → ℕ
 handed_at weight posts = sum_by (λ post. sum_by weight post.handed) posts
 
--- What weighs this was, each as often, handed in at these places, looked for or refused. A refusal is told exactly if
+-- What weighs this was, each as often, handed in at these places, looked for or refused. `any` is true exactly if
 -- some order was refused.
 pub record HaveDone (orders : Weight → ℕ) (places : List Place) (any : Bool) : Type 0 where
   pub posts : List Post

@@ -31,7 +31,7 @@ use std::thread::{Promise, PromisedHandle, Scope, Threads};
 pub struct WorkerPool<'a, 'w, L: BoardName, N: WriterName, R: Wait, W: Write, G, J: Journal> {
     /// The right to start threads and to wait.
     pub rt: &'a R,
-    /// What is told of each order and reply.
+    /// The hook that is called for each order and reply.
     pub gate: &'a G,
     /// Bytes of a worker's stack.
     pub stack: usize,

@@ -27,7 +27,7 @@ pub record SaysGoodbye (messages : List (List ℕ)) (held held_now : Option (Lis
   pub sent : HasSentLast held held_now (bytes_of goodbye)
 
 -- The orders of the messages are of three kinds, each order as often: those of the history; some that were looked for,
--- which only read; and some that were refused. A refusal is told exactly if some order was refused.
+-- which only read; and some that were refused. `refused` is true exactly if some order was refused.
 pub record IsAsked (messages : List (List ℕ)) (done : Done) : Type 0 where
   pub looked : Orders
   pub refused : Orders
@@ -63,8 +63,8 @@ pub record Streams : Type 0 where
   pub held : Option (List ℕ)
   pub held_now : Option (List ℕ)
 
--- What came of a session under these rules whose lines went to a journal. They are legal, and with them it served what
--- was read. The journal is there but at NoMemory, where nothing was read or written, and at NoReader.
+-- The result of a session under these rules whose lines went to a journal. They are legal, and with them it served
+-- what was read. The journal is there, except at NoReader, and at NoMemory, when nothing was read or written.
 pub record IsRecordedBy {K : Type 0} (lines : K → List Line) (rules : Rules) (streams : Streams) (it : Recorded K)
     : Type 0 where
   pub legal : IfSome it.journal (λ journal. IsLegal rules (lines journal))

@@ -10,7 +10,7 @@ use Rattle.fl_waiting.specs.declared.rules.Rules.{Rules}
 use Rattle.fl_wire.specs.Spell.{IsReply}
 
 -- If no write failed, these are all bytes of the replies. After a failed write they are only a prefix of them. A writer
--- shows no failure to contracts: that a write did fail if one is told to have failed is tested, and not proved.
+-- shows no failure to contracts: that a write did fail if one is reported to have failed is tested, and not proved.
 abbrev pub AreSent : Bool → List ℕ → List (List ℕ) → Type 0
 AreSent false sent replies = sent ≡ concat replies
 AreSent true sent replies = IsProperPrefix sent (concat replies)

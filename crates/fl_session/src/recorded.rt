@@ -15,8 +15,8 @@ use std::alloc::Global;
 /// The result of a session whose lines went to a journal.
 #[derive(Drop)]
 pub struct Recorded<K> {
-    /// Where its lines went: the orders that it took and their replies. It is there but at `NoMemory` and `NoReader`,
-    /// where it was let go.
+    /// Where its lines went: the orders that it took and their replies. It is there, except at `NoMemory` and
+    /// `NoReader`, when it was dropped.
     pub journal: Option<K>,
     /// Why it ended early, if it did: the reader's fault before the writer's.
     pub fault: Option<Fault>,

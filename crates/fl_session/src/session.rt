@@ -45,7 +45,7 @@ pub fn run_one<R: Read, W: Write>(alloc: Global, r: &mut R, w: &mut W, rules: Ru
     done
 }
 
-/// The same, and tells beside it whether a write failed.
+/// The same, and also gives whether a write failed.
 pub fn run_session<R: Read, W: Write>(alloc: Global, r: &mut R, w: &mut W, rules: Rules) -> Ended
     ensures { IsServed rules (R.remaining r.old) (R.remaining r.new) (W.contents w.old) (W.contents w.new)
         result.broken result.done }
@@ -55,9 +55,8 @@ pub fn run_session<R: Read, W: Write>(alloc: Global, r: &mut R, w: &mut W, rules
     Ended { done, broken }
 }
 
-/// The same, but its lines go to this journal, which has none so far. The journal comes back with them, but at
-/// `NoMemory`, where it is let go, and nothing was read or written. It is told before each read that no order is at
-/// hand.
+/// The same, but its lines go to this journal, which has none so far. The journal comes back with them, except at
+/// `NoMemory`: then it is dropped, and nothing was read or written. It is flushed before each read.
 pub fn record_session<R: Read, W: Write, J: Journal + Drop>(
     alloc: Global,
     r: &mut R,

@@ -33,7 +33,7 @@ impl From<NoMemory> for TraceFault {
     }
 }
 
-/// The history of a text, as `docs/TRACE.md` says. A bad line is told only if memory for the lines before
+/// The history of a text, as `docs/TRACE.md` says. A bad line is reported only if memory for the lines before
 /// it was there.
 pub fn read_trace(alloc: Global, text: &[u8]) -> Result<History, TraceFault>
     ensures read { IfOk result (λ history. Fits history × (text.now ≡ text_of history)) }

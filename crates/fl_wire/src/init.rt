@@ -34,7 +34,7 @@ const TIME_GRAN: u32 = 1;
 pub enum InitStep {
     /// It is answered with this error, and another INIT has to come.
     Refused(Errno),
-    /// The kernel speaks a higher major version: it is told 7.31, and asks again.
+    /// The kernel speaks a higher major version: the reply says 7.31, and it asks again.
     Again,
     /// The session begins. `flags` are those of the kernel's that are offered.
     Agreed {

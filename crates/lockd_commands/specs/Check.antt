@@ -23,12 +23,12 @@ abbrev pub quiet_text : Bool → List ℕ
 quiet_text true = codes "quiet" ++ 10 ∷ []
 quiet_text false = codes "not quiet" ++ 10 ∷ []
 
--- what is found, and behind `legal` the line that says whether the history is quiet, if that is told
+-- what is found, and behind `legal` the line that says whether the history is quiet, if that is to be said
 abbrev pub answer_text : Finding → Option Bool → List ℕ
 answer_text Legal (Some quiet) = finding_text Legal ++ quiet_text quiet
 answer_text finding told = finding_text finding
 
--- it is told if it is asked and the history is legal, and then it is right
+-- whether it is quiet is said if that is asked and the history is legal, and then it is right
 abbrev pub SaysQuiet : Rules → Bool → Finding → List Line → Option Bool → Type 0
 SaysQuiet rules true Legal lines None = ⊥
 SaysQuiet rules true Legal lines (Some quiet) = (quiet ≡ true) ↔ IsQuiet rules lines

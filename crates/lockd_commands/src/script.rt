@@ -29,8 +29,8 @@ struct AskLine {
 }
 
 /// `lockd script`: reads `ask` lines of workers 0 to 15, takes each order in turn at a desk under these rules, and
-/// writes the trace of the desk's history. All input is read and checked before any output. A fault is told as one
-/// line on `faults`.
+/// writes the trace of the desk's history. All input is read and checked before any output. A fault is one line
+/// on `faults`.
 pub fn script_on<R: Read, W: Write, F: Write>(
     alloc: Global,
     rules: Rules,

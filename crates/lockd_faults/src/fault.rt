@@ -1,4 +1,4 @@
-//! Why a command gives up, and how that is told.
+//! Why a command gives up, and the line that says so.
 ghost use Rattle.std.specs.Prelude.{◌≡◌};
 ghost use Rattle.lockd_faults.specs.Faults.{IsTold};
 

@@ -1,4 +1,4 @@
-//! How `lockd serve` ends once its session is over: where its trace goes, and what is told.
+//! How `lockd serve` ends once its session is over: where its trace goes, and which faults are reported.
 
 ghost use Rattle.std.specs.Prelude.{◌≡◌, ◌≢◌, ◌⊎◌, None, Some, IfErr, IfSome, IsOk, IsSome};
 ghost use Rattle.std.specs.Io.KnownBytes.{Keeps};

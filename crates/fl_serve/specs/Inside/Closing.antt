@@ -6,7 +6,7 @@ use Rattle.fl_desk.specs.Legal.{orders_asked}
 use Rattle.fl_session.specs.declared.done.Done.{Done}
 use Rattle.fl_transport.specs.declared.fault.Fault.{Fault}
 
--- What came of a session: its history has all that was handed in at these places, and no other order.
+-- The result of a session: its history has all that was handed in at these places, and no other order.
 pub record HasAll (places : List Place) (refused : Bool) (fault : Option Fault) (done : Done) : Type 0 where
   pub told : done.fault ≡ fault
   pub tells : done.refused ≡ refused

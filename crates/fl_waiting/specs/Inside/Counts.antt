@@ -15,6 +15,6 @@ abbrev pub how_many : ℕ → List Request → ℕ
 how_many bucket [] = 0
 how_many bucket (r ∷ parked) = counts_in bucket r + how_many bucket parked
 
--- for each remainder there is told how many are
+-- the counts say for each remainder how many there are
 abbrev pub AreCounted : List ℕ → List Request → Type 0
 AreCounted counts parked = (bucket : ℕ) → bucket < 256 → slice_index_or counts bucket 0 ≡ how_many bucket parked
