@@ -1,6 +1,6 @@
 #!/bin/sh
 # Times `lockd script` on a script that makes one file and asks for 5,000 locks on it, by seven owners, each on
-# bytes of its own: the first 4,096 stay held, and the others are refused for want of room.
+# bytes of its own: the first 4,096 stay held, and the others are refused since there is no room.
 set -eu
 . "$(dirname "$0")/../tools/built_lockd.sh"
 awk 'BEGIN {

@@ -185,7 +185,7 @@ module _ {T : Type 0} where
       (c i : ℕ) (link : Option ℕ) → link ≡ slot_at a c i → IfSome link (λ slot. slot < a.slots)
   within_slots nodes ends spare free a h c i link e = rw (e, h.slots) (linked_within nodes ends spare free a h c i)
 
-  -- the last slot of a chain, where it has one
+  -- the last slot of a chain, if it has one
   last_link : (es : List (Entry T)) → link_before es (length es) ≡ link_at es (length es - 1)
   last_link [] = refl
   last_link (e ∷ es) = ap (link_at (e ∷ es)) (omega arith)

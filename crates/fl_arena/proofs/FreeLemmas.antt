@@ -19,7 +19,7 @@ module _ {T : Type 0} where
       let nexts = same_next nodes p.0 p.1 q.1 p.3 there in
       ap suc (SpellsFree-unique nodes p.1 m n p.4 (subst (λ (l : Option ℕ). SpellsFree nodes l n) (sym nexts) q.4))
 
-  -- nodes that read alike where they are free spell the same free list
+  -- nodes that read alike if they are free spell the same free list
   pub SpellsFree-kept : (old new : List (Node T)) →
       ((slot : ℕ) (next : Option ℕ) → slice_get old slot ≡ Some (Free next) → slice_get new slot ≡ Some (Free next)) → (link : Option ℕ) (n : ℕ) →
       SpellsFree old link n → SpellsFree new link n

@@ -20,7 +20,7 @@ module _ {T : Type 0} where
   abbrev pub IsInPlace : Chains T → Cursor → Type 0
   IsInPlace a cursor = MatchOption cursor.slot ⊤ (λ s. slot_at a cursor.chain cursor.index ≡ Some s)
 
-  -- the index that the cursor stands at: where it has no slot, the end of its chain
+  -- the index that the cursor stands at: if it has no slot, the end of its chain
   abbrev pub index_of : Chains T → Cursor → ℕ
   index_of a cursor = if is_some cursor.slot then cursor.index else length (entries a cursor.chain)
 

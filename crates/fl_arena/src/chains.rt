@@ -44,7 +44,7 @@ impl<T: Copy> Model for Arena<T> {
 
 impl<T: Copy> Arena<T> {
     /// An arena of so many empty chains and so many free slots, which are numbered from 0. It fails
-    /// only for want of memory.
+    /// only if memory runs out.
     pub fn new(alloc: Global, chains: usize, slots: usize) -> Result<Self, AllocError>
         requires chains { chains ≤ 2 ^ 16 }
         requires slots { slots ≤ 2 ^ 16 }
@@ -73,7 +73,7 @@ impl<T: Copy> Arena<T> {
         }
     }
 
-    /// The cursor at the last item of the chain, or at its end where it has no item.
+    /// The cursor at the last item of the chain, or at its end if it has no item.
     pub fn last(&self, chain: usize) -> Cursor
         requires { chain < length self.now.chains }
         ensures last { result ≡ cursor_at self.now chain (length (entries self.now chain) - 1) }

@@ -108,7 +108,7 @@ no_more_than_all [] places apart = omega (arith, all_zero places)
 no_more_than_all (l ∷ lines) places apart =
     omega (arith, split l lines places, line_once l places apart, no_more_than_all lines places apart, sum_by-cons (λ k. one_if (is_asked k)) l lines)
 
--- ---- where each has as many as it handed in at least, and all have as many, each has exactly as many
+-- ---- if each has as many as it handed in at least, and all have as many, each has exactly as many
 
 most_sum : (lines : List Line) (places : List Place) → All (λ (p : Place). HasMostOf lines p) places
     → sum_by (λ (p : Place). p.count) places ≤ by_each lines places

@@ -32,7 +32,7 @@ pub struct Board<L: BoardName, R: Wait + Drop, J: Journal = Lines> {
 /// Why no board is there.
 #[derive(Clone, Copy, Debug, PartialEq, Eq)]
 pub enum OpenFault {
-    /// Want of memory.
+    /// Out of memory.
     NoMemory,
     /// A worker got no reader of what is published.
     NoReader,
@@ -71,8 +71,8 @@ impl From<AllocError> for OpenFault {
 
 impl<L: BoardName, R: Wait + Drop, J: Journal> Board<L, R, J> {
     /// A board whose lines go to this journal, which has none so far, and a seat for each of 1 to 16 workers: the
-    /// seat at place i is worker i's. `rt` waits for readers. Requests will wait by these rules. Where it is refused,
-    /// the journal is let go.
+    /// seat at place i is worker i's. `rt` waits for readers. Requests will wait by these rules. If it is refused,
+    /// the journal is dropped.
     pub fn over(
         alloc: Global,
         rt: R,
@@ -149,14 +149,13 @@ impl<L: BoardName, R: Wait + Drop, J: Journal> Board<L, R, J> {
         shared.meet(one, other)
     }
 
-    /// No order is at hand: what the journal of its lines holds back may go on now. No line, lock, count or seat
-    /// changes.
+    /// Flushes the journal of its lines: a worker has no order at hand. No line, lock, count or seat changes.
     pub fn pause<W: Wait>(&self, rt: &W) {
         let mut shared = self.shared.lock(rt);
         shared.pause();
     }
 
-    /// The journal of its lines, which are the history of all that was handed in, where no seat is missing. It is
+    /// The journal of its lines, which are the history of all that was handed in, if no seat is missing. It is
     /// legal under the board's rules, begins with all that was handed in and shown through each seat, and has as many
     /// orders of each worker as its seat's count.
     pub fn into_kept(self, seats: Vec<Seat<L>>) -> Result<J, CloseFault<L, R, J>>
@@ -210,7 +209,7 @@ impl<L: BoardName, R: Wait + Drop> Board<L, R> {
         Board::over(alloc, rt, Lines::new(alloc), blank, log, workers, rules)
     }
 
-    /// The history of all that was handed in, where no seat is missing. It is legal under the board's rules, begins
+    /// The history of all that was handed in, if no seat is missing. It is legal under the board's rules, begins
     /// with all that was handed in and shown through each seat, and has as many orders of each worker as its seat's
     /// count.
     pub fn close(self, seats: Vec<Seat<L>>) -> Result<History, CloseFault<L, R>>

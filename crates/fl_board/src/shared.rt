@@ -148,7 +148,7 @@ impl<L: BoardName, R: Wait + Drop, J: Journal> Shared<L, R, J> {
         true
     }
 
-    /// No order is at hand: what the desk's journal holds back may go on now.
+    /// Flushes the desk's journal: no order is at hand.
     pub(crate) fn pause(&mut self)
         ensures { self.new ≡ self.old }
     {
@@ -175,7 +175,7 @@ impl<L: BoardName, R: Wait + Drop, J: Journal> Shared<L, R, J> {
     }
 }
 
-// Adds an ask to the log, keeps it to be published, and gives all that was asked then. Where it is refused, nothing
+// Adds an ask to the log, keeps it to be published, and gives all that was asked then. If it is refused, nothing
 // more is to be published.
 fn added<L: BoardName, R: Wait + Drop>(
     writer: &mut ReplicaWriter<L, R>,

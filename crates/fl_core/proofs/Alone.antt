@@ -31,7 +31,7 @@ never_behind rules older r unfair = go (stroke_of r.node r.ask) (mark_of r.ask)
     go s None = refl
     go s (Some k) = ap (λ f. f && list_any (older_blocks (wish_on s k)) (wishes older)) unfair
 
--- where no request waits behind another the older ones have no say
+-- if no request waits behind another the older ones have no say
 pub waits_unfair : (rules : Rules) (m : Marking) (older others : List Request) (r : Request) → rules.fair ≡ false → waits rules m older r ≡ waits rules m others r
 waits_unfair rules m older others r unfair =
     waits_by rules m older r ∙ ap (λ b. waits_alone m r || b) (never_behind rules older r unfair ∙ sym (never_behind rules others r unfair))
@@ -69,7 +69,7 @@ module _ (P : List Request → Request → Type 0) where
   behind_both older (x ∷ xs) ys first second =
       (first.0, behind_both (older ++ x ∷ []) xs ys first.1 (subst (λ l. AllBehind P l ys) (sym (append_assoc older (x ∷ []) xs)) second))
 
-  -- where one of the older ones has no say, it may be gone
+  -- if one of the older ones has no say, it may be gone
   pub behind_less : (gone : Request) → ((older younger : List Request) (r : Request) → P (older ++ gone ∷ younger) r → P (older ++ younger) r)
       → (older younger xs : List Request) → AllBehind P (older ++ gone ∷ younger) xs → AllBehind P (older ++ younger) xs
   behind_less gone no_say older younger [] all = tt

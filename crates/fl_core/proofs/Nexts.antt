@@ -12,7 +12,7 @@ use Rattle.fl_core.proofs.Steps as steps
 use Rattle.fl_order.specs.declared.order.Order.{Order}
 
 module _ (p : Snapshot) (order : Order) (all : AllWait p.rules p.marking p.view.parked) (apart : AreApart p.view.parked) where
-  -- the replies are read as what is there afterwards, where no two requests have one unique
+  -- the replies are read as what is there afterwards, if no two requests have one unique
   abbrev Kept : Type 0
   Kept = (made (replied order (replies p order)) p ≡ next p order) × AreApart (next p order).view.parked
 

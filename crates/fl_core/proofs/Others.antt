@@ -33,7 +33,7 @@ module _ (order : Order) (p : Snapshot) (all : AllWait p.rules p.marking p.view.
       (others_kept Nothing p.rules p.marking p.view.parked all)
   by_own (Some (Ok answer)) t is off = others_off t p.rules p.marking _ p.view.parked off all
 
-  -- where it touched no other locks
+  -- if it touched no other locks
   pub others_taken : (own : Option (Result Answer Errno)) (t : Touched) (s : Snapshot) → own ≡ reply_to p.rules p.view p.marking order order.op
       → s ≡ made (by_reply order own) p → Still own t s
   others_taken own t s own_is s_is = subst (Still own t) (sym s_is) (by_own own t (sym own_is))

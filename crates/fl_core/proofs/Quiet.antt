@@ -36,7 +36,7 @@ only_told : (order : Order) (given result : Result Answer Errno) (k : ℕ) → k
 only_told order given result zero below is = ap (λ (t : Told). t.result) is
 only_told order given result (suc k) below is = absurd (omega (arith, below))
 
--- an order that is told nothing but its own reply, where all is as before
+-- an order that is told nothing but its own reply, if all is as before
 pub alone_quiet : (order : Order) (p : Snapshot) (reply : Option (Result Answer Errno)) → ChangesNothing p order (own_replies order reply) p
 alone_quiet order p None e there = absurd (omega (arith, there.1))
 alone_quiet order p (Some result) e there = (ap (λ r. own order r ∷ []) (only_told order result (Err e) there.0 there.1 there.2), refl)

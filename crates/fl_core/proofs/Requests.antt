@@ -22,7 +22,7 @@ pub asked_stroke : (node : ℕ) (ask : LockAsk) (key : Key) (range : Range) (mar
     → (range.start ≡ start_of ask) × (range.end ≡ end_of ask) → mark ≡ mark_of ask → stroke_on key range mark ≡ stroke_of node ask
 asked_stroke node ask key range mark k at m = λ i. record { key = k i; start = at.0 i; end = at.1 i; mark = m i }
 
--- what is set, and what is left where there was no room
+-- what is set, and what is left if there was no room
 pub set_marking : (reply : Result Answer Errno) (m n : Marking) (s : Stroke) (node : ℕ) (ask : LockAsk) → s ≡ stroke_of node ask → OnOk reply (n ≡ stroked s m)
     → OnErr reply (n ≡ m) → n ≡ after_changes (locked node ask reply) m
 set_marking (Ok answer) m n s node ask is ok err = ok ∙ ap (λ t. stroked t m) is

@@ -166,7 +166,7 @@ module _ (rules : Rules) where
     λ e. subst (λ t. IsSettled rules s t after) (sym e.0) (subst (λ (a : Present). IsSettled rules s (settled rules s).tolds a) (sym e.1) (is_settled s)),
   )
 
-  -- nothing is told exactly where every request waits
+  -- nothing is told exactly if every request waits
   waits_where_silent : {s after : Present} {tolds : List Told} → IsSettled rules s tolds after → tolds ≡ [] → AllWait rules s.marking s.parked
   waits_where_silent (done all) e = all
   waits_where_silent (one older r younger stands all free rest) e = absurd (cc e)

@@ -73,7 +73,7 @@ waiting_apart : (order : Order) (ask : Option LockAsk) (parked : List Request) �
 waiting_apart order None parked apart others = apart
 waiting_apart order (Some ask) parked apart others = apart_more parked (request_of order ask) apart others
 
--- parked requests stay apart, where the order's unique was none of theirs
+-- parked requests stay apart, if the order's unique was none of theirs
 apart_after : (order : Order) (own : Option (Result Answer Errno)) (p : Snapshot) → is_parked order.unique p.view.parked ≡ false → AreApart p.view.parked
     → AreApart (made (by_reply order own) p).view.parked
 apart_after order (Some reply) p fresh apart = apart
@@ -128,7 +128,7 @@ rest_others order p fresh all op none = settled_others p.rules order.unique p.ma
 abbrev pub after_ends : Order → Option (Result Answer Errno) → Snapshot → Snapshot
 after_ends order own s = with_parked (left_by s.view.parked order.op own) s
 
--- what was there before an order, after its own change, and before settling, where its unique is none of a parked request
+-- what was there before an order, after its own change, and before settling, if its unique is none of a parked request
 pub record IsFresh (order : Order) (own : Option (Result Answer Errno)) (p s q : Snapshot) : Type 0 where
   pub fresh : is_parked order.unique p.view.parked ≡ false
   pub own_is : own ≡ reply_to p.rules p.view p.marking order order.op

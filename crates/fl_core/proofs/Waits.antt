@@ -28,7 +28,7 @@ conflict_same : (m n : Marking) (s : Stroke) (mark : Option Mark)
 conflict_same m n s None same = refl
 conflict_same m n s (Some mark) same = same mark.kind
 
--- where nothing changed for requests that aren't concerned, they still wait
+-- if nothing changed for requests that aren't concerned, they still wait
 pub others_after : (t : Touched) (rules : Rules) (m n : Marking) (parked : List Request)
     → ((r : Request) → concerns_request t r ≡ false → waits_alone n r ≡ waits_alone m r) → OthersWait t rules m parked → OthersWait t rules n parked
 others_after t rules m n parked same all = each_so _ _ (λ older r waits apart.
@@ -37,7 +37,7 @@ others_after t rules m n parked same all = each_so _ _ (λ older r waits apart.
 pub others_kept : (t : Touched) (rules : Rules) (m : Marking) (parked : List Request) → AllWait rules m parked → OthersWait t rules m parked
 others_kept t rules m parked all = each_so _ _ (λ older r waits apart. waits) [] parked all
 
--- all wait where no lock was touched that one of them waits for
+-- all wait if no lock was touched that one of them waits for
 pub none_concerned : (t : Touched) (rules : Rules) (m : Marking) (parked : List Request)
     → AllByRecursion (λ (r : Request). concerns_request t r ≡ false) parked → OthersWait t rules m parked → AllWait rules m parked
 none_concerned t rules m parked none all = go [] parked none all
@@ -48,7 +48,7 @@ none_concerned t rules m parked none all = go [] parked none all
     go older [] none all = tt
     go older (r ∷ parked) none all = (all.0 none.0, go (older ++ r ∷ []) parked none.1 all.1)
 
--- where no other lock was touched each that isn't concerned still waits
+-- if no other lock was touched each that isn't concerned still waits
 pub others_off : (t : Touched) (rules : Rules) (m n : Marking) (parked : List Request) → SameOff t m n → AllWait rules m parked → OthersWait t rules n parked
 others_off t rules m n parked off all =
     others_after t rules m n parked (λ r apart. let s = stroke_of r.node r.ask in conflict_same m n s (mark_of r.ask) (λ kind. off s.key s.start s.end kind apart))
@@ -174,7 +174,7 @@ pub all_wait_more : (rules : Rules) (m : Marking) (parked : List Request) (r : R
     → AllWait rules m (parked ++ r ∷ [])
 all_wait_more rules m parked r all here = behind_more (λ older r. waits rules m older r ≡ true) [] parked r all here
 
--- where no request waits behind another some may leave, and the others wait but for those that were touched
+-- if no request waits behind another some may leave, and the others wait but for those that were touched
 pub others_wait_left : (t : Touched) (rules : Rules) (m : Marking) (stays : Request → Bool) (parked : List Request) → rules.fair ≡ false
     → OthersWait t rules m parked → OthersWait t rules m (filter stays parked)
 others_wait_left t rules m stays parked unfair all = go [] [] parked all
@@ -194,7 +194,7 @@ others_wait_left t rules m stays parked unfair all = go [] [] parked all
         by true here gone = ((λ apart. waits_unfair rules m others older r unfair ∙ all.0 apart), here)
         by false here gone = gone
 
--- where any may be free
+-- if any may be free
 pub anything_may : (rules : Rules) (m : Marking) (parked : List Request) → OthersWait Anything rules m parked
 anything_may rules m parked = go [] parked
   where

@@ -30,7 +30,7 @@ pub record Effect : Type 0 where
 abbrev pub leaving : View → Effect
 leaving v = record { view = v; changes = [] }
 
--- a lock request of a node with this reply: granted where it is no error
+-- a lock request of a node with this reply: granted if it is no error
 abbrev pub locked : ℕ → LockAsk → Result Answer Errno → List Change
 locked node ask (Ok answer) = struck (stroke_of node ask) ∷ []
 locked node ask (Err e) = []
@@ -55,7 +55,7 @@ abbrev pub dropped : Bool → ℕ → ℕ → List Change
 dropped false node owner = []
 dropped true node owner = unlocked Flock node owner ∷ []
 
--- where no fh is left open on the node, all its locks go
+-- if no fh is left open on the node, all its locks go
 abbrev pub cleared_on : Listing → ℕ → List Change
 cleared_on d node = if has_open_file d node then [] else cleared node ∷ []
 
@@ -125,7 +125,7 @@ abbrev pub by_reply : Order → Option (Result Answer Errno) → View → Effect
 by_reply order None v = unanswered order order.op v
 by_reply order (Some reply) v = answered order order.op reply v
 
--- an order with its own reply, if it has one now; where its unique is that of a parked request, it changes nothing
+-- an order with its own reply, if it has one now; if its unique is that of a parked request, it changes nothing
 abbrev pub at_once : Order → Option (Result Answer Errno) → View → Effect
 at_once order own v = if is_parked order.unique v.parked then leaving v else by_reply order own v
 
@@ -142,7 +142,7 @@ later told v = later_to (taken_out told.unique v.parked) told.result v
 abbrev pub followed_by : (View → Effect) → Effect → Effect
 followed_by f e = record { view = (f e.view).view; changes = (f e.view).changes ++ e.changes }
 
--- an order and the reply directly after it, which is its own where it has its unique
+-- an order and the reply directly after it, which is its own if it has its unique
 abbrev pub told_first : Order → Told → View → Effect
 told_first order told v =
     if told.unique == order.unique then at_once order (Some told.result) v

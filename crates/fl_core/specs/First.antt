@@ -55,14 +55,14 @@ pub data IsAnswered (p : Snapshot) (order : Order) : Op → List Told → Type 0
   closes : (fh : ℕ) (unlocks : Bool) (owner : ℕ) → is_open_on p.view.directory fh order.node ≡ true
       → IsAnswered p order (Release fh unlocks owner)
       (own order (Ok Done) ∷ ended_all EBADF (λ r. r.ask.fh == fh) p.view.parked)
-  -- INTERRUPT: of a parked request, which alone is told; or of none
+  -- INTERRUPT: of a parked request, which alone gets a reply; or of none
   interrupts : (unique : ℕ) (r : Request) → IsWaiter unique p.view.parked r
       → IsAnswered p order (Interrupt unique) (ended_with EINTR r ∷ [])
   interrupts_none : (unique : ℕ) → IsNew unique p.view.parked
       → IsAnswered p order (Interrupt unique) (own order (Err EAGAIN) ∷ [])
-  -- SETLKW: of a request that fails a test whatever locks are held; that needn't wait behind those that are parked;
-  -- that has to, and would close a circle; that has to, when as many wait already as the rules allow; that has to,
-  -- and does from now on
+  -- SETLKW: of a request that fails a test whatever locks are held; that needn't wait
+  -- behind those that are parked; that has to, and would close a circle; that has to, when as many wait already as the
+  -- rules allow; that has to, and is parked
   fails : (ask : LockAsk) (e : Errno) → ask_error p.view.directory order.node ask ≡ Some e
       → IsAnswered p order (Setlkw ask) (own order (Err e) ∷ [])
   is_free : (ask : LockAsk) → ask_error p.view.directory order.node ask ≡ None
@@ -83,7 +83,7 @@ pub data IsAnswered (p : Snapshot) (order : Order) : Op → List Told → Type 0
       → length p.view.parked < p.rules.parked
       → IsAnswered p order (Setlkw ask) []
 
--- what any order gives: where a request waits that has its unique, a FORGET gives nothing, and any other EINVAL
+-- what any order gives: if a request waits that has its unique, a FORGET gives nothing, and any other EINVAL
 pub data IsFirst (p : Snapshot) (order : Order) : List Told → Type 0 where
   forget_of_a_waiter : (n : ℕ) (r : Request) → order.op ≡ Forget n → IsWaiter order.unique p.view.parked r
       → IsFirst p order []

@@ -39,11 +39,11 @@ is_malformed ask =
     nat_lt 1 ask.flags
     || (nat_lt 2 ask.kind || (not (is_flock ask) && (nat_lt ask.end ask.start || nat_lt 9223372036854775807 ask.end)))
 
--- a change of locks is made where at most so many runs are there afterwards, over all files
+-- a change of locks is made if at most so many runs are there afterwards, over all files
 abbrev pub room_reply : ℕ → Marking → Stroke → Result Answer Errno
 room_reply most m s = if nat_lt most (runs (stroked s m)) then Err ENOLCK else Ok Done
 
--- a lock is set where it conflicts with none that is held
+-- a lock is set if it conflicts with none that is held
 abbrev pub set_reply : ℕ → Marking → Stroke → Option Mark → Result Answer Errno
 set_reply most m s mark = if conflicts_with_held m s mark then Err EAGAIN else room_reply most m s
 
@@ -53,7 +53,7 @@ ask_error d node ask =
     if not (is_open_on d ask.fh node) then Some EBADF
     else (if is_malformed ask then Some EINVAL else None)
 
--- what a SETLK is answered, where there may be so many runs
+-- what a SETLK is answered, if there may be so many runs
 abbrev pub setlk_reply : ℕ → Listing → Marking → ℕ → LockAsk → Result Answer Errno
 setlk_reply most d m node ask =
     unless_error (ask_error d node ask) (set_reply most m (stroke_of node ask) (mark_of ask))
@@ -84,7 +84,7 @@ abbrev pub type_of : Kind → ℕ
 type_of Read = 0
 type_of Write = 1
 
--- the lock that is named; where none conflicts with the one that was asked for, that one's own record with type 2,
+-- the lock that is named; if none conflicts with the one that was asked for, that one's own record with type 2,
 -- unlock
 abbrev pub lock_answer : LockAsk → Option Held → Answer
 lock_answer ask None = Lock ask.start ask.end 2 ask.pid
@@ -105,7 +105,7 @@ getlk_reply d m node ask =
 abbrev pub file_reply : Listing → ℕ → ℕ → Result Answer Errno
 file_reply d node fh = if is_open_on d fh node then Ok Done else Err EBADF
 
--- an INTERRUPT has no reply where it finds the request of the unique that it names
+-- an INTERRUPT has no reply if it finds the request of the unique that it names
 abbrev pub interrupt_reply : List Request → ℕ → Option (Result Answer Errno)
 interrupt_reply parked unique = if is_parked unique parked then None else Some (Err EAGAIN)
 
@@ -143,7 +143,7 @@ abbrev pub own_replies : Order → Option (Result Answer Errno) → List Told
 own_replies order None = []
 own_replies order (Some result) = record { unique = order.unique; result = result } ∷ []
 
--- a parked request is told an error, and goes
+-- a parked request is rejected with an error, and goes
 abbrev pub ended_with : Errno → Request → Told
 ended_with e r = record { unique = r.unique; result = Err e }
 
@@ -163,7 +163,7 @@ abbrev pub picks : Ending → Request → Bool
 picks (Through fh) r = r.ask.fh == fh
 picks (Named unique) r = r.unique == unique
 
--- what they are told
+-- the error that they get
 abbrev pub error_of : Ending → Errno
 error_of (Through fh) = EBADF
 error_of (Named unique) = EINTR
@@ -177,7 +177,7 @@ ended_if (Some ending) parked = ended_all (error_of ending) (picks ending) parke
 abbrev pub ended_by : List Request → Op → Option (Result Answer Errno) → List Told
 ended_by parked op own = ended_if (ending_of op own) parked
 
--- the same, but none where the order's unique is that of a parked request
+-- the same, but none if the order's unique is that of a parked request
 abbrev pub ended : View → Order → Option (Result Answer Errno) → List Told
 ended v order own = if is_parked order.unique v.parked then [] else ended_by v.parked order.op own
 

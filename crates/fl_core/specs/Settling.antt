@@ -23,11 +23,11 @@ pub record Present : Type 0 where
 abbrev pub present : Marking → List Request → Present
 present marking parked = record { marking = marking; parked = parked }
 
--- a request that doesn't wait any more: its lock is set where there is room, for so many runs
+-- a request that doesn't wait any more: its lock is set if there is room, for so many runs
 abbrev pub grant_reply : ℕ → Marking → Request → Result Answer Errno
 grant_reply most m r = room_reply most m (stroke_of r.node r.ask)
 
--- what it is told
+-- the reply to it
 abbrev pub granted_told : ℕ → Marking → Request → Told
 granted_told most m r = record { unique = r.unique; result = grant_reply most m r }
 
@@ -73,8 +73,8 @@ settled_within rules (suc n) m parked =
 abbrev pub settled : Rules → Present → Settled
 settled rules s = settled_within rules (length s.parked) s.marking s.parked
 
--- The same in words: nothing is told where every request waits. Else the oldest that doesn't is taken out, its lock
--- is set where there is room, and it is told; and so on.
+-- The same in words: no reply is given if every request waits. Otherwise the oldest that doesn't is taken out, its lock
+-- is set if there is room, and it is answered; and so on.
 pub data IsSettled (rules : Rules) : Present → List Told → Present → Type 0 where
   done : {m : Marking} {parked : List Request} → AllWait rules m parked
       → IsSettled rules (present m parked) [] (present m parked)

@@ -30,7 +30,7 @@ asked_by (Setlk ask) = asker_of ask
 asked_by (Setlkw ask) = asker_of ask
 asked_by op = None
 
--- the owner whose record lock a request wants; none where it wants another lock
+-- the owner whose record lock a request wants; none if it wants another lock
 abbrev pub wanted_by : Request → Option ℕ
 wanted_by r = option_map owner_of (wish_of r)
 

@@ -34,7 +34,7 @@ with_present s p = record p { view = record p.view { parked = s.parked }; markin
 abbrev pub next : Snapshot → Order → Snapshot
 next p order = let first = after_first p order in with_present (settling first).present first
 
--- Where the order is told an error itself, nobody else is told anything, and all is as it was before: the directory,
+-- If the order itself is rejected with an error, nobody else gets a reply, and all is as it was before: the directory,
 -- the parked requests, and the locks.
 abbrev pub ChangesNothing : Snapshot → Order → List Told → Snapshot → Type 0
 ChangesNothing before order tolds after =

@@ -25,7 +25,7 @@ pub fn effects_are_shown_alike()
     ensures { (effect : View → Effect) (s : State) → snapshot_of (recorded effect s) ≡ made effect (snapshot_of s) }
 {}
 
-/// The first replies of an order are those that its case says, where no two parked requests have one unique.
+/// The first replies of an order are those that its case says, if no two parked requests have one unique.
 pub fn first_replies_are_those_of_the_orders_case()
     ensures { (p : Snapshot) (order : Order) (tolds : List Told) → AreApart p.view.parked →
         (tolds ≡ first_told p order) ↔ IsFirst p order tolds }
@@ -43,7 +43,7 @@ pub fn settling_answers_the_oldest_first()
         AllWait rules (settled rules s).present.marking (settled rules s).present.parked }
 {}
 
-/// A parked request that is told an error is parked no more, and that is all that changes.
+/// A parked request that is rejected with an error is parked no more, and that is all that changes.
 pub fn a_late_error_changes_no_lock()
     ensures { (told : Told) (e : Errno) (v : View) (r : Request) (others : List Request) →
         taken_out told.unique v.parked ≡ Some (r, others) → told.result ≡ Err e →

@@ -25,7 +25,7 @@ const WRITE: u32 = 1;
 
 const UNLOCK: u32 = 2;
 
-// FUSE_SETLK: sets or takes away a lock where its tests pass.
+// FUSE_SETLK: sets or takes away a lock if its tests pass.
 pub(crate) fn set_lock(
     directory: &Dir,
     locks: &mut Table,
@@ -53,7 +53,7 @@ pub(crate) fn unlock(locks: &mut Table, class: Class, node: u64, owner: u64)
     locks.erase_owner(&Key { class, node, owner });
 }
 
-/// The owner's whole-file lock on the node goes with `drop`, and where this was the node's last fh all its locks go.
+/// The owner's whole-file lock on the node goes with `drop`, and if this was the node's last fh all its locks go.
 pub(crate) fn release_locks(locks: &mut Table, node: u64, drop: bool, owner: u64, last: bool)
     ensures marking { locks.new.marking
         ≡ after_changes ((if last then cleared node ∷ [] else []) ++ dropped drop node owner) locks.old.marking }
@@ -158,7 +158,7 @@ fn is_blocked(
     }
 }
 
-// The bytes of the range get the mark, or lose theirs: where no lock that is held conflicts with it, and where there is
+// The bytes of the range get the mark, or lose theirs: if no lock that is held conflicts with it, and if there is
 // room for the runs afterwards.
 fn change(locks: &mut Table, key: &Key, range: &Range, mark: Option<Mark>) -> Result<Answer, Errno>
     ensures reply { result ≡ set_reply locks.old.limit locks.old.marking (stroke_on key.now range.now mark) mark }
@@ -234,7 +234,7 @@ pub(crate) fn test_lock(
     Ok(lock_answer(ask, locks.blocker(&key, &range, mark.kind)))
 }
 
-// What a GETLK is told where this lock conflicts with it, or none.
+// What a GETLK is told if this lock conflicts with it, or none.
 fn lock_answer(ask: &LockAsk, held: Option<Held>) -> Answer
     ensures { result ≡ lock_answer ask.now held }
 {
@@ -275,7 +275,7 @@ fn asked_range(directory: &Dir, node: u64, ask: &LockAsk) -> Result<Range, Errno
     range_of(ask).ok_or(Errno::EINVAL)
 }
 
-// The range of a lock request; none where the request is malformed.
+// The range of a lock request; none if the request is malformed.
 fn range_of(ask: &LockAsk) -> Option<Range>
     ensures malformed { IsNone result ↔ (is_malformed ask.now ≡ true) }
     ensures range { IfSome result (λ range. (range.start ≡ start_of ask.now) × (range.end ≡ end_of ask.now)) }

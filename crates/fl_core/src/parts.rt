@@ -127,7 +127,7 @@ impl Parts {
     }
 
     /// Ends the parked requests which the order ends, by what it was answered itself, and tells them. Gives what was
-    /// touched then, where the order's own change touched this.
+    /// touched then, if the order's own change touched this.
     pub(crate) fn end(
         &mut self,
         order: &Order,
@@ -156,7 +156,7 @@ impl Parts {
         touched
     }
 
-    /// Answers parked requests until each waits, where an order touched these locks.
+    /// Answers parked requests until each waits, if an order touched these locks.
     pub(crate) fn settle(&mut self, touched: Touched, tolds: &mut Tolds)
         requires others { OthersWait touched self.old.rules self.old.marking self.old.view.parked }
         requires room { length tolds.old.told + length self.old.view.parked ≤ tolds.old.room }

@@ -36,7 +36,7 @@ impl Touched {
         Touched::OfClass(node, key_of(node, ask).class)
     }
 
-    /// What an order touched that is answered so, where it touches this if it is done.
+    /// What an order with this answer touched; `self` is what it touches if it is done.
     pub(crate) fn if_done(self, own: &Option<Result<Answer, Errno>>) -> Touched
         ensures { result ≡ touched_if_done own.now self }
     {
@@ -47,7 +47,7 @@ impl Touched {
     }
 }
 
-/// Answers requests, always the oldest that doesn't wait, until each waits. It tests those alone whose locks were
+/// Grants waiting requests, oldest first, until all that are left are blocked. It tests only those for locks that were
 /// touched.
 pub(crate) fn settle(
     rules: Rules,
@@ -76,7 +76,7 @@ pub(crate) fn settle(
     }
 }
 
-// Whether locks were touched that a request waits for; where this says no, it is so.
+// Whether locks were touched that a request waits for. It may give false positives, never false negatives.
 fn may_concern(touched: Touched, parked: &Parked) -> bool
     ensures { result ≡ false → AllByRecursion (λ (r : Request). concerns_request touched r ≡ false) parked.now }
 {
@@ -99,7 +99,7 @@ fn take_free(rules: Rules, locks: &Table, parked: &mut Parked, touched: Touched)
     })
 }
 
-// The request's lock is set where there is room.
+// The request's lock is set if there is room.
 fn grant(locks: &mut Table, claim: &Claim) -> Told
     requires { conflicts_with_held locks.old.marking (stroke_of claim.now.request.node claim.now.request.ask)
         (mark_of claim.now.request.ask) ≡ false }

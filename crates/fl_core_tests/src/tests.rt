@@ -46,7 +46,7 @@ fn add(rt: &impl Abort, text: &mut Vec<u8>, piece: &[u8]) {
     text.extend_from_slice(piece).expect(rt, "no memory");
 }
 
-// The text is a legal history of so many lines, whose orders are answered without a step where they only read.
+// The text is a legal history of so many lines, whose orders are answered without a step if they only read.
 fn is_legal(rt: &(impl Abort + AllocGlobal), lines: usize, orders: &str) {
     are_legal(rt, lines, &[orders]);
 }

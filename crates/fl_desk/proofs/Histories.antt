@@ -128,7 +128,7 @@ taken_kept lines given new present after worker order tolds shown kept given_is 
       lawful = lawful kept.lawful;
     }
 
--- one order more leads on, where what its replies give is what is there after it
+-- one order more leads on, if what its replies give is what is there after it
 pub leads_on : (lines : List Line) (p : Snapshot) (worker : ℕ) (order : Order) → LeadsTo lines p
     → ((s : State) → snapshot_of s ≡ p → snapshot_of (recorded (replied order (replies p order)) s) ≡ next p order)
     → AllWait p.rules (next p order).marking (next p order).view.parked → AreApart (next p order).view.parked

@@ -124,7 +124,7 @@ begins rules before worker order j legal =
           (sym (map-append (λ told. line.Told told) (take j r) (drop j r)) ∙ ap told_lines (take-append-drop j r)));
     }
 
--- one more at a place, where there is one
+-- one more at a place, if there is one
 at_place : {A : Type 0} (xs : List A) (j : ℕ) → j < length xs → (x : A) × (slice_get xs j ≡ Some x) × (drop j xs ≡ x ∷ drop (suc j) xs)
 at_place [] j h = absurd (omega arith)
 at_place (x ∷ xs) zero h = (x, refl, refl)

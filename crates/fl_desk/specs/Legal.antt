@@ -1,4 +1,4 @@
--- Which histories are those of one thread, under the rules by which requests wait: each order is answered as the
+-- Which histories are those of a single thread, under the rules by which requests wait: each order is answered as the
 -- sequential lock directory answers then.
 use Rattle.std.specs.Prelude.{◌≡◌, ℕ, Bool, true, false, List, [], ◌∷◌, ◌++◌, map, count_by}
 use Rattle.fl_desk.specs.Replay.{state_after}

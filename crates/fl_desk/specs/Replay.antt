@@ -18,7 +18,7 @@ pub record Reading : Type 0 where
 abbrev pub unread : Rules → Reading
 unread rules = record { state = opening rules; waiting = None }
 
--- no reply of its own comes to the order that was asked last
+-- the state once it is known that the order that was asked last has no reply of its own
 abbrev pub committed : Option Order → State → State
 committed None s = s
 committed (Some order) s = recorded (at_once order None) s

@@ -11,8 +11,8 @@ pub record IsBeginning (rules : Rules) (lines : List Line) : Type 0 where
   pub rest : List Line
   pub legal : IsLegal rules (lines ++ rest)
 
--- The history isn't legal. The lines before this one, counted from 1, are a beginning of a legal history, and no more
--- are; it is the line after the last one where all are.
+-- The history isn't legal. Line n, counted from 1, is the first that breaks the rules: the lines before it are a prefix
+-- of a legal history, and no more are. It is the line after the last one if only replies are missing.
 pub record DiffersAt (rules : Rules) (lines : List Line) (n : ℕ) : Type 0 where
   pub illegal : IsLegal rules lines → ⊥
   pub from : 1 ≤ n

@@ -1,4 +1,4 @@
-//! What a worker needs: a counter at which it hands orders in and looks, and a gate that is told of them.
+//! What a worker needs: a counter at which it hands orders in and looks, and a gate, which is called for each.
 
 ghost use Rattle.std.specs.Prelude.{◌≡◌, ◌≤◌, ℕ, ◌+◌, true, OnOk, OnErr};
 ghost use Rattle.fl_desk.specs.Asked.{IsAskedLast, Orders};
@@ -48,13 +48,12 @@ pub trait Counter {
         ensures own { worker seat.new ≡ worker seat.old }
         ensures kept { (count seat.new ≡ count seat.old) × (asked seat.new ≡ asked seat.old) };
 
-    /// A worker has no order at hand and is about to sleep: what the counter holds back of what it keeps may go on
-    /// now. It concerns no seat.
+    /// Flushes buffered output: a worker has no order at hand and is about to sleep. It concerns no seat.
     fn pause<R: Wait>(&self, rt: &R);
 }
 
-/// Told of each order that a worker took: before it is handed in, and behind each reply of it that was given out to
-/// be sent.
+/// A hook, called for each order that a worker took: before it is handed in, and after each reply of it that was given
+/// out to be sent.
 pub trait Gate {
     /// An order of this unique is about to be handed in.
     fn pass(&self, unique: u64);

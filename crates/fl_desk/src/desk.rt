@@ -38,7 +38,7 @@ impl<J: Journal> Model for Desk<J> {
 
 impl<J: Journal> Desk<J> {
     /// A desk that has taken no order, whose lines go to this journal, which has none so far. Requests will wait by
-    /// these rules. Where it is refused, the journal is let go.
+    /// these rules. If it is refused, the journal is dropped.
     pub fn over(alloc: Global, kept: J, rules: Rules) -> Result<Desk<J>, NoMemory>
     where
         J: Drop,
@@ -52,7 +52,7 @@ impl<J: Journal> Desk<J> {
     }
 
     /// Makes room for the lines of one order by its rules, its own and one for each reply: 258 by the standard rules.
-    /// The next `take` succeeds, and takes no memory. A refusal changes no line, and doesn't come where there is that
+    /// The next `take` succeeds, and takes no memory. A refusal changes no line, and doesn't come if there is that
     /// room.
     pub fn ready(&mut self) -> Result<(), NoMemory>
         ensures same { (self.new.lines ≡ self.old.lines) × (self.new.present ≡ self.old.present) }
@@ -64,7 +64,7 @@ impl<J: Journal> Desk<J> {
     }
 
     /// Takes an order of a worker: records it, answers it, and hands out the replies that it records. A refusal
-    /// changes nothing, and doesn't come where there is room for the lines of one order by its rules, which `ready`
+    /// changes nothing, and doesn't come if there is room for the lines of one order by its rules, which `ready`
     /// makes.
     pub fn take(&mut self, worker: u32, order: &Order, tolds: &mut Tolds) -> Result<(), NoMemory>
         requires { HasRoom self.old.present.rules tolds.old }
@@ -86,7 +86,7 @@ impl<J: Journal> Desk<J> {
         Ok(())
     }
 
-    /// No order is at hand: what its journal holds back may go on now. Neither lines nor what is there change.
+    /// Flushes its journal: no order is at hand. Neither lines nor what is there change.
     pub fn pause(&mut self)
         ensures lines { self.new.lines ≡ self.old.lines }
         ensures present { self.new.present ≡ self.old.present }

@@ -3,7 +3,7 @@
 /// Why an order is refused.
 #[derive(Clone, Copy, Debug, PartialEq, Eq)]
 pub enum HandFault {
-    /// Want of memory.
+    /// Out of memory.
     NoMemory,
     /// The history is shorter than what the worker handed in or was shown, or has 2^62 orders.
     NoView,

@@ -1,4 +1,4 @@
-//! The judge of a history: whether it is one of one thread, under the rules by which requests wait.
+//! The judge of a history: whether a single thread could have produced it, under the rules by which requests wait.
 
 ghost use Rattle.std.specs.Prelude.{◌≡◌, ◌≢◌, ◌↔◌, ◌≤◌, ◌<◌, ◌^◌, true, Some, [], IfOk, length, map, take, drop};
 ghost use Rattle.std.specs.List.{slice_get};
@@ -16,11 +16,11 @@ use std::alloc::Global;
 /// What a judge says of a history.
 #[derive(Clone, Copy, Debug, PartialEq, Eq)]
 pub enum Verdict {
-    /// It is one of one thread: each order is answered, at once or later, as the sequential directory answers then,
-    /// under the rules that it is judged by.
+    /// A single thread could have produced it: each order is answered, at once or later, as the sequential directory
+    /// answers then, under the rules that it is judged by.
     Legal,
-    /// It isn't. The lines before this one, counted from 1, are a beginning of a legal history, and no more are. Where
-    /// only replies are missing at its end, this is the line after its last.
+    /// It isn't. This line, counted from 1, is the first that breaks the rules. If only replies are missing at its
+    /// end, this is the line after its last.
     Differs(usize),
 }
 

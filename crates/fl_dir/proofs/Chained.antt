@@ -115,7 +115,7 @@ module _ {X : Type 0} where
 
   -- ---- room
 
-  -- where all slots hold items, so many are there
+  -- if all slots hold items, so many are there
   pub full_of_none : (a : Chains (ℕ × X)) (next free : ℕ) (b : Bool) → IsList a next → item_count a + free ≡ a.slots → free ≡ 0 →
       true ≡ (nat_le a.slots (map.len (map.from_sorted {R = nat_cmp} (items a 0))) || b)
   full_of_none a next free b kept total none =
@@ -136,7 +136,7 @@ module _ {X : Type 0} where
       missed : (m n : ℕ) → n < m → false ≡ nat_le m n
       missed m n h = grind (arith, nat_tests)
 
-  -- where a limit isn't reached there is room
+  -- if a limit isn't reached there is room
   pub room_left : (a : Chains (ℕ × X)) (next : ℕ) (b : Bool) → IsList a next →
       (nat_le a.slots (map.len (map.from_sorted {R = nat_cmp} (items a 0))) || b) ≡ false → length (items a 0) < a.slots
   room_left a next b kept clear =

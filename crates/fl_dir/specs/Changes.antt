@@ -23,7 +23,7 @@ changed_at nodes number change = set_at nodes number (option_map change (get nod
 abbrev pub counted_up : Node → Node
 counted_up node = record node { lookups = node.lookups + 1 }
 
--- a node of which so many lookups were forgotten: none is left where there were no more
+-- a node of which so many lookups were forgotten: none is left if there were no more
 abbrev pub counted_down : ℕ → Node → Node
 counted_down n node = record node { lookups = node.lookups - n }
 
@@ -31,12 +31,12 @@ counted_down n node = record node { lookups = node.lookups - n }
 abbrev pub nameless : Node → Node
 nameless node = record node { name = None }
 
--- without this node, where nothing keeps it alive
+-- without this node, if nothing keeps it alive
 abbrev pub swept_node : Listing → ℕ → Option Node → Listing
 swept_node d number None = d
 swept_node d number (Some node) = if lives d number node then d else record d { nodes = remove d.nodes number }
 
--- without the node of this number, where nothing keeps it alive
+-- without the node of this number, if nothing keeps it alive
 abbrev pub swept : ℕ → Listing → Listing
 swept number d = swept_node d number (get d.nodes number)
 

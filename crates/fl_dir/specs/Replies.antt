@@ -17,7 +17,7 @@ use Rattle.fl_order.specs.declared.told.Attr.{Attr}
 abbrev pub directory_error : Listing → ℕ → Option Errno
 directory_error d node = if not (is_known d node) then Some ENOENT else (if not (node == 1) then Some ENOTDIR else None)
 
--- the reply, or the error where there is one
+-- the reply, or the error if there is one
 abbrev pub unless_error : Option Errno → Result Answer Errno → Result Answer Errno
 unless_error None reply = reply
 unless_error (Some e) reply = Err e

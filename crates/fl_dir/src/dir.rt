@@ -80,7 +80,7 @@ impl Model for Dir {
 }
 
 impl Dir {
-    /// An empty directory, with room for all that it may hold. It fails only for want of memory.
+    /// An empty directory, with room for all that it may hold. It fails only if memory runs out.
     pub fn new(alloc: Global) -> Result<Dir, NoMemory>
         ensures { IfOk result (λ d. d ≡ opening_listing) }
     {
@@ -180,7 +180,7 @@ impl Dir {
         Ok(Answer::Done)
     }
 
-    /// FUSE_FORGET of `n` lookups of the node, or of all where it has fewer. The root's lookups aren't counted.
+    /// FUSE_FORGET of `n` lookups of the node, or of all if it has fewer. The root's lookups aren't counted.
     pub fn forget(&mut self, node: u64, n: u64)
         ensures { self.new ≡ after_forget self.old node n }
     {
@@ -190,7 +190,7 @@ impl Dir {
         }
     }
 
-    /// FUSE_RELEASE: closes an fh of the node; EBADF where it isn't open on it.
+    /// FUSE_RELEASE: closes an fh of the node; EBADF if it isn't open on it.
     pub fn close(&mut self, node: u64, fh: u64) -> Result<Closed, Errno>
         ensures answer { result ≡ close_reply self.old node fh }
         ensures after { self.new ≡ after_close self.old node fh result }

@@ -45,7 +45,7 @@ impl Dir {
         node.name.is_some() || node.lookups != 0 || self.has_open_file(number)
     }
 
-    // Without the node, where nothing keeps it alive.
+    // Without the node, if nothing keeps it alive.
     pub(crate) fn sweep(&mut self, number: u64)
         ensures { self.new ≡ swept number self.old }
     {

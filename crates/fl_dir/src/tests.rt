@@ -1,4 +1,4 @@
-//! Tests of the directory: by what is public of it, and where its numbers come to their ends.
+//! Tests of the directory: by what is public of it, and where its numbers are at their ends.
 
 mod calls;
 mod dir;

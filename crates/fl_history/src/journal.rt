@@ -15,7 +15,7 @@ pub trait Journal {
     /// For how many more lines there is room.
     ghost room: { Self → ℕ };
 
-    /// Makes room for so many lines more, at most 2,048. A refusal changes no line, and doesn't come where there is
+    /// Makes room for so many lines more, at most 2,048. A refusal changes no line, and doesn't come if there is
     /// room.
     fn reserve(&mut self, count: usize) -> Result<(), NoMemory>
         requires few { count ≤ 2048 }
@@ -35,7 +35,7 @@ pub trait Journal {
         ensures lines { lines self.new ≡ lines self.old ++ line.Told told.now ∷ [] }
         ensures room { room self.old ≤ room self.new + 1 };
 
-    /// No order is at hand: what it holds back may go on now. No line changes.
+    /// Flushes what it holds back: no order is at hand. No line changes.
     fn pause(&mut self)
         ensures lines { lines self.new ≡ lines self.old };
 }

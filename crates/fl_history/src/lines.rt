@@ -94,7 +94,7 @@ impl Lines {
         }
     }
 
-    /// Makes room for so many lines more, whatever they are. A refusal changes nothing, and doesn't come where there is
+    /// Makes room for so many lines more, whatever they are. A refusal changes nothing, and doesn't come if there is
     /// room.
     pub fn reserve(&mut self, count: usize) -> Result<(), AllocError>
         requires { count ≤ 2 ^ 32 }
@@ -137,7 +137,7 @@ impl Lines {
     }
 }
 
-// The record of a reply, whose answer joins the others where it tells more than that it is done.
+// The record of a reply, whose answer joins the others if it tells more than that it is done.
 fn keep_told(answers: &mut ChunkedVec<Answered>, told: &Told) -> ShortLine
     requires { 0 < answers.old.room }
     ensures answers { Begins answers.old.items answers.new.items }

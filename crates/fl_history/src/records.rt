@@ -100,7 +100,7 @@ pub(crate) enum ShortOp {
     Open(OpKind),
 }
 
-/// The bytes of the name in a body; none where it has no name.
+/// The bytes of the name in a body; none if it has no name.
 pub(crate) fn name_in(body: &Body) -> &[u8]
     ensures bytes { result.now ≡ name_in body.now }
     ensures name { IsName result.now }

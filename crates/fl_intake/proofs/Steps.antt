@@ -29,7 +29,7 @@ put_by weight end = sum_by weight end.put
 abbrev pub taken_by : Weight → Known → ℕ
 taken_by weight end = sum_by weight end.taken
 
--- a sum over all ends, where one of them has changed
+-- a sum over all ends, if one of them has changed
 sum_set : (f : Known → ℕ) (ends : List Known) (at : ℕ) (old new : Known) → get_elem? ends at ≡ some old
     → sum_by f (set ends at new) + f old ≡ sum_by f ends + f new
 sum_set f [] at old new e = absurd (some-ne-none old (sym e))
@@ -55,7 +55,7 @@ none_spent at end e = absurd (some-ne-none end (sym e))
 has_share : (end : Known) → 0 < end.shares → IsSpent end
 has_share end owned none = absurd (omega arith)
 
--- where no end has a share, nothing was put or taken
+-- if no end has a share, nothing was put or taken
 nothing_done : (f : Known → ℕ) → ((end : Known) → end.put ≡ [] → end.taken ≡ [] → f end ≡ 0)
     → (ends : List Known) → AreSpent ends → sum_by shares_of ends ≡ 0 → sum_by f ends ≡ 0
 nothing_done f empty [] spent none = refl
@@ -210,7 +210,7 @@ pub at_most_64_left : (end : Known) (inside : List Order) → IsTold end inside 
 at_most_64_left end inside told all =
     omega (arith, how_many end.put, how_many end.taken, how_many inside, told.whole all each, told.room)
 
--- Where nothing is inside any more, what was put is what was taken before and what was taken out.
+-- If nothing is inside any more, what was put is what was taken before and what was taken out.
 pub all_out : (end : Known) (put taken out : List Order) → end ≡ knows 17 put (taken ++ out)
     → (inside : List Order) → length inside ≡ 0 → IsTold end inside
     → (weight : Weight) → sum_by weight put ≡ sum_by weight taken + sum_by weight out

@@ -78,7 +78,7 @@ impl Intake {
         Ok((intake, put, takes))
     }
 
-    /// Puts a job behind the others, and waits while 64 are inside. Where its end is closed it hands the job back.
+    /// Puts a job behind the others, and waits while 64 are inside. If its end is closed it hands the job back.
     pub fn put<R: Wait>(&self, rt: &R, end: &mut PutEnd, job: Job) -> Result<(), Closed>
         requires end { end.old.of ≡ self.now }
         ensures of { (end.new.of ≡ end.old.of) × (end.new.takers ≡ end.old.takers) }
@@ -121,7 +121,7 @@ impl Intake {
     {
         let mut slept = false;
         for _ in rt.forever() {
-            // Whoever closes puts nothing afterwards. So where it is closed before this try, the try misses no job.
+            // Whoever closes puts nothing afterwards. So if it is closed before this try, the try misses no job.
             let closed = self.waking.is_closed();
             let job = self.take_now(rt, end);
             if job.is_some() {
@@ -152,13 +152,13 @@ impl Intake {
         job
     }
 
-    /// Spins for some 70 microseconds, until a job is inside, where no other worker does. It doesn't sleep. Whoever
+    /// Spins for some 70 microseconds, until a job is inside, if no other worker does. It doesn't sleep. Whoever
     /// has spun has to call `take` next, since nobody is woken for a job that comes while it spins.
     pub fn spin(&self) {
         self.waking.spin();
     }
 
-    /// Wakes one more worker, where jobs are inside and one sleeps, for the case that those awake are held up.
+    /// Wakes one more worker, if jobs are inside and one sleeps, for the case that those awake are held up.
     /// Whoever puts calls it before it does anything else that may take long, as a read: no `put` comes then that
     /// wakes one.
     pub fn call_one_more(&self) {
@@ -175,7 +175,7 @@ impl Intake {
         self.waking.close();
     }
 
-    /// The jobs that are left inside, the oldest first, where no end that takes is missing. What was put is, each as
+    /// The jobs that are left inside, the oldest first, if no end that takes is missing. What was put is, each as
     /// often, what was taken and what is left.
     pub fn finish<R: Wait>(
         self,

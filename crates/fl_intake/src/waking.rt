@@ -31,7 +31,7 @@ use std::sync::Wait;
 use std::sync::atomic::{AtomicBool, AtomicU64, Ordering};
 use std::time::Duration;
 
-// How often `spin` checks: some 70 microseconds. It lets no other thread run meanwhile, since where processors are
+// How often `spin` checks: some 70 microseconds. It lets no other thread run meanwhile, since if processors are
 // short it would get its own back only after milliseconds.
 const SPINS: u32 = 10_000;
 
@@ -82,7 +82,7 @@ impl Waking {
         }
     }
 
-    /// Counts a job that was put, and calls a worker where all are announced.
+    /// Counts a job that was put, and calls a worker if all are announced.
     pub(crate) fn count_put(&self) {
         self.put.fetch_add(1, Ordering::SeqCst);
         if self.are_all_announced() {
@@ -99,7 +99,7 @@ impl Waking {
         }
     }
 
-    /// Calls one to watch, where jobs are inside, one sleeps and none watches.
+    /// Calls one to watch, if jobs are inside, one sleeps and none watches.
     pub(crate) fn call_one_more(&self) {
         if self.has_jobs()
             && self.asleep.load(Ordering::SeqCst) > 0

@@ -1,5 +1,5 @@
--- Where nobody waits for itself, nobody does once a request is parked that closes no circle, nor once an owner who waits for
--- nobody has gained locks.
+-- If nobody waits for itself, nobody does once a request is parked that closes no circle, nor once an owner who waits
+-- for nobody has gained locks.
 use Rattle.std.proofs.Common.{◌≡◌, ◌≢◌, ℕ, Bool, true, ◌⊎◌, inl, inr, ⊎_elim, Option, Some, List, [], ◌∷◌, ◌++◌, refl}
 use Rattle.std.proofs.Common.{ap, sym, ◌∙◌, subst}
 use Rattle.std.specs.List.{Contains}

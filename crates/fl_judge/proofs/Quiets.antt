@@ -28,7 +28,7 @@ found (y ∷ lines) (b ∷ before) rest l x e =
     inr (there.0, ap (λ ls. y ∷ ls) there.1 ∙ ap (λ z. z ∷ (before ++ x ∷ there.0)) head))
     (found lines before rest l x tail)
 
--- lines before one more are quiet where all are
+-- lines before one more are quiet if all are
 quiet_before : (rules : Rules) (lines : List Line) (l : Line) → IsQuiet rules (lines ++ l ∷ []) → IsQuiet rules lines
 quiet_before rules lines l quiet before worker order rest is =
     quiet before worker order (rest ++ l ∷ [])

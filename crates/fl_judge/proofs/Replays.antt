@@ -85,7 +85,7 @@ told_wrong before due l is other lines up b =
     other (same_head l (line.Told due) b.rest (told_lines (drop (suc before.told) before.tolds.told) ++ w.0)
     (w.1 ∙ ap (λ t. told_lines t ++ w.0) (left_from before.tolds.told before.told due is)))
 
--- where no reply is due, the lines are legal
+-- if no reply is due, the lines are legal
 pub all_told : (r : Replay) (lines : List Line) → slice_get r.tolds.told r.told ≡ None → LeadsUpTo lines r → LeadsTo lines r.core
 all_told r lines none up =
     subst (λ l. LeadsTo l r.core) (ap (λ t. lines ++ told_lines t) (none_left r.tolds.told r.told none) ∙ append-nil lines) up.leads

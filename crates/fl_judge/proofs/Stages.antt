@@ -117,7 +117,7 @@ wanted_there older (w ∷ ws) s there =
     (λ (there : Contains (waiters_behind (older ++ w ∷ []) ws) s). let i = wanted_there (older ++ w ∷ []) ws s there in (suc i.0, omega (arith, i.1), i.2))
     (head_or_in (behind older w) (waiters_behind (older ++ w ∷ []) ws) s there.0 there.1 there.2)
 
--- where fewer wait, one who waits did so before, behind no fewer
+-- if fewer wait, one who waits did so before, behind no fewer
 waiter_there : {fewer older xs ys : List Wish} → Part fewer older → Part xs ys → (s : Waiter) → Contains (waiters_behind fewer xs) s
     → (t : Waiter) × Contains (waiters_behind older ys) t × (t.wish ≡ s.wish) × Part s.older t.older
 waiter_there before ends s there = absurd (omega (arith, there.1))
@@ -241,7 +241,7 @@ gained_sound rules before after gainer part gains lone sound = record {
         let t = waiter_there ends part s there in
         (t.0, t.1, ap owner_of t.2, λ q other h. blocks_more rules before.marking s t.0 q t.2 t.3 (gains s q other h))
 
--- where the locks stay nobody gains
+-- if the locks stay nobody gains
 nobody_gains : (rules : Rules) (before after : Marking) → after ≡ before → GainsAtMost rules None before after
 nobody_gains rules before after same w owner _ h = subst (λ m. blocks rules m w owner ≡ true) same h
 

@@ -46,7 +46,7 @@ differs rules lines n d b = d.wrong (shorter rules n lines b)
 whole : (rules : Rules) (lines : List Line) → IsLegal rules lines → IsBeginning rules lines
 whole rules lines legal = record { rest = []; legal = subst (IsLegal rules) (sym (append-nil lines)) legal }
 
--- so it is said where they differ
+-- so it is said if they differ
 pub said : (rules : Rules) (lines : List Line) (n : ℕ) → DiffersIn rules lines n → DiffersAt rules lines n
 said rules lines n d = record {
   illegal = λ legal. differs rules lines n d (whole rules lines legal);
@@ -72,7 +72,7 @@ missing lines r due n at is up = record {
 
 -- ---- one line more
 
--- where lines differed, they differ with one line more
+-- if lines differed, they differ with one line more
 still : (rules : Rules) (lines : List Line) (l : Line) (n : ℕ) → DiffersIn rules lines n → DiffersIn rules (lines ++ l ∷ []) n
 still rules lines l n d =
     let at : n ≤ length lines = d.within in
@@ -110,7 +110,7 @@ pub legal_none : (lines : List Line) (now : Hearing) (r : Replay) (o : Option To
 legal_none lines now r None same is none up = subst (λ (h : Hearing). IsLegal h.rules h.lines) same (all_told r lines (sym is) up).legal
 legal_none lines now r (Some due) same is none up = absurd (cc none)
 
--- exactly where they don't differ, they are a beginning
+-- exactly if they don't differ, they are a beginning
 pub begins_exactly : (lines : List Line) (now : Hearing) (r : Replay) (o : Option ℕ) (b : Bool) → seen r lines ≡ now → is_some o ≡ not b → Stands lines r o
     → (b ≡ true → Begins now) × (Begins now → b ≡ true)
 begins_exactly lines now r None true same e up = (λ _. subst Begins same (begins lines r up), λ _. refl)

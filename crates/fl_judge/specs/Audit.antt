@@ -15,17 +15,17 @@ use Rattle.fl_waiting.specs.declared.rules.Rules.{Rules}
 abbrev pub has_newline : List ℕ → Bool
 has_newline text = list_any (λ b. b == 10) text
 
--- a text up to its last newline, with it; nothing, where there is none
+-- a text up to its last newline, with it; nothing, if there is none
 abbrev pub whole_lines : List ℕ → List ℕ
 whole_lines [] = []
 whole_lines (b ∷ text) = if has_newline (b ∷ text) then b ∷ whole_lines text else []
 
--- what is judged of a text: all of it, or where it may be cut off its whole lines
+-- what is judged of a text: all of it, or if it may be cut off its whole lines
 abbrev pub judged_part : Bool → List ℕ → List ℕ
 judged_part false text = text
 judged_part true text = whole_lines text
 
--- What is found of lines under these rules. Only where a trace may be cut off it is said that they begin a legal
+-- What is found of lines under these rules. Only if a trace may be cut off it is said that they begin a legal
 -- history, and then they differ nowhere.
 abbrev pub IsFinding : Rules → Bool → List Line → Finding → Type 0
 IsFinding rules cut lines Legal = IsLegal rules lines

@@ -25,15 +25,14 @@ IsQuiet rules lines =
     → lines ≡ before ++ line.Asked worker order ∷ rest
     → asks_while_waiting (asked_by order.op) (state_after rules before).view.parked ≡ false
 
--- There are no owners, one or more, where each waits for a record lock and the next one keeps it waiting, and the first
--- the last (POSIX.1-2017 `fcntl`, EDEADLK).
+-- There is no cycle of owners: no row, of one or more, in which each waits for a record lock, and is blocked by the
+-- next, and the last by the first (POSIX.1-2017 `fcntl`, EDEADLK).
 abbrev pub HasNoCircle : Snapshot → Type 0
 HasNoCircle p =
     (first : ℕ) (others : List ℕ)
     → AreInRow waiter_of (blocks p.rules p.marking) (waiters p.view.parked) first others first → ⊥
 
--- There are none after any order of the lines: what a beginning of them that is legal under these rules leads to has
--- none.
+-- There are none after any order of the lines: no beginning of them that is legal under these rules leads to a circle.
 abbrev pub HasNoCircles : Rules → List Line → Type 0
 HasNoCircles rules lines =
     (before rest : List Line) → lines ≡ before ++ rest → IsLegal rules before

@@ -9,13 +9,13 @@ use fl_order::NoMemory;
 /// What an audit says of a trace.
 #[derive(Clone, Copy, Debug, PartialEq, Eq)]
 pub enum Finding {
-    /// It is one of one thread, under the rules that it is judged by.
+    /// A single thread could have produced it, under the rules that it is judged by.
     Legal,
     /// It isn't, but some legal trace begins with it: replies are missing at its end. This is said of a trace that
     /// may be cut off, and of no other.
     Begins,
-    /// It isn't. The lines before this one, counted from 1, are a beginning of a legal trace, and no more are. Where
-    /// only replies are missing at its end, this is the line after its last.
+    /// It isn't. This line, counted from 1, is the first that breaks the rules. If only replies are missing at its
+    /// end, this is the line after its last.
     Differs(usize),
 }
 
@@ -33,7 +33,7 @@ pub struct Audited {
 pub enum AuditFault {
     /// This line of the trace, from 1, is the first that is no spelling of a line.
     BadLine(usize),
-    /// Want of memory.
+    /// Out of memory.
     NoMemory,
     /// The trace can't be read to its end.
     Read,

@@ -23,7 +23,7 @@ use std::io::{ErrorKind, Read};
 const ROOM: usize = 65536;
 
 // A judge, and the last line that has no newline yet: so many bytes at the front of a room, and no more than any line
-// can have. Where it was longer, these tell that it is bad. Once a line was bad, what comes is no longer heard.
+// can have. If it was longer, these tell that it is bad. Once a line was bad, what comes is no longer heard.
 #[derive(Drop)]
 pub(crate) struct Listener {
     judge: Judge,

@@ -17,8 +17,8 @@ const MOST_READS: u64 = 140_737_488_355_327;
 /// trace may be that of a server that was killed: what follows the last newline is dropped, and replies may be
 /// missing at the end. It takes memory for one directory, one list of replies and 64 KiB, however long the trace is.
 ///
-/// A bad line is told once all of the trace is read, and before any difference. After 2^47 - 1 reads it is told that
-/// reading failed. A read that was interrupted is tried again.
+/// A bad line is reported once all of the trace is read, and before any difference. After 2^47 - 1 reads the fault is
+/// that reading failed. A read that was interrupted is tried again.
 pub fn audit<R: Read>(
     alloc: Global,
     rules: Rules,

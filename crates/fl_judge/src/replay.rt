@@ -39,7 +39,7 @@ impl Replay {
         })
     }
 
-    // One line more, if a legal history may go on by it. What it was told stays, where none does.
+    // One line more, if a legal history may go on by it. What it was told stays, if none does.
     pub(crate) fn take(&mut self, line: &Line) -> bool
         requires { HasRoom self.old.core.rules self.old.tolds }
         ensures goes { GoesOnAlike self.old line.now result self.new }

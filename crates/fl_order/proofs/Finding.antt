@@ -20,7 +20,7 @@ found_passes : {X : Type 0} (test : X → Bool) (xs : List X) (x : X) → find t
 found_passes test [] x e = absurd (none-some x e)
 found_passes test (y ∷ ys) x e = first_passes test y (find test ys) x (test y) refl e (found_passes test ys x)
 
--- each kind is found by its own mark alone, where it is found by it
+-- each kind is found by its own mark alone, if it is found by it
 found_by : {Mark : Type 0} (same : Mark → Mark → Bool) → ((a b : Mark) → Decides (same a b) (a ≡ b)) → (mark_of : OpKind → Mark) →
     ((kind : OpKind) → find (λ other. same (mark_of other) (mark_of kind)) all_kinds ≡ Some kind) → (mark : Mark) →
     IsFoundBy mark_of mark (find (λ kind. same (mark_of kind) mark) all_kinds)

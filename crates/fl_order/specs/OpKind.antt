@@ -22,7 +22,7 @@ all_kinds =
     ∷ Destroy
     ∷ BatchForget ∷ []
 
--- the number in a message's header, the word in a trace's line, and the shape of the body; where its messages are no
+-- the number in a message's header, the word in a trace's line, and the shape of the body; if its messages are no
 -- orders, how they are refused
 pub record Row : Type 0 where
   pub opcode : ℕ
@@ -59,7 +59,7 @@ opcode_for kind = (row_for kind).opcode
 abbrev pub word_for : OpKind → List ℕ
 word_for kind = (row_for kind).word
 
--- the shape of a body; where a message is no order, how it is refused
+-- the shape of a body; if a message is no order, how it is refused
 abbrev pub shape_for : OpKind → Result Shape Refusal
 shape_for kind = (row_for kind).shape
 

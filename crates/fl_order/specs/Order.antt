@@ -31,7 +31,7 @@ kind_of op = (parts_of op).0
 abbrev pub body_of : Op → Body
 body_of op = (parts_of op).1
 
--- the order of this kind and body; none where the kind is no order's, or its orders have bodies of another shape
+-- the order of this kind and body; none if the kind is no order's, or its orders have bodies of another shape
 abbrev pub op_of : OpKind → Body → Option Op
 op_of kind.Lookup (body.Name name) = Some (Lookup name)
 op_of kind.Forget (body.Number n) = Some (Forget n)

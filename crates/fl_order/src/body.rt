@@ -11,7 +11,7 @@ pub enum Body {
     Lock(LockAsk),
     /// The fields of a CREATE that are read, and a name (`struct fuse_create_in`).
     Create {
-        /// `O_EXCL` of the open flags: an error where there is a file of this name.
+        /// `O_EXCL` of the open flags: an error if there is a file of this name.
         excl: bool,
         /// The permission bits, 0 to 511 (octal 777).
         mode: u32,

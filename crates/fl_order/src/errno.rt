@@ -11,9 +11,9 @@ pub enum Errno {
     EINTR,
     /// No such open file.
     EBADF,
-    /// The lock is held by another owner; also an INTERRUPT that finds nothing or is refused for want of memory.
+    /// The lock is held by another owner; also an INTERRUPT that finds nothing, or for which memory ran out.
     EAGAIN,
-    /// Want of memory.
+    /// Out of memory.
     ENOMEM,
     /// The file exists.
     EEXIST,

@@ -71,7 +71,7 @@ impl OpKind {
         self as u32
     }
 
-    /// The kind of this number; none where no kind has it.
+    /// The kind of this number; none if no kind has it.
     pub fn of_opcode(opcode: u32) -> Option<OpKind>
         ensures value { result ≡ kind_of_opcode opcode }
         ensures inverse { IsFoundBy opcode_for opcode result }
@@ -110,7 +110,7 @@ impl OpKind {
         self.row().0
     }
 
-    /// The shape of the bodies of its messages; where they are no orders, how they are refused.
+    /// The shape of the bodies of its messages; if they are no orders, how they are refused.
     pub fn shape(self) -> Result<Shape, Refusal>
         ensures { result ≡ shape_for self }
     {
@@ -135,7 +135,7 @@ impl OpKind {
         }
     }
 
-    /// The kind of this word; none where no kind has it.
+    /// The kind of this word; none if no kind has it.
     pub fn of_word(word: &str) -> Option<OpKind>
         ensures value { result ≡ kind_of_word word.now }
         ensures inverse { IsFoundBy word_for word.now result }

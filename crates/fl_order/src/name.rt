@@ -32,7 +32,7 @@ impl Model for Name {
 impl Name {
     ghost use Rattle.fl_order.specs.Name.{IsName};
 
-    /// The name of these bytes; none where they are more than 255 or one of them is zero.
+    /// The name of these bytes; none if they are more than 255 or one of them is zero.
     pub fn new(bytes: &[u8]) -> Option<Name>
         ensures found { IsSome result ↔ IsName bytes.now }
         ensures bytes { IfSome result (λ name. name ≡ bytes.now) }

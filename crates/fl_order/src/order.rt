@@ -63,7 +63,7 @@ pub enum Op {
         /// Whose record locks go.
         owner: u64,
     },
-    /// Makes the file of this name where there is none, and opens it (FUSE_CREATE). With `excl` it is
+    /// Makes the file of this name if there is none, and opens it (FUSE_CREATE). With `excl` it is
     /// an error if there is one (`O_EXCL` of POSIX.1-2017 `open`).
     Create {
         /// Whether it is an error if the file is there.
@@ -111,7 +111,7 @@ impl Op {
         }
     }
 
-    /// The order of these parts; none where the kind is no order's, or its orders have bodies of another shape.
+    /// The order of these parts; none if the kind is no order's, or its orders have bodies of another shape.
     pub fn of(kind: OpKind, body: Body) -> Option<Op>
         ensures value { result ≡ op_of kind body }
         ensures inverse { (op : Op) → (result ≡ Some op) ↔ (parts_of op ≡ (kind, body)) }
@@ -152,7 +152,7 @@ impl Op {
         }
     }
 
-    /// The kind of its message and the lock request; none where it asks for no lock. It makes no [`Body`], which has
+    /// The kind of its message and the lock request; none if it asks for no lock. It makes no [`Body`], which has
     /// room for a name. [`Op::parts`] asks here for all that ask for locks.
     pub fn lock_parts(&self) -> Option<(OpKind, LockAsk)>
         ensures { (kind : OpKind) (ask : LockAsk) →
@@ -166,7 +166,7 @@ impl Op {
         }
     }
 
-    /// The order of this kind with this lock request; none where orders of the kind ask for no lock. [`Op::of`] has
+    /// The order of this kind with this lock request; none if orders of the kind ask for no lock. [`Op::of`] has
     /// these from here.
     pub fn of_lock(kind: OpKind, ask: LockAsk) -> Option<Op>
         ensures value { result ≡ op_of kind (Body.Lock ask) }

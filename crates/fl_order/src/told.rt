@@ -11,7 +11,7 @@ pub struct Told {
     pub result: Result<Answer, Errno>,
 }
 
-/// What a reply says where there is no error.
+/// What a reply says if there is no error.
 #[derive(Clone, Copy, Debug, PartialEq, Eq)]
 pub enum Answer {
     /// It is done.

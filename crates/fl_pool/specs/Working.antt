@@ -39,8 +39,8 @@ pub record IsCounted (post : Post) : Type 0 where
 abbrev pub handed_at : Weight → List Post → ℕ
 handed_at weight posts = sum_by (λ post. sum_by weight post.handed) posts
 
--- What weighs this was, each as often, handed in at these places, looked for or refused. A refusal is told where some
--- order was refused, and nowhere else.
+-- What weighs this was, each as often, handed in at these places, looked for or refused. `any` is true exactly if
+-- some order was refused.
 pub record HaveDone (orders : Weight → ℕ) (places : List Place) (any : Bool) : Type 0 where
   pub posts : List Post
   pub looked : Orders
@@ -73,7 +73,7 @@ pub record Run : Type 0 where
   pub reader : Received
   pub amount : ℕ
 
--- What a session came to. At NoMemory a worker couldn't be started: nothing was read, and the session didn't begin.
+-- The result of a session. At NoMemory a worker couldn't be started: nothing was read, and the session didn't begin.
 pub record HasRun (run : Run) : Type 0 where
   pub put : (run.reader.put.of ≡ run.of) × (run.reader.put.takers ≡ run.takers)
   pub ends : All (λ end. end.of ≡ run.of) run.ends

@@ -31,7 +31,7 @@ use std::thread::{Promise, PromisedHandle, Scope, Threads};
 pub struct WorkerPool<'a, 'w, L: BoardName, N: WriterName, R: Wait, W: Write, G, J: Journal> {
     /// The right to start threads and to wait.
     pub rt: &'a R,
-    /// What is told of each order and reply.
+    /// The hook that is called for each order and reply.
     pub gate: &'a G,
     /// Bytes of a worker's stack.
     pub stack: usize,
@@ -116,7 +116,7 @@ impl<
     J: Journal + Send + Drop,
 > WorkerPool<'a, 'w, L, N, R, W, G, J> {
     /// Runs a session: starts a worker at each seat, begins, reads until the session ends, closes the intake, and joins
-    /// the workers. Where a worker can't be started nothing is read, and the permit to begin comes back as it was.
+    /// the workers. If a worker can't be started nothing is read, and the permit to begin comes back as it was.
     pub fn run<I: Read>(
         &self,
         r: &mut I,
@@ -246,7 +246,7 @@ impl<
         true
     }
 
-    // Starts a worker with the last of these ends and rooms, where there is one and a thread can be made.
+    // Starts a worker with the last of these ends and rooms, if there is one and a thread can be made.
     fn start_next<'s, E>(
         &'s self,
         scope: &Scope<'s, E>,
@@ -269,7 +269,7 @@ impl<
         self.start(scope, seat, end, tolds)
     }
 
-    // The last of these ends and the last of these rooms, where there are both.
+    // The last of these ends and the last of these rooms, if there are both.
     fn last_of(&self, ends: &mut Vec<TakeEnd>, tolds: &mut Vec<Tolds>) -> Option<(TakeEnd, Tolds)>
         requires ends { All (IsFresh self.now.intake) ends.old.items }
         requires replies { All (HasRoom L.rules) tolds.old.items }
@@ -283,7 +283,7 @@ impl<
         Some((end, tolds))
     }
 
-    // Starts a worker, where a thread can be made.
+    // Starts a worker, if a thread can be made.
     fn start<'s, E>(
         &'s self,
         scope: &Scope<'s, E>,
@@ -363,7 +363,7 @@ fn joined<L: BoardName, R: Threads>(
     back
 }
 
-/// Hands in, at the last seat, the orders that no worker took, or looks for them. Tells whether one was refused.
+/// Orders that no worker took are handed in, or looked for, at the last seat. Tells whether one was refused.
 pub fn handed_in<
     L: BoardName,
     N: WriterName,

@@ -83,7 +83,7 @@ module _ (key : Key) (start end : ℕ) (kind : Kind) where
   through : (r s t : Run) → is_nearer start r s ≡ false → is_nearer start s t ≡ false → is_nearer start r t ≡ false
   through r s t e f = not_nearer_through (max r.start start) (max s.start start) (max t.start start) r.key.owner s.key.owner t.key.owner e f
 
-  -- where the nearer of two isn't nearer than a third, neither is
+  -- if the nearer of two isn't nearer than a third, neither is
   passed_by : (best : Option Run) (x r : Run) → is_nearer start (nearer_of start best x) r ≡ false →
       ((b : Run) → best ≡ Some b → is_nearer start b r ≡ false) × (is_nearer start x r ≡ false)
   passed_by None x r h = (λ b e. absurd (cc e), h)

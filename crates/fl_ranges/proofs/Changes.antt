@@ -14,7 +14,7 @@ get-after_change : (c : Change) (m : Marking) (q : Spot) → get (after_change c
 get-after_change (struck s) m q = get-stroked s m q ∙ said_if (covers s q) s.mark (get m q)
 get-after_change (cleared node) m q = get-without_node m node q ∙ said_if (q.0.node == node) None (get m q)
 
--- a spot has what the last change says that covers it, and nothing where none does
+-- a spot has what the last change says that covers it, and nothing if none does
 pub get-marking_after : (changes : List Change) (q : Spot) → get (marking_after changes) q ≡ last_said changes q
 get-marking_after [] q = get-empty spot_cmp q
 get-marking_after (c ∷ earlier) q = get-after_change c (marking_after earlier) q ∙ ap (said_or (said_by c q)) (get-marking_after earlier q)

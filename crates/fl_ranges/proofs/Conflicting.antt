@@ -101,7 +101,7 @@ module _ (by : ℕ → Bool) (key : Key) (start end : ℕ) (kind : Kind) where
       (get-runs rs (r.key, byte) ∙ held_of rs (r.key, byte) r found)
       (and_from _ _ own (all_pass (are_of_two_owners key r.key) (kinds_conflict kind r.mark.kind) start end byte byte contenders kinds from upto))
 
-  -- runs that are apart show a conflict exactly where their marking has one
+  -- runs that are apart show a conflict exactly if their marking has one
   pub runs_conflict : (rs : List Run) → start ≤ end → AreApart rs → list_any conflicts_so rs ≡ list_any spot_conflicts (entries (marking_of (map meant rs)))
   runs_conflict rs range apart = both_ways _ _
       (λ any.

@@ -35,7 +35,7 @@ any_span t key (s ∷ ss) = go (t (run_of key s)) (any_span t key ss)
 
 -- Of a test which only runs of the class and node pass.
 module _ (key : Key) (t : Run → Bool) where
-  -- some run of the table passes where one of these rows' does
+  -- some run of the table passes if one of these rows' does
   pub class_any : ((r : Run) → t r ≡ true → are_kin key r.key ≡ true) → (v : LockRows) → ((c : ℕ) → AreLockRows c (rows v c)) →
       list_any t (table_runs v) ≡ list_any t (runs_in (class_rows key (rows_from key (rows v (home key.node)))))
   class_any kin v kept =

@@ -33,7 +33,7 @@ module _ (key : Key) (start end : ℕ) (kind : Kind) where
   conflicting_kin_by : (o : ℕ) (r : Run) → run_conflicts_by key start end kind o r ≡ true → are_kin key r.key ≡ true
   conflicting_kin_by o r is = conflicting_kin key start end kind r (second_so (r.key.owner == o) _ is)
 
-  -- an owner has such a run in the table where it has one in these rows
+  -- an owner has such a run in the table if it has one in these rows
   pub contender_class : (v : LockRows) → ((c : ℕ) → AreLockRows c (rows v c)) → (o : ℕ) →
       list_any (run_conflicts_by key start end kind o) (table_runs v)
       ≡ list_any (run_conflicts_by key start end kind o) (runs_in (class_rows key (rows_from key (rows v (home key.node)))))
@@ -99,7 +99,7 @@ more_behind owners owner first last ascending order least other k behind within 
     let d = ascending last k 0 behind within in
     other (omega arith) (omega (arith, a, b, d, same))
 
--- what is set at the places of the row's owner, where it has such a span
+-- what is set at the places of the row's owner, if it has such a span
 pub record AreMarked (old new : List Bool) (first last : ℕ) (seen : Bool) : Type 0 where
   pub set : (k : ℕ) → first ≤ k → k < last → slice_index_or new k false ≡ (slice_index_or old k false || seen)
   pub before : (k : ℕ) → k < first → slice_index_or new k false ≡ slice_index_or old k false

@@ -88,7 +88,7 @@ module _ (key : Key) (start end : ℕ) (kind : Kind) where
       either true = refl
       either false = refl
 
-  -- Where a walk has come to: no span that starts past the last byte is nearer than the nearest so far, which is of a
+  -- How far a walk is: no span that starts past the last byte is nearer than the nearest so far, which is of a
   -- lower owner.
   abbrev pub IsBest : ℕ → ℕ → Option Run → Type 0
   IsBest owner last None = last ≡ end
@@ -130,7 +130,7 @@ module _ (key : Key) (start end : ℕ) (kind : Kind) where
             kept best is (above last s.start (λ le. cc (sym fails ∙ of_parts end last s p le))) p.begins
         go false e = refl
 
-    -- where none is found in a row
+    -- if none is found in a row
     row_none : (ss : List (Span Mark)) (best : Option Run) → IsBest owner last best → find (span_conflicts key owner start last kind) ss ≡ None →
         nearest_from key start end kind best (map (run_of (of_owner key owner)) ss) ≡ best
     row_none [] best is none = refl
@@ -237,7 +237,7 @@ module _ (key : Key) (start end : ℕ) (kind : Kind) where
         (runs_in (class_rows key (drop (i + 1) rs))))
 
     module _ (last : ℕ) (some : start ≤ last) (best : Option Run) (is : IsBestOf last (drop i rs) best) where
-      -- where the walk goes on past a row
+      -- if the walk goes on past a row
       pub record GoesOn (now : ℕ) (next : Option Run) : Type 0 where
         pub rest : nearest_from key start end kind best (runs_in (class_rows key (drop i rs)))
             ≡ nearest_from key start end kind next (runs_in (class_rows key (drop (i + 1) rs)))

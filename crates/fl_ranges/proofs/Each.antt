@@ -22,6 +22,6 @@ module _ {X : Type 0} where
   from_here (y ∷ xs) zero x found = let same : y ≡ x = cc in ap (λ (z : X). z ∷ xs) same
   from_here (y ∷ xs) (suc i) x found = from_here xs i x found
 
-  -- the items from an index on, where one stands there
+  -- the items from an index on, if one stands there
   pub drop_here : (xs : List X) (i : ℕ) (x : X) → slice_get xs i ≡ Some x → drop i xs ≡ x ∷ drop (i + 1) xs
   drop_here xs i x found = rw add-one (from_here xs i x found)

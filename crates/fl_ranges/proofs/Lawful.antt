@@ -1,4 +1,4 @@
--- No two owners hold conflicting locks: a stroke keeps that where it was tested for conflicts.
+-- No two owners hold conflicting locks: a stroke keeps that if it was tested for conflicts.
 use Rattle.std.proofs.Common.{◌≡◌, ℕ, Bool, true, false, cond, not, ◌&&◌, ◌==◌, nat_le, Option, Some, None, Result, Ok}
 use Rattle.std.proofs.Common.{Err, OnOk, OnErr, refl, ap, sym, ◌∙◌}
 use Rattle.std.proofs.Common.{subst, arith}

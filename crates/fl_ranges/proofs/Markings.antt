@@ -107,7 +107,7 @@ unfolding among
 get-stroked s m q = get-mark_bytes s.key s.mark s.start (s.end + 1 - s.start) m q
     ∙ ap (λ b. cond b s.mark (get m q)) (among-covers (eq_by_cmp key_cmp s.key q.0) s.start s.end q.1)
 
--- a spot has what the last stroke says that covers it, and nothing where none does
+-- a spot has what the last stroke says that covers it, and nothing if none does
 pub get-marking_of : (strokes : List Stroke) (q : Spot) → get (marking_of strokes) q ≡ mark_at strokes q
 get-marking_of [] q = get-empty spot_cmp q
 get-marking_of (s ∷ earlier) q = get-stroked s (marking_of earlier) q ∙ ap (λ w. cond (covers s q) s.mark w) (get-marking_of earlier q)

@@ -163,7 +163,7 @@ module _ (v : LockRows) (limit : ℕ) (table : IsLockTable v limit) where
       let same = ap (λ (x : LockTable). runs x.marking) view in
       omega (arith, here, long, count, same)
 
-  -- where a slot is free, so is one of the table's
+  -- if a slot is free, so is one of the table's
   pub run_free : run_count v < limit_of v → (t : LockTable) → record { limit = limit; marking = row_marks v } ≡ t → runs t.marking < t.limit
   run_free some t view =
       let long = long_table v in

@@ -18,7 +18,7 @@ use Rattle.fl_ranges.proofs.GivenSpans.{before_both, one_before, all_behind, beh
 
 -- ---- a walk along rows
 
--- the row of a key that a walk has come to
+-- the row of a key that a walk has reached
 pub record IsHere (rs : List LockRow) (j : ℕ) (key : Key) : Type 0 where
   pub row : LockRow
   pub rest : drop j rs ≡ row ∷ drop (j + 1) rs

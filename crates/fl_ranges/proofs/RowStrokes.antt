@@ -24,7 +24,7 @@ use Rattle.fl_ranges.proofs.SpanMarks.{in_time, none_past}
 use Rattle.fl_ranges.proofs.RowPlaces.{inserted_row, unchanged_rows, no_row_spans, changed_row, row_spans, removed_row}
 use Rattle.fl_ranges.proofs.RowTables.{table_given, table_stroked, table_room}
 
--- where a call is refused nothing has changed, and else what it says holds
+-- if a call is refused nothing has changed, and else what it says holds
 pub either_way : {X E A B P : Type 0} (r : Result X E) → OnOk r A → OnErr r B → ((IsErr r → ⊥) → A → P) → (B → P) → P
 either_way (Ok x) done left good bad = good (λ h. absurd (cc h)) done
 either_way (Err e) done left good bad = bad left
@@ -33,7 +33,7 @@ pub then_ok : {X E A P : Type 0} (r : Result X E) → OnOk r A → (A → P) →
 then_ok (Ok x) done good = good done
 then_ok (Err e) done good = tt
 
--- where one number isn't less than another
+-- if one number isn't less than another
 no_less : (a b : ℕ) → (a < b → ⊥) → b ≤ a
 no_less a b none = elim (cases_lt a b) [
   | inl less ↦ absurd (none less)

@@ -139,7 +139,7 @@ module _ (lists : List (List LockRow)) (kept : (c : ℕ) → AreLockRows c (get_
 -- ---- a table
 
 module _ (v : LockRows) (limit : ℕ) (table : IsLockTable v limit) (key : Key) (ss : List (Span Mark)) (are : AreSpans ss) where
-  -- the table once the key's row has these spans, where there is room for them
+  -- the table once the key's row has these spans, if there is room for them
   pub table_given : (w : LockRows) → row_lists w ≡ set (row_lists v) (home key.node) (given_spans key ss (rows v (home key.node))) → HasRoomOf v w →
       run_count v + length ss ≤ limit + length (spans_of key (rows v (home key.node))) → IsLockTable w limit
   table_given w is size room =

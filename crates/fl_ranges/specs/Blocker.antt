@@ -1,4 +1,4 @@
--- The lock that is named where others conflict with the one that is asked for (POSIX.1-2017 `fcntl`, F_GETLK).
+-- The lock that is named if others conflict with the one that is asked for (POSIX.1-2017 `fcntl`, F_GETLK).
 use Rattle.std.specs.Prelude.{◌≡◌, ◌≢◌, ℕ, zero, suc, ◌+◌, ◌-◌, ◌≤◌, ◌<◌, true, Option, Some, None, option_map}
 use Rattle.std.specs.Prelude.{if◌then◌else◌}
 use Rattle.std.specs.Option.{option_or}

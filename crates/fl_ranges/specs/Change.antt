@@ -20,7 +20,7 @@ abbrev pub after_changes : List Change → Marking → Marking
 after_changes [] m = m
 after_changes (c ∷ earlier) m = after_change c (after_changes earlier m)
 
--- the marking after changes, where no marks were there before
+-- the marking after changes, if no marks were there before
 abbrev pub marking_after : List Change → Marking
 marking_after changes = after_changes changes empty
 
@@ -34,7 +34,7 @@ abbrev pub said_or : Option (Option Mark) → Option Mark → Option Mark
 said_or None before = before
 said_or (Some mark) before = mark
 
--- what the last change says that covers the spot, and nothing where none does
+-- what the last change says that covers the spot, and nothing if none does
 abbrev pub last_said : List Change → Spot → Option Mark
 last_said [] spot = None
 last_said (c ∷ earlier) spot = said_or (said_by c spot) (last_said earlier spot)

@@ -56,7 +56,7 @@ pub record IsOwnerConflict (m : Marking) (key : Key) (start end : ℕ) (kind : K
   pub conflict : IsConflict m key start end kind
   pub of : conflict.contender.owner ≡ owner
 
--- an owner is greater than the one that is given; each is where none is
+-- an owner is greater than the one that is given; each is if none is
 abbrev pub IsAfter : Option ℕ → ℕ → Type 0
 IsAfter None owner = Unit {0}
 IsAfter (Some given) owner = given < owner
@@ -66,7 +66,7 @@ abbrev pub IsAtMost : Option ℕ → ℕ → Type 0
 IsAtMost None owner = ⊥
 IsAtMost (Some told) owner = told ≤ owner
 
--- the least owner that conflicts, of those greater than the one that is given; none where no such owner does
+-- the least owner that conflicts, of those greater than the one that is given; none if no such owner does
 pub record IsLeastAfter (m : Marking) (key : Key) (start end : ℕ) (kind : Kind) (after told : Option ℕ) : Type 0 where
   pub itself : (owner : ℕ) → told ≡ Some owner →
       IsAfter after owner × (owner_conflicts m key start end kind owner ≡ true)

@@ -67,7 +67,7 @@ marking_of (s ∷ earlier) = stroked s (marking_of earlier)
 abbrev pub covers : Stroke → Spot → Bool
 covers s spot = eq_by_cmp key_cmp s.key spot.0 && (nat_le s.start spot.1 && nat_le spot.1 s.end)
 
--- what the last stroke says that covers the spot, and nothing where none does
+-- what the last stroke says that covers the spot, and nothing if none does
 abbrev pub mark_at : List Stroke → Spot → Option Mark
 mark_at [] spot = None
 mark_at (s ∷ earlier) spot = if covers s spot then s.mark else mark_at earlier spot

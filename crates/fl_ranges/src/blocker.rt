@@ -16,7 +16,7 @@ impl Table {
 
     /// The lock that F_GETLK names (POSIX.1-2017 `fcntl`): at the least byte of the range at which a lock of
     /// another owner conflicts with one of this kind, that of the least such owner, on all the bytes around that one
-    /// on which it has the same mark. None where no lock conflicts with it.
+    /// on which it has the same mark. None if no lock conflicts with it.
     pub fn blocker(&self, key: &Key, range: &Range, kind: Kind) -> Option<Held>
         ensures { result ≡ blocker self.now.marking key.now range.now.start range.now.end kind }
     {
@@ -24,7 +24,7 @@ impl Table {
     }
 }
 
-// The lock of a run, where there is one.
+// The lock of a run, if there is one.
 fn lock_of(run: Option<Run>) -> Option<Held>
     ensures { result ≡ option_map lock_of run }
 {

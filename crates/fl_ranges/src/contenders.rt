@@ -33,7 +33,7 @@ fn kinds_conflict(kind: Kind, held: Kind) -> bool
     kind == Kind::Write || held == Kind::Write
 }
 
-// The cursor at the first row that isn't earlier than the key: where its class has a row on its node, at the first of
+// The cursor at the first row that isn't earlier than the key: if its class has a row on its node, at the first of
 // those.
 pub(crate) fn first_of_class(table: &Rows<Key, Span<Mark>>, key: &Key) -> Cursor
     requires { chain_count table.now ≡ 256 }
@@ -52,7 +52,7 @@ pub(crate) fn first_of_class(table: &Rows<Key, Span<Mark>>, key: &Key) -> Cursor
     row
 }
 
-// The owner of the row at the cursor, where the row is of the key's class and node.
+// The owner of the row at the cursor, if the row is of the key's class and node.
 pub(crate) fn owner_at(table: &Rows<Key, Span<Mark>>, key: &Key, row: &Cursor) -> Option<u64>
     requires { IsRow table.now row.now }
     ensures owner { result ≡ kin_owner key.now (slice_get (keys (rows table.now row.now.chain)) row.now.index) }

@@ -30,7 +30,7 @@ fn is_same(a: &Key, b: &Key) -> bool
     *a == *b
 }
 
-// Where the walk to a key's place begins: at its chain's last row where that stands before it, since what is greater
+// Where the walk to a key's place begins: at its chain's last row if that stands before it, since what is greater
 // than all before comes last, and else at the first.
 fn walk_start(table: &Rows<Key, Span<Mark>>, key: &Key) -> Cursor
     requires table { IsLockTable table.now (limit_of table.now) }

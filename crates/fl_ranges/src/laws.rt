@@ -14,19 +14,19 @@ ghost use Rattle.fl_ranges.specs.Runs.{runs, IsStart, without_node};
 ghost use Rattle.fl_ranges.specs.Change.{Change, marking_after, last_said};
 ghost use Rattle.fl_ranges.specs.Blocker.{blocker, IsBlocker};
 
-/// After strokes a byte of a key has what the last stroke says that covers it, and no mark where none does.
+/// After strokes a byte of a key has what the last stroke says that covers it, and no mark if none does.
 pub fn last_stroke_counts()
     ensures { (strokes : List Stroke) (spot : Spot) → get (marking_of strokes) spot ≡ mark_at strokes spot }
 {}
 
-/// A request conflicts exactly where another owner has a mark of the class on the node, at a byte of the
+/// A request conflicts exactly if another owner has a mark of the class on the node, at a byte of the
 /// range, and one of the two kinds is write.
 pub fn conflict_is_another_owners_mark()
     ensures { (m : Marking) (key : Holder) (start end : ℕ) (kind : Sharing) →
         (conflicts m key start end kind ≡ true) ↔ IsConflict m key start end kind }
 {}
 
-/// An owner conflicts with a request exactly where one of its marks does; the request's own owner never.
+/// An owner conflicts with a request exactly if one of its marks does; the request's own owner never.
 pub fn owner_conflict_is_a_conflict_with_the_owner()
     ensures words { (m : Marking) (key : Holder) (start end : ℕ) (kind : Sharing) (owner : ℕ) →
         (owner_conflicts m key start end kind owner ≡ true) ↔ IsOwnerConflict m key start end kind owner }
@@ -48,7 +48,7 @@ pub fn no_mark_is_left_on_the_node()
 {}
 
 /// The lock that is named for a request is that of the least owner that conflicts with it at the least byte at which
-/// one does, on the longest row of bytes around that byte; none is named exactly where there is no conflict.
+/// one does, on the longest row of bytes around that byte; none is named exactly if there is no conflict.
 pub fn blocker_is_the_first_lock_in_conflict()
     ensures named { (m : Marking) (key : Holder) (start end : ℕ) (kind : Sharing) (held : Lock) →
         end ≤ 9223372036854775807 → (blocker m key start end kind ≡ Some held) ↔ IsBlocker m key start end kind held }
@@ -57,7 +57,7 @@ pub fn blocker_is_the_first_lock_in_conflict()
 {}
 
 /// After changes, strokes and nodes cleared, a byte of a key has what the last change says that covers it, and
-/// no mark where none does.
+/// no mark if none does.
 pub fn last_change_counts()
     ensures { (changes : List Change) (spot : Spot) → get (marking_after changes) spot ≡ last_said changes spot }
 {}

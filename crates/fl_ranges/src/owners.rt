@@ -20,7 +20,7 @@ impl Table {
     ghost use Rattle.fl_ranges.specs.Conflict.{owner_conflicts, IsLeastAfter};
 
     /// The least owner with a lock that conflicts with one of this kind, of those owners that are greater than the
-    /// one that is given; of all where none is given. None where no such owner has one.
+    /// one that is given; of all if none is given. None if no such owner has one.
     pub fn conflicting_owner_after(
         &self,
         key: &Key,
@@ -121,8 +121,8 @@ fn find_among(
     }
 }
 
-// Sets the places from one up to another where the row at the cursor has a span that conflicts with the lock. It
-// doesn't look into the row where all of them are set. The row is this owner's, of the key's class and node.
+// Sets the places from one up to another if the row at the cursor has a span that conflicts with the lock. It
+// doesn't look into the row if all of them are set. The row is this owner's, of the key's class and node.
 fn look_into(
     table: &Rows<Key, Span<Mark>>,
     row: &Cursor,

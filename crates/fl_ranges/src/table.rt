@@ -50,7 +50,7 @@ impl Table {
     ghost use Rattle.fl_ranges.specs.Runs.{runs, without_node};
     ghost use Rattle.fl_ranges.specs.Placing.{on_chain};
 
-    /// A table with no locks. It fails only for want of memory.
+    /// A table with no locks. It fails only if memory runs out.
     pub fn new(alloc: Global, limit: u32) -> Result<Table, AllocError>
         requires { limit ≤ 65536 }
         ensures empty { IfOk result (λ t. t ≡ record { limit = limit; marking = map.empty }) }
@@ -153,7 +153,7 @@ impl Table {
         self.rows.slot_place(slot)
     }
 
-    /// Where the slot of a key is: on chain `node mod 256` where its key has runs, or else on chain 256. This walks
+    /// Where the slot of a key is: on chain `node mod 256` if its key has runs, or else on chain 256. This walks
     /// along its chain. One that always says chain 256 is let through by the clauses, and refused by tests.
     pub fn head_place(&self, slot: usize) -> Place
         requires { slot < self.now.limit }

@@ -24,7 +24,7 @@ module _ (seen : List Ask) (ask : Ask) (n : ℕ) (counted : length seen ≡ n) w
   abbrev before : View Ask ℕ
   before = (seen, (no_nib, None))
 
-  -- the word becomes one more, where it was n
+  -- the word becomes one more, if it was n
   abbrev put : ℕ → ℕ
   put found = either (found == n) (n + 1) found
 

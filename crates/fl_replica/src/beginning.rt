@@ -82,7 +82,7 @@ impl<L: LogName> Beginning<L> {
         self.asks == other.asks
     }
 
-    /// Adds an ask to the log, of which this is all, and says whether it did. Where the log was longer, this is all
+    /// Adds an ask to the log, of which this is all, and says whether it did. If the log was longer, this is all
     /// of it afterwards, and nothing was added.
     pub fn add(&mut self, log: &Log<L>, ask: Ask) -> bool
         requires room { length self.old < MOST_ASKS }

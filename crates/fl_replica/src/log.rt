@@ -8,7 +8,7 @@ use crate::beginning::Beginning;
 use logbook::{Gain, Plain, Play, Rule, Seen, Start, Word};
 use std::marker::{Brand, Model, PhantomData};
 
-/// Which log it is, for contracts. A call picks it where it names a log that was made.
+/// Which log it is, for contracts. A call picks it when it names a log that was made.
 pub trait LogName {
     ghost use Rattle.logbook.specs.Pages.{Book};
 

@@ -131,7 +131,7 @@ impl<L: BoardName> Absorb<Update<L>> for Replica<L> {
     }
 }
 
-/// What an order that only reads is answered by what is published, and the asks that led to that. None where no copy
+/// What an order that only reads is answered by what is published, and the asks that led to that. None if no copy
 /// could be entered.
 pub fn look_at<L: BoardName>(
     reader: &mut ReadHandle<Replica<L>>,

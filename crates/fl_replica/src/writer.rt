@@ -78,12 +78,12 @@ impl<L: BoardName, R: Wait + Drop> ReplicaWriter<L, R> {
         Ok(())
     }
 
-    /// A reader of what is published. It is refused for want of memory, or where each place for a reader is taken.
+    /// A reader of what is published. It is refused if memory runs out, or if each place for a reader is taken.
     pub fn reader(&self) -> Result<ReadHandle<Replica<L>>, AllocError> {
         self.writer.handle()
     }
 
-    /// Keeps an update to be published. It is refused for want of memory.
+    /// Keeps an update to be published. It is refused if memory runs out.
     pub fn add(&mut self, update: Update<L>) -> Result<(), AllocError>
         requires { update.before ≡ self.old }
         ensures { MatchResult result (λ _. self.new ≡ update.after) (λ _. self.new ≡ self.old) }

@@ -193,7 +193,7 @@ weighs_nothing : (weight : Weight) (orders : Orders) → length orders ≡ 0 →
 weighs_nothing weight [] none = refl
 weighs_nothing weight (o ∷ orders) none = absurd (omega (arith, none))
 
--- where the workers of these places asked for all orders, what was handed in there is what the history asks
+-- if the workers of these places asked for all orders, what was handed in there is what the history asks
 pub all_is_handed_in : (weight : Weight) (lines : List Line) (posts : List Post) (places : List Place) (workers : ℕ)
     → map (λ (p : Post). p.place) posts ≡ places → All IsCounted posts → All (HasAllOf lines) places
     → map (λ (p : Place). p.worker) places ≡ range_with_len 0 workers

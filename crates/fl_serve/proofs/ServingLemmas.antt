@@ -42,7 +42,7 @@ pub as_many : (seats : List Place) (workers : ℕ) → map (λ seat. seat.worker
 as_many seats workers each =
     sym (length-map seats (λ seat. seat.worker)) ∙ ap length each ∙ length-range_with_len 0 workers
 
--- no session ends by want of a reader, as long as its board is told
+-- no session ends without a reader, as long as its board is told
 pub never_no_reader : (told : Option Fault) (broken : Bool) (messages : List (List ℕ)) (rest : List ℕ)
     (left : Option (List ℕ)) → EndsBy told broken messages rest left → told ≢ Some NoReader
 never_no_reader told broken messages rest left ends none =

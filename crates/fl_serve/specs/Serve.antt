@@ -27,8 +27,8 @@ pub record SaysGoodbye (messages : List (List ℕ)) (held held_now : Option (Lis
   pub last : IsLast messages goodbye
   pub sent : HasSentLast held held_now (bytes_of goodbye)
 
--- The orders that the messages of a session say are, each as often, those that the history asks, some that were looked
--- for, which only read, and some that were refused. A refusal is told where there is one of these, and nowhere else.
+-- The orders of the messages are of three kinds, each order as often: those of the history; some that were looked for,
+-- which only read; and some that were refused. `refused` is true exactly if some order was refused.
 pub record IsAsked (messages : List (List ℕ)) (done : Done) : Type 0 where
   pub looked : Orders
   pub refused : Orders
@@ -43,9 +43,9 @@ pub record HasNoHistory (done : Done) : Type 0 where
   pub history : done.history ≡ []
 
 -- What was read is whole messages and a rest of at most 8192 bytes, and no message came after one that ended the
--- session. Whole replies were written behind what the writer held; where a write failed (`broken`), a beginning of
--- them. Where none failed, the last of them answers the DESTROY that ended the session, if one did. The fault is that
--- of the end, or the history couldn't be told. Else the history asks what the messages say.
+-- session. Whole replies were written behind what the writer held; after a failed write (`broken`), a prefix of them.
+-- If none failed, the last of them answers the DESTROY that ended the session, if one did. The fault is that of the
+-- end, or the history can't be had. Otherwise the history has the orders of the messages, as `IsAsked` says.
 pub record IsServedBy (streams : Streams) (done : Done) : Type 0 where
   pub messages : List (List ℕ)
   pub rest : List ℕ
@@ -58,8 +58,8 @@ pub record IsServedBy (streams : Streams) (done : Done) : Type 0 where
   pub ending : EndsBy done.fault broken messages rest streams.left_now ⊎ HasNoHistory done
   pub orders : IsAsked messages done ⊎ HasNoHistory done
 
--- What came of a session under these rules whose lines went to a journal. They are legal, and with them it served what
--- was read. The journal is there but at NoMemory, where nothing was read or written, and at NoReader.
+-- The result of a session under these rules whose lines went to a journal. They are legal, and with them it served
+-- what was read. The journal is there, except at NoReader, and at NoMemory, when nothing was read or written.
 pub record IsRecordedBy {K : Type 0} (lines : K → List Line) (rules : Rules) (streams : Streams) (it : Recorded K)
     : Type 0 where
   pub legal : IfSome it.journal (λ journal. IsLegal rules (lines journal))

@@ -37,7 +37,7 @@ const STACK_BYTES: usize = 2 << 20;
 /// its replies, each whole. Replies that are ready go out together. All memory but that of the history is made, and all
 /// workers are started, before the first read. At the stream's end, at a fault of the reader and at a DESTROY the
 /// orders that were read are finished, and only then is a DESTROY answered. After a write that failed it goes on, and
-/// writes no more; the reader's fault is told before the writer's. The gate is told of each order and reply.
+/// writes no more. If both fail, the fault is the reader's. The gate is called for each order and reply.
 pub fn serve<R: Threads + Wait + Sync, I: Read, W: Write + Send + Drop, G: Gate + Sync>(
     rt: &R,
     alloc: Global,
@@ -64,7 +64,7 @@ pub fn serve<R: Threads + Wait + Sync, I: Read, W: Write + Send + Drop, G: Gate 
 }
 
 /// How a session with workers is served: by how many of them, under which rules, and with how many bytes for each
-/// worker's stack. Where a thread can't be made with such a stack, that is told as out of memory.
+/// worker's stack. If a thread can't be made with such a stack, the fault is `NoMemory`.
 #[derive(Clone, Copy, Debug)]
 pub struct Staff {
     /// How many workers, 1 to 16.
@@ -89,8 +89,7 @@ impl Staff {
 }
 
 /// As `serve`, with this staff, but its lines go to this journal, which has none so far. The journal comes back with
-/// them, but at `NoMemory` and `NoReader`, where it is let go. It is told before a worker sleeps that no order is at
-/// hand.
+/// them, except at `NoMemory` and `NoReader`, when it is dropped. It is flushed before a worker sleeps.
 pub fn record_with_workers<
     R,
     I: Read,
@@ -269,8 +268,8 @@ fn unopened(fault: OpenFault) -> Fault
     }
 }
 
-// What a session came to whose workers gave all seats back, with this fault. Where the board can't tell the history, it
-// is told as want of a reader.
+// The result of a session whose workers gave all seats back, with this fault. If the board can't give the history, the
+// fault is `NoReader`.
 fn close_board<L: BoardName, R: Wait + Drop, J: Journal + Drop>(
     alloc: Global,
     board: Board<L, R, J>,

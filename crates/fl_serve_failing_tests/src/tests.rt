@@ -80,7 +80,7 @@ fn served<R: Threads + Wait + Sync, I: Read, W: Write + Send + Drop>(
     serve(rt, alloc, r, w, of_workers(workers), rules, &OpenGate)
 }
 
-// What a session without workers came to, and all its replies.
+// The result of a session without workers, and all its replies.
 #[derive(Drop)]
 struct Alone {
     done: Done,

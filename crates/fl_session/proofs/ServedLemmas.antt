@@ -36,7 +36,7 @@ nothing_read left left_now kept = record {
 pub nothing_legal : (rules : Rules) (history : List Line) → history ≡ [] → IsLegal rules history
 nothing_legal rules history none = subst (IsLegal rules) (sym none) nothing
 
--- where nothing waits, all bytes of the replies were written, or a beginning of them
+-- if nothing waits, all bytes of the replies were written, or a prefix of them
 all_sent : (broken : Bool) (sent : List ℕ) (replies : List (List ℕ)) → AreGiven broken sent [] replies
     → AreSent broken sent replies
 all_sent true sent replies given = given
@@ -104,7 +104,7 @@ unserved rules left held done history fault refused unread = record {
   ending = rw fault (refl, refl);
 }
 
--- the lines of a journal are legal, and no lines where there is none
+-- the lines of a journal are legal, and no lines if there is none
 pub recorded_legal : {K : Type 0} (rules : Rules) (lines : K → List Line) (journal : Option K)
     → IfSome journal (λ k. IsLegal rules (lines k)) → IsLegal rules (journal_lines lines journal)
 recorded_legal rules lines None legal = nothing

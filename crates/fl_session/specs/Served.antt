@@ -10,15 +10,15 @@ use Rattle.fl_transport.specs.Streams.{Streams}
 use Rattle.fl_waiting.specs.declared.rules.Rules.{Rules}
 use Rattle.fl_wire.specs.Spell.{IsReply}
 
--- Where no write failed, these are all bytes of the replies, and else only a beginning of them. A writer shows no
--- failure to contracts: that a write did fail where one is told to have failed is tested, and not proved.
+-- If no write failed, these are all bytes of the replies. After a failed write they are only a prefix of them. A writer
+-- shows no failure to contracts: that a write did fail if one is reported to have failed is tested, and not proved.
 abbrev pub AreSent : Bool → List ℕ → List (List ℕ) → Type 0
 AreSent false sent replies = sent ≡ concat replies
 AreSent true sent replies = IsProperPrefix sent (concat replies)
 
 -- What was read is whole messages and a rest of at most 8192 bytes. The history is the lines of the session of these
--- messages under these rules, and its replies were written, each of which says its own length: all of them, but where a
--- write failed (`broken`) a beginning.
+-- messages under these rules, and its replies were written, each of which says its own length: all of them, or after a
+-- failed write (`broken`) a prefix.
 pub record IsServed (rules : Rules) (streams : Streams) (broken : Bool) (done : Done) : Type 0 where
   pub came : List Came
   pub rest : List ℕ

@@ -16,8 +16,8 @@ use Rattle.fl_transport.specs.declared.response.Response.{Response}
 use Rattle.fl_waiting.specs.declared.rules.Rules.{Rules}
 use Rattle.fl_wire.specs.Spell.{spelling_of}
 
--- A message that came, and which of its orders were refused for want of memory, in their order. Of those that are
--- missing none was.
+-- A message that came, and for each of its orders, in their order, whether it was refused because memory ran out. If
+-- the list ends early, the orders left were not refused.
 pub record Came : Type 0 where
   pub message : List ℕ
   pub refused : List Bool
@@ -27,7 +27,7 @@ abbrev pub messages_of : List Came → List (List ℕ)
 messages_of came = map (λ c. c.message) came
 
 -- A session so far: the rules by which requests wait, how far its messages brought it, the bytes of each reply, the
--- lines of its orders, and whether some order was refused for want of memory.
+-- lines of its orders, and whether some order was refused because memory ran out.
 pub record Session : Type 0 where
   pub rules : Rules
   pub handshake : Handshake
@@ -49,11 +49,11 @@ abbrev pub with_step : Session → Order → List Told → Session
 with_step s order tolds =
     record s { replies = s.replies ++ map spelling_of tolds; lines = s.lines ++ step_lines 0 order tolds }
 
--- An order that was refused for want of memory gets its error, or is lost where no reply is owed to it.
+-- An order for which memory ran out gets its error, or is lost if no reply is owed to it.
 abbrev pub with_refusal : Session → Order → Session
 with_refusal s order = record (with_response s (lost (kind_of order.op) order.unique)) { refused = true }
 
--- an order gets the replies of the lock directory, or is refused for want of memory
+-- an order gets the replies of the lock directory, or is refused because memory ran out
 abbrev pub with_order : Session → Bool → Order → Session
 with_order s refused order =
     if refused then with_refusal s order else with_step s order (replies_in (state_after s.rules s.lines) order)

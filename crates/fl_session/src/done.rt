@@ -1,4 +1,4 @@
-//! What a session came to.
+//! The result of a session.
 
 ghost use Rattle.std.specs.Prelude.{◌≡◌, ℕ, List, [], Option, Some, false};
 ghost use Rattle.std.specs.Io.KnownBytes.{Keeps};
@@ -10,19 +10,19 @@ use fl_history::History;
 use fl_transport::Fault;
 use std::alloc::Global;
 
-/// What a session came to.
+/// The result of a session.
 #[derive(Debug, Drop)]
 pub struct Done {
     /// The orders that it took and their replies.
     pub history: History,
     /// Why it ended early, if it did: the reader's fault before the writer's.
     pub fault: Option<Fault>,
-    /// Some order was refused for want of memory.
+    /// Some order was refused because memory ran out.
     pub refused: bool,
 }
 
 impl Done {
-    /// What a session comes to that ends with this fault and has no history.
+    /// The result of a session that ends with this fault and has no history.
     #[tactic(auto, using(crate::proofs::ServedLemmas::nothing_legal, crate::proofs::ServedLemmas::nothing_read))]
     pub fn nothing(alloc: Global, fault: Fault) -> Done
         ensures history { result.history ≡ [] }

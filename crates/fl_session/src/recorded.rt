@@ -1,4 +1,4 @@
-//! What a session came to whose lines went to a journal.
+//! The result of a session whose lines went to a journal.
 
 ghost use Rattle.std.specs.Prelude.{◌≡◌, ℕ, List, [], Option, None, Some, false, IfSome};
 ghost use Rattle.std.specs.Io.KnownBytes.{Keeps};
@@ -12,20 +12,20 @@ use fl_history::{History, Lines};
 use fl_transport::Fault;
 use std::alloc::Global;
 
-/// What a session came to whose lines went to a journal.
+/// The result of a session whose lines went to a journal.
 #[derive(Drop)]
 pub struct Recorded<K> {
-    /// Where its lines went: the orders that it took and their replies. It is there but at `NoMemory` and `NoReader`,
-    /// where it was let go.
+    /// Where its lines went: the orders that it took and their replies. It is there, except at `NoMemory` and
+    /// `NoReader`, when it was dropped.
     pub journal: Option<K>,
     /// Why it ended early, if it did: the reader's fault before the writer's.
     pub fault: Option<Fault>,
-    /// Some order was refused for want of memory.
+    /// Some order was refused because memory ran out.
     pub refused: bool,
 }
 
 impl<K> Recorded<K> {
-    /// What a session comes to that ends with this fault and has no journal.
+    /// The result of a session that ends with this fault and has no journal.
     pub fn nothing(alloc: Global, fault: Fault) -> Recorded<K>
         ensures journal { result.journal ≡ None }
         ensures fault { result.fault ≡ Some fault }

@@ -21,7 +21,7 @@ pub(crate) struct Server<J: Journal> {
     pub desk: Desk<J>,
     pub tolds: Tolds,
     pub handshake: Handshake,
-    /// Some order was refused for want of memory.
+    /// Some order was refused because memory ran out.
     pub refused: bool,
 }
 

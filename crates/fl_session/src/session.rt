@@ -19,10 +19,10 @@ use fl_transport::{Fault, Inbox, Outbox, ReplyBatch, ReplyBuffer};
 use std::alloc::Global;
 use std::io::{Read, Write};
 
-/// What a session came to, and whether a write failed.
+/// The result of a session, and whether a write failed.
 #[derive(Debug, Drop)]
 pub struct Ended {
-    /// What it came to.
+    /// Its result.
     pub done: Done,
     /// A write failed, or took nothing: a reply didn't go out whole, and those behind it didn't go out. A fault of
     /// the reader doesn't hide it.
@@ -30,7 +30,7 @@ pub struct Ended {
 }
 
 /// Serves a whole session in this thread, under these rules: each message is answered when it is whole. Replies are
-/// collected, and go out together where their room is full, before each read, and at the end. All memory but that of
+/// collected, and go out together when their room is full, before each read, and at the end. All memory but that of
 /// the history is made before the first read. A read that fails ends the session, and so does a DESTROY after an INIT
 /// is agreed. After a write that failed it goes on, and writes no more.
 pub fn run_one<R: Read, W: Write>(alloc: Global, r: &mut R, w: &mut W, rules: Rules) -> Done
@@ -45,7 +45,7 @@ pub fn run_one<R: Read, W: Write>(alloc: Global, r: &mut R, w: &mut W, rules: Ru
     done
 }
 
-/// The same, and tells beside it whether a write failed.
+/// The same, and also gives whether a write failed.
 pub fn run_session<R: Read, W: Write>(alloc: Global, r: &mut R, w: &mut W, rules: Rules) -> Ended
     ensures { IsServed rules (record {
       left = R.remaining r.old;
@@ -59,9 +59,8 @@ pub fn run_session<R: Read, W: Write>(alloc: Global, r: &mut R, w: &mut W, rules
     Ended { done, broken }
 }
 
-/// The same, but its lines go to this journal, which has none so far. The journal comes back with them, but at
-/// `NoMemory`, where it is let go, and nothing was read or written. It is told before each read that no order is at
-/// hand.
+/// The same, but its lines go to this journal, which has none so far. The journal comes back with them, except at
+/// `NoMemory`: then it is dropped, and nothing was read or written. It is flushed before each read.
 pub fn record_session<R: Read, W: Write, J: Journal + Drop>(
     alloc: Global,
     r: &mut R,
@@ -92,7 +91,7 @@ pub fn record_session<R: Read, W: Write, J: Journal + Drop>(
     let fault = answer_all(r, &mut inbox, &mut server, &mut batch);
     batch.flush();
     let ReplyBatch { replies, out } = batch;
-    // Here, since the proof finds no more what the writer holds where something is dropped behind it.
+    // Here, since the proof finds no more what the writer holds if something is dropped behind it.
     drop(replies);
     let (writer, broken) = out.into_parts();
     // No effect at run time: the proof reads here what the writer holds.

@@ -1,4 +1,4 @@
--- The heads and the runs stay in order where a chain of runs changes, and where a head goes over to another chain.
+-- The heads and the runs stay in order when a chain of runs changes, and when a head goes over to another chain.
 use Rattle.std.proofs.Common.{◌≡◌, ◌≢◌, ℕ, ◌<◌, ◌≤◌, [], length, sum_by, Some, slice_get, cond, ◌==◌, refl, sym, ap}
 use Rattle.std.proofs.Common.{◌∙◌, subst, inl, inr, arith}
 use Rattle.std.specs.List.{insert, remove, AllByRecursion}

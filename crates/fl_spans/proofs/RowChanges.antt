@@ -16,7 +16,7 @@ use Rattle.fl_spans.proofs.Values.{row_at, rows_at, rows_set, rows_kept, rows_ch
 use Rattle.fl_spans.proofs.Values.{row_removed, row_inserted}
 
 module _ {K R : Type 0} (old new : Chains R) (m : ℕ) (others : (c : ℕ) → c ≢ m → entries new c ≡ entries old c) where
-  -- heads that have runs, or have none, still do where theirs are on other chains
+  -- heads that have runs, or have none, still do if theirs are on other chains
   used_other : (es : List (Entry (Head K))) → AllByRecursion (λ e. e.item.runs ≢ m) es → AllByRecursion (λ e. entries old e.item.runs ≢ []) es →
       AllByRecursion (λ e. entries new e.item.runs ≢ []) es
   used_other [] apart each = tt
@@ -27,7 +27,7 @@ module _ {K R : Type 0} (old new : Chains R) (m : ℕ) (others : (c : ℕ) → c
   spare_other [] apart each = tt
   spare_other (e ∷ es) apart each = (others e.item.runs apart.0 ∙ each.0, spare_other es apart.1 each.1)
 
-  -- and where this chain has runs, all do
+  -- and if this chain has runs, all do
   used_all : entries new m ≢ [] → (es : List (Entry (Head K))) → AllByRecursion (λ e. entries old e.item.runs ≢ []) es →
       AllByRecursion (λ e. entries new e.item.runs ≢ []) es
   used_all some [] each = tt

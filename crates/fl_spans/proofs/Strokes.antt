@@ -289,7 +289,7 @@ module _ {M : Type 0} (same : M → M → Bool) (exact : (a b : M) → same a b 
           | inr long ↦ overlapped s ss are less long
         ]
       where
-        -- what a stroke leaves, where the first is cut
+        -- what a stroke leaves, if the first is cut
         whole : (s : Span M) (ss : List (Span M)) → AreSpans (s ∷ ss) → s.start < start → start ≤ s.end + 1 → (rest : List (Span M)) →
             behind end (s ∷ ss) ≡ rest →
             after_stroke same start end mark (s ∷ ss)

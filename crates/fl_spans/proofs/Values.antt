@@ -1,4 +1,4 @@
--- The rows that contracts see, where a chain of runs changes, and where a head goes over to another chain.
+-- The rows that contracts see, when a chain of runs changes, and when a head goes over to another chain.
 use Rattle.std.proofs.Common.{◌≡◌, ◌≢◌, ℕ, zero, suc, ◌+◌, ◌-◌, ◌<◌, ◌≤◌, List, [], ◌∷◌, length, set, map, take, get_or}
 use Rattle.std.proofs.Common.{sum_by, Some, slice_get, refl}
 use Rattle.std.proofs.Common.{sym, ap, ◌∙◌, inl, inr, arith}
@@ -62,7 +62,7 @@ module _ {K R : Type 0} where
   pub rows_are : (v : RowChains K R) (c : ℕ) → c < chain_count v → rows v c ≡ map (row_at v.runs) (entries v.heads c)
   rows_are v c within = rows_at v c (omega (arith, within, chains_counted v))
 
-  -- all rows, where those of one chain have changed
+  -- all rows, when those of one chain have changed
   pub rows_set : (v w : RowChains K R) (n c : ℕ) (z : List (Row K R)) → length v.heads.chains ≡ n + 1 → length w.heads.chains ≡ n + 1 → c < n →
       ((b : ℕ) → b ≢ c → b < n → map (row_at w.runs) (entries w.heads b) ≡ map (row_at v.runs) (entries v.heads b)) →
       map (row_at w.runs) (entries w.heads c) ≡ z → row_lists w ≡ set (row_lists v) c z
@@ -72,7 +72,7 @@ module _ {K R : Type 0} where
       rw (first, second) (mapped_set (λ es. map (row_at v.runs) es) (λ es. map (row_at w.runs) es) refl refl v.heads.chains w.heads.chains n c z long_v long_w
       less same is)
 
-  -- the rows with other runs in one of them, which stays where it has none
+  -- the rows with other runs in one of them, which stays if it has none
   abbrev pub set_runs : List (Row K R) → ℕ → List R → List (Row K R)
   set_runs [] i runs = []
   set_runs (r ∷ rs) zero runs = record r { runs = runs } ∷ rs
@@ -201,7 +201,7 @@ module _ {K R : Type 0} where
         all_held runs chains (λ c. each (suc c)),
       )
 
-  -- where no head is unused, each slot has a run
+  -- if no head is unused, each slot has a run
   pub none_unused : (heads : Chains (Head K)) (runs : Chains R) (n : ℕ) → AreRows heads runs n → entries heads n ≡ [] → runs.slots ≤ item_count runs
   none_unused heads runs n h none =
       let whole = all_held runs heads.chains each in

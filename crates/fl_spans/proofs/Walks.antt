@@ -24,7 +24,7 @@ module _ {X : Type 0} where
   drop_end (x ∷ xs) zero none = absurd (cc none)
   drop_end (x ∷ xs) (suc j) none = drop_end xs j none
 
-  -- a count along a list that passes a test, one further, and where it ends
+  -- a count along a list that passes a test, one further, and when it ends
   pub count_more : (p : X → Bool) (x : X) (xs : List X) → p x ≡ true → prefix_len p (x ∷ xs) ≡ 1 + prefix_len p xs
   count_more p x xs is = rw is refl
 

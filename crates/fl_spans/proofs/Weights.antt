@@ -20,7 +20,7 @@ module _ {K : Type 0} where
   pub other_counts : (m : ℕ) (e : Entry (Head K)) → e.item.runs ≢ m → has_number m e ≡ 0
   other_counts m e other = rw (ne_eqb e.item.runs m other) refl
 
-  -- where nothing has the number, each head has another
+  -- if nothing has the number, each head has another
   pub none_has : (m : ℕ) (es : List (Entry (Head K))) → sum_by (has_number m) es ≡ 0 → AllByRecursion (λ e. e.item.runs ≢ m) es
   none_has m [] none = tt
   none_has m (e ∷ es) none = (
@@ -116,7 +116,7 @@ module _ {T : Type 0} where
       let same = ap f (get_or-set_other a.chains c d (remove (entries a c) i) [] (λ x. apart (sym x))) in
       omega (arith, first, second, same, less, more)
 
-  -- so what all entries weigh is the same, where the one that goes over weighs what it did
+  -- so what all entries weigh is the same, if the one that goes over weighs what it did
   pub weight_kept : (w : Entry T → ℕ) (a : Chains T) (c i d j : ℕ) (e f : Entry T) → c ≢ d → c < length a.chains → d < length a.chains →
       slice_get (entries a c) i ≡ Some e → w f ≡ w e → sum_by (λ es. sum_by w es) (moved_over a c i d j f).chains ≡ sum_by (λ es. sum_by w es) a.chains
   weight_kept w a c i d j e f apart in_c in_d found same =

@@ -9,7 +9,7 @@ module _ {K M : Type 0} where
   abbrev pub spans_at : RowChains K (Span M) → Cursor → List (Span M)
   spans_at v row = runs_at (rows v row.chain) row.index
 
-  -- the rows of each chain once the row at a cursor has these spans; it goes where these are none
+  -- the rows of each chain once the row at a cursor has these spans; it goes if these are none
   abbrev pub with_spans : RowChains K (Span M) → Cursor → List (Span M) → List (List (Row K (Span M)))
   with_spans v row spans = slice_set (row_lists v) row.chain (with_runs (rows v row.chain) row.index spans)
 

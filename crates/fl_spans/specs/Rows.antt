@@ -66,7 +66,7 @@ module _ {K R : Type 0} where
   with_key (r ∷ rs) zero key = record r { key = key } ∷ rs
   with_key (r ∷ rs) (suc i) key = r ∷ with_key rs i key
 
-  -- the rows once the one at an index has these runs; it goes where these are none
+  -- the rows once the one at an index has these runs; it goes if these are none
   abbrev pub with_runs : List (Row K R) → ℕ → List R → List (Row K R)
   with_runs [] i runs = []
   with_runs (r ∷ rs) zero [] = rs

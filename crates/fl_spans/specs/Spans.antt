@@ -8,7 +8,7 @@ module _ {M : Type 0} where
   abbrev pub overlaps : ℕ → ℕ → Span M → Bool
   overlaps start end s = nat_le s.start end && nat_le start s.end
 
-  -- the mark of a byte, or none where no span has it
+  -- the mark of a byte, or none if no span has it
   abbrev pub mark_at : List (Span M) → ℕ → Option M
   mark_at [] b = None
   mark_at (s ∷ ss) b = if overlaps b b s then Some s.mark else mark_at ss b
@@ -18,7 +18,7 @@ module _ {M : Type 0} where
     pub ordered : s.start ≤ s.end
     pub bounded : s.end ≤ 9223372036854775807
 
-  -- the second begins behind the first, and has another mark where no byte lies between
+  -- the second begins behind the first, and has another mark if no byte lies between
   pub record Precedes (s t : Span M) : Type 0 where
     pub apart : s.end < t.start
     pub whole : t.start ≡ s.end + 1 → s.mark ≢ t.mark

@@ -26,7 +26,7 @@ module _ {M : Type 0} (same : M → M → Bool) where
   abbrev pub touches : Span M → Span M → Bool
   touches s t = (t.start == s.end + 1) && same s.mark t.mark
 
-  -- a span before others, as one with the first of them where it touches it
+  -- a span before others, as one with the first of them if it touches it
   abbrev pub join : Span M → List (Span M) → List (Span M)
   join s [] = s ∷ []
   join s (t ∷ ts) = if touches s t then record t { start = s.start } ∷ ts else s ∷ t ∷ ts

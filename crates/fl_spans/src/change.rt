@@ -24,7 +24,7 @@ pub(crate) struct Change<M> {
 }
 
 /// The bytes from `start` to `end` of the row at the cursor get the mark, or lose theirs. Spans of one mark that
-/// touch become one, and a row that has no span left goes. This needs room where a span is cut in its middle, or
+/// touch become one, and a row that has no span left goes. This needs room if a span is cut in its middle, or
 /// the mark is a new one there. A refusal changes nothing. It is one walk along the row, up to the end of the range.
 pub fn stroke<K: Copy, M: Copy + Eq>(
     rows: &mut Rows<K, Span<M>>,

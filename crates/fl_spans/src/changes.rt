@@ -143,7 +143,7 @@ fn clear<R: Copy>(runs: &mut Arena<R>, first: &mut Cursor)
     }
 }
 
-// Puts a run before the cursor, where there is one. The cursor then stands at it.
+// Puts a run before the cursor, if there is one. The cursor then stands at it.
 fn put_in<R: Copy>(runs: &mut Arena<R>, at: &mut Cursor, run: Option<R>)
     requires chain { at.old.chain < length runs.old.chains }
     requires at { at.old ≡ cursor_at runs.old at.old.chain at.old.index }

@@ -62,7 +62,7 @@ impl<K: Copy, R: Copy> Model for Rows<K, R> {
 }
 
 impl<K: Copy, R: Copy> Rows<K, R> {
-    /// So many chains without rows, and room for so many runs. It fails only for want of memory. The key is what
+    /// So many chains without rows, and room for so many runs. It fails only if memory runs out. The key is what
     /// the heads have that no row had yet: nothing reads it.
     pub fn new(alloc: Global, chains: usize, limit: usize, key: K) -> Result<Self, AllocError>
         requires chains { chains < 65536 }
@@ -89,7 +89,7 @@ impl<K: Copy, R: Copy> Rows<K, R> {
         self.heads.cursor(chain)
     }
 
-    /// The cursor at the last row of the chain, or at its end where it has no row.
+    /// The cursor at the last row of the chain, or at its end if it has no row.
     pub fn last_row(&self, chain: usize) -> Cursor
         requires { chain < chain_count self.now }
         ensures last { result ≡ row_cursor self.now chain (length (rows self.now chain) - 1) }
@@ -158,7 +158,7 @@ impl<K: Copy, R: Copy> Rows<K, R> {
         self.runs.free()
     }
 
-    /// Where the slot of a head is: on the chain of its row, or on the last one, where no row has it. This walks
+    /// Where the slot of a head is: on the chain of its row, or on the last one, if no row has it. This walks
     /// along its chain.
     pub fn head_place(&self, slot: usize) -> Place
         requires { slot < limit_of self.now }

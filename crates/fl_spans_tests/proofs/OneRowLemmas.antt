@@ -46,7 +46,7 @@ module _ {K M : Type 0} where
   abbrev new_row : K → Span M → Row K (Span M)
   new_row k s = record { key = k; runs = s ∷ [] }
 
-  -- a row comes where there was none, or nothing was changed
+  -- a row comes if there was none, or nothing was changed
   pub first_row : {E : Type 0} (result : Result (Unit {0}) E) (old new : RowChains K (Span M)) (row : Cursor) (key : Option (Bor K)) (k : K)
       (s : Span M) → IsOneRow old → row ≡ row_cursor old 0 0 → option_copied key ≡ slice_get (keys (rows old row.chain)) row.index →
       is_some key ≡ false → HasRoomOf old new →

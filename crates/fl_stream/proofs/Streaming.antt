@@ -131,7 +131,7 @@ module _ {W : Type 0} (contents : W → Option (List ℕ)) where
         refuses = kept.refuses;
       }
 
-  -- where it is broken, nothing goes out
+  -- if it is broken, nothing goes out
   pub kept_broken : (a b : Option (List ℕ)) (unsent unsent_now : List ℕ) (broken : Bool) (manner : WhenWriterFails) (lines : List Line)
       → IsStreamed contents a unsent broken manner lines → Moves a b unsent unsent_now → IsTrue broken → Keeps a b
   kept_broken a b unsent unsent_now true manner lines kept moves is_broken =

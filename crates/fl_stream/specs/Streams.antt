@@ -19,7 +19,7 @@ pub record Wrote {W : Type 0} (contents : W → Option (List ℕ)) (held : Optio
   pub blank : IsBlank (contents first)
   pub appended : Appends (contents first) held bytes
 
--- these bytes were written, or a beginning of them
+-- these bytes were written, or a prefix of them
 pub record WroteSome (bytes : List ℕ) (held held_now : Option (List ℕ)) : Type 0 where
   pub sent : List ℕ
   pub rest : List ℕ
@@ -44,7 +44,7 @@ pub record IsBegun {W : Type 0} (contents : W → Option (List ℕ)) (held : Opt
   pub wrote : Wrote contents held sent
   pub parts : sent ++ rest ≡ text_of lines
 
--- What was sent, what waits and what is lost are together the text of all lines. Something is lost only where the
+-- What was sent, what waits and what is lost are together the text of all lines. Something is lost only if the
 -- stream is broken, and then nothing waits. A stream that refuses never breaks.
 pub record IsStreamed {W : Type 0} (contents : W → Option (List ℕ)) (held : Option (List ℕ)) (unsent : List ℕ)
     (broken : Bool) (manner : WhenWriterFails) (lines : List Line) : Type 0 where

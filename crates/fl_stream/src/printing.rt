@@ -73,7 +73,7 @@ fn write_lines<W: Write>(history: &History, waiting: &mut Vec<u8>, writer: &mut 
     finish(waiting, writer)
 }
 
-// Writes what waits where there is no room for a line behind it, and says whether there is now.
+// Writes what waits if there is no room for a line behind it, and says whether there is now.
 #[tactic(auto, using(crate::proofs::Pieces::moved_none))]
 fn make_room<W: Write>(waiting: &mut Vec<u8>, writer: &mut W) -> bool
     requires room { 700 ≤ vec_capacity waiting.old }

@@ -20,7 +20,7 @@ use std::marker::Model;
 const MOST_LINES: usize = 2048;
 
 /// Lines that go to a writer as their text, as `print_trace` spells it. The text waits in a room of some 1.4 megabytes,
-/// made once. It is written where that is full, and where it is told to pause or to flush. Contracts see all lines so
+/// made once. It is written when that is full, and when it is told to pause or to flush. Contracts see all lines so
 /// far, what the writer holds, the text that waits, the room for more lines, what it does when a write fails, and
 /// whether it is broken: then it goes on without its writer, and writes nothing more.
 #[derive(Drop)]
@@ -149,7 +149,7 @@ impl<W: Write> Streamed<W> {
         }
     }
 
-    // Writes what waits. Where a write fails, all that it left waits on, or is lost, as its manner is.
+    // Writes what waits. If a write fails, what is left waits on, or is lost, by its manner.
     fn write_waiting(&mut self)
         ensures lines { self.new.lines ≡ self.old.lines }
         ensures manner { self.new.manner ≡ self.old.manner }
@@ -215,7 +215,7 @@ impl<W: Write> Journal for Streamed<W> {
 
     ghost room = { λ s. s.room };
 
-    // Where it goes on without its writer, no order is refused.
+    // If it goes on without its writer, no order is refused.
     fn reserve(&mut self, count: usize) -> Result<(), NoMemory>
         requires few { count ≤ 2048 }
         ensures lines { self.new.lines ≡ self.old.lines }

@@ -1,4 +1,4 @@
-//! Bytes that go to a writer, and what is left of them where it fails.
+//! Bytes that go to a writer, and what is left of them if it fails.
 
 ghost use Rattle.std.specs.Prelude.{◌≡◌, ◌≤◌, [], length, take, drop, IsTrue, vec_len, vec_capacity};
 ghost use Rattle.std.specs.Io.KnownBytes.{Appends};
@@ -35,7 +35,7 @@ fn write_front<W: Write>(writer: &mut W, bytes: &[u8]) -> usize
     at
 }
 
-// One write, where there is something. It says how many bytes went, and whether the next write may take more: not where
+// One write, if there is something. It says how many bytes went, and whether the next write may take more: not if
 // this one failed or took nothing, unless it was interrupted.
 fn write_some<W: Write>(writer: &mut W, bytes: &[u8]) -> (usize, bool)
     ensures bound { result.0 ≤ length bytes.now }

@@ -1,7 +1,7 @@
 -- Numbers in a row of bytes, the lowest byte of each first, and what a reply's struct fuse_out_header says.
 use Rattle.std.specs.Prelude.{ℕ, ◌+◌, ◌-◌, ◌*◌, ◌%◌, ◌^◌, List, if◌then◌else◌, length, slice_index, nat_le}
 
--- the number in the 4 bytes from a place on; 0 where there are fewer
+-- the number in the 4 bytes from a place on; 0 if there are fewer
 unfoldable pub word : List ℕ → ℕ → ℕ
 word bytes at = if nat_le (at + 4) (length bytes)
     then slice_index bytes at + 2 ^ 8 * slice_index bytes (at + 1)

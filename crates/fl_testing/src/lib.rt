@@ -1,4 +1,4 @@
-//! What the tests of several crates need: readers and writers over memory that fail where they are told to, numbers
+//! What the tests of several crates need: readers and writers over memory that fail when they are told to, numbers
 //! that only look random, stored texts, messages that are laid out, replies that are read, and some sessions as text.
 //!
 //! `Source` and `Sink` fail at exactly the calls that their `Trouble` names, and count all calls. Contracts let

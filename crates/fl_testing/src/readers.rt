@@ -1,4 +1,4 @@
-//! Readers over memory, which give a few bytes at a time and fail where they are told to.
+//! Readers over memory, which give a few bytes at a time and fail when they are told to.
 
 ghost use Rattle.std.specs.Prelude.{◌≡◌, ◌+◌, ◌-◌, ◌^◌, length, min, max, IfSome, IsErrAnd, Ok, Some};
 ghost use Rattle.std.specs.Io.{ReadsAtMost};

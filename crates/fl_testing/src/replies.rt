@@ -3,10 +3,10 @@
 ghost use Rattle.std.specs.Prelude.{◌≡◌, ◌↔◌, ◌≤◌, length, drop, IfSome, IsSome};
 ghost use Rattle.fl_testing.specs.Replies.{error, long, word};
 
-/// The unique of a reply, and the number of its error, 0 where it has none.
+/// The unique of a reply, and the number of its error, 0 if it has none.
 pub type Reply = (u64, u32);
 
-/// The number in the 4 bytes from a place on, the lowest first; 0 where there are fewer.
+/// The number in the 4 bytes from a place on, the lowest first; 0 if there are fewer.
 #[tactic(auto, unfolding(crate::specs::Replies::word))]
 pub fn word_at(bytes: &[u8], at: usize) -> u32
     ensures { result ≡ word bytes.now at }
@@ -35,7 +35,7 @@ pub fn reply_of(head: &[u8]) -> Reply
     (long_at(head, 8), 0u32.wrapping_sub(word_at(head, 4)))
 }
 
-/// The reply at the front of these bytes, and what stands behind it; none where they begin with no whole reply.
+/// The reply at the front of these bytes, and what stands behind it; none if they begin with no whole reply.
 pub fn first_reply(bytes: &[u8]) -> Option<(Reply, &[u8])>
     ensures whole { IsSome result ↔ (16 ≤ word bytes.now 0) × (word bytes.now 0 ≤ length bytes.now) }
     ensures reply { IfSome result (λ found. (found.0.0 ≡ long bytes.now 8) × (found.0.1 ≡ error bytes.now)) }

@@ -12,7 +12,7 @@ pub struct Trouble {
     pub after: usize,
     /// No other call fails.
     pub once: bool,
-    /// How they fail. Where nothing is said, a write doesn't fail and takes no byte; a read then fails as `Other`.
+    /// How they fail. If nothing is said, a write doesn't fail and takes no byte; a read then fails as `Other`.
     pub kind: Option<ErrorKind>,
 }
 

@@ -1,4 +1,4 @@
-//! Writers over memory, which take a few bytes at a time and fail where they are told to.
+//! Writers over memory, which take a few bytes at a time and fail when they are told to.
 
 ghost use Rattle.std.specs.Prelude.{◌≡◌, ◌+◌, ◌-◌, ◌^◌, [], true, length, min, IfOk, IfSome, IsErrAnd, IsNone, Ok};
 ghost use Rattle.std.specs.Prelude.{Some};

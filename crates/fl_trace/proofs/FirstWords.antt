@@ -15,7 +15,7 @@ use Rattle.fl_trace.proofs.Letters.{IsWord, literal, lacks_low}
 pub no_space : (word : List ℕ) → IsWord word → LacksByte 32 word
 no_space word is = lacks_low 33 32 word is (lit< tt)
 
--- the first word of a text is w, where it has one
+-- the first word of a text is w, if it has one
 abbrev pub Begins : List ℕ → List ℕ → Type 0
 Begins text w = (word rest : List ℕ) → LacksByte 32 word → text ≡ word ++ 32 ∷ rest → w ≡ word
 

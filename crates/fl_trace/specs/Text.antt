@@ -40,7 +40,7 @@ lock_ask_text a =
     spaced (decimal a.fh ∷ decimal a.owner ∷ decimal a.start ∷ decimal a.end ∷
     decimal a.kind ∷ decimal a.pid ∷ decimal a.flags ∷ [])
 
--- the fields of a body, where it has any
+-- the fields of a body, if it has any
 abbrev pub fields_text : Body → Option (List ℕ)
 fields_text (body.Lock ask) = Some (lock_ask_text ask)
 fields_text (body.Create excl mode name) = Some (spaced (flag_text excl ∷ decimal mode ∷ name_text name ∷ []))
@@ -51,7 +51,7 @@ fields_text (body.Release fh unlocks owner) = Some (spaced (decimal fh ∷ flag_
 fields_text body.Getattr = None
 fields_text body.Open = None
 
--- what stands behind a word: a space and the fields, or nothing where there are none
+-- what stands behind a word: a space and the fields, or nothing if there are none
 abbrev pub behind : Option (List ℕ) → List ℕ
 behind None = []
 behind (Some fields) = 32 ∷ fields

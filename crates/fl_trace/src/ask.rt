@@ -14,7 +14,7 @@ ghost use Rattle.fl_trace.specs.Text.{order_text, op_text, fields_text, lock_ask
 use crate::words::{first_word, flag_word, name, number, u32_number, u32_word, u64_word};
 use fl_order::{Body, LockAsk, Op, OpKind, Order, Shape};
 
-/// An order; none where it has any other spelling.
+/// An order; none if it has any other spelling.
 pub(super) fn asked_order(text: &str) -> Option<Order>
     ensures fits { IfSome result IsSayable }
     ensures spelled { IfSome result (λ order. text.now ≡ order_text order) }

@@ -185,7 +185,7 @@ fn push_op(text: &mut Vec<u8>, op: &Op)
     push_fields(text, &body);
 }
 
-// The fields with the space in front of them, where there are any.
+// The fields with the space in front of them, if there are any.
 fn push_fields(text: &mut Vec<u8>, body: &Body)
     requires room { length text.old.items + 540 ≤ vec_capacity text.old }
     ensures bytes { text.new.items ≡ text.old.items ++ behind (fields_text body.now) }

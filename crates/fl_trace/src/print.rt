@@ -9,8 +9,8 @@ use fl_history::{History, Line};
 use fl_order::{Body, NoMemory, Order, Told};
 use std::alloc::Global;
 
-/// The text of a history, as `docs/TRACE.md` says: a line of text for each of its lines. Want of memory
-/// comes only where a growth of the text was refused.
+/// The text of a history, as `docs/TRACE.md` says: a line of text for each of its lines. `NoMemory`
+/// comes only if a growth of the text was refused.
 pub fn print_trace(alloc: Global, history: &History) -> Result<String, NoMemory>
     ensures { IfOk result (λ text. string_bytes text ≡ text_of history.now) }
 {

@@ -19,7 +19,7 @@ use std::alloc::Global;
 pub enum TraceFault {
     /// This line, from 1, is the first that is no spelling of a line.
     BadLine(usize),
-    /// Want of memory.
+    /// Out of memory.
     NoMemory,
 }
 
@@ -33,7 +33,7 @@ impl From<NoMemory> for TraceFault {
     }
 }
 
-/// The history of a text, as `docs/TRACE.md` says. A bad line is told only where memory for the lines before
+/// The history of a text, as `docs/TRACE.md` says. A bad line is reported only if memory for the lines before
 /// it was there.
 pub fn read_trace(alloc: Global, text: &[u8]) -> Result<History, TraceFault>
     ensures read { IfOk result (λ history. Fits history × (text.now ≡ text_of history)) }
@@ -53,7 +53,7 @@ pub fn read_trace(alloc: Global, text: &[u8]) -> Result<History, TraceFault>
     Ok(history)
 }
 
-/// The first line of a text, and the text after its newline; none where no line that can be read back begins
+/// The first line of a text, and the text after its newline; none if no line that can be read back begins
 /// the text.
 pub fn first_line(text: &[u8]) -> Option<(Line, &[u8])>
     ensures fits { IfSome result (λ read. LineFits read.0) }

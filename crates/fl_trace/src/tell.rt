@@ -33,7 +33,7 @@ const ERRORS: [Errno; 16] = [
     Errno::EPROTO,
 ];
 
-/// A reply; none where it has any other spelling.
+/// A reply; none if it has any other spelling.
 pub(super) fn read_told(text: &str) -> Option<Told>
     ensures fits { IfSome result FitsTold }
     ensures spelled { IfSome result (λ told. text.now ≡ told_text told) }
@@ -44,7 +44,7 @@ pub(super) fn read_told(text: &str) -> Option<Told>
     Some(Told { unique, result })
 }
 
-// An answer, or an error by its number; none where it has any other spelling.
+// An answer, or an error by its number; none if it has any other spelling.
 fn read_result(text: &str) -> Option<Result<Answer, Errno>>
     ensures fits { IfSome result FitsResult }
     ensures spelled { IfSome result (λ told. text.now ≡ result_text told) }

@@ -57,7 +57,7 @@ pub(super) fn split_word(text: &str) -> Option<(&str, &str)>
     text.split_once(' ')
 }
 
-/// The first word of a text, and where a space ends it the text after the space.
+/// The first word of a text, and if a space ends it the text after the space.
 pub(super) fn first_word(text: &str) -> (&str, Option<&str>)
     ensures parts { text.now ≡ result.0.now ++ behind (option_copied result.1) }
     ensures only { (word : List ℕ) (fields : Option (List ℕ)) → LacksByte 32 word → text.now ≡ word ++ behind fields →

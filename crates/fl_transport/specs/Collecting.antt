@@ -28,13 +28,13 @@ pub record IsProperPrefix (front whole : List ℕ) : Type 0 where
   pub more : 0 < length rest
   pub is : front ++ rest ≡ whole
 
--- These bytes and those that wait are all bytes of the replies. Where a write failed, these are a beginning of them.
+-- These bytes and those that wait are all bytes of the replies. After a failed write, these are a prefix of them.
 abbrev pub AreGiven : Bool → List ℕ → List ℕ → List (List ℕ) → Type 0
 AreGiven false sent waiting replies = sent ++ waiting ≡ concat replies
 AreGiven true sent waiting replies = IsProperPrefix sent (concat replies)
 
 -- These replies, each of which says its own length, were written behind what the writer held at the start, all but the
--- bytes that wait; where a write failed, a beginning of them.
+-- bytes that wait; after a failed write, a prefix of them.
 pub record IsGiven (start : Option (List ℕ)) (out : Outgoing) (replies : List (List ℕ)) : Type 0 where
   pub sent : List ℕ
   pub written : Appends start out.held sent

@@ -32,8 +32,8 @@ IsEnding (Some NoReader) over rest left = ⊥
 abbrev pub IsComplete : Bool → List ℕ → Option (List ℕ) → Type 0
 IsComplete over rest left = (over ≡ true) ⊎ ((rest ≡ []) × IsAtEnd left)
 
--- How a session ended, by the fault that is told: after these messages and this rest of what was read, with these bytes
--- left to the reader, and with a write that failed or none. The reader's fault is told before the writer's.
+-- How a session ended, by its fault: after these messages and this rest of what was read, with these bytes left to the
+-- reader, and with a write that failed or none. If both fail, the fault is the reader's.
 abbrev pub EndsBy : Option Fault → Bool → List (List ℕ) → List ℕ → Option (List ℕ) → Type 0
 EndsBy None broken messages rest left = (broken ≡ false) × IsComplete (handshake_of messages).over rest left
 EndsBy (Some Write) broken messages rest left = (broken ≡ true) × IsComplete (handshake_of messages).over rest left

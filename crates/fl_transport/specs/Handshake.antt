@@ -55,7 +55,7 @@ abbrev pub handshake_of : List (List ℕ) → Handshake
 handshake_of messages = fold advanced opening messages
 
 -- What the session itself answers to a message of this kind before an INIT is agreed. Any other message is EPROTO, or
--- dropped where no reply is owed to it.
+-- dropped if no reply is owed to it.
 abbrev pub own_answer : List ℕ → Option OpKind → Response
 own_answer message (Some kinds.Init) = Init (unique_of message) (init_step message)
 own_answer message (Some kind) = refusal_of kind (unique_of message) EPROTO

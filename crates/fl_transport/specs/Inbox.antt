@@ -29,7 +29,7 @@ pub record Takes (message rest rest_now : List ℕ) : Type 0 where
   pub onward : (left left_now : Option (List ℕ)) (messages : List (List ℕ)) → (handshake_of messages).over ≡ false
       → IsRead left left_now messages rest → IsRead left left_now (messages ++ message ∷ []) rest_now
 
--- where no more bytes come, so ends the reader's part of a session that isn't over
+-- if no more bytes come, so ends the reader's part of a session that isn't over
 abbrev pub IsEnd : Filled → List ℕ → Option (List ℕ) → Type 0
 IsEnd More rest left = Unit {0}
 IsEnd (End fault) rest left = IsEnding fault false rest left

@@ -17,7 +17,7 @@ pub record IsPartSent (held held_now : Option (List ℕ)) (reply : List ℕ) : T
   pub short : count < length reply
   pub written : Appends held held_now (take count reply)
 
--- A reply went out whole, or a beginning of it that isn't all of it, or nothing where one before it was broken. A
+-- A reply went out whole, or a beginning of it that isn't all of it, or nothing if one before it was broken. A
 -- writer shows no failure to contracts: that a reply is broken only by a write that failed is tested, and not proved.
 abbrev pub IsSentBy : Option (List ℕ) → Option (List ℕ) → Bool → Bool → List ℕ → Type 0
 IsSentBy held held_now true true reply = Keeps held held_now

@@ -23,16 +23,16 @@ bytes_of (Replies tolds) = map spelling_of tolds.now
 abbrev pub error_to : ℕ → Errno → Response
 error_to unique e = One (record { unique = unique; result = Err e })
 
--- a reply that is an error, or nothing where no reply is owed to a message of this kind
+-- a reply that is an error, or nothing if no reply is owed to a message of this kind
 abbrev pub refusal_of : OpKind → ℕ → Errno → Response
 refusal_of kind unique e = if is_silent kind then Nothing else error_to unique e
 
--- the error of an order that was refused for want of memory: an INTERRUPT may come again
+-- the error of an order for which memory ran out: an INTERRUPT may come again
 abbrev pub without_memory : OpKind → Errno
 without_memory Interrupt = EAGAIN
 without_memory _ = ENOMEM
 
--- what an order of this kind is answered that was refused for want of memory
+-- the answer to an order of this kind for which memory ran out
 abbrev pub lost : OpKind → ℕ → Response
 lost kind unique = refusal_of kind unique (without_memory kind)
 

@@ -31,7 +31,7 @@ pub enum Fault {
 }
 
 impl Fault {
-    /// The fault that is told of a session: its reader's before its writer's, which is broken or not.
+    /// The fault of a session, whose writer is broken or not: its reader's if there is one, else its writer's.
     pub fn told(reader: Option<Fault>, broken: bool) -> Option<Fault>
         ensures ends { (messages : List (List ℕ)) (rest : List ℕ) (left : Option (List ℕ))
             → IsEnding reader (handshake_of messages).over rest left → EndsBy result broken messages rest left }

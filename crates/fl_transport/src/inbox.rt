@@ -17,7 +17,7 @@ use std::marker::Model;
 // The most bytes of a message.
 const MESSAGE_BYTES: usize = 8192;
 
-/// What a read came to.
+/// The result of a read.
 #[derive(Clone, Copy, Debug, PartialEq, Eq)]
 pub enum Filled {
     /// Bytes came.

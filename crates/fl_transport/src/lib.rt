@@ -2,7 +2,7 @@
 //! go out. No lock is known here.
 //!
 //! Contracts see the bytes that a reader has left and those that a writer holds, and no failure of either. Only tests
-//! show that a read or a write failed if that is told, and that none is tried again. Contracts let through:
+//! show that a read or a write failed if that is reported, and that none is tried again. Contracts let through:
 //! - an `Outbox::send` that is broken at once, and an `Inbox::fill` that tells a failed read though none failed;
 //! - a `ReplyBuffer` with room for one reply alone, so that replies go out one by one.
 //! `fl_session_tests` and `fl_serve_failing_tests` refuse these.

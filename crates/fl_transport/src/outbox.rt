@@ -71,7 +71,7 @@ impl<W: Write> Outbox<&mut W> {
     }
 }
 
-// Writes the whole reply, where it isn't broken before, and tells whether it is broken then.
+// Writes the whole reply, if it isn't broken before, and tells whether it is broken then.
 fn send_on<W: Write>(writer: &mut W, broken: bool, reply: &[u8]) -> bool
     ensures { IsSentBy (W.contents writer.old) (W.contents writer.new) broken result reply.now }
 {

@@ -24,7 +24,7 @@ pub struct ReplyBatch<'a, W> {
 }
 
 impl<W: Write> ReplyBatch<'_, W> {
-    /// Collects what a message is answered. Where there is no more room, what was collected before goes out.
+    /// Collects what a message is answered. If there is no more room, what was collected before goes out.
     pub fn collect(&mut self, response: &Response)
         ensures same { (writer_of self.new.out).ghost_name ≡ (writer_of self.old.out).ghost_name }
         ensures collected { Collects (outgoing W.contents self.old) (outgoing W.contents self.new)

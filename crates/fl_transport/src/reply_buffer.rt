@@ -42,7 +42,7 @@ impl ReplyBuffer {
         })
     }
 
-    /// Lays out a reply behind the others, where there is room for any reply, and says whether it did.
+    /// Lays out a reply behind the others, if there is room for any reply, and says whether it did.
     pub fn append(&mut self, told: &Told) -> bool
         ensures done { result ≡ true → self.new ≡ self.old ++ spelling_of told.now }
         ensures full { result ≡ false → self.new ≡ self.old }

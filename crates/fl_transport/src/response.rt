@@ -20,14 +20,14 @@ pub enum Response<'a> {
 }
 
 impl<'a> Response<'a> {
-    /// What an order of this kind is answered that is refused for want of memory.
+    /// The answer to an order of this kind for which memory ran out.
     pub fn lost(kind: OpKind, unique: u64) -> Response<'a>
         ensures { result ≡ lost kind unique }
     {
         Response::refusal(kind, unique, without_memory(kind))
     }
 
-    // A reply that is an error, or nothing where no reply is owed to a message of this kind.
+    // A reply that is an error, or nothing if no reply is owed to a message of this kind.
     pub(crate) fn refusal(kind: OpKind, unique: u64, e: Errno) -> Response<'a>
         ensures { result ≡ refusal_of kind unique e }
     {
@@ -49,7 +49,7 @@ impl<'a> Response<'a> {
     }
 }
 
-// The error of an order that is refused for want of memory: an INTERRUPT may come again.
+// The error of an order for which memory ran out: an INTERRUPT may come again.
 fn without_memory(kind: OpKind) -> Errno
     ensures { result ≡ without_memory kind }
 {

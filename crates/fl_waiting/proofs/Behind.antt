@@ -30,7 +30,7 @@ unfolding taken_behind taken_first
 behind_first p older [] = refl
 behind_first p older (r ∷ parked) = ap (λ o. cond (p r) (Some (r, parked)) (keep r o)) (behind_first p (older ++ r ∷ []) parked)
 
--- ---- where no rule is fair none is behind another
+-- ---- if no rule is fair none is behind another
 
 never_behind : (rules : Rules) (older : List Request) (r : Request) → rules.fair ≡ false → is_blocked_by_older rules older r ≡ false
 never_behind rules older r unfair = ap (λ f. is_blocked_by_older (ruled f) older r) unfair ∙ go _

@@ -67,7 +67,7 @@ is_next a i claim next found on =
       value = there.1;
     }
 
--- all are copied where no claim is left
+-- all are copied if no claim is left
 pub none_left : (a : Chains Claim) (i : ℕ) → slice_get (items a 0) i ≡ None → take i (requests_of a) ≡ requests_of a
 none_left a i e = nothing_left (requests_of a) i (slice_get-map request_in (items a 0) i ∙ ap (option_map request_in) e)
 

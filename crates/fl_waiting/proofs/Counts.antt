@@ -74,7 +74,7 @@ how_many_less b [] i r h = absurd (omega arith)
 how_many_less b (a ∷ parked) zero r h = omega arith
 how_many_less b (a ∷ parked) (suc i) r h = let rest = how_many_less b parked i r (omega arith) in omega arith
 
--- the count fits where few wait
+-- the count fits if few wait
 pub count_fits : (counts : List ℕ) (parked : List Request) (b : ℕ) → AreCounted counts parked → b < 256 → slice_index_or counts b 0 ≤ length parked
 count_fits counts parked b all h = let few = counted_few b parked in omega (arith, all b h)
 

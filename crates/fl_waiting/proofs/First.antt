@@ -1,4 +1,4 @@
--- An older wish goes first where the two conflict.
+-- An older wish goes first if the two conflict.
 use Rattle.std.proofs.Common.{◌≡◌, ◌≢◌, ◌↔◌, ℕ, ◌==◌, ◌≤◌, nat_le, Bool, true, false, not, ◌&&◌, inl, inr, ◌⊎◌, refl}
 use Rattle.std.proofs.Common.{sym, ap, ◌∙◌, arith}
 use Rattle.std.proofs.lemmas.Bool.Decides.{nat_tests}

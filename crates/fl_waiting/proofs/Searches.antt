@@ -94,7 +94,7 @@ module _ (most : ℕ) (blocks : Wanted → ℕ → Bool) (ws : List Wanted) (ask
   goes_by_owner test old new by more i j h k same =
       at_place test old new more i h ∙ (λ n. by i j h k same n || test (same n)) ∙ sym (at_place test old new more j k)
 
-  -- where nothing was reached before
+  -- if nothing was reached before
   pub starts : (none new : List Bool) → ((i : ℕ) → is_set none i ≡ false) → length new ≡ length ws → AreFound (blocks asked) (owners_of ws) none new
       → IsSearching most blocks ws asked new (replicate most false)
   starts none new unset wide more = record {

@@ -9,7 +9,7 @@ use Rattle.fl_waiting.specs.Waiting.{Wish, owner_of, is_waiting, wishes}
 use Rattle.fl_waiting.specs.declared.parked.Request.{Request}
 use Rattle.fl_waiting.specs.declared.rules.Rules.{Rules}
 
--- one of two tests fails where none of them passes
+-- one of two tests fails if none of them passes
 neither : (a b : Bool) → (a || b) ≡ false → (a ≡ false) × (b ≡ false)
 neither true b none = absurd (cc none)
 neither false b none = (refl, none)

@@ -66,7 +66,7 @@ pub closes_words : (rules : Rules) (m : Marking) (parked : List Request) (w : Wi
 closes_words rules m parked w =
     circle_words waiter_of (blocks rules m) (waiters parked) (behind (wishes parked) w) (blocks_not_itself rules m (behind (wishes parked) w))
 
--- ---- a lock waits where an owner keeps it waiting
+-- ---- a lock waits if an owner keeps it waiting
 
 same_owner : (x : ℕ) (b : Bool) → b ≡ true → ((x == x) && b) ≡ true
 same_owner x true e = grind (arith, nat_tests)

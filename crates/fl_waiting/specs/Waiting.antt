@@ -31,7 +31,7 @@ owner_of w = w.key.owner
 abbrev pub wish_on : Stroke → Mark → Wish
 wish_on s mark = record { key = s.key; start = s.start; end = s.end; kind = mark.kind }
 
--- the record lock that a request wants; none where it asks for another lock, or for none
+-- the record lock that a request wants; none if it asks for another lock, or for none
 abbrev pub wish_of : Request → Option Wish
 wish_of r =
     if is_flock r.ask then None
@@ -63,7 +63,7 @@ older_blocks w older =
     are_of_two_owners w.key older.key
     && ((nat_le older.start w.end && nat_le w.start older.end) && kinds_conflict w.kind older.kind)
 
--- the same in words, where each is for some bytes
+-- the same in words, if each is for some bytes
 pub record OlderBlocks (w older : Wish) : Type 0 where
   pub byte : ℕ
   pub other : older.key.owner ≢ w.key.owner

@@ -18,7 +18,7 @@ use crate::rules::Rules;
 use fl_arena::Arena;
 use fl_ranges::{Class, Key, Kind, Range, Table};
 
-// Where no more wait, a search makes room for so many, and else for the most that rules may allow: room costs time.
+// If no more wait, a search makes room for so many, and else for the most that rules may allow: room costs time.
 const FEW_PARKED: usize = 256;
 
 /// A lock that is wanted.
@@ -116,7 +116,7 @@ fn copy_wanted(claims: &Arena<Claim>, room: &mut [Wanted]) -> usize
     count
 }
 
-// Puts one more behind the first ones, where there is one, and tells how many there are.
+// Puts one more behind the first ones, if there is one, and tells how many there are.
 fn put(room: &mut [Wanted], count: usize, wanted: Option<Wanted>) -> usize
     requires few { count < length room.old }
     requires fits { length room.old ≤ MOST_PARKED }
@@ -272,7 +272,7 @@ fn reach_older(request: &Wanted, wanted: &[Wanted], owners: &[u64], reached: &mu
     }
 }
 
-// Marks the owner of one lock that is wanted, if that was wanted before and blocks the request. Where its
+// Marks the owner of one lock that is wanted, if that was wanted before and blocks the request. If its
 // own place is reached, they all are.
 fn reach_one(
     request: &Wanted,

@@ -10,7 +10,7 @@ ghost use Rattle.fl_waiting.specs.declared.parked.Request.{Request};
 ghost use Rattle.fl_waiting.specs.declared.rules.Rules.{Rules};
 ghost use Rattle.fl_ranges.specs.Marking.{Marking};
 
-/// A lock has to wait exactly where an owner blocks it. It, or its request, would close a circle exactly where
+/// A lock has to wait exactly if an owner blocks it. It, or its request, would close a circle exactly if
 /// such an owner waits for the one who wants it, directly or through others, each of whom waits for the next.
 pub fn a_circle_is_a_row_of_owners_who_wait()
     ensures someone { (rules : Rules) (m : Marking) (older : List Wish) (w : Wish) →
@@ -23,7 +23,7 @@ pub fn a_circle_is_a_row_of_owners_who_wait()
         (is_deadlock rules m parked (stroke_of r.node r.ask) (mark_of r.ask) ≡ true) ↔ ClosesCircle rules m parked r }
 {}
 
-/// An older request for a lock blocks another exactly where another owner has asked, for the same class and node,
+/// An older request for a lock blocks another exactly if another owner has asked, for the same class and node,
 /// with a byte in common, and one of the two asks for a write lock.
 pub fn an_older_request_blocks_where_locks_conflict()
     ensures { (w older : Wish) → w.start ≤ w.end → older.start ≤ older.end →

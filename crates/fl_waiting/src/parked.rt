@@ -113,7 +113,7 @@ impl Parked {
         self.claims.item(&cursor).is_some()
     }
 
-    /// Whether a request on this node may wait; where none may, none does. One that always says yes meets the clause,
+    /// Whether a request on this node may wait; if none may, none does. One that always says yes meets the clause,
     /// and no test refuses it: it would cost a walk along the parked requests, and change no reply.
     pub fn may_be_on(&self, node: u64) -> bool
         ensures { result ≡ false → AllByRecursion (λ (r : Request). (r.node == node) ≡ false) self.now }

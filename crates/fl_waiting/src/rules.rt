@@ -16,7 +16,7 @@ const STANDARD_PARKED: u32 = 256;
 #[derive(Clone, Copy, Debug, PartialEq, Eq)]
 pub struct Rules {
     /// Whether a request for a record lock also waits behind an older one that waits: of another owner, on the same
-    /// node, with a byte in common, where one of the two is for a write lock. Whole-file locks have no part in it.
+    /// node, with a byte in common, if one of the two is for a write lock. Whole-file locks have no part in it.
     pub fair: bool,
     /// The most runs of locked bytes, over all files and both classes.
     pub runs: u32,

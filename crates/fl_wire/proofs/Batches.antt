@@ -75,7 +75,7 @@ order_no_batch bytes (Err Silent) is e = cc e
 order_no_batch bytes (Err Batch) is e = is
 order_no_batch bytes (Err Destroy) is e = cc e
 
--- it is a batch exactly where it says that it is
+-- it is a batch exactly if it says that it is
 pub batch_is_said : (bytes : List ℕ) → IsSome (batch_in bytes) ↔ (said bytes ≡ Err Batch)
 batch_is_said bytes = go (is_batch bytes)
   where

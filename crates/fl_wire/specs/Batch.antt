@@ -30,6 +30,6 @@ forget_at bytes i = record {
 abbrev pub forgets_in : List ℕ → List Order
 forgets_in bytes = map (forget_at bytes) (range_with_len 0 (pairs_said bytes))
 
--- the FORGETs of a message, where it is a batch
+-- the FORGETs of a message, if it is a batch
 abbrev pub batch_in : List ℕ → Option (List Order)
 batch_in bytes = if is_batch bytes then Some (forgets_in bytes) else None

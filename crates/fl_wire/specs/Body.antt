@@ -21,7 +21,7 @@ name_in bytes =
     else if nat_lt 255 (length text) then Err ENAMETOOLONG
     else Ok text
 
--- the name behind fields of this many bytes, where a byte is there
+-- the name behind fields of this many bytes, if a byte is there
 abbrev pub name_behind : ℕ → List ℕ → Result (List ℕ) Errno
 name_behind fields message =
     let bytes = drop (40 + fields) message in

@@ -4,7 +4,7 @@ use Rattle.fl_wire.specs.Layout.{len_of}
 use Rattle.fl_wire.specs.declared.cut.Step.{Step}
 use Rattle.fl_wire.specs.declared.cut.Step.TheVariants.{Bad, More, Whole}
 
--- What stands first in the bytes, where its length is there: a length that no message has, a message
+-- What stands first in the bytes, if its length is there: a length that no message has, a message
 -- of which more has to come, or a whole message.
 abbrev pub first_of_length : ℕ → List ℕ → Step
 first_of_length len bytes =

@@ -27,7 +27,7 @@ unfoldable pub agreed_bytes : ℕ → ℕ → List ℕ
 agreed_bytes max_readahead flags =
     laid_out init_out (7 ∷ 31 ∷ max_readahead ∷ flags ∷ 16 ∷ 12 ∷ 4096 ∷ 1 ∷ []) ++ replicate 36 0
 
--- where no agreement came yet, the version alone
+-- if no agreement came yet, the version alone
 unfoldable pub again_bytes : List ℕ
 again_bytes = laid_out init_out (7 ∷ 31 ∷ 0 ∷ 0 ∷ 0 ∷ 0 ∷ 0 ∷ 0 ∷ []) ++ replicate 36 0
 

@@ -7,7 +7,7 @@ use Rattle.byteorder.specs.Endian.{little_number, little_bytes}
 unfoldable pub number_at : ℕ → ℕ → List ℕ → ℕ
 number_at width start bytes = little_number width (drop start bytes)
 
--- the values of a struct's fields, where it begins at byte `start`
+-- the values of a struct's fields, if it begins at byte `start`
 abbrev pub values_at : List ℕ → ℕ → List ℕ → List ℕ
 values_at [] start bytes = []
 values_at (width ∷ widths) start bytes = number_at width start bytes ∷ values_at widths (start + width) bytes

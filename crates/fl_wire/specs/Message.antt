@@ -50,7 +50,7 @@ message_of order =
     let body = body_bytes (body_of order.op) in
     request (opcode_for (kind_of order.op)) order.unique order.node order.uid order.gid order.pid body
 
--- what is read in these bytes is the order whose message they are, where there is one
+-- what is read in these bytes is the order whose message they are, if there is one
 abbrev pub ReadsBack : List ℕ → Result Order Refusal → Type 0
 ReadsBack bytes result = (order : Order) → IsSayable order → bytes ≡ message_of order → result ≡ Ok order
 
@@ -73,7 +73,7 @@ forgets_of head pairs = map (λ pair. record head { node = pair.0; op = Forget p
 abbrev pub FitsPair : ℕ × ℕ → Type 0
 FitsPair pair = (pair.0 < 2 ^ 64) × (pair.1 < 2 ^ 64)
 
--- what is read in these bytes is the FORGETs whose message they are, where they are the message of a batch
+-- what is read in these bytes is the FORGETs whose message they are, if they are the message of a batch
 abbrev pub BatchReadsBack : List ℕ → Option (List Order) → Type 0
 BatchReadsBack bytes result = (head : Order) (pairs : List (ℕ × ℕ)) → IsSayable head → All FitsPair pairs
     → length pairs < 2 ^ 32 → bytes ≡ batch_message head pairs → result ≡ Some (forgets_of head pairs)

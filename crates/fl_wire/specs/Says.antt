@@ -64,7 +64,7 @@ abbrev pub asked_with : OpKind → Result Body Errno → Result Op Refusal
 asked_with kind (Ok said) = ok_or (op_of kind said) (Answer ENOSYS)
 asked_with kind (Err e) = Err (refusal_for kind e)
 
--- what a message of this kind asks, where its bodies have this shape
+-- what a message of this kind asks, if its bodies have this shape
 abbrev pub asked_by : OpKind → Result Shape Refusal → List ℕ → Result Op Refusal
 asked_by kind (Ok shape) bytes = asked_with kind (body_in shape bytes)
 asked_by kind (Err refusal) bytes = Err refusal
@@ -86,6 +86,6 @@ order_of bytes (Ok op) = Ok (record {
 })
 order_of bytes (Err refusal) = Err refusal
 
--- what a message says: an order, or a refusal, which is that it is a batch where it is several orders
+-- what a message says: an order, or a refusal, which is that it is a batch if it is several orders
 abbrev pub said : List ℕ → Result Order Refusal
 said bytes = if is_batch bytes then Err Batch else order_of bytes (asked (kind_of_opcode (opcode_of bytes)) bytes)

@@ -7,7 +7,7 @@ ghost use Rattle.byteorder.specs.Endian.{little_bytes};
 use byteorder::{ByteOrder, LittleEndian};
 use fl_order::NoMemory;
 
-/// Makes room for this many bytes more; where it is there, nothing changes. An `Err` changes nothing.
+/// Makes room for this many bytes more; if it is there, nothing changes. An `Err` changes nothing.
 pub(crate) fn make_room(out: &mut Vec<u8>, count: usize) -> Result<(), NoMemory>
     ensures items { out.new.items ≡ out.old.items }
     ensures len { vec_len out.new ≡ vec_len out.old }

@@ -45,7 +45,7 @@ impl<'a> Frame<'a> {
         u64_at(self.bytes, 8)
     }
 
-    /// The orders that it is, where it is several: a BATCH_FORGET with as many pairs as it says.
+    /// The orders that it is, if it is several: a BATCH_FORGET with as many pairs as it says.
     pub fn batch(&self) -> Option<Batch<'a>>
         ensures batch { result ≡ batch_in self.now }
         ensures said { IsSome result ↔ (said self.now ≡ Err Refusal.Batch) }

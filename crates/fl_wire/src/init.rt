@@ -1,4 +1,4 @@
-//! The agreement at the start of a session: what an INIT comes to, and the reply to it.
+//! The agreement at the start of a session: what an INIT results in, and the reply to it.
 
 ghost use Rattle.std.specs.Prelude.{◌≡◌, ◌+◌, ◌≤◌, ◌++◌, IsOk, OnErr, OnOk, vec_len, vec_capacity};
 ghost use Rattle.fl_wire.specs.Append.{Appends};
@@ -29,12 +29,12 @@ const MAX_WRITE: u32 = 4096;
 
 const TIME_GRAN: u32 = 1;
 
-/// What an INIT comes to.
+/// What an INIT results in.
 #[derive(Clone, Copy, Debug, PartialEq, Eq)]
 pub enum InitStep {
     /// It is answered with this error, and another INIT has to come.
     Refused(Errno),
-    /// The kernel speaks a higher major version: it is told 7.31, and asks again.
+    /// The kernel speaks a higher major version: the reply says 7.31, and it asks again.
     Again,
     /// The session begins. `flags` are those of the kernel's that are offered.
     Agreed {
@@ -45,7 +45,7 @@ pub enum InitStep {
     },
 }
 
-/// What a message comes to, read as an INIT: EINVAL where its body is shorter than 16 bytes, EPROTO for
+/// What a message results in, read as an INIT: EINVAL if its body is shorter than 16 bytes, EPROTO for
 /// a version below 7.31.
 pub fn read_init(frame: &Frame) -> InitStep
     ensures { result ≡ init_step frame.now }
@@ -70,7 +70,7 @@ pub fn read_init(frame: &Frame) -> InitStep
     }
 }
 
-/// Appends the reply to an INIT: at most 80 bytes. An `Err` changes nothing, and doesn't come where there is
+/// Appends the reply to an INIT: at most 80 bytes. An `Err` changes nothing, and doesn't come if there is
 /// room for 80 more bytes; no memory is taken then.
 pub fn write_init(unique: u64, step: &InitStep, out: &mut Vec<u8>) -> Result<(), NoMemory>
     ensures ok { OnOk result (out.new.items ≡ out.old.items ++ init_spelling unique step.now) }

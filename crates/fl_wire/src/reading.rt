@@ -35,7 +35,7 @@ pub fn read_order(frame: &Frame) -> Result<Order, Refusal>
     order_in(frame)
 }
 
-/// The order that a message says, where it asks for a lock (GETLK, SETLK or SETLKW); none where it says anything else.
+/// The order that a message says, if it asks for a lock (GETLK, SETLK or SETLKW); none if it says anything else.
 /// Most messages ask for locks, and no room for a name is cleared for those.
 pub fn read_lock(frame: &Frame) -> Option<Order>
     ensures said { IfSome result (λ order. said frame.now ≡ Ok order) }

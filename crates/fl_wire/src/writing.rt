@@ -11,7 +11,7 @@ use fl_order::{Answer, Attr, Errno, NoMemory, Told};
 // The size of blocks that attributes tell, in bytes.
 const BLOCK_SIZE: u32 = 4096;
 
-/// Appends the bytes of a reply: at most 160. An `Err` changes nothing, and doesn't come where there is
+/// Appends the bytes of a reply: at most 160. An `Err` changes nothing, and doesn't come if there is
 /// room for 160 more bytes; no memory is taken then.
 pub fn write_told(told: &Told, out: &mut Vec<u8>) -> Result<(), NoMemory>
     ensures ok { OnOk result (out.new.items ≡ out.old.items ++ spelling_of told.now) }

@@ -17,7 +17,7 @@ pub record IsLast (messages : List (List ℕ)) (goodbye : Response) : Type 0 whe
   pub answer : goodbye ≡ goodbye_to last
 
 -- The receiver of a session ended, with this fault. What was read is whole messages and a rest, the orders of these
--- messages were put, and where a DESTROY ended the session, this is left to answer it. Else nothing is left to answer.
+-- messages were put, and if a DESTROY ended the session, this is left to answer it. Otherwise nothing is.
 pub record HasReceived (left left_now : Option (List ℕ)) (fault : Option Fault) (put : List Order) (goodbye : Response)
     : Type 0 where
   pub messages : List (List ℕ)

@@ -7,7 +7,7 @@ use Rattle.fl_order.specs.Order.{only_reads}
 use Rattle.fl_order.specs.declared.order.Order.{Order}
 
 -- At one seat these orders, each as often, were handed in, looked for or refused. Those handed in were counted, and are
--- asked behind all that was asked before. A refusal is told where some order was refused, and nowhere else.
+-- asked behind all that was asked before. `any` is true exactly if some order was refused.
 pub record HasWorked (orders asked asked_now : Orders) (count count_now : ℕ) (any : Bool) : Type 0 where
   pub handed : Orders
   pub looked : Orders
@@ -20,8 +20,8 @@ pub record HasWorked (orders asked asked_now : Orders) (count count_now : ℕ) (
   pub some : any ≡ true → 0 < length refused
 
 -- An end took some orders more. Each of them, as often, was handed in, looked for or refused. Those handed in are as
--- many as the count, and stand in this order among those that are asked. Those looked for only read. A refusal is told
--- where some order was refused, and nowhere else.
+-- many as the count, and stand in this order among those that are asked. Those looked for only read. `any` is true
+-- exactly if some order was refused.
 pub record HasDone (taken taken_now asked : Orders) (count : ℕ) (any : Bool) : Type 0 where
   pub took : Orders
   pub handed : Orders

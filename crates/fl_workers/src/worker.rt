@@ -137,8 +137,8 @@ fn looked<C: Counter>(counter: &C, seat: &mut C::Seat, order: &Order) -> Option<
     })
 }
 
-// The next order. Where none is there, what is collected is sent first, and a worker spins for a while before it
-// sleeps. Where none came then either, the counter is told before it sleeps.
+// The next order. If none is there, what is collected is sent first, and a worker spins for a while before it
+// sleeps. If none came then either, the counter is told before it sleeps.
 fn next_job<R: Wait, C: Counter, W: Write, N: WriterName>(
     rt: &R,
     counter: &C,

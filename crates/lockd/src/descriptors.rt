@@ -1,4 +1,4 @@
-//! The descriptors of the standard streams, where the program was started with some of them closed.
+//! The descriptors of the standard streams, if the program was started with some of them closed.
 
 use std::fs::{File, OpenOptions};
 use std::io;
@@ -9,7 +9,7 @@ const NULL_DEVICE: &str = "/dev/null";
 
 /// Keeps sockets off the numbers 0, 1 and 2, where they would be taken for a standard stream. A file that is opened
 /// gets the least number that is free. So the null device takes the place of each stream that is closed, the wrong way
-/// round: an input from there, and an output to it, fail as they would on a closed stream. Where it can't be opened,
+/// round: an input from there, and an output to it, fail as they would on a closed stream. If it can't be opened,
 /// nothing changes.
 pub(crate) fn hold_closed_streams(rt: &HostRuntime) {
     for _ in 0..3 {

@@ -115,7 +115,7 @@ fn opened<F: Write>(
     }
 }
 
-// Takes the trace's file away where no session was served.
+// Takes the trace's file away if no session was served.
 fn remove_unused(rt: &HostRuntime, trace: &Trace, status: Status) {
     if let (
         Trace::File(file, _),
@@ -126,7 +126,7 @@ fn remove_unused(rt: &HostRuntime, trace: &Trace, status: Status) {
     }
 }
 
-// What orders come to when the trace's file can't be written.
+// What happens to orders when the trace's file can't be written.
 fn when_full(trace: &Trace) -> WhenWriterFails {
     match trace {
         Trace::File(_, WhenFull::Refuse) => WhenWriterFails::Refuse,

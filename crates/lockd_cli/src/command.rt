@@ -8,7 +8,7 @@ use clap::{Arg, ArgAction, Command, Error};
 use fl_waiting::{MOST_PARKED, MOST_RUNS};
 use std::alloc::Global;
 
-// What may be said of a trace that can't be written; the first where nothing is.
+// What may be said of a trace that can't be written; the first if nothing is.
 const WHEN_FULL: &[&str] = &["go-on", "refuse"];
 
 /// The whole command line. Options without a command are those of `script`, and none stands before a command.

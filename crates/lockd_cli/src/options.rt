@@ -14,7 +14,7 @@ use std::alloc::Global;
 /// The most workers of a server.
 pub(crate) const MOST_WORKERS: u32 = 16;
 
-// Its workers where none are said.
+// Its workers if none are said.
 const STANDARD_WORKERS: u32 = 4;
 
 /// What a command line asks for.
@@ -24,8 +24,8 @@ pub enum Asked {
     Script(Rules),
     /// Answers messages in lines of hex and prints their replies.
     Bytes(Rules),
-    /// Judges a trace. It says whether the trace is quiet where that is asked, and takes one that may be cut off
-    /// where that is said.
+    /// Judges a trace. It says whether the trace is quiet if that is asked, and takes one that may be cut off
+    /// if that is said.
     Check {
         /// Whether it is asked if the trace is quiet.
         quiet: bool,
@@ -72,7 +72,7 @@ pub enum WhenFull {
 }
 
 /// What the words of a command line ask for; the first is the program's name. A word that no command takes, a number
-/// out of its option's range, a request for help and want of memory are refused, each with its text.
+/// out of its option's range, a request for help, and running out of memory, are refused, each with its text.
 pub fn read_words(alloc: Global, words: &[String]) -> Result<Asked, UsageError>
     ensures workers { IfOk result HasWorkers }
 {
@@ -101,7 +101,7 @@ fn asked_by(alloc: Global, matches: &ArgMatches<'_>) -> Result<Asked, UsageError
     }
 }
 
-// The rules that options say, and the standard ones where they say nothing.
+// The rules that options say, and the standard ones if they say nothing.
 fn rules_of(options: &ArgMatches<'_>) -> Rules {
     let standard = Rules::standard();
     rules_with(

@@ -5,7 +5,7 @@ use std::alloc::AllocError;
 use std::io;
 use thiserror::Error;
 
-/// Why no command was run: its text goes to standard error, also where help was asked for.
+/// Why no command was run: its text goes to standard error, also if help was asked for.
 #[derive(Debug, Drop, Error)]
 pub enum UsageError {
     #[error("no memory\n")]

@@ -28,7 +28,7 @@ pub did_not_read : (left old : Option (List ℕ)) (fault : CommandFault) → (fa
 did_not_read left old fault (inl e) = subst (λ f. Did left old old (Err f)) (sym e) (printed_none old)
 did_not_read left old fault (inr e) = subst (λ f. Did left old old (Err f)) (sym e) (printed_none old)
 
--- a text that isn't good, or want of memory
+-- a text that isn't good, or memory ran out
 pub did_not_begin : (left old : Option (List ℕ)) (text : List ℕ) (fault : CommandFault) → IfSome left (λ bytes. bytes ≡ text)
     → TextFaults text fault → Did left old old (Err fault)
 did_not_begin left old text (command.BadLine n) read bad =

@@ -61,7 +61,7 @@ received_one reply left left_now old new framed read written =
       written = subst (Appends old new) line written;
     }
 
--- one reply, where its line was written
+-- one reply, if its line was written
 pub printed_one : (r : Result Unit CommandFault) (reply line : List ℕ) (left left_now old new : Option (List ℕ))
     → IsFramed reply → Consumes left left_now reply → line ≡ encode_lower reply ++ 10 ∷ []
     → OnOk r (Appends old new line) → OnOk r (HasReceived 1 [] left left_now old new)
@@ -133,7 +133,7 @@ done_waiting lines count left left_now left_later held held_now old new newer d 
           (received_more (awaited_by lines) count [] left left_now left_later old new newer d.received more);
     }
 
--- a whole reply that isn't printed for want of memory
+-- a whole reply that isn't printed, since memory ran out
 pub unprinted : (reply : List ℕ) (fault : CommandFault) (left left_now old : Option (List ℕ)) → Consumes left left_now reply
     → fault ≡ NoMemory → fault ≢ Write → HasFallenShort 1 fault left left_now old old
 unprinted reply fault left left_now old read e =

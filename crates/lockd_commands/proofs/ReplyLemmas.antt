@@ -123,7 +123,7 @@ next_is sent rest lines are so_far some =
     let t = so_far are.replies are.framed are.is in
     next_of rest t.untold t.left t.framed some
 
--- all replies are told where no byte is left
+-- all replies are told if no byte is left
 untold_none : (untold : List (List ℕ)) → [] ≡ concat untold → All IsReply untold → untold ≡ []
 untold_none [] left framed = refl
 untold_none (reply ∷ untold) left framed =

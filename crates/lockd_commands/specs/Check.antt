@@ -23,19 +23,19 @@ abbrev pub quiet_text : Bool → List ℕ
 quiet_text true = codes "quiet" ++ 10 ∷ []
 quiet_text false = codes "not quiet" ++ 10 ∷ []
 
--- what is found, and behind `legal` the line that says whether the history is quiet, if that is told
+-- what is found, and behind `legal` the line that says whether the history is quiet, if that is to be said
 abbrev pub answer_text : Finding → Option Bool → List ℕ
 answer_text Legal (Some quiet) = finding_text Legal ++ quiet_text quiet
 answer_text finding told = finding_text finding
 
--- it is told where it is asked and the history is legal, and then it is right
+-- whether it is quiet is said if that is asked and the history is legal, and then it is right
 abbrev pub SaysQuiet : Rules → Bool → Finding → List Line → Option Bool → Type 0
 SaysQuiet rules true Legal lines None = ⊥
 SaysQuiet rules true Legal lines (Some quiet) = (quiet ≡ true) ↔ IsQuiet rules lines
 SaysQuiet rules asked finding lines told = told ≡ None
 
 -- What is judged of all that was left to read is the trace of a history. What is found of this history under these
--- rules was written, and whether it is quiet, where that is asked and it is legal.
+-- rules was written, and whether it is quiet, if that is asked and it is legal.
 pub record IsJudged (rules : Rules) (options : CheckOptions) (left old new : Option (List ℕ)) (finding : Finding)
     : Type 0 where
   pub trace : List ℕ

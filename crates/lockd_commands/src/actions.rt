@@ -65,7 +65,7 @@ fn read_count(alloc: Global, word: &[u8], number: usize) -> Result<u32, CommandF
     Ok(count)
 }
 
-// The number of which a word is the spelling, or another where it is none.
+// The number of which a word is the spelling, or another if it is none.
 fn parsed(word: &[u8]) -> Option<u32>
     ensures { (n : ℕ) → n < 2 ^ 32 → word.now ≡ decimal n → result ≡ Some n }
 {

@@ -23,7 +23,7 @@ pub(crate) mod replies;
 
 /// `lockd bytes`: reads lines of hex, serves a session under these rules over the bytes that they spell, and writes
 /// each reply as a line of lower case hex. All input is read and checked, and the whole session is over, before any
-/// output. A fault is told as one line on `faults`; before `cut` and `bad length` all replies up to there are
+/// output. A fault is one line on `faults`; before `cut` and `bad length` all replies up to there are
 /// written.
 pub fn bytes_on<R: Read, W: Write, F: Write>(
     alloc: Global,
@@ -86,7 +86,7 @@ struct Printed {
 }
 
 // A session under these rules over these bytes, and a line for each of its replies. A vector takes what is written to
-// it where there is memory: a write that failed is want of memory, also where the stream has a fault.
+// it if there is memory: so a write that failed ran out of memory, also if the stream has a fault.
 fn print_session(alloc: Global, rules: Rules, stream: &[u8]) -> Result<Printed, CommandFault>
     ensures session { IfOk result (λ printed. IsSession rules stream.now printed.lines.items printed.fault) }
     ensures fault { IfOk result (λ printed. IfSome printed.fault IsOfStream) }
@@ -102,7 +102,7 @@ fn print_session(alloc: Global, rules: Rules, stream: &[u8]) -> Result<Printed, 
     Ok(Printed { lines, fault })
 }
 
-// The fault of a session's stream, if there is one, where its replies are printed.
+// The fault of a session's stream, if there is one. Its replies are printed before it.
 fn fault_printed(
     fault: Option<fl_session::Fault>,
     broken: bool,

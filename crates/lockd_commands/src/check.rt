@@ -26,12 +26,11 @@ pub struct CheckOptions {
     pub cut: bool,
 }
 
-/// `lockd check`: reads a trace, and writes `legal`, or `differs N` where it isn't: the lines before line N, and no
-/// more, are a beginning of a trace that is legal under these rules. With the option `--quiet` `legal` is followed by
-/// a line `quiet` or `not quiet`, which says whether any owner asked for a record lock while it waited for one. With
-/// the option `--cut` what follows the last newline isn't judged, and a trace that isn't legal, but that a legal one
-/// begins with, is said to be so by `begins`. All input is read and checked before any output, in memory that doesn't
-/// grow. A fault is told as one line on `faults`.
+/// `lockd check`: reads a trace, and writes `legal`, or `differs N` if it isn't: line N is the first that breaks these
+/// rules. With the option `--quiet` a line `quiet` or `not quiet` follows `legal`: whether no owner asked for a record
+/// lock while it waited for one. With the option `--cut` the text after the last newline isn't judged, and `begins`
+/// says that the trace isn't legal, but that a legal one begins with it. All input is read and checked before any
+/// output, in memory that doesn't grow. A fault is one line on `faults`.
 pub fn check_on<R: Read, W: Write, F: Write>(
     alloc: Global,
     rules: Rules,
@@ -106,7 +105,7 @@ fn fault_of(fault: AuditFault) -> CommandFault
     }
 }
 
-// Whether the trace is quiet, where that is asked and the trace is legal.
+// Whether the trace is quiet, if that is asked and the trace is legal.
 fn quiet_told(asked: bool, audited: Audited) -> Option<bool>
     ensures { result ≡ quiet_told asked audited.finding audited.quiet }
 {

@@ -21,7 +21,7 @@ use std::path::Path;
 
 /// `lockd drive`: connects to the Unix stream socket at a path, and does what each line of the input says, in turn. A
 /// line of hex is sent as it is; `recv N`, N from 1 to 1000, waits for N replies and writes each as a line of lower
-/// case hex. Then it closes. All input is read and checked before it connects. A fault is told as one line on
+/// case hex. Then it closes. All input is read and checked before it connects. A fault is one line on
 /// `faults`. There is no connection at an empty path. Nothing is read between two `recv`: a server that waits until its
 /// replies are read may keep a long row of other lines waiting for ever.
 pub fn drive_on<N: Net, R: Read, W: Write, F: Write>(

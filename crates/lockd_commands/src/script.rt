@@ -29,8 +29,8 @@ struct AskLine {
 }
 
 /// `lockd script`: reads `ask` lines of workers 0 to 15, takes each order in turn at a desk under these rules, and
-/// writes the trace of the desk's history. All input is read and checked before any output. A fault is told as one
-/// line on `faults`.
+/// writes the trace of the desk's history. All input is read and checked before any output. A fault is one line
+/// on `faults`.
 pub fn script_on<R: Read, W: Write, F: Write>(
     alloc: Global,
     rules: Rules,
@@ -108,7 +108,7 @@ fn read_asks(alloc: Global, script: &[u8]) -> Result<Vec<AskLine>, CommandFault>
     Ok(asks)
 }
 
-// What the first line of a text asks, and the text after it; none where it is no ask line.
+// What the first line of a text asks, and the text after it; none if it is no ask line.
 fn first_ask(text: &[u8]) -> Option<(AskLine, &[u8])>
     ensures fits { IfSome result (λ read. IsAskLine (line_of read.0)) }
     ensures spelled { IfSome result (λ read. text.now ≡ line_text (line_of read.0) ++ 10 ∷ read.1.now) }

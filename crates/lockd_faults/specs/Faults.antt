@@ -1,4 +1,4 @@
--- What is told of a fault.
+-- What a command writes of a fault.
 use Rattle.std.specs.Prelude.{◌≡◌, ℕ, List, [], ◌∷◌, ◌++◌, codes, Option}
 use Rattle.std.specs.Fmt.{decimal}
 use Rattle.std.specs.Io.KnownBytes.{Appends}
@@ -22,18 +22,18 @@ fault_text BadReply = codes "bad reply"
 fault_text Trace = codes "cannot trace"
 fault_text TraceFailed = codes "trace failed"
 
--- these bytes were written, or a beginning of them where a write failed
+-- these bytes were written, or after a failed write a prefix of them
 pub record IsBegun (bytes : List ℕ) (old new : Option (List ℕ)) : Type 0 where
   pub part : List ℕ
   pub rest : List ℕ
   pub parts : bytes ≡ part ++ rest
   pub written : Appends old new part
 
--- a fault was told: its text as one line, or a beginning of it where that couldn't be written
+-- a fault was reported: its text as one line, or after a failed write a prefix of it
 abbrev pub IsTold : CommandFault → Option (List ℕ) → Option (List ℕ) → Type 0
 IsTold fault old new = IsBegun (fault_text fault ++ 10 ∷ []) old new
 
--- two faults were told, one behind the other
+-- two faults were reported, one after the other
 pub record AreBothTold (first second : CommandFault) (old new : Option (List ℕ)) : Type 0 where
   pub between : Option (List ℕ)
   pub before : IsTold first old between

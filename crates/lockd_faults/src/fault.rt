@@ -1,4 +1,4 @@
-//! Why a command gives up, and how that is told.
+//! Why a command gives up, and the line that says so.
 ghost use Rattle.std.specs.Prelude.{◌≡◌};
 ghost use Rattle.lockd_faults.specs.Faults.{IsTold};
 
@@ -16,7 +16,7 @@ use std::io::Write;
 pub enum CommandFault {
     /// This line of the input, from 1, is the first that is wrong.
     BadLine(usize),
-    /// Want of memory.
+    /// Out of memory.
     NoMemory,
     /// A worker got no reader of what the board publishes, or the board couldn't tell its history.
     NoReader,

@@ -9,7 +9,7 @@ use crate::fault::CommandFault;
 use hex::FromHexError;
 use std::alloc::Global;
 
-/// The first line of a text without its newline, and the text after it; none where there is no newline.
+/// The first line of a text without its newline, and the text after it; none if there is no newline.
 pub fn split_line(text: &[u8]) -> Option<(&[u8], &[u8])>
     ensures first { IfSome result (λ parts. lines_of text.now ≡ parts.0.now ∷ lines_of parts.1.now) }
     ensures behind { IfSome result (λ parts. HasLine parts.1.now) }

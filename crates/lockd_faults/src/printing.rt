@@ -11,7 +11,7 @@ use fl_history::History;
 use fl_stream::{TraceRoom, Unwritten, write_trace};
 use std::io::Write;
 
-/// Writes the text of a history in pieces, and hands it on. Where a write fails, that is `CommandFault::Write`, and a
+/// Writes the text of a history in pieces, and hands it on. If a write fails, that is `CommandFault::Write`, and a
 /// beginning of the text may be written, which may end within a line.
 pub fn print<W: Write>(
     room: &mut TraceRoom,

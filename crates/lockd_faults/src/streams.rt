@@ -21,7 +21,7 @@ pub fn read_all<R: Read>(alloc: Global, input: &mut R) -> Result<Vec<u8>, Comman
     }
 }
 
-/// Writes all of a text, and hands it on. Where that fails, a beginning of it may be written.
+/// Writes all of a text, and hands it on. If that fails, a beginning of it may be written.
 #[tactic(auto, using(crate::proofs::WriteLemmas::begun_kept, crate::proofs::WriteLemmas::all_kept))]
 pub fn write_all<W: Write>(output: &mut W, text: &[u8]) -> Result<(), CommandFault>
     ensures written { OnOk result (Appends (W.contents output.old) (W.contents output.new) text.now) }

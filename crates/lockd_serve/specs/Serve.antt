@@ -1,4 +1,4 @@
--- What came of a session over a socket.
+-- The result of a session over a socket.
 pub mod Inside
 use Rattle.std.specs.Prelude.{◌≡◌, ℕ, List, Option, Some, IfSome, ⊤}
 use Rattle.std.specs.Io.KnownBytes.{Appends}

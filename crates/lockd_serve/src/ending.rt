@@ -1,4 +1,4 @@
-//! How `lockd serve` ends once its session is over: where its trace goes, and what is told.
+//! How `lockd serve` ends once its session is over: where its trace goes, and which faults are reported.
 
 ghost use Rattle.std.specs.Prelude.{◌≡◌, ◌≢◌, ◌⊎◌, None, Some, IfErr, IfSome, IsOk, IsSome};
 ghost use Rattle.std.specs.Io.KnownBytes.{Keeps};
@@ -56,7 +56,7 @@ fn print_done<W: Write>(
 }
 
 /// Ends a command whose trace went to a writer: tells the session's fault, and that the trace failed. The writer comes
-/// back where a session was served.
+/// back if a session was served.
 pub(crate) fn end_stream<W: Write + Drop, F: Write>(
     faults: &mut F,
     recorded: Recorded<Streamed<W>>,

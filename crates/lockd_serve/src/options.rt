@@ -23,6 +23,6 @@ pub struct ServeOptions<T> {
     pub rules: Rules,
     /// Where the trace goes.
     pub trace: TraceTo<T>,
-    /// What orders come to when the trace's writer can't be written.
+    /// What happens to orders when the trace's writer can't be written.
     pub when_full: WhenWriterFails,
 }

@@ -34,11 +34,11 @@ use std::thread::Threads;
 /// The socket's file is taken away when the connection is there, and no other file that stands at the path by then. At
 /// an empty path it doesn't listen.
 ///
-/// A trace that is printed is written once the session is over, and a fault is told as one line on `faults` after it.
-/// With a trace that goes nowhere or to a writer nothing is printed. A writer gets the trace as orders come. When it
-/// can't be written, orders go on without a trace or are refused, as `when_full` says, and then it is told that the
-/// trace failed, after a fault of the session if there is one. The writer comes back where a session was served, with
-/// the text of a beginning of its history.
+/// A trace that is printed is written once the session is over, and a fault is one line on `faults` after it. With a
+/// trace that goes nowhere or to a writer nothing is printed. A writer gets the trace as orders come. If it can't be
+/// written, orders go on without a trace or are refused, as `when_full` says. At the end `faults` gets `trace failed`,
+/// after a fault of the session if there is one. The writer comes back if a session was served, with the text of a
+/// beginning of its history.
 pub fn serve_on<R: Threads + Wait + Net + Files + Sync, T: Write + Send + Drop, W: Write, F: Write>(
     rt: &R,
     alloc: Global,
@@ -93,8 +93,7 @@ pub fn serve_on<R: Threads + Wait + Net + Files + Sync, T: Write + Send + Drop, 
     }
 }
 
-/// A new file for a trace at a path. Where a file is there already, or none can be made, it is told that the server
-/// can't trace.
+/// A new file for a trace at a path. If a file is there already, or none can be made, `faults` gets `cannot trace`.
 pub fn trace_at<R: Files, F: Write>(
     rt: &R,
     path: Path<'_>,
@@ -157,7 +156,7 @@ fn record_and_print<R: Threads + Wait + Net + Files + Sync, W: Write>(
     ensures unnamed { path_bytes path.entry ≡ [] → result ≡ Err CommandFault.Listen }
 {
     let stream = connection(rt, path)?;
-    // No session is served whose trace can't be printed for want of memory.
+    // Room for printing is made first, so that no session is served whose trace can't be printed.
     let room = TraceRoom::new(alloc)?;
     let recorded = record(rt, alloc, rules, stream, workers, Lines::new(alloc));
     print_recorded(alloc, room, recorded, output)

@@ -36,7 +36,7 @@ struct SocketFile {
     inode: u64,
 }
 
-// The socket at a path, where there is one and the file system tells.
+// The socket at a path, if there is one and the file system tells.
 fn socket_at<R: Files>(rt: &R, path: Path<'_>) -> Option<SocketFile> {
     let found = fs::symlink_metadata(rt, path).ok()?;
     if !found.file_type().is_socket() {
@@ -48,7 +48,7 @@ fn socket_at<R: Files>(rt: &R, path: Path<'_>) -> Option<SocketFile> {
     })
 }
 
-// Takes the file at a path away where it is the socket that was made, and no other file.
+// Takes the file at a path away if it is the socket that was made, and no other file.
 fn remove_socket<R: Files>(rt: &R, path: Path<'_>, made: Option<SocketFile>) {
     if made.is_some() && socket_at(rt, path) == made {
         let _ = fs::remove_file(rt, path);

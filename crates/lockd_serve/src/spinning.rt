@@ -43,7 +43,7 @@ impl<'a, R: Read> Spinning<'a, R> {
         }
     }
 
-    // What a spin reads; none where it found nothing, or where it isn't time for one.
+    // What a spin reads; none if it found nothing, or if it isn't time for one.
     fn spin(&mut self, buf: &mut [u8]) -> Option<io::Result<usize>>
         ensures { MatchOption result (Keeps (R.remaining self.old.stream) (R.remaining self.new.stream))
             (λ read. ReadsAtMost read buf.new
@@ -57,7 +57,7 @@ impl<'a, R: Read> Spinning<'a, R> {
             return None;
         }
         let read = read_soon(&mut self.stream, buf);
-        // Where this is refused, a later read or write is told as one that failed.
+        // If this is refused, a later read or write is told as one that failed.
         let _ = self.socket.set_nonblocking(false);
         if read.is_none() {
             self.without_spin = WITHOUT_SPIN;
@@ -77,7 +77,7 @@ impl<R: Read> Read for Spinning<'_, R> {
     }
 }
 
-/// Writes to a socket at which another thread may spin. Where the socket is full and doesn't wait, it is made to wait
+/// Writes to a socket at which another thread may spin. If the socket is full and doesn't wait, it is made to wait
 /// again, and the write is tried anew. The spin then ends with a read that sleeps.
 #[derive(Drop)]
 pub(crate) struct Patient<'a, W> {
@@ -104,7 +104,7 @@ impl<W: Write> Write for Patient<'_, W> {
             if !would_wait(&written) {
                 return written;
             }
-            // Where this is refused, the write is told as one that failed at last.
+            // If this is refused, the write is told as one that failed at last.
             let _ = self.socket.set_nonblocking(false);
         }
         self.stream.write(buf)

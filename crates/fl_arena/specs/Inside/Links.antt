@@ -15,7 +15,7 @@ alter f [] i = []
 alter f (x ∷ xs) zero = f x ∷ xs
 alter f (x ∷ xs) (suc i) = x ∷ alter f xs i
 
--- the first of these where the link names the slot, and else the second
+-- the first of these if the link names the slot, and else the second
 abbrev pub at_link : {A : Type 0} → Option ℕ → ℕ → A → A → A
 at_link None slot x y = y
 at_link (Some named) slot x y = if named == slot then x else y

@@ -1,4 +1,4 @@
--- What asks come to, one after another.
+-- The result of asks, one after another.
 use Rattle.std.specs.Prelude.{◌≢◌, ◌≤◌, List, [], ◌∷◌, ◌++◌}
 use Rattle.std.specs.List.{AllPairs}
 use mathlib.Core.List.{IsPrefix}

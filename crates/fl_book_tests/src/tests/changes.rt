@@ -81,7 +81,7 @@ pub(super) const CHANGES: [(Change, Effect); 28] = [
     (Change::StrangerAnswered, Effect::Differs),
 ];
 
-// Another answer, where the change applies to this one.
+// Another answer, if the change applies to this one.
 fn changed_answer(answer: Answer, change: Change) -> Option<Answer> {
     match (change, answer) {
         (Change::Handle, Answer::Open(fh)) => Some(Answer::Open(fh.wrapping_add(1))),
@@ -153,7 +153,7 @@ fn changed_result(reply: Result<Answer, Errno>, change: Change) -> Option<Result
     }
 }
 
-// Another reply, where the change applies to this one.
+// Another reply, if the change applies to this one.
 fn changed_told(told: Told, change: Change) -> Option<Told> {
     if change == Change::ReplyUnique {
         return Some(Told {
@@ -199,7 +199,7 @@ fn changed_op(op: Op, change: Change) -> Option<Op> {
     }
 }
 
-// Another line, where the change applies to this one.
+// Another line, if the change applies to this one.
 fn changed_line(line: Line, change: Change) -> Option<Line> {
     let (worker, order) = match line {
         Line::Told(told) => return Some(Line::Told(changed_told(told, change)?)),
@@ -385,7 +385,7 @@ impl Lines {
     }
 }
 
-// The lines with a change at a random place. Where it can't be made they are the same.
+// The lines with a change at a random place. If it can't be made they are the same.
 pub(super) fn changed(
     rt: &impl Abort,
     alloc: Global,

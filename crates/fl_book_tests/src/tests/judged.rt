@@ -27,17 +27,17 @@ fn has_line(history: &History, at: usize, line: &Line) -> bool {
     at < history.len() && equal(&history.line(at), line)
 }
 
-// What has to be said of a history, beside the legal one with the same orders: that it is legal where the two are
+// What has to be said of a history, beside the legal one with the same orders: that it is legal if the two are
 // equal, and else that it differs at the first line that they don't have in common. It may be the line after the last
 // of either.
 //
 // For a legal history is determined by its orders: it has each with its replies behind it, and they depend on nothing
 // but the lines before. So what both have up to that line is a beginning of a legal history. With one line more it is
 // none:
-// - Where the legal one has a reply there, an order before is owed it, in every legal history that begins so.
-// - Where it has an order there, no order before is owed a reply, and the other has a reply there: its next order is
+// - If the legal one has a reply there, an order before is owed it, in every legal history that begins so.
+// - If it has an order there, no order before is owed a reply, and the other has a reply there: its next order is
 //   the same.
-// - Where it ends there, the other has a reply there too: it has no more orders, and none is owed a reply.
+// - If it ends there, the other has a reply there too: it has no more orders, and none is owed a reply.
 fn verdict_beside(history: &History, legal: &History) -> Verdict {
     for at in 0..history.len() {
         if !has_line(legal, at, &history.line(at)) {

@@ -43,7 +43,7 @@ SameOff t before after =
     (key : Key) (start end : ℕ) (kind : Kind) → concerns t key.node key.class ≡ false
     → conflicts after key start end kind ≡ conflicts before key start end kind
 
--- what an order touched that is answered so, where it touches this if it is done
+-- what an order with this answer touched; `touched` is what it touches if it is done
 abbrev pub touched_if_done : Option (Result Answer Errno) → Touched → Touched
 touched_if_done (Some (Ok answer)) touched = touched
 touched_if_done own touched = Nothing

@@ -43,7 +43,7 @@ pub(super) struct Counts {
     pub(super) deadlocks: u64,
     // Those in which no owner in the way waits for the one who asks but through others.
     pub(super) long_deadlocks: u64,
-    // Those that were refused for want of room: for a run, or for a request that waits.
+    // Those that were refused since there was no room: for a run, or for a request that waits.
     pub(super) without_run: u64,
     pub(super) without_place: u64,
 }
@@ -295,7 +295,7 @@ impl PlainLocks {
         self.counts.most = self.counts.most.max(self.parked.len());
     }
 
-    // SETLK, or SETLKW where it may wait.
+    // SETLK, or SETLKW if it may wait.
     fn lock(&mut self, rt: &impl Abort, request: &Request, may_wait: bool) {
         let unique = request.unique;
         if let Some(errno) = self.error_of(request) {
@@ -447,7 +447,7 @@ impl PlainLocks {
         None
     }
 
-    // Grants the oldest request that needn't wait, and begins again, until each waits.
+    // Grants waiting requests, oldest first, until all that are left are blocked.
     fn settle(&mut self, rt: &impl Abort) {
         let mut last = 0;
         for _ in 0..self.parked.len() {

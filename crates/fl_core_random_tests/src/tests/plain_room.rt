@@ -21,7 +21,7 @@ impl PlainLocks {
         runs
     }
 
-    // Sets a lock, or takes it away, where there is room for the runs that are there then.
+    // Sets a lock, or takes it away, if there is room for the runs that are there then.
     pub(super) fn set_in_room(&mut self, rt: &impl Abort, request: &Request) {
         let before = self.marks;
         self.set(request);

@@ -9,7 +9,7 @@ use fl_testing::Numbers;
 use std::alloc::Global;
 use std::process::Abort;
 
-// A request of this unique waits in the core where it does in the plain program. No order is answered that bears its
+// A request of this unique waits in the core if it does in the plain program. No order is answered that bears its
 // unique.
 fn check_unique(rt: &impl Abort, core: &Core, plain: &PlainLocks, unique: u64) {
     let reply = core.answer(&order(unique, 1, Op::Getattr));
@@ -32,7 +32,7 @@ fn check_parked(rt: &impl Abort, core: &Core, plain: &PlainLocks, unique: u64) {
     }
 }
 
-// A request that can wait would close a circle where the plain program says so, whether it has to wait or not.
+// A request that can wait would close a circle if the plain program says so, whether it has to wait or not.
 fn check_circle(rt: &impl Abort, core: &Core, plain: &PlainLocks, order: &Order) {
     let Op::Setlkw(ask) = &order.op else {
         return;
@@ -286,7 +286,7 @@ fn run_all(rt: &impl Abort, alloc: Global, first: u64, end: u64) {
     }
 }
 
-// The same where requests wait behind older ones, too.
+// The same if requests wait behind older ones, too.
 fn run_fair(rt: &impl Abort, alloc: Global, first: u64, end: u64) {
     for seed in first..end {
         let counts = run(rt, alloc, Rules::standard().with_fair(true), seed, 3000);
@@ -323,7 +323,7 @@ fn waits_as_a_plain_program_does_by_other_numbers(rt: HostRuntime) {
     run_all(&rt, rt.alloc(), 4, 8);
 }
 
-// Few runs and few requests that wait are allowed, so that many are refused for want of room.
+// Few runs and few requests that wait are allowed, so that many are refused since there is no room.
 fn run_limited(rt: &impl Abort, alloc: Global, rules: Rules, first: u64, end: u64) {
     for seed in first..end {
         let counts = run(rt, alloc, rules, seed, 3000);

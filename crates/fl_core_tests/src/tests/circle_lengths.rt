@@ -79,7 +79,7 @@ fn check_circle(rt: &impl Abort, alloc: Global, many: u64) {
     server.end();
 }
 
-// So it is where the last one of those who wait asked first.
+// So it is if the last one of those who wait asked first.
 fn check_backwards(rt: &impl Abort, alloc: Global, many: u64, last: u64) {
     let mut server = with_holders(rt, alloc, many);
     park_backwards(rt, &mut server, last);
@@ -87,7 +87,7 @@ fn check_backwards(rt: &impl Abort, alloc: Global, many: u64, last: u64) {
     server.end();
 }
 
-// Where one of them doesn't wait, the last one does, and then this one's request is refused.
+// If one of them doesn't wait, the last one does, and then this one's request is refused.
 fn check_gap(rt: &impl Abort, alloc: Global, many: u64, last: u64, gap: u64) {
     let mut server = with_holders(rt, alloc, many);
     park(rt, &mut server, last, gap);

@@ -1,4 +1,4 @@
-//! Each error of each order, and the first of two where both apply.
+//! Each error of each order, and the first of two if both apply.
 
 use super::{is_legal, is_legal_after};
 

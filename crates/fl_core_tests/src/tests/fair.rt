@@ -1,4 +1,4 @@
-//! Requests that wait behind older ones, where the rules are fair.
+//! Requests that wait behind older ones, if the rules are fair.
 
 use super::{Server, history_of};
 use fl_core::Rules;

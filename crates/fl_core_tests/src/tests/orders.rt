@@ -35,7 +35,7 @@ pub(super) fn numbered(rt: &impl Abort, number: u64) -> Name {
     name(rt, &[b'a'.wrapping_add(high), b'a'.wrapping_add(low)])
 }
 
-// An order that makes the file of a name, where there is none, and opens it.
+// An order that makes the file of a name, if there is none, and opens it.
 pub(super) fn create(excl: bool, name: Name) -> Order {
     let mode = 0o644;
     order(1, 1, Op::Create { excl, mode, name })

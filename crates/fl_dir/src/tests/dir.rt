@@ -1,4 +1,4 @@
-//! Which error a directory answers where several tests of a call would fail.
+//! Which error a directory answers if several tests of a call would fail.
 
 use super::calls::all_hold;
 use super::same;

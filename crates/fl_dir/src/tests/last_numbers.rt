@@ -1,4 +1,4 @@
-//! The calls of a directory whose numbers have come to their ends, where no caller can bring them soon.
+//! The calls of a directory whose numbers are at their ends, which no caller reaches soon.
 
 use crate::dir::{Closed, Dir};
 use crate::node::Node;

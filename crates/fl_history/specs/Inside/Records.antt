@@ -21,7 +21,7 @@ use Rattle.fl_order.specs.declared.order.LockAsk.{LockAsk}
 use Rattle.fl_order.specs.declared.order.Order.{Order}
 use Rattle.fl_order.specs.declared.told.Answer.TheVariants.{Done}
 
--- the bytes of the name in a body, none where it names nothing
+-- the bytes of the name in a body, none if it names nothing
 abbrev pub name_in : Body → List ℕ
 name_in (body.Create excl mode name) = name
 name_in (body.Name name) = name
@@ -73,7 +73,7 @@ opened_parts names (short.Release what unlocks fh owner) = (what, body.Release f
 opened_parts names (short.Getattr what) = (what, body.Getattr)
 opened_parts names (short.Open what) = (what, body.Open)
 
--- what was asked; none where no order has these parts
+-- what was asked; none if no order has these parts
 abbrev pub opened_op : List ℕ → ShortOp → Option Op
 opened_op names op = op_of (opened_parts names op).0 (opened_parts names op).1
 

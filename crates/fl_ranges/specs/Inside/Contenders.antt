@@ -27,7 +27,7 @@ abbrev pub class_rows : Key → List LockRow → List LockRow
 class_rows key [] = []
 class_rows key (r ∷ rs) = if are_kin key r.key then r ∷ class_rows key rs else []
 
--- the owner of a row's key, where that is of the key's class and node
+-- the owner of a row's key, if that is of the key's class and node
 abbrev pub kin_owner : Key → Option Key → Option ℕ
 kin_owner key None = None
 kin_owner key (Some other) = if are_kin key other then Some other.owner else None

@@ -57,7 +57,7 @@ abbrev pub AreInOrder : List LockRow → Type 0
 AreInOrder [] = Unit {0}
 AreInOrder (r ∷ rs) = AllByRecursion (λ x. key_precedes r.key x.key ≡ true) rs × AreInOrder rs
 
--- the spans of the key's row, and none where no row is the key's
+-- the spans of the key's row, and none if no row is the key's
 abbrev pub spans_of : Key → List LockRow → List (Span Mark)
 spans_of key [] = []
 spans_of key (r ∷ rs) = if eq_by_cmp key_cmp r.key key then r.runs else spans_of key rs
@@ -70,12 +70,12 @@ row_index key rs = prefix_len (λ r. key_precedes r.key key) rs
 abbrev pub has_row : Key → List LockRow → Bool
 has_row key rs = list_any (λ r. eq_by_cmp key_cmp r.key key) rs
 
--- a row of the key with these spans before others; none where there are no spans
+-- a row of the key with these spans before others; none if there are no spans
 abbrev pub row_before : Key → List (Span Mark) → List LockRow → List LockRow
 row_before key [] rs = rs
 row_before key (s ∷ ss) rs = record { key = key; runs = s ∷ ss } ∷ rs
 
--- rows in order, once the key's has these spans; it goes where these are none
+-- rows in order, once the key's has these spans; it goes if these are none
 abbrev pub given_spans : Key → List (Span Mark) → List LockRow → List LockRow
 given_spans key ss [] = row_before key ss []
 given_spans key ss (r ∷ rs) =

@@ -13,7 +13,7 @@ is_nearer start r s =
     nat_lt (max r.start start) (max s.start start)
     || ((max r.start start == max s.start start) && nat_lt r.key.owner s.key.owner)
 
--- the nearer one of two runs, or the second where there is no first
+-- the nearer one of two runs, or the second if there is no first
 abbrev pub nearer_of : ℕ → Option Run → Run → Run
 nearer_of start None r = r
 nearer_of start (Some best) r = if is_nearer start r best then r else best

@@ -49,7 +49,7 @@ fn bytes(rt: &impl Abort, start: usize, end: usize) -> Range {
     range(rt, start as u64, end as u64)
 }
 
-// A random stroke on the table and on the grid. It is refused where there would be more runs than there is room for.
+// A random stroke on the table and on the grid. It is refused if there would be more runs than there is room for.
 fn random_stroke(
     rt: &impl Abort,
     table: &mut Table,
@@ -104,7 +104,7 @@ fn conflicts_with_held(rows: &[Row], asker: usize, start: usize, end: usize, kin
     false
 }
 
-// The table tells of a conflict where the grid does.
+// The table tells of a conflict if the grid does.
 fn compare_bytes(
     rt: &impl Abort,
     table: &Table,
@@ -122,7 +122,7 @@ fn compare_bytes(
     );
 }
 
-// So it does where an owner asks for a byte, or for all from there on.
+// So it does if an owner asks for a byte, or for all from there on.
 fn compare_asker(rt: &impl Abort, table: &Table, rows: &[Row], asker: usize) {
     let start = asker % BYTES;
     compare_bytes(rt, table, rows, asker, start, start, Kind::Read);

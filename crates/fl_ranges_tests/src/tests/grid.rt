@@ -50,7 +50,7 @@ impl Grid {
         range(rt, self.byte(start), self.byte(end))
     }
 
-    // A random stroke on the table and on the grid. It is refused where there would be more runs than there is room
+    // A random stroke on the table and on the grid. It is refused if there would be more runs than there is room
     // for.
     pub(super) fn random_stroke(
         &mut self,

@@ -2,7 +2,7 @@
 //!
 //! A line is a call with its words, and behind ` =` what it gives. Behind most calls stand the class, the node and
 //! the owner of a key, and the first and the last byte of a range; then a kind, and of a mark its process. `put` and
-//! `erase` give 1, or 0 where there is no room. `clear` lets all bytes of the key go, `runs` tells how many runs
+//! `erase` give 1, or 0 if there is no room. `clear` lets all bytes of the key go, `runs` tells how many runs
 //! there are, and the others ask what is in the way of a lock.
 
 use super::contenders::{COUNT, are_ascending};

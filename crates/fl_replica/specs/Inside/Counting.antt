@@ -11,7 +11,7 @@ IsCounted cells log = cells ≡ (length log, true) ∷ (0, true) ∷ []
 abbrev pub counter_of : Book → Named
 counter_of book = record { tracked = true; key = 0; book = book }
 
--- The ask was added behind all that had been seen, where the word had its number. Else the whole log was seen, of the
+-- The ask was added behind all that had been seen, if the word had its number. Else the whole log was seen, of the
 -- number that the word had.
 abbrev pub IsAdded : Step Ask → View Ask ℕ → ℕ → View Ask ℕ → Type 0
 IsAdded s before found after = MatchBool (found == s.old) (after.0 ≡ before.0 ++ s.ask ∷ []) (length after.0 ≡ found)

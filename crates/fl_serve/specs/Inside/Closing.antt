@@ -1,4 +1,4 @@
--- What a session came to once its board is closed.
+-- The result of a session once its board is closed.
 use Rattle.std.specs.Prelude.{◌≡◌, Bool, List, All, Option, sum_by}
 use Rattle.fl_board.specs.Seats.{Place}
 use Rattle.fl_board.specs.Shown.{HasAllOf}
@@ -6,7 +6,7 @@ use Rattle.fl_desk.specs.Legal.{orders_asked}
 use Rattle.fl_session.specs.declared.done.Done.{Done}
 use Rattle.fl_transport.specs.declared.fault.Fault.{Fault}
 
--- What came of a session: its history has all that was handed in at these places, and no other order.
+-- The result of a session: its history has all that was handed in at these places, and no other order.
 pub record HasAll (places : List Place) (refused : Bool) (fault : Option Fault) (done : Done) : Type 0 where
   pub told : done.fault ≡ fault
   pub tells : done.refused ≡ refused

@@ -18,7 +18,7 @@ fn make_and_unlink(rt: &impl Abort, talker: &mut Talker<'_>) {
     talker.ask(rt, 4);
 }
 
-// The error that a GETATTR of the file is told, 0 where it is none.
+// The error that a GETATTR of the file is told, 0 if it is none.
 fn told(rt: &impl Abort, talker: &mut Talker<'_>, unique: u64) -> u32 {
     talker.messages.getattr(unique, 2).expect(rt, "memory");
     talker.send(rt);

@@ -32,7 +32,7 @@ pub(super) enum Client {
     SendsAMillion,
 }
 
-/// What a session came to, and how many replies its client counted up to the stream's end.
+/// The result of a session, and how many replies its client counted up to the stream's end.
 #[derive(Drop)]
 pub(super) struct Outcome {
     pub done: Done,

@@ -26,7 +26,7 @@ fn roll(unique: u64) -> u64 {
     unique.wrapping_mul(0x9e37_79b9_7f4a_7c15) >> 40
 }
 
-// What the order of a unique asks, where it speaks of a lock: one of 8 bytes, by one of 6 owners.
+// What the order of a unique asks, if it speaks of a lock: one of 8 bytes, by one of 6 owners.
 fn asked(unique: u64, kind: u32) -> Lock {
     let byte = roll(unique) / 16 % 8;
     Lock {

@@ -10,7 +10,7 @@ use std::os::unix::net::UnixStream;
 use std::process::Abort;
 use std::time::Duration;
 
-/// A client of a session. It waits 20 seconds at most, and ends the process where anything fails.
+/// A client of a session. It waits 20 seconds at most, and ends the process if anything fails.
 #[derive(Drop)]
 pub(super) struct Talker<'a> {
     stream: &'a UnixStream,

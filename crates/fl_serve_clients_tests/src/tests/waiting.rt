@@ -18,7 +18,7 @@ fn put_lock(rt: &impl Abort, talker: &mut Talker<'_>, opcode: u32, unique: u64) 
         .expect(rt, "memory");
 }
 
-/// A lock is set on the first byte of a file, and asked for by 200 other owners. Says how many replies come to these.
+/// A lock is set on the first byte of a file, and asked for by 200 other owners. Says how many replies these get.
 pub(super) fn ask_and_go(rt: &impl Abort, alloc: Global, stream: &UnixStream) -> usize {
     let mut talker = Talker::start(rt, alloc, stream);
     talker.messages.create(2, 0).expect(rt, "memory");

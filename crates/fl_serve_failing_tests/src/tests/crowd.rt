@@ -35,7 +35,7 @@ fn nodes_in(rt: &impl Abort, alloc: Global, history: &History) -> Vec<u64> {
     nodes
 }
 
-// What an order is told: a LOOKUP ENOENT, a SETLK EBADF, an INTERRUPT EAGAIN, and a FORGET nothing. Where it is
+// What an order is told: a LOOKUP ENOENT, a SETLK EBADF, an INTERRUPT EAGAIN, and a FORGET nothing. If it is
 // refused, the first two are told ENOMEM.
 fn told(unique: u64, taken: bool) -> Option<u32> {
     match (unique % 4, taken) {

@@ -82,7 +82,7 @@ impl Refusing {
     }
 }
 
-/// What a session came to some of whose orders were refused.
+/// The result of a session some of whose orders were refused.
 #[derive(Drop)]
 pub(super) struct Came {
     pub history: History,
@@ -263,7 +263,7 @@ fn each_order_is_refused_in_turn(rt: HostRuntime) {
     assert_eq!(rt; count, 27);
 }
 
-// What a batch leads to is what a FORGET for each of its pairs leads to, also where one of these is refused.
+// What a batch leads to is what a FORGET for each of its pairs leads to, also if one of these is refused.
 #[test]
 fn each_order_of_a_batch_is_refused_in_turn(rt: HostRuntime) {
     let stream = stream_of(&rt, rt.alloc(), BATCHED);

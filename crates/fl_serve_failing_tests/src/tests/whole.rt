@@ -5,7 +5,7 @@ use fl_testing::{Reply, first_reply, word_at};
 use std::alloc::Global;
 use std::process::Abort;
 
-// The place behind what begins at a place and says its own length first, where that is in reach.
+// The place behind what begins at a place and says its own length first, if that is in reach.
 fn next(bytes: &[u8], at: usize) -> Option<usize> {
     let len = word_at(bytes, at) as usize;
     let end = at.saturating_add(len);

@@ -23,7 +23,7 @@ use std::process::Abort;
 use std::sync::Wait;
 use std::thread::Threads;
 
-// What a session over memory came to, and all its replies.
+// The result of a session over memory, and all its replies.
 #[derive(Drop)]
 struct Came {
     done: Done,

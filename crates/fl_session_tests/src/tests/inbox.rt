@@ -16,7 +16,7 @@ fn two_messages() -> [u8; 81] {
     bytes
 }
 
-// Reads once, where no whole message stands first.
+// Reads once, if no whole message stands first.
 fn reads(rt: &impl Abort, inbox: &mut Inbox, source: &mut Source<'_>, wanted: Filled) {
     let Step::More = inbox.next() else {
         panic!(rt; "a message stands first")

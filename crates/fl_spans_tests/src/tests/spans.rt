@@ -72,7 +72,7 @@ fn next(rows: &Spans, byte: u64) -> Option<Span<Mark>>
     find(rows, &row, byte, LAST_BYTE, |_| true)
 }
 
-// The row has these spans, and no others but where the last of these is one.
+// The row has these spans, and no others but if the last of these is one.
 fn has(rt: &impl Abort, rows: &Spans, wanted: &[Option<Span<Mark>>])
     requires { IsOneRow rows.now }
 {
@@ -179,7 +179,7 @@ fn a_search_finds_the_first_span_that_passes(rt: HostRuntime) {
     finds(&rt, &rows, 50, 60, None);
 }
 
-// A random stroke on the spans and on the plain row. It is refused where there would be more spans than there
+// A random stroke on the spans and on the plain row. It is refused if there would be more spans than there
 // is room for.
 fn random_step(
     rt: &impl Abort,

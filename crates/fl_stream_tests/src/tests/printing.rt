@@ -12,7 +12,7 @@ fn came(rt: &impl Abort, found: Result<(), Unwritten>, wanted: Result<(), Unwrit
     assert!(rt; found == wanted);
 }
 
-// What writing a history through a room of its own comes to.
+// The result of writing a history through a room of its own.
 fn write<W: Write>(
     rt: &impl Abort,
     alloc: Global,

@@ -22,7 +22,7 @@ fn drops(rt: &(impl Abort + AllocGlobal), flags: u32, release_flags: u32, drop: 
     same(rt, &order.op, &op);
 }
 
-// The owner's whole-file lock goes where bit 1 of release_flags is set, whatever stands in flags.
+// The owner's whole-file lock goes if bit 1 of release_flags is set, whatever stands in flags.
 #[test]
 fn flags_of_a_release(rt: HostRuntime) {
     drops(&rt, 0, 2, true);
@@ -39,7 +39,7 @@ fn zeros(rt: &(impl Abort + AllocGlobal), opcode: u8, len: usize, wanted: Option
     same(rt, &read_order(&whole(rt, &bytes)).err(), &wanted);
 }
 
-// Bodies of this kind have this length; one byte less and one more come to this.
+// Bodies of this kind have this length; one byte less and one more result in this.
 fn has_length(rt: &(impl Abort + AllocGlobal), opcode: u8, len: usize, refusal: Refusal) {
     zeros(rt, opcode, len, None);
     zeros(rt, opcode, len.saturating_sub(1), Some(refusal));

@@ -10,7 +10,7 @@ use Rattle.fl_transport.specs.declared.response.Response.TheVariants.{Nothing}
 use Rattle.fl_workers.specs.Received.{IsLast}
 
 -- What was read is whole messages and a rest, these messages bring the session this far, and their orders were put.
--- Where it is over, this is left to answer the last, and else nothing.
+-- If it is over, this is left to answer the last, and else nothing.
 pub record IsReceiving (left left_now : Option (List ℕ)) (handshake : Handshake) (put : List Order) (goodbye : Response)
     (rest : List ℕ) : Type 0 where
   pub messages : List (List ℕ)

@@ -41,7 +41,7 @@ fn put_all<R: Wait + Abort>(rt: &R, intake: &Intake, put: PutEnd, orders: &[Job]
     put
 }
 
-// What is left where orders were put, and no worker came.
+// What is left if orders were put, and no worker came.
 fn left<R: Wait + Abort>(rt: &R, alloc: Global, orders: &[Job]) -> Vec<Job> {
     let (intake, put, ends) = Intake::new(alloc, 2).expect(rt, "memory");
     let mut put = put_all(rt, &intake, put, orders);

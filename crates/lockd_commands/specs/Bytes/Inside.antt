@@ -1,4 +1,4 @@
--- What the steps of a session from bytes to bytes come to. No contract of a public function cites these definitions.
+-- The results of the steps of a session from bytes to bytes. No contract of a public function cites these definitions.
 use Rattle.std.specs.Prelude.{◌≡◌, ℕ, List, All, Option, Some, None, IfSome, IsOk, Result, Ok, Err, ⊤}
 use Rattle.std.specs.List.{concat}
 use Rattle.std.specs.Io.KnownBytes.{Keeps}

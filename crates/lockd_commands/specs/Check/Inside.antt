@@ -7,7 +7,7 @@ use Rattle.fl_judge.specs.declared.finding.Finding.TheVariants.{Legal}
 use Rattle.lockd_faults.specs.declared.fault.CommandFault.{CommandFault}
 use Rattle.lockd_faults.specs.declared.fault.CommandFault.TheVariants as command
 
--- what is told of it: where that is asked and the history is legal, whether it is quiet
+-- what is told of it: if that is asked and the history is legal, whether it is quiet
 abbrev pub quiet_told : Bool → Finding → Bool → Option Bool
 quiet_told true Legal quiet = Some quiet
 quiet_told asked finding quiet = None

@@ -1,4 +1,4 @@
--- What the actions of a client come to. No contract of a public function cites these definitions.
+-- The results of the actions of a client. No contract of a public function cites these definitions.
 use Rattle.std.specs.Prelude.{◌≡◌, ◌⊎◌, ℕ, ◌+◌, ◌<◌, ◌≤◌, List, [], ◌∷◌, ◌++◌, length, take, drop, map, All, Option}
 use Rattle.std.specs.Prelude.{IfSome, IsOk, Result, Ok, Err, ⊤}
 use Rattle.std.specs.List.{concat, flat_map}

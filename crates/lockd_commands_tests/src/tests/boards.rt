@@ -21,7 +21,7 @@ use std::process::Abort;
 use std::sync::Wait;
 use std::sync::ledger::Blank;
 
-// A line of a trace, which this worker asks where it was worker 0 who asked.
+// A line of a trace, which this worker asks if it was worker 0 who asked.
 fn asked_by(rt: &impl Abort, alloc: Global, line: &str, worker: usize) -> String {
     match line.strip_prefix("ask 0 ") {
         Some(rest) => format!(in alloc; "ask {worker} {rest}\n"),

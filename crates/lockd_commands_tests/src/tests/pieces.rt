@@ -39,7 +39,7 @@ struct Came {
     status: Status,
 }
 
-// It printed this, told that, and ended with 2 where something was told, and else with 0. The words are shown where
+// It printed this, told that, and ended with 2 if something was told, and else with 0. The words are shown if
 // it didn't.
 fn is(rt: &impl Abort, what: &str, came: &Came, printed: &str, told: &str) {
     is_text(rt, what, &came.told, told);
@@ -103,7 +103,7 @@ fn add(rt: &impl Abort, text: &mut Vec<u8>, piece: &[u8]) {
     text.extend_from_slice(piece).expect(rt, "memory");
 }
 
-// A line of so many bytes more than a good beginning is bad, however it comes. Where it has no newline it may be cut
+// A line of so many bytes more than a good beginning is bad, however it comes. If it has no newline it may be cut
 // off.
 fn is_too_long(rt: &impl Abort, alloc: Global, more: usize, most: usize) {
     let ended = long_line(

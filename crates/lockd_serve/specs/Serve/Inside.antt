@@ -1,4 +1,4 @@
--- What the steps of serving a socket come to. No contract of a public function cites these definitions.
+-- The results of the steps of serving a socket. No contract of a public function cites these definitions.
 use Rattle.std.specs.Prelude.{ℕ, List, Option, Result, Ok, Err}
 use Rattle.std.specs.Io.KnownBytes.{Appends, Keeps}
 use Rattle.fl_stream.specs.Streams.{WroteSome}

@@ -134,7 +134,7 @@ fn look<L: BoardName, R: Wait + Abort>(pool: &WorkerPool<'_, L, R>, seat: &mut S
     assert!(pool.rt; shown);
 }
 
-// The first seat meets the second, where there is one.
+// The first seat meets the second, if there is one.
 fn meet<L: BoardName, R: Wait + Abort>(pool: &WorkerPool<'_, L, R>, seats: &mut [Seat<L>]) {
     if let [one, other, ..] = seats {
         let met = pool.board.meet(pool.rt, one, other).is_ok();

@@ -133,7 +133,7 @@ fn two_seats_in_two_threads(rt: HostRuntime) {
     is_locked_once(&rt, &history);
 }
 
-// Where there is more than one worker, some requests wait.
+// If there is more than one worker, some requests wait.
 fn has_waited(rt: &impl Abort, history: &History, workers: u32) {
     if workers > 1 {
         assert!(rt; count(history, Err(Errno::EINTR)) > 0);

@@ -30,7 +30,7 @@ fn serve_into<R: Threads + Wait + Sync>(
     )
 }
 
-// What a session came to three of whose writes took 16 bytes each, and the fourth failed.
+// The result of a session three of whose writes took 16 bytes each, and the fourth failed.
 fn has_broken(rt: &impl Abort, done: &Done, output: &Sink, fault: Fault) {
     fault_is(rt, done.fault, Some(fault));
     count_is(rt, output.held.len(), 48);

@@ -113,7 +113,7 @@ fn with_waiters(rt: &impl Abort, alloc: Global) -> Messages {
     messages
 }
 
-// What a session without workers comes to.
+// The result of a session without workers.
 fn run_alone(alloc: Global, messages: &[u8]) -> Came {
     let mut input = messages;
     let mut out = Vec::new(alloc);
@@ -143,7 +143,7 @@ fn serves_alike<R: Abort + Threads + Wait + Sync>(rt: &R, alloc: Global, message
     came_alike(rt, &came, &run_alone(alloc, messages));
 }
 
-// What one worker sends and records is what a session without workers sends and records, where no order only reads.
+// What one worker sends and records is what a session without workers sends and records, if no order only reads.
 #[test]
 fn one_worker_sends_the_same_bytes(rt: HostRuntime) {
     let messages = with_waiters(&rt, rt.alloc());
@@ -218,7 +218,7 @@ fn six_hundred(rt: &impl Abort, alloc: Global) -> Messages {
     messages
 }
 
-// The replies of the uniques from 1 to this one, with their errors where these are known.
+// The replies of the uniques from 1 to this one, with their errors if these are known.
 fn are_theirs(rt: &impl Abort, found: &[Reply], last: u64, known: bool) {
     let mut unique = 1u64;
     for reply in found {

@@ -176,7 +176,7 @@ fn are_forgets(rt: &impl Abort, history: &History) {
     }
 }
 
-// A session with a batch of so many pairs comes to this fault, and to so many lines.
+// A session with a batch of so many pairs ends with this fault, and with so many lines.
 fn comes_to(rt: &impl Abort, alloc: Global, count: u32, fault: Option<Fault>, lines: usize) {
     let stream = stream_of(rt, alloc, count);
     let mut input = stream.as_slice();

@@ -33,7 +33,7 @@ impl Write for Told<'_> {
     }
 }
 
-// The messages of a client that sends none before each reply to those before has come. Where one is late, a read fails.
+// The messages of a client that sends none before each reply to those before has come. If one is late, a read fails.
 #[derive(Drop)]
 struct Asked<'a> {
     told: &'a Cell<usize>,
@@ -122,7 +122,7 @@ fn set_a_lock(rt: &impl Abort, alloc: Global, worked: &Worked, locks: usize, wri
 #[test]
 fn replies_to_what_one_read_gave_go_out_together(rt: HostRuntime) {
     let worked = worked_session(&rt, rt.alloc());
-    // A write has at most 672 bytes, and goes out where a reply of 160 would have no more room.
+    // A write has at most 672 bytes, and goes out when a reply of 160 would have no more room.
     set_a_lock(&rt, rt.alloc(), &worked, 0, 1);
     set_a_lock(&rt, rt.alloc(), &worked, 18, 1);
     set_a_lock(&rt, rt.alloc(), &worked, 19, 2);

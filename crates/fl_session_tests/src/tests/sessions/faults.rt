@@ -33,7 +33,7 @@ fn is_sent(rt: &impl Abort, output: &[u8], worked: &Worked, sent: usize) {
     are_bytes(rt, output, wanted);
 }
 
-// It came to the trace that is wanted, and to this fault.
+// It gave the trace that is wanted, and ended with this fault.
 fn is_whole(rt: &impl Abort, alloc: Global, done: &Done, fault: Option<Fault>) {
     fault_is(rt, done.fault, fault);
     assert!(rt; !done.refused);

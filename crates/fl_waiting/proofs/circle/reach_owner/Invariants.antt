@@ -2,7 +2,7 @@ use Rattle.std.proofs.Common.{◌≡◌, ◌==◌, ◌&&◌, ◌||◌, ℕ, nat_
 use Rattle.fl_waiting.specs.Inside.Searching.{is_set}
 use Rattle.fl_waiting.proofs.circle.reach_owner.Given as goal
 
--- the places before are set where they are the owner's, and the others are as before
+-- the places before are set if they are the owner's, and the others are as before
 abbrev pub invariant-loop-i : goal.invariant-loop-i
 invariant-loop-i l = record {
   wide : length l.reached ≡ length l.owners;
