@@ -8,4 +8,4 @@ returns-then-not-append-clause-collected g c = Collects-next _ _ _ _ _
 
 pub returns-else-not-append-clause-collected : goal.returns-else-not-append-clause-collected
 returns-else-not-append-clause-collected g c =
-    Collects-one _ _ _ _ _ (c.append.ensures.done c.if-not-append.false) (c.append.ensures.reply c.if-not-append.false)
+    Collects-one _ _ _ (c.append.ensures.done c.if-not-append.false) (c.append.ensures.reply c.if-not-append.false)
