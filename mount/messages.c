@@ -11,8 +11,6 @@
 #include <stdlib.h>
 #include <string.h>
 
-enum { MOST_OWNERS = 64 };
-
 struct session session;
 
 static uint64_t own_number(void)
@@ -79,7 +77,7 @@ static void see_flush(const char *body, size_t size)
 }
 
 // A FLUSH of this owner, whose reply lets the RELEASE go.
-static bool flush_for(struct held *held, const struct fuse_in_header *release, uint64_t fh, uint64_t owner)
+static void flush_for(struct held *held, const struct fuse_in_header *release, uint64_t fh, uint64_t owner)
 {
     struct {
         struct fuse_in_header head;
@@ -90,23 +88,22 @@ static bool flush_for(struct held *held, const struct fuse_in_header *release, u
     flush.head.unique = own_number();
     struct asked *asked = asked_new(flush.head.unique, FUSE_FLUSH, "");
     if (!asked)
-        return false;
+        return;
     asked->held = held;
     held->flushes++;
     send_later(&flush, sizeof flush);
-    return true;
 }
 
 // Locks of an open file description go with its last close, which the kernel tells by RELEASE alone. A process flushes
 // before that, so who didn't is such a description. Gives false where the RELEASE has to wait.
 static bool may_release(const char *message, size_t size, const struct fuse_in_header *head, uint64_t fh)
 {
-    uint64_t owners[MOST_OWNERS];
     table_lock();
-    size_t count = open_closed(fh, owners, MOST_OWNERS);
-    struct held *held = count ? calloc(1, sizeof *held) : NULL;
-    for (size_t i = 0; held && i < count; i++)
-        flush_for(held, head, fh, owners[i]);
+    struct owner *owners = open_closed(fh);
+    struct held *held = owners ? calloc(1, sizeof *held) : NULL;
+    for (const struct owner *it = owners; held && it; it = it->next)
+        flush_for(held, head, fh, it->id);
+    owners_end(owners);
     bool waits = held && held->flushes && size <= sizeof held->message;
     if (waits) {
         memcpy(held->message, message, size);

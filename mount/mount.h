@@ -211,13 +211,19 @@ void describe(struct fuse_attr *attr, const struct node *node);
 
 // ---- opens.c: all under table_lock ----
 
-struct open_file;
+// Owners of record locks, in a list.
+struct owner {
+    struct owner *next;
+    uint64_t id;
+};
+
 void open_made(uint64_t fh, uint64_t node, uint32_t pid);
 // This owner asked for a record lock through the open file, or its FLUSH came through it.
 void open_owner_asks(uint64_t fh, uint64_t owner);
 void open_owner_flushes(uint64_t fh, uint64_t owner);
-// The file is closed. Gives how many owners have to be flushed first, in `owners`, at most so many.
-size_t open_closed(uint64_t fh, uint64_t *owners, size_t most);
+// The file is closed. Gives the owners who have to be flushed first.
+struct owner *open_closed(uint64_t fh);
+void owners_end(struct owner *first);
 unsigned opens_count(void);
 // Those who opened what is still open.
 void openers(struct holders *holders);

@@ -193,16 +193,19 @@ def try_ready_is_said_to_the_service_manager():
 
 
 def try_the_unit():
-    if not shutil.which("systemd-analyze"):
-        return
     unit = tempfile.mkdtemp(dir=WORK) + "/lockd.service"
     with open(f"{TOP}/tools/lockd.service", encoding="utf-8") as it:
         text = it.read()
+    contains(text, "Type=notify", "OOMScoreAdjust=", "Restart=on-failure")
+    # It waits for open files, and then for the server, before it is killed.
+    stop, grace = (int(re.search(it, text)[1]) for it in (r"TimeoutStopSec=(\d+)", r"--grace (\d+)"))
+    assert stop > grace + 30
+    if not shutil.which("systemd-analyze"):
+        return
     with open(unit, "w", encoding="utf-8") as it:
         it.write(re.sub(r"/usr/local/\S*lockd_mount", PROGRAM, text))
     ran = subprocess.run(["systemd-analyze", "verify", "--man=no", unit], capture_output=True, text=True, timeout=PATIENCE)
     same((ran.returncode, [it for it in ran.stderr.splitlines() if "lockd" in it]), (0, []))
-    contains(text, "Type=notify", "OOMScoreAdjust=", "Restart=on-failure", "TimeoutStopSec=")
 
 
 # ---- Servers that fail ----
@@ -215,6 +218,16 @@ def refused_by(how, *said, **env):
 
 def try_a_server_that_refuses_init():
     refused_by("refuses_init", "the server refuses INIT: Protocol error", "nothing is mounted")
+
+
+def try_a_kernel_that_is_too_old():
+    """A library makes this kernel's INIT that of an older one."""
+    library = f"{WORK}/older.so"
+    subprocess.run(["cc", "-O2", "-Wall", "-Wextra", "-shared", "-fPIC", "-o", library, f"{TOP}/tools/try_mount_older.c"],
+                   check=True, timeout=PATIENCE)
+    folder = tempfile.mkdtemp(dir=WORK)
+    contains(refusal(folder=folder, LD_PRELOAD=library), "this kernel speaks FUSE 7.27, and 7.31 is wanted", "nothing is mounted")
+    assert not is_mounted(folder)
 
 
 def try_a_server_that_ends_before_it_is_ready():
