@@ -138,13 +138,26 @@ static bool send_letters(void)
     return well;
 }
 
-static void sleep_for_messages(void)
+// Sleeps until it is woken, or also until the kernel has a message.
+static void sleep_until_woken(bool or_message)
 {
-    struct pollfd events[] = {{.fd = it.device, .events = POLLIN}, {.fd = it.wake, .events = POLLIN}};
+    struct pollfd events[] = {{.fd = it.wake, .events = POLLIN}, {.fd = it.device, .events = POLLIN}};
     uint64_t times;
-    poll(events, 2, -1);
-    if (events[1].revents && read(it.wake, &times, sizeof times) < 0)
+    poll(events, or_message ? 2 : 1, -1);
+    if (events[0].revents && read(it.wake, &times, sizeof times) < 0)
         return;
+}
+
+// Letters go first, and nothing goes before the reply to a FLUSH among them: one of several workers
+// might take it first. The next open file may stand where the closed one stood, and have its owner.
+static bool send_letters_first(void)
+{
+    if (!atomic_load(&it.letters))
+        return true;
+    bool well = send_letters();
+    while (well && atomic_load(&session.flushes) && !atomic_load(&it.stops))
+        sleep_until_woken(false);
+    return well;
 }
 
 // One message for each read. ENOENT says that a request was given up before it was read, ENODEV that nothing is mounted.
@@ -155,14 +168,14 @@ static void *carry_messages(void *unused)
     (void)unused;
     while (!atomic_load_explicit(&it.stops, memory_order_relaxed)) {
         // Where the server has closed its side, `carry_replies` sees the end after the last reply.
-        if (atomic_load(&it.letters) && !send_letters())
+        if (!send_letters_first())
             return NULL;
         ssize_t size = read(it.device, message, MOST);
         if (size < 0 && (errno == EINTR || errno == ENOENT))
             continue;
         if (size < 0 && errno == EAGAIN) {
             if (!spins_again(&me))
-                sleep_for_messages();
+                sleep_until_woken(true);
             continue;
         }
         me.spins = 0;
@@ -173,7 +186,7 @@ static void *carry_messages(void *unused)
         uint32_t opcode = ((struct fuse_in_header *)(void *)message)->opcode;
         count(&it.seen[opcode < OPCODES ? opcode : OPCODES - 1]);
         size_t left = change_message(message, (size_t)size);
-        if (left && !send_all(message, left))
+        if (!send_letters_first() || (left && !send_all(message, left)))
             return NULL;
     }
     return NULL;
@@ -225,6 +238,11 @@ void carrier_agreed(void)
 {
     atomic_store(&it.agreed, true);
     signal_to(it.news);
+}
+
+void carrier_flushed(void)
+{
+    signal_to(it.wake);
 }
 
 void carrier_refused_init(int error)

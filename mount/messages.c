@@ -76,8 +76,8 @@ static void see_flush(const char *body, size_t size)
     table_unlock();
 }
 
-// A FLUSH of this owner, whose reply lets the RELEASE go.
-static void flush_for(struct held *held, const struct fuse_in_header *release, uint64_t fh, uint64_t owner)
+// A FLUSH of this owner. The thread that carries messages sends no other one before its reply.
+static void flush_for(const struct fuse_in_header *release, uint64_t fh, uint64_t owner)
 {
     struct {
         struct fuse_in_header head;
@@ -86,33 +86,22 @@ static void flush_for(struct held *held, const struct fuse_in_header *release, u
     flush.head.len = sizeof flush;
     flush.head.opcode = FUSE_FLUSH;
     flush.head.unique = own_number();
-    struct asked *asked = asked_new(flush.head.unique, FUSE_FLUSH, "");
-    if (!asked)
+    if (!asked_new(flush.head.unique, FUSE_FLUSH, ""))
         return;
-    asked->held = held;
-    held->flushes++;
+    atomic_fetch_add(&session.flushes, 1);
     send_later(&flush, sizeof flush);
 }
 
-// Locks of an open file description go with its last close, which the kernel tells by RELEASE alone. A process flushes
-// before that, so who didn't is such a description. Gives false where the RELEASE has to wait.
-static bool may_release(const char *message, size_t size, const struct fuse_in_header *head, uint64_t fh)
+// Locks of an open file description go with its last close, which the kernel tells by RELEASE alone.
+// A process flushes before that, so who didn't is such a description.
+static void flush_owners(const struct fuse_in_header *release, uint64_t fh)
 {
     table_lock();
     struct owner *owners = open_closed(fh);
-    struct held *held = owners ? calloc(1, sizeof *held) : NULL;
-    for (const struct owner *it = owners; held && it; it = it->next)
-        flush_for(held, head, fh, it->id);
+    for (const struct owner *it = owners; it; it = it->next)
+        flush_for(release, fh, it->id);
     owners_end(owners);
-    bool waits = held && held->flushes && size <= sizeof held->message;
-    if (waits) {
-        memcpy(held->message, message, size);
-        held->size = size;
-    } else {
-        free(held);
-    }
     table_unlock();
-    return !waits;
 }
 
 static size_t change_release(char *message, size_t size, const struct fuse_in_header *head)
@@ -126,7 +115,8 @@ static size_t change_release(char *message, size_t size, const struct fuse_in_he
     release.lock_owner = release.fh;
     memcpy(body, &release, sizeof release);
 #endif
-    return may_release(message, size, head, release.fh) ? size : 0;
+    flush_owners(head, release.fh);
+    return size;
 }
 
 void release_now(const struct asked *asked, uint64_t node, uint64_t fh)

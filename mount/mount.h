@@ -146,8 +146,10 @@ void carrier_print_opcodes(void);
 // For the kernel, of either thread. False where nothing is mounted any more.
 bool write_reply(const char *reply, size_t size);
 bool answer(uint64_t unique, int error, const void *body, size_t size);
-// For the server, by the thread that carries messages.
+// For the server, by the thread that carries messages, before the message that it has at hand.
 void send_later(const void *message, size_t size);
+// The last FLUSH of the carrier's own was answered.
+void carrier_flushed(void);
 void carrier_agreed(void);
 void carrier_refused_init(int error);
 
@@ -166,6 +168,7 @@ void release_now(const struct asked *asked, uint64_t node, uint64_t fh);
 // What both directions know of the session. `minor` is the kernel's.
 extern struct session {
     atomic_uint_least64_t init; // unique of the INIT that waits for its reply, or 0
+    atomic_uint flushes; // the carrier's own that wait for their replies
     uint32_t minor;
     bool offers_truncation, discards;
 } session;
@@ -234,14 +237,7 @@ struct asked {
     struct asked *next;
     uint64_t unique, node;
     uint32_t opcode, mode, uid, gid, pid, flags;
-    struct held *held;
     char name[];
-};
-// A RELEASE that waits until the FLUSHes before it are answered.
-struct held {
-    unsigned flushes;
-    size_t size;
-    char message[sizeof(struct fuse_in_header) + sizeof(struct fuse_release_in)];
 };
 
 struct asked *asked_new(uint64_t unique, uint32_t opcode, const char *name);

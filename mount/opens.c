@@ -140,9 +140,6 @@ void opens_end(void)
             owners_end(open_closed(opens[i]->fh));
         for (struct asked *it = asked[i], *next; it; it = next) {
             next = it->next;
-            // Several FLUSHes share what they hold.
-            if (it->held && !--it->held->flushes)
-                free(it->held);
             free(it);
         }
         asked[i] = NULL;
