@@ -37,7 +37,8 @@ static struct {
     struct letter *first, **last; // under the lock
     _Alignas(CACHE_LINE) atomic_ullong replies;
     atomic_ullong refused, lines;
-    _Alignas(CACHE_LINE) atomic_ullong seen[OPCODES]; // messages by opcode; those of all greater ones in the last
+    // Messages by opcode; those of all greater ones in the last.
+    _Alignas(CACHE_LINE) atomic_ullong seen[OPCODES];
 } it = {.lock = PTHREAD_MUTEX_INITIALIZER};
 
 // Adds one where no other thread writes.
@@ -64,8 +65,9 @@ static void *finish(enum end end, int fault)
     return NULL;
 }
 
-// A thread that finds nothing to carry spins again 60 times before it sleeps, since to be woken takes longer than a call.
-// After spins that found nothing, 64 sleeps come without: calls that come seldom cost little, and where none come it sleeps.
+// A thread that finds nothing to carry spins again 60 times before it sleeps, since to be woken
+// takes longer than a call. After spins that found nothing, 64 sleeps come without: calls that come
+// seldom cost little, and where none come it sleeps.
 enum { SPINS = 60, UNSPUN = 64 };
 struct spinner {
     int spins, unspun;
@@ -96,7 +98,8 @@ static bool send_all(const char *from, size_t size)
     return true;
 }
 
-// The thread that carries replies must not wait for the server to read, so it leaves its messages here.
+// The thread that carries replies must not wait for the server to read, so it leaves its messages
+// here.
 void send_later(const void *message, size_t size)
 {
     struct letter *letter = malloc(sizeof *letter);
@@ -160,7 +163,8 @@ static bool send_letters_first(void)
     return well;
 }
 
-// One message for each read. ENOENT says that a request was given up before it was read, ENODEV that nothing is mounted.
+// One message for each read. ENOENT says that a request was given up before it was read, ENODEV
+// that nothing is mounted.
 static void *carry_messages(void *unused)
 {
     static _Alignas(8) char message[MOST + 16];
@@ -194,7 +198,8 @@ static void *carry_messages(void *unused)
 
 // ---- To the kernel ----
 
-// Whoever waited for a reply that the kernel refuses gets EIO. It is said at once, once a second at most.
+// Whoever waited for a reply that the kernel refuses gets EIO. It is said at once, once a second at
+// most.
 static void say_refused(int error)
 {
     static atomic_llong last = -1;
@@ -250,7 +255,8 @@ void carrier_refused_init(int error)
     finish(NOT_AGREED, error);
 }
 
-// Whether an order with this reply is a line of the trace: looks of several workers aren't, nor is what isn't one.
+// Whether an order with this reply is a line of the trace: looks of several workers aren't, nor is
+// what isn't one.
 static bool is_a_line(const struct fuse_out_header *head)
 {
     size_t body = head->len - sizeof *head;
@@ -258,8 +264,8 @@ static bool is_a_line(const struct fuse_out_header *head)
     return is_order && body != sizeof(struct fuse_attr_out) && body != sizeof(struct fuse_lk_out);
 }
 
-// The replies at the front of these bytes are written one at a time. Gives how many bytes they had, or -1 at a length that
-// no reply has, or -2 where nothing is mounted any more.
+// The replies at the front of these bytes are written one at a time. Gives how many bytes they had,
+// or -1 at a length that no reply has, or -2 where nothing is mounted any more.
 static ssize_t write_replies(char *bytes, size_t held)
 {
     struct fuse_out_header head;

@@ -1,7 +1,8 @@
 // What is changed in messages on their way from the kernel to the server.
 //
 // - The owner of a whole-file lock becomes the number of the open file.
-// - Before a RELEASE the owners of record locks who didn't flush are flushed: these are locks of open file descriptions.
+// - Before a RELEASE the owners of record locks who didn't flush are flushed: these are locks of
+//   open file descriptions.
 // - MKDIR and MKNOD become CREATE and RELEASE, and RMDIR becomes UNLINK.
 // - What the server has no message for is answered by answers.c.
 #include "mount.h"
@@ -29,7 +30,8 @@ static bool read_body(void *to, size_t want, const char *body, size_t size)
     return true;
 }
 
-// The name that stands at the end of a body, behind so many bytes, or NULL where there is none, or an empty one.
+// The name that stands at the end of a body, behind so many bytes, or NULL where there is none, or
+// an empty one.
 static const char *name_in(const char *body, size_t size, size_t before)
 {
     return size > before && !body[size - 1] && body[before] ? body + before : NULL;
@@ -47,8 +49,8 @@ static void remember_init(const struct fuse_in_header *head, const char *body, s
 
 // ---- Locks ----
 
-// Whole-file locks belong to an open file, and its number is never given twice. The kernel says a hash of where the open
-// file stands in memory, where the next one may stand soon.
+// Whole-file locks belong to an open file, and its number is never given twice. The kernel says a
+// hash of where the open file stands in memory, where the next one may stand soon.
 static void change_lock(const struct fuse_in_header *head, char *body, size_t size)
 {
     struct fuse_lk_in lock;
@@ -92,8 +94,8 @@ static void flush_for(const struct fuse_in_header *release, uint64_t fh, uint64_
     send_later(&flush, sizeof flush);
 }
 
-// Locks of an open file description go with its last close, which the kernel tells by RELEASE alone.
-// A process flushes before that, so who didn't is such a description.
+// Locks of an open file description go with its last close, which the kernel tells by RELEASE
+// alone. A process flushes before that, so who didn't is such a description.
 static void flush_owners(const struct fuse_in_header *release, uint64_t fh)
 {
     table_lock();

@@ -1,5 +1,5 @@
-// What the carrier knows of open files, of the owners of record locks set through them, and of messages whose replies it
-// reads.
+// What the carrier knows of open files, of the owners of record locks set through them, and of
+// messages whose replies it reads.
 #include "mount.h"
 
 #include <stdatomic.h>
@@ -83,8 +83,8 @@ void open_owner_flushes(uint64_t fh, uint64_t owner)
         drop_owner(at);
 }
 
-// Whether the owner also has record locks through another open file. The kernel makes owners of addresses, and a new open
-// file may stand where the old one stood: its locks are not dropped.
+// Whether the owner also has record locks through another open file. The kernel makes owners of
+// addresses, and a new open file may stand where the old one stood: its locks are not dropped.
 static bool has_elsewhere(const struct open_file *file, uint64_t owner)
 {
     for (size_t i = 0; i < BUCKETS; i++)

@@ -1,4 +1,5 @@
-// A library for LD_PRELOAD: what lockd_mount reads of /dev/fuse is a kernel's that speaks FUSE 7.27.
+// A library for LD_PRELOAD: what lockd_mount reads of /dev/fuse is a kernel's that speaks FUSE
+// 7.27.
 #define _GNU_SOURCE
 #include <linux/fuse.h>
 #include <sys/syscall.h>
