@@ -4,7 +4,7 @@ from try_mount_kit import *
 
 # A server that says what its first word tells. It answers INIT, and that a name isn't there.
 BAD_SERVER = """
-import os, socket, struct, sys, time
+import os, select, socket, struct, sys, time
 HOW = sys.argv[0].rpartition("/")[2]
 if sys.argv[1] != "serve":
     print("legal")
@@ -23,10 +23,11 @@ if "--trace" in sys.argv and sys.argv[sys.argv.index("--trace") + 1] != "none":
     open(sys.argv[sys.argv.index("--trace") + 1], "x").close()
 connection = listening.accept()[0]
 while True:
-    message = connection.recv(8192)
-    if len(message) < 40:
+    head = connection.recv(40, socket.MSG_WAITALL)
+    if len(head) < 40:
         break
-    opcode, unique = struct.unpack_from("<4xIQ", message)
+    length, opcode, unique = struct.unpack_from("<IIQ", head)
+    message = head + connection.recv(length - 40, socket.MSG_WAITALL) if length > 40 else head
     error, body, size = 0, b"", 0
     if opcode == 26 and HOW == "refuses_init":
         error = -71
@@ -42,6 +43,14 @@ while True:
         size = 9
     elif HOW == "bad_bodies" and b"body" in message:
         body = bytes(7)
+    elif opcode == 35:
+        body = struct.pack("<Q32xQ52x4I12xQ8x", 2, 2, 0o100644, 1, 0, 0, 1)
+    elif opcode == 25 and unique >> 63:
+        time.sleep(0.3)
+        if select.select([connection], [], [], 0)[0]:
+            sys.exit(5)
+    elif opcode in (18, 25, 32):
+        pass
     elif opcode == 3:
         body = struct.pack("<16xQ52xIIII12x", 1, 0o40755, 2, 0, 0)
     else:
@@ -257,6 +266,16 @@ def try_a_reply_of_a_bad_length():
     same(mount.end(lambda: None), (3, "legal"))
     mount.says("lockd_mount: the server sent a reply of a length that none has\n")
     assert not mount.is_mounted()
+
+
+def try_no_message_goes_before_the_reply_to_a_flush_of_the_carrier():
+    """It would be taken first by one of several workers, and the owner may be that of the next open file."""
+    mount = Mount(LOCKD=bad_server("answers"))
+    fd = os.open(f"{mount.folder}/held", os.O_RDWR | os.O_CREAT)
+    ofd(fd, WRITE)
+    os.close(fd)
+    same(outcome(os.stat, f"{mount.folder}/another"), "ENOENT")
+    same(mount.end(), (0, "legal"))
 
 
 def try_a_reply_that_the_kernel_refuses_is_said_at_once():

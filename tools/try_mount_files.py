@@ -66,11 +66,11 @@ def try_nothing_says_that_the_kernel_lacks_it(mount):
         (fcntl.fcntl, fd, fcntl.F_SETLEASE, READ), (os.replace, path, f"{path}_not"),
     ]
     found = [(function.__name__, outcome(function, *words)) for function, *words in calls]
-    same([it for it in found if it[1] == "ENOSYS"], [])
-    same([it[1] for it in found if it[0] in ("bind", "mknod")], ["EPERM", "EPERM"])
     for it in fd, other, folder:
         os.close(it)
     listening.close()
+    same([it for it in found if it[1] == "ENOSYS"], [])
+    same([it[1] for it in found if it[0] in ("bind", "mknod")], ["EPERM", "EPERM"])
 
 
 def try_files_that_the_kernel_lets_go_at_once():

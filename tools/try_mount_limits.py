@@ -108,14 +108,14 @@ def try_a_full_trace_is_said_while_it_runs():
 
 
 def try_a_full_trace_may_refuse_locks():
-    """Until there is room again: then nothing is lost."""
+    """Once the server has no room for more lines, until the disk has: then nothing is lost."""
     disk = tempfile.mkdtemp(dir=WORK)
     subprocess.run(["mount", "-t", "tmpfs", "-o", "size=4k", "none", disk], check=True, timeout=PATIENCE)
     mount = Mount("--trace", f"{disk}/trace", "--trace-full", "refuse")
     fd = os.open(f"{mount.folder}/job", os.O_RDWR | os.O_CREAT)
-    until(lambda: outcome(fcntl.flock, fd, ALONE) == "ENOMEM")
+    until(lambda: "ENOMEM" in [outcome(fcntl.flock, fd, ALONE) for _ in range(3000)])
     same(outcome(fcntl.flock, fd, NOT_HELD), "ENOMEM")
-    subprocess.run(["mount", "-i", "-o", "remount,size=1m", disk], check=True, timeout=PATIENCE)
+    subprocess.run(["mount", "-i", "-o", "remount,size=9m", disk], check=True, timeout=PATIENCE)
     until(lambda: outcome(fcntl.flock, fd, NOT_HELD) is None)
     shell(mount, "flock -n job echo in", "in")
     os.close(fd)
