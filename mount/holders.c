@@ -64,8 +64,8 @@ const char *holders_text(const struct holders *holders)
     snprintf(text, sizeof text, "that can't be seen");
     for (int i = 0; i < shown; i++)
         size += snprintf(text + size, sizeof text - (size_t)size, i ? " %d" : "%d", holders->pids[i]);
-    if (holders->count > shown)
-        snprintf(text + size, sizeof text - (size_t)size, " and %d more", holders->count - shown);
+    if (holders->count > MOST_HOLDERS)
+        snprintf(text + size, sizeof text - (size_t)size, " and %d more", holders->count - MOST_HOLDERS);
     return text;
 }
 

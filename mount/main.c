@@ -213,10 +213,11 @@ static void tick(void)
 // Waits for an end, and gives the signal that asked for it, or 0.
 static int run(void)
 {
-    int fault, signal;
+    int fault;
     double next = seconds() + TICK / 1000.0;
     while (carrier_end(&fault) == RUNNING) {
-        if ((signal = signal_to_end()) != 0)
+        int signal = signal_to_end();
+        if (signal)
             return signal;
         if (seconds() >= next) {
             tick();

@@ -170,7 +170,7 @@ static size_t change_create(const struct fuse_in_header *head, const char *body,
         return refused(head, ENAMETOOLONG);
     struct node *node = node_named(name);
     if (node && is_folder(node))
-        return refused(head, create.flags & O_EXCL ? EEXIST : EISDIR);
+        return refused(head, (create.flags & O_EXCL) ? EEXIST : EISDIR);
     struct asked *asked = remember(head, name);
     if (asked)
         asked->mode = S_IFREG | (create.mode & 07777);
