@@ -29,6 +29,8 @@ while True:
     length, opcode, unique = struct.unpack_from("<IIQ", head)
     message = head + connection.recv(length - 40, socket.MSG_WAITALL) if length > 40 else head
     error, body, size = 0, b"", 0
+    if {1: "no_lookup", 26: "no_init"}.get(opcode) == HOW:
+        continue
     if opcode == 26 and HOW == "refuses_init":
         error = -71
     elif opcode == 26 and HOW == "bad_length":
@@ -258,6 +260,22 @@ def try_term_before_it_is_mounted():
     said, wrong = begun.communicate(timeout=PATIENCE)
     same((begun.returncode, said, is_mounted(folder)), (2, "", False))
     contains(wrong, "ended before anything was mounted")
+
+
+def try_ready_is_not_said_before_init_and_a_lookup_are_answered():
+    for how in "no_init", "no_lookup":
+        folder, listening = tempfile.mkdtemp(dir=WORK), socket.socket(socket.AF_UNIX, socket.SOCK_DGRAM)
+        listening.bind(f"{WORK}/notify_{how}")
+        listening.setblocking(False)
+        begun = subprocess.Popen([PROGRAM, folder], stdout=subprocess.PIPE, stderr=subprocess.PIPE, text=True,
+                                 env={**os.environ, "TMPDIR": WORK, "LOCKD": bad_server(how), "NOTIFY_SOCKET": f"{WORK}/notify_{how}"})
+        until(lambda: is_mounted(folder))
+        time.sleep(0.5)
+        same((begun.poll(), outcome(listening.recv, 4096)), (None, "EAGAIN"))
+        begun.terminate()
+        said, wrong = begun.communicate(timeout=PATIENCE)
+        same((begun.returncode, said, is_mounted(folder), outcome(listening.recv, 4096)), (2, "", False, "EAGAIN"))
+        contains(wrong, "nothing is mounted")
 
 
 def try_a_reply_of_a_bad_length():
