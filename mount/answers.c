@@ -1,4 +1,5 @@
-// Answers to messages that the server never sees: those for the folder's list, attributes, sizes, and what isn't done.
+// Answers to messages that the server never sees: those for the folder's list, attributes, sizes,
+// and what isn't done.
 #include "mount.h"
 
 #include <errno.h>
@@ -85,7 +86,8 @@ static void set_attributes(struct node *node, const struct fuse_setattr_in *in)
     node->ctime = now();
 }
 
-// The kernel has checked who may. A file has no data, so its size is 0, also where one is to be thrown away.
+// The kernel has checked who may. A file has no data, so its size is 0, also where one is to be
+// thrown away.
 static bool change_attributes(const struct fuse_in_header *head, const char *body, size_t size)
 {
     struct fuse_setattr_in in;

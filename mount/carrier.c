@@ -37,7 +37,8 @@ static struct {
     struct letter *first, **last; // under the lock
     _Alignas(CACHE_LINE) atomic_ullong replies;
     atomic_ullong refused, lines;
-    _Alignas(CACHE_LINE) atomic_ullong seen[OPCODES]; // messages by opcode; those of all greater ones in the last
+    // Messages by opcode; those of all greater ones in the last.
+    _Alignas(CACHE_LINE) atomic_ullong seen[OPCODES];
 } it = {.lock = PTHREAD_MUTEX_INITIALIZER};
 
 // Adds one where no other thread writes.
@@ -64,8 +65,9 @@ static void *finish(enum end end, int fault)
     return NULL;
 }
 
-// A thread that finds nothing to carry spins again 60 times before it sleeps, since to be woken takes longer than a call.
-// After spins that found nothing, 64 sleeps come without: calls that come seldom cost little, and where none come it sleeps.
+// A thread that finds nothing to carry spins again 60 times before it sleeps, since to be woken
+// takes longer than a call. After spins that found nothing, 64 sleeps come without: calls that come
+// seldom cost little, and where none come it sleeps.
 enum { SPINS = 60, UNSPUN = 64 };
 struct spinner {
     int spins, unspun;
@@ -96,7 +98,8 @@ static bool send_all(const char *from, size_t size)
     return true;
 }
 
-// The thread that carries replies must not wait for the server to read, so it leaves its messages here.
+// The thread that carries replies must not wait for the server to read, so it leaves its messages
+// here.
 void send_later(const void *message, size_t size)
 {
     struct letter *letter = malloc(sizeof *letter);
@@ -138,16 +141,30 @@ static bool send_letters(void)
     return well;
 }
 
-static void sleep_for_messages(void)
+// Sleeps until it is woken, or also until the kernel has a message.
+static void sleep_until_woken(bool or_message)
 {
-    struct pollfd events[] = {{.fd = it.device, .events = POLLIN}, {.fd = it.wake, .events = POLLIN}};
+    struct pollfd events[] = {{.fd = it.wake, .events = POLLIN}, {.fd = it.device, .events = POLLIN}};
     uint64_t times;
-    poll(events, 2, -1);
-    if (events[1].revents && read(it.wake, &times, sizeof times) < 0)
+    poll(events, or_message ? 2 : 1, -1);
+    if (events[0].revents && read(it.wake, &times, sizeof times) < 0)
         return;
 }
 
-// One message for each read. ENOENT says that a request was given up before it was read, ENODEV that nothing is mounted.
+// Letters go first, and nothing goes before the reply to a FLUSH among them: one of several workers
+// might take it first. The next open file may stand where the closed one stood, and have its owner.
+static bool send_letters_first(void)
+{
+    if (!atomic_load(&it.letters))
+        return true;
+    bool well = send_letters();
+    while (well && atomic_load(&session.flushes) && !atomic_load(&it.stops))
+        sleep_until_woken(false);
+    return well;
+}
+
+// One message for each read. ENOENT says that a request was given up before it was read, ENODEV
+// that nothing is mounted.
 static void *carry_messages(void *unused)
 {
     static _Alignas(8) char message[MOST + 16];
@@ -155,14 +172,14 @@ static void *carry_messages(void *unused)
     (void)unused;
     while (!atomic_load_explicit(&it.stops, memory_order_relaxed)) {
         // Where the server has closed its side, `carry_replies` sees the end after the last reply.
-        if (atomic_load(&it.letters) && !send_letters())
+        if (!send_letters_first())
             return NULL;
         ssize_t size = read(it.device, message, MOST);
         if (size < 0 && (errno == EINTR || errno == ENOENT))
             continue;
         if (size < 0 && errno == EAGAIN) {
             if (!spins_again(&me))
-                sleep_for_messages();
+                sleep_until_woken(true);
             continue;
         }
         me.spins = 0;
@@ -173,7 +190,7 @@ static void *carry_messages(void *unused)
         uint32_t opcode = ((struct fuse_in_header *)(void *)message)->opcode;
         count(&it.seen[opcode < OPCODES ? opcode : OPCODES - 1]);
         size_t left = change_message(message, (size_t)size);
-        if (left && !send_all(message, left))
+        if (!send_letters_first() || (left && !send_all(message, left)))
             return NULL;
     }
     return NULL;
@@ -181,7 +198,8 @@ static void *carry_messages(void *unused)
 
 // ---- To the kernel ----
 
-// Whoever waited for a reply that the kernel refuses gets EIO. It is said at once, once a second at most.
+// Whoever waited for a reply that the kernel refuses gets EIO. It is said at once, once a second at
+// most.
 static void say_refused(int error)
 {
     static atomic_llong last = -1;
@@ -227,12 +245,18 @@ void carrier_agreed(void)
     signal_to(it.news);
 }
 
+void carrier_flushed(void)
+{
+    signal_to(it.wake);
+}
+
 void carrier_refused_init(int error)
 {
     finish(NOT_AGREED, error);
 }
 
-// Whether an order with this reply is a line of the trace: looks of several workers aren't, nor is what isn't one.
+// Whether an order with this reply is a line of the trace: looks of several workers aren't, nor is
+// what isn't one.
 static bool is_a_line(const struct fuse_out_header *head)
 {
     size_t body = head->len - sizeof *head;
@@ -240,8 +264,8 @@ static bool is_a_line(const struct fuse_out_header *head)
     return is_order && body != sizeof(struct fuse_attr_out) && body != sizeof(struct fuse_lk_out);
 }
 
-// The replies at the front of these bytes are written one at a time. Gives how many bytes they had, or -1 at a length that
-// no reply has, or -2 where nothing is mounted any more.
+// The replies at the front of these bytes are written one at a time. Gives how many bytes they had,
+// or -1 at a length that no reply has, or -2 where nothing is mounted any more.
 static ssize_t write_replies(char *bytes, size_t held)
 {
     struct fuse_out_header head;

@@ -64,8 +64,8 @@ const char *holders_text(const struct holders *holders)
     snprintf(text, sizeof text, "that can't be seen");
     for (int i = 0; i < shown; i++)
         size += snprintf(text + size, sizeof text - (size_t)size, i ? " %d" : "%d", holders->pids[i]);
-    if (holders->count > shown)
-        snprintf(text + size, sizeof text - (size_t)size, " and %d more", holders->count - shown);
+    if (holders->count > MOST_HOLDERS)
+        snprintf(text + size, sizeof text - (size_t)size, " and %d more", holders->count - MOST_HOLDERS);
     return text;
 }
 
@@ -121,8 +121,8 @@ struct mounts find_mounts(pid_t pid, dev_t device, const char *path)
     return found;
 }
 
-// Whether the number is that of another file system by now: the kernel gives numbers again. A lockd's that is seen at
-// another path may be the one that is asked for, in a container.
+// Whether the number is that of another file system by now: the kernel gives numbers again. A
+// lockd's that is seen at another path may be the one that is asked for, in a container.
 static bool is_given_again(dev_t device, const struct holders *holders)
 {
     if (record_of_living(device))
@@ -151,7 +151,8 @@ bool connection_lives(dev_t device, struct holders *holders)
 {
     char connection[64];
     find_holders(device, holders);
-    // Files under way in a socket have no holder. But the kernel may tell that it has the connection, and it isn't mounted.
+    // Files under way in a socket have no holder. But the kernel may tell that it has the
+    // connection, and it isn't mounted.
     snprintf(connection, sizeof connection, "/sys/fs/fuse/connections/%u", minor(device));
     bool lives = holders->count || (!access(connection, F_OK) && !is_mounted(device));
     return lives && !is_given_again(device, holders);

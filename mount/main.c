@@ -1,4 +1,5 @@
-// Mounts a lock directory at a folder, over a server of its own, until the folder is unmounted or a signal comes.
+// Mounts a lock directory at a folder, over a server of its own, until the folder is unmounted or a
+// signal comes.
 #include "mount.h"
 
 #include <errno.h>
@@ -11,7 +12,8 @@
 #include <sys/signalfd.h>
 #include <unistd.h>
 
-enum { TICK = 3000, STEP = 50, INIT_PATIENCE = 20 }; // milliseconds; seconds until INIT has to be answered
+enum { TICK = 3000, STEP = 50 }; // milliseconds
+enum { INIT_PATIENCE = 20 }; // seconds until INIT has to be answered
 enum { ABORT_TRIES = 40 };
 
 static struct {
@@ -24,8 +26,9 @@ static struct {
 
 // ---- Signals ----
 
-// They are blocked in every thread and read from a descriptor. A shell starts what is in its background with SIGINT
-// ignored, so that is undone. Where nobody reads what it prints, it has to unmount all the same.
+// They are blocked in every thread and read from a descriptor. A shell starts what is in its
+// background with SIGINT ignored, so that is undone. Where nobody reads what it prints, it has to
+// unmount all the same.
 static void take_signals(void)
 {
     const int taken[] = {SIGHUP, SIGINT, SIGTERM, SIGUSR1};
@@ -210,10 +213,11 @@ static void tick(void)
 // Waits for an end, and gives the signal that asked for it, or 0.
 static int run(void)
 {
-    int fault, signal;
+    int fault;
     double next = seconds() + TICK / 1000.0;
     while (carrier_end(&fault) == RUNNING) {
-        if ((signal = signal_to_end()) != 0)
+        int signal = signal_to_end();
+        if (signal)
             return signal;
         if (seconds() >= next) {
             tick();
@@ -237,7 +241,8 @@ static unsigned open_files(struct holders *holders)
     return count;
 }
 
-// Unmounts as soon as no file is open, or else after the grace or at a second signal. Gives whether nobody was cut off.
+// Unmounts as soon as no file is open, or else after the grace or at a second signal. Gives whether
+// nobody was cut off.
 static bool unmount_by(int signal)
 {
     struct holders holders = {0};
@@ -283,8 +288,8 @@ static int end_by(int signal)
     return STATUS_LOST;
 }
 
-// Files are still open, and their processes think that they hold locks. So the folder stays mounted, and each access there
-// fails: nobody locks a file of the folder below instead.
+// Files are still open, and their processes think that they hold locks. So the folder stays
+// mounted, and each access there fails: nobody locks a file of the folder below instead.
 static void leave_dead(const struct holders *holders)
 {
     bool mounted = place_is_mounted(&it.place);
@@ -315,8 +320,8 @@ static int say_unexpected(enum end end, int fault)
     }
 }
 
-// Whether files are still open although the kernel ended the connection. It tells of that a moment before it is gone, and a
-// RELEASE that it hadn't sent by then is lost.
+// Whether files are still open although the kernel ended the connection. It tells of that a moment
+// before it is gone, and a RELEASE that it hadn't sent by then is lost.
 static bool is_aborted(struct holders *holders)
 {
     for (int i = 0; i < ABORT_TRIES; i++) {

@@ -1,7 +1,8 @@
 // What is changed in messages on their way from the kernel to the server.
 //
 // - The owner of a whole-file lock becomes the number of the open file.
-// - Before a RELEASE the owners of record locks who didn't flush are flushed: these are locks of open file descriptions.
+// - Before a RELEASE the owners of record locks who didn't flush are flushed: these are locks of
+//   open file descriptions.
 // - MKDIR and MKNOD become CREATE and RELEASE, and RMDIR becomes UNLINK.
 // - What the server has no message for is answered by answers.c.
 #include "mount.h"
@@ -10,8 +11,6 @@
 #include <fcntl.h>
 #include <stdlib.h>
 #include <string.h>
-
-enum { MOST_OWNERS = 64 };
 
 struct session session;
 
@@ -31,7 +30,8 @@ static bool read_body(void *to, size_t want, const char *body, size_t size)
     return true;
 }
 
-// The name that stands at the end of a body, behind so many bytes, or NULL where there is none, or an empty one.
+// The name that stands at the end of a body, behind so many bytes, or NULL where there is none, or
+// an empty one.
 static const char *name_in(const char *body, size_t size, size_t before)
 {
     return size > before && !body[size - 1] && body[before] ? body + before : NULL;
@@ -49,8 +49,8 @@ static void remember_init(const struct fuse_in_header *head, const char *body, s
 
 // ---- Locks ----
 
-// Whole-file locks belong to an open file, and its number is never given twice. The kernel says a hash of where the open
-// file stands in memory, where the next one may stand soon.
+// Whole-file locks belong to an open file, and its number is never given twice. The kernel says a
+// hash of where the open file stands in memory, where the next one may stand soon.
 static void change_lock(const struct fuse_in_header *head, char *body, size_t size)
 {
     struct fuse_lk_in lock;
@@ -78,8 +78,8 @@ static void see_flush(const char *body, size_t size)
     table_unlock();
 }
 
-// A FLUSH of this owner, whose reply lets the RELEASE go.
-static bool flush_for(struct held *held, const struct fuse_in_header *release, uint64_t fh, uint64_t owner)
+// A FLUSH of this owner. The thread that carries messages sends no other one before its reply.
+static void flush_for(const struct fuse_in_header *release, uint64_t fh, uint64_t owner)
 {
     struct {
         struct fuse_in_header head;
@@ -88,34 +88,22 @@ static bool flush_for(struct held *held, const struct fuse_in_header *release, u
     flush.head.len = sizeof flush;
     flush.head.opcode = FUSE_FLUSH;
     flush.head.unique = own_number();
-    struct asked *asked = asked_new(flush.head.unique, FUSE_FLUSH, "");
-    if (!asked)
-        return false;
-    asked->held = held;
-    held->flushes++;
+    if (!asked_new(flush.head.unique, FUSE_FLUSH, ""))
+        return;
+    atomic_fetch_add(&session.flushes, 1);
     send_later(&flush, sizeof flush);
-    return true;
 }
 
-// Locks of an open file description go with its last close, which the kernel tells by RELEASE alone. A process flushes
-// before that, so who didn't is such a description. Gives false where the RELEASE has to wait.
-static bool may_release(const char *message, size_t size, const struct fuse_in_header *head, uint64_t fh)
+// Locks of an open file description go with its last close, which the kernel tells by RELEASE
+// alone. A process flushes before that, so who didn't is such a description.
+static void flush_owners(const struct fuse_in_header *release, uint64_t fh)
 {
-    uint64_t owners[MOST_OWNERS];
     table_lock();
-    size_t count = open_closed(fh, owners, MOST_OWNERS);
-    struct held *held = count ? calloc(1, sizeof *held) : NULL;
-    for (size_t i = 0; held && i < count; i++)
-        flush_for(held, head, fh, owners[i]);
-    bool waits = held && held->flushes && size <= sizeof held->message;
-    if (waits) {
-        memcpy(held->message, message, size);
-        held->size = size;
-    } else {
-        free(held);
-    }
+    struct owner *owners = open_closed(fh);
+    for (const struct owner *it = owners; it; it = it->next)
+        flush_for(release, fh, it->id);
+    owners_end(owners);
     table_unlock();
-    return !waits;
 }
 
 static size_t change_release(char *message, size_t size, const struct fuse_in_header *head)
@@ -129,7 +117,8 @@ static size_t change_release(char *message, size_t size, const struct fuse_in_he
     release.lock_owner = release.fh;
     memcpy(body, &release, sizeof release);
 #endif
-    return may_release(message, size, head, release.fh) ? size : 0;
+    flush_owners(head, release.fh);
+    return size;
 }
 
 void release_now(const struct asked *asked, uint64_t node, uint64_t fh)
@@ -181,7 +170,7 @@ static size_t change_create(const struct fuse_in_header *head, const char *body,
         return refused(head, ENAMETOOLONG);
     struct node *node = node_named(name);
     if (node && is_folder(node))
-        return refused(head, create.flags & O_EXCL ? EEXIST : EISDIR);
+        return refused(head, (create.flags & O_EXCL) ? EEXIST : EISDIR);
     struct asked *asked = remember(head, name);
     if (asked)
         asked->mode = S_IFREG | (create.mode & 07777);

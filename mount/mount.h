@@ -15,7 +15,8 @@
 #include <sys/types.h>
 #include <time.h>
 
-// The kernel refuses to write into less than this, and a message that is longer would be none of the server's.
+// The kernel refuses to write into less than this, and a message that is longer would be none of
+// the server's.
 enum { MOST = FUSE_MIN_READ_BUFFER };
 enum { ROOT = FUSE_ROOT_ID };
 // As many files as the server has at once.
@@ -45,7 +46,8 @@ void read_options(int argc, char **argv, struct options *options);
 
 // ---- say.c ----
 
-// One line on standard error; `fail` ends the program with STATUS_NOT_MOUNTED, and says the error's name too if there is one.
+// One line on standard error; `fail` ends the program with STATUS_NOT_MOUNTED, and says the error's
+// name too if there is one.
 void say(const char *what, ...) __attribute__((format(printf, 1, 2)));
 void fail(const char *what, ...) __attribute__((format(printf, 1, 2), noreturn));
 // What the service manager reads, where one started the program.
@@ -69,7 +71,8 @@ struct server {
 void server_start(struct server *server, const struct options *options, bool (*stops)(void));
 // Kills a server that nobody will ask anything, and takes its files away.
 void server_drop(struct server *server);
-// Waits for its end, after its connection was closed, and judges the trace. Gives the status, which is at least this one.
+// Waits for its end, after its connection was closed, and judges the trace. Gives the status, which
+// is at least this one.
 int server_finish(struct server *server, const struct options *options, int status);
 
 // ---- place.c ----
@@ -82,7 +85,8 @@ struct place {
     bool is_root;
 };
 
-// Opens the folder and refuses what can't be mounted at. Waits for an earlier mount of it until `grace` seconds are over.
+// Opens the folder and refuses what can't be mounted at. Waits for an earlier mount of it until
+// `grace` seconds are over.
 void place_open(struct place *place, const struct options *options, bool (*stops)(void));
 // Mounts, and gives the open device, or -1 with a line said.
 int place_mount(struct place *place, const struct options *options);
@@ -101,16 +105,19 @@ struct holders {
     pid_t pids[MOST_HOLDERS];
 };
 
-// The processes that have a file, or their current or root folder, in the file system of this number.
+// The processes that have a file, or their current or root folder, in the file system of this
+// number.
 void find_holders(dev_t device, struct holders *holders);
 // Their numbers as text: "12, 15 and 3 more".
 const char *holders_text(const struct holders *holders);
-// Where a process sees this number mounted: a lockd's at the path or elsewhere, and what isn't a lockd's.
+// Where a process sees this number mounted: a lockd's at the path or elsewhere, and what isn't a
+// lockd's.
 struct mounts {
     bool here, elsewhere, others;
 };
 struct mounts find_mounts(pid_t pid, dev_t device, const char *path);
-// Whether the connection that was mounted under this number is in use, perhaps by processes that can't be seen.
+// Whether the connection that was mounted under this number is in use, perhaps by processes that
+// can't be seen.
 bool connection_lives(dev_t device, struct holders *holders);
 
 // ---- record.c ----
@@ -146,8 +153,10 @@ void carrier_print_opcodes(void);
 // For the kernel, of either thread. False where nothing is mounted any more.
 bool write_reply(const char *reply, size_t size);
 bool answer(uint64_t unique, int error, const void *body, size_t size);
-// For the server, by the thread that carries messages.
+// For the server, by the thread that carries messages, before the message that it has at hand.
 void send_later(const void *message, size_t size);
+// The last FLUSH of the carrier's own was answered.
+void carrier_flushed(void);
 void carrier_agreed(void);
 void carrier_refused_init(int error);
 
@@ -157,8 +166,8 @@ void carrier_refused_init(int error);
 #define OURS ((uint64_t)1 << 63)
 struct asked;
 
-// What is changed in a message of the kernel before the server gets it: its size from then on, or 0 where it doesn't get it.
-// There is room for 16 bytes more.
+// What is changed in a message of the kernel before the server gets it: its size from then on, or 0
+// where it doesn't get it. There is room for 16 bytes more.
 size_t change_message(char *message, size_t size);
 // Closes what MKDIR or MKNOD made, at the server. Under table_lock.
 void release_now(const struct asked *asked, uint64_t node, uint64_t fh);
@@ -166,6 +175,7 @@ void release_now(const struct asked *asked, uint64_t node, uint64_t fh);
 // What both directions know of the session. `minor` is the kernel's.
 extern struct session {
     atomic_uint_least64_t init; // unique of the INIT that waits for its reply, or 0
+    atomic_uint flushes; // the carrier's own that wait for their replies
     uint32_t minor;
     bool offers_truncation, discards;
 } session;
@@ -211,13 +221,19 @@ void describe(struct fuse_attr *attr, const struct node *node);
 
 // ---- opens.c: all under table_lock ----
 
-struct open_file;
+// Owners of record locks, in a list.
+struct owner {
+    struct owner *next;
+    uint64_t id;
+};
+
 void open_made(uint64_t fh, uint64_t node, uint32_t pid);
 // This owner asked for a record lock through the open file, or its FLUSH came through it.
 void open_owner_asks(uint64_t fh, uint64_t owner);
 void open_owner_flushes(uint64_t fh, uint64_t owner);
-// The file is closed. Gives how many owners have to be flushed first, in `owners`, at most so many.
-size_t open_closed(uint64_t fh, uint64_t *owners, size_t most);
+// The file is closed. Gives the owners who have to be flushed first.
+struct owner *open_closed(uint64_t fh);
+void owners_end(struct owner *first);
 unsigned opens_count(void);
 // Those who opened what is still open.
 void openers(struct holders *holders);
@@ -228,14 +244,7 @@ struct asked {
     struct asked *next;
     uint64_t unique, node;
     uint32_t opcode, mode, uid, gid, pid, flags;
-    struct held *held;
     char name[];
-};
-// A RELEASE that waits until the FLUSHes before it are answered.
-struct held {
-    unsigned flushes;
-    size_t size;
-    char message[sizeof(struct fuse_in_header) + sizeof(struct fuse_release_in)];
 };
 
 struct asked *asked_new(uint64_t unique, uint32_t opcode, const char *name);

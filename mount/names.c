@@ -1,5 +1,5 @@
-// What the carrier knows of the files: names, kinds, modes, owners and times. It is the server's only client, so each name
-// that is made or unlinked goes by here.
+// What the carrier knows of the files: names, kinds, modes, owners and times. It is the server's
+// only client, so each name that is made or unlinked goes by here.
 #include "mount.h"
 
 #include <pthread.h>

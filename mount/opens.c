@@ -1,5 +1,5 @@
-// What the carrier knows of open files, of the owners of record locks set through them, and of messages whose replies it
-// reads.
+// What the carrier knows of open files, of the owners of record locks set through them, and of
+// messages whose replies it reads.
 #include "mount.h"
 
 #include <stdatomic.h>
@@ -7,11 +7,6 @@
 #include <string.h>
 
 enum { BUCKETS = 1024 };
-
-struct owner {
-    struct owner *next;
-    uint64_t id;
-};
 
 struct open_file {
     struct open_file *next;
@@ -63,6 +58,19 @@ void open_owner_asks(uint64_t fh, uint64_t owner)
     file->owners = it;
 }
 
+static void drop_owner(struct owner **at)
+{
+    struct owner *gone = *at;
+    *at = gone->next;
+    free(gone);
+}
+
+void owners_end(struct owner *first)
+{
+    while (first)
+        drop_owner(&first);
+}
+
 void open_owner_flushes(uint64_t fh, uint64_t owner)
 {
     struct open_file *file = open_of(fh);
@@ -71,15 +79,12 @@ void open_owner_flushes(uint64_t fh, uint64_t owner)
     struct owner **at = &file->owners;
     while (*at && (*at)->id != owner)
         at = &(*at)->next;
-    if (*at) {
-        struct owner *gone = *at;
-        *at = gone->next;
-        free(gone);
-    }
+    if (*at)
+        drop_owner(at);
 }
 
-// Whether the owner also has record locks through another open file. The kernel makes owners of addresses, and a new open
-// file may stand where the old one stood: its locks are not dropped.
+// Whether the owner also has record locks through another open file. The kernel makes owners of
+// addresses, and a new open file may stand where the old one stood: its locks are not dropped.
 static bool has_elsewhere(const struct open_file *file, uint64_t owner)
 {
     for (size_t i = 0; i < BUCKETS; i++)
@@ -89,26 +94,25 @@ static bool has_elsewhere(const struct open_file *file, uint64_t owner)
     return false;
 }
 
-size_t open_closed(uint64_t fh, uint64_t *owners, size_t most)
+struct owner *open_closed(uint64_t fh)
 {
     struct open_file **at = &opens[fh % BUCKETS];
     while (*at && (*at)->fh != fh)
         at = &(*at)->next;
     struct open_file *file = *at;
     if (!file)
-        return 0;
-    size_t count = 0;
-    while (file->owners) {
-        struct owner *it = file->owners;
-        if (count < most && !has_elsewhere(file, it->id))
-            owners[count++] = it->id;
-        file->owners = it->next;
-        free(it);
-    }
+        return NULL;
+    struct owner **owner = &file->owners;
+    while (*owner)
+        if (has_elsewhere(file, (*owner)->id))
+            drop_owner(owner);
+        else
+            owner = &(*owner)->next;
+    struct owner *left = file->owners;
     *at = file->next;
     free(file);
     opened--;
-    return count;
+    return left;
 }
 
 unsigned opens_count(void)
@@ -131,15 +135,11 @@ void openers(struct holders *holders)
 
 void opens_end(void)
 {
-    uint64_t none;
     for (size_t i = 0; i < BUCKETS; i++) {
         while (opens[i])
-            open_closed(opens[i]->fh, &none, 0);
+            owners_end(open_closed(opens[i]->fh));
         for (struct asked *it = asked[i], *next; it; it = next) {
             next = it->next;
-            // Several FLUSHes share what they hold.
-            if (it->held && !--it->held->flushes)
-                free(it->held);
             free(it);
         }
         asked[i] = NULL;

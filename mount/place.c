@@ -16,11 +16,13 @@
 #include <sys/wait.h>
 #include <unistd.h>
 
-enum { STEP = 50000, PATIENCE = 10 }; // microseconds between two tries; seconds until a lookup has to be answered
+enum { STEP = 50000 }; // microseconds between two tries
+enum { PATIENCE = 10 }; // seconds until a lookup has to be answered
 
 // ---- fusermount3 ----
 
-// A child that has become `fusermount3` with these words; its channel is the socket that it sends the device through.
+// A child that has become `fusermount3` with these words; its channel is the socket that it sends
+// the device through.
 static pid_t fusermount(int channel, const char *const words[], bool silent)
 {
     pid_t child = fork();
@@ -51,7 +53,9 @@ static int received(int channel)
         struct cmsghdr head;
     } control;
     struct iovec one = {&byte, 1};
-    struct msghdr message = {.msg_iov = &one, .msg_iovlen = 1, .msg_control = &control, .msg_controllen = sizeof control};
+    struct msghdr message = {.msg_iov = &one, .msg_iovlen = 1};
+    message.msg_control = control.room;
+    message.msg_controllen = sizeof control.room;
     int device = -1;
     ssize_t got;
     while ((got = recvmsg(channel, &message, MSG_CMSG_CLOEXEC)) < 0 && errno == EINTR)
@@ -197,7 +201,8 @@ static dev_t open_folder(struct place *place, const char *path)
     return device;
 }
 
-// Refuses a folder where a carrier's mount is. One whose carrier was killed is taken away if nobody is left in it.
+// Refuses a folder where a carrier's mount is. One whose carrier was killed is taken away if nobody
+// is left in it.
 static bool is_free(struct place *place, const struct options *options, enum record record, struct holders *holders)
 {
     dev_t device = open_folder(place, options->folder);
@@ -223,7 +228,8 @@ static bool has_earlier_mount(struct holders *holders)
     return device && connection_lives(device, holders);
 }
 
-// Opens the folder below. A carrier of it that still runs, perhaps after `umount -l`, has it locked.
+// Opens the folder below. A carrier of it that still runs, perhaps after `umount -l`, has it
+// locked.
 static bool take_folder(struct place *place)
 {
     struct stat at;

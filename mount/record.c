@@ -1,5 +1,6 @@
-// The record of a mount, in /run/lockd_mount or $XDG_RUNTIME_DIR/lockd_mount. It outlives a carrier that was killed, and tells
-// the next one by which number the kernel had the mount. A carrier that runs has its record locked.
+// The record of a mount, in /run/lockd_mount or $XDG_RUNTIME_DIR/lockd_mount. It outlives a carrier
+// that was killed, and tells the next one by which number the kernel had the mount. A carrier that
+// runs has its record locked.
 #include "mount.h"
 
 #include <dirent.h>

@@ -94,22 +94,14 @@ static void change_opened(char *body, const struct asked *asked)
     memcpy(body, &open, sizeof open);
 }
 
-// Lets a RELEASE go once all that were to be flushed before it are.
-static void see_flushed(struct held *held)
-{
-    if (held && !--held->flushes) {
-        send_later(held->message, held->size);
-        free(held);
-    }
-}
-
 static size_t change_awaited(char *reply, size_t size, const struct asked *asked, int error)
 {
     size_t length = size - sizeof(struct fuse_out_header);
     bool makes = asked->opcode == FUSE_CREATE || asked->opcode == FUSE_MKDIR || asked->opcode == FUSE_MKNOD;
     bool made = makes && length == sizeof(struct fuse_entry_out) + sizeof(struct fuse_open_out);
     if (asked->unique & OURS) {
-        see_flushed(asked->held);
+        if (asked->opcode == FUSE_FLUSH && atomic_fetch_sub(&session.flushes, 1) == 1)
+            carrier_flushed();
         return 0;
     }
     if (error)

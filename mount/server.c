@@ -13,14 +13,16 @@
 #include <sys/wait.h>
 #include <unistd.h>
 
-enum { STEP = 10000, PATIENCE = 30 }; // microseconds between two tries; seconds until a server that doesn't end is killed
+enum { STEP = 10000 }; // microseconds between two tries
+enum { PATIENCE = 30 }; // seconds until a server that doesn't end is killed
 
 static bool is_program(const char *path)
 {
     return !access(path, X_OK);
 }
 
-// The program that $LOCKD names, the one beside this program, or that of the repository whose `mount/out` this is in.
+// The program that $LOCKD names, the one beside this program, or that of the repository whose
+// `mount/out` this is in.
 static char *found_program(void)
 {
     char self[PATH_MAX] = "", path[PATH_MAX + 64];
@@ -90,8 +92,8 @@ static void run_serve(const struct server *server, const struct options *options
     }
     for (int i = 0; i < options->rule_count; i++)
         words[count++] = options->rules[i];
-    // Signals end the mount alone. The server ends when the mount does, and has to write the rest of its trace. A trace
-    // that grows beyond a limit is a write that fails.
+    // Signals end the mount alone. The server ends when the mount does, and has to write the rest
+    // of its trace. A trace that grows beyond a limit is a write that fails.
     for (size_t i = 0; i < sizeof ignored / sizeof *ignored; i++)
         signal(ignored[i], SIG_IGN);
     sigset_t none;

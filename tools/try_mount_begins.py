@@ -4,7 +4,7 @@ from try_mount_kit import *
 
 # A server that says what its first word tells. It answers INIT, and that a name isn't there.
 BAD_SERVER = """
-import os, socket, struct, sys, time
+import os, select, socket, struct, sys, time
 HOW = sys.argv[0].rpartition("/")[2]
 if sys.argv[1] != "serve":
     print("legal")
@@ -23,11 +23,14 @@ if "--trace" in sys.argv and sys.argv[sys.argv.index("--trace") + 1] != "none":
     open(sys.argv[sys.argv.index("--trace") + 1], "x").close()
 connection = listening.accept()[0]
 while True:
-    message = connection.recv(8192)
-    if len(message) < 40:
+    head = connection.recv(40, socket.MSG_WAITALL)
+    if len(head) < 40:
         break
-    opcode, unique = struct.unpack_from("<4xIQ", message)
+    length, opcode, unique = struct.unpack_from("<IIQ", head)
+    message = head + connection.recv(length - 40, socket.MSG_WAITALL) if length > 40 else head
     error, body, size = 0, b"", 0
+    if {1: "no_lookup", 26: "no_init"}.get(opcode) == HOW:
+        continue
     if opcode == 26 and HOW == "refuses_init":
         error = -71
     elif opcode == 26 and HOW == "bad_length":
@@ -42,6 +45,14 @@ while True:
         size = 9
     elif HOW == "bad_bodies" and b"body" in message:
         body = bytes(7)
+    elif opcode == 35:
+        body = struct.pack("<Q32xQ52x4I12xQ8x", 2, 2, 0o100644, 1, 0, 0, 1)
+    elif opcode == 25 and unique >> 63:
+        time.sleep(0.3)
+        if select.select([connection], [], [], 0)[0]:
+            sys.exit(5)
+    elif opcode in (18, 25, 32):
+        pass
     elif opcode == 3:
         body = struct.pack("<16xQ52xIIII12x", 1, 0o40755, 2, 0, 0)
     else:
@@ -193,16 +204,19 @@ def try_ready_is_said_to_the_service_manager():
 
 
 def try_the_unit():
-    if not shutil.which("systemd-analyze"):
-        return
     unit = tempfile.mkdtemp(dir=WORK) + "/lockd.service"
     with open(f"{TOP}/tools/lockd.service", encoding="utf-8") as it:
         text = it.read()
+    contains(text, "Type=notify", "OOMScoreAdjust=", "Restart=on-failure")
+    # It waits for open files, and then for the server, before it is killed.
+    stop, grace = (int(re.search(it, text)[1]) for it in (r"TimeoutStopSec=(\d+)", r"--grace (\d+)"))
+    assert stop > grace + 30
+    if not shutil.which("systemd-analyze"):
+        return
     with open(unit, "w", encoding="utf-8") as it:
         it.write(re.sub(r"/usr/local/\S*lockd_mount", PROGRAM, text))
     ran = subprocess.run(["systemd-analyze", "verify", "--man=no", unit], capture_output=True, text=True, timeout=PATIENCE)
     same((ran.returncode, [it for it in ran.stderr.splitlines() if "lockd" in it]), (0, []))
-    contains(text, "Type=notify", "OOMScoreAdjust=", "Restart=on-failure", "TimeoutStopSec=")
 
 
 # ---- Servers that fail ----
@@ -215,6 +229,16 @@ def refused_by(how, *said, **env):
 
 def try_a_server_that_refuses_init():
     refused_by("refuses_init", "the server refuses INIT: Protocol error", "nothing is mounted")
+
+
+def try_a_kernel_that_is_too_old():
+    """A library makes this kernel's INIT that of an older one."""
+    library = f"{WORK}/older.so"
+    subprocess.run(["cc", "-O2", "-Wall", "-Wextra", "-shared", "-fPIC", "-o", library, f"{TOP}/tools/try_mount_older.c"],
+                   check=True, timeout=PATIENCE)
+    folder = tempfile.mkdtemp(dir=WORK)
+    contains(refusal(folder=folder, LD_PRELOAD=library), "this kernel speaks FUSE 7.27, and 7.31 is wanted", "nothing is mounted")
+    assert not is_mounted(folder)
 
 
 def try_a_server_that_ends_before_it_is_ready():
@@ -238,12 +262,38 @@ def try_term_before_it_is_mounted():
     contains(wrong, "ended before anything was mounted")
 
 
+def try_ready_is_not_said_before_init_and_a_lookup_are_answered():
+    for how in "no_init", "no_lookup":
+        folder, listening = tempfile.mkdtemp(dir=WORK), socket.socket(socket.AF_UNIX, socket.SOCK_DGRAM)
+        listening.bind(f"{WORK}/notify_{how}")
+        listening.setblocking(False)
+        begun = subprocess.Popen([PROGRAM, folder], stdout=subprocess.PIPE, stderr=subprocess.PIPE, text=True,
+                                 env={**os.environ, "TMPDIR": WORK, "LOCKD": bad_server(how), "NOTIFY_SOCKET": f"{WORK}/notify_{how}"})
+        until(lambda: is_mounted(folder))
+        time.sleep(0.5)
+        same((begun.poll(), outcome(listening.recv, 4096)), (None, "EAGAIN"))
+        begun.terminate()
+        said, wrong = begun.communicate(timeout=PATIENCE)
+        same((begun.returncode, said, is_mounted(folder), outcome(listening.recv, 4096)), (2, "", False, "EAGAIN"))
+        contains(wrong, "nothing is mounted")
+
+
 def try_a_reply_of_a_bad_length():
     mount = Mount(LOCKD=bad_server("bad_later"))
     outcome(os.stat, f"{mount.folder}/later")
     same(mount.end(lambda: None), (3, "legal"))
     mount.says("lockd_mount: the server sent a reply of a length that none has\n")
     assert not mount.is_mounted()
+
+
+def try_no_message_goes_before_the_reply_to_a_flush_of_the_carrier():
+    """It would be taken first by one of several workers, and the owner may be that of the next open file."""
+    mount = Mount(LOCKD=bad_server("answers"))
+    fd = os.open(f"{mount.folder}/held", os.O_RDWR | os.O_CREAT)
+    ofd(fd, WRITE)
+    os.close(fd)
+    same(outcome(os.stat, f"{mount.folder}/another"), "ENOENT")
+    same(mount.end(), (0, "legal"))
 
 
 def try_a_reply_that_the_kernel_refuses_is_said_at_once():

@@ -1,5 +1,5 @@
-// Makes calls of all kinds in a folder, most of them fcntl, so many or as long: try_mount_calls FOLDER NAME CALLS SECONDS.
-// Prints how many, or ends with status 1 at one that fails.
+// Makes calls of all kinds in a folder, most of them fcntl, so many or as long: try_mount_calls
+// FOLDER NAME CALLS SECONDS. Prints how many, or ends with status 1 at one that fails.
 #define _GNU_SOURCE
 #include <dirent.h>
 #include <fcntl.h>

@@ -1,5 +1,5 @@
 """What programs see of a mount beside its locks: names, attributes, sizes, folders, and errors."""
-import array, fcntl, os, resource, socket, subprocess, tempfile, time
+import array, fcntl, os, select, socket, subprocess, time
 from try_mount_kit import *
 
 
@@ -50,20 +50,27 @@ def try_errors_of_what_it_does_not_do(mount):
     os.close(fd)
 
 
-def try_256_files():
-    mount, held = Mount(), []
-    while True:
-        fd = outcome(os.open, f"{mount.folder}/many{len(held)}", os.O_RDWR | os.O_CREAT)
-        if isinstance(fd, str):
-            break
-        held.append(fd)
-    same((fd, len(held)), ("ENOSPC", 256))
-    for at, fd in enumerate(held):
-        record(fd, WRITE, at, 1)
-        os.unlink(f"{mount.folder}/many{at}")
-        os.close(fd)
-    os.close(os.open(f"{mount.folder}/another", os.O_RDWR | os.O_CREAT))
-    same(mount.end(), (0, "legal"))
+def try_nothing_says_that_the_kernel_lacks_it(mount):
+    """ENOSYS, "Function not implemented", reads as a broken kernel."""
+    path, flags = f"{mount.folder}/lacks", 0x80086601
+    fd, other = os.open(path, os.O_RDWR | os.O_CREAT), os.open(f"{path}_not", os.O_RDWR | os.O_CREAT)
+    folder, listening = os.open(mount.folder, os.O_RDONLY), socket.socket(socket.AF_UNIX)
+    calls = [
+        (fcntl.ioctl, fd, flags, bytes(8)), (fcntl.ioctl, folder, flags, bytes(8)), (fcntl.ioctl, fd, 1, bytes(8)),
+        (os.lseek, fd, 0, os.SEEK_DATA), (os.lseek, fd, 0, os.SEEK_HOLE), (os.copy_file_range, fd, other, 5),
+        (os.sendfile, other, fd, 0, 5), (os.posix_fadvise, fd, 0, 0, os.POSIX_FADV_DONTNEED), (os.fdatasync, fd),
+        (os.fsync, folder), (os.access, path, os.W_OK), (os.readlink, path),
+        (os.listxattr, path), (os.removexattr, path, "user.a"), (os.getxattr, path, "system.posix_acl_access"),
+        (os.setxattr, path, "system.posix_acl_access", b"\2\0\0\0"), (os.mknod, f"{path}_node", 0o60600, 0x700),
+        (listening.bind, f"{path}_socket"), (select.select, [fd], [fd], [], 0), (fcntl.flock, folder, ALONE | AT_ONCE),
+        (fcntl.fcntl, fd, fcntl.F_SETLEASE, READ), (os.replace, path, f"{path}_not"),
+    ]
+    found = [(function.__name__, outcome(function, *words)) for function, *words in calls]
+    for it in fd, other, folder:
+        os.close(it)
+    listening.close()
+    same([it for it in found if it[1] == "ENOSYS"], [])
+    same([it[1] for it in found if it[0] in ("bind", "mknod")], ["EPERM", "EPERM"])
 
 
 def try_files_that_the_kernel_lets_go_at_once():
@@ -77,20 +84,6 @@ def try_files_that_the_kernel_lets_go_at_once():
         for name in names:
             os.unlink(name)
     same(mount.end(), (0, "legal"))
-
-
-def try_1024_open_files(mount):
-    held = []
-    while True:
-        fd = outcome(os.open, f"{mount.folder}/opened", os.O_RDWR | os.O_CREAT)
-        if isinstance(fd, str):
-            break
-        held.append(fd)
-        fcntl.flock(fd, SHARED | AT_ONCE)
-    same((fd, len(held)), ("ENFILE", 1024))
-    for fd in held:
-        os.close(fd)
-    shell(mount, "flock -w 10 opened echo in", "in")
 
 
 def try_a_burst_of_closing_files_takes_no_lock_away(mount):
@@ -119,6 +112,41 @@ def try_a_burst_of_closing_files_takes_no_lock_away(mount):
         same(outcome(fcntl.flock, other, ALONE | AT_ONCE), "EAGAIN")
         for fd in [*fds, other]:
             os.close(fd)
+
+
+def lock_by_a_new_file(path):
+    fd = os.open(path, os.O_RDWR)
+    try:
+        ofd(fd, WRITE)
+    finally:
+        os.close(fd)
+
+
+def try_a_burst_of_closing_files_takes_no_ofd_lock_away(mount):
+    """A new open file may stand where an old one stood, and has its owner, while the old one's RELEASE waits."""
+    path = f"{mount.folder}/ofd_burst"
+    for _ in range(5):
+        here, there = socket.socketpair()
+        fds = [os.open(path, os.O_RDWR | os.O_CREAT) for _ in range(900)]
+        for fd in fds:
+            ofd(fd, READ, 100, 1)
+        for at in range(0, 900, 225):
+            here.sendmsg([b"x"], [(socket.SOL_SOCKET, socket.SCM_RIGHTS, array.array("i", fds[at:at + 225]))])
+        for fd in fds:
+            os.close(fd)
+        here.close()
+        there.close()
+        fds = []
+        for at in range(20):
+            fds.append(os.open(path, os.O_RDWR))
+            ofd(fds[-1], READ, at, 1)
+        other = os.open(path, os.O_RDWR)
+        time.sleep(0.2)
+        lost = [at for at in range(20) if outcome(ofd, other, WRITE, at, 1) != "EAGAIN"]
+        same(lost, [])
+        for fd in [*fds, other]:
+            os.close(fd)
+    until(lambda: not outcome(lock_by_a_new_file, path))
 
 
 # ---- What programs see ----

@@ -246,5 +246,6 @@ def as_user(script, *words):
         return subprocess.run(["setpriv", f"--reuid={NOBODY}", f"--regid={NOBODY}", "--clear-groups", "/usr/bin/python3", f"{top}/tools/{script}", *words],
                               env=env, cwd=top).returncode
     finally:
-        subprocess.run(["umount", "/dev/fuse"], check=True, timeout=PATIENCE)
+        # A mount that a try has left may have it open.
+        subprocess.run(["umount", "-l", "/dev/fuse"], check=True, timeout=PATIENCE)
         shutil.rmtree(top, ignore_errors=True)

@@ -1,15 +1,17 @@
-// Gives the part of lockd_mount that changes messages and replies random ones of both: try_mount_turned ROUNDS. It is built
-// with sanitizers, which end it at the first fault. Kernel and server send no such messages.
+// Gives the part of lockd_mount that changes messages and replies random ones of both, after the
+// RELEASE of a file with many owners of record locks: try_mount_turned ROUNDS. It is built with
+// sanitizers, which end it at the first fault. Kernel and server send no such messages.
 #include "../mount/mount.h"
 
+#include <fcntl.h>
 #include <stdio.h>
 #include <stdlib.h>
 #include <string.h>
 
-enum { SENT = 64, NODES = 20, NUMBERS = 200, FHS = 50 };
+enum { SENT = 512, NODES = 20, NUMBERS = 200, FHS = 50, OWNERS = 300 };
 
 static uint64_t sent[SENT]; // numbers of the carrier's own messages
-static int sent_count;
+static int sent_count, flushed;
 
 bool answer(uint64_t unique, int error, const void *body, size_t size)
 {
@@ -27,6 +29,11 @@ void send_later(const void *message, size_t size)
     memcpy(&head, message, sizeof head);
     if (sent_count < SENT)
         sent[sent_count++] = head.unique;
+}
+
+void carrier_flushed(void)
+{
+    flushed++;
 }
 
 void carrier_agreed(void)
@@ -89,10 +96,55 @@ static void turn_reply(char *reply)
         abort();
 }
 
+// ---- A file with many owners ----
+
+static void expect(bool holds, const char *what)
+{
+    if (holds)
+        return;
+    fprintf(stderr, "not so: %s\n", what);
+    exit(1);
+}
+
+static size_t message_of(char *message, uint32_t opcode, uint64_t unique, const void *body, size_t size)
+{
+    struct fuse_in_header head = {.len = (uint32_t)(sizeof head + size), .opcode = opcode, .unique = unique, .nodeid = 2};
+    memcpy(message, &head, sizeof head);
+    memcpy(message + sizeof head, body, size);
+    return change_message(message, head.len);
+}
+
+static size_t reply_to(char *reply, uint64_t unique)
+{
+    struct fuse_out_header head = {.len = sizeof head, .unique = unique};
+    memcpy(reply, &head, sizeof head);
+    return change_reply(reply, sizeof head);
+}
+
+// Each owner who hasn't flushed is flushed, and the RELEASE may go after the last reply.
+static void release_after_many_owners(char *bytes)
+{
+    const struct fuse_release_in release = {.fh = 1};
+    open_made(1, 2, 1);
+    for (uint64_t owner = 1; owner <= OWNERS; owner++) {
+        const struct fuse_lk_in lock = {.fh = 1, .owner = owner, .lk = {.type = F_WRLCK}};
+        message_of(bytes, FUSE_SETLK, 2 * owner, &lock, sizeof lock);
+    }
+    message_of(bytes, FUSE_RELEASE, 2, &release, sizeof release);
+    expect(sent_count == OWNERS && session.flushes == OWNERS, "each owner is flushed");
+    for (int i = 0; i < OWNERS; i++) {
+        expect(!flushed, "the RELEASE waits for each FLUSH");
+        expect(!reply_to(bytes, sent[i]), "the reply to a FLUSH ends here");
+    }
+    expect(flushed == 1 && sent_count == OWNERS, "the RELEASE may go");
+    sent_count = 0;
+}
+
 int main(int argc, char **argv)
 {
     static _Alignas(8) char bytes[MOST + 16];
     names_start(0755, 0, 0);
+    release_after_many_owners(bytes);
     for (long round = argc > 1 ? atol(argv[1]) : 0; round > 0; round--) {
         session.discards = below(2);
         if (below(2))

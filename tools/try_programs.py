@@ -41,7 +41,7 @@ ENTRIES = {
                                 "$l = $m->lock($ARGV[0]) or die; $s = system $ARGV[1]; $l->release; exit $s' <lock> <inside>"),
     "ruby, flock": ("ruby", WORKS, "ruby -e 'File.open(ARGV[0], \"a\") { |f| f.flock(File::LOCK_EX); exit system(ARGV[1]) }' <lock> <inside>"),
     "php, flock": ("php", WORKS, "php -r '$f = fopen($argv[1], \"c\"); flock($f, LOCK_EX) or exit(1); passthru($argv[2], $s); exit($s);' <lock> <inside>"),
-    "python, fcntl.lockf": ("python3", WORKS, PYTHON.format('import fcntl; f = open(sys.argv[1], "a"); fcntl.lockf(f, fcntl.LOCK_EX); sys.exit(subprocess.call(sys.argv[2]))')),
+    "python, fcntl.lockf": ("/usr/bin/python3", WORKS, PYTHON.format('import fcntl; f = open(sys.argv[1], "a"); fcntl.lockf(f, fcntl.LOCK_EX); sys.exit(subprocess.call(sys.argv[2]))')),
     "filelock (python)": ("python:filelock", WORKS, PYTHON.format('import filelock; l = filelock.FileLock(sys.argv[1]); l.acquire(poll_interval=0.01); sys.exit(subprocess.call(sys.argv[2]))')),
     "filelock, SoftFileLock": ("python:filelock", WORKS, PYTHON.format('import filelock; l = filelock.SoftFileLock(sys.argv[1]); l.acquire(poll_interval=0.01); s = subprocess.call(sys.argv[2]); l.release(); sys.exit(s)')),
     "fasteners (python)": ("python:fasteners", WORKS, PYTHON.format('import fasteners; l = fasteners.InterProcessLock(sys.argv[1]); l.acquire(); sys.exit(subprocess.call(sys.argv[2]))')),
@@ -142,9 +142,15 @@ def ping_pong(folder):
     return "works" if min(rates) > 10 else "fails"
 
 
+def free_port():
+    with socket.socket() as it:
+        it.bind(("127.0.0.1", 0))
+        return it.getsockname()[1]
+
+
 def rsync(folder):
     """`max connections` is 1: the second is refused as long as the first is there."""
-    port, config = 20000 + os.getpid() % 10000 + ("/shm" in folder) + 2 * ("discards" in folder), f"{tempfile.mkdtemp(dir=WORK)}/rsyncd.conf"
+    port, config = free_port(), f"{tempfile.mkdtemp(dir=WORK)}/rsyncd.conf"
     with open(config, "w", encoding="ascii") as it:
         it.write(f"lock file = {folder}/rsyncd.lock\nuse chroot = no\nmax connections = 1\n[module]\npath = /usr/share\nread only = yes\n")
     serving = subprocess.Popen(["rsync", "--daemon", "--no-detach", "--address", "127.0.0.1", f"--port={port}", f"--config={config}"], stderr=subprocess.DEVNULL)

@@ -1,0 +1,136 @@
+"""Limits of a mount: how many files, open files, locks and waiting requests; where the trace goes."""
+import fcntl, os, subprocess, tempfile, time
+from try_mount_kit import *
+
+
+# ---- Files and locks ----
+
+def try_256_files():
+    mount, held = Mount(), []
+    while True:
+        fd = outcome(os.open, f"{mount.folder}/many{len(held)}", os.O_RDWR | os.O_CREAT)
+        if isinstance(fd, str):
+            break
+        held.append(fd)
+    same((fd, len(held)), ("ENOSPC", 256))
+    for at, fd in enumerate(held):
+        record(fd, WRITE, at, 1)
+        os.unlink(f"{mount.folder}/many{at}")
+        os.close(fd)
+    os.close(os.open(f"{mount.folder}/another", os.O_RDWR | os.O_CREAT))
+    same(mount.end(), (0, "legal"))
+
+
+def try_1024_open_files(mount):
+    held = []
+    while True:
+        fd = outcome(os.open, f"{mount.folder}/opened", os.O_RDWR | os.O_CREAT)
+        if isinstance(fd, str):
+            break
+        held.append(fd)
+        fcntl.flock(fd, SHARED | AT_ONCE)
+    same((fd, len(held)), ("ENFILE", 1024))
+    for fd in held:
+        os.close(fd)
+    shell(mount, "flock -w 10 opened echo in", "in")
+
+
+def try_no_more_locks_than_runs():
+    for words, most in ((), 4096), (("--runs", "100"), 100):
+        mount = Mount(*words)
+        fd = os.open(f"{mount.folder}/runs", os.O_RDWR | os.O_CREAT)
+        held = 0
+        while (said := outcome(record, fd, WRITE, 2 * held, 1)) is None:
+            held += 1
+        same((said, held), ("ENOLCK", most))
+        same([outcome(record, fd, UNLOCK, 6, 1), outcome(record, fd, WRITE, 1 << 40, 1)], [None, None])
+        (other,) = children(f"{mount.folder}/other", 1)
+        same(other.ask("record", "a", WRITE), "ENOLCK")
+        os.close(fd)
+        same(other.ask("record", "a", WRITE), "ok")
+        other.kill()
+        same(mount.end(), (0, "legal"))
+
+
+def try_rules():
+    """With room for one request, the second that waits is refused, and `check` knows of it."""
+    mount = Mount("--fair", "--runs", "100", "--parked", "1")
+    one, two, three = children(f"{mount.folder}/rules", 3)
+    same(one.ask("record", "a", WRITE), "ok")
+    two.begin("record", "a", WRITE, 0, 0, True)
+    assert two.waits()
+    same(three.ask("record", "a", WRITE, 0, 0, True), "ENOLCK")
+    same([one.ask("record", "a", UNLOCK), two.answer()], ["ok", "ok"])
+    for it in one, two, three:
+        it.kill()
+    same(mount.end(), (0, "legal"))
+
+
+def try_count():
+    mount = Mount("--count")
+    shell(mount, "flock job echo in", "in")
+    same(mount.end(), (0, "legal"))
+    counted = next(line for line in mount.output().splitlines() if line.startswith("messages of the kernel, opcode and how many: "))
+    counts = dict(it.split(":") for it in counted.rpartition(": ")[2].split())
+    # INIT, CREATE, SETLKW, and the RELEASE of the last process that had the file.
+    same([counts.get(it) for it in ("26", "35", "33", "18")], ["1"] * 4)
+
+
+# ---- The trace ----
+
+def try_a_trace_that_goes_nowhere():
+    mount = Mount("--trace", "none")
+    shell(mount, "flock job echo in", "in")
+    same(mount.end()[0], 0)
+    mount = Mount("--no-check")
+    shell(mount, "flock job echo in", "in")
+    status, said = mount.end()
+    same((status, said.startswith("trace: ")), (0, True))
+
+
+def lock_for_a_while(mount, seconds):
+    last = time.monotonic() + seconds
+    while time.monotonic() < last and "doesn't grow" not in mount.output():
+        shell(mount, "for one in 1 2 3 4 5 6 7 8 9; do flock job true; done", "")
+        time.sleep(0.2)
+
+
+def try_a_full_trace_is_said_while_it_runs():
+    disk = tempfile.mkdtemp(dir=WORK)
+    subprocess.run(["mount", "-t", "tmpfs", "-o", "size=4k", "none", disk], check=True, timeout=PATIENCE)
+    mount = Mount("--trace", f"{disk}/trace")
+    lock_for_a_while(mount, 19)
+    mount.says("doesn't grow")
+    status, _ = mount.end()
+    assert status == 3
+    mount.says("trace failed", "the server ended with status 2")
+    subprocess.run(["umount", disk], check=True, timeout=PATIENCE)
+
+
+def try_a_full_trace_may_refuse_locks():
+    """Once the server has no room for more lines, until the disk has: then nothing is lost."""
+    disk = tempfile.mkdtemp(dir=WORK)
+    subprocess.run(["mount", "-t", "tmpfs", "-o", "size=4k", "none", disk], check=True, timeout=PATIENCE)
+    mount = Mount("--trace", f"{disk}/trace", "--trace-full", "refuse")
+    fd = os.open(f"{mount.folder}/job", os.O_RDWR | os.O_CREAT)
+    until(lambda: "ENOMEM" in [outcome(fcntl.flock, fd, ALONE) for _ in range(3000)])
+    same(outcome(fcntl.flock, fd, NOT_HELD), "ENOMEM")
+    subprocess.run(["mount", "-i", "-o", "remount,size=9m", disk], check=True, timeout=PATIENCE)
+    until(lambda: outcome(fcntl.flock, fd, NOT_HELD) is None)
+    shell(mount, "flock -n job echo in", "in")
+    os.close(fd)
+    same(mount.end(), (0, "legal"))
+    subprocess.run(["umount", disk], check=True, timeout=PATIENCE)
+
+
+def try_a_limit_of_a_file_ends_no_server():
+    limited = f"{WORK}/limited"
+    with open(limited, "w", encoding="ascii") as it:
+        it.write(f'#!/bin/sh\nulimit -f 8\nexec {PROGRAM} "$@"\n')
+    os.chmod(limited, 0o700)
+    mount = Mount("--trace", f"{WORK}/limited.trace", program=limited)
+    for _ in range(20):
+        shell(mount, "for one in 1 2 3 4 5 6 7 8 9; do flock job true; done", "")
+    shell(mount, "flock -n job flock -n job echo in || echo held", "held")
+    same(mount.end()[0], 3)
+    mount.says("the server ended with status 2")
