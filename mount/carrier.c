@@ -141,14 +141,17 @@ static bool send_letters(void)
     return well;
 }
 
-// Sleeps until it is woken, or also until the kernel has a message.
-static void sleep_until_woken(bool or_message)
+// Sleeps until it is woken, or nothing is mounted any more, or also until the kernel has a message.
+// False where nothing is mounted.
+static bool sleep_until_woken(bool or_message)
 {
-    struct pollfd events[] = {{.fd = it.wake, .events = POLLIN}, {.fd = it.device, .events = POLLIN}};
+    struct pollfd events[] = {{.fd = it.wake, .events = POLLIN}, {.fd = it.device}};
     uint64_t times;
-    poll(events, or_message ? 2 : 1, -1);
+    events[1].events = or_message ? POLLIN : 0;
+    poll(events, 2, -1);
     if (events[0].revents && read(it.wake, &times, sizeof times) < 0)
-        return;
+        return true;
+    return !(events[1].revents & POLLERR);
 }
 
 // Letters go first, and nothing goes before the reply to a FLUSH among them: one of several workers
@@ -158,8 +161,8 @@ static bool send_letters_first(void)
     if (!atomic_load(&it.letters))
         return true;
     bool well = send_letters();
-    while (well && atomic_load(&session.flushes) && !atomic_load(&it.stops))
-        sleep_until_woken(false);
+    while (well && atomic_load(&session.flushes) && !atomic_load(&it.stops) && sleep_until_woken(false))
+        ;
     return well;
 }
 

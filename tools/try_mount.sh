@@ -8,8 +8,9 @@
 #
 #     tools/try_mount.sh [NAME ..]      (only what has one of these words in its name)
 #
-# LOCKD names another program to take as `lockd`. Else it is built where it isn't. LOCKD_MOUNT names another one to take as
-# lockd_mount; else mount/build builds it, and a second one, with sanitizers, for the tries with 4 workers.
+# LOCKD names another program to take as `lockd`. Else it is built where it isn't. LOCKD_MOUNT names
+# another one to take as lockd_mount; else mount/build builds it, and a second one, with sanitizers,
+# for the tries with 4 workers.
 set -eu
 cd "$(dirname "$0")/.."
 skip() {

@@ -47,6 +47,8 @@ while True:
         body = bytes(7)
     elif opcode == 35:
         body = struct.pack("<Q32xQ52x4I12xQ8x", 2, 2, 0o100644, 1, 0, 0, 1)
+    elif opcode == 25 and unique >> 63 and HOW == "no_flush":
+        continue
     elif opcode == 25 and unique >> 63:
         time.sleep(0.3)
         if select.select([connection], [], [], 0)[0]:
@@ -294,6 +296,16 @@ def try_no_message_goes_before_the_reply_to_a_flush_of_the_carrier():
     os.close(fd)
     same(outcome(os.stat, f"{mount.folder}/another"), "ENOENT")
     same(mount.end(), (0, "legal"))
+
+
+def try_a_flush_that_is_never_answered_keeps_nobody_from_the_end():
+    for how in [Mount.term] + [abort] * can_abort():
+        mount = Mount(LOCKD=bad_server("no_flush"))
+        fd = os.open(f"{mount.folder}/held", os.O_RDWR | os.O_CREAT)
+        ofd(fd, WRITE)
+        os.close(fd)
+        time.sleep(0.2)
+        same(mount.end(lambda: how(mount)), (0, "legal"))
 
 
 def try_a_reply_that_the_kernel_refuses_is_said_at_once():

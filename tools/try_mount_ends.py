@@ -250,18 +250,6 @@ def try_the_carrier_is_killed_without_open_files():
     mounts_again(mount.folder)
 
 
-def abort(mount):
-    number = os.minor(os.stat(mount.folder).st_dev)
-    with open(f"/sys/fs/fuse/connections/{number}/abort", "w", encoding="ascii") as it:
-        it.write("1")
-
-
-def can_abort():
-    if not os.path.ismount("/sys/fs/fuse/connections"):
-        print("not tried by fusectl: this kernel has none", flush=True)
-    return os.path.ismount("/sys/fs/fuse/connections")
-
-
 def try_an_abort_is_no_unmounting():
     for how in [abort] * can_abort() + [lambda mount: subprocess.run(["umount", "-f", mount.folder], timeout=PATIENCE, stderr=subprocess.DEVNULL)]:
         mount = Mount()

@@ -60,6 +60,19 @@ class Mount:
         return is_mounted(self.folder)
 
 
+def abort(mount):
+    with open("/proc/self/mountinfo", encoding="utf-8") as it:
+        number = next(line.split()[2] for line in it if line.split()[4] == mount.folder).partition(":")[2]
+    with open(f"/sys/fs/fuse/connections/{number}/abort", "w", encoding="ascii") as it:
+        it.write("1")
+
+
+def can_abort():
+    if not os.path.ismount("/sys/fs/fuse/connections"):
+        print("not tried by fusectl: this kernel has none", flush=True)
+    return os.path.ismount("/sys/fs/fuse/connections")
+
+
 def children_of(parent):
     """The processes that it has started, with their words."""
     for pid in filter(str.isdigit, os.listdir("/proc")):

@@ -290,6 +290,7 @@ def main():
     words = [it for it in sys.argv[1:] if not it.startswith("--")]
     if "--user" in sys.argv and not AS_USER:
         status = as_user("try_programs.py", *sys.argv[1:])
+        shutil.rmtree(WORK, ignore_errors=True)
         return 77 if status is None else status
     every = {name: it for name, it in {**ENTRIES, **OTHERS}.items() if not words or any(word in name for word in words)}
     if AS_USER:
