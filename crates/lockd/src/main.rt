@@ -3,14 +3,12 @@
 //! scripts of the gate would meet it.
 #![tactic(auto)]
 
-ghost use Rattle.std.specs.Prelude.{IfOk, ◌<◌, ◌≤◌};
+ghost use Rattle.std.specs.Prelude.{IfOk};
 ghost use Rattle.lockd_cli.specs.Numbers.{HasWorkers};
 
 use descriptors::hold_closed_streams;
 use lockd_cli::{Asked, Trace, UsageError, WhenFull, print_version, read_words};
-use lockd_commands::{
-    CheckOptions, CommandFault, Rules, Status, bytes_on, check_on, drive_on, script_on,
-};
+use lockd_commands::{CheckOptions, CommandFault, Status, bytes_on, check_on, drive_on, script_on};
 use lockd_serve::{ServeOptions, TraceTo, WhenWriterFails, serve_on, trace_at};
 use std::fs::{File, Files};
 use std::io::Write;
@@ -72,51 +70,33 @@ fn run<T: Threads + Wait + Net + Files + Sync>(
             trace,
             rules,
         } => {
-            let server = Server {
-                path: Path::new(socket.as_str()),
-                workers: *workers,
-                trace,
-                rules: *rules,
+            let to = match opened(rt, trace, &mut faults) {
+                Ok(to) => to,
+                Err(status) => return status,
             };
-            serve(rt, threads, server, &mut output, &mut faults)
+            let options = ServeOptions {
+                workers: *workers,
+                rules: *rules,
+                trace: to,
+                when_full: when_full(trace),
+            };
+            let path = Path::new(socket.as_str());
+            let (status, _trace) = serve_on(
+                threads,
+                alloc,
+                path,
+                options,
+                &mut output,
+                &mut faults,
+            );
+            remove_unused(rt, trace, status);
+            status
         }
         Asked::Drive(socket) => {
             let path = Path::new(socket.as_str());
             drive_on(rt, alloc, path, &mut input, &mut output, &mut faults)
         }
     }
-}
-
-// What `lockd serve` is asked for.
-struct Server<'a> {
-    path: Path<'a>,
-    workers: u32,
-    trace: &'a Trace,
-    rules: Rules,
-}
-
-fn serve<T: Threads + Wait + Net + Files + Sync, W: Write, F: Write>(
-    rt: &HostRuntime,
-    threads: &T,
-    server: Server<'_>,
-    output: &mut W,
-    faults: &mut F,
-) -> Status
-    requires workers { (0 < server.workers) × (server.workers ≤ 16) }
-{
-    let trace = match opened(rt, server.trace, faults) {
-        Ok(trace) => trace,
-        Err(status) => return status,
-    };
-    let options = ServeOptions {
-        workers: server.workers,
-        rules: server.rules,
-        trace,
-        when_full: when_full(server.trace),
-    };
-    let (status, _trace) = serve_on(threads, rt.alloc(), server.path, options, output, faults);
-    remove_unused(rt, server.trace, status);
-    status
 }
 
 // Where the trace of `lockd serve` goes. Its file is made before the server listens.
