@@ -126,7 +126,7 @@ def judged(trace, *options):
 
 
 class Server:
-    """A server with these options, and a folder of its own. Where no number of workers is given, it has its default."""
+    """A server with these options, and a folder of its own. With `workers=None` it has its default number of them."""
 
     def __init__(self, *options, workers=1, printed=subprocess.PIPE, before=None, env=None, program=PROGRAM):
         self.folder = tempfile.TemporaryDirectory(prefix="try-lockd-")

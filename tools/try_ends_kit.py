@@ -18,7 +18,7 @@ LOOKUP, FORGET, GETATTR, UNLINK, OPEN, RELEASE, FLUSH, INIT = 1, 2, 3, 10, 14, 1
 GETLK, SETLK, SETLKW, CREATE, INTERRUPT, DESTROY, BATCH_FORGET = 31, 32, 33, 35, 36, 38, 42
 READ_LOCK, WRITE_LOCK, NO_LOCK = 0, 1, 2
 LAST = 2**64 - 1
-# How `Server` is told where its trace goes.
+# The options of a server for each way of tracing.
 WAYS = {"printed": [], "file": ["--trace", "{file}"], "none": ["--trace", "none"]}
 
 
@@ -174,7 +174,7 @@ def workers_of(trace):
 
 
 def trace_of(server, way, told="", options=()):
-    """The trace of a server that ends with this on standard error, where it has one. What it left is as the way of tracing says."""
+    """The trace of a server that ends with this on standard error, or None if it keeps none. It printed and left what its way of tracing says."""
     printed, *ended = server.ended()
     assert ended == [told, 2 if told else 0], ended
     left = ["trace"] if way == "file" else []
@@ -220,7 +220,7 @@ BAD = struct.pack("<I", 39)
 
 
 def closes_its_side(behind=b""):
-    """The client sends this and closes its side, and nothing more comes. If it is but a part of a message, the stream is cut."""
+    """The client sends this and closes its side, and nothing more comes."""
     def end(_server, client):
         client.send(behind)
         client.socket.shutdown(socket.SHUT_WR)
@@ -240,14 +240,14 @@ def destroys(_server, client):
 
 
 def is_reset(_server, client):
-    """The client closes while a reply is unread. The system tells the server so when it reads on."""
+    """The client closes while a reply is unread. Then the server's next read fails."""
     client.send(FIFTH)
     assert client.socket.recv(16, socket.MSG_PEEK)
     client.socket.close()
 
 
 def reads_no_more(behind=b""):
-    """The client closes its side for reading, so that the reply to its last lock can't be written, then sends this, and closes."""
+    """The client ends reading, so that the reply to its last lock can't be written. Then it sends that lock and this, and closes its side."""
     def end(_server, client):
         client.socket.shutdown(socket.SHUT_RD)
         client.send(FIFTH, behind)
@@ -257,9 +257,10 @@ def reads_no_more(behind=b""):
 
 
 def closes_before_it_is_answered(server, client):
-    """The server stands still while the client sends a lock and closes. So nothing is unread, and the reply can't be written."""
+    """The server is stopped while the client sends a lock and closes. So no reply is unread, and that to the lock can't be written."""
     server.serving.send_signal(signal.SIGSTOP)
     tries.wait_until(lambda: states_of(server) == {"T"})
+    assert states_of(server) == {"T"}, "the server doesn't stand still"
     client.send(FIFTH)
     client.socket.close()
     server.serving.send_signal(signal.SIGCONT)
