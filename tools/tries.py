@@ -126,13 +126,14 @@ def judged(trace, *options):
 
 
 class Server:
-    """A server with these options, and a folder of its own."""
+    """A server with these options, and a folder of its own. With `workers=None` it has its default number of them."""
 
     def __init__(self, *options, workers=1, printed=subprocess.PIPE, before=None, env=None, program=PROGRAM):
         self.folder = tempfile.TemporaryDirectory(prefix="try-lockd-")
         os.chmod(self.folder.name, 0o777)
         self.path, self.file = f"{self.folder.name}/socket", f"{self.folder.name}/trace"
-        words = [program, "serve", self.path, "--workers", str(workers), *(it.format(file=self.file) for it in options)]
+        number = ["--workers", str(workers)] if workers else []
+        words = [program, "serve", self.path, *number, *(it.format(file=self.file) for it in options)]
         self.serving = subprocess.Popen(words, stdout=printed, stderr=subprocess.PIPE, preexec_fn=before, env=env)
         # So that none is left behind where a try fails.
         weakref.finalize(self, self.serving.kill)
