@@ -22,6 +22,8 @@ listening.listen()
 if "--trace" in sys.argv and sys.argv[sys.argv.index("--trace") + 1] != "none":
     open(sys.argv[sys.argv.index("--trace") + 1], "x").close()
 connection = listening.accept()[0]
+# The mount may go before it has read all that came.
+sys.excepthook = lambda kind, *_: os._exit(0 if kind in (BrokenPipeError, ConnectionResetError) else 1)
 while True:
     head = connection.recv(40, socket.MSG_WAITALL)
     if len(head) < 40:
