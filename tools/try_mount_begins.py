@@ -366,5 +366,5 @@ def try_a_user_mounts_by_fusermount3():
         begin; kill $!; wait $!; echo $?; tail -n 1 said; ls locks"""
     ran = subprocess.run(["setpriv", f"--reuid={NOBODY}", f"--regid={NOBODY}", "--clear-groups", "sh", "-c", script], text=True,
                          stdout=subprocess.PIPE, stderr=subprocess.STDOUT, timeout=PATIENCE, stdin=subprocess.DEVNULL)
-    subprocess.run(["umount", "/dev/fuse"], check=True, timeout=PATIENCE)
+    subprocess.run(["umount", "-l", "/dev/fuse"], check=True, timeout=PATIENCE)
     same(ran.stdout.split(), "in a 600,nobody 1 0 0 4 1 dead 0 legal".split())
