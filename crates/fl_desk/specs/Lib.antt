@@ -1,3 +1,4 @@
+pub mod Answered
 pub mod Asked
 pub mod BookCode
 pub mod Kept

@@ -1,8 +1,13 @@
 //! What a worker needs: a counter at which it hands orders in and looks, and a gate, which is called for each.
 
-ghost use Rattle.std.specs.Prelude.{◌≡◌, ◌≤◌, ℕ, ◌+◌, true, OnOk, OnErr};
-ghost use Rattle.fl_desk.specs.Asked.{IsAskedLast, Orders};
+ghost use Rattle.std.specs.Prelude.{◌≡◌, ◌≤◌, ℕ, ◌+◌, true, List, Result, IfOk, OnOk, OnErr};
+ghost use mathlib.Core.List.{IsPrefix};
+ghost use Rattle.fl_desk.specs.Answered.{Answered, IsAnsweredLast, answered_by};
+ghost use Rattle.fl_history.specs.declared.history.Line.{Line};
 ghost use Rattle.fl_order.specs.Order.{only_reads};
+ghost use Rattle.fl_order.specs.declared.errno.Errno.{Errno};
+ghost use Rattle.fl_order.specs.declared.order.Order.{Order};
+ghost use Rattle.fl_order.specs.declared.told.Answer.{Answer};
 
 use crate::fault::{HandFault, NoView};
 use fl_core::Tolds;
@@ -20,8 +25,14 @@ pub trait Counter {
     /// The number of the worker whose place a seat is.
     ghost worker: { Self.Seat → ℕ };
 
-    /// The orders of the seat's worker in the history up to the last that was taken through it.
-    ghost asked: { Self.Seat → Orders };
+    /// The orders of the seat's worker in the history up to the last that was taken through it, each with its replies.
+    ghost answered: { Self.Seat → List Answered };
+
+    /// The longest history that was shown through a seat.
+    ghost seen: { Self.Seat → List Line };
+
+    /// What an order that only reads is answered after a history.
+    ghost shows: { List Line → Order → Result Answer Errno → Type 0 };
 
     /// How many replies an order may be given.
     ghost most_tolds: { ℕ };
@@ -37,16 +48,22 @@ pub trait Counter {
         requires room { most_tolds ≤ tolds.old.room }
         ensures room { tolds.new.room ≡ tolds.old.room }
         ensures own { worker seat.new ≡ worker seat.old }
-        ensures taken { OnOk result
-            ((count seat.new ≡ count seat.old + 1) × IsAskedLast (asked seat.old) order.now (asked seat.new)) }
+        ensures seen { seen seat.new ≡ seen seat.old }
+        ensures taken { OnOk result ((count seat.new ≡ count seat.old + 1)
+            × IsAnsweredLast (answered seat.old) order.now tolds.new.told (answered seat.new)) }
         ensures refused { OnErr result
-            ((count seat.new ≡ count seat.old) × (asked seat.new ≡ asked seat.old) × (tolds.new ≡ tolds.old)) };
+            ((count seat.new ≡ count seat.old) × (answered seat.new ≡ answered seat.old) × (tolds.new ≡ tolds.old)) };
 
-    /// What an order that only reads is answered, without taking it. It waits for nobody.
+    /// What an order that only reads is answered, without taking it: after a history that has all that was taken and
+    /// shown through the seat before, and that is shown now. It waits for nobody.
     fn look(&self, seat: &mut Self::Seat, order: &Order) -> Result<Result<Answer, Errno>, NoView>
         requires { only_reads order.now.op ≡ true }
         ensures own { worker seat.new ≡ worker seat.old }
-        ensures kept { (count seat.new ≡ count seat.old) × (asked seat.new ≡ asked seat.old) };
+        ensures kept { (count seat.new ≡ count seat.old) × (answered seat.new ≡ answered seat.old) }
+        ensures seen { IsPrefix (seen seat.old) (seen seat.new) }
+        ensures had { IfOk result (λ _.
+            IsPrefix (answered seat.old) (answered_by (worker seat.old) (seen seat.new))) }
+        ensures shown { IfOk result (λ answer. shows (seen seat.new) order.now answer) };
 
     /// Flushes buffered output: a worker has no order at hand and is about to sleep. It concerns no seat.
     fn pause<R: Wait>(&self, rt: &R);

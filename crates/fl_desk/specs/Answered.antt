@@ -1,0 +1,48 @@
+-- What a history answers to each order, and what it answers to one that only reads.
+use Rattle.std.specs.Prelude.{◌≡◌, ℕ, ◌==◌, List, [], ◌∷◌, ◌++◌, Some, Result, if◌then◌else◌}
+use mathlib.Core.List.{IsPrefix}
+use Rattle.fl_core.specs.Replies.{own_replies}
+use Rattle.fl_core.specs.Step.{replies_in}
+use Rattle.fl_desk.specs.Legal.{IsLegal}
+use Rattle.fl_desk.specs.Replay.{state_after}
+use Rattle.fl_history.specs.declared.history.Line.{Line}
+use Rattle.fl_history.specs.declared.history.Line.TheVariants as line
+use Rattle.fl_order.specs.declared.errno.Errno.{Errno}
+use Rattle.fl_order.specs.declared.order.Order.{Order}
+use Rattle.fl_order.specs.declared.told.Answer.{Answer}
+use Rattle.fl_order.specs.declared.told.Told.{Told}
+use Rattle.fl_waiting.specs.declared.rules.Rules.{Rules}
+
+-- an order, and the replies that it gave: its own, and those of requests that it let settle
+pub record Answered : Type 0 where
+  pub order : Order
+  pub tolds : List Told
+
+abbrev pub answered : Order → List Told → Answered
+answered order tolds = record { order = order; tolds = tolds }
+
+-- the replies before the next order
+abbrev pub first_tolds : List Line → List Told
+first_tolds [] = []
+first_tolds (line.Told told ∷ lines) = told ∷ first_tolds lines
+first_tolds (line.Asked worker order ∷ lines) = []
+
+-- the orders that the lines ask for this worker, each with the replies that stand behind it
+abbrev pub answered_by : ℕ → List Line → List Answered
+answered_by worker [] = []
+answered_by worker (line.Asked asker order ∷ lines) =
+    (if asker == worker then answered order (first_tolds lines) ∷ [] else []) ++ answered_by worker lines
+answered_by worker (line.Told told ∷ lines) = answered_by worker lines
+
+-- an order is answered behind all that was answered before
+pub record IsAnsweredLast (before : List Answered) (order : Order) (tolds : List Told) (now : List Answered)
+    : Type 0 where
+  pub others : List Answered
+  pub had : IsPrefix before others
+  pub is : now ≡ others ++ answered order tolds ∷ []
+
+-- after a history that is legal under these rules, this is what an order that only reads is answered
+pub record IsAnsweredAfter (rules : Rules) (lines : List Line) (order : Order) (result : Result Answer Errno)
+    : Type 0 where
+  pub legal : IsLegal rules lines
+  pub answer : replies_in (state_after rules lines) order ≡ own_replies order (Some result)
