@@ -6,9 +6,10 @@ ghost use Rattle.fl_core.specs.Step.{next, replies};
 ghost use Rattle.fl_order.specs.Order.{only_reads};
 ghost use Rattle.fl_replica.specs.Asks.{present_after};
 
-use crate::beginning::Beginning;
+use crate::ask::Ask;
 use crate::name::BoardName;
 use fl_core::{Core, Rules, Tolds};
+use fl_log::Beginning;
 use fl_order::{Answer, Errno, NoMemory, Order};
 use left_right::{Absorb, ReadHandle};
 use std::alloc::{AllocError, Global};
@@ -18,8 +19,8 @@ use std::marker::Model;
 #[derive(Drop)]
 pub struct Update<L: BoardName> {
     order: Order,
-    before: Beginning<L>,
-    after: Beginning<L>,
+    before: Beginning<L, Ask>,
+    after: Beginning<L, Ask>,
 }
 
 impl<L: BoardName> Model for Update<L> {
@@ -36,7 +37,7 @@ impl<L: BoardName> Model for Update<L> {
 
 impl<L: BoardName> Update<L> {
     /// An update by this order, which stands behind the asks of `before`. Those of `after` are they and the order.
-    pub fn new(order: Order, before: Beginning<L>, after: Beginning<L>) -> Update<L>
+    pub fn new(order: Order, before: Beginning<L, Ask>, after: Beginning<L, Ask>) -> Update<L>
         requires { present_after L.rules after ≡ next (present_after L.rules before) order }
         ensures { (result.before ≡ before) × (result.after ≡ after) × (result.order ≡ order) }
     {
@@ -52,7 +53,7 @@ impl<L: BoardName> Update<L> {
 #[derive(Drop)]
 pub struct Replica<L: BoardName> {
     core: Core,
-    asks: Beginning<L>,
+    asks: Beginning<L, Ask>,
     // Room for the replies of an order that it takes.
     tolds: Tolds,
 }
@@ -74,7 +75,7 @@ impl<L: BoardName> Replica<L> {
     /// The directory as it opens, under these rules.
     pub(crate) fn new(
         alloc: Global,
-        none: &Beginning<L>,
+        none: &Beginning<L, Ask>,
         rules: Rules,
     ) -> Result<Replica<L>, NoMemory>
         requires none { none.now ≡ [] }
@@ -91,7 +92,7 @@ impl<L: BoardName> Replica<L> {
     }
 
     // The asks that led to it.
-    fn asks(&self) -> Beginning<L>
+    fn asks(&self) -> Beginning<L, Ask>
         ensures { result ≡ self.now }
     {
         self.asks.again()
@@ -110,7 +111,7 @@ impl<L: BoardName> Replica<L> {
 impl<L: BoardName> Absorb<Update<L>> for Replica<L> {
     ghost use Rattle.fl_replica.specs.Inside.Updates.{extended};
 
-    type State = Beginning<L>;
+    type State = Beginning<L, Ask>;
 
     ghost state = { λ p. p };
 
@@ -136,7 +137,7 @@ impl<L: BoardName> Absorb<Update<L>> for Replica<L> {
 pub fn look_at<L: BoardName>(
     reader: &mut ReadHandle<Replica<L>>,
     order: &Order,
-) -> Option<(Beginning<L>, Result<Answer, Errno>)>
+) -> Option<(Beginning<L, Ask>, Result<Answer, Errno>)>
     requires { only_reads order.now.op ≡ true }
     ensures { IfSome result (λ shown.
         replies (present_after L.rules shown.0) order.now ≡ own_replies order.now (Some shown.1)) }

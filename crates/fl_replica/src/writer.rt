@@ -3,10 +3,11 @@
 ghost use Rattle.std.specs.Prelude.{◌≡◌, ◌<◌, ◌^◌, [], IfOk, OnOk, MatchResult};
 ghost use Rattle.fl_replica.specs.Asks.{present_after};
 
-use crate::beginning::Beginning;
+use crate::ask::Ask;
 use crate::name::BoardName;
 use crate::replica::{Replica, Update};
 use fl_core::Rules;
+use fl_log::Beginning;
 use fl_order::{NoMemory, Op, Order};
 use left_right::{Absorb, ReadHandle, WriteHandle};
 use std::alloc::{AllocError, Global};
@@ -17,14 +18,14 @@ use std::sync::Wait;
 /// Letting it go waits for readers that are in a copy.
 pub struct ReplicaWriter<L: BoardName, R: Wait + Drop>
 where
-    Replica<L>: Absorb<Update<L>, State = Beginning<L>>,
+    Replica<L>: Absorb<Update<L>, State = Beginning<L, Ask>>,
 {
     writer: WriteHandle<Replica<L>, Update<L>, R>,
 }
 
 impl<L: BoardName, R: Wait + Drop> Model for ReplicaWriter<L, R>
 where
-    Replica<L>: Absorb<Update<L>, State = Beginning<L>>,
+    Replica<L>: Absorb<Update<L>, State = Beginning<L, Ask>>,
 {
     ghost use Rattle.std.specs.Prelude.{List};
     ghost use Rattle.fl_replica.specs.declared.ask.Ask.{Ask};
@@ -47,7 +48,7 @@ impl<L: BoardName, R: Wait + Drop> ReplicaWriter<L, R> {
     pub fn new(
         alloc: Global,
         rt: R,
-        none: &Beginning<L>,
+        none: &Beginning<L, Ask>,
         readers: usize,
         rules: Rules,
     ) -> Result<ReplicaWriter<L, R>, NoMemory>
@@ -66,7 +67,7 @@ impl<L: BoardName, R: Wait + Drop> ReplicaWriter<L, R> {
     }
 
     // The writer's list of updates grows to the size that it keeps, so that no later update wants memory.
-    fn grow(&mut self, none: &Beginning<L>) -> Result<(), AllocError>
+    fn grow(&mut self, none: &Beginning<L, Ask>) -> Result<(), AllocError>
         requires none { none.now ≡ [] }
         requires first { self.old ≡ [] }
         ensures { OnOk result (self.new ≡ []) }
@@ -100,7 +101,7 @@ impl<L: BoardName, R: Wait + Drop> ReplicaWriter<L, R> {
 }
 
 // An update that changes nothing: it asks for the root's attributes.
-fn nothing<L: BoardName>(none: &Beginning<L>) -> Update<L>
+fn nothing<L: BoardName>(none: &Beginning<L, Ask>) -> Update<L>
     requires { none.now ≡ [] }
     ensures { (result.before ≡ []) × (result.after ≡ []) }
 {

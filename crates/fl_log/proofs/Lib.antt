@@ -1,2 +1,3 @@
 mod Adding
+mod Counts
 mod Prefixes

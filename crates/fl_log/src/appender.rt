@@ -1,0 +1,45 @@
+//! What an author has of a shared log.
+
+use crate::beginning::Beginning;
+use crate::log::{Entry, LogName};
+use std::marker::Model;
+use std::sync::ledger::Share;
+
+/// What an author appends through. Contracts see whose it is, how many entries were appended through it, and the log
+/// up to the last of them.
+#[derive(Drop)]
+pub struct Appender<L: LogName, E: Entry> {
+    pub(crate) author: u32,
+    pub(crate) share: Share<L>,
+    pub(crate) own: Beginning<L, E>,
+}
+
+impl<L: LogName, E: Entry> Model for Appender<L, E> {
+    ghost use Rattle.std.specs.Prelude.{◌≡◌, ◌≤◌, length};
+    ghost use Rattle.fl_log.specs.Appended.{Appended, entries_by};
+
+    ghost Value = { Appended E };
+
+    ghost view = { λ a. record { author = a.author; count = a.share.amount; own = a.own } };
+
+    ghost invariant = { λ a. (a.share.parts ≡ 1) × (a.share.amount ≤ length (entries_by E.author a.author a.own)) };
+}
+
+impl<L: LogName, E: Entry> Appender<L, E> {
+    ghost use Rattle.std.specs.Prelude.{◌≡◌, true};
+    ghost use Rattle.fl_log.specs.Appended.{HasMost};
+
+    /// Whose it is.
+    pub fn author(&self) -> u32
+        ensures { result ≡ self.now.author }
+    {
+        self.author
+    }
+
+    // Whether a log begins with all that was appended through it.
+    pub(crate) fn begins(&self, log: &Beginning<L, E>) -> bool
+        ensures { result ≡ true → HasMost E.author log.now self.now }
+    {
+        self.own.begins(log)
+    }
+}

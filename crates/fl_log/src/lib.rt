@@ -1,0 +1,18 @@
+//! Logs that are there for proofs alone: what an entry holds takes no memory, and at run time one word has a log's
+//! length. `Beginning` is a prefix of a log that was seen. `SharedLog` lies under a lock, and each of several authors
+//! has an `Appender`: from all appenders together follows which entries the log has, and in which order each author's
+//! stand.
+//!
+//! Contracts let through an `append` and an `is_by` that always say no. Users of this crate tell such an answer as a
+//! fault of their own, and their tests see that it never comes.
+#![tactic(auto)]
+
+mod appender;
+mod beginning;
+mod log;
+mod shared_log;
+
+pub use appender::Appender;
+pub use beginning::{Beginning, MOST_ENTRIES};
+pub use log::{Entry, FreshLog, Log, LogName};
+pub use shared_log::SharedLog;
