@@ -1,31 +1,47 @@
--- What workers who share one writer have sent.
-use Rattle.std.specs.Prelude.{ℕ, Bool, List, ◌++◌, All, Option}
-use Rattle.std.specs.List.{concat}
-use Rattle.std.specs.Io.KnownBytes.{Appends}
+-- What workers and the receiver of a session give to the writer that they share.
+use Rattle.std.specs.Prelude.{ℕ, Bool, List, [], ◌∷◌, ◌++◌, map}
+use Rattle.fl_log.specs.Appended.{entries_by}
 use Rattle.fl_order.specs.declared.told.Told.{Told}
-use Rattle.fl_transport.specs.Collecting.{IsGiven, Outgoing}
+use Rattle.fl_transport.specs.Collecting.{Outgoing}
+use Rattle.fl_transport.specs.declared.response.Response.{Response}
+use Rattle.fl_transport.specs.declared.response.Response.TheVariants.{Nothing, Init, One, Replies}
 use Rattle.fl_wire.specs.Init.{init_spelling}
 use Rattle.fl_wire.specs.Spell.{spelling_of}
-use Rattle.fl_wire.specs.declared.init.InitStep.{InitStep}
+use Rattle.fl_workers.specs.declared.entry.Reply.{Reply}
+use Rattle.fl_workers.specs.declared.entry.Reply.TheVariants as reply
+use Rattle.fl_workers.specs.declared.entry.ReplyEntry.{ReplyEntry}
 
--- these are the bytes of some reply, to an order or to an INIT
-pub data IsSpelling : List ℕ → Type 0 where
-  told : (reply : Told) → IsSpelling (spelling_of reply)
-  greeted : (unique : ℕ) (step : InitStep) → IsSpelling (init_spelling unique step)
+-- the bytes of a reply
+abbrev pub spelling : Reply → List ℕ
+spelling (reply.Init unique step) = init_spelling unique step
+spelling (reply.Told told) = spelling_of told
 
--- what goes out by a shared sender, and whether the session has begun
+-- replies to orders
+abbrev pub replies_to : List Told → List Reply
+replies_to tolds = map (λ told. reply.Told told) tolds
+
+-- the replies of a response
+abbrev pub replies_of : Response → List Reply
+replies_of Nothing = []
+replies_of (Init unique step) = reply.Init unique step ∷ []
+replies_of (One told) = replies_to (told ∷ [])
+replies_of (Replies tolds) = replies_to tolds.now
+
+-- replies that this author gave at once
+abbrev pub entry : ℕ → List Reply → ReplyEntry
+entry author replies = record { author = author; replies = replies }
+
+-- the bytes of each reply of the entries, in their order
+abbrev pub spelled : List ReplyEntry → List (List ℕ)
+spelled [] = []
+spelled (e ∷ es) = map spelling e.replies ++ spelled es
+
+-- the entries of this author, in their order
+abbrev pub entries_of : ℕ → List ReplyEntry → List ReplyEntry
+entries_of author log = entries_by (λ (e : ReplyEntry). e.author) author log
+
+-- what goes out by a shared sender, whether the session has begun, and all that was given to be sent
 pub record Sending : Type 0 where
   pub out : Outgoing
   pub begun : Bool
-
--- some replies were given, each that to an order or to an INIT
-pub record HasSent (start : Option (List ℕ)) (out : Outgoing) : Type 0 where
-  pub replies : List (List ℕ)
-  pub each : All IsSpelling replies
-  pub given : IsGiven start out replies
-
--- all bytes of some replies were written, and of these behind them
-pub record HasSentLast (start held : Option (List ℕ)) (more : List (List ℕ)) : Type 0 where
-  pub replies : List (List ℕ)
-  pub each : All IsSpelling replies
-  pub written : Appends start held (concat (replies ++ more))
+  pub log : List ReplyEntry

@@ -1,54 +1,69 @@
 //! How the receiver of a session with workers reads its stream.
 
-ghost use Rattle.std.specs.Prelude.{◌≡◌, ◌≢◌, ◌++◌, ◌∷◌, [], Some, true, false};
+ghost use Rattle.std.specs.Prelude.{◌≡◌, ◌≢◌, ◌++◌, ◌∷◌, ◌||◌, [], Some, not, true, false};
+ghost use Rattle.fl_log.specs.Appended.{IsAppended};
 ghost use Rattle.fl_transport.specs.Handshake.{advanced, incoming_of, opening};
 ghost use Rattle.fl_transport.specs.Inbox.{IsUnread};
 ghost use Rattle.fl_transport.specs.Response.{goodbye_to};
 ghost use Rattle.fl_transport.specs.Said.{orders_in};
-ghost use Rattle.fl_workers.specs.Received.{HasReceived};
+ghost use Rattle.fl_workers.specs.Received.{HasReceived, own_answer_in};
+ghost use Rattle.fl_workers.specs.Sent.{entry, replies_of};
 
+use crate::entry::ReplyEntry;
 use crate::sender::{SharedSender, WriterName};
 use fl_intake::{Intake, PutEnd};
+use fl_log::Appender;
 use fl_order::Order;
 use fl_transport::{Fault, Filled, Handshake, Inbox, Incoming, Response};
 use fl_wire::{Batch, Frame, Step};
 use std::io::{Read, Write};
-use std::sync::ledger::Share;
 use std::sync::{Mutex, Wait};
 
 /// How the receiver of a session ended.
 #[derive(Drop)]
-pub struct Received {
+pub struct Received<N: WriterName> {
     /// The end at which it put its orders.
     pub put: PutEnd,
     /// Its fault, if any.
     pub fault: Option<Fault>,
     /// What the message that ended the session, if one did, is answered once all orders are.
     pub goodbye: Response<'static>,
+    /// Through this it gave its answers to be sent.
+    pub own: Appender<N, ReplyEntry>,
+    /// Some answer could not be given to the sender, and nobody sends it.
+    pub lost: bool,
 }
 
 /// Reads until the session ends: orders go to the intake, and other messages are answered at once, through the writer
 /// that the workers share. It ends at the stream's end, at a fault of the stream and at a DESTROY, which it leaves to
-/// be answered. The permit shows that the session has begun: replies go out already.
+/// be answered.
 pub fn receive_all<R: Wait, I: Read, W: Write, N: WriterName>(
     rt: &R,
     intake: &Intake,
     sender: &Mutex<SharedSender<'_, W, N>>,
-    _permit: &Share<N>,
+    own: Appender<N, ReplyEntry>,
     put: PutEnd,
     r: &mut I,
     inbox: &mut Inbox,
-) -> Received
-    requires begun { (_permit.now.parts ≡ N.parts) × (_permit.now.amount ≡ 1) }
+) -> Received<N>
     requires mine { put.of ≡ intake.now }
     requires open { put.closed ≡ false }
     requires none { put.put ≡ [] }
     requires unread { IsUnread inbox.old }
-    ensures received { HasReceived (I.remaining r.old) (I.remaining r.new) result.fault result.put.put result.goodbye }
+    ensures received { HasReceived (record {
+      left = I.remaining r.old;
+      left_now = I.remaining r.new;
+      fault = result.fault;
+      put = result.put.put;
+      goodbye = result.goodbye;
+      sent = own;
+      sent_now = result.own;
+      lost = result.lost;
+    }) }
     ensures same { (result.put.of ≡ put.of) × (result.put.takers ≡ put.takers) }
     ensures memory { result.fault ≢ Some Fault.NoMemory }
 {
-    Receiver::new(rt, intake, sender, put).receive_all(r, inbox)
+    Receiver::new(rt, intake, sender, own, put).receive_all(r, inbox)
 }
 
 // The receiver of a session with workers: where its orders go and its own answers, and how far the session is.
@@ -57,6 +72,9 @@ struct Receiver<'r, 'a, 'w, R, W: Write, N: WriterName> {
     rt: &'r R,
     intake: &'a Intake,
     sender: &'a Mutex<SharedSender<'w, W, N>>,
+    own: Appender<N, ReplyEntry>,
+    // Some answer could not be given to the sender.
+    lost: bool,
     put: PutEnd,
     handshake: Handshake,
     // The answer to the DESTROY that ended the session.
@@ -71,11 +89,13 @@ impl<'r, 'a, 'w, R: Wait, W: Write, N: WriterName> Receiver<'r, 'a, 'w, R, W, N>
         rt: &'r R,
         intake: &'a Intake,
         sender: &'a Mutex<SharedSender<'w, W, N>>,
+        own: Appender<N, ReplyEntry>,
         put: PutEnd,
     ) -> Receiver<'r, 'a, 'w, R, W, N>
         requires mine { put.of ≡ intake.now }
         requires open { put.closed ≡ false }
         ensures put { result.put ≡ put }
+        ensures own { (result.own ≡ own) × (result.lost ≡ false) }
         ensures fresh { result.handshake ≡ opening }
         ensures unanswered { result.goodbye ≡ Response.Nothing }
     {
@@ -83,6 +103,8 @@ impl<'r, 'a, 'w, R: Wait, W: Write, N: WriterName> Receiver<'r, 'a, 'w, R, W, N>
             rt,
             intake,
             sender,
+            own,
+            lost: false,
             put,
             handshake: Handshake::new(),
             goodbye: Response::Nothing,
@@ -90,12 +112,20 @@ impl<'r, 'a, 'w, R: Wait, W: Write, N: WriterName> Receiver<'r, 'a, 'w, R, W, N>
     }
 
     // Reads until the session ends.
-    fn receive_all<I: Read>(self, r: &mut I, inbox: &mut Inbox) -> Received
+    fn receive_all<I: Read>(self, r: &mut I, inbox: &mut Inbox) -> Received<N>
         requires unread { IsUnread inbox.old }
         requires fresh { (self.handshake ≡ opening) × (self.put.put ≡ []) }
-        requires unanswered { self.goodbye ≡ Response.Nothing }
-        ensures received { HasReceived (I.remaining r.old) (I.remaining r.new) result.fault result.put.put
-            result.goodbye }
+        requires unanswered { (self.goodbye ≡ Response.Nothing) × (self.lost ≡ false) }
+        ensures received { HasReceived (record {
+          left = I.remaining r.old;
+          left_now = I.remaining r.new;
+          fault = result.fault;
+          put = result.put.put;
+          goodbye = result.goodbye;
+          sent = self.entry.own;
+          sent_now = result.own;
+          lost = result.lost;
+        }) }
         ensures same { (result.put.of ≡ self.entry.put.of) × (result.put.takers ≡ self.entry.put.takers) }
         ensures memory { result.fault ≢ Some Fault.NoMemory }
     {
@@ -121,16 +151,25 @@ impl<'r, 'a, 'w, R: Wait, W: Write, N: WriterName> Receiver<'r, 'a, 'w, R, W, N>
     }
 
     // How the receiver ended, with this fault.
-    fn ended(self, fault: Option<Fault>) -> Received
+    fn ended(self, fault: Option<Fault>) -> Received<N>
         ensures fault { result.fault ≡ fault }
         ensures put { result.put ≡ self.entry.put }
         ensures goodbye { result.goodbye ≡ self.entry.goodbye }
+        ensures own { (result.own ≡ self.entry.own) × (result.lost ≡ self.entry.lost) }
     {
-        let Receiver { put, goodbye, .. } = self;
+        let Receiver {
+            put,
+            goodbye,
+            own,
+            lost,
+            ..
+        } = self;
         Received {
             put,
             fault,
             goodbye,
+            own,
+            lost,
         }
     }
 
@@ -175,10 +214,20 @@ impl<'r, 'a, 'w, R: Wait, W: Write, N: WriterName> Receiver<'r, 'a, 'w, R, W, N>
         };
     }
 
-    // Sends an answer of the session itself.
-    fn answer(&self, response: &Response) {
+    // Sends an answer of the session itself, or notes that it could not be given to the sender.
+    fn answer(&mut self, response: &Response)
+        ensures same { (self.new.put ≡ self.old.put) × (self.new.handshake ≡ self.old.handshake)
+            × (self.new.goodbye ≡ self.old.goodbye) }
+        ensures author { self.new.own.author ≡ self.old.own.author }
+        ensures lost { self.new.lost ≡ false → self.old.lost ≡ false }
+        ensures given { self.new.lost ≡ false
+            → IsAppended self.old.own (entry self.old.own.author (replies_of response.now)) self.new.own }
+    {
         let mut sender = self.sender.lock(self.rt);
-        sender.collect(response);
-        sender.flush();
+        if sender.collect(&mut self.own, response) {
+            sender.flush();
+        } else {
+            self.lost = true;
+        }
     }
 }

@@ -1,18 +1,20 @@
 //! The replies of a session whose workers share one writer.
 
-ghost use Rattle.std.specs.Prelude.{◌≡◌, ◌<◌, [], true, false};
-ghost use Rattle.fl_transport.specs.Collecting.{Collects, Outgoing};
-ghost use Rattle.fl_workers.specs.Sent.{HasSent, HasSentLast};
-ghost use Rattle.fl_transport.specs.Response.{bytes_of};
+ghost use Rattle.std.specs.Prelude.{◌≡◌, ◌+◌, ◌<◌, ◌++◌, ◌∷◌, [], true, false, All, length, sum_by};
+ghost use Rattle.fl_log.specs.Appended.{HasAll, IsAppended};
+ghost use Rattle.fl_transport.specs.Collecting.{IsGiven};
+ghost use Rattle.fl_workers.specs.Sent.{entry, replies_of, spelled};
 
+use crate::entry::{AsEntry, Given, ReplyEntry};
+use fl_log::{Appender, FreshLog, LogName, SharedLog};
 use fl_transport::{Outbox, ReplyBatch, ReplyBuffer, Response};
 use std::io::Write;
 use std::marker::{Brand, Model};
-use std::sync::ledger::{Blank, Book, Ledger, Share};
+use std::sync::ledger::{Blank, Share};
 
-/// The name of one writer in contracts, what it held before the first reply, and a ledger: its total is 1 once the
-/// session has begun, and 0 before.
-pub trait WriterName: Ledger {
+/// The name of one writer in contracts, what it held before the first reply, and of the log of what is given to be
+/// sent. The log's ledger has a part for each worker, and one for the receiver.
+pub trait WriterName: LogName {
     ghost use base.Fml.{GName};
     ghost use Rattle.std.specs.Prelude.{ℕ, Option, List};
 
@@ -31,132 +33,174 @@ impl WriterName for Brand {
 
 /// Replies on their way to a writer that is lent, which lie under the lock of a session's workers. They are collected,
 /// and go out together, once the session has begun: before, nothing is collected or sent. Contracts see what the writer
-/// holds, the bytes that are collected, whether a write failed, and whether it has begun.
+/// holds, the bytes that are collected, whether a write failed, whether it has begun, and a log of all that was given
+/// to be sent, with who gave it. The writer has the bytes of that log, or a beginning of them after a failed write.
 #[derive(Drop)]
 pub struct SharedSender<'a, W: Write, N: WriterName> {
     batch: ReplyBatch<'a, W>,
     begun: bool,
-    book: Book<N>,
+    log: SharedLog<N, ReplyEntry>,
 }
 
 impl<'a, W: Write, N: WriterName> Model for SharedSender<'a, W, N> {
-    ghost use Rattle.std.specs.Prelude.{◌≡◌, [], true, false};
-    ghost use Rattle.fl_transport.specs.Collecting.{outgoing};
+    ghost use Rattle.std.specs.Prelude.{◌≡◌, [], false};
+    ghost use Rattle.fl_transport.specs.Collecting.{IsGiven, outgoing};
     ghost use Rattle.fl_transport.specs.Outbox.{writer_of};
-    ghost use Rattle.fl_workers.specs.Sent.{Sending, HasSent};
+    ghost use Rattle.fl_workers.specs.Sent.{Sending, spelled};
 
     ghost Value = { Sending };
 
-    ghost view = { λ s. record { out = outgoing W.contents s.batch; begun = s.begun } };
+    ghost view = { λ s. record { out = outgoing W.contents s.batch; begun = s.begun; log = s.log } };
 
     ghost invariant = { λ s. ((writer_of s.batch.out).ghost_name ≡ N.writer)
-        × HasSent N.start (outgoing W.contents s.batch)
-        × (s.begun ≡ true → s.book.total ≡ 1)
-        × (s.begun ≡ false
-        → (s.book.total ≡ 0) × (W.contents (writer_of s.batch.out).now ≡ N.start) × (s.batch.replies ≡ [])) };
+        × IsGiven N.start (outgoing W.contents s.batch) (spelled s.log)
+        × (s.begun ≡ false → (W.contents (writer_of s.batch.out).now ≡ N.start) × (s.batch.replies ≡ [])) };
+}
+
+/// A writer that comes back.
+pub struct Returned<'a, W> {
+    /// The writer.
+    pub writer: &'a mut W,
+    /// A write failed.
+    pub broken: bool,
+    /// All that was given to be sent was given through the appenders that were handed back.
+    pub whole: bool,
 }
 
 impl<'a, W: Write, N: WriterName> SharedSender<'a, W, N> {
-    /// Nothing was sent yet, and the session hasn't begun. Beside it comes the permit to begin it.
-    #[tactic(auto, using(crate::proofs::SenderLemmas::starts))]
+    /// Nothing was sent yet, and the session hasn't begun. Beside it comes what appenders are cut from.
     pub fn new(
         blank: Blank,
+        fresh: FreshLog<ReplyEntry>,
         replies: ReplyBuffer,
         writer: &'a mut W,
     ) -> (SharedSender<'a, W, N>, Share<N>)
         requires ledger { (blank.name ≡ N.name) × (blank.parts ≡ N.parts) }
+        requires log { fresh ≡ N.log }
         requires empty { replies ≡ [] }
         requires start { W.contents writer.old ≡ N.start }
         requires named { writer.ghost_name ≡ N.writer }
         ensures unsent { result.0 ≡ record {
           out = record { held = N.start; waiting = []; broken = false };
           begun = false;
+          log = [];
         } }
-        ensures permit { (result.1.parts ≡ N.parts) × (result.1.amount ≡ 0) }
+        ensures whole { (result.1.parts ≡ N.parts) × (result.1.amount ≡ 0) }
     {
-        let (book, permit) = blank.open::<N>();
+        let (log, whole) = SharedLog::new(blank, fresh);
         let sender = SharedSender {
             batch: ReplyBatch {
                 replies,
                 out: Outbox::new(writer),
             },
             begun: false,
-            book,
+            log,
         };
-        (sender, permit)
+        (sender, whole)
+    }
+
+    /// An appender of this author, through which nothing was given.
+    pub fn appender(&self, rest: &mut Share<N>, author: u32) -> Appender<N, ReplyEntry>
+        requires none { self.now.log ≡ [] }
+        requires rest { (0 < rest.old.parts) × (rest.old.amount ≡ 0) }
+        ensures fresh { result ≡ record { author = author; count = 0; own = [] } }
+        ensures rest { (rest.new.parts + 1 ≡ rest.old.parts) × (rest.new.amount ≡ 0) }
+    {
+        self.log.appender(rest, author)
     }
 
     /// The session begins: from here on replies are collected and go out.
-    pub fn begin(&mut self, permit: &mut Share<N>)
-        requires all { (0 < N.parts) × (permit.old.parts ≡ N.parts) }
-        requires before { permit.old.amount ≡ 0 }
-        ensures begun { self.new ≡ record self.old { begun = true } }
-        ensures permit { (permit.new.parts ≡ N.parts) × (permit.new.amount ≡ 1) }
+    pub fn begin(&mut self)
+        ensures { self.new ≡ record self.old { begun = true } }
     {
-        self.book.audit(permit);
-        self.book.add(permit, 1);
         self.begun = true;
     }
 
-    /// Collects a response, to be sent by the next flush or before. Before the session begins nothing is collected.
-    #[tactic(auto, using(crate::proofs::SenderLemmas::collects))]
-    pub fn collect(&mut self, response: &Response)
-        ensures before { HasSent N.start self.old.out }
-        ensures unbegun { self.old.begun ≡ false → self.new ≡ self.old }
+    /// Collects a response of the appender's author, to be sent by the next flush or before, and says whether it did.
+    /// Before the session begins it collects nothing.
+    pub fn collect(&mut self, own: &mut Appender<N, ReplyEntry>, response: &Response) -> bool
         ensures begun { self.new.begun ≡ self.old.begun }
-        ensures collected { self.old.begun ≡ true
-            → Collects self.old.out self.new.out (bytes_of response.now) }
+        ensures logged { result ≡ true
+            → self.new.log ≡ self.old.log ++ entry own.old.author (replies_of response.now) ∷ [] }
+        ensures appended { result ≡ true
+            → IsAppended own.old (entry own.old.author (replies_of response.now)) own.new }
+        ensures refused { result ≡ false → (self.new ≡ self.old) × (own.new ≡ own.old) }
+        ensures given { IsGiven N.start self.new.out (spelled self.new.log) }
     {
-        if self.begun {
-            self.batch.collect(response);
+        if !self.begun {
+            return false;
         }
+        let given = Given {
+            author: own.author(),
+            response,
+        };
+        if !self.log.append::<Given, AsEntry>(own, &given) {
+            return false;
+        }
+        self.batch.collect(response);
+        true
     }
 
     /// Sends what is collected.
-    #[tactic(auto, using(crate::proofs::SenderLemmas::flushes))]
     pub fn flush(&mut self)
         ensures none { self.new.out.waiting ≡ [] }
-        ensures unbegun { self.old.begun ≡ false → self.new ≡ self.old }
+        ensures log { self.new.log ≡ self.old.log }
         ensures begun { self.new.begun ≡ self.old.begun }
-        ensures sent { self.old.begun ≡ true → Collects self.old.out self.new.out [] }
+        ensures given { IsGiven N.start self.new.out (spelled self.new.log) }
     {
         if self.begun {
             self.batch.flush();
         }
     }
 
-    /// Sends the last response, gives the writer back, and says whether a write failed. The permit tells whether it
-    /// had begun: if not, the writer holds what it held at the start.
-    pub fn close(self, permit: Share<N>, goodbye: &Response) -> (&'a mut W, bool)
-        requires all { permit.parts ≡ N.parts }
-        ensures same { result.0.ghost_name ≡ N.writer }
-        ensures sent { HasSent N.start (record { held = W.contents result.0.now; waiting = []; broken = result.1 }) }
-        ensures last { permit.amount ≡ 1 → result.1 ≡ false
-            → HasSentLast N.start (W.contents result.0.now) (bytes_of goodbye.now) }
-        ensures nothing { permit.amount ≡ 0 → W.contents result.0.now ≡ N.start }
+    /// Sends what is collected, and gives the writer back. It says whether a write failed, and whether all that was
+    /// given to be sent was given through these appenders, of which none is missing.
+    pub fn close(self, appenders: Vec<Appender<N, ReplyEntry>>) -> Returned<'a, W>
+        requires all { length appenders.items ≡ N.parts }
+        ensures same { result.writer.ghost_name ≡ N.writer }
+        ensures given { IsGiven N.start (record {
+          held = W.contents result.writer.now;
+          waiting = [];
+          broken = result.broken;
+        }) (spelled self.entry.log) }
+        ensures each { result.whole ≡ true → All (HasAll (λ e. e.author) self.entry.log) appenders.items }
+        ensures total { result.whole ≡ true
+            → length self.entry.log ≡ sum_by (λ own. own.count) appenders.items }
     {
         let mut sender = self;
-        let mut permit = permit;
-        sender.book.audit(&mut permit);
-        sender.collect(goodbye);
         sender.flush();
-        sender.into_writer()
-    }
-
-    // Gives the writer back, and says whether a write failed. What is collected and wasn't sent is lost.
-    fn into_writer(self) -> (&'a mut W, bool)
-        ensures same { result.0.ghost_name ≡ N.writer }
-        ensures held { W.contents result.0.now ≡ self.entry.out.held }
-        ensures broken { result.1 ≡ self.entry.out.broken }
-        ensures sent { HasSent N.start self.entry.out }
-        ensures unbegun { self.entry.begun ≡ false → W.contents result.0.now ≡ N.start }
-    {
         let SharedSender {
             batch,
             begun: _,
-            book: _,
+            mut log,
+        } = sender;
+        let whole = log.is_by(appenders);
+        let ReplyBatch { replies, out } = batch;
+        // Here, since the proof finds no more what the writer holds if something is dropped behind it.
+        drop(replies);
+        let (writer, broken) = out.into_parts();
+        Returned {
+            writer,
+            broken,
+            whole,
+        }
+    }
+
+    /// Gives the writer back, and says whether the session had begun. If it hadn't, the writer holds what it held at
+    /// the start.
+    pub fn abandon(self) -> (&'a mut W, bool)
+        ensures same { result.0.ghost_name ≡ N.writer }
+        ensures begun { result.1 ≡ self.entry.begun }
+        ensures unbegun { result.1 ≡ false → W.contents result.0.now ≡ N.start }
+    {
+        let SharedSender {
+            batch,
+            begun,
+            log: _,
         } = self;
-        let ReplyBatch { replies: _, out } = batch;
-        out.into_parts()
+        let ReplyBatch { replies, out } = batch;
+        drop(replies);
+        let (writer, _) = out.into_parts();
+        (writer, begun)
     }
 }

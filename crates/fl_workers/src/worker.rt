@@ -1,27 +1,73 @@
 //! What a worker of a session does.
 
-ghost use Rattle.std.specs.Prelude.{◌≡◌, ◌≤◌, ◌++◌, ◌∷◌, [], true, option_to_list, IfSome, IsSome};
+ghost use Rattle.std.specs.Prelude.{◌≡◌, ◌≤◌, ◌++◌, ◌∷◌, [], true, false, ◌||◌, option_to_list, IfSome, IsSome};
+ghost use mathlib.Core.List.{IsPrefix};
+ghost use Rattle.fl_desk.specs.Answered.{answered_by};
+ghost use Rattle.fl_log.specs.Appended.{IsAppended};
 ghost use Rattle.fl_order.specs.Order.{only_reads};
-ghost use Rattle.fl_workers.specs.Worked.{HasDone, HasWorked};
+ghost use Rattle.fl_workers.specs.Sent.{entry, replies_of};
+ghost use Rattle.fl_workers.specs.Worked.{HasDone, HasWorked, standing};
 
+use crate::entry::ReplyEntry;
 use crate::sender::{SharedSender, WriterName};
 use fl_core::Tolds;
 use fl_desk::{Counter, Gate};
 use fl_intake::{Intake, Job, TakeEnd};
+use fl_log::Appender;
 use fl_order::{Order, Told};
 use fl_transport::Response;
 use std::io::Write;
 use std::sync::{Mutex, Wait};
 
-/// What a worker gives back.
+/// Where a worker works: its seat, and what it gives replies to be sent through.
 #[derive(Drop)]
-pub struct Worked<S> {
+pub struct Post<S, N: WriterName> {
     /// Its seat.
     pub seat: S,
-    /// Its end of the intake.
-    pub end: TakeEnd,
+    /// Through this it gives replies to be sent.
+    pub own: Appender<N, ReplyEntry>,
+}
+
+/// What went wrong with orders.
+#[derive(Clone, Copy, Debug, PartialEq, Eq)]
+pub struct Failures {
     /// Some order was refused.
     pub refused: bool,
+    /// What is owed for some order could not be given to the sender, and nobody sends it.
+    pub lost: bool,
+}
+
+impl Failures {
+    /// Nothing went wrong.
+    pub fn none() -> Failures
+        ensures { (result.refused ≡ false) × (result.lost ≡ false) }
+    {
+        Failures {
+            refused: false,
+            lost: false,
+        }
+    }
+
+    /// What went wrong with these orders, or with those.
+    pub fn or(self, other: Failures) -> Failures
+        ensures { (result.refused ≡ (self.refused || other.refused)) × (result.lost ≡ (self.lost || other.lost)) }
+    {
+        Failures {
+            refused: self.refused || other.refused,
+            lost: self.lost || other.lost,
+        }
+    }
+}
+
+/// What a worker gives back.
+#[derive(Drop)]
+pub struct Worked<S, N: WriterName> {
+    /// Its seat, and what it gave replies to be sent through.
+    pub post: Post<S, N>,
+    /// Its end of the intake.
+    pub end: TakeEnd,
+    /// What went wrong with its orders.
+    pub failures: Failures,
 }
 
 /// Takes orders until the intake is closed and empty. It looks for those that only read, and hands in all others, and
@@ -34,88 +80,103 @@ pub fn worker_loop<R: Wait, C: Counter, G: Gate, W: Write, N: WriterName>(
     gate: &G,
     intake: &Intake,
     sender: &Mutex<SharedSender<'_, W, N>>,
-    seat: C::Seat,
+    post: Post<C::Seat, N>,
     end: TakeEnd,
     tolds: Tolds,
-) -> Worked<C::Seat>
+) -> Worked<C::Seat, N>
     requires end { end.of ≡ intake.now }
-    requires fresh { C.count seat ≡ 0 }
     requires room { C.most_tolds ≤ tolds.room }
     ensures end { result.end.of ≡ intake.now }
-    ensures own { C.worker result.seat ≡ C.worker seat }
-    ensures did { HasDone end.taken result.end.taken (C.asked result.seat) (C.count result.seat) result.refused }
+    ensures did { HasDone C.shows end.taken result.end.taken
+        (standing C.worker C.count C.answered C.seen post.seat post.own)
+        (standing C.worker C.count C.answered C.seen result.post.seat result.post.own)
+        result.failures.refused result.failures.lost }
 {
-    let mut seat = seat;
+    let mut post = post;
     let mut end = end;
     let mut tolds = tolds;
-    let mut refused = false;
+    let mut failures = Failures::none();
     for _ in rt.forever() {
         let Some(job) = next_job(rt, counter, intake, &mut end, sender) else {
             break;
         };
-        refused |= handle(rt, counter, gate, sender, &mut seat, &mut tolds, &job);
+        let more = handle(rt, counter, gate, sender, &mut post, &mut tolds, &job);
+        failures = failures.or(more);
     }
-    Worked { seat, end, refused }
+    Worked {
+        post,
+        end,
+        failures,
+    }
 }
 
-/// Handles orders that no worker took, one after another, as a worker does. Tells whether one was refused.
+/// Handles orders that no worker took, one after another, as a worker does.
 pub fn handle_all<R: Wait, C: Counter, G: Gate, W: Write, N: WriterName>(
     rt: &R,
     counter: &C,
     gate: &G,
     sender: &Mutex<SharedSender<'_, W, N>>,
-    seat: &mut C::Seat,
+    post: &mut Post<C::Seat, N>,
     tolds: Tolds,
     orders: Vec<Job>,
-) -> bool
+) -> Failures
     requires room { C.most_tolds ≤ tolds.room }
-    ensures own { C.worker seat.new ≡ C.worker seat.old }
-    ensures did { HasWorked orders.items (C.asked seat.old) (C.asked seat.new) (C.count seat.old) (C.count seat.new)
-        result }
+    ensures did { HasWorked C.shows orders.items
+        (standing C.worker C.count C.answered C.seen post.old.seat post.old.own)
+        (standing C.worker C.count C.answered C.seen post.new.seat post.new.own)
+        result.refused result.lost }
 {
     let mut tolds = tolds;
-    let mut refused = false;
+    let mut failures = Failures::none();
     for order in orders {
-        refused |= handle(rt, counter, gate, sender, seat, &mut tolds, &order);
+        let more = handle(rt, counter, gate, sender, post, &mut tolds, &order);
+        failures = failures.or(more);
     }
-    refused
+    failures
 }
 
-// Looks for an order that only reads, and hands in any other, and one for which nothing could be shown. Its replies are
-// given to be sent. True if it was refused.
+// Looks for an order that only reads, and hands in any other, and one for which nothing could be shown. What is owed
+// for it is given to be sent.
 fn handle<R: Wait, C: Counter, G: Gate, W: Write, N: WriterName>(
     rt: &R,
     counter: &C,
     gate: &G,
     sender: &Mutex<SharedSender<'_, W, N>>,
-    seat: &mut C::Seat,
+    post: &mut Post<C::Seat, N>,
     tolds: &mut Tolds,
     order: &Order,
-) -> bool
+) -> Failures
     requires room { C.most_tolds ≤ tolds.old.room }
     ensures room { tolds.new.room ≡ tolds.old.room }
-    ensures own { C.worker seat.new ≡ C.worker seat.old }
-    ensures did { HasWorked (order.now ∷ []) (C.asked seat.old) (C.asked seat.new) (C.count seat.old) (C.count seat.new)
-        result }
+    ensures did { HasWorked C.shows (order.now ∷ [])
+        (standing C.worker C.count C.answered C.seen post.old.seat post.old.own)
+        (standing C.worker C.count C.answered C.seen post.new.seat post.new.own)
+        result.refused result.lost }
 {
     gate.pass(order.unique);
+    let Post { seat, own } = post;
     if let Some(told) = looked(counter, seat, order) {
-        give(rt, gate, sender, &Response::One(told));
-        return false;
+        let given = give(rt, gate, sender, own, &Response::One(told));
+        return Failures {
+            refused: false,
+            lost: !given,
+        };
     }
     match counter.hand_in(rt, seat, order, tolds) {
         Ok(()) => {
-            give(rt, gate, sender, &Response::Replies(tolds.as_slice()));
-            false
+            let given = give(rt, gate, sender, own, &Response::Replies(tolds.as_slice()));
+            Failures {
+                refused: false,
+                lost: !given,
+            }
         }
         Err(_) => {
-            give(
-                rt,
-                gate,
-                sender,
-                &Response::lost(order.op.kind(), order.unique),
-            );
-            true
+            let response = Response::lost(order.op.kind(), order.unique);
+            let given = give(rt, gate, sender, own, &response);
+            Failures {
+                refused: true,
+                lost: !given,
+            }
         }
     }
 }
@@ -123,9 +184,13 @@ fn handle<R: Wait, C: Counter, G: Gate, W: Write, N: WriterName>(
 // The reply to an order that only reads, for which something could be shown. None of it is handed in.
 fn looked<C: Counter>(counter: &C, seat: &mut C::Seat, order: &Order) -> Option<Told>
     ensures own { C.worker seat.new ≡ C.worker seat.old }
-    ensures kept { (C.count seat.new ≡ C.count seat.old) × (C.asked seat.new ≡ C.asked seat.old) }
+    ensures kept { (C.count seat.new ≡ C.count seat.old) × (C.answered seat.new ≡ C.answered seat.old) }
+    ensures seen { IsPrefix (C.seen seat.old) (C.seen seat.new) }
     ensures reads { IsSome result → only_reads order.now.op ≡ true }
-    ensures unique { IfSome result (λ told. told.unique ≡ order.now.unique) }
+    ensures had { IfSome result (λ _.
+        IsPrefix (C.answered seat.old) (answered_by (C.worker seat.old) (C.seen seat.new))) }
+    ensures shown { IfSome result (λ told. (told.unique ≡ order.now.unique)
+        × C.shows (C.seen seat.new) order.now told.result) }
 {
     if !order.only_reads() {
         return None;
@@ -162,24 +227,36 @@ fn next_job<R: Wait, C: Counter, W: Write, N: WriterName>(
     intake.take(rt, end)
 }
 
-// Collects a response, with nothing of another worker's between, and tells the gate of each reply.
+// Gives a response to be sent, with nothing of another worker's between, and tells the gate of each reply. False if
+// it could not be given.
 fn give<R: Wait, G: Gate, W: Write, N: WriterName>(
     rt: &R,
     gate: &G,
     sender: &Mutex<SharedSender<'_, W, N>>,
+    own: &mut Appender<N, ReplyEntry>,
     response: &Response,
-) {
-    collect(rt, sender, response);
+) -> bool
+    ensures author { own.new.author ≡ own.old.author }
+    ensures given { result ≡ true
+        → IsAppended own.old (entry own.old.author (replies_of response.now)) own.new }
+{
+    let given = collect(rt, sender, own, response);
     tell(gate, response);
+    given
 }
 
 fn collect<R: Wait, W: Write, N: WriterName>(
     rt: &R,
     sender: &Mutex<SharedSender<'_, W, N>>,
+    own: &mut Appender<N, ReplyEntry>,
     response: &Response,
-) {
+) -> bool
+    ensures author { own.new.author ≡ own.old.author }
+    ensures given { result ≡ true
+        → IsAppended own.old (entry own.old.author (replies_of response.now)) own.new }
+{
     let mut sender = sender.lock(rt);
-    sender.collect(response);
+    sender.collect(own, response)
 }
 
 // Sends what is collected.
