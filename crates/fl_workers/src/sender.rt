@@ -118,6 +118,7 @@ impl<'a, W: Write, N: WriterName> SharedSender<'a, W, N> {
 
     /// Collects a response of the appender's author, to be sent by the next flush or before, and says whether it did.
     /// Before the session begins it collects nothing.
+    #[tactic(auto, using(crate::proofs::SenderLemmas::given_more))]
     pub fn collect(&mut self, own: &mut Appender<N, ReplyEntry>, response: &Response) -> bool
         ensures begun { self.new.begun ≡ self.old.begun }
         ensures logged { result ≡ true
@@ -142,6 +143,7 @@ impl<'a, W: Write, N: WriterName> SharedSender<'a, W, N> {
     }
 
     /// Sends what is collected.
+    #[tactic(auto, using(crate::proofs::SenderLemmas::given_still))]
     pub fn flush(&mut self)
         ensures none { self.new.out.waiting ≡ [] }
         ensures log { self.new.log ≡ self.old.log }
