@@ -50,7 +50,7 @@ pub enum CloseFault<L: BoardName, R: Wait + Drop, J: Journal = Lines> {
         /// The seats that were handed back.
         seats: Vec<Seat<L>>,
     },
-    /// The history is shorter than what some worker handed in or was shown, or two seats are of one worker.
+    /// The history doesn't begin with all that some worker handed in or was shown, or two seats are of one worker.
     NoView {
         /// The board.
         board: Board<L, R, J>,
@@ -107,7 +107,8 @@ impl<L: BoardName, R: Wait + Drop, J: Journal> Board<L, R, J> {
     }
 
     /// Takes an order of the seat's worker, as `Desk::take` does: records it, answers it, and hands out the replies
-    /// that it records. A refusal changes no line, lock, count or seat.
+    /// that it records. A refusal changes no line, lock, count or seat. `NoView` comes if the history doesn't begin
+    /// with all that the worker handed in or was shown, has 2^62 orders, or isn't all that was logged.
     pub fn hand_in<W: Wait>(
         &self,
         rt: &W,
@@ -160,8 +161,8 @@ impl<L: BoardName, R: Wait + Drop, J: Journal> Board<L, R, J> {
     }
 
     /// The journal of its lines, which are the history of all that was handed in, if no seat is missing. It is
-    /// legal under the board's rules, begins with all that was handed in and shown through each seat, and has as many
-    /// orders of each worker as its seat's count.
+    /// legal under the board's rules, and no two owners have conflicting locks after it. It begins with all that was
+    /// handed in and shown through each seat, and has as many orders of each worker as its seat's count.
     pub fn into_kept(self, seats: Vec<Seat<L>>) -> Result<J, CloseFault<L, R, J>>
         requires { L.workers ≡ L.parts }
         ensures legal { IfOk result (λ kept. IsLegal L.rules (J.lines kept)) }
@@ -216,9 +217,9 @@ impl<L: BoardName, R: Wait + Drop> Board<L, R> {
         Board::over(alloc, rt, Lines::new(alloc), blank, log, workers, rules)
     }
 
-    /// The history of all that was handed in, if no seat is missing. It is legal under the board's rules, begins
-    /// with all that was handed in and shown through each seat, and has as many orders of each worker as its seat's
-    /// count.
+    /// The history of all that was handed in, if no seat is missing. It is legal under the board's rules, and no two
+    /// owners have conflicting locks after it. It begins with all that was handed in and shown through each seat, and
+    /// has as many orders of each worker as its seat's count.
     pub fn close(self, seats: Vec<Seat<L>>) -> Result<History, CloseFault<L, R>>
         requires { L.workers ≡ L.parts }
         ensures legal { IfOk result (IsLegal L.rules) }
