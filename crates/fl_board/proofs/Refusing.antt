@@ -14,7 +14,7 @@ use Rattle.fl_core.specs.Step.{replies}
 use Rattle.fl_desk.specs.Legal.{IsLegal, orders_asked}
 use Rattle.fl_history.specs.declared.history.Line.{Line}
 use Rattle.fl_replica.specs.Asks.{stepped}
-use Rattle.fl_replica.specs.Longer.{IsLonger}
+use Rattle.fl_log.specs.Longer.{IsLonger}
 use Rattle.fl_replica.specs.declared.ask.Ask.{Ask}
 use Rattle.fl_waiting.specs.declared.rules.Rules.{Rules}
 

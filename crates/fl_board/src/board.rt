@@ -16,8 +16,9 @@ use crate::shared::{Shared, are_apart};
 use fl_core::{Rules, Tolds};
 use fl_desk::{HandFault, NoView};
 use fl_history::{History, Journal, Lines};
+use fl_log::{Beginning, FreshLog};
 use fl_order::{Answer, Errno, NoMemory, Order};
-use fl_replica::{Beginning, BoardName, FreshLog, ReplicaWriter};
+use fl_replica::{Ask, BoardName, ReplicaWriter};
 use std::alloc::{AllocError, Global};
 use std::sync::ledger::{Blank, Share};
 use std::sync::{Mutex, Wait};
@@ -80,7 +81,7 @@ impl<L: BoardName, R: Wait + Drop, J: Journal> Board<L, R, J> {
         rt: R,
         kept: J,
         blank: Blank,
-        log: FreshLog,
+        log: FreshLog<Ask>,
         workers: u32,
         rules: Rules,
     ) -> Result<(Board<L, R, J>, Vec<Seat<L>>), OpenFault>
@@ -201,7 +202,7 @@ impl<L: BoardName, R: Wait + Drop> Board<L, R> {
         alloc: Global,
         rt: R,
         blank: Blank,
-        log: FreshLog,
+        log: FreshLog<Ask>,
         workers: u32,
         rules: Rules,
     ) -> Result<(Board<L, R>, Vec<Seat<L>>), OpenFault>
@@ -242,7 +243,7 @@ impl<L: BoardName, R: Wait + Drop> Board<L, R> {
 fn seats_of<L: BoardName, R: Wait + Drop>(
     alloc: Global,
     writer: &ReplicaWriter<L, R>,
-    none: &Beginning<L>,
+    none: &Beginning<L, Ask>,
     parts: Share<L>,
     workers: u32,
 ) -> Result<Vec<Seat<L>>, OpenFault>

@@ -24,5 +24,6 @@ mod shared;
 
 pub use board::{Board, CloseFault, OpenFault};
 pub use fl_desk::{HandFault, NoView};
-pub use fl_replica::{BoardName, FreshLog, LogName};
+pub use fl_log::{FreshLog, LogName};
+pub use fl_replica::{Ask, BoardName};
 pub use seat::Seat;

@@ -8,8 +8,9 @@ ghost use Rattle.fl_order.specs.Order.{only_reads};
 
 use crate::asks::asks_lead;
 use fl_desk::NoView;
+use fl_log::Beginning;
 use fl_order::{Answer, Errno, Order};
-use fl_replica::{Beginning, BoardName, Replica, look_at};
+use fl_replica::{Ask, BoardName, Replica, look_at};
 use left_right::ReadHandle;
 use std::marker::Model;
 use std::sync::ledger::Share;
@@ -21,8 +22,8 @@ pub struct Seat<L: BoardName> {
     pub(crate) worker: u32,
     pub(crate) share: Share<L>,
     pub(crate) reader: ReadHandle<Replica<L>>,
-    pub(crate) own: Beginning<L>,
-    pub(crate) seen: Beginning<L>,
+    pub(crate) own: Beginning<L, Ask>,
+    pub(crate) seen: Beginning<L, Ask>,
 }
 
 impl<L: BoardName> Model for Seat<L> {
@@ -72,7 +73,7 @@ impl<L: BoardName> Seat<L> {
     }
 
     // Whether a history begins with all that was handed in and shown through it.
-    pub(crate) fn begins(&self, asks: &Beginning<L>) -> bool
+    pub(crate) fn begins(&self, asks: &Beginning<L, Ask>) -> bool
         ensures begins { (result ≡ true) ↔ BeginsWith (history_of L.rules asks.now) self.now }
         ensures most { result ≡ true → HasMostOf (history_of L.rules asks.now) self.now }
     {

@@ -8,7 +8,7 @@ ghost use Rattle.fl_board.specs.Seats.{AreApart};
 ghost use Rattle.fl_board.specs.Shown.{HaveMet, IsHandedIn, KeepsHanded};
 ghost use Rattle.fl_core.specs.Tolds.{HasRoom};
 ghost use Rattle.fl_desk.specs.Legal.{IsLegal, LeavesLawful, orders_asked};
-ghost use Rattle.fl_replica.specs.Longer.{IsLonger};
+ghost use Rattle.fl_log.specs.Longer.{IsLonger};
 ghost use Rattle.fl_replica.specs.declared.ask.Ask.{Ask as Handed};
 
 use crate::asks::asks_lead;
@@ -16,8 +16,9 @@ use crate::seat::Seat;
 use fl_core::{Rules, Tolds};
 use fl_desk::{Desk, HandFault, NoView};
 use fl_history::Journal;
+use fl_log::{Beginning, FreshLog, Log, MOST_ENTRIES};
 use fl_order::{NoMemory, Order};
-use fl_replica::{Ask, Beginning, BoardName, FreshLog, Log, MOST_ASKS, ReplicaWriter, Update};
+use fl_replica::{AsAsk, Ask, BoardName, ReplicaWriter, Update};
 use std::alloc::Global;
 use std::marker::Model;
 use std::sync::Wait;
@@ -29,8 +30,8 @@ use std::sync::ledger::{Book, Share};
 pub(crate) struct Shared<L: BoardName, R: Wait + Drop, J: Journal> {
     pub desk: Desk<J>,
     pub book: Book<L>,
-    pub log: Log<L>,
-    pub all: Beginning<L>,
+    pub log: Log<L, Ask>,
+    pub all: Beginning<L, Ask>,
     pub writer: ReplicaWriter<L, R>,
 }
 
@@ -57,7 +58,7 @@ impl<L: BoardName, R: Wait + Drop, J: Journal> Shared<L, R, J> {
         rt: R,
         kept: J,
         ledger: Book<L>,
-        log: FreshLog,
+        log: FreshLog<Ask>,
         readers: usize,
         rules: Rules,
     ) -> Result<Shared<L, R, J>, NoMemory>
@@ -187,10 +188,10 @@ impl<L: BoardName, R: Wait + Drop, J: Journal> Shared<L, R, J> {
 // more is to be published.
 fn added<L: BoardName, R: Wait + Drop>(
     writer: &mut ReplicaWriter<L, R>,
-    log: &Log<L>,
-    all: &Beginning<L>,
+    log: &Log<L, Ask>,
+    all: &Beginning<L, Ask>,
     ask: &Ask,
-) -> Result<Beginning<L>, HandFault>
+) -> Result<Beginning<L, Ask>, HandFault>
     requires { writer.old ≡ all.now }
     ensures added { MatchResult result
         (λ next. (next ≡ all.now ++ ask.now ∷ []) × (writer.new ≡ next))
@@ -198,11 +199,11 @@ fn added<L: BoardName, R: Wait + Drop>(
     ensures no_view { result ≡ Err HandFault.NoView →
         (2 ^ 62 ≤ length all.now) ⊎ ((log : List Handed) × IsLonger all.now log) }
 {
-    if all.len() >= MOST_ASKS {
+    if all.len() >= MOST_ENTRIES {
         return Err(HandFault::NoView);
     }
     let mut next = all.again();
-    if !next.add(log, *ask) {
+    if !next.add::<Ask, AsAsk>(log, ask) {
         return Err(HandFault::NoView);
     }
     let update = Update::new(ask.order, all.again(), next.again());
