@@ -1,6 +1,6 @@
 -- What became of orders at one seat, and what was given to be sent for them.
-use Rattle.std.proofs.Common.{◌≡◌, ℕ, ◌+◌, Bool, true, false, true≢false, List, [], ◌∷◌, ◌++◌, map, Result, refl, sym, ap}
-use Rattle.std.proofs.Common.{◌∙◌, subst, append_assoc, append-nil}
+use Rattle.std.proofs.Common.{◌≡◌, ℕ, ◌+◌, Bool, true, false, true≢false, List, [], ◌∷◌, ◌++◌, map}
+use Rattle.std.proofs.Common.{refl, sym, ap, ◌∙◌, subst, append_assoc, append-nil}
 use Rattle.std.specs.Prelude.{◌||◌, not}
 use Rattle.std.proofs.lemmas.List.{map-append}
 use mathlib.Core.List.{IsPrefix, Sublistᴰ}
@@ -15,8 +15,8 @@ use Rattle.fl_order.specs.declared.told.Told.{Told}
 use Rattle.fl_transport.specs.Response.{lost}
 use Rattle.fl_workers.proofs.Growing.{among_more, appended_more, none_more, one_more, prefix_trans, then_more}
 use Rattle.fl_workers.specs.Sent.{entries_of, entry, replies_of, replies_to}
-use Rattle.fl_workers.specs.Worked.{AreShown, HasDone, HasWorked, Outcome, Shows, Standing, answer_of, answers, entry_for}
-use Rattle.fl_workers.specs.Worked.{handed, is_refused, looked, order_of, refused, replies_for, some_refused}
+use Rattle.fl_workers.specs.Worked.{AreShown, HasDone, HasWorked, Outcome, Shows, Standing, answer_of, answers}
+use Rattle.fl_workers.specs.Worked.{entry_for, handed, is_refused, looked, order_of, refused, replies_for, some_refused}
 use Rattle.fl_workers.specs.declared.entry.Reply.{Reply}
 use Rattle.fl_workers.specs.declared.entry.ReplyEntry.{ReplyEntry}
 
@@ -62,8 +62,9 @@ shown_then shows worker from mid to had [] ys first second =
     shown_from shows worker from mid to had ys first
     (subst (λ l. AreShown shows worker mid l ys to) (append-nil had) second)
 shown_then shows worker from mid to had (handed order tolds ∷ xs) ys first second =
-    shown_then shows worker from mid to (had ++ answered order tolds ∷ []) xs ys first
-    (subst (λ l. AreShown shows worker mid l ys to) (sym (append_assoc had (answered order tolds ∷ []) (answers xs))) second)
+    let it = answered order tolds ∷ [] in
+    shown_then shows worker from mid to (had ++ it) xs ys first
+    (subst (λ l. AreShown shows worker mid l ys to) (sym (append_assoc had it (answers xs))) second)
 shown_then shows worker from mid to had (looked order result at ∷ xs) ys first second = (
   first.0,
   first.1,
@@ -106,7 +107,8 @@ sent_then p q r xs ys same first second =
     subst (λ n. Grows (entries_of n q.sent.own) (entries_of n r.sent.own) q.sent.count r.sent.count
     (map (entry_for n) ys)) same second in
     subst (Grows a c p.sent.count r.sent.count) (sym (map-append (entry_for its) xs ys))
-    (then_more a b c p.sent.count q.sent.count r.sent.count (map (entry_for its) xs) (map (entry_for its) ys) first more)
+    (then_more a b c p.sent.count q.sent.count r.sent.count (map (entry_for its) xs) (map (entry_for its) ys)
+    first more)
 
 -- these orders, and then those
 pub then_worked : (shows : Shows) (xs ys : Orders) (p q r : Standing) (any more all lost more_lost all_lost : Bool)
