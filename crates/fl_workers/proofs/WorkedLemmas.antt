@@ -3,11 +3,11 @@ use Rattle.std.proofs.Common.{◌≡◌, ℕ, ◌+◌, Bool, true, false, true�
 use Rattle.std.proofs.Common.{refl, sym, ap, ◌∙◌, subst, append_assoc, append-nil}
 use Rattle.std.specs.Prelude.{◌||◌, not}
 use Rattle.std.proofs.lemmas.List.{map-append}
-use mathlib.Core.List.{IsPrefix, Sublistᴰ}
+use mathlib.Core.List.{IsPrefix}
 use Rattle.fl_desk.specs.Answered.{Answered, IsAnsweredLast, answered, answered_by}
 use Rattle.fl_desk.specs.Asked.{Orders}
 use Rattle.fl_history.specs.declared.history.Line.{Line}
-use Rattle.fl_log.specs.Appended.{Appended, IsAppended}
+use Rattle.fl_log.specs.Appended.{IsAppended}
 use Rattle.fl_log.specs.Growing.{Grows}
 use Rattle.fl_order.specs.Order.{kind_of, only_reads}
 use Rattle.fl_order.specs.declared.order.Order.{Order}

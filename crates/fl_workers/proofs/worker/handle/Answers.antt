@@ -1,4 +1,4 @@
-use Rattle.std.proofs.Common.{◌≡◌, ◌+◌, ◌∙◌, ap, refl, rules, subst, sym}
+use Rattle.std.proofs.Common.{◌+◌, ◌∙◌, ap, refl, rules, subst, sym}
 use mathlib.Core.List.{IsPrefix}
 use Rattle.fl_desk.specs.Answered.{IsAnsweredLast}
 use Rattle.fl_workers.proofs.WorkedLemmas.{one_handed, one_looked, one_refused}
