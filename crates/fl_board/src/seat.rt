@@ -1,14 +1,16 @@
 //! A worker's place at a board.
 
-ghost use Rattle.std.specs.Prelude.{◌≡◌, true, IfOk, OnErr};
+ghost use Rattle.std.specs.Prelude.{◌≡◌, ◌↔◌, true, IfOk, OnErr};
 ghost use Rattle.fl_board.specs.Inside.Asks.{HasMostOf, history_of};
+ghost use Rattle.fl_board.specs.Refused.{BeginsWith};
 ghost use Rattle.fl_board.specs.Shown.{IsShown, KeepsHanded};
 ghost use Rattle.fl_order.specs.Order.{only_reads};
 
 use crate::asks::asks_lead;
 use fl_desk::NoView;
+use fl_log::Beginning;
 use fl_order::{Answer, Errno, Order};
-use fl_replica::{Beginning, BoardName, Replica, look_at};
+use fl_replica::{Ask, BoardName, Replica, look_at};
 use left_right::ReadHandle;
 use std::marker::Model;
 use std::sync::ledger::Share;
@@ -20,14 +22,15 @@ pub struct Seat<L: BoardName> {
     pub(crate) worker: u32,
     pub(crate) share: Share<L>,
     pub(crate) reader: ReadHandle<Replica<L>>,
-    pub(crate) own: Beginning<L>,
-    pub(crate) seen: Beginning<L>,
+    pub(crate) own: Beginning<L, Ask>,
+    pub(crate) seen: Beginning<L, Ask>,
 }
 
 impl<L: BoardName> Model for Seat<L> {
-    ghost use Rattle.std.specs.Prelude.{◌≡◌, ◌≤◌};
+    ghost use Rattle.std.specs.Prelude.{◌≡◌, ◌≤◌, length};
     ghost use Rattle.fl_board.specs.Inside.Asks.{history_of};
-    ghost use Rattle.fl_board.specs.Seats.{Place, orders_by};
+    ghost use Rattle.fl_board.specs.Seats.{Place};
+    ghost use Rattle.fl_desk.specs.Answered.{answered_by};
 
     ghost Value = { Place };
 
@@ -38,7 +41,8 @@ impl<L: BoardName> Model for Seat<L> {
       seen = history_of L.rules s.seen;
     } };
 
-    ghost invariant = { λ s. (s.share.parts ≡ 1) × (s.share.amount ≤ orders_by s.worker (history_of L.rules s.own)) };
+    ghost invariant = { λ s. (s.share.parts ≡ 1)
+        × (s.share.amount ≤ length (answered_by s.worker (history_of L.rules s.own))) };
 }
 
 impl<L: BoardName> Seat<L> {
@@ -69,8 +73,9 @@ impl<L: BoardName> Seat<L> {
     }
 
     // Whether a history begins with all that was handed in and shown through it.
-    pub(crate) fn begins(&self, asks: &Beginning<L>) -> bool
-        ensures { result ≡ true → HasMostOf (history_of L.rules asks.now) self.now }
+    pub(crate) fn begins(&self, asks: &Beginning<L, Ask>) -> bool
+        ensures begins { (result ≡ true) ↔ BeginsWith (history_of L.rules asks.now) self.now }
+        ensures most { result ≡ true → HasMostOf (history_of L.rules asks.now) self.now }
     {
         self.own.begins(asks) && self.seen.begins(asks)
     }
