@@ -1,12 +1,12 @@
-use Rattle.std.proofs.Common.{◌≡◌, ◌≤◌, ◌++◌}
-use Rattle.fl_desk.specs.Asked.{Orders}
-use Rattle.fl_workers.specs.Worked.{HasWorked}
+use Rattle.std.proofs.Common.{◌≤◌}
+use Rattle.fl_workers.proofs.WorkedLemmas.{WorkedSoFar}
+use Rattle.fl_workers.specs.Worked.{standing}
 use Rattle.fl_workers.proofs.worker.handle_all.Given as goal
 
--- the seat is this worker's, there is room for the replies of any order, and the orders so far were done
+-- there is room for the replies of any order, and the orders so far were handled
 abbrev pub invariant-loop-order : goal.invariant-loop-order
-invariant-loop-order g l = (g.C.Counter.worker l.seat ≡ g.C.Counter.worker l.fn.seat)
-    × (g.C.Counter.most_tolds ≤ l.tolds.room)
-    × ((done : Orders) × (l.fn.orders.items ≡ done ++ l.order-iterator.rest.items)
-    × HasWorked done (g.C.Counter.asked l.fn.seat) (g.C.Counter.asked l.seat)
-    (g.C.Counter.count l.fn.seat) (g.C.Counter.count l.seat) l.refused)
+invariant-loop-order g l =
+    let there = standing g.C.Counter.worker g.C.Counter.count g.C.Counter.answered g.C.Counter.seen in
+    (g.C.Counter.most_tolds ≤ l.tolds.room)
+    × WorkedSoFar g.C.Counter.shows l.fn.orders.items l.order-iterator.rest.items
+    (there l.fn.post.seat l.fn.post.own) (there l.post.seat l.post.own) l.failures.refused l.failures.lost

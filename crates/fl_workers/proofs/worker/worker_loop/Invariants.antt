@@ -1,11 +1,11 @@
 use Rattle.std.proofs.Common.{◌≡◌, ◌≤◌}
-use Rattle.fl_workers.proofs.WorkedLemmas.{TookAndWorked}
+use Rattle.fl_workers.specs.Worked.{HasDone, standing}
 use Rattle.fl_workers.proofs.worker.worker_loop.Given as goal
 
--- the end is this intake's and the seat this worker's, there is room for the replies of any order, and what the end
--- took so far was done
+-- the end is this intake's, there is room for the replies of any order, and what the end took so far was handled
 abbrev pub invariant-loop : goal.invariant-loop
-invariant-loop g l = (l.end.of ≡ l.intake) × (g.C.Counter.worker l.seat ≡ g.C.Counter.worker l.fn.seat)
-    × (g.C.Counter.most_tolds ≤ l.tolds.room)
-    × TookAndWorked l.fn.end.taken l.end.taken (g.C.Counter.asked l.fn.seat) (g.C.Counter.asked l.seat)
-    (g.C.Counter.count l.fn.seat) (g.C.Counter.count l.seat) l.refused
+invariant-loop g l =
+    let there = standing g.C.Counter.worker g.C.Counter.count g.C.Counter.answered g.C.Counter.seen in
+    (l.end.of ≡ l.intake) × (g.C.Counter.most_tolds ≤ l.tolds.room)
+    × HasDone g.C.Counter.shows l.fn.end.taken l.end.taken
+    (there l.fn.post.seat l.fn.post.own) (there l.post.seat l.post.own) l.failures.refused l.failures.lost
