@@ -1,3 +1,4 @@
+pub mod Growing
 pub mod ReceivingLemmas
 pub mod SenderLemmas
 pub mod WorkedLemmas
