@@ -73,6 +73,6 @@ module _ {E : Type 0} (author_of : E → ℕ) where
       let had = entries_by author_of old.author old.own in
       let before = entries_by author_of old.author appended.before in
       let is = ap (entries_by author_of old.author) appended.own ∙ by_more old.author appended.before (e ∷ [])
-          ∙ ap (λ l. before ++ l) (by_one old.author e its) in
+      ∙ ap (λ l. before ++ l) (by_one old.author e its) in
       one_more had before (entries_by author_of old.author new.own) old.count new.count e
       (by_begins old.author old.own appended.before appended.had) is appended.count

@@ -39,12 +39,13 @@ puts_none it response put is = sym (ap (λ i. put ++ orders_in i) is ∙ append-
 -- the order at this place of a batch is put behind those before it
 pub put_more : (put put_now put_next orders : List Order) (i : ℕ) (order : Order) → slice_get orders i ≡ Some order
     → put_now ≡ put ++ take i orders → put_next ≡ put_now ++ order ∷ [] → put_next ≡ put ++ take (i + 1) orders
-put_more put put_now put_next orders i order at so_far one =
+put_more put put_now put_next orders i order at put_so_far one =
     let next : i + 1 ≡ suc i = omega arith in
     let more : take (i + 1) orders ≡ take i orders ++ order ∷ [] =
     ap (λ n. take n orders) next ∙ take-suc orders i order (slice_get_within orders i order at)
     ∙ ap (λ first. take i orders ++ first ∷ []) (get_or_from_slice_get orders i order order at) in
-    one ∙ ap (λ l. l ++ order ∷ []) so_far ∙ append_assoc put (take i orders) (order ∷ []) ∙ ap (λ l. put ++ l) (sym more)
+    one ∙ ap (λ l. l ++ order ∷ []) put_so_far ∙ append_assoc put (take i orders) (order ∷ [])
+    ∙ ap (λ l. put ++ l) (sym more)
 
 said_more : (handshake : Handshake) (xs ys : List (List ℕ))
     → said_from handshake (xs ++ ys) ≡ said_from handshake xs ++ said_from (fold advanced handshake xs) ys
@@ -130,7 +131,8 @@ gives_more a b c k m n xs ys first second = record {
 answers_more : (handshake : Handshake) (xs ys : List (List ℕ)) → own_answers_from handshake (xs ++ ys)
     ≡ own_answers_from handshake xs ++ own_answers_from (fold advanced handshake xs) ys
 answers_more handshake [] ys = refl
-answers_more handshake (x ∷ xs) ys = ap (λ l. own_answer_to handshake x ++ l) (answers_more (advanced handshake x) xs ys)
+answers_more handshake (x ∷ xs) ys =
+    ap (λ l. own_answer_to handshake x ++ l) (answers_more (advanced handshake x) xs ys)
     ∙ sym (append_assoc (own_answer_to handshake x) (own_answers_from (advanced handshake x) xs)
     (own_answers_from (fold advanced (advanced handshake x) xs) ys))
 
@@ -210,8 +212,8 @@ receiving_more it now old new message rest rest_now before from to same live tak
           ∙ sym (said_last before.messages message old before.far live);
       over = λ over. record { front = before.messages; last = message; parts = refl; answer = ends over };
       live = λ still. stays still ∙ before.live live;
-      own = answered_more it now old.over new.over before.messages message (own_answer_in (incoming_of old message)) live
-          (answers_last before.messages message old before.far live) left same given before.own;
+      own = answered_more it now old.over new.over before.messages message (own_answer_in (incoming_of old message))
+          live (answers_last before.messages message old before.far live) left same given before.own;
     }
 
 -- more is read, or nothing

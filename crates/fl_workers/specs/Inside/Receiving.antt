@@ -14,7 +14,8 @@ use Rattle.fl_workers.specs.Sent.{entries_of}
 use Rattle.fl_workers.specs.declared.entry.ReplyEntry.{ReplyEntry}
 
 -- If no answer is lost now, none was before, and these answers and no others were given to be sent in between.
-pub record HasGiven (sent sent_now : Appended ReplyEntry) (lost lost_now : Bool) (answers : List Response) : Type 0 where
+pub record HasGiven (sent sent_now : Appended ReplyEntry) (lost lost_now : Bool) (answers : List Response)
+    : Type 0 where
   pub author : sent_now.author ≡ sent.author
   pub whole : lost_now ≡ false → lost ≡ false
   pub given : lost_now ≡ false → Grows (entries_of sent.author sent.own) (entries_of sent.author sent_now.own)

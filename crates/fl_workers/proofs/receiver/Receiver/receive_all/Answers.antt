@@ -44,7 +44,8 @@ returns-in-Bad-clause-received g c =
 
 pub returns-in-End-clause-received : goal.returns-in-End-clause-received
 returns-in-End-clause-received g c =
-    let P : Bool → Type 0 = λ over. IsEnding c.in-End.fault over c.fill.new.self.rest (g.I.Read.remaining c.fill.new.r) in
+    let left = g.I.Read.remaining c.fill.new.r in
+    let P : Bool → Type 0 = λ over. IsEnding c.in-End.fault over c.fill.new.self.rest left in
     rw (
       c.ended-in-End.ensures.fault,
       c.ended-in-End.ensures.put,
