@@ -18,6 +18,14 @@ told_asks_nothing (t ∷ ts) =
     ∙ ap (λ n. 0 + n) (told_asks_nothing ts)
 
 -- an order and its replies ask one
+pub orders_in_step : (worker : ℕ) (order : Order) (tolds : List Told) (rest : List Line) →
+    orders_asked (step_lines worker order tolds ++ rest) ≡ 1 + orders_asked rest
+orders_in_step worker order tolds rest =
+    let told = map (λ told. line.Told told) tolds in
+    sum_by-append (λ l. cond (is_asked l) 1 0) (step_lines worker order tolds) rest
+    ∙ ap (λ n. n + orders_asked rest)
+    (sum_by-cons (λ l. cond (is_asked l) 1 0) (line.Asked worker order) told ∙ ap (λ n. 1 + n) (told_asks_nothing tolds))
+
 pub step_asks_one_order : (lines : List Line) (worker : ℕ) (order : Order) (tolds : List Told) →
     orders_asked (lines ++ step_lines worker order tolds) ≡ orders_asked lines + 1
 step_asks_one_order lines worker order tolds =

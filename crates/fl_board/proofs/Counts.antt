@@ -1,14 +1,17 @@
 -- How many orders of each worker a history has.
 use Rattle.std.proofs.Common.{◌≡◌, ◌≢◌, ℕ, suc, ◌+◌, ◌≤◌, ◌==◌, Bool, true, false, cond, List, [], ◌∷◌, ◌++◌, All}
-use Rattle.std.proofs.Common.{Option, Some, option_to_list, length, length-append, map, sum_by, refl, ap, sym, ◌∙◌}
+use Rattle.std.proofs.Common.{Option, Some, option_to_list, length, length-append, sum_by, refl, ap, sym, ◌∙◌}
 use Rattle.std.proofs.Common.{subst, arith}
 use Rattle.std.proofs.lemmas.Bool.Decides.{nat_tests}
 use Rattle.std.proofs.lemmas.List.Elements.{All-head, All-tail, All-cons}
-use Rattle.std.proofs.lemmas.List.Sums.{sum_by-append, sum_by-cons, sum_by_push}
+use Rattle.std.proofs.lemmas.List.Sums.{sum_by-cons, sum_by_push}
 use mathlib.Core.List.{IsPrefix}
-use Rattle.fl_board.specs.Inside.Asks.{AreApart, HasMostOf}
-use Rattle.fl_board.specs.Seats.{Place, is_asked_by, orders_by}
+use Rattle.std.specs.Prelude.{if◌then◌else◌}
+use Rattle.fl_board.proofs.Answering.{answered_last}
+use Rattle.fl_board.specs.Inside.Asks.{HasMostOf}
+use Rattle.fl_board.specs.Seats.{AreApart, Place}
 use Rattle.fl_board.specs.Shown.{HasAllOf}
+use Rattle.fl_desk.specs.Answered.{Answered, answered, answered_by}
 use Rattle.fl_desk.specs.Legal.{is_asked, orders_asked, step_lines}
 use Rattle.fl_history.specs.declared.history.Line.{Line}
 use Rattle.fl_history.specs.declared.history.Line.TheVariants as line
@@ -18,27 +21,34 @@ use Rattle.fl_order.specs.declared.told.Told.{Told}
 abbrev one_if : Bool → ℕ
 one_if b = cond b 1 0
 
--- a longer history has as many at least
-pub more_by : (worker : ℕ) (xs ys : List Line) → IsPrefix xs ys → orders_by worker xs ≤ orders_by worker ys
-more_by worker xs ys p = omega (arith, sym (ap (orders_by worker) p.1) ∙ sum_by-append (λ l. one_if (is_asked_by worker l)) xs p.0)
+-- how many orders of the worker the lines have
+abbrev pub orders_by : ℕ → List Line → ℕ
+orders_by worker lines = length (answered_by worker lines)
 
-none_told : (worker : ℕ) (tolds : List Told) → orders_by worker (map (λ told. line.Told told) tolds) ≡ 0
-none_told worker [] = refl
-none_told worker (t ∷ ts) =
-    sum_by-cons (λ l. one_if (is_asked_by worker l)) (line.Told t) (map (λ told. line.Told told) ts) ∙ ap (λ n. 0 + n) (none_told worker ts)
+-- a list has as many items as its beginning at least
+pub no_longer : {X : Type 0} (xs ys : List X) → IsPrefix xs ys → length xs ≤ length ys
+no_longer xs ys p = omega (arith, sym (ap length p.1) ∙ length-append xs p.0)
 
-same_number : (n : ℕ) → (n == n) ≡ true
-same_number n = grind (arith, nat_tests)
+-- the line asks for this worker
+abbrev is_asked_by : ℕ → Line → Bool
+is_asked_by worker (line.Asked asker order) = asker == worker
+is_asked_by worker (line.Told told) = false
+
+one_longer_if : (b : Bool) (a : Answered) (rest : List Answered)
+    → length ((if b then a ∷ [] else []) ++ rest) ≡ one_if b + length rest
+one_longer_if true a rest = length-append (a ∷ []) rest
+one_longer_if false a rest = omega arith
+
+line_more : (worker : ℕ) (l : Line) (lines : List Line)
+    → orders_by worker (l ∷ lines) ≡ one_if (is_asked_by worker l) + orders_by worker lines
+line_more worker (line.Asked asker order) lines = one_longer_if (asker == worker) _ (answered_by worker lines)
+line_more worker (line.Told told) lines = omega arith
 
 -- an order of the worker is one more
 pub one_more_by : (worker : ℕ) (lines : List Line) (order : Order) (tolds : List Told)
     → orders_by worker (lines ++ step_lines worker order tolds) ≡ orders_by worker lines + 1
 one_more_by worker lines order tolds =
-    let told = map (λ told. line.Told told) tolds in
-    sum_by-append (λ l. one_if (is_asked_by worker l)) lines (step_lines worker order tolds)
-    ∙ ap (λ n. orders_by worker lines + n)
-    (sum_by-cons (λ l. one_if (is_asked_by worker l)) (line.Asked worker order) told
-    ∙ (λ i. one_if (same_number worker i) + none_told worker tolds i))
+    ap length (answered_last worker lines order tolds) ∙ length-append (answered_by worker lines) (answered order tolds ∷ [])
 
 -- ---- each line is of one worker at most
 
@@ -98,7 +108,7 @@ split l lines (p ∷ places) =
       sum_by-cons (λ (q : Place). orders_by q.worker (l ∷ lines)) p places,
       sum_by-cons (λ (q : Place). one_if (is_asked_by q.worker l)) p places,
       sum_by-cons (λ (q : Place). orders_by q.worker lines) p places,
-      sum_by-cons (λ k. one_if (is_asked_by p.worker k)) l lines,
+      line_more p.worker l lines,
       split l lines places,
     )
 
@@ -133,7 +143,12 @@ exactly lines (p ∷ places) most small =
     let orders = sum_by-cons (λ (q : Place). orders_by q.worker lines) p places in
     let rest = most_sum lines places others in
     All-cons (λ (q : Place). HasAllOf lines q) p places
-    (record { had = here.had; saw = here.saw; count = omega (arith, here.count, small, counts, orders, rest) })
+    (record {
+      had = (here.begins).had;
+      answered = here.answered;
+      saw = (here.begins).saw;
+      count = omega (arith, here.count, small, counts, orders, rest);
+    })
     (exactly lines places others (omega (arith, here.count, small, counts, orders)))
 
 pub has_all : (lines : List Line) (places : List Place) → AreApart places → All (λ (p : Place). HasMostOf lines p) places

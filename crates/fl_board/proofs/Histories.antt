@@ -1,5 +1,5 @@
 -- The history that asks make.
-use Rattle.std.proofs.Common.{◌≡◌, ℕ, List, [], ◌∷◌, ◌++◌, refl, ap, sym, ◌∙◌, subst, append_assoc}
+use Rattle.std.proofs.Common.{◌≡◌, ℕ, List, [], ◌∷◌, ◌++◌, map, refl, ap, sym, ◌∙◌, subst, append_assoc}
 use Rattle.std.proofs.lemmas.List.{append-nil}
 use Rattle.std.proofs.lemmas.List.Sums.{fold-append}
 use Rattle.std.specs.List.{fold}
@@ -10,8 +10,10 @@ use Rattle.fl_core.specs.Step.{next, replies}
 use Rattle.fl_desk.specs.Leading.{LeadsTo}
 use Rattle.fl_desk.specs.Legal.{step_lines}
 use Rattle.fl_history.specs.declared.history.Line.{Line}
-use Rattle.fl_replica.specs.declared.ask.Ask.{Ask}
+use Rattle.fl_history.specs.declared.history.Line.TheVariants as line
 use Rattle.fl_order.specs.declared.order.Order.{Order}
+use Rattle.fl_order.specs.declared.told.Told.{Told}
+use Rattle.fl_replica.specs.declared.ask.Ask.{Ask}
 use Rattle.fl_replica.specs.Asks.{stepped, present_after}
 use Rattle.fl_waiting.specs.declared.rules.Rules.{Rules}
 
@@ -32,10 +34,41 @@ history_more rules asks ask =
     lines_append (snapshot_of (opening rules)) asks (ask ∷ [])
     ∙ ap (λ l. history_of rules asks ++ l) (append-nil (lines_in (present_after rules asks) ask))
 
--- a beginning of the asks makes a beginning of the history
+-- a beginning of the asks makes a beginning of the history, behind which whole steps come
+pub history_goes_on : (rules : Rules) (xs ys : List Ask) (p : IsPrefix xs ys)
+    → history_of rules xs ++ lines_from (present_after rules xs) p.0 ≡ history_of rules ys
+history_goes_on rules xs ys p = sym (lines_append (snapshot_of (opening rules)) xs p.0) ∙ ap (history_of rules) p.1
+
 pub history_begins : (rules : Rules) (xs ys : List Ask) → IsPrefix xs ys → IsPrefix (history_of rules xs) (history_of rules ys)
-history_begins rules xs ys p =
-    (lines_from (present_after rules xs) p.0, sym (lines_append (snapshot_of (opening rules)) xs p.0) ∙ ap (history_of rules) p.1)
+history_begins rules xs ys p = (lines_from (present_after rules xs) p.0, history_goes_on rules xs ys p)
+
+-- ---- the asks are read off the history
+
+abbrev asks_in : List Line → List Ask
+asks_in [] = []
+asks_in (line.Asked worker order ∷ lines) = record { worker = worker; order = order } ∷ asks_in lines
+asks_in (line.Told told ∷ lines) = asks_in lines
+
+asks_in_more : (xs ys : List Line) → asks_in (xs ++ ys) ≡ asks_in xs ++ asks_in ys
+asks_in_more [] ys = refl
+asks_in_more (line.Asked worker order ∷ xs) ys = ap (λ l. record { worker = worker; order = order } ∷ l) (asks_in_more xs ys)
+asks_in_more (line.Told told ∷ xs) ys = asks_in_more xs ys
+
+asks_in_tolds : (tolds : List Told) (rest : List Line) → asks_in (map (λ told. line.Told told) tolds ++ rest) ≡ asks_in rest
+asks_in_tolds [] rest = refl
+asks_in_tolds (t ∷ ts) rest = asks_in_tolds ts rest
+
+asks_read : (p : Snapshot) (asks : List Ask) → asks_in (lines_from p asks) ≡ asks
+asks_read p [] = refl
+asks_read p (ask ∷ asks) = ap (λ l. ask ∷ l) (asks_in_tolds (replies p ask.order) (lines_from (stepped p ask) asks) ∙ asks_read (stepped p ask) asks)
+
+-- if a history begins another, so do its asks
+pub asks_begin : (rules : Rules) (xs ys : List Ask) → IsPrefix (history_of rules xs) (history_of rules ys) → IsPrefix xs ys
+asks_begin rules xs ys p = (
+  asks_in p.0,
+  (λ i. sym (asks_read (snapshot_of (opening rules)) xs) i ++ asks_in p.0)
+      ∙ sym (asks_in_more (history_of rules xs) p.0) ∙ ap asks_in p.1 ∙ asks_read (snapshot_of (opening rules)) ys,
+)
 
 -- asks change no rules
 pub same_rules : (p : Snapshot) (asks : List Ask) → (fold stepped p asks).rules ≡ p.rules

@@ -1,4 +1,5 @@
-pub mod Boards
-pub mod Histories
-pub mod Counts
-pub mod AskedLemmas
+mod Answering
+mod Boards
+mod Counts
+mod Histories
+mod Refusing

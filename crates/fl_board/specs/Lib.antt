@@ -1,3 +1,4 @@
+pub mod Refused
 pub mod Seats
 pub mod Shown
 pub mod Inside

@@ -1,11 +1,9 @@
 -- What workers at one board know of its one history.
-use Rattle.std.specs.Prelude.{◌≡◌, ◌+◌, ◌≤◌, Some, Result, List, ◌++◌}
+use Rattle.std.specs.Prelude.{◌≡◌, ◌+◌, ◌≤◌, Result, List, ◌++◌, length}
 use mathlib.Core.List.{IsPrefix}
-use Rattle.fl_board.specs.Seats.{Place, orders_by}
-use Rattle.fl_core.specs.Replies.{own_replies}
-use Rattle.fl_core.specs.Step.{replies_in}
+use Rattle.fl_board.specs.Seats.{Place}
+use Rattle.fl_desk.specs.Answered.{IsAnsweredAfter, answered_by}
 use Rattle.fl_desk.specs.Legal.{IsLegal, step_lines}
-use Rattle.fl_desk.specs.Replay.{state_after}
 use Rattle.fl_history.specs.declared.history.Line.{Line}
 use Rattle.fl_order.specs.declared.errno.Errno.{Errno}
 use Rattle.fl_order.specs.declared.order.Order.{Order}
@@ -14,17 +12,18 @@ use Rattle.fl_order.specs.declared.told.Told.{Told}
 use Rattle.fl_waiting.specs.declared.rules.Rules.{Rules}
 
 -- The order stands with these replies at the end of a history that is legal under these rules, behind all that the
--- worker had handed in and was shown before. One order more was handed in, and the history has as many of this worker
--- at least.
+-- worker had handed in, each order with all its replies, and was shown before. One order more was handed in, and the
+-- history has as many of this worker at least.
 pub record IsHandedIn (rules : Rules) (old : Place) (order : Order) (tolds : List Told) (new : Place) : Type 0 where
   pub before : List Line
   pub own : new.own ≡ before ++ step_lines old.worker order tolds
   pub legal : IsLegal rules new.own
   pub had : IsPrefix old.own before
+  pub answered : IsPrefix (answered_by old.worker old.own) (answered_by old.worker before)
   pub saw : IsPrefix old.seen before
   pub seen : new.seen ≡ old.seen
   pub count : new.count ≡ old.count + 1
-  pub recorded : new.count ≤ orders_by old.worker new.own
+  pub recorded : new.count ≤ length (answered_by old.worker new.own)
 
 -- it is the same worker's, who handed in the same
 pub record KeepsHanded (old new : Place) : Type 0 where
@@ -32,14 +31,14 @@ pub record KeepsHanded (old new : Place) : Type 0 where
   pub count : new.count ≡ old.count
   pub own : new.own ≡ old.own
 
--- A history that is legal under these rules was shown, which begins with all that the worker had handed in and was
--- shown before. The result is what the order is answered there.
+-- A history that is legal under these rules was shown, which begins with all that the worker had handed in, each order
+-- with all its replies, and was shown before. The result is what the order is answered after it.
 pub record IsShown (rules : Rules) (old : Place) (order : Order) (result : Result Answer Errno)
     (new : Place) : Type 0 where
-  pub legal : IsLegal rules new.seen
   pub had : IsPrefix old.own new.seen
+  pub answered : IsPrefix (answered_by old.worker old.own) (answered_by old.worker new.seen)
   pub saw : IsPrefix old.seen new.seen
-  pub answer : replies_in (state_after rules new.seen) order ≡ own_replies order (Some result)
+  pub answer : IsAnsweredAfter rules new.seen order result
 
 -- Two workers were shown one history that is legal under these rules, which begins with all that both had handed in
 -- and were shown before.
@@ -51,9 +50,10 @@ pub record HaveMet (rules : Rules) (one other one_now other_now : Place) : Type 
   pub other_had : IsPrefix other.own one_now.seen
   pub other_saw : IsPrefix other.seen one_now.seen
 
--- The history begins with all that the worker handed in and was shown, and its orders of this worker are those that
--- were handed in, as many.
+-- The history begins with all that the worker handed in, each order with all its replies, and was shown. Its orders of
+-- this worker are those that were handed in, as many.
 pub record HasAllOf (lines : List Line) (place : Place) : Type 0 where
   pub had : IsPrefix place.own lines
+  pub answered : IsPrefix (answered_by place.worker place.own) (answered_by place.worker lines)
   pub saw : IsPrefix place.seen lines
-  pub count : orders_by place.worker lines ≡ place.count
+  pub count : length (answered_by place.worker lines) ≡ place.count

@@ -1,14 +1,16 @@
 //! The board: workers with seats hand in orders under one lock, and look without it. One history of all orders is kept.
 
-ghost use Rattle.std.specs.Prelude.{◌≡◌, ◌<◌, ◌≤◌, ◌↔◌, ◌⊎◌, [], true, Err, List, All, IfOk, IfErr, IfSome, IsSome};
-ghost use Rattle.std.specs.Prelude.{OnOk, OnErr};
-ghost use Rattle.std.specs.Prelude.{length, map, sum_by};
+ghost use Rattle.std.specs.Prelude.{◌≡◌, ◌<◌, ◌≤◌, ◌↔◌, ◌⊎◌, [], ◌∷◌, true, Err, List, All, IfOk, IfErr, IfSome};
+ghost use Rattle.std.specs.Prelude.{IsSome, OnOk, OnErr, length, map, sum_by};
 ghost use Rattle.std.specs.List.{range_with_len};
+ghost use Rattle.fl_board.specs.Refused.{CantClose, CantHandIn, FallsShort};
+ghost use Rattle.fl_board.specs.Seats.{AreApart};
 ghost use Rattle.fl_board.specs.Shown.{HasAllOf, HaveMet, IsHandedIn, IsShown, KeepsHanded};
 ghost use Rattle.fl_core.specs.Tolds.{HasRoom};
-ghost use Rattle.fl_desk.specs.Legal.{IsLegal, orders_asked};
+ghost use Rattle.fl_desk.specs.Legal.{IsLegal, LeavesLawful, orders_asked};
 ghost use Rattle.fl_order.specs.Order.{only_reads};
 
+use crate::asks::asks_lead;
 use crate::seat::Seat;
 use crate::shared::{Shared, are_apart};
 use fl_core::{Rules, Tolds};
@@ -48,7 +50,7 @@ pub enum CloseFault<L: BoardName, R: Wait + Drop, J: Journal = Lines> {
         /// The seats that were handed back.
         seats: Vec<Seat<L>>,
     },
-    /// The history is shorter than what some worker handed in or was shown, or two seats are of one worker.
+    /// The history doesn't begin with all that some worker handed in or was shown, or two seats are of one worker.
     NoView {
         /// The board.
         board: Board<L, R, J>,
@@ -105,7 +107,8 @@ impl<L: BoardName, R: Wait + Drop, J: Journal> Board<L, R, J> {
     }
 
     /// Takes an order of the seat's worker, as `Desk::take` does: records it, answers it, and hands out the replies
-    /// that it records. A refusal changes no line, lock, count or seat.
+    /// that it records. A refusal changes no line, lock, count or seat. `NoView` comes if the history doesn't begin
+    /// with all that the worker handed in or was shown, has 2^62 orders, or isn't all that was logged.
     pub fn hand_in<W: Wait>(
         &self,
         rt: &W,
@@ -118,6 +121,7 @@ impl<L: BoardName, R: Wait + Drop, J: Journal> Board<L, R, J> {
         ensures handed { OnOk result (IsHandedIn L.rules seat.old order.now tolds.new.told seat.new) }
         ensures room { tolds.new.room ≡ tolds.old.room }
         ensures refused { OnErr result ((seat.new ≡ seat.old) × (tolds.new ≡ tolds.old)) }
+        ensures no_view { result ≡ Err HandFault.NoView → CantHandIn L.rules seat.old }
     {
         let mut shared = self.shared.lock(rt);
         shared.hand_in(seat, order, tolds)
@@ -144,6 +148,7 @@ impl<L: BoardName, R: Wait + Drop, J: Journal> Board<L, R, J> {
         ensures other { KeepsHanded other.old other.new }
         ensures met { OnOk result (HaveMet L.rules one.old other.old one.new other.new) }
         ensures refused { OnErr result ((one.new ≡ one.old) × (other.new ≡ other.old)) }
+        ensures no_view { OnErr result (FallsShort L.rules (one.old ∷ other.old ∷ [])) }
     {
         let shared = self.shared.lock(rt);
         shared.meet(one, other)
@@ -156,22 +161,25 @@ impl<L: BoardName, R: Wait + Drop, J: Journal> Board<L, R, J> {
     }
 
     /// The journal of its lines, which are the history of all that was handed in, if no seat is missing. It is
-    /// legal under the board's rules, begins with all that was handed in and shown through each seat, and has as many
-    /// orders of each worker as its seat's count.
+    /// legal under the board's rules, and no two owners have conflicting locks after it. It begins with all that was
+    /// handed in and shown through each seat, and has as many orders of each worker as its seat's count.
     pub fn into_kept(self, seats: Vec<Seat<L>>) -> Result<J, CloseFault<L, R, J>>
         requires { L.workers ≡ L.parts }
         ensures legal { IfOk result (λ kept. IsLegal L.rules (J.lines kept)) }
+        ensures lawful { IfOk result (λ kept. LeavesLawful L.rules (J.lines kept)) }
         ensures counted { IfOk result (λ kept. orders_asked (J.lines kept) ≡ sum_by (λ seat. seat.count) seats.items) }
         ensures each { IfOk result (λ kept. All (λ seat. HasAllOf (J.lines kept) seat) seats.items) }
+        ensures apart { IfOk result (λ _. AreApart seats.items) }
         ensures not_all { (result ≡ Err (CloseFault.NotAll self seats)) ↔ (length seats.items < L.workers) }
         ensures back { IfErr result (λ fault. (fault ≡ CloseFault.NotAll self seats)
-            ⊎ ((board : _) × (fault ≡ CloseFault.NoView board seats))) }
+            ⊎ ((board : _) × (fault ≡ CloseFault.NoView board seats) × CantClose L.rules seats.items)) }
     {
         if seats.len() < self.workers {
             return Err(CloseFault::NotAll { board: self, seats });
         }
         let Board { shared, workers } = self;
         let shared = shared.into_inner();
+        asks_lead();
         if !shared.begins_with(&seats) || !are_apart(&seats) {
             let board = Board {
                 shared: Mutex::new(shared),
@@ -209,17 +217,19 @@ impl<L: BoardName, R: Wait + Drop> Board<L, R> {
         Board::over(alloc, rt, Lines::new(alloc), blank, log, workers, rules)
     }
 
-    /// The history of all that was handed in, if no seat is missing. It is legal under the board's rules, begins
-    /// with all that was handed in and shown through each seat, and has as many orders of each worker as its seat's
-    /// count.
+    /// The history of all that was handed in, if no seat is missing. It is legal under the board's rules, and no two
+    /// owners have conflicting locks after it. It begins with all that was handed in and shown through each seat, and
+    /// has as many orders of each worker as its seat's count.
     pub fn close(self, seats: Vec<Seat<L>>) -> Result<History, CloseFault<L, R>>
         requires { L.workers ≡ L.parts }
         ensures legal { IfOk result (IsLegal L.rules) }
+        ensures lawful { IfOk result (LeavesLawful L.rules) }
         ensures counted { IfOk result (λ history. orders_asked history ≡ sum_by (λ seat. seat.count) seats.items) }
         ensures each { IfOk result (λ history. All (λ seat. HasAllOf history seat) seats.items) }
+        ensures apart { IfOk result (λ _. AreApart seats.items) }
         ensures not_all { (result ≡ Err (CloseFault.NotAll self seats)) ↔ (length seats.items < L.workers) }
         ensures back { IfErr result (λ fault. (fault ≡ CloseFault.NotAll self seats)
-            ⊎ ((board : _) × (fault ≡ CloseFault.NoView board seats))) }
+            ⊎ ((board : _) × (fault ≡ CloseFault.NoView board seats) × CantClose L.rules seats.items)) }
     {
         match self.into_kept(seats) {
             Ok(lines) => Ok(History::of(lines)),

@@ -1,7 +1,7 @@
 //! A board is a counter.
 
 ghost use Rattle.std.specs.Prelude.{◌+◌};
-ghost use Rattle.fl_desk.specs.Asked.{asked_by};
+ghost use Rattle.fl_desk.specs.Answered.{IsAnsweredAfter, answered_by};
 
 use crate::board::Board;
 use crate::seat::Seat;
@@ -19,7 +19,11 @@ impl<L: BoardName, P: Wait + Drop, J: Journal> Counter for Board<L, P, J> {
 
     ghost worker = { λ seat. seat.worker };
 
-    ghost asked = { λ seat. asked_by seat.worker seat.own };
+    ghost answered = { λ seat. answered_by seat.worker seat.own };
+
+    ghost seen = { λ seat. seat.seen };
+
+    ghost shows = { λ lines order result. IsAnsweredAfter L.rules lines order result };
 
     ghost most_tolds = { L.rules.parked + 1 };
 

@@ -1,7 +1,8 @@
 //! A worker's place at a board.
 
-ghost use Rattle.std.specs.Prelude.{◌≡◌, true, IfOk, OnErr};
+ghost use Rattle.std.specs.Prelude.{◌≡◌, ◌↔◌, true, IfOk, OnErr};
 ghost use Rattle.fl_board.specs.Inside.Asks.{HasMostOf, history_of};
+ghost use Rattle.fl_board.specs.Refused.{BeginsWith};
 ghost use Rattle.fl_board.specs.Shown.{IsShown, KeepsHanded};
 ghost use Rattle.fl_order.specs.Order.{only_reads};
 
@@ -25,9 +26,10 @@ pub struct Seat<L: BoardName> {
 }
 
 impl<L: BoardName> Model for Seat<L> {
-    ghost use Rattle.std.specs.Prelude.{◌≡◌, ◌≤◌};
+    ghost use Rattle.std.specs.Prelude.{◌≡◌, ◌≤◌, length};
     ghost use Rattle.fl_board.specs.Inside.Asks.{history_of};
-    ghost use Rattle.fl_board.specs.Seats.{Place, orders_by};
+    ghost use Rattle.fl_board.specs.Seats.{Place};
+    ghost use Rattle.fl_desk.specs.Answered.{answered_by};
 
     ghost Value = { Place };
 
@@ -38,7 +40,8 @@ impl<L: BoardName> Model for Seat<L> {
       seen = history_of L.rules s.seen;
     } };
 
-    ghost invariant = { λ s. (s.share.parts ≡ 1) × (s.share.amount ≤ orders_by s.worker (history_of L.rules s.own)) };
+    ghost invariant = { λ s. (s.share.parts ≡ 1)
+        × (s.share.amount ≤ length (answered_by s.worker (history_of L.rules s.own))) };
 }
 
 impl<L: BoardName> Seat<L> {
@@ -70,7 +73,8 @@ impl<L: BoardName> Seat<L> {
 
     // Whether a history begins with all that was handed in and shown through it.
     pub(crate) fn begins(&self, asks: &Beginning<L>) -> bool
-        ensures { result ≡ true → HasMostOf (history_of L.rules asks.now) self.now }
+        ensures begins { (result ≡ true) ↔ BeginsWith (history_of L.rules asks.now) self.now }
+        ensures most { result ≡ true → HasMostOf (history_of L.rules asks.now) self.now }
     {
         self.own.begins(asks) && self.seen.begins(asks)
     }

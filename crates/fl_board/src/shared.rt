@@ -1,11 +1,15 @@
 //! What lies under a board's lock.
 
-ghost use Rattle.std.specs.Prelude.{◌≡◌, ◌≢◌, ◌<◌, ◌^◌, ◌++◌, ◌∷◌, [], true, false, All, IfOk, OnOk, OnErr};
-ghost use Rattle.std.specs.Prelude.{MatchResult};
-ghost use Rattle.fl_board.specs.Inside.Asks.{AreApart, HasMostOf, history_of};
+ghost use Rattle.std.specs.Prelude.{◌≡◌, ◌≢◌, ◌↔◌, ◌⊎◌, ◌≤◌, ◌<◌, ◌^◌, ◌++◌, ◌∷◌, [], true, false, Err, All, length};
+ghost use Rattle.std.specs.Prelude.{IfOk, OnOk, OnErr, MatchResult, List};
+ghost use Rattle.fl_board.specs.Inside.Asks.{HasMostOf, history_of};
+ghost use Rattle.fl_board.specs.Refused.{BeginsWith, CantHandIn, FallsShort};
+ghost use Rattle.fl_board.specs.Seats.{AreApart};
 ghost use Rattle.fl_board.specs.Shown.{HaveMet, IsHandedIn, KeepsHanded};
 ghost use Rattle.fl_core.specs.Tolds.{HasRoom};
-ghost use Rattle.fl_desk.specs.Legal.{IsLegal, orders_asked};
+ghost use Rattle.fl_desk.specs.Legal.{IsLegal, LeavesLawful, orders_asked};
+ghost use Rattle.fl_replica.specs.Longer.{IsLonger};
+ghost use Rattle.fl_replica.specs.declared.ask.Ask.{Ask as Handed};
 
 use crate::asks::asks_lead;
 use crate::seat::Seat;
@@ -90,6 +94,7 @@ impl<L: BoardName, R: Wait + Drop, J: Journal> Shared<L, R, J> {
         ensures room { tolds.new.room ≡ tolds.old.room }
         ensures all { OnOk result (history_of L.rules self.new ≡ seat.new.own) }
         ensures refused { OnErr result ((seat.new ≡ seat.old) × (tolds.new ≡ tolds.old) × (self.new ≡ self.old)) }
+        ensures no_view { result ≡ Err HandFault.NoView → CantHandIn L.rules seat.old }
     {
         let Shared {
             desk,
@@ -126,6 +131,7 @@ impl<L: BoardName, R: Wait + Drop, J: Journal> Shared<L, R, J> {
         ensures other { KeepsHanded other.old other.new }
         ensures met { OnOk result (HaveMet L.rules one.old other.old one.new other.new) }
         ensures refused { OnErr result ((one.new ≡ one.old) × (other.new ≡ other.old)) }
+        ensures no_view { OnErr result (FallsShort L.rules (one.old ∷ other.old ∷ [])) }
     {
         asks_lead();
         if !one.begins(&self.all) || !other.begins(&self.all) {
@@ -138,7 +144,8 @@ impl<L: BoardName, R: Wait + Drop, J: Journal> Shared<L, R, J> {
 
     /// Whether the history begins with all that was handed in and shown through each seat.
     pub(crate) fn begins_with(&self, seats: &[Seat<L>]) -> bool
-        ensures { result ≡ true → All (λ seat. HasMostOf (history_of L.rules self.now) seat) seats.now }
+        ensures begins { (result ≡ true) ↔ All (BeginsWith (history_of L.rules self.now)) seats.now }
+        ensures most { result ≡ true → All (λ seat. HasMostOf (history_of L.rules self.now) seat) seats.now }
     {
         for seat in seats {
             if !seat.begins(&self.all) {
@@ -160,6 +167,7 @@ impl<L: BoardName, R: Wait + Drop, J: Journal> Shared<L, R, J> {
         requires { whole.old.parts ≡ L.parts }
         ensures lines { J.lines result ≡ history_of L.rules self }
         ensures legal { IsLegal L.rules (J.lines result) }
+        ensures lawful { LeavesLawful L.rules (J.lines result) }
         ensures counted { orders_asked (J.lines result) ≡ whole.old.amount }
     {
         let Shared {
@@ -184,9 +192,11 @@ fn added<L: BoardName, R: Wait + Drop>(
     ask: &Ask,
 ) -> Result<Beginning<L>, HandFault>
     requires { writer.old ≡ all.now }
-    ensures { MatchResult result
+    ensures added { MatchResult result
         (λ next. (next ≡ all.now ++ ask.now ∷ []) × (writer.new ≡ next))
         (λ _. writer.new ≡ writer.old) }
+    ensures no_view { result ≡ Err HandFault.NoView →
+        (2 ^ 62 ≤ length all.now) ⊎ ((log : List Handed) × IsLonger all.now log) }
 {
     if all.len() >= MOST_ASKS {
         return Err(HandFault::NoView);
@@ -204,7 +214,7 @@ fn added<L: BoardName, R: Wait + Drop>(
 
 /// Whether no two seats are of one worker.
 pub(crate) fn are_apart<L: BoardName>(seats: &[Seat<L>]) -> bool
-    ensures { result ≡ true → AreApart seats.now }
+    ensures { (result ≡ true) ↔ AreApart seats.now }
 {
     for i in 0..seats.len() {
         let seat = &seats[i];
@@ -217,7 +227,7 @@ pub(crate) fn are_apart<L: BoardName>(seats: &[Seat<L>]) -> bool
 
 // Whether one of the seats is this worker's.
 fn has_worker<L: BoardName>(seats: &[Seat<L>], worker: u32) -> bool
-    ensures { result ≡ false → All (λ seat. seat.worker ≢ worker) seats.now }
+    ensures { (result ≡ false) ↔ All (λ seat. seat.worker ≢ worker) seats.now }
 {
     for seat in seats {
         if seat.worker == worker {

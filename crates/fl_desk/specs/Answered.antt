@@ -18,6 +18,7 @@ pub record Answered : Type 0 where
   pub order : Order
   pub tolds : List Told
 
+-- this order, and these replies
 abbrev pub answered : Order → List Told → Answered
 answered order tolds = record { order = order; tolds = tolds }
 

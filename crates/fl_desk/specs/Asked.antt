@@ -1,6 +1,5 @@
 -- Which orders a history asks.
-use Rattle.std.specs.Prelude.{◌≡◌, ℕ, ◌==◌, List, [], ◌∷◌, ◌++◌, flat_map, if◌then◌else◌}
-use mathlib.Core.List.{IsPrefix}
+use Rattle.std.specs.Prelude.{ℕ, ◌==◌, List, [], ◌∷◌, flat_map, if◌then◌else◌}
 use Rattle.fl_history.specs.declared.history.Line.{Line}
 use Rattle.fl_history.specs.declared.history.Line.TheVariants as line
 use Rattle.fl_order.specs.declared.order.Order.{Order}
@@ -26,9 +25,3 @@ order_asked_by worker (line.Told told) = []
 -- the orders that the lines ask for this worker
 abbrev pub asked_by : ℕ → List Line → Orders
 asked_by worker lines = flat_map (order_asked_by worker) lines
-
--- an order is asked behind all that was asked before
-pub record IsAskedLast (asked : Orders) (order : Order) (asked_now : Orders) : Type 0 where
-  pub before : Orders
-  pub had : IsPrefix asked before
-  pub now : asked_now ≡ before ++ order ∷ []

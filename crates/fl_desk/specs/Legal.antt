@@ -2,11 +2,13 @@
 -- sequential lock directory answers then.
 use Rattle.std.specs.Prelude.{◌≡◌, ℕ, Bool, true, false, List, [], ◌∷◌, ◌++◌, map, count_by}
 use Rattle.fl_desk.specs.Replay.{state_after}
+use Rattle.fl_core.specs.State.{snapshot_of}
 use Rattle.fl_core.specs.Step.{replies_in}
 use Rattle.fl_history.specs.declared.history.Line.{Line}
 use Rattle.fl_history.specs.declared.history.Line.TheVariants as line
 use Rattle.fl_order.specs.declared.told.Told.{Told}
 use Rattle.fl_order.specs.declared.order.Order.{Order}
+use Rattle.fl_ranges.specs.Conflict.{IsLawful}
 use Rattle.fl_waiting.specs.declared.rules.Rules.{Rules}
 
 -- an order and its replies, as lines
@@ -18,6 +20,10 @@ pub data IsLegal (rules : Rules) : List Line → Type 0 where
   nothing : IsLegal rules []
   step : (before : List Line) (worker : ℕ) (order : Order) {lines : List Line} → IsLegal rules before
       → lines ≡ before ++ step_lines worker order (replies_in (state_after rules before) order) → IsLegal rules lines
+
+-- once all lines are read, no two owners have conflicting locks on a byte
+abbrev pub LeavesLawful : Rules → List Line → Type 0
+LeavesLawful rules lines = IsLawful (snapshot_of (state_after rules lines)).marking
 
 -- the line asks
 abbrev pub is_asked : Line → Bool

@@ -5,7 +5,7 @@ ghost use Rattle.fl_desk.specs.Replay.{state_after};
 ghost use Rattle.fl_core.specs.State.{opening, snapshot_of};
 ghost use Rattle.fl_core.specs.Step.{next, replies_in};
 ghost use Rattle.fl_core.specs.Tolds.{HasRoom};
-ghost use Rattle.fl_desk.specs.Legal.{IsLegal, step_lines};
+ghost use Rattle.fl_desk.specs.Legal.{IsLegal, LeavesLawful, step_lines};
 ghost use Rattle.fl_desk.specs.Kept.{IsKept, opening_book};
 
 use fl_core::{Core, Rules, Tolds};
@@ -94,10 +94,12 @@ impl<J: Journal> Desk<J> {
         self.kept.pause();
     }
 
-    /// Its journal, with the lines of all that it took. They are legal under its rules.
+    /// Its journal, with the lines of all that it took. They are legal under its rules, and no two owners have
+    /// conflicting locks after them.
     pub fn into_kept(self) -> J
         ensures lines { J.lines result ≡ self.lines }
         ensures legal { IsLegal self.present.rules (J.lines result) }
+        ensures lawful { LeavesLawful self.present.rules (J.lines result) }
     {
         let Desk { kept, present: _ } = self;
         kept
@@ -112,10 +114,12 @@ impl Desk {
         Desk::over(alloc, Lines::new(alloc), rules)
     }
 
-    /// The history of all that it took. It is legal under its rules.
+    /// The history of all that it took. It is legal under its rules, and no two owners have conflicting locks after
+    /// it.
     pub fn into_history(self) -> History
         ensures lines { result ≡ self.lines }
         ensures legal { IsLegal self.present.rules result }
+        ensures lawful { LeavesLawful self.present.rules result }
     {
         let kept = self.into_kept();
         History::of(kept)

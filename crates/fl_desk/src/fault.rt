@@ -5,7 +5,8 @@
 pub enum HandFault {
     /// Out of memory.
     NoMemory,
-    /// The history is shorter than what the worker handed in or was shown, or has 2^62 orders.
+    /// The history doesn't begin with all that the worker handed in or was shown, has 2^62 orders, or isn't all that
+    /// was logged.
     NoView,
 }
 

@@ -1,85 +1,126 @@
 -- What the workers of a session did together.
-use Rattle.std.specs.Prelude.{◌≡◌, ◌≢◌, ℕ, ◌+◌, ◌<◌, Bool, true, false, List, [], ◌++◌, All, Option, Some, length, map}
+use Rattle.std.specs.Prelude.{◌≡◌, ◌≢◌, ℕ, Bool, false, List, [], All, Option, Some, length, map, ◌||◌}
 use Rattle.std.specs.Prelude.{sum_by}
 use Rattle.std.specs.Io.KnownBytes.{Keeps}
-use mathlib.Core.List.{Sublistᴰ}
 use Rattle.atomic_table.specs.Seated.{TableId}
 use Rattle.fl_board.specs.Seats.{Place}
-use Rattle.fl_desk.specs.Asked.{Orders, asked_by}
-use Rattle.fl_workers.specs.Received.{HasReceived}
-use Rattle.fl_workers.specs.declared.receiver.Received.{Received}
+use Rattle.fl_desk.specs.Answered.{IsAnsweredAfter, answered_by}
+use Rattle.fl_desk.specs.Asked.{Orders}
 use Rattle.fl_intake.specs.Ends.{TakeSide, weight_taken}
 use Rattle.fl_intake.specs.Often.{Weight}
-use Rattle.fl_order.specs.Order.{only_reads}
+use Rattle.fl_log.specs.Appended.{Appended}
+use Rattle.fl_order.specs.declared.order.Order.{Order}
+use Rattle.fl_transport.specs.declared.fault.Fault.{Fault}
 use Rattle.fl_transport.specs.declared.fault.Fault.TheVariants.{NoMemory}
-use Rattle.fl_workers.specs.Worked.{HasDone}
+use Rattle.fl_transport.specs.declared.response.Response.{Response}
+use Rattle.fl_waiting.specs.declared.rules.Rules.{Rules}
+use Rattle.fl_workers.specs.Received.{HasReceived, Reception}
+use Rattle.fl_workers.specs.Worked.{HasDone, HasWorked, Standing}
+use Rattle.fl_workers.specs.declared.entry.ReplyEntry.{ReplyEntry}
 
 -- the end is this intake's, and took nothing
 abbrev pub IsFresh : TableId → TakeSide → Type 0
 IsFresh of end = (end.of ≡ of) × (end.taken ≡ [])
 
--- The place of this worker came back, and its end of the same intake. What the end took since was handed in there,
--- looked for or refused.
-pub record HasComeBack (worker : ℕ) (end : TakeSide) (place : Place) (end_now : TakeSide) (any : Bool) : Type 0 where
+-- where a worker stands, by its place at the board and what it gave to be sent
+abbrev pub standing_at : Place → Appended ReplyEntry → Standing
+standing_at place sent =
+    record {
+      worker = place.worker;
+      count = place.count;
+      answered = answered_by place.worker place.own;
+      seen = place.seen;
+      sent = sent;
+    }
+
+-- a worker that has done nothing, and gives its replies in its own name
+abbrev pub idle : ℕ → Standing
+idle worker =
+    record {
+      worker = worker;
+      count = 0;
+      answered = [];
+      seen = [];
+      sent = record { author = worker; count = 0; own = [] };
+    }
+
+-- nothing was done at this place
+abbrev pub IsIdle : Place → Appended ReplyEntry → Type 0
+IsIdle place sent = standing_at place sent ≡ idle place.worker
+
+-- under these rules these orders were worked on from the start, by a worker that stands there now
+abbrev pub HasWorkedOn : Rules → Orders → Place → Appended ReplyEntry → Bool → Bool → Type 0
+HasWorkedOn rules orders place sent any lost =
+    HasWorked (IsAnsweredAfter rules) orders (idle place.worker) (standing_at place sent) any lost
+
+-- The place of this worker came back, and its end of the same intake. What the end took since was worked on there.
+pub record HasComeBack (rules : Rules) (worker : ℕ) (end : TakeSide) (place : Place) (sent : Appended ReplyEntry)
+    (end_now : TakeSide) (any lost : Bool) : Type 0 where
   pub own : place.worker ≡ worker
   pub same : end_now.of ≡ end.of
-  pub did : HasDone end.taken end_now.taken (asked_by place.worker place.own) place.count any
+  pub did : HasDone (IsAnsweredAfter rules) end.taken end_now.taken (idle worker) (standing_at place sent) any lost
 
--- a worker's place, and the orders that were handed in there
-pub record Post : Type 0 where
+-- a worker's place and what it gave to be sent, the orders that it worked on, and whether some of these were refused,
+-- or what is owed for some was lost
+pub record Work : Type 0 where
   pub place : Place
-  pub handed : Orders
+  pub sent : Appended ReplyEntry
+  pub orders : Orders
+  pub any : Bool
+  pub lost : Bool
 
--- they are as many as its count, and stand in this order among those of its worker
-pub record IsCounted (post : Post) : Type 0 where
-  pub counted : length post.handed ≡ post.place.count
-  pub among : Sublistᴰ post.handed (asked_by post.place.worker post.place.own)
+-- it worked on these orders, from the start
+abbrev pub IsDone : Rules → Work → Type 0
+IsDone rules work = HasWorkedOn rules work.orders work.place work.sent work.any work.lost
 
--- what was handed in at all of them, weighed
-abbrev pub handed_at : Weight → List Post → ℕ
-handed_at weight posts = sum_by (λ post. sum_by weight post.handed) posts
+-- one of these is so
+abbrev pub some_is : List Bool → Bool
+some_is [] = false
+some_is (b ∷ bs) = b || some_is bs
 
--- What weighs this was, each as often, handed in at these places, looked for or refused. `any` is true exactly if
--- some order was refused.
-pub record HaveDone (orders : Weight → ℕ) (places : List Place) (any : Bool) : Type 0 where
-  pub posts : List Post
-  pub looked : Orders
-  pub refused : Orders
-  pub at : map (λ post. post.place) posts ≡ places
-  pub handed : All IsCounted posts
-  pub each : (weight : Weight) → orders weight ≡ handed_at weight posts + sum_by weight (looked ++ refused)
-  pub reads : All (λ order. only_reads order.op ≡ true) looked
-  pub none : any ≡ false → refused ≡ []
-  pub some : any ≡ true → 0 < length refused
+-- What weighs this was, each order as often, worked on at these places, whose workers gave this to be sent. `any` is
+-- true exactly if some order was refused, and `lost` if what is owed for some was lost.
+pub record HaveDone (rules : Rules) (orders : Weight → ℕ) (places : List Place) (sent : List (Appended ReplyEntry))
+    (any lost : Bool) : Type 0 where
+  pub works : List Work
+  pub at : map (λ work. work.place) works ≡ places
+  pub gave : map (λ work. work.sent) works ≡ sent
+  pub each : All (IsDone rules) works
+  pub weighs : (weight : Weight) → orders weight ≡ sum_by (λ work. sum_by weight work.orders) works
+  pub refused : any ≡ some_is (map (λ work. work.any) works)
+  pub missing : lost ≡ some_is (map (λ work. work.lost) works)
 
--- all workers came back, in their order, each with its end
-pub record HaveWorked (places back : List Place) (ends : List TakeSide) (any : Bool) : Type 0 where
-  pub whose : map (λ place. place.worker) back ≡ map (λ place. place.worker) places
-  pub all : length ends ≡ length places
-  pub did : HaveDone (λ weight. weight_taken weight ends) back any
-
--- A session whose workers are joined: its intake and how many take from that, what was left of its reader and is left
--- now, the places that its workers were given and what came back (places, ends, whether some order was refused), how
--- its receiver ended, and the amount of the permit to begin.
-pub record Run : Type 0 where
-  pub of : TableId
-  pub takers : ℕ
-  pub left : Option (List ℕ)
-  pub left_now : Option (List ℕ)
+-- Workers that came back: their places in the order of workers, what each gave to be sent, its end of the intake,
+-- whether some order was refused, and whether what is owed for some was lost.
+pub record Returns : Type 0 where
   pub places : List Place
-  pub back : List Place
+  pub sent : List (Appended ReplyEntry)
   pub ends : List TakeSide
   pub any : Bool
-  pub reader : Received
-  pub amount : ℕ
+  pub lost : Bool
 
--- The result of a session. At NoMemory a worker couldn't be started: nothing was read, and the session didn't begin.
+-- all workers of these places came back, in their order, each with its end
+pub record HaveWorked (rules : Rules) (places : List Place) (back : Returns) : Type 0 where
+  pub whose : map (λ place. place.worker) back.places ≡ map (λ place. place.worker) places
+  pub all : length back.ends ≡ length places
+  pub did : HaveDone rules (λ weight. weight_taken weight back.ends) back.places back.sent back.any back.lost
+
+-- A session whose workers are joined: its rules, its intake and how many take from that, the places that its workers
+-- were given and what came back, how its receiver went, and which intake that one put into, and for how many.
+pub record Run : Type 0 where
+  pub rules : Rules
+  pub of : TableId
+  pub takers : ℕ
+  pub places : List Place
+  pub back : Returns
+  pub put_of : TableId
+  pub put_takers : ℕ
+  pub reception : Reception
+
+-- The result of a session. At NoMemory a worker couldn't be started, and nothing was read.
 pub record HasRun (run : Run) : Type 0 where
-  pub put : (run.reader.put.of ≡ run.of) × (run.reader.put.takers ≡ run.takers)
-  pub ends : All (λ end. end.of ≡ run.of) run.ends
-  pub worked : run.reader.fault ≢ Some NoMemory → HaveWorked run.places run.back run.ends run.any
-  pub received : run.reader.fault ≢ Some NoMemory
-      → HasReceived run.left run.left_now run.reader.fault run.reader.put.put run.reader.goodbye
-  pub unread : run.reader.fault ≡ Some NoMemory → Keeps run.left run.left_now
-  pub begun : run.reader.fault ≢ Some NoMemory → run.amount ≡ 1
-  pub unbegun : run.reader.fault ≡ Some NoMemory → run.amount ≡ 0
+  pub put : (run.put_of ≡ run.of) × (run.put_takers ≡ run.takers)
+  pub ends : All (λ end. end.of ≡ run.of) run.back.ends
+  pub worked : run.reception.fault ≢ Some NoMemory → HaveWorked run.rules run.places run.back
+  pub received : run.reception.fault ≢ Some NoMemory → HasReceived run.reception
+  pub unread : run.reception.fault ≡ Some NoMemory → Keeps run.reception.left run.reception.left_now

@@ -5,7 +5,7 @@ ghost use Rattle.std.specs.Prelude.{sum_by, vec_capacity};
 ghost use Rattle.fl_intake.specs.Often.{Weight};
 ghost use Rattle.fl_intake.specs.Ends.{weight_taken};
 ghost use Rattle.fl_core.specs.Tolds.{HasRoom};
-ghost use Rattle.fl_pool.specs.Working.{HasComeBack, HasRun, HaveDone, IsFresh};
+ghost use Rattle.fl_pool.specs.Working.{HasComeBack, HasRun, HaveDone, IsFresh, IsIdle};
 ghost use Rattle.fl_transport.specs.Inbox.{IsUnread};
 
 use core::thread::Stack;
@@ -13,15 +13,16 @@ use fl_board::{Board, BoardName, Seat};
 use fl_core::Tolds;
 use fl_history::Journal;
 use fl_intake::{Intake, Job, PutEnd, TakeEnd};
+use fl_log::Appender;
 use fl_order::NoMemory;
 use fl_transport::{Fault, Inbox, Response};
 use fl_workers::{
-    Gate, Received, SharedSender, Worked, WriterName, handle_all, receive_all, worker_loop,
+    Failures, Gate, Post, Received, ReplyEntry, SharedSender, Worked, WriterName, handle_all,
+    receive_all, worker_loop,
 };
 use std::alloc::Global;
 use std::io::{Read, Write};
 use std::snapshot::Snapshot;
-use std::sync::ledger::Share;
 use std::sync::{Mutex, Wait};
 use std::thread;
 use std::thread::{Promise, PromisedHandle, Scope, Threads};
@@ -52,57 +53,65 @@ pub struct AtSeat {
     pub end: Snapshot<TakeEnd>,
 }
 
-impl<L: BoardName> Promise<Worked<Seat<L>>> for AtSeat {
+impl<L: BoardName, N: WriterName> Promise<Worked<Seat<L>, N>> for AtSeat {
     ghost use Rattle.fl_pool.specs.Working.{HasComeBack};
 
-    ghost kept_by = { λ p r. HasComeBack p.worker p.end.value r.seat r.end r.refused };
+    ghost kept_by = { λ p r. HasComeBack L.rules p.worker p.end.value r.post.seat r.post.own r.end
+        r.failures.refused r.failures.lost };
 }
 
 /// A worker that was started.
-pub type Thread<L> = PromisedHandle<Worked<Seat<L>>, AtSeat>;
+pub type Thread<L, N> = PromisedHandle<Worked<Seat<L>, N>, AtSeat>;
 
 /// What the workers gave back.
 #[derive(Drop)]
-pub struct Back<L: BoardName> {
+pub struct Back<L: BoardName, N: WriterName> {
     /// Their seats, in the order of workers.
     pub seats: Vec<Seat<L>>,
+    /// What they gave replies to be sent through, in the same order.
+    pub appenders: Vec<Appender<N, ReplyEntry>>,
     /// Their ends of the intake, in the same order.
     pub ends: Vec<TakeEnd>,
-    /// Some order was refused.
-    pub refused: bool,
+    /// What went wrong with their orders.
+    pub failures: Failures,
 }
 
-impl<L: BoardName> Back<L> {
-    /// Nothing came back yet, and there is room for all that these workers give back.
-    pub fn with_room(alloc: Global, workers: u32) -> Result<Back<L>, NoMemory>
-        ensures none { IfOk result (λ back. (back.seats.items ≡ []) × (back.ends.items ≡ [])) }
-        ensures room { IfOk result (λ back. (workers ≤ vec_capacity back.seats) × (workers ≤ vec_capacity back.ends)) }
+impl<L: BoardName, N: WriterName> Back<L, N> {
+    /// Nothing came back yet, and there is room for all that these workers give back, and for one appender more.
+    pub fn with_room(alloc: Global, workers: u32) -> Result<Back<L, N>, NoMemory>
+        ensures none { IfOk result (λ back. (back.seats.items ≡ []) × (back.appenders.items ≡ [])
+            × (back.ends.items ≡ [])) }
+        ensures room { IfOk result (λ back. (workers ≤ vec_capacity back.seats)
+            × (workers < vec_capacity back.appenders) × (workers ≤ vec_capacity back.ends)) }
     {
+        let count = workers as usize;
         Ok(Back {
-            seats: Vec::with_capacity(alloc, workers as usize)?,
-            ends: Vec::with_capacity(alloc, workers as usize)?,
-            refused: false,
+            seats: Vec::with_capacity(alloc, count)?,
+            appenders: Vec::with_capacity(alloc, count + 1)?,
+            ends: Vec::with_capacity(alloc, count)?,
+            failures: Failures::none(),
         })
     }
 }
 
 /// What each worker gets, and room for their threads and for what they give back.
 #[derive(Drop)]
-pub struct Posts<L: BoardName> {
-    /// A seat for each.
-    pub seats: Vec<Seat<L>>,
+pub struct Posts<L: BoardName, N: WriterName> {
+    /// Where each works.
+    pub posts: Vec<Post<Seat<L>, N>>,
     /// An end of the intake for each.
     pub ends: Vec<TakeEnd>,
     /// Room for the replies of an order, for each.
     pub tolds: Vec<Tolds>,
     /// Room for those that are started.
-    pub threads: Vec<Thread<L>>,
+    pub threads: Vec<Thread<L, N>>,
     /// Room for what comes back.
-    pub back: Back<L>,
-    ghost fresh: { All (λ seat. seat.count ≡ 0) seats.items },
-    ghost none: { (threads.items ≡ []) × (back.seats.items ≡ []) × (back.ends.items ≡ []) },
-    ghost room: { (length seats.items ≤ vec_capacity threads) × (length seats.items ≤ vec_capacity back.seats)
-        × (length seats.items ≤ vec_capacity back.ends) },
+    pub back: Back<L, N>,
+    ghost idle: { All (λ post. IsIdle post.seat post.own) posts.items },
+    ghost none: { (threads.items ≡ []) × (back.seats.items ≡ []) × (back.appenders.items ≡ [])
+        × (back.ends.items ≡ []) },
+    ghost room: { (length posts.items ≤ vec_capacity threads) × (length posts.items ≤ vec_capacity back.seats)
+        × (length posts.items < vec_capacity back.appenders) × (length posts.items ≤ vec_capacity back.ends) },
 }
 
 impl<
@@ -115,130 +124,147 @@ impl<
     G: Gate + Sync,
     J: Journal + Send + Drop,
 > WorkerPool<'a, 'w, L, N, R, W, G, J> {
-    /// Runs a session: starts a worker at each seat, begins, reads until the session ends, closes the intake, and joins
-    /// the workers. If a worker can't be started nothing is read, and the permit to begin comes back as it was.
+    /// Runs a session: starts a worker at each post, begins, reads until the session ends, closes the intake, and joins
+    /// the workers. If a worker can't be started nothing is read, and the session doesn't begin. `own` is what the
+    /// session's own answers are given to be sent through.
     pub fn run<I: Read>(
         &self,
         r: &mut I,
         inbox: Inbox,
         put: PutEnd,
-        posts: Posts<L>,
-        permit: Share<N>,
-    ) -> (Back<L>, Received, Share<N>)
+        posts: Posts<L, N>,
+        own: Appender<N, ReplyEntry>,
+    ) -> (Back<L, N>, Received<N>)
         requires unread { IsUnread inbox }
         requires put { (put.of ≡ self.now.intake) × (put.closed ≡ false) × (put.put ≡ []) }
         requires ends { All (IsFresh self.now.intake) posts.ends.items }
         requires replies { All (HasRoom L.rules) posts.tolds.items }
-        requires permit { (0 < N.parts) × (permit.parts ≡ N.parts) × (permit.amount ≡ 0) }
-        ensures permit { result.2.parts ≡ N.parts }
         ensures ran { HasRun (record {
+          rules = L.rules;
           of = self.now.intake;
           takers = put.takers;
-          left = I.remaining r.old;
-          left_now = I.remaining r.new;
-          places = posts.seats.items;
-          back = result.0.seats.items;
-          ends = result.0.ends.items;
-          any = result.0.refused;
-          reader = result.1;
-          amount = result.2.amount;
+          places = map (λ post. post.seat) posts.posts.items;
+          back = record {
+            places = result.0.seats.items;
+            sent = result.0.appenders.items;
+            ends = result.0.ends.items;
+            any = result.0.failures.refused;
+            lost = result.0.failures.lost;
+          };
+          put_of = result.1.put.of;
+          put_takers = result.1.put.takers;
+          reception = record {
+            left = I.remaining r.old;
+            left_now = I.remaining r.new;
+            fault = result.1.fault;
+            put = result.1.put.put;
+            goodbye = result.1.goodbye;
+            sent = own;
+            sent_now = result.1.own;
+            lost = result.1.lost;
+          };
         }) }
+        ensures room { length result.0.appenders.items < vec_capacity result.0.appenders }
     {
         let rt = self.rt;
-        let (back, received, permit, r) = thread::scope(
+        let (back, received, r) = thread::scope(
             thread::scope_env(),
             rt,
-            move |scope| -> (Back<L>, Received, Share<N>, &mut I)
+            move |scope| -> (Back<L, N>, Received<N>, &mut I)
                 requires unread { IsUnread inbox }
                 requires put { (put.of ≡ self.now.intake) × (put.closed ≡ false) × (put.put ≡ []) }
                 requires ends { All (IsFresh self.now.intake) posts.ends.items }
                 requires replies { All (HasRoom L.rules) posts.tolds.items }
-                requires permit { (0 < N.parts) × (permit.parts ≡ N.parts) × (permit.amount ≡ 0) }
-                ensures same { result.3.ghost_name ≡ r.entry.ghost_name }
-                ensures permit { result.2.parts ≡ N.parts }
+                ensures same { result.2.ghost_name ≡ r.entry.ghost_name }
                 ensures ran { HasRun (record {
+                  rules = L.rules;
                   of = self.entry.now.intake;
                   takers = put.takers;
-                  left = I.remaining r.entry.now;
-                  left_now = I.remaining result.3.now;
-                  places = posts.seats.items;
-                  back = result.0.seats.items;
-                  ends = result.0.ends.items;
-                  any = result.0.refused;
-                  reader = result.1;
-                  amount = result.2.amount;
+                  places = map (λ post. post.seat) posts.posts.items;
+                  back = record {
+                    places = result.0.seats.items;
+                    sent = result.0.appenders.items;
+                    ends = result.0.ends.items;
+                    any = result.0.failures.refused;
+                    lost = result.0.failures.lost;
+                  };
+                  put_of = result.1.put.of;
+                  put_takers = result.1.put.takers;
+                  reception = record {
+                    left = I.remaining r.entry.now;
+                    left_now = I.remaining result.2.now;
+                    fault = result.1.fault;
+                    put = result.1.put.put;
+                    goodbye = result.1.goodbye;
+                    sent = own;
+                    sent_now = result.1.own;
+                    lost = result.1.lost;
+                  };
                 }) }
+                ensures room { length result.0.appenders.items < vec_capacity result.0.appenders }
             {
                 // Taken whole, so that what its type keeps is known here.
                 let posts = posts;
                 let Posts {
-                    seats,
+                    posts,
                     mut ends,
                     mut tolds,
                     mut threads,
                     back,
                 } = posts;
                 let mut inbox = inbox;
-                let mut permit = permit;
                 let received = if self.start_all(
                     scope,
-                    seats,
+                    posts,
                     &mut ends,
                     &mut tolds,
                     &mut threads,
                 ) {
-                    self.begin(&mut permit);
-                    receive_all(rt, &self.intake, &self.sender, &permit, put, r, &mut inbox)
+                    self.begin();
+                    receive_all(rt, &self.intake, &self.sender, own, put, r, &mut inbox)
                 } else {
-                    Received {
-                        put,
-                        fault: Some(Fault::NoMemory),
-                        goodbye: Response::Nothing,
-                    }
+                    unread(put, own)
                 };
                 let mut received = received;
                 self.intake.close(&mut received.put);
-                (joined(rt, &self.intake, threads, back), received, permit, r)
+                (joined(rt, &self.intake, threads, back), received, r)
             },
         );
         // No effect at run time: the proof reads here what the reader has left.
         let _ = &*r;
-        (back, received, permit)
+        (back, received)
     }
 
     // Replies may go out from here on.
-    fn begin(&self, permit: &mut Share<N>)
-        requires { (0 < N.parts) × (permit.old.parts ≡ N.parts) × (permit.old.amount ≡ 0) }
-        ensures { (permit.new.parts ≡ N.parts) × (permit.new.amount ≡ 1) }
-    {
+    fn begin(&self) {
         let mut sender = self.sender.lock(self.rt);
-        sender.begin(permit);
+        sender.begin();
     }
 
     // Starts a worker at each seat, and says whether all were started.
     fn start_all<'s, E>(
         &'s self,
         scope: &Scope<'s, E>,
-        seats: Vec<Seat<L>>,
+        posts: Vec<Post<Seat<L>, N>>,
         ends: &mut Vec<TakeEnd>,
         tolds: &mut Vec<Tolds>,
-        threads: &mut Vec<Thread<L>>,
+        threads: &mut Vec<Thread<L, N>>,
     ) -> bool
     where
         'a: 's,
         'w: 's,
-        requires fresh { All (λ seat. seat.count ≡ 0) seats.items }
+        requires idle { All (λ post. IsIdle post.seat post.own) posts.items }
         requires ends { All (IsFresh self.now.intake) ends.old.items }
         requires replies { All (HasRoom L.rules) tolds.old.items }
         requires none { threads.old.items ≡ [] }
-        requires room { length seats.items ≤ vec_capacity threads.old }
-        ensures most { length threads.new.items ≤ length seats.items }
+        requires room { length posts.items ≤ vec_capacity threads.old }
+        ensures most { length threads.new.items ≤ length posts.items }
         ensures whose { result ≡ true
-            → map (λ t. t.promise.worker) threads.new.items ≡ map (λ seat. seat.worker) seats.items }
+            → map (λ t. t.promise.worker) threads.new.items ≡ map (λ post. post.seat.worker) posts.items }
         ensures ends { All (λ t. IsFresh self.now.intake t.promise.end.value) threads.new.items }
     {
-        for seat in seats {
-            let Some(thread) = self.start_next(scope, seat, ends, tolds) else {
+        for post in posts {
+            let Some(thread) = self.start_next(scope, post, ends, tolds) else {
                 return false;
             };
             threads.push_reserved(thread);
@@ -250,23 +276,23 @@ impl<
     fn start_next<'s, E>(
         &'s self,
         scope: &Scope<'s, E>,
-        seat: Seat<L>,
+        post: Post<Seat<L>, N>,
         ends: &mut Vec<TakeEnd>,
         tolds: &mut Vec<Tolds>,
-    ) -> Option<Thread<L>>
+    ) -> Option<Thread<L, N>>
     where
         'a: 's,
         'w: 's,
-        requires fresh { seat.count ≡ 0 }
+        requires idle { IsIdle post.seat post.own }
         requires ends { All (IsFresh self.now.intake) ends.old.items }
         requires replies { All (HasRoom L.rules) tolds.old.items }
-        ensures whose { IfSome result (λ t. t.promise.worker ≡ seat.worker) }
+        ensures whose { IfSome result (λ t. t.promise.worker ≡ post.seat.worker) }
         ensures end { IfSome result (λ t. IsFresh self.now.intake t.promise.end.value) }
         ensures ends { All (IsFresh self.now.intake) ends.new.items }
         ensures replies { All (HasRoom L.rules) tolds.new.items }
     {
         let (end, tolds) = self.last_of(ends, tolds)?;
-        self.start(scope, seat, end, tolds)
+        self.start(scope, post, end, tolds)
     }
 
     // The last of these ends and the last of these rooms, if there are both.
@@ -287,21 +313,21 @@ impl<
     fn start<'s, E>(
         &'s self,
         scope: &Scope<'s, E>,
-        seat: Seat<L>,
+        post: Post<Seat<L>, N>,
         end: TakeEnd,
         tolds: Tolds,
-    ) -> Option<Thread<L>>
+    ) -> Option<Thread<L, N>>
     where
         'a: 's,
         'w: 's,
-        requires fresh { seat.count ≡ 0 }
+        requires idle { IsIdle post.seat post.own }
         requires end { end.of ≡ self.now.intake }
         requires replies { HasRoom L.rules tolds }
-        ensures whose { IfSome result (λ t. t.promise.worker ≡ seat.worker) }
+        ensures whose { IfSome result (λ t. t.promise.worker ≡ post.seat.worker) }
         ensures end { IfSome result (λ t. t.promise.end.value ≡ end) }
     {
         let at = AtSeat {
-            worker: seat.worker(),
+            worker: post.seat.worker(),
             end: Snapshot::of(&end),
         };
         let stack = Stack::new().stack_size(self.stack);
@@ -309,20 +335,22 @@ impl<
             .spawn_scoped_with(
                 scope,
                 at,
-                move || -> Worked<Seat<L>>
-                    requires { (seat.count ≡ 0) × (end.of ≡ self.now.intake) × HasRoom L.rules tolds }
-                    ensures { HasComeBack seat.worker end result.seat result.end result.refused }
-                { self.work(seat, end, tolds) },
+                move || -> Worked<Seat<L>, N>
+                    requires { IsIdle post.seat post.own × (end.of ≡ self.now.intake) × HasRoom L.rules tolds }
+                    ensures { HasComeBack L.rules post.seat.worker end result.post.seat result.post.own result.end
+                        result.failures.refused result.failures.lost }
+                { self.work(post, end, tolds) },
             )
             .ok()
     }
 
     // What a worker does.
-    fn work(&self, seat: Seat<L>, end: TakeEnd, tolds: Tolds) -> Worked<Seat<L>>
-        requires fresh { seat.count ≡ 0 }
+    fn work(&self, post: Post<Seat<L>, N>, end: TakeEnd, tolds: Tolds) -> Worked<Seat<L>, N>
+        requires idle { IsIdle post.seat post.own }
         requires end { end.of ≡ self.now.intake }
         requires replies { HasRoom L.rules tolds }
-        ensures { HasComeBack seat.worker end result.seat result.end result.refused }
+        ensures { HasComeBack L.rules post.seat.worker end result.post.seat result.post.own result.end
+            result.failures.refused result.failures.lost }
     {
         worker_loop(
             self.rt,
@@ -330,40 +358,66 @@ impl<
             self.gate,
             &self.intake,
             &self.sender,
-            seat,
+            post,
             end,
             tolds,
         )
     }
 }
 
+// The result of a receiver that read nothing, since a worker couldn't be started.
+fn unread<N: WriterName>(put: PutEnd, own: Appender<N, ReplyEntry>) -> Received<N>
+    ensures put { result.put ≡ put }
+    ensures own { (result.own ≡ own) × (result.lost ≡ false) }
+    ensures fault { result.fault ≡ Some Fault.NoMemory }
+    ensures unanswered { result.goodbye ≡ Response.Nothing }
+{
+    Received {
+        put,
+        fault: Some(Fault::NoMemory),
+        goodbye: Response::Nothing,
+        own,
+        lost: false,
+    }
+}
+
 // Joins all workers.
-fn joined<L: BoardName, R: Threads>(
+fn joined<L: BoardName, N: WriterName, R: Threads>(
     rt: &R,
     intake: &Intake,
-    threads: Vec<Thread<L>>,
-    back: Back<L>,
-) -> Back<L>
-    requires none { (back.seats.items ≡ []) × (back.ends.items ≡ []) }
-    requires room { (length threads.items ≤ vec_capacity back.seats) × (length threads.items ≤ vec_capacity back.ends) }
+    threads: Vec<Thread<L, N>>,
+    back: Back<L, N>,
+) -> Back<L, N>
+    requires none { (back.seats.items ≡ []) × (back.appenders.items ≡ []) × (back.ends.items ≡ []) }
+    requires room { (length threads.items ≤ vec_capacity back.seats)
+        × (length threads.items < vec_capacity back.appenders) × (length threads.items ≤ vec_capacity back.ends) }
     requires fresh { All (λ t. IsFresh intake.now t.promise.end.value) threads.items }
     ensures all { length result.ends.items ≡ length threads.items }
     ensures whose { map (λ seat. seat.worker) result.seats.items ≡ map (λ t. t.promise.worker) threads.items }
     ensures ends { All (λ end. end.of ≡ intake.now) result.ends.items }
-    ensures did { HaveDone (λ weight. weight_taken weight result.ends.items) result.seats.items result.refused }
+    ensures did { HaveDone L.rules (λ weight. weight_taken weight result.ends.items) result.seats.items
+        result.appenders.items result.failures.refused result.failures.lost }
+    ensures room { length result.appenders.items < vec_capacity result.appenders }
 {
     let mut back = back;
-    back.refused = false;
+    back.failures = Failures::none();
     for thread in threads {
-        let Worked { seat, end, refused } = thread.join(rt);
+        let Worked {
+            post,
+            end,
+            failures,
+        } = thread.join(rt);
+        let Post { seat, own } = post;
         back.seats.push_reserved(seat);
+        back.appenders.push_reserved(own);
         back.ends.push_reserved(end);
-        back.refused |= refused;
+        back.failures = back.failures.or(failures);
     }
     back
 }
 
-/// Orders that no worker took are handed in, or looked for, at the last seat. Tells whether one was refused.
+/// Orders that no worker took are handed in, or looked for, at the last seat, and answered in its worker's name. Tells
+/// what went wrong with them.
 pub fn handed_in<
     L: BoardName,
     N: WriterName,
@@ -378,21 +432,31 @@ pub fn handed_in<
     gate: &G,
     sender: &Mutex<SharedSender<'_, W, N>>,
     seats: Vec<Seat<L>>,
+    appenders: Vec<Appender<N, ReplyEntry>>,
     tolds: Tolds,
     left: Vec<Job>,
-) -> (Vec<Seat<L>>, bool)
+) -> (Vec<Seat<L>>, Vec<Appender<N, ReplyEntry>>, Failures)
     requires some { 0 < length seats.items }
+    requires pairs { length appenders.items ≡ length seats.items }
+    requires room { length appenders.items < vec_capacity appenders }
     requires replies { HasRoom L.rules tolds }
     ensures whose { map (λ seat. seat.worker) result.0.items ≡ map (λ seat. seat.worker) seats.items }
-    ensures did { (orders : Weight → ℕ) (any : Bool) → HaveDone orders seats.items any
-        → HaveDone (λ weight. orders weight + sum_by weight left.items) result.0.items (any || result.1) }
+    ensures pairs { length result.1.items ≡ length appenders.items }
+    ensures room { length result.1.items < vec_capacity result.1 }
+    ensures did { (orders : Weight → ℕ) (any lost : Bool)
+        → HaveDone L.rules orders seats.items appenders.items any lost
+        → HaveDone L.rules (λ weight. orders weight + sum_by weight left.items) result.0.items result.1.items
+        (any || result.2.refused) (lost || result.2.lost) }
 {
     let mut seats = seats;
-    let Some(seat) = seats.pop() else {
+    let mut appenders = appenders;
+    let (Some(seat), Some(own)) = (seats.pop(), appenders.pop()) else {
         unreachable!()
     };
-    let mut seat = seat;
-    let refused = handle_all(rt, board, gate, sender, &mut seat, tolds, left);
+    let mut post = Post { seat, own };
+    let failures = handle_all(rt, board, gate, sender, &mut post, tolds, left);
+    let Post { seat, own } = post;
     seats.push_reserved(seat);
-    (seats, refused)
+    appenders.push_reserved(own);
+    (seats, appenders, failures)
 }

@@ -1,69 +1,104 @@
 -- What a session with workers did.
-use Rattle.std.specs.Prelude.{◌≡◌, ℕ, ◌<◌, ◌≤◌, ◌⊎◌, Bool, true, false, List, [], ◌++◌, All, length, Option, None, Some}
-use Rattle.std.specs.Prelude.{IfSome, IsSome}
+use Rattle.std.specs.Prelude.{◌≡◌, ℕ, ◌+◌, ◌≤◌, ◌⊎◌, Bool, true, false, List, [], ◌∷◌, ◌++◌, All, length, Option, None}
+use Rattle.std.specs.Prelude.{IfSome, IsSome, Some, flat_map, map, sum_by, ◌||◌}
 use Rattle.std.specs.Io.KnownBytes.{Keeps}
-use Rattle.fl_desk.specs.Asked.{Orders, asked}
-use Rattle.fl_desk.specs.Legal.{IsLegal}
+use Rattle.std.specs.List.{range_with_len}
+use Rattle.fl_desk.specs.Answered.{IsAnsweredAfter, answered_by}
+use Rattle.fl_desk.specs.Asked.{Orders}
+use Rattle.fl_desk.specs.Legal.{IsLegal, orders_asked}
 use Rattle.fl_history.specs.declared.history.Line.{Line}
 use Rattle.fl_intake.specs.Often.{AreAsOften}
-use Rattle.fl_order.specs.Order.{only_reads}
+use Rattle.fl_pool.specs.Working.{some_is}
 use Rattle.fl_session.specs.Recorded.{done_of}
 use Rattle.fl_session.specs.declared.done.Done.{Done}
 use Rattle.fl_session.specs.declared.recorded.Recorded.{Recorded}
+use Rattle.fl_transport.specs.Collecting.{IsGiven}
 use Rattle.fl_transport.specs.Ending.{EndsBy, IsRead}
 use Rattle.fl_transport.specs.Handshake.{handshake_of}
-use Rattle.fl_transport.specs.Response.{bytes_of}
 use Rattle.fl_transport.specs.Said.{said_in}
 use Rattle.fl_transport.specs.Streams.{Streams}
 use Rattle.fl_transport.specs.declared.fault.Fault.TheVariants.{NoMemory, NoReader}
 use Rattle.fl_transport.specs.declared.response.Response.{Response}
 use Rattle.fl_waiting.specs.declared.rules.Rules.{Rules}
-use Rattle.fl_workers.specs.Received.{IsLast}
-use Rattle.fl_workers.specs.Sent.{HasSent, HasSentLast}
+use Rattle.fl_workers.specs.Received.{IsLast, answer_by, own_answers}
+use Rattle.fl_workers.specs.Sent.{entries_of, spelled}
+use Rattle.fl_workers.specs.Worked.{AreShown, Outcome, answers, entry_for, order_of, some_refused}
+use Rattle.fl_workers.specs.declared.entry.ReplyEntry.{ReplyEntry}
 
--- A DESTROY came last, and its reply was written last, behind whole replies.
-pub record SaysGoodbye (messages : List (List ℕ)) (held held_now : Option (List ℕ)) : Type 0 where
+-- a worker, and what became of each order that it took, in its order
+pub record Part : Type 0 where
+  pub worker : ℕ
+  pub outcomes : List Outcome
+
+-- the orders that it took
+abbrev pub orders_of : Part → Orders
+orders_of part = map order_of part.outcomes
+
+-- The orders that the history has of this worker are those that it handed in, in this order, each with its replies.
+-- Each order that it looked for only reads, and is answered as after a prefix of the history, which has all that it
+-- handed in and was shown before.
+pub record IsAnswered (rules : Rules) (history : List Line) (part : Part) : Type 0 where
+  pub handed : answered_by part.worker history ≡ answers part.outcomes
+  pub shown : AreShown (IsAnsweredAfter rules) part.worker [] [] part.outcomes history
+
+-- The orders of the messages are those that the workers took, each as often. Each of these was handed in, looked for or
+-- refused. The history has no order but those that were handed in. `refused` is true exactly if some order was refused.
+pub record AreDone (workers : ℕ) (rules : Rules) (messages : List (List ℕ)) (parts : List Part) (done : Done)
+    : Type 0 where
+  pub whose : map (λ part. part.worker) parts ≡ range_with_len 0 workers
+  pub taken : AreAsOften (said_in messages) (flat_map orders_of parts)
+  pub each : All (IsAnswered rules done.history) parts
+  pub all : orders_asked done.history ≡ sum_by (λ part. length (answers part.outcomes)) parts
+  pub refused : done.refused ≡ some_is (map (λ part. some_refused part.outcomes) parts)
+
+-- this was given last: the answer to the DESTROY that ended the session
+pub record SaysGoodbye (receiver : ℕ) (messages : List (List ℕ)) (log : List ReplyEntry) : Type 0 where
   pub goodbye : Response
   pub last : IsLast messages goodbye
-  pub sent : HasSentLast held held_now (bytes_of goodbye)
+  pub front : List ReplyEntry
+  pub is : log ≡ front ++ answer_by receiver goodbye ∷ []
 
--- The orders of the messages are of three kinds, each order as often: those of the history; some that were looked for,
--- which only read; and some that were refused. `refused` is true exactly if some order was refused.
-pub record IsAsked (messages : List (List ℕ)) (done : Done) : Type 0 where
-  pub looked : Orders
-  pub refused : Orders
-  pub each : AreAsOften (said_in messages) (asked done.history ++ looked ++ refused)
-  pub reads : All (λ order. only_reads order.op ≡ true) looked
-  pub none : done.refused ≡ false → refused ≡ []
-  pub some : done.refused ≡ true → 0 < length refused
+-- What was given to be sent: by each worker, what is owed for each order that it took, in its order; by the receiver,
+-- whose number is that of the workers, the session's own answers to the messages that are no orders, in their order;
+-- and nothing else. The answer to a DESTROY is the last.
+pub record AreAllGiven (workers : ℕ) (messages : List (List ℕ)) (parts : List Part) (log : List ReplyEntry)
+    : Type 0 where
+  pub each : All (λ (part : Part). entries_of part.worker log ≡ map (entry_for part.worker) part.outcomes) parts
+  pub own : entries_of workers log ≡ map (answer_by workers) (own_answers messages)
+  pub no_others : length log ≡ sum_by (λ part. length part.outcomes) parts + length (own_answers messages)
+  pub goodbye : (handshake_of messages).over ≡ true → SaysGoodbye workers messages log
 
--- a worker got no reader, or the board couldn't tell the history
+-- a worker got no reader, the board couldn't tell the history, or memory ran out before anything was read
 pub record HasNoHistory (done : Done) : Type 0 where
-  pub fault : done.fault ≡ Some NoReader
+  pub fault : (done.fault ≡ Some NoReader) ⊎ (done.fault ≡ Some NoMemory)
   pub history : done.history ≡ []
 
 -- What was read is whole messages and a rest of at most 8192 bytes, and no message came after one that ended the
--- session. Whole replies were written behind what the writer held; after a failed write (`broken`), a prefix of them.
--- If none failed, the last of them answers the DESTROY that ended the session, if one did. The fault is that of the
--- end, or the history can't be had. Otherwise the history has the orders of the messages, as `IsAsked` says.
-pub record IsServedBy (streams : Streams) (done : Done) : Type 0 where
+-- session. What was written behind what the writer held are the bytes of a log of what was given to be sent, whole
+-- replies; after a failed write (`broken`), a prefix of them. If nothing was lost on the way there, the log is as
+-- `AreAllGiven` says. The fault is that of the end, where what was lost counts as a failed write, or the history can't
+-- be had. Otherwise each order of the messages was answered, as `AreDone` says.
+pub record IsServedBy (workers : ℕ) (rules : Rules) (streams : Streams) (done : Done) : Type 0 where
   pub messages : List (List ℕ)
   pub rest : List ℕ
+  pub log : List ReplyEntry
+  pub parts : List Part
   pub broken : Bool
+  pub lost : Bool
   pub is_read : IsRead streams.left streams.left_now messages rest
   pub bounded : length rest ≤ 8192
-  pub sent : HasSent streams.held (record { held = streams.held_now; waiting = []; broken = broken })
-  pub goodbye : broken ≡ false → (handshake_of messages).over ≡ true
-      → SaysGoodbye messages streams.held streams.held_now
-  pub ending : EndsBy done.fault broken messages rest streams.left_now ⊎ HasNoHistory done
-  pub orders : IsAsked messages done ⊎ HasNoHistory done
+  pub sent : IsGiven streams.held (record { held = streams.held_now; waiting = []; broken = broken }) (spelled log)
+  pub given : lost ≡ false → AreAllGiven workers messages parts log
+  pub ending : EndsBy done.fault (broken || lost) messages rest streams.left_now ⊎ (done.fault ≡ Some NoReader)
+  pub orders : AreDone workers rules messages parts done ⊎ HasNoHistory done
 
--- The result of a session under these rules whose lines went to a journal. They are legal, and with them it served
--- what was read. The journal is there, except at NoReader, and at NoMemory, when nothing was read or written.
-pub record IsRecordedBy {K : Type 0} (lines : K → List Line) (rules : Rules) (streams : Streams) (it : Recorded K)
-    : Type 0 where
+-- The result of a session with so many workers under these rules whose lines went to a journal. They are legal, and
+-- with them it served what was read. The journal is there, except at NoReader, and at NoMemory, when nothing was read
+-- or written.
+pub record IsRecordedBy {K : Type 0} (lines : K → List Line) (workers : ℕ) (rules : Rules) (streams : Streams)
+    (it : Recorded K) : Type 0 where
   pub legal : IfSome it.journal (λ journal. IsLegal rules (lines journal))
-  pub served : IsServedBy streams (done_of lines it)
+  pub served : IsServedBy workers rules streams (done_of lines it)
   pub back : IsSome it.journal ⊎ (it.fault ≡ Some NoMemory) ⊎ (it.fault ≡ Some NoReader)
   pub nothing : it.fault ≡ Some NoMemory → (it.journal ≡ None) × Keeps streams.left streams.left_now
   pub unwritten : it.fault ≡ Some NoMemory → Keeps streams.held streams.held_now

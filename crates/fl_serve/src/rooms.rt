@@ -1,141 +1,120 @@
 //! What a session with workers has before its first read.
 
-ghost use Rattle.std.specs.Prelude.{◌≡◌, ◌≤◌, ◌<◌, [], All, false, map, vec_capacity, IfOk};
+ghost use Rattle.std.specs.Prelude.{◌≡◌, ℕ, ◌≤◌, ◌<◌, ◌+◌, [], All, false, length, map, vec_capacity, IfOk};
 ghost use Rattle.std.specs.List.{range_with_len};
 ghost use Rattle.fl_core.specs.Tolds.{HasRoom};
 ghost use Rattle.fl_pool.specs.Working.{IsFresh};
 ghost use Rattle.fl_transport.specs.Inbox.{IsUnread};
 
-use fl_board::{Board, BoardName, FreshLog, OpenFault};
+use fl_board::{Board, BoardName, OpenFault, Seat};
 use fl_core::{Rules, Tolds};
 use fl_history::Journal;
 use fl_intake::{Intake, PutEnd, TakeEnd};
+use fl_log::FreshLog;
 use fl_order::NoMemory;
 use fl_pool::{Back, Posts, Thread};
+use fl_replica::Ask;
 use fl_transport::{Inbox, ReplyBuffer};
+use fl_workers::{Post, SharedSender, WriterName};
 use std::alloc::Global;
+use std::io::Write;
 use std::sync::Wait;
-use std::sync::ledger::Blank;
+use std::sync::ledger::{Blank, Share};
 
 /// All that a session has before its first read.
-pub(crate) struct Rooms<L: BoardName, R: Wait + Drop, J: Journal> {
+pub(crate) struct Rooms<L: BoardName, N: WriterName, R: Wait + Drop, J: Journal> {
     pub board: Board<L, R, J>,
-    pub intake: Intake,
-    pub put: PutEnd,
-    pub posts: Posts<L>,
-    /// For the orders that no worker takes.
-    pub tolds: Tolds,
-    pub inbox: Inbox,
-    pub replies: ReplyBuffer,
+    pub seats: Vec<Seat<L>>,
+    pub stock: Stock<L, N>,
 }
 
-impl<L: BoardName, R: Wait + Drop, J: Journal + Drop> Rooms<L, R, J> {
+impl<L: BoardName, N: WriterName, R: Wait + Drop, J: Journal + Drop> Rooms<L, N, R, J> {
     /// A board over this journal, with so many workers, and memory for all that is to come under these rules.
-    #[tactic(auto, using(crate::proofs::ServingLemmas::as_many))]
     pub(crate) fn new(
         alloc: Global,
         rt: R,
         journal: J,
         blank: Blank,
-        log: FreshLog,
+        log: FreshLog<Ask>,
         workers: u32,
         rules: Rules,
-    ) -> Result<Rooms<L, R, J>, OpenFault>
+    ) -> Result<Rooms<L, N, R, J>, OpenFault>
         requires none { J.lines journal ≡ [] }
         requires named { (blank.name ≡ L.name) × (blank.parts ≡ L.parts) }
         requires log { log ≡ L.log }
         requires parts { (workers ≡ L.parts) × (L.workers ≡ L.parts) }
         requires rules { rules ≡ L.rules }
         requires workers { (0 < workers) × (workers ≤ 16) }
-        ensures seats { IfOk result (λ rooms.
-            map (λ seat. seat.worker) rooms.posts.seats.items ≡ range_with_len 0 workers) }
-        ensures ends { IfOk result (λ rooms. All (IsFresh rooms.intake) rooms.posts.ends.items) }
-        ensures put { IfOk result (λ rooms. (rooms.put.of ≡ rooms.intake) × (rooms.put.takers ≡ workers)
-            × (rooms.put.closed ≡ false) × (rooms.put.put ≡ [])) }
-        ensures unread { IfOk result (λ rooms. IsUnread rooms.inbox) }
-        ensures none { IfOk result (λ rooms. rooms.replies ≡ []) }
+        ensures seats { IfOk result (λ rooms. map (λ seat. seat.worker) rooms.seats.items ≡ range_with_len 0 workers) }
+        ensures fresh { IfOk result (λ rooms.
+            All (λ seat. (seat.count ≡ 0) × (seat.own ≡ []) × (seat.seen ≡ [])) rooms.seats.items) }
+        ensures ends { IfOk result (λ rooms. All (IsFresh rooms.stock.intake) rooms.stock.ends.items) }
+        ensures put { IfOk result (λ rooms. (rooms.stock.put.of ≡ rooms.stock.intake)
+            × (rooms.stock.put.takers ≡ workers) × (rooms.stock.put.closed ≡ false) × (rooms.stock.put.put ≡ [])) }
+        ensures unread { IfOk result (λ rooms. IsUnread rooms.stock.own.inbox) }
+        ensures none { IfOk result (λ rooms. rooms.stock.own.replies ≡ []) }
+        ensures room { IfOk result (λ rooms. workers ≤ rooms.stock.each.workers) }
         ensures replies { IfOk result (λ rooms.
-            HasRoom L.rules rooms.tolds × All (HasRoom L.rules) rooms.posts.tolds.items) }
+            HasRoom L.rules rooms.stock.own.tolds × All (HasRoom L.rules) rooms.stock.each.tolds.items) }
     {
-        let stock = Stock::<L>::new(alloc, workers, rules)?;
+        let stock = Stock::<L, N>::new(alloc, workers, rules)?;
         let (board, seats) = Board::<L, R, J>::over(
             alloc, rt, journal, blank, log, workers, rules,
         )?;
-        let Stock {
-            intake,
-            put,
-            ends,
-            own,
-            each,
-        } = stock;
-        let Own {
-            tolds,
-            inbox,
-            replies,
-        } = own;
-        let Each {
-            tolds: each,
-            threads,
-            back,
-        } = each;
-        let posts = Posts {
-            seats,
-            ends,
-            tolds: each,
-            threads,
-            back,
-        };
         Ok(Rooms {
             board,
-            intake,
-            put,
-            posts,
-            tolds,
-            inbox,
-            replies,
+            seats,
+            stock,
         })
     }
 }
 
-// What a session has before its first read beside its board: its intake with all ends, and memory for what is to come.
+/// What a session has before its first read beside its board: its intake with all ends, and memory for what is to come.
 #[derive(Drop)]
-struct Stock<L: BoardName> {
-    intake: Intake,
-    put: PutEnd,
-    ends: Vec<TakeEnd>,
-    own: Own,
-    each: Each<L>,
+pub(crate) struct Stock<L: BoardName, N: WriterName> {
+    pub intake: Intake,
+    pub put: PutEnd,
+    pub ends: Vec<TakeEnd>,
+    pub own: Own,
+    pub each: Each<L, N>,
 }
 
-// What a session has once.
+/// What a session has once.
 #[derive(Drop)]
-struct Own {
-    // For the orders that no worker takes.
-    tolds: Tolds,
-    inbox: Inbox,
-    replies: ReplyBuffer,
+pub(crate) struct Own {
+    /// For the orders that no worker takes.
+    pub tolds: Tolds,
+    pub inbox: Inbox,
+    pub replies: ReplyBuffer,
 }
 
-// What a session has for each worker.
+/// What a session has for each worker.
 #[derive(Drop)]
-struct Each<L: BoardName> {
-    // For the replies of an order.
-    tolds: Vec<Tolds>,
-    threads: Vec<Thread<L>>,
-    back: Back<L>,
+pub(crate) struct Each<L: BoardName, N: WriterName> {
+    /// Room for where they work.
+    posts: Vec<Post<Seat<L>, N>>,
+    /// For the replies of an order.
+    pub tolds: Vec<Tolds>,
+    threads: Vec<Thread<L, N>>,
+    back: Back<L, N>,
+    /// For so many workers there is room.
+    pub ghost workers: { ℕ },
+    ghost none: { (posts.items ≡ []) × (threads.items ≡ []) × (back.seats.items ≡ []) × (back.appenders.items ≡ [])
+        × (back.ends.items ≡ []) },
+    ghost room: { (workers ≤ vec_capacity posts) × (workers ≤ vec_capacity threads)
+        × (workers ≤ vec_capacity back.seats) × (workers < vec_capacity back.appenders)
+        × (workers ≤ vec_capacity back.ends) },
 }
 
-impl<L: BoardName> Stock<L> {
-    fn new(alloc: Global, workers: u32, rules: Rules) -> Result<Stock<L>, NoMemory>
+impl<L: BoardName, N: WriterName> Stock<L, N> {
+    fn new(alloc: Global, workers: u32, rules: Rules) -> Result<Stock<L, N>, NoMemory>
         requires workers { (0 < workers) × (workers ≤ 16) }
         ensures ends { IfOk result (λ stock. All (IsFresh stock.intake) stock.ends.items) }
         ensures put { IfOk result (λ stock. (stock.put.of ≡ stock.intake) × (stock.put.takers ≡ workers)
             × (stock.put.closed ≡ false) × (stock.put.put ≡ [])) }
         ensures unread { IfOk result (λ stock. IsUnread stock.own.inbox) }
-        ensures none { IfOk result (λ stock. (stock.own.replies ≡ []) × (stock.each.threads.items ≡ [])
-            × (stock.each.back.seats.items ≡ []) × (stock.each.back.ends.items ≡ [])) }
-        ensures room { IfOk result (λ stock. (workers ≤ vec_capacity stock.each.threads)
-            × (workers ≤ vec_capacity stock.each.back.seats) × (workers ≤ vec_capacity stock.each.back.ends)) }
+        ensures none { IfOk result (λ stock. stock.own.replies ≡ []) }
+        ensures room { IfOk result (λ stock. workers ≤ stock.each.workers) }
         ensures replies { IfOk result (λ stock.
             HasRoom rules stock.own.tolds × All (HasRoom rules) stock.each.tolds.items) }
     {
@@ -166,15 +145,13 @@ impl Own {
     }
 }
 
-impl<L: BoardName> Each<L> {
-    fn new(alloc: Global, workers: u32, rules: Rules) -> Result<Each<L>, NoMemory>
-        ensures none { IfOk result (λ each. (each.threads.items ≡ [])
-            × (each.back.seats.items ≡ []) × (each.back.ends.items ≡ [])) }
-        ensures room { IfOk result (λ each. (workers ≤ vec_capacity each.threads)
-            × (workers ≤ vec_capacity each.back.seats) × (workers ≤ vec_capacity each.back.ends)) }
+impl<L: BoardName, N: WriterName> Each<L, N> {
+    fn new(alloc: Global, workers: u32, rules: Rules) -> Result<Each<L, N>, NoMemory>
+        ensures room { IfOk result (λ each. workers ≤ each.workers) }
         ensures replies { IfOk result (λ each. All (HasRoom rules) each.tolds.items) }
     {
         Ok(Each {
+            posts: Vec::with_capacity(alloc, workers as usize)?,
             tolds: rooms_for_replies(alloc, workers, rules)?,
             threads: Vec::with_capacity(alloc, workers as usize)?,
             back: Back::with_room(alloc, workers)?,
@@ -191,4 +168,42 @@ fn rooms_for_replies(alloc: Global, workers: u32, rules: Rules) -> Result<Vec<To
         tolds.push(Tolds::new(alloc, rules)?)?;
     }
     Ok(tolds)
+}
+
+/// What each worker gets: its seat, its end of the intake, and an appender in its name, cut from the rest of the
+/// sender's ledger.
+pub(crate) fn posts_at<L: BoardName, N: WriterName, W: Write>(
+    sender: &SharedSender<'_, W, N>,
+    rest: &mut Share<N>,
+    seats: Vec<Seat<L>>,
+    ends: Vec<TakeEnd>,
+    each: Each<L, N>,
+) -> Posts<L, N>
+    requires none { sender.now.log ≡ [] }
+    requires rest { (length seats.items < rest.old.parts) × (rest.old.amount ≡ 0) }
+    requires fresh { All (λ seat. (seat.count ≡ 0) × (seat.own ≡ []) × (seat.seen ≡ [])) seats.items }
+    requires room { length seats.items ≤ each.workers }
+    ensures seats { map (λ post. post.seat) result.posts.items ≡ seats.items }
+    ensures ends { result.ends.items ≡ ends.items }
+    ensures tolds { result.tolds.items ≡ each.tolds.items }
+    ensures rest { (rest.new.parts + length seats.items ≡ rest.old.parts) × (rest.new.amount ≡ 0) }
+{
+    let Each {
+        posts,
+        tolds,
+        threads,
+        back,
+    } = each;
+    let mut posts = posts;
+    for seat in seats {
+        let own = sender.appender(rest, seat.worker());
+        posts.push_reserved(Post { seat, own });
+    }
+    Posts {
+        posts,
+        ends,
+        tolds,
+        threads,
+        back,
+    }
 }

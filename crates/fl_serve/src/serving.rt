@@ -1,31 +1,36 @@
 //! A whole session of the FUSE protocol with workers, over any reader and any writer.
 
 ghost use Rattle.std.specs.Prelude.{◌≡◌, ◌≢◌, ◌≤◌, ◌<◌, ◌+◌, ◌⊎◌, ◌||◌, ℕ, Bool, List, [], All, Option, Some};
-ghost use Rattle.std.specs.Prelude.{length, map, sum_by, IfSome, IsSome, None};
+ghost use Rattle.std.specs.Prelude.{false, length, map, IfSome, IsSome, None, vec_capacity};
 ghost use Rattle.std.specs.List.{range_with_len};
 ghost use Rattle.std.specs.Io.KnownBytes.{Keeps};
 ghost use Rattle.fl_core.specs.Tolds.{HasRoom};
 ghost use Rattle.fl_desk.specs.Legal.{IsLegal};
 ghost use Rattle.fl_intake.specs.Ends.{weight_taken};
-ghost use Rattle.fl_intake.specs.Often.{Weight};
+ghost use Rattle.fl_transport.specs.Collecting.{IsGiven};
 ghost use Rattle.fl_workers.specs.Received.{HasReceived};
+ghost use Rattle.fl_workers.specs.Sent.{spelled};
 ghost use Rattle.fl_pool.specs.Working.{HaveDone};
-ghost use Rattle.fl_serve.specs.Inside.Closing.{HasAll};
+ghost use Rattle.fl_serve.specs.Inside.Closing.{HasAll, HasSaidGoodbye};
 ghost use Rattle.fl_session.specs.Recorded.{done_of};
 ghost use Rattle.fl_serve.specs.Serve.{HasNoHistory, IsRecordedBy, IsServedBy};
 
-use crate::rooms::Rooms;
-use fl_board::{Board, BoardName, FreshLog, OpenFault, Seat};
+use crate::rooms::{Own, Rooms, Stock, posts_at};
+use fl_board::{Board, BoardName, OpenFault, Seat};
 use fl_core::{Rules, Tolds};
 use fl_history::{Journal, Lines};
-use fl_pool::{Back, WorkerPool, handed_in};
+use fl_log::{Appender, FreshLog};
+use fl_pool::{Back, Posts, WorkerPool, handed_in};
+use fl_replica::Ask;
 use fl_session::{Done, Recorded};
 use fl_transport::{Fault, Response};
-use fl_workers::{Gate, Received, SharedSender, WriterName};
+use fl_workers::{
+    Abandoned, Gate, Received, ReplyEntry, Returned, SharedSender, WriterName,
+};
 use std::alloc::Global;
 use std::io::{Read, Write};
 use std::marker::Brand;
-use std::sync::ledger::{Blank, Share};
+use std::sync::ledger::Blank;
 use std::sync::{Mutex, Wait};
 use std::thread::Threads;
 
@@ -49,7 +54,7 @@ pub fn serve<R: Threads + Wait + Sync, I: Read, W: Write + Send + Drop, G: Gate 
 ) -> Done
     requires workers { (0 < workers) × (workers ≤ 16) }
     ensures legal { IsLegal rules result.history }
-    ensures served { IsServedBy (record {
+    ensures served { IsServedBy workers rules (record {
       left = I.remaining r.old;
       left_now = I.remaining r.new;
       held = W.contents w.old;
@@ -101,7 +106,7 @@ where
     R: Threads + Wait + Sync,
     requires workers { (0 < staff.workers) × (staff.workers ≤ 16) }
     requires none { J.lines journal ≡ [] }
-    ensures { IsRecordedBy J.lines staff.rules (record {
+    ensures { IsRecordedBy J.lines staff.workers staff.rules (record {
       left = I.remaining r.old;
       left_now = I.remaining r.new;
       held = W.contents w.old;
@@ -110,9 +115,10 @@ where
 {
     let blank = Blank::new(u64::from(staff.workers));
     let log = FreshLog::new();
-    let sending = Blank::new(1);
+    let sending = Blank::new(u64::from(staff.workers) + 1);
+    let given = FreshLog::new();
     let (recorded, w) = run_at::<Brand, Brand, R, I, W, G, J>(
-        rt, alloc, blank, log, sending, r, w, gate, staff, journal,
+        rt, alloc, blank, log, sending, given, r, w, gate, staff, journal,
     );
     // No effect at run time: the proof reads here what the writer holds.
     let _ = &*w;
@@ -133,8 +139,9 @@ fn run_at<
     rt: &R,
     alloc: Global,
     blank: Blank,
-    log: FreshLog,
+    log: FreshLog<Ask>,
     sending: Blank,
+    given: FreshLog<ReplyEntry>,
     r: &mut I,
     w: &'w mut W,
     gate: &G,
@@ -149,16 +156,17 @@ fn run_at<
     requires none { J.lines journal ≡ [] }
     requires start { W.contents w.old ≡ N.start }
     requires writer { w.ghost_name ≡ N.writer }
-    requires sending { (sending.name ≡ N.name) × (sending.parts ≡ N.parts) × (0 < N.parts) }
+    requires sending { (sending.name ≡ N.name) × (sending.parts ≡ N.parts) × (staff.workers + 1 ≡ N.parts) }
+    requires given { given ≡ N.log }
     ensures writer { result.1.ghost_name ≡ w.entry.ghost_name }
-    ensures recorded { IsRecordedBy J.lines staff.rules (record {
+    ensures recorded { IsRecordedBy J.lines staff.workers staff.rules (record {
       left = I.remaining r.old;
       left_now = I.remaining r.new;
       held = W.contents w.old;
       held_now = W.contents result.1.now;
     }) result.0 }
 {
-    let rooms = match Rooms::<L, &R, J>::new(
+    let rooms = match Rooms::<L, N, &R, J>::new(
         alloc,
         rt,
         journal,
@@ -172,14 +180,24 @@ fn run_at<
     };
     let Rooms {
         board,
+        seats,
+        stock,
+    } = rooms;
+    let Stock {
         intake,
         put,
-        posts,
+        ends,
+        own,
+        each,
+    } = stock;
+    let Own {
         tolds,
         inbox,
         replies,
-    } = rooms;
-    let (sender, permit) = SharedSender::<'w, W, N>::new(sending, replies, w);
+    } = own;
+    let (sender, mut rest) = SharedSender::<'w, W, N>::new(sending, given, replies, w);
+    let posts = posts_at(&sender, &mut rest, seats, ends, each);
+    let own = sender.appender(&mut rest, staff.workers);
     let pool = WorkerPool {
         rt,
         gate,
@@ -188,46 +206,77 @@ fn run_at<
         intake,
         sender: Mutex::new(sender),
     };
-    let (back, received, permit) = pool.run(r, inbox, put, posts, permit);
+    let (back, received) = pool.run(r, inbox, put, posts, own);
     if received.fault == Some(Fault::NoMemory) {
         let WorkerPool { sender, .. } = pool;
-        let (w, _) = sender.into_inner().close(permit, &Response::Nothing);
-        return (Recorded::nothing(alloc, Fault::NoMemory), w);
+        return unstarted(alloc, sender.into_inner());
     }
-    finish(alloc, pool, back, received, tolds, permit)
+    finish(alloc, pool, back, received, tolds)
+}
+
+// The result of a session of which a worker couldn't be started, so that nothing was read. That the session hadn't
+// begun is known when it runs, and by no contract.
+fn unstarted<'w, N: WriterName, W: Write, J: Journal>(
+    alloc: Global,
+    sender: SharedSender<'w, W, N>,
+) -> (Recorded<J>, &'w mut W)
+    ensures writer { result.1.ghost_name ≡ N.writer }
+    ensures nothing { (result.0.journal ≡ None) × (result.0.refused ≡ false) }
+    ensures fault { (result.0.fault ≡ Some Fault.NoMemory) ⊎ (result.0.fault ≡ Some Fault.NoReader) }
+    ensures unwritten { result.0.fault ≡ Some Fault.NoMemory → W.contents result.1.now ≡ N.start }
+    ensures sent { (broken : Bool) × IsGiven N.start (record {
+      held = W.contents result.1.now;
+      waiting = [];
+      broken = broken;
+    }) (spelled sender.entry.log) }
+{
+    let Abandoned { writer, begun, .. } = sender.abandon();
+    let fault = if begun {
+        Fault::NoReader
+    } else {
+        Fault::NoMemory
+    };
+    (Recorded::nothing(alloc, fault), writer)
 }
 
 // Hands in what no worker took, says goodbye, and closes the board of a session whose workers came back.
 fn finish<'w, L: BoardName, N: WriterName, R: Wait, W: Write, G: Gate, J: Journal + Drop>(
     alloc: Global,
     pool: WorkerPool<'_, 'w, L, N, R, W, G, J>,
-    back: Back<L>,
-    received: Received,
+    back: Back<L, N>,
+    received: Received<N>,
     tolds: Tolds,
-    permit: Share<N>,
 ) -> (Recorded<J>, &'w mut W)
     requires parts { L.workers ≡ L.parts }
     requires mine { (received.put.of ≡ pool.intake) × All (λ end. end.of ≡ pool.intake) back.ends.items }
     requires all { received.put.takers ≤ length back.ends.items }
     requires some { 0 < length back.seats.items }
+    requires pairs { length back.appenders.items ≡ length back.seats.items }
+    requires room { length back.appenders.items < vec_capacity back.appenders }
+    requires each { length back.appenders.items + 1 ≡ N.parts }
     requires whose { map (λ seat. seat.worker) back.seats.items ≡ range_with_len 0 received.put.takers }
-    requires did { HaveDone (λ weight. weight_taken weight back.ends.items) back.seats.items back.refused }
-    requires permit { (permit.parts ≡ N.parts) × (permit.amount ≡ 1) }
+    requires did { HaveDone L.rules (λ weight. weight_taken weight back.ends.items) back.seats.items
+        back.appenders.items back.failures.refused back.failures.lost }
     requires replies { HasRoom L.rules tolds }
     ensures writer { result.1.ghost_name ≡ N.writer }
     ensures legal { IfSome result.0.journal (λ journal. IsLegal L.rules (J.lines journal)) }
-    ensures served { (left left_now : Option (List ℕ))
-        → HasReceived left left_now received.fault received.put.put received.goodbye
-        → IsServedBy (record {
-          left = left;
-          left_now = left_now;
-          held = N.start;
-          held_now = W.contents result.1.now;
-        }) (done_of J.lines result.0) }
+    ensures served { (left left_now : Option (List ℕ)) → HasReceived (record {
+      left = left;
+      left_now = left_now;
+      fault = received.fault;
+      put = received.put.put;
+      goodbye = received.goodbye;
+      sent = record { author = received.put.takers; count = 0; own = [] };
+      sent_now = received.own;
+      lost = received.lost;
+    }) → IsServedBy received.put.takers L.rules (record {
+      left = left;
+      left_now = left_now;
+      held = N.start;
+      held_now = W.contents result.1.now;
+    }) (done_of J.lines result.0) }
     ensures back { IsSome result.0.journal ⊎ (result.0.fault ≡ Some Fault.NoReader) }
-    ensures untold { (left left_now : Option (List ℕ))
-        → HasReceived left left_now received.fault received.put.put received.goodbye
-        → result.0.fault ≡ Some Fault.NoReader → result.0.journal ≡ None }
+    ensures untold { result.0.fault ≡ Some Fault.NoReader → result.0.journal ≡ None }
     ensures memory { received.fault ≢ Some Fault.NoMemory → result.0.fault ≢ Some Fault.NoMemory }
 {
     let WorkerPool {
@@ -240,21 +289,63 @@ fn finish<'w, L: BoardName, N: WriterName, R: Wait, W: Write, G: Gate, J: Journa
     } = pool;
     let Back {
         seats,
+        appenders,
         ends,
-        refused,
+        failures,
     } = back;
     let Received {
         put,
         fault,
         goodbye,
+        own,
+        lost,
     } = received;
     let Ok(left) = intake.finish(rt, put, ends) else {
         unreachable!()
     };
-    let (seats, more) = handed_in(rt, &board, gate, &sender, seats, tolds, left);
-    let (w, broken) = sender.into_inner().close(permit, &goodbye);
-    let told = Fault::told(fault, broken);
-    (close_board(alloc, board, seats, refused | more, told), w)
+    let (seats, appenders, more) = handed_in(
+        rt, &board, gate, &sender, seats, appenders, tolds, left,
+    );
+    let failures = failures.or(more);
+    let sent = say_goodbye(sender.into_inner(), appenders, own, &goodbye);
+    let missing = lost || failures.lost || !sent.whole;
+    let told = Fault::told(fault, sent.broken || missing);
+    let recorded = close_board(alloc, board, seats, failures.refused, told);
+    (recorded, sent.writer)
+}
+
+// Gives the answer to the DESTROY that ended the session to be sent, if one did, and sends all that is collected. The
+// writer comes back, `whole` if that answer was given, and all others by these appenders.
+fn say_goodbye<'w, N: WriterName, W: Write>(
+    sender: SharedSender<'w, W, N>,
+    appenders: Vec<Appender<N, ReplyEntry>>,
+    own: Appender<N, ReplyEntry>,
+    goodbye: &Response,
+) -> Returned<'w, W>
+    requires each { length appenders.items + 1 ≡ N.parts }
+    requires room { length appenders.items < vec_capacity appenders }
+    ensures same { result.writer.ghost_name ≡ N.writer }
+    ensures given { HasSaidGoodbye N.start (record {
+      held = W.contents result.writer.now;
+      waiting = [];
+      broken = result.broken;
+    }) appenders.items own goodbye.now result.whole }
+{
+    let mut sender = sender;
+    let mut own = own;
+    let mut appenders = appenders;
+    let said = matches!(goodbye, Response::Nothing) || sender.collect(&mut own, goodbye);
+    appenders.push_reserved(own);
+    let Returned {
+        writer,
+        broken,
+        whole,
+    } = sender.close(appenders);
+    Returned {
+        writer,
+        broken,
+        whole: whole && said,
+    }
 }
 
 // Why a session has no board.

@@ -11,6 +11,7 @@
 #![tactic(auto)]
 
 mod entry;
+pub mod laws;
 mod receiver;
 mod sender;
 mod worker;
@@ -18,5 +19,5 @@ mod worker;
 pub use entry::{Reply, ReplyEntry};
 pub use fl_desk::{Counter, Gate, OpenGate};
 pub use receiver::{Received, receive_all};
-pub use sender::{Returned, SharedSender, WriterName};
+pub use sender::{Abandoned, Returned, SharedSender, WriterName};
 pub use worker::{Failures, Post, Worked, handle_all, worker_loop};

@@ -67,6 +67,16 @@ pub struct Returned<'a, W> {
     pub whole: bool,
 }
 
+/// A writer that comes back from a session that wasn't served to its end.
+pub struct Abandoned<'a, W> {
+    /// The writer.
+    pub writer: &'a mut W,
+    /// A write failed.
+    pub broken: bool,
+    /// The session had begun.
+    pub begun: bool,
+}
+
 impl<'a, W: Write, N: WriterName> SharedSender<'a, W, N> {
     /// Nothing was sent yet, and the session hasn't begun. Beside it comes what appenders are cut from.
     pub fn new(
@@ -118,6 +128,7 @@ impl<'a, W: Write, N: WriterName> SharedSender<'a, W, N> {
 
     /// Collects a response of the appender's author, to be sent by the next flush or before, and says whether it did.
     /// Before the session begins it collects nothing.
+    #[tactic(auto, using(crate::proofs::SenderLemmas::given_more))]
     pub fn collect(&mut self, own: &mut Appender<N, ReplyEntry>, response: &Response) -> bool
         ensures begun { self.new.begun ≡ self.old.begun }
         ensures logged { result ≡ true
@@ -142,6 +153,7 @@ impl<'a, W: Write, N: WriterName> SharedSender<'a, W, N> {
     }
 
     /// Sends what is collected.
+    #[tactic(auto, using(crate::proofs::SenderLemmas::given_still))]
     pub fn flush(&mut self)
         ensures none { self.new.out.waiting ≡ [] }
         ensures log { self.new.log ≡ self.old.log }
@@ -186,21 +198,32 @@ impl<'a, W: Write, N: WriterName> SharedSender<'a, W, N> {
         }
     }
 
-    /// Gives the writer back, and says whether the session had begun. If it hadn't, the writer holds what it held at
-    /// the start.
-    pub fn abandon(self) -> (&'a mut W, bool)
-        ensures same { result.0.ghost_name ≡ N.writer }
-        ensures begun { result.1 ≡ self.entry.begun }
-        ensures unbegun { result.1 ≡ false → W.contents result.0.now ≡ N.start }
+    /// Sends what is collected, and gives the writer back with no word on who gave what. If the session hadn't begun,
+    /// the writer holds what it held at the start.
+    pub fn abandon(self) -> Abandoned<'a, W>
+        ensures same { result.writer.ghost_name ≡ N.writer }
+        ensures given { IsGiven N.start (record {
+          held = W.contents result.writer.now;
+          waiting = [];
+          broken = result.broken;
+        }) (spelled self.entry.log) }
+        ensures begun { result.begun ≡ self.entry.begun }
+        ensures unbegun { result.begun ≡ false → W.contents result.writer.now ≡ N.start }
     {
+        let mut sender = self;
+        sender.flush();
         let SharedSender {
             batch,
             begun,
             log: _,
-        } = self;
+        } = sender;
         let ReplyBatch { replies, out } = batch;
         drop(replies);
-        let (writer, _) = out.into_parts();
-        (writer, begun)
+        let (writer, broken) = out.into_parts();
+        Abandoned {
+            writer,
+            broken,
+            begun,
+        }
     }
 }

@@ -1,10 +1,11 @@
 -- The result of asks, one after another.
-use Rattle.std.specs.Prelude.{◌≢◌, ◌≤◌, List, [], ◌∷◌, ◌++◌}
-use Rattle.std.specs.List.{AllPairs}
+use Rattle.std.specs.Prelude.{◌≤◌, List, [], ◌∷◌, ◌++◌, length}
 use mathlib.Core.List.{IsPrefix}
-use Rattle.fl_board.specs.Seats.{Place, orders_by}
+use Rattle.fl_board.specs.Refused.{BeginsWith}
+use Rattle.fl_board.specs.Seats.{Place}
 use Rattle.fl_core.specs.State.{Snapshot, opening, snapshot_of}
 use Rattle.fl_core.specs.Step.{replies}
+use Rattle.fl_desk.specs.Answered.{answered_by}
 use Rattle.fl_desk.specs.Legal.{step_lines}
 use Rattle.fl_history.specs.declared.history.Line.{Line}
 use Rattle.fl_replica.specs.declared.ask.Ask.{Ask}
@@ -23,12 +24,9 @@ lines_from p (ask ∷ asks) = lines_in p ask ++ lines_from (stepped p ask) asks
 abbrev pub history_of : Rules → List Ask → List Line
 history_of rules asks = lines_from (snapshot_of (opening rules)) asks
 
--- the lines begin with all that the worker handed in and was shown, and have as many orders of it at least
+-- the lines begin with all that the worker handed in, each order with all its replies, and was shown; and have as many
+-- orders of it at least
 pub record HasMostOf (lines : List Line) (place : Place) : Type 0 where
-  pub had : IsPrefix place.own lines
-  pub saw : IsPrefix place.seen lines
-  pub count : place.count ≤ orders_by place.worker lines
-
--- no two are of one worker
-abbrev pub AreApart : List Place → Type 0
-AreApart places = AllPairs (λ (a b : Place). a.worker ≢ b.worker) places
+  pub begins : BeginsWith lines place
+  pub answered : IsPrefix (answered_by place.worker place.own) (answered_by place.worker lines)
+  pub count : place.count ≤ length (answered_by place.worker lines)

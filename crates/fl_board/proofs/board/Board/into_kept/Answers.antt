@@ -1,21 +1,39 @@
-use Rattle.std.proofs.Common.{◌≡◌, ◌∙◌, sym, subst, All, refl, inr, sum_by, List}
-use Rattle.fl_board.specs.Inside.Asks.{AreApart, HasMostOf, history_of}
-use Rattle.fl_board.specs.Seats.{Place}
+use Rattle.std.proofs.Common.{◌≡◌, ◌∙◌, sym, subst, All, refl, inl, inr, sum_by, List}
+use Rattle.fl_board.specs.Inside.Asks.{HasMostOf, history_of}
+use Rattle.fl_board.specs.Refused.{BeginsWith}
+use Rattle.fl_board.specs.Seats.{AreApart, Place}
 use Rattle.fl_board.proofs.Counts.{has_all}
 use Rattle.fl_desk.specs.Legal.{orders_asked}
 use Rattle.fl_history.specs.declared.history.Line.{Line}
+use Rattle.fl_board.proofs.board.Board.into_kept.Goals.{then-not-begins_with-via-then-not-begins_with, then-not-begins_with-via-else-not-begins_with+then-not-are_apart}
 use Rattle.fl_board.proofs.board.Board.into_kept.Goals as goal
 
 pub returns-then-not-begins_with-clause-back : goal.returns-then-not-begins_with-clause-back
-returns-then-not-begins_with-clause-back g c = inr (_, refl)
+returns-then-not-begins_with-clause-back g c =
+    let ours = g.L.BoardName.rules in
+    let all = c.into_inner-shared.result in
+    inr (
+      _,
+      refl,
+      elim c.then-not-begins_with.branch [
+        | then-not-begins_with-via-then-not-begins_with w ↦
+            inl (record {
+              lines = history_of ours all;
+              legal = c.asks_lead.ensures.legal ours all;
+              short = λ begins. cc (w.if-not-begins_with.ensures.begins.1 (subst (All (BeginsWith (history_of ours all))) (sym c.deref.ensures.value) begins));
+            })
+        | then-not-begins_with-via-else-not-begins_with+then-not-are_apart w ↦
+            inr (λ apart. cc ((w.if-not-are_apart.ensures).1 (subst AreApart (sym w.deref-else-not-begins_with.ensures.value) apart)))
+      ],
+    )
 
 pub returns-clause-each : goal.returns-clause-each
 returns-clause-each g c =
     let seats = c.args.seats.items in
-    let apart : AreApart seats = subst AreApart c.deref-else-not-begins_with.ensures.value (c.if-not-are_apart.ensures refl) in
+    let apart : AreApart seats = subst AreApart c.deref-else-not-begins_with.ensures.value ((c.if-not-are_apart.ensures).0 refl) in
     let most : All (λ (p : Place). HasMostOf (history_of g.L.BoardName.rules c.into_inner-shared.result) p) seats =
     subst (λ (l : List Place). All (λ (p : Place). HasMostOf (history_of g.L.BoardName.rules c.into_inner-shared.result) p) l) c.deref.ensures.value
-    (c.if-not-begins_with.ensures refl) in
+    (c.if-not-begins_with.ensures.most refl) in
     let kept = g.J.Journal.lines c.into_kept.result in
     let history = c.into_kept.ensures in
     let total : orders_asked kept ≡ sum_by (λ (p : Place). p.count) seats = history.counted ∙ c.in-Some.ensures.amount in

@@ -1,8 +1,8 @@
-use Rattle.std.proofs.Common.{◌≡◌, ap}
+use Rattle.std.proofs.Common.{ap}
 use Rattle.std.specs.Prelude.{Result, Ok, Err, OnOk, OnErr}
-use Rattle.fl_board.proofs.AskedLemmas.{handed_in_last}
+use Rattle.fl_board.proofs.Answering.{handed_in_last}
 use Rattle.fl_board.specs.Seats.{Place}
-use Rattle.fl_desk.specs.Asked.{asked_by}
+use Rattle.fl_desk.specs.Answered.{answered_by}
 use Rattle.fl_board.proofs.counter.BoardCounter.hand_in.Goals as goal
 
 on_ok : {A B : Type 0} {P Q : Type 0} (result : Result A B) → OnOk result P → (P → Q) → OnOk result Q
@@ -19,4 +19,4 @@ returns-clause-taken g c = on_ok c.hand_in.result c.hand_in.ensures.handed
 
 pub returns-clause-refused : goal.returns-clause-refused
 returns-clause-refused g c = on_err c.hand_in.result c.hand_in.ensures.refused
-    (λ same. (ap (λ (p : Place). p.count) same.0, ap (λ (p : Place). asked_by p.worker p.own) same.0, same.1))
+    (λ same. (ap (λ (p : Place). p.count) same.0, ap (λ (p : Place). answered_by p.worker p.own) same.0, same.1))

@@ -1,16 +1,45 @@
-use Rattle.std.proofs.Common.{◌≤◌, arith, refl}
+use Rattle.std.proofs.Common.{◌≤◌, arith, refl, length}
 use mathlib.Core.List.{IsPrefix}
-use Rattle.fl_board.proofs.Counts.{more_by}
-use Rattle.fl_board.proofs.Histories.{history_begins}
+use Rattle.fl_board.proofs.Answering.{answered_begins}
+use Rattle.fl_board.proofs.Counts.{no_longer}
+use Rattle.fl_board.proofs.Histories.{asks_begin, history_begins}
 use Rattle.fl_board.specs.Inside.Asks.{history_of}
-use Rattle.fl_board.specs.Seats.{orders_by}
+use Rattle.fl_desk.specs.Answered.{answered_by}
 use Rattle.fl_board.proofs.seat.Seat.begins.Goals as goal
 
-pub returns-then-begins : goal.returns-then-begins
-returns-then-begins g c = λ t.
+pub returns-then-begins-clause-begins : goal.returns-then-begins-clause-begins
+returns-then-begins-clause-begins g c =
     let ours = g.L.BoardName.rules in
+    rw (← c.self.view_is) (
+      λ t. record {
+        had = history_begins ours _ _ (c.if-begins.ensures.begins.0 refl);
+        saw = history_begins ours _ _ (c.begins-then-begins.ensures.begins.0 t);
+      },
+      λ all. c.begins-then-begins.ensures.begins.1 (asks_begin ours _ _ all.saw),
+    )
+
+pub returns-then-begins-clause-most : goal.returns-then-begins-clause-most
+returns-then-begins-clause-most g c = λ t.
+    let ours = g.L.BoardName.rules in
+    let worker = c.self.inside.worker in
     let own : IsPrefix c.self.inside.own c.args.asks.now = c.if-begins.ensures.begins.0 refl in
-    let seen : IsPrefix c.self.inside.seen c.args.asks.now = c.begins-then-begins.ensures.begins.0 t in
-    let more = more_by c.self.inside.worker _ _ (history_begins ours _ _ own) in
-    let count : c.self.inside.share.amount ≤ orders_by c.self.inside.worker (history_of ours c.args.asks.now) = omega (arith, c.self.invariant.1, more) in
-    rw (← c.self.view_is) (record { had = history_begins ours _ _ own; saw = history_begins ours _ _ seen; count = count })
+    let answered = answered_begins ours worker _ _ own in
+    let more = no_longer _ _ answered in
+    let count : c.self.inside.share.amount ≤ length (answered_by worker (history_of ours c.args.asks.now)) =
+    omega (arith, c.self.invariant.1, more) in
+    rw (← c.self.view_is) (record {
+      begins = record {
+        had = history_begins ours _ _ own;
+        saw = history_begins ours _ _ (c.begins-then-begins.ensures.begins.0 t);
+      };
+      answered = answered;
+      count = count;
+    })
+
+pub returns-else-begins-clause-begins : goal.returns-else-begins-clause-begins
+returns-else-begins-clause-begins g c =
+    let ours = g.L.BoardName.rules in
+    rw (← c.self.view_is) (
+      λ t. absurd (cc (t, c.if-begins.false)),
+      λ all. c.begins.ensures.begins.1 (asks_begin ours _ _ all.had),
+    )

@@ -10,11 +10,14 @@ returns-clause-shown g c =
     let ours = g.L.BoardName.rules in
     let shown = c.in-Some.shown in
     let leads = c.asks_lead.ensures in
-    let most = c.if-not-begins.ensures refl in
+    let most = c.if-not-begins.ensures.most refl in
     let told : replies (present_after ours shown) c.args.order.now ≡ own_replies c.args.order.now (Some c.in-Some.answer) = search rules in
     rw (← c.self.view_is) (record {
-      legal = leads.legal ours shown;
-      had = most.had;
-      saw = most.saw;
-      answer = ap (λ (p : Snapshot). replies p c.args.order.now) (sym (leads.stands ours shown)) ∙ told;
+      had = (most.begins).had;
+      answered = most.answered;
+      saw = (most.begins).saw;
+      answer = record {
+        legal = leads.legal ours shown;
+        answer = ap (λ (p : Snapshot). replies p c.args.order.now) (sym (leads.stands ours shown)) ∙ told;
+      };
     })

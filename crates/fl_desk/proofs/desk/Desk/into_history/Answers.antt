@@ -1,9 +1,10 @@
 use Rattle.std.proofs.Common.{◌∙◌, sym, subst}
-use Rattle.fl_desk.specs.Legal.{IsLegal}
+use Rattle.fl_desk.specs.Legal.{IsLegal, LeavesLawful}
 use Rattle.fl_desk.proofs.desk.Desk.into_history.Goals as goal
 
 pub returns : goal.returns
 returns c = record {
   lines = c.of.ensures ∙ c.into_kept-kept.ensures.lines;
   legal = subst (IsLegal c.args.self.present.rules) (sym c.of.ensures) c.into_kept-kept.ensures.legal;
+  lawful = subst (LeavesLawful c.args.self.present.rules) (sym c.of.ensures) c.into_kept-kept.ensures.lawful;
 }

@@ -1,0 +1,31 @@
+-- Why a board refuses, if it isn't for memory.
+use Rattle.std.specs.Prelude.{◌⊎◌, ◌^◌, ◌≤◌, ◌<◌, All, List, [], ◌∷◌}
+use mathlib.Core.List.{IsPrefix}
+use Rattle.fl_board.specs.Seats.{AreApart, Place}
+use Rattle.fl_desk.specs.Legal.{IsLegal, orders_asked}
+use Rattle.fl_history.specs.declared.history.Line.{Line}
+use Rattle.fl_waiting.specs.declared.rules.Rules.{Rules}
+
+-- the history begins with all that the worker handed in and was shown
+pub record BeginsWith (lines : List Line) (place : Place) : Type 0 where
+  pub had : IsPrefix place.own lines
+  pub saw : IsPrefix place.seen lines
+
+-- A history that is legal under these rules doesn't begin with all that one of these workers handed in and was shown.
+pub record FallsShort (rules : Rules) (places : List Place) : Type 0 where
+  pub lines : List Line
+  pub legal : IsLegal rules lines
+  pub short : All (BeginsWith lines) places → ⊥
+
+-- A history that is legal under these rules falls short of what the worker handed in and was shown; or has 2^62 orders;
+-- or isn't all that was logged, since another legal history begins with it and has more orders.
+pub data CantHandIn (rules : Rules) (place : Place) : Type 0 where
+  short : FallsShort rules (place ∷ []) → CantHandIn rules place
+  full : (lines : List Line) → IsLegal rules lines → 2 ^ 62 ≤ orders_asked lines → CantHandIn rules place
+  behind : (lines logged : List Line) → IsLegal rules lines → IsLegal rules logged → IsPrefix lines logged
+      → orders_asked lines < orders_asked logged → CantHandIn rules place
+
+-- A history that is legal under these rules falls short of what these workers handed in and were shown, or two places
+-- are of one worker.
+abbrev pub CantClose : Rules → List Place → Type 0
+CantClose rules places = FallsShort rules places ⊎ (AreApart places → ⊥)
