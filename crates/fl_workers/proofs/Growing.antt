@@ -28,8 +28,8 @@ module _ {A : Type 0} where
   }
 
   -- one came last
-  pub one_more : (had before now : List A) (count count_now : ℕ) (it : A) → IsPrefix had before → now ≡ before ++ it ∷ []
-      → count_now ≡ count + 1 → Grows had now count count_now (it ∷ [])
+  pub one_more : (had before now : List A) (count count_now : ℕ) (it : A) → IsPrefix had before
+      → now ≡ before ++ it ∷ [] → count_now ≡ count + 1 → Grows had now count count_now (it ∷ [])
   one_more had before now count count_now it begins is more = record {
     counted = more;
     among = λ some among. rw is (sublist.append (among_more some had before begins among) (sublist.refl (it ∷ [])));
@@ -48,8 +48,10 @@ module _ {E : Type 0} (author_of : E → ℕ) where
   by_more : (author : ℕ) (xs ys : List E)
       → entries_by author_of author (xs ++ ys) ≡ entries_by author_of author xs ++ entries_by author_of author ys
   by_more author [] ys = refl
-  by_more author (x ∷ xs) ys = ap (λ l. entry_by author_of author x ++ l) (by_more author xs ys)
-      ∙ sym (append_assoc (entry_by author_of author x) (entries_by author_of author xs) (entries_by author_of author ys))
+  by_more author (x ∷ xs) ys =
+      let first = entry_by author_of author x in
+      ap (λ l. first ++ l) (by_more author xs ys)
+      ∙ sym (append_assoc first (entries_by author_of author xs) (entries_by author_of author ys))
 
   by_begins : (author : ℕ) (xs ys : List E) → IsPrefix xs ys
       → IsPrefix (entries_by author_of author xs) (entries_by author_of author ys)
