@@ -1,9 +1,12 @@
--- What the receiver of a session with workers received.
+-- What the receiver of a session with workers received, and what it answered.
 use Rattle.std.proofs.Common.{◌≡◌, ℕ, suc, ◌+◌, ◌≤◌, length, take, take-suc, arith, Bool, true, false, List, [], ◌∷◌}
-use Rattle.std.proofs.Common.{◌++◌, Option, refl, sym, ap, subst, ◌∙◌, append_assoc, append-nil}
+use Rattle.std.proofs.Common.{◌++◌, Option, refl, sym, ap, subst, ◌∙◌, append_assoc, append-nil, map}
 use Rattle.std.specs.Prelude.{Some, fold, if◌then◌else◌, slice_get}
 use Rattle.std.proofs.lemmas.Grind.{fold-append}
+use Rattle.std.proofs.lemmas.List.{map-append}
 use Rattle.std.proofs.lemmas.Option.{get_or_from_slice_get, slice_get_within}
+use Rattle.fl_log.specs.Appended.{Appended, IsAppended}
+use Rattle.fl_log.specs.Growing.{Grows}
 use Rattle.fl_order.specs.declared.order.Order.{Order}
 use Rattle.fl_transport.specs.Ending.{IsEnding}
 use Rattle.fl_transport.specs.Handshake.{advanced, handshake_of, incoming_of, opening}
@@ -16,8 +19,12 @@ use Rattle.fl_transport.specs.declared.handshake.Incoming.{Incoming}
 use Rattle.fl_transport.specs.declared.handshake.Incoming.TheVariants as incoming
 use Rattle.fl_transport.specs.declared.response.Response.{Response}
 use Rattle.fl_transport.specs.declared.response.Response.TheVariants.{Nothing}
-use Rattle.fl_workers.specs.Inside.Receiving.{IsReceiving}
-use Rattle.fl_workers.specs.Received.{HasReceived}
+use Rattle.fl_workers.proofs.Growing.{appended_more, none_more, then_more}
+use Rattle.fl_workers.specs.Inside.Receiving.{AreAnswered, HasGiven, IsReceiving, given_now, so_far}
+use Rattle.fl_workers.specs.Received.{HasReceived, Reception, answer_by, left_to_answer}
+use Rattle.fl_workers.specs.Received.{own_answer_in, own_answer_to, own_answers, own_answers_from}
+use Rattle.fl_workers.specs.Sent.{entries_of, entry, replies_of}
+use Rattle.fl_workers.specs.declared.entry.ReplyEntry.{ReplyEntry}
 
 -- the orders of what a message is, by another name of it, are put
 pub puts_as : (one it : Incoming) (put put_now : List Order) → one ≡ it → put_now ≡ put ++ orders_in one
@@ -32,12 +39,13 @@ puts_none it response put is = sym (ap (λ i. put ++ orders_in i) is ∙ append-
 -- the order at this place of a batch is put behind those before it
 pub put_more : (put put_now put_next orders : List Order) (i : ℕ) (order : Order) → slice_get orders i ≡ Some order
     → put_now ≡ put ++ take i orders → put_next ≡ put_now ++ order ∷ [] → put_next ≡ put ++ take (i + 1) orders
-put_more put put_now put_next orders i order at so_far one =
+put_more put put_now put_next orders i order at put_so_far one =
     let next : i + 1 ≡ suc i = omega arith in
     let more : take (i + 1) orders ≡ take i orders ++ order ∷ [] =
     ap (λ n. take n orders) next ∙ take-suc orders i order (slice_get_within orders i order at)
     ∙ ap (λ first. take i orders ++ first ∷ []) (get_or_from_slice_get orders i order order at) in
-    one ∙ ap (λ l. l ++ order ∷ []) so_far ∙ append_assoc put (take i orders) (order ∷ []) ∙ ap (λ l. put ++ l) (sym more)
+    one ∙ ap (λ l. l ++ order ∷ []) put_so_far ∙ append_assoc put (take i orders) (order ∷ [])
+    ∙ ap (λ l. put ++ l) (sym more)
 
 said_more : (handshake : Handshake) (xs ys : List (List ℕ))
     → said_from handshake (xs ++ ys) ≡ said_from handshake xs ++ said_from (fold advanced handshake xs) ys
@@ -56,58 +64,180 @@ said_last messages message handshake far live =
     ∙ ap (λ h. orders_said h message) (sym far)
     ∙ ap (λ over. if over then [] else orders_in (incoming_of handshake message)) live)
 
+-- ---- what was answered
+
+-- an order, or orders of a batch, and the appender stays as it is
+pub gives_none : (sent sent_now : Appended ReplyEntry) (lost lost_now : Bool) → sent_now ≡ sent → lost_now ≡ lost
+    → HasGiven sent sent_now lost lost_now []
+gives_none sent sent_now lost lost_now same still = rw (same, still) (record {
+  author = refl;
+  whole = λ none. none;
+  given = λ none. none_more (entries_of sent.author sent.own) sent.count;
+})
+
+-- one answer is given
+pub gives_one : (sent sent_now : Appended ReplyEntry) (lost lost_now : Bool) (response : Response)
+    → sent_now.author ≡ sent.author → (lost_now ≡ false → lost ≡ false)
+    → (lost_now ≡ false → IsAppended sent (entry sent.author (replies_of response)) sent_now)
+    → HasGiven sent sent_now lost lost_now (response ∷ [])
+gives_one sent sent_now lost lost_now response author still given = record {
+  author = author;
+  whole = still;
+  given = λ none. appended_more (λ (e : ReplyEntry). e.author) sent sent_now (answer_by sent.author response) refl
+      (given none);
+}
+
+-- a message that is an order, or a batch of them, gives no answer, whether the session is over or not
+pub order_gives_none : (sent sent_now : Appended ReplyEntry) (lost lost_now over : Bool) (it one : Incoming) → one ≡ it
+    → own_answer_in one ≡ [] → sent_now ≡ sent → lost_now ≡ lost
+    → HasGiven sent sent_now lost lost_now (given_now over (own_answer_in it))
+order_gives_none sent sent_now lost lost_now over it one is none same still =
+    subst (HasGiven sent sent_now lost lost_now) (sym (ap (λ i. given_now over (own_answer_in i)) (sym is)
+    ∙ ap (given_now over) none ∙ given_none over)) (gives_none sent sent_now lost lost_now same still)
+  where
+    given_none : (over : Bool) → given_now over [] ≡ []
+    given_none true = refl
+    given_none false = refl
+
+-- the answer to a DESTROY isn't given yet
+pub goodbye_gives_none : (sent : Appended ReplyEntry) (lost over : Bool) (answers : List Response) → over ≡ true
+    → HasGiven sent sent lost lost (given_now over answers)
+goodbye_gives_none sent lost over answers ends = rw ends (gives_none sent sent lost lost refl refl)
+
+-- another message is answered
+pub message_gives_one : (sent sent_now : Appended ReplyEntry) (lost lost_now over : Bool) (it : Incoming)
+    (response : Response) → over ≡ false → it ≡ incoming.Response response
+    → HasGiven sent sent_now lost lost_now (response ∷ [])
+    → HasGiven sent sent_now lost lost_now (given_now over (own_answer_in it))
+message_gives_one sent sent_now lost lost_now over it response live is given =
+    rw live (subst (HasGiven sent sent_now lost lost_now) (sym (ap own_answer_in is)) given)
+
+-- some are given, and then some more
+gives_more : (a b c : Appended ReplyEntry) (k m n : Bool) (xs ys : List Response) → HasGiven a b k m xs
+    → HasGiven b c m n ys → HasGiven a c k n (xs ++ ys)
+gives_more a b c k m n xs ys first second = record {
+  author = second.author ∙ first.author;
+  whole = λ none. first.whole (second.whole none);
+  given = λ none.
+      let P : ℕ → Type 0 = λ author. Grows (entries_of author b.own) (entries_of author c.own) b.count c.count
+      (map (answer_by author) ys) in
+      subst (Grows (entries_of a.author a.own) (entries_of a.author c.own) a.count c.count)
+      (sym (map-append (answer_by a.author) xs ys))
+      (then_more (entries_of a.author a.own) (entries_of a.author b.own) (entries_of a.author c.own) a.count b.count
+      c.count (map (answer_by a.author) xs) (map (answer_by a.author) ys) (first.given (second.whole none))
+      (subst P first.author (second.given none)));
+}
+
+answers_more : (handshake : Handshake) (xs ys : List (List ℕ)) → own_answers_from handshake (xs ++ ys)
+    ≡ own_answers_from handshake xs ++ own_answers_from (fold advanced handshake xs) ys
+answers_more handshake [] ys = refl
+answers_more handshake (x ∷ xs) ys =
+    ap (λ l. own_answer_to handshake x ++ l) (answers_more (advanced handshake x) xs ys)
+    ∙ sym (append_assoc (own_answer_to handshake x) (own_answers_from (advanced handshake x) xs)
+    (own_answers_from (fold advanced (advanced handshake x) xs) ys))
+
+-- the last message comes to a session that isn't over, and that is this far
+answers_last : (messages : List (List ℕ)) (message : List ℕ) (handshake : Handshake) → handshake ≡ handshake_of messages
+    → handshake.over ≡ false
+    → own_answers (messages ++ message ∷ []) ≡ own_answers messages ++ own_answer_in (incoming_of handshake message)
+answers_last messages message handshake far live =
+    answers_more opening messages (message ∷ [])
+    ∙ ap (λ l. own_answers messages ++ l) (append-nil (own_answer_to (handshake_of messages) message)
+    ∙ ap (λ h. own_answer_to h message) (sym far)
+    ∙ ap (λ over. if over then [] else own_answer_in (incoming_of handshake message)) live)
+
+-- what is given at once and what is left are all
+all_answers : (over : Bool) (answers : List Response) (goodbye : Response) → (over ≡ true → answers ≡ goodbye ∷ [])
+    → answers ≡ given_now over answers ++ left_to_answer over goodbye
+all_answers true answers goodbye left = left refl
+all_answers false answers goodbye left = sym (append-nil answers)
+
+-- a message more is answered, or left to be answered
+answered_more : (it now : Reception) (old_over over : Bool) (messages : List (List ℕ)) (message : List ℕ)
+    (answers : List Response) → old_over ≡ false
+    → own_answers (messages ++ message ∷ []) ≡ own_answers messages ++ answers
+    → (over ≡ true → answers ≡ now.goodbye ∷ []) → now.sent ≡ it.sent
+    → HasGiven it.sent_now now.sent_now it.lost now.lost (given_now over answers)
+    → AreAnswered it old_over messages → AreAnswered now over (messages ++ message ∷ [])
+answered_more it now old_over over messages message answers live all left same given before =
+    let given_before : own_answers messages ≡ before.answered =
+    before.own ∙ ap (λ o. before.answered ++ left_to_answer o it.goodbye) live ∙ append-nil before.answered in
+    record {
+      answered = before.answered ++ given_now over answers;
+      own = all ∙ ap (λ l. l ++ answers) given_before
+          ∙ ap (λ l. before.answered ++ l) (all_answers over answers now.goodbye left)
+          ∙ sym (append_assoc before.answered (given_now over answers) (left_to_answer over now.goodbye));
+      sent = rw same (gives_more it.sent it.sent_now now.sent_now false it.lost now.lost before.answered
+          (given_now over answers) before.sent given);
+    }
+
+-- ---- what is received so far
+
 -- nothing is received yet
 pub receiving_first : (left : Option (List ℕ)) (handshake : Handshake) (put : List Order) (goodbye : Response)
-    (inbox : Inflow) → handshake ≡ opening → put ≡ [] → goodbye ≡ Nothing → IsUnread inbox
-    → IsReceiving left left handshake put goodbye inbox.rest
-receiving_first left handshake put goodbye inbox fresh none unanswered unread = record {
+    (sent : Appended ReplyEntry) (lost : Bool) (inbox : Inflow) → handshake ≡ opening → put ≡ [] → goodbye ≡ Nothing
+    → lost ≡ false → IsUnread inbox
+    → IsReceiving (so_far left left put goodbye sent sent lost) handshake inbox.rest
+receiving_first left handshake put goodbye sent lost inbox fresh none unanswered whole unread = record {
   messages = [];
   is_read = unread.unread left;
   far = fresh;
   said = none;
   over = λ over. cc;
   live = λ live. unanswered;
+  own = record {
+    answered = [];
+    own = sym (ap (λ h. left_to_answer h.over goodbye) fresh);
+    sent = gives_none sent sent false lost refl whole;
+  };
 }
 
 -- one message more is received
-pub receiving_more : (left left_now : Option (List ℕ)) (old new : Handshake) (put put_now : List Order)
-    (goodbye goodbye_now : Response) (message rest rest_now : List ℕ)
+pub receiving_more : (it now : Reception) (old new : Handshake) (message rest rest_now : List ℕ)
+    → IsReceiving it old rest → now.left ≡ it.left → now.left_now ≡ it.left_now → now.sent ≡ it.sent
     → old.over ≡ false → Takes message rest rest_now → new ≡ advanced old message
-    → put_now ≡ put ++ orders_in (incoming_of old message)
-    → (new.over ≡ true → goodbye_now ≡ goodbye_to message) → (new.over ≡ false → goodbye_now ≡ goodbye)
-    → IsReceiving left left_now old put goodbye rest → IsReceiving left left_now new put_now goodbye_now rest_now
-receiving_more left left_now old new put put_now goodbye goodbye_now message rest rest_now live takes there puts ends stays
-    before = record {
+    → now.put ≡ it.put ++ orders_in (incoming_of old message)
+    → (new.over ≡ true → now.goodbye ≡ goodbye_to message) → (new.over ≡ false → now.goodbye ≡ it.goodbye)
+    → (new.over ≡ true → own_answer_in (incoming_of old message) ≡ now.goodbye ∷ [])
+    → HasGiven it.sent_now now.sent_now it.lost now.lost (given_now new.over (own_answer_in (incoming_of old message)))
+    → IsReceiving now new rest_now
+receiving_more it now old new message rest rest_now before from to same live takes there puts ends stays left given =
+    record {
       messages = before.messages ++ message ∷ [];
-      is_read = takes.onward left left_now before.messages (sym (ap (λ h. h.over) before.far) ∙ live) before.is_read;
+      is_read = rw (from, to) (takes.onward it.left it.left_now before.messages
+          (sym (ap (λ h. h.over) before.far) ∙ live) before.is_read);
       far = there ∙ ap (λ h. advanced h message) before.far
           ∙ sym (fold-append advanced opening before.messages (message ∷ []));
       said = puts ∙ ap (λ l. l ++ orders_in (incoming_of old message)) before.said
           ∙ sym (said_last before.messages message old before.far live);
       over = λ over. record { front = before.messages; last = message; parts = refl; answer = ends over };
       live = λ still. stays still ∙ before.live live;
+      own = answered_more it now old.over new.over before.messages message (own_answer_in (incoming_of old message))
+          live (answers_last before.messages message old before.far live) left same given before.own;
     }
 
 -- more is read, or nothing
-pub receiving_read : (left before now : Option (List ℕ)) (handshake : Handshake) (put : List Order) (goodbye : Response)
-    (rest rest_now : List ℕ) → ReadsOn before now rest rest_now → IsReceiving left before handshake put goodbye rest
-    → IsReceiving left now handshake put goodbye rest_now
-receiving_read left before now handshake put goodbye rest rest_now read receiving = record {
+pub receiving_read : (it : Reception) (now : Option (List ℕ)) (handshake : Handshake) (rest rest_now : List ℕ)
+    → IsReceiving it handshake rest → ReadsOn it.left_now now rest rest_now
+    → IsReceiving (record it { left_now = now }) handshake rest_now
+receiving_read it now handshake rest rest_now receiving read = record {
   messages = receiving.messages;
-  is_read = read.onward left receiving.messages receiving.is_read;
+  is_read = read.onward it.left receiving.messages receiving.is_read;
   far = receiving.far;
   said = receiving.said;
   over = receiving.over;
   live = receiving.live;
+  own = record { answered = receiving.own.answered; own = receiving.own.own; sent = receiving.own.sent };
 }
 
 -- the receiver ends
-pub receiving_ends : (left left_now : Option (List ℕ)) (handshake : Handshake) (put : List Order) (goodbye : Response)
-    (rest : List ℕ) (fault : Option Fault) → length rest ≤ 8192 → IsEnding fault handshake.over rest left_now
-    → IsReceiving left left_now handshake put goodbye rest → HasReceived left left_now fault put goodbye
-receiving_ends left left_now handshake put goodbye rest fault bounded ending receiving =
-    let P : Bool → Type 0 = λ over. IsEnding fault over rest left_now in
+pub receiving_ends : (it : Reception) (handshake : Handshake) (rest : List ℕ) (fault : Option Fault)
+    → IsReceiving it handshake rest → length rest ≤ 8192 → IsEnding fault handshake.over rest it.left_now
+    → HasReceived (record it { fault = fault })
+receiving_ends it handshake rest fault receiving bounded ending =
+    let P : Bool → Type 0 = λ over. IsEnding fault over rest it.left_now in
     let far = ap (λ h. h.over) receiving.far in
+    let own = receiving.own in
     record {
       messages = receiving.messages;
       rest = rest;
@@ -117,4 +247,8 @@ receiving_ends left left_now handshake put goodbye rest fault bounded ending rec
       said = receiving.said;
       over = λ over. receiving.over (far ∙ over);
       live = λ live. receiving.live (far ∙ live);
+      answered = own.answered;
+      own = own.own ∙ ap (λ over. own.answered ++ left_to_answer over it.goodbye) far;
+      author = own.sent.author;
+      given = own.sent.given;
     }

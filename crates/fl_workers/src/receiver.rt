@@ -1,11 +1,12 @@
 //! How the receiver of a session with workers reads its stream.
 
-ghost use Rattle.std.specs.Prelude.{◌≡◌, ◌≢◌, ◌++◌, ◌∷◌, ◌||◌, [], Some, not, true, false};
+ghost use Rattle.std.specs.Prelude.{◌≡◌, ◌≢◌, ◌++◌, ◌∷◌, [], Some, true, false};
 ghost use Rattle.fl_log.specs.Appended.{IsAppended};
 ghost use Rattle.fl_transport.specs.Handshake.{advanced, incoming_of, opening};
 ghost use Rattle.fl_transport.specs.Inbox.{IsUnread};
 ghost use Rattle.fl_transport.specs.Response.{goodbye_to};
 ghost use Rattle.fl_transport.specs.Said.{orders_in};
+ghost use Rattle.fl_workers.specs.Inside.Receiving.{HasGiven, given_now};
 ghost use Rattle.fl_workers.specs.Received.{HasReceived, own_answer_in};
 ghost use Rattle.fl_workers.specs.Sent.{entry, replies_of};
 
@@ -181,6 +182,10 @@ impl<'r, 'a, 'w, R: Wait, W: Write, N: WriterName> Receiver<'r, 'a, 'w, R, W, N>
         ensures put { self.new.put.put ≡ self.old.put.put ++ orders_in (incoming_of self.old.handshake frame.now) }
         ensures ends { self.new.handshake.over ≡ true → self.new.goodbye ≡ goodbye_to frame.now }
         ensures live { self.new.handshake.over ≡ false → self.new.goodbye ≡ self.old.goodbye }
+        ensures left { self.new.handshake.over ≡ true
+            → own_answer_in (incoming_of self.old.handshake frame.now) ≡ self.new.goodbye ∷ [] }
+        ensures given { HasGiven self.old.own self.new.own self.old.lost self.new.lost
+            (given_now self.new.handshake.over (own_answer_in (incoming_of self.old.handshake frame.now))) }
     {
         match self.handshake.receive(frame) {
             Incoming::Order(order) => self.put(order),
@@ -196,6 +201,7 @@ impl<'r, 'a, 'w, R: Wait, W: Write, N: WriterName> Receiver<'r, 'a, 'w, R, W, N>
         ensures handshake { self.new.handshake ≡ self.old.handshake }
         ensures goodbye { self.new.goodbye ≡ self.old.goodbye }
         ensures put { self.new.put.put ≡ self.old.put.put ++ orders.now }
+        ensures own { (self.new.own ≡ self.old.own) × (self.new.lost ≡ self.old.lost) }
     {
         for i in 0..orders.count() {
             self.put(orders.order(i));
@@ -208,6 +214,7 @@ impl<'r, 'a, 'w, R: Wait, W: Write, N: WriterName> Receiver<'r, 'a, 'w, R, W, N>
         ensures handshake { self.new.handshake ≡ self.old.handshake }
         ensures goodbye { self.new.goodbye ≡ self.old.goodbye }
         ensures put { self.new.put.put ≡ self.old.put.put ++ order ∷ [] }
+        ensures own { (self.new.own ≡ self.old.own) × (self.new.lost ≡ self.old.lost) }
     {
         let Ok(()) = self.intake.put(self.rt, &mut self.put, order) else {
             unreachable!()

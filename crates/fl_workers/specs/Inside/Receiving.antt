@@ -1,6 +1,8 @@
 -- The receiver of a session with workers, while it is under way.
-use Rattle.std.specs.Prelude.{◌≡◌, ℕ, true, false, List, ◌++◌, map}
+use Rattle.std.specs.Prelude.{◌≡◌, ℕ, Bool, true, false, List, [], ◌++◌, map, Option, None, if◌then◌else◌}
+use Rattle.fl_log.specs.Appended.{Appended}
 use Rattle.fl_log.specs.Growing.{Grows}
+use Rattle.fl_order.specs.declared.order.Order.{Order}
 use Rattle.fl_transport.specs.Ending.{IsRead}
 use Rattle.fl_transport.specs.Handshake.{handshake_of}
 use Rattle.fl_transport.specs.Said.{said_in}
@@ -9,6 +11,40 @@ use Rattle.fl_transport.specs.declared.response.Response.{Response}
 use Rattle.fl_transport.specs.declared.response.Response.TheVariants.{Nothing}
 use Rattle.fl_workers.specs.Received.{IsLast, Reception, answer_by, left_to_answer, own_answers}
 use Rattle.fl_workers.specs.Sent.{entries_of}
+use Rattle.fl_workers.specs.declared.entry.ReplyEntry.{ReplyEntry}
+
+-- If no answer is lost now, none was before, and these answers and no others were given to be sent in between.
+pub record HasGiven (sent sent_now : Appended ReplyEntry) (lost lost_now : Bool) (answers : List Response)
+    : Type 0 where
+  pub author : sent_now.author ≡ sent.author
+  pub whole : lost_now ≡ false → lost ≡ false
+  pub given : lost_now ≡ false → Grows (entries_of sent.author sent.own) (entries_of sent.author sent_now.own)
+      sent.count sent_now.count (map (answer_by sent.author) answers)
+
+-- of the session's own answers to a message, those that are given at once: that to a DESTROY isn't
+abbrev pub given_now : Bool → List Response → List Response
+given_now over answers = if over then [] else answers
+
+-- The session's own answers to these messages were given to be sent, but for what is left to answer a DESTROY.
+pub record AreAnswered (it : Reception) (over : Bool) (messages : List (List ℕ)) : Type 0 where
+  pub answered : List Response
+  pub own : own_answers messages ≡ answered ++ left_to_answer over it.goodbye
+  pub sent : HasGiven it.sent it.sent_now false it.lost answered
+
+-- how a receiver went so far that hasn't ended, and so has no fault
+abbrev pub so_far : (left left_now : Option (List ℕ)) (put : List Order) (goodbye : Response)
+    (sent sent_now : Appended ReplyEntry) (lost : Bool) → Reception
+so_far left left_now put goodbye sent sent_now lost =
+    record {
+      left = left;
+      left_now = left_now;
+      fault = None;
+      put = put;
+      goodbye = goodbye;
+      sent = sent;
+      sent_now = sent_now;
+      lost = lost;
+    }
 
 -- What was read is whole messages and a rest, these messages bring the session this far, and their orders were put.
 -- If it is over, this is left to answer the last, and else nothing. The other messages that are no orders were
@@ -20,9 +56,4 @@ pub record IsReceiving (it : Reception) (handshake : Handshake) (rest : List ℕ
   pub said : it.put ≡ said_in messages
   pub over : handshake.over ≡ true → IsLast messages it.goodbye
   pub live : handshake.over ≡ false → it.goodbye ≡ Nothing
-  pub answered : List Response
-  pub own : own_answers messages ≡ answered ++ left_to_answer handshake.over it.goodbye
-  pub author : it.sent_now.author ≡ it.sent.author
-  pub given : it.lost ≡ false → Grows (entries_of it.sent.author it.sent.own)
-      (entries_of it.sent.author it.sent_now.own) it.sent.count it.sent_now.count
-      (map (answer_by it.sent.author) answered)
+  pub own : AreAnswered it handshake.over messages
