@@ -58,6 +58,7 @@ impl<'a, W: Write, N: WriterName> Model for SharedSender<'a, W, N> {
 }
 
 /// A writer that comes back.
+#[derive(Drop)]
 pub struct Returned<'a, W> {
     /// The writer.
     pub writer: &'a mut W,
@@ -68,6 +69,7 @@ pub struct Returned<'a, W> {
 }
 
 /// A writer that comes back from a session that wasn't served to its end.
+#[derive(Drop)]
 pub struct Abandoned<'a, W> {
     /// The writer.
     pub writer: &'a mut W,
