@@ -1,4 +1,4 @@
-use Rattle.std.proofs.Common.{ap, sym, ◌∙◌}
+use Rattle.std.proofs.Common.{ap, ◌∙◌}
 use Rattle.fl_ranges.specs.LockTable.{LockTable}
 use Rattle.fl_ranges.proofs.TableCalls.{marking_spelled}
 use Rattle.fl_ranges.proofs.table.Table.rows.Goals as goal
