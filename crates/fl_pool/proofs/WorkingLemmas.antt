@@ -1,9 +1,9 @@
 -- What the workers of a session have done together.
-use Rattle.std.proofs.Common.{◌≡◌, ℕ, ◌+◌, ◌<◌, Bool, true, false, List, [], ◌∷◌, ◌++◌, All, Option, Some, IfSome}
+use Rattle.std.proofs.Common.{◌≡◌, ℕ, ◌+◌, Bool, true, false, List, [], ◌∷◌, ◌++◌, All, Option, Some, IfSome}
 use Rattle.std.proofs.Common.{option_to_list, length, map, sum_by, refl, sym, ap, ◌∙◌, subst, arith, append_assoc}
 use Rattle.std.proofs.Common.{append-nil}
 use Rattle.std.specs.Prelude.{◌||◌}
-use Rattle.std.proofs.lemmas.List.{length-map, map-append}
+use Rattle.std.proofs.lemmas.List.{length-map, map-append, nil_from_length}
 use Rattle.std.proofs.lemmas.List.Elements.{All-cons, All-head, All-nil, All-pop, All-push, All-tail}
 use Rattle.std.proofs.lemmas.List.Sums.{sum_by-append, sum_by_push}
 use mathlib.Core.List.{nil≢cons, head-eq_of_cons-eq, tail-eq_of_cons-eq}
@@ -105,15 +105,21 @@ one_back rules ends ends_now places places_now sent sent_now any any_now lost lo
       missing = is_lost ∙ (λ i. so_far.missing i || sym it.5 i) ∙ sym (some_more (λ (w : Work). w.lost) works work);
     }
 
--- all workers came back, who were started by these threads
-pub all_back : {X : Type 0} (f : X → ℕ) (rules : Rules) (threads : List X) (places : List Place) (back : Returns)
-    → map (λ (p : Place). p.worker) back.places ≡ map f threads → map f threads ≡ map (λ (p : Place). p.worker) places
-    → length back.ends ≡ length threads
+names_at : {Y : Type 0} (g : Y → Place) (posts : List Y)
+    → map (λ (p : Place). p.worker) (map g posts) ≡ map (λ y. (g y).worker) posts
+names_at g [] = refl
+names_at g (y ∷ posts) = ap (λ l. (g y).worker ∷ l) (names_at g posts)
+
+-- all workers came back, who were started by these threads at these posts
+pub all_back : {X Y : Type 0} (f : X → ℕ) (g : Y → Place) (rules : Rules) (threads : List X) (posts : List Y)
+    (back : Returns) → map (λ (p : Place). p.worker) back.places ≡ map f threads
+    → map f threads ≡ map (λ y. (g y).worker) posts → length back.ends ≡ length threads
     → HaveDone rules (λ weight. weight_taken weight back.ends) back.places back.sent back.any back.lost
-    → HaveWorked rules places back
-all_back f rules threads places back joined started all did = record {
-  whose = joined ∙ started;
-  all = all ∙ sym (length-map threads f) ∙ ap length started ∙ length-map places (λ (p : Place). p.worker);
+    → HaveWorked rules (map g posts) back
+all_back f g rules threads posts back joined started all did = record {
+  whose = joined ∙ started ∙ sym (names_at g posts);
+  all = all ∙ sym (length-map threads f) ∙ ap length started ∙ length-map posts (λ y. (g y).worker)
+      ∙ sym (length-map posts g);
   did = did;
 }
 
@@ -243,9 +249,9 @@ same_last places places_now front place place_now was now same =
 
 -- nothing is left to go through
 pub ended : {X Y : Type 0} (f : X → ℕ) (g : Y → ℕ) (done : List X) (rest : List Y) (names : List ℕ)
-    → map f done ++ map g rest ≡ names → rest ≡ [] → map f done ≡ names
+    → map f done ++ map g rest ≡ names → length rest ≡ 0 → map f done ≡ names
 ended f g done rest names all none =
-    sym (ap (λ l. map f done ++ map g l) none ∙ append-nil (map f done)) ∙ all
+    sym (ap (λ l. map f done ++ map g l) (nil_from_length rest none) ∙ append-nil (map f done)) ∙ all
 
 -- what was received, by other names
 pub received_as : (left before now : Option (List ℕ)) (fault told : Option Fault) (put all : Orders)

@@ -1,4 +1,4 @@
-use Rattle.std.proofs.Common.{rules, ◌≡◌}
+use Rattle.std.proofs.Common.{rules}
 use Rattle.fl_pool.specs.Working.{IsFresh, IsIdle}
 use Rattle.fl_pool.proofs.WorkingLemmas.{all_pushed, ended, first_and_rest, moves}
 use Rattle.fl_pool.proofs.pool.WorkerPool.start_all.Goals as goal
@@ -23,4 +23,4 @@ loop-post-preserved g c =
 
 pub returns-clause-whose : goal.returns-clause-whose
 returns-clause-whose g c = λ all.
-    ended (λ t. t.promise.worker) (λ post. post.seat.worker) _ _ _ c.loop-post.invariant.2 c.in-None.ensures.steps.0
+    ended (λ t. t.promise.worker) (λ post. post.seat.worker) _ _ _ c.loop-post.invariant.2 (search rules)
