@@ -1,10 +1,10 @@
 -- What the workers of a session have done together.
-use Rattle.std.proofs.Common.{◌≡◌, ℕ, ◌+◌, Bool, true, false, List, [], ◌∷◌, ◌++◌, All, Option, Some, IfSome}
-use Rattle.std.proofs.Common.{option_to_list, length, map, sum_by, refl, sym, ap, ◌∙◌, subst, arith, append_assoc}
+use Rattle.std.proofs.Common.{◌≡◌, ℕ, ◌+◌, Bool, true, false, List, [], ◌∷◌, ◌++◌, All, Option}
+use Rattle.std.proofs.Common.{length, map, sum_by, refl, sym, ap, ◌∙◌, subst, arith, append_assoc}
 use Rattle.std.proofs.Common.{append-nil}
 use Rattle.std.specs.Prelude.{◌||◌}
 use Rattle.std.proofs.lemmas.List.{length-map, map-append, nil_from_length}
-use Rattle.std.proofs.lemmas.List.Elements.{All-cons, All-head, All-nil, All-pop, All-push, All-tail}
+use Rattle.std.proofs.lemmas.List.Elements.{All-cons, All-head, All-nil, All-push, All-tail}
 use Rattle.std.proofs.lemmas.List.Sums.{sum_by-append, sum_by_push}
 use mathlib.Core.List.{nil≢cons, head-eq_of_cons-eq, tail-eq_of_cons-eq}
 use Rattle.fl_board.specs.Seats.{Place}
@@ -238,15 +238,6 @@ moves f g done done_now x rest rest_now y names all is_done is_rest same =
     ∙ sym (ap (λ l. map f done ++ map g l) is_rest)
     ∙ all
 
--- the last place is another of the same worker
-pub same_last : (places places_now front : List Place) (place place_now : Place) → places ≡ front ++ place ∷ []
-    → places_now ≡ front ++ place_now ∷ [] → place_now.worker ≡ place.worker
-    → map (λ (p : Place). p.worker) places_now ≡ map (λ (p : Place). p.worker) places
-same_last places places_now front place place_now was now same =
-    let name = λ (p : Place). p.worker in
-    ap (map name) now ∙ map-append name front (place_now ∷ []) ∙ (λ i. map name front ++ same i ∷ [])
-    ∙ sym (ap (map name) was ∙ map-append name front (place ∷ []))
-
 -- nothing is left to go through
 pub ended : {X Y : Type 0} (f : X → ℕ) (g : Y → ℕ) (done : List X) (rest : List Y) (names : List ℕ)
     → map f done ++ map g rest ≡ names → length rest ≡ 0 → map f done ≡ names
@@ -288,12 +279,6 @@ received_as left before now fault told put all goodbye other sent own own_now go
       sent_now = sym same_own i;
       lost = sym same_lost i;
     }) received
-
--- what was taken from behind a list is as all of it, and so is what is left
-pub popped : {X : Type 0} (P : X → Type 0) (xs left : List X) (taken : Option X) (x : X)
-    → xs ≡ left ++ option_to_list taken → taken ≡ Some x → All P xs → All P left × P x
-popped P xs left taken x items is all =
-    let both = All-pop P xs left taken items all in (both.0, subst (λ (o : _). IfSome o P) is both.1)
 
 -- one more behind a list of which all are so
 pub all_pushed : {X : Type 0} (P : X → Type 0) (xs ys : List X) (x : X) → ys ≡ xs ++ x ∷ [] → All P xs → P x → All P ys
