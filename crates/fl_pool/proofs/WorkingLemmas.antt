@@ -1,10 +1,10 @@
 -- What the workers of a session have done together.
-use Rattle.std.proofs.Common.{◌≡◌, ℕ, ◌+◌, Bool, true, false, List, [], ◌∷◌, ◌++◌, All, Option, Some, IfSome}
-use Rattle.std.proofs.Common.{option_to_list, length, map, sum_by, refl, sym, ap, ◌∙◌, subst, arith, append_assoc}
+use Rattle.std.proofs.Common.{◌≡◌, ℕ, ◌+◌, Bool, true, false, List, [], ◌∷◌, ◌++◌, All, Option}
+use Rattle.std.proofs.Common.{length, map, sum_by, refl, sym, ap, ◌∙◌, subst, arith, append_assoc}
 use Rattle.std.proofs.Common.{append-nil}
 use Rattle.std.specs.Prelude.{◌||◌}
 use Rattle.std.proofs.lemmas.List.{length-map, map-append, nil_from_length}
-use Rattle.std.proofs.lemmas.List.Elements.{All-cons, All-head, All-nil, All-pop, All-push, All-tail}
+use Rattle.std.proofs.lemmas.List.Elements.{All-cons, All-head, All-nil, All-push, All-tail}
 use Rattle.std.proofs.lemmas.List.Sums.{sum_by-append, sum_by_push}
 use mathlib.Core.List.{nil≢cons, head-eq_of_cons-eq, tail-eq_of_cons-eq}
 use Rattle.fl_board.specs.Seats.{Place}
@@ -78,14 +78,16 @@ work_of rules worker end end_now place gave any lost back fresh =
     )
 
 -- one worker more came back
-pub one_back : (rules : Rules) (ends ends_now : List TakeSide) (places places_now : List Place) (sent sent_now : List Sent)
+pub one_back : (rules : Rules) (ends ends_now : List TakeSide) (places places_now : List Place)
+    (sent sent_now : List Sent)
     (any any_now lost lost_now more gone : Bool) (worker : ℕ) (end end_now : TakeSide) (place : Place) (gave : Sent)
     → HaveDone rules (λ weight. weight_taken weight ends) places sent any lost → end.taken ≡ []
     → HasComeBack rules worker end place gave end_now more gone → ends_now ≡ ends ++ end_now ∷ []
     → places_now ≡ places ++ place ∷ [] → sent_now ≡ sent ++ gave ∷ [] → any_now ≡ (any || more)
-    → lost_now ≡ (lost || gone) → HaveDone rules (λ weight. weight_taken weight ends_now) places_now sent_now any_now lost_now
-one_back rules ends ends_now places places_now sent sent_now any any_now lost lost_now more gone worker end end_now place
-    gave so_far fresh back is_end is_place is_sent is_any is_lost =
+    → lost_now ≡ (lost || gone)
+    → HaveDone rules (λ weight. weight_taken weight ends_now) places_now sent_now any_now lost_now
+one_back rules ends ends_now places places_now sent sent_now any any_now lost lost_now more gone worker end end_now
+    place gave so_far fresh back is_end is_place is_sent is_any is_lost =
     let it = work_of rules worker end end_now place gave more gone back fresh in
     let works = so_far.works in
     let work = it.0 in record {
@@ -105,6 +107,7 @@ one_back rules ends ends_now places places_now sent sent_now any any_now lost lo
       missing = is_lost ∙ (λ i. so_far.missing i || sym it.5 i) ∙ sym (some_more (λ (w : Work). w.lost) works work);
     }
 
+-- whose the places of these are
 names_at : {Y : Type 0} (g : Y → Place) (posts : List Y)
     → map (λ (p : Place). p.worker) (map g posts) ≡ map (λ y. (g y).worker) posts
 names_at g [] = refl
@@ -144,17 +147,20 @@ first_and_last w (v ∷ works) =
 
 -- the last of these works is that of the last place
 last_work : (works : List Work) (front : List Place) (place : Place) (sent_front : List Sent) (gave : Sent)
-    → map (λ (w : Work). w.place) works ≡ front ++ place ∷ [] → map (λ (w : Work). w.sent) works ≡ sent_front ++ gave ∷ []
+    → map (λ (w : Work). w.place) works ≡ front ++ place ∷ []
+    → map (λ (w : Work). w.sent) works ≡ sent_front ++ gave ∷ []
     → (first : List Work) × (last : Work) × (works ≡ first ++ last ∷ []) × (map (λ (w : Work). w.place) first ≡ front)
     × (last.place ≡ place) × (map (λ (w : Work). w.sent) first ≡ sent_front) × (last.sent ≡ gave)
 last_work [] [] place sent_front gave at by = absurd (nil≢cons at)
 last_work [] (f ∷ front) place sent_front gave at by = absurd (nil≢cons at)
 last_work (w ∷ works) front place sent_front gave at by =
     let split = first_and_last w works in
-    let places = same_ends (map (λ (w : Work). w.place) split.0) front split.1.place place
-    (sym (map-append (λ (w : Work). w.place) split.0 (split.1 ∷ [])) ∙ sym (ap (map (λ (w : Work). w.place)) split.2) ∙ at) in
-    let sent = same_ends (map (λ (w : Work). w.sent) split.0) sent_front split.1.sent gave
-    (sym (map-append (λ (w : Work). w.sent) split.0 (split.1 ∷ [])) ∙ sym (ap (map (λ (w : Work). w.sent)) split.2) ∙ by) in
+    let place_of = λ (w : Work). w.place in
+    let sent_of = λ (w : Work). w.sent in
+    let places = same_ends (map place_of split.0) front split.1.place place
+    (sym (map-append place_of split.0 (split.1 ∷ [])) ∙ sym (ap (map place_of) split.2) ∙ at) in
+    let sent = same_ends (map sent_of split.0) sent_front split.1.sent gave
+    (sym (map-append sent_of split.0 (split.1 ∷ [])) ∙ sym (ap (map sent_of) split.2) ∙ by) in
     (split.0, split.1, split.2, places.0, places.1, sent.0, sent.1)
 
 All_front : {X : Type 0} (P : X → Type 0) (xs : List X) (x : X) → All P (xs ++ x ∷ []) → All P xs
@@ -187,8 +193,8 @@ pub rest_done : InTurn → (rules : Rules) (orders : Weight → ℕ) (rest : Ord
     → sent ≡ sent_front ++ gave ∷ [] → sent_now ≡ sent_front ++ gave_now ∷ []
     → HasWorked (IsAnsweredAfter rules) rest (standing_at place gave) (standing_at place_now gave_now) more gone
     → HaveDone rules (λ weight. orders weight + sum_by weight rest) places_now sent_now (any || more) (lost || gone)
-rest_done in_turn rules orders rest front places places_now place place_now sent_front sent sent_now gave gave_now any lost
-    more gone so_far was now had has did =
+rest_done in_turn rules orders rest front places places_now place place_now sent_front sent sent_now gave gave_now any
+    lost more gone so_far was now had has did =
     let split = last_work so_far.works front place sent_front gave (so_far.at ∙ was) (so_far.gave ∙ had) in
     let first = split.0 in
     let last = split.1 in
@@ -200,18 +206,18 @@ rest_done in_turn rules orders rest front places places_now place place_now sent
       any = last.any || more;
       lost = last.lost || gone;
     } in
-    let from : HasWorked (IsAnsweredAfter rules) rest (standing_at last.place last.sent) (standing_at place_now gave_now) more
-    gone = subst (λ s. HasWorked (IsAnsweredAfter rules) rest s (standing_at place_now gave_now) more gone)
+    let now_at = standing_at place_now gave_now in
+    let from : HasWorked (IsAnsweredAfter rules) rest (standing_at last.place last.sent) now_at more gone =
+    subst (λ s. HasWorked (IsAnsweredAfter rules) rest s now_at more gone)
     (λ i. standing_at (sym split.4 i) (sym split.6 i)) did in
     let same : last.place.worker ≡ place_now.worker = ap (λ (p : Place). p.worker) split.4 ∙ sym did.worker in
     let worked = in_turn rules last.orders rest (idle last.place.worker) (standing_at last.place last.sent)
-    (standing_at place_now gave_now) last.any more last.lost gone (All_last (IsDone rules) first last each) from in record {
+    now_at last.any more last.lost gone (All_last (IsDone rules) first last each) from in record {
       works = first ++ work ∷ [];
       at = map-append (λ (w : Work). w.place) first (work ∷ []) ∙ ap (λ l. l ++ place_now ∷ []) split.3 ∙ sym now;
       gave = map-append (λ (w : Work). w.sent) first (work ∷ []) ∙ ap (λ l. l ++ gave_now ∷ []) split.5 ∙ sym has;
       each = All-push (IsDone rules) first work (All_front (IsDone rules) first last each)
-          (subst (λ n. HasWorked (IsAnsweredAfter rules) work.orders (idle n) (standing_at place_now gave_now) work.any
-          work.lost) same worked);
+          (subst (λ n. HasWorked (IsAnsweredAfter rules) work.orders (idle n) now_at work.any work.lost) same worked);
       weighs = λ weight. omega (
         arith,
         so_far.weighs weight,
@@ -237,15 +243,6 @@ moves f g done done_now x rest rest_now y names all is_done is_rest same =
     ∙ (λ i. map f done ++ same i ∷ map g rest_now)
     ∙ sym (ap (λ l. map f done ++ map g l) is_rest)
     ∙ all
-
--- the last place is another of the same worker
-pub same_last : (places places_now front : List Place) (place place_now : Place) → places ≡ front ++ place ∷ []
-    → places_now ≡ front ++ place_now ∷ [] → place_now.worker ≡ place.worker
-    → map (λ (p : Place). p.worker) places_now ≡ map (λ (p : Place). p.worker) places
-same_last places places_now front place place_now was now same =
-    let name = λ (p : Place). p.worker in
-    ap (map name) now ∙ map-append name front (place_now ∷ []) ∙ (λ i. map name front ++ same i ∷ [])
-    ∙ sym (ap (map name) was ∙ map-append name front (place ∷ []))
 
 -- nothing is left to go through
 pub ended : {X Y : Type 0} (f : X → ℕ) (g : Y → ℕ) (done : List X) (rest : List Y) (names : List ℕ)
@@ -288,12 +285,6 @@ received_as left before now fault told put all goodbye other sent own own_now go
       sent_now = sym same_own i;
       lost = sym same_lost i;
     }) received
-
--- what was taken from behind a list is as all of it, and so is what is left
-pub popped : {X : Type 0} (P : X → Type 0) (xs left : List X) (taken : Option X) (x : X)
-    → xs ≡ left ++ option_to_list taken → taken ≡ Some x → All P xs → All P left × P x
-popped P xs left taken x items is all =
-    let both = All-pop P xs left taken items all in (both.0, subst (λ (o : _). IfSome o P) is both.1)
 
 -- one more behind a list of which all are so
 pub all_pushed : {X : Type 0} (P : X → Type 0) (xs ys : List X) (x : X) → ys ≡ xs ++ x ∷ [] → All P xs → P x → All P ys

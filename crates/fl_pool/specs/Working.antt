@@ -114,10 +114,13 @@ pub record Run : Type 0 where
   pub put_takers : ℕ
   pub reception : Reception
 
--- The result of a session. At NoMemory a worker couldn't be started, and nothing was read.
+-- The result of a session. At NoMemory a worker couldn't be started, nothing was read, and the session itself gave
+-- nothing to be sent.
 pub record HasRun (run : Run) : Type 0 where
   pub put : (run.put_of ≡ run.of) × (run.put_takers ≡ run.takers)
   pub ends : All (λ end. end.of ≡ run.of) run.back.ends
   pub worked : run.reception.fault ≢ Some NoMemory → HaveWorked run.rules run.places run.back
   pub received : run.reception.fault ≢ Some NoMemory → HasReceived run.reception
   pub unread : run.reception.fault ≡ Some NoMemory → Keeps run.reception.left run.reception.left_now
+  pub quiet : run.reception.fault ≡ Some NoMemory
+      → (run.reception.sent_now ≡ run.reception.sent) × (run.reception.lost ≡ false)

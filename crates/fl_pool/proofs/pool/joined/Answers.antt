@@ -14,7 +14,8 @@ loop-thread-init g c = (
   search rules,
   search rules,
   search rules,
-  none_back _ _ _ _ _ _ c.requires.none.2 c.requires.none.0 c.requires.none.1 c.none-back.ensures.0 c.none-back.ensures.1,
+  none_back _ _ _ _ _ _ c.requires.none.2 c.requires.none.0 c.requires.none.1 c.none-back.ensures.0
+      c.none-back.ensures.1,
 )
 
 pub loop-thread-preserved : goal.loop-thread-preserved

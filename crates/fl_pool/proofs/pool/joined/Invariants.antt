@@ -5,7 +5,8 @@ use Rattle.fl_pool.proofs.pool.joined.Given as goal
 
 -- place, appender and end of each thread so far came back, in their order, and there is room for the others
 abbrev pub invariant-loop-thread : goal.invariant-loop-thread
-invariant-loop-thread g l = (length l.back.seats.items + length l.thread-iterator.rest.items ≡ length l.fn.threads.items)
+invariant-loop-thread g l =
+    (length l.back.seats.items + length l.thread-iterator.rest.items ≡ length l.fn.threads.items)
     × (length l.back.appenders.items + length l.thread-iterator.rest.items ≡ length l.fn.threads.items)
     × (length l.back.ends.items + length l.thread-iterator.rest.items ≡ length l.fn.threads.items)
     × ((length l.fn.threads.items ≤ vec_capacity l.back.seats)

@@ -27,6 +27,7 @@ returns g c = record {
           ∙ w.unread-received.ensures.fault))
     ];
     unread = search rules;
+    quiet = search rules;
   };
   pairs = c.joined.ensures.pairs;
   room = c.joined.ensures.room;
