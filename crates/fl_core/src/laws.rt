@@ -7,7 +7,7 @@ ghost use Rattle.fl_core.specs.First.{IsFirst};
 ghost use Rattle.fl_core.specs.Replies.{first_told, own_reply};
 ghost use Rattle.fl_core.specs.Settling.{Present, present, settled, IsSettled};
 ghost use Rattle.fl_core.specs.Stages.{IsTakenInStages};
-ghost use Rattle.fl_core.specs.State.{View, State, Snapshot, snapshot_of};
+ghost use Rattle.fl_core.specs.State.{View, State, Snapshot, opening, snapshot_of};
 ghost use Rattle.fl_core.specs.Step.{next, replies};
 ghost use Rattle.fl_waiting.specs.Waiting.{Wish, wish_of, wishes, older_blocks, waits, AllWait, AreApart, taken_out};
 ghost use Rattle.fl_waiting.specs.declared.parked.Request.{Request};
@@ -18,6 +18,7 @@ ghost use Rattle.fl_order.specs.declared.order.Op.TheVariants.{Setlkw};
 ghost use Rattle.fl_order.specs.declared.order.Order.{Order};
 ghost use Rattle.fl_order.specs.declared.told.Answer.{Answer};
 ghost use Rattle.fl_order.specs.declared.told.Told.{Told};
+ghost use Rattle.fl_ranges.specs.Conflict.{IsLawful};
 ghost use Rattle.fl_ranges.specs.Marking.{Marking};
 
 /// What is shown of a state after an effect is the snapshot after that effect.
@@ -61,6 +62,15 @@ pub fn a_step_is_what_its_replies_give()
     ensures apart { (p : Snapshot) (order : Order) → AllWait p.rules p.marking p.view.parked → AreApart p.view.parked →
         AreApart (next p order).view.parked }
 {}
+
+/// No two owners have conflicting locks at the opening, and none have after an order if none had before.
+pub fn an_order_keeps_locks_lawful()
+    ensures nothing { (rules : Rules) → IsLawful (snapshot_of (opening rules)).marking }
+    ensures step { (p : Snapshot) (order : Order) → AllWait p.rules p.marking p.view.parked → AreApart p.view.parked →
+        IsLawful p.marking → IsLawful (next p order).marking }
+{
+    fl_ranges::laws::a_change_without_conflict_keeps_locks_lawful();
+}
 
 /// An order is taken in stages: its own change, or its request is parked; then requests leave, or are granted.
 pub fn an_order_is_taken_in_stages()

@@ -132,10 +132,11 @@ taken_kept lines given new present after worker order tolds shown kept given_is 
 pub leads_on : (lines : List Line) (p : Snapshot) (worker : ℕ) (order : Order) → LeadsTo lines p
     → ((s : State) → snapshot_of s ≡ p → snapshot_of (recorded (replied order (replies p order)) s) ≡ next p order)
     → AllWait p.rules (next p order).marking (next p order).view.parked → AreApart (next p order).view.parked
-    → LeadsTo (lines ++ step_lines worker order (replies p order)) (next p order)
-leads_on lines p worker order leads read waiting apart = record {
+    → IsLawful (next p order).marking → LeadsTo (lines ++ step_lines worker order (replies p order)) (next p order)
+leads_on lines p worker order leads read waiting apart lawful = record {
   legal = step lines worker order leads.legal (ap (λ (q : Snapshot). lines ++ step_lines worker order (replies q order)) leads.stands);
   stands = sym (read (state_after p.rules lines) (sym leads.stands)) ∙ ap snapshot_of (sym (read_step p.rules lines worker order (replies p order)));
   waiting = waiting;
   apart = apart;
+  lawful = lawful;
 }

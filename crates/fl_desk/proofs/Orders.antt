@@ -3,7 +3,7 @@ use Rattle.std.proofs.Common.{◌≡◌, ℕ, ◌⊎◌, inl, inr, List, [], ◌
 use Rattle.fl_desk.specs.Legal.{IsLegal, nothing, step, step_lines}
 use Rattle.fl_desk.specs.Leading.{LeadsTo, GoesOn, ends, goes}
 use Rattle.fl_desk.specs.Replay.{state_after}
-use Rattle.fl_core.specs.State.{State, Snapshot, snapshot_of}
+use Rattle.fl_core.specs.State.{State, Snapshot, opening, snapshot_of}
 use Rattle.fl_core.specs.Effects.{replied, recorded}
 use Rattle.fl_core.specs.Step.{next, replies}
 use Rattle.fl_waiting.specs.Waiting.{AllWait, AreApart}
@@ -12,6 +12,7 @@ use Rattle.fl_desk.proofs.Verdicts.{no_order, replies_first}
 use Rattle.fl_history.specs.declared.history.Line.{Line}
 use Rattle.fl_history.specs.declared.history.Line.TheVariants as line
 use Rattle.fl_order.specs.declared.told.Told.{Told}
+use Rattle.fl_ranges.specs.Conflict.{IsLawful}
 use Rattle.fl_order.specs.declared.order.Order.{Order}
 use Rattle.fl_waiting.specs.declared.rules.Rules.{Rules}
 
@@ -23,14 +24,17 @@ pub record Steps : Type 0 where
       → snapshot_of (recorded (replied order (replies p order)) s) ≡ next p order
   pub waiting : (p : Snapshot) (order : Order) → AllWait p.rules (next p order).marking (next p order).view.parked
   pub apart : (p : Snapshot) (order : Order) → AllWait p.rules p.marking p.view.parked → AreApart p.view.parked → AreApart (next p order).view.parked
+  pub opens : (rules : Rules) → IsLawful (snapshot_of (opening rules)).marking
+  pub lawful : (p : Snapshot) (order : Order) → AllWait p.rules p.marking p.view.parked → AreApart p.view.parked → IsLawful p.marking
+      → IsLawful (next p order).marking
 
 pub legal_leads : Steps → (rules : Rules) {lines : List Line} → IsLegal rules lines → LeadsTo lines (snapshot_of (state_after rules lines))
-legal_leads steps rules nothing = record { legal = nothing; stands = refl; waiting = tt; apart = tt }
+legal_leads steps rules nothing = record { legal = nothing; stands = refl; waiting = tt; apart = tt; lawful = steps.opens rules }
 legal_leads steps rules (step before worker order {lines} legal is) =
     let p = snapshot_of (state_after rules before) in
     let so_far = legal_leads steps rules legal in
     let goes_on = leads_on before p worker order so_far (λ s stands. steps.read p order s so_far.waiting so_far.apart stands)
-    (steps.waiting p order) (steps.apart p order so_far.waiting so_far.apart) in
+    (steps.waiting p order) (steps.apart p order so_far.waiting so_far.apart) (steps.lawful p order so_far.waiting so_far.apart so_far.lawful) in
     let all = subst (λ l. LeadsTo l (next p order)) (sym is) goes_on in
     subst (LeadsTo lines) (all.stands ∙ ap (λ r. snapshot_of (state_after r lines)) (rules_stay rules before)) all
 

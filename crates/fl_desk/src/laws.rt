@@ -13,7 +13,7 @@ ghost use Rattle.fl_order.specs.declared.told.Told.{Told};
 ghost use Rattle.fl_order.specs.declared.order.Order.{Order};
 ghost use Rattle.fl_waiting.specs.declared.rules.Rules.{Rules};
 
-use fl_core::laws::a_step_is_what_its_replies_give;
+use fl_core::laws::{a_step_is_what_its_replies_give, an_order_keeps_locks_lawful};
 
 /// No lines lead to the opening, under any rules. Lines with one order more, and the replies that it gets in what the
 /// lines lead to, lead to what is there after it, under the same rules.
@@ -23,6 +23,7 @@ pub fn an_order_leads_on()
         LeadsTo (lines ++ step_lines worker order (replies p order)) (next p order) }
 {
     a_step_is_what_its_replies_give();
+    an_order_keeps_locks_lawful();
 }
 
 /// The lines of an order and its replies are read as its own reply, or as none, and then as each other reply.
@@ -49,4 +50,5 @@ pub fn a_legal_history_goes_on_by_orders()
         IsLegal rules (before ++ line.Asked worker order ∷ rest) → IsLegal rules before }
 {
     a_step_is_what_its_replies_give();
+    an_order_keeps_locks_lawful();
 }

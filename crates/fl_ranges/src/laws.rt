@@ -4,12 +4,13 @@ ghost use Rattle.std.specs.Prelude.{◌≡◌, ◌≢◌, ◌↔◌, ◌==◌, �
 ghost use Rattle.std.specs.Prelude.{if◌then◌else◌};
 ghost use Rattle.std.specs.List.{Contains, IsDistinct};
 ghost use Rattle.std.specs.Ordering.{eq_by_cmp};
-ghost use Rattle.std.specs.FinMap.{get};
+ghost use Rattle.std.specs.FinMap.{empty, get};
 ghost use Rattle.fl_ranges.specs.declared.lock.Key.{Key as Holder};
 ghost use Rattle.fl_ranges.specs.declared.lock.Kind.{Kind as Sharing};
+ghost use Rattle.fl_ranges.specs.declared.lock.Mark.{Mark as Sort};
 ghost use Rattle.fl_ranges.specs.declared.held.Held.{Held as Lock};
 ghost use Rattle.fl_ranges.specs.Marking.{Spot, spot_cmp, Marking, Stroke, stroked, marking_of, mark_at};
-ghost use Rattle.fl_ranges.specs.Conflict.{conflicts, owner_conflicts, IsConflict, IsOwnerConflict};
+ghost use Rattle.fl_ranges.specs.Conflict.{conflicts, owner_conflicts, IsConflict, IsOwnerConflict, IsLawful};
 ghost use Rattle.fl_ranges.specs.Runs.{runs, IsStart, without_node};
 ghost use Rattle.fl_ranges.specs.Change.{Change, marking_after, last_said};
 ghost use Rattle.fl_ranges.specs.Blocker.{blocker, IsBlocker};
@@ -77,4 +78,14 @@ pub fn a_change_counts_where_it_speaks()
     ensures cleared { (m : Marking) (node : ℕ) (key : Holder) (start end : ℕ) (kind : Sharing) (owner : ℕ) →
         owner_conflicts (without_node node m) key start end kind owner ≡ true →
         owner_conflicts m key start end kind owner ≡ true }
+{}
+
+/// Where nobody has a lock, no two owners have conflicting ones. That stays so after a stroke that sets no lock which
+/// conflicts with another owner's, and after a node loses its marks.
+pub fn a_change_without_conflict_keeps_locks_lawful()
+    ensures nothing { IsLawful empty }
+    ensures struck { (m : Marking) (s : Stroke) →
+        ((mark : Sort) → s.mark ≡ Some mark → conflicts m s.key s.start s.end mark.kind ≡ false) →
+        IsLawful m → IsLawful (stroked s m) }
+    ensures cleared { (m : Marking) (node : ℕ) → IsLawful m → IsLawful (without_node node m) }
 {}

@@ -5,7 +5,9 @@ use Rattle.fl_desk.proofs.laws.a_legal_history_goes_on_by_orders.Goals as goal
 pub returns-clause-leads : goal.returns-clause-leads
 returns-clause-leads c =
     let law = c.a_step_is_what_its_replies_give.ensures in
-    λ rules lines legal. legal_leads (record { read = law.read; waiting = law.waiting; apart = law.apart }) rules legal
+    let locks = c.an_order_keeps_locks_lawful.ensures in
+    λ rules lines legal. legal_leads
+    (record { read = law.read; waiting = law.waiting; apart = law.apart; opens = locks.nothing; lawful = locks.step }) rules legal
 
 pub returns-clause-rules : goal.returns-clause-rules
 returns-clause-rules c = rules_stay
