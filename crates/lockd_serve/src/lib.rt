@@ -15,9 +15,13 @@
 mod ending;
 mod options;
 mod serve;
+mod serving;
 mod socket;
 mod spinning;
+mod unused;
 
 pub use fl_stream::WhenWriterFails;
 pub use options::{ServeOptions, TraceTo};
 pub use serve::{serve_on, trace_at};
+pub use serving::serve_stream;
+pub use unused::is_unused;
