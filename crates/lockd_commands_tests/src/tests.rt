@@ -6,3 +6,4 @@ mod journals;
 mod outputs;
 mod pieces;
 mod scripts;
+mod streams;

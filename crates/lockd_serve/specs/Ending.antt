@@ -1,6 +1,7 @@
 -- How a server ends: where the trace of its session is, what it tells, and its status.
-use Rattle.std.specs.Prelude.{◌≡◌, ◌⊎◌, ℕ, Bool, true, false, List, Option, None, Some, option_map}
+use Rattle.std.specs.Prelude.{◌≡◌, ◌⊎◌, ℕ, Bool, true, false, List, Option, None, Some, option_map, ⊤}
 use Rattle.std.specs.Io.KnownBytes.{Appends, Keeps}
+use Rattle.fl_history.specs.declared.history.Line.{Line}
 use Rattle.fl_session.specs.declared.done.Done.{Done}
 use Rattle.fl_stream.specs.Streams.{IsBegun, Wrote, WroteSome}
 use Rattle.fl_trace.specs.Text.{text_of}
@@ -81,3 +82,20 @@ pub record IsOver {S T : Type 0} (workers : ℕ) (rules : Rules) (trace : TraceT
   pub traced : has_history done.fault ≡ true → LeavesTrace trace contents done out out_now it back
   pub untraced : has_history done.fault ≡ false
       → (back ≡ None) × Keeps out out_now × Ends (told_of done.fault) it
+
+-- The trace of these lines is whole, wherever it goes: all of its text was printed, or its writer has that and nothing
+-- else.
+abbrev pub IsWhole : {S T : Type 0} → TraceTo S → (T → Option (List ℕ)) → List Line → Option (List ℕ)
+    → Option (List ℕ) → Option T → Type 0
+IsWhole to.Output contents lines out out_now back = Appends out out_now (text_of lines)
+IsWhole to.Nowhere contents lines out out_now back = ⊤
+IsWhole (to.Writer blank) contents lines out out_now back =
+    (writer : _) × (back ≡ Some writer) × Wrote contents (contents writer) (text_of lines)
+
+-- A session was served to its end, no read or write of it failed, and its trace is whole.
+pub record WentWell {S T : Type 0} (workers : ℕ) (rules : Rules) (trace : TraceTo S) (contents : T → Option (List ℕ))
+    (streams : Streams) (out out_now : Option (List ℕ)) (back : Option T) : Type 0 where
+  pub done : Done
+  pub served : HasServed workers rules streams done
+  pub faultless : done.fault ≡ None
+  pub whole : IsWhole trace contents done.history out out_now back

@@ -1,7 +1,9 @@
 //! How `lockd serve` ends once its session is over: where its trace goes, and which faults are told.
 
 ghost use Rattle.std.specs.Prelude.{◌≡◌, ◌≢◌, true, false, None, Some, MatchOption};
-ghost use Rattle.std.specs.Io.KnownBytes.{Keeps};
+ghost use Rattle.std.specs.Io.KnownBytes.{Appends, Keeps};
+ghost use Rattle.fl_stream.specs.Streams.{Wrote};
+ghost use Rattle.fl_trace.specs.Text.{text_of};
 ghost use Rattle.fl_session.specs.Recorded.{done_of};
 ghost use Rattle.fl_transport.specs.declared.fault.Fault.{Fault as SessionFault};
 ghost use Rattle.lockd_faults.specs.declared.fault.CommandFault.{CommandFault};
@@ -31,6 +33,8 @@ pub(crate) fn end_printed<W: Write, F: Write>(
       told = F.contents faults.old;
       told_now = F.contents faults.new;
     }) }
+    ensures good { result ≡ Status.Good → (done.now.fault ≡ None)
+        × Appends (W.contents output.old) (W.contents output.new) (text_of done.now.history) }
     ensures memory { result ≡ Status.Faulted CommandFault.NoMemory → done.now.fault ≡ Some SessionFault.NoMemory }
     ensures heard { result ≢ Status.Faulted CommandFault.Listen }
 {
@@ -60,6 +64,8 @@ pub(crate) fn end_streamed<T: Write + Drop, F: Write>(
           told = F.contents faults.old;
           told_now = F.contents faults.new;
         }) }
+    ensures good { result.0 ≡ Status.Good → (recorded.fault ≡ None) × ((writer : T) × (result.1 ≡ Some writer)
+        × Wrote T.contents (T.contents writer) (text_of (done_of (λ stream. stream.lines) recorded).history)) }
     ensures memory { result.0 ≡ Status.Faulted CommandFault.NoMemory → recorded.fault ≡ Some SessionFault.NoMemory }
     ensures heard { result.0 ≢ Status.Faulted CommandFault.Listen }
 {
@@ -92,6 +98,7 @@ pub(crate) fn end_session<F: Write>(faults: &mut F, fault: Option<Fault>) -> Sta
       told = F.contents faults.old;
       told_now = F.contents faults.new;
     }) }
+    ensures good { result ≡ Status.Good → fault ≡ None }
     ensures memory { result ≡ Status.Faulted CommandFault.NoMemory → fault ≡ Some SessionFault.NoMemory }
     ensures heard { result ≢ Status.Faulted CommandFault.Listen }
 {
@@ -108,6 +115,7 @@ fn end_untraced<F: Write>(faults: &mut F, fault: Option<Fault>) -> Status
       told = F.contents faults.old;
       told_now = F.contents faults.new;
     }) }
+    ensures bad { result ≢ Status.Good }
     ensures memory { result ≡ Status.Faulted CommandFault.NoMemory → fault ≡ Some SessionFault.NoMemory }
     ensures heard { result ≢ Status.Faulted CommandFault.Listen }
 {

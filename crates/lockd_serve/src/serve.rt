@@ -6,7 +6,7 @@ ghost use Rattle.fl_stream.specs.Streams.{IsBlank};
 ghost use Rattle.fl_transport.specs.Streams.{Streams};
 ghost use Rattle.lockd_faults.specs.Faults.{IsTold};
 ghost use Rattle.lockd_faults.specs.declared.fault.CommandFault.{CommandFault};
-ghost use Rattle.lockd_serve.specs.Ending.{IsOver};
+ghost use Rattle.lockd_serve.specs.Ending.{IsOver, WentWell};
 ghost use Rattle.lockd_serve.specs.declared.options.TraceTo.{TraceTo};
 ghost use Rattle.lockd_serve.specs.Unserved.{LeavesNothing, ServesNobody};
 
@@ -51,6 +51,9 @@ pub fn serve_on<R: Threads + Wait + Net + Files + Sync, T: Write + Send + Drop, 
           told = F.contents faults.old;
           told_now = F.contents faults.new;
         }) result.1 }
+    ensures good { result.0 ≡ Status.Good → (streams : Streams)
+        × WentWell options.workers options.rules options.trace T.contents streams
+        (W.contents output.old) (W.contents output.new) result.1 }
     ensures nothing { (fault : CommandFault) → result.0 ≡ Status.Faulted fault → ServesNobody result.0
         → LeavesNothing fault (W.contents output.old) (W.contents output.new) (record {
           status = result.0;

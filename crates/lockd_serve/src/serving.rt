@@ -6,7 +6,7 @@ ghost use Rattle.fl_session.specs.Recorded.{done_of};
 ghost use Rattle.fl_stream.specs.Streams.{IsBlank};
 ghost use Rattle.fl_transport.specs.declared.fault.Fault.{Fault as SessionFault};
 ghost use Rattle.lockd_faults.specs.declared.fault.CommandFault.{CommandFault};
-ghost use Rattle.lockd_serve.specs.Ending.{Ends, IsOver, LeavesTrace, has_history, told_of};
+ghost use Rattle.lockd_serve.specs.Ending.{IsOver, WentWell, has_history};
 ghost use Rattle.lockd_serve.specs.Served.{HasServed};
 ghost use Rattle.lockd_serve.specs.Unserved.{LeavesNothing};
 
@@ -60,6 +60,15 @@ pub fn serve_stream<
           told = F.contents faults.old;
           told_now = F.contents faults.new;
         }) result.1 }
+
+    // A good status says that all was served, written and traced.
+    ensures good { result.0 ≡ Status.Good
+        → WentWell options.workers options.rules options.trace T.contents (record {
+          left = I.remaining r.old;
+          left_now = I.remaining r.new;
+          held = C.contents w.old;
+          held_now = C.contents w.new;
+        }) (W.contents output.old) (W.contents output.new) result.1 }
 
     // If there is no memory, nobody was served: nothing was read, and nothing was written. In all other cases somebody
     // was.

@@ -1,5 +1,7 @@
 //! Commands whose output takes a byte with a write, or fails only when it is flushed, and one whose input is long.
 
+ghost use Rattle.std.specs.Prelude.{◌≡◌, []};
+
 use fl_testing::{Sink, Trouble};
 use lockd_commands::{CheckOptions, CommandFault, Rules, Status, bytes_on, check_on, script_on};
 use std::alloc::Global;
@@ -58,7 +60,9 @@ impl Write for Unflushed {
 }
 
 /// A writer that holds nothing yet, and can't hand on what it takes.
-pub(crate) fn that_cannot_flush(alloc: Global) -> Unflushed {
+pub(crate) fn that_cannot_flush(alloc: Global) -> Unflushed
+    ensures { result.held.items ≡ [] }
+{
     Unflushed {
         held: Vec::new(alloc),
     }
