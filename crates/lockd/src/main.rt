@@ -1,6 +1,6 @@
 //! `lockd`: keeps the locks of a directory of lock files. `lockd_cli` reads the command line, and each command is a
-//! function of `lockd_commands` or of `lockd_serve`. Contracts let through a `main` that runs another command; the
-//! scripts of the gate would meet it.
+//! function of `lockd_commands` or of `lockd_serve`. Contracts let through a `main` that runs another command, and one
+//! that takes away the trace's file of a session that was served. The scripts of the gate would meet them.
 #![tactic(auto)]
 
 ghost use Rattle.std.specs.Prelude.{IfOk};

@@ -1,8 +1,9 @@
-//! Commands whose output takes a byte with a write, or fails only when it is flushed, and one whose input is long.
+//! Commands that read and write a byte with a call, whose output fails only when it is flushed, and one whose input
+//! is long.
 
 ghost use Rattle.std.specs.Prelude.{◌≡◌, []};
 
-use fl_testing::{Sink, Trouble};
+use fl_testing::{Sink, Source, Trouble};
 use lockd_commands::{CheckOptions, CommandFault, Rules, Status, bytes_on, check_on, script_on};
 use std::alloc::Global;
 use std::io;
@@ -87,9 +88,16 @@ impl Command {
     }
 }
 
-fn run<W: Write>(alloc: Global, command: Command, output: &mut W, told: &mut Vec<u8>) -> Status {
+// The command reads at most so many bytes of its example with a read.
+fn run<W: Write>(
+    alloc: Global,
+    command: Command,
+    most: usize,
+    output: &mut W,
+    told: &mut Vec<u8>,
+) -> Status {
     let (text, _) = command.example();
-    let mut input = text.as_bytes();
+    let mut input = Source::new(text.as_bytes(), most, Trouble::none());
     let rules = Rules::standard();
     let options = CheckOptions {
         tells_quiet: true,
@@ -111,13 +119,13 @@ fn is_over(rt: &impl Abort, held: &[u8], wanted: &str, told: &[u8], line: &str) 
 fn is_whole(rt: &impl Abort, alloc: Global, command: Command, most: usize) {
     let mut output = Sink::new(alloc, most, Trouble::none());
     let mut told = Vec::new(alloc);
-    let status = run(alloc, command, &mut output, &mut told);
+    let status = run(alloc, command, most, &mut output, &mut told);
     assert!(rt; status == Status::Good);
     is_over(rt, &output.held, command.example().1, &told, "");
 }
 
 #[test]
-fn an_output_that_takes_a_byte_with_a_write(rt: HostRuntime) {
+fn a_byte_is_read_and_written_with_a_call(rt: HostRuntime) {
     for command in [Command::Script, Command::Bytes, Command::Check] {
         is_whole(&rt, rt.alloc(), command, 1);
         is_whole(&rt, rt.alloc(), command, 7);
@@ -127,7 +135,7 @@ fn an_output_that_takes_a_byte_with_a_write(rt: HostRuntime) {
 fn is_unflushed(rt: &impl Abort, alloc: Global, command: Command) {
     let mut output = that_cannot_flush(alloc);
     let mut told = Vec::new(alloc);
-    let status = run(alloc, command, &mut output, &mut told);
+    let status = run(alloc, command, usize::MAX, &mut output, &mut told);
     assert!(rt; status == Status::Faulted(CommandFault::Write));
     is_over(
         rt,

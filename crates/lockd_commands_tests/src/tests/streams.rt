@@ -85,7 +85,14 @@ fn is_printed<R: Abort + Threads + Wait + Sync>(
     let (mut client, mut output, mut told) = (client(alloc), Vec::new(alloc), Vec::new(alloc));
     let trace: TraceTo<Sink> = TraceTo::Output;
     let (status, _) = run(
-        rt, alloc, 1, &bytes, &mut client, trace, &mut output, &mut told,
+        rt,
+        alloc,
+        1,
+        &bytes,
+        &mut client,
+        trace,
+        &mut output,
+        &mut told,
     );
     is_over(rt, status, wanted, &told, lines);
     is_text(rt, &output, TRACE);
@@ -99,7 +106,14 @@ fn is_unprinted<R: Abort + Threads + Wait + Sync>(rt: &R, alloc: Global, behind:
     let mut output = that_cannot_flush(alloc);
     let trace: TraceTo<Sink> = TraceTo::Output;
     let (status, _) = run(
-        rt, alloc, 1, &bytes, &mut client, trace, &mut output, &mut told,
+        rt,
+        alloc,
+        1,
+        &bytes,
+        &mut client,
+        trace,
+        &mut output,
+        &mut told,
     );
     let wanted = Status::Faulted(CommandFault::Write);
     is_over(rt, status, wanted, &told, "write failed\n");
@@ -118,7 +132,14 @@ fn is_untraced<R: Abort + Threads + Wait + Sync>(
     let (mut client, mut output, mut told) = (client(alloc), Vec::new(alloc), Vec::new(alloc));
     let trace: TraceTo<Sink> = TraceTo::Nowhere;
     let (status, _) = run(
-        rt, alloc, 1, &bytes, &mut client, trace, &mut output, &mut told,
+        rt,
+        alloc,
+        1,
+        &bytes,
+        &mut client,
+        trace,
+        &mut output,
+        &mut told,
     );
     is_over(rt, status, wanted, &told, lines);
     is_text(rt, &output, "");
@@ -137,7 +158,14 @@ fn is_streamed<R: Abort + Threads + Wait + Sync>(
     let (mut client, mut output, mut told) = (client(alloc), Vec::new(alloc), Vec::new(alloc));
     let trace = TraceTo::Writer(Sink::new(alloc, 7, Trouble::none()));
     let (status, back) = run(
-        rt, alloc, 1, &bytes, &mut client, trace, &mut output, &mut told,
+        rt,
+        alloc,
+        1,
+        &bytes,
+        &mut client,
+        trace,
+        &mut output,
+        &mut told,
     );
     is_over(rt, status, wanted, &told, lines);
     is_text(rt, &output, "");
@@ -156,7 +184,14 @@ fn is_half_streamed<R: Abort + Threads + Wait + Sync>(
     let (mut client, mut output, mut told) = (client(alloc), Vec::new(alloc), Vec::new(alloc));
     let trace = TraceTo::Writer(that_cannot_flush(alloc));
     let (status, back) = run(
-        rt, alloc, 1, &bytes, &mut client, trace, &mut output, &mut told,
+        rt,
+        alloc,
+        1,
+        &bytes,
+        &mut client,
+        trace,
+        &mut output,
+        &mut told,
     );
     is_over(rt, status, wanted, &told, lines);
     is_text(rt, &back.expect(rt, "a writer").held, TRACE);
@@ -164,6 +199,7 @@ fn is_half_streamed<R: Abort + Threads + Wait + Sync>(
 
 // A message's length in front of nothing more, and one that no message has.
 const CUT: [u8; 4] = [40, 0, 0, 0];
+
 const BAD: [u8; 4] = [39, 0, 0, 0];
 
 #[test]
@@ -204,7 +240,14 @@ fn is_reset<R: Abort + Threads + Wait + Sync>(rt: &R, alloc: Global, workers: u3
     let mut client = Sink::new(alloc, usize::MAX, Trouble::behind(0, None));
     let trace: TraceTo<Sink> = TraceTo::Output;
     let (status, _) = run(
-        rt, alloc, workers, &bytes, &mut client, trace, &mut output, &mut told,
+        rt,
+        alloc,
+        workers,
+        &bytes,
+        &mut client,
+        trace,
+        &mut output,
+        &mut told,
     );
     let wanted = Status::Faulted(CommandFault::Write);
     is_over(rt, status, wanted, &told, "write failed\n");
