@@ -5,6 +5,7 @@
 //! a socket, of whose bytes contracts see nothing. Contracts see no failure of a reader or a writer either. They let
 //! through:
 //! - a `serve_stream` that says `no memory` and serves nobody, or says wrongly that the trace failed, or the output;
+//! - one that doesn't shut its socket down when the session is over, or only once the trace is printed;
 //! - one that tells a fault in part, or not at all, and what `fl_session`, `fl_serve` and `fl_stream` let through;
 //! - a `serve_on` that always says `cannot listen`, serves something else than the connection, or asks for the file at
 //!   another path before it takes the socket's file away;

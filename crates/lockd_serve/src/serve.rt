@@ -69,7 +69,8 @@ pub fn serve_on<R: Threads + Wait + Net + Files + Sync, T: Write + Send + Drop, 
     };
     let mut r = Spinning::new(&stream, &stream);
     let mut w = Patient::new(&stream, &stream);
-    serve_stream(rt, alloc, &mut r, &mut w, options, output, faults)
+    let socket = Some(&stream);
+    serve_stream(rt, alloc, &mut r, &mut w, options, socket, output, faults)
 }
 
 /// A new file for a trace at a path. If a file is there already, or none can be made, `faults` gets `cannot trace`.

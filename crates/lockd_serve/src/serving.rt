@@ -18,11 +18,13 @@ use fl_stream::{Streamed, TraceRoom, WhenWriterFails};
 use lockd_faults::{CommandFault, Status, end};
 use std::alloc::Global;
 use std::io::{Read, Write};
+use std::net::Shutdown;
+use std::os::unix::net::UnixStream;
 use std::sync::Wait;
 use std::thread::Threads;
 
 /// Serves a session as these options say: what the client sends is read from `r`, and the replies go to `w`. One
-/// worker serves it all in this thread.
+/// worker serves it all in this thread. If they are those of a socket, it is shut down once the session is over.
 ///
 /// A trace that is printed is written to `output` once the session is over. With a trace that goes nowhere or to a
 /// writer nothing is printed. A writer gets the trace as orders come. If it can't be written, orders go on without a
@@ -44,6 +46,7 @@ pub fn serve_stream<
     r: &mut I,
     w: &mut C,
     options: ServeOptions<T>,
+    socket: Option<&UnixStream>,
     output: &mut W,
     faults: &mut F,
 ) -> (Status, Option<T>)
@@ -96,11 +99,13 @@ pub fn serve_stream<
                 return (end(faults, Err(CommandFault::NoMemory)), None);
             };
             let recorded = record(rt, alloc, r, w, staff, Lines::new(alloc));
+            hang_up(socket);
             let done = recorded.into_done(alloc);
             (end_printed(&mut room, &done, output, faults), None)
         }
         TraceTo::Nowhere => {
             let recorded = record(rt, alloc, r, w, staff, NoJournal::new());
+            hang_up(socket);
             (end_session(faults, recorded.fault), None)
         }
         TraceTo::Writer(writer) => {
@@ -108,8 +113,16 @@ pub fn serve_stream<
                 return (end(faults, Err(CommandFault::NoMemory)), None);
             };
             let recorded = record(rt, alloc, r, w, staff, journal);
+            hang_up(socket);
             end_streamed(faults, recorded)
         }
+    }
+}
+
+// Ends a connection: its client hears that before the trace is printed, which may take until somebody reads it.
+fn hang_up(socket: Option<&UnixStream>) {
+    if let Some(socket) = socket {
+        let _ = socket.shutdown(Shutdown::Both);
     }
 }
 

@@ -51,7 +51,7 @@ fn run<R: Threads + Wait + Sync, T: Write + Send + Drop, W: Write>(
         when_full: WhenWriterFails::GoOn,
     };
     let mut rest = bytes;
-    serve_stream(rt, alloc, &mut rest, client, options, output, told)
+    serve_stream(rt, alloc, &mut rest, client, options, None, output, told)
 }
 
 // It ended so, and told these lines.
