@@ -1,6 +1,6 @@
 //! `lockd`: keeps the locks of a directory of lock files. `lockd_cli` reads the command line, and each command is a
-//! function of `lockd_commands` or of `lockd_serve`. Contracts let through a `main` that runs another command; the
-//! scripts of the gate would meet it.
+//! function of `lockd_commands` or of `lockd_serve`. Contracts let through a `main` that runs another command, and one
+//! that takes away the trace's file of a session that was served. The scripts of the gate would meet them.
 #![tactic(auto)]
 
 ghost use Rattle.std.specs.Prelude.{IfOk};
@@ -9,7 +9,7 @@ ghost use Rattle.lockd_cli.specs.Numbers.{HasWorkers};
 use descriptors::hold_closed_streams;
 use lockd_cli::{Asked, Trace, UsageError, WhenFull, print_version, read_words};
 use lockd_commands::{CheckOptions, CommandFault, Status, bytes_on, check_on, drive_on, script_on};
-use lockd_serve::{ServeOptions, TraceTo, WhenWriterFails, serve_on, trace_at};
+use lockd_serve::{ServeOptions, TraceTo, WhenWriterFails, is_unused, serve_on, trace_at};
 use std::fs::{File, Files};
 use std::io::Write;
 use std::net::Net;
@@ -117,12 +117,11 @@ fn opened<F: Write>(
 
 // Takes the trace's file away if no session was served.
 fn remove_unused(rt: &HostRuntime, trace: &Trace, status: Status) {
-    if let (
-        Trace::File(file, _),
-        Status::Faulted(CommandFault::Listen | CommandFault::NoMemory),
-    ) = (trace, status)
-    {
-        let _ = fs::remove_file(rt, Path::new(file.as_str()));
+    match trace {
+        Trace::File(file, _) if is_unused(status) => {
+            let _ = fs::remove_file(rt, Path::new(file.as_str()));
+        }
+        _ => {}
     }
 }
 

@@ -1,7 +1,9 @@
 //! What a command line asks for, read by `clap`.
 
-ghost use Rattle.std.specs.Prelude.{◌≡◌, IfOk};
+ghost use Rattle.std.specs.Prelude.{◌≡◌, ◌≤◌, ℕ, None, Some, IfOk, codes};
+ghost use Rattle.clap.specs.Matches.{found_of, one_text};
 ghost use Rattle.fl_waiting.specs.Limits.{AllowsRuns, AllowsParked};
+ghost use Rattle.lockd_cli.specs.Inside.{AsksWorkers};
 ghost use Rattle.lockd_cli.specs.Numbers.{HasWorkers};
 
 use crate::command::lockd;
@@ -124,21 +126,30 @@ fn rules_with(fair: bool, runs: u32, parked: u32) -> Rules
     rules.with_limits(runs, parked).unwrap()
 }
 
-// What the options of `serve` ask for.
+// What the options of `serve` ask for; four workers, if no number of them is there.
 fn serve_of(alloc: Global, options: &ArgMatches<'_>) -> Result<Asked, UsageError>
     ensures workers { IfOk result HasWorkers }
+    ensures standard { one_text (found_of options.now) (codes "workers") ≡ None → IfOk result (AsksWorkers 4) }
 {
-    let workers = options
-        .get_one::<u32>("workers")
-        .unwrap_or(STANDARD_WORKERS);
+    let workers = workers_of(options.get_one::<u32>("workers"));
     let socket = socket_of(alloc, options)?;
     let trace = trace_of(alloc, options)?;
     Ok(Asked::Serve {
         socket,
-        workers: workers.clamp(1, MOST_WORKERS),
+        workers,
         trace,
         rules: rules_of(options),
     })
+}
+
+// So many workers as are said, and four if none are. `clap` lets no number through that is out of its range; such a
+// one would become the nearest that isn't.
+fn workers_of(said: Option<u32>) -> u32
+    ensures standard { said ≡ None → result ≡ 4 }
+    ensures said { (n : ℕ) → said ≡ Some n → 1 ≤ n → n ≤ 16 → result ≡ n }
+    ensures range { (1 ≤ result) × (result ≤ 16) }
+{
+    said.unwrap_or(STANDARD_WORKERS).clamp(1, MOST_WORKERS)
 }
 
 // The socket that a command's options name; it is required.

@@ -2,13 +2,13 @@
 //! and `drive`, a client of a server.
 //!
 //! Contracts see no failure of a reader or a writer, and nothing of a socket. They let through:
-//! - a `check_on` that says `read failed` or `no memory` of any trace;
 //! - a command that tells its fault in part, or not at all;
+//! - one that tells `no memory`, or a read or a write that failed, though none did;
+//! - one that ends well though its output couldn't be flushed;
 //! - a `drive_on` that sends nothing, connects elsewhere, waits before it sends, doesn't close, or says `no memory`
 //!   at an empty path.
-//! `tools/try_commands` and `tools/try_sockets` refuse these. No contract says what the output of `check_on`,
-//! `bytes_on` and `drive_on` holds after `write failed`. No test has `script_on` or `bytes_on` read or write one byte
-//! with a call.
+//! `lockd_commands_tests`, `tools/try_commands` and `tools/try_sockets` refuse these. No contract says what the output
+//! of `check_on`, `bytes_on` and `drive_on` holds after `write failed`.
 #![tactic(auto)]
 
 mod actions;

@@ -2,8 +2,11 @@
 //! lines of hex.
 //!
 //! `tell` and `end` wrote the fault's line or a beginning of it, the empty one too, and their signatures give them no
-//! memory. Contracts let through a `read_all`, a `write_all`, a `print` or a `read_line` that is always refused, and
-//! a `tell` that tells nothing. Tests and the scripts in `tools` refuse these.
+//! memory. Contracts see no failure of a reader or a writer. They let through:
+//! - a `read_all`, a `write_all`, a `print` or a `read_line` that is always refused;
+//! - a `write_all` or a `print` that doesn't flush its output, or takes a flush that failed for a good one;
+//! - a `tell` that tells nothing.
+//! `lockd_commands_tests` and the scripts in `tools` refuse these.
 #![tactic(auto)]
 
 mod fault;

@@ -1,1 +1,1 @@
-pub mod PrintLemmas
+pub mod RecordLemmas

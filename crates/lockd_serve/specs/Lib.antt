@@ -1,2 +1,4 @@
-pub mod Faults
-pub mod Serve
+pub mod Ending
+pub mod Inside
+pub mod Served
+pub mod Unserved

@@ -1,138 +1,128 @@
-//! How `lockd serve` ends once its session is over: where its trace goes, and which faults are reported.
+//! How `lockd serve` ends once its session is over: where its trace goes, and which faults are told.
 
-ghost use Rattle.std.specs.Prelude.{◌≡◌, ◌≢◌, ◌⊎◌, None, Some, IfErr, IfSome, IsOk, IsSome};
-ghost use Rattle.std.specs.Io.KnownBytes.{Keeps};
-ghost use Rattle.fl_desk.specs.Legal.{IsLegal};
-ghost use Rattle.fl_stream.specs.Streams.{IsBegun, Wrote};
+ghost use Rattle.std.specs.Prelude.{◌≡◌, ◌≢◌, true, false, None, Some, MatchOption};
+ghost use Rattle.std.specs.Io.KnownBytes.{Appends, Keeps};
+ghost use Rattle.fl_stream.specs.Streams.{Wrote};
 ghost use Rattle.fl_trace.specs.Text.{text_of};
+ghost use Rattle.fl_session.specs.Recorded.{done_of};
 ghost use Rattle.fl_transport.specs.declared.fault.Fault.{Fault as SessionFault};
-ghost use Rattle.fl_waiting.specs.declared.rules.Rules.{Rules};
-ghost use Rattle.lockd_faults.specs.Faults.{AreBothTold, IsTold};
 ghost use Rattle.lockd_faults.specs.declared.fault.CommandFault.{CommandFault};
-ghost use Rattle.lockd_serve.specs.Faults.{IsOfServe, IsOfTraced};
-ghost use Rattle.lockd_serve.specs.Serve.{HasBegun, HasTrace};
-ghost use Rattle.lockd_serve.specs.Serve.Inside.{Did, TellsOf};
+ghost use Rattle.lockd_serve.specs.Ending.{Ends, EndsUntraced, Prints, Traces, has_history, told_of};
 
-use fl_history::Lines;
-use fl_serve::{Done, Recorded};
+use fl_serve::{Done, Fault, Recorded};
 use fl_stream::{Streamed, TraceRoom};
 use lockd_faults::{CommandFault, Status, end, print, tell};
-use std::alloc::Global;
 use std::io::Write;
 
-/// Writes the trace of a session whose lines are in memory, and then tells its fault.
-#[tactic(auto, using(crate::proofs::PrintLemmas::did))]
-pub(crate) fn print_recorded<W: Write>(
-    alloc: Global,
-    room: TraceRoom,
-    recorded: Recorded<Lines>,
-    output: &mut W,
-) -> Result<(), CommandFault>
-    ensures did { (rules : Rules) → IfSome recorded.journal (λ lines. IsLegal rules lines.items)
-        → Did rules (W.contents output.old) (W.contents output.new) result }
-{
-    let mut room = room;
-    let done = recorded.into_done(alloc);
-    print_done(&mut room, &done, output)
-}
-
-// Writes the trace of a session, and then tells its fault.
-#[tactic(auto, using(crate::proofs::PrintLemmas::not_printed, crate::proofs::PrintLemmas::printed))]
-fn print_done<W: Write>(
+/// Prints the trace of a session, and then tells its fault. If the output can't be written, that alone is told.
+pub(crate) fn end_printed<W: Write, F: Write>(
     room: &mut TraceRoom,
     done: &Done,
     output: &mut W,
-) -> Result<(), CommandFault>
-    ensures tells { TellsOf done.now.history (W.contents output.old) (W.contents output.new) result }
+    faults: &mut F,
+) -> Status
+    ensures traced { has_history done.now.fault ≡ true
+        → Prints done.now (W.contents output.old) (W.contents output.new) (record {
+          status = result;
+          told = F.contents faults.old;
+          told_now = F.contents faults.new;
+        }) }
+    ensures kept { has_history done.now.fault ≡ false → Keeps (W.contents output.old) (W.contents output.new) }
+    ensures untraced { has_history done.now.fault ≡ false → Ends (told_of done.now.fault) (record {
+      status = result;
+      told = F.contents faults.old;
+      told_now = F.contents faults.new;
+    }) }
+    ensures good { result ≡ Status.Good → (done.now.fault ≡ None)
+        × Appends (W.contents output.old) (W.contents output.new) (text_of done.now.history) }
+    ensures memory { result ≡ Status.Faulted CommandFault.NoMemory → done.now.fault ≡ Some SessionFault.NoMemory }
+    ensures heard { result ≢ Status.Faulted CommandFault.Listen }
 {
-    if let Some(fault @ (fl_serve::Fault::NoMemory | fl_serve::Fault::NoReader)) = done.fault {
-        return Err(CommandFault::from(fault));
+    if has_history(done.fault) && print(room, &done.history, output).is_err() {
+        return end(faults, Err(CommandFault::Write));
     }
-    print(room, &done.history, output)?;
-    match done.fault {
-        None => Ok(()),
-        Some(fault) => Err(CommandFault::from(fault)),
-    }
+    end_session(faults, done.fault)
 }
 
-/// Ends a command whose trace went to a writer: tells the session's fault, and that the trace failed. The writer comes
-/// back if a session was served.
-pub(crate) fn end_stream<W: Write + Drop, F: Write>(
+/// Ends a session whose trace went to a writer: tells its fault, and that the trace failed if the writer lacks some of
+/// it. The writer comes back if the session has a history.
+pub(crate) fn end_streamed<T: Write + Drop, F: Write>(
     faults: &mut F,
-    recorded: Recorded<Streamed<W>>,
-) -> (Status, Option<W>)
-    requires back { IsSome recorded.journal
-        ⊎ (recorded.fault ≡ Some SessionFault.NoMemory) ⊎ (recorded.fault ≡ Some SessionFault.NoReader) }
-    ensures good { (rules : Rules) → IfSome recorded.journal (λ stream. IsLegal rules stream.lines)
-        → result.0 ≡ Status.Good → HasTrace rules W.contents result.1 }
-    ensures begun { (rules : Rules) → IfSome recorded.journal (λ stream. IsLegal rules stream.lines)
-        → HasBegun rules W.contents result.1 }
-    ensures faulted { (fault : CommandFault) → result.0 ≡ Status.Faulted fault → IsOfTraced fault
-        × (IsTold fault (F.contents faults.old) (F.contents faults.new)
-        ⊎ AreBothTold fault CommandFault.TraceFailed (F.contents faults.old) (F.contents faults.new)) }
-    ensures quiet { result.0 ≡ Status.Good → Keeps (F.contents faults.old) (F.contents faults.new) }
-    ensures ended { result.0 ≢ Status.Different }
+    recorded: Recorded<Streamed<T>>,
+) -> (Status, Option<T>)
+    requires back { MatchOption recorded.journal (has_history recorded.fault ≡ false)
+        (λ _. has_history recorded.fault ≡ true) }
+    ensures traced { has_history recorded.fault ≡ true → (writer : T) × (result.1 ≡ Some writer)
+        × Traces T.contents (done_of (λ stream. stream.lines) recorded) (record {
+          status = result.0;
+          told = F.contents faults.old;
+          told_now = F.contents faults.new;
+        }) writer }
+    ensures untraced { has_history recorded.fault ≡ false → (result.1 ≡ None)
+        × Ends (told_of recorded.fault) (record {
+          status = result.0;
+          told = F.contents faults.old;
+          told_now = F.contents faults.new;
+        }) }
+    ensures good { result.0 ≡ Status.Good → (recorded.fault ≡ None) × ((writer : T) × (result.1 ≡ Some writer)
+        × Wrote T.contents (T.contents writer) (text_of (done_of (λ stream. stream.lines) recorded).history)) }
+    ensures memory { result.0 ≡ Status.Faulted CommandFault.NoMemory → recorded.fault ≡ Some SessionFault.NoMemory }
+    ensures heard { result.0 ≢ Status.Faulted CommandFault.Listen }
 {
     let Recorded { journal, fault, .. } = recorded;
-    let done = told_of(fault);
     let Some(stream) = journal else {
-        return (end(faults, done), None);
+        return (end_session(faults, fault), None);
     };
-    let (status, trace) = ended(faults, done, stream);
-    (status, Some(trace))
-}
-
-/// How a session ended.
-pub(crate) fn told_of(fault: Option<fl_serve::Fault>) -> Result<(), CommandFault>
-    ensures of { IfErr result IsOfServe }
-    ensures none { IsOk result → fault ≡ None }
-{
-    match fault {
-        None => Ok(()),
-        Some(fault) => Err(CommandFault::from(fault)),
-    }
-}
-
-// Ends a command whose trace went to a writer: tells the session's fault, and that the trace failed.
-fn ended<W: Write + Drop, F: Write>(
-    faults: &mut F,
-    done: Result<(), CommandFault>,
-    stream: Streamed<W>,
-) -> (Status, W)
-    requires of { IfErr done IsOfServe }
-    ensures good { result.0 ≡ Status.Good
-        → Wrote W.contents (W.contents result.1) (text_of stream.lines) }
-    ensures begun { IsBegun W.contents (W.contents result.1) stream.lines }
-    ensures faulted { (fault : CommandFault) → result.0 ≡ Status.Faulted fault → IsOfTraced fault
-        × (IsTold fault (F.contents faults.old) (F.contents faults.new)
-        ⊎ AreBothTold fault CommandFault.TraceFailed (F.contents faults.old) (F.contents faults.new)) }
-    ensures quiet { result.0 ≡ Status.Good → Keeps (F.contents faults.old) (F.contents faults.new) }
-    ensures ended { result.0 ≢ Status.Different }
-{
     let mut stream = stream;
     let whole = stream.flush();
-    let trace = stream.into_writer();
-    if whole {
-        return (end(faults, done), trace);
-    }
-    (end_untraced(faults, done), trace)
+    let writer = stream.into_writer();
+    let status = if whole {
+        end_session(faults, fault)
+    } else {
+        end_untraced(faults, fault)
+    };
+    (status, Some(writer))
 }
 
-// Ends a command whose trace failed: tells the fault by which it gave up besides, if it did, and then that.
-fn end_untraced<F: Write>(faults: &mut F, done: Result<(), CommandFault>) -> Status
-    requires of { IfErr done IsOfServe }
-    ensures good { result ≢ Status.Good }
-    ensures faulted { (fault : CommandFault) → result ≡ Status.Faulted fault → IsOfTraced fault
-        × (IsTold fault (F.contents faults.old) (F.contents faults.new)
-        ⊎ AreBothTold fault CommandFault.TraceFailed (F.contents faults.old) (F.contents faults.new)) }
-    ensures ended { result ≢ Status.Different }
+// Whether a session with this fault has a history.
+fn has_history(fault: Option<Fault>) -> bool
+    ensures { result ≡ has_history fault }
 {
-    match done {
-        Ok(()) => end(faults, Err(CommandFault::TraceFailed)),
-        Err(fault) => {
-            tell(faults, fault);
-            tell(faults, CommandFault::TraceFailed);
-            Status::Faulted(fault)
-        }
+    !matches!(fault, Some(Fault::NoMemory | Fault::NoReader))
+}
+
+/// Ends a session of which no more is to be told than its fault, if it has one.
+pub(crate) fn end_session<F: Write>(faults: &mut F, fault: Option<Fault>) -> Status
+    ensures ends { Ends (told_of fault) (record {
+      status = result;
+      told = F.contents faults.old;
+      told_now = F.contents faults.new;
+    }) }
+    ensures good { result ≡ Status.Good → fault ≡ None }
+    ensures memory { result ≡ Status.Faulted CommandFault.NoMemory → fault ≡ Some SessionFault.NoMemory }
+    ensures heard { result ≢ Status.Faulted CommandFault.Listen }
+{
+    match fault {
+        None => Status::Good,
+        Some(fault) => end(faults, Err(CommandFault::from(fault))),
     }
+}
+
+// Ends a session whose trace failed: tells its fault, if it has one, and then that.
+fn end_untraced<F: Write>(faults: &mut F, fault: Option<Fault>) -> Status
+    ensures ends { EndsUntraced (told_of fault) (record {
+      status = result;
+      told = F.contents faults.old;
+      told_now = F.contents faults.new;
+    }) }
+    ensures bad { result ≢ Status.Good }
+    ensures memory { result ≡ Status.Faulted CommandFault.NoMemory → fault ≡ Some SessionFault.NoMemory }
+    ensures heard { result ≢ Status.Faulted CommandFault.Listen }
+{
+    let status = match fault {
+        None => Status::Faulted(CommandFault::TraceFailed),
+        Some(fault) => end_session(faults, Some(fault)),
+    };
+    tell(faults, CommandFault::TraceFailed);
+    status
 }

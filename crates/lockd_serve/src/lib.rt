@@ -1,23 +1,30 @@
-//! `lockd serve`, as functions over a writer.
+//! `lockd serve`, as functions over a reader and writers.
 //!
-//! That `serve_on` calls `record_session` with one worker, and `record_with_workers` with more, is seen in the code,
-//! and by a test: a look of one worker is a line of its trace, and one of four isn't. Contracts see nothing of a
-//! socket. They let through:
-//! - a server with another number of workers, one that prints the trace of another legal history, the empty one too,
-//!   and one that takes another server's socket file away;
-//! - one without a trace that tells no fault or serves nobody, and one that says wrongly that its trace failed;
+//! `serve_stream` serves a session over any reader and any writer. Its clauses speak of one and the same session: what
+//! was read and written, the trace, the lines on `faults` and the status. `serve_on` serves so the first connection to
+//! a socket, of whose bytes contracts see nothing. Contracts see no failure of a reader or a writer either. They let
+//! through:
+//! - a `serve_stream` that says `no memory` and serves nobody, or says wrongly that the trace failed, or the output;
+//! - one that doesn't shut its socket down when the session is over, or only once the trace is printed;
+//! - one that tells a fault in part, or not at all, and what `fl_session`, `fl_serve` and `fl_stream` let through;
+//! - a `serve_on` that always says `cannot listen`, serves something else than the connection, or asks for the file at
+//!   another path before it takes the socket's file away;
 //! - a `trace_at` that is always refused;
 //! - a `Spinning` that never or always spins, gives `WouldBlock`, or leaves its socket so that it doesn't wait;
 //! - a `Patient` that tries once, tells an error always or another, or leaves its socket so that it doesn't wait.
-//! `tools/try_sockets` and `tools/try_traces` refuse most of these.
+//! `lockd_commands_tests`, `tools/try_sockets`, `tools/try_ends` and `tools/try_traces` refuse most of these.
 #![tactic(auto)]
 
 mod ending;
 mod options;
 mod serve;
+mod serving;
 mod socket;
 mod spinning;
+mod unused;
 
 pub use fl_stream::WhenWriterFails;
 pub use options::{ServeOptions, TraceTo};
 pub use serve::{serve_on, trace_at};
+pub use serving::serve_stream;
+pub use unused::is_unused;

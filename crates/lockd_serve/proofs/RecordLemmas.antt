@@ -1,0 +1,37 @@
+-- What one worker recorded, and what several did, as what was served.
+use Rattle.std.proofs.Common.{◌≡◌, ℕ, ◌<◌, Bool, List, Option, None, Some, arith}
+use Rattle.std.specs.Prelude.{IfSome}
+use Rattle.fl_desk.specs.Legal.{IsLegal, nothing}
+use Rattle.fl_history.specs.declared.history.Line.{Line}
+use Rattle.fl_serve.specs.Serve.{IsRecordedBy}
+use Rattle.fl_session.specs.Recorded.{done_of, journal_lines}
+use Rattle.fl_session.specs.Served.{IsServed}
+use Rattle.fl_session.specs.declared.recorded.Recorded.{Recorded}
+use Rattle.fl_transport.specs.Streams.{Streams}
+use Rattle.fl_waiting.specs.declared.rules.Rules.{Rules}
+use Rattle.lockd_serve.specs.Served.{HasServed}
+
+-- the lines of a journal are legal, and no lines if there is none
+legal_lines : {K : Type 0} (rules : Rules) (lines : K → List Line) (journal : Option K)
+    → IfSome journal (λ k. IsLegal rules (lines k)) → IsLegal rules (journal_lines lines journal)
+legal_lines rules lines None legal = nothing
+legal_lines rules lines (Some journal) legal = legal
+
+-- what one worker recorded was served
+pub alone : {K : Type 0} (lines : K → List Line) (workers : ℕ) (rules : Rules) (streams : Streams) (broken : Bool)
+    (it : Recorded K) → workers ≡ 1 → IfSome it.journal (λ k. IsLegal rules (lines k))
+    → IsServed rules streams broken (done_of lines it) → HasServed workers rules streams (done_of lines it)
+alone lines workers rules streams broken it one legal served = record {
+  legal = legal_lines rules lines it.journal legal;
+  alone = λ _. (broken, served);
+  several = λ more. absurd (omega (arith, one, more));
+}
+
+-- what several workers recorded was served
+pub several : {K : Type 0} (lines : K → List Line) (workers : ℕ) (rules : Rules) (streams : Streams) (it : Recorded K)
+    → 1 < workers → IsRecordedBy lines rules streams it → HasServed workers rules streams (done_of lines it)
+several lines workers rules streams it more is = record {
+  legal = legal_lines rules lines it.journal is.legal;
+  alone = λ one. absurd (omega (arith, one, more));
+  several = λ _. is.served;
+}

@@ -1,0 +1,101 @@
+-- How a server ends: where the trace of its session is, what it tells, and its status.
+use Rattle.std.specs.Prelude.{◌≡◌, ◌⊎◌, ℕ, Bool, true, false, List, Option, None, Some, option_map, ⊤}
+use Rattle.std.specs.Io.KnownBytes.{Appends, Keeps}
+use Rattle.fl_history.specs.declared.history.Line.{Line}
+use Rattle.fl_session.specs.declared.done.Done.{Done}
+use Rattle.fl_stream.specs.Streams.{IsBegun, Wrote, WroteSome}
+use Rattle.fl_trace.specs.Text.{text_of}
+use Rattle.fl_transport.specs.Streams.{Streams}
+use Rattle.fl_transport.specs.declared.fault.Fault.{Fault as SessionFault}
+use Rattle.fl_transport.specs.declared.fault.Fault.TheVariants as session
+use Rattle.fl_waiting.specs.declared.rules.Rules.{Rules}
+use Rattle.lockd_faults.specs.Causes.{fault_of}
+use Rattle.lockd_faults.specs.Faults.{AreBothTold, IsTold}
+use Rattle.lockd_faults.specs.declared.fault.CommandFault.{CommandFault}
+use Rattle.lockd_faults.specs.declared.fault.CommandFault.TheVariants.{TraceFailed, Write}
+use Rattle.lockd_faults.specs.declared.status.Status.{Status}
+use Rattle.lockd_faults.specs.declared.status.Status.TheVariants.{Faulted, Good}
+use Rattle.lockd_serve.specs.Served.{HasServed}
+use Rattle.lockd_serve.specs.declared.options.TraceTo.{TraceTo}
+use Rattle.lockd_serve.specs.declared.options.TraceTo.TheVariants as to
+
+-- How a server ended: its status, and what its error output held before and holds then.
+pub record Ending : Type 0 where
+  pub status : Status
+  pub told : Option (List ℕ)
+  pub told_now : Option (List ℕ)
+
+-- The session has a history. It has none at `NoMemory`, when nothing was served, nor at `NoReader`, when the workers'
+-- board can't tell it.
+abbrev pub has_history : Option SessionFault → Bool
+has_history (Some session.NoMemory) = false
+has_history (Some session.NoReader) = false
+has_history fault = true
+
+-- a session's fault, as the server tells it
+abbrev pub told_of : Option SessionFault → Option CommandFault
+told_of fault = option_map fault_of fault
+
+-- This fault is told, as one line, and decides the status. With none the status is good and nothing is told.
+abbrev pub Ends : Option CommandFault → Ending → Type 0
+Ends None it = (it.status ≡ Good) × Keeps it.told it.told_now
+Ends (Some fault) it = (it.status ≡ Faulted fault) × IsTold fault it.told it.told_now
+
+-- It is told that the trace failed, after the session's fault, if it had one. The first that is told decides the
+-- status.
+abbrev pub EndsUntraced : Option CommandFault → Ending → Type 0
+EndsUntraced None it = Ends (Some TraceFailed) it
+EndsUntraced (Some fault) it = (it.status ≡ Faulted fault) × AreBothTold fault TraceFailed it.told it.told_now
+
+-- The text of the session's history was printed, all of it, and its fault is told. If the output can't be written, a
+-- beginning of the text may be there, and this is the only fault that is told. `out` and `out_now` are what the output
+-- held before and holds then.
+abbrev pub Prints : Done → Option (List ℕ) → Option (List ℕ) → Ending → Type 0
+Prints done out out_now it =
+    (Appends out out_now (text_of done.history) × Ends (told_of done.fault) it)
+    ⊎ (WroteSome (text_of done.history) out out_now × Ends (Some Write) it)
+
+-- A writer has the text of the session's history, all of it and nothing else, and the session's fault is told. If it
+-- lacks some, it has a beginning of the text, and it is told that the trace failed. `contents` is what a writer says
+-- that it holds.
+abbrev pub Traces : {T : Type 0} → (T → Option (List ℕ)) → Done → Ending → T → Type 0
+Traces contents done it writer =
+    (Wrote contents (contents writer) (text_of done.history) × Ends (told_of done.fault) it)
+    ⊎ (IsBegun contents (contents writer) done.history × EndsUntraced (told_of done.fault) it)
+
+-- What a session with a history leaves, by where its trace goes. If that is a writer, it comes back (`back`), and
+-- nothing is printed.
+abbrev pub LeavesTrace : {S T : Type 0} → TraceTo S → (T → Option (List ℕ)) → Done → Option (List ℕ) → Option (List ℕ)
+    → Ending → Option T → Type 0
+LeavesTrace to.Output contents done out out_now it back = (back ≡ None) × Prints done out out_now it
+LeavesTrace to.Nowhere contents done out out_now it back =
+    (back ≡ None) × Keeps out out_now × Ends (told_of done.fault) it
+LeavesTrace (to.Writer blank) contents done out out_now it back =
+    Keeps out out_now × ((writer : _) × (back ≡ Some writer) × Traces contents done it writer)
+
+-- A session was served, and this is what the server leaves of it. All speaks of one and the same session: what was read
+-- and written, its history, its trace, its fault and the status.
+pub record IsOver {S T : Type 0} (workers : ℕ) (rules : Rules) (trace : TraceTo S) (contents : T → Option (List ℕ))
+    (streams : Streams) (out out_now : Option (List ℕ)) (it : Ending) (back : Option T) : Type 0 where
+  pub done : Done
+  pub served : HasServed workers rules streams done
+  pub traced : has_history done.fault ≡ true → LeavesTrace trace contents done out out_now it back
+  pub untraced : has_history done.fault ≡ false
+      → (back ≡ None) × Keeps out out_now × Ends (told_of done.fault) it
+
+-- The trace of these lines is whole, wherever it goes: all of its text was printed, or its writer has that and nothing
+-- else.
+abbrev pub IsWhole : {S T : Type 0} → TraceTo S → (T → Option (List ℕ)) → List Line → Option (List ℕ)
+    → Option (List ℕ) → Option T → Type 0
+IsWhole to.Output contents lines out out_now back = Appends out out_now (text_of lines)
+IsWhole to.Nowhere contents lines out out_now back = ⊤
+IsWhole (to.Writer blank) contents lines out out_now back =
+    (writer : _) × (back ≡ Some writer) × Wrote contents (contents writer) (text_of lines)
+
+-- A session was served to its end, no read or write of it failed, and its trace is whole.
+pub record WentWell {S T : Type 0} (workers : ℕ) (rules : Rules) (trace : TraceTo S) (contents : T → Option (List ℕ))
+    (streams : Streams) (out out_now : Option (List ℕ)) (back : Option T) : Type 0 where
+  pub done : Done
+  pub served : HasServed workers rules streams done
+  pub faultless : done.fault ≡ None
+  pub whole : IsWhole trace contents done.history out out_now back
