@@ -8,6 +8,7 @@ mod looks;
 mod orders;
 mod pool;
 mod refusals;
+mod sending;
 mod tally;
 mod thirds;
 mod thousands;
