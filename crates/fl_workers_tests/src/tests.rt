@@ -1,5 +1,6 @@
 //! Workers of a session, whose orders are answered in memory.
 
+mod begins;
 mod came;
 mod crossing;
 mod handling;
@@ -13,3 +14,4 @@ mod tally;
 mod thirds;
 mod thousands;
 mod watch;
+mod whole;

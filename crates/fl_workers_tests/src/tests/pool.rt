@@ -1,6 +1,6 @@
 //! Workers in threads of their own, which take orders from an intake while this thread puts them.
 
-ghost use Rattle.std.specs.Prelude.{◌≡◌, ◌<◌, ◌≤◌, ◌+◌, [], All, Some, length, map};
+ghost use Rattle.std.specs.Prelude.{◌≡◌, ◌<◌, ◌≤◌, [], All, Some, length};
 
 use super::came::Came;
 use super::sending::{begun, closed, opened};
@@ -75,9 +75,8 @@ fn worked_at<'w, N: WriterName + Send + Sync, R: Threads + Wait + Clock + Abort 
     requires given { given ≡ N.log }
     requires workers { (0 < staff.workers) × (staff.workers ≤ 16) }
 {
-    let (intake, put, ends) = Intake::new(alloc, staff.workers).expect(rt, "memory");
     let (sender, mut rest) = opened::<N, R>(rt, alloc, sending, given, out);
-    let places = places_at(rt, alloc, &sender, &mut rest, ends);
+    let (intake, put, places) = staffed(rt, alloc, staff.workers, &sender, &mut rest);
     let sender = begun(sender);
     let pool = WorkerPool {
         rt,
@@ -90,24 +89,26 @@ fn worked_at<'w, N: WriterName + Send + Sync, R: Threads + Wait + Clock + Abort 
     };
     let (places, put) = pool.run(put, places, rest.empty(), orders);
     let WorkerPool { intake, came, .. } = pool;
-    let (ends, appenders) = parted(rt, alloc, places);
-    let left = intake.finish(rt, put, ends).ok().expect(rt, "all ends");
-    assert!(rt; left.is_empty());
+    let appenders = finished(rt, alloc, intake, put, places);
     (came.into_inner(), closed(rt, sender, appenders))
 }
 
-// A place for each end. The worker at it has the number of the place.
-fn places_at<N: WriterName>(
+// An intake, and a place for each of so many workers, whose number is that of the place.
+fn staffed<N: WriterName>(
     rt: &impl Abort,
     alloc: Global,
+    workers: u32,
     sender: &SharedSender<'_, Vec<u8>, N>,
     rest: &mut Share<N>,
-    ends: Vec<TakeEnd>,
-) -> Vec<Place<N>>
+) -> (Intake, PutEnd, Vec<Place<N>>)
+    requires workers { (0 < workers) × (workers ≤ 16) }
     requires none { sender.now.log ≡ [] }
-    requires rest { (length ends.items ≤ rest.old.parts) × (rest.old.amount ≡ 0) }
-    ensures { map (λ place. place.end) result.items ≡ ends.items }
+    requires rest { (workers ≤ rest.old.parts) × (rest.old.amount ≡ 0) }
+    ensures put { result.1.of ≡ result.0 }
+    ensures places { All (λ place. place.end.of ≡ result.0) result.2.items }
+    ensures each { length result.2.items ≡ workers }
 {
+    let (intake, put, ends) = Intake::new(alloc, workers).expect(rt, "memory");
     let mut places = Vec::new(alloc);
     let mut worker = 0u32;
     for end in ends {
@@ -115,17 +116,20 @@ fn places_at<N: WriterName>(
         places.push(Place { end, own }).expect(rt, "memory");
         worker = worker.wrapping_add(1);
     }
-    places
+    (intake, put, places)
 }
 
-// The ends of these places, and their appenders.
-fn parted<N: WriterName>(
-    rt: &impl Abort,
+// The appenders of all places. No order is left in the intake.
+fn finished<N: WriterName, R: Wait + Abort>(
+    rt: &R,
     alloc: Global,
+    intake: Intake,
+    put: PutEnd,
     places: Vec<Place<N>>,
-) -> (Vec<TakeEnd>, Vec<Appender<N, ReplyEntry>>)
-    ensures ends { result.0.items ≡ map (λ place. place.end) places.items }
-    ensures appenders { result.1.items ≡ map (λ place. place.own) places.items }
+) -> Vec<Appender<N, ReplyEntry>>
+    requires put { put.of ≡ intake }
+    requires places { All (λ place. place.end.of ≡ intake) places.items }
+    ensures { length result.items ≡ length places.items }
 {
     let mut ends = Vec::new(alloc);
     let mut appenders = Vec::new(alloc);
@@ -134,7 +138,9 @@ fn parted<N: WriterName>(
         ends.push(end).expect(rt, "memory");
         appenders.push(own).expect(rt, "memory");
     }
-    (ends, appenders)
+    let left = intake.finish(rt, put, ends).ok().expect(rt, "all ends");
+    assert!(rt; left.is_empty());
+    appenders
 }
 
 // What the workers share.

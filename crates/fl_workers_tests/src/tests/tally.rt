@@ -75,7 +75,7 @@ fn append(lines: &mut Lines, worker: u32, order: &Order, tolds: &[Told])
 }
 
 impl Counter for Tally {
-    ghost use Rattle.std.specs.Prelude.{length, take, Unit};
+    ghost use Rattle.std.specs.Prelude.{length, take};
     ghost use Rattle.fl_desk.specs.Answered.{answered_by};
 
     type Seat = Seat;
@@ -117,6 +117,7 @@ impl Counter for Tally {
         Ok(())
     }
 
+    #[tactic(auto, using(crate::proofs::SeatLemmas::shown_still, crate::proofs::SeatLemmas::all_shown))]
     fn look(&self, seat: &mut Seat, order: &Order) -> Result<Result<Answer, Errno>, NoView> {
         if !self.shows || seat.looks.push(order.unique).is_err() {
             return Err(NoView);
