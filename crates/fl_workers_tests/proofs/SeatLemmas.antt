@@ -1,6 +1,6 @@
 -- What the lines of a seat answer to each order.
-use Rattle.std.proofs.Common.{◌≡◌, ℕ, ◌==◌, true, List, [], ◌∷◌, ◌++◌, map, refl, sym, ap, ◌∙◌, arith}
-use Rattle.std.proofs.Common.{append_assoc, append-nil, length, take, drop}
+use Rattle.std.proofs.Common.{◌≡◌, ℕ, ◌==◌, true, List, [], ◌∷◌, ◌++◌, map, length, take, drop}
+use Rattle.std.proofs.Common.{refl, sym, ap, ◌∙◌, arith, append_assoc, append-nil}
 use Rattle.std.proofs.Math.Seq.{take-length}
 use Rattle.std.proofs.lemmas.List.{take-append-drop}
 use Rattle.std.proofs.lemmas.Bool.Decides.{nat_tests}
@@ -37,13 +37,15 @@ answered_to worker asker order tolds = if asker == worker then answered order to
 
 -- an order behind lines is answered behind them
 answered_behind : (worker : ℕ) (order : Order) (tolds : List Told) (lines : List Line)
-    → answered_by worker (lines ++ step_lines worker order tolds) ≡ answered_by worker lines ++ answered order tolds ∷ []
+    → answered_by worker (lines ++ step_lines worker order tolds)
+    ≡ answered_by worker lines ++ answered order tolds ∷ []
 answered_behind worker order tolds [] =
     (λ i. answered_to worker worker order (first_are tolds i) ++ none_asked worker tolds i)
     ∙ (λ i. (if same_number worker i then answered order tolds ∷ [] else []) ++ [])
 answered_behind worker order tolds (line.Told told ∷ lines) = answered_behind worker order tolds lines
 answered_behind worker order tolds (line.Asked asker other ∷ lines) =
-    (λ i. answered_to worker asker other (first_same worker order tolds lines i) ++ answered_behind worker order tolds lines i)
+    (λ i. answered_to worker asker other (first_same worker order tolds lines i)
+    ++ answered_behind worker order tolds lines i)
     ∙ sym (append_assoc (answered_to worker asker other (first_tolds lines)) (answered_by worker lines)
     (answered order tolds ∷ []))
 

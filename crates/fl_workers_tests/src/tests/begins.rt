@@ -19,7 +19,8 @@ const REPLY: Told = Told {
     result: Err(Errno::ENOENT),
 };
 
-// What a writer holds after one reply was given and the sender was abandoned, before or after the session began.
+// What a writer holds if one reply was given, before or after the session began, and the sender was
+// abandoned.
 fn sent<R: Abort>(rt: &R, alloc: Global, begins: bool) -> Vec<u8> {
     let mut out = Vec::new(alloc);
     let (blank, fresh) = (Blank::new(1), FreshLog::new());

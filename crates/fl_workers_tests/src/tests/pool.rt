@@ -1,6 +1,6 @@
 //! Workers in threads of their own, which take orders from an intake while this thread puts them.
 
-ghost use Rattle.std.specs.Prelude.{◌≡◌, ◌<◌, ◌≤◌, [], All, Some, length};
+ghost use Rattle.std.specs.Prelude.{◌≡◌, ◌<◌, ◌≤◌, [], ◌∷◌, ◌++◌, All, Some, length};
 
 use super::came::Came;
 use super::sending::{begun, closed, opened};
@@ -93,6 +93,12 @@ fn worked_at<'w, N: WriterName + Send + Sync, R: Threads + Wait + Clock + Abort 
     (came.into_inner(), closed(rt, sender, appenders))
 }
 
+fn add<T: Drop>(rt: &impl Abort, all: &mut Vec<T>, one: T)
+    ensures { all.new.items ≡ all.old.items ++ one ∷ [] }
+{
+    all.push(one).expect(rt, "memory");
+}
+
 // An intake, and a place for each of so many workers, whose number is that of the place.
 fn staffed<N: WriterName>(
     rt: &impl Abort,
@@ -113,7 +119,7 @@ fn staffed<N: WriterName>(
     let mut worker = 0u32;
     for end in ends {
         let own = sender.appender(rest, worker);
-        places.push(Place { end, own }).expect(rt, "memory");
+        add(rt, &mut places, Place { end, own });
         worker = worker.wrapping_add(1);
     }
     (intake, put, places)
@@ -135,8 +141,8 @@ fn finished<N: WriterName, R: Wait + Abort>(
     let mut appenders = Vec::new(alloc);
     for place in places {
         let Place { end, own } = place;
-        ends.push(end).expect(rt, "memory");
-        appenders.push(own).expect(rt, "memory");
+        add(rt, &mut ends, end);
+        add(rt, &mut appenders, own);
     }
     let left = intake.finish(rt, put, ends).ok().expect(rt, "all ends");
     assert!(rt; left.is_empty());
@@ -161,8 +167,9 @@ impl<'a, 'w, N: WriterName + Send + Sync, R: Threads + Wait + Clock + Abort + Sy
     N,
     R,
 > {
-    // Puts all orders while a worker at each place takes them. All places come back. The closure that puts gives back
-    // an empty share, too: without one that its clauses speak of, nothing would be known here of its end.
+    // Puts all orders while a worker at each place takes them. All places come back. The closure that
+    // puts gives back an empty share, too: without one that its clauses speak of, nothing would be known
+    // here of its end.
     fn run(
         &self,
         put: PutEnd,

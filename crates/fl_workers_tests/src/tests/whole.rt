@@ -1,4 +1,4 @@
-//! What is owed for each order is sent behind the bytes that were there, and nothing is lost on the way.
+//! What is owed for each order is sent behind the bytes that were there, and nothing is lost.
 
 use super::came::{Came, are_replies, have_failed};
 use super::orders::{FIRST, made, push, replies};
@@ -57,7 +57,7 @@ fn owed(rt: &impl Abort, alloc: Global) -> Vec<Reply> {
     owed
 }
 
-// These are the bytes from before, and then those that are owed: 16 for each LOOKUP, 120 for each GETATTR, and no more.
+// These are the bytes from before, and then 16 for each LOOKUP and 120 for each GETATTR.
 fn are_bytes_owed(rt: &impl Abort, alloc: Global, out: &[u8]) {
     let sent = out.strip_prefix(&BEFORE).expect(rt, "what was there");
     assert_eq!(rt; sent.len(), 1_800 * 16 + 900 * 120);
