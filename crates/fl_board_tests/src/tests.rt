@@ -8,7 +8,7 @@ mod looks;
 mod missing;
 mod threaded;
 
-use fl_board::{Board, BoardName, FreshLog, Seat};
+use fl_board::{Ask, Board, BoardName, FreshLog, Seat};
 use fl_core::{Rules, Tolds};
 use fl_desk::{Verdict, check};
 use fl_history::History;
@@ -75,7 +75,7 @@ fn opened<L: BoardName, R: Wait + Abort>(
     rt: &R,
     alloc: Global,
     blank: Blank,
-    log: FreshLog,
+    log: FreshLog<Ask>,
     workers: u32,
     rules: Rules,
 ) -> (Board<L, &R>, Vec<Seat<L>>)

@@ -1,13 +1,70 @@
--- What is handed in at a seat.
-use Rattle.std.proofs.Common.{◌≡◌, [], ◌∷◌, ◌++◌, append-nil}
-use Rattle.fl_desk.specs.Asked.{IsAskedLast, Orders}
+-- What the lines of a seat answer to each order.
+use Rattle.std.proofs.Common.{◌≡◌, ℕ, ◌==◌, true, List, [], ◌∷◌, ◌++◌, map, length, take, drop}
+use Rattle.std.proofs.Common.{refl, sym, ap, ◌∙◌, arith, append_assoc, append-nil}
+use Rattle.std.proofs.Math.Seq.{take-length}
+use Rattle.std.proofs.lemmas.List.{take-append-drop}
+use Rattle.std.proofs.lemmas.Bool.Decides.{nat_tests}
+use Rattle.std.specs.Prelude.{if◌then◌else◌}
+use mathlib.Core.List.{IsPrefix}
+use Rattle.fl_desk.specs.Answered.{Answered, IsAnsweredLast, answered, answered_by, first_tolds}
+use Rattle.fl_desk.specs.Legal.{step_lines}
+use Rattle.fl_history.specs.declared.history.Line.{Line}
+use Rattle.fl_history.specs.declared.history.Line.TheVariants as line
 use Rattle.fl_order.specs.declared.order.Order.{Order}
+use Rattle.fl_order.specs.declared.told.Told.{Told}
 
--- an order that is kept behind the others is asked last
-pub asked_last : (asked asked_now : Orders) (order : Order) → asked_now ≡ asked ++ order ∷ []
-    → IsAskedLast asked order asked_now
-asked_last asked asked_now order now = record {
-  before = asked;
-  had = ([], append-nil asked);
-  now = now;
+-- an order has no replies of the next
+first_same : (worker : ℕ) (order : Order) (tolds : List Told) (lines : List Line)
+    → first_tolds (lines ++ step_lines worker order tolds) ≡ first_tolds lines
+first_same worker order tolds [] = refl
+first_same worker order tolds (line.Told told ∷ lines) = ap (λ l. told ∷ l) (first_same worker order tolds lines)
+first_same worker order tolds (line.Asked asker other ∷ lines) = refl
+
+first_are : (tolds : List Told) → first_tolds (map (λ told. line.Told told) tolds) ≡ tolds
+first_are [] = refl
+first_are (told ∷ tolds) = ap (λ l. told ∷ l) (first_are tolds)
+
+none_asked : (worker : ℕ) (tolds : List Told) → answered_by worker (map (λ told. line.Told told) tolds) ≡ []
+none_asked worker [] = refl
+none_asked worker (told ∷ tolds) = none_asked worker tolds
+
+same_number : (n : ℕ) → (n == n) ≡ true
+same_number n = grind (arith, nat_tests)
+
+-- the order, with these replies, if it is of the worker
+abbrev answered_to : ℕ → ℕ → Order → List Told → List Answered
+answered_to worker asker order tolds = if asker == worker then answered order tolds ∷ [] else []
+
+-- an order behind lines is answered behind them
+answered_behind : (worker : ℕ) (order : Order) (tolds : List Told) (lines : List Line)
+    → answered_by worker (lines ++ step_lines worker order tolds)
+    ≡ answered_by worker lines ++ answered order tolds ∷ []
+answered_behind worker order tolds [] =
+    (λ i. answered_to worker worker order (first_are tolds i) ++ none_asked worker tolds i)
+    ∙ (λ i. (if same_number worker i then answered order tolds ∷ [] else []) ++ [])
+answered_behind worker order tolds (line.Told told ∷ lines) = answered_behind worker order tolds lines
+answered_behind worker order tolds (line.Asked asker other ∷ lines) =
+    (λ i. answered_to worker asker other (first_same worker order tolds lines i)
+    ++ answered_behind worker order tolds lines i)
+    ∙ sym (append_assoc (answered_to worker asker other (first_tolds lines)) (answered_by worker lines)
+    (answered order tolds ∷ []))
+
+-- an order behind the lines of a seat is answered last
+pub answered_last : (worker : ℕ) (before now : List Line) (order : Order) (tolds : List Told)
+    → now ≡ before ++ step_lines worker order tolds
+    → IsAnsweredLast (answered_by worker before) order tolds (answered_by worker now)
+answered_last worker before now order tolds is = record {
+  others = answered_by worker before;
+  had = ([], append-nil (answered_by worker before));
+  is = ap (answered_by worker) is ∙ answered_behind worker order tolds before;
 }
+
+-- what was shown is shown still
+pub shown_still : (shown : ℕ) (lines : List Line) → IsPrefix (take shown lines) (take shown lines)
+shown_still shown lines = ([], append-nil (take shown lines))
+
+-- all lines begin with what was shown
+pub all_shown : (shown now : ℕ) (lines : List Line) → now ≡ length lines
+    → IsPrefix (take shown lines) (take now lines)
+all_shown shown now lines all =
+    (drop shown lines, take-append-drop shown lines ∙ sym (take-length lines) ∙ (λ i. take (sym all i) lines))

@@ -1,5 +1,6 @@
 //! Workers of a session, whose orders are answered in memory.
 
+mod begins;
 mod came;
 mod crossing;
 mod handling;
@@ -8,7 +9,9 @@ mod looks;
 mod orders;
 mod pool;
 mod refusals;
+mod sending;
 mod tally;
 mod thirds;
 mod thousands;
 mod watch;
+mod whole;

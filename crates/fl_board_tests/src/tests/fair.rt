@@ -4,7 +4,7 @@ ghost use Rattle.std.specs.Prelude.{◌≡◌};
 ghost use Rattle.fl_core.specs.Tolds.{HasRoom};
 
 use super::{closed, is_answer, is_judged, new_tolds, opened, order, take, upto};
-use fl_board::{Board, BoardName, FreshLog, Seat};
+use fl_board::{Ask, Board, BoardName, FreshLog, Seat};
 use fl_core::{Rules, Tolds};
 use fl_desk::Verdict;
 use fl_history::{History, Line};
@@ -115,7 +115,7 @@ fn followed<L: BoardName, R: Wait + Abort>(
     rt: &R,
     alloc: Global,
     blank: Blank,
-    log: FreshLog,
+    log: FreshLog<Ask>,
     rules: Rules,
     trace: &History,
 ) -> (Views, History)

@@ -4,7 +4,7 @@ ghost use Rattle.std.specs.Prelude.{◌≡◌};
 ghost use Rattle.fl_core.specs.Tolds.{HasRoom};
 
 use super::{closed, create, is_answer, is_judged, new_tolds, opened, order, take, upto};
-use fl_board::{Board, BoardName, FreshLog, Seat};
+use fl_board::{Ask, Board, BoardName, FreshLog, Seat};
 use fl_core::{Rules, Tolds};
 use fl_desk::Verdict;
 use fl_history::History;
@@ -91,7 +91,7 @@ fn looked<L: BoardName, R: Wait + Abort>(
     rt: &R,
     alloc: Global,
     blank: Blank,
-    log: FreshLog,
+    log: FreshLog<Ask>,
     rules: Rules,
 ) -> (Views, History)
     requires named { (blank.name ≡ L.name) × (blank.parts ≡ L.parts) }
@@ -194,7 +194,7 @@ fn shown_each<L: BoardName, R: Wait + Abort>(
     rt: &R,
     alloc: Global,
     blank: Blank,
-    log: FreshLog,
+    log: FreshLog<Ask>,
     rules: Rules,
 ) -> History
     requires named { (blank.name ≡ L.name) × (blank.parts ≡ L.parts) }

@@ -3,7 +3,7 @@
 ghost use Rattle.std.specs.Prelude.{◌≡◌};
 
 use super::{closed, create, is_judged, new_tolds, opened, order, take, upto};
-use fl_board::{Board, BoardName, CloseFault, FreshLog, Seat};
+use fl_board::{Ask, Board, BoardName, CloseFault, FreshLog, Seat};
 use fl_core::Rules;
 use fl_desk::Verdict;
 use fl_history::{History, Line, Lines};
@@ -102,7 +102,7 @@ fn closed_late<L: BoardName, R: Wait + Abort>(
     rt: &R,
     alloc: Global,
     blank: Blank,
-    log: FreshLog,
+    log: FreshLog<Ask>,
     rules: Rules,
 ) -> History
     requires named { (blank.name ≡ L.name) × (blank.parts ≡ L.parts) }
@@ -139,7 +139,7 @@ fn opened_over_lines<L: BoardName, R: Wait + Abort>(
     rt: &R,
     alloc: Global,
     blank: Blank,
-    log: FreshLog,
+    log: FreshLog<Ask>,
     rules: Rules,
 ) -> (Board<L, &R>, Vec<Seat<L>>)
     requires named { (blank.name ≡ L.name) × (blank.parts ≡ L.parts) }
@@ -181,7 +181,7 @@ fn kept_late<L: BoardName, R: Wait + Abort>(
     rt: &R,
     alloc: Global,
     blank: Blank,
-    log: FreshLog,
+    log: FreshLog<Ask>,
     rules: Rules,
 ) -> Lines
     requires named { (blank.name ≡ L.name) × (blank.parts ≡ L.parts) }

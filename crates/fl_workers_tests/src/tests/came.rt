@@ -3,6 +3,7 @@
 use super::orders::replies;
 use super::tally::Seat;
 use fl_testing::Reply;
+use fl_workers::Failures;
 use std::alloc::Global;
 use std::process::Abort;
 
@@ -13,8 +14,8 @@ pub(super) struct Came {
     pub handed: Vec<u64>,
     /// The uniques of those that were looked for and shown.
     pub looked: Vec<u64>,
-    /// Some worker told that one was refused.
-    pub refused: bool,
+    /// What some worker told that went wrong.
+    pub failures: Failures,
     /// How many seats there were.
     pub seats: u64,
 }
@@ -25,20 +26,20 @@ impl Came {
         Came {
             handed: Vec::new(alloc),
             looked: Vec::new(alloc),
-            refused: false,
+            failures: Failures::none(),
             seats: 0,
         }
     }
 
     /// Adds what came of the orders at one seat more.
-    pub(super) fn keep(&mut self, rt: &impl Abort, seat: &Seat, refused: bool) {
+    pub(super) fn keep(&mut self, rt: &impl Abort, seat: &Seat, failures: Failures) {
         for order in &seat.orders {
             self.handed.push(order.unique).expect(rt, "memory");
         }
         for unique in &seat.looks {
             self.looked.push(*unique).expect(rt, "memory");
         }
-        self.refused |= refused;
+        self.failures = self.failures.or(failures);
         self.seats = self.seats.saturating_add(1);
     }
 }
@@ -62,8 +63,14 @@ pub(super) fn is_wanted(
 ) {
     are_uniques(rt, &came.handed, wanted.handed);
     are_uniques(rt, &came.looked, wanted.looked);
-    assert_eq!(rt; came.refused, wanted.refused);
+    have_failed(rt, came.failures, wanted.refused);
     are_replies(rt, &replies(rt, alloc, out), wanted.replies);
+}
+
+/// This says whether some order was refused, and nothing was lost.
+pub(super) fn have_failed(rt: &impl Abort, failures: Failures, refused: bool) {
+    let lost = false;
+    assert_eq!(rt; failures, Failures { refused, lost });
 }
 
 pub(super) fn are_uniques(rt: &impl Abort, found: &[u64], wanted: &[u64]) {

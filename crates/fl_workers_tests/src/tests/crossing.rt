@@ -1,6 +1,6 @@
 //! An order that is held up while another one is answered.
 
-use super::came::{Came, are_replies, are_uniques};
+use super::came::{Came, are_replies, are_uniques, have_failed};
 use super::orders::{FIRST, lookups, replies};
 use super::pool::worked;
 use super::tally::WILLING;
@@ -10,10 +10,15 @@ use std::process::Abort;
 
 // Both were handed in and answered, the second one first.
 fn has_crossed(rt: &impl Abort, alloc: Global, came: Came, out: &[u8]) {
-    let Came { mut handed, .. } = came;
+    let Came {
+        mut handed,
+        failures,
+        ..
+    } = came;
     handed.sort_unstable();
     are_uniques(rt, &handed, &[FIRST, FIRST + 1]);
     are_replies(rt, &replies(rt, alloc, out), &[(FIRST + 1, 2), (FIRST, 2)]);
+    have_failed(rt, failures, false);
 }
 
 #[test]

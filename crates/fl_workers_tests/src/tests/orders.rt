@@ -11,8 +11,8 @@ use std::process::Abort;
 /// The unique of the first order.
 pub(super) const FIRST: u64 = 2;
 
-// One order more.
-fn push(rt: &impl Abort, orders: &mut Vec<Job>, order: &Order) {
+/// One order more.
+pub(super) fn push(rt: &impl Abort, orders: &mut Vec<Job>, order: &Order) {
     // The prover has to be told of the op's type.
     let op: Op = order.op;
     orders.push(Order { op, ..*order }).expect(rt, "memory");
@@ -30,20 +30,24 @@ pub(super) fn asked(rt: &impl Abort, alloc: Global, trace: &str) -> Vec<Job> {
     orders
 }
 
+/// An order at this place, on the top directory.
+pub(super) fn made(at: u64, op: Op) -> Order {
+    Order {
+        unique: at.saturating_add(FIRST),
+        node: 1,
+        uid: 0,
+        gid: 0,
+        pid: 0,
+        op,
+    }
+}
+
 /// So many LOOKUPs of a name that no file has. Their uniques stand in a row, from the first on.
 pub(super) fn lookups(rt: &impl Abort, alloc: Global, many: u64) -> Vec<Job> {
     let name = Name::new(b"a").expect(rt, "a name");
     let mut orders = Vec::new(alloc);
     for at in 0..many {
-        let order = Order {
-            unique: at.saturating_add(FIRST),
-            node: 1,
-            uid: 0,
-            gid: 0,
-            pid: 0,
-            op: Op::Lookup(name),
-        };
-        push(rt, &mut orders, &order);
+        push(rt, &mut orders, &made(at, Op::Lookup(name)));
     }
     orders
 }

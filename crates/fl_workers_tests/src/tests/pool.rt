@@ -1,19 +1,19 @@
 //! Workers in threads of their own, which take orders from an intake while this thread puts them.
 
-ghost use Rattle.std.specs.Prelude.{◌≡◌, ◌<◌, ◌≤◌, All, Some};
+ghost use Rattle.std.specs.Prelude.{◌≡◌, ◌<◌, ◌≤◌, [], ◌∷◌, ◌++◌, All, Some, length};
 
 use super::came::Came;
-use super::handling::{begun, closed};
+use super::sending::{begun, closed, opened};
 use super::tally::{Seat, Tally};
 use super::watch::Watch;
 use fl_core::{Rules, Tolds};
 use fl_intake::{Intake, Job, PutEnd, TakeEnd};
+use fl_log::{Appender, FreshLog};
 use fl_testing::of_workers;
-use fl_workers::{SharedSender, Worked, WriterName, worker_loop};
+use fl_workers::{Failures, Post, ReplyEntry, SharedSender, Worked, WriterName, worker_loop};
 use std::alloc::Global;
 use std::marker::Brand;
 use std::process::Abort;
-use std::sync::atomic::{AtomicU64, Ordering};
 use std::sync::ledger::{Blank, Share};
 use std::sync::{Mutex, Wait};
 use std::thread;
@@ -38,8 +38,9 @@ pub(super) fn worked<R: Threads + Wait + Clock + Abort + Sync>(
         tally,
         workers: of_workers(workers),
     };
-    let sending = Blank::new(1);
-    let (came, _) = worked_at::<Brand, R>(rt, alloc, sending, staff, gate, orders, out);
+    let sending = Blank::new(u64::from(staff.workers));
+    let given = FreshLog::new();
+    let (came, _) = worked_at::<Brand, R>(rt, alloc, sending, given, staff, gate, orders, out);
     came
 }
 
@@ -50,11 +51,19 @@ struct Staff {
     workers: u32,
 }
 
+// A worker's end of the intake, and what it gives replies to be sent through.
+#[derive(Drop)]
+struct Place<N: WriterName> {
+    end: TakeEnd,
+    own: Appender<N, ReplyEntry>,
+}
+
 // The same, with a writer of this name.
 fn worked_at<'w, N: WriterName + Send + Sync, R: Threads + Wait + Clock + Abort + Sync>(
     rt: &R,
     alloc: Global,
     sending: Blank,
+    given: FreshLog<ReplyEntry>,
     staff: Staff,
     gate: &Watch,
     orders: &[Job],
@@ -62,44 +71,82 @@ fn worked_at<'w, N: WriterName + Send + Sync, R: Threads + Wait + Clock + Abort 
 ) -> (Came, &'w mut Vec<u8>)
     requires start { Some out.old.items ≡ N.start }
     requires named { out.ghost_name ≡ N.writer }
-    requires sending { (sending.name ≡ N.name) × (sending.parts ≡ N.parts) × (0 < N.parts) }
+    requires sending { (sending.name ≡ N.name) × (sending.parts ≡ N.parts) × (staff.workers ≡ N.parts) }
+    requires given { given ≡ N.log }
     requires workers { (0 < staff.workers) × (staff.workers ≤ 16) }
 {
-    let (sender, permit) = begun::<N, R>(rt, alloc, sending, out);
-    let mut permit = permit;
-    let came = handed_in(rt, alloc, staff, gate, orders, &sender, &mut permit);
-    (came, closed(rt, sender, permit))
-}
-
-// Has the workers hand in all orders. None is left behind them.
-fn handed_in<'w, N: WriterName + Send + Sync, R: Threads + Wait + Clock + Abort + Sync>(
-    rt: &R,
-    alloc: Global,
-    staff: Staff,
-    gate: &Watch,
-    orders: &[Job],
-    sender: &Mutex<SharedSender<'w, Vec<u8>, N>>,
-    permit: &mut Share<N>,
-) -> Came
-    requires workers { (0 < staff.workers) × (staff.workers ≤ 16) }
-    ensures permit { permit.new ≡ permit.old }
-{
-    let (intake, put, ends) = Intake::new(alloc, staff.workers).expect(rt, "memory");
+    let (sender, mut rest) = opened::<N, R>(rt, alloc, sending, given, out);
+    let (intake, put, places) = staffed(rt, alloc, staff.workers, &sender, &mut rest);
+    let sender = begun(sender);
     let pool = WorkerPool {
         rt,
         alloc,
         tally: staff.tally,
         gate,
         intake,
-        sender,
-        started: AtomicU64::new(0),
+        sender: &sender,
         came: Mutex::new(Came::new(alloc)),
     };
-    let (ends, put) = pool.run(put, ends, permit, orders);
+    let (places, put) = pool.run(put, places, rest.empty(), orders);
     let WorkerPool { intake, came, .. } = pool;
+    let appenders = finished(rt, alloc, intake, put, places);
+    (came.into_inner(), closed(rt, sender, appenders))
+}
+
+fn add<T: Drop>(rt: &impl Abort, all: &mut Vec<T>, one: T)
+    ensures { all.new.items ≡ all.old.items ++ one ∷ [] }
+{
+    all.push(one).expect(rt, "memory");
+}
+
+// An intake, and a place for each of so many workers, whose number is that of the place.
+fn staffed<N: WriterName>(
+    rt: &impl Abort,
+    alloc: Global,
+    workers: u32,
+    sender: &SharedSender<'_, Vec<u8>, N>,
+    rest: &mut Share<N>,
+) -> (Intake, PutEnd, Vec<Place<N>>)
+    requires workers { (0 < workers) × (workers ≤ 16) }
+    requires none { sender.now.log ≡ [] }
+    requires rest { (workers ≤ rest.old.parts) × (rest.old.amount ≡ 0) }
+    ensures put { result.1.of ≡ result.0 }
+    ensures places { All (λ place. place.end.of ≡ result.0) result.2.items }
+    ensures each { length result.2.items ≡ workers }
+{
+    let (intake, put, ends) = Intake::new(alloc, workers).expect(rt, "memory");
+    let mut places = Vec::new(alloc);
+    let mut worker = 0u32;
+    for end in ends {
+        let own = sender.appender(rest, worker);
+        add(rt, &mut places, Place { end, own });
+        worker = worker.wrapping_add(1);
+    }
+    (intake, put, places)
+}
+
+// The appenders of all places. No order is left in the intake.
+fn finished<N: WriterName, R: Wait + Abort>(
+    rt: &R,
+    alloc: Global,
+    intake: Intake,
+    put: PutEnd,
+    places: Vec<Place<N>>,
+) -> Vec<Appender<N, ReplyEntry>>
+    requires put { put.of ≡ intake }
+    requires places { All (λ place. place.end.of ≡ intake) places.items }
+    ensures { length result.items ≡ length places.items }
+{
+    let mut ends = Vec::new(alloc);
+    let mut appenders = Vec::new(alloc);
+    for place in places {
+        let Place { end, own } = place;
+        add(rt, &mut ends, end);
+        add(rt, &mut appenders, own);
+    }
     let left = intake.finish(rt, put, ends).ok().expect(rt, "all ends");
     assert!(rt; left.is_empty());
-    came.into_inner()
+    appenders
 }
 
 // What the workers share.
@@ -111,8 +158,6 @@ struct WorkerPool<'a, 'w, N: WriterName, R: Wait> {
     gate: &'a Watch,
     intake: Intake,
     sender: &'a Mutex<SharedSender<'w, Vec<u8>, N>>,
-    // How many workers were started.
-    started: AtomicU64,
     came: Mutex<Came>,
 }
 
@@ -122,80 +167,86 @@ impl<'a, 'w, N: WriterName + Send + Sync, R: Threads + Wait + Clock + Abort + Sy
     N,
     R,
 > {
-    // Puts all orders while a worker for each end takes them. All ends come back. Each closure gives back an empty
-    // share, too: without one that its clauses speak of, nothing would be known here of its ends.
+    // Puts all orders while a worker at each place takes them. All places come back. The closure that
+    // puts gives back an empty share, too: without one that its clauses speak of, nothing would be known
+    // here of its end.
     fn run(
         &self,
         put: PutEnd,
-        ends: Vec<TakeEnd>,
-        permit: &mut Share<N>,
+        places: Vec<Place<N>>,
+        mark: Share<N>,
         orders: &[Job],
-    ) -> (Vec<TakeEnd>, PutEnd)
+    ) -> (Vec<Place<N>>, PutEnd)
         requires put { put.of ≡ self.now.intake }
-        requires ends { All (λ end. end.of ≡ self.now.intake) ends.items }
-        ensures ends { All (λ end. end.of ≡ self.now.intake) result.0.items }
+        requires places { All (λ place. place.end.of ≡ self.now.intake) places.items }
+        requires each { length places.items ≡ N.parts }
+        requires mark { mark.parts ≤ N.parts }
+        ensures places { All (λ place. place.end.of ≡ self.now.intake) result.0.items }
+        ensures each { length result.0.items ≡ N.parts }
         ensures put { result.1.of ≡ self.now.intake }
-        ensures permit { permit.new ≡ permit.old }
     {
-        let mark = permit.empty();
-        let other = permit.empty();
-        let (worked, brought) = thread::join(
+        let (places, brought) = thread::join(
             self.rt,
-            move || -> (Vec<TakeEnd>, Share<N>)
-                requires ends { All (λ end. end.of ≡ self.now.intake) ends.items }
-                requires mark { mark.parts ≤ N.parts }
-                ensures ends { All (λ end. end.of ≡ self.entry.now.intake) result.0.items }
-                ensures mark { result.1.parts ≤ N.parts }
-            { (self.work_all(ends), mark) },
+            move || -> Vec<Place<N>>
+                requires places { All (λ place. place.end.of ≡ self.now.intake) places.items }
+                requires each { length places.items ≡ N.parts }
+                ensures places { All (λ place. place.end.of ≡ self.entry.now.intake) result.items }
+                ensures each { length result.items ≡ N.parts }
+            { self.work_all(places) },
             move || -> (PutEnd, Share<N>)
                 requires put { put.of ≡ self.now.intake }
-                requires other { other.parts ≤ N.parts }
+                requires mark { mark.parts ≤ N.parts }
                 ensures put { result.0.of ≡ self.entry.now.intake }
-                ensures other { result.1.parts ≤ N.parts }
-            { (self.put_all(put, orders), other) },
+                ensures mark { result.1.parts ≤ N.parts }
+            { (self.put_all(put, orders), mark) },
         );
-        let (ends, _mark) = worked;
-        let (put, _other) = brought;
-        (ends, put)
+        let (put, _mark) = brought;
+        (places, put)
     }
 
-    // A worker for each end, each in a thread of its own.
-    fn work_all(&self, ends: Vec<TakeEnd>) -> Vec<TakeEnd>
-        requires { All (λ end. end.of ≡ self.now.intake) ends.items }
-        ensures { All (λ end. end.of ≡ self.now.intake) result.items }
+    // A worker at each place, each in a thread of its own.
+    fn work_all(&self, places: Vec<Place<N>>) -> Vec<Place<N>>
+        requires { All (λ place. place.end.of ≡ self.now.intake) places.items }
+        ensures places { All (λ place. place.end.of ≡ self.now.intake) result.items }
+        ensures each { length result.items ≡ length places.items }
     {
-        let work = move |end: TakeEnd| -> TakeEnd
-            requires { end.of ≡ self.now.intake }
-            ensures { (result.of ≡ self.entry.now.intake) × (N.parts ≡ N.parts) }
-        { self.work(end) };
-        thread::map_vec(self.rt, ends, &work).expect(self.rt, "memory")
+        let work = move |place: Place<N>| -> Place<N>
+            requires { place.end.of ≡ self.now.intake }
+            ensures { (result.end.of ≡ self.entry.now.intake) × (N.parts ≡ N.parts) }
+        { self.work(place) };
+        thread::map_vec(self.rt, places, &work).expect(self.rt, "memory")
     }
 
     // What a worker does at a seat of its own.
-    fn work(&self, end: TakeEnd) -> TakeEnd
-        requires { end.of ≡ self.now.intake }
-        ensures { result.of ≡ self.now.intake }
+    fn work(&self, place: Place<N>) -> Place<N>
+        requires { place.end.of ≡ self.now.intake }
+        ensures { result.end.of ≡ self.now.intake }
     {
-        let worker = self.started.fetch_add(1, Ordering::SeqCst);
+        let Place { end, own } = place;
         let tolds = Tolds::new(self.alloc, Rules::standard()).expect(self.rt, "memory");
-        let seat = Seat::new(self.rt, self.alloc, worker);
-        let Worked { seat, end, refused } = worker_loop(
+        let seat = Seat::new(self.rt, self.alloc, own.author());
+        let Worked {
+            post,
+            end,
+            failures,
+        } = worker_loop(
             self.rt,
             &self.tally,
             self.gate,
             &self.intake,
             self.sender,
-            seat,
+            Post { seat, own },
             end,
             tolds,
         );
-        self.keep(&seat, refused);
-        end
+        let Post { seat, own } = post;
+        self.keep(&seat, failures);
+        Place { end, own }
     }
 
-    fn keep(&self, seat: &Seat, refused: bool) {
+    fn keep(&self, seat: &Seat, failures: Failures) {
         let mut came = self.came.lock(self.rt);
-        came.keep(self.rt, seat, refused);
+        came.keep(self.rt, seat, failures);
     }
 
     // Puts all orders, and closes the intake.

@@ -1,13 +1,18 @@
 //! A counter in memory, whose seats keep what is handed in at them.
 
-ghost use Rattle.std.specs.Prelude.{◌≡◌, []};
+ghost use Rattle.std.specs.Prelude.{◌≡◌, ◌≤◌, ◌+◌, ◌++◌, [], length};
+ghost use Rattle.fl_desk.specs.Legal.{step_lines};
 
 use fl_core::{Core, Rules, Tolds};
 use fl_desk::{Counter, HandFault, NoView};
-use fl_order::{Answer, Errno, Op, Order};
+use fl_history::Lines;
+use fl_order::{Answer, Errno, Op, Order, Told};
 use std::alloc::Global;
 use std::process::Abort;
 use std::sync::Wait;
+
+// The most lines of an order: its own, and one for each reply.
+const MOST_LINES: usize = 258;
 
 /// A counter in memory. Each of its seats answers its orders as if there were no other seat.
 #[derive(Clone, Copy)]
@@ -27,19 +32,23 @@ pub(super) const WILLING: Tally = Tally {
 /// A worker's place.
 #[derive(Drop)]
 pub(super) struct Seat {
-    pub worker: u64,
+    pub worker: u32,
     /// The orders that were handed in, the oldest first.
     pub orders: Vec<Order>,
     /// The uniques of the orders that were looked for and shown, the oldest first.
     pub looks: Vec<u64>,
     tries: u64,
     core: Core,
+    // The orders with what they were answered, and how many of these lines there were at the last look.
+    lines: Lines,
+    shown: usize,
     ghost parked: { core.rules.parked ≡ 256 },
+    ghost had: { shown ≤ length lines.items },
 }
 
 impl Seat {
     /// A place at which nothing was handed in.
-    pub(super) fn new(rt: &impl Abort, alloc: Global, worker: u64) -> Seat
+    pub(super) fn new(rt: &impl Abort, alloc: Global, worker: u32) -> Seat
         ensures { result.orders.items ≡ [] }
     {
         Seat {
@@ -48,12 +57,26 @@ impl Seat {
             looks: Vec::new(alloc),
             tries: 0,
             core: Core::new(alloc, Rules::standard()).expect(rt, "memory"),
+            lines: Lines::new(alloc),
+            shown: 0,
         }
     }
 }
 
+// Adds an order and its replies to the lines.
+fn append(lines: &mut Lines, worker: u32, order: &Order, tolds: &[Told])
+    requires { 1 + length tolds.now ≤ lines.old.room }
+    ensures { lines.new.items ≡ lines.old.items ++ step_lines worker order.now tolds.now }
+{
+    lines.push_asked(worker, order);
+    for told in tolds {
+        lines.push_told(told);
+    }
+}
+
 impl Counter for Tally {
-    ghost use Rattle.std.specs.Prelude.{length};
+    ghost use Rattle.std.specs.Prelude.{length, take};
+    ghost use Rattle.fl_desk.specs.Answered.{answered_by};
 
     type Seat = Seat;
 
@@ -61,11 +84,15 @@ impl Counter for Tally {
 
     ghost worker = { λ seat. seat.worker };
 
-    ghost asked = { λ seat. seat.orders.items };
+    ghost answered = { λ seat. answered_by seat.worker seat.lines.items };
+
+    ghost seen = { λ seat. take seat.shown seat.lines.items };
+
+    ghost shows = { λ lines order result. Unit {0} };
 
     ghost most_tolds = { 257 };
 
-    #[tactic(auto, using(crate::proofs::SeatLemmas::asked_last))]
+    #[tactic(auto, using(crate::proofs::SeatLemmas::answered_last))]
     fn hand_in<R: Wait>(
         &self,
         _rt: &R,
@@ -77,20 +104,27 @@ impl Counter for Tally {
         if self.refuses && seat.tries % 3 == 0 {
             return Err(HandFault::NoMemory);
         }
+        if seat.lines.reserve(MOST_LINES).is_err() {
+            return Err(HandFault::NoMemory);
+        }
         // The prover has to be told of the op's type.
         let op: Op = order.op;
         if seat.orders.push(Order { op, ..*order }).is_err() {
             return Err(HandFault::NoMemory);
         }
         seat.core.step(order, tolds);
+        append(&mut seat.lines, seat.worker, order, tolds.as_slice());
         Ok(())
     }
 
+    #[tactic(auto, using(crate::proofs::SeatLemmas::shown_still, crate::proofs::SeatLemmas::all_shown))]
     fn look(&self, seat: &mut Seat, order: &Order) -> Result<Result<Answer, Errno>, NoView> {
         if !self.shows || seat.looks.push(order.unique).is_err() {
             return Err(NoView);
         }
-        seat.core.answer(order).ok_or(NoView)
+        let answer = seat.core.answer(order).ok_or(NoView)?;
+        seat.shown = seat.lines.len();
+        Ok(answer)
     }
 
     fn pause<R: Wait>(&self, _rt: &R) {}

@@ -1,6 +1,6 @@
 //! Thousands of orders, of which each third at a seat is refused.
 
-use super::came::{Came, are_replies};
+use super::came::{Came, are_replies, have_failed};
 use super::orders::{FIRST, lookups, replies};
 use super::pool::worked;
 use super::tally::Tally;
@@ -37,7 +37,7 @@ fn are_two_thirds(rt: &impl Abort, handed: usize, workers: u32) {
 fn are_told_so(rt: &impl Abort, alloc: Global, came: Came, out: &[u8], workers: u32) {
     let Came {
         mut handed,
-        refused,
+        failures,
         ..
     } = came;
     handed.sort_unstable();
@@ -45,7 +45,7 @@ fn are_told_so(rt: &impl Abort, alloc: Global, came: Came, out: &[u8], workers: 
     let mut found = replies(rt, alloc, out);
     found.sort_unstable();
     are_replies(rt, &found, &wanted(rt, alloc, &handed));
-    assert!(rt; refused);
+    have_failed(rt, failures, true);
 }
 
 fn refuse_thirds<R: Threads + Wait + Clock + Abort + Sync>(rt: &R, alloc: Global, workers: u32) {

@@ -1,6 +1,6 @@
 //! Thousands of orders in bursts.
 
-use super::came::{Came, are_replies};
+use super::came::{Came, are_replies, have_failed};
 use super::orders::{FIRST, lookups, replies};
 use super::pool::worked;
 use super::tally::WILLING;
@@ -45,13 +45,14 @@ fn has_each(rt: &impl Abort, came: Came, workers: u32) {
     let Came {
         mut handed,
         looked,
-        refused,
+        failures,
         seats,
     } = came;
     handed.sort_unstable();
     are_in_a_row(rt, &handed);
     assert_eq!(rt; seats, u64::from(workers));
-    assert!(rt; looked.is_empty() && !refused);
+    assert!(rt; looked.is_empty());
+    have_failed(rt, failures, false);
 }
 
 fn hand_in_all<R: Threads + Wait + Clock + Abort + Sync>(

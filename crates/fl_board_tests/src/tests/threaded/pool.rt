@@ -5,7 +5,7 @@ ghost use Rattle.fl_core.specs.Tolds.{HasRoom};
 
 use super::threads::{Orders, made};
 use super::{create, order, rounds, take, watched};
-use fl_board::{Board, BoardName, FreshLog, Seat};
+use fl_board::{Ask, Board, BoardName, FreshLog, Seat};
 use fl_core::{Rules, Tolds};
 use fl_desk::{Verdict, check};
 use fl_history::{History, Line};
@@ -233,7 +233,7 @@ fn closed<L: BoardName + Send + Sync, R: Threads + Wait + Sync + Abort>(
     rt: &R,
     alloc: Global,
     blank: Blank,
-    log: FreshLog,
+    log: FreshLog<Ask>,
     workers: u32,
     rules: Rules,
     counts: &Counts,
