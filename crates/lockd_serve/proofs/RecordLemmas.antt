@@ -29,7 +29,7 @@ alone lines workers rules streams broken it one legal served = record {
 
 -- what several workers recorded was served
 pub several : {K : Type 0} (lines : K → List Line) (workers : ℕ) (rules : Rules) (streams : Streams) (it : Recorded K)
-    → 1 < workers → IsRecordedBy lines rules streams it → HasServed workers rules streams (done_of lines it)
+    → 1 < workers → IsRecordedBy lines workers rules streams it → HasServed workers rules streams (done_of lines it)
 several lines workers rules streams it more is = record {
   legal = legal_lines rules lines it.journal is.legal;
   alone = λ one. absurd (omega (arith, one, more));

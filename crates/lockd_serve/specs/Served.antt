@@ -17,4 +17,4 @@ HasServedAlone rules streams done = (broken : Bool) × IsServed rules streams br
 pub record HasServed (workers : ℕ) (rules : Rules) (streams : Streams) (done : Done) : Type 0 where
   pub legal : IsLegal rules done.history
   pub alone : workers ≡ 1 → HasServedAlone rules streams done
-  pub several : 1 < workers → IsServedBy streams done
+  pub several : 1 < workers → IsServedBy workers rules streams done
