@@ -144,9 +144,17 @@ fn finished<N: WriterName, R: Wait + Abort>(
         add(rt, &mut ends, end);
         add(rt, &mut appenders, own);
     }
+    is_empty(rt, intake, put, ends);
+    appenders
+}
+
+// No order is left in the intake.
+fn is_empty<R: Wait + Abort>(rt: &R, intake: Intake, put: PutEnd, ends: Vec<TakeEnd>)
+    requires put { put.of ≡ intake }
+    requires ends { All (λ end. end.of ≡ intake) ends.items }
+{
     let left = intake.finish(rt, put, ends).ok().expect(rt, "all ends");
     assert!(rt; left.is_empty());
-    appenders
 }
 
 // What the workers share.

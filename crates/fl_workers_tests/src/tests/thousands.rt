@@ -42,17 +42,12 @@ fn are_all_answered(rt: &impl Abort, alloc: Global, out: &[u8]) {
 }
 
 fn has_each(rt: &impl Abort, came: Came, workers: u32) {
-    let Came {
-        mut handed,
-        looked,
-        failures,
-        seats,
-    } = came;
+    assert_eq!(rt; came.seats, u64::from(workers));
+    assert!(rt; came.looked.is_empty());
+    have_failed(rt, came.failures, false);
+    let Came { mut handed, .. } = came;
     handed.sort_unstable();
     are_in_a_row(rt, &handed);
-    assert_eq!(rt; seats, u64::from(workers));
-    assert!(rt; looked.is_empty());
-    have_failed(rt, failures, false);
 }
 
 fn hand_in_all<R: Threads + Wait + Clock + Abort + Sync>(
