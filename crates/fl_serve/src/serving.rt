@@ -13,7 +13,7 @@ ghost use Rattle.fl_workers.specs.Sent.{spelled};
 ghost use Rattle.fl_pool.specs.Working.{HaveDone};
 ghost use Rattle.fl_serve.specs.Inside.Closing.{HasAll, HasSaidGoodbye};
 ghost use Rattle.fl_session.specs.Recorded.{done_of};
-ghost use Rattle.fl_serve.specs.Serve.{HasNoHistory, IsRecordedBy, IsServedBy};
+ghost use Rattle.fl_serve.specs.Serve.{IsRecordedBy, IsServedBy};
 
 use crate::rooms::{Own, Rooms, Stock, posts_at};
 use fl_board::{Board, BoardName, OpenFault, Seat};
@@ -371,7 +371,7 @@ fn close_board<L: BoardName, R: Wait + Drop, J: Journal + Drop>(
     requires { L.workers ≡ L.parts }
     ensures legal { IfSome result.journal (λ journal. IsLegal L.rules (J.lines journal)) }
     ensures told { HasAll seats.items refused fault (done_of J.lines result)
-        ⊎ HasNoHistory (done_of J.lines result) }
+        ⊎ (result.fault ≡ Some Fault.NoReader) × (result.journal ≡ None) }
     ensures back { IsSome result.journal ⊎ (result.fault ≡ Some Fault.NoReader) }
     ensures untold { fault ≢ Some Fault.NoReader → result.fault ≡ Some Fault.NoReader → result.journal ≡ None }
 {
