@@ -8,12 +8,12 @@ use Rattle.std.proofs.lemmas.Bool.{or_cases, eqb-true, false_from_ne_true}
 use Rattle.std.proofs.lemmas.List.Sums.{sum_by-cons, sum_by-set}
 use Rattle.std.proofs.lemmas.Option.{slice_get_within, get_or_from_slice_get, slice_get-get_or}
 use Rattle.std.proofs.lemmas.Map.Keys.{any_passes_from_place}
-use Rattle.fl_arena.specs.Chains.{Entry, Chains, entries, slot_at, is_linked, unlinked_count}
+use Rattle.fl_arena.specs.Chains.{Entry, Chains, entries, slot_at, is_linked, unlinked_count, IsLinked}
 use Rattle.fl_arena.specs.Inside.Links.{alter, alter_link, with_next, with_previous, relinked, is_free, Spells}
 use Rattle.fl_arena.specs.declared.nodes.Node.{Node}
 use Rattle.fl_arena.specs.declared.nodes.Node.TheVariants.{Free, Taken}
 use Rattle.fl_arena.specs.declared.nodes.Ends.{Ends}
-use Rattle.fl_arena.proofs.PlaceLemmas.{linked_at, chain_within}
+use Rattle.fl_arena.proofs.PlaceLemmas.{linked_at, chain_within, same_place}
 
 module _ {X : Type 0} where
   count-cons : (p : X → Bool) (x : X) (xs : List X) → count_by p (x ∷ xs) ≡ cond (p x) 1 0 + count_by p xs
@@ -113,3 +113,14 @@ module _ {T : Type 0} where
           let on = h.owned i m found in
           let at = linked_at nodes ends spare free a h m.chain on.index i on.found in
           ap not (ap (is_linked a) (sym at.slot_is) ∙ linked_from a m.chain on.index at.entry (chain_within a m.chain on.index at.entry at.found) at.found)
+
+  -- no slot is linked twice
+  pub linked_once : (nodes : List (Node T)) (ends : List Ends) (spare : Option ℕ) (free : ℕ) (a : Chains T) → Spells nodes ends spare free a → IsLinked a
+  linked_once nodes ends spare free a h = record {
+    in_range = λ c i slot there.
+        let within = slice_get_within nodes slot _ (linked_at nodes ends spare free a h c i slot there).linked in
+        let slots = h.slots in
+        omega arith;
+    once = λ c i d j slot here there. same_place nodes ends spare free a h c d slot i j here there;
+    others = let count = h.count in let slots = h.slots in let rest = unlinked nodes ends spare free a h in omega arith;
+  }

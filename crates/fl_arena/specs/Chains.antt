@@ -1,6 +1,6 @@
 -- What contracts see of an arena: the items of each chain, each with the slot that it stands in.
-use Rattle.std.specs.Prelude.{◌≡◌, ◌≢◌, ℕ, ◌-◌, ◌==◌, Bool, not, List, [], map, length, sum_by, count_by, Option, Some}
-use Rattle.std.specs.Prelude.{slice_get, slice_index_or, slice_set}
+use Rattle.std.specs.Prelude.{◌≡◌, ◌≢◌, ℕ, ◌+◌, ◌-◌, ◌<◌, ◌==◌, Bool, not, List, [], map, length, sum_by, count_by}
+use Rattle.std.specs.Prelude.{Option, Some, slice_get, slice_index_or, slice_set}
 use Rattle.std.specs.List.{list_any, range_with_len}
 use Rattle.std.specs.Option.{option_map}
 
@@ -55,3 +55,10 @@ module _ {T : Type 0} where
   -- how many slots are on no chain
   abbrev pub unlinked_count : Chains T → ℕ
   unlinked_count a = count_by (λ slot. not (is_linked a slot)) (range_with_len 0 a.slots)
+
+  -- no slot is linked twice: each item stands in a slot of the arena, in which no other item of any chain stands, and
+  -- the slots on no chain are all the others
+  pub record IsLinked (a : Chains T) : Type 0 where
+    pub in_range : (c i slot : ℕ) → slot_at a c i ≡ Some slot → slot < a.slots
+    pub once : (c i d j slot : ℕ) → slot_at a c i ≡ Some slot → slot_at a d j ≡ Some slot → (c ≡ d) × (i ≡ j)
+    pub others : item_count a + unlinked_count a ≡ a.slots

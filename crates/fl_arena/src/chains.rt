@@ -5,7 +5,7 @@ ghost use Rattle.std.specs.Prelude.{remove, slice_get, slice_set, Some, IsSome, 
 ghost use Rattle.std.specs.Prelude.{IfSome};
 ghost use Rattle.std.specs.Option.{option_copied};
 ghost use Rattle.std.specs.List.{find, position_or_len};
-ghost use Rattle.fl_arena.specs.Chains.{entries, items, slot_at, item_count, free_count, unlinked_count, HasSizeOf};
+ghost use Rattle.fl_arena.specs.Chains.{entries, items, slot_at, item_count, free_count, unlinked_count, HasSizeOf, IsLinked};
 ghost use Rattle.fl_arena.specs.Cursors.{Tests, cursor_at, IsInPlace, index_of, item_of, with_item};
 ghost use Rattle.fl_arena.specs.Cursors.{without, Inserts, Shifts};
 ghost use Rattle.fl_arena.specs.Inside.Links.{link_before};
@@ -48,7 +48,8 @@ impl<T: Copy> Arena<T> {
     pub fn new(alloc: Global, chains: usize, slots: usize) -> Result<Self, AllocError>
         requires chains { chains ≤ 2 ^ 16 }
         requires slots { slots ≤ 2 ^ 16 }
-        ensures { IfOk result (λ a. a ≡ record { chains = replicate chains []; slots = slots }) }
+        ensures empty { IfOk result (λ a. a ≡ record { chains = replicate chains []; slots = slots }) }
+        ensures linked { IfOk result (λ a. IsLinked a) }
     {
         let (nodes, spare) = free_nodes(alloc, slots)?;
         let ends = vec![in alloc; Ends::EMPTY; chains]?;
@@ -169,6 +170,7 @@ impl<T: Copy> Arena<T> {
             ≡ slice_set (items self.old cursor.now.chain) cursor.now.index item }
         ensures others { (c : ℕ) → c ≢ cursor.now.chain → entries self.new c ≡ entries self.old c }
         ensures size { HasSizeOf self.old self.new }
+        ensures linked { IsLinked self.new }
     {
         let Some(slot) = cursor.slot else {
             unreachable!()
@@ -188,6 +190,7 @@ impl<T: Copy> Arena<T> {
         ensures others { (c : ℕ) → c ≢ cursor.old.chain → entries self.new c ≡ entries self.old c }
         ensures size { HasSizeOf self.old self.new }
         ensures cursor { cursor.new ≡ cursor_at self.new cursor.old.chain cursor.old.index }
+        ensures linked { IsLinked self.new }
     {
         let Some(slot) = cursor.slot else {
             unreachable!()
@@ -218,6 +221,7 @@ impl<T: Copy> Arena<T> {
             → OnOk result (items self.new c ≡ insert (items self.old c) i item) }
         ensures err { OnErr result (self.new ≡ self.old) }
         ensures err_cursor { OnErr result (cursor.new ≡ cursor.old) }
+        ensures linked { IsLinked self.new }
     {
         let Some(slot) = self.spare else {
             return Err(Full);
@@ -261,6 +265,7 @@ impl<T: Copy> Arena<T> {
         ensures at_index { (c i : ℕ) (item : T) → to.old ≡ cursor_at self.old c i
             → slice_get (items self.old from.old.chain) from.old.index ≡ Some item
             → items self.new c ≡ insert (items self.old c) i item }
+        ensures linked { IsLinked self.new }
     {
         let Some(slot) = from.slot else {
             unreachable!()
@@ -303,6 +308,7 @@ impl<T: Copy> Arena<T> {
     pub fn free(&self) -> usize
         ensures total { item_count self.now + result ≡ self.now.slots }
         ensures unlinked { result ≡ unlinked_count self.now }
+        ensures linked { IsLinked self.now }
     {
         self.free
     }

@@ -1,13 +1,16 @@
 -- The calls of a table: what contracts see of it.
-use Rattle.std.proofs.Common.{◌≡◌, ℕ, ◌+◌, ◌-◌, ◌≤◌, zero, suc, List, [], replicate, get_or, length, refl, ap, sym, ◌∙◌}
-use Rattle.std.proofs.Common.{subst, arith}
+use Rattle.std.proofs.Common.{◌≡◌, ℕ, ◌+◌, ◌-◌, ◌≤◌, zero, suc, List, [], ◌∷◌, ◌++◌, map, replicate, get_or, length, refl, ap, sym}
+use Rattle.std.proofs.Common.{◌∙◌, subst, arith}
+use Rattle.std.proofs.lemmas.List.{map-append}
+use Rattle.std.proofs.lemmas.Simd.{map-map}
 use Rattle.std.specs.List.{flat_map}
 use Rattle.fl_spans.specs.Rows.{row_lists, limit_of, run_count}
-use Rattle.fl_ranges.specs.Marking.{Marking}
+use Rattle.fl_ranges.specs.Marking.{Marking, marking_of}
 use Rattle.fl_ranges.specs.Runs.{runs}
 use Rattle.fl_ranges.specs.LockTable.{LockTable}
-use Rattle.fl_ranges.specs.Inside.RunList.{AreRuns}
-use Rattle.fl_ranges.specs.Inside.LockRows.{LockRow, LockRows, runs_in, table_runs, row_marks, AreLockRows, IsLockTable}
+use Rattle.fl_ranges.specs.Layout.{strokes_of, marking_in}
+use Rattle.fl_ranges.specs.Inside.RunList.{meant, AreRuns}
+use Rattle.fl_ranges.specs.Inside.LockRows.{LockRow, LockRows, run_of, runs_of, runs_in, table_runs, row_marks, AreLockRows, IsLockTable}
 use Rattle.fl_ranges.proofs.RowRuns.{rows_are_runs, runs_kept}
 use Rattle.fl_ranges.proofs.RowTables.{long_table}
 
@@ -49,3 +52,16 @@ new_table v limit small is room = record {
   few = omega (arith, long_table v, ap (λ (l : List (List LockRow)). length (flat_map runs_in l)) is);
   kept = λ c. subst (λ (l : List (List LockRow)). AreLockRows c (get_or l c [])) (sym is) (subst (AreLockRows c) (sym (none_on 256 c)) (empty_chain c));
 }
+
+-- ---- the rows as strokes
+
+map_flat : {X A B : Type 0} (f : A → B) (g : X → List A) (h : X → List B) → ((x : X) → map f (g x) ≡ h x) → (xs : List X) →
+    map f (flat_map g xs) ≡ flat_map h xs
+map_flat f g h each [] = refl
+map_flat f g h each (x ∷ xs) = map-append f (g x) (flat_map g xs) ∙ (λ i. each x i ++ map_flat f g h each xs i)
+
+-- the strokes of the rows are those that the runs mean
+pub marking_spelled : (v : LockRows) → marking_in v ≡ row_marks v
+marking_spelled v =
+    ap marking_of (sym (map_flat meant runs_in (λ (rs : List LockRow). flat_map strokes_of rs)
+    (λ rs. map_flat meant runs_of strokes_of (λ r. map-map meant (run_of r.key) r.runs) rs) (row_lists v)))

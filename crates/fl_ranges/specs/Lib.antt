@@ -6,4 +6,5 @@ pub mod Runs
 pub mod Change
 pub mod LockTable
 pub mod Placing
+pub mod Layout
 pub mod Inside

@@ -1,6 +1,8 @@
 //! The table of locks.
 ghost use Rattle.std.specs.Prelude.{◌≡◌, ◌≢◌, ◌≤◌, ◌<◌, ◌↔◌, ℕ, false, Option, Some, None, IfOk, IsErr, OnOk, OnErr};
 ghost use Rattle.std.specs.FinMap as map;
+ghost use Rattle.std.specs.List.{AllByRecursion};
+ghost use Rattle.fl_spans.specs.Rows.{rows, limit_of, chain_count};
 
 use crate::chain::CHAINS;
 use crate::conflict::some_conflicts;
@@ -48,7 +50,8 @@ impl Table {
     ghost use Rattle.fl_ranges.specs.Marking.{stroke_on, stroked};
     ghost use Rattle.fl_ranges.specs.Conflict.{conflicts, IsLawful, SameElsewhere, SameOffNode};
     ghost use Rattle.fl_ranges.specs.Runs.{runs, without_node};
-    ghost use Rattle.fl_ranges.specs.Placing.{on_chain};
+    ghost use Rattle.fl_ranges.specs.Placing.{home, on_chain};
+    ghost use Rattle.fl_ranges.specs.Layout.{marking_in};
 
     /// A table with no locks. It fails only if memory runs out.
     pub fn new(alloc: Global, limit: u32) -> Result<Table, AllocError>
@@ -142,9 +145,20 @@ impl Table {
         some_conflicts(&self.rows, key, range, kind)
     }
 
+    /// The rows that hold the locks, each on the chain of its node. Their `slot_place` and `head_place` tell exactly
+    /// where each slot is, and so which run or key has it.
+    pub fn rows(&self) -> &Rows<Key, Span<Mark>>
+        ensures marking { marking_in result.now ≡ self.now.marking }
+        ensures limit { limit_of result.now ≡ self.now.limit }
+        ensures chains { chain_count result.now ≡ 256 }
+        ensures homes { (c : ℕ) → AllByRecursion (λ r. home r.key.node ≡ c) (rows result.now c) }
+    {
+        &self.rows
+    }
+
     /// Where the slot of a run is: slots are numbered from 0, and each is free or holds a run, which stands on the
-    /// chain of its key. This walks along its chain. No clause says that the answer is about this very slot: one that
-    /// says that the first slots are in use is let through, and tests refuse it.
+    /// chain of its key. This walks along its chain. These clauses speak of the marking, which has no slots, so one
+    /// that always tells the place of slot 0 is let through. Tests refuse it, and `rows` has exact places.
     pub fn slot_place(&self, slot: usize) -> Place
         requires { slot < self.now.limit }
         ensures on { (chain index : ℕ) → result ≡ Place.On chain index → index < runs self.now.marking }
@@ -154,7 +168,8 @@ impl Table {
     }
 
     /// Where the slot of a key is: on chain `node mod 256` if its key has runs, or else on chain 256. This walks
-    /// along its chain. One that always says chain 256 is let through by the clauses, and refused by tests.
+    /// along its chain. These clauses speak of the marking, too: one that always says chain 256 is let through. Tests
+    /// refuse it, and `rows` has exact places.
     pub fn head_place(&self, slot: usize) -> Place
         requires { slot < self.now.limit }
         ensures on { (chain index : ℕ) → result ≡ Place.On chain index → chain < 256

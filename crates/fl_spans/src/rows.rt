@@ -1,9 +1,9 @@
 //! The rows, and what only reads them.
-ghost use Rattle.std.specs.Prelude.{◌≡◌, ◌+◌, ◌-◌, ◌<◌, ◌≤◌, ℕ, [], IfOk, IsSome, slice_get, length, replicate, ◌≢◌};
-ghost use Rattle.std.specs.Prelude.{sum_by};
+ghost use Rattle.std.specs.Prelude.{◌≡◌, ◌↔◌, ◌+◌, ◌-◌, ◌<◌, ◌≤◌, ℕ, [], IfOk, IsSome, Some, slice_get, length, replicate};
+ghost use Rattle.std.specs.Prelude.{◌≢◌, sum_by};
 ghost use Rattle.std.specs.Option.{option_copied};
 ghost use Rattle.std.specs.List.{AllByRecursion};
-ghost use Rattle.fl_arena.specs.Chains.{entries, item_count, HasSizeOf};
+ghost use Rattle.fl_arena.specs.Chains.{entries, item_count, slot_at, HasSizeOf};
 ghost use Rattle.fl_arena.specs.Cursors.{IsInPlace};
 ghost use Rattle.fl_spans.specs.Inside.Kept.{has_number};
 ghost use Rattle.fl_spans.specs.Rows.{row_lists, rows, keys, runs_at, chain_count, limit_of, run_count};
@@ -39,7 +39,7 @@ pub struct Pieces<R> {
 /// Chains of rows, each of which has a key and at least one run.
 ///
 /// Contracts see the rows of each chain in order, and how many runs there is room for. A cursor names a slot,
-/// so what they see has slots too, but none of the rows' clauses speaks of them.
+/// so what they see has slots too. Only `head_place` and `slot_place` speak of them.
 #[derive(Drop)]
 pub struct Rows<K: Copy, R: Copy> {
     // One chain of heads for each chain of rows, and a last one for the heads that no row has.
@@ -162,6 +162,7 @@ impl<K: Copy, R: Copy> Rows<K, R> {
     /// along its chain.
     pub fn head_place(&self, slot: usize) -> Place
         requires { slot < limit_of self.now }
+        ensures place { (c i : ℕ) → (result ≡ Place.On c i) ↔ (slot_at self.now.heads c i ≡ Some slot) }
         ensures on { (c i : ℕ) → result ≡ Place.On c i → c < chain_count self.now → i < length (rows self.now c) }
         ensures taken { result ≢ Place.Free }
     {
@@ -171,6 +172,8 @@ impl<K: Copy, R: Copy> Rows<K, R> {
     /// Where the slot of a run is: on the chain that its row's head names, or free. This walks along its row.
     pub fn slot_place(&self, slot: usize) -> Place
         requires { slot < limit_of self.now }
+        ensures place { (chain index : ℕ) → (result ≡ Place.On chain index)
+            ↔ (slot_at self.now.runs chain index ≡ Some slot) }
         ensures on { (chain index : ℕ) → result ≡ Place.On chain index → index < run_count self.now }
         ensures free { result ≡ Place.Free → run_count self.now < limit_of self.now }
     {

@@ -99,6 +99,11 @@ fn the_slot_of_a_run_that_goes_is_free(rt: HostRuntime) {
     put(&rt, &mut table, 1, 5, 9, READ);
     put(&rt, &mut table, 1, 20, 20, READ);
     let first = slot_at(&table, 0).expect(&rt, "a run");
+    same(
+        &rt,
+        &table.rows().slot_place(first),
+        &table.slot_place(first),
+    );
     erase(&rt, &mut table, 1, 0, 1, Ok(()));
     same(&rt, &table.slot_place(first), &Place::Free);
 }

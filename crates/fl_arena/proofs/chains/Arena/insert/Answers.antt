@@ -10,6 +10,7 @@ use Rattle.fl_arena.proofs.InsertLemmas.{unused_slot}
 use Rattle.fl_arena.proofs.WalkLemmas.{spelled_is}
 use Rattle.fl_arena.proofs.CallLemmas.{spells_value, spells_own, end_read, inserted, stands, spare_is_free, room}
 use Rattle.fl_arena.proofs.CallLemmas.{cursor_at_new}
+use Rattle.fl_arena.proofs.CountLemmas.{linked_once}
 use Rattle.fl_arena.proofs.chains.Arena.insert.Goals as goal
 use Rattle.fl_arena.proofs.chains.Arena.insert.Goals.{After-with}
 
@@ -98,3 +99,9 @@ pub returns-clause-at_index : goal.returns-clause-at_index
 returns-clause-at_index g c d i at =
     ap (λ x. items x d) (spelled_is _ _ _ _ _ (after g (goal.at.returns-clause-at_index g c).After-with))
     ∙ inserted_at c.args.self.now d i c.args.cursor.now (record { slot = c.in-Some.slot; item = c.args.item }) at c.requires.chain
+
+pub returns-clause-linked : goal.returns-clause-linked
+returns-clause-linked g c = linked_once _ _ _ _ _ (spells_own _ _ _ _ _ (after g (goal.at.returns-clause-linked g c).After-with))
+
+pub returns-in_default-clause-linked : goal.returns-in_default-clause-linked
+returns-in_default-clause-linked g c = linked_once _ _ _ _ _ (spells_value _ _ _ _ _ c.self.invariant c.self.view_is)

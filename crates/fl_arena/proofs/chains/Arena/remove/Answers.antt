@@ -7,6 +7,7 @@ use Rattle.fl_arena.proofs.ChainLaws.{HasSizeOf-with, items-remove, entries-with
 use Rattle.fl_arena.proofs.CursorLemmas.{is_at, is_taken, slot_there, linked_within, before_within}
 use Rattle.fl_arena.proofs.WalkLemmas.{spelled_is}
 use Rattle.fl_arena.proofs.CallLemmas.{spells_value, spells_own, end_read, removed, cursor_after}
+use Rattle.fl_arena.proofs.CountLemmas.{linked_once}
 use Rattle.fl_arena.proofs.chains.Arena.remove.Goals as goal
 use Rattle.fl_arena.proofs.chains.Arena.remove.Goals.{After-without}
 
@@ -95,3 +96,6 @@ returns-clause-others g c d apart =
 pub returns-clause-size : goal.returns-clause-size
 returns-clause-size g c =
     HasSizeOf-with c.args.self.now _ c.args.cursor.now.chain _ (spelled_is _ _ _ _ _ (after g (goal.at.returns-clause-size g c).After-without))
+
+pub returns-clause-linked : goal.returns-clause-linked
+returns-clause-linked g c = linked_once _ _ _ _ _ (spells_own _ _ _ _ _ (after g (goal.at.returns-clause-linked g c).After-without))

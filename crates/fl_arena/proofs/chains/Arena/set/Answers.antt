@@ -4,6 +4,7 @@ use Rattle.fl_arena.proofs.ChainLaws.{HasSizeOf-with, items-set, entries-with_ot
 use Rattle.fl_arena.proofs.CursorLemmas.{is_at, is_taken, slot_there}
 use Rattle.fl_arena.proofs.WalkLemmas.{spelled_is}
 use Rattle.fl_arena.proofs.CallLemmas.{spells_value, spells_own, changed}
+use Rattle.fl_arena.proofs.CountLemmas.{linked_once}
 use Rattle.fl_arena.proofs.chains.Arena.set.Goals as goal
 
 pub member_at-member-requires : goal.member_at-member-requires
@@ -57,3 +58,9 @@ returns-clause-size g c =
     HasSizeOf-with c.args.self.now _ c.args.cursor.now.chain _
     (spelled_is _ _ _ _ _ (changed _ _ _ _ _ c.args.cursor.now c.in-Some.slot c.from.result c.args.item c.member_at-member.result.now spells c.requires.in_place
     c.in-Some.is c.member_at-member.ensures c.from.ensures))
+
+pub returns-clause-linked : goal.returns-clause-linked
+returns-clause-linked g c =
+    let spells = spells_value _ _ _ _ _ c.self.invariant c.self.view_is in
+    linked_once _ _ _ _ _ (spells_own _ _ _ _ _ (changed _ _ _ _ _ c.args.cursor.now c.in-Some.slot c.from.result c.args.item c.member_at-member.result.now spells
+    c.requires.in_place c.in-Some.is c.member_at-member.ensures c.from.ensures))

@@ -9,6 +9,7 @@ use Rattle.fl_arena.proofs.CallLemmas.{spells_value, spells_own, end_read, stand
 use Rattle.fl_arena.proofs.ShiftLemmas.{over, shifted, room_to_join, moved_entry, items_left, items_joined, joined_at}
 use Rattle.fl_arena.proofs.ShiftLemmas.{others_kept, size_kept, from_after, to_after}
 use Rattle.fl_arena.proofs.ShiftLemmas.{same_free}
+use Rattle.fl_arena.proofs.CountLemmas.{linked_once}
 use Rattle.fl_arena.proofs.chains.Arena.shift.Goals as goal
 use Rattle.fl_arena.proofs.chains.Arena.shift.Goals.{After-with}
 
@@ -173,3 +174,6 @@ returns-clause-to_cursor g c =
     ∙ (to_after _ _ _ _ _ spells _ _ _ _ _ _ there c.member_at-member.ensures c.requires.apart c.requires.chain here.1
     ∙ ap (λ x. cursor_at x c.args.to.now.chain (index_of c.args.self.now c.args.to.now))
     (sym (spelled_is _ _ _ _ _ (after g (goal.at.returns-clause-to_cursor g c).After-with))))
+
+pub returns-clause-linked : goal.returns-clause-linked
+returns-clause-linked g c = linked_once _ _ _ _ _ (spells_own _ _ _ _ _ (after g (goal.at.returns-clause-linked g c).After-with))

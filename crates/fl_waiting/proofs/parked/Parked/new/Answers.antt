@@ -8,7 +8,7 @@ use Rattle.fl_waiting.proofs.parked.Parked.new.Goals as goal
 
 pub invariant_of-result : goal.invariant_of-result
 invariant_of-result c =
-    let is = c.in_ok-new.ensures in
+    let is = c.in_ok-new.ensures.empty in
     let empty : requests_of c.in_ok-new.field-0 ≡ [] = ap requests_of is in (
       ap (λ (a : Chains Claim). length a.chains) is,
       ap (λ (a : Chains Claim). a.slots) is,

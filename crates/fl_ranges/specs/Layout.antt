@@ -1,0 +1,16 @@
+-- How rows of spans hold locks: one row for each key that has a mark.
+use Rattle.std.specs.Prelude.{List, Some, map}
+use Rattle.std.specs.List.{flat_map}
+use Rattle.fl_spans.specs.declared.span.Span.{Span}
+use Rattle.fl_spans.specs.Rows.{Row, RowChains, row_lists}
+use Rattle.fl_ranges.specs.declared.lock.Key.{Key}
+use Rattle.fl_ranges.specs.declared.lock.Mark.{Mark}
+use Rattle.fl_ranges.specs.Marking.{Marking, Stroke, marking_of}
+
+-- the strokes that would set the marks of a row
+abbrev pub strokes_of : Row Key (Span Mark) → List Stroke
+strokes_of r = map (λ s. record { key = r.key; start = s.start; end = s.end; mark = Some s.mark }) r.runs
+
+-- the marking that the rows of all chains give
+abbrev pub marking_in : RowChains Key (Span Mark) → Marking
+marking_in v = marking_of (flat_map (λ rs. flat_map strokes_of rs) (row_lists v))
