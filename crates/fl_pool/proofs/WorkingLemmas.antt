@@ -1,178 +1,227 @@
 -- What the workers of a session have done together.
-use Rattle.std.proofs.Common.{◌≡◌, ℕ, ◌+◌, ◌<◌, Bool, true, false, true≢false, List, [], ◌∷◌, ◌++◌, All, Option, Some}
-use Rattle.std.proofs.Common.{IfSome, option_to_list, length, map, sum_by, refl, sym, ap, ◌∙◌, subst, arith}
-use Rattle.std.proofs.Common.{append_assoc, length-append}
+use Rattle.std.proofs.Common.{◌≡◌, ℕ, ◌+◌, Bool, true, false, List, [], ◌∷◌, ◌++◌, All, Option, Some, IfSome}
+use Rattle.std.proofs.Common.{option_to_list, length, map, sum_by, refl, sym, ap, ◌∙◌, subst, arith, append_assoc}
+use Rattle.std.proofs.Common.{append-nil}
 use Rattle.std.specs.Prelude.{◌||◌}
-use Rattle.std.proofs.lemmas.List.{length-map, map-append}
-use Rattle.std.proofs.lemmas.List.Elements.{All-append, All-cons, All-head, All-nil, All-pop, All-push, All-tail}
+use Rattle.std.proofs.lemmas.List.{length-map, map-append, nil_from_length}
+use Rattle.std.proofs.lemmas.List.Elements.{All-cons, All-head, All-nil, All-pop, All-push, All-tail}
 use Rattle.std.proofs.lemmas.List.Sums.{sum_by-append, sum_by_push}
-use mathlib.Core.List.{Sublistᴰ, nil≢cons, head-eq_of_cons-eq, tail-eq_of_cons-eq}
+use mathlib.Core.List.{nil≢cons, head-eq_of_cons-eq, tail-eq_of_cons-eq}
 use Rattle.fl_board.specs.Seats.{Place}
-use Rattle.fl_desk.specs.Asked.{Orders, asked_by}
-use Rattle.fl_workers.specs.Received.{HasReceived}
+use Rattle.fl_desk.specs.Answered.{IsAnsweredAfter}
+use Rattle.fl_desk.specs.Asked.{Orders}
 use Rattle.fl_intake.specs.Ends.{TakeSide, weight_taken}
 use Rattle.fl_intake.specs.Often.{Weight}
-use Rattle.fl_order.specs.Order.{only_reads}
-use Rattle.fl_order.specs.declared.order.Order.{Order}
-use Rattle.fl_pool.specs.Working.{HaveDone, HaveWorked, IsCounted, Post, handed_at}
+use Rattle.fl_log.specs.Appended.{Appended}
+use Rattle.fl_pool.specs.Working.{HasComeBack, HaveDone, HaveWorked, IsDone, Returns, Work, idle, some_is, standing_at}
 use Rattle.fl_transport.specs.declared.fault.Fault.{Fault}
 use Rattle.fl_transport.specs.declared.response.Response.{Response}
-use Rattle.fl_workers.specs.Worked.{HasDone, HasWorked}
+use Rattle.fl_waiting.specs.declared.rules.Rules.{Rules}
+use Rattle.fl_workers.specs.Received.{HasReceived}
+use Rattle.fl_workers.specs.Worked.{HasWorked, Standing}
+use Rattle.fl_workers.specs.declared.entry.ReplyEntry.{ReplyEntry}
 
-abbrev Reads : Order → Type 0
-Reads order = only_reads order.op ≡ true
+abbrev pub Sent : Type 0
+Sent = Appended ReplyEntry
 
-both_false : (a b : Bool) → (a || b) ≡ false → (a ≡ false) × (b ≡ false)
-both_false true b e = absurd (true≢false e)
-both_false false b e = (refl, e)
+-- ---- whether one is so
 
-some_more : (a b : Bool) (xs ys : Orders) → (a ≡ true → 0 < length xs) → (b ≡ true → 0 < length ys) → (a || b) ≡ true
-    → 0 < length (xs ++ ys)
-some_more true b xs ys some more either = omega (arith, length-append xs ys, some refl)
-some_more false b xs ys some more either = omega (arith, length-append xs ys, more either)
+or_assoc : (a b c : Bool) → (a || (b || c)) ≡ ((a || b) || c)
+or_assoc true b c = refl
+or_assoc false b c = refl
 
-three : (weight : Weight) (a b c : Orders)
-    → sum_by weight (a ++ b ++ c) ≡ sum_by weight a + sum_by weight b + sum_by weight c
-three weight a b c = omega (arith, sum_by-append weight (a ++ b) c, sum_by-append weight a b)
+or_false : (b : Bool) → (b || false) ≡ b
+or_false true = refl
+or_false false = refl
 
-four : (weight : Weight) (a b c d : Orders)
-    → sum_by weight ((a ++ b) ++ (c ++ d)) ≡ sum_by weight a + sum_by weight b + (sum_by weight c + sum_by weight d)
-four weight a b c d =
-    omega (arith, sum_by-append weight (a ++ b) (c ++ d), sum_by-append weight a b, sum_by-append weight c d)
+some_push : (bs : List Bool) (b : Bool) → some_is (bs ++ b ∷ []) ≡ (some_is bs || b)
+some_push [] b = or_false b
+some_push (c ∷ bs) b = ap (λ x. c || x) (some_push bs b) ∙ or_assoc c (some_is bs) b
 
-no_more : (xs ys : Orders) → xs ≡ [] → ys ≡ [] → xs ++ ys ≡ []
-no_more xs ys a b = ap (λ l. l ++ ys) a ∙ b
+-- one more, behind the others
+some_more : (f : Work → Bool) (works : List Work) (work : Work)
+    → some_is (map f (works ++ work ∷ [])) ≡ (some_is (map f works) || f work)
+some_more f works work = ap some_is (map-append f works (work ∷ [])) ∙ some_push (map f works) (f work)
+
+-- ---- workers that came back
 
 -- no worker has come back yet
-pub none_back : (ends : List TakeSide) (places : List Place) → ends ≡ [] → places ≡ []
-    → HaveDone (λ weight. weight_taken weight ends) places false
-none_back ends places no_end no_place = record {
-  posts = [];
-  looked = [];
-  refused = [];
+pub none_back : (rules : Rules) (ends : List TakeSide) (places : List Place) (sent : List Sent) (any lost : Bool)
+    → ends ≡ [] → places ≡ [] → sent ≡ [] → any ≡ false → lost ≡ false
+    → HaveDone rules (λ weight. weight_taken weight ends) places sent any lost
+none_back rules ends places sent any lost no_end no_place no_sent none whole = record {
+  works = [];
   at = sym no_place;
-  handed = All-nil IsCounted;
-  each = λ weight. ap (weight_taken weight) no_end;
-  reads = All-nil Reads;
-  none = λ _. refl;
-  some = λ any. absurd (true≢false (sym any));
+  gave = sym no_sent;
+  each = All-nil (IsDone rules);
+  weighs = λ weight. ap (weight_taken weight) no_end;
+  refused = none;
+  missing = whole;
 }
 
+-- a worker that came back, with what its end took since it was fresh
+work_of : (rules : Rules) (worker : ℕ) (end end_now : TakeSide) (place : Place) (gave : Sent) (any lost : Bool)
+    → HasComeBack rules worker end place gave end_now any lost → end.taken ≡ []
+    → (work : Work) × (work.place ≡ place) × (work.sent ≡ gave) × (work.orders ≡ end_now.taken) × (work.any ≡ any)
+    × (work.lost ≡ lost) × IsDone rules work
+work_of rules worker end end_now place gave any lost back fresh =
+    let did = back.did in
+    let whole = did.is ∙ ap (λ l. l ++ did.took) fresh in (
+      record { place = place; sent = gave; orders = did.took; any = any; lost = lost },
+      refl,
+      refl,
+      sym whole,
+      refl,
+      refl,
+      subst (λ n. HasWorked (IsAnsweredAfter rules) did.took (idle n) (standing_at place gave) any lost) (sym back.own)
+          did.worked,
+    )
+
 -- one worker more came back
-pub one_back : (ends ends_now : List TakeSide) (places places_now : List Place) (any more : Bool) (before : Orders)
-    (end : TakeSide) (place : Place) → HaveDone (λ weight. weight_taken weight ends) places any → before ≡ []
-    → HasDone before end.taken (asked_by place.worker place.own) place.count more
-    → ends_now ≡ ends ++ end ∷ [] → places_now ≡ places ++ place ∷ []
-    → HaveDone (λ weight. weight_taken weight ends_now) places_now (any || more)
-one_back ends ends_now places places_now any more before end place so_far fresh did is_end is_place =
-    let post : Post = record { place = place; handed = did.handed } in record {
-      posts = so_far.posts ++ post ∷ [];
-      looked = so_far.looked ++ did.looked;
-      refused = so_far.refused ++ did.refused;
-      at = map-append (λ (p : Post). p.place) so_far.posts (post ∷ []) ∙ ap (λ l. l ++ place ∷ []) so_far.at
-          ∙ sym is_place;
-      handed = All-push IsCounted so_far.posts post so_far.handed
-          (record { counted = did.counted; among = did.among });
-      each = λ weight. omega (
+pub one_back : (rules : Rules) (ends ends_now : List TakeSide) (places places_now : List Place) (sent sent_now : List Sent)
+    (any any_now lost lost_now more gone : Bool) (worker : ℕ) (end end_now : TakeSide) (place : Place) (gave : Sent)
+    → HaveDone rules (λ weight. weight_taken weight ends) places sent any lost → end.taken ≡ []
+    → HasComeBack rules worker end place gave end_now more gone → ends_now ≡ ends ++ end_now ∷ []
+    → places_now ≡ places ++ place ∷ [] → sent_now ≡ sent ++ gave ∷ [] → any_now ≡ (any || more)
+    → lost_now ≡ (lost || gone) → HaveDone rules (λ weight. weight_taken weight ends_now) places_now sent_now any_now lost_now
+one_back rules ends ends_now places places_now sent sent_now any any_now lost lost_now more gone worker end end_now place
+    gave so_far fresh back is_end is_place is_sent is_any is_lost =
+    let it = work_of rules worker end end_now place gave more gone back fresh in
+    let works = so_far.works in
+    let work = it.0 in record {
+      works = works ++ work ∷ [];
+      at = map-append (λ (w : Work). w.place) works (work ∷ []) ∙ (λ i. so_far.at i ++ it.1 i ∷ []) ∙ sym is_place;
+      gave = map-append (λ (w : Work). w.sent) works (work ∷ []) ∙ (λ i. so_far.gave i ++ it.2 i ∷ []) ∙ sym is_sent;
+      each = All-push (IsDone rules) works work so_far.each it.6;
+      weighs = λ weight. omega (
         arith,
         ap (weight_taken weight) is_end,
-        sum_by_push (λ (e : TakeSide). sum_by weight e.taken) ends end,
-        ap (sum_by weight) (did.is ∙ ap (λ l. l ++ did.took) fresh),
-        so_far.each weight,
-        did.each weight,
-        three weight did.handed did.looked did.refused,
-        sum_by_push (λ (p : Post). sum_by weight p.handed) so_far.posts post,
-        sum_by-append weight so_far.looked so_far.refused,
-        four weight so_far.looked did.looked so_far.refused did.refused,
+        sum_by_push (λ (e : TakeSide). sum_by weight e.taken) ends end_now,
+        ap (sum_by weight) it.3,
+        so_far.weighs weight,
+        sum_by_push (λ (w : Work). sum_by weight w.orders) works work,
       );
-      reads = All-append Reads so_far.looked did.looked so_far.reads did.reads;
-      none = λ all. let neither = both_false any more all in
-          no_more so_far.refused did.refused (so_far.none neither.0) (did.none neither.1);
-      some = some_more any more so_far.refused did.refused so_far.some did.some;
+      refused = is_any ∙ (λ i. so_far.refused i || sym it.4 i) ∙ sym (some_more (λ (w : Work). w.any) works work);
+      missing = is_lost ∙ (λ i. so_far.missing i || sym it.5 i) ∙ sym (some_more (λ (w : Work). w.lost) works work);
     }
 
--- all workers came back, who were started by these threads
-pub all_back : {X : Type 0} (f : X → ℕ) (threads : List X) (places back : List Place) (ends : List TakeSide) (any : Bool)
-    → map (λ (p : Place). p.worker) back ≡ map f threads → map f threads ≡ map (λ (p : Place). p.worker) places
-    → length ends ≡ length threads → HaveDone (λ weight. weight_taken weight ends) back any
-    → HaveWorked places back ends any
-all_back f threads places back ends any joined started all did = record {
-  whose = joined ∙ started;
-  all = all ∙ sym (length-map threads f) ∙ ap length started ∙ length-map places (λ (p : Place). p.worker);
+names_at : {Y : Type 0} (g : Y → Place) (posts : List Y)
+    → map (λ (p : Place). p.worker) (map g posts) ≡ map (λ y. (g y).worker) posts
+names_at g [] = refl
+names_at g (y ∷ posts) = ap (λ l. (g y).worker ∷ l) (names_at g posts)
+
+-- all workers came back, who were started by these threads at these posts
+pub all_back : {X Y : Type 0} (f : X → ℕ) (g : Y → Place) (rules : Rules) (threads : List X) (posts : List Y)
+    (back : Returns) → map (λ (p : Place). p.worker) back.places ≡ map f threads
+    → map f threads ≡ map (λ y. (g y).worker) posts → length back.ends ≡ length threads
+    → HaveDone rules (λ weight. weight_taken weight back.ends) back.places back.sent back.any back.lost
+    → HaveWorked rules (map g posts) back
+all_back f g rules threads posts back joined started all did = record {
+  whose = joined ∙ started ∙ sym (names_at g posts);
+  all = all ∙ sym (length-map threads f) ∙ ap length started ∙ length-map posts (λ y. (g y).worker)
+      ∙ sym (length-map posts g);
   did = did;
 }
 
 -- ---- orders that no worker took
 
-last_post : (posts : List Post) (front : List Place) (place : Place)
-    → map (λ (p : Post). p.place) posts ≡ front ++ place ∷ []
-    → (first : List Post) × (last : Post) × (posts ≡ first ++ last ∷ [])
-    × (map (λ (p : Post). p.place) first ≡ front) × (last.place ≡ place)
-last_post [] [] place at = absurd (nil≢cons at)
-last_post [] (f ∷ front) place at = absurd (nil≢cons at)
-last_post (p ∷ []) [] place at = ([], p, refl, refl, head-eq_of_cons-eq at)
-last_post (p ∷ q ∷ posts) [] place at = absurd (nil≢cons (sym (tail-eq_of_cons-eq at)))
-last_post (p ∷ posts) (f ∷ front) place at =
-    let rest = last_post posts front place (tail-eq_of_cons-eq at) in (
-      p ∷ rest.0,
-      rest.1,
-      ap (λ l. p ∷ l) rest.2,
-      (λ i. head-eq_of_cons-eq at i ∷ rest.3 i),
-      rest.4,
-    )
+-- The last of a list and the others are those of another that is the same.
+same_ends : {A : Type 0} (xs ys : List A) (x y : A) → xs ++ x ∷ [] ≡ ys ++ y ∷ [] → (xs ≡ ys) × (x ≡ y)
+same_ends [] [] x y same = (refl, head-eq_of_cons-eq same)
+same_ends [] (b ∷ []) x y same = absurd (nil≢cons (tail-eq_of_cons-eq same))
+same_ends [] (b ∷ c ∷ ys) x y same = absurd (nil≢cons (tail-eq_of_cons-eq same))
+same_ends (a ∷ []) [] x y same = absurd (nil≢cons (sym (tail-eq_of_cons-eq same)))
+same_ends (a ∷ c ∷ xs) [] x y same = absurd (nil≢cons (sym (tail-eq_of_cons-eq same)))
+same_ends (a ∷ xs) (b ∷ ys) x y same =
+    let rest = same_ends xs ys x y (tail-eq_of_cons-eq same) in
+    ((λ i. head-eq_of_cons-eq same i ∷ rest.0 i), rest.1)
 
-All_front : (xs : List Post) (x : Post) → All IsCounted (xs ++ x ∷ []) → All IsCounted xs
-All_front [] x all = All-nil IsCounted
-All_front (y ∷ xs) x all = All-cons IsCounted y xs (All-head IsCounted y (xs ++ x ∷ []) all)
-    (All_front xs x (All-tail IsCounted y (xs ++ x ∷ []) all))
+first_and_last : (w : Work) (works : List Work)
+    → (first : List Work) × (last : Work) × (w ∷ works ≡ first ++ last ∷ [])
+first_and_last w [] = ([], w, refl)
+first_and_last w (v ∷ works) =
+    let rest = first_and_last v works in (w ∷ rest.0, rest.1, ap (λ l. w ∷ l) rest.2)
 
-All_last : (xs : List Post) (x : Post) → All IsCounted (xs ++ x ∷ []) → IsCounted x
-All_last [] x all = All-head IsCounted x [] all
-All_last (y ∷ xs) x all = All_last xs x (All-tail IsCounted y (xs ++ x ∷ []) all)
+-- the last of these works is that of the last place
+last_work : (works : List Work) (front : List Place) (place : Place) (sent_front : List Sent) (gave : Sent)
+    → map (λ (w : Work). w.place) works ≡ front ++ place ∷ [] → map (λ (w : Work). w.sent) works ≡ sent_front ++ gave ∷ []
+    → (first : List Work) × (last : Work) × (works ≡ first ++ last ∷ []) × (map (λ (w : Work). w.place) first ≡ front)
+    × (last.place ≡ place) × (map (λ (w : Work). w.sent) first ≡ sent_front) × (last.sent ≡ gave)
+last_work [] [] place sent_front gave at by = absurd (nil≢cons at)
+last_work [] (f ∷ front) place sent_front gave at by = absurd (nil≢cons at)
+last_work (w ∷ works) front place sent_front gave at by =
+    let split = first_and_last w works in
+    let places = same_ends (map (λ (w : Work). w.place) split.0) front split.1.place place
+    (sym (map-append (λ (w : Work). w.place) split.0 (split.1 ∷ [])) ∙ sym (ap (map (λ (w : Work). w.place)) split.2) ∙ at) in
+    let sent = same_ends (map (λ (w : Work). w.sent) split.0) sent_front split.1.sent gave
+    (sym (map-append (λ (w : Work). w.sent) split.0 (split.1 ∷ [])) ∙ sym (ap (map (λ (w : Work). w.sent)) split.2) ∙ by) in
+    (split.0, split.1, split.2, places.0, places.1, sent.0, sent.1)
+
+All_front : {X : Type 0} (P : X → Type 0) (xs : List X) (x : X) → All P (xs ++ x ∷ []) → All P xs
+All_front P [] x all = All-nil P
+All_front P (y ∷ xs) x all =
+    All-cons P y xs (All-head P y (xs ++ x ∷ []) all) (All_front P xs x (All-tail P y (xs ++ x ∷ []) all))
+
+All_last : {X : Type 0} (P : X → Type 0) (xs : List X) (x : X) → All P (xs ++ x ∷ []) → P x
+All_last P [] x all = All-head P x [] all
+All_last P (y ∷ xs) x all = All_last P xs x (All-tail P y (xs ++ x ∷ []) all)
+
+-- the last work, or what is one of it, is so, or more came
+some_last : (f : Work → Bool) (works first : List Work) (last now : Work) (any more : Bool) → works ≡ first ++ last ∷ []
+    → f now ≡ (f last || more) → any ≡ some_is (map f works) → (any || more) ≡ some_is (map f (first ++ now ∷ []))
+some_last f works first last now any more is changed so_far =
+    ap (λ b. b || more) (so_far ∙ ap (λ l. some_is (map f l)) is ∙ some_more f first last)
+    ∙ sym (or_assoc (some_is (map f first)) (f last) more)
+    ∙ ap (λ b. some_is (map f first) || b) (sym changed)
+    ∙ sym (some_more f first now)
+
+abbrev pub InTurn : Type 0
+InTurn = (rules : Rules) (xs ys : Orders) (a b c : Standing) (any more lost gone : Bool)
+    → HasWorked (IsAnsweredAfter rules) xs a b any lost → HasWorked (IsAnsweredAfter rules) ys b c more gone
+    → HasWorked (IsAnsweredAfter rules) (xs ++ ys) a c (any || more) (lost || gone)
 
 -- these were handled at the last place
-pub rest_done : (orders : Weight → ℕ) (rest : Orders) (front places places_now : List Place) (place place_now : Place)
-    (any more : Bool) → HaveDone orders places any → places ≡ front ++ place ∷ []
-    → places_now ≡ front ++ place_now ∷ []
-    → HasWorked rest (asked_by place.worker place.own) (asked_by place_now.worker place_now.own) place.count
-    place_now.count more
-    → HaveDone (λ weight. orders weight + sum_by weight rest) places_now (any || more)
-rest_done orders rest front places places_now place place_now any more so_far was now did =
-    let split = last_post so_far.posts front place (so_far.at ∙ was) in
-    let counted = subst (All IsCounted) split.2 so_far.handed in
-    let last : IsCounted split.1 = All_last split.0 split.1 counted in
-    let post : Post = record { place = place_now; handed = split.1.handed ++ did.handed } in record {
-      posts = split.0 ++ post ∷ [];
-      looked = so_far.looked ++ did.looked;
-      refused = so_far.refused ++ did.refused;
-      at = map-append (λ (p : Post). p.place) split.0 (post ∷ []) ∙ ap (λ l. l ++ place_now ∷ []) split.3 ∙ sym now;
-      handed = All-push IsCounted split.0 post (All_front split.0 split.1 counted) (record {
-        counted = omega (
-          arith,
-          length-append split.1.handed did.handed,
-          last.counted,
-          ap (λ (p : Place). p.count) split.4,
-          did.counted,
-        );
-        among = did.among split.1.handed
-            (subst (λ (p : Place). Sublistᴰ split.1.handed (asked_by p.worker p.own)) split.4 last.among);
-      });
-      each = λ weight. omega (
+pub rest_done : InTurn → (rules : Rules) (orders : Weight → ℕ) (rest : Orders) (front places places_now : List Place)
+    (place place_now : Place) (sent_front sent sent_now : List Sent) (gave gave_now : Sent) (any lost more gone : Bool)
+    → HaveDone rules orders places sent any lost → places ≡ front ++ place ∷ [] → places_now ≡ front ++ place_now ∷ []
+    → sent ≡ sent_front ++ gave ∷ [] → sent_now ≡ sent_front ++ gave_now ∷ []
+    → HasWorked (IsAnsweredAfter rules) rest (standing_at place gave) (standing_at place_now gave_now) more gone
+    → HaveDone rules (λ weight. orders weight + sum_by weight rest) places_now sent_now (any || more) (lost || gone)
+rest_done in_turn rules orders rest front places places_now place place_now sent_front sent sent_now gave gave_now any lost
+    more gone so_far was now had has did =
+    let split = last_work so_far.works front place sent_front gave (so_far.at ∙ was) (so_far.gave ∙ had) in
+    let first = split.0 in
+    let last = split.1 in
+    let each = subst (All (IsDone rules)) split.2 so_far.each in
+    let work : Work = record {
+      place = place_now;
+      sent = gave_now;
+      orders = last.orders ++ rest;
+      any = last.any || more;
+      lost = last.lost || gone;
+    } in
+    let from : HasWorked (IsAnsweredAfter rules) rest (standing_at last.place last.sent) (standing_at place_now gave_now) more
+    gone = subst (λ s. HasWorked (IsAnsweredAfter rules) rest s (standing_at place_now gave_now) more gone)
+    (λ i. standing_at (sym split.4 i) (sym split.6 i)) did in
+    let same : last.place.worker ≡ place_now.worker = ap (λ (p : Place). p.worker) split.4 ∙ sym did.worker in
+    let worked = in_turn rules last.orders rest (idle last.place.worker) (standing_at last.place last.sent)
+    (standing_at place_now gave_now) last.any more last.lost gone (All_last (IsDone rules) first last each) from in record {
+      works = first ++ work ∷ [];
+      at = map-append (λ (w : Work). w.place) first (work ∷ []) ∙ ap (λ l. l ++ place_now ∷ []) split.3 ∙ sym now;
+      gave = map-append (λ (w : Work). w.sent) first (work ∷ []) ∙ ap (λ l. l ++ gave_now ∷ []) split.5 ∙ sym has;
+      each = All-push (IsDone rules) first work (All_front (IsDone rules) first last each)
+          (subst (λ n. HasWorked (IsAnsweredAfter rules) work.orders (idle n) (standing_at place_now gave_now) work.any
+          work.lost) same worked);
+      weighs = λ weight. omega (
         arith,
-        so_far.each weight,
-        did.each weight,
-        three weight did.handed did.looked did.refused,
-        ap (handed_at weight) split.2,
-        sum_by_push (λ (p : Post). sum_by weight p.handed) split.0 split.1,
-        sum_by_push (λ (p : Post). sum_by weight p.handed) split.0 post,
-        sum_by-append weight split.1.handed did.handed,
-        sum_by-append weight so_far.looked so_far.refused,
-        four weight so_far.looked did.looked so_far.refused did.refused,
+        so_far.weighs weight,
+        ap (sum_by (λ (w : Work). sum_by weight w.orders)) split.2,
+        sum_by_push (λ (w : Work). sum_by weight w.orders) first last,
+        sum_by_push (λ (w : Work). sum_by weight w.orders) first work,
+        sum_by-append weight last.orders rest,
       );
-      reads = All-append Reads so_far.looked did.looked so_far.reads did.reads;
-      none = λ all. let neither = both_false any more all in
-          no_more so_far.refused did.refused (so_far.none neither.0) (did.none neither.1);
-      some = some_more any more so_far.refused did.refused so_far.some did.some;
+      refused = some_last (λ (w : Work). w.any) so_far.works first last work any more split.2 refl so_far.refused;
+      missing = some_last (λ (w : Work). w.lost) so_far.works first last work lost gone split.2 refl so_far.missing;
     }
 
 -- ---- lists that are gone through
@@ -198,16 +247,51 @@ same_last places places_now front place place_now was now same =
     ap (map name) now ∙ map-append name front (place_now ∷ []) ∙ (λ i. map name front ++ same i ∷ [])
     ∙ sym (ap (map name) was ∙ map-append name front (place ∷ []))
 
+-- nothing is left to go through
+pub ended : {X Y : Type 0} (f : X → ℕ) (g : Y → ℕ) (done : List X) (rest : List Y) (names : List ℕ)
+    → map f done ++ map g rest ≡ names → length rest ≡ 0 → map f done ≡ names
+ended f g done rest names all none =
+    sym (ap (λ l. map f done ++ map g l) (nil_from_length rest none) ∙ append-nil (map f done)) ∙ all
+
 -- what was received, by other names
 pub received_as : (left before now : Option (List ℕ)) (fault told : Option Fault) (put all : Orders)
-    (goodbye other : Response) → now ≡ before → told ≡ fault → all ≡ put → other ≡ goodbye
-    → HasReceived left before fault put goodbye → HasReceived left now told all other
-received_as left before now fault told put all goodbye other same_left same_fault same_put same_answer received =
-    rw (same_left, same_fault, same_put, same_answer) received
+    (goodbye other : Response) (sent own own_now : Sent) (gone lost : Bool) → now ≡ before → told ≡ fault → all ≡ put
+    → other ≡ goodbye → own_now ≡ own → lost ≡ gone
+    → HasReceived (record {
+      left = left;
+      left_now = before;
+      fault = fault;
+      put = put;
+      goodbye = goodbye;
+      sent = sent;
+      sent_now = own;
+      lost = gone;
+    })
+    → HasReceived (record {
+      left = left;
+      left_now = now;
+      fault = told;
+      put = all;
+      goodbye = other;
+      sent = sent;
+      sent_now = own_now;
+      lost = lost;
+    })
+received_as left before now fault told put all goodbye other sent own own_now gone lost same_left same_fault same_put
+    same_answer same_own same_lost received = subst HasReceived (λ i. record {
+      left = left;
+      left_now = sym same_left i;
+      fault = sym same_fault i;
+      put = sym same_put i;
+      goodbye = sym same_answer i;
+      sent = sent;
+      sent_now = sym same_own i;
+      lost = sym same_lost i;
+    }) received
 
 -- what was taken from behind a list is as all of it, and so is what is left
-pub popped : {X : Type 0} (P : X → Type 0) (xs left : List X) (taken : Option X) (x : X) → xs ≡ left ++ option_to_list taken
-    → taken ≡ Some x → All P xs → All P left × P x
+pub popped : {X : Type 0} (P : X → Type 0) (xs left : List X) (taken : Option X) (x : X)
+    → xs ≡ left ++ option_to_list taken → taken ≡ Some x → All P xs → All P left × P x
 popped P xs left taken x items is all =
     let both = All-pop P xs left taken items all in (both.0, subst (λ (o : _). IfSome o P) is both.1)
 
@@ -216,5 +300,7 @@ pub all_pushed : {X : Type 0} (P : X → Type 0) (xs ys : List X) (x : X) → ys
 all_pushed P xs ys x is all this = subst (All P) (sym is) (All-push P xs x all this)
 
 -- the first and the others of a list of which all are so
-pub first_and_rest : {X : Type 0} (P : X → Type 0) (xs rest : List X) (x : X) → xs ≡ x ∷ rest → All P xs → P x × All P rest
-first_and_rest P xs rest x is all = let both = subst (All P) is all in (All-head P x rest both, All-tail P x rest both)
+pub first_and_rest : {X : Type 0} (P : X → Type 0) (xs rest : List X) (x : X) → xs ≡ x ∷ rest → All P xs
+    → P x × All P rest
+first_and_rest P xs rest x is all =
+    let both = subst (All P) is all in (All-head P x rest both, All-tail P x rest both)

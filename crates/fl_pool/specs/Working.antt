@@ -1,5 +1,5 @@
 -- What the workers of a session did together.
-use Rattle.std.specs.Prelude.{◌≡◌, ◌≢◌, ℕ, Bool, false, List, [], ◌∷◌, All, Option, Some, length, map, ◌||◌}
+use Rattle.std.specs.Prelude.{◌≡◌, ◌≢◌, ℕ, Bool, false, List, [], ◌∷◌, All, Some, length, map, ◌||◌}
 use Rattle.std.specs.Prelude.{sum_by}
 use Rattle.std.specs.Io.KnownBytes.{Keeps}
 use Rattle.atomic_table.specs.Seated.{TableId}
@@ -9,10 +9,7 @@ use Rattle.fl_desk.specs.Asked.{Orders}
 use Rattle.fl_intake.specs.Ends.{TakeSide, weight_taken}
 use Rattle.fl_intake.specs.Often.{Weight}
 use Rattle.fl_log.specs.Appended.{Appended}
-use Rattle.fl_order.specs.declared.order.Order.{Order}
-use Rattle.fl_transport.specs.declared.fault.Fault.{Fault}
 use Rattle.fl_transport.specs.declared.fault.Fault.TheVariants.{NoMemory}
-use Rattle.fl_transport.specs.declared.response.Response.{Response}
 use Rattle.fl_waiting.specs.declared.rules.Rules.{Rules}
 use Rattle.fl_workers.specs.Received.{HasReceived, Reception}
 use Rattle.fl_workers.specs.Worked.{HasDone, HasWorked, Standing}

@@ -16,6 +16,7 @@ use fl_intake::{Intake, Job, PutEnd, TakeEnd};
 use fl_log::Appender;
 use fl_order::NoMemory;
 use fl_transport::{Fault, Inbox, Response};
+use fl_workers::laws::orders_are_worked_on_in_turn;
 use fl_workers::{
     Failures, Gate, Post, Received, ReplyEntry, SharedSender, Worked, WriterName, handle_all,
     receive_all, worker_loop,
@@ -164,6 +165,7 @@ impl<
             lost = result.1.lost;
           };
         }) }
+        ensures pairs { length result.0.appenders.items ≡ length result.0.seats.items }
         ensures room { length result.0.appenders.items < vec_capacity result.0.appenders }
     {
         let rt = self.rt;
@@ -201,6 +203,7 @@ impl<
                     lost = result.1.lost;
                   };
                 }) }
+                ensures pairs { length result.0.appenders.items ≡ length result.0.seats.items }
                 ensures room { length result.0.appenders.items < vec_capacity result.0.appenders }
             {
                 // Taken whole, so that what its type keeps is known here.
@@ -397,6 +400,7 @@ fn joined<L: BoardName, N: WriterName, R: Threads>(
     ensures ends { All (λ end. end.of ≡ intake.now) result.ends.items }
     ensures did { HaveDone L.rules (λ weight. weight_taken weight result.ends.items) result.seats.items
         result.appenders.items result.failures.refused result.failures.lost }
+    ensures pairs { length result.appenders.items ≡ length result.seats.items }
     ensures room { length result.appenders.items < vec_capacity result.appenders }
 {
     let mut back = back;
@@ -454,6 +458,7 @@ pub fn handed_in<
         unreachable!()
     };
     let mut post = Post { seat, own };
+    orders_are_worked_on_in_turn();
     let failures = handle_all(rt, board, gate, sender, &mut post, tolds, left);
     let Post { seat, own } = post;
     seats.push_reserved(seat);

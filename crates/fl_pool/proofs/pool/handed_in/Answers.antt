@@ -1,12 +1,9 @@
-use Rattle.fl_pool.proofs.WorkingLemmas.{rest_done, same_last}
+use Rattle.fl_pool.proofs.WorkingLemmas.{rest_done}
 use Rattle.fl_pool.proofs.pool.handed_in.Goals as goal
 
-pub returns : goal.returns
-returns g c =
-    let popped = c.in-Some.ensures.items in
-    let pushed = c.push_reserved.ensures.items in
-    let did = c.handle_all-refused.ensures in record {
-      whose = same_last _ _ c.pop.new.self.items c.in-Some.seat c.handle_all-refused.new.seat popped pushed did.own;
-      did = λ orders any so_far. rest_done orders c.args.left.items c.pop.new.self.items _ _ c.in-Some.seat
-          c.handle_all-refused.new.seat any _ so_far popped pushed did.did;
-    }
+pub returns-clause-did : goal.returns-clause-did
+returns-clause-did g c = λ orders any lost so_far.
+    rest_done c.orders_are_worked_on_in_turn.ensures g.L.BoardName.rules orders c.args.left.items c.pop.new.self.items _ _
+    c.in-Some-Some.seat c.handle_all-failures.new.post.seat c.pop-2.new.self.items _ _ c.in-Some-Some.own
+    c.handle_all-failures.new.post.own any lost _ _ so_far c.in-Some-Some.ensures.items c.push_reserved.ensures.items
+    c.in-Some-Some.ensures'.items c.push_reserved-2.ensures.items c.handle_all-failures.ensures.did

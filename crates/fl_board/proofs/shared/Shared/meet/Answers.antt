@@ -1,5 +1,10 @@
+use Rattle.std.proofs.Common.{◌∙◌, ap, refl, subst, sym}
 use Rattle.fl_board.proofs.Refusing.{short_of_first, short_of_second}
 use Rattle.fl_board.specs.Inside.Asks.{history_of}
+use Rattle.fl_board.specs.Refused.{BeginsWith}
+use Rattle.fl_board.specs.Seats.{Place}
+use Rattle.fl_replica.specs.declared.ask.Ask.{Ask}
+use Rattle.std.specs.Prelude.{List}
 use Rattle.fl_board.proofs.shared.Shared.meet.Goals.{then-not-begins-via-then-not-begins, then-not-begins-via-else-not-begins+then-not-begins-2}
 use Rattle.fl_board.proofs.shared.Shared.meet.Goals as goal
 
@@ -14,3 +19,20 @@ returns-then-not-begins-clause-no_view g c =
       | then-not-begins-via-else-not-begins+then-not-begins-2 w ↦
           short_of_second ours (history_of ours all) _ _ _ legal (λ begins. cc (w.if-not-begins-2.ensures.begins.1 begins))
     ]
+
+pub returns-clause-met : goal.returns-clause-met
+returns-clause-met g c =
+    let ours = g.L.BoardName.rules in
+    let shown = c.again.result in
+    let at : (place : Place) → BeginsWith (history_of ours c.self.inside.all) place → BeginsWith (history_of ours shown) place =
+    λ place. subst (λ (asks : List Ask). BeginsWith (history_of ours asks) place) (sym c.again.ensures) in
+    let one = at c.args.one.now (c.if-not-begins.ensures.begins.0 refl) in
+    let other = at c.args.other.now (c.if-not-begins-2.ensures.begins.0 refl) in
+    record {
+      legal = c.asks_lead.ensures.legal ours shown;
+      same = ap (history_of ours) (c.again-2.ensures ∙ sym c.again.ensures);
+      one_had = one.had;
+      one_saw = one.saw;
+      other_had = other.had;
+      other_saw = other.saw;
+    }

@@ -1,15 +1,15 @@
 use Rattle.std.proofs.Common.{◌≡◌, ◌+◌, ◌≤◌, ◌++◌, All, length, map, vec_capacity}
 use Rattle.fl_core.specs.Tolds.{HasRoom}
-use Rattle.fl_pool.specs.Working.{IsFresh}
+use Rattle.fl_pool.specs.Working.{IsFresh, IsIdle}
 use Rattle.fl_pool.proofs.pool.WorkerPool.start_all.Given as goal
 
--- a thread for each seat so far, in their order, and fresh seats and ends for the others, with room for replies
-abbrev pub invariant-loop-seat : goal.invariant-loop-seat
-invariant-loop-seat g l = (length l.threads.items + length l.seat-iterator.rest.items ≡ length l.fn.seats.items)
-    × (length l.fn.seats.items ≤ vec_capacity l.threads)
-    × (map (λ t. t.promise.worker) l.threads.items ++ map (λ seat. seat.worker) l.seat-iterator.rest.items
-    ≡ map (λ seat. seat.worker) l.fn.seats.items)
-    × All (λ seat. seat.count ≡ 0) l.seat-iterator.rest.items
+-- a thread for each post so far, in their order, and idle posts and fresh ends for the others, with room for replies
+abbrev pub invariant-loop-post : goal.invariant-loop-post
+invariant-loop-post g l = (length l.threads.items + length l.post-iterator.rest.items ≡ length l.fn.posts.items)
+    × (length l.fn.posts.items ≤ vec_capacity l.threads)
+    × (map (λ t. t.promise.worker) l.threads.items ++ map (λ post. post.seat.worker) l.post-iterator.rest.items
+    ≡ map (λ post. post.seat.worker) l.fn.posts.items)
+    × All (λ post. IsIdle post.seat post.own) l.post-iterator.rest.items
     × All (IsFresh l.self.intake) l.ends.items
     × All (HasRoom g.L.BoardName.rules) l.tolds.items
     × All (λ t. IsFresh l.self.intake t.promise.end.value) l.threads.items
