@@ -4,10 +4,11 @@ use Rattle.std.proofs.Common.{All, Option, Some, None, length, map, sum_by, refl
 use Rattle.std.proofs.Common.{length-append}
 use Rattle.std.proofs.KnownBytes.{Appends-nil}
 use Rattle.std.proofs.lemmas.List.{length-map, map-append}
-use Rattle.std.proofs.lemmas.List.Elements.{All-nil}
+use Rattle.std.proofs.lemmas.List.Elements.{All-cons, All-head, All-nil, All-tail}
+use Rattle.std.proofs.lemmas.List.Sums.{sum_by_push}
 use Rattle.std.proofs.lemmas.List.FromFn.{length-range_with_len}
 use Rattle.std.specs.List.{range_with_len}
-use Rattle.std.specs.Prelude.{IfSome, IsSome, not, ◌||◌}
+use Rattle.std.specs.Prelude.{IfSome, IsSome, not, ◌&&◌, ◌||◌}
 use Rattle.std.specs.Io.KnownBytes.{Keeps}
 use Rattle.fl_board.specs.Seats.{Place}
 use Rattle.fl_board.specs.Shown.{HasAllOf}
@@ -15,13 +16,13 @@ use Rattle.fl_desk.specs.Asked.{Orders}
 use Rattle.fl_desk.specs.Legal.{IsLegal}
 use Rattle.fl_history.specs.declared.history.Line.{Line}
 use Rattle.fl_intake.specs.Often.{Weight}
-use Rattle.fl_log.specs.Appended.{Appended, HasAll as HasAllEntries}
+use Rattle.fl_log.specs.Appended.{Appended, HasAll as HasAllEntries, IsAppended}
 use Rattle.fl_log.specs.Growing.{Grows}
 use Rattle.fl_pool.specs.Working.{HaveDone, Work}
-use Rattle.fl_serve.proofs.GrowingLemmas.{by_begins, just_these, then_more}
+use Rattle.fl_serve.proofs.GrowingLemmas.{appended_more, by_begins, just_these, then_more}
 use Rattle.fl_serve.proofs.PartLemmas.{answered_each, as_many_handed, author_of, gave_each, parts_of, same_orders, same_refused}
 use Rattle.fl_serve.proofs.PartLemmas.{same_workers}
-use Rattle.fl_serve.specs.Inside.Closing.{HasAll, HasSaidGoodbye, last_words}
+use Rattle.fl_serve.specs.Inside.Closing.{HasAll, HasGrown, HasSaidGoodbye, last_words}
 use Rattle.fl_serve.specs.Serve.{AreAllGiven, AreDone, HasNoHistory, IsRecordedBy, IsServedBy, Part}
 use Rattle.fl_session.specs.Recorded.{done_of, journal_lines}
 use Rattle.fl_session.specs.declared.done.Done.{Done}
@@ -35,7 +36,7 @@ use Rattle.fl_transport.specs.Streams.{Streams}
 use Rattle.fl_transport.specs.declared.fault.Fault.{Fault}
 use Rattle.fl_transport.specs.declared.fault.Fault.TheVariants.{NoMemory, NoReader}
 use Rattle.fl_transport.specs.declared.response.Response.{Response}
-use Rattle.fl_transport.specs.declared.response.Response.TheVariants.{Nothing}
+use Rattle.fl_transport.specs.declared.response.Response.TheVariants.{Nothing, Init, One, Replies}
 use Rattle.fl_waiting.specs.declared.rules.Rules.{Rules}
 use Rattle.fl_wire.specs.Spell.{IsReply}
 use Rattle.fl_workers.specs.Received.{HasReceived, IsLast, Reception, answer_by, left_to_answer, own_answers}
@@ -47,6 +48,23 @@ pub as_many : (seats : List Place) (workers : ℕ) → map (λ seat. seat.worker
     → length seats ≡ workers
 as_many seats workers each =
     sym (length-map seats (λ seat. seat.worker)) ∙ ap length each ∙ length-range_with_len 0 workers
+
+-- the workers of posts are those of their seats
+pub workers_of : {X : Type 0} (seat_of : X → Place) (posts : List X) (seats : List Place) → map seat_of posts ≡ seats
+    → map (λ (x : X). (seat_of x).worker) posts ≡ map (λ (p : Place). p.worker) seats
+workers_of seat_of posts seats is = go posts ∙ ap (map (λ (p : Place). p.worker)) is
+  where
+    go : (xs : List _) → map (λ x. (seat_of x).worker) xs ≡ map (λ (p : Place). p.worker) (map seat_of xs)
+    go [] = refl
+    go (x ∷ xs) = ap (λ l. (seat_of x).worker ∷ l) (go xs)
+
+-- the same, and how many they are
+pub same_seats : {X : Type 0} (seat_of : X → Place) (posts : List X) (workers : ℕ)
+    → map (λ (x : X). (seat_of x).worker) posts ≡ range_with_len 0 workers
+    → (map (λ (p : Place). p.worker) (map seat_of posts) ≡ range_with_len 0 workers) × (length (map seat_of posts) ≡ workers)
+same_seats seat_of posts workers is =
+    let same = sym (workers_of seat_of posts (map seat_of posts) refl) ∙ is in
+    (same, as_many (map seat_of posts) workers same)
 
 -- no session ends without a reader, as long as its board is told
 pub never_no_reader : (told : Option Fault) (broken : Bool) (messages : List (List ℕ)) (rest : List ℕ)
@@ -154,6 +172,71 @@ said_whole : (b : Bool) → not b ≡ false → b ≡ true
 said_whole true e = refl
 said_whole false e = absurd (true≢false e)
 
+words : (goodbye : Response) → (goodbye ≡ Nothing → ⊥) → last_words goodbye ≡ goodbye ∷ []
+words Nothing some = absurd (some refl)
+words (Init unique step) some = refl
+words (One told) some = refl
+words (Replies tolds) some = refl
+
+-- a goodbye was given
+pub goodbye_given : (log log_now : List ReplyEntry) (own mine : Appended ReplyEntry) (goodbye : Response) (said : Bool)
+    → (goodbye ≡ Nothing → ⊥) → (said ≡ true → log_now ≡ log ++ answer_by own.author goodbye ∷ [])
+    → (said ≡ true → IsAppended own (answer_by own.author goodbye) mine)
+    → (said ≡ true → log_now ≡ log ++ map (answer_by own.author) (last_words goodbye))
+    × (said ≡ true → HasGrown own mine (map (answer_by own.author) (last_words goodbye)))
+goodbye_given log log_now own mine goodbye said some logged appended =
+    let is = sym (words goodbye some) in (
+      λ t. subst (λ w. log_now ≡ log ++ map (answer_by own.author) w) is (logged t),
+      λ t. subst (λ w. HasGrown own mine (map (answer_by own.author) w)) is (record {
+        author = (appended t).author;
+        grown = appended_more author_of own mine (answer_by own.author goodbye) refl (appended t);
+      }),
+    )
+
+all_front : {X : Type 0} (P : X → Type 0) (xs : List X) (x : X) → All P (xs ++ x ∷ []) → All P xs
+all_front P [] x all = All-nil P
+all_front P (y ∷ xs) x all = All-cons P y xs (All-head P y (xs ++ x ∷ []) all)
+    (all_front P xs x (All-tail P y (xs ++ x ∷ []) all))
+
+all_last : {X : Type 0} (P : X → Type 0) (xs : List X) (x : X) → All P (xs ++ x ∷ []) → P x
+all_last P [] x all = All-head P x [] all
+all_last P (y ∷ xs) x all = all_last P xs x (All-tail P y (xs ++ x ∷ []) all)
+
+both_true : (a b : Bool) → (a && b) ≡ true → (a ≡ true) × (b ≡ true)
+both_true true b e = (refl, e)
+both_true false b e = absurd (true≢false (sym e))
+
+-- all was given, and the goodbye last
+pub goodbye_said : (start : Option (List ℕ)) (out : Outgoing) (log log_now : List ReplyEntry)
+    (appenders all : List (Appended ReplyEntry)) (own mine : Appended ReplyEntry) (goodbye : Response) (closed said : Bool)
+    → IsGiven start out (spelled log_now)
+    → (said ≡ true → log_now ≡ log ++ map (answer_by own.author) (last_words goodbye))
+    → (said ≡ true → HasGrown own mine (map (answer_by own.author) (last_words goodbye)))
+    → all ≡ appenders ++ mine ∷ [] → (closed ≡ true → All (HasAllEntries author_of log_now) all)
+    → (closed ≡ true → length log_now ≡ sum_by (λ (a : Appended ReplyEntry). a.count) all)
+    → HasSaidGoodbye start out appenders own goodbye (closed && said)
+goodbye_said start out log log_now appenders all own mine goodbye closed said given is grown these each total = record {
+  front = log;
+  log = log_now;
+  given = given;
+  is = λ whole. is (both_true closed said whole).1;
+  each = λ whole. all_front (HasAllEntries author_of log_now) appenders mine
+      (subst (λ l. All (HasAllEntries author_of log_now) l) these (each (both_true closed said whole).0));
+  mine = mine;
+  grown = λ whole. grown (both_true closed said whole).1;
+  all = λ whole. all_last (HasAllEntries author_of log_now) appenders mine
+      (subst (λ l. All (HasAllEntries author_of log_now) l) these (each (both_true closed said whole).0));
+  total = λ whole. total (both_true closed said whole).0 ∙ ap (sum_by (λ (a : Appended ReplyEntry). a.count)) these
+      ∙ sum_by_push (λ (a : Appended ReplyEntry). a.count) appenders mine;
+}
+
+-- what a board was told, as the result of its session
+pub closed_as : {K : Type 0} (lines : K → List Line) (places : List Place) (any : Bool) (told : Option Fault)
+    (it : Recorded K) → HasAll places any told (done_of lines it) ⊎ (it.fault ≡ Some NoReader) × (it.journal ≡ None)
+    → HasAll places any told (done_of lines it) ⊎ ((done_of lines it).fault ≡ Some NoReader) × ((done_of lines it).history ≡ [])
+closed_as lines places any told it closed =
+    ⊎_elim (λ all. inl all) (λ none. inr (none.0, ap (journal_lines lines) none.1)) closed
+
 -- what a session did whose receiver ended
 pub served_by : (rules : Rules) (workers : ℕ) (it : Reception) (start held : Option (List ℕ)) (broken : Bool)
     (sents : List (Appended ReplyEntry)) (places : List Place) (orders : Weight → ℕ) (any lost whole : Bool)
@@ -249,3 +332,55 @@ all_recorded lines workers takers rules by streams start it as_many same begun l
   unwritten = λ memory. absurd (some memory);
   untold = untold;
 }
+
+-- by its own names
+pub recorded_from : {K : Type 0} (lines : K → List Line) (workers : ℕ) (rules by : Rules) (left left_now start held : Option (List ℕ))
+    (held_now : Option (List ℕ)) (it : Recorded K) → rules ≡ by → held ≡ start
+    → IsRecordedBy lines workers by (record { left = left; left_now = left_now; held = start; held_now = held_now }) it
+    → IsRecordedBy lines workers rules (record { left = left; left_now = left_now; held = held; held_now = held_now }) it
+recorded_from lines workers rules by left left_now start held held_now it same begun recorded =
+    subst (λ r. IsRecordedBy lines workers r (record { left = left; left_now = left_now; held = held; held_now = held_now }) it) (sym same)
+    (subst (λ h. IsRecordedBy lines workers by (record { left = left; left_now = left_now; held = h; held_now = held_now }) it) (sym begun) recorded)
+
+-- all workers came back, of whom there was one for each number
+pub workers_back : (places back : List Place) (workers takers : ℕ)
+    → map (λ (p : Place). p.worker) back ≡ map (λ (p : Place). p.worker) places
+    → map (λ (p : Place). p.worker) places ≡ range_with_len 0 workers → takers ≡ workers
+    → (map (λ (p : Place). p.worker) back ≡ range_with_len 0 takers) × (length back ≡ workers)
+workers_back places back workers takers whose all same =
+    (whose ∙ all ∙ sym (ap (range_with_len 0) same), as_many back workers (whose ∙ all))
+
+-- what was received, with the receiver's appender by its own name
+pub received_by : (left left_now : Option (List ℕ)) (fault : Option Fault) (put : Orders) (goodbye : Response)
+    (sent sent_now : Appended ReplyEntry) (lost : Bool) (workers takers : ℕ)
+    → sent ≡ record { author = workers; count = 0; own = [] } → takers ≡ workers
+    → HasReceived (record {
+      left = left;
+      left_now = left_now;
+      fault = fault;
+      put = put;
+      goodbye = goodbye;
+      sent = sent;
+      sent_now = sent_now;
+      lost = lost;
+    }) → HasReceived (record {
+      left = left;
+      left_now = left_now;
+      fault = fault;
+      put = put;
+      goodbye = goodbye;
+      sent = record { author = takers; count = 0; own = [] };
+      sent_now = sent_now;
+      lost = lost;
+    })
+received_by left left_now fault put goodbye sent sent_now lost workers takers is same received =
+    subst (λ (a : Appended ReplyEntry). HasReceived (record {
+      left = left;
+      left_now = left_now;
+      fault = fault;
+      put = put;
+      goodbye = goodbye;
+      sent = a;
+      sent_now = sent_now;
+      lost = lost;
+    })) (is ∙ ap (λ (n : ℕ). record { author = n; count = 0; own = [] }) (sym same)) received
