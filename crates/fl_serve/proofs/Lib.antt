@@ -1,2 +1,4 @@
-pub mod AskedLemmas
+pub mod GrowingLemmas
+pub mod PartLemmas
+pub mod PostLemmas
 pub mod ServingLemmas

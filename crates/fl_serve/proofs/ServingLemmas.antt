@@ -1,40 +1,47 @@
 -- What a session with workers did.
-use Rattle.std.proofs.Common.{◌≡◌, ◌≢◌, ℕ, ◌⊎◌, inl, inr, ⊎_elim, Bool, true, false, true≢false, List, [], ◌++◌, Option}
-use Rattle.std.proofs.Common.{Some, None, length, map, sum_by, refl, sym, ap, subst, ◌∙◌, arith}
+use Rattle.std.proofs.Common.{◌≡◌, ◌≢◌, ℕ, ◌+◌, ◌⊎◌, inl, inr, ⊎_elim, Bool, true, false, true≢false, List, [], ◌∷◌, ◌++◌}
+use Rattle.std.proofs.Common.{All, Option, Some, None, length, map, sum_by, refl, sym, ap, subst, ◌∙◌, arith, append-nil}
+use Rattle.std.proofs.Common.{length-append}
 use Rattle.std.proofs.KnownBytes.{Appends-nil}
-use Rattle.std.proofs.lemmas.List.{length-map}
-use Rattle.std.proofs.lemmas.List.Elements.{All-nil}
+use Rattle.std.proofs.lemmas.List.{length-map, map-append}
+use Rattle.std.proofs.lemmas.List.Elements.{All-cons, All-head, All-nil, All-tail}
+use Rattle.std.proofs.lemmas.List.Sums.{sum_by_push}
 use Rattle.std.proofs.lemmas.List.FromFn.{length-range_with_len}
-use Rattle.std.proofs.lemmas.List.Sums.{sum_by-append}
 use Rattle.std.specs.List.{range_with_len}
-use Rattle.std.specs.Prelude.{IfSome, IsSome}
+use Rattle.std.specs.Prelude.{IfSome, IsSome, not, ◌&&◌, ◌||◌}
 use Rattle.std.specs.Io.KnownBytes.{Keeps}
 use Rattle.fl_board.specs.Seats.{Place}
-use Rattle.fl_desk.specs.Asked.{Orders, asked}
+use Rattle.fl_board.specs.Shown.{HasAllOf}
+use Rattle.fl_desk.specs.Asked.{Orders}
 use Rattle.fl_desk.specs.Legal.{IsLegal}
 use Rattle.fl_history.specs.declared.history.Line.{Line}
 use Rattle.fl_intake.specs.Often.{Weight}
-use Rattle.fl_order.specs.Order.{only_reads}
-use Rattle.fl_order.specs.declared.order.Order.{Order}
-use Rattle.fl_pool.specs.Working.{HaveDone}
-use Rattle.fl_serve.proofs.AskedLemmas.{all_is_handed_in}
-use Rattle.fl_serve.specs.Inside.Closing.{HasAll}
-use Rattle.fl_serve.specs.Serve.{HasNoHistory, IsAsked, IsRecordedBy, IsServedBy}
+use Rattle.fl_log.specs.Appended.{Appended, HasAll as HasAllEntries, IsAppended}
+use Rattle.fl_log.specs.Growing.{Grows}
+use Rattle.fl_pool.specs.Working.{HaveDone, Work}
+use Rattle.fl_serve.proofs.GrowingLemmas.{appended_more, by_begins, just_these, then_more}
+use Rattle.fl_serve.proofs.PartLemmas.{answered_each, as_many_handed, author_of, gave_each, parts_of, same_orders, same_refused}
+use Rattle.fl_serve.proofs.PartLemmas.{same_workers}
+use Rattle.fl_serve.specs.Inside.Closing.{HasAll, HasGrown, HasSaidGoodbye, last_words}
+use Rattle.fl_serve.specs.Serve.{AreAllGiven, AreDone, HasNoHistory, IsRecordedBy, IsServedBy, Part}
 use Rattle.fl_session.specs.Recorded.{done_of, journal_lines}
 use Rattle.fl_session.specs.declared.done.Done.{Done}
 use Rattle.fl_session.specs.declared.recorded.Recorded.{Recorded}
+use Rattle.fl_transport.specs.Collecting.{IsGiven, Outgoing}
 use Rattle.fl_transport.specs.Ending.{EndsBy, IsEnding, IsRead}
 use Rattle.fl_transport.specs.Handshake.{handshake_of}
-use Rattle.fl_transport.specs.Response.{bytes_of}
+use Rattle.fl_transport.specs.Response.{goodbye_to}
 use Rattle.fl_transport.specs.Said.{said_in}
 use Rattle.fl_transport.specs.Streams.{Streams}
 use Rattle.fl_transport.specs.declared.fault.Fault.{Fault}
 use Rattle.fl_transport.specs.declared.fault.Fault.TheVariants.{NoMemory, NoReader}
 use Rattle.fl_transport.specs.declared.response.Response.{Response}
+use Rattle.fl_transport.specs.declared.response.Response.TheVariants.{Nothing, Init, One, Replies}
 use Rattle.fl_waiting.specs.declared.rules.Rules.{Rules}
 use Rattle.fl_wire.specs.Spell.{IsReply}
-use Rattle.fl_workers.specs.Received.{HasReceived}
-use Rattle.fl_workers.specs.Sent.{HasSent, HasSentLast, IsSpelling}
+use Rattle.fl_workers.specs.Received.{HasReceived, IsLast, Reception, answer_by, left_to_answer, own_answers}
+use Rattle.fl_workers.specs.Sent.{entries_of, spelled}
+use Rattle.fl_workers.specs.declared.entry.ReplyEntry.{ReplyEntry}
 
 -- there is a seat for each worker
 pub as_many : (seats : List Place) (workers : ℕ) → map (λ seat. seat.worker) seats ≡ range_with_len 0 workers
@@ -42,124 +49,338 @@ pub as_many : (seats : List Place) (workers : ℕ) → map (λ seat. seat.worker
 as_many seats workers each =
     sym (length-map seats (λ seat. seat.worker)) ∙ ap length each ∙ length-range_with_len 0 workers
 
+-- the workers of posts are those of their seats
+pub workers_of : {X : Type 0} (seat_of : X → Place) (posts : List X) (seats : List Place) → map seat_of posts ≡ seats
+    → map (λ (x : X). (seat_of x).worker) posts ≡ map (λ (p : Place). p.worker) seats
+workers_of seat_of posts seats is = go posts ∙ ap (map (λ (p : Place). p.worker)) is
+  where
+    go : (xs : List _) → map (λ x. (seat_of x).worker) xs ≡ map (λ (p : Place). p.worker) (map seat_of xs)
+    go [] = refl
+    go (x ∷ xs) = ap (λ l. (seat_of x).worker ∷ l) (go xs)
+
+-- the same, and how many they are
+pub same_seats : {X : Type 0} (seat_of : X → Place) (posts : List X) (workers : ℕ)
+    → map (λ (x : X). (seat_of x).worker) posts ≡ range_with_len 0 workers
+    → (map (λ (p : Place). p.worker) (map seat_of posts) ≡ range_with_len 0 workers) × (length (map seat_of posts) ≡ workers)
+same_seats seat_of posts workers is =
+    let same = sym (workers_of seat_of posts (map seat_of posts) refl) ∙ is in
+    (same, as_many (map seat_of posts) workers same)
+
 -- no session ends without a reader, as long as its board is told
 pub never_no_reader : (told : Option Fault) (broken : Bool) (messages : List (List ℕ)) (rest : List ℕ)
     (left : Option (List ℕ)) → EndsBy told broken messages rest left → told ≢ Some NoReader
 never_no_reader told broken messages rest left ends none =
     subst (λ fault. EndsBy fault broken messages rest left) none ends
 
--- nothing was sent
-pub nothing_sent : (start : Option (List ℕ)) → HasSent start (record { held = start; waiting = []; broken = false })
-nothing_sent start = record {
-  replies = [];
-  each = All-nil IsSpelling;
-  given = record { sent = []; written = Appends-nil start; are_given = refl; framed = All-nil IsReply };
-}
+-- nothing was given to be sent
+pub nothing_given : (start : Option (List ℕ))
+    → IsGiven start (record { held = start; waiting = []; broken = false }) (spelled [])
+nothing_given start = record { sent = []; written = Appends-nil start; are_given = refl; framed = All-nil IsReply }
 
--- a session whose orders were put, and handed in, looked for or refused
-pub asked_as_said : (workers : ℕ) (messages : List (List ℕ)) (put : Orders) (orders : Weight → ℕ) (places : List Place)
-    (any : Bool) (fault : Option Fault) (done : Done) → put ≡ said_in messages
-    → ((weight : Weight) → sum_by weight put ≡ orders weight) → HaveDone orders places any
-    → map (λ (p : Place). p.worker) places ≡ range_with_len 0 workers → HasAll places any fault done → IsAsked messages done
-asked_as_said workers messages put orders places any fault done said is did whose all = record {
-  looked = did.looked;
-  refused = did.refused;
-  each = λ weight. omega (
+-- what is said last is what is left to answer
+last_is_left : (over : Bool) (messages : List (List ℕ)) (goodbye : Response)
+    → (over ≡ true → IsLast messages goodbye) → (over ≡ false → goodbye ≡ Nothing)
+    → last_words goodbye ≡ left_to_answer over goodbye
+last_is_left true messages goodbye last none = go goodbye (last refl).answer
+  where
+    go : (goodbye : Response) → goodbye ≡ goodbye_to (last refl).last → last_words goodbye ≡ goodbye ∷ []
+    go goodbye is = subst (λ g. last_words g ≡ g ∷ []) (sym is) refl
+last_is_left false messages goodbye last none = ap last_words (none refl)
+
+-- whose receiver, and whose workers, gave all that was given
+pub all_given : (rules : Rules) (workers : ℕ) (it : Reception) (start : Option (List ℕ)) (out : Outgoing)
+    (sents : List (Appended ReplyEntry)) (places : List Place) (orders : Weight → ℕ) (any lost whole : Bool)
+    → (received : HasReceived it) → it.sent ≡ record { author = workers; count = 0; own = [] }
+    → (did : HaveDone rules orders places sents any lost)
+    → (said : HasSaidGoodbye start out sents it.sent_now it.goodbye whole) → it.lost ≡ false → lost ≡ false
+    → whole ≡ true → AreAllGiven workers received.messages (parts_of rules did.works did.each) said.log
+all_given rules workers it start out sents places orders any lost whole received fresh did said none never all =
+    let log = said.log in
+    let over = (handshake_of received.messages).over in
+    let was : it.sent.author ≡ workers = ap (λ (a : Appended ReplyEntry). a.author) fresh in
+    let name : it.sent_now.author ≡ workers = received.author ∙ was in
+    let gave = gave_each rules log did.works did.each (sym did.missing ∙ never)
+    (subst (λ l. All (HasAllEntries author_of log) l) (sym did.gave) (said.each all)) in
+    let words : last_words it.goodbye ≡ left_to_answer over it.goodbye =
+    last_is_left over received.messages it.goodbye received.over received.live in
+    let answers : List ReplyEntry = map (answer_by workers) received.answered in
+    let last : List ReplyEntry = map (answer_by workers) (last_words it.goodbye) in
+    let first : Grows [] (entries_of workers it.sent_now.own) 0 it.sent_now.count answers =
+    subst (λ (a : Appended ReplyEntry). Grows (entries_of a.author a.own) (entries_of a.author it.sent_now.own) a.count
+    it.sent_now.count (map (answer_by a.author) received.answered)) fresh (received.given none) in
+    let then : Grows (entries_of workers it.sent_now.own) (entries_of workers said.mine.own) it.sent_now.count said.mine.count last =
+    subst (λ n. Grows (entries_of n it.sent_now.own) (entries_of n said.mine.own) it.sent_now.count said.mine.count
+    (map (answer_by n) (last_words it.goodbye))) name (said.grown all).grown in
+    let grown = then_more [] (entries_of workers it.sent_now.own) (entries_of workers said.mine.own) 0 it.sent_now.count
+    said.mine.count answers last first then in
+    let has = said.all all in
+    let mine : said.mine.author ≡ workers = (said.grown all).author ∙ name in
+    let count : length (entries_of workers log) ≡ said.mine.count = subst (λ n. length (entries_of n log) ≡ said.mine.count) mine has.count in
+    let own : map (answer_by workers) (own_answers received.messages) ≡ answers ++ last =
+    ap (map (answer_by workers)) (received.own ∙ ap (λ l. received.answered ++ l) (sym words))
+    ∙ map-append (answer_by workers) received.answered (last_words it.goodbye) in
+    let these : entries_of workers log ≡ answers ++ last =
+    just_these (entries_of workers said.mine.own) (entries_of workers log) said.mine.count (answers ++ last) grown
+    (by_begins author_of workers said.mine.own log has.had) count in
+    record {
+      each = gave.0;
+      own = these ∙ sym own;
+      no_others = omega (
+        arith,
+        said.total all,
+        ap (sum_by (λ (a : Appended ReplyEntry). a.count)) did.gave,
+        gave.1,
+        grown.counted,
+        sym (ap length own) ∙ length-map (own_answers received.messages) (answer_by workers),
+      );
+      goodbye = λ ended. record {
+        goodbye = it.goodbye;
+        last = received.over ended;
+        front = said.front;
+        is = said.is all ∙ (λ i. said.front ++ map (answer_by (name i)) (words i))
+            ∙ ap (λ b. said.front ++ map (answer_by workers) (left_to_answer b it.goodbye)) ended;
+      };
+    }
+
+-- the orders of the messages were handed in, looked for or refused
+all_done : (rules : Rules) (workers : ℕ) (messages : List (List ℕ)) (put : Orders) (sents : List (Appended ReplyEntry))
+    (places : List Place) (orders : Weight → ℕ) (any lost : Bool) (told : Option Fault) (done : Done)
+    → put ≡ said_in messages → ((weight : Weight) → sum_by weight put ≡ orders weight)
+    → map (λ (p : Place). p.worker) places ≡ range_with_len 0 workers
+    → (did : HaveDone rules orders places sents any lost) → HasAll places any told done
+    → AreDone workers rules messages (parts_of rules did.works did.each) done
+all_done rules workers messages put sents places orders any lost told done said is whose did all = record {
+  whose = same_workers rules did.works did.each ∙ ap (map (λ (p : Place). p.worker)) did.at ∙ whose;
+  taken = λ weight. omega (
     arith,
     ap (sum_by weight) said,
     is weight,
-    did.each weight,
-    all_is_handed_in weight done.history did.posts places workers did.at did.handed all.each whose all.counted,
-    sum_by-append weight (asked done.history ++ did.looked) did.refused,
-    sum_by-append weight (asked done.history) did.looked,
-    sum_by-append weight did.looked did.refused,
+    did.weighs weight,
+    same_orders rules weight did.works did.each,
   );
-  reads = did.reads;
-  none = λ e. did.none (sym all.tells ∙ e);
-  some = λ e. did.some (sym all.tells ∙ e);
+  each = answered_each rules done.history did.works did.each
+      (subst (λ l. All (HasAllOf done.history) l) (sym did.at) all.each);
+  all = all.counted ∙ ap (sum_by (λ (p : Place). p.count)) (sym did.at) ∙ sym (as_many_handed rules did.works did.each);
+  refused = all.tells ∙ did.refused ∙ same_refused rules did.works did.each;
 }
 
--- what a session did whose reader ended
-pub served_by : (workers : ℕ) (streams : Streams) (fault : Option Fault) (put : Orders) (goodbye : Response)
-    (broken any : Bool) (orders : Weight → ℕ) (places : List Place) (done : Done)
-    → HasReceived streams.left streams.left_now fault put goodbye
-    → HasSent streams.held (record { held = streams.held_now; waiting = []; broken = broken })
-    → (broken ≡ false → HasSentLast streams.held streams.held_now (bytes_of goodbye))
-    → (told : Option Fault) → ((messages : List (List ℕ)) (rest : List ℕ) (left : Option (List ℕ))
-    → IsEnding fault (handshake_of messages).over rest left → EndsBy told broken messages rest left)
-    → ((weight : Weight) → sum_by weight put ≡ orders weight) → HaveDone orders places any
+neither_is : (a b : Bool) → (a || b) ≡ false → (a ≡ false) × (b ≡ false)
+neither_is true b e = absurd (true≢false e)
+neither_is false b e = (refl, e)
+
+said_whole : (b : Bool) → not b ≡ false → b ≡ true
+said_whole true e = refl
+said_whole false e = absurd (true≢false e)
+
+words : (goodbye : Response) → (goodbye ≡ Nothing → ⊥) → last_words goodbye ≡ goodbye ∷ []
+words Nothing some = absurd (some refl)
+words (Init unique step) some = refl
+words (One told) some = refl
+words (Replies tolds) some = refl
+
+-- a goodbye was given
+pub goodbye_given : (log log_now : List ReplyEntry) (own mine : Appended ReplyEntry) (goodbye : Response) (said : Bool)
+    → (goodbye ≡ Nothing → ⊥) → (said ≡ true → log_now ≡ log ++ answer_by own.author goodbye ∷ [])
+    → (said ≡ true → IsAppended own (answer_by own.author goodbye) mine)
+    → (said ≡ true → log_now ≡ log ++ map (answer_by own.author) (last_words goodbye))
+    × (said ≡ true → HasGrown own mine (map (answer_by own.author) (last_words goodbye)))
+goodbye_given log log_now own mine goodbye said some logged appended =
+    let is = sym (words goodbye some) in (
+      λ t. subst (λ w. log_now ≡ log ++ map (answer_by own.author) w) is (logged t),
+      λ t. subst (λ w. HasGrown own mine (map (answer_by own.author) w)) is (record {
+        author = (appended t).author;
+        grown = appended_more author_of own mine (answer_by own.author goodbye) refl (appended t);
+      }),
+    )
+
+all_front : {X : Type 0} (P : X → Type 0) (xs : List X) (x : X) → All P (xs ++ x ∷ []) → All P xs
+all_front P [] x all = All-nil P
+all_front P (y ∷ xs) x all = All-cons P y xs (All-head P y (xs ++ x ∷ []) all)
+    (all_front P xs x (All-tail P y (xs ++ x ∷ []) all))
+
+all_last : {X : Type 0} (P : X → Type 0) (xs : List X) (x : X) → All P (xs ++ x ∷ []) → P x
+all_last P [] x all = All-head P x [] all
+all_last P (y ∷ xs) x all = all_last P xs x (All-tail P y (xs ++ x ∷ []) all)
+
+both_true : (a b : Bool) → (a && b) ≡ true → (a ≡ true) × (b ≡ true)
+both_true true b e = (refl, e)
+both_true false b e = absurd (true≢false (sym e))
+
+-- all was given, and the goodbye last
+pub goodbye_said : (start : Option (List ℕ)) (out : Outgoing) (log log_now : List ReplyEntry)
+    (appenders all : List (Appended ReplyEntry)) (own mine : Appended ReplyEntry) (goodbye : Response) (closed said : Bool)
+    → IsGiven start out (spelled log_now)
+    → (said ≡ true → log_now ≡ log ++ map (answer_by own.author) (last_words goodbye))
+    → (said ≡ true → HasGrown own mine (map (answer_by own.author) (last_words goodbye)))
+    → all ≡ appenders ++ mine ∷ [] → (closed ≡ true → All (HasAllEntries author_of log_now) all)
+    → (closed ≡ true → length log_now ≡ sum_by (λ (a : Appended ReplyEntry). a.count) all)
+    → HasSaidGoodbye start out appenders own goodbye (closed && said)
+goodbye_said start out log log_now appenders all own mine goodbye closed said given is grown these each total = record {
+  front = log;
+  log = log_now;
+  given = given;
+  is = λ whole. is (both_true closed said whole).1;
+  each = λ whole. all_front (HasAllEntries author_of log_now) appenders mine
+      (subst (λ l. All (HasAllEntries author_of log_now) l) these (each (both_true closed said whole).0));
+  mine = mine;
+  grown = λ whole. grown (both_true closed said whole).1;
+  all = λ whole. all_last (HasAllEntries author_of log_now) appenders mine
+      (subst (λ l. All (HasAllEntries author_of log_now) l) these (each (both_true closed said whole).0));
+  total = λ whole. total (both_true closed said whole).0 ∙ ap (sum_by (λ (a : Appended ReplyEntry). a.count)) these
+      ∙ sum_by_push (λ (a : Appended ReplyEntry). a.count) appenders mine;
+}
+
+-- what a board was told, as the result of its session
+pub closed_as : {K : Type 0} (lines : K → List Line) (places : List Place) (any : Bool) (told : Option Fault)
+    (it : Recorded K) → HasAll places any told (done_of lines it) ⊎ (it.fault ≡ Some NoReader) × (it.journal ≡ None)
+    → HasAll places any told (done_of lines it) ⊎ ((done_of lines it).fault ≡ Some NoReader) × ((done_of lines it).history ≡ [])
+closed_as lines places any told it closed =
+    ⊎_elim (λ all. inl all) (λ none. inr (none.0, ap (journal_lines lines) none.1)) closed
+
+-- what a session did whose receiver ended
+pub served_by : (rules : Rules) (workers : ℕ) (it : Reception) (start held : Option (List ℕ)) (broken : Bool)
+    (sents : List (Appended ReplyEntry)) (places : List Place) (orders : Weight → ℕ) (any lost whole : Bool)
+    (told : Option Fault) (done : Done)
+    → HasReceived it → it.sent ≡ record { author = workers; count = 0; own = [] }
+    → HaveDone rules orders places sents any lost
+    → HasSaidGoodbye start (record { held = held; waiting = []; broken = broken }) sents it.sent_now it.goodbye whole
+    → ((weight : Weight) → sum_by weight it.put ≡ orders weight)
     → map (λ (p : Place). p.worker) places ≡ range_with_len 0 workers
-    → HasAll places any told done ⊎ HasNoHistory done → IsServedBy streams done
-served_by workers streams fault put goodbye broken any orders places done received sent last told ends is did whose
-    closed = record {
+    → ((messages : List (List ℕ)) (rest : List ℕ) (left : Option (List ℕ))
+    → IsEnding it.fault (handshake_of messages).over rest left
+    → EndsBy told (broken || (it.lost || (lost || not whole))) messages rest left)
+    → HasAll places any told done ⊎ (done.fault ≡ Some NoReader) × (done.history ≡ [])
+    → IsServedBy workers rules (record { left = it.left; left_now = it.left_now; held = start; held_now = held }) done
+served_by rules workers it start held broken sents places orders any lost whole told done received fresh did said is
+    whose ends closed = record {
       messages = received.messages;
       rest = received.rest;
+      log = said.log;
+      parts = parts_of rules did.works did.each;
       broken = broken;
+      lost = it.lost || (lost || not whole);
       is_read = received.is_read;
       bounded = received.bounded;
-      sent = sent;
-      goodbye = λ whole over. record { goodbye = goodbye; last = received.over over; sent = last whole };
+      sent = said.given;
+      given = λ none.
+          let first = neither_is it.lost (lost || not whole) none in
+          let rest = neither_is lost (not whole) first.1 in
+          all_given rules workers it start _ sents places orders any lost whole received fresh did said first.0 rest.0
+          (said_whole whole rest.1);
       ending = ⊎_elim
-          (λ all. inl (rw all.told (ends received.messages received.rest streams.left_now received.ending))) inr closed;
+          (λ all. inl (rw all.told (ends received.messages received.rest it.left_now received.ending)))
+          (λ none. inr none.0) closed;
       orders = ⊎_elim
-          (λ all. inl (asked_as_said workers received.messages put orders places any told done received.said is did whose all)) inr closed;
+          (λ all. inl (all_done rules workers received.messages it.put sents places orders any lost told done received.said is whose did all))
+          (λ none. inr (record { fault = inl none.0; history = none.1 })) closed;
     }
 
 -- what a session did that had no memory, or no reader
-pub unserved : (streams : Streams) (broken : Bool) (done : Done) (fault : Fault)
+pub unserved : (workers : ℕ) (rules : Rules) (streams : Streams) (log : List ReplyEntry) (broken : Bool) (done : Done)
     → IsRead streams.left streams.left_now [] []
-    → HasSent streams.held (record { held = streams.held_now; waiting = []; broken = broken })
-    → done.fault ≡ Some fault → done.refused ≡ false → done.history ≡ []
-    → (fault ≡ NoMemory) ⊎ (fault ≡ NoReader) → IsServedBy streams done
-unserved streams broken done fault unread sent told untold none why = record {
+    → IsGiven streams.held (record { held = streams.held_now; waiting = []; broken = broken }) (spelled log)
+    → (done.fault ≡ Some NoMemory) ⊎ (done.fault ≡ Some NoReader) → done.history ≡ []
+    → IsServedBy workers rules streams done
+unserved workers rules streams log broken done unread sent why none = record {
   messages = [];
   rest = [];
+  log = log;
+  parts = [];
   broken = broken;
+  lost = true;
   is_read = unread;
   bounded = omega arith;
   sent = sent;
-  goodbye = λ whole over. cc;
-  ending = ⊎_elim (λ memory. inl
-      (subst (λ fault. EndsBy fault broken [] [] streams.left_now) (sym (told ∙ ap Some memory)) (refl, refl)))
-      (λ reader. inr (record { fault = told ∙ ap Some reader; history = none })) why;
-  orders = inl (record {
-    looked = [];
-    refused = [];
-    each = λ weight. sym (ap (λ history. sum_by weight (asked history ++ [] ++ [])) none);
-    reads = All-nil (λ (order : Order). only_reads order.op ≡ true);
-    none = λ _. refl;
-    some = λ e. absurd (true≢false (sym e ∙ untold));
-  });
+  given = λ never. absurd (true≢false never);
+  ending = ⊎_elim
+      (λ memory. inl (subst (λ f. EndsBy f (broken || true) [] [] streams.left_now) (sym memory) (refl, refl))) inr why;
+  orders = inr (record { fault = ⊎_elim inr inl why; history = none });
 }
 
 -- the same, of which nothing was recorded
-pub none_recorded : {K : Type 0} (lines : K → List Line) (rules : Rules) (streams : Streams) (broken : Bool)
-    (it : Recorded K) (fault : Fault) → it.journal ≡ None → it.fault ≡ Some fault → it.refused ≡ false
+pub none_recorded : {K : Type 0} (lines : K → List Line) (workers : ℕ) (rules : Rules) (streams : Streams)
+    (log : List ReplyEntry) (broken : Bool) (it : Recorded K) → it.journal ≡ None
+    → (it.fault ≡ Some NoMemory) ⊎ (it.fault ≡ Some NoReader)
     → IsRead streams.left streams.left_now [] []
-    → HasSent streams.held (record { held = streams.held_now; waiting = []; broken = broken })
-    → (fault ≡ NoMemory) ⊎ (fault ≡ NoReader) → Keeps streams.left streams.left_now
-    → Keeps streams.held streams.held_now → IsRecordedBy lines rules streams it
-none_recorded lines rules streams broken it fault none is untold unread sent why read wrote = record {
+    → IsGiven streams.held (record { held = streams.held_now; waiting = []; broken = broken }) (spelled log)
+    → Keeps streams.left streams.left_now → (it.fault ≡ Some NoMemory → Keeps streams.held streams.held_now)
+    → IsRecordedBy lines workers rules streams it
+none_recorded lines workers rules streams log broken it none why unread sent read wrote = record {
   legal = subst (λ k. IfSome k (λ k. IsLegal rules (lines k))) (sym none) tt;
-  served = unserved streams broken (done_of lines it) fault unread sent is untold (ap (journal_lines lines) none) why;
-  back = ⊎_elim (λ memory. inr (inl (is ∙ ap Some memory))) (λ reader. inr (inr (is ∙ ap Some reader))) why;
+  served = unserved workers rules streams log broken (done_of lines it) unread sent why (ap (journal_lines lines) none);
+  back = ⊎_elim (λ memory. inr (inl memory)) (λ reader. inr (inr reader)) why;
   nothing = λ _. (none, read);
-  unwritten = λ _. wrote;
+  unwritten = wrote;
   untold = λ _. none;
 }
 
 -- the same, whose board was told; its rules, and what its writer held, have a name each
-pub all_recorded : {K : Type 0} (lines : K → List Line) (rules by : Rules) (streams : Streams)
-    (start : Option (List ℕ)) (it : Recorded K) → rules ≡ by → streams.held ≡ start
+pub all_recorded : {K : Type 0} (lines : K → List Line) (workers takers : ℕ) (rules by : Rules) (streams : Streams)
+    (start : Option (List ℕ)) (it : Recorded K) → takers ≡ workers → rules ≡ by → streams.held ≡ start
     → IfSome it.journal (λ k. IsLegal by (lines k))
-    → IsServedBy (record streams { held = start }) (done_of lines it)
+    → IsServedBy takers by (record streams { held = start }) (done_of lines it)
     → IsSome it.journal ⊎ (it.fault ≡ Some NoReader) → it.fault ≢ Some NoMemory
-    → (it.fault ≡ Some NoReader → it.journal ≡ None) → IsRecordedBy lines rules streams it
-all_recorded lines rules by streams start it same begun legal served back some untold = record {
+    → (it.fault ≡ Some NoReader → it.journal ≡ None) → IsRecordedBy lines workers rules streams it
+all_recorded lines workers takers rules by streams start it as_many same begun legal served back some untold = record {
   legal = rw same legal;
-  served = subst (λ held. IsServedBy (record streams { held = held }) (done_of lines it)) (sym begun) served;
+  served =
+      let here = subst (λ held. IsServedBy takers by (record streams { held = held }) (done_of lines it)) (sym begun) served in
+      subst (λ n. IsServedBy n rules streams (done_of lines it)) as_many
+      (subst (λ r. IsServedBy takers r streams (done_of lines it)) (sym same) here);
   back = ⊎_elim inl (λ none. inr (inr none)) back;
   nothing = λ memory. absurd (some memory);
   unwritten = λ memory. absurd (some memory);
   untold = untold;
 }
+
+-- by its own names
+pub recorded_from : {K : Type 0} (lines : K → List Line) (workers : ℕ) (rules by : Rules) (left left_now start held : Option (List ℕ))
+    (held_now : Option (List ℕ)) (it : Recorded K) → rules ≡ by → held ≡ start
+    → IsRecordedBy lines workers by (record { left = left; left_now = left_now; held = start; held_now = held_now }) it
+    → IsRecordedBy lines workers rules (record { left = left; left_now = left_now; held = held; held_now = held_now }) it
+recorded_from lines workers rules by left left_now start held held_now it same begun recorded =
+    subst (λ r. IsRecordedBy lines workers r (record { left = left; left_now = left_now; held = held; held_now = held_now }) it) (sym same)
+    (subst (λ h. IsRecordedBy lines workers by (record { left = left; left_now = left_now; held = h; held_now = held_now }) it) (sym begun) recorded)
+
+-- all workers came back, of whom there was one for each number
+pub workers_back : (places back : List Place) (workers takers : ℕ)
+    → map (λ (p : Place). p.worker) back ≡ map (λ (p : Place). p.worker) places
+    → map (λ (p : Place). p.worker) places ≡ range_with_len 0 workers → takers ≡ workers
+    → (map (λ (p : Place). p.worker) back ≡ range_with_len 0 takers) × (length back ≡ workers)
+workers_back places back workers takers whose all same =
+    (whose ∙ all ∙ sym (ap (range_with_len 0) same), as_many back workers (whose ∙ all))
+
+-- what was received, with the receiver's appender by its own name
+pub received_by : (left left_now : Option (List ℕ)) (fault : Option Fault) (put : Orders) (goodbye : Response)
+    (sent sent_now : Appended ReplyEntry) (lost : Bool) (workers takers : ℕ)
+    → sent ≡ record { author = workers; count = 0; own = [] } → takers ≡ workers
+    → HasReceived (record {
+      left = left;
+      left_now = left_now;
+      fault = fault;
+      put = put;
+      goodbye = goodbye;
+      sent = sent;
+      sent_now = sent_now;
+      lost = lost;
+    }) → HasReceived (record {
+      left = left;
+      left_now = left_now;
+      fault = fault;
+      put = put;
+      goodbye = goodbye;
+      sent = record { author = takers; count = 0; own = [] };
+      sent_now = sent_now;
+      lost = lost;
+    })
+received_by left left_now fault put goodbye sent sent_now lost workers takers is same received =
+    subst (λ (a : Appended ReplyEntry). HasReceived (record {
+      left = left;
+      left_now = left_now;
+      fault = fault;
+      put = put;
+      goodbye = goodbye;
+      sent = a;
+      sent_now = sent_now;
+      lost = lost;
+    })) (is ∙ ap (λ (n : ℕ). record { author = n; count = 0; own = [] }) (sym same)) received

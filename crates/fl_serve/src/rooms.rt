@@ -1,6 +1,6 @@
 //! What a session with workers has before its first read.
 
-ghost use Rattle.std.specs.Prelude.{◌≡◌, ℕ, ◌≤◌, ◌<◌, ◌+◌, [], All, false, length, map, vec_capacity, IfOk};
+ghost use Rattle.std.specs.Prelude.{◌≡◌, ◌≤◌, ◌<◌, ◌+◌, [], All, false, length, map, vec_capacity, IfOk};
 ghost use Rattle.std.specs.List.{range_with_len};
 ghost use Rattle.fl_core.specs.Tolds.{HasRoom};
 ghost use Rattle.fl_pool.specs.Working.{IsFresh};
@@ -53,7 +53,9 @@ impl<L: BoardName, N: WriterName, R: Wait + Drop, J: Journal + Drop> Rooms<L, N,
             × (rooms.stock.put.takers ≡ workers) × (rooms.stock.put.closed ≡ false) × (rooms.stock.put.put ≡ [])) }
         ensures unread { IfOk result (λ rooms. IsUnread rooms.stock.own.inbox) }
         ensures none { IfOk result (λ rooms. rooms.stock.own.replies ≡ []) }
-        ensures room { IfOk result (λ rooms. workers ≤ rooms.stock.each.workers) }
+        ensures room { IfOk result (λ rooms. (workers ≤ vec_capacity rooms.stock.each.posts) × (workers ≤ vec_capacity rooms.stock.each.threads)
+            × (workers ≤ vec_capacity rooms.stock.each.back.seats) × (workers < vec_capacity rooms.stock.each.back.appenders)
+            × (workers ≤ vec_capacity rooms.stock.each.back.ends)) }
         ensures replies { IfOk result (λ rooms.
             HasRoom L.rules rooms.stock.own.tolds × All (HasRoom L.rules) rooms.stock.each.tolds.items) }
     {
@@ -92,18 +94,13 @@ pub(crate) struct Own {
 #[derive(Drop)]
 pub(crate) struct Each<L: BoardName, N: WriterName> {
     /// Room for where they work.
-    posts: Vec<Post<Seat<L>, N>>,
+    pub posts: Vec<Post<Seat<L>, N>>,
     /// For the replies of an order.
     pub tolds: Vec<Tolds>,
-    threads: Vec<Thread<L, N>>,
-    back: Back<L, N>,
-    /// For so many workers there is room.
-    pub ghost workers: { ℕ },
+    pub threads: Vec<Thread<L, N>>,
+    pub back: Back<L, N>,
     ghost none: { (posts.items ≡ []) × (threads.items ≡ []) × (back.seats.items ≡ []) × (back.appenders.items ≡ [])
         × (back.ends.items ≡ []) },
-    ghost room: { (workers ≤ vec_capacity posts) × (workers ≤ vec_capacity threads)
-        × (workers ≤ vec_capacity back.seats) × (workers < vec_capacity back.appenders)
-        × (workers ≤ vec_capacity back.ends) },
 }
 
 impl<L: BoardName, N: WriterName> Stock<L, N> {
@@ -114,7 +111,9 @@ impl<L: BoardName, N: WriterName> Stock<L, N> {
             × (stock.put.closed ≡ false) × (stock.put.put ≡ [])) }
         ensures unread { IfOk result (λ stock. IsUnread stock.own.inbox) }
         ensures none { IfOk result (λ stock. stock.own.replies ≡ []) }
-        ensures room { IfOk result (λ stock. workers ≤ stock.each.workers) }
+        ensures room { IfOk result (λ stock. (workers ≤ vec_capacity stock.each.posts) × (workers ≤ vec_capacity stock.each.threads)
+            × (workers ≤ vec_capacity stock.each.back.seats) × (workers < vec_capacity stock.each.back.appenders)
+            × (workers ≤ vec_capacity stock.each.back.ends)) }
         ensures replies { IfOk result (λ stock.
             HasRoom rules stock.own.tolds × All (HasRoom rules) stock.each.tolds.items) }
     {
@@ -147,7 +146,9 @@ impl Own {
 
 impl<L: BoardName, N: WriterName> Each<L, N> {
     fn new(alloc: Global, workers: u32, rules: Rules) -> Result<Each<L, N>, NoMemory>
-        ensures room { IfOk result (λ each. workers ≤ each.workers) }
+        ensures room { IfOk result (λ each. (workers ≤ vec_capacity each.posts) × (workers ≤ vec_capacity each.threads)
+            × (workers ≤ vec_capacity each.back.seats) × (workers < vec_capacity each.back.appenders)
+            × (workers ≤ vec_capacity each.back.ends)) }
         ensures replies { IfOk result (λ each. All (HasRoom rules) each.tolds.items) }
     {
         Ok(Each {
@@ -182,7 +183,9 @@ pub(crate) fn posts_at<L: BoardName, N: WriterName, W: Write>(
     requires none { sender.now.log ≡ [] }
     requires rest { (length seats.items < rest.old.parts) × (rest.old.amount ≡ 0) }
     requires fresh { All (λ seat. (seat.count ≡ 0) × (seat.own ≡ []) × (seat.seen ≡ [])) seats.items }
-    requires room { length seats.items ≤ each.workers }
+    requires room { (length seats.items ≤ vec_capacity each.posts) × (length seats.items ≤ vec_capacity each.threads)
+        × (length seats.items ≤ vec_capacity each.back.seats) × (length seats.items < vec_capacity each.back.appenders)
+        × (length seats.items ≤ vec_capacity each.back.ends) }
     ensures seats { map (λ post. post.seat) result.posts.items ≡ seats.items }
     ensures ends { result.ends.items ≡ ends.items }
     ensures tolds { result.tolds.items ≡ each.tolds.items }

@@ -1,6 +1,6 @@
 //! A whole session of the FUSE protocol with workers, over any reader and any writer.
 
-ghost use Rattle.std.specs.Prelude.{◌≡◌, ◌≢◌, ◌≤◌, ◌<◌, ◌+◌, ◌⊎◌, ◌||◌, ℕ, Bool, List, [], All, Option, Some};
+ghost use Rattle.std.specs.Prelude.{◌≡◌, ◌≢◌, ◌≤◌, ◌<◌, ◌+◌, ◌++◌, ◌⊎◌, ℕ, Bool, List, [], All, Option, Some, true};
 ghost use Rattle.std.specs.Prelude.{false, length, map, IfSome, IsSome, None, vec_capacity};
 ghost use Rattle.std.specs.List.{range_with_len};
 ghost use Rattle.std.specs.Io.KnownBytes.{Keeps};
@@ -8,25 +8,26 @@ ghost use Rattle.fl_core.specs.Tolds.{HasRoom};
 ghost use Rattle.fl_desk.specs.Legal.{IsLegal};
 ghost use Rattle.fl_intake.specs.Ends.{weight_taken};
 ghost use Rattle.fl_transport.specs.Collecting.{IsGiven};
-ghost use Rattle.fl_workers.specs.Received.{HasReceived};
+ghost use Rattle.fl_transport.specs.Ending.{IsRead};
+ghost use Rattle.fl_transport.specs.Inbox.{IsUnread};
+ghost use Rattle.fl_workers.specs.Received.{HasReceived, answer_by};
 ghost use Rattle.fl_workers.specs.Sent.{spelled};
-ghost use Rattle.fl_pool.specs.Working.{HaveDone};
-ghost use Rattle.fl_serve.specs.Inside.Closing.{HasAll, HasSaidGoodbye};
+ghost use Rattle.fl_pool.specs.Working.{HaveDone, IsFresh};
+ghost use Rattle.fl_serve.specs.Inside.Closing.{HasAll, HasGrown, HasSaidGoodbye, last_words};
 ghost use Rattle.fl_session.specs.Recorded.{done_of};
-ghost use Rattle.fl_serve.specs.Serve.{HasNoHistory, IsRecordedBy, IsServedBy};
+ghost use Rattle.fl_serve.specs.Serve.{IsRecordedBy, IsServedBy};
 
 use crate::rooms::{Own, Rooms, Stock, posts_at};
 use fl_board::{Board, BoardName, OpenFault, Seat};
 use fl_core::{Rules, Tolds};
 use fl_history::{Journal, Lines};
+use fl_intake::{Intake, PutEnd};
 use fl_log::{Appender, FreshLog};
 use fl_pool::{Back, Posts, WorkerPool, handed_in};
 use fl_replica::Ask;
 use fl_session::{Done, Recorded};
-use fl_transport::{Fault, Response};
-use fl_workers::{
-    Abandoned, Gate, Received, ReplyEntry, Returned, SharedSender, WriterName,
-};
+use fl_transport::{Fault, Inbox, Response};
+use fl_workers::{Abandoned, Gate, Received, ReplyEntry, Returned, SharedSender, WriterName};
 use std::alloc::Global;
 use std::io::{Read, Write};
 use std::marker::Brand;
@@ -64,7 +65,11 @@ pub fn serve<R: Threads + Wait + Sync, I: Read, W: Write + Send + Drop, G: Gate 
         → (result.history ≡ []) × Keeps (I.remaining r.old) (I.remaining r.new) }
     ensures unwritten { result.fault ≡ Some Fault.NoMemory → Keeps (W.contents w.old) (W.contents w.new) }
 {
-    let staff = Staff::new(workers, rules);
+    let staff = Staff {
+        workers,
+        rules,
+        stack: STACK_BYTES,
+    };
     record_with_workers(rt, alloc, r, w, staff, gate, Lines::new(alloc)).into_done(alloc)
 }
 
@@ -178,26 +183,147 @@ fn run_at<
         Ok(rooms) => rooms,
         Err(fault) => return (Recorded::nothing(alloc, unopened(fault)), w),
     };
-    let Rooms {
+    let ready = Ready::new(rt, rooms, sending, given, w, staff.workers);
+    run_ready(alloc, gate, staff, r, ready)
+}
+
+// A session that is about to run: its board, its intake and its sender, what each worker gets, and what the receiver
+// has.
+struct Ready<'a, 'w, L: BoardName, N: WriterName, R: Wait, W: Write, J: Journal> {
+    rt: &'a R,
+    board: Board<L, &'a R, J>,
+    intake: Intake,
+    sender: SharedSender<'w, W, N>,
+    posts: Posts<L, N>,
+    own: Appender<N, ReplyEntry>,
+    put: PutEnd,
+    // For the orders that no worker takes.
+    tolds: Tolds,
+    inbox: Inbox,
+}
+
+impl<'a, 'w, L: BoardName, N: WriterName, R: Wait, W: Write, J: Journal> Ready<
+    'a,
+    'w,
+    L,
+    N,
+    R,
+    W,
+    J,
+> {
+    // With these rooms, and a sender to this writer.
+    fn new(
+        rt: &'a R,
+        rooms: Rooms<L, N, &'a R, J>,
+        sending: Blank,
+        given: FreshLog<ReplyEntry>,
+        w: &'w mut W,
+        workers: u32,
+    ) -> Ready<'a, 'w, L, N, R, W, J>
+        requires seats { map (λ seat. seat.worker) rooms.seats.items ≡ range_with_len 0 workers }
+        requires fresh { All (λ seat. (seat.count ≡ 0) × (seat.own ≡ []) × (seat.seen ≡ [])) rooms.seats.items }
+        requires ends { All (IsFresh rooms.stock.intake) rooms.stock.ends.items }
+        requires put { (rooms.stock.put.of ≡ rooms.stock.intake) × (rooms.stock.put.takers ≡ workers)
+            × (rooms.stock.put.closed ≡ false) × (rooms.stock.put.put ≡ []) }
+        requires unread { IsUnread rooms.stock.own.inbox }
+        requires none { rooms.stock.own.replies ≡ [] }
+        requires room { (workers ≤ vec_capacity rooms.stock.each.posts)
+            × (workers ≤ vec_capacity rooms.stock.each.threads) × (workers ≤ vec_capacity rooms.stock.each.back.seats)
+            × (workers < vec_capacity rooms.stock.each.back.appenders)
+            × (workers ≤ vec_capacity rooms.stock.each.back.ends) }
+        requires replies { HasRoom L.rules rooms.stock.own.tolds × All (HasRoom L.rules) rooms.stock.each.tolds.items }
+        requires start { W.contents w.old ≡ N.start }
+        requires writer { w.ghost_name ≡ N.writer }
+        requires sending { (sending.name ≡ N.name) × (sending.parts ≡ N.parts) × (workers + 1 ≡ N.parts) }
+        requires given { given ≡ N.log }
+        ensures seats { map (λ post. post.seat.worker) result.posts.posts.items ≡ range_with_len 0 workers }
+        ensures ends { All (IsFresh result.intake) result.posts.ends.items }
+        ensures put { (result.put.of ≡ result.intake) × (result.put.takers ≡ workers) × (result.put.closed ≡ false)
+            × (result.put.put ≡ []) }
+        ensures unread { IsUnread result.inbox }
+        ensures replies { HasRoom L.rules result.tolds × All (HasRoom L.rules) result.posts.tolds.items }
+        ensures own { result.own ≡ record { author = workers; count = 0; own = [] } }
+    {
+        let Rooms {
+            board,
+            seats,
+            stock,
+        } = rooms;
+        let Stock {
+            intake,
+            put,
+            ends,
+            own,
+            each,
+        } = stock;
+        let Own {
+            tolds,
+            inbox,
+            replies,
+        } = own;
+        let (sender, mut rest) = SharedSender::<'w, W, N>::new(sending, given, replies, w);
+        let posts = posts_at(&sender, &mut rest, seats, ends, each);
+        let own = sender.appender(&mut rest, workers);
+        Ready {
+            rt,
+            board,
+            intake,
+            sender,
+            posts,
+            own,
+            put,
+            tolds,
+            inbox,
+        }
+    }
+}
+
+// Runs a session that is ready, and ends it.
+fn run_ready<
+    'a,
+    'w,
+    L: BoardName + Send + Sync,
+    N: WriterName + Send + Sync,
+    R: Threads + Wait + Sync,
+    I: Read,
+    W: Write + Send + Drop,
+    G: Gate + Sync,
+    J: Journal + Send + Drop,
+>(
+    alloc: Global,
+    gate: &'a G,
+    staff: Staff,
+    r: &mut I,
+    ready: Ready<'a, 'w, L, N, R, W, J>,
+) -> (Recorded<J>, &'w mut W)
+    requires parts { L.workers ≡ L.parts }
+    requires workers { (0 < staff.workers) × (staff.workers + 1 ≡ N.parts) }
+    requires seats { map (λ post. post.seat.worker) ready.posts.posts.items ≡ range_with_len 0 staff.workers }
+    requires ends { All (IsFresh ready.intake) ready.posts.ends.items }
+    requires put { (ready.put.of ≡ ready.intake) × (ready.put.takers ≡ staff.workers) × (ready.put.closed ≡ false)
+        × (ready.put.put ≡ []) }
+    requires unread { IsUnread ready.inbox }
+    requires replies { HasRoom L.rules ready.tolds × All (HasRoom L.rules) ready.posts.tolds.items }
+    requires own { ready.own ≡ record { author = staff.workers; count = 0; own = [] } }
+    ensures writer { result.1.ghost_name ≡ N.writer }
+    ensures recorded { IsRecordedBy J.lines staff.workers L.rules (record {
+      left = I.remaining r.old;
+      left_now = I.remaining r.new;
+      held = N.start;
+      held_now = W.contents result.1.now;
+    }) result.0 }
+{
+    let Ready {
+        rt,
         board,
-        seats,
-        stock,
-    } = rooms;
-    let Stock {
         intake,
-        put,
-        ends,
+        sender,
+        posts,
         own,
-        each,
-    } = stock;
-    let Own {
+        put,
         tolds,
         inbox,
-        replies,
-    } = own;
-    let (sender, mut rest) = SharedSender::<'w, W, N>::new(sending, given, replies, w);
-    let posts = posts_at(&sender, &mut rest, seats, ends, each);
-    let own = sender.appender(&mut rest, staff.workers);
+    } = ready;
     let pool = WorkerPool {
         rt,
         gate,
@@ -224,6 +350,7 @@ fn unstarted<'w, N: WriterName, W: Write, J: Journal>(
     ensures nothing { (result.0.journal ≡ None) × (result.0.refused ≡ false) }
     ensures fault { (result.0.fault ≡ Some Fault.NoMemory) ⊎ (result.0.fault ≡ Some Fault.NoReader) }
     ensures unwritten { result.0.fault ≡ Some Fault.NoMemory → W.contents result.1.now ≡ N.start }
+    ensures read { (left left_now : Option (List ℕ)) → Keeps left left_now → IsRead left left_now [] [] }
     ensures sent { (broken : Bool) × IsGiven N.start (record {
       held = W.contents result.1.now;
       waiting = [];
@@ -276,7 +403,16 @@ fn finish<'w, L: BoardName, N: WriterName, R: Wait, W: Write, G: Gate, J: Journa
       held_now = W.contents result.1.now;
     }) (done_of J.lines result.0) }
     ensures back { IsSome result.0.journal ⊎ (result.0.fault ≡ Some Fault.NoReader) }
-    ensures untold { result.0.fault ≡ Some Fault.NoReader → result.0.journal ≡ None }
+    ensures untold { (left left_now : Option (List ℕ)) → HasReceived (record {
+      left = left;
+      left_now = left_now;
+      fault = received.fault;
+      put = received.put.put;
+      goodbye = received.goodbye;
+      sent = record { author = received.put.takers; count = 0; own = [] };
+      sent_now = received.own;
+      lost = received.lost;
+    }) → result.0.fault ≡ Some Fault.NoReader → result.0.journal ≡ None }
     ensures memory { received.fault ≢ Some Fault.NoMemory → result.0.fault ≢ Some Fault.NoMemory }
 {
     let WorkerPool {
@@ -307,15 +443,18 @@ fn finish<'w, L: BoardName, N: WriterName, R: Wait, W: Write, G: Gate, J: Journa
         rt, &board, gate, &sender, seats, appenders, tolds, left,
     );
     let failures = failures.or(more);
-    let sent = say_goodbye(sender.into_inner(), appenders, own, &goodbye);
-    let missing = lost || failures.lost || !sent.whole;
-    let told = Fault::told(fault, sent.broken || missing);
+    let Returned {
+        writer,
+        broken,
+        whole,
+    } = say_goodbye(sender.into_inner(), appenders, own, &goodbye);
+    let told = Fault::told(fault, broken | (lost | (failures.lost | !whole)));
     let recorded = close_board(alloc, board, seats, failures.refused, told);
-    (recorded, sent.writer)
+    (recorded, writer)
 }
 
-// Gives the answer to the DESTROY that ended the session to be sent, if one did, and sends all that is collected. The
-// writer comes back, `whole` if that answer was given, and all others by these appenders.
+// Says goodbye, if anything is left to say, and sends all that is collected. The writer comes back, `whole` if the
+// goodbye was given to be sent, and all else by these appenders.
 fn say_goodbye<'w, N: WriterName, W: Write>(
     sender: SharedSender<'w, W, N>,
     appenders: Vec<Appender<N, ReplyEntry>>,
@@ -334,7 +473,7 @@ fn say_goodbye<'w, N: WriterName, W: Write>(
     let mut sender = sender;
     let mut own = own;
     let mut appenders = appenders;
-    let said = matches!(goodbye, Response::Nothing) || sender.collect(&mut own, goodbye);
+    let said = say(&mut sender, &mut own, goodbye);
     appenders.push_reserved(own);
     let Returned {
         writer,
@@ -344,7 +483,24 @@ fn say_goodbye<'w, N: WriterName, W: Write>(
     Returned {
         writer,
         broken,
-        whole: whole && said,
+        whole: whole & said,
+    }
+}
+
+// Gives the goodbye to be sent, if there is one, and says whether it could.
+fn say<N: WriterName, W: Write>(
+    sender: &mut SharedSender<'_, W, N>,
+    own: &mut Appender<N, ReplyEntry>,
+    goodbye: &Response,
+) -> bool
+    ensures said { result ≡ true → sender.new.log ≡ sender.old.log
+        ++ map (answer_by own.old.author) (last_words goodbye.now) }
+    ensures grown { result ≡ true
+        → HasGrown own.old own.new (map (answer_by own.old.author) (last_words goodbye.now)) }
+{
+    match goodbye {
+        Response::Nothing => true,
+        _ => sender.collect(own, goodbye),
     }
 }
 
@@ -371,7 +527,7 @@ fn close_board<L: BoardName, R: Wait + Drop, J: Journal + Drop>(
     requires { L.workers ≡ L.parts }
     ensures legal { IfSome result.journal (λ journal. IsLegal L.rules (J.lines journal)) }
     ensures told { HasAll seats.items refused fault (done_of J.lines result)
-        ⊎ HasNoHistory (done_of J.lines result) }
+        ⊎ (result.fault ≡ Some Fault.NoReader) × (result.journal ≡ None) }
     ensures back { IsSome result.journal ⊎ (result.fault ≡ Some Fault.NoReader) }
     ensures untold { fault ≢ Some Fault.NoReader → result.fault ≡ Some Fault.NoReader → result.journal ≡ None }
 {

@@ -14,3 +14,6 @@ ghosts-run_at-N-WriterName g a = record { writer = a.w.ghost_name; start = g.W.W
 
 abbrev pub ghosts-run_at-N-Ledger : goal.ghosts-run_at-N-Ledger
 ghosts-run_at-N-Ledger g a = record { name = a.sending.name; parts = a.sending.parts }
+
+abbrev pub ghosts-run_at-N-LogName : goal.ghosts-run_at-N-LogName
+ghosts-run_at-N-LogName g a = record { log = a.given }

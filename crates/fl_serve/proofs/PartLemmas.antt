@@ -1,0 +1,155 @@
+-- What became of the orders that each worker took.
+use Rattle.std.proofs.Common.{◌≡◌, ℕ, ◌+◌, Bool, true, false, true≢false, List, [], ◌∷◌, ◌++◌, All, length, map, sum_by}
+use Rattle.std.proofs.Common.{refl, sym, ap, ◌∙◌, subst, arith, append_assoc}
+use Rattle.std.specs.Prelude.{◌||◌, flat_map}
+use Rattle.std.proofs.lemmas.List.{length-map}
+use Rattle.std.proofs.lemmas.List.Elements.{All-cons, All-head, All-nil, All-tail}
+use Rattle.std.proofs.lemmas.List.Sums.{sum_by-append, sum_by-cons}
+use mathlib.Core.List.{IsPrefix}
+use mathlib.Core.List.Sublistᴰ as sublist
+use Rattle.fl_board.specs.Seats.{Place}
+use Rattle.fl_board.specs.Shown.{HasAllOf}
+use Rattle.fl_desk.specs.Answered.{Answered, IsAnsweredAfter, answered_by}
+use Rattle.fl_history.specs.declared.history.Line.{Line}
+use Rattle.fl_intake.specs.Often.{Weight}
+use Rattle.fl_log.specs.Appended.{Appended, HasAll as HasAllEntries}
+use Rattle.fl_pool.specs.Working.{IsDone, Work, some_is}
+use Rattle.fl_serve.proofs.GrowingLemmas.{by_begins, just_these}
+use Rattle.fl_serve.specs.Serve.{IsAnswered, Part, orders_of}
+use Rattle.fl_waiting.specs.declared.rules.Rules.{Rules}
+use Rattle.fl_workers.specs.Sent.{entries_of}
+use Rattle.fl_workers.specs.Worked.{AreShown, Outcome, Shows, answers, entry_for, handed, looked, order_of, refused, some_refused}
+use Rattle.fl_workers.specs.declared.entry.ReplyEntry.{ReplyEntry}
+
+abbrev pub author_of : ReplyEntry → ℕ
+author_of e = e.author
+
+prefix_trans : (xs ys zs : List Line) → IsPrefix xs ys → IsPrefix ys zs → IsPrefix xs zs
+prefix_trans xs ys zs p q = (p.0 ++ q.0, sym (append_assoc xs p.0 q.0) ∙ ap (λ l. l ++ q.0) p.1 ∙ q.1)
+
+-- what was shown up to some history is shown up to a longer one
+shown_to : (shows : Shows) (worker : ℕ) (from to on : List Line) (had : List Answered) (os : List Outcome)
+    → IsPrefix to on → AreShown shows worker from had os to → AreShown shows worker from had os on
+shown_to shows worker from to on had [] more shown = prefix_trans from to on shown more
+shown_to shows worker from to on had (handed order tolds ∷ os) more shown = shown_to shows worker from to on _ os more shown
+shown_to shows worker from to on had (looked order result at ∷ os) more shown =
+    (shown.0, shown.1, shown.2, shown.3, shown_to shows worker at to on had os more shown.4)
+shown_to shows worker from to on had (refused order ∷ os) more shown = shown_to shows worker from to on had os more shown
+
+module _ (rules : Rules) where
+  -- a worker, with what became of its orders
+  abbrev part_of : (work : Work) → IsDone rules work → Part
+  part_of work done = record { worker = work.place.worker; outcomes = done.outcomes }
+
+  abbrev pub parts_of : (works : List Work) → All (IsDone rules) works → List Part
+  parts_of [] each = []
+  parts_of (w ∷ works) each =
+      part_of w (All-head (IsDone rules) w works each) ∷ parts_of works (All-tail (IsDone rules) w works each)
+
+  pub same_workers : (works : List Work) (each : All (IsDone rules) works)
+      → map (λ (p : Part). p.worker) (parts_of works each) ≡ map (λ (p : Place). p.worker) (map (λ (w : Work). w.place) works)
+  same_workers [] each = refl
+  same_workers (w ∷ works) each = ap (λ l. w.place.worker ∷ l) (same_workers works (All-tail (IsDone rules) w works each))
+
+  -- they took the orders that were worked on
+  pub same_orders : (weight : Weight) (works : List Work) (each : All (IsDone rules) works)
+      → sum_by weight (flat_map orders_of (parts_of works each)) ≡ sum_by (λ (w : Work). sum_by weight w.orders) works
+  same_orders weight [] each = refl
+  same_orders weight (w ∷ works) each =
+      let done = All-head (IsDone rules) w works each in
+      let rest = parts_of works (All-tail (IsDone rules) w works each) in
+      omega (
+        arith,
+        sum_by-append weight (map order_of done.outcomes) (flat_map orders_of rest),
+        ap (sum_by weight) done.are,
+        same_orders weight works (All-tail (IsDone rules) w works each),
+        sum_by-cons (λ (w : Work). sum_by weight w.orders) w works,
+      )
+
+  -- the history answers those that were handed in, and has all that was shown
+  answered_one : (history : List Line) (w : Work) (done : IsDone rules w) → HasAllOf history w.place
+      → IsAnswered rules history (part_of w done)
+  answered_one history w done has = record {
+    handed = just_these (answered_by w.place.worker w.place.own) (answered_by w.place.worker history) w.place.count
+        (answers done.outcomes) done.handed has.answered has.count;
+    shown = shown_to (IsAnsweredAfter rules) w.place.worker [] w.place.seen history [] done.outcomes has.saw
+        (done.shown [] (sublist.refl []));
+  }
+
+  pub answered_each : (history : List Line) (works : List Work) (each : All (IsDone rules) works)
+      → All (HasAllOf history) (map (λ (w : Work). w.place) works)
+      → All (IsAnswered rules history) (parts_of works each)
+  answered_each history [] each has = All-nil (IsAnswered rules history)
+  answered_each history (w ∷ works) each has =
+      let P = HasAllOf history in
+      let places = map (λ (w : Work). w.place) works in
+      All-cons (IsAnswered rules history) _ _
+      (answered_one history w (All-head (IsDone rules) w works each) (All-head P w.place places has))
+      (answered_each history works (All-tail (IsDone rules) w works each) (All-tail P w.place places has))
+
+  -- they handed in as many as their places count
+  pub as_many_handed : (works : List Work) (each : All (IsDone rules) works)
+      → sum_by (λ (p : Part). length (answers p.outcomes)) (parts_of works each)
+      ≡ sum_by (λ (p : Place). p.count) (map (λ (w : Work). w.place) works)
+  as_many_handed [] each = refl
+  as_many_handed (w ∷ works) each =
+      let done = All-head (IsDone rules) w works each in
+      let others = All-tail (IsDone rules) w works each in
+      omega (
+        arith,
+        sum_by-cons (λ (p : Part). length (answers p.outcomes)) (part_of w done) (parts_of works others),
+        sum_by-cons (λ (p : Place). p.count) w.place (map (λ (w : Work). w.place) works),
+        done.handed.counted,
+        as_many_handed works others,
+      )
+
+  -- some order of theirs was refused if some worker says so
+  pub same_refused : (works : List Work) (each : All (IsDone rules) works)
+      → some_is (map (λ (w : Work). w.any) works) ≡ some_is (map (λ (p : Part). some_refused p.outcomes) (parts_of works each))
+  same_refused [] each = refl
+  same_refused (w ∷ works) each =
+      (λ i. (All-head (IsDone rules) w works each).refused i || same_refused works (All-tail (IsDone rules) w works each) i)
+
+  -- ---- what they gave to be sent
+
+  both_false : (a b : Bool) → (a || b) ≡ false → (a ≡ false) × (b ≡ false)
+  both_false true b e = absurd (true≢false e)
+  both_false false b e = (refl, e)
+
+  gave_one : (log : List ReplyEntry) (w : Work) (done : IsDone rules w) → w.lost ≡ false → HasAllEntries author_of log w.sent
+      → (entries_of w.place.worker log ≡ map (entry_for w.place.worker) done.outcomes)
+      × (w.sent.count ≡ length done.outcomes)
+  gave_one log w done none has =
+      let worker = w.place.worker in
+      let grown = done.sent none in
+      let count : length (entries_of worker log) ≡ w.sent.count = subst (λ n. length (entries_of n log) ≡ w.sent.count) done.author has.count in (
+        just_these (entries_of worker w.sent.own) (entries_of worker log) w.sent.count (map (entry_for worker) done.outcomes)
+            grown (by_begins author_of worker w.sent.own log has.had) count,
+        omega (arith, grown.counted, length-map done.outcomes (entry_for worker)),
+      )
+
+  pub gave_each : (log : List ReplyEntry) (works : List Work) (each : All (IsDone rules) works)
+      → some_is (map (λ (w : Work). w.lost) works) ≡ false
+      → All (HasAllEntries author_of log) (map (λ (w : Work). w.sent) works)
+      → All (λ (p : Part). entries_of p.worker log ≡ map (entry_for p.worker) p.outcomes) (parts_of works each)
+      × (sum_by (λ (a : Appended ReplyEntry). a.count) (map (λ (w : Work). w.sent) works)
+      ≡ sum_by (λ (p : Part). length p.outcomes) (parts_of works each))
+  gave_each log [] each none has = (All-nil _, refl)
+  gave_each log (w ∷ works) each none has =
+      let neither = both_false w.lost (some_is (map (λ (w : Work). w.lost) works)) none in
+      let done = All-head (IsDone rules) w works each in
+      let others = All-tail (IsDone rules) w works each in
+      let P = HasAllEntries author_of log in
+      let sents = map (λ (w : Work). w.sent) works in
+      let Q : Part → Type 0 = λ p. entries_of p.worker log ≡ map (entry_for p.worker) p.outcomes in
+      let this = gave_one log w done neither.0 (All-head P w.sent sents has) in
+      let those = gave_each log works others neither.1 (All-tail P w.sent sents has) in (
+        All-cons Q (part_of w done) (parts_of works others) this.0 those.0,
+        omega (
+          arith,
+          sum_by-cons (λ (a : Appended ReplyEntry). a.count) w.sent sents,
+          sum_by-cons (λ (p : Part). length p.outcomes) (part_of w done) (parts_of works others),
+          this.1,
+          those.1,
+        ),
+      )
