@@ -9,7 +9,7 @@ use super::scripts::limits::{
 };
 use super::scripts::locks::locks_and_files;
 use super::scripts::waiting::{an_owner_waits_twice, requests_that_wait};
-use fl_board::{Board, BoardName, FreshLog, Seat};
+use fl_board::{Ask, Board, BoardName, FreshLog, Seat};
 use fl_core::{Rules, Tolds};
 use fl_desk::{Verdict, check};
 use fl_history::{History, Line};
@@ -83,7 +83,7 @@ fn history_of_a_board<L: BoardName, R: Abort + Wait>(
     rt: &R,
     alloc: Global,
     blank: Blank,
-    log: FreshLog,
+    log: FreshLog<Ask>,
     rules: Rules,
     wanted: &History,
 ) -> History
