@@ -1,7 +1,7 @@
 //! What lies under a board's lock.
 
 ghost use Rattle.std.specs.Prelude.{◌≡◌, ◌≢◌, ◌↔◌, ◌⊎◌, ◌≤◌, ◌<◌, ◌^◌, ◌++◌, ◌∷◌, [], true, false, Err, All, length};
-ghost use Rattle.std.specs.Prelude.{IfOk, OnOk, OnErr, MatchResult, List};
+ghost use Rattle.std.specs.Prelude.{IfErr, IfOk, OnOk, OnErr, MatchResult, List};
 ghost use Rattle.fl_board.specs.Inside.Asks.{HasMostOf, history_of};
 ghost use Rattle.fl_board.specs.Refused.{BeginsWith, CantHandIn, FallsShort};
 ghost use Rattle.fl_board.specs.Seats.{AreApart};
@@ -184,8 +184,8 @@ impl<L: BoardName, R: Wait + Drop, J: Journal> Shared<L, R, J> {
     }
 }
 
-// Adds an ask to the log, keeps it to be published, and gives all that was asked then. If it is refused, nothing
-// more is to be published.
+// Adds an ask to the log, keeps it to be published, and gives all that was asked then. It takes no memory that the
+// order needs, so nothing is refused once the log has grown.
 fn added<L: BoardName, R: Wait + Drop>(
     writer: &mut ReplicaWriter<L, R>,
     log: &Log<L, Ask>,
@@ -198,6 +198,7 @@ fn added<L: BoardName, R: Wait + Drop>(
         (λ _. writer.new ≡ writer.old) }
     ensures no_view { result ≡ Err HandFault.NoView →
         (2 ^ 62 ≤ length all.now) ⊎ ((log : List Handed) × IsLonger all.now log) }
+    ensures only { IfErr result (λ fault. fault ≡ HandFault.NoView) }
 {
     if all.len() >= MOST_ENTRIES {
         return Err(HandFault::NoView);
@@ -207,9 +208,7 @@ fn added<L: BoardName, R: Wait + Drop>(
         return Err(HandFault::NoView);
     }
     let update = Update::new(ask.order, all.again(), next.again());
-    if writer.add(update).is_err() {
-        return Err(HandFault::NoMemory);
-    }
+    writer.add(update);
     Ok(next)
 }
 
