@@ -10,6 +10,8 @@
 //! `fl_serve_tests`, `fl_serve_clients_tests` and `fl_serve_failing_tests` refuse these.
 #![tactic(auto)]
 
+mod finishing;
+mod ready;
 mod rooms;
 mod serving;
 

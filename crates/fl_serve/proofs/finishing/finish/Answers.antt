@@ -4,7 +4,7 @@ use Rattle.fl_intake.specs.Ends.{weight_taken}
 use Rattle.fl_intake.specs.Often.{Weight}
 use Rattle.fl_pool.specs.Working.{HaveDone}
 use Rattle.fl_serve.proofs.ServingLemmas.{closed_as, never_no_reader, served_by}
-use Rattle.fl_serve.proofs.serving.finish.Goals as goal
+use Rattle.fl_serve.proofs.finishing.finish.Goals as goal
 
 pub returns-clause-served : goal.returns-clause-served
 returns-clause-served g c left left_now received =

@@ -5,7 +5,7 @@ use Rattle.std.specs.Io.KnownBytes.{Keeps}
 use Rattle.fl_board.specs.Seats.{Place}
 use Rattle.fl_serve.proofs.ServingLemmas.{all_recorded, none_recorded, received_by, same_seats, workers_back}
 use Rattle.fl_transport.specs.declared.fault.Fault.TheVariants.{NoMemory}
-use Rattle.fl_serve.proofs.serving.run_ready.Goals as goal
+use Rattle.fl_serve.proofs.ready.run_ready.Goals as goal
 
 pub returns-then-eq-clause-recorded : goal.returns-then-eq-clause-recorded
 returns-then-eq-clause-recorded g c =
