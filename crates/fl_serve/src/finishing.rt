@@ -144,8 +144,9 @@ pub(crate) fn finish<
         broken,
         whole,
     } = say_goodbye(sender.into_inner(), appenders, own, &goodbye);
-    let told = Fault::told(fault, broken | (lost | (failures.lost | !whole)));
-    let recorded = close_board(alloc, board, seats, failures.refused, told);
+    let known = whole & !(lost | failures.lost);
+    let told = Fault::told(fault, broken);
+    let recorded = close_board(alloc, board, seats, known, failures.refused, told);
     (recorded, writer)
 }
 
@@ -200,28 +201,29 @@ fn say<N: WriterName, W: Write>(
     }
 }
 
-// The result of a session whose workers gave all seats back, with this fault. If the board can't give the history, the
-// fault is `NoReader`.
+// The result of a session whose workers gave all seats back, with this fault. If the board can't give the history, or
+// it isn't known that each reply was given to be sent, the fault is `NoReader`.
 fn close_board<L: BoardName, R: Wait + Drop, J: Journal + Drop>(
     alloc: Global,
     board: Board<L, R, J>,
     seats: Vec<Seat<L>>,
+    known: bool,
     refused: bool,
     fault: Option<Fault>,
 ) -> Recorded<J>
     requires { L.workers ≡ L.parts }
     ensures legal { IfSome result.journal (λ journal. IsLegal L.rules (J.lines journal)) }
-    ensures told { HasAll seats.items refused fault (done_of J.lines result)
+    ensures told { HasAll seats.items refused fault (done_of J.lines result) × (known ≡ true)
         ⊎ (result.fault ≡ Some Fault.NoReader) × (result.journal ≡ None) }
     ensures back { IsSome result.journal ⊎ (result.fault ≡ Some Fault.NoReader) }
     ensures untold { fault ≢ Some Fault.NoReader → result.fault ≡ Some Fault.NoReader → result.journal ≡ None }
 {
     match board.into_kept(seats) {
-        Ok(journal) => Recorded {
+        Ok(journal) if known => Recorded {
             journal: Some(journal),
             fault,
             refused,
         },
-        Err(_) => Recorded::nothing(alloc, Fault::NoReader),
+        _ => Recorded::nothing(alloc, Fault::NoReader),
     }
 }

@@ -2,13 +2,14 @@
 
 ghost use Rattle.std.specs.Prelude.{◌≡◌, ◌≤◌, ◌<◌, ◌+◌, ◌⊎◌, [], All, Some};
 ghost use Rattle.std.specs.Io.KnownBytes.{Keeps};
-ghost use Rattle.fl_desk.specs.Legal.{IsLegal};
+ghost use Rattle.fl_desk.specs.Legal.{IsLegal, LeavesLawful};
 ghost use Rattle.fl_serve.specs.Serve.{IsRecordedBy, IsServedBy};
 
 use crate::ready::{Ready, run_ready};
 use crate::rooms::Rooms;
 use fl_board::{BoardName, OpenFault};
 use fl_core::Rules;
+use fl_desk::laws::a_legal_history_goes_on_by_orders;
 use fl_history::{Journal, Lines};
 use fl_log::FreshLog;
 use fl_replica::Ask;
@@ -42,6 +43,7 @@ pub fn serve<R: Threads + Wait + Sync, I: Read, W: Write + Send + Drop, G: Gate 
 ) -> Done
     requires workers { (0 < workers) × (workers ≤ 16) }
     ensures legal { IsLegal rules result.history }
+    ensures lawful { LeavesLawful rules result.history }
     ensures served { IsServedBy workers rules (record {
       left = I.remaining r.old;
       left_now = I.remaining r.new;
@@ -51,7 +53,9 @@ pub fn serve<R: Threads + Wait + Sync, I: Read, W: Write + Send + Drop, G: Gate 
     ensures nothing { result.fault ≡ Some Fault.NoMemory
         → (result.history ≡ []) × Keeps (I.remaining r.old) (I.remaining r.new) }
     ensures unwritten { result.fault ≡ Some Fault.NoMemory → Keeps (W.contents w.old) (W.contents w.new) }
+    ensures untold { result.fault ≡ Some Fault.NoReader → result.history ≡ [] }
 {
+    a_legal_history_goes_on_by_orders();
     let staff = Staff {
         workers,
         rules,

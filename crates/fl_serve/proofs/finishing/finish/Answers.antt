@@ -24,7 +24,8 @@ returns-clause-served g c left left_now received =
     failed.refused failed.lost c.say_goodbye-writer.result.whole c.told-told.result _ received refl both
     c.say_goodbye-writer.ensures.given c.in-Ok.ensures.left (c.handed_in-seats.ensures.whose ∙ c.requires.whose)
     c.told-told.ensures.ends
-    (closed_as g.J.Journal.lines seats failed.refused c.told-told.result c.close_board-recorded.result c.close_board-recorded.ensures.told)
+    (closed_as g.J.Journal.lines seats _ failed.refused c.told-told.result c.close_board-recorded.result
+    c.close_board-recorded.ensures.told)
 
 pub returns-clause-untold : goal.returns-clause-untold
 returns-clause-untold g c left left_now received = c.close_board-recorded.ensures.untold (never_no_reader _ _ _ _ _
