@@ -1,8 +1,8 @@
 -- Why a board refuses, if it isn't for memory.
-use Rattle.std.specs.Prelude.{◌⊎◌, ◌^◌, ◌≤◌, ◌<◌, All, List, [], ◌∷◌}
+use Rattle.std.specs.Prelude.{◌⊎◌, All, List}
 use mathlib.Core.List.{IsPrefix}
 use Rattle.fl_board.specs.Seats.{AreApart, Place}
-use Rattle.fl_desk.specs.Legal.{IsLegal, orders_asked}
+use Rattle.fl_desk.specs.Legal.{IsLegal}
 use Rattle.fl_history.specs.declared.history.Line.{Line}
 use Rattle.fl_waiting.specs.declared.rules.Rules.{Rules}
 
@@ -16,14 +16,6 @@ pub record FallsShort (rules : Rules) (places : List Place) : Type 0 where
   pub lines : List Line
   pub legal : IsLegal rules lines
   pub short : All (BeginsWith lines) places → ⊥
-
--- A history that is legal under these rules falls short of what the worker handed in and was shown; or has 2^62 orders;
--- or isn't all that was logged, since another legal history begins with it and has more orders.
-pub data CantHandIn (rules : Rules) (place : Place) : Type 0 where
-  short : FallsShort rules (place ∷ []) → CantHandIn rules place
-  full : (lines : List Line) → IsLegal rules lines → 2 ^ 62 ≤ orders_asked lines → CantHandIn rules place
-  behind : (lines logged : List Line) → IsLegal rules lines → IsLegal rules logged → IsPrefix lines logged
-      → orders_asked lines < orders_asked logged → CantHandIn rules place
 
 -- A history that is legal under these rules falls short of what these workers handed in and were shown, or two places
 -- are of one worker.

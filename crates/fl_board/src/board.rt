@@ -3,7 +3,7 @@
 ghost use Rattle.std.specs.Prelude.{◌≡◌, ◌<◌, ◌≤◌, ◌↔◌, ◌⊎◌, [], ◌∷◌, true, Err, List, All, IfOk, IfErr, IfSome};
 ghost use Rattle.std.specs.Prelude.{IsSome, OnOk, OnErr, length, map, sum_by};
 ghost use Rattle.std.specs.List.{range_with_len};
-ghost use Rattle.fl_board.specs.Refused.{CantClose, CantHandIn, FallsShort};
+ghost use Rattle.fl_board.specs.Refused.{CantClose, FallsShort};
 ghost use Rattle.fl_board.specs.Seats.{AreApart};
 ghost use Rattle.fl_board.specs.Shown.{HasAllOf, HaveMet, IsHandedIn, IsShown, KeepsHanded};
 ghost use Rattle.fl_core.specs.Tolds.{HasRoom};
@@ -122,7 +122,6 @@ impl<L: BoardName, R: Wait + Drop, J: Journal> Board<L, R, J> {
         ensures handed { OnOk result (IsHandedIn L.rules seat.old order.now tolds.new.told seat.new) }
         ensures room { tolds.new.room ≡ tolds.old.room }
         ensures refused { OnErr result ((seat.new ≡ seat.old) × (tolds.new ≡ tolds.old)) }
-        ensures no_view { result ≡ Err HandFault.NoView → CantHandIn L.rules seat.old }
     {
         let mut shared = self.shared.lock(rt);
         shared.hand_in(seat, order, tolds)

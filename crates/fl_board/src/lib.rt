@@ -5,12 +5,11 @@
 //! then, as their code shows. `Board::look` counts as a call that may wait, since it is given a board. `Seat::look`
 //! has no right to wait.
 //!
-//! No contract says what `pause` does, nor that a call which waits for the lock returns. A `NoView` of `hand_in`, `meet`
-//! or `close` comes with a history for which it is right. Callers don't see what lies under the lock, so no contract
-//! says that this is the board's own. Only the board adds to its log, so its history is all that was logged: no type says
-//! so, and `hand_in` may be refused for it. Contracts let through:
-//! - a `look` that always says `NoView`, a `new` that is always refused, and a `hand_in`, `meet` or `close` that says
-//!   `NoView` for another history than the board's;
+//! No contract says what `pause` does, nor that a call which waits for the lock returns. Callers don't see what lies
+//! under the lock, so no contract limits when `hand_in` says `NoView`. `meet` and `close` don't say it while no seat has
+//! handed in or was shown anything, and the seats are apart. Contracts let through:
+//! - a `look` or a `hand_in` that always says `NoView`, a `new` that is always refused, and a `meet` or `close` that
+//!   says `NoView` once something was handed in or shown;
 //! - a `hand_in` that publishes nothing, or publishes before it adds the order: then its seat's next look is
 //!   `NoView`.
 //! `fl_board_tests` refuses these, the last by `a_seat_without_the_right_to_wait_is_shown_each_order`.

@@ -3,7 +3,7 @@
 ghost use Rattle.std.specs.Prelude.{◌≡◌, ◌≢◌, ◌↔◌, ◌⊎◌, ◌≤◌, ◌<◌, ◌^◌, ◌++◌, ◌∷◌, [], true, false, Err, All, length};
 ghost use Rattle.std.specs.Prelude.{IfOk, OnOk, OnErr, MatchResult, List};
 ghost use Rattle.fl_board.specs.Inside.Asks.{HasMostOf, history_of};
-ghost use Rattle.fl_board.specs.Refused.{BeginsWith, CantHandIn, FallsShort};
+ghost use Rattle.fl_board.specs.Refused.{BeginsWith, FallsShort};
 ghost use Rattle.fl_board.specs.Seats.{AreApart};
 ghost use Rattle.fl_board.specs.Shown.{HaveMet, IsHandedIn, KeepsHanded};
 ghost use Rattle.fl_core.specs.Tolds.{HasRoom};
@@ -95,7 +95,6 @@ impl<L: BoardName, R: Wait + Drop, J: Journal> Shared<L, R, J> {
         ensures room { tolds.new.room ≡ tolds.old.room }
         ensures all { OnOk result (history_of L.rules self.new ≡ seat.new.own) }
         ensures refused { OnErr result ((seat.new ≡ seat.old) × (tolds.new ≡ tolds.old) × (self.new ≡ self.old)) }
-        ensures no_view { result ≡ Err HandFault.NoView → CantHandIn L.rules seat.old }
     {
         let Shared {
             desk,
@@ -115,7 +114,9 @@ impl<L: BoardName, R: Wait + Drop, J: Journal> Shared<L, R, J> {
             worker: seat.worker,
             order: *order,
         };
-        let next = added(writer, log, all, &ask)?;
+        let Ok(next) = added(writer, log, all, &ask) else {
+            return Err(HandFault::NoView);
+        };
         if desk.take(seat.worker, order, tolds).is_err() {
             unreachable!();
         }
@@ -184,32 +185,39 @@ impl<L: BoardName, R: Wait + Drop, J: Journal> Shared<L, R, J> {
     }
 }
 
-// Adds an ask to the log, keeps it to be published, and gives all that was asked then. If it is refused, nothing
-// more is to be published.
+// Why an ask isn't in the log.
+#[derive(Drop)]
+enum NotAdded<L: BoardName> {
+    // The log has as many asks as it may have.
+    Full,
+    // This is what the log has, and it is more than was known.
+    Longer(Beginning<L, Ask>),
+}
+
+// Adds an ask to the log, keeps it to be published, and gives all that was asked then. It takes no memory that the
+// order needs, so nothing is refused once the log has grown.
 fn added<L: BoardName, R: Wait + Drop>(
     writer: &mut ReplicaWriter<L, R>,
     log: &Log<L, Ask>,
     all: &Beginning<L, Ask>,
     ask: &Ask,
-) -> Result<Beginning<L, Ask>, HandFault>
+) -> Result<Beginning<L, Ask>, NotAdded<L>>
     requires { writer.old ≡ all.now }
     ensures added { MatchResult result
         (λ next. (next ≡ all.now ++ ask.now ∷ []) × (writer.new ≡ next))
         (λ _. writer.new ≡ writer.old) }
-    ensures no_view { result ≡ Err HandFault.NoView →
-        (2 ^ 62 ≤ length all.now) ⊎ ((log : List Handed) × IsLonger all.now log) }
+    ensures full { result ≡ Err NotAdded.Full → 2 ^ 62 ≤ length all.now }
+    ensures longer { (more : List Handed) → result ≡ Err (NotAdded.Longer more) → IsLonger all.now more }
 {
     if all.len() >= MOST_ENTRIES {
-        return Err(HandFault::NoView);
+        return Err(NotAdded::Full);
     }
     let mut next = all.again();
     if !next.add::<Ask, AsAsk>(log, ask) {
-        return Err(HandFault::NoView);
+        return Err(NotAdded::Longer(next));
     }
     let update = Update::new(ask.order, all.again(), next.again());
-    if writer.add(update).is_err() {
-        return Err(HandFault::NoMemory);
-    }
+    writer.add(update);
     Ok(next)
 }
 

@@ -3,8 +3,9 @@
 //! has an `Appender`: from all appenders together follows which entries the log has, and in which order each author's
 //! stand.
 //!
-//! Contracts let through an `append` and an `is_by` that always say no. Users of this crate tell such an answer as a
-//! fault of their own, and their tests see that it never comes.
+//! Contracts let through an `append` and an `is_by` that always say no, and a `Beginning::add` that adds more than it
+//! says, so that every later one says no. Users of this crate tell such an answer as a fault of their own, and their
+//! tests see that it never comes.
 #![tactic(auto)]
 
 mod appender;

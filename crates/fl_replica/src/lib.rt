@@ -4,7 +4,7 @@
 //! A replica takes an update only if it stands for the asks before that update, so folding never fails. Contracts let
 //! through:
 //! - a `look_at` that always gives none, and a `publish` that does nothing;
-//! - a `ReplicaWriter` whose `new`, `reader` or `add` is always refused.
+//! - a `ReplicaWriter` whose `new` or `reader` is always refused, or whose `add` publishes nothing any more.
 //! Tests of boards refuse these.
 #![tactic(auto)]
 

@@ -47,6 +47,13 @@ impl<L: BoardName> Update<L> {
             after,
         }
     }
+
+    // The asks with its order.
+    pub(crate) fn after(&self) -> Beginning<L, Ask>
+        ensures { result ≡ self.now.after }
+    {
+        self.after.again()
+    }
 }
 
 /// A copy of the directory. Contracts see it as the asks that led to it.

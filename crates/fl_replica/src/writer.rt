@@ -1,7 +1,8 @@
 //! The writer of what looks read.
 
-ghost use Rattle.std.specs.Prelude.{◌≡◌, ◌<◌, ◌^◌, [], IfOk, OnOk, MatchResult};
-ghost use Rattle.fl_replica.specs.Asks.{present_after};
+ghost use Rattle.std.specs.Prelude.{◌≡◌, ◌<◌, ◌^◌, [], IfOk, IfSome, OnOk};
+ghost use Rattle.left_right.specs.Handles.{published, pending};
+ghost use Rattle.fl_replica.specs.Inside.Updates.{in_the_end};
 
 use crate::ask::Ask;
 use crate::name::BoardName;
@@ -14,32 +15,40 @@ use std::alloc::{AllocError, Global};
 use std::marker::Model;
 use std::sync::Wait;
 
-/// The writer of both copies. Contracts see it as the asks that lead to what is published, once all that waits is.
-/// Letting it go waits for readers that are in a copy.
+/// The writer of both copies. Contracts see it as the asks that were added, which lead to what is published, once all
+/// that waits is. If memory for an update runs out, nothing is published any more, and readers find nothing. Letting it
+/// go waits for readers that are in a copy.
 pub struct ReplicaWriter<L: BoardName, R: Wait + Drop>
 where
     Replica<L>: Absorb<Update<L>, State = Beginning<L, Ask>>,
 {
-    writer: WriteHandle<Replica<L>, Update<L>, R>,
+    // None once memory for an update ran out.
+    writer: Option<WriteHandle<Replica<L>, Update<L>, R>>,
+    asks: Beginning<L, Ask>,
 }
 
 impl<L: BoardName, R: Wait + Drop> Model for ReplicaWriter<L, R>
 where
     Replica<L>: Absorb<Update<L>, State = Beginning<L, Ask>>,
 {
-    ghost use Rattle.std.specs.Prelude.{List};
+    ghost use Rattle.std.specs.Prelude.{◌≡◌, IfSome, List};
     ghost use Rattle.fl_replica.specs.declared.ask.Ask.{Ask};
     ghost use Rattle.fl_replica.specs.Inside.Updates.{in_the_end};
     ghost use Rattle.left_right.specs.Handles.{published, pending};
 
     ghost Value = { List Ask };
 
-    ghost view = { λ p. in_the_end (published p.writer) (pending p.writer) };
+    ghost view = { λ p. p.asks };
+
+    ghost invariant = { λ p. IfSome p.writer (λ w. in_the_end (published w) (pending w) ≡ p.asks) };
 }
 
 impl<L: BoardName, R: Wait + Drop> Drop for ReplicaWriter<L, R> {
     fn drop(self) {
-        let Self { writer: _writer } = self;
+        let Self {
+            writer: _writer,
+            asks: _asks,
+        } = self;
     }
 }
 
@@ -59,45 +68,83 @@ impl<L: BoardName, R: Wait + Drop> ReplicaWriter<L, R> {
     {
         let first = Replica::new(alloc, none, rules)?;
         let second = Replica::new(alloc, none, rules)?;
-        let mut writer = ReplicaWriter {
-            writer: WriteHandle::new(alloc, rt, first, second, readers)?,
-        };
-        writer.grow(none)?;
-        Ok(writer)
-    }
-
-    // The writer's list of updates grows to the size that it keeps, so that no later update wants memory.
-    fn grow(&mut self, none: &Beginning<L, Ask>) -> Result<(), AllocError>
-        requires none { none.now ≡ [] }
-        requires first { self.old ≡ [] }
-        ensures { OnOk result (self.new ≡ []) }
-    {
-        self.add(nothing(none))?;
-        self.publish();
-        self.add(nothing(none))?;
-        self.publish();
-        Ok(())
+        let mut writer = WriteHandle::new(alloc, rt, first, second, readers)?;
+        grow(&mut writer, none)?;
+        Ok(ReplicaWriter {
+            writer: Some(writer),
+            asks: none.again(),
+        })
     }
 
     /// A reader of what is published. It is refused if memory runs out, or if each place for a reader is taken.
     pub fn reader(&self) -> Result<ReadHandle<Replica<L>>, AllocError> {
-        self.writer.handle()
+        match &self.writer {
+            Some(writer) => writer.handle(),
+            None => Err(AllocError),
+        }
     }
 
-    /// Keeps an update to be published. It is refused if memory runs out.
-    pub fn add(&mut self, update: Update<L>) -> Result<(), AllocError>
+    /// Keeps an update to be published. If memory runs out, nothing is published any more.
+    pub fn add(&mut self, update: Update<L>)
         requires { update.before ≡ self.old }
-        ensures { MatchResult result (λ _. self.new ≡ update.after) (λ _. self.new ≡ self.old) }
+        ensures { self.new ≡ update.after }
     {
-        self.writer.append(update).map_err(|_| AllocError)
+        self.asks = update.after();
+        self.writer = match self.writer.take() {
+            Some(writer) => added(writer, update),
+            None => None,
+        };
     }
 
     /// Publishes all updates, once no reader is in the copy that was published before the last one.
     pub fn publish(&mut self)
         ensures { self.new ≡ self.old }
     {
-        let _ = self.writer.publish();
+        if let Some(writer) = &mut self.writer {
+            let _ = writer.publish();
+        }
     }
+}
+
+// The writer with an update more, or none if memory ran out for it.
+fn added<L: BoardName, R: Wait + Drop>(
+    writer: WriteHandle<Replica<L>, Update<L>, R>,
+    update: Update<L>,
+) -> Option<WriteHandle<Replica<L>, Update<L>, R>>
+    requires { update.before ≡ in_the_end (published writer) (pending writer) }
+    ensures { IfSome result (λ w. in_the_end (published w) (pending w) ≡ update.after) }
+{
+    let mut writer = writer;
+    match writer.append(update) {
+        Ok(()) => Some(writer),
+        Err(_) => None,
+    }
+}
+
+// The writer's list of updates grows to the size that it keeps, so that no later update wants memory.
+fn grow<L: BoardName, R: Wait + Drop>(
+    writer: &mut WriteHandle<Replica<L>, Update<L>, R>,
+    none: &Beginning<L, Ask>,
+) -> Result<(), AllocError>
+    requires none { none.now ≡ [] }
+    requires first { in_the_end (published writer.old) (pending writer.old) ≡ [] }
+    ensures { OnOk result (in_the_end (published writer.new) (pending writer.new) ≡ []) }
+{
+    publish_nothing(writer, none)?;
+    publish_nothing(writer, none)
+}
+
+// Publishes an update that changes nothing.
+fn publish_nothing<L: BoardName, R: Wait + Drop>(
+    writer: &mut WriteHandle<Replica<L>, Update<L>, R>,
+    none: &Beginning<L, Ask>,
+) -> Result<(), AllocError>
+    requires none { none.now ≡ [] }
+    requires first { in_the_end (published writer.old) (pending writer.old) ≡ [] }
+    ensures { OnOk result (in_the_end (published writer.new) (pending writer.new) ≡ []) }
+{
+    writer.append(nothing(none)).map_err(|_| AllocError)?;
+    writer.publish()
 }
 
 // An update that changes nothing: it asks for the root's attributes.

@@ -2,7 +2,7 @@
 use Rattle.std.proofs.Common.{◌≡◌, ◌≢◌, ℕ, ◌+◌, ◌⊎◌, inl, inr, ⊎_elim, Bool, true, false, true≢false, List, [], ◌∷◌, ◌++◌}
 use Rattle.std.proofs.Common.{All, Option, Some, None, length, map, sum_by, refl, sym, ap, subst, ◌∙◌, arith, append-nil}
 use Rattle.std.proofs.Common.{length-append}
-use Rattle.std.proofs.KnownBytes.{Appends-nil}
+use Rattle.std.proofs.KnownBytes.{Appends-nil, Keeps-refl}
 use Rattle.std.proofs.lemmas.List.{length-map, map-append}
 use Rattle.std.proofs.lemmas.List.Elements.{All-cons, All-head, All-nil, All-tail}
 use Rattle.std.proofs.lemmas.List.Sums.{sum_by_push}
@@ -164,13 +164,12 @@ all_done rules workers messages put sents places orders any lost told done said 
   refused = all.tells ∙ did.refused ∙ same_refused rules did.works did.each;
 }
 
-neither_is : (a b : Bool) → (a || b) ≡ false → (a ≡ false) × (b ≡ false)
-neither_is true b e = absurd (true≢false e)
-neither_is false b e = (refl, e)
-
-said_whole : (b : Bool) → not b ≡ false → b ≡ true
-said_whole true e = refl
-said_whole false e = absurd (true≢false e)
+-- what is known is whole, and nothing was lost
+all_known : (whole lost more : Bool) → (whole && not (lost || more)) ≡ true → (whole ≡ true) × (lost ≡ false) × (more ≡ false)
+all_known true false false e = (refl, refl, refl)
+all_known true false true e = absurd (true≢false (sym e))
+all_known true true more e = absurd (true≢false (sym e))
+all_known false lost more e = absurd (true≢false (sym e))
 
 words : (goodbye : Response) → (goodbye ≡ Nothing → ⊥) → last_words goodbye ≡ goodbye ∷ []
 words Nothing some = absurd (some refl)
@@ -231,10 +230,12 @@ goodbye_said start out log log_now appenders all own mine goodbye closed said gi
 }
 
 -- what a board was told, as the result of its session
-pub closed_as : {K : Type 0} (lines : K → List Line) (places : List Place) (any : Bool) (told : Option Fault)
-    (it : Recorded K) → HasAll places any told (done_of lines it) ⊎ (it.fault ≡ Some NoReader) × (it.journal ≡ None)
-    → HasAll places any told (done_of lines it) ⊎ ((done_of lines it).fault ≡ Some NoReader) × ((done_of lines it).history ≡ [])
-closed_as lines places any told it closed =
+pub closed_as : {K : Type 0} (lines : K → List Line) (places : List Place) (known any : Bool) (told : Option Fault)
+    (it : Recorded K)
+    → HasAll places any told (done_of lines it) × (known ≡ true) ⊎ (it.fault ≡ Some NoReader) × (it.journal ≡ None)
+    → HasAll places any told (done_of lines it) × (known ≡ true)
+    ⊎ ((done_of lines it).fault ≡ Some NoReader) × ((done_of lines it).history ≡ [])
+closed_as lines places known any told it closed =
     ⊎_elim (λ all. inl all) (λ none. inr (none.0, ap (journal_lines lines) none.1)) closed
 
 -- what a session did whose receiver ended
@@ -247,9 +248,9 @@ pub served_by : (rules : Rules) (workers : ℕ) (it : Reception) (start held : O
     → ((weight : Weight) → sum_by weight it.put ≡ orders weight)
     → map (λ (p : Place). p.worker) places ≡ range_with_len 0 workers
     → ((messages : List (List ℕ)) (rest : List ℕ) (left : Option (List ℕ))
-    → IsEnding it.fault (handshake_of messages).over rest left
-    → EndsBy told (broken || (it.lost || (lost || not whole))) messages rest left)
-    → HasAll places any told done ⊎ (done.fault ≡ Some NoReader) × (done.history ≡ [])
+    → IsEnding it.fault (handshake_of messages).over rest left → EndsBy told broken messages rest left)
+    → HasAll places any told done × ((whole && not (it.lost || lost)) ≡ true)
+    ⊎ (done.fault ≡ Some NoReader) × (done.history ≡ [])
     → IsServedBy workers rules (record { left = it.left; left_now = it.left_now; held = start; held_now = held }) done
 served_by rules workers it start held broken sents places orders any lost whole told done received fresh did said is
     whose ends closed = record {
@@ -258,28 +259,36 @@ served_by rules workers it start held broken sents places orders any lost whole 
       log = said.log;
       parts = parts_of rules did.works did.each;
       broken = broken;
-      lost = it.lost || (lost || not whole);
       is_read = received.is_read;
       bounded = received.bounded;
       sent = said.given;
-      given = λ none.
-          let first = neither_is it.lost (lost || not whole) none in
-          let rest = neither_is lost (not whole) first.1 in
-          all_given rules workers it start _ sents places orders any lost whole received fresh did said first.0 rest.0
-          (said_whole whole rest.1);
+      given = ⊎_elim
+          (λ all. let known = all_known whole it.lost lost all.1 in
+          inl (all_given rules workers it start _ sents places orders any lost whole received fresh did said known.1
+          known.2 known.0))
+          (λ none. inr none.0) closed;
       ending = ⊎_elim
-          (λ all. inl (rw all.told (ends received.messages received.rest it.left_now received.ending)))
+          (λ all. inl (rw all.0.told (ends received.messages received.rest it.left_now received.ending)))
           (λ none. inr none.0) closed;
       orders = ⊎_elim
-          (λ all. inl (all_done rules workers received.messages it.put sents places orders any lost told done received.said is whose did all))
+          (λ all. inl (all_done rules workers received.messages it.put sents places orders any lost told done received.said is whose did all.0))
           (λ none. inr (record { fault = inl none.0; history = none.1 })) closed;
     }
+
+-- nothing was given, and nobody took anything
+none_given : (workers : ℕ) (log : List ReplyEntry) → log ≡ [] → AreAllGiven workers [] [] log
+none_given workers log none = record {
+  each = All-nil _;
+  own = ap (entries_of workers) none;
+  no_others = ap length none;
+  goodbye = λ over. absurd (true≢false (sym over));
+}
 
 -- what a session did that had no memory, or no reader
 pub unserved : (workers : ℕ) (rules : Rules) (streams : Streams) (log : List ReplyEntry) (broken : Bool) (done : Done)
     → IsRead streams.left streams.left_now [] []
     → IsGiven streams.held (record { held = streams.held_now; waiting = []; broken = broken }) (spelled log)
-    → (done.fault ≡ Some NoMemory) ⊎ (done.fault ≡ Some NoReader) → done.history ≡ []
+    → (done.fault ≡ Some NoMemory) × (log ≡ []) ⊎ (done.fault ≡ Some NoReader) → done.history ≡ []
     → IsServedBy workers rules streams done
 unserved workers rules streams log broken done unread sent why none = record {
   messages = [];
@@ -287,20 +296,19 @@ unserved workers rules streams log broken done unread sent why none = record {
   log = log;
   parts = [];
   broken = broken;
-  lost = true;
   is_read = unread;
   bounded = omega arith;
   sent = sent;
-  given = λ never. absurd (true≢false never);
+  given = ⊎_elim (λ memory. inl (none_given workers log memory.1)) inr why;
   ending = ⊎_elim
-      (λ memory. inl (subst (λ f. EndsBy f (broken || true) [] [] streams.left_now) (sym memory) (refl, refl))) inr why;
-  orders = inr (record { fault = ⊎_elim inr inl why; history = none });
+      (λ memory. inl (subst (λ f. EndsBy f broken [] [] streams.left_now) (sym memory.0) (refl, refl))) inr why;
+  orders = inr (record { fault = ⊎_elim (λ memory. inr memory.0) inl why; history = none });
 }
 
 -- the same, of which nothing was recorded
 pub none_recorded : {K : Type 0} (lines : K → List Line) (workers : ℕ) (rules : Rules) (streams : Streams)
     (log : List ReplyEntry) (broken : Bool) (it : Recorded K) → it.journal ≡ None
-    → (it.fault ≡ Some NoMemory) ⊎ (it.fault ≡ Some NoReader)
+    → (it.fault ≡ Some NoMemory) × (log ≡ []) ⊎ (it.fault ≡ Some NoReader)
     → IsRead streams.left streams.left_now [] []
     → IsGiven streams.held (record { held = streams.held_now; waiting = []; broken = broken }) (spelled log)
     → Keeps streams.left streams.left_now → (it.fault ≡ Some NoMemory → Keeps streams.held streams.held_now)
@@ -308,11 +316,27 @@ pub none_recorded : {K : Type 0} (lines : K → List Line) (workers : ℕ) (rule
 none_recorded lines workers rules streams log broken it none why unread sent read wrote = record {
   legal = subst (λ k. IfSome k (λ k. IsLegal rules (lines k))) (sym none) tt;
   served = unserved workers rules streams log broken (done_of lines it) unread sent why (ap (journal_lines lines) none);
-  back = ⊎_elim (λ memory. inr (inl memory)) (λ reader. inr (inr reader)) why;
+  back = ⊎_elim (λ memory. inr (inl memory.0)) (λ reader. inr (inr reader)) why;
   nothing = λ _. (none, read);
   unwritten = wrote;
   untold = λ _. none;
 }
+
+-- the same, of which a worker couldn't be started: either the writer holds what it held, or there is no reader
+pub unstarted_recorded : {K : Type 0} (lines : K → List Line) (workers : ℕ) (rules : Rules)
+    (left left_now start held : Option (List ℕ)) (log : List ReplyEntry) (broken : Bool) (it : Recorded K)
+    → it.journal ≡ None → (it.fault ≡ Some NoMemory) ⊎ (it.fault ≡ Some NoReader) → IsRead left left_now [] []
+    → IsGiven start (record { held = held; waiting = []; broken = broken }) (spelled log) → Keeps left left_now
+    → (it.fault ≡ Some NoMemory → held ≡ start)
+    → IsRecordedBy lines workers rules (record { left = left; left_now = left_now; held = start; held_now = held }) it
+unstarted_recorded lines workers rules left left_now start held log broken it none why unread sent read wrote =
+    let kept : it.fault ≡ Some NoMemory → Keeps start held =
+    λ memory. subst (λ h. Keeps start h) (sym (wrote memory)) (Keeps-refl start) in
+    ⊎_elim
+    (λ memory. none_recorded lines workers rules _ [] false it none (inl (memory, refl)) unread
+    (subst (λ h. IsGiven start (record { held = h; waiting = []; broken = false }) (spelled [])) (sym (wrote memory)) (nothing_given start))
+    read kept)
+    (λ reader. none_recorded lines workers rules _ log broken it none (inr reader) unread sent read kept) why
 
 -- the same, whose board was told; its rules, and what its writer held, have a name each
 pub all_recorded : {K : Type 0} (lines : K → List Line) (workers takers : ℕ) (rules by : Rules) (streams : Streams)

@@ -1,6 +1,6 @@
 -- What a session with workers did.
 use Rattle.std.specs.Prelude.{◌≡◌, ℕ, ◌+◌, ◌≤◌, ◌⊎◌, Bool, true, false, List, [], ◌∷◌, ◌++◌, All, length, Option, None}
-use Rattle.std.specs.Prelude.{IfSome, IsSome, Some, flat_map, map, sum_by, ◌||◌}
+use Rattle.std.specs.Prelude.{IfSome, IsSome, Some, flat_map, map, sum_by}
 use Rattle.std.specs.Io.KnownBytes.{Keeps}
 use Rattle.std.specs.List.{range_with_len}
 use Rattle.fl_desk.specs.Answered.{IsAnsweredAfter, answered_by}
@@ -68,28 +68,28 @@ pub record AreAllGiven (workers : ℕ) (messages : List (List ℕ)) (parts : Lis
   pub no_others : length log ≡ sum_by (λ part. length part.outcomes) parts + length (own_answers messages)
   pub goodbye : (handshake_of messages).over ≡ true → SaysGoodbye workers messages log
 
--- a worker got no reader, the board couldn't tell the history, or memory ran out before anything was read
+-- A worker got no reader, the board couldn't tell the history, what was given to be sent can't be told, or memory ran
+-- out before anything was read.
 pub record HasNoHistory (done : Done) : Type 0 where
   pub fault : (done.fault ≡ Some NoReader) ⊎ (done.fault ≡ Some NoMemory)
   pub history : done.history ≡ []
 
 -- What was read is whole messages and a rest of at most 8192 bytes, and no message came after one that ended the
 -- session. What was written behind what the writer held are the bytes of a log of what was given to be sent, whole
--- replies; after a failed write (`broken`), a prefix of them. If nothing was lost on the way there, the log is as
--- `AreAllGiven` says. The fault is that of the end, where what was lost counts as a failed write, or the history can't
--- be had. Otherwise each order of the messages was answered, as `AreDone` says.
+-- replies; after a failed write (`broken`), a prefix of them. The log is as `AreAllGiven` says, the fault is that of the
+-- end, and each order of the messages was answered, as `AreDone` says; except at NoReader, when neither the history nor
+-- the log can be told.
 pub record IsServedBy (workers : ℕ) (rules : Rules) (streams : Streams) (done : Done) : Type 0 where
   pub messages : List (List ℕ)
   pub rest : List ℕ
   pub log : List ReplyEntry
   pub parts : List Part
   pub broken : Bool
-  pub lost : Bool
   pub is_read : IsRead streams.left streams.left_now messages rest
   pub bounded : length rest ≤ 8192
   pub sent : IsGiven streams.held (record { held = streams.held_now; waiting = []; broken = broken }) (spelled log)
-  pub given : lost ≡ false → AreAllGiven workers messages parts log
-  pub ending : EndsBy done.fault (broken || lost) messages rest streams.left_now ⊎ (done.fault ≡ Some NoReader)
+  pub given : AreAllGiven workers messages parts log ⊎ (done.fault ≡ Some NoReader)
+  pub ending : EndsBy done.fault broken messages rest streams.left_now ⊎ (done.fault ≡ Some NoReader)
   pub orders : AreDone workers rules messages parts done ⊎ HasNoHistory done
 
 -- The result of a session with so many workers under these rules whose lines went to a journal. They are legal, and

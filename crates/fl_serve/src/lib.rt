@@ -1,15 +1,17 @@
 //! A session of the FUSE protocol with workers, over any reader and any writer.
 //!
 //! `serve` is `record_with_workers` with lines in memory, and both are one proof. Each order is answered by its own
-//! replies, unless some were lost on the way to the writer, which is told as a failed write. No clause says that
-//! `NoReader` comes only if a board can't be opened or closed, nor in which order the replies of several orders leave.
-//! Contracts let through a `serve`
-//! - that refuses every order for memory, or tells that replies were lost;
+//! replies. At `NoReader` nothing is said of orders and replies. No clause says that it comes only if a board can't be
+//! opened or closed, or if what was given to be sent can't be told; nor in which order the replies of different
+//! workers leave. Contracts let through a `serve`
+//! - that refuses every order for memory;
 //! - that tells `Read` or `Write` early, `NoMemory` having read nothing, or `NoReader` with an empty history;
-//! - of which one worker does all.
-//! `fl_serve_tests`, `fl_serve_clients_tests` and `fl_serve_failing_tests` refuse these.
+//! - of which one worker does all, or a worker handles its orders in another order than it took them.
+//! `fl_serve_tests`, `fl_serve_clients_tests` and `fl_serve_failing_tests` refuse these; the last by `worker_loop`.
 #![tactic(auto)]
 
+mod finishing;
+mod ready;
 mod rooms;
 mod serving;
 

@@ -40,7 +40,7 @@ own_answers messages = own_answers_from opening messages
 abbrev pub answer_by : ℕ → Response → ReplyEntry
 answer_by author response = entry author (replies_of response)
 
--- the last message is a DESTROY, which is answered this
+-- This is what the last message is answered if it is a DESTROY.
 pub record IsLast (messages : List (List ℕ)) (goodbye : Response) : Type 0 where
   pub front : List (List ℕ)
   pub last : List ℕ

@@ -30,7 +30,7 @@ use std::thread::Threads;
 /// A trace that is printed is written once the session is over, and a fault is one line on `faults` after it. With a
 /// trace that goes nowhere or to a writer nothing is printed. A writer gets the trace as orders come. If it can't be
 /// written, orders go on without a trace or are refused, as `when_full` says. At the end `faults` gets `trace failed`,
-/// after a fault of the session if there is one. The writer comes back if a session was served, with the text of a
+/// after a fault of the session if there is one. The writer comes back if the session has a history, with the text of a
 /// beginning of its history.
 pub fn serve_on<R: Threads + Wait + Net + Files + Sync, T: Write + Send + Drop, W: Write, F: Write>(
     rt: &R,
@@ -43,7 +43,7 @@ pub fn serve_on<R: Threads + Wait + Net + Files + Sync, T: Write + Send + Drop, 
     requires workers { (0 < options.workers) × (options.workers ≤ 16) }
     requires blank { (writer : T) → options.trace ≡ TraceTo.Writer writer → IsBlank (T.contents writer) }
 
-    // `streams` is what the connection had before it was served, and has then.
+    // Some `streams`: no clause ties them to the connection.
     ensures over { ¬ ServesNobody result.0 → (streams : Streams)
         × IsOver options.workers options.rules options.trace T.contents streams
         (W.contents output.old) (W.contents output.new) (record {

@@ -8,11 +8,14 @@ returns g c =
     let recorded = c.record_with_workers.ensures in
     let is = c.into_done.ensures.is in
     let told = sym (ap (λ (d : Done). d.fault) is) in
+    let legal = c.into_done.ensures.legal _ recorded.legal in
     record {
-      legal = c.into_done.ensures.legal _ recorded.legal;
+      legal = legal;
+      lawful = (c.a_legal_history_goes_on_by_orders.ensures.leads _ _ legal).lawful;
       served = rw is recorded.served;
       nothing = λ memory.
           let gone = recorded.nothing (told ∙ memory) in
           (ap (λ (d : Done). d.history) is ∙ ap (journal_lines _) gone.0, gone.1);
       unwritten = λ memory. recorded.unwritten (told ∙ memory);
+      untold = λ reader. ap (λ (d : Done). d.history) is ∙ ap (journal_lines _) (recorded.untold (told ∙ reader));
     }

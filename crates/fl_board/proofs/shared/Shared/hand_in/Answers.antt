@@ -10,8 +10,6 @@ use Rattle.fl_board.specs.Seats.{Place}
 use Rattle.fl_board.proofs.Boards.{step_asks_one_order}
 use Rattle.fl_board.proofs.Counts.{one_more_by, orders_by}
 use Rattle.fl_board.proofs.Histories.{history_more, present_more}
-use Rattle.fl_board.proofs.Refusing.{no_room, short_of_first}
-use Rattle.fl_board.specs.Refused.{short}
 use Rattle.fl_board.proofs.shared.Shared.hand_in.Goals as goal
 
 pub invariant_of-self-2 : goal.invariant_of-self-2
@@ -21,7 +19,7 @@ invariant_of-self-2 g c =
     let order = c.args.order.now in
     let worker = c.seat.inside.worker in
     let ask : Ask = record { worker = worker; order = order } in
-    let all : c.in_ok-next.next ≡ was ++ ask ∷ [] = (c.in_ok-next.ensures.added).0 in
+    let all : c.in-Ok.next ≡ was ++ ask ∷ [] = (c.in-Ok.ensures.added).0 in
     let taken : c.take.new.self.lines ≡ history_of ours was ++ step_lines worker order c.take.new.tolds.told = search rules in
     let stepped : c.take.new.self.present ≡ next (present_after ours was) order = search rules in
     let told : c.take.new.tolds.told ≡ replies_in (state_after (present_after ours was).rules (history_of ours was)) order = search rules in
@@ -44,7 +42,7 @@ invariant_of-seat g c =
     let order = c.args.order.now in
     let worker = c.seat.inside.worker in
     let ask : Ask = record { worker = worker; order = order } in
-    let own : c.again.result ≡ was ++ ask ∷ [] = c.again.ensures ∙ (c.in_ok-next.ensures.added).0 in
+    let own : c.again.result ≡ was ++ ask ∷ [] = c.again.ensures ∙ (c.in-Ok.ensures.added).0 in
     let most = subst (λ (p : Place). HasMostOf (history_of ours was) p) (sym c.seat.view_is) (c.if-not-begins.ensures.most refl) in
     let more : orders_by worker (history_of ours c.again.result) ≡ orders_by worker (history_of ours was) + 1 =
     ap (λ asks. orders_by worker (history_of ours asks)) own ∙ ap (orders_by worker) (history_more ours was ask)
@@ -58,7 +56,7 @@ returns-clause-handed g c =
     let order = c.args.order.now in
     let worker = c.seat.inside.worker in
     let ask : Ask = record { worker = worker; order = order } in
-    let own : c.again.result ≡ was ++ ask ∷ [] = c.again.ensures ∙ (c.in_ok-next.ensures.added).0 in
+    let own : c.again.result ≡ was ++ ask ∷ [] = c.again.ensures ∙ (c.in-Ok.ensures.added).0 in
     let told : c.take.new.tolds.told ≡ replies_in (state_after (present_after ours was).rules (history_of ours was)) order = search rules in
     let leads = c.asks_lead.ensures in
     let answered : c.take.new.tolds.told ≡ replies (present_after ours was) order =
@@ -77,14 +75,3 @@ returns-clause-handed g c =
       count = c.add.ensures.amount;
       recorded = (invariant_of-seat g c).1;
     })
-
-pub returns-then-not-begins-clause-no_view : goal.returns-then-not-begins-clause-no_view
-returns-then-not-begins-clause-no_view g c = λ same.
-    let ours = g.L.BoardName.rules in
-    short (short_of_first ours (history_of ours c.self.inside.all) c.args.seat.now [] (c.asks_lead.ensures.legal ours c.self.inside.all)
-    (λ all. cc (c.if-not-begins.ensures.begins.1 all)))
-
-pub returns-in_err-next-clause-no_view : goal.returns-in_err-next-clause-no_view
-returns-in_err-next-clause-no_view g c = λ same.
-    let ours = g.L.BoardName.rules in
-    no_room ours c.args.seat.now c.self.inside.all (c.asks_lead.ensures.legal ours) (c.in_err-next.ensures.no_view (search rules))

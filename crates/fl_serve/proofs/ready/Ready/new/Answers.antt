@@ -3,7 +3,7 @@ use Rattle.fl_board.specs.Seats.{Place}
 use Rattle.fl_pool.specs.Working.{IsFresh}
 use Rattle.fl_core.specs.Tolds.{HasRoom}
 use Rattle.fl_serve.proofs.ServingLemmas.{as_many, workers_of}
-use Rattle.fl_serve.proofs.serving.Ready.new.Goals as goal
+use Rattle.fl_serve.proofs.ready.Ready.new.Goals as goal
 
 pub posts_at-posts-requires-clause-rest : goal.posts_at-posts-requires-clause-rest
 posts_at-posts-requires-clause-rest g c =

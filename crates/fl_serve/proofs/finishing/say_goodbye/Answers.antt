@@ -1,5 +1,5 @@
 use Rattle.fl_serve.proofs.ServingLemmas.{goodbye_said}
-use Rattle.fl_serve.proofs.serving.say_goodbye.Goals as goal
+use Rattle.fl_serve.proofs.finishing.say_goodbye.Goals as goal
 
 pub returns-clause-given : goal.returns-clause-given
 returns-clause-given g c = goodbye_said _ _ _ _ _ _ _ _ _ _ _ c.close-writer.ensures.given c.say-said.ensures.said

@@ -4,7 +4,7 @@ use Rattle.fl_intake.specs.Ends.{weight_taken}
 use Rattle.fl_intake.specs.Often.{Weight}
 use Rattle.fl_pool.specs.Working.{HaveDone}
 use Rattle.fl_serve.proofs.ServingLemmas.{closed_as, never_no_reader, served_by}
-use Rattle.fl_serve.proofs.serving.finish.Goals as goal
+use Rattle.fl_serve.proofs.finishing.finish.Goals as goal
 
 pub returns-clause-served : goal.returns-clause-served
 returns-clause-served g c left left_now received =
@@ -24,7 +24,8 @@ returns-clause-served g c left left_now received =
     failed.refused failed.lost c.say_goodbye-writer.result.whole c.told-told.result _ received refl both
     c.say_goodbye-writer.ensures.given c.in-Ok.ensures.left (c.handed_in-seats.ensures.whose ∙ c.requires.whose)
     c.told-told.ensures.ends
-    (closed_as g.J.Journal.lines seats failed.refused c.told-told.result c.close_board-recorded.result c.close_board-recorded.ensures.told)
+    (closed_as g.J.Journal.lines seats _ failed.refused c.told-told.result c.close_board-recorded.result
+    c.close_board-recorded.ensures.told)
 
 pub returns-clause-untold : goal.returns-clause-untold
 returns-clause-untold g c left left_now received = c.close_board-recorded.ensures.untold (never_no_reader _ _ _ _ _

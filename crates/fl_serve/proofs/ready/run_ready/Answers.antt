@@ -1,19 +1,17 @@
 use Rattle.std.proofs.Common.{rules, ◌≡◌, ◌≢◌, Some, inl, refl, ap, subst, sym, ◌∙◌, arith, length, map}
-use Rattle.std.proofs.KnownBytes.{Keeps-refl}
 use Rattle.std.proofs.lemmas.List.{length-map}
-use Rattle.std.specs.Io.KnownBytes.{Keeps}
 use Rattle.fl_board.specs.Seats.{Place}
-use Rattle.fl_serve.proofs.ServingLemmas.{all_recorded, none_recorded, received_by, same_seats, workers_back}
+use Rattle.fl_serve.proofs.ServingLemmas.{all_recorded, received_by, same_seats, unstarted_recorded, workers_back}
 use Rattle.fl_transport.specs.declared.fault.Fault.TheVariants.{NoMemory}
-use Rattle.fl_serve.proofs.serving.run_ready.Goals as goal
+use Rattle.fl_serve.proofs.ready.run_ready.Goals as goal
 
 pub returns-then-eq-clause-recorded : goal.returns-then-eq-clause-recorded
 returns-then-eq-clause-recorded g c =
     let none : c.run-back.result.1.fault ≡ Some NoMemory = search rules in
     let unread = c.run-back.ensures.ran.unread none in
     let it = c.unstarted.ensures in
-    none_recorded _ _ _ _ c.into_inner.result.log it.sent.0 _ it.nothing.0 it.fault (it.read _ _ unread) it.sent.1 unread
-    (λ memory. subst (λ held. Keeps g.N.WriterName.start held) (sym (it.unwritten memory)) (Keeps-refl _))
+    unstarted_recorded _ _ _ _ _ _ _ c.into_inner.result.log it.sent.0 _ it.nothing.0 it.fault (it.read _ _ unread) it.sent.1
+    unread it.unwritten
 
 pub finish-requires-clause-all : goal.finish-requires-clause-all
 finish-requires-clause-all g c =

@@ -1,5 +1,5 @@
 use Rattle.fl_serve.proofs.ServingLemmas.{goodbye_given}
-use Rattle.fl_serve.proofs.serving.say.Goals as goal
+use Rattle.fl_serve.proofs.finishing.say.Goals as goal
 
 pub returns-in_default : goal.returns-in_default
 returns-in_default g c =

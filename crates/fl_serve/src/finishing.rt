@@ -1,0 +1,229 @@
+//! How a session with workers ends once its workers came back.
+
+ghost use Rattle.std.specs.Prelude.{◌≡◌, ◌≢◌, ◌≤◌, ◌<◌, ◌+◌, ◌++◌, ◌⊎◌, ℕ, Bool, List, [], All, Option, Some, true};
+ghost use Rattle.std.specs.Prelude.{false, length, map, IfSome, IsSome, None, vec_capacity};
+ghost use Rattle.std.specs.List.{range_with_len};
+ghost use Rattle.std.specs.Io.KnownBytes.{Keeps};
+ghost use Rattle.fl_core.specs.Tolds.{HasRoom};
+ghost use Rattle.fl_desk.specs.Legal.{IsLegal};
+ghost use Rattle.fl_intake.specs.Ends.{weight_taken};
+ghost use Rattle.fl_transport.specs.Collecting.{IsGiven};
+ghost use Rattle.fl_transport.specs.Ending.{IsRead};
+ghost use Rattle.fl_workers.specs.Received.{HasReceived, answer_by};
+ghost use Rattle.fl_workers.specs.Sent.{spelled};
+ghost use Rattle.fl_pool.specs.Working.{HaveDone};
+ghost use Rattle.fl_serve.specs.Inside.Closing.{HasAll, HasGrown, HasSaidGoodbye, last_words};
+ghost use Rattle.fl_session.specs.Recorded.{done_of};
+ghost use Rattle.fl_serve.specs.Serve.{IsServedBy};
+
+use fl_board::{Board, BoardName, Seat};
+use fl_core::Tolds;
+use fl_history::Journal;
+use fl_log::Appender;
+use fl_pool::{Back, WorkerPool, handed_in};
+use fl_session::Recorded;
+use fl_transport::{Fault, Response};
+use fl_workers::{Abandoned, Gate, Received, ReplyEntry, Returned, SharedSender, WriterName};
+use std::alloc::Global;
+use std::io::Write;
+use std::sync::Wait;
+
+/// The result of a session of which a worker couldn't be started, so that nothing was read. That the session hadn't
+/// begun is known when it runs, and by no contract.
+pub(crate) fn unstarted<'w, N: WriterName, W: Write, J: Journal>(
+    alloc: Global,
+    sender: SharedSender<'w, W, N>,
+) -> (Recorded<J>, &'w mut W)
+    ensures writer { result.1.ghost_name ≡ N.writer }
+    ensures nothing { (result.0.journal ≡ None) × (result.0.refused ≡ false) }
+    ensures fault { (result.0.fault ≡ Some Fault.NoMemory) ⊎ (result.0.fault ≡ Some Fault.NoReader) }
+    ensures unwritten { result.0.fault ≡ Some Fault.NoMemory → W.contents result.1.now ≡ N.start }
+    ensures read { (left left_now : Option (List ℕ)) → Keeps left left_now → IsRead left left_now [] [] }
+    ensures sent { (broken : Bool) × IsGiven N.start (record {
+      held = W.contents result.1.now;
+      waiting = [];
+      broken = broken;
+    }) (spelled sender.entry.log) }
+{
+    let Abandoned { writer, begun, .. } = sender.abandon();
+    let fault = if begun {
+        Fault::NoReader
+    } else {
+        Fault::NoMemory
+    };
+    (Recorded::nothing(alloc, fault), writer)
+}
+
+/// Hands in what no worker took, says goodbye, and closes the board of a session whose workers came back.
+pub(crate) fn finish<
+    'w,
+    L: BoardName,
+    N: WriterName,
+    R: Wait,
+    W: Write,
+    G: Gate,
+    J: Journal + Drop,
+>(
+    alloc: Global,
+    pool: WorkerPool<'_, 'w, L, N, R, W, G, J>,
+    back: Back<L, N>,
+    received: Received<N>,
+    tolds: Tolds,
+) -> (Recorded<J>, &'w mut W)
+    requires parts { L.workers ≡ L.parts }
+    requires mine { (received.put.of ≡ pool.intake) × All (λ end. end.of ≡ pool.intake) back.ends.items }
+    requires all { received.put.takers ≤ length back.ends.items }
+    requires some { 0 < length back.seats.items }
+    requires pairs { length back.appenders.items ≡ length back.seats.items }
+    requires room { length back.appenders.items < vec_capacity back.appenders }
+    requires each { length back.appenders.items + 1 ≡ N.parts }
+    requires whose { map (λ seat. seat.worker) back.seats.items ≡ range_with_len 0 received.put.takers }
+    requires did { HaveDone L.rules (λ weight. weight_taken weight back.ends.items) back.seats.items
+        back.appenders.items back.failures.refused back.failures.lost }
+    requires replies { HasRoom L.rules tolds }
+    ensures writer { result.1.ghost_name ≡ N.writer }
+    ensures legal { IfSome result.0.journal (λ journal. IsLegal L.rules (J.lines journal)) }
+    ensures served { (left left_now : Option (List ℕ)) → HasReceived (record {
+      left = left;
+      left_now = left_now;
+      fault = received.fault;
+      put = received.put.put;
+      goodbye = received.goodbye;
+      sent = record { author = received.put.takers; count = 0; own = [] };
+      sent_now = received.own;
+      lost = received.lost;
+    }) → IsServedBy received.put.takers L.rules (record {
+      left = left;
+      left_now = left_now;
+      held = N.start;
+      held_now = W.contents result.1.now;
+    }) (done_of J.lines result.0) }
+    ensures back { IsSome result.0.journal ⊎ (result.0.fault ≡ Some Fault.NoReader) }
+    ensures untold { (left left_now : Option (List ℕ)) → HasReceived (record {
+      left = left;
+      left_now = left_now;
+      fault = received.fault;
+      put = received.put.put;
+      goodbye = received.goodbye;
+      sent = record { author = received.put.takers; count = 0; own = [] };
+      sent_now = received.own;
+      lost = received.lost;
+    }) → result.0.fault ≡ Some Fault.NoReader → result.0.journal ≡ None }
+    ensures memory { received.fault ≢ Some Fault.NoMemory → result.0.fault ≢ Some Fault.NoMemory }
+{
+    let WorkerPool {
+        rt,
+        gate,
+        board,
+        intake,
+        sender,
+        ..
+    } = pool;
+    let Back {
+        seats,
+        appenders,
+        ends,
+        failures,
+    } = back;
+    let Received {
+        put,
+        fault,
+        goodbye,
+        own,
+        lost,
+    } = received;
+    let Ok(left) = intake.finish(rt, put, ends) else {
+        unreachable!()
+    };
+    let (seats, appenders, more) = handed_in(
+        rt, &board, gate, &sender, seats, appenders, tolds, left,
+    );
+    let failures = failures.or(more);
+    let Returned {
+        writer,
+        broken,
+        whole,
+    } = say_goodbye(sender.into_inner(), appenders, own, &goodbye);
+    let known = whole & !(lost | failures.lost);
+    let told = Fault::told(fault, broken);
+    let recorded = close_board(alloc, board, seats, known, failures.refused, told);
+    (recorded, writer)
+}
+
+// Says goodbye, if anything is left to say, and sends all that is collected. The writer comes back, `whole` if the
+// goodbye was given to be sent, and all else by these appenders.
+fn say_goodbye<'w, N: WriterName, W: Write>(
+    sender: SharedSender<'w, W, N>,
+    appenders: Vec<Appender<N, ReplyEntry>>,
+    own: Appender<N, ReplyEntry>,
+    goodbye: &Response,
+) -> Returned<'w, W>
+    requires each { length appenders.items + 1 ≡ N.parts }
+    requires room { length appenders.items < vec_capacity appenders }
+    ensures same { result.writer.ghost_name ≡ N.writer }
+    ensures given { HasSaidGoodbye N.start (record {
+      held = W.contents result.writer.now;
+      waiting = [];
+      broken = result.broken;
+    }) appenders.items own goodbye.now result.whole }
+{
+    let mut sender = sender;
+    let mut own = own;
+    let mut appenders = appenders;
+    let said = say(&mut sender, &mut own, goodbye);
+    appenders.push_reserved(own);
+    let Returned {
+        writer,
+        broken,
+        whole,
+    } = sender.close(appenders);
+    Returned {
+        writer,
+        broken,
+        whole: whole & said,
+    }
+}
+
+// Gives the goodbye to be sent, if there is one, and says whether it could.
+fn say<N: WriterName, W: Write>(
+    sender: &mut SharedSender<'_, W, N>,
+    own: &mut Appender<N, ReplyEntry>,
+    goodbye: &Response,
+) -> bool
+    ensures said { result ≡ true → sender.new.log ≡ sender.old.log
+        ++ map (answer_by own.old.author) (last_words goodbye.now) }
+    ensures grown { result ≡ true
+        → HasGrown own.old own.new (map (answer_by own.old.author) (last_words goodbye.now)) }
+{
+    match goodbye {
+        Response::Nothing => true,
+        _ => sender.collect(own, goodbye),
+    }
+}
+
+// The result of a session whose workers gave all seats back, with this fault. If the board can't give the history, or
+// it isn't known that each reply was given to be sent, the fault is `NoReader`.
+fn close_board<L: BoardName, R: Wait + Drop, J: Journal + Drop>(
+    alloc: Global,
+    board: Board<L, R, J>,
+    seats: Vec<Seat<L>>,
+    known: bool,
+    refused: bool,
+    fault: Option<Fault>,
+) -> Recorded<J>
+    requires { L.workers ≡ L.parts }
+    ensures legal { IfSome result.journal (λ journal. IsLegal L.rules (J.lines journal)) }
+    ensures told { HasAll seats.items refused fault (done_of J.lines result) × (known ≡ true)
+        ⊎ (result.fault ≡ Some Fault.NoReader) × (result.journal ≡ None) }
+    ensures back { IsSome result.journal ⊎ (result.fault ≡ Some Fault.NoReader) }
+    ensures untold { fault ≢ Some Fault.NoReader → result.fault ≡ Some Fault.NoReader → result.journal ≡ None }
+{
+    match board.into_kept(seats) {
+        Ok(journal) if known => Recorded {
+            journal: Some(journal),
+            fault,
+            refused,
+        },
+        _ => Recorded::nothing(alloc, Fault::NoReader),
+    }
+}
