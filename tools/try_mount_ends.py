@@ -218,6 +218,8 @@ def try_the_server_is_killed_while_processes_wait():
 def try_the_server_is_killed_without_open_files():
     mount = Mount()
     shell(mount, "flock job echo in", "in")
+    # The answer to this comes behind that to the RELEASE, for which no process waits.
+    assert not os.path.exists(f"{mount.folder}/other")
     same(mount.end(lambda: os.kill(mount.server(), signal.SIGKILL))[0], 1)
     assert not mount.is_mounted()
 
