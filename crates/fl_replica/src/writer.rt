@@ -1,6 +1,6 @@
 //! The writer of what looks read.
 
-ghost use Rattle.std.specs.Prelude.{◌≡◌, ◌<◌, ◌^◌, [], IfOk, IfSome, OnOk};
+ghost use Rattle.std.specs.Prelude.{◌≡◌, ◌<◌, ◌^◌, [], IfOk, OnOk};
 ghost use Rattle.left_right.specs.Handles.{published, pending};
 ghost use Rattle.fl_replica.specs.Inside.Updates.{in_the_end};
 
@@ -90,10 +90,13 @@ impl<L: BoardName, R: Wait + Drop> ReplicaWriter<L, R> {
         ensures { self.new ≡ update.after }
     {
         self.asks = update.after();
-        self.writer = match self.writer.take() {
-            Some(writer) => added(writer, update),
-            None => None,
+        let kept = match &mut self.writer {
+            Some(writer) => writer.append(update).is_ok(),
+            None => true,
         };
+        if !kept {
+            self.writer = None;
+        }
     }
 
     /// Publishes all updates, once no reader is in the copy that was published before the last one.
@@ -103,21 +106,6 @@ impl<L: BoardName, R: Wait + Drop> ReplicaWriter<L, R> {
         if let Some(writer) = &mut self.writer {
             let _ = writer.publish();
         }
-    }
-}
-
-// The writer with an update more, or none if memory ran out for it.
-fn added<L: BoardName, R: Wait + Drop>(
-    writer: WriteHandle<Replica<L>, Update<L>, R>,
-    update: Update<L>,
-) -> Option<WriteHandle<Replica<L>, Update<L>, R>>
-    requires { update.before ≡ in_the_end (published writer) (pending writer) }
-    ensures { IfSome result (λ w. in_the_end (published w) (pending w) ≡ update.after) }
-{
-    let mut writer = writer;
-    match writer.append(update) {
-        Ok(()) => Some(writer),
-        Err(_) => None,
     }
 }
 
