@@ -16,6 +16,7 @@ mod lives;
 mod locks;
 mod orders;
 mod parking;
+mod random;
 mod releases;
 mod room;
 mod waiting;

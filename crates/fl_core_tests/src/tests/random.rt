@@ -2,12 +2,12 @@
 
 ghost use Rattle.fl_core.specs.Tolds.{HasRoom};
 
+mod names;
 mod plain;
 mod plain_circles;
 mod plain_locks;
 mod plain_room;
-mod random;
-mod waiting_random;
+mod waiting;
 
 use fl_core::{Core, Rules, Tolds};
 use fl_order::{Answer, Errno, Name, Op, Order, Told};
