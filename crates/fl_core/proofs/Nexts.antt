@@ -49,3 +49,7 @@ next_waits p order = let first = after_first p order in nothing_left p.rules (pr
 
 pub next_apart : (p : Snapshot) (order : Order) → AllWait p.rules p.marking p.view.parked → AreApart p.view.parked → AreApart (next p order).view.parked
 next_apart p order all apart = (kept p order all apart).1
+
+pub next_made : (p : Snapshot) (order : Order) → AllWait p.rules p.marking p.view.parked → AreApart p.view.parked
+    → made (replied order (replies p order)) p ≡ next p order
+next_made p order all apart = (kept p order all apart).0

@@ -11,14 +11,16 @@
 //! - A FLUSH takes away all record locks of its owner on the node, and no whole-file lock. A RELEASE takes away its
 //!   owner's whole-file lock if it says so, and all locks of the node if no fh is open there any more.
 //!
-//! Contracts let through a `Tolds::new` that is always refused, or has more room than its rules want; tests refuse
-//! it.
+//! `Core::replay` is for a second core that follows a first: a lock request is carried out by its reply, and no test is
+//! made again. Contracts let through a `replay` that makes all tests, and a `Tolds::new` that is always refused, or has
+//! more room than its rules want; tests refuse the latter.
 #![tactic(auto)]
 
 mod ending;
 pub mod laws;
 mod locking;
 mod parts;
+mod replay;
 mod settling;
 mod state;
 mod tolds;

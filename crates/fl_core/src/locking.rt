@@ -189,18 +189,18 @@ pub(crate) fn conflicts_with_held(
     }
 }
 
-/// The same for locks that nothing conflicts with.
+/// The same, but it tests no conflict.
 pub(crate) fn store(
     locks: &mut Table,
     key: &Key,
     range: &Range,
     mark: Option<Mark>,
 ) -> Result<Answer, Errno>
-    requires { conflicts_with_held locks.old.marking (stroke_on key.now range.now mark) mark ≡ false }
     ensures reply { result ≡ room_reply locks.old.limit locks.old.marking (stroke_on key.now range.now mark) }
     ensures granted { OnOk result (locks.new.marking ≡ stroked (stroke_on key.now range.now mark) locks.old.marking) }
     ensures refused { OnErr result (locks.new.marking ≡ locks.old.marking) }
-    ensures lawful { IsLawful locks.old.marking → IsLawful locks.new.marking }
+    ensures lawful { conflicts_with_held locks.old.marking (stroke_on key.now range.now mark) mark ≡ false →
+        IsLawful locks.old.marking → IsLawful locks.new.marking }
     ensures elsewhere { SameElsewhere key.now locks.old.marking locks.new.marking }
     ensures limit { locks.new.limit ≡ locks.old.limit }
 {
@@ -275,8 +275,8 @@ fn asked_range(directory: &Dir, node: u64, ask: &LockAsk) -> Result<Range, Errno
     range_of(ask).ok_or(Errno::EINVAL)
 }
 
-// The range of a lock request; none if the request is malformed.
-fn range_of(ask: &LockAsk) -> Option<Range>
+/// The range of a lock request; none if the request is malformed.
+pub(crate) fn range_of(ask: &LockAsk) -> Option<Range>
     ensures malformed { IsNone result ↔ (is_malformed ask.now ≡ true) }
     ensures range { IfSome result (λ range. (range.start ≡ start_of ask.now) × (range.end ≡ end_of ask.now)) }
 {
@@ -309,7 +309,7 @@ pub(crate) fn key_of(node: u64, ask: &LockAsk) -> Key
     }
 }
 
-fn mark_of(ask: &LockAsk) -> Option<Mark>
+pub(crate) fn mark_of(ask: &LockAsk) -> Option<Mark>
     ensures { result ≡ mark_of ask.now }
 {
     let kind = match ask.kind {

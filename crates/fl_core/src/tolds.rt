@@ -1,9 +1,12 @@
 //! The list of replies that one order gives, with room for all of them.
 
-ghost use Rattle.std.specs.Prelude.{◌≡◌, ◌<◌, [], ◌∷◌, ◌++◌, length, IfOk};
+ghost use Rattle.std.specs.Prelude.{◌≡◌, ◌<◌, ◌↔◌, [], ◌∷◌, ◌++◌, length, IfOk, Option, Some, Result};
+ghost use Rattle.fl_core.specs.Replies.{own_replies};
 ghost use Rattle.fl_core.specs.Tolds.{HasRoom};
+ghost use Rattle.fl_order.specs.declared.errno.Errno.{Errno};
+ghost use Rattle.fl_order.specs.declared.told.Answer.{Answer};
 
-use fl_order::{NoMemory, Told};
+use fl_order::{Answer, Errno, NoMemory, Order, Told};
 use fl_waiting::Rules;
 use std::alloc::Global;
 use std::marker::Model;
@@ -40,6 +43,18 @@ impl Tolds {
         ensures { result.now ≡ self.now.told }
     {
         &self.tolds
+    }
+
+    /// What this order was told itself, a reply or none yet, if nobody else was told anything.
+    pub fn own_alone(&self, order: &Order) -> Option<Option<Result<Answer, Errno>>>
+        ensures { (reply : Option (Result Answer Errno)) →
+            (result ≡ Some reply) ↔ (self.now.told ≡ own_replies order.now reply) }
+    {
+        match self.tolds.as_slice() {
+            [] => Some(None),
+            [told] if told.unique == order.unique => Some(Some(told.result)),
+            _ => None,
+        }
     }
 
     /// Forgets all replies. The room stays.
