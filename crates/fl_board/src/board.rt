@@ -61,12 +61,22 @@ pub enum CloseFault<L: BoardName, R: Wait + Drop, J: Journal = Lines> {
 }
 
 impl From<NoMemory> for OpenFault {
+    ghost use Rattle.std.specs.Prelude.{◌≡◌};
+    ghost use Rattle.fl_board.specs.declared.board.OpenFault.TheVariants as open_fault;
+
+    ghost from_gives = { λ _ fault. fault ≡ open_fault.NoMemory };
+
     fn from(_e: NoMemory) -> OpenFault {
         OpenFault::NoMemory
     }
 }
 
 impl From<AllocError> for OpenFault {
+    ghost use Rattle.std.specs.Prelude.{◌≡◌};
+    ghost use Rattle.fl_board.specs.declared.board.OpenFault.TheVariants as open_fault;
+
+    ghost from_gives = { λ _ fault. fault ≡ open_fault.NoMemory };
+
     fn from(_e: AllocError) -> OpenFault {
         OpenFault::NoMemory
     }

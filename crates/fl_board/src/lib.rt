@@ -10,8 +10,7 @@
 //! handed in or was shown anything, and the seats are apart. Contracts let through:
 //! - a `look` or a `hand_in` that always says `NoView`, a `new` that is always refused, and a `meet` or `close` that
 //!   says `NoView` once something was handed in or shown;
-//! - a `hand_in` that publishes nothing, or publishes before it adds the order: then its seat's next look is
-//!   `NoView`.
+//! - a `hand_in` that ends publication as if memory had run out: then every later look is `NoView`.
 //! `fl_board_tests` refuses these, the last by `a_seat_without_the_right_to_wait_is_shown_each_order`.
 #![tactic(auto)]
 

@@ -36,7 +36,7 @@ pub(crate) struct Shared<L: BoardName, R: Wait + Drop, J: Journal> {
 }
 
 impl<L: BoardName, R: Wait + Drop, J: Journal> Model for Shared<L, R, J> {
-    ghost use Rattle.std.specs.Prelude.{◌≡◌, List};
+    ghost use Rattle.std.specs.Prelude.{◌≡◌, IfSome, List};
     ghost use Rattle.fl_board.specs.Inside.Asks.{history_of};
     ghost use Rattle.fl_desk.specs.Legal.{orders_asked};
     ghost use Rattle.fl_replica.specs.declared.ask.Ask.{Ask};
@@ -46,8 +46,9 @@ impl<L: BoardName, R: Wait + Drop, J: Journal> Model for Shared<L, R, J> {
 
     ghost view = { λ s. s.all };
 
-    ghost invariant = { λ s. (s.writer ≡ s.all) × (s.desk.lines ≡ history_of L.rules s.all)
-        × (s.desk.present ≡ present_after L.rules s.all) × (s.book.total ≡ orders_asked s.desk.lines) };
+    ghost invariant = { λ s. (s.writer.asks ≡ s.all) × (s.desk.lines ≡ history_of L.rules s.all)
+        × (s.desk.present ≡ present_after L.rules s.all) × (s.book.total ≡ orders_asked s.desk.lines)
+        × IfSome s.writer.shown (λ shown. shown ≡ s.all) };
 }
 
 impl<L: BoardName, R: Wait + Drop, J: Journal> Shared<L, R, J> {
@@ -114,16 +115,17 @@ impl<L: BoardName, R: Wait + Drop, J: Journal> Shared<L, R, J> {
             worker: seat.worker,
             order: *order,
         };
-        let Ok(next) = added(writer, log, all, &ask) else {
+        let before = all.again();
+        let Ok(()) = added(log, all, &ask) else {
             return Err(HandFault::NoView);
         };
         if desk.take(seat.worker, order, tolds).is_err() {
             unreachable!();
         }
         book.add(&mut seat.share, 1);
+        writer.add(Update::new(*order, tolds.own_alone(order), before, all.again()));
         writer.publish();
-        seat.own = next.again();
-        *all = next;
+        seat.own = all.again();
         Ok(())
     }
 
@@ -194,20 +196,15 @@ enum NotAdded<L: BoardName> {
     Longer(Beginning<L, Ask>),
 }
 
-// Adds an ask to the log, keeps it to be published, and gives all that was asked then. It takes no memory that the
-// order needs, so nothing is refused once the log has grown.
-fn added<L: BoardName, R: Wait + Drop>(
-    writer: &mut ReplicaWriter<L, R>,
+// Adds an ask to the log, and to what is known of it.
+fn added<L: BoardName>(
     log: &Log<L, Ask>,
-    all: &Beginning<L, Ask>,
+    all: &mut Beginning<L, Ask>,
     ask: &Ask,
-) -> Result<Beginning<L, Ask>, NotAdded<L>>
-    requires { writer.old ≡ all.now }
-    ensures added { MatchResult result
-        (λ next. (next ≡ all.now ++ ask.now ∷ []) × (writer.new ≡ next))
-        (λ _. writer.new ≡ writer.old) }
-    ensures full { result ≡ Err NotAdded.Full → 2 ^ 62 ≤ length all.now }
-    ensures longer { (more : List Handed) → result ≡ Err (NotAdded.Longer more) → IsLonger all.now more }
+) -> Result<(), NotAdded<L>>
+    ensures added { MatchResult result (λ _. all.new ≡ all.old ++ ask.now ∷ []) (λ _. all.new ≡ all.old) }
+    ensures full { result ≡ Err NotAdded.Full → 2 ^ 62 ≤ length all.old }
+    ensures longer { (more : List Handed) → result ≡ Err (NotAdded.Longer more) → IsLonger all.old more }
 {
     if all.len() >= MOST_ENTRIES {
         return Err(NotAdded::Full);
@@ -216,9 +213,8 @@ fn added<L: BoardName, R: Wait + Drop>(
     if !next.add::<Ask, AsAsk>(log, ask) {
         return Err(NotAdded::Longer(next));
     }
-    let update = Update::new(ask.order, all.again(), next.again());
-    writer.add(update);
-    Ok(next)
+    *all = next;
+    Ok(())
 }
 
 /// Whether no two seats are of one worker.

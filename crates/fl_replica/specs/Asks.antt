@@ -1,5 +1,5 @@
 -- What is there after asks, one after another, and an order that leads on.
-use Rattle.std.specs.Prelude.{List}
+use Rattle.std.specs.Prelude.{List, Option}
 use Rattle.std.specs.List.{fold}
 use Rattle.fl_core.specs.State.{Snapshot, opening, snapshot_of}
 use Rattle.fl_core.specs.Step.{next}
@@ -20,3 +20,8 @@ pub record Extension : Type 0 where
   pub order : Order
   pub before : List Ask
   pub after : List Ask
+
+-- the asks that were added to a writer, and those that led to what readers find; none once memory for an update ran out
+pub record Publication : Type 0 where
+  pub asks : List Ask
+  pub shown : Option (List Ask)

@@ -3,8 +3,8 @@
 //!
 //! A replica takes an update only if it stands for the asks before that update, so folding never fails. Contracts let
 //! through:
-//! - a `look_at` that always gives none, and a `publish` that does nothing;
-//! - a `ReplicaWriter` whose `new` or `reader` is always refused, or whose `add` publishes nothing any more.
+//! - a `look_at` that always gives none, or answers from an earlier copy;
+//! - a `ReplicaWriter` whose `new` or `reader` is always refused, or whose `add` ends as if memory had run out.
 //! Tests of boards refuse these.
 #![tactic(auto)]
 

@@ -15,34 +15,46 @@ use left_right::{Absorb, ReadHandle};
 use std::alloc::{AllocError, Global};
 use std::marker::Model;
 
-/// An order to be published, with the beginnings of the log before it and with it.
+/// An order to be published, with what it was told itself if nobody else was told anything, and with the beginnings of
+/// the log before it and with it.
 #[derive(Drop)]
 pub struct Update<L: BoardName> {
     order: Order,
+    alone: Option<Option<Result<Answer, Errno>>>,
     before: Beginning<L, Ask>,
     after: Beginning<L, Ask>,
 }
 
 impl<L: BoardName> Model for Update<L> {
-    ghost use Rattle.std.specs.Prelude.{◌≡◌};
-    ghost use Rattle.fl_core.specs.Step.{next};
+    ghost use Rattle.std.specs.Prelude.{◌≡◌, IfSome};
+    ghost use Rattle.fl_core.specs.Replies.{own_replies};
+    ghost use Rattle.fl_core.specs.Step.{next, replies};
     ghost use Rattle.fl_replica.specs.Asks.{Extension, present_after};
 
     ghost Value = { Extension };
 
     ghost view = { λ u. record { order = u.order; before = u.before; after = u.after } };
 
-    ghost invariant = { λ u. present_after L.rules u.after ≡ next (present_after L.rules u.before) u.order };
+    ghost invariant = { λ u. (present_after L.rules u.after ≡ next (present_after L.rules u.before) u.order)
+        × IfSome u.alone (λ reply. replies (present_after L.rules u.before) u.order ≡ own_replies u.order reply) };
 }
 
 impl<L: BoardName> Update<L> {
-    /// An update by this order, which stands behind the asks of `before`. Those of `after` are they and the order.
-    pub fn new(order: Order, before: Beginning<L, Ask>, after: Beginning<L, Ask>) -> Update<L>
-        requires { present_after L.rules after ≡ next (present_after L.rules before) order }
+    /// An update by this order, which stands behind the asks of `before`. Those of `after` are they and the order. If it
+    /// is known what the order was told alone (`Tolds::own_alone`), a copy tests less.
+    pub fn new(
+        order: Order,
+        alone: Option<Option<Result<Answer, Errno>>>,
+        before: Beginning<L, Ask>,
+        after: Beginning<L, Ask>,
+    ) -> Update<L>
+        requires next { present_after L.rules after ≡ next (present_after L.rules before) order }
+        requires alone { IfSome alone (λ reply. replies (present_after L.rules before) order ≡ own_replies order reply) }
         ensures { (result.before ≡ before) × (result.after ≡ after) × (result.order ≡ order) }
     {
         Update {
             order,
+            alone,
             before,
             after,
         }
@@ -132,7 +144,10 @@ impl<L: BoardName> Absorb<Update<L>> for Replica<L> {
         _other: &Replica<L>,
     ) -> Result<(), AllocError> {
         if self.asks.is(&operation.before) {
-            self.core.step(&operation.order, &mut self.tolds);
+            match &operation.alone {
+                Some(reply) => self.core.replay(&operation.order, reply, &mut self.tolds),
+                None => self.core.step(&operation.order, &mut self.tolds),
+            }
             self.asks = operation.after.again();
         }
         Ok(())

@@ -1,6 +1,6 @@
 //! The writer of what looks read.
 
-ghost use Rattle.std.specs.Prelude.{◌≡◌, ◌<◌, ◌^◌, [], IfOk, OnOk};
+ghost use Rattle.std.specs.Prelude.{◌≡◌, ◌<◌, ◌^◌, ◌⊎◌, ◌↔◌, [], None, Some, IfOk, IfSome, IsSome, OnOk};
 ghost use Rattle.left_right.specs.Handles.{published, pending};
 ghost use Rattle.fl_replica.specs.Inside.Updates.{in_the_end};
 
@@ -15,9 +15,9 @@ use std::alloc::{AllocError, Global};
 use std::marker::Model;
 use std::sync::Wait;
 
-/// The writer of both copies. Contracts see it as the asks that were added, which lead to what is published, once all
-/// that waits is. If memory for an update runs out, nothing is published any more, and readers find nothing. Letting it
-/// go waits for readers that are in a copy.
+/// The writer of both copies. Contracts see the asks that were added, and those that led to what is published. If memory
+/// for an update runs out, nothing is published any more, and readers find nothing. Letting it go waits for readers that
+/// are in a copy.
 pub struct ReplicaWriter<L: BoardName, R: Wait + Drop>
 where
     Replica<L>: Absorb<Update<L>, State = Beginning<L, Ask>>,
@@ -31,14 +31,14 @@ impl<L: BoardName, R: Wait + Drop> Model for ReplicaWriter<L, R>
 where
     Replica<L>: Absorb<Update<L>, State = Beginning<L, Ask>>,
 {
-    ghost use Rattle.std.specs.Prelude.{◌≡◌, IfSome, List};
-    ghost use Rattle.fl_replica.specs.declared.ask.Ask.{Ask};
+    ghost use Rattle.std.specs.Prelude.{◌≡◌, IfSome, option_map};
+    ghost use Rattle.fl_replica.specs.Asks.{Publication};
     ghost use Rattle.fl_replica.specs.Inside.Updates.{in_the_end};
     ghost use Rattle.left_right.specs.Handles.{published, pending};
 
-    ghost Value = { List Ask };
+    ghost Value = { Publication };
 
-    ghost view = { λ p. p.asks };
+    ghost view = { λ p. record { asks = p.asks; shown = option_map (λ w. published w) p.writer } };
 
     ghost invariant = { λ p. IfSome p.writer (λ w. in_the_end (published w) (pending w) ≡ p.asks) };
 }
@@ -64,7 +64,7 @@ impl<L: BoardName, R: Wait + Drop> ReplicaWriter<L, R> {
         requires none { none.now ≡ [] }
         requires readers { (0 < readers) × (readers < 2 ^ 32) }
         requires rules { rules ≡ L.rules }
-        ensures { IfOk result (λ writer. writer ≡ []) }
+        ensures { IfOk result (λ writer. writer ≡ record { asks = []; shown = Some [] }) }
     {
         let first = Replica::new(alloc, none, rules)?;
         let second = Replica::new(alloc, none, rules)?;
@@ -86,8 +86,9 @@ impl<L: BoardName, R: Wait + Drop> ReplicaWriter<L, R> {
 
     /// Keeps an update to be published. If memory runs out, nothing is published any more.
     pub fn add(&mut self, update: Update<L>)
-        requires { update.before ≡ self.old }
-        ensures { self.new ≡ update.after }
+        requires { update.before ≡ self.old.asks }
+        ensures asks { self.new.asks ≡ update.after }
+        ensures shown { (self.new.shown ≡ None) ⊎ (self.new.shown ≡ self.old.shown) }
     {
         self.asks = update.after();
         let kept = match &mut self.writer {
@@ -101,7 +102,9 @@ impl<L: BoardName, R: Wait + Drop> ReplicaWriter<L, R> {
 
     /// Publishes all updates, once no reader is in the copy that was published before the last one.
     pub fn publish(&mut self)
-        ensures { self.new ≡ self.old }
+        ensures asks { self.new.asks ≡ self.old.asks }
+        ensures shown { IfSome self.new.shown (λ asks. asks ≡ self.old.asks) }
+        ensures kept { IsSome self.new.shown ↔ IsSome self.old.shown }
     {
         if let Some(writer) = &mut self.writer {
             let _ = writer.publish();
@@ -116,7 +119,8 @@ fn grow<L: BoardName, R: Wait + Drop>(
 ) -> Result<(), AllocError>
     requires none { none.now ≡ [] }
     requires first { in_the_end (published writer.old) (pending writer.old) ≡ [] }
-    ensures { OnOk result (in_the_end (published writer.new) (pending writer.new) ≡ []) }
+    ensures end { OnOk result (in_the_end (published writer.new) (pending writer.new) ≡ []) }
+    ensures shown { OnOk result (published writer.new ≡ []) }
 {
     publish_nothing(writer, none)?;
     publish_nothing(writer, none)
@@ -129,7 +133,8 @@ fn publish_nothing<L: BoardName, R: Wait + Drop>(
 ) -> Result<(), AllocError>
     requires none { none.now ≡ [] }
     requires first { in_the_end (published writer.old) (pending writer.old) ≡ [] }
-    ensures { OnOk result (in_the_end (published writer.new) (pending writer.new) ≡ []) }
+    ensures end { OnOk result (in_the_end (published writer.new) (pending writer.new) ≡ []) }
+    ensures shown { OnOk result (published writer.new ≡ []) }
 {
     writer.append(nothing(none)).map_err(|_| AllocError)?;
     writer.publish()
@@ -148,5 +153,5 @@ fn nothing<L: BoardName>(none: &Beginning<L, Ask>) -> Update<L>
         pid: 0,
         op: Op::Getattr,
     };
-    Update::new(order, none.again(), none.again())
+    Update::new(order, None, none.again(), none.again())
 }

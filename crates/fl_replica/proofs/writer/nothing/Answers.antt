@@ -14,7 +14,7 @@ nothing_changes : (rules : Rules) → present_after rules [] ≡ next (present_a
 unfolding settled_within
 nothing_changes rules = refl
 
-pub new-requires : goal.new-requires
-new-requires g c =
+pub new-requires-clause-next : goal.new-requires-clause-next
+new-requires-clause-next g c =
     ap (present_after g.L.BoardName.rules) (c.again-2.ensures ∙ c.requires) ∙ nothing_changes g.L.BoardName.rules
     ∙ ap (λ asks. next (present_after g.L.BoardName.rules asks) getattr) (sym (c.again.ensures ∙ c.requires))

@@ -1,6 +1,11 @@
-use Rattle.std.proofs.Common.{rules, ◌≡◌, ◌+◌, ◌∷◌, [], ◌++◌, refl, ap, sym, ◌∙◌, subst, arith}
+use Rattle.std.proofs.Common.{rules, ◌≡◌, ◌↔◌, ◌+◌, Option, None, Some, IfSome, Result, List, ◌∷◌, [], ◌++◌, refl, ap, sym, ◌∙◌, subst, arith}
+use Rattle.fl_core.specs.Replies.{own_replies}
 use Rattle.fl_core.specs.State.{Snapshot}
 use Rattle.fl_core.specs.Step.{next, replies, replies_in}
+use Rattle.fl_order.specs.declared.errno.Errno.{Errno}
+use Rattle.fl_order.specs.declared.order.Order.{Order}
+use Rattle.fl_order.specs.declared.told.Answer.{Answer}
+use Rattle.fl_order.specs.declared.told.Told.{Told}
 use Rattle.fl_desk.specs.Legal.{step_lines, orders_asked}
 use Rattle.fl_desk.specs.Replay.{state_after}
 use Rattle.fl_replica.specs.declared.ask.Ask.{Ask}
@@ -12,6 +17,26 @@ use Rattle.fl_board.proofs.Counts.{one_more_by, orders_by}
 use Rattle.fl_board.proofs.Histories.{history_more, present_more}
 use Rattle.fl_board.proofs.shared.Shared.hand_in.Goals as goal
 
+-- what was told alone by these replies was told alone by the same
+alone_of : (order : Order) (found : Option (Option (Result Answer Errno))) (told tolds : List Told)
+    → ((reply : Option (Result Answer Errno)) → (found ≡ Some reply) ↔ (told ≡ own_replies order reply)) → told ≡ tolds
+    → IfSome found (λ reply. tolds ≡ own_replies order reply)
+alone_of order None told tolds alone same = tt
+alone_of order (Some reply) told tolds alone same = sym same ∙ (alone reply).0 refl
+
+pub new-requires-clause-alone : goal.new-requires-clause-alone
+new-requires-clause-alone g c =
+    let ours = g.L.BoardName.rules in
+    let was = c.self.inside.all in
+    let order = c.args.order.now in
+    let told : c.take.new.tolds.told ≡ replies_in (state_after (present_after ours was).rules (history_of ours was)) order = search rules in
+    let leads = c.asks_lead.ensures in
+    let answered : c.take.new.tolds.told ≡ replies (present_after ours was) order =
+    told ∙ ap (λ r. replies_in (state_after r (history_of ours was)) order) (leads.rules ours was)
+    ∙ ap (λ (p : Snapshot). replies p order) (sym (leads.stands ours was)) in
+    alone_of order c.own_alone.result c.take.new.tolds.told (replies (present_after ours c.again-before.result) order) c.own_alone.ensures
+    (answered ∙ ap (λ asks. replies (present_after ours asks) order) (sym c.again-before.ensures))
+
 pub invariant_of-self-2 : goal.invariant_of-self-2
 invariant_of-self-2 g c =
     let ours = g.L.BoardName.rules in
@@ -19,20 +44,22 @@ invariant_of-self-2 g c =
     let order = c.args.order.now in
     let worker = c.seat.inside.worker in
     let ask : Ask = record { worker = worker; order = order } in
-    let all : c.in-Ok.next ≡ was ++ ask ∷ [] = (c.in-Ok.ensures.added).0 in
+    let all : c.added.new.all ≡ was ++ ask ∷ [] = c.in-Ok.ensures.added in
     let taken : c.take.new.self.lines ≡ history_of ours was ++ step_lines worker order c.take.new.tolds.told = search rules in
     let stepped : c.take.new.self.present ≡ next (present_after ours was) order = search rules in
     let told : c.take.new.tolds.told ≡ replies_in (state_after (present_after ours was).rules (history_of ours was)) order = search rules in
+    let asks : c.publish.new.self.asks ≡ c.added.new.all = search rules in
     let leads = c.asks_lead.ensures in
     let answered : c.take.new.tolds.told ≡ replies (present_after ours was) order =
     told ∙ ap (λ r. replies_in (state_after r (history_of ours was)) order) (leads.rules ours was)
     ∙ ap (λ (p : Snapshot). replies p order) (sym (leads.stands ours was)) in (
-      search rules,
+      asks,
       taken ∙ ap (λ t. history_of ours was ++ step_lines worker order t) answered ∙ sym (history_more ours was ask)
           ∙ ap (history_of ours) (sym all),
       stepped ∙ sym (present_more ours was ask) ∙ ap (present_after ours) (sym all),
       c.add.ensures.total ∙ ap (λ n. n + 1) (c.self.invariant.3 ∙ ap orders_asked c.self.invariant.1)
           ∙ sym (ap orders_asked taken ∙ step_asks_one_order (history_of ours was) worker order c.take.new.tolds.told),
+      subst (λ all. IfSome c.publish.new.self.shown (λ shown. shown ≡ all)) (sym c.publish.ensures.asks ∙ asks) c.publish.ensures.shown,
     )
 
 pub invariant_of-seat : goal.invariant_of-seat
@@ -42,9 +69,9 @@ invariant_of-seat g c =
     let order = c.args.order.now in
     let worker = c.seat.inside.worker in
     let ask : Ask = record { worker = worker; order = order } in
-    let own : c.again.result ≡ was ++ ask ∷ [] = c.again.ensures ∙ (c.in-Ok.ensures.added).0 in
+    let own : c.again-2.result ≡ was ++ ask ∷ [] = c.again-2.ensures ∙ c.in-Ok.ensures.added in
     let most = subst (λ (p : Place). HasMostOf (history_of ours was) p) (sym c.seat.view_is) (c.if-not-begins.ensures.most refl) in
-    let more : orders_by worker (history_of ours c.again.result) ≡ orders_by worker (history_of ours was) + 1 =
+    let more : orders_by worker (history_of ours c.again-2.result) ≡ orders_by worker (history_of ours was) + 1 =
     ap (λ asks. orders_by worker (history_of ours asks)) own ∙ ap (orders_by worker) (history_more ours was ask)
     ∙ one_more_by worker (history_of ours was) order (replies (present_after ours was) order) in
     (c.add.ensures.parts ∙ c.seat.invariant.0, omega (arith, c.add.ensures.amount, most.count, more))
@@ -56,7 +83,7 @@ returns-clause-handed g c =
     let order = c.args.order.now in
     let worker = c.seat.inside.worker in
     let ask : Ask = record { worker = worker; order = order } in
-    let own : c.again.result ≡ was ++ ask ∷ [] = c.again.ensures ∙ (c.in-Ok.ensures.added).0 in
+    let own : c.again-2.result ≡ was ++ ask ∷ [] = c.again-2.ensures ∙ c.in-Ok.ensures.added in
     let told : c.take.new.tolds.told ≡ replies_in (state_after (present_after ours was).rules (history_of ours was)) order = search rules in
     let leads = c.asks_lead.ensures in
     let answered : c.take.new.tolds.told ≡ replies (present_after ours was) order =
@@ -67,7 +94,7 @@ returns-clause-handed g c =
       before = history_of ours was;
       own = ap (history_of ours) own ∙ history_more ours was ask
           ∙ ap (λ t. history_of ours was ++ step_lines worker order t) (sym answered);
-      legal = leads.legal ours c.again.result;
+      legal = leads.legal ours c.again-2.result;
       had = (most.begins).had;
       answered = most.answered;
       saw = (most.begins).saw;
