@@ -3,7 +3,8 @@
 //!
 //! All that a desk promises holds for every journal of its lines, by one proof. `Counter` states a contract, and a
 //! board of `fl_board` keeps it. Contracts let through a `take` that is refused when its journal has no room yet,
-//! though memory is there; tests refuse it. `fl_book_tests` judges 300 random histories, and 28 kinds of change of
+//! though memory is there; a `new`, `over` or `check` that is always refused; and a `pause` that does nothing. Tests
+//! refuse these. `fl_book_tests` judges 300 random histories, and 28 kinds of change of
 //! each.
 #![tactic(auto)]
 

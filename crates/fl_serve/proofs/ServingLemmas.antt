@@ -232,11 +232,12 @@ goodbye_said start out log log_now appenders all own mine goodbye closed said gi
 -- what a board was told, as the result of its session
 pub closed_as : {K : Type 0} (lines : K → List Line) (places : List Place) (known any : Bool) (told : Option Fault)
     (it : Recorded K)
-    → HasAll places any told (done_of lines it) × (known ≡ true) ⊎ (it.fault ≡ Some NoReader) × (it.journal ≡ None)
     → HasAll places any told (done_of lines it) × (known ≡ true)
-    ⊎ ((done_of lines it).fault ≡ Some NoReader) × ((done_of lines it).history ≡ [])
+    ⊎ (it.fault ≡ Some NoReader) × (it.journal ≡ None) × (it.refused ≡ false)
+    → HasAll places any told (done_of lines it) × (known ≡ true)
+    ⊎ ((done_of lines it).fault ≡ Some NoReader) × ((done_of lines it).history ≡ []) × ((done_of lines it).refused ≡ false)
 closed_as lines places known any told it closed =
-    ⊎_elim (λ all. inl all) (λ none. inr (none.0, ap (journal_lines lines) none.1)) closed
+    ⊎_elim (λ all. inl all) (λ none. inr (none.0, ap (journal_lines lines) none.1, none.2)) closed
 
 -- what a session did whose receiver ended
 pub served_by : (rules : Rules) (workers : ℕ) (it : Reception) (start held : Option (List ℕ)) (broken : Bool)
@@ -250,7 +251,7 @@ pub served_by : (rules : Rules) (workers : ℕ) (it : Reception) (start held : O
     → ((messages : List (List ℕ)) (rest : List ℕ) (left : Option (List ℕ))
     → IsEnding it.fault (handshake_of messages).over rest left → EndsBy told broken messages rest left)
     → HasAll places any told done × ((whole && not (it.lost || lost)) ≡ true)
-    ⊎ (done.fault ≡ Some NoReader) × (done.history ≡ [])
+    ⊎ (done.fault ≡ Some NoReader) × (done.history ≡ []) × (done.refused ≡ false)
     → IsServedBy workers rules (record { left = it.left; left_now = it.left_now; held = start; held_now = held }) done
 served_by rules workers it start held broken sents places orders any lost whole told done received fresh did said is
     whose ends closed = record {
@@ -272,7 +273,7 @@ served_by rules workers it start held broken sents places orders any lost whole 
           (λ none. inr none.0) closed;
       orders = ⊎_elim
           (λ all. inl (all_done rules workers received.messages it.put sents places orders any lost told done received.said is whose did all.0))
-          (λ none. inr (record { fault = inl none.0; history = none.1 })) closed;
+          (λ none. inr (record { fault = inl none.0; history = none.1; refused = none.2 })) closed;
     }
 
 -- nothing was given, and nobody took anything
@@ -289,8 +290,8 @@ pub unserved : (workers : ℕ) (rules : Rules) (streams : Streams) (log : List R
     → IsRead streams.left streams.left_now [] []
     → IsGiven streams.held (record { held = streams.held_now; waiting = []; broken = broken }) (spelled log)
     → (done.fault ≡ Some NoMemory) × (log ≡ []) ⊎ (done.fault ≡ Some NoReader) → done.history ≡ []
-    → IsServedBy workers rules streams done
-unserved workers rules streams log broken done unread sent why none = record {
+    → done.refused ≡ false → IsServedBy workers rules streams done
+unserved workers rules streams log broken done unread sent why none unrefused = record {
   messages = [];
   rest = [];
   log = log;
@@ -302,31 +303,31 @@ unserved workers rules streams log broken done unread sent why none = record {
   given = ⊎_elim (λ memory. inl (none_given workers log memory.1)) inr why;
   ending = ⊎_elim
       (λ memory. inl (subst (λ f. EndsBy f broken [] [] streams.left_now) (sym memory.0) (refl, refl))) inr why;
-  orders = inr (record { fault = ⊎_elim (λ memory. inr memory.0) inl why; history = none });
+  orders = inr (record { fault = ⊎_elim (λ memory. inr memory.0) inl why; history = none; refused = unrefused });
 }
 
 -- the same, of which nothing was recorded
 pub none_recorded : {K : Type 0} (lines : K → List Line) (workers : ℕ) (rules : Rules) (streams : Streams)
-    (log : List ReplyEntry) (broken : Bool) (it : Recorded K) → it.journal ≡ None
+    (log : List ReplyEntry) (broken : Bool) (it : Recorded K) → (it.journal ≡ None) × (it.refused ≡ false)
     → (it.fault ≡ Some NoMemory) × (log ≡ []) ⊎ (it.fault ≡ Some NoReader)
     → IsRead streams.left streams.left_now [] []
     → IsGiven streams.held (record { held = streams.held_now; waiting = []; broken = broken }) (spelled log)
     → Keeps streams.left streams.left_now → (it.fault ≡ Some NoMemory → Keeps streams.held streams.held_now)
     → IsRecordedBy lines workers rules streams it
 none_recorded lines workers rules streams log broken it none why unread sent read wrote = record {
-  legal = subst (λ k. IfSome k (λ k. IsLegal rules (lines k))) (sym none) tt;
-  served = unserved workers rules streams log broken (done_of lines it) unread sent why (ap (journal_lines lines) none);
+  legal = subst (λ k. IfSome k (λ k. IsLegal rules (lines k))) (sym none.0) tt;
+  served = unserved workers rules streams log broken (done_of lines it) unread sent why (ap (journal_lines lines) none.0) none.1;
   back = ⊎_elim (λ memory. inr (inl memory.0)) (λ reader. inr (inr reader)) why;
-  nothing = λ _. (none, read);
+  nothing = λ _. (none.0, read);
   unwritten = wrote;
-  untold = λ _. none;
+  untold = λ _. none.0;
 }
 
 -- the same, of which a worker couldn't be started: either the writer holds what it held, or there is no reader
 pub unstarted_recorded : {K : Type 0} (lines : K → List Line) (workers : ℕ) (rules : Rules)
     (left left_now start held : Option (List ℕ)) (log : List ReplyEntry) (broken : Bool) (it : Recorded K)
-    → it.journal ≡ None → (it.fault ≡ Some NoMemory) ⊎ (it.fault ≡ Some NoReader) → IsRead left left_now [] []
-    → IsGiven start (record { held = held; waiting = []; broken = broken }) (spelled log) → Keeps left left_now
+    → (it.journal ≡ None) × (it.refused ≡ false) → (it.fault ≡ Some NoMemory) ⊎ (it.fault ≡ Some NoReader)
+    → IsRead left left_now [] [] → IsGiven start (record { held = held; waiting = []; broken = broken }) (spelled log) → Keeps left left_now
     → (it.fault ≡ Some NoMemory → held ≡ start)
     → IsRecordedBy lines workers rules (record { left = left; left_now = left_now; held = start; held_now = held }) it
 unstarted_recorded lines workers rules left left_now start held log broken it none why unread sent read wrote =

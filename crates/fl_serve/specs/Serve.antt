@@ -69,16 +69,17 @@ pub record AreAllGiven (workers : ℕ) (messages : List (List ℕ)) (parts : Lis
   pub goodbye : (handshake_of messages).over ≡ true → SaysGoodbye workers messages log
 
 -- A worker got no reader, the board couldn't tell the history, what was given to be sent can't be told, or memory ran
--- out before anything was read.
+-- out before anything was read. Then no order is said to be refused.
 pub record HasNoHistory (done : Done) : Type 0 where
   pub fault : (done.fault ≡ Some NoReader) ⊎ (done.fault ≡ Some NoMemory)
   pub history : done.history ≡ []
+  pub refused : done.refused ≡ false
 
 -- What was read is whole messages and a rest of at most 8192 bytes, and no message came after one that ended the
 -- session. What was written behind what the writer held are the bytes of a log of what was given to be sent, whole
 -- replies; after a failed write (`broken`), a prefix of them. The log is as `AreAllGiven` says, the fault is that of the
--- end, and each order of the messages was answered, as `AreDone` says; except at NoReader, when neither the history nor
--- the log can be told.
+-- end, and each order of the messages was answered, as `AreDone` says. At NoMemory nothing was read, and there is no
+-- history. At NoReader neither the history nor the log can be told.
 pub record IsServedBy (workers : ℕ) (rules : Rules) (streams : Streams) (done : Done) : Type 0 where
   pub messages : List (List ℕ)
   pub rest : List ℕ

@@ -214,7 +214,7 @@ fn close_board<L: BoardName, R: Wait + Drop, J: Journal + Drop>(
     requires { L.workers ≡ L.parts }
     ensures legal { IfSome result.journal (λ journal. IsLegal L.rules (J.lines journal)) }
     ensures told { HasAll seats.items refused fault (done_of J.lines result) × (known ≡ true)
-        ⊎ (result.fault ≡ Some Fault.NoReader) × (result.journal ≡ None) }
+        ⊎ (result.fault ≡ Some Fault.NoReader) × (result.journal ≡ None) × (result.refused ≡ false) }
     ensures back { IsSome result.journal ⊎ (result.fault ≡ Some Fault.NoReader) }
     ensures untold { fault ≢ Some Fault.NoReader → result.fault ≡ Some Fault.NoReader → result.journal ≡ None }
 {

@@ -79,7 +79,7 @@ pub struct Staff {
 impl Staff {
     /// So many workers, under these rules, with stacks of 2 MiB.
     pub fn new(workers: u32, rules: Rules) -> Staff
-        ensures { (result.workers ≡ workers) × (result.rules ≡ rules) }
+        ensures { (result.workers ≡ workers) × (result.rules ≡ rules) × (result.stack ≡ 2097152) }
     {
         Staff {
             workers,

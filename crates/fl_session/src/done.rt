@@ -17,7 +17,7 @@ pub struct Done {
     pub history: History,
     /// Why it ended early, if it did: the reader's fault before the writer's.
     pub fault: Option<Fault>,
-    /// Some order was refused because memory ran out.
+    /// Some order was refused: memory ran out, or a board couldn't tell its history.
     pub refused: bool,
 }
 

@@ -20,7 +20,7 @@ pub struct Recorded<K> {
     pub journal: Option<K>,
     /// Why it ended early, if it did: the reader's fault before the writer's.
     pub fault: Option<Fault>,
-    /// Some order was refused because memory ran out.
+    /// Some order was refused: memory ran out, or a board couldn't tell its history.
     pub refused: bool,
 }
 

@@ -4,7 +4,7 @@ use Rattle.fl_serve.proofs.ServingLemmas.{none_recorded, nothing_given, recorded
 use Rattle.fl_serve.proofs.serving.run_at.Goals as goal
 
 pub returns-in-Err-clause-recorded : goal.returns-in-Err-clause-recorded
-returns-in-Err-clause-recorded g c = none_recorded _ _ _ _ [] false _ c.nothing.ensures.journal
+returns-in-Err-clause-recorded g c = none_recorded _ _ _ _ [] false _ (c.nothing.ensures.journal, c.nothing.ensures.refused)
     (⊎_elim (λ m. inl (c.nothing.ensures.fault ∙ ap Some m.1, refl)) (λ r. inr (c.nothing.ensures.fault ∙ ap Some r.1)) c.unopened.ensures)
     (c.nothing.ensures.read _ _ (Keeps-refl _)) (nothing_given _) (Keeps-refl _) (λ _. Keeps-refl _)
 
