@@ -1,12 +1,13 @@
 -- How a client's command ends.
-use Rattle.std.proofs.Common.{◌≡◌, ◌≢◌, ◌⊎◌, inl, inr, ℕ, ◌+◌, ◌<◌, List, [], ◌∷◌, ◌++◌, length, refl, sym, ap, subst}
+use Rattle.std.proofs.Common.{◌≡◌, ◌≢◌, ◌⊎◌, inl, inr, ℕ, ◌+◌, List, [], ◌∷◌, refl, sym, ap, subst}
 use Rattle.std.proofs.Common.{◌∙◌, arith, Option, Some, None, IfSome, IsOk, Ok, Err}
 use Rattle.std.proofs.KnownBytes.{Appends-nil, Keeps-refl}
+use Rattle.std.specs.Io.KnownBytes.{Keeps}
 use Rattle.std.proofs.lemmas.List.Elements.{All-nil}
 use Rattle.std.proofs.lemmas.List.Sums.{sum_by-append, sum_by-cons}
 use Rattle.lockd_commands.specs.Drive.{Said, Waits, awaited, awaited_by, text_says, ArePrinted, IsFramed, IsDriven}
-use Rattle.lockd_commands.specs.Drive.{IsCutShort}
-use Rattle.lockd_commands.specs.Drive.Inside.{Did, HasDone, HasPrinted, HasReceived, HasStopped, TextFaults}
+use Rattle.lockd_commands.specs.Drive.{IsCutShort, IsDrivenInPart}
+use Rattle.lockd_commands.specs.Drive.Inside.{Did, HasBegun, HasDone, HasPrinted, HasReceived, HasStopped, TextFaults}
 use Rattle.lockd_faults.specs.declared.fault.CommandFault.{CommandFault}
 use Rattle.lockd_faults.specs.declared.fault.CommandFault.TheVariants as command
 
@@ -132,3 +133,22 @@ did_stop input old new left left_now held held_now text lines command.Trace read
     absurd (stop (λ e. absurd (cc e))).why
 did_stop input old new left left_now held held_now text lines command.TraceFailed read said stop =
     absurd (stop (λ e. absurd (cc e))).why
+
+-- nothing was printed
+pub in_part_none : (input old : Option (List ℕ)) → Keeps old old ⊎ IsDrivenInPart input old old
+in_part_none input old = inl (Keeps-refl old)
+
+-- a beginning was printed of what these lines wait for
+pub in_part : (input old new left left_now : Option (List ℕ)) (text : List ℕ) (lines : List Said)
+    → IfSome input (λ bytes. bytes ≡ text) → text_says text ≡ Ok lines
+    → HasBegun (awaited_by lines) left left_now old new → Keeps old new ⊎ IsDrivenInPart input old new
+in_part input old new left left_now text lines read said b = inr (record {
+  text = text;
+  lines = lines;
+  replies = b.replies;
+  read = read;
+  said = said;
+  framed = b.framed;
+  most = b.most;
+  begun = b.begun;
+})

@@ -1,19 +1,20 @@
 -- Replies that are read and printed, one after another.
-use Rattle.std.proofs.Common.{◌≡◌, ◌≢◌, ℕ, zero, suc, ◌+◌, ◌<◌, ◌≤◌, List, [], ◌∷◌, ◌++◌, length, map, take, drop}
+use Rattle.std.proofs.Common.{◌≡◌, ◌≢◌, ℕ, ◌+◌, ◌<◌, ◌≤◌, List, [], ◌∷◌, ◌++◌, length, map, take, drop}
 use Rattle.std.proofs.Common.{take-append-drop, get_or, refl, sym, ap, subst, ◌∙◌, arith, append_assoc, append-nil}
-use Rattle.std.proofs.Common.{length-append, All, Option, Some, None, Result, Ok, Err, OnOk}
-use Rattle.std.proofs.KnownBytes.{Appends-nil, Appends-trans, Consumes-nil, Consumes-trans, Consumes-kept}
+use Rattle.std.proofs.Common.{length-append, Option, Result, Ok, Err, OnOk, IfErr}
+use Rattle.std.proofs.KnownBytes.{Appends-nil, Appends-trans, Consumes-nil, Consumes-trans}
 use Rattle.std.proofs.lemmas.Grind.{flat_map-append}
 use Rattle.std.proofs.lemmas.List.{map-append, take_more}
 use Rattle.std.proofs.lemmas.List.Elements.{All-append, All-cons, All-nil}
 use Rattle.std.proofs.lemmas.List.Folds.{concat-append}
-use Rattle.std.proofs.lemmas.List.Sums.{sum_by-append}
-use Rattle.std.specs.Io.KnownBytes.{Appends, Consumes, IsAtEnd}
+use Rattle.std.proofs.lemmas.List.Sums.{sum_by-append, sum_by-cons}
+use Rattle.std.specs.Io.KnownBytes.{Appends, Consumes}
 use Rattle.std.specs.List.{concat}
 use Rattle.hex.specs.Hex.{encode_lower}
 use Rattle.lockd_commands.specs.Drive.{Said, Sends, Waits, awaited, awaited_by, IsFramed}
 use Rattle.lockd_commands.specs.Drive.Inside.{said_by, sent, sent_by, HasReceived, HasFallenShort, HasDone, HasStopped}
-use Rattle.lockd_commands.specs.Drive.Inside.{IsStopped, IsWhy}
+use Rattle.lockd_commands.specs.Drive.Inside.{IsStopped, IsWhy, HasBegun}
+use Rattle.lockd_faults.specs.Faults.{IsBegun}
 use Rattle.lockd_faults.specs.HexLines.{hex_lines}
 use Rattle.lockd_commands.specs.declared.actions.Action.{Action}
 use Rattle.lockd_faults.specs.declared.fault.CommandFault.{CommandFault}
@@ -203,3 +204,97 @@ action_stops actions i action count fault left left_now left_later held held_now
           d.received short.received;
       why = short.why;
     }
+
+-- nothing was printed of what was read
+pub begun_none : (n : ℕ) (behind : List ℕ) (left left_now old : Option (List ℕ)) → Consumes left left_now behind
+    → HasBegun n left left_now old old
+begun_none n behind left left_now old read = record {
+  replies = [];
+  behind = behind;
+  framed = All-nil IsFramed;
+  most = omega arith;
+  read = read;
+  begun = record { part = []; rest = []; parts = refl; written = Appends-nil old };
+}
+
+-- a beginning of the line of one reply was printed
+begun_one : (reply line : List ℕ) (left left_now old new : Option (List ℕ)) → IsFramed reply
+    → Consumes left left_now reply → line ≡ encode_lower reply ++ 10 ∷ [] → IsBegun line old new
+    → HasBegun 1 left left_now old new
+begun_one reply line left left_now old new framed read is begun =
+    let bytes : reply ≡ concat (reply ∷ []) ++ [] = simp (append-nil) in
+    let lines : line ≡ hex_lines (reply ∷ []) = is ∙ sym (append-nil (encode_lower reply ++ 10 ∷ [])) in
+    record {
+      replies = reply ∷ [];
+      behind = [];
+      framed = All-cons IsFramed reply [] framed (All-nil IsFramed);
+      most = omega arith;
+      read = subst (Consumes left left_now) bytes read;
+      begun = subst (λ lines. IsBegun lines old new) lines begun;
+    }
+
+pub begun_line : (r : Result Unit CommandFault) (reply line : List ℕ) (left left_now old new : Option (List ℕ))
+    → IsFramed reply → Consumes left left_now reply → line ≡ encode_lower reply ++ 10 ∷ [] → IsBegun line old new
+    → IfErr r (λ _. HasBegun 1 left left_now old new)
+begun_line (Ok done) reply line left left_now old new framed read is begun = tt
+begun_line (Err fault) reply line left left_now old new framed read is begun =
+    begun_one reply line left left_now old new framed read is begun
+
+-- and m replies were printed before
+pub begun_after : (m n most : ℕ) (left left_now left_later old new newer : Option (List ℕ))
+    → HasReceived m [] left left_now old new → HasBegun n left_now left_later new newer → m + n ≤ most
+    → HasBegun most left left_later old newer
+begun_after m n most left left_now left_later old new newer a b few =
+    let together : (concat a.replies ++ []) ++ (concat b.replies ++ b.behind) ≡ concat (a.replies ++ b.replies) ++ b.behind =
+    simp (append-nil, append_assoc, concat-append) in
+    let lines : hex_lines (a.replies ++ b.replies) ≡ hex_lines a.replies ++ hex_lines b.replies =
+    flat_map-append (λ reply. encode_lower reply ++ 10 ∷ []) a.replies b.replies in
+    let count = a.number in
+    let more = b.most in
+    record {
+      replies = a.replies ++ b.replies;
+      behind = b.behind;
+      framed = All-append IsFramed a.replies b.replies a.framed b.framed;
+      most = omega (arith, length-append a.replies b.replies);
+      read = subst (Consumes left left_later) together (Consumes-trans left left_now left_later _ _ a.read b.read);
+      begun = record {
+        part = hex_lines a.replies ++ b.begun.part;
+        rest = b.begun.rest;
+        parts = lines ∙ ap (λ l. hex_lines a.replies ++ l) b.begun.parts
+            ∙ sym (append_assoc (hex_lines a.replies) b.begun.part b.begun.rest);
+        written = Appends-trans old new newer _ _ a.written b.begun.written;
+      };
+    }
+
+-- how many replies are waited for by an action, and before it, is no more than by all
+awaited_before : (actions : List Action) (i : ℕ) (action : Action) → i < length actions → action ≡ get_or actions i action
+    → awaited_by (map said_by (take i actions)) + awaited (said_by action) ≤ awaited_by (map said_by actions)
+awaited_before actions i action below at =
+    let before = map said_by (take i actions) in
+    let later = map said_by (drop (i + 1) actions) in
+    let sum : awaited_by (map said_by actions) ≡ awaited_by before + awaited_by (said_by action ∷ later) =
+    ap awaited_by (action_parts actions i action below at) ∙ sum_by-append awaited before (said_by action ∷ later) in
+    omega (arith, sum, sum_by-cons awaited (said_by action) later)
+
+-- an action couldn't be sent
+pub action_unsent : (actions : List Action) (i : ℕ) (action : Action)
+    (left left_now held held_now old new : Option (List ℕ)) → i < length actions → action ≡ get_or actions i action
+    → HasDone (map said_by (take i actions)) left left_now held held_now old new
+    → HasBegun (awaited_by (map said_by actions)) left left_now old new
+action_unsent actions i action left left_now held held_now old new below at d =
+    let few = awaited_before actions i action below at in
+    begun_after (awaited_by (map said_by (take i actions))) 0 (awaited_by (map said_by actions)) left left_now left_now
+    old new new d.received (begun_none 0 [] left_now left_now new (Consumes-nil left_now)) (omega arith)
+
+-- not all replies were printed that an action waits for
+pub action_unprinted : (actions : List Action) (i : ℕ) (action : Action) (count : ℕ)
+    (left left_now left_later held held_now old new newer : Option (List ℕ)) → i < length actions
+    → action ≡ get_or actions i action → said_by action ≡ Waits count
+    → HasDone (map said_by (take i actions)) left left_now held held_now old new
+    → HasBegun count left_now left_later new newer
+    → HasBegun (awaited_by (map said_by actions)) left left_later old newer
+action_unprinted actions i action count left left_now left_later held held_now old new newer below at says d begun =
+    let few = awaited_before actions i action below at in
+    let own : awaited (said_by action) ≡ count = ap awaited says in
+    begun_after (awaited_by (map said_by (take i actions))) count (awaited_by (map said_by actions)) left left_now left_later
+    old new newer d.received begun (omega arith)

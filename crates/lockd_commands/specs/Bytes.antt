@@ -5,6 +5,7 @@ use Rattle.std.specs.List.{concat}
 use Rattle.std.specs.Io.KnownBytes.{Appends, Keeps}
 use Rattle.fl_waiting.specs.declared.rules.Rules.{Rules}
 use Rattle.lockd_commands.specs.Hex.{hex_stream}
+use Rattle.lockd_faults.specs.Faults.{IsBegun}
 use Rattle.lockd_faults.specs.HexLines.{hex_lines}
 use Rattle.fl_session.specs.Served.{IsServed}
 use Rattle.fl_wire.specs.Spell.{IsReply}
@@ -27,12 +28,25 @@ pub record IsSession (rules : Rules) (stream lines : List ℕ) (fault : Option S
   pub fault_is : done.fault ≡ fault
   pub printed : lines ≡ hex_lines (session_of rules served.came).replies
 
--- The input is hex lines, and what a session under these rules over their bytes gives was printed.
-pub record IsPrinted (rules : Rules) (left old new : Option (List ℕ)) (fault : Option SessionFault) : Type 0 where
+-- The input is hex lines, and these lines are to be printed of a session under these rules over their bytes, whose
+-- stream has this fault.
+pub record IsOutput (rules : Rules) (left : Option (List ℕ)) (lines : List ℕ) (fault : Option SessionFault)
+    : Type 0 where
   pub text : List ℕ
   pub stream : List ℕ
-  pub lines : List ℕ
   pub read : IfSome left (λ bytes. bytes ≡ text)
   pub spelled : hex_stream text ≡ Ok stream
   pub session : IsSession rules stream lines fault
+
+-- a session was over, and all its lines were printed
+pub record IsPrinted (rules : Rules) (left old new : Option (List ℕ)) (fault : Option SessionFault) : Type 0 where
+  pub lines : List ℕ
+  pub is : IsOutput rules left lines fault
   pub written : Appends old new lines
+
+-- a session was over, and a beginning of its lines was printed, which may end within a line
+pub record IsPrintedInPart (rules : Rules) (left old new : Option (List ℕ)) : Type 0 where
+  pub fault : Option SessionFault
+  pub lines : List ℕ
+  pub is : IsOutput rules left lines fault
+  pub begun : IsBegun lines old new

@@ -11,6 +11,7 @@ use Rattle.fl_history.specs.declared.history.Line.{Line}
 use Rattle.fl_judge.specs.Quiet.{IsQuiet}
 use Rattle.fl_waiting.specs.declared.rules.Rules.{Rules}
 use Rattle.lockd_commands.specs.declared.check.CheckOptions.{CheckOptions}
+use Rattle.lockd_faults.specs.Faults.{IsBegun}
 
 -- the line that says what is found
 abbrev pub finding_text : Finding → List ℕ
@@ -34,10 +35,10 @@ SaysQuiet rules true Legal lines None = ⊥
 SaysQuiet rules true Legal lines (Some quiet) = (quiet ≡ true) ↔ IsQuiet rules lines
 SaysQuiet rules asked finding lines told = told ≡ None
 
--- What is judged of all that was left to read is the trace of a history. What is found of this history under these
--- rules was written, and whether it is quiet, if that is asked and it is legal.
-pub record IsJudged (rules : Rules) (options : CheckOptions) (left old new : Option (List ℕ)) (finding : Finding)
-    : Type 0 where
+-- What is judged of all that was left to read is the trace of a history, and this text says what is found of this
+-- history under these rules, and whether it is quiet, if that is asked and it is legal.
+pub record IsAnswerTo (rules : Rules) (options : CheckOptions) (left : Option (List ℕ)) (finding : Finding)
+    (answer : List ℕ) : Type 0 where
   pub trace : List ℕ
   pub lines : List Line
   pub read : IfSome left (λ bytes. judged_part options.cut bytes ≡ trace)
@@ -46,4 +47,18 @@ pub record IsJudged (rules : Rules) (options : CheckOptions) (left old new : Opt
   pub judged : IsFinding rules options.cut lines finding
   pub told : Option Bool
   pub says : SaysQuiet rules options.tells_quiet finding lines told
-  pub written : Appends old new (answer_text finding told)
+  pub spelled_out : answer ≡ answer_text finding told
+
+-- a trace was judged, and the answer was written
+pub record IsJudged (rules : Rules) (options : CheckOptions) (left old new : Option (List ℕ)) (finding : Finding)
+    : Type 0 where
+  pub answer : List ℕ
+  pub is : IsAnswerTo rules options left finding answer
+  pub written : Appends old new answer
+
+-- a trace was judged, and a beginning of the answer was written, which may end within a line
+pub record IsJudgedInPart (rules : Rules) (options : CheckOptions) (left old new : Option (List ℕ)) : Type 0 where
+  pub finding : Finding
+  pub answer : List ℕ
+  pub is : IsAnswerTo rules options left finding answer
+  pub begun : IsBegun answer old new

@@ -10,6 +10,7 @@ use Rattle.std.specs.Str.{bytes_eq}
 use Rattle.std.specs.Str.Parse.{digits_value}
 use Rattle.hex.specs.Hex.{decode_of}
 use Rattle.fl_wire.specs.Layout.{len_of}
+use Rattle.lockd_faults.specs.Faults.{IsBegun}
 use Rattle.lockd_faults.specs.HexLines.{lines_of, hex_lines}
 use Rattle.lockd_faults.specs.declared.fault.CommandFault.{CommandFault}
 use Rattle.lockd_faults.specs.declared.fault.CommandFault.TheVariants as command
@@ -93,6 +94,18 @@ pub record IsCutShort (left old new : Option (List ℕ)) : Type 0 where
   pub said : text_says text ≡ Ok lines
   pub fewer : got < awaited_by lines
   pub printed : ArePrinted got old new
+
+-- A text was read, and a beginning of the hex lines of some replies was printed, no more than its lines wait for. It
+-- may end within a line.
+pub record IsDrivenInPart (left old new : Option (List ℕ)) : Type 0 where
+  pub text : List ℕ
+  pub lines : List Said
+  pub replies : List (List ℕ)
+  pub read : IfSome left (λ bytes. bytes ≡ text)
+  pub said : text_says text ≡ Ok lines
+  pub framed : All IsFramed replies
+  pub most : length replies ≤ awaited_by lines
+  pub begun : IsBegun (hex_lines replies) old new
 
 -- why a client gives up before it is connected
 abbrev pub IsUnconnected : CommandFault → Type 0

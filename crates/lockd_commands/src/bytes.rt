@@ -2,7 +2,7 @@
 
 ghost use Rattle.std.specs.Prelude.{◌≡◌, ◌≢◌, ◌⊎◌, ℕ, false, None, Some, Err, IfSome, IfOk, IfErr};
 ghost use Rattle.std.specs.Io.KnownBytes.{Keeps};
-ghost use Rattle.lockd_commands.specs.Bytes.{IsPrinted, IsSession};
+ghost use Rattle.lockd_commands.specs.Bytes.{IsPrinted, IsPrintedInPart, IsSession};
 ghost use Rattle.lockd_commands.specs.Bytes.Inside.{Did, IsOfStream};
 ghost use Rattle.lockd_commands.specs.Faults.{IsOfBytes};
 ghost use Rattle.lockd_commands.specs.Hex.{hex_stream};
@@ -48,7 +48,9 @@ pub fn bytes_on<R: Read, W: Write, F: Write>(
         → (result ≡ Status.Faulted (CommandFault.BadLine n))
         ⊎ ((result ≡ Status.Faulted CommandFault.NoMemory) ⊎ (result ≡ Status.Faulted CommandFault.Read))) }
 
-    // Only these faults leave anything on the output.
+    // Only these three faults leave anything on the output, and a write that fails leaves a beginning of the lines.
+    ensures begun { result ≡ Status.Faulted CommandFault.Write
+        → IsPrintedInPart rules (R.remaining input.old) (W.contents output.old) (W.contents output.new) }
     ensures kept { (fault : CommandFault) → result ≡ Status.Faulted fault
         → fault ≢ CommandFault.Write → fault ≢ CommandFault.Cut → ((n : ℕ) → fault ≢ CommandFault.BadLength n)
         → Keeps (W.contents output.old) (W.contents output.new) }

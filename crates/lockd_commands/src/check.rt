@@ -1,11 +1,11 @@
 //! `lockd check`: judges a trace.
 
-ghost use Rattle.std.specs.Prelude.{◌≡◌, ◌≢◌, ◌⊎◌, ℕ, false, string_bytes, IfSome, IfOk, OnOk, IfErr};
+ghost use Rattle.std.specs.Prelude.{◌≡◌, ◌≢◌, ◌⊎◌, ℕ, false, string_bytes, Err, IfSome, IfOk, OnOk, IfErr};
 ghost use Rattle.std.specs.Io.KnownBytes.{Keeps};
 ghost use Rattle.fl_judge.specs.Audit.{judged_part};
 ghost use Rattle.fl_judge.specs.declared.finding.Finding.TheVariants as said;
 ghost use Rattle.fl_trace.specs.Text.{BreaksAt, LineFits};
-ghost use Rattle.lockd_commands.specs.Check.{answer_text, IsJudged};
+ghost use Rattle.lockd_commands.specs.Check.{answer_text, IsJudged, IsJudgedInPart};
 ghost use Rattle.lockd_commands.specs.Check.Inside.{quiet_told, audit_fault};
 ghost use Rattle.lockd_commands.specs.Faults.{IsOfText};
 ghost use Rattle.lockd_faults.specs.Faults.{IsTold};
@@ -53,7 +53,9 @@ pub fn check_on<R: Read, W: Write, F: Write>(
     ensures bad { (n : ℕ) → result ≡ Status.Faulted (CommandFault.BadLine n) →
         IfSome (R.remaining input.old) (λ bytes. BreaksAt LineFits (judged_part options.cut bytes) n) }
 
-    // Only a write that fails leaves anything on the output.
+    // Only a write that fails leaves anything on the output: a beginning of the answer.
+    ensures begun { result ≡ Status.Faulted CommandFault.Write →
+        IsJudgedInPart rules options (R.remaining input.old) (W.contents output.old) (W.contents output.new) }
     ensures kept { (fault : CommandFault) → result ≡ Status.Faulted fault → fault ≢ CommandFault.Write →
         Keeps (W.contents output.old) (W.contents output.new) }
     ensures faulted { (fault : CommandFault) → result ≡ Status.Faulted fault →
@@ -80,6 +82,8 @@ fn judge<R: Read, W: Write>(
         (IsJudged rules options (R.remaining input.old) (W.contents output.old) (W.contents output.new)) }
     ensures bad { IfErr result (λ fault. (n : ℕ) → fault ≡ CommandFault.BadLine n →
         IfSome (R.remaining input.old) (λ bytes. BreaksAt LineFits (judged_part options.cut bytes) n)) }
+    ensures begun { result ≡ Err CommandFault.Write →
+        IsJudgedInPart rules options (R.remaining input.old) (W.contents output.old) (W.contents output.new) }
     ensures kept { IfErr result (λ fault. fault ≢ CommandFault.Write
         → Keeps (W.contents output.old) (W.contents output.new)) }
     ensures fault { IfErr result IsOfText }

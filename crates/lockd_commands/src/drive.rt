@@ -3,7 +3,8 @@
 ghost use Rattle.std.specs.Prelude.{◌≡◌, ◌≢◌, ◌⊎◌, ℕ, [], Err, IfSome, IfErr, IsErrAnd};
 ghost use Rattle.std.specs.Io.KnownBytes.{Keeps};
 ghost use Rattle.std.specs.Path.{path_bytes};
-ghost use Rattle.lockd_commands.specs.Drive.{text_says, ArePrinted, IsDriven, IsCutShort, IsOfDrive, IsUnconnected};
+ghost use Rattle.lockd_commands.specs.Drive.{text_says, ArePrinted, IsDriven, IsDrivenInPart, IsCutShort};
+ghost use Rattle.lockd_commands.specs.Drive.{IsOfDrive, IsUnconnected};
 ghost use Rattle.lockd_commands.specs.Drive.Inside.{Did};
 ghost use Rattle.lockd_faults.specs.Status.{GivesUpBy};
 ghost use Rattle.lockd_faults.specs.Faults.{IsTold};
@@ -45,6 +46,11 @@ pub fn drive_on<N: Net, R: Read, W: Write, F: Write>(
         → (result ≡ Status.Faulted (CommandFault.BadLine n))
         ⊎ ((result ≡ Status.Faulted CommandFault.NoMemory) ⊎ (result ≡ Status.Faulted CommandFault.Read))) }
 
+    // Whatever the fault, a beginning is written of the lines of as many replies as are waited for, or of fewer.
+    ensures begun { (fault : CommandFault) → result ≡ Status.Faulted fault
+        → Keeps (W.contents output.old) (W.contents output.new)
+        ⊎ IsDrivenInPart (R.remaining input.old) (W.contents output.old) (W.contents output.new) }
+
     // Whole lines are written, and none before all lines are known to be good and there is a connection.
     ensures whole { (fault : CommandFault) → result ≡ Status.Faulted fault → fault ≢ CommandFault.Write
         → (n : ℕ) × ArePrinted n (W.contents output.old) (W.contents output.new) }
@@ -68,6 +74,8 @@ fn drive<N: Net, R: Read, W: Write>(
     output: &mut W,
 ) -> Result<(), CommandFault>
     ensures did { Did (R.remaining input.old) (W.contents output.old) (W.contents output.new) result }
+    ensures begun { IfErr result (λ _. Keeps (W.contents output.old) (W.contents output.new)
+        ⊎ IsDrivenInPart (R.remaining input.old) (W.contents output.old) (W.contents output.new)) }
     ensures unnamed { path_bytes path.entry ≡ [] → IsErrAnd result IsUnconnected }
 {
     let text = read_all(alloc, input)?;

@@ -1,6 +1,8 @@
 //! What a client sends, and what it prints of what comes back.
 ghost use Rattle.std.specs.Prelude.{◌≡◌, ◌≢◌, [], length, map, OnOk, IfErr};
+ghost use Rattle.lockd_commands.specs.Drive.{awaited_by};
 ghost use Rattle.lockd_commands.specs.Drive.Inside.{said_by, HasReceived, HasFallenShort, HasDone, HasStopped};
+ghost use Rattle.lockd_commands.specs.Drive.Inside.{HasBegun};
 ghost use Rattle.lockd_faults.specs.declared.fault.CommandFault.TheVariants.{Write as WriteFailed};
 
 use crate::actions::Action;
@@ -25,6 +27,8 @@ pub(crate) fn drive_over<R: Read, W: Write, O: Write>(
     ensures stopped { IfErr result (λ fault. fault ≢ WriteFailed →
         HasStopped (map said_by actions.now) fault (R.remaining replies.old) (R.remaining replies.new)
         (W.contents requests.old) (W.contents requests.new) (O.contents output.old) (O.contents output.new)) }
+    ensures begun { IfErr result (λ _. HasBegun (awaited_by (map said_by actions.now)) (R.remaining replies.old)
+        (R.remaining replies.new) (O.contents output.old) (O.contents output.new)) }
 {
     for action in actions {
         match action {
@@ -49,6 +53,8 @@ fn print_next<R: Read, O: Write>(
     ensures stopped { IfErr result (λ fault. fault ≢ WriteFailed →
         HasFallenShort count fault (R.remaining replies.old) (R.remaining replies.new)
         (O.contents output.old) (O.contents output.new)) }
+    ensures begun { IfErr result (λ _. HasBegun count (R.remaining replies.old) (R.remaining replies.new)
+        (O.contents output.old) (O.contents output.new)) }
 {
     for _ in 0..count {
         print_reply(alloc, room, replies, output)?;
@@ -68,6 +74,8 @@ fn print_reply<R: Read, O: Write>(
         (O.contents output.old) (O.contents output.new)) }
     ensures stopped { IfErr result (λ fault. fault ≢ WriteFailed →
         HasFallenShort 1 fault (R.remaining replies.old) (R.remaining replies.new)
+        (O.contents output.old) (O.contents output.new)) }
+    ensures begun { IfErr result (λ _. HasBegun 1 (R.remaining replies.old) (R.remaining replies.new)
         (O.contents output.old) (O.contents output.new)) }
 {
     let len = read_reply(replies, room)?;

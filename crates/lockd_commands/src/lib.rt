@@ -6,9 +6,14 @@
 //! - one that tells `no memory`, or a read or a write that failed, though none did;
 //! - one that ends well though its output couldn't be flushed;
 //! - a `drive_on` that sends nothing, connects elsewhere, waits before it sends, doesn't close, or says `no memory`
-//!   at an empty path.
-//! `lockd_commands_tests`, `tools/try_commands` and `tools/try_sockets` refuse these. No contract says what the output
-//! of `check_on`, `bytes_on` and `drive_on` holds after `write failed`.
+//!   at an empty path;
+//! - a `drive_on` that prints replies which didn't come from the socket (`try_stored_replies` in `tools/try_sockets`).
+//!
+//! `lockd_commands_tests`, `tools/try_commands` and `tools/try_sockets` refuse these.
+//!
+//! After `write failed` the output holds a beginning of what was to be printed. No contract says how long it is. If
+//! only the flush failed, it is all: `an_output_that_fails_when_it_is_flushed` in `lockd_commands_tests` sees that of
+//! `script`, `check` and `bytes`.
 #![tactic(auto)]
 
 mod actions;

@@ -1,10 +1,10 @@
 -- The results of the steps of a session from bytes to bytes. No contract of a public function cites these definitions.
-use Rattle.std.specs.Prelude.{◌≡◌, ℕ, List, All, Option, Some, None, IfSome, IsOk, Result, Ok, Err, ⊤}
+use Rattle.std.specs.Prelude.{◌≡◌, ℕ, List, All, Option, Some, None, IfSome, Result, Ok, Err, ⊤}
 use Rattle.std.specs.List.{concat}
 use Rattle.std.specs.Io.KnownBytes.{Keeps}
 use Rattle.fl_wire.specs.Spell.{IsReply}
 use Rattle.fl_waiting.specs.declared.rules.Rules.{Rules}
-use Rattle.lockd_commands.specs.Bytes.{IsPrinted}
+use Rattle.lockd_commands.specs.Bytes.{IsPrinted, IsPrintedInPart}
 use Rattle.lockd_commands.specs.Hex.{hex_stream}
 use Rattle.lockd_faults.specs.declared.fault.CommandFault.{CommandFault}
 use Rattle.lockd_faults.specs.declared.fault.CommandFault.TheVariants as command
@@ -42,7 +42,7 @@ Did rules left old new (Err command.NoMemory) = Keeps old new
 Did rules left old new (Err command.NoReader) = ⊥
 Did rules left old new (Err command.Listen) = ⊥
 Did rules left old new (Err command.Read) = Keeps old new
-Did rules left old new (Err command.Write) = IfSome left (λ text. IsOk (hex_stream text))
+Did rules left old new (Err command.Write) = IsPrintedInPart rules left old new
 Did rules left old new (Err command.Connect) = ⊥
 Did rules left old new (Err command.BadReply) = ⊥
 Did rules left old new (Err command.Trace) = ⊥

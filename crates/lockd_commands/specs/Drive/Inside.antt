@@ -1,11 +1,12 @@
 -- The results of the actions of a client. No contract of a public function cites these definitions.
-use Rattle.std.specs.Prelude.{◌≡◌, ◌⊎◌, ℕ, ◌+◌, ◌<◌, ◌≤◌, List, [], ◌∷◌, ◌++◌, length, take, drop, map, All, Option}
+use Rattle.std.specs.Prelude.{◌≡◌, ◌⊎◌, ℕ, ◌+◌, ◌<◌, ◌≤◌, List, [], ◌∷◌, ◌++◌, length, take, drop, All, Option}
 use Rattle.std.specs.Prelude.{IfSome, IsOk, Result, Ok, Err, ⊤}
 use Rattle.std.specs.List.{concat, flat_map}
 use Rattle.std.specs.Io.KnownBytes.{Appends, Consumes, IsAtEnd, Keeps}
 use Rattle.fl_wire.specs.Layout.{len_of}
 use Rattle.lockd_commands.specs.Drive.{Said, Sends, Waits, awaited_by, text_says, IsFramed, ArePrinted, IsDriven}
 use Rattle.lockd_commands.specs.Drive.{IsCutShort}
+use Rattle.lockd_faults.specs.Faults.{IsBegun}
 use Rattle.lockd_faults.specs.HexLines.{hex_lines}
 use Rattle.lockd_commands.specs.declared.actions.Action.{Action}
 use Rattle.lockd_commands.specs.declared.actions.Action.TheVariants as action
@@ -91,6 +92,15 @@ pub record HasFallenShort (n : ℕ) (fault : CommandFault) (left left_now old ne
   pub fewer : got < n
   pub received : HasReceived got behind left left_now old new
   pub why : IsWhy fault behind left_now
+
+-- at most n replies and the bytes behind them were read, and a beginning of the lines of these replies was printed
+pub record HasBegun (n : ℕ) (left left_now old new : Option (List ℕ)) : Type 0 where
+  pub replies : List (List ℕ)
+  pub behind : List ℕ
+  pub framed : All IsFramed replies
+  pub most : length replies ≤ n
+  pub read : Consumes left left_now (concat replies ++ behind)
+  pub begun : IsBegun (hex_lines replies) old new
 
 -- all was done that these lines say
 pub record HasDone (lines : List Said) (left left_now held held_now old new : Option (List ℕ)) : Type 0 where

@@ -1,7 +1,7 @@
 use Rattle.std.proofs.Common.{◌≡◌, Ok, map, rules, sym, subst}
 use Rattle.lockd_commands.specs.Drive.{text_says}
 use Rattle.lockd_commands.specs.Drive.Inside.{said_by, TextFaults}
-use Rattle.lockd_commands.proofs.DriveLemmas.{did_all, did_not_begin, did_not_connect, did_stop}
+use Rattle.lockd_commands.proofs.DriveLemmas.{did_all, did_not_begin, did_not_connect, did_stop, in_part, in_part_none}
 use Rattle.lockd_commands.proofs.drive.drive.Goals as goal
 
 pub returns-in_err-actions-clause-did : goal.returns-in_err-actions-clause-did
@@ -40,3 +40,19 @@ returns-clause-did g c =
     did_all (g.R.Read.remaining c.args.input.now) (g.W.Write.contents c.args.output.now)
     (g.W.Write.contents c.drive_over.new.output) _ _ _ _ text (map said_by c.deref-2.result.now)
     c.in_ok-text.ensures.bytes said c.in_ok-drive_over.ensures.done
+
+pub returns-in_err-stream-clause-begun : goal.returns-in_err-stream-clause-begun
+returns-in_err-stream-clause-begun g c =
+    let begun = in_part_none (g.R.Read.remaining c.args.input.now) (g.W.Write.contents c.args.output.now) in
+    search rules
+
+pub returns-in_err-drive_over-clause-begun : goal.returns-in_err-drive_over-clause-begun
+returns-in_err-drive_over-clause-begun g c =
+    let text = c.in_ok-text.text.items in
+    let told = subst (λ text. text_says text ≡ Ok (map said_by c.in_ok-actions.actions.items)) c.deref.ensures.value
+    c.in_ok-actions.ensures.said in
+    let said = subst (λ actions. text_says text ≡ Ok (map said_by actions)) (sym c.deref-2.ensures.value) told in
+    let begun = in_part (g.R.Read.remaining c.args.input.now) (g.W.Write.contents c.args.output.now)
+    (g.W.Write.contents c.drive_over.new.output) _ _ text (map said_by c.deref-2.result.now)
+    c.in_ok-text.ensures.bytes said c.in_err-drive_over.ensures.begun in
+    search rules

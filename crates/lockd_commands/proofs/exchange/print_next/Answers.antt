@@ -1,5 +1,5 @@
-use Rattle.std.proofs.Common.{rules}
-use Rattle.lockd_commands.proofs.ExchangeLemmas.{received_more, short_after}
+use Rattle.std.proofs.Common.{rules, arith}
+use Rattle.lockd_commands.proofs.ExchangeLemmas.{received_more, short_after, begun_after}
 use Rattle.lockd_commands.proofs.exchange.print_next.Goals as goal
 
 pub returns-in_err-print_reply-clause-stopped : goal.returns-in_err-print_reply-clause-stopped
@@ -11,3 +11,10 @@ returns-in_err-print_reply-clause-stopped g c =
 pub loop-preserved : goal.loop-preserved
 loop-preserved g c =
     received_more c.loop.counter 1 _ _ _ _ _ _ _ c.loop.invariant c.in_ok-print_reply.ensures.done
+
+pub returns-in_err-print_reply-clause-begun : goal.returns-in_err-print_reply-clause-begun
+returns-in_err-print_reply-clause-begun g c =
+    let more = c.loop-test.true in
+    let begun = begun_after c.loop.counter 1 c.args.count _ _ _ _ _ _ c.loop.invariant c.in_err-print_reply.ensures.begun
+    (omega (arith, more)) in
+    search rules

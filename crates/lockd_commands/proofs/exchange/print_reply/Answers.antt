@@ -1,6 +1,6 @@
 use Rattle.std.proofs.Common.{◌≡◌, ◌++◌, ◌∷◌, [], rules, take}
 use Rattle.hex.specs.Hex.{encode_lower}
-use Rattle.lockd_commands.proofs.ExchangeLemmas.{fallen_short, printed_one, unprinted}
+use Rattle.lockd_commands.proofs.ExchangeLemmas.{fallen_short, printed_one, unprinted, begun_none, begun_line}
 use Rattle.lockd_commands.proofs.exchange.print_reply.Goals as goal
 
 pub returns-in_err-len-clause-stopped : goal.returns-in_err-len-clause-stopped
@@ -20,3 +20,22 @@ returns-clause-done g c =
     let line : c.deref.result.now ≡ encode_lower reply ++ 10 ∷ [] = search rules in
     printed_one c.write_all.result reply c.deref.result.now _ _ _ _ c.in_ok-len.ensures.framed c.in_ok-len.ensures.read line
     c.write_all.ensures.written
+
+pub returns-in_err-len-clause-begun : goal.returns-in_err-len-clause-begun
+returns-in_err-len-clause-begun g c =
+    let stopped = c.in_err-len.ensures.stopped in
+    let begun = begun_none 1 stopped.behind _ _ (g.O.Write.contents c.args.output.now) stopped.read in
+    search rules
+
+pub returns-in_err-push_line-clause-begun : goal.returns-in_err-push_line-clause-begun
+returns-in_err-push_line-clause-begun g c =
+    let reply = take c.in_ok-len.len c.read_reply.new.room in
+    let begun = begun_none 1 reply _ _ (g.O.Write.contents c.args.output.now) c.in_ok-len.ensures.read in
+    search rules
+
+pub returns-clause-begun : goal.returns-clause-begun
+returns-clause-begun g c =
+    let reply = take c.in_ok-len.len c.read_reply.new.room in
+    let line : c.deref.result.now ≡ encode_lower reply ++ 10 ∷ [] = search rules in
+    begun_line c.write_all.result reply c.deref.result.now _ _ _ _ c.in_ok-len.ensures.framed c.in_ok-len.ensures.read line
+    c.write_all.ensures.begun
