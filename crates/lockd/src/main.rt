@@ -1,10 +1,21 @@
 //! `lockd`: keeps the locks of a directory of lock files. `lockd_cli` reads the command line, and each command is a
-//! function of `lockd_commands` or of `lockd_serve`. Contracts let through a `main` that runs another command, and one
-//! that takes away the trace's file of a session that was served. The scripts of the gate would meet them.
+//! function of `lockd_commands` or of `lockd_serve`. Where a trace goes, and whether orders are refused when its file
+//! can't be written, are contracts (`opened`, `when_full`). Contracts let through:
+//! - a `run` that runs another command than is asked for, or gives it other rules, flags or workers, or another path;
+//! - a `run` that gives `serve_on` another trace than `opened` made, or another word than `when_full` says;
+//! - an `opened` that makes its file at another path;
+//! - a `remove_unused` that takes away the trace's file of a session that was served, or leaves one of none;
+//! - a `main` that prints no refusal, or ends with another status;
+//! - a `hold_closed_streams` that holds none.
+//!
+//! The scripts of the gate meet these: `tools/try_commands`, `try_words`, `try_sockets`, `try_ends`, `try_traces` and
+//! `try_limits`.
 #![tactic(auto)]
 
-ghost use Rattle.std.specs.Prelude.{IfOk};
+ghost use Rattle.std.specs.Prelude.{◌≡◌, ◌↔◌, Some, IfErr, IfOk};
+ghost use Rattle.lockd.specs.Inside.{AsksFile, AsksRefusal, GoesWhere};
 ghost use Rattle.lockd_cli.specs.Numbers.{HasWorkers};
+ghost use Rattle.lockd_serve.specs.Ending.{Ends};
 
 use descriptors::hold_closed_streams;
 use lockd_cli::{Asked, Trace, UsageError, WhenFull, print_version, read_words};
@@ -104,7 +115,14 @@ fn opened<F: Write>(
     rt: &HostRuntime,
     trace: &Trace,
     faults: &mut F,
-) -> Result<TraceTo<File>, Status> {
+) -> Result<TraceTo<File>, Status>
+    ensures trace { IfOk result (GoesWhere trace.now) }
+    ensures error { IfErr result (λ status. AsksFile trace.now × Ends (Some CommandFault.Trace) (record {
+      status = status;
+      told = F.contents faults.old;
+      told_now = F.contents faults.new;
+    })) }
+{
     match trace {
         Trace::Printed => Ok(TraceTo::Output),
         Trace::Nowhere => Ok(TraceTo::Nowhere),
@@ -126,7 +144,9 @@ fn remove_unused(rt: &HostRuntime, trace: &Trace, status: Status) {
 }
 
 // What happens to orders when the trace's file can't be written.
-fn when_full(trace: &Trace) -> WhenWriterFails {
+fn when_full(trace: &Trace) -> WhenWriterFails
+    ensures { result ≡ WhenWriterFails.Refuse ↔ AsksRefusal trace.now }
+{
     match trace {
         Trace::File(_, WhenFull::Refuse) => WhenWriterFails::Refuse,
         Trace::File(_, WhenFull::GoOn) | Trace::Printed | Trace::Nowhere => WhenWriterFails::GoOn,

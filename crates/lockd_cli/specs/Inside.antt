@@ -1,9 +1,99 @@
--- What a command line asks for, step by step. No contract of a public function cites these definitions.
-use Rattle.std.specs.Prelude.{◌≡◌, ℕ}
+-- What a command line asks for, step by step: by the texts that `clap` found for its options. No contract of a public
+-- function cites these definitions.
+use Rattle.std.specs.Prelude.{◌≡◌, ◌≢◌, ◌≤◌, ◌⊎◌, ℕ, Bool, true, false, List, [], Option, None, Some, codes, unwrap_or}
+use Rattle.std.specs.Str.Parse.{IsNumeral, digits_value, without_leading_plus}
+use Rattle.std.specs.String.{string_bytes}
+use Rattle.clap.specs.Words.{Text, first_value, found_of, one_text, rows_of, subcommand_name_of, subcommand_rows_of}
+use Rattle.clap.specs.declared.parser.matches.ArgMatches.{ArgMatches}
+use Rattle.clap.specs.declared.parser.matches.Found.{Found}
+use Rattle.fl_waiting.specs.Limits.{AllowsParked, AllowsRuns}
+use Rattle.fl_waiting.specs.Waiting.{standard}
+use Rattle.fl_waiting.specs.declared.rules.Rules.{Rules}
 use Rattle.lockd_cli.specs.declared.options.Asked.{Asked}
-use Rattle.lockd_cli.specs.declared.options.Asked.TheVariants.{Serve}
+use Rattle.lockd_cli.specs.declared.options.Asked.TheVariants as asked
+use Rattle.lockd_cli.specs.declared.options.Trace.{Trace}
+use Rattle.lockd_cli.specs.declared.options.Trace.TheVariants as trace
+use Rattle.lockd_cli.specs.declared.options.WhenFull.{WhenFull}
+use Rattle.lockd_cli.specs.declared.options.WhenFull.TheVariants as full
 
--- a server is asked for so many workers
-abbrev pub AsksWorkers : ℕ → Asked → Type 0
-AsksWorkers n (Serve socket workers trace rules) = workers ≡ n
-AsksWorkers n asked = ⊥
+-- the text is digits that write this number; a plus may stand first
+abbrev pub Spells : List ℕ → ℕ → Type 0
+Spells text n = IsNumeral 10 (without_leading_plus text) × (digits_value 10 (without_leading_plus text) ≡ n)
+
+-- a server may have so many workers
+abbrev pub AllowsWorkers : ℕ → Type 0
+AllowsWorkers workers = (1 ≤ workers) × (workers ≤ 16)
+
+-- the option's number is the one that its text spells, if that is allowed, and the standard one if it has no text
+abbrev pub IsNumberOf : Option (List ℕ) → (ℕ → Type 0) → ℕ → ℕ → Type 0
+IsNumberOf None Allows usual number = number ≡ usual
+IsNumberOf (Some text) Allows usual number = (n : ℕ) → Spells text n → Allows n → number ≡ n
+
+-- the flag is set if its text is true, and not if that is false or there is none
+abbrev pub IsFlagOf : Option (List ℕ) → Bool → Type 0
+IsFlagOf text flag =
+    (text ≡ None → flag ≡ false) × (text ≡ Some (codes "true") → flag ≡ true)
+    × (text ≡ Some (codes "false") → flag ≡ false)
+
+-- the rules that these options say, and the standard ones of which they say nothing
+abbrev pub SayRules : Found → Rules → Type 0
+SayRules found rules =
+    IsFlagOf (one_text found (codes "fair")) rules.fair
+    × IsNumberOf (one_text found (codes "runs")) AllowsRuns standard.runs rules.runs
+    × IsNumberOf (one_text found (codes "parked")) AllowsParked standard.parked rules.parked
+
+-- orders are refused if that is said, and else they go on
+abbrev pub SaysWhenFull : Found → WhenFull → Type 0
+SaysWhenFull found full.Refuse = first_value found (codes "trace-full") ≡ Some (codes "refuse")
+SaysWhenFull found full.GoOn = first_value found (codes "trace-full") ≢ Some (codes "refuse")
+
+-- where these options send the trace: nowhere at the word none, and else to the file of that name
+abbrev pub SaysTrace : Found → Trace → Type 0
+SaysTrace found trace.Printed = first_value found (codes "trace") ≡ None
+SaysTrace found trace.Nowhere = first_value found (codes "trace") ≡ Some (codes "none")
+SaysTrace found (trace.File path full) =
+    (first_value found (codes "trace") ≡ Some (string_bytes path)) × (string_bytes path ≢ codes "none")
+    × SaysWhenFull found full
+
+-- the path that is said for the socket
+abbrev pub socket_said : Found → List ℕ
+socket_said found = unwrap_or (first_value found (codes "SOCKET")) []
+
+-- what options of its command ask for
+abbrev pub Ask : Found → Asked → Type 0
+Ask found (asked.Script rules) = SayRules found rules
+Ask found (asked.Bytes rules) = SayRules found rules
+Ask found (asked.Check quiet cut rules) =
+    IsFlagOf (one_text found (codes "quiet")) quiet × IsFlagOf (one_text found (codes "cut")) cut × SayRules found rules
+Ask found (asked.Serve socket workers trace rules) =
+    (string_bytes socket ≡ socket_said found)
+    × IsNumberOf (one_text found (codes "workers")) AllowsWorkers 4 workers
+    × SaysTrace found trace × SayRules found rules
+Ask found (asked.Drive socket) = string_bytes socket ≡ socket_said found
+Ask found asked.Version = ⊥
+
+-- the word that asks for it
+abbrev pub word_of : Asked → Text
+word_of (asked.Script rules) = codes "script"
+word_of (asked.Bytes rules) = codes "bytes"
+word_of (asked.Check quiet cut rules) = codes "check"
+word_of (asked.Serve socket workers trace rules) = codes "serve"
+word_of (asked.Drive socket) = codes "drive"
+word_of asked.Version = codes "--version"
+
+-- the command of this name was said, with these options
+abbrev pub IsSaid : ArgMatches → Text → Found → Type 0
+IsSaid matches name found = subcommand_rows_of matches ≡ Some (name, rows_of found)
+
+-- no command was said, or none of these
+abbrev pub SaysNone : Option Text → Type 0
+SaysNone said =
+    (said ≢ Some (codes "script")) × (said ≢ Some (codes "bytes")) × (said ≢ Some (codes "check"))
+    × (said ≢ Some (codes "serve")) × (said ≢ Some (codes "drive"))
+
+-- The words that `clap` took ask for this: by its command and the options of that, or for `script` by options alone, if
+-- no command was said.
+abbrev pub AsksFor : ArgMatches → Asked → Type 0
+AsksFor matches it =
+    ((found : Found) × IsSaid matches (word_of it) found × Ask found it)
+    ⊎ (SaysNone (subcommand_name_of matches) × (word_of it ≡ codes "script") × Ask (found_of matches) it)

@@ -1,12 +1,21 @@
 //! The command line of `lockd`: which command its words ask for, or why none is run.
 //!
-//! A server has 1 to 16 workers (`workers`), and `Rules` keeps the other limits in its type. A server for which `clap`
-//! found no number of workers has four: that is a contract of `options`, and `read_words` doesn't repeat it, since no
-//! contract here says which of its words `clap` takes for what. Contracts let through:
+//! A server has 1 to 16 workers (`workers`), and `Rules` keeps the other limits in its type. A private contract,
+//! `asked_by`, says what is asked for by the command and the texts that `clap` found: the socket, the workers, the
+//! trace, `--trace-full`, `--quiet`, `--cut` and the rules. `read_words` doesn't repeat it. `clap` doesn't state which
+//! words it takes for which text, if options and commands exclude each other, as they do here. Contracts let through:
 //! - a `print_version` that always fails, and another version;
-//! - a `read_words` that refuses everything, takes one command for another, names another socket, or asks for other
-//!   rules than its words say.
-//! `tools/try_words` refuses most of these. The wording of `clap`'s texts is neither proved nor tested.
+//! - a `read_words` that refuses everything, or doesn't ask `asked_by`;
+//! - a `command` with an option that has another name, another range, another default, or none of them;
+//! - a `command` that lets words through that no command takes.
+//!
+//! These tests refuse most of them:
+//! - words that are refused, `--quiet`, `--cut`, and rules: `tools/try_words` and `tools/try_commands`;
+//! - the number of workers: `try_the_number_of_threads` of `tools/try_ends`;
+//! - the socket: `tools/try_sockets`;
+//! - `--trace` and `--trace-full`: `tools/try_traces`.
+//!
+//! The wording of `clap`'s texts is neither proved nor tested.
 #![tactic(auto)]
 
 mod command;

@@ -1,9 +1,10 @@
 //! What a command line asks for, read by `clap`.
 
-ghost use Rattle.std.specs.Prelude.{◌≡◌, ◌≤◌, ℕ, None, Some, IfOk, codes};
+ghost use Rattle.std.specs.Prelude.{◌≡◌, ◌↔◌, ◌≤◌, ◌<◌, ◌^◌, ℕ, List, None, Some, IfOk, codes};
+ghost use Rattle.std.specs.String.{string_bytes};
 ghost use Rattle.clap.specs.Matches.{found_of, one_text};
 ghost use Rattle.fl_waiting.specs.Limits.{AllowsRuns, AllowsParked};
-ghost use Rattle.lockd_cli.specs.Inside.{AsksWorkers};
+ghost use Rattle.lockd_cli.specs.Inside.{Ask, AsksFor, SayRules, SaysTrace, SaysWhenFull, Spells, socket_said, word_of};
 ghost use Rattle.lockd_cli.specs.Numbers.{HasWorkers};
 
 use crate::command::lockd;
@@ -88,6 +89,7 @@ pub fn read_words(alloc: Global, words: &[String]) -> Result<Asked, UsageError>
 // What words ask for that `clap` took.
 fn asked_by(alloc: Global, matches: &ArgMatches<'_>) -> Result<Asked, UsageError>
     ensures workers { IfOk result HasWorkers }
+    ensures said { IfOk result (AsksFor matches.now) }
 {
     match matches.subcommand() {
         Some(("script", options)) => Ok(Asked::Script(rules_of(options))),
@@ -104,13 +106,24 @@ fn asked_by(alloc: Global, matches: &ArgMatches<'_>) -> Result<Asked, UsageError
 }
 
 // The rules that options say, and the standard ones if they say nothing.
-fn rules_of(options: &ArgMatches<'_>) -> Rules {
+fn rules_of(options: &ArgMatches<'_>) -> Rules
+    ensures { SayRules (found_of options.now) result }
+{
     let standard = Rules::standard();
     rules_with(
         options.get_flag("fair"),
-        options.get_one::<u32>("runs").unwrap_or(standard.runs),
-        options.get_one::<u32>("parked").unwrap_or(standard.parked),
+        number_of(options, "runs").unwrap_or(standard.runs),
+        number_of(options, "parked").unwrap_or(standard.parked),
     )
+}
+
+// The number that is said for an option.
+fn number_of(options: &ArgMatches<'_>, name: &str) -> Option<u32>
+    ensures none { one_text (found_of options.now) name.now ≡ None → result ≡ None }
+    ensures some { (text : List ℕ) (n : ℕ) → one_text (found_of options.now) name.now ≡ Some text
+        → Spells text n → n < 2 ^ 32 → result ≡ Some n }
+{
+    options.get_one::<u32>(name)
 }
 
 // The rules of these numbers. `clap` lets none through that is out of its range; such a one would become the nearest
@@ -129,9 +142,10 @@ fn rules_with(fair: bool, runs: u32, parked: u32) -> Rules
 // What the options of `serve` ask for; four workers, if no number of them is there.
 fn serve_of(alloc: Global, options: &ArgMatches<'_>) -> Result<Asked, UsageError>
     ensures workers { IfOk result HasWorkers }
-    ensures standard { one_text (found_of options.now) (codes "workers") ≡ None → IfOk result (AsksWorkers 4) }
+    ensures serve { IfOk result (λ asked. word_of asked ≡ codes "serve") }
+    ensures said { IfOk result (Ask (found_of options.now)) }
 {
-    let workers = workers_of(options.get_one::<u32>("workers"));
+    let workers = workers_of(number_of(options, "workers"));
     let socket = socket_of(alloc, options)?;
     let trace = trace_of(alloc, options)?;
     Ok(Asked::Serve {
@@ -153,22 +167,32 @@ fn workers_of(said: Option<u32>) -> u32
 }
 
 // The socket that a command's options name; it is required.
-fn socket_of(alloc: Global, options: &ArgMatches<'_>) -> Result<String, UsageError> {
+fn socket_of(alloc: Global, options: &ArgMatches<'_>) -> Result<String, UsageError>
+    ensures { IfOk result (λ socket. string_bytes socket ≡ socket_said (found_of options.now)) }
+{
     let socket = options.get_str("SOCKET").unwrap_or("");
     Ok(String::from_str(alloc, socket)?)
 }
 
 // Where the options send the trace. A file named none is ./none.
-fn trace_of(alloc: Global, options: &ArgMatches<'_>) -> Result<Trace, UsageError> {
+fn trace_of(alloc: Global, options: &ArgMatches<'_>) -> Result<Trace, UsageError>
+    ensures { IfOk result (SaysTrace (found_of options.now)) }
+{
     let Some(trace) = options.get_str("trace") else {
         return Ok(Trace::Printed);
     };
     if trace == "none" {
         return Ok(Trace::Nowhere);
     }
-    let full = match options.get_str("trace-full") {
+    Ok(Trace::File(String::from_str(alloc, trace)?, when_full_of(options)))
+}
+
+// What the options say of orders once the trace's file can't be written.
+fn when_full_of(options: &ArgMatches<'_>) -> WhenFull
+    ensures { SaysWhenFull (found_of options.now) result }
+{
+    match options.get_str("trace-full") {
         Some("refuse") => WhenFull::Refuse,
         _ => WhenFull::GoOn,
-    };
-    Ok(Trace::File(String::from_str(alloc, trace)?, full))
+    }
 }

@@ -1,8 +1,9 @@
 //! A reader that spins before it sleeps in a read, and a writer that retries while the reader spins.
 
-ghost use Rattle.std.specs.Prelude.{◌≡◌, true, IsErr, MatchOption};
+ghost use Rattle.std.specs.Prelude.{◌≡◌, ◌↔◌, IfSome, IsTrue, MatchOption};
 ghost use Rattle.std.specs.Io.{ReadsAtMost};
 ghost use Rattle.std.specs.Io.KnownBytes.{Keeps, ReadConsumes};
+ghost use Rattle.lockd_serve.specs.Inside.{WouldWait};
 
 use std::io;
 use std::io::{ErrorKind, Read, Write};
@@ -45,9 +46,10 @@ impl<'a, R: Read> Spinning<'a, R> {
 
     // What a spin reads; none if it found nothing, or if it isn't time for one.
     fn spin(&mut self, buf: &mut [u8]) -> Option<io::Result<usize>>
-        ensures { MatchOption result (Keeps (R.remaining self.old.stream) (R.remaining self.new.stream))
+        ensures read { MatchOption result (Keeps (R.remaining self.old.stream) (R.remaining self.new.stream))
             (λ read. ReadsAtMost read buf.new
             × ReadConsumes (R.remaining self.old.stream) (R.remaining self.new.stream) read buf.new) }
+        ensures found { IfSome result (λ read. ¬ WouldWait read) }
     {
         if self.without_spin > 0 {
             self.without_spin -= 1;
@@ -117,9 +119,10 @@ impl<W: Write> Write for Patient<'_, W> {
 
 // Reads again and again for a while, until a read has more to say than that it would wait.
 fn read_soon<R: Read>(stream: &mut R, buf: &mut [u8]) -> Option<io::Result<usize>>
-    ensures { MatchOption result (Keeps (R.remaining stream.old) (R.remaining stream.new))
+    ensures read { MatchOption result (Keeps (R.remaining stream.old) (R.remaining stream.new))
         (λ read. ReadsAtMost read buf.new
         × ReadConsumes (R.remaining stream.old) (R.remaining stream.new) read buf.new) }
+    ensures found { IfSome result (λ read. ¬ WouldWait read) }
 {
     for _ in 0..TRIES {
         let read = stream.read(buf);
@@ -132,7 +135,7 @@ fn read_soon<R: Read>(stream: &mut R, buf: &mut [u8]) -> Option<io::Result<usize
 
 // Whether a read or a write says no more than that it would wait.
 fn would_wait(done: &io::Result<usize>) -> bool
-    ensures { result ≡ true → IsErr done.now }
+    ensures { IsTrue result ↔ WouldWait done.now }
 {
     matches!(done, Err(e) if e.kind() == ErrorKind::WouldBlock)
 }
