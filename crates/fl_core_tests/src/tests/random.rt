@@ -12,35 +12,11 @@ mod plain_locks;
 mod plain_room;
 mod waiting;
 
+use super::{Reply, assert_tolds};
 use fl_core::{Core, Rules, Tolds};
-use fl_order::{Answer, Errno, Name, Op, Order, Told};
+use fl_order::{Order, Told};
 use std::alloc::Global;
 use std::process::Abort;
-
-const READ: u32 = 0;
-
-const WRITE: u32 = 1;
-
-const UNLOCK: u32 = 2;
-
-// What an order is answered.
-type Reply = Result<Answer, Errno>;
-
-// An order of user 5 and group 6.
-fn order(unique: u64, node: u64, op: Op) -> Order {
-    Order {
-        unique,
-        node,
-        uid: 5,
-        gid: 6,
-        pid: 0,
-        op,
-    }
-}
-
-fn name(rt: &impl Abort, bytes: &[u8]) -> Name {
-    Name::new(bytes).expect(rt, "no name")
-}
 
 // A core, with room for the replies to an order, and a second one that follows it by its replies.
 #[derive(Drop)]
@@ -114,9 +90,5 @@ fn assert_answer(
     found: Option<Option<Reply>>,
     wanted: Option<Option<Reply>>,
 ) {
-    assert_eq!(rt; found, wanted, "order {unique}");
-}
-
-fn assert_tolds(rt: &impl Abort, unique: u64, found: &[Told], wanted: &[Told]) {
     assert_eq!(rt; found, wanted, "order {unique}");
 }
