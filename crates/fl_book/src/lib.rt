@@ -9,5 +9,6 @@ pub use fl_core::Rules;
 pub use fl_desk::{Desk, Verdict, check, laws};
 pub use fl_history::{History, Journal, Line, Lines, NoJournal};
 pub use fl_judge::quiet;
+pub use fl_replica::Ask;
 pub use fl_stream::{Streamed, TraceRoom, Unwritten, WhenWriterFails, write_trace};
 pub use fl_trace::{TraceFault, first_line, has_text, print_trace, read_trace};

@@ -4,7 +4,7 @@ ghost use Rattle.std.specs.Prelude.{◌≡◌, ◌<◌, ◌≤◌};
 
 use crate::{ask, create, lock};
 use anyhow::anyhow;
-use fl_book::{Board, BoardName, FreshLog, Seat};
+use fl_book::{Ask, Board, BoardName, FreshLog, Seat};
 use fl_core::{Rules, Tolds};
 use std::alloc::Global;
 use std::marker::Brand;
@@ -157,7 +157,7 @@ fn at_a_board<L: BoardName + Send + Sync, R: Threads + Wait + Sync>(
     rt: &R,
     alloc: Global,
     blank: Blank,
-    log: FreshLog,
+    log: FreshLog<Ask>,
     workers: u32,
     rules: Rules,
     plan: Plan,
