@@ -274,6 +274,10 @@ served_by rules workers it start held broken sents places orders any lost whole 
       orders = ⊎_elim
           (λ all. inl (all_done rules workers received.messages it.put sents places orders any lost told done received.said is whose did all.0))
           (λ none. inr (record { fault = inl none.0; history = none.1; refused = none.2 })) closed;
+      unrefused = ⊎_elim
+          (λ all no_reader. absurd (never_no_reader _ _ _ _ _ (ends received.messages received.rest it.left_now received.ending)
+          (sym all.0.told ∙ no_reader)))
+          (λ none _. none.2) closed;
     }
 
 -- nothing was given, and nobody took anything
@@ -304,6 +308,7 @@ unserved workers rules streams log broken done unread sent why none unrefused = 
   ending = ⊎_elim
       (λ memory. inl (subst (λ f. EndsBy f broken [] [] streams.left_now) (sym memory.0) (refl, refl))) inr why;
   orders = inr (record { fault = ⊎_elim (λ memory. inr memory.0) inl why; history = none; refused = unrefused });
+  unrefused = λ _. unrefused;
 }
 
 -- the same, of which nothing was recorded

@@ -92,6 +92,7 @@ pub record IsServedBy (workers : ℕ) (rules : Rules) (streams : Streams) (done 
   pub given : AreAllGiven workers messages parts log ⊎ (done.fault ≡ Some NoReader)
   pub ending : EndsBy done.fault broken messages rest streams.left_now ⊎ (done.fault ≡ Some NoReader)
   pub orders : AreDone workers rules messages parts done ⊎ HasNoHistory done
+  pub unrefused : done.fault ≡ Some NoReader → done.refused ≡ false
 
 -- The result of a session with so many workers under these rules whose lines went to a journal. They are legal, and
 -- with them it served what was read. The journal is there, except at NoReader, and at NoMemory, when nothing was read

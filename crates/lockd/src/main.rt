@@ -12,7 +12,8 @@
 //! `try_limits`.
 #![tactic(auto)]
 
-ghost use Rattle.std.specs.Prelude.{◌≡◌, ◌↔◌, Some, IfErr, IfOk};
+ghost use Rattle.std.specs.Prelude.{◌≡◌, ◌↔◌, Some, IfErr, IfOk, OnOk};
+ghost use Rattle.std.specs.Io.KnownBytes.{Keeps};
 ghost use Rattle.lockd.specs.Inside.{AsksFile, AsksRefusal, GoesWhere};
 ghost use Rattle.lockd_cli.specs.Numbers.{HasWorkers};
 ghost use Rattle.lockd_serve.specs.Ending.{Ends};
@@ -122,6 +123,7 @@ fn opened<F: Write>(
       told = F.contents faults.old;
       told_now = F.contents faults.new;
     })) }
+    ensures untold { OnOk result (Keeps (F.contents faults.old) (F.contents faults.new)) }
 {
     match trace {
         Trace::Printed => Ok(TraceTo::Output),

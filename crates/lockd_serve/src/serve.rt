@@ -1,6 +1,7 @@
 //! `lockd serve`: one session over a socket, with workers.
 
-ghost use Rattle.std.specs.Prelude.{◌≡◌, ◌≤◌, ◌<◌, [], IfErr};
+ghost use Rattle.std.specs.Prelude.{◌≡◌, ◌≤◌, ◌<◌, [], IfErr, OnOk};
+ghost use Rattle.std.specs.Io.KnownBytes.{Keeps};
 ghost use Rattle.std.specs.Path.{path_bytes};
 ghost use Rattle.fl_stream.specs.Streams.{IsBlank};
 ghost use Rattle.fl_transport.specs.Streams.{Streams};
@@ -81,6 +82,7 @@ pub fn trace_at<R: Files, F: Write>(
 ) -> Result<R::File, Status>
     ensures told { IfErr result (λ status. (status ≡ Status.Faulted CommandFault.Trace)
         × IsTold CommandFault.Trace (F.contents faults.old) (F.contents faults.new)) }
+    ensures untold { OnOk result (Keeps (F.contents faults.old) (F.contents faults.new)) }
 {
     let made = OpenOptions::new()
         .write(true)
