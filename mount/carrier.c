@@ -12,6 +12,7 @@
 #include <sys/eventfd.h>
 #include <sys/socket.h>
 #include <sys/uio.h>
+#include <time.h>
 #include <unistd.h>
 
 enum { OPCODES = 64, OWN_MESSAGE = 64 };
@@ -340,9 +341,16 @@ void carrier_stop(void)
 {
     atomic_store(&it.stops, true);
     signal_to(it.wake);
-    shutdown(it.server, SHUT_RDWR);
-    for (int i = 0; i < 2; i++)
-        pthread_join(it.threads[i], NULL);
+    // The server answers what it has, and ends. To read no more would fail its writes, so that is for one that hangs.
+    shutdown(it.server, SHUT_WR);
+    struct timespec last;
+    clock_gettime(CLOCK_REALTIME, &last);
+    last.tv_sec++;
+    if (pthread_timedjoin_np(it.threads[1], NULL, &last)) {
+        shutdown(it.server, SHUT_RDWR);
+        pthread_join(it.threads[1], NULL);
+    }
+    pthread_join(it.threads[0], NULL);
     for (struct letter *letter = letters_taken(), *next; letter; letter = next) {
         next = letter->next;
         free(letter);
