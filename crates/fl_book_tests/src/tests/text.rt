@@ -288,9 +288,9 @@ fn many_locks(rt: &(impl Abort + AllocGlobal), locks: u32) -> String {
 }
 
 #[test]
-fn a_trace_of_ten_thousand_lines(rt: HostRuntime) {
-    let text = many_locks(&rt, 5_000);
-    let trace = read(&rt, text.as_str(), 10_000);
+fn a_trace_of_eighty_thousand_lines(rt: HostRuntime) {
+    let text = many_locks(&rt, 40_000);
+    let trace = read(&rt, text.as_str(), 80_000);
     is_text(&rt, &trace, text.as_str());
 }
 
