@@ -2,7 +2,7 @@
 
 use super::clients::{Client, Outcome, session};
 use super::talker::Talker;
-use super::{count_is, ended, fault_is};
+use super::{asked_in, count_is, ended, fault_is};
 use fl_serve::OpenGate;
 use fl_testing::{GETLK, Lock, Messages, READ, SETLK, UNLOCK, WRITE, byte_lock, long_at, word_at};
 use std::alloc::{AllocError, Global};
@@ -104,10 +104,19 @@ fn has_all_replies(rt: &impl Abort, outcome: &Outcome) {
     count_is(rt, outcome.done.history.len(), 13_336);
 }
 
+// Each order stands behind those whose replies came before it was sent.
+fn stands_in_time(rt: &impl Abort, alloc: Global, outcome: &Outcome) {
+    let asked = asked_in(rt, alloc, &outcome.done.history);
+    for at in 1..asked.len() {
+        assert!(rt; asked[at - 1] < asked[at]);
+    }
+}
+
 #[test]
 fn no_reply_stays_behind(rt: HostRuntime) {
     for workers in [1, 16] {
         let outcome = session(&rt, rt.alloc(), Client::SendsOneByOne, workers, &OpenGate);
         has_all_replies(&rt, &outcome);
+        stands_in_time(&rt, rt.alloc(), &outcome);
     }
 }
