@@ -3,3 +3,4 @@ mod Boards
 mod Counts
 mod Histories
 mod Refusing
+mod Rows

@@ -1,5 +1,5 @@
 -- What workers at one board know of its one history.
-use Rattle.std.specs.Prelude.{◌≡◌, ◌+◌, ◌≤◌, Result, List, ◌++◌, length}
+use Rattle.std.specs.Prelude.{◌≡◌, ◌+◌, ◌≤◌, Result, List, [], ◌∷◌, ◌++◌, length}
 use mathlib.Core.List.{IsPrefix}
 use Rattle.fl_board.specs.Seats.{Place}
 use Rattle.fl_desk.specs.Answered.{IsAnsweredAfter, answered_by}
@@ -24,6 +24,15 @@ pub record IsHandedIn (rules : Rules) (old : Place) (order : Order) (tolds : Lis
   pub seen : new.seen ≡ old.seen
   pub count : new.count ≡ old.count + 1
   pub recorded : new.count ≤ length (answered_by old.worker new.own)
+
+-- These orders were handed in one after another at one worker's place, each with one of these lists of replies. If there
+-- are fewer lists than orders, the orders without one weren't handed in.
+abbrev pub AreHandedIn : Rules → Place → List Order → List (List Told) → Place → Type 0
+AreHandedIn rules old orders [] new = new ≡ old
+AreHandedIn rules old [] (tolds ∷ lists) new = ⊥
+AreHandedIn rules old (order ∷ orders) (tolds ∷ lists) new =
+    (between : Place) × (between.worker ≡ old.worker) × IsHandedIn rules old order tolds between
+    × AreHandedIn rules between orders lists new
 
 -- it is the same worker's, who handed in the same
 pub record KeepsHanded (old new : Place) : Type 0 where

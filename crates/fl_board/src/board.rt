@@ -1,11 +1,11 @@
 //! The board: workers with seats hand in orders under one lock, and look without it. One history of all orders is kept.
 
-ghost use Rattle.std.specs.Prelude.{◌≡◌, ◌<◌, ◌≤◌, ◌↔◌, ◌⊎◌, [], ◌∷◌, true, Err, List, All, IfOk, IfErr, IfSome};
+ghost use Rattle.std.specs.Prelude.{◌≡◌, ◌<◌, ◌≤◌, ◌+◌, ◌↔◌, ◌⊎◌, [], ◌∷◌, true, Err, List, All, IfOk, IfErr, IfSome};
 ghost use Rattle.std.specs.Prelude.{IsSome, OnOk, OnErr, length, map, sum_by};
 ghost use Rattle.std.specs.List.{range_with_len};
 ghost use Rattle.fl_board.specs.Refused.{CantClose, FallsShort};
 ghost use Rattle.fl_board.specs.Seats.{AreApart};
-ghost use Rattle.fl_board.specs.Shown.{HasAllOf, HaveMet, IsHandedIn, IsShown, KeepsHanded};
+ghost use Rattle.fl_board.specs.Shown.{AreHandedIn, HasAllOf, HaveMet, IsHandedIn, IsShown, KeepsHanded};
 ghost use Rattle.fl_core.specs.Tolds.{HasRoom};
 ghost use Rattle.fl_desk.specs.Legal.{IsLegal, LeavesLawful, orders_asked};
 ghost use Rattle.fl_order.specs.Order.{only_reads};
@@ -14,7 +14,7 @@ use crate::asks::asks_lead;
 use crate::seat::Seat;
 use crate::shared::{Shared, are_apart};
 use fl_core::{Rules, Tolds};
-use fl_desk::{HandFault, NoView};
+use fl_desk::{HandFault, NoView, ToldLists};
 use fl_history::{History, Journal, Lines};
 use fl_log::{Beginning, FreshLog};
 use fl_order::{Answer, Errno, NoMemory, Order};
@@ -109,7 +109,7 @@ impl<L: BoardName, R: Wait + Drop, J: Journal> Board<L, R, J> {
     {
         let (book, rest) = blank.open::<L>();
         let shared = Shared::over(alloc, rt, kept, book, log, workers as usize, rules)?;
-        let seats = seats_of(alloc, &shared.writer, &shared.all, rest, workers)?;
+        let seats = seats_of(alloc, &shared.record.writer, &shared.record.all, rest, workers)?;
         let board = Board {
             shared: Mutex::new(shared),
             workers: workers as usize,
@@ -135,6 +135,30 @@ impl<L: BoardName, R: Wait + Drop, J: Journal> Board<L, R, J> {
     {
         let mut shared = self.shared.lock(rt);
         shared.hand_in(seat, order, tolds)
+    }
+
+    /// Takes orders of the seat's worker one after another under one lock, each as `hand_in` does, and then publishes
+    /// them together. It hands out the replies to each in `lists`, in the place of those before; `tolds` has room for
+    /// those to one. It may end before it took all, when there may be no room for the replies to one more, but takes
+    /// one at least, or is refused. A refusal concerns the first order that has no list.
+    pub fn hand_in_all<W: Wait>(
+        &self,
+        rt: &W,
+        seat: &mut Seat<L>,
+        orders: &[Order],
+        tolds: &mut Tolds,
+        lists: &mut ToldLists,
+    ) -> Result<(), HandFault>
+        requires room { HasRoom L.rules tolds.old }
+        requires lists { (L.rules.parked + 1 ≤ lists.old.room) × (0 < lists.old.places) }
+        ensures room { tolds.new.room ≡ tolds.old.room }
+        ensures lists { (lists.new.room ≡ lists.old.room) × (lists.new.places ≡ lists.old.places) }
+        ensures handed { AreHandedIn L.rules seat.old orders.now lists.new.lists seat.new }
+        ensures some { OnOk result (0 < length orders.now → 0 < length lists.new.lists) }
+        ensures refused { OnErr result (length lists.new.lists < length orders.now) }
+    {
+        let mut shared = self.shared.lock(rt);
+        shared.hand_in_all(seat, orders, tolds, lists)
     }
 
     /// As `Seat::look`: it needs nothing of the board but what is published.

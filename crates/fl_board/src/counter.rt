@@ -6,7 +6,7 @@ ghost use Rattle.fl_desk.specs.Answered.{IsAnsweredAfter, answered_by};
 use crate::board::Board;
 use crate::seat::Seat;
 use fl_core::Tolds;
-use fl_desk::{Counter, HandFault, NoView};
+use fl_desk::{Counter, HandFault, NoView, ToldLists};
 use fl_history::Journal;
 use fl_order::{Answer, Errno, Order};
 use fl_replica::BoardName;
@@ -27,14 +27,15 @@ impl<L: BoardName, P: Wait + Drop, J: Journal> Counter for Board<L, P, J> {
 
     ghost most_tolds = { L.rules.parked + 1 };
 
-    fn hand_in<R: Wait>(
+    fn hand_in_all<R: Wait>(
         &self,
         rt: &R,
         seat: &mut Seat<L>,
-        order: &Order,
+        orders: &[Order],
         tolds: &mut Tolds,
+        lists: &mut ToldLists,
     ) -> Result<(), HandFault> {
-        Board::hand_in(self, rt, seat, order, tolds)
+        Board::hand_in_all(self, rt, seat, orders, tolds, lists)
     }
 
     fn look(&self, seat: &mut Seat<L>, order: &Order) -> Result<Result<Answer, Errno>, NoView> {

@@ -1,54 +1,43 @@
 //! What lies under a board's lock.
 
-ghost use Rattle.std.specs.Prelude.{◌≡◌, ◌≢◌, ◌↔◌, ◌⊎◌, ◌≤◌, ◌<◌, ◌^◌, ◌++◌, ◌∷◌, [], true, false, Err, All, length};
-ghost use Rattle.std.specs.Prelude.{IfOk, OnOk, OnErr, MatchResult, List};
+ghost use Rattle.std.specs.Prelude.{◌≡◌, ◌≢◌, ◌↔◌, ◌≤◌, ◌<◌, ◌^◌, ◌+◌, ◌∷◌, [], true, false, All, length};
+ghost use Rattle.std.specs.Prelude.{IfOk, OnOk, OnErr};
 ghost use Rattle.fl_board.specs.Inside.Asks.{HasMostOf, history_of};
 ghost use Rattle.fl_board.specs.Refused.{BeginsWith, FallsShort};
 ghost use Rattle.fl_board.specs.Seats.{AreApart};
-ghost use Rattle.fl_board.specs.Shown.{HaveMet, IsHandedIn, KeepsHanded};
+ghost use Rattle.fl_board.specs.Shown.{AreHandedIn, HaveMet, IsHandedIn, KeepsHanded};
 ghost use Rattle.fl_core.specs.Tolds.{HasRoom};
 ghost use Rattle.fl_desk.specs.Legal.{IsLegal, LeavesLawful, orders_asked};
-ghost use Rattle.fl_log.specs.Longer.{IsLonger};
-ghost use Rattle.fl_replica.specs.declared.ask.Ask.{Ask as Handed};
 
 use crate::asks::asks_lead;
+use crate::record::Record;
 use crate::seat::Seat;
 use fl_core::{Rules, Tolds};
-use fl_desk::{Desk, HandFault, NoView};
+use fl_desk::{HandFault, NoView, ToldLists};
 use fl_history::Journal;
-use fl_log::{Beginning, FreshLog, Log, MOST_ENTRIES};
+use fl_log::FreshLog;
 use fl_order::{NoMemory, Order};
-use fl_replica::{AsAsk, Ask, BoardName, ReplicaWriter, Update};
+use fl_replica::{Ask, BoardName};
 use std::alloc::Global;
 use std::marker::Model;
 use std::sync::Wait;
 use std::sync::ledger::{Book, Share};
 
-/// One desk; the ledger's book, whose total is the number of orders in the desk's history; the log of what was handed
-/// in, and all of it; and what is published. Contracts see it as the asks that were handed in.
+/// The record, of which all that was handed in is published. Contracts see the asks that were handed in.
 #[derive(Drop)]
 pub(crate) struct Shared<L: BoardName, R: Wait + Drop, J: Journal> {
-    pub desk: Desk<J>,
-    pub book: Book<L>,
-    pub log: Log<L, Ask>,
-    pub all: Beginning<L, Ask>,
-    pub writer: ReplicaWriter<L, R>,
+    pub record: Record<L, R, J>,
 }
 
 impl<L: BoardName, R: Wait + Drop, J: Journal> Model for Shared<L, R, J> {
     ghost use Rattle.std.specs.Prelude.{◌≡◌, IfSome, List};
-    ghost use Rattle.fl_board.specs.Inside.Asks.{history_of};
-    ghost use Rattle.fl_desk.specs.Legal.{orders_asked};
     ghost use Rattle.fl_replica.specs.declared.ask.Ask.{Ask};
-    ghost use Rattle.fl_replica.specs.Asks.{present_after};
 
     ghost Value = { List Ask };
 
-    ghost view = { λ s. s.all };
+    ghost view = { λ s. s.record.asks };
 
-    ghost invariant = { λ s. (s.writer.asks ≡ s.all) × (s.desk.lines ≡ history_of L.rules s.all)
-        × (s.desk.present ≡ present_after L.rules s.all) × (s.book.total ≡ orders_asked s.desk.lines)
-        × IfSome s.writer.shown (λ shown. shown ≡ s.all) };
+    ghost invariant = { λ s. IfSome s.record.shown (λ shown. shown ≡ s.record.asks) };
 }
 
 impl<L: BoardName, R: Wait + Drop, J: Journal> Shared<L, R, J> {
@@ -72,15 +61,8 @@ impl<L: BoardName, R: Wait + Drop, J: Journal> Shared<L, R, J> {
         requires rules { rules ≡ L.rules }
         ensures { IfOk result (λ shared. shared ≡ []) }
     {
-        let (log, all) = log.named::<L>();
-        let writer = ReplicaWriter::new(alloc, rt, &all, readers, rules)?;
-        Ok(Shared {
-            desk: Desk::over(alloc, kept, rules)?,
-            book: ledger,
-            log,
-            all,
-            writer,
-        })
+        let record = Record::over(alloc, rt, kept, ledger, log, readers, rules)?;
+        Ok(Shared { record })
     }
 
     /// Takes an order of the seat's worker, counts it, and publishes it.
@@ -97,36 +79,30 @@ impl<L: BoardName, R: Wait + Drop, J: Journal> Shared<L, R, J> {
         ensures all { OnOk result (history_of L.rules self.new ≡ seat.new.own) }
         ensures refused { OnErr result ((seat.new ≡ seat.old) × (tolds.new ≡ tolds.old) × (self.new ≡ self.old)) }
     {
-        let Shared {
-            desk,
-            book,
-            log,
-            all,
-            writer,
-        } = self;
-        asks_lead();
-        if desk.ready().is_err() {
-            return Err(HandFault::NoMemory);
-        }
-        if !seat.begins(all) {
-            return Err(HandFault::NoView);
-        }
-        let ask = Ask {
-            worker: seat.worker,
-            order: *order,
-        };
-        let before = all.again();
-        let Ok(()) = added(log, all, &ask) else {
-            return Err(HandFault::NoView);
-        };
-        if desk.take(seat.worker, order, tolds).is_err() {
-            unreachable!();
-        }
-        book.add(&mut seat.share, 1);
-        writer.add(Update::new(*order, tolds.own_alone(order), before, all.again()));
-        writer.publish();
-        seat.own = all.again();
-        Ok(())
+        let taken = self.record.take(seat, order, tolds);
+        self.record.publish();
+        taken
+    }
+
+    /// Takes orders of the seat's worker, one after another, and publishes them together.
+    pub(crate) fn hand_in_all(
+        &mut self,
+        seat: &mut Seat<L>,
+        orders: &[Order],
+        tolds: &mut Tolds,
+        lists: &mut ToldLists,
+    ) -> Result<(), HandFault>
+        requires room { HasRoom L.rules tolds.old }
+        requires lists { (L.rules.parked + 1 ≤ lists.old.room) × (0 < lists.old.places) }
+        ensures room { tolds.new.room ≡ tolds.old.room }
+        ensures lists { (lists.new.room ≡ lists.old.room) × (lists.new.places ≡ lists.old.places) }
+        ensures handed { AreHandedIn L.rules seat.old orders.now lists.new.lists seat.new }
+        ensures some { OnOk result (0 < length orders.now → 0 < length lists.new.lists) }
+        ensures refused { OnErr result (length lists.new.lists < length orders.now) }
+    {
+        let taken = self.record.take_all(seat, orders, tolds, lists);
+        self.record.publish();
+        taken
     }
 
     /// Shows two workers all that was handed in.
@@ -138,11 +114,11 @@ impl<L: BoardName, R: Wait + Drop, J: Journal> Shared<L, R, J> {
         ensures no_view { OnErr result (FallsShort L.rules (one.old ∷ other.old ∷ [])) }
     {
         asks_lead();
-        if !one.begins(&self.all) || !other.begins(&self.all) {
+        if !one.begins(&self.record.all) || !other.begins(&self.record.all) {
             return Err(NoView);
         }
-        one.seen = self.all.again();
-        other.seen = self.all.again();
+        one.seen = self.record.all.again();
+        other.seen = self.record.all.again();
         Ok(())
     }
 
@@ -152,7 +128,7 @@ impl<L: BoardName, R: Wait + Drop, J: Journal> Shared<L, R, J> {
         ensures most { result ≡ true → All (λ seat. HasMostOf (history_of L.rules self.now) seat) seats.now }
     {
         for seat in seats {
-            if !seat.begins(&self.all) {
+            if !seat.begins(&self.record.all) {
                 return false;
             }
         }
@@ -163,7 +139,7 @@ impl<L: BoardName, R: Wait + Drop, J: Journal> Shared<L, R, J> {
     pub(crate) fn pause(&mut self)
         ensures { self.new ≡ self.old }
     {
-        self.desk.pause();
+        self.record.pause();
     }
 
     /// The desk's journal, for the whole of the ledger.
@@ -174,47 +150,9 @@ impl<L: BoardName, R: Wait + Drop, J: Journal> Shared<L, R, J> {
         ensures lawful { LeavesLawful L.rules (J.lines result) }
         ensures counted { orders_asked (J.lines result) ≡ whole.old.amount }
     {
-        let Shared {
-            desk,
-            mut book,
-            log: _log,
-            all: _all,
-            writer: _writer,
-        } = self;
-        asks_lead();
-        book.audit(whole);
-        desk.into_kept()
+        let Shared { record } = self;
+        record.into_kept(whole)
     }
-}
-
-// Why an ask isn't in the log.
-#[derive(Drop)]
-enum NotAdded<L: BoardName> {
-    // The log has as many asks as it may have.
-    Full,
-    // This is what the log has, and it is more than was known.
-    Longer(Beginning<L, Ask>),
-}
-
-// Adds an ask to the log, and to what is known of it.
-fn added<L: BoardName>(
-    log: &Log<L, Ask>,
-    all: &mut Beginning<L, Ask>,
-    ask: &Ask,
-) -> Result<(), NotAdded<L>>
-    ensures added { MatchResult result (λ _. all.new ≡ all.old ++ ask.now ∷ []) (λ _. all.new ≡ all.old) }
-    ensures full { result ≡ Err NotAdded.Full → 2 ^ 62 ≤ length all.old }
-    ensures longer { (more : List Handed) → result ≡ Err (NotAdded.Longer more) → IsLonger all.old more }
-{
-    if all.len() >= MOST_ENTRIES {
-        return Err(NotAdded::Full);
-    }
-    let mut next = all.again();
-    if !next.add::<Ask, AsAsk>(log, ask) {
-        return Err(NotAdded::Longer(next));
-    }
-    *all = next;
-    Ok(())
 }
 
 /// Whether no two seats are of one worker.

@@ -42,6 +42,14 @@ pub record IsAnsweredLast (before : List Answered) (order : Order) (tolds : List
   pub had : IsPrefix before others
   pub is : now ≡ others ++ answered order tolds ∷ []
 
+-- These orders are answered one after another behind all that was answered before, each with one of these lists of
+-- replies. If there are fewer lists than orders, the orders without one aren't answered.
+abbrev pub AreAnsweredLast : List Answered → List Order → List (List Told) → List Answered → Type 0
+AreAnsweredLast before orders [] now = now ≡ before
+AreAnsweredLast before [] (tolds ∷ lists) now = ⊥
+AreAnsweredLast before (order ∷ orders) (tolds ∷ lists) now =
+    (between : List Answered) × IsAnsweredLast before order tolds between × AreAnsweredLast between orders lists now
+
 -- after a history that is legal under these rules, this is what an order that only reads is answered
 pub record IsAnsweredAfter (rules : Rules) (lines : List Line) (order : Order) (result : Result Answer Errno)
     : Type 0 where

@@ -4,5 +4,6 @@ pub mod BookCode
 pub mod Kept
 pub mod Leading
 pub mod Legal
+pub mod Lists
 pub mod Replay
 pub mod Verdicts

@@ -1,8 +1,8 @@
 //! What a worker needs: a counter at which it hands orders in and looks, and a gate, which is called for each.
 
-ghost use Rattle.std.specs.Prelude.{◌≡◌, ◌≤◌, ℕ, ◌+◌, true, List, Result, IfOk, OnOk, OnErr};
+ghost use Rattle.std.specs.Prelude.{◌≡◌, ◌<◌, ◌≤◌, ℕ, ◌+◌, true, length, List, Result, IfOk, OnOk, OnErr};
 ghost use mathlib.Core.List.{IsPrefix};
-ghost use Rattle.fl_desk.specs.Answered.{Answered, IsAnsweredLast, answered_by};
+ghost use Rattle.fl_desk.specs.Answered.{Answered, AreAnsweredLast, answered_by};
 ghost use Rattle.fl_history.specs.declared.history.Line.{Line};
 ghost use Rattle.fl_order.specs.Order.{only_reads};
 ghost use Rattle.fl_order.specs.declared.errno.Errno.{Errno};
@@ -10,6 +10,7 @@ ghost use Rattle.fl_order.specs.declared.order.Order.{Order};
 ghost use Rattle.fl_order.specs.declared.told.Answer.{Answer};
 
 use crate::fault::{HandFault, NoView};
+use crate::told_lists::ToldLists;
 use fl_core::Tolds;
 use fl_order::{Answer, Errno, Order};
 use std::sync::Wait;
@@ -37,22 +38,27 @@ pub trait Counter {
     /// How many replies an order may be given.
     ghost most_tolds: { ℕ };
 
-    /// Takes an order, and hands out its replies, for which there has to be room. A refusal hands out nothing.
-    fn hand_in<R: Wait>(
+    /// Takes orders one after another, and hands out a list of replies for each that it took: in `lists`, in the place
+    /// of those before. `tolds` has room for the replies to one. It may end before it took all, but takes one at least,
+    /// or is refused. A refusal concerns the first order that has no list, and changes nothing.
+    fn hand_in_all<R: Wait>(
         &self,
         rt: &R,
         seat: &mut Self::Seat,
-        order: &Order,
+        orders: &[Order],
         tolds: &mut Tolds,
+        lists: &mut ToldLists,
     ) -> Result<(), HandFault>
         requires room { most_tolds ≤ tolds.old.room }
+        requires lists { (most_tolds ≤ lists.old.room) × (0 < lists.old.places) }
         ensures room { tolds.new.room ≡ tolds.old.room }
+        ensures lists { (lists.new.room ≡ lists.old.room) × (lists.new.places ≡ lists.old.places) }
         ensures own { worker seat.new ≡ worker seat.old }
         ensures seen { seen seat.new ≡ seen seat.old }
-        ensures taken { OnOk result ((count seat.new ≡ count seat.old + 1)
-            × IsAnsweredLast (answered seat.old) order.now tolds.new.told (answered seat.new)) }
-        ensures refused { OnErr result
-            ((count seat.new ≡ count seat.old) × (answered seat.new ≡ answered seat.old) × (tolds.new ≡ tolds.old)) };
+        ensures count { count seat.new ≡ count seat.old + length lists.new.lists }
+        ensures taken { AreAnsweredLast (answered seat.old) orders.now lists.new.lists (answered seat.new) }
+        ensures some { OnOk result (0 < length orders.now → 0 < length lists.new.lists) }
+        ensures refused { OnErr result (length lists.new.lists < length orders.now) };
 
     /// What an order that only reads is answered, without taking it: after a history that has all that was taken and
     /// shown through the seat before, and that is shown now. It waits for nobody.
@@ -69,8 +75,8 @@ pub trait Counter {
     fn pause<R: Wait>(&self, rt: &R);
 }
 
-/// A hook, called for each order that a worker took: before it is handed in, and after each reply of it that was given
-/// out to be sent.
+/// A hook, called for each order that a worker took: for all of a row before the first is handed in, and after each
+/// reply that was given out to be sent.
 pub trait Gate {
     /// An order of this unique is about to be handed in.
     fn pass(&self, unique: u64);

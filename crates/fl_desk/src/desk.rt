@@ -63,6 +63,14 @@ impl<J: Journal> Desk<J> {
         self.kept.reserve(count)
     }
 
+    /// The most replies that it gives to one order, by its rules: the order's own, and one to each request that may be
+    /// parked.
+    pub fn most_tolds(&self) -> usize
+        ensures { result ≡ self.now.present.rules.parked + 1 }
+    {
+        self.present.most_tolds()
+    }
+
     /// Takes an order of a worker: records it, answers it, and hands out the replies that it records. A refusal
     /// changes nothing, and doesn't come if there is room for the lines of one order by its rules, which `ready`
     /// makes.
@@ -70,6 +78,7 @@ impl<J: Journal> Desk<J> {
         requires { HasRoom self.old.present.rules tolds.old }
         ensures replies { OnOk result
             (tolds.new.told ≡ replies_in (state_after self.old.present.rules self.old.lines) order.now) }
+        ensures few { OnOk result (length tolds.new.told ≤ self.old.present.rules.parked + 1) }
         ensures room { tolds.new.room ≡ tolds.old.room }
         ensures lines { OnOk result (self.new.lines ≡ self.old.lines ++ step_lines worker order.now tolds.new.told) }
         ensures next { OnOk result (self.new.present ≡ next self.old.present order.now) }

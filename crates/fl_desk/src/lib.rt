@@ -13,8 +13,10 @@ mod desk;
 mod fault;
 mod judge;
 pub mod laws;
+mod told_lists;
 
 pub use counter::{Counter, Gate, OpenGate};
 pub use desk::Desk;
 pub use fault::{HandFault, NoView};
 pub use judge::{Verdict, check};
+pub use told_lists::{MOST_IN_ROW, ToldLists};

@@ -17,13 +17,23 @@ impl Entry for Ask {
     ghost author = { λ ask. ask.worker };
 }
 
-/// How an ask stands in a log.
+/// An order that is lent, and the worker who hands it in: what an ask is made of.
+#[derive(Clone, Copy, Debug)]
+pub struct Asking<'a> {
+    /// The worker's number, from 0.
+    pub worker: u32,
+    /// What it asks.
+    pub order: &'a Order,
+}
+
+/// How it stands in a log.
 pub struct AsAsk;
 
-impl Plain<Ask, Ask, u64> for AsAsk {
+impl<'a> Plain<Asking<'a>, Ask, u64> for AsAsk {
     ghost use Rattle.std.specs.Prelude.{None};
+    ghost use Rattle.fl_replica.specs.Asks.{ask_of};
 
-    ghost ask = { λ ask. ask };
+    ghost ask = { λ asking. ask_of asking.worker asking.order.now };
 
-    ghost state = { λ ask. None };
+    ghost state = { λ asking. None };
 }

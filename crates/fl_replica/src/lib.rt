@@ -13,7 +13,7 @@ mod name;
 mod replica;
 mod writer;
 
-pub use ask::{AsAsk, Ask};
+pub use ask::{AsAsk, Ask, Asking};
 pub use name::BoardName;
 pub use replica::{Replica, Update, look_at};
 pub use writer::ReplicaWriter;

@@ -15,7 +15,7 @@ use Rattle.fl_board.specs.Seats.{Place}
 use Rattle.fl_board.proofs.Boards.{step_asks_one_order}
 use Rattle.fl_board.proofs.Counts.{one_more_by, orders_by}
 use Rattle.fl_board.proofs.Histories.{history_more, present_more}
-use Rattle.fl_board.proofs.shared.Shared.hand_in.Goals as goal
+use Rattle.fl_board.proofs.record.Record.take.Goals as goal
 
 -- what was told alone by these replies was told alone by the same
 alone_of : (order : Order) (found : Option (Option (Result Answer Errno))) (told tolds : List Told)
@@ -48,7 +48,7 @@ invariant_of-self-2 g c =
     let taken : c.take.new.self.lines ≡ history_of ours was ++ step_lines worker order c.take.new.tolds.told = search rules in
     let stepped : c.take.new.self.present ≡ next (present_after ours was) order = search rules in
     let told : c.take.new.tolds.told ≡ replies_in (state_after (present_after ours was).rules (history_of ours was)) order = search rules in
-    let asks : c.publish.new.self.asks ≡ c.added.new.all = search rules in
+    let asks : c.add-writer.new.self.asks ≡ c.added.new.all = search rules in
     let leads = c.asks_lead.ensures in
     let answered : c.take.new.tolds.told ≡ replies (present_after ours was) order =
     told ∙ ap (λ r. replies_in (state_after r (history_of ours was)) order) (leads.rules ours was)
@@ -59,7 +59,6 @@ invariant_of-self-2 g c =
       stepped ∙ sym (present_more ours was ask) ∙ ap (present_after ours) (sym all),
       c.add.ensures.total ∙ ap (λ n. n + 1) (c.self.invariant.3 ∙ ap orders_asked c.self.invariant.1)
           ∙ sym (ap orders_asked taken ∙ step_asks_one_order (history_of ours was) worker order c.take.new.tolds.told),
-      subst (λ all. IfSome c.publish.new.self.shown (λ shown. shown ≡ all)) (sym c.publish.ensures.asks ∙ asks) c.publish.ensures.shown,
     )
 
 pub invariant_of-seat : goal.invariant_of-seat

@@ -1,0 +1,68 @@
+-- A row of orders that was handed in.
+use Rattle.std.proofs.Common.{◌≡◌, ℕ, ◌+◌, ◌<◌, ◌≤◌, List, [], ◌∷◌, ◌++◌, length, refl, ap, sym, ◌∙◌, subst, arith}
+use Rattle.std.proofs.Math.ListN.{get_or}
+use Rattle.fl_board.proofs.Answering.{handed_in_last}
+use Rattle.fl_board.specs.Seats.{Place}
+use Rattle.fl_board.specs.Shown.{AreHandedIn, IsHandedIn}
+use Rattle.fl_desk.specs.Answered.{AreAnsweredLast, answered_by}
+use Rattle.fl_order.specs.declared.order.Order.{Order}
+use Rattle.fl_order.specs.declared.told.Told.{Told}
+use Rattle.fl_waiting.specs.declared.rules.Rules.{Rules}
+
+-- the first order that has no list is handed in, too
+pub handed_more : (rules : Rules) (old mid new : Place) (orders : List Order) (lists : List (List Told)) (order : Order)
+    (tolds : List Told) → length lists < length orders → get_or orders (length lists) order ≡ order
+    → new.worker ≡ mid.worker → IsHandedIn rules mid order tolds new → AreHandedIn rules old orders lists mid
+    → AreHandedIn rules old orders (lists ++ tolds ∷ []) new
+handed_more rules old mid new [] lists order tolds less is same one so_far = absurd (omega (arith, less))
+handed_more rules old mid new (o ∷ orders) [] order tolds less is same one so_far = (
+  new,
+  same ∙ ap (λ (p : Place). p.worker) so_far,
+  subst (λ (p : Place). IsHandedIn rules p o tolds new) so_far
+      (subst (λ (it : Order). IsHandedIn rules mid it tolds new) (sym is) one),
+  refl,
+)
+handed_more rules old mid new (o ∷ orders) (ts ∷ lists) order tolds less is same one so_far = (
+  so_far.0,
+  so_far.1,
+  so_far.2.0,
+  handed_more rules so_far.0 mid new orders lists order tolds (omega (arith, less)) is same one so_far.2.1,
+)
+
+-- no more lists than orders
+pub no_more_lists : (rules : Rules) (old new : Place) (orders : List Order) (lists : List (List Told))
+    → AreHandedIn rules old orders lists new → length lists ≤ length orders
+no_more_lists rules old new orders [] handed = omega arith
+no_more_lists rules old new [] (ts ∷ lists) handed = absurd handed
+no_more_lists rules old new (o ∷ orders) (ts ∷ lists) handed =
+    omega (arith, no_more_lists rules handed.0 new orders lists handed.2.1)
+
+-- the place stays its worker's, what was shown there stays, and it counts the orders
+pub handed_same : (rules : Rules) (old new : Place) (orders : List Order) (lists : List (List Told))
+    → AreHandedIn rules old orders lists new
+    → (new.worker ≡ old.worker) × (new.seen ≡ old.seen) × (new.count ≡ old.count + length lists)
+handed_same rules old new orders [] handed = (
+  ap (λ (p : Place). p.worker) handed,
+  ap (λ (p : Place). p.seen) handed,
+  omega (arith, ap (λ (p : Place). p.count) handed),
+)
+handed_same rules old new [] (ts ∷ lists) handed = absurd handed
+handed_same rules old new (o ∷ orders) (ts ∷ lists) handed =
+    let one = handed.2.0 in
+    let rest = handed_same rules handed.0 new orders lists handed.2.1 in (
+      rest.0 ∙ handed.1,
+      rest.1 ∙ one.seen,
+      omega (arith, rest.2, one.count),
+    )
+
+-- orders that were handed in at a seat are answered behind all that was handed in there
+pub handed_in_answered : (rules : Rules) (old new : Place) (orders : List Order) (lists : List (List Told))
+    → AreHandedIn rules old orders lists new
+    → AreAnsweredLast (answered_by old.worker old.own) orders lists (answered_by new.worker new.own)
+handed_in_answered rules old new orders [] handed = ap (λ (p : Place). answered_by p.worker p.own) handed
+handed_in_answered rules old new [] (ts ∷ lists) handed = absurd handed
+handed_in_answered rules old new (o ∷ orders) (ts ∷ lists) handed = (
+  answered_by handed.0.worker handed.0.own,
+  handed_in_last rules old handed.0 o ts handed.1 handed.2.0,
+  handed_in_answered rules handed.0 new orders lists handed.2.1,
+)

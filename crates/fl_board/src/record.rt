@@ -1,0 +1,230 @@
+//! What is recorded under a board's lock.
+
+ghost use Rattle.std.specs.Prelude.{◌≡◌, ◌<◌, ◌≤◌, ◌^◌, ◌+◌, ◌++◌, ◌∷◌, [], Err, Some, length};
+ghost use Rattle.std.specs.Prelude.{IfOk, IfSome, OnOk, OnErr, MatchResult, List};
+ghost use Rattle.fl_board.specs.Inside.Asks.{history_of};
+ghost use Rattle.fl_board.specs.Shown.{AreHandedIn, IsHandedIn};
+ghost use Rattle.fl_core.specs.Tolds.{HasRoom};
+ghost use Rattle.fl_desk.specs.Legal.{IsLegal, LeavesLawful, orders_asked};
+ghost use Rattle.fl_log.specs.Longer.{IsLonger};
+ghost use Rattle.fl_replica.specs.Asks.{ask_of};
+ghost use Rattle.fl_replica.specs.declared.ask.Ask.{Ask as Handed};
+
+use crate::asks::asks_lead;
+use crate::seat::Seat;
+use fl_core::{Rules, Tolds};
+use fl_desk::{Desk, HandFault, ToldLists};
+use fl_history::Journal;
+use fl_log::{Beginning, FreshLog, Log, MOST_ENTRIES};
+use fl_order::{NoMemory, Order};
+use fl_replica::{AsAsk, Ask, Asking, BoardName, ReplicaWriter, Update};
+use std::alloc::Global;
+use std::marker::Model;
+use std::sync::Wait;
+use std::sync::ledger::{Book, Share};
+
+/// One desk; the ledger's book, whose total is the number of orders in the desk's history; the log of what was handed
+/// in, and all of it; and the writer that publishes it. Contracts see the asks that were handed in, and those that are
+/// published.
+#[derive(Drop)]
+pub(crate) struct Record<L: BoardName, R: Wait + Drop, J: Journal> {
+    pub desk: Desk<J>,
+    pub book: Book<L>,
+    pub log: Log<L, Ask>,
+    pub all: Beginning<L, Ask>,
+    pub writer: ReplicaWriter<L, R>,
+}
+
+impl<L: BoardName, R: Wait + Drop, J: Journal> Model for Record<L, R, J> {
+    ghost use Rattle.std.specs.Prelude.{◌≡◌};
+    ghost use Rattle.fl_board.specs.Inside.Asks.{history_of};
+    ghost use Rattle.fl_desk.specs.Legal.{orders_asked};
+    ghost use Rattle.fl_replica.specs.Asks.{Publication, present_after};
+
+    ghost Value = { Publication };
+
+    ghost view = { λ s. record { asks = s.all; shown = s.writer.shown } };
+
+    ghost invariant = { λ s. (s.writer.asks ≡ s.all) × (s.desk.lines ≡ history_of L.rules s.all)
+        × (s.desk.present ≡ present_after L.rules s.all) × (s.book.total ≡ orders_asked s.desk.lines) };
+}
+
+impl<L: BoardName, R: Wait + Drop, J: Journal> Record<L, R, J> {
+    /// The record of a board that has taken no order, with a place for so many readers. `rt` waits for these.
+    pub(crate) fn over(
+        alloc: Global,
+        rt: R,
+        kept: J,
+        ledger: Book<L>,
+        log: FreshLog<Ask>,
+        readers: usize,
+        rules: Rules,
+    ) -> Result<Record<L, R, J>, NoMemory>
+    where
+        J: Drop,
+        requires none { J.lines kept ≡ [] }
+        requires ledger { ledger.total ≡ 0 }
+        requires log { log ≡ L.log }
+        requires readers { (0 < readers) × (readers < 2 ^ 32) }
+        requires rules { rules ≡ L.rules }
+        ensures { IfOk result (λ made. made ≡ record { asks = []; shown = Some [] }) }
+    {
+        let (log, all) = log.named::<L>();
+        let writer = ReplicaWriter::new(alloc, rt, &all, readers, rules)?;
+        Ok(Record {
+            desk: Desk::over(alloc, kept, rules)?,
+            book: ledger,
+            log,
+            all,
+            writer,
+        })
+    }
+
+    /// The most replies that one order is given by the board's rules.
+    pub(crate) fn most_tolds(&self) -> usize
+        ensures { result ≡ L.rules.parked + 1 }
+    {
+        asks_lead();
+        self.desk.most_tolds()
+    }
+
+    /// Takes an order of the seat's worker, and counts it. It is published later.
+    pub(crate) fn take(
+        &mut self,
+        seat: &mut Seat<L>,
+        order: &Order,
+        tolds: &mut Tolds,
+    ) -> Result<(), HandFault>
+        requires { HasRoom L.rules tolds.old }
+        ensures worker { seat.new.worker ≡ seat.old.worker }
+        ensures handed { OnOk result (IsHandedIn L.rules seat.old order.now tolds.new.told seat.new) }
+        ensures few { OnOk result (length tolds.new.told ≤ L.rules.parked + 1) }
+        ensures room { tolds.new.room ≡ tolds.old.room }
+        ensures all { OnOk result (history_of L.rules self.new.asks ≡ seat.new.own) }
+        ensures refused { OnErr result ((seat.new ≡ seat.old) × (tolds.new ≡ tolds.old) × (self.new ≡ self.old)) }
+    {
+        let Record {
+            desk,
+            book,
+            log,
+            all,
+            writer,
+        } = self;
+        asks_lead();
+        if desk.ready().is_err() {
+            return Err(HandFault::NoMemory);
+        }
+        if !seat.begins(all) {
+            return Err(HandFault::NoView);
+        }
+        let before = all.again();
+        let Ok(()) = added(log, all, seat.worker, order) else {
+            return Err(HandFault::NoView);
+        };
+        if desk.take(seat.worker, order, tolds).is_err() {
+            unreachable!();
+        }
+        book.add(&mut seat.share, 1);
+        writer.add(Update::new(*order, tolds.own_alone(order), before, all.again()));
+        seat.own = all.again();
+        Ok(())
+    }
+
+    /// Takes orders of the seat's worker, one after another, and hands out the replies to each. It ends when there may
+    /// be no room for those to one more.
+    pub(crate) fn take_all(
+        &mut self,
+        seat: &mut Seat<L>,
+        orders: &[Order],
+        tolds: &mut Tolds,
+        lists: &mut ToldLists,
+    ) -> Result<(), HandFault>
+        requires room { HasRoom L.rules tolds.old }
+        requires lists { (L.rules.parked + 1 ≤ lists.old.room) × (0 < lists.old.places) }
+        ensures room { tolds.new.room ≡ tolds.old.room }
+        ensures lists { (lists.new.room ≡ lists.old.room) × (lists.new.places ≡ lists.old.places) }
+        ensures handed { AreHandedIn L.rules seat.old orders.now lists.new.lists seat.new }
+        ensures some { OnOk result (0 < length orders.now → 0 < length lists.new.lists) }
+        ensures refused { OnErr result (length lists.new.lists < length orders.now) }
+    {
+        lists.clear();
+        let most = self.most_tolds();
+        for order in orders {
+            if !lists.has_room(most) {
+                return Ok(());
+            }
+            if let Err(fault) = self.take(seat, order, tolds) {
+                return Err(fault);
+            }
+            lists.push(tolds.as_slice());
+        }
+        Ok(())
+    }
+
+    /// Publishes all that was taken.
+    pub(crate) fn publish(&mut self)
+        ensures asks { self.new.asks ≡ self.old.asks }
+        ensures shown { IfSome self.new.shown (λ shown. shown ≡ self.new.asks) }
+    {
+        self.writer.publish();
+    }
+
+    /// Flushes the desk's journal: no order is at hand.
+    pub(crate) fn pause(&mut self)
+        ensures { self.new ≡ self.old }
+    {
+        self.desk.pause();
+    }
+
+    /// The desk's journal, for the whole of the ledger.
+    pub(crate) fn into_kept(self, whole: &mut Share<L>) -> J
+        requires { whole.old.parts ≡ L.parts }
+        ensures lines { J.lines result ≡ history_of L.rules self.asks }
+        ensures legal { IsLegal L.rules (J.lines result) }
+        ensures lawful { LeavesLawful L.rules (J.lines result) }
+        ensures counted { orders_asked (J.lines result) ≡ whole.old.amount }
+    {
+        let Record {
+            desk,
+            mut book,
+            log: _log,
+            all: _all,
+            writer: _writer,
+        } = self;
+        asks_lead();
+        book.audit(whole);
+        desk.into_kept()
+    }
+}
+
+// Why an order isn't in the log.
+#[derive(Drop)]
+enum NotAdded<L: BoardName> {
+    // The log has as many asks as it may have.
+    Full,
+    // This is what the log has, and it is more than was known.
+    Longer(Beginning<L, Ask>),
+}
+
+// Adds a worker's order to the log, and to what is known of it.
+fn added<L: BoardName>(
+    log: &Log<L, Ask>,
+    all: &mut Beginning<L, Ask>,
+    worker: u32,
+    order: &Order,
+) -> Result<(), NotAdded<L>>
+    ensures added { MatchResult result (λ _. all.new ≡ all.old ++ ask_of worker order.now ∷ [])
+        (λ _. all.new ≡ all.old) }
+    ensures full { result ≡ Err NotAdded.Full → 2 ^ 62 ≤ length all.old }
+    ensures longer { (more : List Handed) → result ≡ Err (NotAdded.Longer more) → IsLonger all.old more }
+{
+    if all.len() >= MOST_ENTRIES {
+        return Err(NotAdded::Full);
+    }
+    let mut next = all.again();
+    if !next.add::<Asking, AsAsk>(log, &Asking { worker, order }) {
+        return Err(NotAdded::Longer(next));
+    }
+    *all = next;
+    Ok(())
+}
