@@ -13,7 +13,7 @@ ghost use Rattle.fl_replica.specs.declared.ask.Ask.{Ask as Handed};
 use crate::asks::asks_lead;
 use crate::seat::Seat;
 use fl_core::{Rules, Tolds};
-use fl_desk::{Desk, HandFault, ToldLists};
+use fl_desk::{Desk, HandFault, MOST_IN_ROW, ToldLists};
 use fl_history::Journal;
 use fl_log::{Beginning, FreshLog, Log, MOST_ENTRIES};
 use fl_order::{NoMemory, Order};
@@ -70,7 +70,7 @@ impl<L: BoardName, R: Wait + Drop, J: Journal> Record<L, R, J> {
         ensures { IfOk result (λ made. made ≡ record { asks = []; shown = Some [] }) }
     {
         let (log, all) = log.named::<L>();
-        let writer = ReplicaWriter::new(alloc, rt, &all, readers, rules)?;
+        let writer = ReplicaWriter::new(alloc, rt, &all, readers, MOST_IN_ROW, rules)?;
         Ok(Record {
             desk: Desk::over(alloc, kept, rules)?,
             book: ledger,

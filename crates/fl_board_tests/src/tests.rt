@@ -6,6 +6,7 @@ ghost use Rattle.fl_core.specs.Tolds.{HasRoom};
 mod fair;
 mod looks;
 mod missing;
+mod rows;
 mod threaded;
 
 use fl_board::{Ask, Board, BoardName, FreshLog, Seat};
@@ -98,7 +99,10 @@ fn closed<L: BoardName, R: Wait + Abort>(
 ) -> History
     requires { L.workers ≡ L.parts }
 {
-    board.close(seats).ok().expect(rt, "all seats")
+    match board.close(seats) {
+        Ok(history) => history,
+        Err(_) => panic!(rt; "a seat is missing"),
+    }
 }
 
 fn new_tolds(rt: &impl Abort, alloc: Global, rules: Rules) -> Tolds

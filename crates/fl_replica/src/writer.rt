@@ -53,12 +53,14 @@ impl<L: BoardName, R: Wait + Drop> Drop for ReplicaWriter<L, R> {
 }
 
 impl<L: BoardName, R: Wait + Drop> ReplicaWriter<L, R> {
-    /// A writer of the directory as it opens under these rules, with a place for so many readers.
+    /// A writer of the directory as it opens under these rules, with a place for so many readers. Updates take no
+    /// memory if no more than `most` are added between two publications.
     pub fn new(
         alloc: Global,
         rt: R,
         none: &Beginning<L, Ask>,
         readers: usize,
+        most: usize,
         rules: Rules,
     ) -> Result<ReplicaWriter<L, R>, NoMemory>
         requires none { none.now ≡ [] }
@@ -69,7 +71,7 @@ impl<L: BoardName, R: Wait + Drop> ReplicaWriter<L, R> {
         let first = Replica::new(alloc, none, rules)?;
         let second = Replica::new(alloc, none, rules)?;
         let mut writer = WriteHandle::new(alloc, rt, first, second, readers)?;
-        grow(&mut writer, none)?;
+        grow(&mut writer, none, most)?;
         Ok(ReplicaWriter {
             writer: Some(writer),
             asks: none.again(),
@@ -112,32 +114,38 @@ impl<L: BoardName, R: Wait + Drop> ReplicaWriter<L, R> {
     }
 }
 
-// The writer's list of updates grows to the size that it keeps, so that no later update wants memory.
+// The writer's list of updates grows to the size that it keeps, so that no later update wants memory: it has those of
+// two publications, each of at most so many.
 fn grow<L: BoardName, R: Wait + Drop>(
     writer: &mut WriteHandle<Replica<L>, Update<L>, R>,
     none: &Beginning<L, Ask>,
+    most: usize,
 ) -> Result<(), AllocError>
     requires none { none.now ≡ [] }
     requires first { in_the_end (published writer.old) (pending writer.old) ≡ [] }
     ensures end { OnOk result (in_the_end (published writer.new) (pending writer.new) ≡ []) }
     ensures shown { OnOk result (published writer.new ≡ []) }
 {
-    publish_nothing(writer, none)?;
-    publish_nothing(writer, none)
+    add_nothing(writer, none, most)?;
+    writer.publish()?;
+    add_nothing(writer, none, most)?;
+    writer.publish()
 }
 
-// Publishes an update that changes nothing.
-fn publish_nothing<L: BoardName, R: Wait + Drop>(
+// Adds so many updates that change nothing.
+fn add_nothing<L: BoardName, R: Wait + Drop>(
     writer: &mut WriteHandle<Replica<L>, Update<L>, R>,
     none: &Beginning<L, Ask>,
+    count: usize,
 ) -> Result<(), AllocError>
     requires none { none.now ≡ [] }
     requires first { in_the_end (published writer.old) (pending writer.old) ≡ [] }
     ensures end { OnOk result (in_the_end (published writer.new) (pending writer.new) ≡ []) }
-    ensures shown { OnOk result (published writer.new ≡ []) }
 {
-    writer.append(nothing(none)).map_err(|_| AllocError)?;
-    writer.publish()
+    for _count in 0..count {
+        writer.append(nothing(none)).map_err(|_| AllocError)?;
+    }
+    Ok(())
 }
 
 // An update that changes nothing: it asks for the root's attributes.

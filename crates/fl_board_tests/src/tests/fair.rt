@@ -130,7 +130,7 @@ fn followed<L: BoardName, R: Wait + Abort>(
 }
 
 // Both histories have the same lines.
-fn are_same(rt: &impl Abort, found: &History, wanted: &History) {
+pub(super) fn are_same(rt: &impl Abort, found: &History, wanted: &History) {
     assert_eq!(rt; found.len(), wanted.len());
     for at in 0..wanted.len() {
         assert!(rt; at < found.len() && found.line(at) == wanted.line(at));

@@ -173,7 +173,10 @@ fn not_kept<'a, L: BoardName, R: Wait + Abort>(
 fn kept<L: BoardName, R: Wait + Abort>(rt: &R, board: Board<L, &R>, seats: Vec<Seat<L>>) -> Lines
     requires { L.workers ≡ L.parts }
 {
-    board.into_kept(seats).ok().expect(rt, "all seats")
+    match board.into_kept(seats) {
+        Ok(lines) => lines,
+        Err(_) => panic!(rt; "a seat is missing"),
+    }
 }
 
 // A board of one seat over a journal. The seat is kept back at first.

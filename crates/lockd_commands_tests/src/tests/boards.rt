@@ -97,7 +97,10 @@ fn history_of_a_board<L: BoardName, R: Abort + Wait>(
         rt, "memory",
     );
     hand_in_all(rt, &board, &mut seats, &mut tolds, wanted);
-    board.close(seats).ok().expect(rt, "all seats")
+    match board.close(seats) {
+        Ok(history) => history,
+        Err(_) => panic!(rt; "a seat is missing"),
+    }
 }
 
 // A board answers as a desk does, whoever asks, and the judge finds it legal.

@@ -259,7 +259,10 @@ fn closed<L: BoardName + Send + Sync, R: Threads + Wait + Sync + Abort>(
     begin(&pool, &mut seats);
     let back = run(&pool, in_rows(rt, alloc, seats, plan));
     let WorkerPool { board, .. } = pool;
-    board.close(back).ok().expect(rt, "all seats")
+    match board.close(back) {
+        Ok(history) => history,
+        Err(_) => panic!(rt; "a seat is missing"),
+    }
 }
 
 fn is_legal(rt: &impl Abort, alloc: Global, history: &History, rules: Rules) {
