@@ -1,3 +1,4 @@
 pub mod Histories
+pub mod Rows
 pub mod Verdicts
 pub mod Orders
