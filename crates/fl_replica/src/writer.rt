@@ -142,7 +142,7 @@ fn add_nothing<L: BoardName, R: Wait + Drop>(
     requires first { in_the_end (published writer.old) (pending writer.old) ≡ [] }
     ensures end { OnOk result (in_the_end (published writer.new) (pending writer.new) ≡ []) }
 {
-    for _count in 0..count {
+    for _ in 0..count {
         writer.append(nothing(none)).map_err(|_| AllocError)?;
     }
     Ok(())

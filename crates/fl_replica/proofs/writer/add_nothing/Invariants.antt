@@ -4,5 +4,5 @@ use Rattle.fl_replica.specs.Inside.Updates.{in_the_end}
 use Rattle.fl_replica.proofs.writer.add_nothing.Given as goal
 
 -- all that was added changes nothing
-abbrev pub invariant-loop-_count : goal.invariant-loop-_count
-invariant-loop-_count g l = in_the_end (published l.writer) (pending l.writer) ≡ []
+abbrev pub invariant-loop : goal.invariant-loop
+invariant-loop g l = in_the_end (published l.writer) (pending l.writer) ≡ []
