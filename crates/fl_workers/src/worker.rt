@@ -139,8 +139,15 @@ pub fn handle_all<R: Wait, C: Counter, G: Gate, W: Write, N: WriterName>(
     let mut failures = Failures::none();
     let mut done = 0;
     while done < orders.len() {
-        let (handled, more) =
-            handle_next(rt, counter, gate, sender, post, replies, &orders[done..]);
+        let (handled, more) = handle_next(
+            rt,
+            counter,
+            gate,
+            sender,
+            post,
+            replies,
+            &orders[done..],
+        );
         failures = failures.or(more);
         done += handled;
     }

@@ -11,7 +11,7 @@ pub loop-place-preserved : goal.loop-place-preserved
 loop-place-preserved g c =
     let given = c.collect-given.result in
     let either : c.if-lost.lost ≡ (c.loop-place.lost || not given) = elim c.if-lost.branch [
-      then-lost w ↦ w.lost-is ∙ w.if-lost.true ∙ sym (ap (λ b. b || not given) w.if-lost.true)
+      | then-lost w ↦ w.lost-is ∙ w.if-lost.true ∙ sym (ap (λ b. b || not given) w.if-lost.true)
       | else-lost w ↦ w.lost-is ∙ sym (ap (λ b. b || not given) w.if-lost.false)
     ] in
     lists_more c.args.lists.now.lists c.loop-place.place _ _ _ _ _ given _ c.list.ensures either

@@ -1,4 +1,4 @@
-use Rattle.std.proofs.Common.{rules}
+use Rattle.std.proofs.Common.{◌++◌, ◌∙◌, ap, rules, sym}
 use Rattle.fl_workers.proofs.WorkedLemmas.{done_more, none_done}
 use Rattle.fl_workers.proofs.worker.worker_loop.Goals as goal
 
@@ -15,6 +15,8 @@ loop-preserved g c = record {
   end = search rules;
   row = search rules;
   room = search rules;
-  done = done_more g.C.Counter.shows _ _ _ _ _ _ _ _ _ _ _ _ _ c.or-failures.ensures c.loop.invariant.done
-      c.next_row.ensures.taken c.handle_all-more.ensures.did;
+  done = done_more g.C.Counter.shows _ _ _ c.deref.result.now _ _ _ _ _ _ _ _ _ c.or-failures.ensures
+      c.loop.invariant.done
+      (c.next_row.ensures.taken ∙ ap (λ l. c.loop.end.taken ++ l) (sym c.deref.ensures.value))
+      c.handle_all-more.ensures.did;
 }
