@@ -1,12 +1,12 @@
 -- What the lines of a seat answer to each order.
-use Rattle.std.proofs.Common.{◌≡◌, ℕ, ◌==◌, true, List, [], ◌∷◌, ◌++◌, map, length, take, drop}
+use Rattle.std.proofs.Common.{◌≡◌, ℕ, ◌<◌, ◌≤◌, ◌==◌, Bool, true, false, true≢false, subst, List, [], ◌∷◌, ◌++◌, map, length, take, drop, get_or}
 use Rattle.std.proofs.Common.{refl, sym, ap, ◌∙◌, arith, append_assoc, append-nil}
 use Rattle.std.proofs.Math.Seq.{take-length}
 use Rattle.std.proofs.lemmas.List.{take-append-drop}
 use Rattle.std.proofs.lemmas.Bool.Decides.{nat_tests}
-use Rattle.std.specs.Prelude.{if◌then◌else◌}
+use Rattle.std.specs.Prelude.{◌↔◌, if◌then◌else◌}
 use mathlib.Core.List.{IsPrefix}
-use Rattle.fl_desk.specs.Answered.{Answered, IsAnsweredLast, answered, answered_by, first_tolds}
+use Rattle.fl_desk.specs.Answered.{Answered, AreAnsweredLast, IsAnsweredLast, answered, answered_by, first_tolds}
 use Rattle.fl_desk.specs.Legal.{step_lines}
 use Rattle.fl_history.specs.declared.history.Line.{Line}
 use Rattle.fl_history.specs.declared.history.Line.TheVariants as line
@@ -68,3 +68,24 @@ pub all_shown : (shown now : ℕ) (lines : List Line) → now ≡ length lines
     → IsPrefix (take shown lines) (take now lines)
 all_shown shown now lines all =
     (drop shown lines, take-append-drop shown lines ∙ sym (take-length lines) ∙ (λ i. take (sym all i) lines))
+
+-- one order more is answered last
+pub answered_more : (before mid now : List Answered) (orders : List Order) (lists : List (List Told)) (order : Order)
+    (tolds : List Told) → AreAnsweredLast before orders lists mid → length lists < length orders
+    → order ≡ get_or orders (length lists) order → IsAnsweredLast mid order tolds now
+    → AreAnsweredLast before orders (lists ++ tolds ∷ []) now
+answered_more before mid now [] [] order tolds same within at last = absurd (omega arith)
+answered_more before mid now (first ∷ orders) [] order tolds same within at last =
+    let behind = subst (λ l. IsAnsweredLast l order tolds now) same last in
+    (now, subst (λ it. IsAnsweredLast before it tolds now) at behind, refl)
+answered_more before mid now [] (list ∷ lists) order tolds never within at last = absurd never
+answered_more before mid now (first ∷ orders) (list ∷ lists) order tolds taken within at last =
+    (taken.0, taken.1, answered_more taken.0 mid now orders lists order tolds taken.2 (omega arith) at last)
+
+-- where there is no room for a list more, there is one already
+pub some_taken : (lists : List (List Told)) (free room places : ℕ) (has : Bool) → has ≡ false
+    → ((has ≡ true) ↔ ((257 ≤ free) × (length lists < places))) → (lists ≡ [] → free ≡ room) → 257 ≤ room
+    → 0 < places → 0 < length lists
+some_taken [] free room places has full test all fits some =
+    absurd (true≢false (sym (test.1 (omega (arith, all refl), omega arith)) ∙ full))
+some_taken (list ∷ lists) free room places has full test all fits some = omega arith

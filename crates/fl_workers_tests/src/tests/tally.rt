@@ -144,7 +144,7 @@ impl Counter for Tally {
         lists: &mut ToldLists,
     ) -> Result<(), HandFault> {
         lists.clear();
-        if seat.rows.push(orders.len() as u64).is_err() {
+        if !orders.is_empty() && seat.rows.push(orders.len() as u64).is_err() {
             return Err(HandFault::NoMemory);
         }
         for order in orders {
