@@ -73,6 +73,23 @@ fn what_a_row_has_no_room_for_stays_inside(rt: HostRuntime) {
     takes(&rt, alloc, &intake, &mut end, 64, &[2, 3, 4]);
 }
 
+// Of an intake with seven orders, two ends take in turn.
+fn take_in_turn<R: Wait + Abort>(
+    rt: &R,
+    alloc: Global,
+    intake: &Intake,
+    one: &mut TakeEnd,
+    other: &mut TakeEnd,
+)
+    requires { (one.old.of ≡ intake.now) × (other.old.of ≡ intake.now) }
+{
+    takes(rt, alloc, intake, one, 64, &[0, 1, 2]);
+    takes(rt, alloc, intake, other, 64, &[3, 4]);
+    takes(rt, alloc, intake, one, 64, &[5]);
+    takes(rt, alloc, intake, other, 64, &[6]);
+    takes(rt, alloc, intake, one, 64, &[]);
+}
+
 #[test]
 fn two_ends_take_a_half_each_and_one_at_least(rt: HostRuntime) {
     let alloc: Global = rt.alloc();
@@ -80,9 +97,5 @@ fn two_ends_take_a_half_each_and_one_at_least(rt: HostRuntime) {
     put_all(&rt, &intake, &mut put, 7);
     let mut one = ends.pop().expect(&rt, "an end");
     let mut other = ends.pop().expect(&rt, "an end");
-    takes(&rt, alloc, &intake, &mut one, 64, &[0, 1, 2]);
-    takes(&rt, alloc, &intake, &mut other, 64, &[3, 4]);
-    takes(&rt, alloc, &intake, &mut one, 64, &[5]);
-    takes(&rt, alloc, &intake, &mut other, 64, &[6]);
-    takes(&rt, alloc, &intake, &mut one, 64, &[]);
+    take_in_turn(&rt, alloc, &intake, &mut one, &mut other);
 }
