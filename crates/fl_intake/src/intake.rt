@@ -145,11 +145,44 @@ impl Intake {
         ensures same { end.new.of ≡ end.old.of }
         ensures taken { end.new.taken ≡ end.old.taken ++ option_to_list result }
     {
-        let job = self.queue.pop_as::<Taking, R>(rt, &mut end.pass);
+        let job = self.pop(rt, end);
         if job.is_some() {
-            self.waking.count_taken();
+            self.waking.count_taken(1);
         }
         job
+    }
+
+    /// Takes several jobs, the oldest first, into a row that has none. They are this end's share of those inside: their
+    /// number divided by that of the ends that take, and one at least. It takes no more than the row has room for. It
+    /// doesn't sleep, and takes none if none is inside.
+    pub fn take_many<R: Wait>(&self, rt: &R, end: &mut TakeEnd, row: &mut Vec<Job>)
+        requires end { end.old.of ≡ self.now }
+        requires none { row.old.items ≡ [] }
+        ensures same { end.new.of ≡ end.old.of }
+        ensures taken { end.new.taken ≡ end.old.taken ++ row.new.items }
+        ensures room { vec_capacity row.new ≡ vec_capacity row.old }
+    {
+        let most = self.waking.share().min(row.capacity() as u64);
+        for _ in 0..most {
+            let Some(job) = self.pop(rt, end) else {
+                break;
+            };
+            // The prover has to be told of the op's type.
+            let op: Op = job.op;
+            row.push_reserved(Order { op, ..job });
+        }
+        if !row.is_empty() {
+            self.waking.count_taken(row.len() as u64);
+        }
+    }
+
+    // Takes the oldest job out of the queue, if there is one. Whoever calls it counts what it took.
+    fn pop<R: Wait>(&self, rt: &R, end: &mut TakeEnd) -> Option<Job>
+        requires end { end.old.of ≡ self.now }
+        ensures same { end.new.of ≡ end.old.of }
+        ensures taken { end.new.taken ≡ end.old.taken ++ option_to_list result }
+    {
+        self.queue.pop_as::<Taking, R>(rt, &mut end.pass)
     }
 
     /// Spins for some 70 microseconds, until a job is inside, if no other worker does. It doesn't sleep. Whoever

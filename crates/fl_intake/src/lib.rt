@@ -3,6 +3,7 @@
 //!
 //! Contracts don't speak of waking. They let through:
 //! - a `take` or `take_now` that gives none while jobs are inside, or gives them in another order;
+//! - a `take_many` that takes none, one alone, or more than its share;
 //! - a `finish` that gives what is left in another order, a `new` that is always refused, and a call that waits for
 //!   ever;
 //! - one that wakes nobody or all, a `spin` or `call_one_more` that does nothing, a `close` that only marks its end.
