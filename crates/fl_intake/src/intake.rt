@@ -123,8 +123,9 @@ impl Intake {
         for _ in rt.forever() {
             // Whoever closes puts nothing afterwards. So if it is closed before this try, the try misses no job.
             let closed = self.waking.is_closed();
-            let job = self.take_now(rt, end);
+            let job = self.pop(rt, end);
             if job.is_some() {
+                self.waking.count_taken(1);
                 if slept {
                     self.waking.call_one_more();
                 }
@@ -137,19 +138,6 @@ impl Intake {
             slept = true;
         }
         unreachable!()
-    }
-
-    /// Takes the oldest job, if there is one. It doesn't sleep.
-    pub fn take_now<R: Wait>(&self, rt: &R, end: &mut TakeEnd) -> Option<Job>
-        requires end { end.old.of ≡ self.now }
-        ensures same { end.new.of ≡ end.old.of }
-        ensures taken { end.new.taken ≡ end.old.taken ++ option_to_list result }
-    {
-        let job = self.pop(rt, end);
-        if job.is_some() {
-            self.waking.count_taken(1);
-        }
-        job
     }
 
     /// Takes several jobs, the oldest first, into a row that has none. They are this end's share of those inside: their
@@ -186,7 +174,7 @@ impl Intake {
     }
 
     /// Spins for some 70 microseconds, until a job is inside, if no other worker does. It doesn't sleep. Whoever
-    /// has spun has to call `take` next, since nobody is woken for a job that comes while it spins.
+    /// has spun has to call `take_many` or `take` next, since nobody is woken for a job that comes while it spins.
     pub fn spin(&self) {
         self.waking.spin();
     }
