@@ -123,8 +123,9 @@ impl Intake {
         for _ in rt.forever() {
             // Whoever closes puts nothing afterwards. So if it is closed before this try, the try misses no job.
             let closed = self.waking.is_closed();
-            let job = self.take_now(rt, end);
+            let job = self.pop(rt, end);
             if job.is_some() {
+                self.waking.count_taken(1);
                 if slept {
                     self.waking.call_one_more();
                 }
@@ -139,21 +140,41 @@ impl Intake {
         unreachable!()
     }
 
-    /// Takes the oldest job, if there is one. It doesn't sleep.
-    pub fn take_now<R: Wait>(&self, rt: &R, end: &mut TakeEnd) -> Option<Job>
+    /// Takes several jobs, the oldest first, into a row that has none. They are this end's share of those inside: their
+    /// number divided by that of the ends that take, and one at least. It takes no more than the row has room for. It
+    /// doesn't sleep, and takes none if none is inside.
+    pub fn take_many<R: Wait>(&self, rt: &R, end: &mut TakeEnd, row: &mut Vec<Job>)
+        requires end { end.old.of ≡ self.now }
+        requires none { row.old.items ≡ [] }
+        ensures same { end.new.of ≡ end.old.of }
+        ensures taken { end.new.taken ≡ end.old.taken ++ row.new.items }
+        ensures room { vec_capacity row.new ≡ vec_capacity row.old }
+    {
+        let most = self.waking.share().min(row.capacity() as u64);
+        for _ in 0..most {
+            let Some(job) = self.pop(rt, end) else {
+                break;
+            };
+            // The prover has to be told of the op's type.
+            let op: Op = job.op;
+            row.push_reserved(Order { op, ..job });
+        }
+        if !row.is_empty() {
+            self.waking.count_taken(row.len() as u64);
+        }
+    }
+
+    // Takes the oldest job out of the queue, if there is one. Whoever calls it counts what it took.
+    fn pop<R: Wait>(&self, rt: &R, end: &mut TakeEnd) -> Option<Job>
         requires end { end.old.of ≡ self.now }
         ensures same { end.new.of ≡ end.old.of }
         ensures taken { end.new.taken ≡ end.old.taken ++ option_to_list result }
     {
-        let job = self.queue.pop_as::<Taking, R>(rt, &mut end.pass);
-        if job.is_some() {
-            self.waking.count_taken();
-        }
-        job
+        self.queue.pop_as::<Taking, R>(rt, &mut end.pass)
     }
 
     /// Spins for some 70 microseconds, until a job is inside, if no other worker does. It doesn't sleep. Whoever
-    /// has spun has to call `take` next, since nobody is woken for a job that comes while it spins.
+    /// has spun has to call `take_many` or `take` next, since nobody is woken for a job that comes while it spins.
     pub fn spin(&self) {
         self.waking.spin();
     }

@@ -2,7 +2,8 @@
 //! is a queue without a lock, whose rule says that no order is lost and none comes twice.
 //!
 //! Contracts don't speak of waking. They let through:
-//! - a `take` or `take_now` that gives none while jobs are inside, or gives them in another order;
+//! - a `take` or `take_many` that gives none while jobs are inside, or gives them in another order;
+//! - a `take_many` that takes one alone, or more than its share;
 //! - a `finish` that gives what is left in another order, a `new` that is always refused, and a call that waits for
 //!   ever;
 //! - one that wakes nobody or all, a `spin` or `call_one_more` that does nothing, a `close` that only marks its end.

@@ -16,7 +16,8 @@
 //! it reads or waits for room, if jobs are inside and one sleeps. One that is called while another is awake only
 //! *watches*: it stays announced, sleeps for a millisecond at a time, and takes a job once none was taken for so
 //! long. With the first job that it takes it calls one more, since others may be left. So workers that are held up,
-//! however many, hold up nobody else, and those that aren't have the board for themselves.
+//! however many, hold up no job inside, and those that aren't have the board for themselves. What a worker took at
+//! once waits for it: that is its share of what was inside, and the others find theirs.
 //! - A call by a `put` finds all announced. Whoever hears it clears `called` first and then sees whether all are
 //! announced. If they are, it takes a job at once. If they aren't, one was awake after that `put`, and checks again.
 //! - Whoever watches goes back to sleep when nothing is inside and nothing comes. It tells first that it doesn't
@@ -90,13 +91,22 @@ impl Waking {
         }
     }
 
-    /// Counts a job that was taken, and wakes whoever waits for room.
-    pub(crate) fn count_taken(&self) {
-        self.taken.fetch_add(1, Ordering::SeqCst);
+    /// Counts jobs that were taken, and wakes whoever waits for room.
+    pub(crate) fn count_taken(&self, jobs: u64) {
+        self.taken.fetch_add(jobs, Ordering::SeqCst);
         if self.wants_room.load(Ordering::SeqCst) && self.wants_room.swap(false, Ordering::SeqCst) {
             self.left.fetch_add(1, Ordering::SeqCst);
             self.left.wake_one();
         }
+    }
+
+    /// How many of the jobs inside one end may take at once, one at least. What it takes waits in its row, however many
+    /// others are free, so each end leaves as much to each other one.
+    pub(crate) fn share(&self) -> u64 {
+        // A job can be counted as taken before it is counted as put.
+        let put = self.put.load(Ordering::SeqCst);
+        let inside = put.saturating_sub(self.taken.load(Ordering::SeqCst));
+        inside.checked_div(self.takers).unwrap_or(0).max(1)
     }
 
     /// Calls one to watch, if jobs are inside, one sleeps and none watches.

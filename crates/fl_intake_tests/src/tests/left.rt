@@ -1,18 +1,8 @@
 //! What nobody took.
 
-use super::order;
+use super::{are_uniques, order};
 use fl_intake::{Intake, NotAll};
-use fl_order::Order;
 use std::alloc::Global;
-use std::process::Abort;
-
-fn are_uniques(rt: &impl Abort, orders: &[Order], wanted: &[u64]) {
-    assert_eq!(rt; orders.len(), wanted.len());
-    for at in 0..wanted.len() {
-        let found = orders.get(at).map(|order| order.unique);
-        assert_eq!(rt; found, wanted.get(at).copied());
-    }
-}
 
 // Three jobs are put, and none is taken. No end of those that take is there at first.
 #[test]

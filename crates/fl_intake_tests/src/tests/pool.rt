@@ -1,8 +1,9 @@
 //! Workers in threads of their own, who take what one thread puts.
 
-ghost use Rattle.std.specs.Prelude.{◌≡◌, All};
+ghost use Rattle.std.specs.Prelude.{◌≡◌, [], All};
 
-use fl_intake::{Intake, PutEnd, TakeEnd};
+use fl_intake::{Intake, MOST_JOBS, PutEnd, TakeEnd};
+use fl_order::{Op, Order};
 use std::alloc::Global;
 use std::process::Abort;
 use std::snapshot::Snapshot;
@@ -71,6 +72,29 @@ impl WorkerPool {
     }
 }
 
+// Takes its share of the orders inside, or waits for one. None comes once the intake is closed and empty.
+fn next<R: Wait + Abort>(rt: &R, pool: &WorkerPool, end: &mut TakeEnd, row: &mut Vec<Order>)
+    requires { (end.old.of ≡ pool.now.intake) × (row.old.items ≡ []) }
+    ensures { end.new.of ≡ end.old.of }
+{
+    pool.intake.take_many(rt, end, row);
+    if !row.is_empty() {
+        return;
+    }
+    if let Some(order) = pool.intake.take(rt, end) {
+        let op: Op = order.op;
+        row.push(Order { op, ..order }).expect(rt, "memory");
+    }
+}
+
+// Holds each order of a row, and notes its unique.
+fn hold_all(rt: &impl Abort, pool: &WorkerPool, row: &[Order], uniques: &mut Vec<u64>) {
+    for order in row {
+        pool.hold(order.unique);
+        uniques.push(order.unique).expect(rt, "memory");
+    }
+}
+
 // Takes orders until the intake is closed and empty.
 fn work<R: Wait + Abort>(rt: &R, pool: &WorkerPool, end: TakeEnd) -> Took
     requires { end.of ≡ pool.now.intake }
@@ -78,12 +102,14 @@ fn work<R: Wait + Abort>(rt: &R, pool: &WorkerPool, end: TakeEnd) -> Took
 {
     let mut end = end;
     let mut uniques = Vec::new(pool.alloc);
+    let mut row = Vec::with_capacity(pool.alloc, MOST_JOBS).expect(rt, "memory");
     for _ in rt.forever() {
-        let Some(order) = pool.intake.take(rt, &mut end) else {
+        next(rt, pool, &mut end, &mut row);
+        if row.is_empty() {
             break;
-        };
-        pool.hold(order.unique);
-        uniques.push(order.unique).expect(rt, "memory");
+        }
+        hold_all(rt, pool, row.as_slice(), &mut uniques);
+        row.clear();
     }
     Took { end, uniques }
 }

@@ -1,5 +1,5 @@
-use Rattle.std.proofs.Common.{◌≡◌}
+use Rattle.std.proofs.Common.{◌≡◌, []}
 use Rattle.fl_intake_tests.proofs.tests.pool.work.Given as goal
 
 abbrev pub invariant-loop : goal.invariant-loop
-invariant-loop g l = (l.end.of ≡ l.pool.intake) × (l.end.of ≡ l.fn.end.of)
+invariant-loop g l = (l.end.of ≡ l.pool.intake) × (l.end.of ≡ l.fn.end.of) × (l.row.items ≡ [])

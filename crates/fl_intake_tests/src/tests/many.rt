@@ -1,0 +1,101 @@
+//! Jobs that are taken several at once.
+
+ghost use Rattle.std.specs.Prelude.{◌≡◌, All};
+
+use super::{are_uniques, order};
+use fl_intake::{Intake, PutEnd, TakeEnd};
+use std::alloc::Global;
+use std::process::Abort;
+use std::sync::Wait;
+
+// Puts orders with the uniques from 0 on, so many.
+fn put_all<R: Wait + Abort>(rt: &R, intake: &Intake, put: &mut PutEnd, many: u64)
+    requires { put.old.of ≡ intake.now }
+    ensures { put.new.of ≡ intake.now }
+{
+    for unique in 0..many {
+        assert!(rt; intake.put(rt, put, order(unique)).is_ok());
+    }
+}
+
+// What an end takes at once, into a row with room for so many, are these.
+fn takes<R: Wait + Abort>(
+    rt: &R,
+    alloc: Global,
+    intake: &Intake,
+    end: &mut TakeEnd,
+    room: usize,
+    wanted: &[u64],
+)
+    requires { end.old.of ≡ intake.now }
+    ensures { end.new.of ≡ intake.now }
+{
+    let mut row = Vec::with_capacity(alloc, room).expect(rt, "memory");
+    intake.take_many(rt, end, &mut row);
+    are_uniques(rt, row.as_slice(), wanted);
+}
+
+// What an end takes alone is this one.
+fn takes_one<R: Wait + Abort>(rt: &R, intake: &Intake, end: &mut TakeEnd, wanted: u64)
+    requires { end.old.of ≡ intake.now }
+    ensures { end.new.of ≡ intake.now }
+{
+    let order = intake.take(rt, end).expect(rt, "an order");
+    assert_eq!(rt; order.unique, wanted);
+}
+
+// An intake with five orders, its end that puts and its only end that takes.
+fn with_one_end<R: Wait + Abort>(rt: &R, alloc: Global) -> (Intake, PutEnd, TakeEnd)
+    ensures { (result.1.of ≡ result.0) × (result.2.of ≡ result.0) }
+{
+    let (intake, mut put, mut ends) = Intake::new(alloc, 1).expect(rt, "memory");
+    put_all(rt, &intake, &mut put, 5);
+    let end = ends.pop().expect(rt, "an end");
+    (intake, put, end)
+}
+
+#[test]
+fn one_end_takes_all_that_its_row_has_room_for(rt: HostRuntime) {
+    let alloc: Global = rt.alloc();
+    let (intake, _put, mut end) = with_one_end(&rt, alloc);
+    takes(&rt, alloc, &intake, &mut end, 3, &[0, 1, 2]);
+    takes(&rt, alloc, &intake, &mut end, 3, &[3, 4]);
+    takes(&rt, alloc, &intake, &mut end, 3, &[]);
+}
+
+#[test]
+fn what_a_row_has_no_room_for_stays_inside(rt: HostRuntime) {
+    let alloc: Global = rt.alloc();
+    let (intake, _put, mut end) = with_one_end(&rt, alloc);
+    takes(&rt, alloc, &intake, &mut end, 0, &[]);
+    takes(&rt, alloc, &intake, &mut end, 1, &[0]);
+    takes_one(&rt, &intake, &mut end, 1);
+    takes(&rt, alloc, &intake, &mut end, 64, &[2, 3, 4]);
+}
+
+// Of an intake with seven orders, two ends take in turn.
+fn take_in_turn<R: Wait + Abort>(
+    rt: &R,
+    alloc: Global,
+    intake: &Intake,
+    one: &mut TakeEnd,
+    other: &mut TakeEnd,
+)
+    requires { (one.old.of ≡ intake.now) × (other.old.of ≡ intake.now) }
+{
+    takes(rt, alloc, intake, one, 64, &[0, 1, 2]);
+    takes(rt, alloc, intake, other, 64, &[3, 4]);
+    takes(rt, alloc, intake, one, 64, &[5]);
+    takes(rt, alloc, intake, other, 64, &[6]);
+    takes(rt, alloc, intake, one, 64, &[]);
+}
+
+#[test]
+fn two_ends_take_a_half_each_and_one_at_least(rt: HostRuntime) {
+    let alloc: Global = rt.alloc();
+    let (intake, mut put, mut ends) = Intake::new(alloc, 2).expect(&rt, "memory");
+    put_all(&rt, &intake, &mut put, 7);
+    let mut one = ends.pop().expect(&rt, "an end");
+    let mut other = ends.pop().expect(&rt, "an end");
+    take_in_turn(&rt, alloc, &intake, &mut one, &mut other);
+}
