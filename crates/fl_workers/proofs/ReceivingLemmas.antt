@@ -1,12 +1,10 @@
 -- What the receiver of a session with workers received, and what it answered.
-use Rattle.std.proofs.Common.{◌≡◌, ℕ, suc, ◌+◌, ◌≤◌, length, take, take-suc, arith, Bool, true, false, List, [], ◌∷◌}
-use Rattle.std.proofs.Common.{◌++◌, Option, refl, sym, ap, subst, ◌∙◌, append_assoc, append-nil, map}
+use Rattle.std.proofs.Common.{◌≡◌, ℕ, suc, ◌+◌, ◌≤◌, length, take, take-suc, arith, Bool, true, false, true≢false, List, []}
+use Rattle.std.proofs.Common.{◌∷◌, ◌++◌, Option, refl, sym, ap, subst, ◌∙◌, append_assoc, append-nil, map}
 use Rattle.std.specs.Prelude.{Some, fold, if◌then◌else◌, slice_get}
 use Rattle.std.proofs.lemmas.Grind.{fold-append}
 use Rattle.std.proofs.lemmas.List.{map-append}
-use Rattle.std.proofs.lemmas.Option.{get_or_from_slice_get, slice_get_within}
 use Rattle.fl_log.specs.Appended.{Appended, IsAppended}
-use Rattle.fl_log.specs.Growing.{Grows}
 use Rattle.fl_order.specs.declared.order.Order.{Order}
 use Rattle.fl_transport.specs.Ending.{IsEnding}
 use Rattle.fl_transport.specs.Handshake.{advanced, handshake_of, incoming_of, opening}
@@ -19,11 +17,12 @@ use Rattle.fl_transport.specs.declared.handshake.Incoming.{Incoming}
 use Rattle.fl_transport.specs.declared.handshake.Incoming.TheVariants as incoming
 use Rattle.fl_transport.specs.declared.response.Response.{Response}
 use Rattle.fl_transport.specs.declared.response.Response.TheVariants.{Nothing}
-use Rattle.fl_workers.proofs.Growing.{appended_more, none_more, then_more}
+use Rattle.fl_workers.proofs.RowLemmas.{take_next}
+use Rattle.fl_workers.proofs.SentLemmas.{each_sent, none_sent, one_given, one_lost}
 use Rattle.fl_workers.specs.Inside.Receiving.{AreAnswered, HasGiven, IsReceiving, given_now, so_far}
 use Rattle.fl_workers.specs.Received.{HasReceived, Reception, answer_by, left_to_answer}
 use Rattle.fl_workers.specs.Received.{own_answer_in, own_answer_to, own_answers, own_answers_from}
-use Rattle.fl_workers.specs.Sent.{entries_of, entry, replies_of}
+use Rattle.fl_workers.specs.Sent.{entry, replies_of}
 use Rattle.fl_workers.specs.declared.entry.ReplyEntry.{ReplyEntry}
 
 -- the orders of what a message is, by another name of it, are put
@@ -40,12 +39,8 @@ puts_none it response put is = sym (ap (λ i. put ++ orders_in i) is ∙ append-
 pub put_more : (put put_now put_next orders : List Order) (i : ℕ) (order : Order) → slice_get orders i ≡ Some order
     → put_now ≡ put ++ take i orders → put_next ≡ put_now ++ order ∷ [] → put_next ≡ put ++ take (i + 1) orders
 put_more put put_now put_next orders i order at put_so_far one =
-    let next : i + 1 ≡ suc i = omega arith in
-    let more : take (i + 1) orders ≡ take i orders ++ order ∷ [] =
-    ap (λ n. take n orders) next ∙ take-suc orders i order (slice_get_within orders i order at)
-    ∙ ap (λ first. take i orders ++ first ∷ []) (get_or_from_slice_get orders i order order at) in
     one ∙ ap (λ l. l ++ order ∷ []) put_so_far ∙ append_assoc put (take i orders) (order ∷ [])
-    ∙ ap (λ l. put ++ l) (sym more)
+    ∙ ap (λ l. put ++ l) (sym (take_next orders i order at))
 
 said_more : (handshake : Handshake) (xs ys : List (List ℕ))
     → said_from handshake (xs ++ ys) ≡ said_from handshake xs ++ said_from (fold advanced handshake xs) ys
@@ -69,22 +64,24 @@ said_last messages message handshake far live =
 -- an order, or orders of a batch, and the appender stays as it is
 pub gives_none : (sent sent_now : Appended ReplyEntry) (lost lost_now : Bool) → sent_now ≡ sent → lost_now ≡ lost
     → HasGiven sent sent_now lost lost_now []
-gives_none sent sent_now lost lost_now same still = rw (same, still) (record {
-  author = refl;
-  whole = λ none. none;
-  given = λ none. none_more (entries_of sent.author sent.own) sent.count;
-})
+gives_none sent sent_now lost lost_now same still =
+    rw (same, still) (record { whole = λ none. none; sent = none_sent sent lost })
 
 -- one answer is given
-pub gives_one : (sent sent_now : Appended ReplyEntry) (lost lost_now : Bool) (response : Response)
-    → sent_now.author ≡ sent.author → (lost_now ≡ false → lost ≡ false)
-    → (lost_now ≡ false → IsAppended sent (entry sent.author (replies_of response)) sent_now)
-    → HasGiven sent sent_now lost lost_now (response ∷ [])
-gives_one sent sent_now lost lost_now response author still given = record {
-  author = author;
-  whole = still;
-  given = λ none. appended_more (λ (e : ReplyEntry). e.author) sent sent_now (answer_by sent.author response) refl
-      (given none);
+pub gives_one : (sent sent_now : Appended ReplyEntry) (lost : Bool) (response : Response)
+    → IsAppended sent (entry sent.author (replies_of response)) sent_now
+    → HasGiven sent sent_now lost lost (response ∷ [])
+gives_one sent sent_now lost response appended = record {
+  whole = λ none. none;
+  sent = one_given (answer_by sent.author response) sent sent_now lost refl appended;
+}
+
+-- one answer is lost
+pub loses_one : (sent sent_now : Appended ReplyEntry) (lost : Bool) (response : Response) → sent_now ≡ sent
+    → HasGiven sent sent_now lost true (response ∷ [])
+loses_one sent sent_now lost response same = record {
+  whole = λ none. absurd (true≢false none);
+  sent = one_lost (answer_by sent.author response) sent sent_now same;
 }
 
 -- a message that is an order, or a batch of them, gives no answer, whether the session is over or not
@@ -116,16 +113,8 @@ message_gives_one sent sent_now lost lost_now over it response live is given =
 gives_more : (a b c : Appended ReplyEntry) (k m n : Bool) (xs ys : List Response) → HasGiven a b k m xs
     → HasGiven b c m n ys → HasGiven a c k n (xs ++ ys)
 gives_more a b c k m n xs ys first second = record {
-  author = second.author ∙ first.author;
   whole = λ none. first.whole (second.whole none);
-  given = λ none.
-      let P : ℕ → Type 0 = λ author. Grows (entries_of author b.own) (entries_of author c.own) b.count c.count
-      (map (answer_by author) ys) in
-      subst (Grows (entries_of a.author a.own) (entries_of a.author c.own) a.count c.count)
-      (sym (map-append (answer_by a.author) xs ys))
-      (then_more (entries_of a.author a.own) (entries_of a.author b.own) (entries_of a.author c.own) a.count b.count
-      c.count (map (answer_by a.author) xs) (map (answer_by a.author) ys) (first.given (second.whole none))
-      (subst P first.author (second.given none)));
+  sent = each_sent answer_by xs ys a b c m n n (λ none. (second.whole none, none)) first.sent second.sent;
 }
 
 answers_more : (handshake : Handshake) (xs ys : List (List ℕ)) → own_answers_from handshake (xs ++ ys)
@@ -249,6 +238,5 @@ receiving_ends it handshake rest fault receiving bounded ending =
       live = λ live. receiving.live (far ∙ live);
       answered = own.answered;
       own = own.own ∙ ap (λ over. own.answered ++ left_to_answer over it.goodbye) far;
-      author = own.sent.author;
-      given = own.sent.given;
+      sent = own.sent.sent;
     }

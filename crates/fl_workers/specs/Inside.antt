@@ -1,2 +1,3 @@
--- The receiver of a session, while it is under way. No contract of a public function cites these definitions.
+-- What is under way. No contract of a public function cites these definitions.
+pub mod Lists
 pub mod Receiving

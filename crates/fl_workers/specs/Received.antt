@@ -1,7 +1,6 @@
 -- What the receiver of a session with workers received, and what it answered itself.
 use Rattle.std.specs.Prelude.{◌≡◌, ℕ, ◌≤◌, Bool, true, false, List, [], ◌∷◌, ◌++◌, length, map, Option, if◌then◌else◌}
 use Rattle.fl_log.specs.Appended.{Appended}
-use Rattle.fl_log.specs.Growing.{Grows}
 use Rattle.fl_order.specs.declared.order.Order.{Order}
 use Rattle.fl_transport.specs.Ending.{IsEnding, IsRead}
 use Rattle.fl_transport.specs.Handshake.{advanced, handshake_of, incoming_of, opening}
@@ -13,7 +12,7 @@ use Rattle.fl_transport.specs.declared.handshake.Incoming.{Incoming}
 use Rattle.fl_transport.specs.declared.handshake.Incoming.TheVariants as incoming
 use Rattle.fl_transport.specs.declared.response.Response.{Response}
 use Rattle.fl_transport.specs.declared.response.Response.TheVariants.{Nothing}
-use Rattle.fl_workers.specs.Sent.{entries_of, entry, replies_of}
+use Rattle.fl_workers.specs.Sent.{HasSent, entry, replies_of}
 use Rattle.fl_workers.specs.declared.entry.ReplyEntry.{ReplyEntry}
 
 -- the answer of the session itself to a message, if it is no order
@@ -64,8 +63,8 @@ pub record Reception : Type 0 where
   pub lost : Bool
 
 -- What was read is whole messages and a rest, and the orders of these messages were put. If a DESTROY ended the
--- session, this is left to answer it. Otherwise nothing is. If no answer was lost, each other message that is no order
--- was answered, in this order, and nothing else was given to be sent.
+-- session, this is left to answer it. Otherwise nothing is. Each other message that is no order was answered, in this
+-- order, and nothing else was given to be sent; some answers may lack if one was lost.
 pub record HasReceived (it : Reception) : Type 0 where
   pub messages : List (List ℕ)
   pub rest : List ℕ
@@ -77,7 +76,4 @@ pub record HasReceived (it : Reception) : Type 0 where
   pub live : (handshake_of messages).over ≡ false → it.goodbye ≡ Nothing
   pub answered : List Response
   pub own : own_answers messages ≡ answered ++ left_to_answer (handshake_of messages).over it.goodbye
-  pub author : it.sent_now.author ≡ it.sent.author
-  pub given : it.lost ≡ false → Grows (entries_of it.sent.author it.sent.own)
-      (entries_of it.sent.author it.sent_now.own) it.sent.count it.sent_now.count
-      (map (answer_by it.sent.author) answered)
+  pub sent : HasSent (map (answer_by it.sent.author) answered) it.sent it.sent_now it.lost

@@ -1,6 +1,8 @@
 -- What workers and the receiver of a session give to the writer that they share.
-use Rattle.std.specs.Prelude.{ℕ, Bool, List, [], ◌∷◌, ◌++◌, map}
-use Rattle.fl_log.specs.Appended.{entries_by}
+use Rattle.std.specs.Prelude.{◌≡◌, ℕ, Bool, false, List, [], ◌∷◌, ◌++◌, map}
+use mathlib.Core.List.{Sublistᴰ}
+use Rattle.fl_log.specs.Appended.{Appended, entries_by}
+use Rattle.fl_log.specs.Growing.{Grows}
 use Rattle.fl_order.specs.declared.told.Told.{Told}
 use Rattle.fl_transport.specs.Collecting.{Outgoing}
 use Rattle.fl_transport.specs.declared.response.Response.{Response}
@@ -39,6 +41,15 @@ spelled (e ∷ es) = map spelling e.replies ++ spelled es
 -- the entries of this author, in their order
 abbrev pub entries_of : ℕ → List ReplyEntry → List ReplyEntry
 entries_of author log = entries_by (λ (e : ReplyEntry). e.author) author log
+
+-- Of these entries, which were owed one after another, some were given in this order through an appender, and no others.
+-- If nothing was lost, all were given.
+pub record HasSent (owed : List ReplyEntry) (old new : Appended ReplyEntry) (lost : Bool) : Type 0 where
+  pub author : new.author ≡ old.author
+  pub given : List ReplyEntry
+  pub of : Sublistᴰ given owed
+  pub grown : Grows (entries_of old.author old.own) (entries_of old.author new.own) old.count new.count given
+  pub all : lost ≡ false → given ≡ owed
 
 -- what goes out by a shared sender, whether the session has begun, and all that was given to be sent
 pub record Sending : Type 0 where

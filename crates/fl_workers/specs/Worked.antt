@@ -12,7 +12,7 @@ use Rattle.fl_order.specs.declared.order.Order.{Order}
 use Rattle.fl_order.specs.declared.told.Answer.{Answer}
 use Rattle.fl_order.specs.declared.told.Told.{Told}
 use Rattle.fl_transport.specs.Response.{lost}
-use Rattle.fl_workers.specs.Sent.{entries_of, entry, replies_of, replies_to}
+use Rattle.fl_workers.specs.Sent.{HasSent, entry, replies_of, replies_to}
 use Rattle.fl_workers.specs.declared.entry.Reply.{Reply}
 use Rattle.fl_workers.specs.declared.entry.ReplyEntry.{ReplyEntry}
 
@@ -93,20 +93,18 @@ standing worker count answered seen seat sent =
     record { worker = worker seat; count = count seat; answered = answered seat; seen = seen seat; sent = sent }
 
 -- At one seat these orders were handed in, looked for or refused, one after another. Those that were handed in are
--- counted, and answered in this order with the replies that are given to be sent. `any` tells if one was refused. If
--- nothing was lost on the way to the sender, what is owed for each order was given, in this order.
+-- counted, and answered in this order with the replies that are given to be sent. `any` tells if one was refused. What
+-- is owed for each order was given to be sent, in this order, and nothing else; some may lack if something was lost on
+-- the way to the sender.
 pub record HasWorked (shows : Shows) (orders : Orders) (old new : Standing) (any lost : Bool) : Type 0 where
   pub outcomes : List Outcome
   pub are : orders ≡ map order_of outcomes
   pub worker : new.worker ≡ old.worker
-  pub author : new.sent.author ≡ old.sent.author
   pub handed : Grows old.answered new.answered old.count new.count (answers outcomes)
   pub shown : (had : List Answered) → Sublistᴰ had old.answered
       → AreShown shows old.worker old.seen had outcomes new.seen
   pub refused : any ≡ some_refused outcomes
-  pub sent : lost ≡ false → Grows (entries_of old.sent.author old.sent.own)
-      (entries_of old.sent.author new.sent.own) old.sent.count new.sent.count
-      (map (entry_for old.sent.author) outcomes)
+  pub sent : HasSent (map (entry_for old.sent.author) outcomes) old.sent new.sent lost
 
 -- an end took some orders more, and this was done with them
 pub record HasDone (shows : Shows) (taken taken_now : Orders) (old new : Standing) (any lost : Bool) : Type 0 where

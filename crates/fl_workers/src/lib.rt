@@ -14,11 +14,13 @@
 mod entry;
 pub mod laws;
 mod receiver;
+mod room;
 mod sender;
 mod worker;
 
 pub use entry::{Reply, ReplyEntry};
 pub use fl_desk::{Counter, Gate, OpenGate};
 pub use receiver::{Received, receive_all};
+pub use room::{ReplyRoom, RowRoom};
 pub use sender::{Abandoned, Returned, SharedSender, WriterName};
 pub use worker::{Failures, Post, Worked, handle_all, worker_loop};

@@ -1,14 +1,12 @@
 //! How the receiver of a session with workers reads its stream.
 
 ghost use Rattle.std.specs.Prelude.{◌≡◌, ◌≢◌, ◌++◌, ◌∷◌, [], Some, true, false};
-ghost use Rattle.fl_log.specs.Appended.{IsAppended};
 ghost use Rattle.fl_transport.specs.Handshake.{advanced, incoming_of, opening};
 ghost use Rattle.fl_transport.specs.Inbox.{IsUnread};
 ghost use Rattle.fl_transport.specs.Response.{goodbye_to};
 ghost use Rattle.fl_transport.specs.Said.{orders_in};
 ghost use Rattle.fl_workers.specs.Inside.Receiving.{HasGiven, given_now};
 ghost use Rattle.fl_workers.specs.Received.{HasReceived, own_answer_in};
-ghost use Rattle.fl_workers.specs.Sent.{entry, replies_of};
 
 use crate::entry::ReplyEntry;
 use crate::sender::{SharedSender, WriterName};
@@ -225,10 +223,7 @@ impl<'r, 'a, 'w, R: Wait, W: Write, N: WriterName> Receiver<'r, 'a, 'w, R, W, N>
     fn answer(&mut self, response: &Response)
         ensures same { (self.new.put ≡ self.old.put) × (self.new.handshake ≡ self.old.handshake)
             × (self.new.goodbye ≡ self.old.goodbye) }
-        ensures author { self.new.own.author ≡ self.old.own.author }
-        ensures lost { self.new.lost ≡ false → self.old.lost ≡ false }
-        ensures given { self.new.lost ≡ false
-            → IsAppended self.old.own (entry self.old.own.author (replies_of response.now)) self.new.own }
+        ensures given { HasGiven self.old.own self.new.own self.old.lost self.new.lost (response.now ∷ []) }
     {
         let mut sender = self.sender.lock(self.rt);
         if sender.collect(&mut self.own, response) {

@@ -1,20 +1,23 @@
 //! What a worker of a session does.
 
-ghost use Rattle.std.specs.Prelude.{◌≡◌, ◌≤◌, ◌++◌, ◌∷◌, [], true, false, ◌||◌, option_to_list, IfSome, IsSome};
+ghost use Rattle.std.specs.Prelude.{◌≡◌, ◌<◌, ◌≤◌, ◌++◌, ◌∷◌, [], true, false, ◌||◌, length, take, vec_capacity};
+ghost use Rattle.std.specs.Prelude.{IfSome, IsSome};
 ghost use mathlib.Core.List.{IsPrefix};
 ghost use Rattle.fl_desk.specs.Answered.{answered_by};
-ghost use Rattle.fl_log.specs.Appended.{IsAppended};
-ghost use Rattle.fl_order.specs.Order.{only_reads};
-ghost use Rattle.fl_workers.specs.Sent.{entry, replies_of};
+ghost use Rattle.fl_order.specs.Order.{kind_of, only_reads};
+ghost use Rattle.fl_transport.specs.Response.{lost};
+ghost use Rattle.fl_workers.specs.Inside.Lists.{entries_for};
+ghost use Rattle.fl_workers.specs.Room.{HasRoomFor, HasRowFor};
+ghost use Rattle.fl_workers.specs.Sent.{HasSent, entry, replies_of};
 ghost use Rattle.fl_workers.specs.Worked.{HasDone, HasWorked, standing};
 
 use crate::entry::ReplyEntry;
+use crate::room::{ReplyRoom, RowRoom};
 use crate::sender::{SharedSender, WriterName};
-use fl_core::Tolds;
-use fl_desk::{Counter, Gate};
+use fl_desk::{Counter, Gate, ToldLists};
 use fl_intake::{Intake, Job, TakeEnd};
 use fl_log::Appender;
-use fl_order::{Order, Told};
+use fl_order::{Op, Order, Told};
 use fl_transport::Response;
 use std::io::Write;
 use std::sync::{Mutex, Wait};
@@ -70,10 +73,8 @@ pub struct Worked<S, N: WriterName> {
     pub failures: Failures,
 }
 
-/// Takes orders until the intake is closed and empty. It looks for those that only read, and hands in all others, and
-/// those for which nothing could be shown, at its seat. Seat and end come back. It gives all replies to be sent; of an
-/// order that is refused, the reply that says so, if one is owed. Before it waits for an order it sends what is
-/// collected, and before it sleeps it tells the counter. There has to be room for the replies of any order.
+/// Takes rows of orders until the intake is closed and empty, and handles each as `handle_all` does. Seat and end come
+/// back. Before it waits for an order it sends what is collected, and before it sleeps it tells the counter.
 pub fn worker_loop<R: Wait, C: Counter, G: Gate, W: Write, N: WriterName>(
     rt: &R,
     counter: &C,
@@ -82,10 +83,10 @@ pub fn worker_loop<R: Wait, C: Counter, G: Gate, W: Write, N: WriterName>(
     sender: &Mutex<SharedSender<'_, W, N>>,
     post: Post<C::Seat, N>,
     end: TakeEnd,
-    tolds: Tolds,
+    room: RowRoom,
 ) -> Worked<C::Seat, N>
     requires end { end.of ≡ intake.now }
-    requires room { C.most_tolds ≤ tolds.room }
+    requires room { HasRowFor C.most_tolds room }
     ensures end { result.end.of ≡ intake.now }
     ensures did { HasDone C.shows end.taken result.end.taken
         (standing C.worker C.count C.answered C.seen post.seat post.own)
@@ -94,13 +95,16 @@ pub fn worker_loop<R: Wait, C: Counter, G: Gate, W: Write, N: WriterName>(
 {
     let mut post = post;
     let mut end = end;
-    let mut tolds = tolds;
+    let RowRoom {
+        mut row,
+        mut replies,
+    } = room;
     let mut failures = Failures::none();
     for _ in rt.forever() {
-        let Some(job) = next_job(rt, counter, intake, &mut end, sender) else {
+        if !next_row(rt, counter, intake, &mut end, sender, &mut row) {
             break;
-        };
-        let more = handle(rt, counter, gate, sender, &mut post, &mut tolds, &job);
+        }
+        let more = handle_all(rt, counter, gate, sender, &mut post, &mut replies, &row);
         failures = failures.or(more);
     }
     Worked {
@@ -110,74 +114,148 @@ pub fn worker_loop<R: Wait, C: Counter, G: Gate, W: Write, N: WriterName>(
     }
 }
 
-/// Handles orders that no worker took, one after another, as a worker does.
+/// Handles orders at one seat, one after another: it looks for those that only read, and hands in all others, and those
+/// for which nothing could be shown. Orders between two that only read are handed in together. It gives all replies to
+/// be sent; of an order that is refused, the reply that says so, if one is owed.
 pub fn handle_all<R: Wait, C: Counter, G: Gate, W: Write, N: WriterName>(
     rt: &R,
     counter: &C,
     gate: &G,
     sender: &Mutex<SharedSender<'_, W, N>>,
     post: &mut Post<C::Seat, N>,
-    tolds: Tolds,
-    orders: Vec<Job>,
+    replies: &mut ReplyRoom,
+    orders: &[Job],
 ) -> Failures
-    requires room { C.most_tolds ≤ tolds.room }
-    ensures did { HasWorked C.shows orders.items
+    requires room { HasRoomFor C.most_tolds replies.old }
+    ensures room { HasRoomFor C.most_tolds replies.new }
+    ensures did { HasWorked C.shows orders.now
         (standing C.worker C.count C.answered C.seen post.old.seat post.old.own)
         (standing C.worker C.count C.answered C.seen post.new.seat post.new.own)
         result.refused result.lost }
 {
-    let mut tolds = tolds;
-    let mut failures = Failures::none();
     for order in orders {
-        let more = handle(rt, counter, gate, sender, post, &mut tolds, &order);
+        gate.pass(order.unique);
+    }
+    let mut failures = Failures::none();
+    let mut done = 0;
+    while done < orders.len() {
+        let (handled, more) = handle_next(
+            rt,
+            counter,
+            gate,
+            sender,
+            post,
+            replies,
+            &orders[done..],
+        );
         failures = failures.or(more);
+        done += handled;
     }
     failures
 }
 
-// Looks for an order that only reads, and hands in any other, and one for which nothing could be shown. What is owed
-// for it is given to be sent.
-fn handle<R: Wait, C: Counter, G: Gate, W: Write, N: WriterName>(
+// Handles the first of these orders, or some from the first on. It says how many.
+fn handle_next<R: Wait, C: Counter, G: Gate, W: Write, N: WriterName>(
     rt: &R,
     counter: &C,
     gate: &G,
     sender: &Mutex<SharedSender<'_, W, N>>,
     post: &mut Post<C::Seat, N>,
-    tolds: &mut Tolds,
-    order: &Order,
-) -> Failures
-    requires room { C.most_tolds ≤ tolds.old.room }
-    ensures room { tolds.new.room ≡ tolds.old.room }
-    ensures did { HasWorked C.shows (order.now ∷ [])
+    replies: &mut ReplyRoom,
+    orders: &[Job],
+) -> (usize, Failures)
+    requires some { 0 < length orders.now }
+    requires room { HasRoomFor C.most_tolds replies.old }
+    ensures room { HasRoomFor C.most_tolds replies.new }
+    ensures some { (0 < result.0) × (result.0 ≤ length orders.now) }
+    ensures did { HasWorked C.shows (take result.0 orders.now)
         (standing C.worker C.count C.answered C.seen post.old.seat post.old.own)
         (standing C.worker C.count C.answered C.seen post.new.seat post.new.own)
-        result.refused result.lost }
+        result.1.refused result.1.lost }
 {
-    gate.pass(order.unique);
     let Post { seat, own } = post;
-    if let Some(told) = looked(counter, seat, order) {
-        let given = give(rt, gate, sender, own, &Response::One(told));
-        return Failures {
+    if let Some(told) = looked(counter, seat, &orders[0]) {
+        let lost = give(rt, gate, sender, own, &Response::One(told));
+        let failures = Failures {
             refused: false,
-            lost: !given,
+            lost,
         };
+        return (1, failures);
     }
-    match counter.hand_in(rt, seat, order, tolds) {
-        Ok(()) => {
-            let given = give(rt, gate, sender, own, &Response::Replies(tolds.as_slice()));
-            Failures {
-                refused: false,
-                lost: !given,
-            }
+    let (together, _) = orders.split_at(until_one_reads(orders));
+    hand_in(rt, counter, gate, sender, post, replies, together)
+}
+
+// How many of these orders come before the next that only reads. The first is one of them in any case.
+fn until_one_reads(orders: &[Job]) -> usize
+    requires { 0 < length orders.now }
+    ensures { (0 < result) × (result ≤ length orders.now) }
+{
+    for i in 1..orders.len() {
+        if orders[i].only_reads() {
+            return i;
         }
+    }
+    orders.len()
+}
+
+// Hands in these orders together, until one is refused. What is owed for each is given to be sent. It says how many it
+// handed in, and one more if that was refused.
+fn hand_in<R: Wait, C: Counter, G: Gate, W: Write, N: WriterName>(
+    rt: &R,
+    counter: &C,
+    gate: &G,
+    sender: &Mutex<SharedSender<'_, W, N>>,
+    post: &mut Post<C::Seat, N>,
+    replies: &mut ReplyRoom,
+    orders: &[Job],
+) -> (usize, Failures)
+    requires some { 0 < length orders.now }
+    requires room { HasRoomFor C.most_tolds replies.old }
+    ensures room { HasRoomFor C.most_tolds replies.new }
+    ensures some { (0 < result.0) × (result.0 ≤ length orders.now) }
+    ensures did { HasWorked C.shows (take result.0 orders.now)
+        (standing C.worker C.count C.answered C.seen post.old.seat post.old.own)
+        (standing C.worker C.count C.answered C.seen post.new.seat post.new.own)
+        result.1.refused result.1.lost }
+{
+    let Post { seat, own } = post;
+    let ReplyRoom { tolds, lists } = replies;
+    let result = counter.hand_in_all(rt, seat, orders, tolds, lists);
+    let handed = lists.count();
+    let lost = give_lists(rt, gate, sender, own, lists);
+    let failures = Failures {
+        refused: false,
+        lost,
+    };
+    match result {
+        Ok(()) => (handed, failures),
         Err(_) => {
-            let response = Response::lost(order.op.kind(), order.unique);
-            let given = give(rt, gate, sender, own, &response);
-            Failures {
-                refused: true,
-                lost: !given,
-            }
+            let order = &orders[handed];
+            let more = refuse(rt, gate, sender, own, order);
+            (handed + 1, failures.or(more))
         }
+    }
+}
+
+// Gives the reply that says that this order was refused to be sent, if one is owed.
+fn refuse<R: Wait, G: Gate, W: Write, N: WriterName>(
+    rt: &R,
+    gate: &G,
+    sender: &Mutex<SharedSender<'_, W, N>>,
+    own: &mut Appender<N, ReplyEntry>,
+    order: &Order,
+) -> Failures
+    ensures refused { result.refused ≡ true }
+    ensures sent { HasSent
+        (entry own.old.author (replies_of (lost (kind_of order.now.op) order.now.unique)) ∷ [])
+        own.old own.new result.lost }
+{
+    let response = Response::lost(order.op.kind(), order.unique);
+    let lost = give(rt, gate, sender, own, &response);
+    Failures {
+        refused: true,
+        lost,
     }
 }
 
@@ -202,33 +280,82 @@ fn looked<C: Counter>(counter: &C, seat: &mut C::Seat, order: &Order) -> Option<
     })
 }
 
-// The next order. If none is there, what is collected is sent first, and a worker spins for a while before it
-// sleeps. If none came then either, the counter is told before it sleeps.
-fn next_job<R: Wait, C: Counter, W: Write, N: WriterName>(
+// Takes the next orders into the row, in the place of those before, and says whether one came. If none is there, what
+// is collected is sent first, and a worker spins for a while before it sleeps. If none came then either, the counter is
+// told before it sleeps.
+fn next_row<R: Wait, C: Counter, W: Write, N: WriterName>(
     rt: &R,
     counter: &C,
     intake: &Intake,
     end: &mut TakeEnd,
     sender: &Mutex<SharedSender<'_, W, N>>,
-) -> Option<Job>
-    requires { end.old.of ≡ intake.now }
+    row: &mut Vec<Job>,
+) -> bool
+    requires end { end.old.of ≡ intake.now }
+    requires room { 0 < vec_capacity row.old }
     ensures of { end.new.of ≡ intake.now }
-    ensures taken { end.new.taken ≡ end.old.taken ++ option_to_list result }
+    ensures room { vec_capacity row.new ≡ vec_capacity row.old }
+    ensures taken { end.new.taken ≡ end.old.taken ++ row.new.items }
+    ensures none { result ≡ false → row.new.items ≡ [] }
 {
-    if let Some(job) = intake.take_now(rt, end) {
-        return Some(job);
+    row.clear();
+    intake.take_many(rt, end, row);
+    if !row.is_empty() {
+        return true;
     }
     flush(rt, sender);
     intake.spin();
-    if let Some(job) = intake.take_now(rt, end) {
-        return Some(job);
+    intake.take_many(rt, end, row);
+    if !row.is_empty() {
+        return true;
     }
     counter.pause(rt);
-    intake.take(rt, end)
+    let Some(job) = intake.take(rt, end) else {
+        return false;
+    };
+    // The prover has to be told of the op's type.
+    let op: Op = job.op;
+    row.push_reserved(Order { op, ..job });
+    true
 }
 
-// Gives a response to be sent, with nothing of another worker's between, and tells the gate of each reply. False if
-// it could not be given.
+// Gives these lists of replies to be sent, each by itself, with nothing of another worker's between, and tells the gate
+// of each reply. It says whether some list could not be given.
+fn give_lists<R: Wait, G: Gate, W: Write, N: WriterName>(
+    rt: &R,
+    gate: &G,
+    sender: &Mutex<SharedSender<'_, W, N>>,
+    own: &mut Appender<N, ReplyEntry>,
+    lists: &ToldLists,
+) -> bool
+    ensures { HasSent (entries_for own.old.author lists.now.lists) own.old own.new result }
+{
+    let lost = collect_lists(rt, sender, own, lists);
+    for place in 0..lists.count() {
+        tell(gate, &Response::Replies(lists.list(place)));
+    }
+    lost
+}
+
+fn collect_lists<R: Wait, W: Write, N: WriterName>(
+    rt: &R,
+    sender: &Mutex<SharedSender<'_, W, N>>,
+    own: &mut Appender<N, ReplyEntry>,
+    lists: &ToldLists,
+) -> bool
+    ensures { HasSent (entries_for own.old.author lists.now.lists) own.old own.new result }
+{
+    let mut sender = sender.lock(rt);
+    let mut lost = false;
+    for place in 0..lists.count() {
+        let given = sender.collect(own, &Response::Replies(lists.list(place)));
+        lost = lost || !given;
+    }
+    lost
+}
+
+// Gives a response to be sent, with nothing of another worker's between, and tells the gate of each reply. It says
+// whether it could not be given.
 fn give<R: Wait, G: Gate, W: Write, N: WriterName>(
     rt: &R,
     gate: &G,
@@ -236,13 +363,11 @@ fn give<R: Wait, G: Gate, W: Write, N: WriterName>(
     own: &mut Appender<N, ReplyEntry>,
     response: &Response,
 ) -> bool
-    ensures author { own.new.author ≡ own.old.author }
-    ensures given { result ≡ true
-        → IsAppended own.old (entry own.old.author (replies_of response.now)) own.new }
+    ensures { HasSent (entry own.old.author (replies_of response.now) ∷ []) own.old own.new result }
 {
-    let given = collect(rt, sender, own, response);
+    let lost = collect(rt, sender, own, response);
     tell(gate, response);
-    given
+    lost
 }
 
 fn collect<R: Wait, W: Write, N: WriterName>(
@@ -251,12 +376,10 @@ fn collect<R: Wait, W: Write, N: WriterName>(
     own: &mut Appender<N, ReplyEntry>,
     response: &Response,
 ) -> bool
-    ensures author { own.new.author ≡ own.old.author }
-    ensures given { result ≡ true
-        → IsAppended own.old (entry own.old.author (replies_of response.now)) own.new }
+    ensures { HasSent (entry own.old.author (replies_of response.now) ∷ []) own.old own.new result }
 {
     let mut sender = sender.lock(rt);
-    sender.collect(own, response)
+    !sender.collect(own, response)
 }
 
 // Sends what is collected.

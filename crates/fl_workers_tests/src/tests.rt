@@ -9,6 +9,7 @@ mod looks;
 mod orders;
 mod pool;
 mod refusals;
+mod rows;
 mod sending;
 mod tally;
 mod thirds;

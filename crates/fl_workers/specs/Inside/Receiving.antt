@@ -1,7 +1,6 @@
 -- The receiver of a session with workers, while it is under way.
 use Rattle.std.specs.Prelude.{◌≡◌, ℕ, Bool, true, false, List, [], ◌++◌, map, Option, None, if◌then◌else◌}
 use Rattle.fl_log.specs.Appended.{Appended}
-use Rattle.fl_log.specs.Growing.{Grows}
 use Rattle.fl_order.specs.declared.order.Order.{Order}
 use Rattle.fl_transport.specs.Ending.{IsRead}
 use Rattle.fl_transport.specs.Handshake.{handshake_of}
@@ -10,16 +9,14 @@ use Rattle.fl_transport.specs.declared.handshake.Handshake.{Handshake}
 use Rattle.fl_transport.specs.declared.response.Response.{Response}
 use Rattle.fl_transport.specs.declared.response.Response.TheVariants.{Nothing}
 use Rattle.fl_workers.specs.Received.{IsLast, Reception, answer_by, left_to_answer, own_answers}
-use Rattle.fl_workers.specs.Sent.{entries_of}
+use Rattle.fl_workers.specs.Sent.{HasSent}
 use Rattle.fl_workers.specs.declared.entry.ReplyEntry.{ReplyEntry}
 
--- If no answer is lost now, none was before, and these answers and no others were given to be sent in between.
-pub record HasGiven (sent sent_now : Appended ReplyEntry) (lost lost_now : Bool) (answers : List Response)
-    : Type 0 where
-  pub author : sent_now.author ≡ sent.author
+-- Of these answers, which were owed in between, some were given to be sent in this order, and no others. If no answer is
+-- lost now, none was before, and all were given.
+pub record HasGiven (old new : Appended ReplyEntry) (lost lost_now : Bool) (answers : List Response) : Type 0 where
   pub whole : lost_now ≡ false → lost ≡ false
-  pub given : lost_now ≡ false → Grows (entries_of sent.author sent.own) (entries_of sent.author sent_now.own)
-      sent.count sent_now.count (map (answer_by sent.author) answers)
+  pub sent : HasSent (map (answer_by old.author) answers) old new lost_now
 
 -- of the session's own answers to a message, those that are given at once: that to a DESTROY isn't
 abbrev pub given_now : Bool → List Response → List Response

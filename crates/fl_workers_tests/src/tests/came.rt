@@ -12,6 +12,8 @@ use std::process::Abort;
 pub(super) struct Came {
     /// The uniques of those that were handed in, one seat behind the other.
     pub handed: Vec<u64>,
+    /// How many were handed in together each time.
+    pub rows: Vec<u64>,
     /// The uniques of those that were looked for and shown.
     pub looked: Vec<u64>,
     /// What some worker told that went wrong.
@@ -25,6 +27,7 @@ impl Came {
     pub(super) fn new(alloc: Global) -> Came {
         Came {
             handed: Vec::new(alloc),
+            rows: Vec::new(alloc),
             looked: Vec::new(alloc),
             failures: Failures::none(),
             seats: 0,
@@ -36,12 +39,15 @@ impl Came {
         for order in &seat.orders {
             self.handed.push(order.unique).expect(rt, "memory");
         }
-        for unique in &seat.looks {
-            self.looked.push(*unique).expect(rt, "memory");
-        }
+        add_all(rt, &mut self.rows, &seat.rows);
+        add_all(rt, &mut self.looked, &seat.looks);
         self.failures = self.failures.or(failures);
         self.seats = self.seats.saturating_add(1);
     }
+}
+
+fn add_all(rt: &impl Abort, all: &mut Vec<u64>, more: &[u64]) {
+    all.extend_from_slice(more).expect(rt, "memory");
 }
 
 /// What is wanted of orders that one worker took, the oldest first.

@@ -5,10 +5,11 @@ ghost use Rattle.std.specs.Prelude.{◌≡◌, Some};
 use super::came::Came;
 use super::sending::{alone, begun, closed, opened};
 use super::tally::{Seat, Tally};
-use fl_core::{Rules, Tolds};
+use super::watch::Watch;
+use fl_core::Rules;
 use fl_intake::Job;
 use fl_log::{Appender, FreshLog};
-use fl_workers::{OpenGate, Post, ReplyEntry, SharedSender, WriterName, handle_all};
+use fl_workers::{Post, ReplyEntry, ReplyRoom, SharedSender, WriterName, handle_all};
 use std::alloc::Global;
 use std::marker::Brand;
 use std::process::Abort;
@@ -20,12 +21,13 @@ pub(super) fn handled<R: Wait + Abort>(
     rt: &R,
     alloc: Global,
     tally: Tally,
-    orders: Vec<Job>,
+    gate: &Watch,
+    orders: &[Job],
     out: &mut Vec<u8>,
 ) -> Came {
     let sending = Blank::new(1);
     let given = FreshLog::new();
-    let (came, _) = handled_at::<Brand, R>(rt, alloc, sending, given, tally, orders, out);
+    let (came, _) = handled_at::<Brand, R>(rt, alloc, sending, given, tally, gate, orders, out);
     came
 }
 
@@ -36,7 +38,8 @@ fn handled_at<'w, N: WriterName, R: Wait + Abort>(
     sending: Blank,
     given: FreshLog<ReplyEntry>,
     tally: Tally,
-    orders: Vec<Job>,
+    gate: &Watch,
+    orders: &[Job],
     out: &'w mut Vec<u8>,
 ) -> (Came, &'w mut Vec<u8>)
     requires start { Some out.old.items ≡ N.start }
@@ -47,7 +50,7 @@ fn handled_at<'w, N: WriterName, R: Wait + Abort>(
     let (sender, mut rest) = opened::<N, R>(rt, alloc, sending, given, out);
     let own = sender.appender(&mut rest, 0);
     let sender = begun(sender);
-    let (came, own) = handed_in(rt, alloc, tally, orders, &sender, own);
+    let (came, own) = handed_in(rt, alloc, tally, gate, orders, &sender, own);
     (came, closed(rt, sender, alone(rt, alloc, own)))
 }
 
@@ -56,14 +59,15 @@ fn handed_in<'w, N: WriterName, R: Wait + Abort>(
     rt: &R,
     alloc: Global,
     tally: Tally,
-    orders: Vec<Job>,
+    gate: &Watch,
+    orders: &[Job],
     sender: &Mutex<SharedSender<'w, Vec<u8>, N>>,
     own: Appender<N, ReplyEntry>,
 ) -> (Came, Appender<N, ReplyEntry>) {
-    let tolds = Tolds::new(alloc, Rules::standard()).expect(rt, "memory");
+    let mut replies = ReplyRoom::new(alloc, Rules::standard()).expect(rt, "memory");
     let seat = Seat::new(rt, alloc, own.author());
     let mut post = Post { seat, own };
-    let failures = handle_all(rt, &tally, &OpenGate, sender, &mut post, tolds, orders);
+    let failures = handle_all(rt, &tally, gate, sender, &mut post, &mut replies, orders);
     let Post { seat, own } = post;
     let mut came = Came::new(alloc);
     came.keep(rt, &seat, failures);

@@ -6,6 +6,7 @@ use super::came::{Wanted, is_wanted};
 use super::handling::handled;
 use super::orders::asked;
 use super::tally::WILLING;
+use super::watch::Watch;
 use fl_intake::{Intake, Job, PutEnd};
 use std::alloc::Global;
 use std::process::Abort;
@@ -54,7 +55,8 @@ fn what_nobody_took_is_handed_in(rt: HostRuntime) {
     let alloc = rt.alloc();
     let orders = asked(&rt, alloc, TRACE);
     let left = left(&rt, alloc, &orders);
+    let gate = Watch::holding(None);
     let mut out = Vec::new(alloc);
-    let came = handled(&rt, alloc, WILLING, left, &mut out);
+    let came = handled(&rt, alloc, WILLING, &gate, &left, &mut out);
     is_wanted(&rt, alloc, &came, &out, &WANTED);
 }

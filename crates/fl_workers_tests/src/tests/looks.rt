@@ -54,8 +54,10 @@ fn ends_with_the_lock(rt: &impl Abort, alloc: Global, out: &[u8]) {
 }
 
 fn ask_alone<R: Wait + Abort>(rt: &R, alloc: Global, tally: Tally, wanted: &Wanted<'_>) {
+    let orders = asked(rt, alloc, TRACE);
+    let gate = Watch::holding(None);
     let mut out = Vec::new(alloc);
-    let came = handled(rt, alloc, tally, asked(rt, alloc, TRACE), &mut out);
+    let came = handled(rt, alloc, tally, &gate, &orders, &mut out);
     is_wanted(rt, alloc, &came, &out, wanted);
     ends_with_the_lock(rt, alloc, &out);
 }

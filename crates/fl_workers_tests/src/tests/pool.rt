@@ -6,11 +6,13 @@ use super::came::Came;
 use super::sending::{begun, closed, opened};
 use super::tally::{Seat, Tally};
 use super::watch::Watch;
-use fl_core::{Rules, Tolds};
+use fl_core::Rules;
 use fl_intake::{Intake, Job, PutEnd, TakeEnd};
 use fl_log::{Appender, FreshLog};
 use fl_testing::of_workers;
-use fl_workers::{Failures, Post, ReplyEntry, SharedSender, Worked, WriterName, worker_loop};
+use fl_workers::{
+    Failures, Post, ReplyEntry, RowRoom, SharedSender, Worked, WriterName, worker_loop,
+};
 use std::alloc::Global;
 use std::marker::Brand;
 use std::process::Abort;
@@ -231,7 +233,7 @@ impl<'a, 'w, N: WriterName + Send + Sync, R: Threads + Wait + Clock + Abort + Sy
         ensures { result.end.of ≡ self.now.intake }
     {
         let Place { end, own } = place;
-        let tolds = Tolds::new(self.alloc, Rules::standard()).expect(self.rt, "memory");
+        let room = RowRoom::new(self.alloc, Rules::standard()).expect(self.rt, "memory");
         let seat = Seat::new(self.rt, self.alloc, own.author());
         let Worked {
             post,
@@ -245,7 +247,7 @@ impl<'a, 'w, N: WriterName + Send + Sync, R: Threads + Wait + Clock + Abort + Sy
             self.sender,
             Post { seat, own },
             end,
-            tolds,
+            room,
         );
         let Post { seat, own } = post;
         self.keep(&seat, failures);

@@ -67,8 +67,10 @@ const REFUSING: Tally = Tally {
 };
 
 fn hand_in_alone<R: Wait + Abort>(rt: &R, alloc: Global, tally: Tally, wanted: &Wanted<'_>) {
+    let orders = asked(rt, alloc, TRACE);
+    let gate = Watch::holding(None);
     let mut out = Vec::new(alloc);
-    let came = handled(rt, alloc, tally, asked(rt, alloc, TRACE), &mut out);
+    let came = handled(rt, alloc, tally, &gate, &orders, &mut out);
     is_wanted(rt, alloc, &came, &out, wanted);
 }
 

@@ -1,15 +1,19 @@
 //! A counter in memory, whose seats keep what is handed in at them.
 
-ghost use Rattle.std.specs.Prelude.{◌≡◌, ◌≤◌, ◌+◌, ◌++◌, [], length};
+ghost use Rattle.std.specs.Prelude.{◌≡◌, ◌≤◌, ◌+◌, ◌++◌, [], length, take, OnErr, OnOk};
+ghost use Rattle.fl_desk.specs.Answered.{IsAnsweredLast, answered_by};
 ghost use Rattle.fl_desk.specs.Legal.{step_lines};
 
 use fl_core::{Core, Rules, Tolds};
-use fl_desk::{Counter, HandFault, NoView};
+use fl_desk::{Counter, HandFault, NoView, ToldLists};
 use fl_history::Lines;
 use fl_order::{Answer, Errno, Op, Order, Told};
 use std::alloc::Global;
 use std::process::Abort;
 use std::sync::Wait;
+
+// The most replies to an order under the standard rules.
+const MOST_TOLDS: usize = 257;
 
 // The most lines of an order: its own, and one for each reply.
 const MOST_LINES: usize = 258;
@@ -35,6 +39,8 @@ pub(super) struct Seat {
     pub worker: u32,
     /// The orders that were handed in, the oldest first.
     pub orders: Vec<Order>,
+    /// How many orders were handed in together each time, with those that weren't taken then.
+    pub rows: Vec<u64>,
     /// The uniques of the orders that were looked for and shown, the oldest first.
     pub looks: Vec<u64>,
     tries: u64,
@@ -54,12 +60,49 @@ impl Seat {
         Seat {
             worker,
             orders: Vec::new(alloc),
+            rows: Vec::new(alloc),
             looks: Vec::new(alloc),
             tries: 0,
             core: Core::new(alloc, Rules::standard()).expect(rt, "memory"),
             lines: Lines::new(alloc),
             shown: 0,
         }
+    }
+
+    // Takes an order, or refuses it if it is a third and these are to be refused.
+    #[tactic(auto, using(crate::proofs::SeatLemmas::answered_last))]
+    fn hand_in(
+        &mut self,
+        refuses: bool,
+        order: &Order,
+        tolds: &mut Tolds,
+    ) -> Result<(), HandFault>
+        requires { 257 ≤ tolds.old.room }
+        ensures room { tolds.new.room ≡ tolds.old.room }
+        ensures same { (self.new.worker ≡ self.old.worker) × (self.new.shown ≡ self.old.shown) }
+        ensures seen { take self.new.shown self.new.lines.items ≡ take self.old.shown self.old.lines.items }
+        ensures taken { OnOk result ((length self.new.orders.items ≡ length self.old.orders.items + 1)
+            × IsAnsweredLast (answered_by self.old.worker self.old.lines.items) order.now tolds.new.told
+                (answered_by self.old.worker self.new.lines.items)) }
+        ensures fits { OnOk result (length tolds.new.told ≤ 257) }
+        ensures refused { OnErr result ((length self.new.orders.items ≡ length self.old.orders.items)
+            × (self.new.lines.items ≡ self.old.lines.items)) }
+    {
+        self.tries = self.tries.wrapping_add(1);
+        if refuses && self.tries % 3 == 0 {
+            return Err(HandFault::NoMemory);
+        }
+        if self.lines.reserve(MOST_LINES).is_err() {
+            return Err(HandFault::NoMemory);
+        }
+        // The prover has to be told of the op's type.
+        let op: Op = order.op;
+        if self.orders.push(Order { op, ..*order }).is_err() {
+            return Err(HandFault::NoMemory);
+        }
+        self.core.step(order, tolds);
+        append(&mut self.lines, self.worker, order, tolds.as_slice());
+        Ok(())
     }
 }
 
@@ -92,28 +135,25 @@ impl Counter for Tally {
 
     ghost most_tolds = { 257 };
 
-    #[tactic(auto, using(crate::proofs::SeatLemmas::answered_last))]
-    fn hand_in<R: Wait>(
+    fn hand_in_all<R: Wait>(
         &self,
         _rt: &R,
         seat: &mut Seat,
-        order: &Order,
+        orders: &[Order],
         tolds: &mut Tolds,
+        lists: &mut ToldLists,
     ) -> Result<(), HandFault> {
-        seat.tries = seat.tries.wrapping_add(1);
-        if self.refuses && seat.tries % 3 == 0 {
+        lists.clear();
+        if seat.rows.push(orders.len() as u64).is_err() {
             return Err(HandFault::NoMemory);
         }
-        if seat.lines.reserve(MOST_LINES).is_err() {
-            return Err(HandFault::NoMemory);
+        for order in orders {
+            if !lists.has_room(MOST_TOLDS) {
+                break;
+            }
+            seat.hand_in(self.refuses, order, tolds)?;
+            lists.push(tolds.as_slice());
         }
-        // The prover has to be told of the op's type.
-        let op: Op = order.op;
-        if seat.orders.push(Order { op, ..*order }).is_err() {
-            return Err(HandFault::NoMemory);
-        }
-        seat.core.step(order, tolds);
-        append(&mut seat.lines, seat.worker, order, tolds.as_slice());
         Ok(())
     }
 

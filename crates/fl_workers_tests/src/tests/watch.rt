@@ -14,6 +14,8 @@ pub(super) struct Watch {
     held: Option<u64>,
     passed: AtomicU64,
     sent: AtomicU64,
+    // How many orders had come to it when the first reply was sent.
+    first: AtomicU64,
     given_up: AtomicBool,
 }
 
@@ -24,6 +26,7 @@ impl Watch {
             held,
             passed: AtomicU64::new(0),
             sent: AtomicU64::new(0),
+            first: AtomicU64::new(0),
             given_up: AtomicBool::new(false),
         }
     }
@@ -31,6 +34,11 @@ impl Watch {
     /// Waits until so many orders came to it.
     pub(super) fn wait_for_orders(&self, orders: u64) {
         self.wait(&self.passed, orders);
+    }
+
+    /// How many orders had come to it when the first reply was sent.
+    pub(super) fn orders_before_the_first_reply(&self) -> u64 {
+        self.first.load(Ordering::SeqCst)
     }
 
     /// Somebody waited for too long.
@@ -58,6 +66,9 @@ impl Gate for Watch {
     }
 
     fn sent(&self, _unique: u64) {
-        self.sent.fetch_add(1, Ordering::SeqCst);
+        if self.sent.fetch_add(1, Ordering::SeqCst) == 0 {
+            let orders = self.passed.load(Ordering::SeqCst);
+            self.first.store(orders, Ordering::SeqCst);
+        }
     }
 }

@@ -1,5 +1,5 @@
 use Rattle.std.proofs.Common.{rules, ◌≡◌, false, refl, sym, ◌∙◌}
-use Rattle.fl_workers.proofs.ReceivingLemmas.{gives_one, goodbye_gives_none, message_gives_one, order_gives_none}
+use Rattle.fl_workers.proofs.ReceivingLemmas.{goodbye_gives_none, message_gives_one, order_gives_none}
 use Rattle.fl_workers.proofs.ReceivingLemmas.{puts_as, puts_none}
 use Rattle.fl_workers.proofs.receiver.Receiver.receive.Goals as goal
 
@@ -33,4 +33,4 @@ pub returns-in-Response-2-clause-given : goal.returns-in-Response-2-clause-given
 returns-in-Response-2-clause-given g c =
     let live : c.answer.new.self.handshake.over ≡ false = search rules in
     message_gives_one _ _ _ _ _ _ _ live (sym c.receive.ensures.incoming ∙ c.in-Response.is)
-    (gives_one _ _ _ _ _ c.answer.ensures.author c.answer.ensures.lost c.answer.ensures.given)
+    c.answer.ensures.given

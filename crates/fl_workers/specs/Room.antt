@@ -1,0 +1,12 @@
+-- Room for the replies to orders that are handed in together.
+use Rattle.std.specs.Prelude.{◌≡◌, ℕ, ◌<◌, ◌≤◌, [], vec_capacity}
+use Rattle.fl_workers.specs.declared.room.ReplyRoom.{ReplyRoom}
+use Rattle.fl_workers.specs.declared.room.RowRoom.{RowRoom}
+
+-- there is room for the replies to orders of which each may be given so many
+abbrev pub HasRoomFor : ℕ → ReplyRoom → Type 0
+HasRoomFor most room = (most ≤ room.tolds.room) × (most ≤ room.lists.room) × (0 < room.lists.places)
+
+-- the same of a worker's room, with an empty row that has room for an order
+abbrev pub HasRowFor : ℕ → RowRoom → Type 0
+HasRowFor most room = (room.row.items ≡ []) × (0 < vec_capacity room.row) × HasRoomFor most room.replies

@@ -1,0 +1,52 @@
+//! Room for a row of orders, and for the replies to it.
+
+ghost use Rattle.std.specs.Prelude.{◌+◌, IfOk};
+ghost use Rattle.fl_workers.specs.Room.{HasRoomFor, HasRowFor};
+
+use fl_core::{Rules, Tolds};
+use fl_desk::{MOST_IN_ROW, ToldLists};
+use fl_intake::Job;
+use fl_order::NoMemory;
+use std::alloc::Global;
+
+/// Room for the replies to a row of orders.
+#[derive(Drop)]
+pub struct ReplyRoom {
+    /// For those to one order, while it is taken.
+    pub tolds: Tolds,
+    /// For those to all orders that were taken together, a list for each.
+    pub lists: ToldLists,
+}
+
+impl ReplyRoom {
+    /// Room for the replies to 16 orders at most under these rules.
+    pub fn new(alloc: Global, rules: Rules) -> Result<ReplyRoom, NoMemory>
+        ensures { IfOk result (λ room. HasRoomFor (rules.parked + 1) room) }
+    {
+        Ok(ReplyRoom {
+            tolds: Tolds::new(alloc, rules)?,
+            lists: ToldLists::new(alloc, rules)?,
+        })
+    }
+}
+
+/// Room for the orders that a worker takes at once, and for the replies to them.
+#[derive(Drop)]
+pub struct RowRoom {
+    /// For the orders.
+    pub row: Vec<Job>,
+    /// For the replies.
+    pub replies: ReplyRoom,
+}
+
+impl RowRoom {
+    /// Room for 16 orders at most, and for the replies to them under these rules.
+    pub fn new(alloc: Global, rules: Rules) -> Result<RowRoom, NoMemory>
+        ensures { IfOk result (λ room. HasRowFor (rules.parked + 1) room) }
+    {
+        Ok(RowRoom {
+            row: Vec::with_capacity(alloc, MOST_IN_ROW)?,
+            replies: ReplyRoom::new(alloc, rules)?,
+        })
+    }
+}
