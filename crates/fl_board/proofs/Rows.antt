@@ -25,8 +25,8 @@ handed_more rules old mid new (o ∷ orders) [] order tolds less is same one so_
 handed_more rules old mid new (o ∷ orders) (ts ∷ lists) order tolds less is same one so_far = (
   so_far.0,
   so_far.1,
-  so_far.2.0,
-  handed_more rules so_far.0 mid new orders lists order tolds (omega (arith, less)) is same one so_far.2.1,
+  so_far.2,
+  handed_more rules so_far.0 mid new orders lists order tolds (omega (arith, less)) is same one so_far.3,
 )
 
 -- no more lists than orders
@@ -35,7 +35,7 @@ pub no_more_lists : (rules : Rules) (old new : Place) (orders : List Order) (lis
 no_more_lists rules old new orders [] handed = omega arith
 no_more_lists rules old new [] (ts ∷ lists) handed = absurd handed
 no_more_lists rules old new (o ∷ orders) (ts ∷ lists) handed =
-    omega (arith, no_more_lists rules handed.0 new orders lists handed.2.1)
+    omega (arith, no_more_lists rules handed.0 new orders lists handed.3)
 
 -- the place stays its worker's, what was shown there stays, and it counts the orders
 pub handed_same : (rules : Rules) (old new : Place) (orders : List Order) (lists : List (List Told))
@@ -48,8 +48,8 @@ handed_same rules old new orders [] handed = (
 )
 handed_same rules old new [] (ts ∷ lists) handed = absurd handed
 handed_same rules old new (o ∷ orders) (ts ∷ lists) handed =
-    let one = handed.2.0 in
-    let rest = handed_same rules handed.0 new orders lists handed.2.1 in (
+    let one = handed.2 in
+    let rest = handed_same rules handed.0 new orders lists handed.3 in (
       rest.0 ∙ handed.1,
       rest.1 ∙ one.seen,
       omega (arith, rest.2, one.count),
@@ -63,6 +63,6 @@ handed_in_answered rules old new orders [] handed = ap (λ (p : Place). answered
 handed_in_answered rules old new [] (ts ∷ lists) handed = absurd handed
 handed_in_answered rules old new (o ∷ orders) (ts ∷ lists) handed = (
   answered_by handed.0.worker handed.0.own,
-  handed_in_last rules old handed.0 o ts handed.1 handed.2.0,
-  handed_in_answered rules handed.0 new orders lists handed.2.1,
+  handed_in_last rules old handed.0 o ts handed.1 handed.2,
+  handed_in_answered rules handed.0 new orders lists handed.3,
 )

@@ -109,7 +109,13 @@ impl<L: BoardName, R: Wait + Drop, J: Journal> Board<L, R, J> {
     {
         let (book, rest) = blank.open::<L>();
         let shared = Shared::over(alloc, rt, kept, book, log, workers as usize, rules)?;
-        let seats = seats_of(alloc, &shared.record.writer, &shared.record.all, rest, workers)?;
+        let seats = seats_of(
+            alloc,
+            &shared.record.writer,
+            &shared.record.all,
+            rest,
+            workers,
+        )?;
         let board = Board {
             shared: Mutex::new(shared),
             workers: workers as usize,

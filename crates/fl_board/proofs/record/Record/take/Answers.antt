@@ -48,7 +48,7 @@ invariant_of-self-2 g c =
     let taken : c.take.new.self.lines ≡ history_of ours was ++ step_lines worker order c.take.new.tolds.told = search rules in
     let stepped : c.take.new.self.present ≡ next (present_after ours was) order = search rules in
     let told : c.take.new.tolds.told ≡ replies_in (state_after (present_after ours was).rules (history_of ours was)) order = search rules in
-    let asks : c.add-writer.new.self.asks ≡ c.added.new.all = search rules in
+    let asks : c.add-2.new.self.asks ≡ c.added.new.all = search rules in
     let leads = c.asks_lead.ensures in
     let answered : c.take.new.tolds.told ≡ replies (present_after ours was) order =
     told ∙ ap (λ r. replies_in (state_after r (history_of ours was)) order) (leads.rules ours was)

@@ -1,4 +1,4 @@
-use Rattle.std.proofs.Common.{rules, ◌≡◌, ◌<◌, length, All, arith, refl, subst, List}
+use Rattle.std.proofs.Common.{rules, ◌≡◌, ◌<◌, length, All, ap, ◌∙◌, arith, refl, subst, List}
 use Rattle.std.proofs.Math.ListN.{get_or}
 use Rattle.std.proofs.lemmas.List.{take_more, take_all}
 use Rattle.std.proofs.lemmas.List.Elements.{All-push}
@@ -31,5 +31,5 @@ returns-then-not-begins-clause-begins g c =
     let is : get_or c.args.seats.now c.loop-seat.seat-index c.seat-item.result ≡ c.seat-item.result = search rules in (
       λ t. absurd (cc t),
       λ all. c.if-not-begins.ensures.begins.1
-          (rw c.self.view_is (subst (BeginsWith (history_of g.L.BoardName.rules c.args.self.now)) is (all c.loop-seat.seat-index c.seat-item.result lt))),
+          (rw (ap (λ s. s.record.asks) c.self-inside.view_is ∙ c.self.view_is) (subst (BeginsWith (history_of g.L.BoardName.rules c.args.self.now)) is (all c.loop-seat.seat-index c.seat-item.result lt))),
     )

@@ -11,7 +11,7 @@ use Rattle.fl_board.proofs.shared.Shared.meet.Goals as goal
 pub returns-then-not-begins-clause-no_view : goal.returns-then-not-begins-clause-no_view
 returns-then-not-begins-clause-no_view g c =
     let ours = g.L.BoardName.rules in
-    let all = c.self.inside.all in
+    let all = c.self-inside.inside.0.0.all in
     let legal = c.asks_lead.ensures.legal ours all in
     elim c.then-not-begins.branch [
       | then-not-begins-via-then-not-begins w ↦
@@ -24,7 +24,7 @@ pub returns-clause-met : goal.returns-clause-met
 returns-clause-met g c =
     let ours = g.L.BoardName.rules in
     let shown = c.again.result in
-    let at : (place : Place) → BeginsWith (history_of ours c.self.inside.all) place → BeginsWith (history_of ours shown) place =
+    let at : (place : Place) → BeginsWith (history_of ours c.self-inside.inside.0.0.all) place → BeginsWith (history_of ours shown) place =
     λ place. subst (λ (asks : List Ask). BeginsWith (history_of ours asks) place) (sym c.again.ensures) in
     let one = at c.args.one.now (c.if-not-begins.ensures.begins.0 refl) in
     let other = at c.args.other.now (c.if-not-begins-2.ensures.begins.0 refl) in

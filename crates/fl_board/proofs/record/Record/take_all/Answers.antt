@@ -1,0 +1,26 @@
+use Rattle.std.proofs.Common.{rules, ◌≡◌, ◌<◌, ◌+◌, ◌++◌, ◌∷◌, [], length, length-append, ap, ◌∙◌, arith}
+use Rattle.std.proofs.Math.ListN.{get_or}
+use Rattle.fl_board.proofs.Rows.{handed_more}
+use Rattle.fl_board.proofs.record.Record.take_all.Goals as goal
+
+pub loop-order-preserved : goal.loop-order-preserved
+loop-order-preserved g c =
+    let so_far = c.loop-order.invariant in
+    let before = c.loop-order.lists.lists in
+    let orders = c.args.orders.now in
+    let order = c.order-item.result in
+    let told = c.take.new.tolds.told in
+    let lists : c.push.new.self.lists ≡ before ++ told ∷ [] =
+    c.push.ensures.lists ∙ ap (λ l. before ++ l ∷ []) c.as_slice.ensures in
+    let within : c.loop-order.order-index < length orders = search rules in
+    let less : length before < length orders = omega (arith, so_far.count, within) in
+    let here : get_or orders c.loop-order.order-index order ≡ order = search rules in
+    record {
+      handed = rw lists (handed_more g.L.BoardName.rules c.args.seat.now c.loop-order.seat c.take.new.seat orders before order
+          told less (ap (λ n. get_or orders n order) so_far.count ∙ here) c.take.ensures.worker c.in_default.ensures.handed
+          so_far.handed);
+      count = omega (arith, ap length lists, length-append before (told ∷ []), so_far.count);
+      room = c.take.ensures.room ∙ so_far.room;
+      lists = (c.push.ensures.room.0 ∙ so_far.lists.0, c.push.ensures.places ∙ so_far.lists.1);
+      first = λ none. absurd (omega (arith, none));
+    }
