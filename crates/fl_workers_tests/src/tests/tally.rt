@@ -71,19 +71,14 @@ impl Seat {
 
     // Takes an order, or refuses it if it is a third and these are to be refused.
     #[tactic(auto, using(crate::proofs::SeatLemmas::answered_last))]
-    fn hand_in(
-        &mut self,
-        refuses: bool,
-        order: &Order,
-        tolds: &mut Tolds,
-    ) -> Result<(), HandFault>
+    fn hand_in(&mut self, refuses: bool, order: &Order, tolds: &mut Tolds) -> Result<(), HandFault>
         requires { 257 ≤ tolds.old.room }
         ensures room { tolds.new.room ≡ tolds.old.room }
         ensures same { (self.new.worker ≡ self.old.worker) × (self.new.shown ≡ self.old.shown) }
         ensures seen { take self.new.shown self.new.lines.items ≡ take self.old.shown self.old.lines.items }
         ensures taken { OnOk result ((length self.new.orders.items ≡ length self.old.orders.items + 1)
             × IsAnsweredLast (answered_by self.old.worker self.old.lines.items) order.now tolds.new.told
-                (answered_by self.old.worker self.new.lines.items)) }
+            (answered_by self.old.worker self.new.lines.items)) }
         ensures fits { OnOk result (length tolds.new.told ≤ 257) }
         ensures refused { OnErr result ((length self.new.orders.items ≡ length self.old.orders.items)
             × (self.new.lines.items ≡ self.old.lines.items)) }
