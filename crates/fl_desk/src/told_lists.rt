@@ -77,8 +77,7 @@ impl ToldLists {
     pub fn has_room(&self, most: usize) -> bool
         ensures { (result ≡ true) ↔ ((most ≤ self.now.free) × (length self.now.lists < self.now.places)) }
     {
-        most <= self.tolds.capacity() - self.tolds.len()
-            && self.spans.len() < self.spans.capacity()
+        most <= self.tolds.capacity() - self.tolds.len() && self.spans.len() < self.spans.capacity()
     }
 
     /// Forgets all lists. The room stays.

@@ -1,6 +1,7 @@
 //! Lock requests handed in at a board from as many threads as the first argument says, or at a desk without a lock
-//! where it is 0; the second says how many. With a third one the threads look instead, as often: `looks`, or `beside` while
-//! one thread more hands in. With 0 threads a core answers then. `bench/board.sh` and `bench/looks.sh` time it.
+//! where it is 0; the second says how many. With a third one, `rows`, they are handed in by rows of 16; or the threads look
+//! instead, as often: `looks`, or `beside` while one thread more hands in. With 0 threads a core answers then.
+//! `bench/board.sh` and `bench/looks.sh` time it.
 #![tactic(auto)]
 
 ghost use Rattle.std.specs.Prelude.{◌≡◌, true};
@@ -98,16 +99,16 @@ fn at_a_core(alloc: Global, looks: u64) -> anyhow::Result<usize> {
 // The same where nothing is shared.
 fn alone(alloc: Global, task: Task, times: u64) -> anyhow::Result<usize> {
     match task {
-        Task::HandsIn => at_a_desk(alloc, times),
+        Task::HandsIn | Task::HandsInRows => at_a_desk(alloc, times),
         Task::Looks | Task::LooksBeside => at_a_core(alloc, times),
     }
 }
 
 fn task_of(word: &str) -> Task {
-    if word == "beside" {
-        Task::LooksBeside
-    } else {
-        Task::Looks
+    match word {
+        "rows" => Task::HandsInRows,
+        "beside" => Task::LooksBeside,
+        _ => Task::Looks,
     }
 }
 

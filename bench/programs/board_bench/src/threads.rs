@@ -4,8 +4,9 @@ ghost use Rattle.std.specs.Prelude.{◌≡◌, ◌<◌, ◌≤◌};
 
 use crate::{ask, create, lock};
 use anyhow::anyhow;
-use fl_book::{Ask, Board, BoardName, FreshLog, Seat};
+use fl_book::{Ask, Board, BoardName, FreshLog, Seat, ToldLists};
 use fl_core::{Rules, Tolds};
+use fl_order::Order;
 use std::alloc::Global;
 use std::marker::Brand;
 use std::sync::Wait;
@@ -19,6 +20,8 @@ use std::thread::{JoinHandle, Scope, Threads};
 pub(crate) enum Task {
     /// It hands orders in.
     HandsIn,
+    /// It hands them in by rows of 16.
+    HandsInRows,
     /// It looks.
     Looks,
     /// It looks, while one thread more hands in.
@@ -31,6 +34,7 @@ struct Plan {
     lookers: u32,
     looks: u64,
     orders: u64,
+    by_rows: bool,
 }
 
 // The plan of threads that do their task so often, all together.
@@ -39,20 +43,23 @@ fn plan_of(threads: u32, task: Task, times: u64) -> Plan
 {
     let each = times / u64::from(threads);
     match task {
-        Task::HandsIn => Plan {
+        Task::HandsIn | Task::HandsInRows => Plan {
             lookers: 0,
             looks: 0,
             orders: each,
+            by_rows: matches!(task, Task::HandsInRows),
         },
         Task::Looks => Plan {
             lookers: threads,
             looks: each,
             orders: 0,
+            by_rows: false,
         },
         Task::LooksBeside => Plan {
             lookers: threads,
             looks: each,
             orders: u64::MAX,
+            by_rows: false,
         },
     }
 }
@@ -109,10 +116,40 @@ fn hand_in<L: BoardName, R: Wait>(pool: &WorkerPool<'_, L, R>, seat: Seat<L>) ->
     seat
 }
 
+// Sixteen orders of a worker from this place on.
+fn row_at(worker: u32, place: u64) -> [Order; 16] {
+    let mut row = [lock(worker, place); 16];
+    for i in 0..16 {
+        row[i] = lock(worker, place.wrapping_add(i as u64));
+    }
+    row
+}
+
+// Hands in the orders of the seat's worker by rows of 16, up to one that isn't taken whole.
+fn hand_in_rows<L: BoardName, R: Wait>(pool: &WorkerPool<'_, L, R>, seat: Seat<L>) -> Seat<L> {
+    let mut seat = seat;
+    let Ok(mut tolds) = Tolds::new(pool.alloc, pool.rules) else {
+        return seat;
+    };
+    let Ok(mut lists) = ToldLists::new(pool.alloc, pool.rules) else {
+        return seat;
+    };
+    for number in 0..pool.plan.orders / 16 {
+        let row = row_at(seat.worker(), number.wrapping_mul(16));
+        let handed = pool.board.hand_in_all(pool.rt, &mut seat, &row, &mut tolds, &mut lists);
+        if handed.is_err() || lists.count() < 16 {
+            break;
+        }
+    }
+    seat
+}
+
 // The first workers look, and the others hand in.
 fn work<L: BoardName, R: Wait>(pool: &WorkerPool<'_, L, R>, seat: Seat<L>) -> Seat<L> {
     if seat.worker() < pool.plan.lookers {
         look(pool, seat)
+    } else if pool.plan.by_rows {
+        hand_in_rows(pool, seat)
     } else {
         hand_in(pool, seat)
     }
@@ -187,8 +224,10 @@ fn at_a_board<L: BoardName + Send + Sync, R: Threads + Wait + Sync>(
     };
     let back = scoped(&pool, seats).ok_or(anyhow!("threads"))?;
     let WorkerPool { board, .. } = pool;
-    let history = board.close(back).ok().ok_or(anyhow!("all seats"))?;
-    Ok(history.len())
+    match board.close(back) {
+        Ok(history) => Ok(history.len()),
+        Err(_) => Err(anyhow!("all seats")),
+    }
 }
 
 /// So many threads do their task so often, all together: how many lines the history has.
