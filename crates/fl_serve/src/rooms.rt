@@ -53,8 +53,10 @@ impl<L: BoardName, N: WriterName, R: Wait + Drop, J: Journal + Drop> Rooms<L, N,
             × (rooms.stock.put.takers ≡ workers) × (rooms.stock.put.closed ≡ false) × (rooms.stock.put.put ≡ [])) }
         ensures unread { IfOk result (λ rooms. IsUnread rooms.stock.own.inbox) }
         ensures none { IfOk result (λ rooms. rooms.stock.own.replies ≡ []) }
-        ensures room { IfOk result (λ rooms. (workers ≤ vec_capacity rooms.stock.each.posts) × (workers ≤ vec_capacity rooms.stock.each.threads)
-            × (workers ≤ vec_capacity rooms.stock.each.back.seats) × (workers < vec_capacity rooms.stock.each.back.appenders)
+        ensures room { IfOk result (λ rooms. (workers ≤ vec_capacity rooms.stock.each.posts)
+            × (workers ≤ vec_capacity rooms.stock.each.threads)
+            × (workers ≤ vec_capacity rooms.stock.each.back.seats)
+            × (workers < vec_capacity rooms.stock.each.back.appenders)
             × (workers ≤ vec_capacity rooms.stock.each.back.ends)) }
         ensures left { IfOk result (λ rooms. HasRoomFor (L.rules.parked + 1) rooms.stock.own.left) }
         ensures rows { IfOk result (λ rooms. All (HasRowFor (L.rules.parked + 1)) rooms.stock.each.rows.items) }
@@ -111,7 +113,8 @@ impl<L: BoardName, N: WriterName> Stock<L, N> {
             × (stock.put.closed ≡ false) × (stock.put.put ≡ [])) }
         ensures unread { IfOk result (λ stock. IsUnread stock.own.inbox) }
         ensures none { IfOk result (λ stock. stock.own.replies ≡ []) }
-        ensures room { IfOk result (λ stock. (workers ≤ vec_capacity stock.each.posts) × (workers ≤ vec_capacity stock.each.threads)
+        ensures room { IfOk result (λ stock. (workers ≤ vec_capacity stock.each.posts)
+            × (workers ≤ vec_capacity stock.each.threads)
             × (workers ≤ vec_capacity stock.each.back.seats) × (workers < vec_capacity stock.each.back.appenders)
             × (workers ≤ vec_capacity stock.each.back.ends)) }
         ensures left { IfOk result (λ stock. HasRoomFor (rules.parked + 1) stock.own.left) }

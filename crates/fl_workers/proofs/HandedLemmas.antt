@@ -1,6 +1,6 @@
 -- What became of orders that were handed in together.
-use Rattle.std.proofs.Common.{◌≡◌, ℕ, ◌+◌, ◌≤◌, Bool, false, List, [], ◌∷◌, ◌++◌, map, take, length, refl, sym, ap, arith}
-use Rattle.std.proofs.Common.{subst}
+use Rattle.std.proofs.Common.{◌≡◌, ℕ, ◌+◌, ◌≤◌, Bool, false, List, [], ◌∷◌, ◌++◌, map, take, length}
+use Rattle.std.proofs.Common.{refl, sym, ap, arith, subst}
 use mathlib.Core.List.{IsPrefix}
 use Rattle.fl_desk.specs.Answered.{Answered, AreAnsweredLast, answered}
 use Rattle.fl_desk.specs.Asked.{Orders}
@@ -13,7 +13,6 @@ use Rattle.fl_workers.specs.Inside.Lists.{entries_for}
 use Rattle.fl_workers.specs.Sent.{HasSent, entry, replies_to}
 use Rattle.fl_workers.specs.Worked.{AreShown, HasWorked, Outcome, Shows, Standing, answers, entry_for, handed, order_of}
 use Rattle.fl_workers.specs.Worked.{some_refused}
-use Rattle.fl_workers.specs.declared.entry.ReplyEntry.{ReplyEntry}
 
 -- the first of these orders were handed in, each with its list of replies
 abbrev handed_each : Orders → List (List Told) → List Outcome

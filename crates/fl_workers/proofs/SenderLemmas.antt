@@ -1,7 +1,6 @@
 -- What workers who share one writer have given to it.
-use Rattle.std.proofs.Common.{◌≡◌, ℕ, Bool, false, List, [], ◌∷◌, ◌++◌, map, Option, refl, sym, ap, ◌∙◌, subst}
+use Rattle.std.proofs.Common.{◌≡◌, ℕ, List, [], ◌∷◌, ◌++◌, map, Option, refl, sym, ap, ◌∙◌, subst}
 use Rattle.std.proofs.Common.{append-nil, append_assoc}
-use Rattle.std.proofs.lemmas.List.{map-append}
 use Rattle.fl_order.specs.declared.told.Told.{Told}
 use Rattle.fl_transport.specs.Collecting.{Collects, IsGiven, Outgoing}
 use Rattle.fl_transport.specs.Response.{bytes_of}

@@ -88,6 +88,7 @@ pub lists_more : (lists : List (List Told)) (place : ℕ) (tolds : List Told) (a
     → HasSent (entries_for a.author (take (place + 1) lists)) a c n
 lists_more lists place tolds a b c k ok n at either so_far appended same =
     let entry_of = λ (author : ℕ) (told : List Told). entry author (replies_to told) in
+    let whole = λ (none : n ≡ false). neither k (not ok) (sym either ∙ none) in
     subst (λ l. HasSent (entries_for a.author l) a c n) (sym (take_next lists place tolds at))
-    (each_sent entry_of (take place lists) (tolds ∷ []) a b c k (not ok) n (λ none. neither k (not ok) (sym either ∙ none))
-    so_far (one_sent (entry b.author (replies_to tolds)) b c ok refl appended same))
+    (each_sent entry_of (take place lists) (tolds ∷ []) a b c k (not ok) n whole so_far
+    (one_sent (entry b.author (replies_to tolds)) b c ok refl appended same))

@@ -42,8 +42,8 @@ spelled (e ∷ es) = map spelling e.replies ++ spelled es
 abbrev pub entries_of : ℕ → List ReplyEntry → List ReplyEntry
 entries_of author log = entries_by (λ (e : ReplyEntry). e.author) author log
 
--- Of these entries, which were owed one after another, some were given in this order through an appender, and no others.
--- If nothing was lost, all were given.
+-- Of these entries, which were owed one after another, some were given in this order through an appender, and no
+-- others. If nothing was lost, all were given.
 pub record HasSent (owed : List ReplyEntry) (old new : Appended ReplyEntry) (lost : Bool) : Type 0 where
   pub author : new.author ≡ old.author
   pub given : List ReplyEntry

@@ -12,8 +12,8 @@ use Rattle.fl_workers.specs.Received.{IsLast, Reception, answer_by, left_to_answ
 use Rattle.fl_workers.specs.Sent.{HasSent}
 use Rattle.fl_workers.specs.declared.entry.ReplyEntry.{ReplyEntry}
 
--- Of these answers, which were owed in between, some were given to be sent in this order, and no others. If no answer is
--- lost now, none was before, and all were given.
+-- Of these answers, which were owed in between, some were given to be sent in this order, and no others. If no answer
+-- is lost now, none was before, and all were given.
 pub record HasGiven (old new : Appended ReplyEntry) (lost lost_now : Bool) (answers : List Response) : Type 0 where
   pub whole : lost_now ≡ false → lost ≡ false
   pub sent : HasSent (map (answer_by old.author) answers) old new lost_now

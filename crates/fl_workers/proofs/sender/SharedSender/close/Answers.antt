@@ -1,4 +1,4 @@
-use Rattle.std.proofs.Common.{◌≡◌, ◌∙◌, All, ap, subst}
+use Rattle.std.proofs.Common.{◌∙◌, All, ap, subst}
 use Rattle.fl_log.specs.Appended.{HasAll}
 use Rattle.fl_workers.specs.Sent.{Sending}
 use Rattle.fl_workers.proofs.sender.SharedSender.close.Goals as goal

@@ -21,7 +21,8 @@ loop-order-preserved g c =
     let longer : length lists_now ≡ length lists + 1 = ap length is ∙ length-append lists (told ∷ []) in
     let within : length lists < length orders = omega (arith, so_far.each) in
     let at = subst (λ n. order ≡ get_or orders n order) (sym so_far.each) c.order-item.is in
-    let last = subst (λ by. IsAnsweredLast (answered_by by lines) order told (answered_by by lines_now)) so_far.own took.1 in
+    let last = subst (λ by. IsAnsweredLast (answered_by by lines) order told (answered_by by lines_now)) so_far.own
+    took.1 in
     record {
       room = stepped.room ∙ so_far.room;
       lists = (pushed.room.0 ∙ so_far.lists.0, pushed.places ∙ so_far.lists.1);
