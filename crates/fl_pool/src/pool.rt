@@ -4,13 +4,12 @@ ghost use Rattle.std.specs.Prelude.{◌≡◌, ◌≤◌, ◌<◌, ◌+◌, ◌|
 ghost use Rattle.std.specs.Prelude.{sum_by, vec_capacity};
 ghost use Rattle.fl_intake.specs.Often.{Weight};
 ghost use Rattle.fl_intake.specs.Ends.{weight_taken};
-ghost use Rattle.fl_core.specs.Tolds.{HasRoom};
 ghost use Rattle.fl_pool.specs.Working.{HasComeBack, HasRun, HaveDone, IsFresh, IsIdle};
 ghost use Rattle.fl_transport.specs.Inbox.{IsUnread};
+ghost use Rattle.fl_workers.specs.Room.{HasRoomFor, HasRowFor};
 
 use core::thread::Stack;
 use fl_board::{Board, BoardName, Seat};
-use fl_core::Tolds;
 use fl_history::Journal;
 use fl_intake::{Intake, Job, PutEnd, TakeEnd};
 use fl_log::Appender;
@@ -18,8 +17,8 @@ use fl_order::NoMemory;
 use fl_transport::{Fault, Inbox, Response};
 use fl_workers::laws::orders_are_worked_on_in_turn;
 use fl_workers::{
-    Failures, Gate, Post, Received, ReplyEntry, SharedSender, Worked, WriterName, handle_all,
-    receive_all, worker_loop,
+    Failures, Gate, Post, Received, ReplyEntry, ReplyRoom, RowRoom, SharedSender, Worked,
+    WriterName, handle_all, receive_all, worker_loop,
 };
 use std::alloc::Global;
 use std::io::{Read, Write};
@@ -102,8 +101,8 @@ pub struct Posts<L: BoardName, N: WriterName> {
     pub posts: Vec<Post<Seat<L>, N>>,
     /// An end of the intake for each.
     pub ends: Vec<TakeEnd>,
-    /// Room for the replies of an order, for each.
-    pub tolds: Vec<Tolds>,
+    /// Room for the orders that each takes at once, and for the replies to them.
+    pub rooms: Vec<RowRoom>,
     /// Room for those that are started.
     pub threads: Vec<Thread<L, N>>,
     /// Room for what comes back.
@@ -139,7 +138,7 @@ impl<
         requires unread { IsUnread inbox }
         requires put { (put.of ≡ self.now.intake) × (put.closed ≡ false) × (put.put ≡ []) }
         requires ends { All (IsFresh self.now.intake) posts.ends.items }
-        requires replies { All (HasRoom L.rules) posts.tolds.items }
+        requires rooms { All (HasRowFor (L.rules.parked + 1)) posts.rooms.items }
         ensures ran { HasRun (record {
           rules = L.rules;
           of = self.now.intake;
@@ -176,7 +175,7 @@ impl<
                 requires unread { IsUnread inbox }
                 requires put { (put.of ≡ self.now.intake) × (put.closed ≡ false) × (put.put ≡ []) }
                 requires ends { All (IsFresh self.now.intake) posts.ends.items }
-                requires replies { All (HasRoom L.rules) posts.tolds.items }
+                requires rooms { All (HasRowFor (L.rules.parked + 1)) posts.rooms.items }
                 ensures same { result.2.ghost_name ≡ r.entry.ghost_name }
                 ensures ran { HasRun (record {
                   rules = L.rules;
@@ -211,7 +210,7 @@ impl<
                 let Posts {
                     posts,
                     mut ends,
-                    mut tolds,
+                    mut rooms,
                     mut threads,
                     back,
                 } = posts;
@@ -220,7 +219,7 @@ impl<
                     scope,
                     posts,
                     &mut ends,
-                    &mut tolds,
+                    &mut rooms,
                     &mut threads,
                 ) {
                     self.begin();
@@ -250,7 +249,7 @@ impl<
         scope: &Scope<'s, E>,
         posts: Vec<Post<Seat<L>, N>>,
         ends: &mut Vec<TakeEnd>,
-        tolds: &mut Vec<Tolds>,
+        rooms: &mut Vec<RowRoom>,
         threads: &mut Vec<Thread<L, N>>,
     ) -> bool
     where
@@ -258,7 +257,7 @@ impl<
         'w: 's,
         requires idle { All (λ post. IsIdle post.seat post.own) posts.items }
         requires ends { All (IsFresh self.now.intake) ends.old.items }
-        requires replies { All (HasRoom L.rules) tolds.old.items }
+        requires rooms { All (HasRowFor (L.rules.parked + 1)) rooms.old.items }
         requires none { threads.old.items ≡ [] }
         requires room { length posts.items ≤ vec_capacity threads.old }
         ensures most { length threads.new.items ≤ length posts.items }
@@ -267,7 +266,7 @@ impl<
         ensures ends { All (λ t. IsFresh self.now.intake t.promise.end.value) threads.new.items }
     {
         for post in posts {
-            let Some(thread) = self.start_next(scope, post, ends, tolds) else {
+            let Some(thread) = self.start_next(scope, post, ends, rooms) else {
                 return false;
             };
             threads.push_reserved(thread);
@@ -281,35 +280,39 @@ impl<
         scope: &Scope<'s, E>,
         post: Post<Seat<L>, N>,
         ends: &mut Vec<TakeEnd>,
-        tolds: &mut Vec<Tolds>,
+        rooms: &mut Vec<RowRoom>,
     ) -> Option<Thread<L, N>>
     where
         'a: 's,
         'w: 's,
         requires idle { IsIdle post.seat post.own }
         requires ends { All (IsFresh self.now.intake) ends.old.items }
-        requires replies { All (HasRoom L.rules) tolds.old.items }
+        requires rooms { All (HasRowFor (L.rules.parked + 1)) rooms.old.items }
         ensures whose { IfSome result (λ t. t.promise.worker ≡ post.seat.worker) }
         ensures end { IfSome result (λ t. IsFresh self.now.intake t.promise.end.value) }
         ensures ends { All (IsFresh self.now.intake) ends.new.items }
-        ensures replies { All (HasRoom L.rules) tolds.new.items }
+        ensures rooms { All (HasRowFor (L.rules.parked + 1)) rooms.new.items }
     {
-        let (end, tolds) = self.last_of(ends, tolds)?;
-        self.start(scope, post, end, tolds)
+        let (end, room) = self.last_of(ends, rooms)?;
+        self.start(scope, post, end, room)
     }
 
     // The last of these ends and the last of these rooms, if there are both.
-    fn last_of(&self, ends: &mut Vec<TakeEnd>, tolds: &mut Vec<Tolds>) -> Option<(TakeEnd, Tolds)>
+    fn last_of(
+        &self,
+        ends: &mut Vec<TakeEnd>,
+        rooms: &mut Vec<RowRoom>,
+    ) -> Option<(TakeEnd, RowRoom)>
         requires ends { All (IsFresh self.now.intake) ends.old.items }
-        requires replies { All (HasRoom L.rules) tolds.old.items }
+        requires rooms { All (HasRowFor (L.rules.parked + 1)) rooms.old.items }
         ensures end { IfSome result (λ last. IsFresh self.now.intake last.0) }
-        ensures room { IfSome result (λ last. HasRoom L.rules last.1) }
+        ensures room { IfSome result (λ last. HasRowFor (L.rules.parked + 1) last.1) }
         ensures ends { All (IsFresh self.now.intake) ends.new.items }
-        ensures replies { All (HasRoom L.rules) tolds.new.items }
+        ensures rooms { All (HasRowFor (L.rules.parked + 1)) rooms.new.items }
     {
         let end = ends.pop()?;
-        let tolds = tolds.pop()?;
-        Some((end, tolds))
+        let room = rooms.pop()?;
+        Some((end, room))
     }
 
     // Starts a worker, if a thread can be made.
@@ -318,14 +321,14 @@ impl<
         scope: &Scope<'s, E>,
         post: Post<Seat<L>, N>,
         end: TakeEnd,
-        tolds: Tolds,
+        room: RowRoom,
     ) -> Option<Thread<L, N>>
     where
         'a: 's,
         'w: 's,
         requires idle { IsIdle post.seat post.own }
         requires end { end.of ≡ self.now.intake }
-        requires replies { HasRoom L.rules tolds }
+        requires room { HasRowFor (L.rules.parked + 1) room }
         ensures whose { IfSome result (λ t. t.promise.worker ≡ post.seat.worker) }
         ensures end { IfSome result (λ t. t.promise.end.value ≡ end) }
     {
@@ -339,19 +342,21 @@ impl<
                 scope,
                 at,
                 move || -> Worked<Seat<L>, N>
-                    requires { IsIdle post.seat post.own × (end.of ≡ self.now.intake) × HasRoom L.rules tolds }
+                    requires idle { IsIdle post.seat post.own }
+                    requires end { end.of ≡ self.now.intake }
+                    requires room { HasRowFor (L.rules.parked + 1) room }
                     ensures { HasComeBack L.rules post.seat.worker end result.post.seat result.post.own result.end
                         result.failures.refused result.failures.lost }
-                { self.work(post, end, tolds) },
+                { self.work(post, end, room) },
             )
             .ok()
     }
 
     // What a worker does.
-    fn work(&self, post: Post<Seat<L>, N>, end: TakeEnd, tolds: Tolds) -> Worked<Seat<L>, N>
+    fn work(&self, post: Post<Seat<L>, N>, end: TakeEnd, room: RowRoom) -> Worked<Seat<L>, N>
         requires idle { IsIdle post.seat post.own }
         requires end { end.of ≡ self.now.intake }
-        requires replies { HasRoom L.rules tolds }
+        requires room { HasRowFor (L.rules.parked + 1) room }
         ensures { HasComeBack L.rules post.seat.worker end result.post.seat result.post.own result.end
             result.failures.refused result.failures.lost }
     {
@@ -363,7 +368,7 @@ impl<
             &self.sender,
             post,
             end,
-            tolds,
+            room,
         )
     }
 }
@@ -437,13 +442,13 @@ pub fn handed_in<
     sender: &Mutex<SharedSender<'_, W, N>>,
     seats: Vec<Seat<L>>,
     appenders: Vec<Appender<N, ReplyEntry>>,
-    tolds: Tolds,
+    replies: ReplyRoom,
     left: Vec<Job>,
 ) -> (Vec<Seat<L>>, Vec<Appender<N, ReplyEntry>>, Failures)
     requires some { 0 < length seats.items }
     requires pairs { length appenders.items ≡ length seats.items }
     requires room { length appenders.items < vec_capacity appenders }
-    requires replies { HasRoom L.rules tolds }
+    requires replies { HasRoomFor (L.rules.parked + 1) replies }
     ensures whose { map (λ seat. seat.worker) result.0.items ≡ map (λ seat. seat.worker) seats.items }
     ensures pairs { length result.1.items ≡ length appenders.items }
     ensures room { length result.1.items < vec_capacity result.1 }
@@ -458,8 +463,9 @@ pub fn handed_in<
         unreachable!()
     };
     let mut post = Post { seat, own };
+    let mut replies = replies;
     orders_are_worked_on_in_turn();
-    let failures = handle_all(rt, board, gate, sender, &mut post, tolds, left);
+    let failures = handle_all(rt, board, gate, sender, &mut post, &mut replies, &left);
     let Post { seat, own } = post;
     seats.push_reserved(seat);
     appenders.push_reserved(own);

@@ -13,6 +13,7 @@ use Rattle.fl_desk.specs.Answered.{Answered, IsAnsweredAfter, answered_by}
 use Rattle.fl_history.specs.declared.history.Line.{Line}
 use Rattle.fl_intake.specs.Often.{Weight}
 use Rattle.fl_log.specs.Appended.{Appended, HasAll as HasAllEntries}
+use Rattle.fl_log.specs.Growing.{Grows}
 use Rattle.fl_pool.specs.Working.{IsDone, Work, some_is}
 use Rattle.fl_serve.proofs.GrowingLemmas.{by_begins, just_these}
 use Rattle.fl_serve.specs.Serve.{IsAnswered, Part, orders_of}
@@ -121,8 +122,8 @@ module _ (rules : Rules) where
       × (w.sent.count ≡ length done.outcomes)
   gave_one log w done none has =
       let worker = w.place.worker in
-      let grown = done.sent none in
-      let count : length (entries_of worker log) ≡ w.sent.count = subst (λ n. length (entries_of n log) ≡ w.sent.count) done.author has.count in (
+      let grown = subst (Grows [] (entries_of worker w.sent.own) 0 w.sent.count) (done.sent.all none) done.sent.grown in
+      let count : length (entries_of worker log) ≡ w.sent.count = subst (λ n. length (entries_of n log) ≡ w.sent.count) done.sent.author has.count in (
         just_these (entries_of worker w.sent.own) (entries_of worker log) w.sent.count (map (entry_for worker) done.outcomes)
             grown (by_begins author_of worker w.sent.own log has.had) count,
         omega (arith, grown.counted, length-map done.outcomes (entry_for worker)),

@@ -98,7 +98,7 @@ all_given rules workers it start out sents places orders any lost whole received
     let log = said.log in
     let over = (handshake_of received.messages).over in
     let was : it.sent.author ≡ workers = ap (λ (a : Appended ReplyEntry). a.author) fresh in
-    let name : it.sent_now.author ≡ workers = received.author ∙ was in
+    let name : it.sent_now.author ≡ workers = received.sent.author ∙ was in
     let gave = gave_each rules log did.works did.each (sym did.missing ∙ never)
     (subst (λ l. All (HasAllEntries author_of log) l) (sym did.gave) (said.each all)) in
     let words : last_words it.goodbye ≡ left_to_answer over it.goodbye =
@@ -107,7 +107,9 @@ all_given rules workers it start out sents places orders any lost whole received
     let last : List ReplyEntry = map (answer_by workers) (last_words it.goodbye) in
     let first : Grows [] (entries_of workers it.sent_now.own) 0 it.sent_now.count answers =
     subst (λ (a : Appended ReplyEntry). Grows (entries_of a.author a.own) (entries_of a.author it.sent_now.own) a.count
-    it.sent_now.count (map (answer_by a.author) received.answered)) fresh (received.given none) in
+    it.sent_now.count (map (answer_by a.author) received.answered)) fresh
+    (subst (Grows (entries_of it.sent.author it.sent.own) (entries_of it.sent.author it.sent_now.own) it.sent.count
+    it.sent_now.count) (received.sent.all none) received.sent.grown) in
     let then : Grows (entries_of workers it.sent_now.own) (entries_of workers said.mine.own) it.sent_now.count said.mine.count last =
     subst (λ n. Grows (entries_of n it.sent_now.own) (entries_of n said.mine.own) it.sent_now.count said.mine.count
     (map (answer_by n) (last_words it.goodbye))) name (said.grown all).grown in

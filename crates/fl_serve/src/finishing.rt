@@ -4,12 +4,12 @@ ghost use Rattle.std.specs.Prelude.{◌≡◌, ◌≢◌, ◌≤◌, ◌<◌, �
 ghost use Rattle.std.specs.Prelude.{false, length, map, IfSome, IsSome, None, vec_capacity};
 ghost use Rattle.std.specs.List.{range_with_len};
 ghost use Rattle.std.specs.Io.KnownBytes.{Keeps};
-ghost use Rattle.fl_core.specs.Tolds.{HasRoom};
 ghost use Rattle.fl_desk.specs.Legal.{IsLegal};
 ghost use Rattle.fl_intake.specs.Ends.{weight_taken};
 ghost use Rattle.fl_transport.specs.Collecting.{IsGiven};
 ghost use Rattle.fl_transport.specs.Ending.{IsRead};
 ghost use Rattle.fl_workers.specs.Received.{HasReceived, answer_by};
+ghost use Rattle.fl_workers.specs.Room.{HasRoomFor};
 ghost use Rattle.fl_workers.specs.Sent.{spelled};
 ghost use Rattle.fl_pool.specs.Working.{HaveDone};
 ghost use Rattle.fl_serve.specs.Inside.Closing.{HasAll, HasGrown, HasSaidGoodbye, last_words};
@@ -17,13 +17,14 @@ ghost use Rattle.fl_session.specs.Recorded.{done_of};
 ghost use Rattle.fl_serve.specs.Serve.{IsServedBy};
 
 use fl_board::{Board, BoardName, Seat};
-use fl_core::Tolds;
 use fl_history::Journal;
 use fl_log::Appender;
 use fl_pool::{Back, WorkerPool, handed_in};
 use fl_session::Recorded;
 use fl_transport::{Fault, Response};
-use fl_workers::{Abandoned, Gate, Received, ReplyEntry, Returned, SharedSender, WriterName};
+use fl_workers::{
+    Abandoned, Gate, Received, ReplyEntry, ReplyRoom, Returned, SharedSender, WriterName,
+};
 use std::alloc::Global;
 use std::io::Write;
 use std::sync::Wait;
@@ -68,7 +69,7 @@ pub(crate) fn finish<
     pool: WorkerPool<'_, 'w, L, N, R, W, G, J>,
     back: Back<L, N>,
     received: Received<N>,
-    tolds: Tolds,
+    replies: ReplyRoom,
 ) -> (Recorded<J>, &'w mut W)
     requires parts { L.workers ≡ L.parts }
     requires mine { (received.put.of ≡ pool.intake) × All (λ end. end.of ≡ pool.intake) back.ends.items }
@@ -80,7 +81,7 @@ pub(crate) fn finish<
     requires whose { map (λ seat. seat.worker) back.seats.items ≡ range_with_len 0 received.put.takers }
     requires did { HaveDone L.rules (λ weight. weight_taken weight back.ends.items) back.seats.items
         back.appenders.items back.failures.refused back.failures.lost }
-    requires replies { HasRoom L.rules tolds }
+    requires replies { HasRoomFor (L.rules.parked + 1) replies }
     ensures writer { result.1.ghost_name ≡ N.writer }
     ensures legal { IfSome result.0.journal (λ journal. IsLegal L.rules (J.lines journal)) }
     ensures served { (left left_now : Option (List ℕ)) → HasReceived (record {
@@ -136,7 +137,7 @@ pub(crate) fn finish<
         unreachable!()
     };
     let (seats, appenders, more) = handed_in(
-        rt, &board, gate, &sender, seats, appenders, tolds, left,
+        rt, &board, gate, &sender, seats, appenders, replies, left,
     );
     let failures = failures.or(more);
     let Returned {

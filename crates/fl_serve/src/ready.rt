@@ -3,23 +3,22 @@
 ghost use Rattle.std.specs.Prelude.{◌≡◌, ◌≤◌, ◌<◌, ◌+◌, [], All, Some};
 ghost use Rattle.std.specs.Prelude.{false, map, vec_capacity};
 ghost use Rattle.std.specs.List.{range_with_len};
-ghost use Rattle.fl_core.specs.Tolds.{HasRoom};
 ghost use Rattle.fl_transport.specs.Inbox.{IsUnread};
 ghost use Rattle.fl_pool.specs.Working.{IsFresh};
 ghost use Rattle.fl_serve.specs.Serve.{IsRecordedBy};
+ghost use Rattle.fl_workers.specs.Room.{HasRoomFor, HasRowFor};
 
 use crate::finishing::{finish, unstarted};
 use crate::rooms::{Own, Rooms, Stock, posts_at};
 use crate::serving::Staff;
 use fl_board::{Board, BoardName};
-use fl_core::Tolds;
 use fl_history::Journal;
 use fl_intake::{Intake, PutEnd};
 use fl_log::{Appender, FreshLog};
 use fl_pool::{Posts, WorkerPool};
 use fl_session::Recorded;
 use fl_transport::{Fault, Inbox};
-use fl_workers::{Gate, ReplyEntry, SharedSender, WriterName};
+use fl_workers::{Gate, ReplyEntry, ReplyRoom, SharedSender, WriterName};
 use std::alloc::Global;
 use std::io::{Read, Write};
 use std::sync::ledger::Blank;
@@ -36,8 +35,8 @@ pub(crate) struct Ready<'a, 'w, L: BoardName, N: WriterName, R: Wait, W: Write, 
     pub posts: Posts<L, N>,
     pub own: Appender<N, ReplyEntry>,
     pub put: PutEnd,
-    /// For the orders that no worker takes.
-    pub tolds: Tolds,
+    /// For the replies to the orders that no worker takes.
+    pub left: ReplyRoom,
     pub inbox: Inbox,
 }
 
@@ -70,7 +69,8 @@ impl<'a, 'w, L: BoardName, N: WriterName, R: Wait, W: Write, J: Journal> Ready<
             × (workers ≤ vec_capacity rooms.stock.each.threads) × (workers ≤ vec_capacity rooms.stock.each.back.seats)
             × (workers < vec_capacity rooms.stock.each.back.appenders)
             × (workers ≤ vec_capacity rooms.stock.each.back.ends) }
-        requires replies { HasRoom L.rules rooms.stock.own.tolds × All (HasRoom L.rules) rooms.stock.each.tolds.items }
+        requires left { HasRoomFor (L.rules.parked + 1) rooms.stock.own.left }
+        requires rows { All (HasRowFor (L.rules.parked + 1)) rooms.stock.each.rows.items }
         requires start { W.contents w.old ≡ N.start }
         requires writer { w.ghost_name ≡ N.writer }
         requires sending { (sending.name ≡ N.name) × (sending.parts ≡ N.parts) × (workers + 1 ≡ N.parts) }
@@ -80,7 +80,8 @@ impl<'a, 'w, L: BoardName, N: WriterName, R: Wait, W: Write, J: Journal> Ready<
         ensures put { (result.put.of ≡ result.intake) × (result.put.takers ≡ workers) × (result.put.closed ≡ false)
             × (result.put.put ≡ []) }
         ensures unread { IsUnread result.inbox }
-        ensures replies { HasRoom L.rules result.tolds × All (HasRoom L.rules) result.posts.tolds.items }
+        ensures left { HasRoomFor (L.rules.parked + 1) result.left }
+        ensures rows { All (HasRowFor (L.rules.parked + 1)) result.posts.rooms.items }
         ensures own { result.own ≡ record { author = workers; count = 0; own = [] } }
     {
         let Rooms {
@@ -96,7 +97,7 @@ impl<'a, 'w, L: BoardName, N: WriterName, R: Wait, W: Write, J: Journal> Ready<
             each,
         } = stock;
         let Own {
-            tolds,
+            left,
             inbox,
             replies,
         } = own;
@@ -111,7 +112,7 @@ impl<'a, 'w, L: BoardName, N: WriterName, R: Wait, W: Write, J: Journal> Ready<
             posts,
             own,
             put,
-            tolds,
+            left,
             inbox,
         }
     }
@@ -142,7 +143,8 @@ pub(crate) fn run_ready<
     requires put { (ready.put.of ≡ ready.intake) × (ready.put.takers ≡ staff.workers) × (ready.put.closed ≡ false)
         × (ready.put.put ≡ []) }
     requires unread { IsUnread ready.inbox }
-    requires replies { HasRoom L.rules ready.tolds × All (HasRoom L.rules) ready.posts.tolds.items }
+    requires left { HasRoomFor (L.rules.parked + 1) ready.left }
+    requires rows { All (HasRowFor (L.rules.parked + 1)) ready.posts.rooms.items }
     requires own { ready.own ≡ record { author = staff.workers; count = 0; own = [] } }
     ensures writer { result.1.ghost_name ≡ N.writer }
     ensures recorded { IsRecordedBy J.lines staff.workers L.rules (record {
@@ -160,7 +162,7 @@ pub(crate) fn run_ready<
         posts,
         own,
         put,
-        tolds,
+        left,
         inbox,
     } = ready;
     let pool = WorkerPool {
@@ -176,5 +178,5 @@ pub(crate) fn run_ready<
         let WorkerPool { sender, .. } = pool;
         return unstarted(alloc, sender.into_inner());
     }
-    finish(alloc, pool, back, received, tolds)
+    finish(alloc, pool, back, received, left)
 }

@@ -2,12 +2,12 @@
 
 ghost use Rattle.std.specs.Prelude.{◌≡◌, ◌≤◌, ◌<◌, ◌+◌, [], All, false, length, map, vec_capacity, IfOk};
 ghost use Rattle.std.specs.List.{range_with_len};
-ghost use Rattle.fl_core.specs.Tolds.{HasRoom};
 ghost use Rattle.fl_pool.specs.Working.{IsFresh};
 ghost use Rattle.fl_transport.specs.Inbox.{IsUnread};
+ghost use Rattle.fl_workers.specs.Room.{HasRoomFor, HasRowFor};
 
 use fl_board::{Board, BoardName, OpenFault, Seat};
-use fl_core::{Rules, Tolds};
+use fl_core::Rules;
 use fl_history::Journal;
 use fl_intake::{Intake, PutEnd, TakeEnd};
 use fl_log::FreshLog;
@@ -15,7 +15,7 @@ use fl_order::NoMemory;
 use fl_pool::{Back, Posts, Thread};
 use fl_replica::Ask;
 use fl_transport::{Inbox, ReplyBuffer};
-use fl_workers::{Post, SharedSender, WriterName};
+use fl_workers::{Post, ReplyRoom, RowRoom, SharedSender, WriterName};
 use std::alloc::Global;
 use std::io::Write;
 use std::sync::Wait;
@@ -56,8 +56,8 @@ impl<L: BoardName, N: WriterName, R: Wait + Drop, J: Journal + Drop> Rooms<L, N,
         ensures room { IfOk result (λ rooms. (workers ≤ vec_capacity rooms.stock.each.posts) × (workers ≤ vec_capacity rooms.stock.each.threads)
             × (workers ≤ vec_capacity rooms.stock.each.back.seats) × (workers < vec_capacity rooms.stock.each.back.appenders)
             × (workers ≤ vec_capacity rooms.stock.each.back.ends)) }
-        ensures replies { IfOk result (λ rooms.
-            HasRoom L.rules rooms.stock.own.tolds × All (HasRoom L.rules) rooms.stock.each.tolds.items) }
+        ensures left { IfOk result (λ rooms. HasRoomFor (L.rules.parked + 1) rooms.stock.own.left) }
+        ensures rows { IfOk result (λ rooms. All (HasRowFor (L.rules.parked + 1)) rooms.stock.each.rows.items) }
     {
         let stock = Stock::<L, N>::new(alloc, workers, rules)?;
         let (board, seats) = Board::<L, R, J>::over(
@@ -84,8 +84,8 @@ pub(crate) struct Stock<L: BoardName, N: WriterName> {
 /// What a session has once.
 #[derive(Drop)]
 pub(crate) struct Own {
-    /// For the orders that no worker takes.
-    pub tolds: Tolds,
+    /// For the replies to the orders that no worker takes.
+    pub left: ReplyRoom,
     pub inbox: Inbox,
     pub replies: ReplyBuffer,
 }
@@ -95,8 +95,8 @@ pub(crate) struct Own {
 pub(crate) struct Each<L: BoardName, N: WriterName> {
     /// Room for where they work.
     pub posts: Vec<Post<Seat<L>, N>>,
-    /// For the replies of an order.
-    pub tolds: Vec<Tolds>,
+    /// For the orders that each takes at once, and for the replies to them.
+    pub rows: Vec<RowRoom>,
     pub threads: Vec<Thread<L, N>>,
     pub back: Back<L, N>,
     ghost none: { (posts.items ≡ []) × (threads.items ≡ []) × (back.seats.items ≡ []) × (back.appenders.items ≡ [])
@@ -114,8 +114,8 @@ impl<L: BoardName, N: WriterName> Stock<L, N> {
         ensures room { IfOk result (λ stock. (workers ≤ vec_capacity stock.each.posts) × (workers ≤ vec_capacity stock.each.threads)
             × (workers ≤ vec_capacity stock.each.back.seats) × (workers < vec_capacity stock.each.back.appenders)
             × (workers ≤ vec_capacity stock.each.back.ends)) }
-        ensures replies { IfOk result (λ stock.
-            HasRoom rules stock.own.tolds × All (HasRoom rules) stock.each.tolds.items) }
+        ensures left { IfOk result (λ stock. HasRoomFor (rules.parked + 1) stock.own.left) }
+        ensures rows { IfOk result (λ stock. All (HasRowFor (rules.parked + 1)) stock.each.rows.items) }
     {
         let own = Own::new(alloc, rules)?;
         let each = Each::new(alloc, workers, rules)?;
@@ -134,10 +134,10 @@ impl Own {
     fn new(alloc: Global, rules: Rules) -> Result<Own, NoMemory>
         ensures unread { IfOk result (λ own. IsUnread own.inbox) }
         ensures none { IfOk result (λ own. own.replies ≡ []) }
-        ensures replies { IfOk result (λ own. HasRoom rules own.tolds) }
+        ensures left { IfOk result (λ own. HasRoomFor (rules.parked + 1) own.left) }
     {
         Ok(Own {
-            tolds: Tolds::new(alloc, rules)?,
+            left: ReplyRoom::new(alloc, rules)?,
             inbox: Inbox::new(alloc)?,
             replies: ReplyBuffer::new(alloc)?,
         })
@@ -149,26 +149,26 @@ impl<L: BoardName, N: WriterName> Each<L, N> {
         ensures room { IfOk result (λ each. (workers ≤ vec_capacity each.posts) × (workers ≤ vec_capacity each.threads)
             × (workers ≤ vec_capacity each.back.seats) × (workers < vec_capacity each.back.appenders)
             × (workers ≤ vec_capacity each.back.ends)) }
-        ensures replies { IfOk result (λ each. All (HasRoom rules) each.tolds.items) }
+        ensures rows { IfOk result (λ each. All (HasRowFor (rules.parked + 1)) each.rows.items) }
     {
         Ok(Each {
             posts: Vec::with_capacity(alloc, workers as usize)?,
-            tolds: rooms_for_replies(alloc, workers, rules)?,
+            rows: rooms_for_rows(alloc, workers, rules)?,
             threads: Vec::with_capacity(alloc, workers as usize)?,
             back: Back::with_room(alloc, workers)?,
         })
     }
 }
 
-// Room for the replies of an order under these rules, for each worker.
-fn rooms_for_replies(alloc: Global, workers: u32, rules: Rules) -> Result<Vec<Tolds>, NoMemory>
-    ensures { IfOk result (λ tolds. All (HasRoom rules) tolds.items) }
+// Room for a row of orders and the replies to it under these rules, for each worker.
+fn rooms_for_rows(alloc: Global, workers: u32, rules: Rules) -> Result<Vec<RowRoom>, NoMemory>
+    ensures { IfOk result (λ rows. All (HasRowFor (rules.parked + 1)) rows.items) }
 {
-    let mut tolds = Vec::with_capacity(alloc, workers as usize)?;
+    let mut rows = Vec::with_capacity(alloc, workers as usize)?;
     for _ in 0..workers {
-        tolds.push(Tolds::new(alloc, rules)?)?;
+        rows.push(RowRoom::new(alloc, rules)?)?;
     }
-    Ok(tolds)
+    Ok(rows)
 }
 
 /// What each worker gets: its seat, its end of the intake, and an appender in its name, cut from the rest of the
@@ -188,12 +188,12 @@ pub(crate) fn posts_at<L: BoardName, N: WriterName, W: Write>(
         × (length seats.items ≤ vec_capacity each.back.ends) }
     ensures seats { map (λ post. post.seat) result.posts.items ≡ seats.items }
     ensures ends { result.ends.items ≡ ends.items }
-    ensures tolds { result.tolds.items ≡ each.tolds.items }
+    ensures rows { result.rooms.items ≡ each.rows.items }
     ensures rest { (rest.new.parts + length seats.items ≡ rest.old.parts) × (rest.new.amount ≡ 0) }
 {
     let Each {
         posts,
-        tolds,
+        rows,
         threads,
         back,
     } = each;
@@ -205,7 +205,7 @@ pub(crate) fn posts_at<L: BoardName, N: WriterName, W: Write>(
     Posts {
         posts,
         ends,
-        tolds,
+        rooms: rows,
         threads,
         back,
     }

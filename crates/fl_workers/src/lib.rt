@@ -2,10 +2,11 @@
 //!
 //! What workers do is proved for every `Counter`. No worker can put an order back: it has no end that puts. Contracts
 //! say which replies are given to be sent, and not when they leave. They let through:
-//! - a worker or a `handle_all` that refuses orders; and one, or a `receive_all`, that tells that replies were lost,
-//!   and then gives any;
-//! - a worker that ends at once, keeps replies until the end, calls no gate, pauses never or always, or waits for
-//!   ever;
+//! - a worker or a `handle_all` that refuses orders; and one, or a `receive_all`, that leaves replies out, and tells
+//!   that some were lost;
+//! - a worker that ends at once, takes or hands in orders one by one, keeps replies until the end, calls no gate,
+//!   pauses never or always, or waits for ever;
+//! - a `new` of room that is always refused;
 //! - a `SharedSender` that is broken at once, collects nothing, or closes as if it weren't whole, and a `receive_all`
 //!   that sends late or never what it collected.
 //! `fl_workers_tests` and `fl_serve_tests` refuse these.

@@ -14,5 +14,6 @@ mod sending;
 mod tally;
 mod thirds;
 mod thousands;
+mod waiting;
 mod watch;
 mod whole;

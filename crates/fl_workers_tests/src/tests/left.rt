@@ -29,8 +29,13 @@ const WANTED: Wanted<'static> = Wanted {
     replies: &[(2, 0), (3, 0), (4, 11), (5, 0), (6, 0), (7, 0)],
 };
 
-// Puts all orders.
-fn put_all<R: Wait + Abort>(rt: &R, intake: &Intake, put: PutEnd, orders: &[Job]) -> PutEnd
+/// Puts all orders.
+pub(super) fn put_all<R: Wait + Abort>(
+    rt: &R,
+    intake: &Intake,
+    put: PutEnd,
+    orders: &[Job],
+) -> PutEnd
     requires { put.of ≡ intake.now }
     ensures { result.of ≡ intake.now }
 {

@@ -32,8 +32,8 @@ fn come_of_trace<R: Wait + Abort>(rt: &R, alloc: Global, tally: Tally, gate: &Wa
     handled(rt, alloc, tally, gate, &orders, &mut out)
 }
 
-// So many orders were handed in together each time.
-fn are_rows(rt: &impl Abort, came: &Came, rows: &[u64]) {
+/// So many orders were handed in together each time, and nothing went wrong.
+pub(super) fn are_rows(rt: &impl Abort, came: &Came, rows: &[u64]) {
     have_failed(rt, came.failures, false);
     are_uniques(rt, &came.rows, rows);
 }
