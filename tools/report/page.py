@@ -47,7 +47,7 @@ def cell_html(cell):
 def table_html(table):
     about = f" <span>{text(table.about)}</span>" if table.about else ""
     if not table.rows:
-        return f"<table><caption>{text(table.title)}{about}</caption><tbody><tr><td>{text(table.nothing)}</td></tr></tbody></table>"
+        return f'<div class="wide"><table><caption>{text(table.title)}{about}</caption><tbody><tr><td>{text(table.nothing)}</td></tr></tbody></table></div>'
     numbers = [isinstance(it, str) and re.fullmatch(r"[\d,.]+", it) for it in table.rows[0]]
     heads = "".join(f'<th scope="col"{" class=n" if is_number else ""}>{text(it)}</th>' for it, is_number in zip(table.heads, numbers))
     rows = "".join(f"<tr>{''.join(map(cell_html, it))}</tr>" for it in table.rows)

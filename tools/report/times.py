@@ -37,8 +37,8 @@ def read_times(text):
 
 
 class Clock:
-    """When each order was asked (`asked`, by its place), when each reply came (`told`, by its line), and where the order stands on the axis (`places`):
-    at its own reply, or at its request if it has none yet, and never before an earlier order. All in nanoseconds after the first."""
+    """When each order was asked (`asked`, by its number) and each reply came (`told`, by its line), in nanoseconds; and where each order stands on the axis
+    (`places`), in nanoseconds after the first: at its own reply, or at its request if it has none yet, and never before an earlier order."""
 
     def __init__(self, orders, asks, tells):
         self.asked, self.told, self.places = {}, {}, []
@@ -58,5 +58,5 @@ class Clock:
 
     def took(self, order, line):
         """How long the request of this order waited for the reply on this line, or None if that isn't known."""
-        begun, over = self.asked.get(order), self.told.get(line)
+        begun, over = self.asked.get(order.at), self.told.get(line)
         return None if begun is None or over is None else max(0, over - begun)

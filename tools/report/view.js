@@ -1,7 +1,7 @@
 "use strict";
 // Draws the lanes of a window of the trace. Orders count from 0 here, and from 1 in all that is shown.
 (() => {
-const LABELS = 210, HEAD = 22, LAYER = 14, GAP = 5, NARROW = 4, LEAST = 8, MOST_LISTED = 300;
+const LABELS = 250, HEAD = 22, LAYER = 14, GAP = 5, NARROW = 4, LEAST = 8, MOST_LISTED = 300;
 // As in chart.py: what a bar or a mark says, and how it is filled or which mark it is.
 const HELD = 0, FIRST_MARK = 7;
 const WHATS = ["held", "waited, then granted", "waited, then EINTR", "waited, then EBADF", "waited, then ENOLCK", "waits at the end of the trace",
@@ -11,7 +11,7 @@ const MARKS = { 7: "eagain", 8: "edeadlk", 9: "enolck", 10: "other" };
 
 const data = JSON.parse(document.getElementById("data").textContent);
 const byId = id => document.getElementById(id);
-const box = byId("lanes"), tip = byId("tip");
+const box = byId("lanes"), tall = byId("tall"), chart = byId("chart"), tip = byId("tip");
 const escaped = text => String(text).replace(/[&<>"]/g, it => `&#${it.charCodeAt(0)};`);
 const grouped = number => number.toLocaleString("en-US");
 
@@ -25,21 +25,26 @@ const placeOf = places ? order => places[order] : order => order;
 const bars = data.bars;
 const lanes = [];
 
-// `reach` of a bar is where the last one ends of those up to it, so both it and `first` rise.
+// `reach` of a bar is where the last one ends of those up to it, so both it and `first` rise. `pid` of a lane is that of all its bars.
+function readLane(lane) {
+    let first = 0, reach = 0;
+    lane.pid = bars.pid[lane.from];
+    for (let bar = lane.from; bar < lane.to; bar++) {
+        bars.first[bar] = first += bars.first[bar];
+        bars.reach[bar] = reach = Math.max(reach, first + Math.max(bars.length[bar], 1));
+        if (bars.pid[bar] !== lane.pid) lane.pid = null;
+    }
+}
+
 function readLanes() {
-    let at = 0, note = 0;
-    bars.noteOf = new Int32Array(bars.what.length);
+    let from = 0, note = 0;
+    bars.noteOf = bars.what.map(it => it >> 1 === HELD ? -1 : note++);
     bars.reach = new Float64Array(bars.what.length);
     for (const [file, owner, flock, layers, count] of data.lanes) {
-        let first = 0, reach = 0;
-        lanes.push({ file, owner, flock, layers, from: at, to: at + count });
-        for (const to = at + count; at < to; at++) {
-            bars.first[at] = first += bars.first[at];
-            bars.reach[at] = reach = Math.max(reach, first + Math.max(bars.length[at], 1));
-            if (bars.what[at] >> 1 !== HELD)
-                bars.noteOf[at] = note++;
-        }
+        lanes.push({ file, owner, flock, layers, from, to: from + count });
+        from += count;
     }
+    lanes.forEach(readLane);
 }
 readLanes();
 
@@ -66,8 +71,12 @@ function seen(lane, from, to) {
 
 let view = [0, end], wanted = "", found = null, shown = [], height = 0;
 
-const orderAt = place => places ? leastIn(0, data.orders, it => places[it] >= place) : Math.max(0, Math.ceil(place));
-const orders = () => [Math.max(0, places ? leastIn(0, data.orders, it => places[it + 1] >= view[0]) : Math.floor(view[0])), Math.min(data.orders, orderAt(view[1]))];
+// The orders of the window, from the first up to another.
+function orders() {
+    if (!places) return [Math.floor(view[0]), Math.min(data.orders, Math.ceil(view[1]))];
+    return [leastIn(0, data.orders, it => places[it + 1] >= view[0]), leastIn(0, data.orders, it => places[it] > view[1])];
+}
+
 const placeText = place => places ? `${(place / 1000).toFixed(3)} ms` : `order ${grouped(Math.floor(place) + 1)}`;
 const left = () => LABELS, right = () => box.clientWidth - 8;
 const x = place => left() + (place - view[0]) * (right() - left()) / (view[1] - view[0]);
@@ -125,45 +134,59 @@ function barWords(bar, from, width, top) {
 }
 
 function severalShape(group, lane, top) {
-    const only = group.count === 1;
-    if (only) return barShape(group.bar, lane, group.from, group.to, top);
+    if (group.count === 1) return barShape(group.bar, lane, group.from, group.to, top);
     const width = Math.max(group.to - group.from, 2).toFixed(1);
     const waits = group.waits ? `<rect x="${group.from.toFixed(1)}" y="${top + 1}" width="${width}" height="5" fill="#d55e00" pointer-events="none"/>` : "";
-    return `<rect data-from="${group.bar}" data-count="${group.count}" data-waits="${group.waits}" x="${group.from.toFixed(1)}" y="${top + 1}" width="${width}" ` +
+    return `<rect data-first="${bars.first[group.bar]}" data-last="${group.last}" data-count="${group.count}" data-waits="${group.waits}" x="${group.from.toFixed(1)}" y="${top + 1}" width="${width}" ` +
         `height="${LAYER - 2}" fill="#999"/>${waits}`;
+}
+
+const startX = bar => Math.max(x(placeOf(bars.first[bar])), left());
+const endX = bar => Math.min(x(placeOf(lastOf(bar))), right());
+const inside = function* (it, passes) {
+    for (let bar = it.low; bar < it.high; bar++)
+        if (passes(bar)) yield bar;
+};
+
+// Marks that stand too near to one of the same sort are left out.
+function laneMarks(it) {
+    const drawn = [], last = {};
+    for (const bar of inside(it, bar => isMark(bar) && x(placeOf(bars.first[bar])) >= left())) {
+        const at = startX(bar), mark = MARKS[whatOf(bar)];
+        if (at - (last[mark] ?? -9) < 3) continue;
+        last[mark] = at;
+        drawn.push(`<use data-bar="${bar}" href="#mark-${mark}" x="${at.toFixed(1)}" y="${it.top + bars.layer[bar] * LAYER + LAYER / 2}"/>`);
+    }
+    return drawn.join("");
 }
 
 // Narrow bars of one layer that touch each other are drawn as one.
 function laneBars(it) {
-    const groups = [], drawn = [], marks = [];
+    const groups = [], drawn = [], topOf = layer => it.top + layer * LAYER;
     const flush = layer => {
-        if (groups[layer]) drawn.push(severalShape(groups[layer], it.lane, it.top + layer * LAYER));
+        if (groups[layer]) drawn.push(severalShape(groups[layer], it.lane, topOf(layer)));
         groups[layer] = null;
     };
-    let lastMark = -99;
-    for (let bar = it.low; bar < it.high; bar++) {
-        const layer = bars.layer[bar], from = Math.max(x(placeOf(bars.first[bar])), left()), to = Math.min(x(placeOf(lastOf(bar))), right());
-        if (isMark(bar)) {
-            if (from - lastMark > 3 || whatOf(bar) === 8) {
-                marks.push(`<use data-bar="${bar}" href="#mark-${MARKS[whatOf(bar)]}" x="${from.toFixed(1)}" y="${it.top + layer * LAYER + LAYER / 2}"/>`);
-                lastMark = from;
-            }
-            continue;
-        }
-        if (to < left() || bars.reach[bar] <= 0) continue;
-        const group = groups[layer], waits = whatOf(bar) === HELD ? 0 : 1;
-        if (group && from - group.to < 1 && to - from < NARROW) {
-            group.to = Math.max(group.to, to);
-            group.count++;
-            group.waits += waits;
-        } else {
-            flush(layer);
-            if (to - from < NARROW) groups[layer] = { bar, from, to: Math.max(to, from + 1.2), count: 1, waits };
-            else drawn.push(barShape(bar, it.lane, from, to, it.top + layer * LAYER));
-        }
+    for (const bar of inside(it, bar => !isMark(bar))) {
+        const layer = bars.layer[bar], from = startX(bar), to = endX(bar);
+        if (to < left() || joins(groups[layer], bar, from, to)) continue;
+        flush(layer);
+        if (to - from < NARROW)
+            groups[layer] = { bar, from, to: Math.max(to, from + 1.2), last: lastOf(bar), count: 1, waits: whatOf(bar) === HELD ? 0 : 1 };
+        else
+            drawn.push(barShape(bar, it.lane, from, to, topOf(layer)));
     }
     groups.forEach((_, layer) => flush(layer));
-    return drawn.join("") + marks.join("");
+    return drawn.join("");
+}
+
+function joins(group, bar, from, to) {
+    if (!group || from - group.to >= 1 || to - from >= NARROW) return false;
+    group.to = Math.max(group.to, to);
+    group.last = Math.max(group.last, lastOf(bar));
+    group.count++;
+    group.waits += whatOf(bar) === HELD ? 0 : 1;
+    return true;
 }
 
 function fileText(file) {
@@ -171,11 +194,16 @@ function fileText(file) {
     return `${escaped(name)} <tspan font-weight="normal" fill="#444">node ${node}${gone ? ", unlinked" : ""}</tspan>`;
 }
 
+// Owners that a kernel makes up have up to 20 digits.
+function laneText({ owner, flock, pid }) {
+    const short = owner.length > 11 ? `${owner.slice(0, 5)}…${owner.slice(-5)}` : owner;
+    return `owner ${short}${pid === null ? "" : `, pid ${pid}`}${flock ? ", flock" : ""}`;
+}
+
 function rowShape(it) {
     if (!it.lane)
         return `<rect x="0" y="${it.top}" width="100%" height="${HEAD}" fill="#eee"/><text x="6" y="${it.top + 15}" font-weight="bold">${fileText(it.file)}</text>`;
-    const name = `owner ${it.lane.owner}${it.lane.flock ? ", flock" : ""}`;
-    return `<text x="16" y="${it.top + 12}">${escaped(name.length > 29 ? name.slice(0, 28) + "…" : name)}<title>${escaped(name)}</title></text>${laneBars(it)}` +
+    return `<text x="16" y="${it.top + 12}">${laneText(it.lane)}<title>owner ${it.lane.owner}</title></text>${laneBars(it)}${laneMarks(it)}` +
         `<path d="M0 ${it.top + it.size - 2.5}H3000" stroke="#e3e3e3"/>`;
 }
 
@@ -206,12 +234,12 @@ function summary() {
 
 function draw() {
     layOut();
-    const size = Math.max(40, Math.min(box.clientHeight || 400, height || 40)), top = Math.min(box.scrollTop, Math.max(0, height - size));
+    tall.style.height = `${Math.max(height, 40)}px`;
+    const size = Math.max(40, Math.min(box.clientHeight, height)), top = Math.min(box.scrollTop, Math.max(0, height - size));
     const rows = shown.filter(it => it.top < top + size + 10 && it.top + (it.size || HEAD) > top).map(rowShape).join("");
     const at = ticks(), grid = at.map(it => `M${x(it).toFixed(1)} 0V${height}`).join("");
     const words = summary(), none = shown.length ? "" : `<text x="16" y="24">nothing here</text>`;
     chart.setAttribute("height", size);
-    chart.style.marginBottom = `${Math.max(0, height - size)}px`;
     chart.innerHTML = `<title id="lanes-title">Locks held and requests that wait, a lane for each owner</title><desc id="lanes-desc">${words}. The table below lists them.</desc>` +
         `<g transform="translate(0 ${-top})"><path d="${grid}" stroke="#eee"/>${rows}${none}</g>`;
     byId("says").textContent = words;
@@ -220,10 +248,11 @@ function draw() {
     brush.left = `${100 * view[0] / end}%`;
     brush.width = `${100 * (view[1] - view[0]) / end}%`;
     if (byId("list").open) list();
-    remember();
+    clearTimeout(remembering);
+    remembering = setTimeout(remember, 400);
 }
 
-let pending = 0;
+let remembering = 0, pending = 0;
 function later() {
     if (!pending)
         pending = requestAnimationFrame(() => { pending = 0; draw(); });
@@ -254,12 +283,13 @@ function noteText(bar) {
 function barTip(bar) {
     const lane = laneOf(bar), [name, node] = data.files[lane.file];
     const title = `${kindText(bar)} lock${lane.flock ? ", flock" : ""}: ${WHATS[whatOf(bar)]}`;
-    return [`<b>${escaped(title)}</b>`, `${escaped(name)} (node ${node}), ${data.ranges[bars.range[bar]]}`, `owner ${lane.owner}, pid ${bars.pid[bar]}`,
-        `${spanText(bar)}${tookText(bar) ? `, ${tookText(bar)}` : ""}`, escaped(noteText(bar))].filter(it => it).join("<br>");
+    const rows = [`${escaped(name)} (node ${node}), ${data.ranges[bars.range[bar]]}`, `owner ${lane.owner}, pid ${bars.pid[bar]}`,
+        [spanText(bar), tookText(bar)].filter(it => it).join(", "), escaped(noteText(bar))];
+    return `<b>${escaped(title)}</b>${rows.filter(it => it).join("<br>")}`;
 }
 
 function severalTip(it) {
-    return `<b>${grouped(+it.count)} locks and waits</b>${grouped(+it.waits)} of them waited<br>from ${lineText(bars.first[+it.from])}; click to zoom in`;
+    return `<b>${grouped(+it.count)} locks and waits</b>${grouped(+it.waits)} of them waited<br>from ${lineText(+it.first)} to ${lineText(+it.last)}; click to zoom in`;
 }
 
 function point(event) {
@@ -353,7 +383,7 @@ const KEYS = { ArrowLeft: () => pan(-0.2), ArrowRight: () => pan(0.2), "+": () =
 
 function dragged(element, begin, during) {
     element.addEventListener("pointerdown", down => {
-        if (down.button) return;
+        if (down.button || down.offsetX > element.clientWidth) return;
         const state = begin(down);
         const moved = event => during(event, state, down);
         const over = () => { removeEventListener("pointermove", moved); removeEventListener("pointerup", over); };
@@ -374,9 +404,7 @@ function wheel(event) {
 
 function click(event) {
     const it = event.target.dataset || {};
-    if (!it.count) return;
-    const first = bars.first[+it.from], last = lastOf(+it.from + +it.count - 1);
-    move(placeOf(first), placeOf(Math.min(last, data.orders)));
+    if (it.count) move(placeOf(+it.first), placeOf(Math.min(+it.last, data.orders)));
 }
 
 function overPlace(event) {
@@ -413,10 +441,6 @@ function listen() {
     addEventListener("hashchange", recall);
 }
 
-const chart = document.createElementNS("http://www.w3.org/2000/svg", "svg");
-for (const [name, value] of [["role", "img"], ["aria-labelledby", "lanes-title lanes-desc"], ["id", "chart"]])
-    chart.setAttribute(name, value);
-box.append(chart);
 listen();
 if (data.orders > 2000) view = [0, placeOf(1000) || end];
 recall();
