@@ -115,7 +115,8 @@ def legend_html():
         ended = "waits at the end of the trace" if words == STILL else f"waited, then {words}"
         found.append(swatch(box.format(f'fill="url(#{name})" stroke="var(--{name})" stroke-width="1.5"'), ended))
     found += [swatch(f'<use href="#mark-{name}" x="17" y="7"/>', f"refused with {words}") for name, _, words in MARKS]
-    found.append(swatch('<rect x="1" y="1" width="32" height="12" fill="#bbb"/><path d="M8 1V13M17 1V13M26 1V13" stroke="#666"/>', "several: zoom in"))
+    found.append(swatch('<rect x="1" y="1" width="32" height="12" fill="#999"/><rect x="17" y="1" width="16" height="5" fill="#d55e00"/>',
+                        "several, of which some waited: zoom in"))
     return patterns_html() + "".join(found)
 
 
@@ -123,7 +124,7 @@ def facts_html(trace, session, clock):
     lengths = Lengths(clock)
     longest = lengths.text(max(map(lengths.of, session.waits), default=0))
     found = [(f"{len(trace.orders):,}", "orders"), (f"{len(session.files.names):,}", "files"), (f"{len({it.key for it in session.held}):,}", "owners of locks"),
-             (f"{len(session.held):,}", "locks held"), (f"{len(session.waits):,}", "requests waited"), (longest, f"{lengths.unit}, the longest wait"),
+             (f"{len(session.held):,}", "locks were held"), (f"{len(session.waits):,}", "requests waited"), (longest, f"{lengths.unit}, the longest wait"),
              (f"{len(session.refused):,}", "requests refused"), (f"{len(session.deadlocks):,}", "deadlocks")]
     return "".join(f"<li><b>{number}</b> {text(words)}</li>" for number, words in found)
 

@@ -120,7 +120,8 @@ function barShape(bar, lane, from, to, top) {
     const round = lane.flock && width > 8 ? ' rx="6"' : "";
     if (what !== HELD)
         return `${shape}${round} fill="url(#${FILLS[what]})" stroke="var(--${FILLS[what]})" stroke-width="1.2"/>${barWords(bar, from, width, top)}`;
-    const held = `${shape}${round} fill="var(--${kind ? "write" : "read"})" stroke="${lane.flock ? "#000" : "#fff"}"/>`;
+    const edge = width < 5 ? "none" : lane.flock ? "#000" : "#fff";
+    const held = `${shape}${round} fill="var(--${kind ? "write" : "read"})" stroke="${edge}"/>`;
     return lane.flock && width > 10 ? `${held}<path d="M${(from + 4).toFixed(1)} ${middle}H${(from + width - 4).toFixed(1)}" stroke="#fff" stroke-width="2" pointer-events="none"/>` : held;
 }
 
@@ -207,10 +208,11 @@ function rowShape(it) {
         `<path d="M0 ${it.top + it.size - 2.5}H3000" stroke="#e3e3e3"/>`;
 }
 
+// Round numbers of orders, which count from 1, or round times.
 function ticks() {
-    const step = tickStep((view[1] - view[0]) / Math.max(2, (right() - left()) / 130)), found = [];
-    for (let at = Math.ceil(view[0] / step) * step; at <= view[1]; at += step)
-        found.push(at);
+    const step = tickStep((view[1] - view[0]) / Math.max(2, (right() - left()) / 130)), counted = places ? 0 : 1, found = [];
+    for (let at = Math.ceil((view[0] + counted) / step) * step; at <= view[1] + counted; at += step)
+        found.push(at - counted);
     return found;
 }
 
