@@ -77,7 +77,7 @@ function orders() {
     return [leastIn(0, data.orders, it => places[it + 1] >= view[0]), leastIn(0, data.orders, it => places[it] > view[1])];
 }
 
-const placeText = place => places ? `${(place / 1000).toFixed(3)} ms` : `order ${grouped(Math.floor(place) + 1)}`;
+const milliseconds = place => `${(place / 1000).toLocaleString("en-US", { minimumFractionDigits: 3, maximumFractionDigits: 3 })} ms`;
 const left = () => LABELS, right = () => box.clientWidth - 8;
 const x = place => left() + (place - view[0]) * (right() - left()) / (view[1] - view[0]);
 const placeAtX = pixel => view[0] + (pixel - left()) * (view[1] - view[0]) / (right() - left());
@@ -128,7 +128,7 @@ function barShape(bar, lane, from, to, top) {
 // The end of a wait in words, if there is room.
 function barWords(bar, from, width, top) {
     const words = ["", "granted", "EINTR", "EBADF", "ENOLCK", "waits", "error"][whatOf(bar)], room = words.length * 6.4 + 8;
-    if (width < room) return "";
+    if (width < room + 12) return "";
     const at = Math.min(from + width, right()) - room + 3;
     return `<rect x="${at - 2}" y="${top + 2}" width="${room - 3}" height="${LAYER - 4}" fill="#fff" pointer-events="none"/>` +
         `<text x="${at}" y="${top + LAYER - 4}" font-size="10.5" pointer-events="none">${words}</text>`;
@@ -229,7 +229,7 @@ function drawAxis(at) {
 
 function summary() {
     const [from, to] = orders(), here = shown.filter(it => it.lane), files = shown.length - here.length;
-    const range = places ? `${placeText(view[0])} to ${placeText(view[1])}, orders ${grouped(from + 1)} to ${grouped(to)}` : `Orders ${grouped(from + 1)} to ${grouped(to)}`;
+    const range = places ? `${milliseconds(view[0])} to ${milliseconds(view[1])}, orders ${grouped(from + 1)} to ${grouped(to)}` : `Orders ${grouped(from + 1)} to ${grouped(to)}`;
     const which = found ? ` of ${grouped(found.size)} found` : "";
     return `${range} of ${grouped(data.orders)}: ${grouped(here.length)} lanes${which} in ${grouped(files)} files`;
 }
@@ -273,7 +273,7 @@ function spanText(bar) {
 function tookText(bar) {
     if (isMark(bar)) return "";
     const took = whatOf(bar) === HELD ? 0 : bars.took[bars.noteOf[bar]];
-    return places ? `${((took || placeOf(lastOf(bar)) - placeOf(bars.first[bar])) / 1000).toFixed(3)} ms` : `${grouped(bars.length[bar])} orders`;
+    return places ? milliseconds(took || placeOf(lastOf(bar)) - placeOf(bars.first[bar])) : `${grouped(bars.length[bar])} orders`;
 }
 
 function noteText(bar) {
