@@ -1,7 +1,7 @@
 "use strict";
 // Draws the lanes of a window of the trace. Orders count from 0 here, and from 1 in all that is shown.
 (() => {
-const LABELS = 250, HEAD = 22, LAYER = 14, GAP = 5, NARROW = 4, LEAST = 8, MOST_LISTED = 300;
+const LABELS = 250, HEAD = 22, LAYER = 14, GAP = 5, NARROW = 4, LEAST = 8, MOST_LISTED = 300, AROUND = 60;
 // As in chart.py: what a bar or a mark says, and how it is filled or which mark it is.
 const HELD = 0, FIRST_MARK = 7;
 const WHATS = ["held", "waited, then granted", "waited, then EINTR", "waited, then EBADF", "waited, then ENOLCK", "waits at the end of the trace",
@@ -69,7 +69,7 @@ function seen(lane, from, to) {
 
 // ---- The window
 
-let view = [0, end], wanted = "", found = null, shown = [], height = 0;
+let view = [0, end], wanted = "", found = null, marked = -1, shown = [], height = 0;
 
 // The orders of the window, from the first up to another.
 function orders() {
@@ -227,6 +227,11 @@ function drawAxis(at) {
     byId("axis").innerHTML = `<text x="6" y="15" fill="#444">${places ? "time" : "order"}</text>${texts.join("")}`;
 }
 
+function markedShape() {
+    const at = x(placeOf(Math.max(marked, 0)));
+    return marked < 0 || at < left() || at > right() ? "" : `<path d="M${at.toFixed(1)} 0V${height}" stroke="#000" stroke-width="1.5" stroke-dasharray="3 3" pointer-events="none"/>`;
+}
+
 function summary() {
     const [from, to] = orders(), here = shown.filter(it => it.lane), files = shown.length - here.length;
     const range = places ? `${milliseconds(view[0])} to ${milliseconds(view[1])}, orders ${grouped(from + 1)} to ${grouped(to)}` : `Orders ${grouped(from + 1)} to ${grouped(to)}`;
@@ -243,7 +248,7 @@ function draw() {
     const words = summary(), none = shown.length ? "" : `<text x="16" y="24">nothing here</text>`;
     chart.setAttribute("height", size);
     chart.innerHTML = `<title id="lanes-title">Locks held and requests that wait, a lane for each owner</title><desc id="lanes-desc">${words}. The table below lists them.</desc>` +
-        `<g transform="translate(0 ${-top})"><path d="${grid}" stroke="#eee"/>${rows}${none}</g>`;
+        `<g transform="translate(0 ${-top})"><path d="${grid}" stroke="#eee"/>${rows}${none}${markedShape()}</g>`;
     byId("says").textContent = words;
     drawAxis(at);
     const brush = byId("brush").style;
@@ -343,11 +348,11 @@ function find(text) {
 
 // Moves to the next bar, from this order on, of a lane that is found.
 function next(from) {
-    const firsts = [...(found || lanes.keys())].map(at => {
+    let first = data.orders;
+    for (const at of found || lanes.keys()) {
         const bar = leastIn(lanes[at].from, lanes[at].to, it => bars.first[it] >= from);
-        return bar < lanes[at].to ? bars.first[bar] : Infinity;
-    });
-    const first = Math.min(...firsts.slice(0, 50000), data.orders);
+        if (bar < lanes[at].to) first = Math.min(first, bars.first[bar]);
+    }
     if (first < data.orders) center(first);
     else if (from > 0) next(0);
 }
@@ -355,6 +360,15 @@ function next(from) {
 function center(order) {
     const half = (view[1] - view[0]) / 2;
     move(placeOf(order) - half, placeOf(order) + half);
+}
+
+// Shows an order with those around it, and marks it.
+function lead(order) {
+    const from = placeOf(Math.max(0, order - AROUND)), to = placeOf(Math.min(data.orders, order + AROUND));
+    marked = order;
+    if (view[1] - view[0] > to - from) move(from, to);
+    else center(order);
+    byId("window").scrollIntoView();
 }
 
 // ---- A link holds the view: #at=ORDER, or #from=PLACE&to=PLACE, and find=TEXT
@@ -371,8 +385,7 @@ function recall() {
         find(link.get("find"));
     }
     if (link.has("at")) {
-        center(Math.min(+link.get("at") - 1, data.orders));
-        byId("window").scrollIntoView();
+        lead(Math.min(Math.max(1, +link.get("at")), data.orders) - 1);
     } else if (link.has("from") && link.has("to")) {
         move(+link.get("from"), +link.get("to"));
     }
