@@ -1,2 +1,2 @@
-"""The parts of tools/lockd_report: a trace is read (`trace`), what happened to locks is followed (`session`), summed up (`tables`), and written as a page
-(`page`, with `view.css` and `view.js`)."""
+"""The parts of tools/lockd_report. A trace is read (`trace`, `times`), what happens to locks is followed (`session`, over `locks`, `files` and `circle`), laid
+out as lanes (`chart`) and as `tables`, and written as a page (`page`, with `page.html`, `page.css` and the scripts)."""

@@ -7,7 +7,7 @@ from report.session import GRANTED, STILL
 from report.tables import blockers_text, range_text
 
 MOST_LAYERS = 8
-# What bars and marks say. view.js has the same list.
+# What bars and marks say. data.js has the same list.
 HELD, WAITS = 0, {GRANTED: 1, "EINTR": 2, "EBADF": 3, "ENOLCK": 4, STILL: 5}
 OTHER_END = 6
 MARKS = {"EAGAIN": 7, "EDEADLK": 8, "ENOLCK": 9}

@@ -3,13 +3,13 @@ from bisect import bisect_left
 from collections import namedtuple
 
 LAST_BYTE = (1 << 63) - 1
-READ, WRITE, UNLOCK = 0, 1, 2
+READ, WRITE = 0, 1
 
 # Whose locks: `flock` tells whole-file locks from record locks.
 Key = namedtuple("Key", "flock node owner")
 # Bytes from start to end, both included, that are locked alike.
 Run = namedtuple("Run", "start end kind pid")
-# A lock that is asked for; `kind` may be UNLOCK or above, `line` is that of the order.
+# A lock that is asked for, or an unlock, if `kind` is neither READ nor WRITE.
 Wish = namedtuple("Wish", "key start end kind pid")
 
 

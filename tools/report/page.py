@@ -9,8 +9,9 @@ from report.session import GRANTED, STILL
 from report.tables import Lengths, Place, tables
 
 HERE = os.path.dirname(os.path.realpath(__file__))
+SCRIPTS = "data.js", "draw.js", "words.js", "moves.js"
 BUCKETS = 700
-# What a bar or a mark looks like in the legend: its classes' pattern and its words. view.js draws the same.
+# How waits and refused requests are drawn, and what they say in the legend. The scripts use them by these names.
 HATCHES = ("granted", GRANTED), ("eintr", "EINTR"), ("ebadf", "EBADF"), ("enolck", "ENOLCK"), ("still", STILL)
 HATCH_LINES = {
     "granted": "M-2 2L2 -2M-1 9L9 -1M6 10L10 6", "eintr": "M-2 6L2 10M-1 -1L9 9M6 -2L10 2", "ebadf": "M0 2H8M0 6H8", "enolck": "M2 0V8M6 0V8",
@@ -27,6 +28,11 @@ MARK_STYLES = {
 def file_text(name):
     with open(f"{HERE}/{name}", encoding="utf-8") as file:
         return file.read()
+
+
+def script_text():
+    """The scripts as one, which leaves no names in the page."""
+    return "\"use strict\";\n(() => {\n" + "\n".join(map(file_text, SCRIPTS)) + "})();\n"
 
 
 def text(it):
@@ -152,8 +158,8 @@ def data_html(data):
 def page(title, trace, session, clock):
     begin, end = ends(trace, clock) if trace.orders else ("", "")
     parts = {
-        "title": text(title), "style": file_text("view.css"), "script": file_text("view.js"), "notes": notes_html(trace, session),
+        "title": text(title), "style": file_text("page.css"), "script": script_text(), "notes": notes_html(trace, session),
         "facts": facts_html(trace, session, clock), "overview": overview_html(session, clock), "begin": begin, "end": end, "legend": legend_html(),
         "tables": "\n".join(map(table_html, tables(session, clock))), "data": data_html(chart(trace, session, clock)),
     }
-    return re.sub(r"\{\{(\w+)\}\}", lambda it: parts[it[1]], file_text("view.html"))
+    return re.sub(r"\{\{(\w+)\}\}", lambda it: parts[it[1]], file_text("page.html"))

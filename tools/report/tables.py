@@ -65,11 +65,15 @@ def contended_files(session, lengths):
     return Table("Most contended files", "By requests that waited, or got EAGAIN or EDEADLK.", heads, rows, len(nodes), "No request met another's lock.")
 
 
+def wait_cells(session, it):
+    ended = Place(it.ended, it.last) if it.ended != STILL else it.ended
+    return [session.files.label(it.wish.key.node), owner_text(it.wish.key.owner, it.wish.pid), kind_text(it.wish),
+            range_text(it.wish, it.wish.key.flock), Place(f"line {it.line}", it.first), ended, blockers_text(it)]
+
+
 def longest_waits(session, lengths):
     found = sorted(((lengths.of(it), it) for it in session.waits), key=lambda it: (-it[0], it[1].first))
-    rows = [[lengths.text(length), session.files.label(it.wish.key.node), owner_text(it.wish.key.owner, it.wish.pid), kind_text(it.wish), range_text(it.wish, it.wish.key.flock),
-             Place(f"line {it.line}", it.first), Place(it.ended, it.last) if it.ended != STILL else it.ended, blockers_text(it)]
-            for length, it in found[:MOST_ROWS]]
+    rows = [[lengths.text(length), *wait_cells(session, it)] for length, it in found[:MOST_ROWS]]
     heads = lengths.unit, "File", "Owner", "Kind", "Range", "Asked", "Ended", "It waited for"
     return Table("Longest waits", "", heads, rows, len(found), "No request waited.")
 

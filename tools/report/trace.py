@@ -1,5 +1,6 @@
 """Reads the text of a trace, as docs/TRACE.md describes it, into orders with their replies."""
 import re
+from functools import lru_cache
 
 U64, U32 = 1 << 64, 1 << 32
 ERRORS = {
@@ -44,6 +45,7 @@ def number(below):
     """Reads a decimal number without a sign, or a zero in front."""
     most = len(str(below))
 
+    @lru_cache(maxsize=1 << 14)
     def read(word):
         if not word.isdigit() or len(word) > most or (word[:1] == b"0" and word != b"0"):
             raise ValueError
