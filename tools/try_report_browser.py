@@ -21,8 +21,8 @@ class Browser:
         self.folder = tempfile.TemporaryDirectory(prefix="try-report-")
         ours, theirs = os.pipe(), os.pipe()
         # A shell puts the descriptors where Chromium looks for them.
-        self.running = subprocess.Popen(["sh", "-c", f'exec "$@" 3<&{ours[0]} 4>&{theirs[1]}', "sh", PROGRAM, *WORDS, f"--user-data-dir={self.folder.name}", "about:blank"],
-                                        pass_fds=(ours[0], theirs[1]), stdout=subprocess.DEVNULL, stderr=subprocess.DEVNULL)
+        words = ["sh", "-c", f'exec "$@" 3<&{ours[0]} 4>&{theirs[1]}', "sh", PROGRAM, *WORDS, f"--user-data-dir={self.folder.name}", "about:blank"]
+        self.running = subprocess.Popen(words, pass_fds=(ours[0], theirs[1]), stdout=subprocess.DEVNULL, stderr=subprocess.DEVNULL)
         os.close(ours[0])
         os.close(theirs[1])
         self.to, self.back, self.held, self.count, self.session = ours[1], theirs[0], b"", 0, None
