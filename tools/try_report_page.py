@@ -69,12 +69,13 @@ def tip(browser, selector):
 @in_browser
 def try_bars_and_hover(browser, written, _):
     browser.open(written(traced(text_of("examples/a_lock_is_waited_for.txt"))))
-    same(says(browser), "Orders 1 to 8 of 8: 4 lanes in 1 files")
+    same(says(browser), "Orders 1 to 8 of 8: 4 lanes in 1 file")
     same(browser.tell("document.querySelectorAll('#chart rect[data-bar]').length"), 6)
     browser.tell("document.getElementById('lanes').scrollIntoView()")
     same(tip(browser, "#chart rect[fill='url(#eintr)']"),
          "read lock: waited, then EINTR\na (node 2), byte 9\nowner 9, pid 13\nfrom line 6 to line 8, 2 orders\nfor owner 7")
-    same(tip(browser, "#chart rect[fill='var(--read)']").split("\n")[0], "read lock: held")
+    same(tip(browser, "#chart rect[fill='var(--read)']"),
+         "read lock: held\na (node 2), bytes 0 to 4\nowner 10, pid 14\nfrom line 13 to the end of the trace, 1 order")
     browser.click("#list summary")
     same(browser.tell("document.querySelectorAll('#list tbody tr').length"), 6)
     assert "Orders 1 to 8" in browser.tell("document.getElementById('lanes-desc').textContent")
@@ -96,7 +97,7 @@ def try_search_and_links(browser, written, _):
     everything = browser.tell("document.querySelectorAll('#chart rect[data-bar]').length")
     for text, lanes in ("lock7", 0), ("1005", 0), ("node 3", 0), ("nothing", 0):
         browser.type("#find", text)
-        found = re.search(r"(\d+) lanes of (\d+) found in (\d+) files", says(browser))
+        found = re.search(r"(\d+) lanes? of (\d+) found in (\d+) files?", says(browser))
         assert found and (found[1] != "0") == (text != "nothing"), (text, says(browser))
         assert text != "lock7" or found[3] == "1", says(browser)
     browser.type("#find", " ")

@@ -12,6 +12,7 @@ const byId = id => document.getElementById(id);
 const box = byId("lanes"), tall = byId("tall"), chart = byId("chart"), tip = byId("tip");
 const escaped = text => String(text).replace(/[&<>"]/g, it => `&#${it.charCodeAt(0)};`);
 const grouped = number => number.toLocaleString("en-US");
+const counted = (number, word) => `${grouped(number)} ${word}${number === 1 ? "" : "s"}`;
 
 // ---- The data
 

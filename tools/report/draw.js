@@ -125,7 +125,7 @@ function summary() {
     const span = `rders ${grouped(from + 1)} to ${grouped(to)}`;
     const range = places ? `${milliseconds(view[0])} to ${milliseconds(view[1])}, o${span}` : `O${span}`;
     const which = found ? ` of ${grouped(found.size)} found` : "";
-    return `${range} of ${grouped(data.orders)}: ${grouped(here.length)} lanes${which} in ${grouped(files)} files`;
+    return `${range} of ${grouped(data.orders)}: ${counted(here.length, "lane")}${which} in ${counted(files, "file")}`;
 }
 
 function draw() {

@@ -10,7 +10,7 @@ function spanText(bar) {
 function tookText(bar) {
     if (isMark(bar)) return "";
     const took = whatOf(bar) === HELD ? 0 : bars.took[bars.noteOf[bar]];
-    return places ? milliseconds(took || placeOf(lastOf(bar)) - placeOf(bars.first[bar])) : `${grouped(bars.length[bar])} orders`;
+    return places ? milliseconds(took || placeOf(lastOf(bar)) - placeOf(bars.first[bar])) : counted(bars.length[bar], "order");
 }
 
 function noteText(bar) {
