@@ -128,11 +128,12 @@ def legend_html():
 
 def facts_html(trace, session, clock):
     lengths = Lengths(clock)
+    owners = {(it.key.flock, it.key.owner) for it in session.held}
+    found = [("Orders", len(trace.orders)), ("Files", len(session.files.names)), ("Owners of locks", len(owners)), ("Locks held", len(session.held)),
+             ("Requests that waited", len(session.waits)), ("Requests with an error", len(session.refused)), ("Deadlocks", len(session.deadlocks))]
     longest = lengths.text(max(map(lengths.of, session.waits), default=0))
-    found = [(f"{len(trace.orders):,}", "orders"), (f"{len(session.files.names):,}", "files"), (f"{len({it.key for it in session.held}):,}", "owners of locks"),
-             (f"{len(session.held):,}", "locks were held"), (f"{len(session.waits):,}", "requests waited"), (longest, f"{lengths.unit}, the longest wait"),
-             (f"{len(session.refused):,}", "requests refused"), (f"{len(session.deadlocks):,}", "deadlocks")]
-    return "".join(f"<li><b>{number}</b> {text(words)}</li>" for number, words in found)
+    facts = [(words, f"{number:,}") for words, number in found] + [(f"Longest wait, {lengths.unit}", longest)]
+    return "".join(f"<li>{words} <b>{number}</b></li>" for words, number in facts)
 
 
 def notes_html(trace, session):

@@ -74,7 +74,7 @@ def wait_cells(session, it):
 def longest_waits(session, lengths):
     found = sorted(((lengths.of(it), it) for it in session.waits), key=lambda it: (-it[0], it[1].first))
     rows = [[lengths.text(length), *wait_cells(session, it)] for length, it in found[:MOST_ROWS]]
-    heads = lengths.unit, "File", "Owner", "Kind", "Range", "Asked", "Ended", "It waited for"
+    heads = f"How long, {lengths.unit}", "File", "Owner", "Kind", "Range", "Asked", "Ended", "It waited for"
     return Table("Longest waits", "", heads, rows, len(found), "No request waited.")
 
 
