@@ -99,6 +99,14 @@ static bool send_all(const char *from, size_t size)
     return true;
 }
 
+static bool send_message(const char *message, size_t size)
+{
+    struct fuse_in_header head;
+    memcpy(&head, message, sizeof head);
+    times_note("ask", head.unique);
+    return send_all(message, size);
+}
+
 // The thread that carries replies must not wait for the server to read, so it leaves its messages
 // here.
 void send_later(const void *message, size_t size)
@@ -136,7 +144,7 @@ static bool send_letters(void)
     bool well = true;
     for (struct letter *letter = letters_taken(), *next; letter; letter = next) {
         next = letter->next;
-        well = well && send_all(letter->message, letter->size);
+        well = well && send_message(letter->message, letter->size);
         free(letter);
     }
     return well;
@@ -194,7 +202,7 @@ static void *carry_messages(void *unused)
         uint32_t opcode = ((struct fuse_in_header *)(void *)message)->opcode;
         count(&it.seen[opcode < OPCODES ? opcode : OPCODES - 1]);
         size_t left = change_message(message, (size_t)size);
-        if (!send_letters_first() || (left && !send_all(message, left)))
+        if (!send_letters_first() || (left && !send_message(message, left)))
             return NULL;
     }
     return NULL;
@@ -280,6 +288,7 @@ static ssize_t write_replies(char *bytes, size_t held)
             return -1;
         if (held - done < head.len)
             break;
+        times_note("tell", head.unique);
         if (is_a_line(&head))
             count(&it.lines);
         size_t left = change_reply(bytes + done, head.len);

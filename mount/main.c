@@ -95,6 +95,7 @@ static void take_away(void)
     if (!it.starts)
         return;
     server_drop(&it.server);
+    times_drop();
     if (record_read())
         record_release();
     else
@@ -159,6 +160,7 @@ static void begin(void)
     it.starts = true;
     atexit(take_away);
     place_open(&it.place, &it.options, stops);
+    times_start(it.options.times);
     server_start(&it.server, &it.options, stops);
     const struct options *options = &it.options;
     names_start(options->mode < 0 ? it.place.below.st_mode : (mode_t)options->mode,

@@ -33,6 +33,7 @@ struct options {
     const char *folder;
     const char *trace; // NULL: a new file in a new folder; "none": nowhere
     const char *trace_full;
+    const char *times; // NULL: they aren't written
     const char *workers;
     const char *rules[8]; // those that `serve` and `check` take alike
     int rule_count;
@@ -159,6 +160,15 @@ void send_later(const void *message, size_t size);
 void carrier_flushed(void);
 void carrier_agreed(void);
 void carrier_refused_init(int error);
+
+// ---- times.c ----
+
+// Makes the file for the times, if one is named.
+void times_start(const char *path);
+// Takes it away.
+void times_drop(void);
+// A message of this unique is sent to the server ("ask"), or its reply came ("tell").
+void times_note(const char *kind, uint64_t unique);
 
 // ---- messages.c ----
 

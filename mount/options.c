@@ -22,6 +22,7 @@ static const char HELP[] =
     "  --trace FILE          a new file for the trace, or `none`; else one in a new folder in $TMPDIR or /tmp\n"
     "  --trace-full go-on|refuse\n"
     "                        what the server does while the trace can't be written\n"
+    "  --times FILE          a new file for the times of requests and replies, for tools/lockd_report\n"
     "  --fair, --runs N, --parked N\n"
     "                        the rules of the server, as `lockd serve --help` says\n"
     "  --no-check            don't judge the trace\n"
@@ -78,7 +79,7 @@ static void take_rule(struct options *options, const char *name, const char *wor
         options->rules[options->rule_count++] = word;
 }
 
-enum { ALLOW = 1, COUNT, DISCARD, NONEMPTY, NO_CHECK, WORKERS, TRACE, TRACE_FULL, FAIR, RUNS, PARKED, NUMBER, HELPS, VERSIONS };
+enum { ALLOW = 1, COUNT, DISCARD, NONEMPTY, NO_CHECK, WORKERS, TRACE, TRACE_FULL, TIMES, FAIR, RUNS, PARKED, NUMBER, HELPS, VERSIONS };
 
 static void take(struct options *options, int option, const char *name)
 {
@@ -94,6 +95,7 @@ static void take(struct options *options, int option, const char *name)
         break;
     case TRACE: options->trace = optarg; break;
     case TRACE_FULL: options->trace_full = optarg; break;
+    case TIMES: options->times = optarg; break;
     case FAIR: take_rule(options, "--fair", NULL); break;
     case RUNS: take_rule(options, "--runs", optarg); break;
     case PARKED: take_rule(options, "--parked", optarg); break;
@@ -119,7 +121,8 @@ void read_options(int argc, char **argv, struct options *options)
         {"parked", required_argument, NULL, PARKED},     {"mode", required_argument, NULL, NUMBER},
         {"uid", required_argument, NULL, NUMBER},        {"gid", required_argument, NULL, NUMBER},
         {"grace", required_argument, NULL, NUMBER},      {"help", no_argument, NULL, HELPS},
-        {"version", no_argument, NULL, VERSIONS},        {NULL, 0, NULL, 0},
+        {"version", no_argument, NULL, VERSIONS},        {"times", required_argument, NULL, TIMES},
+        {NULL, 0, NULL, 0},
     };
     *options = (struct options){.workers = "1", .mode = -1, .uid = -1, .gid = -1};
     int option, at = 0;

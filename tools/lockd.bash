@@ -33,13 +33,14 @@ complete -o default -F _lockd lockd
 
 _lockd_mount() {
     local word=${COMP_WORDS[COMP_CWORD]} before=${COMP_WORDS[COMP_CWORD - 1]}
-    local words='--workers --trace --trace-full --fair --runs --parked --no-check --allow-other --mode --uid --gid --discard-writes --nonempty --grace --count --help --version'
+    local words='--workers --trace --trace-full --times --fair --runs --parked --no-check --allow-other --mode --uid --gid --discard-writes --nonempty --grace --count --help --version'
     case $before in
         --workers) mapfile -t COMPREPLY < <(compgen -W "$(seq 16)" -- "$word") ;;
         --runs) mapfile -t COMPREPLY < <(compgen -W '1 4096 65536' -- "$word") ;;
         --parked) mapfile -t COMPREPLY < <(compgen -W '1 256 1024' -- "$word") ;;
         --trace) mapfile -t COMPREPLY < <(compgen -W 'none' -f -- "$word") ;;
         --trace-full) mapfile -t COMPREPLY < <(compgen -W 'go-on refuse' -- "$word") ;;
+        --times) mapfile -t COMPREPLY < <(compgen -f -- "$word") ;;
         --mode) mapfile -t COMPREPLY < <(compgen -W '0755 1777' -- "$word") ;;
         --uid | --gid | --grace) COMPREPLY=() ;;
         *)

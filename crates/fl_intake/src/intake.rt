@@ -7,9 +7,10 @@ ghost use Rattle.fl_intake.specs.Ends.{weight_taken};
 ghost use Rattle.fl_intake.specs.Often.{Weight};
 
 use crate::ends::{Closed, Job, PutEnd, TakeEnd};
+use crate::entry::{Entry, FreeBoxes};
 use crate::rule::{EndPass, OrderQueue, Putting, Sharing, Taking};
 use crate::waking::Waking;
-use fl_order::{NoMemory, Op, Order};
+use fl_order::NoMemory;
 use std::alloc::Global;
 use std::marker::Model;
 use std::sync::Wait;
@@ -21,6 +22,7 @@ pub const MOST_JOBS: usize = 64;
 #[derive(Drop)]
 pub struct Intake {
     queue: OrderQueue,
+    boxes: FreeBoxes,
     waking: Waking,
 }
 
@@ -60,6 +62,7 @@ impl Intake {
     {
         let room = Vec::with_capacity(alloc, MOST_JOBS)?;
         let mut takes = Vec::with_capacity(alloc, takers as usize)?;
+        let boxes = FreeBoxes::new(alloc, takers)?;
         let (queue, mut pass) = OrderQueue::ruled(alloc, MOST_JOBS)?;
         for _ in 0..takers {
             let share = queue.another::<Sharing>(&mut pass);
@@ -73,6 +76,7 @@ impl Intake {
         };
         let intake = Intake {
             queue,
+            boxes,
             waking: Waking::new(takers),
         };
         Ok((intake, put, takes))
@@ -90,27 +94,42 @@ impl Intake {
         if end.closed {
             return Err(Closed { job });
         }
+        let mut entry = self.entry_of(rt, &job);
         for _ in rt.forever() {
-            if self.put_if_room(rt, end, &job) {
-                self.waking.count_put();
-                return Ok(());
+            match self.put_if_room(rt, end, entry) {
+                Ok(()) => {
+                    self.waking.count_put();
+                    return Ok(());
+                }
+                Err(back) => entry = back,
             }
             self.waking.wait_for_room(rt);
         }
         unreachable!()
     }
 
-    // Puts a job, if there is room. The queue takes it by value: this is the one copy on the way in that is ours.
-    fn put_if_room<R: Wait>(&self, rt: &R, end: &mut PutEnd, job: &Job) -> bool
+    // What lies in the queue for a job. It waits for a box, if the job has a name and no box is free.
+    fn entry_of<R: Wait>(&self, rt: &R, job: &Job) -> Entry
+        ensures { result ≡ job.now }
+    {
+        for _ in rt.forever() {
+            if let Some(entry) = self.boxes.entry_of(rt, job) {
+                return entry;
+            }
+            self.waking.wait_for_room(rt);
+        }
+        unreachable!()
+    }
+
+    // Puts a job, if there is room. Else it hands it back.
+    fn put_if_room<R: Wait>(&self, rt: &R, end: &mut PutEnd, entry: Entry) -> Result<(), Entry>
         requires end { end.old.of ≡ self.now }
         ensures of { (end.new.of ≡ end.old.of) × (end.new.takers ≡ end.old.takers) }
         ensures state { end.new.closed ≡ end.old.closed }
-        ensures done { result ≡ true → end.new.put ≡ end.old.put ++ job.now ∷ [] }
-        ensures full { result ≡ false → end.new ≡ end.old }
+        ensures put { MatchResult result (λ _. end.new.put ≡ end.old.put ++ entry ∷ [])
+            (λ back. (back ≡ entry) × (end.new ≡ end.old)) }
     {
-        self.queue
-            .push_as::<Putting, R>(rt, &mut end.pass, *job)
-            .is_ok()
+        self.queue.push_as::<Putting, R>(rt, &mut end.pass, entry)
     }
 
     /// Takes the oldest job, and waits while there is none. Once the intake is closed and empty there comes none.
@@ -123,13 +142,13 @@ impl Intake {
         for _ in rt.forever() {
             // Whoever closes puts nothing afterwards. So if it is closed before this try, the try misses no job.
             let closed = self.waking.is_closed();
-            let job = self.pop(rt, end);
-            if job.is_some() {
+            if let Some(entry) = self.pop(rt, end) {
+                let job = self.boxes.order_of(rt, entry);
                 self.waking.count_taken(1);
                 if slept {
                     self.waking.call_one_more();
                 }
-                return job;
+                return Some(job);
             }
             if closed {
                 return None;
@@ -152,12 +171,10 @@ impl Intake {
     {
         let most = self.waking.share().min(row.capacity() as u64);
         for _ in 0..most {
-            let Some(job) = self.pop(rt, end) else {
+            let Some(entry) = self.pop(rt, end) else {
                 break;
             };
-            // The prover has to be told of the op's type.
-            let op: Op = job.op;
-            row.push_reserved(Order { op, ..job });
+            row.push_reserved(self.boxes.order_of(rt, entry));
         }
         if !row.is_empty() {
             self.waking.count_taken(row.len() as u64);
@@ -165,7 +182,7 @@ impl Intake {
     }
 
     // Takes the oldest job out of the queue, if there is one. Whoever calls it counts what it took.
-    fn pop<R: Wait>(&self, rt: &R, end: &mut TakeEnd) -> Option<Job>
+    fn pop<R: Wait>(&self, rt: &R, end: &mut TakeEnd) -> Option<Entry>
         requires end { end.old.of ≡ self.now }
         ensures same { end.new.of ≡ end.old.of }
         ensures taken { end.new.taken ≡ end.old.taken ++ option_to_list result }
@@ -220,11 +237,12 @@ impl Intake {
         }
         let Intake {
             queue,
+            boxes,
             waking: _waking,
         } = self;
         let PutEnd { pass, room, .. } = put;
         let pass = merged(&queue, pass, takes);
-        Ok(drained(rt, &queue, pass, room))
+        Ok(drained(rt, &queue, &boxes, pass, room))
     }
 }
 
@@ -247,7 +265,13 @@ fn merged(queue: &OrderQueue, pass: EndPass, takes: Vec<TakeEnd>) -> EndPass
 }
 
 // Takes out what is inside, by a pass that knows all that was put and taken.
-fn drained<R: Wait>(rt: &R, queue: &OrderQueue, pass: EndPass, room: Vec<Job>) -> Vec<Job>
+fn drained<R: Wait>(
+    rt: &R,
+    queue: &OrderQueue,
+    boxes: &FreeBoxes,
+    pass: EndPass,
+    room: Vec<Job>,
+) -> Vec<Job>
     requires pass { IsPassOf queue.now pass × (17 ≤ (view pass).shares) }
     requires room { (room.items ≡ []) × (64 ≤ vec_capacity room) }
     ensures left { (weight : Weight) → sum_by weight (view pass).put
@@ -257,12 +281,10 @@ fn drained<R: Wait>(rt: &R, queue: &OrderQueue, pass: EndPass, room: Vec<Job>) -
     let mut room = room;
     queue.learn_as::<Taking>(&mut pass);
     for _ in rt.forever() {
-        let Some(job) = queue.pop_as::<Taking, R>(rt, &mut pass) else {
+        let Some(entry) = queue.pop_as::<Taking, R>(rt, &mut pass) else {
             return room;
         };
-        // The prover has to be told of the op's type.
-        let op: Op = job.op;
-        room.push_reserved(Order { op, ..job });
+        room.push_reserved(boxes.order_of(rt, entry));
     }
     unreachable!()
 }

@@ -11,6 +11,7 @@
 #![tactic(auto)]
 
 mod ends;
+mod entry;
 mod intake;
 pub mod laws;
 mod rule;

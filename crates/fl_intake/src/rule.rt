@@ -1,5 +1,6 @@
 //! The rule of the queue: what each end knows, and how that fits to what is inside.
 
+use crate::entry::Entry;
 use crossbeam_queue::protocol::{Join, Lesson, Outcome, Protocol, Split};
 use crossbeam_queue::{Pass, RuledArrayQueue};
 use fl_order::Order;
@@ -16,7 +17,7 @@ pub struct Known {
 /// No order is lost, and none comes twice.
 pub struct Conserves;
 
-impl Protocol<Order, Known> for Conserves {
+impl Protocol<Entry, Known> for Conserves {
     ghost use Rattle.std.specs.Prelude.{[]};
     ghost use Rattle.fl_intake.specs.Inside.Conserved.{IsConserved, knows};
 
@@ -49,14 +50,14 @@ impl Join<Known> for Sharing {
 /// An end puts an order.
 pub struct Putting;
 
-impl Outcome<Order, Known> for Putting {
+impl Outcome<Entry, Known> for Putting {
     ghost use Rattle.std.specs.Prelude.{◌≡◌, [], ◌∷◌, ◌++◌};
     ghost use Rattle.fl_intake.specs.Inside.Conserved.{knows};
 
     ghost then = { λ old order new. new ≡ knows old.shares (old.put ++ order ∷ []) old.taken };
 }
 
-impl Lesson<Order, Known> for Putting {
+impl Lesson<Entry, Known> for Putting {
     ghost use Rattle.std.specs.Prelude.{⊤};
 
     ghost fact = { λ end inside. ⊤ };
@@ -65,20 +66,20 @@ impl Lesson<Order, Known> for Putting {
 /// An end takes an order.
 pub struct Taking;
 
-impl Outcome<Order, Known> for Taking {
+impl Outcome<Entry, Known> for Taking {
     ghost use Rattle.fl_intake.specs.Inside.Conserved.{HasTaken};
 
     ghost then = { HasTaken };
 }
 
-impl Lesson<Order, Known> for Taking {
+impl Lesson<Entry, Known> for Taking {
     ghost use Rattle.fl_intake.specs.Inside.Conserved.{IsTold};
 
     ghost fact = { IsTold };
 }
 
 /// The queue of an intake.
-pub type OrderQueue = RuledArrayQueue<Order, Known, Conserves>;
+pub type OrderQueue = RuledArrayQueue<Entry, Known, Conserves>;
 
 /// What an end holds of the queue. It has no bytes.
-pub type EndPass = Pass<Order, Known>;
+pub type EndPass = Pass<Entry, Known>;

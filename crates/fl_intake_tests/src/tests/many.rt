@@ -14,12 +14,12 @@ fn put_all<R: Wait + Abort>(rt: &R, intake: &Intake, put: &mut PutEnd, many: u64
     ensures { put.new.of ≡ intake.now }
 {
     for unique in 0..many {
-        assert!(rt; intake.put(rt, put, order(unique)).is_ok());
+        assert!(rt; intake.put(rt, put, order(rt, unique)).is_ok());
     }
 }
 
 // What an end takes at once, into a row with room for so many, are these.
-fn takes<R: Wait + Abort>(
+pub(super) fn takes<R: Wait + Abort>(
     rt: &R,
     alloc: Global,
     intake: &Intake,
@@ -36,12 +36,12 @@ fn takes<R: Wait + Abort>(
 }
 
 // What an end takes alone is this one.
-fn takes_one<R: Wait + Abort>(rt: &R, intake: &Intake, end: &mut TakeEnd, wanted: u64)
+pub(super) fn takes_one<R: Wait + Abort>(rt: &R, intake: &Intake, end: &mut TakeEnd, wanted: u64)
     requires { end.old.of ≡ intake.now }
     ensures { end.new.of ≡ intake.now }
 {
-    let order = intake.take(rt, end).expect(rt, "an order");
-    assert_eq!(rt; order.unique, wanted);
+    let found = intake.take(rt, end).expect(rt, "an order");
+    assert_eq!(rt; found, order(rt, wanted));
 }
 
 // An intake with five orders, its end that puts and its only end that takes.

@@ -2,6 +2,7 @@
 
 ghost use Rattle.std.specs.Prelude.{◌≡◌, [], All};
 
+use super::are_whole;
 use fl_intake::{Intake, MOST_JOBS, PutEnd, TakeEnd};
 use fl_order::{Op, Order};
 use std::alloc::Global;
@@ -87,8 +88,9 @@ fn next<R: Wait + Abort>(rt: &R, pool: &WorkerPool, end: &mut TakeEnd, row: &mut
     }
 }
 
-// Holds each order of a row, and notes its unique.
+// Holds each order of a row, which is whole, and notes its unique.
 fn hold_all(rt: &impl Abort, pool: &WorkerPool, row: &[Order], uniques: &mut Vec<u64>) {
+    are_whole(rt, row);
     for order in row {
         pool.hold(order.unique);
         uniques.push(order.unique).expect(rt, "memory");
