@@ -1,3 +1,3 @@
--- The rule of the queue. No contract of a public function cites these definitions.
+-- What lies in the queue, and the queue's rule. No contract of a public function cites these definitions.
 pub mod Boxed
 pub mod Conserved

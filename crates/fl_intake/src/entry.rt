@@ -5,7 +5,7 @@
 //! its name, and whoever takes the order copies the name out and sets the box free.
 
 ghost use Rattle.std.specs.Prelude.{◌≡◌, IfSome};
-ghost use Rattle.fl_intake.specs.Inside.Boxed.{unboxed};
+ghost use Rattle.fl_intake.specs.Inside.Boxed.{about, unboxed};
 
 use crate::intake::MOST_JOBS;
 use crossbeam_queue::ArrayQueue;
@@ -48,29 +48,24 @@ const _: () = prove!(size_of::<Option<Entry>>() <= 128);
 /// An [`Op`] whose name is boxed.
 #[derive(Drop)]
 pub enum BoxedOp {
-    Lookup(Box<Name>),
+    Named(Naming, Box<Name>),
     Forget(u64),
     Getattr,
-    Unlink(Box<Name>),
     Open,
-    Release {
-        fh: u64,
-        drop: bool,
-        owner: u64,
-    },
-    Flush {
-        fh: u64,
-        owner: u64,
-    },
-    Create {
-        excl: bool,
-        mode: u32,
-        name: Box<Name>,
-    },
+    Release { fh: u64, drop: bool, owner: u64 },
+    Flush { fh: u64, owner: u64 },
     Getlk(LockAsk),
     Setlk(LockAsk),
     Setlkw(LockAsk),
     Interrupt(u64),
+}
+
+/// What is asked about a name.
+#[derive(Clone, Copy)]
+pub enum Naming {
+    Lookup,
+    Unlink,
+    Create { excl: bool, mode: u32 },
 }
 
 /// The boxes that hold no name. What is still in one is the name of an earlier order.
@@ -112,13 +107,13 @@ impl FreeBoxes {
 
     // The same op, with its name in a box; none if it has a name and no box is free.
     fn boxed<R: Wait>(&self, rt: &R, op: &Op) -> Option<BoxedOp>
-        ensures { IfSome result (λ op'. unboxed op' ≡ op.now) }
+        ensures { IfSome result (λ boxed. unboxed boxed ≡ op.now) }
     {
         Some(match op {
-            Op::Lookup(name) => BoxedOp::Lookup(self.filled(rt, name)?),
+            Op::Lookup(name) => self.named(rt, Naming::Lookup, name)?,
             Op::Forget(n) => BoxedOp::Forget(*n),
             Op::Getattr => BoxedOp::Getattr,
-            Op::Unlink(name) => BoxedOp::Unlink(self.filled(rt, name)?),
+            Op::Unlink(name) => self.named(rt, Naming::Unlink, name)?,
             Op::Open => BoxedOp::Open,
             Op::Release { fh, drop, owner } => BoxedOp::Release {
                 fh: *fh,
@@ -129,11 +124,10 @@ impl FreeBoxes {
                 fh: *fh,
                 owner: *owner,
             },
-            Op::Create { excl, mode, name } => BoxedOp::Create {
-                excl: *excl,
-                mode: *mode,
-                name: self.filled(rt, name)?,
-            },
+            Op::Create { excl, mode, name } => {
+                let (excl, mode) = (*excl, *mode);
+                self.named(rt, Naming::Create { excl, mode }, name)?
+            }
             Op::Getlk(ask) => BoxedOp::Getlk(*ask),
             Op::Setlk(ask) => BoxedOp::Setlk(*ask),
             Op::Setlkw(ask) => BoxedOp::Setlkw(*ask),
@@ -141,13 +135,13 @@ impl FreeBoxes {
         })
     }
 
-    // A box with this name; none if no box is free.
-    fn filled<R: Wait>(&self, rt: &R, name: &Name) -> Option<Box<Name>>
-        ensures { IfSome result (λ boxed. boxed.value ≡ name.now) }
+    // The op that asks this about a name, which is written into a free box; none if no box is free.
+    fn named<R: Wait>(&self, rt: &R, asked: Naming, name: &Name) -> Option<BoxedOp>
+        ensures { IfSome result (λ op. unboxed op ≡ about asked name.now) }
     {
         let mut boxed = self.boxes.pop(rt)?;
         *boxed = *name;
-        Some(boxed)
+        Some(BoxedOp::Named(asked, boxed))
     }
 
     /// The order of an entry. Its box, if it has one, is free again.
@@ -177,18 +171,12 @@ impl FreeBoxes {
         ensures { result ≡ unboxed op }
     {
         match op {
-            BoxedOp::Lookup(name) => Op::Lookup(self.emptied(rt, name)),
+            BoxedOp::Named(asked, boxed) => self.about(rt, asked, boxed),
             BoxedOp::Forget(n) => Op::Forget(n),
             BoxedOp::Getattr => Op::Getattr,
-            BoxedOp::Unlink(name) => Op::Unlink(self.emptied(rt, name)),
             BoxedOp::Open => Op::Open,
             BoxedOp::Release { fh, drop, owner } => Op::Release { fh, drop, owner },
             BoxedOp::Flush { fh, owner } => Op::Flush { fh, owner },
-            BoxedOp::Create { excl, mode, name } => Op::Create {
-                excl,
-                mode,
-                name: self.emptied(rt, name),
-            },
             BoxedOp::Getlk(ask) => Op::Getlk(ask),
             BoxedOp::Setlk(ask) => Op::Setlk(ask),
             BoxedOp::Setlkw(ask) => Op::Setlkw(ask),
@@ -196,16 +184,25 @@ impl FreeBoxes {
         }
     }
 
-    // The name in a box, which is free again.
-    fn emptied<R: Wait>(&self, rt: &R, boxed: Box<Name>) -> Name
-        ensures { result ≡ boxed.value }
+    // The op that asks this about the name in a box, which is free again. It stands apart, so that room for a name is
+    // only made ready where there is one.
+    fn about<R: Wait>(&self, rt: &R, asked: Naming, boxed: Box<Name>) -> Op
+        ensures { result ≡ about asked boxed.value }
     {
-        let name = *boxed;
+        let op = match asked {
+            Naming::Lookup => Op::Lookup(*boxed),
+            Naming::Unlink => Op::Unlink(*boxed),
+            Naming::Create { excl, mode } => Op::Create {
+                excl,
+                mode,
+                name: *boxed,
+            },
+        };
         self.set_free(rt, boxed);
-        name
+        op
     }
 
-    // There is room for all boxes. One that had none would be given back to the heap.
+    // There is room for all boxes. One for which there were none would go back to the heap.
     fn set_free<R: Wait>(&self, rt: &R, boxed: Box<Name>) {
         let _ = self.boxes.push(rt, boxed);
     }
