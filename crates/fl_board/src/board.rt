@@ -145,8 +145,8 @@ impl<L: BoardName, R: Wait + Drop, J: Journal> Board<L, R, J> {
 
     /// Takes orders of the seat's worker one after another under one lock, each as `hand_in` does, and then publishes
     /// them together. It hands out the replies to each in `lists`, in the place of those before; `tolds` has room for
-    /// those to one. It may end before it took all, when there may be no room for the replies to one more, but takes
-    /// one at least, or is refused. A refusal concerns the first order that has no list.
+    /// those to one. It may end before it took all, when there may be no room for the replies to one more or no place
+    /// for their list. It takes one at least, or is refused. What is refused is the first order that has no list.
     pub fn hand_in_all<W: Wait>(
         &self,
         rt: &W,

@@ -79,9 +79,9 @@ impl<L: BoardName, R: Wait + Drop, J: Journal> Shared<L, R, J> {
         ensures all { OnOk result (history_of L.rules self.new ≡ seat.new.own) }
         ensures refused { OnErr result ((seat.new ≡ seat.old) × (tolds.new ≡ tolds.old) × (self.new ≡ self.old)) }
     {
-        let taken = self.record.take(seat, order, tolds);
+        self.record.take(seat, order, tolds)?;
         self.record.publish();
-        taken
+        Ok(())
     }
 
     /// Takes orders of the seat's worker, one after another, and publishes them together.

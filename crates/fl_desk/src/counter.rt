@@ -40,7 +40,7 @@ pub trait Counter {
 
     /// Takes orders one after another, and hands out a list of replies for each that it took: in `lists`, in the place
     /// of those before. `tolds` has room for the replies to one. It may end before it took all, but takes one at least,
-    /// or is refused. A refusal concerns the first order that has no list, and changes nothing.
+    /// or is refused. What is refused is the first order that has no list, and it changes nothing.
     fn hand_in_all<R: Wait>(
         &self,
         rt: &R,
@@ -75,10 +75,10 @@ pub trait Counter {
     fn pause<R: Wait>(&self, rt: &R);
 }
 
-/// A hook, called for each order that a worker took: for all of a row before the first is handed in, and after each
-/// reply that was given out to be sent.
+/// A hook, called for each order that a worker took: before one of its row is handed in or looked for, and after each
+/// reply that was given out to be sent. It must not wait for a reply to another order, which may be of the same row.
 pub trait Gate {
-    /// An order of this unique is about to be handed in.
+    /// An order of this unique is about to be handled.
     fn pass(&self, unique: u64);
 
     /// A reply of this unique was given out to be sent.

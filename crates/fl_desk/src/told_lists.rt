@@ -49,7 +49,8 @@ impl ToldLists {
     /// one may have under these rules.
     pub fn new(alloc: Global, rules: Rules) -> Result<ToldLists, NoMemory>
         ensures none { IfOk result (λ made. made.lists ≡ []) }
-        ensures room { IfOk result (λ made. (rules.parked + 1 ≤ made.room) × (0 < made.places)) }
+        ensures room { IfOk result (λ made. (made.room ≡ rules.parked + 16) × (made.free ≡ made.room)) }
+        ensures places { IfOk result (λ made. made.places ≡ 16) }
     {
         Ok(ToldLists {
             tolds: Vec::with_capacity(alloc, rules.parked as usize + MOST_IN_ROW)?,

@@ -4,7 +4,8 @@
 //! A replica takes an update only if it stands for the asks before that update, so folding never fails. Contracts let
 //! through:
 //! - a `look_at` that always gives none, or answers from an earlier copy;
-//! - a `ReplicaWriter` whose `new` or `reader` is always refused, or whose `add` ends as if memory had run out.
+//! - a `ReplicaWriter` whose `new` or `reader` is always refused, whose `add` ends as if memory had run out, or whose
+//!   `new` makes room for fewer updates.
 //! Tests of boards refuse these.
 #![tactic(auto)]
 

@@ -6,8 +6,9 @@
 //! workers leave. Contracts let through a `serve`
 //! - that refuses every order for memory;
 //! - that tells `Read` or `Write` early, `NoMemory` having read nothing, or `NoReader` with an empty history;
-//! - of which one worker does all, or a worker handles its orders in another order than it took them.
-//! `fl_serve_tests`, `fl_serve_clients_tests` and `fl_serve_failing_tests` refuse these; the last by `worker_loop`.
+//! - of which one worker does all, or a worker handles its orders in another order than it took them, or looks late.
+//! `fl_serve_tests`, `fl_serve_clients_tests` and `fl_serve_failing_tests` refuse these; another order is refused by
+//! `worker_loop`, and a late look by `fl_workers_tests`.
 #![tactic(auto)]
 
 mod finishing;

@@ -3,7 +3,7 @@ use Rattle.std.specs.Prelude.{◌≡◌, ℕ, ◌<◌, ◌≤◌, [], vec_capaci
 use Rattle.fl_workers.specs.declared.room.ReplyRoom.{ReplyRoom}
 use Rattle.fl_workers.specs.declared.room.RowRoom.{RowRoom}
 
--- there is room for the replies to orders of which each may be given so many
+-- there is room for so many replies, as many as one order may be given, and a place for their list
 abbrev pub HasRoomFor : ℕ → ReplyRoom → Type 0
 HasRoomFor most room = (most ≤ room.tolds.room) × (most ≤ room.lists.room) × (0 < room.lists.places)
 

@@ -1,6 +1,6 @@
 //! Room for a row of orders, and for the replies to it.
 
-ghost use Rattle.std.specs.Prelude.{◌+◌, IfOk};
+ghost use Rattle.std.specs.Prelude.{◌≡◌, ◌+◌, vec_capacity, IfOk};
 ghost use Rattle.fl_workers.specs.Room.{HasRoomFor, HasRowFor};
 
 use fl_core::{Rules, Tolds};
@@ -42,7 +42,8 @@ pub struct RowRoom {
 impl RowRoom {
     /// Room for 16 orders at most, and for the replies to them under these rules.
     pub fn new(alloc: Global, rules: Rules) -> Result<RowRoom, NoMemory>
-        ensures { IfOk result (λ room. HasRowFor (rules.parked + 1) room) }
+        ensures room { IfOk result (λ room. HasRowFor (rules.parked + 1) room) }
+        ensures row { IfOk result (λ room. vec_capacity room.row ≡ 16) }
     {
         Ok(RowRoom {
             row: Vec::with_capacity(alloc, MOST_IN_ROW)?,

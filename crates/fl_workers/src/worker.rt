@@ -115,8 +115,8 @@ pub fn worker_loop<R: Wait, C: Counter, G: Gate, W: Write, N: WriterName>(
 }
 
 /// Handles orders at one seat, one after another: it looks for those that only read, and hands in all others, and those
-/// for which nothing could be shown. Orders between two that only read are handed in together. It gives all replies to
-/// be sent; of an order that is refused, the reply that says so, if one is owed.
+/// for which nothing could be shown. Orders between two that only read are handed in together, at most 16 at a time. It
+/// gives all replies to be sent; of an order that is refused, the reply that says so, if one is owed.
 pub fn handle_all<R: Wait, C: Counter, G: Gate, W: Write, N: WriterName>(
     rt: &R,
     counter: &C,

@@ -22,7 +22,8 @@ pub record HasGiven (old new : Appended ReplyEntry) (lost lost_now : Bool) (answ
 abbrev pub given_now : Bool → List Response → List Response
 given_now over answers = if over then [] else answers
 
--- The session's own answers to these messages were given to be sent, but for what is left to answer a DESTROY.
+-- The session's own answers to these messages were given to be sent, or some of them if one was lost, but for what is
+-- left to answer a DESTROY.
 pub record AreAnswered (it : Reception) (over : Bool) (messages : List (List ℕ)) : Type 0 where
   pub answered : List Response
   pub own : own_answers messages ≡ answered ++ left_to_answer over it.goodbye

@@ -5,6 +5,7 @@ use super::handling::handled;
 use super::orders::{asked, lookups};
 use super::tally::{Tally, WILLING};
 use super::watch::Watch;
+use fl_testing::bytes_after;
 use std::alloc::Global;
 use std::process::Abort;
 use std::sync::Wait;
@@ -62,4 +63,31 @@ fn what_a_counter_leaves_is_handed_in_next(rt: HostRuntime) {
     let mut out = Vec::new(alloc);
     let came = handled(&rt, alloc, WILLING, &gate, &orders, &mut out);
     are_rows(&rt, &came, &[40, 24, 8]);
+}
+
+// The second looks at what the third locks.
+const A_LOOK_BEFORE_A_LOCK: &str = "\
+ask 0 2 1 0 0 0 create 0 420 61
+ask 0 3 2 0 0 0 getlk 1 8 0 9 1 12 0
+ask 0 4 2 0 0 0 setlk 1 7 0 9 1 11 0
+";
+
+// The replies to these two: no lock of bytes 0 to 9, and that it is set.
+const UNLOCKED: &str =
+    "2800000000000000030000000000000000000000000000000900000000000000020000000c00000010000000000000000400000000000000";
+
+fn ends_with(rt: &impl Abort, alloc: Global, out: &[u8], wanted: &str) {
+    let wanted = bytes_after(alloc, wanted, "").expect(rt, "hex");
+    assert!(rt; out.ends_with(&wanted));
+}
+
+#[test]
+fn a_look_shows_no_order_behind_it(rt: HostRuntime) {
+    let alloc = rt.alloc();
+    let orders = asked(&rt, alloc, A_LOOK_BEFORE_A_LOCK);
+    let gate = Watch::holding(None);
+    let mut out = Vec::new(alloc);
+    let came = handled(&rt, alloc, WILLING, &gate, &orders, &mut out);
+    are_rows(&rt, &came, &[1, 1]);
+    ends_with(&rt, alloc, &out, UNLOCKED);
 }
