@@ -10,8 +10,8 @@
 //! while no seat has handed in or was shown anything, and the seats are apart. Contracts let through:
 //! - a `look`, `hand_in` or `hand_in_all` that always says `NoView`, a `new` that is always refused, and a `meet` or
 //!   `close` that says `NoView` once something was handed in or shown;
-//! - a `hand_in_all` that always ends behind its first order, is refused where it may end, or takes the lock or publishes
-//!   for each order;
+//! - a `hand_in_all` that always ends behind its first order, is refused where it may end, or takes the lock or
+//!   publishes for each order;
 //! - a `hand_in` or `hand_in_all` that ends publication as if memory had run out: then every later look is `NoView`.
 //! `fl_board_tests` refuses these, the last by `a_seat_without_the_right_to_wait_is_shown_each_order`.
 #![tactic(auto)]

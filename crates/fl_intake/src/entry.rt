@@ -42,7 +42,8 @@ impl Model for Entry {
     } };
 }
 
-// A slot of the queue is of the size of two lines at most. It has 96 bytes, of which an entry takes 88. An order takes 296.
+// A slot of the queue is of the size of two lines at most. It has 96 bytes, of which an entry takes 88. An order takes
+// 296.
 const _: () = prove!(size_of::<Option<Entry>>() <= 128);
 
 /// An [`Op`] whose name is boxed.
