@@ -273,6 +273,8 @@ ENDS = [
     (destroys, "", []),
     *((closes_its_side(FIFTH[:size]), "cut\n", []) for size in (1, 3, 4, 41, 87)),
     *((closes_its_side(struct.pack("<I", it)), f"bad length {it}\n", []) for it in (0, 39, 8193, 2**32 - 1)),
+    # Nothing is read behind a bad length.
+    (closes_its_side(BAD + FIFTH), "bad length 39\n", []),
     (is_reset, "read failed\n", [SET]),
     (reads_no_more(), "write failed\n", [SET]),
     (closes_before_it_is_answered, "write failed\n", [SET]),
