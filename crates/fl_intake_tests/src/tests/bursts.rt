@@ -103,7 +103,7 @@ fn goes_through<R: Threads + Wait + Sync + Abort, P: Putter>(
 #[test]
 fn each_order_is_taken_once(rt: HostRuntime) {
     let alloc = rt.alloc();
-    for _ in 0..100 {
+    for _ in 0..25 {
         goes_through(&rt, alloc, 1, 0, &Growing, ORDERS);
         goes_through(&rt, alloc, 2, 0, &Growing, ORDERS);
         goes_through(&rt, alloc, 4, 0, &Growing, ORDERS);
