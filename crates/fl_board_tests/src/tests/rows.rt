@@ -4,12 +4,12 @@ ghost use Rattle.std.specs.Prelude.{◌≡◌, ◌<◌, ◌≤◌, ◌+◌};
 ghost use Rattle.fl_core.specs.Tolds.{HasRoom};
 
 use super::fair::are_same;
-use super::{closed, new_tolds, opened, order};
+use super::{closed, create, new_tolds, opened, order, upto};
 use fl_board::{Ask, Board, BoardName, FreshLog, Seat};
 use fl_core::{Rules, Tolds};
 use fl_desk::ToldLists;
-use fl_history::{History, Line};
-use fl_order::{Op, Order};
+use fl_history::History;
+use fl_order::{LockAsk, Op, Order};
 use fl_trace::read_trace;
 use std::alloc::Global;
 use std::marker::Brand;
@@ -23,24 +23,27 @@ ask 0 1 1 0 0 0 create 0 420 61
 tell 1 made 2 33188 1 0 0 1
 ask 0 2 2 0 0 0 setlk 1 7 0 0 1 11 0
 tell 2 ok
-ask 0 3 2 0 0 0 setlkw 1 8 0 0 1 12 0
-ask 0 4 2 0 0 0 setlk 1 9 0 0 1 13 0
+ask 0 3 2 0 0 0 setlkw 1 8 0 0 1 11 0
+ask 0 4 2 0 0 0 setlk 1 9 0 0 1 11 0
 tell 4 err 11
 ask 0 5 2 0 0 0 setlk 1 7 0 0 2 11 0
 tell 5 ok
 tell 3 ok
 ";
 
-// The orders of a history.
-fn orders_of(rt: &impl Abort, alloc: Global, history: &History) -> Vec<Order> {
-    let mut orders = Vec::new(alloc);
-    for at in 0..history.len() {
-        if let Line::Asked { worker: _, order } = history.line(at) {
-            let order: Order = order;
-            orders.push(order).expect(rt, "memory");
-        }
-    }
-    orders
+// The orders of this trace.
+fn row(rt: &impl Abort) -> [Order; 5] {
+    let unlock = LockAsk {
+        kind: 2,
+        ..upto(7, 0)
+    };
+    [
+        create(rt),
+        order(2, 2, Op::Setlk(upto(7, 0))),
+        order(3, 2, Op::Setlkw(upto(8, 0))),
+        order(4, 2, Op::Setlk(upto(9, 0))),
+        order(5, 2, Op::Setlk(unlock)),
+    ]
 }
 
 // A row that is handed in whole. It gets a list of replies for each order that was taken.
@@ -115,8 +118,7 @@ fn handed<R: Wait + Abort>(rt: &R, alloc: Global, row: &[Order], wanted: &[usize
 fn a_row_is_answered_as_its_orders_one_after_another(rt: HostRuntime) {
     let text = AN_UNLOCK_IN_A_ROW_FREES_AN_ORDER_OF_THE_ROW;
     let trace = read_trace(rt.alloc(), text.as_bytes()).expect(&rt, "a trace");
-    let row = orders_of(&rt, rt.alloc(), &trace);
-    let history = handed(&rt, rt.alloc(), &row, &[1, 1, 0, 1, 2]);
+    let history = handed(&rt, rt.alloc(), &row(&rt), &[1, 1, 0, 1, 2]);
     are_same(&rt, &history, &trace);
 }
 
