@@ -21,7 +21,7 @@ pub record State : Type 0 where
 abbrev pub opening : Rules → State
 opening rules = record {
   rules = rules;
-  view = record { directory = opening_listing; parked = [] };
+  view = record { directory = opening_listing rules.files rules.open_files; parked = [] };
   changes = [];
 }
 

@@ -63,8 +63,8 @@ impl Parts {
     {
         Ok(Parts {
             rules,
-            directory: Dir::new(alloc)?,
-            locks: Table::new(alloc, rules.runs)?,
+            directory: Dir::new(alloc, rules.files, rules.open_files)?,
+            locks: Table::new(alloc, rules.runs, chains_for(rules.files))?,
             parked: Parked::new(alloc)?,
         })
     }
@@ -210,6 +210,16 @@ impl Parts {
         release_locks(&mut self.locks, node, drop, owner, closed.last);
         Ok(Answer::Done)
     }
+}
+
+// On how many chains the rows of locks stand: on as many as there may be files, so that those of other files cost
+// nothing, but at least 256, and at most 32,768.
+fn chains_for(files: u32) -> u32
+    requires { files ≤ 65536 }
+    ensures some { 1 ≤ result }
+    ensures few { result ≤ 32768 }
+{
+    files.next_power_of_two().clamp(256, 32_768)
 }
 
 // The own reply of an order that goes to the directory alone, with its change made; none of any other, or of a FORGET.

@@ -46,14 +46,19 @@ wishes parked = filter_map wish_of parked
 
 -- ---- who waits
 
--- no request waits behind another, and there are at most 4096 runs of locked bytes and 256 parked requests
+-- no request waits behind another, and there are at most 4096 runs of locked bytes, 256 parked requests, 256 files
+-- and 1024 open files
 abbrev pub standard : Rules
 standard = record {
   fair = false;
   runs = 4096;
   parked = 256;
+  files = 256;
+  open_files = 1024;
   some_runs = (lit≤ tt, lit≤ tt);
   some_parked = (lit≤ tt, lit≤ tt);
+  some_files = (lit≤ tt, lit≤ tt);
+  some_open = (lit≤ tt, lit≤ tt);
 }
 
 -- an older wish blocks another one: of another owner, for the same node, with a byte in common, and one of the two

@@ -14,4 +14,4 @@ mod rules;
 
 pub use claim::Claim;
 pub use parked::{MOST_PARKED, Parked, Request};
-pub use rules::{MOST_RUNS, Rules};
+pub use rules::{MOST_FILES, MOST_OPEN, MOST_RUNS, Rules};

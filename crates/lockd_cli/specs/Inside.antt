@@ -6,7 +6,7 @@ use Rattle.std.specs.String.{string_bytes}
 use Rattle.clap.specs.Words.{Text, first_value, found_of, one_text, rows_of, subcommand_name_of, subcommand_rows_of}
 use Rattle.clap.specs.declared.parser.matches.ArgMatches.{ArgMatches}
 use Rattle.clap.specs.declared.parser.matches.Found.{Found}
-use Rattle.fl_waiting.specs.Limits.{AllowsParked, AllowsRuns}
+use Rattle.fl_waiting.specs.Limits.{AllowsFiles, AllowsOpen, AllowsParked, AllowsRuns}
 use Rattle.fl_waiting.specs.Waiting.{standard}
 use Rattle.fl_waiting.specs.declared.rules.Rules.{Rules}
 use Rattle.lockd_cli.specs.declared.options.Asked.{Asked}
@@ -41,6 +41,8 @@ SayRules found rules =
     IsFlagOf (one_text found (codes "fair")) rules.fair
     × IsNumberOf (one_text found (codes "runs")) AllowsRuns standard.runs rules.runs
     × IsNumberOf (one_text found (codes "parked")) AllowsParked standard.parked rules.parked
+    × IsNumberOf (one_text found (codes "files")) AllowsFiles standard.files rules.files
+    × IsNumberOf (one_text found (codes "open")) AllowsOpen standard.open_files rules.open_files
 
 -- orders are refused if that is said, and else they go on
 abbrev pub SaysWhenFull : Found → WhenFull → Type 0

@@ -5,7 +5,7 @@ use crate::options::MOST_WORKERS;
 use crate::version::VERSION;
 use clap::builder::ValueParser;
 use clap::{Arg, ArgAction, Command, Error};
-use fl_waiting::{MOST_PARKED, MOST_RUNS};
+use fl_waiting::{MOST_FILES, MOST_OPEN, MOST_PARKED, MOST_RUNS};
 use std::alloc::Global;
 
 // What may be said of a trace that can't be written; the first if nothing is.
@@ -125,7 +125,12 @@ fn with_rules<'a>(alloc: Global, command: Command<'a>) -> Result<Command<'a>, Er
         "fair",
         "Lets a request for a record lock wait behind an older one that waits and excludes it",
     );
-    let command = command.arg(fair)?;
+    let command = with_locks(alloc, command.arg(fair)?)?;
+    with_files(alloc, command)
+}
+
+// A command with the options that say how many locks and parked requests there may be.
+fn with_locks<'a>(alloc: Global, command: Command<'a>) -> Result<Command<'a>, Error> {
     let runs = number(
         alloc,
         "runs",
@@ -140,6 +145,24 @@ fn with_rules<'a>(alloc: Global, command: Command<'a>) -> Result<Command<'a>, Er
         MOST_PARKED as i64,
     );
     Ok(command.arg(parked)?)
+}
+
+// A command with the options that say how many files and open files there may be.
+fn with_files<'a>(alloc: Global, command: Command<'a>) -> Result<Command<'a>, Error> {
+    let files = number(
+        alloc,
+        "files",
+        "How many files there may be, 1 to 65536; 256, if not said",
+        i64::from(MOST_FILES),
+    );
+    let command = command.arg(files)?;
+    let open = number(
+        alloc,
+        "open",
+        "How many files may be open at once, 1 to 65536; 1024, if not said",
+        i64::from(MOST_OPEN),
+    );
+    Ok(command.arg(open)?)
 }
 
 // The socket of a server.

@@ -3,7 +3,7 @@
 ghost use Rattle.std.specs.Prelude.{◌≡◌, ◌↔◌, ◌≤◌, ◌<◌, ◌^◌, ℕ, List, None, Some, IfOk, codes};
 ghost use Rattle.std.specs.String.{string_bytes};
 ghost use Rattle.clap.specs.Matches.{found_of, one_text};
-ghost use Rattle.fl_waiting.specs.Limits.{AllowsRuns, AllowsParked};
+ghost use Rattle.fl_waiting.specs.Limits.{AllowsRuns, AllowsParked, AllowsFiles, AllowsOpen};
 ghost use Rattle.lockd_cli.specs.Inside.{Ask, AsksFor, SayRules, SaysTrace, SaysWhenFull, Spells, socket_said, word_of};
 ghost use Rattle.lockd_cli.specs.Numbers.{HasWorkers};
 
@@ -11,7 +11,7 @@ use crate::command::lockd;
 use crate::usage_error::UsageError;
 use clap::ArgMatches;
 use clap::error::ErrorKind;
-use fl_waiting::{MOST_PARKED, MOST_RUNS, Rules};
+use fl_waiting::{MOST_FILES, MOST_OPEN, MOST_PARKED, MOST_RUNS, Rules};
 use std::alloc::Global;
 
 /// The most workers of a server.
@@ -110,10 +110,15 @@ fn rules_of(options: &ArgMatches<'_>) -> Rules
     ensures { SayRules (found_of options.now) result }
 {
     let standard = Rules::standard();
-    rules_with(
+    let rules = rules_with(
         options.get_flag("fair"),
         number_of(options, "runs").unwrap_or(standard.runs),
         number_of(options, "parked").unwrap_or(standard.parked),
+    );
+    with_files(
+        rules,
+        number_of(options, "files").unwrap_or(standard.files),
+        number_of(options, "open").unwrap_or(standard.open_files),
     )
 }
 
@@ -137,6 +142,17 @@ fn rules_with(fair: bool, runs: u32, parked: u32) -> Rules
     let parked = parked.clamp(1, MOST_PARKED as u32);
     let rules = Rules::standard().with_fair(fair);
     rules.with_limits(runs, parked).unwrap()
+}
+
+// The same rules with these numbers of files and open files, in the same way.
+fn with_files(rules: Rules, files: u32, open_files: u32) -> Rules
+    ensures files { AllowsFiles files → result.files ≡ files }
+    ensures open_files { AllowsOpen open_files → result.open_files ≡ open_files }
+    ensures others { (result.fair ≡ rules.fair) × (result.runs ≡ rules.runs) × (result.parked ≡ rules.parked) }
+{
+    let files = files.clamp(1, MOST_FILES);
+    let open_files = open_files.clamp(1, MOST_OPEN);
+    rules.with_files(files, open_files).unwrap()
 }
 
 // What the options of `serve` ask for; four workers, if no number of them is there.
