@@ -15,5 +15,5 @@ mod numbered;
 #[cfg(test)]
 mod tests;
 
-pub use dir::{Closed, Dir, ROOT};
+pub use dir::{Closed, Dir, MOST_FILES, MOST_OPEN, ROOT};
 pub use node::Node;
