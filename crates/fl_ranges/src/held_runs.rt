@@ -14,12 +14,13 @@ use std::alloc::{AllocError, Global};
 use std::cmp::Ordering;
 
 impl Table {
-    ghost use Rattle.fl_ranges.specs.HeldRuns.{runs_in_order};
+    ghost use Rattle.fl_ranges.specs.HeldRuns.{runs_in_order, ConflictAsMarks};
 
     /// The locks that are held, as runs of bytes: by node, then record locks before whole-file locks, then by first
     /// byte, then by owner. It fails only if memory runs out.
     pub fn held_runs(&self, alloc: Global) -> Result<Vec<Run>, AllocError>
-        ensures { IfOk result (λ runs. runs.items ≡ runs_in_order self.now.marking) }
+        ensures runs { IfOk result (λ runs. runs.items ≡ runs_in_order self.now.marking) }
+        ensures conflicts { IfOk result (λ runs. ConflictAsMarks self.now.marking runs.items) }
     {
         let mut runs = all_runs(alloc, &self.rows, CHAINS)?;
         runs.sort_unstable_by(|a, b| compare(a, b));
