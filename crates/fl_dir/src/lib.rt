@@ -9,6 +9,7 @@ mod chain;
 mod dir;
 mod files;
 mod names;
+mod naming;
 mod node;
 mod nodes;
 mod numbered;
