@@ -5,7 +5,6 @@ ghost use Rattle.fl_spans.specs.Row.{spans_at};
 ghost use Rattle.fl_ranges.specs.HeldRuns.{listing_cmp};
 ghost use Rattle.fl_ranges.specs.Inside.LockRows.{run_of, runs_in, table_runs};
 
-use crate::chain::CHAINS;
 use crate::lock::{Key, Mark};
 use crate::run::Run;
 use crate::table::Table;
@@ -22,7 +21,7 @@ impl Table {
         ensures runs { IfOk result (λ runs. runs.items ≡ runs_in_order self.now.marking) }
         ensures conflicts { IfOk result (λ runs. ConflictAsMarks self.now.marking runs.items) }
     {
-        let mut runs = all_runs(alloc, &self.rows, CHAINS)?;
+        let mut runs = all_runs(alloc, &self.rows)?;
         runs.sort_unstable_by(|a, b| compare(a, b));
         Ok(runs)
     }
@@ -39,16 +38,11 @@ fn compare(a: &Run, b: &Run) -> Ordering
 }
 
 // The runs of all rows, chain after chain.
-fn all_runs(
-    alloc: Global,
-    table: &Rows<Key, Span<Mark>>,
-    chains: usize,
-) -> Result<Vec<Run>, AllocError>
-    requires { chain_count table.now ≡ chains }
+fn all_runs(alloc: Global, table: &Rows<Key, Span<Mark>>) -> Result<Vec<Run>, AllocError>
     ensures { IfOk result (λ runs. runs.items ≡ table_runs table.now) }
 {
     let mut runs = Vec::new(alloc);
-    for chain in 0..chains {
+    for chain in 0..table.chain_count() {
         add_chain(&mut runs, table, chain)?;
     }
     Ok(runs)
