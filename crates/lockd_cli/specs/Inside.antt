@@ -1,6 +1,7 @@
 -- What a command line asks for, step by step: by the texts that `clap` found for its options. No contract of a public
 -- function cites these definitions.
-use Rattle.std.specs.Prelude.{◌≡◌, ◌≢◌, ◌≤◌, ◌⊎◌, ℕ, Bool, true, false, List, [], Option, None, Some, codes, unwrap_or}
+use Rattle.std.specs.Prelude.{◌≡◌, ◌≢◌, ◌≤◌, ◌<◌, ◌^◌, ◌⊎◌, ℕ, Bool, true, false, List, [], Option, None, Some, codes}
+use Rattle.std.specs.Prelude.{option_map, unwrap_or}
 use Rattle.std.specs.Str.Parse.{IsNumeral, digits_value, without_leading_plus}
 use Rattle.std.specs.String.{string_bytes}
 use Rattle.clap.specs.Words.{Text, first_value, found_of, one_text, rows_of, subcommand_name_of, subcommand_rows_of}
@@ -28,6 +29,11 @@ AllowsWorkers workers = (1 ≤ workers) × (workers ≤ 16)
 abbrev pub IsNumberOf : Option (List ℕ) → (ℕ → Type 0) → ℕ → ℕ → Type 0
 IsNumberOf None Allows usual number = number ≡ usual
 IsNumberOf (Some text) Allows usual number = (n : ℕ) → Spells text n → Allows n → number ≡ n
+
+-- the option's number is the one that its text spells, and none if it has no text
+abbrev pub IsNumberSaid : Option (List ℕ) → Option ℕ → Type 0
+IsNumberSaid None said = said ≡ None
+IsNumberSaid (Some text) said = (n : ℕ) → Spells text n → n < 2 ^ 32 → said ≡ Some n
 
 -- the flag is set if its text is true, and not if that is false or there is none
 abbrev pub IsFlagOf : Option (List ℕ) → Bool → Type 0
@@ -67,6 +73,10 @@ Ask found (asked.Script rules) = SayRules found rules
 Ask found (asked.Bytes rules) = SayRules found rules
 Ask found (asked.Check quiet cut rules) =
     IsFlagOf (one_text found (codes "quiet")) quiet × IsFlagOf (one_text found (codes "cut")) cut × SayRules found rules
+Ask found (asked.Locks at file json rules) =
+    IsNumberSaid (one_text found (codes "at")) at
+    × (option_map string_bytes file ≡ first_value found (codes "file"))
+    × IsFlagOf (one_text found (codes "json")) json × SayRules found rules
 Ask found (asked.Serve socket workers trace rules) =
     (string_bytes socket ≡ socket_said found)
     × IsNumberOf (one_text found (codes "workers")) AllowsWorkers 4 workers
@@ -79,6 +89,7 @@ abbrev pub word_of : Asked → Text
 word_of (asked.Script rules) = codes "script"
 word_of (asked.Bytes rules) = codes "bytes"
 word_of (asked.Check quiet cut rules) = codes "check"
+word_of (asked.Locks at file json rules) = codes "locks"
 word_of (asked.Serve socket workers trace rules) = codes "serve"
 word_of (asked.Drive socket) = codes "drive"
 word_of asked.Version = codes "--version"
@@ -91,7 +102,7 @@ IsSaid matches name found = subcommand_rows_of matches ≡ Some (name, rows_of f
 abbrev pub SaysNone : Option Text → Type 0
 SaysNone said =
     (said ≢ Some (codes "script")) × (said ≢ Some (codes "bytes")) × (said ≢ Some (codes "check"))
-    × (said ≢ Some (codes "serve")) × (said ≢ Some (codes "drive"))
+    × (said ≢ Some (codes "locks")) × (said ≢ Some (codes "serve")) × (said ≢ Some (codes "drive"))
 
 -- The words that `clap` took ask for this: by its command and the options of that, or for `script` by options alone, if
 -- no command was said.

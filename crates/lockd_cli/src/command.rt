@@ -22,6 +22,7 @@ pub(crate) fn lockd<'a>(alloc: Global) -> Result<Command<'a>, Error> {
     let lockd = with_command(lockd, script(alloc));
     let lockd = with_command(lockd, bytes(alloc));
     let lockd = with_command(lockd, check(alloc));
+    let lockd = with_command(lockd, locks(alloc));
     let lockd = with_command(lockd, serve(alloc));
     with_command(lockd, drive(alloc))
 }
@@ -64,6 +65,16 @@ fn check<'a>(alloc: Global) -> Result<Command<'a>, Error> {
         "Takes the trace of a killed server: drops what follows the last newline, and prints begins, with status 0, where only replies are missing at the end; --quiet prints nothing after begins",
     );
     with_rules(alloc, check.arg(cut)?)
+}
+
+fn locks<'a>(alloc: Global) -> Result<Command<'a>, Error> {
+    let locks = Command::new(alloc, "locks").about(
+        "Lists the locks that are held and the requests that wait after the lines of the trace on standard input, which may be cut off",
+    );
+    let locks = locks.arg(at(alloc))?;
+    let locks = locks.arg(file(alloc))?;
+    let json = flag(alloc, "json", "Prints one line of JSON and no table");
+    with_rules(alloc, locks.arg(json)?)
 }
 
 fn serve<'a>(alloc: Global) -> Result<Command<'a>, Error> {
@@ -163,6 +174,26 @@ fn with_files<'a>(alloc: Global, command: Command<'a>) -> Result<Command<'a>, Er
         i64::from(MOST_OPEN),
     );
     Ok(command.arg(open)?)
+}
+
+// After how many lines of a trace.
+fn at<'a>(alloc: Global) -> Arg<'a> {
+    Arg::new(alloc, "at")
+        .long("at")
+        .value_name("N")
+        .help("Lists them after the first N lines; after all, if not said")
+        .action(ArgAction::Set)
+        .value_parser(clap::value_parser!(u32))
+}
+
+// Of which file.
+fn file<'a>(alloc: Global) -> Arg<'a> {
+    Arg::new(alloc, "file")
+        .long("file")
+        .value_name("NAME")
+        .help("Lists those of the file of this name alone")
+        .action(ArgAction::Set)
+        .value_parser(ValueParser::NonEmptyString)
 }
 
 // The socket of a server.

@@ -1,8 +1,9 @@
 //! What a command line asks for, read by `clap`.
 
-ghost use Rattle.std.specs.Prelude.{◌≡◌, ◌↔◌, ◌≤◌, ◌<◌, ◌^◌, ℕ, List, None, Some, IfOk, codes};
+ghost use Rattle.std.specs.Prelude.{◌≡◌, ◌↔◌, ◌≤◌, ◌<◌, ◌^◌, ℕ, List, None, Some, IfOk, codes, option_map};
 ghost use Rattle.std.specs.String.{string_bytes};
 ghost use Rattle.clap.specs.Matches.{found_of, one_text};
+ghost use Rattle.clap.specs.Words.{first_value};
 ghost use Rattle.fl_waiting.specs.Limits.{AllowsRuns, AllowsParked, AllowsFiles, AllowsOpen};
 ghost use Rattle.lockd_cli.specs.Inside.{Ask, AsksFor, SayRules, SaysTrace, SaysWhenFull, Spells, socket_said, word_of};
 ghost use Rattle.lockd_cli.specs.Numbers.{HasWorkers};
@@ -35,6 +36,17 @@ pub enum Asked {
         /// Whether the trace may be cut off.
         cut: bool,
         /// The rules by which it is judged.
+        rules: Rules,
+    },
+    /// Lists the locks after a trace's lines.
+    Locks {
+        /// After how many of its lines; after all, if that isn't said.
+        at: Option<u32>,
+        /// The name of the file whose locks are listed; of all files, if that isn't said.
+        file: Option<String>,
+        /// Whether they are a line of JSON, and not a table.
+        json: bool,
+        /// The rules by which the trace was made.
         rules: Rules,
     },
     /// Serves a socket.
@@ -99,6 +111,7 @@ fn asked_by(alloc: Global, matches: &ArgMatches<'_>) -> Result<Asked, UsageError
             cut: options.get_flag("cut"),
             rules: rules_of(options),
         }),
+        Some(("locks", options)) => locks_of(alloc, options),
         Some(("serve", options)) => serve_of(alloc, options),
         Some(("drive", options)) => Ok(Asked::Drive(socket_of(alloc, options)?)),
         _ => Ok(Asked::Script(rules_of(matches))),
@@ -153,6 +166,31 @@ fn with_files(rules: Rules, files: u32, open_files: u32) -> Rules
     let files = files.clamp(1, MOST_FILES);
     let open_files = open_files.clamp(1, MOST_OPEN);
     rules.with_files(files, open_files).unwrap()
+}
+
+// What the options of `locks` ask for.
+fn locks_of(alloc: Global, options: &ArgMatches<'_>) -> Result<Asked, UsageError>
+    ensures workers { IfOk result HasWorkers }
+    ensures locks { IfOk result (λ asked. word_of asked ≡ codes "locks") }
+    ensures said { IfOk result (Ask (found_of options.now)) }
+{
+    let file = file_of(alloc, options)?;
+    Ok(Asked::Locks {
+        at: number_of(options, "at"),
+        file,
+        json: options.get_flag("json"),
+        rules: rules_of(options),
+    })
+}
+
+// The name of the file that the options say.
+fn file_of(alloc: Global, options: &ArgMatches<'_>) -> Result<Option<String>, UsageError>
+    ensures { IfOk result (λ file. option_map string_bytes file ≡ first_value (found_of options.now) (codes "file")) }
+{
+    match options.get_str("file") {
+        None => Ok(None),
+        Some(name) => Ok(Some(String::from_str(alloc, name)?)),
+    }
 }
 
 // What the options of `serve` ask for; four workers, if no number of them is there.

@@ -27,6 +27,12 @@ returns-in-Some-check-default-clause-said c =
     ((quiet.none, quiet.value, quiet.other), (cut.none, cut.value, cut.other), c.rules_of-in-Some-check-default.ensures) in
     inl (found, said, asks)
 
+pub returns-in-Some-locks-default-clause-said : goal.returns-in-Some-locks-default-clause-said
+returns-in-Some-locks-default-clause-said c =
+    let found = found_of c.in-Some-locks-default.options.now in
+    let said = is_said c.args.matches.now (codes "locks") found (search rules) (search rules) in
+    asked_so c.args.matches.now (codes "locks") found c.locks_of.result said c.locks_of.ensures.locks c.locks_of.ensures.said
+
 pub returns-in-Some-serve-default-clause-said : goal.returns-in-Some-serve-default-clause-said
 returns-in-Some-serve-default-clause-said c =
     let found = found_of c.in-Some-serve-default.options.now in
