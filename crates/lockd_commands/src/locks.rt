@@ -1,0 +1,138 @@
+//! `lockd locks`: lists who holds what, and who waits, after the lines of a trace.
+
+ghost use Rattle.std.specs.Prelude.{◌≡◌, ◌≢◌, ℕ, string_bytes, Err, IfOk, IfErr};
+ghost use Rattle.std.specs.Io.KnownBytes.{Keeps};
+ghost use Rattle.fl_judge.specs.First.{IsSoOfAll, IsWithin};
+ghost use Rattle.fl_judge.specs.Audit.{whole_lines};
+ghost use Rattle.fl_locks.specs.LockRows.{rows_of};
+ghost use Rattle.fl_trace.specs.Text.{BreaksAt, LineFits};
+ghost use Rattle.lockd_commands.specs.Faults.{IsOfText};
+ghost use Rattle.lockd_commands.specs.Locks.{is_called, of_file, rows_text, IsListed, IsListedInPart, IsToldDifferent};
+ghost use Rattle.lockd_commands.specs.Locks.Inside.{IsAnswer};
+ghost use Rattle.lockd_faults.specs.Faults.{IsTold};
+ghost use Rattle.lockd_faults.specs.declared.fault.CommandFault.{CommandFault};
+
+use crate::check::fault_of;
+use fl_core::{Core, Rules};
+use fl_desk::Verdict;
+use fl_judge::{Judge, hear_first};
+use fl_lock_text::{lock_json, lock_table};
+use fl_locks::{LockRow, lock_rows};
+use fl_order::Name;
+use lockd_faults::{CommandFault, Status, end, write_all};
+use std::alloc::Global;
+use std::io::{Read, Write};
+
+/// The options of `lockd locks`.
+#[derive(Clone, Copy)]
+pub struct LocksOptions<'a> {
+    /// `--at`: how many lines of the trace are heard at most; all, if that isn't said.
+    pub at: Option<usize>,
+    /// `--file`: the name of the file whose locks are listed; those of all files, if that isn't said.
+    pub file: Option<&'a [u8]>,
+    /// `--json`: whether they are a line of JSON, and not a table.
+    pub json: bool,
+}
+
+// What is said of a trace.
+#[derive(Drop)]
+enum Answer {
+    // The list.
+    Listed(String),
+    // Which line is the first that breaks the rules.
+    Differs(String),
+}
+
+/// `lockd locks`: reads a trace, and writes which locks are held and which requests wait once the replies are told too
+/// that it lacks at its end. The text after the last newline is dropped, so the trace may be cut off, or still be
+/// written. A trace that isn't legal under these rules gets a line `differs N` on `faults`, and nothing on the output.
+/// All input is read before any output, in memory that doesn't grow with it. A fault is one line on `faults`.
+pub fn locks_on<R: Read, W: Write, F: Write>(
+    alloc: Global,
+    rules: Rules,
+    options: LocksOptions<'_>,
+    input: &mut R,
+    output: &mut W,
+    faults: &mut F,
+) -> Status
+    ensures listed { result ≡ Status.Good →
+        IsListed rules options (R.remaining input.old) (W.contents output.old) (W.contents output.new) }
+    ensures differs { result ≡ Status.Different →
+        IsToldDifferent rules options (R.remaining input.old) (F.contents faults.old) (F.contents faults.new) }
+
+    // The first n - 1 lines are lines of a trace, and the next is none.
+    ensures bad { (n : ℕ) → result ≡ Status.Faulted (CommandFault.BadLine n) → IsSoOfAll (R.remaining input.old)
+        (λ text. BreaksAt LineFits (whole_lines text) n × IsWithin options.at n) }
+
+    // Only a write that fails leaves anything on the output: a beginning of the list.
+    ensures begun { result ≡ Status.Faulted CommandFault.Write →
+        IsListedInPart rules options (R.remaining input.old) (W.contents output.old) (W.contents output.new) }
+    ensures kept { (fault : CommandFault) → result ≡ Status.Faulted fault → fault ≢ CommandFault.Write →
+        Keeps (W.contents output.old) (W.contents output.new) }
+    ensures none { result ≡ Status.Different → Keeps (W.contents output.old) (W.contents output.new) }
+    ensures faulted { (fault : CommandFault) → result ≡ Status.Faulted fault →
+        IsOfText fault × IsTold fault (F.contents faults.old) (F.contents faults.new) }
+    ensures quiet { result ≡ Status.Good → Keeps (F.contents faults.old) (F.contents faults.new) }
+{
+    match answer(alloc, rules, options, input) {
+        Ok(Answer::Listed(text)) => end(faults, write_all(output, text.as_bytes())),
+        Ok(Answer::Differs(text)) => {
+            let _ = write_all(faults, text.as_bytes());
+            Status::Different
+        }
+        Err(fault) => end(faults, Err(fault)),
+    }
+}
+
+// What is said of a trace, which is read to its end.
+fn answer<R: Read>(
+    alloc: Global,
+    rules: Rules,
+    options: LocksOptions<'_>,
+    input: &mut R,
+) -> Result<Answer, CommandFault>
+    ensures answers { IfOk result (IsAnswer rules options (R.remaining input.old)) }
+    ensures bad { IfErr result (λ fault. (n : ℕ) → fault ≡ CommandFault.BadLine n → IsSoOfAll (R.remaining input.old)
+        (λ text. BreaksAt LineFits (whole_lines text) n × IsWithin options.at n)) }
+    ensures fault { IfErr result (λ fault. IsOfText fault × (fault ≢ CommandFault.Write)) }
+{
+    let judge = match hear_first(alloc, rules, options.at, input) {
+        Ok(judge) => judge,
+        Err(fault) => return Err(fault_of(fault)),
+    };
+    match judge.present() {
+        Some(core) => Ok(Answer::Listed(list_of(alloc, core, options)?)),
+        None => Ok(Answer::Differs(difference(alloc, &judge)?)),
+    }
+}
+
+// The list of the locks that a core has.
+fn list_of(
+    alloc: Global,
+    core: &Core,
+    options: LocksOptions<'_>,
+) -> Result<String, CommandFault>
+    ensures text { IfOk result (λ text.
+        string_bytes text ≡ rows_text options.json (of_file options.file (rows_of core.now))) }
+    ensures error { IfErr result (λ fault. fault ≡ CommandFault.NoMemory) }
+{
+    let mut rows = lock_rows(alloc, core)?;
+    if let Some(name) = options.file {
+        rows.retain(|row| is_called(name, &row.name));
+    }
+    if options.json {
+        Ok(lock_json(alloc, &rows)?)
+    } else {
+        Ok(lock_table(alloc, &rows)?)
+    }
+}
+
+// Whether a file that may have a name has this one.
+fn is_called(name: &[u8], own: &Option<Name>) -> bool
+    ensures { result ≡ is_called name.now own.now }
+{
+    match own {
+        None => false,
+        Some(own) => own.as_bytes() == name,
+    }
+}
