@@ -1,0 +1,2 @@
+pub mod ByNode
+pub mod FirstPids

@@ -1,0 +1,14 @@
+-- How rows are made. No public clause cites this module.
+use Rattle.std.specs.Prelude.{List, map}
+use Rattle.fl_waiting.specs.Waiting.{Wish}
+use Rattle.fl_waiting.specs.declared.claim.Claim.{Claim}
+use Rattle.fl_waiting.specs.declared.parked.Request.{Request}
+use Rattle.fl_locks.specs.declared.lock.Lock.{Lock}
+
+-- a lock, as the definitions have it
+abbrev pub meant : Lock → Wish
+meant l = record { key = l.key; start = l.start; end = l.end; kind = l.kind }
+
+-- the requests of claims
+abbrev pub requests_of : List Claim → List Request
+requests_of claims = map (λ (claim : Claim). claim.request) claims
