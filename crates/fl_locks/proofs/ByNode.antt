@@ -1,11 +1,11 @@
 -- Items that a stable sort has put in the order of a number are those of each number, one after another.
-use Rattle.std.proofs.Common.{◌≡◌, ℕ, zero, suc, ◌<◌, ◌≤◌, Bool, true, false, cond, not, ◌&&◌, ◌||◌, ◌==◌, List, []}
-use Rattle.std.proofs.Common.{◌∷◌, ◌++◌, map, length, get_or, is_some, Option, Some, None, refl, ap, sym, ◌∙◌, subst, arith}
+use Rattle.std.proofs.Common.{◌≡◌, ℕ, suc, ◌<◌, ◌≤◌, Bool, true, false, cond, not, ◌&&◌, ◌||◌, ◌==◌, List, []}
+use Rattle.std.proofs.Common.{◌∷◌, ◌++◌, map, is_some, Option, Some, refl, ap, sym, ◌∙◌, subst, arith}
 use Rattle.std.proofs.lemmas.Bool.Decides.{nat_tests}
 use Rattle.std.proofs.lemmas.List.Elements.{All-from_recursion, recursion_from_All}
 use Rattle.std.proofs.lemmas.List.Sorted.{All-permutation, IsNonDecreasingBy-from_sort}
 use Rattle.std.specs.Cmp.{nat_cmp_total, first_so, second_so}
-use Rattle.std.specs.FinMap.{find, get, entries, entries_sorted, from_entries, get-from_entries, keys, contains_key-keys, is_sorted}
+use Rattle.std.specs.FinMap.{find, entries, entries_sorted, from_entries, get-from_entries, keys, contains_key-keys, is_sorted}
 use Rattle.std.specs.FinMap.Entries.{below_all}
 use Rattle.std.specs.List.{filter, flat_map, list_any, AllByRecursion}
 use Rattle.std.specs.List.Sorted.{IsNonDecreasingBy, IsPermutation, IsSortedByKey, IsStableByKey}

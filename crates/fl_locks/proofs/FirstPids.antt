@@ -7,11 +7,10 @@ use Rattle.std.proofs.lemmas.Cmp.{on_total}
 use Rattle.std.proofs.lemmas.List.Kept.{IsStrictlySortedBy-dedup}
 use Rattle.std.proofs.lemmas.Map.Lookups.{exact_unsigned}
 use Rattle.std.specs.Cmp.{nat_cmp_total}
-use Rattle.std.specs.FinMap.{find, get, entries, entries_sorted, get-entries, from_entries, get-from_entries, is_sorted}
+use Rattle.std.specs.FinMap.{find, entries, entries_sorted, get-entries, from_entries, get-from_entries, is_sorted}
 use Rattle.std.specs.FinMap.Entries.{below_all, same_entries}
 use Rattle.std.specs.List.{filter, list_any, dedup, dedup_from, AllByRecursion}
 use Rattle.std.specs.List.Sorted.{IsStrictlySortedBy, IsSortedByKey, IsStableByKey}
-use Rattle.std.specs.declared.cmp.Ordering.{Ordering}
 use Rattle.std.specs.declared.cmp.Ordering.TheVariants.{Less}
 use Rattle.std.specs.Ordering.{nat_cmp, eq_by_cmp, is_lt}
 use Rattle.fl_locks.specs.declared.row.Blocker.{Blocker}
@@ -118,7 +117,7 @@ pub firsts : (xs ys : List Blocker) → IsSortedByKey (λ (b : Blocker). b.owner
 firsts xs ys up stable =
     let zs = dedup of_one_owner ys in
     let m = from_entries {R = nat_cmp} (map pair xs) in
-    let rising = IsStrictlySortedBy-dedup (on_total (λ (b : Blocker). b.owner) nat_cmp_total) {of_one_owner} (λ a b. turned a.owner b.owner) ys up in
+    let rising = IsStrictlySortedBy-dedup (on_total (λ (b : Blocker). b.owner) nat_cmp_total) {E = of_one_owner} (λ a b. turned a.owner b.owner) ys up in
     sym (unpaired-pair zs)
     ∙ ap (map unpaired)
     (same_entries nat_cmp nat_cmp_total exact_unsigned (map pair zs) (entries m) (subst T (sym (rises zs rising)) tt) (entries_sorted m)

@@ -1,2 +1,3 @@
 pub mod ByNode
 pub mod FirstPids
+pub mod WhoBlocks
