@@ -10,12 +10,8 @@ use Rattle.std.specs.FinMap.Entries.{below_all}
 use Rattle.std.specs.List.{filter, flat_map, list_any, AllByRecursion}
 use Rattle.std.specs.List.Sorted.{IsNonDecreasingBy, IsPermutation, IsSortedByKey, IsStableByKey}
 use Rattle.std.specs.Ordering.{nat_cmp, eq_by_cmp, is_lt}
+use Rattle.fl_locks.proofs.Each.{all_weaker, filter_none}
 use Rattle.fl_locks.proofs.FirstPids.{truth, same_number}
-
-module _ {X : Type 0} where
-  weaker : (P Q : X → Type 0) → ((x : X) → P x → Q x) → (xs : List X) → AllByRecursion P xs → AllByRecursion Q xs
-  weaker P Q h [] each = tt
-  weaker P Q h (x ∷ xs) each = (h x each.0, weaker P Q h xs each.1)
 
 -- ---- numbers that rise
 
@@ -66,10 +62,6 @@ module _ {X : Type 0} (n : X → ℕ) where
   Up [] = Unit {0}
   Up (x ∷ xs) = AllByRecursion (λ y. n x ≤ n y) xs × Up xs
 
-  none_of : (k : ℕ) (xs : List X) → AllByRecursion (λ y. (n y == k) ≡ false) xs → of xs k ≡ []
-  none_of k [] each = refl
-  none_of k (x ∷ xs) each = ap (λ (b : Bool). cond b (x ∷ of xs k) (of xs k)) each.0 ∙ none_of k xs each.1
-
   nothing : (ks : List ℕ) → flat_map (of []) ks ≡ []
   nothing [] = refl
   nothing (k ∷ ks) = nothing ks
@@ -96,7 +88,7 @@ module _ {X : Type 0} (n : X → ℕ) where
           cond b (x ∷ of xs k) (of xs k) ++ flat_map (of (x ∷ xs)) ks ≡ x ∷ (of xs k ++ flat_map (of xs) ks)
       go true is h rest = ap (λ (l : List X). x ∷ (of xs k ++ l)) (elsewhere x xs ks (later_differ x k ks is up.0))
       go false is h rest =
-          let empty = none_of k xs (weaker (λ y. n x ≤ n y) (λ y. (n y == k) ≡ false) (λ y le. lower_differs (n x) (n y) k le (above k (n x) ks up.0 h)) xs low) in
+          let empty = filter_none (λ (x : X). n x == k) xs (all_weaker (λ y. n x ≤ n y) (λ y. (n y == k) ≡ false) (λ y le. lower_differs (n x) (n y) k le (above k (n x) ks up.0 h)) xs low) in
           ap (λ (l : List X). l ++ flat_map (of (x ∷ xs)) ks) empty
           ∙ rest h
           ∙ ap (λ (l : List X). x ∷ (l ++ flat_map (of xs) ks)) (sym empty)
@@ -125,7 +117,7 @@ module _ {X : Type 0} (n : X → ℕ) where
   each_found [] = tt
   each_found (x ∷ xs) = (
     ap (λ (b : Bool). is_some (cond b (Some x) (find nat_cmp (n x) (numbered xs)))) (same_number (n x) (n x) ∙ itself (n x)),
-    weaker (λ y. is_some (find nat_cmp (n y) (numbered xs)) ≡ true) (λ y. is_some (find nat_cmp (n y) (numbered (x ∷ xs))) ≡ true)
+    all_weaker (λ y. is_some (find nat_cmp (n y) (numbered xs)) ≡ true) (λ y. is_some (find nat_cmp (n y) (numbered (x ∷ xs))) ≡ true)
         (λ y h. found_more (eq_by_cmp nat_cmp (n y) (n x)) x (find nat_cmp (n y) (numbered xs)) h) xs (each_found xs),
   )
     where
@@ -138,7 +130,7 @@ module _ {X : Type 0} (n : X → ℕ) where
 
   each_number : (xs : List X) → AllByRecursion (λ x. list_any (λ k. n x == k) (keys (from_entries {R = nat_cmp} (numbered xs))) ≡ true) xs
   each_number xs =
-      weaker (λ x. is_some (find nat_cmp (n x) (numbered xs)) ≡ true)
+      all_weaker (λ x. is_some (find nat_cmp (n x) (numbered xs)) ≡ true)
       (λ x. list_any (λ k. n x == k) (keys (from_entries {R = nat_cmp} (numbered xs))) ≡ true)
       (λ x h.
       sym (any_number (n x) (keys (from_entries {R = nat_cmp} (numbered xs))))

@@ -1,10 +1,11 @@
 //! Who keeps a request waiting.
 
-ghost use Rattle.std.specs.Prelude.{◌≡◌, ◌++◌, IfOk, OnOk, map};
+ghost use Rattle.std.specs.Prelude.{◌≡◌, ◌++◌, ◌==◌, IfOk, OnOk, map};
 ghost use Rattle.std.specs.List.{filter};
+ghost use Rattle.std.specs.List.Sorted.{IsNonDecreasingBy};
 ghost use Rattle.fl_waiting.specs.Waiting.{older_blocks};
 ghost use Rattle.fl_locks.specs.LockRows.{lock_on, holder, asker, goes_first, first_pids, in_the_way_of};
-ghost use Rattle.fl_locks.specs.Inside.{meant, requests_of};
+ghost use Rattle.fl_locks.specs.Inside.{meant, requests_of, IsPart};
 
 use crate::lock::{Lock, goes_first, is_in_the_way, lock_on};
 use crate::row::{Blocker, Blockers};
@@ -13,7 +14,8 @@ use fl_ranges::Run;
 use fl_waiting::{Claim, Rules};
 use std::alloc::Global;
 
-// The owners who keep a request waiting that wants this lock, behind these older ones.
+// The owners who keep a request waiting that wants this lock, behind these older ones. The runs stand in the order of
+// their nodes.
 pub(crate) fn blockers_of(
     alloc: Global,
     rules: Rules,
@@ -21,17 +23,29 @@ pub(crate) fn blockers_of(
     older: &[Claim],
     wanted: &Lock,
 ) -> Result<Blockers, NoMemory>
+    requires { IsNonDecreasingBy (λ r. r.key.node) runs.now }
     ensures { IfOk result (λ found. found
         ≡ first_pids (in_the_way_of rules runs.now (requests_of older.now) (meant wanted.now))) }
 {
     let mut found = Vec::new(alloc);
-    add_holders(&mut found, runs, wanted)?;
+    add_holders(&mut found, runs_on(runs, wanted.key.node), wanted)?;
     if rules.fair {
         add_askers(&mut found, older, wanted)?;
     }
     found.sort_by_key(|blocker| blocker.owner)?;
     found.dedup_by_key(|blocker| blocker.owner);
     Ok(Blockers { list: found })
+}
+
+// The runs of a node, of runs in the order of their nodes.
+fn runs_on(runs: &[Run], node: u64) -> &[Run]
+    requires { IsNonDecreasingBy (λ r. r.key.node) runs.now }
+    ensures { IsPart (λ r. r.key.node == node) runs.now result.now }
+{
+    let start = runs.partition_point(|run| run.key.node < node);
+    let rest = &runs[start..];
+    let end = rest.partition_point(|run| run.key.node <= node);
+    &rest[..end]
 }
 
 // Adds the owner of each run that conflicts with the lock.

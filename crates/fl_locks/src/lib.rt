@@ -3,7 +3,7 @@
 //! The rows are exactly those of the core's state. Each run of bytes that an owner holds has one row, and so has each
 //! parked request. A request's blockers are the owners who keep it waiting by the rules in force.
 //!
-//! Left open: how long a row takes. For each request the runs of all nodes are looked at once.
+//! Left open: how long a row takes. For each request, the runs of its node and the older requests are looked at once.
 #![tactic(auto)]
 
 mod blockers;

@@ -1,4 +1,4 @@
-use Rattle.std.proofs.Common.{rules, ◌≡◌, ◌∙◌, ◌++◌, [], cond, map, List, ℕ, ap, sym}
+use Rattle.std.proofs.Common.{rules, ◌≡◌, ◌∙◌, ◌++◌, [], cond, map, ℕ, ap, sym}
 use Rattle.std.proofs.lemmas.Fn.{dedup_same}
 use Rattle.std.proofs.lemmas.List.{append-nil}
 use Rattle.std.proofs.lemmas.List.Sorted.{answers_always}
@@ -9,6 +9,7 @@ use Rattle.fl_locks.specs.declared.row.Blocker.{Blocker}
 use Rattle.fl_locks.specs.LockRows.{lock_on, holder, asker, goes_first, first_pids, in_the_way_of}
 use Rattle.fl_locks.specs.Inside.{meant, requests_of}
 use Rattle.fl_locks.proofs.FirstPids.{of_one_owner, firsts}
+use Rattle.fl_locks.proofs.RunsOn.{of_its_node}
 use Rattle.fl_locks.proofs.blockers.blockers_of.Goals as goal
 use Rattle.fl_locks.proofs.blockers.blockers_of.Goals.{then-rules+in_ok-add_askers, else-rules}
 
@@ -18,7 +19,8 @@ returns c =
     let older = requests_of c.args.older.now in
     let held = map holder (filter (λ (r : Run). older_blocks w (lock_on r)) c.args.runs.now) in
     let first : c.add_holders.new.found.items ≡ held =
-    c.in_ok-add_holders.ensures ∙ ap (λ (l : List Blocker). l ++ held) c.new-found.ensures.items in
+    c.in_ok-add_holders.ensures
+    ∙ (λ i. c.new-found.ensures.items i ++ map holder (c.runs_on.ensures (λ (r : Run). older_blocks w (lock_on r)) (of_its_node w) i)) in
     let all : c.if-rules.found.items ≡ in_the_way_of c.args.rules c.args.runs.now older w = elim c.if-rules.branch [
       | then-rules+in_ok-add_askers b ↦
           ap (λ v. v.items) b.found-is ∙ b.in_ok-add_askers.ensures
