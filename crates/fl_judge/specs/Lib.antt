@@ -1,4 +1,5 @@
 pub mod Audit
 pub mod Hearing
 pub mod Inside
+pub mod Present
 pub mod Quiet
