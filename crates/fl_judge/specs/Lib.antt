@@ -1,4 +1,5 @@
 pub mod Audit
+pub mod First
 pub mod Hearing
 pub mod Inside
 pub mod Present
