@@ -1,5 +1,5 @@
 -- What is known of a text once more of it came, and once it ended.
-use Rattle.std.proofs.Common.{◌≡◌, ℕ, ◌+◌, ◌-◌, ◌<◌, ◌≤◌, ◌⊎◌, inl, inr, ⊎_elim, Bool, true, false, List, [], ◌∷◌, ◌++◌}
+use Rattle.std.proofs.Common.{◌≡◌, ℕ, ◌+◌, ◌-◌, ◌<◌, ◌≤◌, ◌⊎◌, inl, inr, ⊎_elim, Bool, true, false, Option, List, [], ◌∷◌, ◌++◌}
 use Rattle.std.proofs.Common.{length, take, drop}
 use Rattle.std.proofs.Common.{refl, ap, sym, ◌∙◌, subst, arith, append_assoc, append-nil, length-append}
 use Rattle.std.proofs.Math.Seq.{drop-append-add}
@@ -9,7 +9,10 @@ use Rattle.std.proofs.lemmas.List.{length-drop, length-take-le, take-append-drop
 use Rattle.std.proofs.lemmas.List.Elements.{All-append}
 use Rattle.std.specs.Str.Iter.{LacksByte}
 use Rattle.fl_judge.specs.Audit.{has_newline, whole_lines, judged_part}
-use Rattle.fl_judge.specs.Inside.Hearing.{HearsAll, IsBadBehind, Follows}
+use Rattle.fl_judge.specs.First.{AreFirstLines, IsWithin}
+use Rattle.fl_judge.specs.Inside.Hearing.{HearsAll, HearsEnough, IsBadBehind, Stops, Follows}
+use Rattle.fl_judge.specs.declared.lines.Stopped.{Stopped}
+use Rattle.fl_judge.specs.declared.lines.Stopped.TheVariants.{Enough, BadLine}
 use Rattle.fl_judge.proofs.Newlines.{none_both, none_joined, seam, lacks_none, same_before, parted, behind_line}
 use Rattle.fl_judge.proofs.Newlines.{whole_text, whole_seam, whole_text_none}
 use Rattle.fl_history.specs.declared.history.Line.{Line}
@@ -105,7 +108,7 @@ goes_on short text bytes lines after kept now left f h is =
     f.whole)
 
 -- bytes came behind what was kept, and a line was bad
-pub goes_bad : AreShort → (text bytes : List ℕ) (lines : List Line) (kept : List ℕ) (n : ℕ) → Follows text lines kept
+goes_bad : AreShort → (text bytes : List ℕ) (lines : List Line) (kept : List ℕ) (n : ℕ) → Follows text lines kept
     → IsBadBehind (length lines) (kept ++ bytes) n → IsBadBehind 0 (text ++ bytes) n
 goes_bad short text bytes lines kept n f b =
     ⊎_elim
@@ -154,8 +157,42 @@ goes_bad short text bytes lines kept n f b =
       | inr most ↦ most
     ]
 
+-- bytes came behind what was kept, and as many lines were heard as are wanted
+goes_enough : AreShort → (most : Option ℕ) (text bytes : List ℕ) (lines after : List Line) (kept : List ℕ) → Follows text lines kept
+    → HearsEnough most lines after (kept ++ bytes) → HearsEnough most [] after (text ++ bytes)
+goes_enough short most text bytes lines after kept f h =
+    ⊎_elim
+    (λ (none : f.more ≡ []). record {
+      heard = lines ++ h.heard;
+      rest = h.rest;
+      fits = All-append LineFits lines h.heard f.fits h.fits;
+      are = h.are;
+      parts =
+          ap (λ t. t ++ bytes) (f.parts ∙ ap (λ m. text_of lines ++ (kept ++ m)) none ∙ ap (λ k. text_of lines ++ k) (append-nil kept))
+          ∙ append_assoc (text_of lines) kept bytes ∙ ap (λ t. text_of lines ++ t) h.parts
+          ∙ sym (append_assoc (text_of lines) (text_of h.heard) h.rest) ∙ ap (λ t. t ++ h.rest) (sym (both_texts lines h.heard));
+      many = h.many;
+    })
+    (λ (long : 700 ≤ length kept).
+    let silent : h.heard ≡ [] = none_heard short kept bytes h.rest h.heard h.fits h.parts (none_both kept f.more f.lacks).0 long in
+    record {
+      heard = lines;
+      rest = (kept ++ f.more) ++ bytes;
+      fits = f.fits;
+      are = h.are ∙ ap (λ (ls : List Line). lines ++ ls) silent ∙ append-nil lines;
+      parts = ap (λ t. t ++ bytes) f.parts ∙ append_assoc (text_of lines) (kept ++ f.more) bytes;
+      many = h.many;
+    })
+    f.whole
+
+-- bytes came behind what was kept, and then no more is heard
+pub goes_stopped : AreShort → (most : Option ℕ) (text bytes : List ℕ) (lines after : List Line) (kept : List ℕ) (stopped : Stopped) → Follows text lines kept
+    → Stops most lines after (kept ++ bytes) stopped → Stops most [] after (text ++ bytes) stopped
+goes_stopped short most text bytes lines after kept Enough f h = goes_enough short most text bytes lines after kept f h
+goes_stopped short most text bytes lines after kept (BadLine n) f b = (goes_bad short text bytes lines kept n f b.0, b.1)
+
 -- more came behind a bad line
-pub stays_bad : (text bytes : List ℕ) (n : ℕ) → IsBadBehind 0 text n → IsBadBehind 0 (text ++ bytes) n
+stays_bad : (text bytes : List ℕ) (n : ℕ) → IsBadBehind 0 text n → IsBadBehind 0 (text ++ bytes) n
 stays_bad text bytes n b = record {
   front = b.front;
   bad = b.bad;
@@ -167,6 +204,19 @@ stays_bad text bytes n b = record {
   lacks = b.lacks;
   wrong = b.wrong;
   number = b.number;
+}
+
+-- more came once no more is heard
+pub stays_stopped : (most : Option ℕ) (text bytes : List ℕ) (lines : List Line) (stopped : Stopped) → Stops most [] lines text stopped
+    → Stops most [] lines (text ++ bytes) stopped
+stays_stopped most text bytes lines (BadLine n) b = (stays_bad text bytes n b.0, b.1)
+stays_stopped most text bytes lines Enough h = record {
+  heard = h.heard;
+  rest = h.rest ++ bytes;
+  fits = h.fits;
+  are = h.are;
+  parts = ap (λ t. t ++ bytes) h.parts ∙ append_assoc (text_of h.heard) h.rest bytes;
+  many = h.many;
 }
 
 -- ---- the end
@@ -224,3 +274,18 @@ lines_end text lines kept false f none = f.parts ∙ ap (λ t. text_of lines ++ 
     nothing [] more e (inl is) = is
     nothing [] more e (inr long) = absurd (omega arith)
     nothing (x ∷ kept) more e whole = absurd (omega arith)
+
+-- the lines are the first of the text
+pub follow_first : (most : Option ℕ) (text : List ℕ) (lines : List Line) (kept : List ℕ) → Follows text lines kept → IsWithin most (length lines)
+    → AreFirstLines most text lines
+follow_first most text lines kept f within = record { rest = kept ++ f.more; parts = f.parts; fits = f.fits; few = within; all = inr f.lacks }
+
+pub enough_first : (most : Option ℕ) (text : List ℕ) (lines : List Line) → HearsEnough most [] lines text → IsWithin most (length lines)
+    → AreFirstLines most text lines
+enough_first most text lines h within = record {
+  rest = h.rest;
+  parts = h.parts ∙ ap (λ (ls : List Line). text_of ls ++ h.rest) (sym h.are);
+  fits = subst Fits (sym h.are) h.fits;
+  few = within;
+  all = inl h.many;
+}

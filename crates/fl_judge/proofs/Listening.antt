@@ -1,72 +1,86 @@
 -- What a listener knows of the text so far.
-use Rattle.std.proofs.Common.{◌≡◌, ◌↔◌, ℕ, ◌+◌, ◌-◌, ◌<◌, ◌≤◌, min, inl, inr, Bool, true, false, Option, Some, None}
+use Rattle.std.proofs.Common.{◌≡◌, ℕ, zero, suc, ◌+◌, ◌-◌, ◌<◌, ◌≤◌, min, inl, inr, Bool, true, false, Option, Some, None}
 use Rattle.std.proofs.Common.{List, [], ◌++◌, length, take, drop, refl, ap, sym, ◌∙◌, subst, arith, append-nil}
 use Rattle.std.proofs.Common.{take-add, Result, Ok, Err, IfSome, IfOk}
 use Rattle.std.proofs.KnownBytes.{Consumes-trans, Consumes-kept, Consumes-nil}
 use Rattle.std.proofs.lemmas.Bool.{cases_lt}
 use Rattle.std.proofs.lemmas.List.{length-take-le, take_all}
 use Rattle.std.proofs.lemmas.List.Elements.{All-nil}
+use Rattle.std.proofs.lemmas.Option.{IfSome_then}
 use Rattle.std.specs.Io.KnownBytes.{Consumes, Keeps, IsAtEnd}
 use Rattle.std.specs.Option.{is_some}
-use Rattle.fl_judge.specs.Audit.{judged_part, IsFinding, IsSaidOf}
-use Rattle.fl_judge.specs.Inside.Hearing.{HearsAll, IsBadBehind, Follows, Stands, Listens, HearsOn, HasRead}
-use Rattle.fl_judge.specs.declared.finding.Audited.{Audited}
+use Rattle.fl_judge.specs.Audit.{judged_part}
+use Rattle.fl_judge.specs.First.{IsSoOfAll, IsWithin}
+use Rattle.fl_judge.specs.Inside.Hearing.{HearsAll, Stops, Follows, Stands, Listens, HearsOn, HasRead, AreJudged, IsBad}
+use Rattle.fl_judge.specs.declared.finding.AuditFault.{AuditFault}
+use Rattle.fl_judge.specs.declared.finding.AuditFault.TheVariants as fault
+use Rattle.fl_judge.specs.declared.lines.Stopped.{Stopped}
+use Rattle.fl_judge.specs.declared.lines.Stopped.TheVariants.{Enough, BadLine}
 use Rattle.fl_judge.specs.declared.listener.Listener.{Listener}
-use Rattle.fl_judge.proofs.Following.{AreShort, AreLines, left_over, goes_on, goes_bad, stays_bad, bad_ends, rest_ends}
-use Rattle.fl_judge.proofs.Following.{lines_end}
-use Rattle.fl_desk.specs.Verdicts.{IsBeginning}
+use Rattle.fl_judge.proofs.Following.{AreShort, AreLines, left_over, goes_on, goes_stopped, stays_stopped, bad_ends}
+use Rattle.fl_judge.proofs.Following.{rest_ends, lines_end, follow_first, enough_first}
 use Rattle.fl_history.specs.declared.history.Line.{Line}
 use Rattle.fl_judge.specs.Hearing.{Hearing}
-use Rattle.fl_judge.specs.Quiet.{IsQuiet}
 use Rattle.fl_trace.specs.Text.{LineFits, BreaksAt}
 
--- ---- where no line was bad, and where one was
+-- ---- while lines are heard, and once they aren't any more
 
-follows : (text : List ℕ) (lines : List Line) (kept : List ℕ) (o : Option ℕ) → is_some o ≡ false → Stands text lines kept o → Follows text lines kept
-follows text lines kept None e f = f
-follows text lines kept (Some n) e b = absurd (cc e)
+follows : (most : Option ℕ) (text : List ℕ) (lines : List Line) (kept : List ℕ) (o : Option Stopped) → is_some o ≡ false
+    → Stands most text lines kept o → Follows text lines kept
+follows most text lines kept None e f = f
+follows most text lines kept (Some stopped) e s = absurd (cc e)
 
-fine : (text : List ℕ) (lines : List Line) (kept : List ℕ) (o : Option ℕ) → is_some o ≡ false → Follows text lines kept → Stands text lines kept o
-fine text lines kept None e f = f
-fine text lines kept (Some n) e f = absurd (cc e)
+fine : (most : Option ℕ) (text : List ℕ) (lines : List Line) (kept : List ℕ) (o : Option Stopped) → is_some o ≡ false
+    → Follows text lines kept → Stands most text lines kept o
+fine most text lines kept None e f = f
+fine most text lines kept (Some stopped) e f = absurd (cc e)
 
 -- nothing came yet
 pub starts : Follows [] [] []
 starts = record { fits = All-nil LineFits; more = []; parts = refl; lacks = refl; whole = inl refl }
 
+pub none_within : (most : Option ℕ) (lines : List Line) → lines ≡ [] → IsWithin most (length lines)
+none_within None lines none = tt
+none_within (Some m) lines none = omega (arith, ap length none)
+
 -- ---- a piece came
 
-still_bad : (text bytes : List ℕ) (lines : List Line) (kept : List ℕ) (o : Option ℕ) → is_some o ≡ true → Stands text lines kept o → Stands (text ++ bytes) lines kept o
-still_bad text bytes lines kept None e f = absurd (cc e)
-still_bad text bytes lines kept (Some n) e b = stays_bad text bytes n b
+still : (most : Option ℕ) (text bytes : List ℕ) (lines : List Line) (kept : List ℕ) (o : Option Stopped) → is_some o ≡ true
+    → Stands most text lines kept o → Stands most (text ++ bytes) lines kept o
+still most text bytes lines kept None e f = absurd (cc e)
+still most text bytes lines kept (Some stopped) e s = stays_stopped most text bytes lines stopped s
 
-pub hears_nothing : (l : Listener) (bytes : List ℕ) → is_some l.bad ≡ true → HearsOn l bytes l
-hears_nothing l bytes bad text is = record { stands = still_bad text bytes l.judge.lines (take l.kept l.room.items) l.bad bad is.stands }
+pub hears_nothing : (l : Listener) (bytes : List ℕ) → is_some l.stopped ≡ true → HearsOn l bytes l
+hears_nothing l bytes stopped text is = record {
+  stands = still l.most text bytes l.judge.lines (take l.kept l.room.items) l.stopped stopped is.stands;
+}
 
-pub hears_wrong : AreShort → (before after : Listener) (came n : ℕ) → is_some before.bad ≡ false
-    → IsBadBehind (length before.judge.lines) (take (before.kept + came) before.room.items) n → after.bad ≡ Some n
-    → HearsOn before (take came (drop before.kept before.room.items)) after
-hears_wrong short before after came n none bad said text is =
+pub hears_stop : AreShort → (before after : Listener) (came : ℕ) (stopped : Stopped) → is_some before.stopped ≡ false
+    → Stops before.most before.judge.lines after.judge.lines (take (before.kept + came) before.room.items) stopped → after.most ≡ before.most
+    → after.stopped ≡ Some stopped → HearsOn before (take came (drop before.kept before.room.items)) after
+hears_stop short before after came stopped none stops most said text is =
     let kept = take before.kept before.room.items in
     let bytes = take came (drop before.kept before.room.items) in
     record {
-      stands = subst (Stands (text ++ bytes) after.judge.lines (take after.kept after.room.items)) (sym said)
-          (goes_bad short text bytes before.judge.lines kept n (follows text before.judge.lines kept before.bad none is.stands)
-          (subst (λ t. IsBadBehind (length before.judge.lines) t n) (take-add before.kept came before.room.items) bad));
+      stands = subst (λ m. Stands m (text ++ bytes) after.judge.lines (take after.kept after.room.items) after.stopped) (sym most)
+          (subst (Stands before.most (text ++ bytes) after.judge.lines (take after.kept after.room.items)) (sym said)
+          (goes_stopped short before.most text bytes before.judge.lines after.judge.lines kept stopped
+          (follows before.most text before.judge.lines kept before.stopped none is.stands)
+          (subst (λ t. Stops before.most before.judge.lines after.judge.lines t stopped) (take-add before.kept came before.room.items) stops)));
     }
 
-pub hears_lines : AreShort → (before after : Listener) (came left : ℕ) → is_some before.bad ≡ false → before.kept + came ≤ length before.room.items
+pub hears_lines : AreShort → (before after : Listener) (came left : ℕ) → is_some before.stopped ≡ false → before.kept + came ≤ length before.room.items
     → HearsAll before.judge.lines after.judge.lines (take (before.kept + came) before.room.items) left → after.kept ≡ min left 700
-    → take after.kept after.room.items ≡ take after.kept (drop (before.kept + came - left) before.room.items) → after.bad ≡ before.bad
+    → take after.kept after.room.items ≡ take after.kept (drop (before.kept + came - left) before.room.items) → after.stopped ≡ before.stopped
     → HearsOn before (take came (drop before.kept before.room.items)) after
 hears_lines short before after came left none within heard few moved same text is =
     let kept = take before.kept before.room.items in
     let bytes = take came (drop before.kept before.room.items) in
     let whole : take (before.kept + came) before.room.items ≡ kept ++ bytes = take-add before.kept came before.room.items in
     record {
-      stands = fine (text ++ bytes) after.judge.lines (take after.kept after.room.items) after.bad (ap is_some same ∙ none)
+      stands = fine after.most (text ++ bytes) after.judge.lines (take after.kept after.room.items) after.stopped (ap is_some same ∙ none)
           (goes_on short text bytes before.judge.lines after.judge.lines kept (take after.kept after.room.items) left
-          (follows text before.judge.lines kept before.bad none is.stands)
+          (follows before.most text before.judge.lines kept before.stopped none is.stands)
           (subst (λ t. HearsAll before.judge.lines after.judge.lines t left) whole heard)
           (λ rest long front parts.
           moved ∙ left_over before.room.items front rest (before.kept + came) left after.kept (whole ∙ parts) long within (omega (arith, few))
@@ -80,14 +94,16 @@ hears_lines short before after came left none within heard few moved same text i
     ]
 
 -- another room, with the same bytes at its front
-pub other_room : (before after : Listener) → after.judge ≡ before.judge → after.kept ≡ before.kept → after.bad ≡ before.bad
-    → take before.kept after.room.items ≡ take before.kept before.room.items → (text : List ℕ) → Listens text before → Listens text after
-other_room before after judge kept bad room text is = record {
+pub other_room : (before after : Listener) → after.judge ≡ before.judge → after.most ≡ before.most → after.kept ≡ before.kept
+    → after.stopped ≡ before.stopped → take before.kept after.room.items ≡ take before.kept before.room.items
+    → (text : List ℕ) → Listens text before → Listens text after
+other_room before after judge most kept stopped room text is = record {
   stands =
-      subst (λ (j : Hearing). Stands text j.lines (take after.kept after.room.items) after.bad) (sym judge)
-      (subst (λ k. Stands text before.judge.lines (take k after.room.items) after.bad) (sym kept)
-      (subst (λ b. Stands text before.judge.lines (take before.kept after.room.items) b) (sym bad)
-      (subst (λ t. Stands text before.judge.lines t before.bad) (sym room) is.stands)));
+      subst (λ (j : Hearing). Stands after.most text j.lines (take after.kept after.room.items) after.stopped) (sym judge)
+      (subst (λ m. Stands m text before.judge.lines (take after.kept after.room.items) after.stopped) (sym most)
+      (subst (λ k. Stands before.most text before.judge.lines (take k after.room.items) after.stopped) (sym kept)
+      (subst (Stands before.most text before.judge.lines (take before.kept after.room.items)) (sym stopped)
+      (subst (λ t. Stands before.most text before.judge.lines t before.stopped) (sym room) is.stands))));
 }
 
 -- ---- what was read
@@ -121,31 +137,60 @@ pub ok_map : {T E : Type 0} (r : Result T E) (P Q : T → Type 0) → ((t : T) �
 ok_map (Ok t) P Q f p = f t p
 ok_map (Err e) P Q f p = p
 
+pub all_of : (left now : Option (List ℕ)) (text : List ℕ) (P : List ℕ → Type 0) → Consumes left now text → IsAtEnd now → P text → IsSoOfAll left P
+all_of left now text P read end p = record { text = text; read = all_read left now text (λ bytes. bytes ≡ text) read end refl; is = p }
+
+pub of_all : (left : Option (List ℕ)) (P Q : List ℕ → Type 0) → ((text : List ℕ) → P text → Q text) → IsSoOfAll left P → IsSoOfAll left Q
+of_all left P Q f so = record { text = so.text; read = so.read; is = f so.text so.is }
+
+pub if_known : (left : Option (List ℕ)) (P : List ℕ → Type 0) → IsSoOfAll left P → IfSome left P
+if_known left P so = IfSome_then left so.read (λ bytes same. subst P (sym same) so.is)
+
 -- ---- the end
 
-bad_said : AreLines → (text : List ℕ) (lines : List Line) (kept : List ℕ) (o : Option ℕ) (n : ℕ) (cut : Bool) → o ≡ Some n → Stands text lines kept o
-    → BreaksAt LineFits (judged_part cut text) n
-bad_said are text lines kept o n cut is stands = bad_ends are text n cut (subst (Stands text lines kept) is stands)
+bad_said : AreLines → (most : Option ℕ) (text : List ℕ) (lines : List Line) (kept : List ℕ) (o : Option Stopped) (n : ℕ) (cut : Bool)
+    → o ≡ Some (BadLine n) → Stands most text lines kept o → IsBad most cut text n
+bad_said are most text lines kept o n cut is stands =
+    let b : Stops most [] lines text (BadLine n) = subst (Stands most text lines kept) is stands in
+    record { breaks = bad_ends are text n cut b.0; within = λ _. b.1 }
 
-pub ends_bad : AreLines → (l : Listener) (n : ℕ) (cut : Bool) → l.bad ≡ Some n → (text : List ℕ) → Listens text l → BreaksAt LineFits (judged_part cut text) n
-ends_bad are l n cut bad text is = bad_said are text l.judge.lines (take l.kept l.room.items) l.bad n cut bad is.stands
+pub ends_bad : AreLines → (l : Listener) (n : ℕ) (cut : Bool) → l.stopped ≡ Some (BadLine n) → (text : List ℕ) → Listens text l → IsBad l.most cut text n
+ends_bad are l n cut bad text is = bad_said are l.most text l.judge.lines (take l.kept l.room.items) l.stopped n cut bad is.stands
 
-pub ends_inside : (l : Listener) (n : ℕ) (cut : Bool) → is_some l.bad ≡ false → cut ≡ false → 0 < l.kept → l.kept ≤ length l.room.items → n ≡ length l.judge.lines + 1
-    → (text : List ℕ) → Listens text l → BreaksAt LineFits (judged_part cut text) n
+pub ends_inside : (l : Listener) (n : ℕ) (cut : Bool) → l.stopped ≡ None → cut ≡ false → 0 < l.kept → l.kept ≤ length l.room.items
+    → n ≡ length l.judge.lines + 1 → (text : List ℕ) → Listens text l → IsBad l.most cut text n
 ends_inside l n cut none uncut some within at text is =
     let kept = take l.kept l.room.items in
-    subst (λ c. BreaksAt LineFits (judged_part c text) n) (sym uncut)
-    (rest_ends text l.judge.lines kept n (follows text l.judge.lines kept l.bad none is.stands) (omega (arith, some, length-take-le l.kept l.room.items within)) at)
-
-pub ends_well : (l : Listener) (cut : Bool) (audited : Audited) → is_some l.bad ≡ false → (cut ≡ false → l.kept ≡ 0) → IsFinding l.judge.rules cut l.judge.lines audited.finding
-    → (audited.quiet ≡ true) ↔ (IsBeginning l.judge.rules l.judge.lines × IsQuiet l.judge.rules l.judge.lines) → (text : List ℕ) → Listens text l → IsSaidOf l.judge.rules cut (judged_part cut text) audited
-ends_well l cut audited none whole found quiet text is =
-    let kept = take l.kept l.room.items in
-    let f = follows text l.judge.lines kept l.bad none is.stands in
     record {
-      lines = l.judge.lines;
-      spelled = lines_end text l.judge.lines kept cut f (λ uncut. ap (λ n. length (take n l.room.items)) (whole uncut));
-      fits = f.fits;
-      found = found;
-      quiet = quiet;
+      breaks = subst (λ c. BreaksAt LineFits (judged_part c text) n) (sym uncut)
+          (rest_ends text l.judge.lines kept n (follows l.most text l.judge.lines kept l.stopped (ap is_some none) is.stands)
+          (omega (arith, some, length-take-le l.kept l.room.items within)) at);
+      within = λ cut. absurd (cc (cut, uncut));
     }
+
+pub ends_whole : (l : Listener) (cut : Bool) → l.stopped ≡ None → (cut ≡ false → l.kept ≡ 0) → IsWithin l.most (length l.judge.lines)
+    → (text : List ℕ) → Listens text l → AreJudged l.most cut text l.judge.lines
+ends_whole l cut none whole within text is =
+    let kept = take l.kept l.room.items in
+    let f = follows l.most text l.judge.lines kept l.stopped (ap is_some none) is.stands in
+    record {
+      first = follow_first l.most text l.judge.lines kept f within;
+      whole = λ _. lines_end text l.judge.lines kept cut f (λ uncut. ap (λ n. length (take n l.room.items)) (whole uncut));
+    }
+
+pub ends_enough : (l : Listener) (cut : Bool) → l.stopped ≡ Some Enough → IsWithin l.most (length l.judge.lines) → (text : List ℕ) → Listens text l
+    → AreJudged l.most cut text l.judge.lines
+ends_enough l cut enough within text is =
+    let h : Stops l.most [] l.judge.lines text Enough =
+    subst (Stands l.most text l.judge.lines (take l.kept l.room.items)) enough is.stands in
+    record { first = enough_first l.most text l.judge.lines h within; whole = λ all. absurd (let many = h.many in cc (all, many)) }
+
+pub same_line : {A : Type 0} (n m : ℕ) → ◌≡◌ {A = Result A AuditFault} (Err (fault.BadLine n)) (Err (fault.BadLine m)) → n ≡ m
+same_line n m e = cc e
+
+pub other_err : {A B : Type 0} (f g : AuditFault) → ◌≡◌ {A = Result A AuditFault} (Err f) (Err g) → ◌≡◌ {A = Result B AuditFault} (Err f) (Err g)
+other_err f g e = let same : f ≡ g = cc e in ap Err same
+
+pub none_kept : (k : ℕ) → (0 < k → ⊥) → k ≡ 0
+none_kept zero none = refl
+none_kept (suc k) none = absurd (none (omega arith))

@@ -15,10 +15,11 @@ use Rattle.fl_desk.specs.Verdicts.{IsBeginning}
 use Rattle.fl_history.specs.declared.history.Line.{Line}
 use Rattle.fl_history.specs.declared.history.Line.TheVariants as line
 use Rattle.fl_judge.specs.declared.replay.Replay.{Replay}
-use Rattle.fl_judge.specs.Inside.Heard.{told_lines, BeginsWith, due_lines, LeadsUpTo, GoesOnAlike}
+use Rattle.fl_judge.specs.Inside.Heard.{BeginsWith, due_lines, LeadsUpTo, GoesOnAlike}
 use Rattle.fl_order.specs.declared.order.Order.{Order}
 use Rattle.fl_order.specs.declared.told.Told.{Told}
 use Rattle.fl_judge.proofs.Quiets.{quiet_nothing, quiet_told, quiet_asked}
+use Rattle.fl_judge.specs.Present.{told_lines}
 use Rattle.fl_judge.specs.Quiet.{asks_while_waiting, IsQuiet}
 
 -- ---- what is left of a list from a place on

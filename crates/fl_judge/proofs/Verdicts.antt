@@ -11,9 +11,10 @@ use Rattle.fl_history.specs.declared.history.Line.{Line}
 use Rattle.fl_history.specs.declared.history.Line.TheVariants as line
 use Rattle.fl_judge.specs.declared.replay.Replay.{Replay}
 use Rattle.fl_judge.specs.Hearing.{Hearing}
-use Rattle.fl_judge.specs.Inside.Heard.{told_lines, due_lines, LeadsUpTo, GoesOnAlike, DiffersIn, Stands, IsHeard}
+use Rattle.fl_judge.specs.Inside.Heard.{due_lines, LeadsUpTo, GoesOnAlike, DiffersIn, Stands, IsHeard}
 use Rattle.fl_judge.proofs.Replays.{left_from, all_told}
 use Rattle.fl_order.specs.declared.told.Told.{Told}
+use Rattle.fl_judge.specs.Present.{told_lines, IsPresent}
 use Rattle.fl_judge.specs.Quiet.{IsQuiet}
 use Rattle.fl_waiting.specs.declared.rules.Rules.{Rules}
 
@@ -118,6 +119,13 @@ begins_exactly lines now r None false same e up = absurd (cc e)
 begins_exactly lines now r (Some n) true same e d = absurd (cc e)
 begins_exactly lines now r (Some n) false same e d =
     (λ never. absurd (cc never), λ b. absurd (differs r.core.rules lines n d (subst Begins (sym same) b)))
+
+-- lines that don't differ lead to what the replay has, with the replies that are due
+pub present_then : (lines : List Line) (now : Hearing) (r : Replay) (o : Option ℕ) → seen r lines ≡ now → Begins now → Stands lines r o
+    → IsPresent now.rules now.lines r.core
+present_then lines now r None same b up =
+    subst (λ (h : Hearing). IsPresent h.rules h.lines r.core) same (record { missing = drop r.told r.tolds.told; leads = up.leads; under = refl })
+present_then lines now r (Some n) same b d = absurd (differs r.core.rules lines n d (subst Begins (sym same) b))
 
 -- the lines didn't differ so far
 up_to : (lines : List Line) (r : Replay) (o : Option ℕ) → is_some o ≡ false → Stands lines r o → LeadsUpTo lines r

@@ -1,4 +1,6 @@
 pub mod Audit
+pub mod First
 pub mod Hearing
 pub mod Inside
+pub mod Present
 pub mod Quiet

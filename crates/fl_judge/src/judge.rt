@@ -1,13 +1,14 @@
 //! The judge: what it says of the lines that it heard.
 
-ghost use Rattle.std.specs.Prelude.{◌≡◌, ◌↔◌, ◌<◌, ◌^◌, ◌++◌, ◌∷◌, [], true, length, IfOk};
+ghost use Rattle.std.specs.Prelude.{◌≡◌, ◌↔◌, ◌<◌, ◌^◌, ◌++◌, ◌∷◌, [], true, length, IfOk, IfSome, IsSome};
 ghost use Rattle.fl_desk.specs.Verdicts.{IsBeginning, IsVerdict};
 ghost use Rattle.fl_judge.specs.Hearing.{unheard};
+ghost use Rattle.fl_judge.specs.Present.{IsPresent};
 ghost use Rattle.fl_judge.specs.Quiet.{IsQuiet, HasNoCircles};
 
 use crate::laws::quiet_histories_have_no_circle;
 use crate::replay::Replay;
-use fl_core::Rules;
+use fl_core::{Core, Rules};
 use fl_desk::Verdict;
 use fl_history::{Line, Past};
 use fl_order::NoMemory;
@@ -87,6 +88,19 @@ impl Judge {
         ensures { (result ≡ true) ↔ IsBeginning self.now.rules self.now.lines }
     {
         self.differs.is_none()
+    }
+
+    /// What is there after the lines that it heard, and after the replies that are missing at their end, as if these
+    /// had been given. None if no history that is legal under its rules begins with the lines.
+    pub fn present(&self) -> Option<&Core>
+        ensures some { IsSome result ↔ IsBeginning self.now.rules self.now.lines }
+        ensures is { IfSome result (λ core. IsPresent self.now.rules self.now.lines core.now) }
+    {
+        if self.begins() {
+            Some(&self.replay.core)
+        } else {
+            None
+        }
     }
 
     /// Whether some history that is legal under its rules begins with the lines that it heard, and they are quiet: no

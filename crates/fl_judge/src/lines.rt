@@ -1,37 +1,68 @@
 //! The whole lines at the front of a text, heard by a judge.
 
-ghost use Rattle.std.specs.Prelude.{◌≡◌, ◌+◌, ◌<◌, ◌≤◌, ◌^◌, length};
+ghost use Rattle.std.specs.Prelude.{◌≡◌, ◌↔◌, ◌+◌, ◌<◌, ◌≤◌, ◌^◌, true, Some, IfSome, IsNone, length};
 ghost use Rattle.fl_judge.specs.Audit.{has_newline};
+ghost use Rattle.fl_judge.specs.First.{IsWithin};
 ghost use Rattle.fl_judge.specs.Inside.Hearing.{IsHeard};
 
 use crate::judge::Judge;
 use fl_trace::first_line;
 
-/// What is left of a text whose lines were heard.
+/// Why no more lines of a text are heard.
 #[derive(Clone, Copy, Debug, PartialEq, Eq)]
-pub(crate) enum Left {
-    /// So many bytes with no newline, at its end.
-    Bytes(usize),
-    /// The line of this number, from 1, and all behind it: it ends with a newline, and is no spelling of a line.
+pub(crate) enum Stopped {
+    /// As many were heard as are wanted, and there are more.
+    Enough,
+    /// The line of this number, from 1, ends with a newline and is no spelling of a line.
     BadLine(usize),
 }
 
-/// Has a judge hear the lines at the front of a text, up to one that is bad, or up to its last newline.
-pub(crate) fn hear_lines(judge: &mut Judge, text: &[u8]) -> Left
+impl Stopped {
+    /// The number of the bad line, if there was one.
+    pub(crate) fn number(self) -> Option<usize>
+        ensures some { IfSome result (λ n. self ≡ Stopped.BadLine n) }
+        ensures none { IsNone result → self ≡ Stopped.Enough }
+    {
+        match self {
+            Stopped::BadLine(n) => Some(n),
+            Stopped::Enough => None,
+        }
+    }
+}
+
+/// Has a judge hear the lines at the front of a text, until it has heard as many as are wanted in all, or up to one
+/// that is bad, or up to the last newline. How many bytes are left behind that, or why it stopped before.
+pub(crate) fn hear_lines(
+    judge: &mut Judge,
+    most: Option<usize>,
+    text: &[u8],
+) -> Result<usize, Stopped>
     requires few { length judge.old.lines + length text.now < 2 ^ 63 }
-    ensures heard { IsHeard judge.old.lines judge.new.lines text.now result }
+    requires within { IsWithin most (length judge.old.lines) }
+    ensures heard { IsHeard most judge.old.lines judge.new.lines text.now result }
     ensures few { length judge.new.lines ≤ length judge.old.lines + length text.now }
+    ensures within { IsWithin most (length judge.new.lines) }
     ensures rules { judge.new.rules ≡ judge.old.rules }
 {
     let mut rest = text;
     while has_newline(rest) {
+        if has_enough(judge, most) {
+            return Err(Stopped::Enough);
+        }
         let Some((line, after)) = first_line(rest) else {
-            return Left::BadLine(judge.heard() + 1);
+            return Err(Stopped::BadLine(judge.heard() + 1));
         };
         judge.hear(&line);
         rest = after;
     }
-    Left::Bytes(rest.len())
+    Ok(rest.len())
+}
+
+// Whether a judge heard as many lines as are wanted.
+fn has_enough(judge: &Judge, most: Option<usize>) -> bool
+    ensures { (result ≡ true) ↔ (most ≡ Some (length judge.now.lines)) }
+{
+    most == Some(judge.heard())
 }
 
 // Whether there is a newline in a text.

@@ -1,16 +1,14 @@
 //! Reads a trace piece by piece, and has a judge hear its lines.
 
-ghost use Rattle.std.specs.Prelude.{◌≡◌, ◌≢◌, ◌+◌, ◌<◌, ◌≤◌, ◌^◌, ℕ, [], List, Option, length, take, drop, false, Err};
-ghost use Rattle.std.specs.Prelude.{IfOk, IfErr, OnErr};
+ghost use Rattle.std.specs.Prelude.{◌≡◌, ◌≢◌, ◌↔◌, ◌+◌, ◌<◌, ◌≤◌, ◌^◌, ℕ, [], List, Option, length, take, drop, true, false, Err};
+ghost use Rattle.std.specs.Prelude.{IfOk, IfErr, OnErr, IfSome, IsNone};
 ghost use Rattle.std.specs.Io.KnownBytes.{Consumes, IsAtEnd, Keeps};
-ghost use Rattle.fl_trace.specs.Text.{BreaksAt, LineFits};
-ghost use Rattle.fl_judge.specs.Audit.{judged_part, IsSaidOf};
-ghost use Rattle.fl_judge.specs.Inside.Hearing.{IsRoomy, Listens, HearsOn, HasRead};
+ghost use Rattle.fl_judge.specs.Inside.Hearing.{IsRoomy, Listens, HearsOn, HasRead, AreJudged, IsBad};
 ghost use Rattle.fl_judge.specs.Hearing.{unheard};
 
-use crate::finding::{AuditFault, Audited, finding_of};
+use crate::finding::AuditFault;
 use crate::judge::Judge;
-use crate::lines::{Left, hear_lines};
+use crate::lines::{Stopped, hear_lines};
 use fl_core::Rules;
 use fl_order::NoMemory;
 use fl_trace::LINE_ROOM;
@@ -22,28 +20,36 @@ use std::io::{ErrorKind, Read};
 // How many bytes there is room for.
 const ROOM: usize = 65536;
 
-// A judge, and the last line that has no newline yet: so many bytes at the front of a room, and no more than any line
-// can have. If it was longer, these tell that it is bad. Once a line was bad, what comes is no longer heard.
+// A judge, how many lines it is to hear at most, and the last line that has no newline yet: so many bytes at the front
+// of a room, and no more than any line can have. If it was longer, these tell that it is bad. Once a line was bad, or
+// as many were heard, what comes is no longer heard.
 #[derive(Drop)]
 pub(crate) struct Listener {
     judge: Judge,
+    most: Option<usize>,
     room: Vec<u8>,
     kept: usize,
-    bad: Option<usize>,
+    stopped: Option<Stopped>,
 }
 
 impl Listener {
-    /// Nothing came yet, and these are the rules.
-    pub(crate) fn new(alloc: Global, rules: Rules) -> Result<Listener, NoMemory>
+    /// Nothing came yet, and these are the rules. It hears so many lines at most, or all.
+    pub(crate) fn new(
+        alloc: Global,
+        rules: Rules,
+        most: Option<usize>,
+    ) -> Result<Listener, NoMemory>
         ensures room { IfOk result IsRoomy }
         ensures heard { IfOk result (λ listener. listener.judge ≡ unheard rules) }
+        ensures most { IfOk result (λ listener. listener.most ≡ most) }
         ensures listens { IfOk result (Listens []) }
     {
         Ok(Listener {
             judge: Judge::new(alloc, rules)?,
+            most,
             room: vec![in alloc; 0; ROOM]?,
             kept: 0,
-            bad: None,
+            stopped: None,
         })
     }
 
@@ -54,6 +60,7 @@ impl Listener {
         ensures room { IsRoomy self.new }
         ensures few { length self.new.judge.lines ≤ length self.old.judge.lines + 2 ^ 16 }
         ensures rules { self.new.judge.rules ≡ self.old.judge.rules }
+        ensures most { self.new.most ≡ self.old.most }
         ensures reads { (left : Option (List ℕ)) → HasRead left (R.remaining input.old) self.old →
             HasRead left (R.remaining input.new) self.new }
         ensures end { IfOk result (λ more. more ≡ false → IsAtEnd (R.remaining input.new)) }
@@ -79,42 +86,74 @@ impl Listener {
         ensures room { IsRoomy self.new }
         ensures few { length self.new.judge.lines ≤ length self.old.judge.lines + 2 ^ 16 }
         ensures rules { self.new.judge.rules ≡ self.old.judge.rules }
+        ensures most { self.new.most ≡ self.old.most }
         ensures hears { HearsOn self.old (take came (drop self.old.kept self.old.room.items)) self.new }
     {
         a_line_is_short();
-        if self.bad.is_some() {
+        if self.stopped.is_some() {
             return;
         }
         let filled = self.kept + came;
-        match hear_lines(&mut self.judge, &self.room[..filled]) {
-            Left::BadLine(n) => self.bad = Some(n),
-            Left::Bytes(left) => {
+        match hear_lines(&mut self.judge, self.most, &self.room[..filled]) {
+            Err(stopped) => self.stopped = Some(stopped),
+            Ok(left) => {
                 self.kept = left.min(LINE_ROOM);
                 keep(&mut self.room, filled - left, self.kept);
             }
         }
     }
 
-    /// Nothing more comes: what is to be said.
-    pub(crate) fn end(&self, cut: bool) -> Result<Audited, AuditFault>
+    /// Nothing more comes: the judge, unless a line was bad. With `cut` bytes behind the last newline are none.
+    pub(crate) fn end(self, cut: bool) -> Result<Judge, AuditFault>
+        requires room { IsRoomy self }
+        requires few { length self.judge.lines < 2 ^ 63 }
+        ensures rules { IfOk result (λ judge. judge.rules ≡ self.judge.rules) }
+        ensures few { IfOk result (λ judge. length judge.lines < 2 ^ 63) }
+        ensures heard { IfOk result (λ judge. (text : List ℕ) → Listens text self →
+            AreJudged self.most cut text judge.lines) }
+        ensures bad { (n : ℕ) → result ≡ Err (AuditFault.BadLine n) → (text : List ℕ) → Listens text self →
+            IsBad self.most cut text n }
+    {
+        match self.bad_line(cut) {
+            Some(n) => Err(AuditFault::BadLine(n)),
+            None => Ok(self.judge),
+        }
+    }
+
+    // The bad line, if one of those that came was bad.
+    fn bad_line(&self, cut: bool) -> Option<usize>
         requires room { IsRoomy self.now }
         requires few { length self.now.judge.lines < 2 ^ 63 }
-        ensures said { IfOk result (λ audited. (text : List ℕ) → Listens text self.now →
-            IsSaidOf self.now.judge.rules cut (judged_part cut text) audited) }
-        ensures bad { (n : ℕ) → result ≡ Err (AuditFault.BadLine n) → (text : List ℕ) → Listens text self.now →
-            BreaksAt LineFits (judged_part cut text) n }
+        ensures bad { IfSome result (λ n. (text : List ℕ) → Listens text self.now → IsBad self.now.most cut text n) }
+        ensures none { IsNone result → (text : List ℕ) → Listens text self.now →
+            AreJudged self.now.most cut text self.now.judge.lines }
     {
         a_line_is_short();
-        if let Some(n) = self.bad {
-            return Err(AuditFault::BadLine(n));
+        match self.stopped {
+            Some(stopped) => stopped.number(),
+            None => self.rest_line(cut),
         }
-        if self.kept > 0 && !cut {
-            return Err(AuditFault::BadLine(self.judge.heard() + 1));
+    }
+
+    // The line that the bytes behind the last newline are, if there are any and they aren't cut off.
+    fn rest_line(&self, cut: bool) -> Option<usize>
+        requires { length self.now.judge.lines < 2 ^ 63 }
+        ensures some { IfSome result (λ n.
+            (n ≡ length self.now.judge.lines + 1) × (0 < self.now.kept) × (cut ≡ false)) }
+        ensures none { IsNone result → cut ≡ false → self.now.kept ≡ 0 }
+    {
+        if self.ends_inside(cut) {
+            Some(self.judge.heard() + 1)
+        } else {
+            None
         }
-        Ok(Audited {
-            finding: finding_of(&self.judge, cut),
-            quiet: self.judge.quiet(),
-        })
+    }
+
+    // Whether there are any, and they aren't cut off.
+    fn ends_inside(&self, cut: bool) -> bool
+        ensures { (result ≡ true) ↔ ((0 < self.now.kept) × (cut ≡ false)) }
+    {
+        self.kept > 0 && !cut
     }
 }
 

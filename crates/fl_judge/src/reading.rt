@@ -1,10 +1,13 @@
 //! Reads a trace to its end, and says what is found.
 
-ghost use Rattle.std.specs.Prelude.{◌≡◌, ℕ, IfOk, IfSome, Err};
+ghost use Rattle.std.specs.Prelude.{◌≡◌, ◌<◌, ◌^◌, ℕ, length, IfOk, IfSome, Err};
 ghost use Rattle.fl_trace.specs.Text.{BreaksAt, LineFits};
-ghost use Rattle.fl_judge.specs.Audit.{judged_part, IsAudited};
+ghost use Rattle.fl_judge.specs.Audit.{judged_part, whole_lines, IsAudited};
+ghost use Rattle.fl_judge.specs.First.{AreFirstLines, IsSoOfAll, IsWithin};
+ghost use Rattle.fl_judge.specs.Inside.Hearing.{AreJudged, IsBad};
 
-use crate::finding::{AuditFault, Audited};
+use crate::finding::{AuditFault, Audited, finding_of};
+use crate::judge::Judge;
 use crate::listener::Listener;
 use fl_core::Rules;
 use std::alloc::Global;
@@ -29,7 +32,52 @@ pub fn audit<R: Read>(
     ensures bad { (n : ℕ) → result ≡ Err (AuditFault.BadLine n) →
         IfSome (R.remaining input.old) (λ bytes. BreaksAt LineFits (judged_part cut bytes) n) }
 {
-    let mut listener = Listener::new(alloc, rules)?;
+    match hear_all(alloc, rules, None, cut, input) {
+        Ok(judge) => Ok(Audited {
+            finding: finding_of(&judge, cut),
+            quiet: judge.quiet(),
+        }),
+        Err(fault) => Err(fault),
+    }
+}
+
+/// Reads a trace to its end, and gives a judge that heard its first lines: at most so many, or all. What follows the
+/// last newline, and all lines behind those, are read and dropped. It takes memory as `audit` does.
+///
+/// A bad line among those is reported once all of the trace is read. Reading fails as that of `audit` does.
+pub fn hear_first<R: Read>(
+    alloc: Global,
+    rules: Rules,
+    most: Option<usize>,
+    input: &mut R,
+) -> Result<Judge, AuditFault>
+    ensures rules { IfOk result (λ judge. judge.rules ≡ rules) }
+    ensures heard { IfOk result (λ judge.
+        IsSoOfAll (R.remaining input.old) (λ text. AreFirstLines most text judge.lines)) }
+    ensures few { IfOk result (λ judge. length judge.lines < 2 ^ 63) }
+    ensures bad { (n : ℕ) → result ≡ Err (AuditFault.BadLine n) → IsSoOfAll (R.remaining input.old) (λ text.
+        BreaksAt LineFits (whole_lines text) n × IsWithin most n) }
+{
+    hear_all(alloc, rules, most, true, input)
+}
+
+// Reads a trace to its end, and gives a judge that heard its first lines: at most so many, or all. With `cut` what
+// follows the last newline is dropped, and else it is a bad line.
+fn hear_all<R: Read>(
+    alloc: Global,
+    rules: Rules,
+    most: Option<usize>,
+    cut: bool,
+    input: &mut R,
+) -> Result<Judge, AuditFault>
+    ensures rules { IfOk result (λ judge. judge.rules ≡ rules) }
+    ensures heard { IfOk result (λ judge.
+        IsSoOfAll (R.remaining input.old) (λ text. AreJudged most cut text judge.lines)) }
+    ensures few { IfOk result (λ judge. length judge.lines < 2 ^ 63) }
+    ensures bad { (n : ℕ) → result ≡ Err (AuditFault.BadLine n) →
+        IsSoOfAll (R.remaining input.old) (λ text. IsBad most cut text n) }
+{
+    let mut listener = Listener::new(alloc, rules, most)?;
     for reads in 0..MOST_READS {
         let more = listener.read(input)?;
         if !more {

@@ -17,7 +17,7 @@ use std::alloc::Global;
 // whether no owner asked so far for a record lock while it waited for one.
 #[derive(Drop)]
 pub(crate) struct Replay {
-    core: Core,
+    pub(crate) core: Core,
     tolds: Tolds,
     told: usize,
     pub(crate) quiet: bool,

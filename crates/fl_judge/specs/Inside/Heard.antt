@@ -1,20 +1,15 @@
 -- What is always so of a judge, and of the lines that it heard.
 use Rattle.std.specs.Prelude.{◌≡◌, ◌↔◌, ℕ, ◌-◌, ◌^◌, ◌≤◌, Bool, true, false, Option, Some, None, List, [], ◌∷◌, ◌++◌}
-use Rattle.std.specs.Prelude.{length, map, take, drop}
+use Rattle.std.specs.Prelude.{length, take, drop}
 use Rattle.fl_core.specs.Tolds.{HasRoom}
 use Rattle.fl_desk.specs.Leading.{LeadsTo}
 use Rattle.fl_desk.specs.Legal.{IsLegal}
 use Rattle.fl_desk.specs.Verdicts.{IsBeginning}
 use Rattle.fl_history.specs.declared.history.Line.{Line}
-use Rattle.fl_history.specs.declared.history.Line.TheVariants as line
 use Rattle.fl_judge.specs.declared.replay.Replay.{Replay}
-use Rattle.fl_order.specs.declared.told.Told.{Told}
+use Rattle.fl_judge.specs.Present.{told_lines}
 use Rattle.fl_judge.specs.Quiet.{IsQuiet}
 use Rattle.fl_waiting.specs.declared.rules.Rules.{Rules}
-
--- replies, as lines
-abbrev pub told_lines : List Told → List Line
-told_lines tolds = map (λ told. line.Told told) tolds
 
 -- lines begin with these
 abbrev pub BeginsWith : List Line → List Line → Type 0

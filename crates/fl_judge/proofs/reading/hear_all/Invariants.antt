@@ -1,11 +1,12 @@
 use Rattle.std.proofs.Common.{◌≡◌, ◌≤◌, ◌*◌, length}
 use Rattle.fl_judge.specs.Inside.Hearing.{IsRoomy, HasRead}
-use Rattle.fl_judge.proofs.reading.audit.Given as goal
+use Rattle.fl_judge.proofs.reading.hear_all.Given as goal
 
 abbrev pub invariant-loop-reads : goal.invariant-loop-reads
 invariant-loop-reads g l = record {
   room : IsRoomy l.listener;
   few : length l.listener.judge.lines ≤ 65536 * l.reads;
   rules : l.listener.judge.rules ≡ l.fn.rules;
+  most : l.listener.most ≡ l.fn.most;
   read : HasRead (g.R.Read.remaining l.initial.input) (g.R.Read.remaining l.input) l.listener;
 }
