@@ -5,20 +5,18 @@ ghost use Rattle.fl_core.specs.Tolds.{HasRoom};
 use fl_core::{Core, Rules, Tolds};
 use fl_history::{History, Line};
 use fl_locks::{Blocker, LockRow, lock_rows};
-use fl_order::Name;
 use fl_ranges::{Class, Key, Kind, LAST_BYTE, Mark};
 use fl_trace::read_trace;
 use std::alloc::Global;
 use std::process::Abort;
 
-// What a row has, but for its blockers.
+// What a row has, but for the name and the blockers.
 #[derive(Clone, Copy, Debug, PartialEq)]
 struct Shown {
     key: Key,
     start: u64,
     end: u64,
     mark: Mark,
-    name: Option<Name>,
     unique: Option<u64>,
 }
 
@@ -41,53 +39,60 @@ fn take_all(core: &mut Core, tolds: &mut Tolds, history: &History)
     }
 }
 
-// A lock on a file of one letter.
-fn lock(
-    class: Class,
-    kind: Kind,
-    node: u64,
-    owner: u64,
-    pid: u32,
-    bytes: (u64, u64),
-    name: Option<Name>,
-) -> Shown {
+// A lock that is held.
+fn lock(class: Class, kind: Kind, node: u64, owner: u64, pid: u32, bytes: (u64, u64)) -> Shown {
     Shown {
         key: Key { class, node, owner },
         start: bytes.0,
         end: bytes.1,
         mark: Mark { kind, pid },
-        name,
         unique: None,
     }
 }
 
+// An owner in the way, with its process.
+fn by(owner: u64, pid: u32) -> Blocker {
+    Blocker { owner, pid }
+}
+
 // The same for a request of this unique that waits.
-fn waiting(lock: Shown, unique: u64) -> Shown {
+fn waiting(lock: &Shown, unique: u64) -> Shown {
     Shown {
         unique: Some(unique),
-        ..lock
+        ..*lock
     }
 }
 
-fn without_blockers(row: &LockRow) -> Shown {
+fn shown_of(row: &LockRow) -> Shown {
     Shown {
         key: row.key,
         start: row.start,
         end: row.end,
         mark: row.mark,
-        name: row.name,
         unique: row.unique,
     }
 }
 
-fn is_row(rt: &impl Abort, rows: &[LockRow], at: usize, wanted: &Shown, blockers: &[Blocker]) {
-    let row = rows.get(at).expect(rt, "no row");
-    assert_eq!(rt; without_blockers(row), *wanted, "row {at}");
-    assert_eq!(rt; row.blockers.as_slice(), blockers, "row {at}");
+// Whether the row has this name, or none if it has no letters.
+fn has_name(row: &LockRow, letters: &[u8]) -> bool {
+    match &row.name {
+        Some(name) => name.as_bytes() == letters,
+        None => letters.is_empty(),
+    }
 }
 
-fn named(rt: &impl Abort, letter: &[u8]) -> Option<Name> {
-    Some(Name::new(letter).expect(rt, "no name"))
+fn is_row(
+    rt: &impl Abort,
+    rows: &[LockRow],
+    at: usize,
+    wanted: &Shown,
+    name: &[u8],
+    blockers: &[Blocker],
+) {
+    let row = rows.get(at).expect(rt, "no row");
+    assert_eq!(rt; shown_of(row), *wanted, "row {at}");
+    assert!(rt; has_name(row, name), "row {at}");
+    assert_eq!(rt; row.blockers.as_slice(), blockers, "row {at}");
 }
 
 // The rows of this state.
@@ -112,44 +117,39 @@ ask 0 9 1 0 0 0 unlink 61
 #[test]
 fn held_locks_stand_before_requests_on_each_node(rt: HostRuntime) {
     let rows = rows_after(&rt, Rules::standard(), TWO_FILES);
-    let name = named(&rt, b"b");
-    let (record, flock) = (Class::Record, Class::Flock);
-    let (read, write) = (Kind::Read, Kind::Write);
     assert_eq!(rt; rows.len(), 6);
-    let on_3 = Blocker { owner: 7, pid: 11 };
-    let on_2 = Blocker { owner: 9, pid: 13 };
+    are_on_node_2(&rt, &rows);
+    are_on_node_3(&rt, &rows);
+}
+
+fn are_on_node_2(rt: &impl Abort, rows: &[LockRow]) {
     is_row(
-        &rt,
-        &rows,
+        rt,
+        rows,
         0,
-        &lock(record, read, 2, 8, 12, (0, 3), None),
+        &lock(Class::Record, Kind::Read, 2, 8, 12, (0, 3)),
+        b"",
         &[],
     );
     is_row(
-        &rt,
-        &rows,
+        rt,
+        rows,
         1,
-        &lock(record, read, 2, 9, 13, (5, 9), None),
+        &lock(Class::Record, Kind::Read, 2, 9, 13, (5, 9)),
+        b"",
         &[],
     );
-    is_row(
-        &rt,
-        &rows,
-        2,
-        &lock(flock, read, 2, 7, 11, (0, LAST_BYTE), None),
-        &[],
-    );
-    let first = lock(record, write, 2, 7, 11, (4, 6), None);
-    is_row(&rt, &rows, 3, &waiting(first, 8), &[on_2]);
-    is_row(
-        &rt,
-        &rows,
-        4,
-        &lock(record, write, 3, 7, 11, (0, 9), name),
-        &[],
-    );
-    let second = lock(record, read, 3, 8, 12, (9, 20), name);
-    is_row(&rt, &rows, 5, &waiting(second, 7), &[on_3]);
+    let whole = lock(Class::Flock, Kind::Read, 2, 7, 11, (0, LAST_BYTE));
+    is_row(rt, rows, 2, &whole, b"", &[]);
+    let wanted = lock(Class::Record, Kind::Write, 2, 7, 11, (4, 6));
+    is_row(rt, rows, 3, &waiting(&wanted, 8), b"", &[by(9, 13)]);
+}
+
+fn are_on_node_3(rt: &impl Abort, rows: &[LockRow]) {
+    let held = lock(Class::Record, Kind::Write, 3, 7, 11, (0, 9));
+    is_row(rt, rows, 4, &held, b"b", &[]);
+    let wanted = lock(Class::Record, Kind::Read, 3, 8, 12, (9, 20));
+    is_row(rt, rows, 5, &waiting(&wanted, 7), b"b", &[by(7, 11)]);
 }
 
 // Owner 7 holds a read lock. Owners 8 and 10 want write locks, and owner 9, between them, a read lock.
@@ -161,30 +161,36 @@ ask 0 4 2 0 0 0 setlkw 1 9 0 0 0 13 0
 ask 0 5 2 0 0 0 setlkw 1 8 0 0 1 12 0
 ";
 
+// A record lock of byte 0 of node 2.
+fn of_byte_0(kind: Kind, owner: u64, pid: u32) -> Shown {
+    lock(Class::Record, kind, 2, owner, pid, (0, 0))
+}
+
 // Under fair rules an older request keeps a younger one waiting.
 #[test]
 fn older_requests_block_under_fair_rules(rt: HostRuntime) {
     let rows = rows_after(&rt, Rules::standard().with_fair(true), ONE_BEHIND_ANOTHER);
-    let name = named(&rt, b"a");
     assert_eq!(rt; rows.len(), 4);
-    let (of_7, of_9) = (Blocker { owner: 7, pid: 11 }, Blocker { owner: 9, pid: 13 });
-    let of_10 = Blocker { owner: 10, pid: 14 };
-    let read = lock(Class::Record, Kind::Read, 2, 9, 13, (0, 0), name);
-    is_row(&rt, &rows, 2, &waiting(read, 4), &[of_10]);
-    let write = lock(Class::Record, Kind::Write, 2, 8, 12, (0, 0), name);
-    is_row(&rt, &rows, 3, &waiting(write, 5), &[of_7, of_9, of_10]);
+    let read = waiting(&of_byte_0(Kind::Read, 9, 13), 4);
+    is_row(&rt, &rows, 2, &read, b"a", &[by(10, 14)]);
+    let write = waiting(&of_byte_0(Kind::Write, 8, 12), 5);
+    is_row(
+        &rt,
+        &rows,
+        3,
+        &write,
+        b"a",
+        &[by(7, 11), by(9, 13), by(10, 14)],
+    );
 }
 
 #[test]
 fn no_older_request_blocks_under_the_standard_rules(rt: HostRuntime) {
     let rows = rows_after(&rt, Rules::standard(), ONE_BEHIND_ANOTHER);
-    let name = named(&rt, b"a");
     assert_eq!(rt; rows.len(), 4);
-    let (of_7, of_9) = (Blocker { owner: 7, pid: 11 }, Blocker { owner: 9, pid: 13 });
-    let read = lock(Class::Record, Kind::Read, 2, 9, 13, (0, 0), name);
-    is_row(&rt, &rows, 1, &read, &[]);
-    let write = lock(Class::Record, Kind::Write, 2, 8, 12, (0, 0), name);
-    is_row(&rt, &rows, 3, &waiting(write, 5), &[of_7, of_9]);
+    is_row(&rt, &rows, 1, &of_byte_0(Kind::Read, 9, 13), b"a", &[]);
+    let write = waiting(&of_byte_0(Kind::Write, 8, 12), 5);
+    is_row(&rt, &rows, 3, &write, b"a", &[by(7, 11), by(9, 13)]);
 }
 
 // Owner 7 has byte 5 by one process and byte 2 by another.
@@ -199,22 +205,9 @@ ask 0 5 2 0 0 0 setlkw 1 9 3 9 0 14 0
 #[test]
 fn the_process_of_the_first_run_in_the_way_is_named(rt: HostRuntime) {
     let rows = rows_after(&rt, Rules::standard(), TWO_PROCESSES);
-    let name = named(&rt, b"a");
     assert_eq!(rt; rows.len(), 4);
-    let all = lock(Class::Record, Kind::Read, 2, 8, 13, (0, 9), name);
-    is_row(
-        &rt,
-        &rows,
-        2,
-        &waiting(all, 4),
-        &[Blocker { owner: 7, pid: 12 }],
-    );
-    let part = lock(Class::Record, Kind::Read, 2, 9, 14, (3, 9), name);
-    is_row(
-        &rt,
-        &rows,
-        3,
-        &waiting(part, 5),
-        &[Blocker { owner: 7, pid: 11 }],
-    );
+    let all = lock(Class::Record, Kind::Read, 2, 8, 13, (0, 9));
+    is_row(&rt, &rows, 2, &waiting(&all, 4), b"a", &[by(7, 12)]);
+    let part = lock(Class::Record, Kind::Read, 2, 9, 14, (3, 9));
+    is_row(&rt, &rows, 3, &waiting(&part, 5), b"a", &[by(7, 11)]);
 }
