@@ -3,7 +3,11 @@
 
 mod cell;
 mod json;
+mod name;
 mod table;
+#[cfg(test)]
+mod tests;
+mod words;
 
 pub use json::lock_json;
 pub use table::lock_table;

@@ -1,0 +1,1 @@
+//! Each text once, beside one that was written by hand.
