@@ -15,13 +15,17 @@ quoted text = 34 ∷ text ++ 34 ∷ []
 abbrev pub member : List ℕ → List ℕ → List ℕ
 member key value = quoted key ++ 58 ∷ value
 
+-- members or values with commas between them
+abbrev pub commas : List (List ℕ) → List ℕ
+commas texts = join_with_byte 44 texts
+
 -- an object of these members
 abbrev pub object : List (List ℕ) → List ℕ
-object members = 123 ∷ join_with_byte 44 members ++ 125 ∷ []
+object members = 123 ∷ commas members ++ 125 ∷ []
 
 -- an array of these values
 abbrev pub array : List (List ℕ) → List ℕ
-array values = 91 ∷ join_with_byte 44 values ++ 93 ∷ []
+array values = 91 ∷ commas values ++ 93 ∷ []
 
 -- true or false
 abbrev pub bool_json : Bool → List ℕ
@@ -41,15 +45,31 @@ name_json (Some bytes) = quoted (flat_map hex_byte bytes)
 abbrev pub blocker_json : Blocker → List ℕ
 blocker_json b = object (member (codes "owner") (decimal b.owner) ∷ member (codes "pid") (decimal b.pid) ∷ [])
 
+-- which lock it is, and whether it waits
+unfoldable pub lock_members : LockRow → List ℕ
+lock_members row =
+    commas (member (codes "type") (quoted (class_word row.class)) ∷ member (codes "mode") (quoted (kind_word row.kind)) ∷
+    member (codes "waits") (bool_json (is_some row.unique)) ∷ [])
+
+-- which bytes it is on, and whose it is
+unfoldable pub range_members : LockRow → List ℕ
+range_members row =
+    commas (member (codes "start") (decimal row.start) ∷ member (codes "end") (decimal row.end) ∷
+    member (codes "pid") (decimal row.pid) ∷ member (codes "owner") (decimal row.owner) ∷ [])
+
+-- which request it is, if it waits, and who is in its way
+unfoldable pub waiting_members : LockRow → List ℕ
+waiting_members row =
+    commas (member (codes "unique") (unique_json row.unique) ∷
+    member (codes "blockers") (array (map blocker_json row.blockers.items)) ∷ [])
+
+-- on which file: its node and its name
+unfoldable pub file_members : LockRow → List ℕ
+file_members row = commas (member (codes "node") (decimal row.node) ∷ member (codes "name") (name_json row.name) ∷ [])
+
 -- a lock that is held, or a request that waits
 abbrev pub row_json : LockRow → List ℕ
-row_json row =
-    object (member (codes "type") (quoted (class_word row.class)) ∷ member (codes "mode") (quoted (kind_word row.kind)) ∷
-    member (codes "waits") (bool_json (is_some row.unique)) ∷ member (codes "start") (decimal row.start) ∷
-    member (codes "end") (decimal row.end) ∷ member (codes "pid") (decimal row.pid) ∷
-    member (codes "owner") (decimal row.owner) ∷ member (codes "unique") (unique_json row.unique) ∷
-    member (codes "blockers") (array (map blocker_json row.blockers.items)) ∷ member (codes "node") (decimal row.node) ∷
-    member (codes "name") (name_json row.name) ∷ [])
+row_json row = object (lock_members row ∷ range_members row ∷ waiting_members row ∷ file_members row ∷ [])
 
 -- all rows, and a newline
 abbrev pub json_text : List LockRow → List ℕ
