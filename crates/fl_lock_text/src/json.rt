@@ -42,15 +42,15 @@ fn push_rows(text: &mut String, rows: &[LockRow]) -> Result<(), AllocError>
 fn push_row(text: &mut String, row: &LockRow) -> Result<(), AllocError>
     ensures { OnOk result (string_bytes text.new ≡ string_bytes text.old ++ row_json row.now) }
 {
-    text.push('{')?;
+    text.push_str("{")?;
     push_lock(text, row)?;
-    text.push(',')?;
+    text.push_str(",")?;
     push_range(text, row)?;
-    text.push(',')?;
+    text.push_str(",")?;
     push_waiting(text, row)?;
-    text.push(',')?;
+    text.push_str(",")?;
     push_file(text, row)?;
-    text.push('}')?;
+    text.push_str("}")?;
     Ok(())
 }
 
