@@ -52,11 +52,7 @@ pub(crate) fn is_right(column: Column) -> bool
 }
 
 /// Writes what a row has in a column.
-pub(crate) fn push_cell(
-    text: &mut String,
-    column: Column,
-    row: &LockRow,
-) -> Result<(), AllocError>
+pub(crate) fn push_cell(text: &mut String, column: Column, row: &LockRow) -> Result<(), AllocError>
     ensures { OnOk result (string_bytes text.new ≡ string_bytes text.old ++ cell_text column row.now) }
 {
     match column {

@@ -61,7 +61,10 @@ fn push_lock(text: &mut String, row: &LockRow) -> Result<(), AllocError>
 {
     let (class, kind) = (class_word(row.class), kind_word(row.kind));
     let waits = row.unique.is_some();
-    write!(text, "\"type\":\"{class}\",\"mode\":\"{kind}\",\"waits\":{waits}")?;
+    write!(
+        text,
+        "\"type\":\"{class}\",\"mode\":\"{kind}\",\"waits\":{waits}"
+    )?;
     Ok(())
 }
 
@@ -77,7 +80,10 @@ fn push_range(text: &mut String, row: &LockRow) -> Result<(), AllocError>
         owner,
         ..
     } = row;
-    write!(text, "\"start\":{start},\"end\":{end},\"pid\":{pid},\"owner\":{owner}")
+    write!(
+        text,
+        "\"start\":{start},\"end\":{end},\"pid\":{pid},\"owner\":{owner}"
+    )
 }
 
 // Which request it is, if it waits, and who is in its way.
@@ -129,7 +135,11 @@ fn push_blockers(text: &mut String, blockers: &[Blocker]) -> Result<(), AllocErr
 fn push_blocker(text: &mut String, blocker: Blocker) -> Result<(), AllocError>
     ensures { OnOk result (string_bytes text.new ≡ string_bytes text.old ++ blocker_json blocker) }
 {
-    write!(text, "{{\"owner\":{},\"pid\":{}}}", blocker.owner, blocker.pid)
+    write!(
+        text,
+        "{{\"owner\":{},\"pid\":{}}}",
+        blocker.owner, blocker.pid
+    )
 }
 
 fn push_name(text: &mut String, name: &Option<Name>) -> Result<(), AllocError>

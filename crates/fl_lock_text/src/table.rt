@@ -65,11 +65,7 @@ fn inner_columns() -> [Column; 8]
 }
 
 // How wide a column is. Each cell is written into the same string, which is emptied before.
-fn width_of(
-    cell: &mut String,
-    column: Column,
-    rows: &[LockRow],
-) -> Result<usize, AllocError>
+fn width_of(cell: &mut String, column: Column, rows: &[LockRow]) -> Result<usize, AllocError>
     ensures { IfOk result (λ width. width ≡ width_of rows.now column) }
 {
     let mut width = heading(column).len();
