@@ -1,4 +1,4 @@
-use Rattle.std.proofs.Common.{◌∷◌, ◌++◌, string_bytes, sym, ap, ◌∙◌, rules}
+use Rattle.std.proofs.Common.{◌++◌, string_bytes, sym, ap, ◌∙◌}
 use Rattle.std.specs.Fmt.{decimal}
 use Rattle.fl_lock_text.specs.Cells.{pids_text}
 use Rattle.fl_lock_text.proofs.Joins.{written}
