@@ -34,7 +34,7 @@ pub(crate) fn blockers_of(
     }
     found.sort_by_key(|blocker| blocker.owner)?;
     found.dedup_by_key(|blocker| blocker.owner);
-    Ok(Blockers { list: found })
+    Ok(Blockers::new(found))
 }
 
 // The runs of a node, of runs in the order of their nodes.

@@ -33,13 +33,18 @@ impl Model for Blockers {
 }
 
 impl Blockers {
+    /// Those of a list.
+    pub fn new(list: Vec<Blocker>) -> Blockers
+        ensures { result ≡ list.items }
+    {
+        Blockers { list }
+    }
+
     /// None.
     pub(crate) fn none(alloc: Global) -> Blockers
         ensures { result ≡ [] }
     {
-        Blockers {
-            list: Vec::new(alloc),
-        }
+        Blockers::new(Vec::new(alloc))
     }
 
     /// They, one after another.

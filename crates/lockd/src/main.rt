@@ -20,7 +20,8 @@ ghost use Rattle.lockd_serve.specs.Ending.{Ends};
 
 use descriptors::hold_closed_streams;
 use lockd_cli::{Asked, Trace, UsageError, WhenFull, print_version, read_words};
-use lockd_commands::{CheckOptions, CommandFault, Status, bytes_on, check_on, drive_on, script_on};
+use lockd_commands::{CheckOptions, CommandFault, LocksOptions, Status};
+use lockd_commands::{bytes_on, check_on, drive_on, locks_on, script_on};
 use lockd_serve::{ServeOptions, TraceTo, WhenWriterFails, is_unused, serve_on, trace_at};
 use std::fs::{File, Files};
 use std::io::Write;
@@ -74,6 +75,19 @@ fn run<T: Threads + Wait + Net + Files + Sync>(
                 cut: *cut,
             };
             check_on(alloc, *rules, options, &mut input, &mut output, &mut faults)
+        }
+        Asked::Locks {
+            at,
+            file,
+            json,
+            rules,
+        } => {
+            let options = LocksOptions {
+                at: at.map(|lines| lines as usize),
+                file: file.as_ref().map(|name| name.as_bytes()),
+                json: *json,
+            };
+            locks_on(alloc, *rules, options, &mut input, &mut output, &mut faults)
         }
         Asked::Version => version_on(&mut output, &mut faults),
         Asked::Serve {

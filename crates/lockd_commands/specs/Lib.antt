@@ -3,4 +3,5 @@ pub mod Check
 pub mod Drive
 pub mod Faults
 pub mod Hex
+pub mod Locks
 pub mod Script

@@ -1,4 +1,5 @@
 -- The list of locks after the lines of a trace.
+pub mod Inside
 use Rattle.std.specs.Prelude.{◌≡◌, ℕ, Bool, true, false, List, [], ◌∷◌, ◌++◌, codes, Option, Some, None}
 use Rattle.std.specs.Str.{bytes_eq}
 use Rattle.std.specs.List.{filter}

@@ -99,7 +99,7 @@ fn judge<R: Read, W: Write>(
 }
 
 // A fault of an audit, as a command tells it.
-fn fault_of(fault: AuditFault) -> CommandFault
+pub(crate) fn fault_of(fault: AuditFault) -> CommandFault
     ensures { result ≡ audit_fault fault }
 {
     match fault {

@@ -21,6 +21,7 @@ mod bytes;
 mod check;
 mod drive;
 mod exchange;
+mod locks;
 mod reply;
 mod script;
 
@@ -29,4 +30,5 @@ pub use check::{CheckOptions, check_on};
 pub use drive::drive_on;
 pub use fl_core::Rules;
 pub use lockd_faults::{CommandFault, Status};
+pub use locks::{LocksOptions, locks_on};
 pub use script::script_on;

@@ -1,6 +1,8 @@
 //! `lockd locks`: lists who holds what, and who waits, after the lines of a trace.
 
-ghost use Rattle.std.specs.Prelude.{◌≡◌, ◌≢◌, ℕ, string_bytes, Err, IfOk, IfErr};
+ghost use Rattle.std.specs.Prelude.{◌≡◌, ◌≢◌, ◌++◌, ◌∷◌, [], ◌<◌, ◌^◌, ℕ, length, codes, string_bytes, IfOk, IfErr};
+ghost use Rattle.std.specs.Fmt.{decimal};
+ghost use Rattle.fl_desk.specs.Verdicts.{DiffersAt, IsBeginning};
 ghost use Rattle.std.specs.Io.KnownBytes.{Keeps};
 ghost use Rattle.fl_judge.specs.First.{IsSoOfAll, IsWithin};
 ghost use Rattle.fl_judge.specs.Audit.{whole_lines};
@@ -135,4 +137,20 @@ fn is_called(name: &[u8], own: &Option<Name>) -> bool
         None => false,
         Some(own) => own.as_bytes() == name,
     }
+}
+
+// The line that says where the lines begin no legal history.
+fn difference(alloc: Global, judge: &Judge) -> Result<String, CommandFault>
+    requires few { length judge.now.lines < 2 ^ 63 }
+    requires none { IsBeginning judge.now.rules judge.now.lines → ⊥ }
+    ensures said { IfOk result (λ text. (line : ℕ) × DiffersAt judge.now.rules judge.now.lines line
+        × (string_bytes text ≡ codes "differs " ++ (decimal line ++ 10 ∷ []))) }
+    ensures error { IfErr result (λ fault. fault ≡ CommandFault.NoMemory) }
+{
+    let mut text = String::new(alloc);
+    match judge.verdict() {
+        Verdict::Legal => unreachable!(),
+        Verdict::Differs(n) => writeln!(text, "differs {n}")?,
+    }
+    Ok(text)
 }
