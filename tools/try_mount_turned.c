@@ -143,7 +143,8 @@ static void release_after_many_owners(char *bytes)
 int main(int argc, char **argv)
 {
     static _Alignas(8) char bytes[MOST + 16];
-    names_start(0755, 0, 0);
+    names_start(256, 0755, 0, 0);
+    opens_start(1024);
     release_after_many_owners(bytes);
     for (long round = argc > 1 ? atol(argv[1]) : 0; round > 0; round--) {
         session.discards = below(2);
