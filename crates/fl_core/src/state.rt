@@ -13,9 +13,10 @@ ghost use Rattle.fl_ranges.specs.Conflict.{IsLawful};
 
 use crate::parts::Parts;
 use crate::tolds::Tolds;
+use fl_dir::Dir;
 use fl_order::{Answer, Errno, NoMemory, Op, Order, Told};
-use fl_ranges::{Key, Kind, Range};
-use fl_waiting::{MOST_PARKED, Rules};
+use fl_ranges::{Key, Kind, Range, Table};
+use fl_waiting::{MOST_PARKED, Parked, Rules};
 use std::alloc::Global;
 use std::marker::Model;
 
@@ -115,6 +116,38 @@ impl Core {
         ensures any_rules { result ≤ MOST_PARKED + 1 }
     {
         self.parts.rules.parked as usize + 1
+    }
+
+    /// The locks that are held.
+    pub fn table(&self) -> &Table
+        ensures { result.now.marking ≡ self.now.marking }
+    {
+        let parts = &self.parts;
+        &parts.locks
+    }
+
+    /// The requests that wait, the oldest first.
+    pub fn parked(&self) -> &Parked
+        ensures { result.now ≡ self.now.view.parked }
+    {
+        let parts = &self.parts;
+        &parts.parked
+    }
+
+    /// Names, nodes and open files.
+    pub fn directory(&self) -> &Dir
+        ensures { result.now ≡ self.now.view.directory }
+    {
+        let parts = &self.parts;
+        &parts.directory
+    }
+
+    /// By which rules requests wait.
+    pub fn rules(&self) -> Rules
+        ensures { result ≡ self.now.rules }
+    {
+        let parts = &self.parts;
+        parts.rules
     }
 
     /// Whether a request of this owner for a record lock is parked.

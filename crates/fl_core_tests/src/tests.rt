@@ -14,6 +14,7 @@ mod full;
 mod limits;
 mod lives;
 mod locks;
+mod many;
 mod orders;
 mod parking;
 mod random;

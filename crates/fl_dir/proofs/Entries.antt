@@ -1,5 +1,5 @@
 -- Entries in the order of their numbers, as a list and as a finite map.
-use Rattle.std.proofs.Common.{◌≡◌, ℕ, zero, suc, ◌+◌, ◌<◌, Bool, true, false, cond, not, ◌==◌, ◌&&◌, T, Option, Some}
+use Rattle.std.proofs.Common.{◌≡◌, ℕ, zero, suc, ◌+◌, ◌<◌, Bool, true, false, cond, not, ◌==◌, T, Option, Some}
 use Rattle.std.proofs.Common.{None, IfSome, option_map, slice_get}
 use Rattle.std.proofs.Common.{slice_set, List, [], ◌∷◌, ◌++◌, length, refl, ap, sym, ◌∙◌, subst, arith}
 use Rattle.std.proofs.lemmas.Bool.Decides.{nat_tests}
@@ -11,7 +11,7 @@ use Rattle.std.specs.Ordering.{nat_cmp, eq_by_cmp, is_eq, is_lt}
 use Rattle.std.specs.Cmp.{nat_cmp_total, first_so, second_so}
 use Rattle.std.specs.FinMap as map
 use Rattle.std.specs.FinMap.Entries as rising
-use Rattle.std.proofs.lemmas.Bool.{and_from, eqb-true, eq-eqb}
+use Rattle.std.proofs.lemmas.Bool.{and_from, eqb-true}
 use Rattle.fl_dir.specs.Inside.Listed.{AreBelow, AreListed}
 
 held : (b : Bool) → b ≡ true → T b

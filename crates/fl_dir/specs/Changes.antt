@@ -52,7 +52,7 @@ looked_up (Some node) made = counted_up node
 
 -- the directory after a CREATE that made or opened this node under this fh
 abbrev pub after_made : Listing → Node → Attr → ℕ → Listing
-after_made d made attr fh = record {
+after_made d made attr fh = record d {
   nodes = insert d.nodes attr.node (looked_up (get d.nodes attr.node) made);
   files = insert d.files fh attr.node;
   next_node = if contains_key d.nodes attr.node then d.next_node else attr.node + 1;

@@ -8,16 +8,19 @@ use Rattle.std.specs.FinMap.{FinMap, empty, get, contains_key, len, entries}
 use Rattle.fl_dir.specs.declared.node.Node.{Node}
 use Rattle.fl_order.specs.declared.told.Attr.{Attr}
 
--- nodes and open files by their numbers, and the numbers that come next
+-- nodes and open files by their numbers, the numbers that come next, and how many of each there may be
 pub record Listing : Type 0 where
   pub nodes : FinMap nat_cmp Node
   pub files : FinMap nat_cmp ℕ
   pub next_node : ℕ
   pub next_fh : ℕ
+  pub most_nodes : ℕ
+  pub most_files : ℕ
 
--- an empty directory: node 1 is its root, and has no entry
-abbrev pub opening_listing : Listing
-opening_listing = record { nodes = empty; files = empty; next_node = 2; next_fh = 1 }
+-- an empty directory for so many nodes and open files: node 1 is its root, and has no entry
+abbrev pub opening_listing : ℕ → ℕ → Listing
+opening_listing nodes files =
+    record { nodes = empty; files = empty; next_node = 2; next_fh = 1; most_nodes = nodes; most_files = files }
 
 -- the root is always there
 abbrev pub is_known : Listing → ℕ → Bool
@@ -37,9 +40,9 @@ abbrev pub is_reserved : List ℕ → Bool
 is_reserved name =
     bytes_eq name [] || bytes_eq name (46 ∷ []) || bytes_eq name (46 ∷ 46 ∷ []) || list_any (λ byte. byte == 47) name
 
--- 256 nodes live beside the root, or all node numbers are given
+-- as many nodes live beside the root as there may be, or all node numbers are given
 abbrev pub nodes_full : Listing → Bool
-nodes_full d = nat_le 256 (len d.nodes) || (d.next_node == 2 ^ 64 - 1)
+nodes_full d = nat_le d.most_nodes (len d.nodes) || (d.next_node == 2 ^ 64 - 1)
 
 -- a regular file (octal 100000) with the permission bits (octal 777) of a mode
 abbrev pub file_mode : ℕ → ℕ

@@ -5,9 +5,9 @@ use Rattle.std.specs.FinMap.{get, len, entries, remove}
 use Rattle.fl_dir.specs.declared.node.Node.{Node}
 use Rattle.fl_dir.specs.Directory.{Listing}
 
--- 1,024 files are open, or all their numbers are given
+-- as many files are open as there may be, or all their numbers are given
 abbrev pub files_full : Listing → Bool
-files_full d = nat_le 1024 (len d.files) || (d.next_fh == 2 ^ 64 - 1)
+files_full d = nat_le d.most_files (len d.files) || (d.next_fh == 2 ^ 64 - 1)
 
 -- an fh that may be open is open on this node
 abbrev pub is_on : Option ℕ → ℕ → Bool

@@ -1,5 +1,5 @@
 //! The directory and its calls.
-ghost use Rattle.std.specs.Prelude.{◌≡◌, ◌+◌, Some, IfOk, OnOk, OnErr, false};
+ghost use Rattle.std.specs.Prelude.{◌≡◌, ◌+◌, ◌≤◌, Some, IfOk, OnOk, OnErr, false};
 ghost use Rattle.std.specs.FinMap as map;
 ghost use Rattle.fl_dir.specs.Directory.{opening_listing};
 ghost use Rattle.fl_dir.specs.Replies.{
@@ -36,9 +36,11 @@ use std::marker::Model;
 /// The root's node number, `FUSE_ROOT_ID` of Linux `fuse.h`.
 pub const ROOT: u64 = 1;
 
-const MOST_NODES: usize = 256;
+/// The most files that a directory can be made for.
+pub const MOST_FILES: u32 = 65_536;
 
-const MOST_FILES: usize = 1024;
+/// The most open files that a directory can be made for.
+pub const MOST_OPEN: u32 = 65_536;
 
 /// Names, nodes and open files of a flat directory. Contracts see them as a `Listing`.
 ///
@@ -74,19 +76,21 @@ impl Model for Dir {
       files = d.files.values;
       next_node = d.nodes.next;
       next_fh = d.files.next;
+      most_nodes = d.nodes.limit;
+      most_files = d.files.limit;
     } };
-
-    ghost invariant = { λ d. (d.nodes.limit ≡ 256) × (d.files.limit ≡ 1024) };
 }
 
 impl Dir {
-    /// An empty directory, with room for all that it may hold. It fails only if memory runs out.
-    pub fn new(alloc: Global) -> Result<Dir, NoMemory>
-        ensures { IfOk result (λ d. d ≡ opening_listing) }
+    /// An empty directory, with room for so many files and open files. It fails only if memory runs out.
+    pub fn new(alloc: Global, files: u32, open_files: u32) -> Result<Dir, NoMemory>
+        requires files { (1 ≤ files) × (files ≤ 65536) }
+        requires open_files { (1 ≤ open_files) × (open_files ≤ 65536) }
+        ensures { IfOk result (λ d. d ≡ opening_listing files open_files) }
     {
         Ok(Dir {
-            nodes: Numbered::new(alloc, MOST_NODES, ROOT + 1)?,
-            files: Numbered::new(alloc, MOST_FILES, 1)?,
+            nodes: Numbered::new(alloc, files as usize, ROOT + 1)?,
+            files: Numbered::new(alloc, open_files as usize, 1)?,
         })
     }
 

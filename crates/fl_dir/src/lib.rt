@@ -9,11 +9,12 @@ mod chain;
 mod dir;
 mod files;
 mod names;
+mod naming;
 mod node;
 mod nodes;
 mod numbered;
 #[cfg(test)]
 mod tests;
 
-pub use dir::{Closed, Dir, ROOT};
+pub use dir::{Closed, Dir, MOST_FILES, MOST_OPEN, ROOT};
 pub use node::Node;

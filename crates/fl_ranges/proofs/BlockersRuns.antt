@@ -68,10 +68,62 @@ not_nearer : (x y p q : ℕ) → (nat_lt x y || ((x == y) && nat_lt p q)) ≡ fa
 not_nearer x y p q e = record { place = grind (arith, nat_tests); owner = λ same. grind (arith, nat_tests) }
 
 -- what is known of each run of a list
-record IsListed (rs : List Run) (r : Run) : Type 0 where
+pub record IsListed (rs : List Run) (r : Run) : Type 0 where
   pub found : (q : Spot) → has_spot q r ≡ true → run_at rs q ≡ Some r
   pub ordered : r.start ≤ r.end
   pub whole : IsWhole (held_at rs) r
+
+-- ---- the row of a run
+
+module _ (rs : List Run) (good : AreRuns rs) where
+  pub run_row : (r : Run) (byte : ℕ) → r.start ≤ byte → byte ≤ r.end → ((q : Spot) → has_spot q r ≡ true → run_at rs q ≡ Some r) → IsWhole (held_at rs) r →
+      IsRow (marking_of (map meant rs)) r.key r.mark byte r.start r.end
+  run_row r byte from upto found whole = record {
+    from = from;
+    upto = upto;
+    bounded = whole.in_range;
+    each = marked;
+    first = λ b next same.
+        let place : r.start - 1 ≡ b = omega arith in
+        whole.first (λ zero_is. absurd (omega arith)) (ap (λ n. held_at rs (r.key, n)) place ∙ sym (get-runs rs (r.key, b)) ∙ same);
+    last = λ below same. after (held_by rs (r.key, r.end + 1) r.mark (sym (get-runs rs (r.key, r.end + 1)) ∙ same));
+  }
+    where
+      held : (b : ℕ) → r.start ≤ b → b ≤ r.end → held_at rs (r.key, b) ≡ Some r.mark
+      held b from upto = held_of rs (r.key, b) r (found (r.key, b) (spot_of r (r.key, b) refl from upto))
+
+      marked : (b : ℕ) → r.start ≤ b → b ≤ r.end → get (marking_of (map meant rs)) (r.key, b) ≡ Some r.mark
+      marked b from upto = get-runs rs (r.key, b) ∙ held b from upto
+
+      after : HeldBy rs (r.key, r.end + 1) r.mark → ⊥
+      after h = go (nat_lt h.run.start (r.end + 1)) refl
+        where
+          at : IsAt h.run (r.key, r.end + 1)
+          at = at_spot h.run (r.key, r.end + 1) (run_has rs (r.key, r.end + 1) h.run h.found)
+
+          go : (t : Bool) → nat_lt h.run.start (r.end + 1) ≡ t → ⊥
+          go true is =
+              let begins : h.run.start ≤ r.end = grind (arith, nat_tests) in
+              let ends = at.upto in
+              let one = same_run rs good.apart (r.key, r.end + 1) (r.key, r.end) h.run h.found (spot_of h.run (r.key, r.end) at.key begins (omega arith)) in
+              let other = found (r.key, r.end) (spot_of r (r.key, r.end) refl (omega arith) (omega arith)) in
+              let same : h.run ≡ r = cc (sym one ∙ other) in
+              let over : r.end + 1 ≤ r.end = subst (λ (y : Run). r.end + 1 ≤ y.end) same ends in
+              absurd (omega arith)
+          go false is =
+              let begins = at.from in
+              let place : h.run.start - 1 ≡ r.end = grind (arith, nat_tests) in
+              let w = each_at (IsWhole (held_at rs)) rs (has_spot (r.key, r.end + 1)) h.run good.whole h.found in
+              w.first (λ zero_is. absurd (grind (arith, nat_tests)))
+              ((λ i. held_at rs (at.key i, place i)) ∙ held r.end (omega arith) (omega arith) ∙ ap Some (sym h.mark_is))
+
+  pub each_listed : AllByRecursion (IsListed rs) rs
+  each_listed =
+      all_weaker (λ r. ((q : Spot) → has_spot q r ≡ true → run_at rs q ≡ Some r) × ((r.start ≤ r.end) × IsWhole (held_at rs) r)) (IsListed rs)
+      (λ r f. record { found = f.0; ordered = f.1.0; whole = f.1.1 }) rs
+      (all_both (λ r. (q : Spot) → has_spot q r ≡ true → run_at rs q ≡ Some r) (λ r. (r.start ≤ r.end) × IsWhole (held_at rs) r) rs
+      (each_found rs good.apart)
+      (all_both (λ r. r.start ≤ r.end) (IsWhole (held_at rs)) rs (each_ordered rs good.apart) good.whole))
 
 module _ (key : Key) (start end : ℕ) (kind : Kind) where
   -- ---- what is found among runs
@@ -176,55 +228,6 @@ module _ (key : Key) (start end : ℕ) (kind : Kind) where
           from = begins;
         }
 
-    run_row : (r : Run) (byte : ℕ) → r.start ≤ byte → byte ≤ r.end → ((q : Spot) → has_spot q r ≡ true → run_at rs q ≡ Some r) → IsWhole (held_at rs) r →
-        IsRow (marking_of (map meant rs)) r.key r.mark byte r.start r.end
-    run_row r byte from upto found whole = record {
-      from = from;
-      upto = upto;
-      bounded = whole.in_range;
-      each = marked;
-      first = λ b next same.
-          let place : r.start - 1 ≡ b = omega arith in
-          whole.first (λ zero_is. absurd (omega arith)) (ap (λ n. held_at rs (r.key, n)) place ∙ sym (get-runs rs (r.key, b)) ∙ same);
-      last = λ below same. after (held_by rs (r.key, r.end + 1) r.mark (sym (get-runs rs (r.key, r.end + 1)) ∙ same));
-    }
-      where
-        held : (b : ℕ) → r.start ≤ b → b ≤ r.end → held_at rs (r.key, b) ≡ Some r.mark
-        held b from upto = held_of rs (r.key, b) r (found (r.key, b) (spot_of r (r.key, b) refl from upto))
-
-        marked : (b : ℕ) → r.start ≤ b → b ≤ r.end → get (marking_of (map meant rs)) (r.key, b) ≡ Some r.mark
-        marked b from upto = get-runs rs (r.key, b) ∙ held b from upto
-
-        after : HeldBy rs (r.key, r.end + 1) r.mark → ⊥
-        after h = go (nat_lt h.run.start (r.end + 1)) refl
-          where
-            at : IsAt h.run (r.key, r.end + 1)
-            at = at_spot h.run (r.key, r.end + 1) (run_has rs (r.key, r.end + 1) h.run h.found)
-
-            go : (t : Bool) → nat_lt h.run.start (r.end + 1) ≡ t → ⊥
-            go true is =
-                let begins : h.run.start ≤ r.end = grind (arith, nat_tests) in
-                let ends = at.upto in
-                let one = same_run rs good.apart (r.key, r.end + 1) (r.key, r.end) h.run h.found (spot_of h.run (r.key, r.end) at.key begins (omega arith)) in
-                let other = found (r.key, r.end) (spot_of r (r.key, r.end) refl (omega arith) (omega arith)) in
-                let same : h.run ≡ r = cc (sym one ∙ other) in
-                let over : r.end + 1 ≤ r.end = subst (λ (y : Run). r.end + 1 ≤ y.end) same ends in
-                absurd (omega arith)
-            go false is =
-                let begins = at.from in
-                let place : h.run.start - 1 ≡ r.end = grind (arith, nat_tests) in
-                let w = each_at (IsWhole (held_at rs)) rs (has_spot (r.key, r.end + 1)) h.run good.whole h.found in
-                w.first (λ zero_is. absurd (grind (arith, nat_tests)))
-                ((λ i. held_at rs (at.key i, place i)) ∙ held r.end (omega arith) (omega arith) ∙ ap Some (sym h.mark_is))
-
-    each_listed : AllByRecursion (IsListed rs) rs
-    each_listed =
-        all_weaker (λ r. ((q : Spot) → has_spot q r ≡ true → run_at rs q ≡ Some r) × ((r.start ≤ r.end) × IsWhole (held_at rs) r)) (IsListed rs)
-        (λ r f. record { found = f.0; ordered = f.1.0; whole = f.1.1 }) rs
-        (all_both (λ r. (q : Spot) → has_spot q r ≡ true → run_at rs q ≡ Some r) (λ r. (r.start ≤ r.end) × IsWhole (held_at rs) r) rs
-        (each_found rs good.apart)
-        (all_both (λ r. r.start ≤ r.end) (IsWhole (held_at rs)) rs (each_ordered rs good.apart) good.whole))
-
     -- no excluder comes before the nearest run
     none_first : (r : Run) → IsNearest None rs r → (byte owner : ℕ) (mark : Mark) → start ≤ byte → byte ≤ end →
         IsConflicting (marking_of (map meant rs)) key kind byte owner mark → NotNearer byte (max r.start start) owner r.key.owner
@@ -242,9 +245,9 @@ module _ (key : Key) (start end : ℕ) (kind : Kind) where
         IsBlocker (marking_of (map meant rs)) key start end kind (lock_of r)
     named_run some r e =
         let listed = nearest_among (IsListed rs) rs None r (λ b is. absurd (cc is))
-        (all_weaker (IsListed rs) (λ s. run_conflicts key start end kind s ≡ true → IsListed rs s) (λ s l h. l) rs each_listed) e in
+        (all_weaker (IsListed rs) (λ s. run_conflicts key start end kind s ≡ true → IsListed rs s) (λ s l h. l) rs (each_listed rs good)) e in
         let conflicting = nearest_among (λ s. run_conflicts key start end kind s ≡ true) rs None r (λ b is. absurd (cc is)) (all_weaker (IsListed rs)
-        (λ s. run_conflicts key start end kind s ≡ true → run_conflicts key start end kind s ≡ true) (λ s l h. h) rs each_listed) e in
+        (λ s. run_conflicts key start end kind s ≡ true → run_conflicts key start end kind s ≡ true) (λ s l h. h) rs (each_listed rs good)) e in
         let p = conflicting_parts (class_number key.class) (class_number r.key.class) key.node r.key.node key.owner r.key.owner start end r.start r.end
         (kinds_conflict kind r.mark.kind) conflicting in
         let near = nearest_is rs None r e in
@@ -254,7 +257,7 @@ module _ (key : Key) (start end : ℕ) (kind : Kind) where
         let begins = p.begins in
         let ends = p.ends in
         let ordered = listed.ordered in
-        let row = run_row r (max r.start start) (omega arith) (omega arith) listed.found listed.whole in
+        let row = run_row rs good r (max r.start start) (omega arith) (omega arith) listed.found listed.whole in
         record {
           byte = max r.start start;
           from = omega arith;

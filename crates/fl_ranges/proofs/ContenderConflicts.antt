@@ -3,7 +3,7 @@ use Rattle.std.proofs.Common.{◌≡◌, ℕ, ◌+◌, Bool, true, false, cond, 
 use Rattle.std.proofs.Common.{slice_get, refl, ap, sym, ◌∙◌}
 use Rattle.std.proofs.lemmas.List.Folds.{list_any-append}
 use Rattle.std.specs.List.{filter, find, list_any}
-use Rattle.fl_spans.specs.Rows.{rows, keys, runs_at}
+use Rattle.fl_spans.specs.Rows.{chain_count, rows, keys, runs_at}
 use Rattle.fl_spans.specs.declared.span.Span.{Span}
 use Rattle.fl_ranges.specs.declared.lock.Key.{Key}
 use Rattle.fl_ranges.specs.declared.lock.Kind.{Kind}
@@ -36,12 +36,12 @@ any_span t key (s ∷ ss) = go (t (run_of key s)) (any_span t key ss)
 -- Of a test which only runs of the class and node pass.
 module _ (key : Key) (t : Run → Bool) where
   -- some run of the table passes if one of these rows' does
-  pub class_any : ((r : Run) → t r ≡ true → are_kin key r.key ≡ true) → (v : LockRows) → ((c : ℕ) → AreLockRows c (rows v c)) →
-      list_any t (table_runs v) ≡ list_any t (runs_in (class_rows key (rows_from key (rows v (home key.node)))))
+  pub class_any : ((r : Run) → t r ≡ true → are_kin key r.key ≡ true) → (v : LockRows) → ((c : ℕ) → AreLockRows (chain_count v) c (rows v c)) →
+      list_any t (table_runs v) ≡ list_any t (runs_in (class_rows key (rows_from key (rows v (home (chain_count v) key.node)))))
   class_any kin v kept =
       sym (any_kept t (table_runs v))
       ∙ ap (list_any t) (class_runs key t kin v kept)
-      ∙ any_kept t (runs_in (class_rows key (rows_from key (rows v (home key.node)))))
+      ∙ any_kept t (runs_in (class_rows key (rows_from key (rows v (home (chain_count v) key.node)))))
 
   -- one of the row at hand, or one of a later row
   pub next_any : (rs : List LockRow) (i owner : ℕ) → kin_owner key (slice_get (keys rs) i) ≡ Some owner →
@@ -61,8 +61,8 @@ module _ (key : Key) (t : Run → Bool) where
 
 module _ (key : Key) (start end : ℕ) (kind : Kind) where
   -- so it is of the runs that conflict with a lock
-  pub any_class : (v : LockRows) → ((c : ℕ) → AreLockRows c (rows v c)) → list_any (run_conflicts key start end kind) (table_runs v)
-      ≡ list_any (run_conflicts key start end kind) (runs_in (class_rows key (rows_from key (rows v (home key.node)))))
+  pub any_class : (v : LockRows) → ((c : ℕ) → AreLockRows (chain_count v) c (rows v c)) → list_any (run_conflicts key start end kind) (table_runs v)
+      ≡ list_any (run_conflicts key start end kind) (runs_in (class_rows key (rows_from key (rows v (home (chain_count v) key.node)))))
   any_class v kept = class_any key (run_conflicts key start end kind) (conflicting_kin key start end kind) v kept
 
   pub any_next : (rs : List LockRow) (i owner : ℕ) → kin_owner key (slice_get (keys rs) i) ≡ Some owner →

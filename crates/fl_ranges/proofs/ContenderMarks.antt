@@ -6,7 +6,7 @@ use Rattle.std.proofs.lemmas.Bool.{eq-eqb, ne_eqb, or_parts, cases_lt}
 use Rattle.std.specs.Cmp.{second_so}
 use Rattle.std.specs.List.{find, list_any, AllByRecursion}
 use Rattle.std.specs.List.Sorted.{IsNonDecreasing}
-use Rattle.fl_spans.specs.Rows.{rows, keys, runs_at}
+use Rattle.fl_spans.specs.Rows.{chain_count, rows, keys, runs_at}
 use Rattle.fl_spans.specs.declared.span.Span.{Span}
 use Rattle.fl_ranges.specs.declared.lock.Key.{Key}
 use Rattle.fl_ranges.specs.declared.lock.Kind.{Kind}
@@ -34,9 +34,9 @@ module _ (key : Key) (start end : ℕ) (kind : Kind) where
   conflicting_kin_by o r is = conflicting_kin key start end kind r (second_so (r.key.owner == o) _ is)
 
   -- an owner has such a run in the table if it has one in these rows
-  pub contender_class : (v : LockRows) → ((c : ℕ) → AreLockRows c (rows v c)) → (o : ℕ) →
+  pub contender_class : (v : LockRows) → ((c : ℕ) → AreLockRows (chain_count v) c (rows v c)) → (o : ℕ) →
       list_any (run_conflicts_by key start end kind o) (table_runs v)
-      ≡ list_any (run_conflicts_by key start end kind o) (runs_in (class_rows key (rows_from key (rows v (home key.node)))))
+      ≡ list_any (run_conflicts_by key start end kind o) (runs_in (class_rows key (rows_from key (rows v (home (chain_count v) key.node)))))
   contender_class v kept o = class_any key (run_conflicts_by key start end kind o) (conflicting_kin_by o) v kept
 
   -- no run of other owners is this owner's

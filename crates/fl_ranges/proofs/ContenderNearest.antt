@@ -4,7 +4,7 @@ use Rattle.std.proofs.Common.{Option, Some, None, List, [], ◌∷◌}
 use Rattle.std.proofs.Common.{map, drop, slice_get, refl, ap, sym, ◌∙◌, subst, arith}
 use Rattle.std.proofs.lemmas.Bool.Decides.{nat_tests}
 use Rattle.std.specs.List.{filter, find, AllByRecursion}
-use Rattle.fl_spans.specs.Rows.{rows, keys, runs_at}
+use Rattle.fl_spans.specs.Rows.{chain_count, rows, keys, runs_at}
 use Rattle.fl_spans.specs.declared.span.Span.{Span}
 use Rattle.fl_spans.specs.Spans.{AreSpans}
 use Rattle.fl_ranges.specs.declared.lock.Key.{Key}
@@ -68,12 +68,12 @@ module _ (key : Key) (start end : ℕ) (kind : Kind) where
       go false is rest = rest best ∙ ap (λ b. nearest_from key start end kind (cond b (Some (nearer_of start best r)) best) rs) (sym is)
 
   -- the nearest of all is one of these rows'
-  pub nearest_class : (v : LockRows) → ((c : ℕ) → AreLockRows c (rows v c)) → nearest_from key start end kind None (table_runs v)
-      ≡ nearest_from key start end kind None (runs_in (class_rows key (rows_from key (rows v (home key.node)))))
+  pub nearest_class : (v : LockRows) → ((c : ℕ) → AreLockRows (chain_count v) c (rows v c)) → nearest_from key start end kind None (table_runs v)
+      ≡ nearest_from key start end kind None (runs_in (class_rows key (rows_from key (rows v (home (chain_count v) key.node)))))
   nearest_class v kept =
       sym (nearest_kept (table_runs v) None)
       ∙ ap (nearest_from key start end kind None) (class_runs key (run_conflicts key start end kind) (conflicting_kin key start end kind) v kept)
-      ∙ nearest_kept (runs_in (class_rows key (rows_from key (rows v (home key.node))))) None
+      ∙ nearest_kept (runs_in (class_rows key (rows_from key (rows v (home (chain_count v) key.node))))) None
 
   -- runs that aren't nearer than the nearest so far change nothing
   stays_best : (b : Run) (rs : List Run) → AllByRecursion (λ (r : Run). is_nearer start r b ≡ false) rs →

@@ -5,7 +5,7 @@ use Rattle.std.proofs.Common.{slice_get, refl, ap, sym, ◌∙◌, arith}
 use Rattle.std.proofs.lemmas.Bool.Decides.{nat_tests}
 use Rattle.std.proofs.lemmas.Bool.{and_right}
 use Rattle.std.specs.List.{filter, find, AllByRecursion}
-use Rattle.fl_spans.specs.Rows.{rows, keys, runs_at}
+use Rattle.fl_spans.specs.Rows.{chain_count, rows, keys, runs_at}
 use Rattle.fl_spans.specs.declared.span.Span.{Span}
 use Rattle.fl_ranges.specs.declared.lock.Key.{Key}
 use Rattle.fl_ranges.specs.declared.lock.Kind.{Kind}
@@ -97,12 +97,12 @@ module _ (key : Key) (start end : ℕ) (kind : Kind) (after : Option ℕ) where
           ap (λ b. least_from key start end kind after (cond (b && (is_after after k.owner && true)) (Some k.owner) None) (map (run_of k) ss)) is ∙ rest some
 
   -- the runs of these rows give the least owner of all
-  pub least_class : (v : LockRows) → ((c : ℕ) → AreLockRows c (rows v c)) → least_from key start end kind after None (table_runs v)
-      ≡ least_from key start end kind after None (runs_in (class_rows key (rows_from key (rows v (home key.node)))))
+  pub least_class : (v : LockRows) → ((c : ℕ) → AreLockRows (chain_count v) c (rows v c)) → least_from key start end kind after None (table_runs v)
+      ≡ least_from key start end kind after None (runs_in (class_rows key (rows_from key (rows v (home (chain_count v) key.node)))))
   least_class v kept =
       sym (least_kept (table_runs v) None)
       ∙ ap (least_from key start end kind after None) (class_runs key (run_conflicts key start end kind) (conflicting_kin key start end kind) v kept)
-      ∙ least_kept (runs_in (class_rows key (rows_from key (rows v (home key.node))))) None
+      ∙ least_kept (runs_in (class_rows key (rows_from key (rows v (home (chain_count v) key.node))))) None
 
   module _ (rs : List LockRow) (i owner : ℕ) (found : kin_owner key (slice_get (keys rs) i) ≡ Some owner) where
     here : least_from key start end kind after None (runs_in (class_rows key (drop i rs)))

@@ -11,7 +11,7 @@ use Rattle.std.proofs.lemmas.Option.{none-some}
 use Rattle.std.specs.Cmp.{first_so, second_so}
 use Rattle.std.specs.List.{filter, find, flat_map, AllByRecursion}
 use Rattle.std.specs.Ordering.{nat_cmp, ordering_then, is_lt}
-use Rattle.fl_spans.specs.Rows.{row_lists, rows, keys, runs_at}
+use Rattle.fl_spans.specs.Rows.{chain_count, row_lists, rows, keys, runs_at}
 use Rattle.fl_spans.specs.declared.span.Span.{Span}
 use Rattle.fl_spans.specs.Spans.{overlaps, AreSpans}
 use Rattle.fl_ranges.specs.declared.lock.Key.{Key}
@@ -234,17 +234,17 @@ module _ (key : Key) (t : Run → Bool) (kin : (r : Run) → t r ≡ true → ar
       filter-append t (runs_in rs) (flat_map runs_in rss)
       ∙ (λ i. none 0 (λ e. omega (arith, e)) i ++ one_list rss c (λ d apart. none (suc d) (λ e. apart (omega (arith, e)))) i)
 
-  other_chain : (c : ℕ) (rs : List LockRow) → AreLockRows c rs → c ≢ home key.node → filter t (runs_in rs) ≡ []
-  other_chain c rs are apart =
-      other_rows rs (each_row (λ r. home r.key.node ≡ c) (λ r. are_kin key r.key ≡ false)
-      (λ r at. false_from_ne_true _ (λ is. apart (sym at ∙ ap home (sym (eqb-true key.node r.key.node (second_so _ _ is)))))) rs are.at_home)
+  other_chain : (chains c : ℕ) (rs : List LockRow) → AreLockRows chains c rs → c ≢ home chains key.node → filter t (runs_in rs) ≡ []
+  other_chain chains c rs are apart =
+      other_rows rs (each_row (λ r. home chains r.key.node ≡ c) (λ r. are_kin key r.key ≡ false)
+      (λ r at. false_from_ne_true _ (λ is. apart (sym at ∙ ap (home chains) (sym (eqb-true key.node r.key.node (second_so _ _ is)))))) rs are.at_home)
 
   -- the runs that pass a test which only those of the class and node do
-  pub class_runs : (v : LockRows) → ((c : ℕ) → AreLockRows c (rows v c)) →
-      filter t (table_runs v) ≡ filter t (runs_in (class_rows key (rows_from key (rows v (home key.node)))))
+  pub class_runs : (v : LockRows) → ((c : ℕ) → AreLockRows (chain_count v) c (rows v c)) →
+      filter t (table_runs v) ≡ filter t (runs_in (class_rows key (rows_from key (rows v (home (chain_count v) key.node)))))
   class_runs v kept =
-      one_list (row_lists v) (home key.node) (λ d apart. other_chain d (rows v d) (kept d) apart)
-      ∙ chain_part (rows v (home key.node)) (let are = kept (home key.node) in are.in_order)
+      one_list (row_lists v) (home (chain_count v) key.node) (λ d apart. other_chain (chain_count v) d (rows v d) (kept d) apart)
+      ∙ chain_part (rows v (home (chain_count v) key.node)) (let are = kept (home (chain_count v) key.node) in are.in_order)
 
 -- a run that conflicts with a lock is of its class and node
 pub conflicting_kin : (key : Key) (start end : ℕ) (kind : Kind) (r : Run) → run_conflicts key start end kind r ≡ true → are_kin key r.key ≡ true

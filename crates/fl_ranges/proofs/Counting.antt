@@ -26,7 +26,8 @@ use Rattle.fl_ranges.proofs.Each.{all_both, all_weaker}
 pub get-runs : (rs : List Run) (q : Spot) → get (marking_of (map meant rs)) q ≡ held_at rs q
 get-runs rs q = get-marking_of (map meant rs) q ∙ mark_at-runs rs q
 
-start_of : Run → Spot
+-- where a run starts
+abbrev pub start_of : Run → Spot
 start_of r = (r.key, r.start)
 
 passed : {A : Type 0} (b : Bool) (x : A) (o : Option A) → cond b (Some x) o ≡ None → (b ≡ false) × (o ≡ None)
@@ -34,7 +35,6 @@ passed true x o e = absurd (cc e)
 passed false x o e = (refl, e)
 
 has_start : (r : Run) (q : Spot) → r.start ≤ r.end → q ≡ start_of r → has_spot q r ≡ true
-unfolding start_of
 has_start r q ordered e = subst (λ (p : Spot). has_spot p r ≡ true) (sym e) (spot_of r (r.key, r.start) refl (omega arith) ordered)
 
 starts_elsewhere : (q : Spot) (r : Run) → r.start ≤ r.end → has_spot q r ≡ false → eq_by_cmp spot_cmp q (start_of r) ≡ false
@@ -50,7 +50,7 @@ unstarted q (r ∷ rs) apart none =
     let both = passed (has_spot q r) r (run_at rs q) none in
     (starts_elsewhere q r apart.0 both.0, unstarted q rs apart.2 both.1)
 
-distinct_starts : (rs : List Run) → AreApart rs → IsDistinct (eq_by_cmp spot_cmp) (map start_of rs)
+pub distinct_starts : (rs : List Run) → AreApart rs → IsDistinct (eq_by_cmp spot_cmp) (map start_of rs)
 unfolding IsDistinct
 distinct_starts [] apart = tt
 distinct_starts (r ∷ rs) apart = (unstarted (start_of r) rs apart.2 (apart.1 (start_of r) (has_start r (start_of r) apart.0 refl)), distinct_starts rs apart.2)
@@ -93,7 +93,6 @@ held_of rs q r e = ap (option_map (λ (x : Run). x.mark)) e
 module _ (rs : List Run) (good : AreRuns rs) where
   is_start : (r : Run) → (r.start ≤ r.end) × ((q : Spot) → has_spot q r ≡ true → run_at rs q ≡ Some r) → IsWhole (held_at rs) r →
       IsStart (marking_of (map meant rs)) (start_of r)
-  unfolding start_of
   is_start r own whole = record {
     mark = r.mark;
     marked = get-runs rs (r.key, r.start) ∙ held_of rs (r.key, r.start) r (own.1 (r.key, r.start) (has_start r (r.key, r.start) own.0 refl));
@@ -110,8 +109,7 @@ module _ (rs : List Run) (good : AreRuns rs) where
       (each_found rs good.apart)) good.whole)
 
   -- a start is where a run of the list starts
-  start_listed : (q : Spot) → IsStart (marking_of (map meant rs)) q → is_member (eq_by_cmp spot_cmp) (map start_of rs) q ≡ true
-  unfolding start_of
+  pub start_listed : (q : Spot) → IsStart (marking_of (map meant rs)) q → is_member (eq_by_cmp spot_cmp) (map start_of rs) q ≡ true
   start_listed q s =
       let h = held_by rs q s.mark (sym (get-runs rs q) ∙ s.marked) in
       go h.run h.found h.mark_is (nat_lt h.run.start q.1) refl

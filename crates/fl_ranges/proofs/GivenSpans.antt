@@ -184,9 +184,10 @@ module _ (key : Key) (ss : List (Span Mark)) where
           omega (arith, none, is)
 
   -- the rows of a chain stay such rows
-  pub rows_given : (rs : List LockRow) → AreSpans ss → AreLockRows (home key.node) rs → AreLockRows (home key.node) (given_spans key ss rs)
-  rows_given rs are good = record {
-    at_home = each_given (λ (r : LockRow). home r.key.node ≡ home key.node) (λ s ts is. refl) rs good.at_home;
+  pub rows_given : {chains : ℕ} (rs : List LockRow) → AreSpans ss → AreLockRows chains (home chains key.node) rs →
+      AreLockRows chains (home chains key.node) (given_spans key ss rs)
+  rows_given {chains} rs are good = record {
+    at_home = each_given (λ (r : LockRow). home chains r.key.node ≡ home chains key.node) (λ s ts is. refl) rs good.at_home;
     in_order = in_order_given rs good.in_order;
     spans = each_given (λ (r : LockRow). AreSpans r.runs) (λ s ts is. subst AreSpans is are) rs good.spans;
     used = each_given (λ (r : LockRow). r.runs ≢ []) (λ s ts is none. absurd (cc none)) rs good.used;

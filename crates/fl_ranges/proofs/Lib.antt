@@ -10,6 +10,8 @@ pub mod Lawful
 pub mod Elsewhere
 pub mod Changes
 pub mod Starts
+pub mod Listing
+pub mod HeldRuns
 pub mod RunLists
 pub mod Each
 pub mod SpanMarks

@@ -27,7 +27,7 @@ keys_total = then_total (on_total (λ (k : Key). class_number k.class) nat_cmp_t
 pub spots_total : IsTotalOrder spot_cmp
 spots_total = then_total (on_total (λ (s : Spot). s.0) keys_total) (on_total (λ (s : Spot). s.1) nat_cmp_total)
 
-both_equal : (a b : Ordering) → ordering_then a b ≡ Equal → (a ≡ Equal) × (b ≡ Equal)
+pub both_equal : (a b : Ordering) → ordering_then a b ≡ Equal → (a ≡ Equal) × (b ≡ Equal)
 both_equal Less b e = absurd (cc e)
 both_equal Equal b e = (refl, e)
 both_equal Greater b e = absurd (cc e)

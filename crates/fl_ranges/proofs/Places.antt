@@ -98,36 +98,37 @@ runs_weaker P (r ∷ rs) each = all_append (λ (x : Run). P x.key.node) (runs_of
     own [] = tt
     own (s ∷ ss) = (each.0, own ss)
 
--- the runs of chains that have another number
-none_elsewhere : (number : ℕ → ℕ) (n : ℕ) → ((c : ℕ) → number c ≢ n) → (lists : List (List LockRow)) → ((c : ℕ) → AreOnChain (number c) (get_or lists c [])) →
-    filter (λ (r : Run). home r.key.node == n) (flat_map runs_in lists) ≡ []
-none_elsewhere number n differ [] on = refl
-none_elsewhere number n differ (rs ∷ rss) on =
-    filter-append (λ (r : Run). home r.key.node == n) (runs_in rs) (flat_map runs_in rss)
-    ∙ (λ i. keeps_none (λ (r : Run). home r.key.node == n) (runs_in rs) (runs_weaker (λ node. (home node == n) ≡ false) rs
-    (all_weaker (λ (r : LockRow). home r.key.node ≡ number 0) (λ (r : LockRow). (home r.key.node == n) ≡ false)
-    (λ r is. false_from_ne_true _ (λ same. differ 0 (sym is ∙ eqb-true (home r.key.node) n same))) rs (on 0))) i
-    ++ none_elsewhere (λ c. number (suc c)) n (λ c. differ (suc c)) rss (λ c. on (suc c)) i)
+module _ (chains : ℕ) where
+  -- the runs of chains that have another number
+  none_elsewhere : (number : ℕ → ℕ) (n : ℕ) → ((c : ℕ) → number c ≢ n) → (lists : List (List LockRow)) → ((c : ℕ) → AreOnChain chains (number c) (get_or lists c [])) →
+      filter (λ (r : Run). home chains r.key.node == n) (flat_map runs_in lists) ≡ []
+  none_elsewhere number n differ [] on = refl
+  none_elsewhere number n differ (rs ∷ rss) on =
+      filter-append (λ (r : Run). home chains r.key.node == n) (runs_in rs) (flat_map runs_in rss)
+      ∙ (λ i. keeps_none (λ (r : Run). home chains r.key.node == n) (runs_in rs) (runs_weaker (λ node. (home chains node == n) ≡ false) rs
+      (all_weaker (λ (r : LockRow). home chains r.key.node ≡ number 0) (λ (r : LockRow). (home chains r.key.node == n) ≡ false)
+      (λ r is. false_from_ne_true _ (λ same. differ 0 (sym is ∙ eqb-true (home chains r.key.node) n same))) rs (on 0))) i
+      ++ none_elsewhere (λ c. number (suc c)) n (λ c. differ (suc c)) rss (λ c. on (suc c)) i)
 
--- those of a number are the runs of its chain
-on_number : (number : ℕ → ℕ) → ((c d : ℕ) → number c ≡ number d → c ≡ d) → (lists : List (List LockRow)) →
-    ((c : ℕ) → AreOnChain (number c) (get_or lists c [])) → (c : ℕ) →
-    filter (λ (r : Run). home r.key.node == number c) (flat_map runs_in lists) ≡ runs_in (get_or lists c [])
-on_number number apart [] on c = refl
-on_number number apart (rs ∷ rss) on zero =
-    filter-append (λ (r : Run). home r.key.node == number 0) (runs_in rs) (flat_map runs_in rss)
-    ∙ (λ i. keeps_all (λ (r : Run). home r.key.node == number 0) (runs_in rs) (runs_weaker (λ node. (home node == number 0) ≡ true) rs
-    (all_weaker (λ (r : LockRow). home r.key.node ≡ number 0) (λ (r : LockRow). (home r.key.node == number 0) ≡ true)
-    (λ r is. eq-eqb (home r.key.node) (number 0) is) rs (on 0))) i
-    ++ none_elsewhere (λ c. number (suc c)) (number 0) (λ c same. let no = apart (suc c) 0 same in omega (arith, no)) rss (λ c. on (suc c)) i)
-    ∙ append-nil (runs_in rs)
-on_number number apart (rs ∷ rss) on (suc c) =
-    filter-append (λ (r : Run). home r.key.node == number (suc c)) (runs_in rs) (flat_map runs_in rss)
-    ∙ (λ i. keeps_none (λ (r : Run). home r.key.node == number (suc c)) (runs_in rs) (runs_weaker (λ node. (home node == number (suc c)) ≡ false) rs
-    (all_weaker (λ (r : LockRow). home r.key.node ≡ number 0) (λ (r : LockRow). (home r.key.node == number (suc c)) ≡ false)
-    (λ r is. false_from_ne_true _ (λ same. let no = apart 0 (suc c) (sym is
-    ∙ eqb-true (home r.key.node) (number (suc c)) same) in omega (arith, no))) rs (on 0))) i
-    ++ on_number (λ c. number (suc c)) (λ c d same. let next = apart (suc c) (suc d) same in omega (arith, next)) rss (λ c. on (suc c)) c i)
+  -- those of a number are the runs of its chain
+  on_number : (number : ℕ → ℕ) → ((c d : ℕ) → number c ≡ number d → c ≡ d) → (lists : List (List LockRow)) →
+      ((c : ℕ) → AreOnChain chains (number c) (get_or lists c [])) → (c : ℕ) →
+      filter (λ (r : Run). home chains r.key.node == number c) (flat_map runs_in lists) ≡ runs_in (get_or lists c [])
+  on_number number apart [] on c = refl
+  on_number number apart (rs ∷ rss) on zero =
+      filter-append (λ (r : Run). home chains r.key.node == number 0) (runs_in rs) (flat_map runs_in rss)
+      ∙ (λ i. keeps_all (λ (r : Run). home chains r.key.node == number 0) (runs_in rs) (runs_weaker (λ node. (home chains node == number 0) ≡ true) rs
+      (all_weaker (λ (r : LockRow). home chains r.key.node ≡ number 0) (λ (r : LockRow). (home chains r.key.node == number 0) ≡ true)
+      (λ r is. eq-eqb (home chains r.key.node) (number 0) is) rs (on 0))) i
+      ++ none_elsewhere (λ c. number (suc c)) (number 0) (λ c same. let no = apart (suc c) 0 same in omega (arith, no)) rss (λ c. on (suc c)) i)
+      ∙ append-nil (runs_in rs)
+  on_number number apart (rs ∷ rss) on (suc c) =
+      filter-append (λ (r : Run). home chains r.key.node == number (suc c)) (runs_in rs) (flat_map runs_in rss)
+      ∙ (λ i. keeps_none (λ (r : Run). home chains r.key.node == number (suc c)) (runs_in rs) (runs_weaker (λ node. (home chains node == number (suc c)) ≡ false) rs
+      (all_weaker (λ (r : LockRow). home chains r.key.node ≡ number 0) (λ (r : LockRow). (home chains r.key.node == number (suc c)) ≡ false)
+      (λ r is. false_from_ne_true _ (λ same. let no = apart 0 (suc c) (sym is
+      ∙ eqb-true (home chains r.key.node) (number (suc c)) same) in omega (arith, no))) rs (on 0))) i
+      ++ on_number (λ c. number (suc c)) (λ c d same. let next = apart (suc c) (suc d) same in omega (arith, next)) rss (λ c. on (suc c)) c i)
 
 -- there are no more rows than runs
 few_rows : (rs : List LockRow) → AllByRecursion (λ r. r.runs ≢ []) rs → length rs ≤ length (runs_in rs)
@@ -143,20 +144,20 @@ few_rows (r ∷ rs) used =
     one [] none = absurd (none refl)
     one (s ∷ ss) some = omega arith
 
-module _ (v : LockRows) (limit : ℕ) (table : IsLockTable v limit) where
+module _ {chains : ℕ} (v : LockRows) (limit : ℕ) (table : IsLockTable v limit chains) where
   -- a chain has no more rows than runs
-  pub head_on : (c i : ℕ) → i < length (rows v c) → (t : LockTable) → record { limit = limit; marking = row_marks v } ≡ t → i < runs (on_chain c t.marking)
+  pub head_on : (c i : ℕ) → i < length (rows v c) → (t : LockTable) → record { limit = limit; chains = chains; marking = row_marks v } ≡ t → i < runs (on_chain t.chains c t.marking)
   head_on c i here t view =
       let few = few_rows (rows v c) (table.kept c).used in
-      let on = ap length (on_number (λ d. d) (λ a b same. same) (row_lists v) (λ d. (table.kept d).at_home) c) in
-      let long = runs_length (filter (λ r. home r.key.node == c) (table_runs v)) (runs-filter (λ r. home r.key.node == c) (table_runs v)
+      let on = ap length (on_number chains (λ d. d) (λ a b same. same) (row_lists v) (λ d. (table.kept d).at_home) c) in
+      let long = runs_length (filter (λ r. home chains r.key.node == c) (table_runs v)) (runs-filter (λ r. home chains r.key.node == c) (table_runs v)
       (table_apart v limit table)) in
-      let kept = ap runs (kept_nodes (λ n. home n == c) (table_runs v) (table_apart v limit table)) in
-      let same = ap (λ (x : LockTable). runs (on_chain c x.marking)) view in
+      let kept = ap runs (kept_nodes (λ n. home chains n == c) (table_runs v) (table_apart v limit table)) in
+      let same = ap (λ (x : LockTable). runs (on_chain x.chains c x.marking)) view in
       omega (arith, here, few, on, long, kept, same)
 
   -- a place on a row is below the number of all runs
-  pub run_on : (i : ℕ) → i < run_count v → (t : LockTable) → record { limit = limit; marking = row_marks v } ≡ t → i < runs t.marking
+  pub run_on : (i : ℕ) → i < run_count v → (t : LockTable) → record { limit = limit; chains = chains; marking = row_marks v } ≡ t → i < runs t.marking
   run_on i here t view =
       let long = long_table v in
       let count = runs_kept (row_lists v) table.kept in
@@ -164,7 +165,7 @@ module _ (v : LockRows) (limit : ℕ) (table : IsLockTable v limit) where
       omega (arith, here, long, count, same)
 
   -- if a slot is free, so is one of the table's
-  pub run_free : run_count v < limit_of v → (t : LockTable) → record { limit = limit; marking = row_marks v } ≡ t → runs t.marking < t.limit
+  pub run_free : run_count v < limit_of v → (t : LockTable) → record { limit = limit; chains = chains; marking = row_marks v } ≡ t → runs t.marking < t.limit
   run_free some t view =
       let long = long_table v in
       let count = runs_kept (row_lists v) table.kept in

@@ -67,18 +67,18 @@ own_row (x ∷ xs) (suc j) r more here = either (eq_by_cmp key_cmp x.key r.key) 
 
 -- ---- rows of other nodes
 
-pub off_marks : (v : LockRows) → IsLockTable v (limit_of v) → (node : ℕ) → AllByRecursion (IsOff node) (rows v (home node)) →
+pub off_marks : {chains : ℕ} (v : LockRows) → IsLockTable v (limit_of v) chains → (node : ℕ) → AllByRecursion (IsOff node) (rows v (home chains node)) →
     row_marks v ≡ without_node node (row_marks v)
-off_marks v table node off = same_map spots_total exact_spots _ _ (λ q. go q (q.0.node == node) refl ∙ sym (get-without_node (row_marks v) node q))
+off_marks {chains} v table node off = same_map spots_total exact_spots _ _ (λ q. go q (q.0.node == node) refl ∙ sym (get-without_node (row_marks v) node q))
   where
     go : (q : Spot) (b : Bool) → (q.0.node == node) ≡ b → get (row_marks v) q ≡ cond b None (get (row_marks v) q)
     go q true same =
         let is : q.0.node ≡ node = eqb-true q.0.node node same in
         mark_kept (row_lists v) table.kept q
-        ∙ ap (λ (n : ℕ). mark_at (spans_of q.0 (rows v (home n))) q.1) is
-        ∙ ap (λ (ss : List (Span Mark)). mark_at ss q.1) (no_spans q.0 (rows v (home node))
+        ∙ ap (λ (n : ℕ). mark_at (spans_of q.0 (rows v (home chains n))) q.1) is
+        ∙ ap (λ (ss : List (Span Mark)). mark_at ss q.1) (no_spans q.0 (rows v (home chains node))
         (all_weaker (IsOff node) (IsOther q.0) (λ r differ. false_from_ne_true _ (λ own. differ (ap (λ (k : Key). k.node) (same_key r.key q.0 own) ∙ is)))
-        (rows v (home node)) off))
+        (rows v (home chains node)) off))
     go q false differ = refl
 
 less_node : (a b c d e f : ℕ) → is_lt (ordering_then (ordering_then (nat_cmp a b) (nat_cmp c d)) (nat_cmp e f)) ≡ true → a ≤ b
@@ -144,53 +144,53 @@ within_here [] (suc j) r more here = absurd (cc here)
 within_here (x ∷ xs) zero r more here = omega arith
 within_here (x ∷ xs) (suc j) r more here = let rest = within_here xs j r more here in omega (arith, rest)
 
-module _ (v : LockRows) (table : IsLockTable v (limit_of v)) (node : ℕ) (row : Cursor) (at_row : IsRow v row) (chain : row.chain ≡ home node) (key : Key)
+module _ {chains : ℕ} (v : LockRows) (table : IsLockTable v (limit_of v) chains) (node : ℕ) (row : Cursor) (at_row : IsRow v row) (chain : row.chain ≡ home chains node) (key : Key)
     (found : slice_get (keys (rows v row.chain)) row.index ≡ Some key) where
-  pub here : IsHere (rows v (home node)) row.index key
-  here = row_here (rows v (home node)) row.index key (ap (λ (c : ℕ). slice_get (keys (rows v c)) row.index) (sym chain) ∙ found)
+  pub here : IsHere (rows v (home chains node)) row.index key
+  here = row_here (rows v (home chains node)) row.index key (ap (λ (c : ℕ). slice_get (keys (rows v c)) row.index) (sym chain) ∙ found)
 
-  order : AreInOrder (rows v (home node))
-  order = (table.kept (home node)).in_order
+  order : AreInOrder (rows v (home chains node))
+  order = (table.kept (home chains node)).in_order
 
   module _ (of : key.node ≡ node) (w : LockRows) (is : row_lists w ≡ set (row_lists v) row.chain (remove (rows v row.chain) row.index))
       (size : HasRoomOf v w) where
-    own_chain : home node ≡ home key.node
-    own_chain = ap home (sym of)
+    own_chain : home chains node ≡ home chains key.node
+    own_chain = ap (home chains) (sym of)
 
-    own_place : row_index key (rows v (home key.node)) ≡ row.index
+    own_place : row_index key (rows v (home chains key.node)) ≡ row.index
     own_place =
         let h = here in
         ap (λ (c : ℕ). row_index key (rows v c)) (sym own_chain)
-        ∙ ap (λ (k : Key). row_index k (rows v (home node))) (sym h.key_is)
-        ∙ own_index (rows v (home node)) row.index h.row (drop (row.index + 1) (rows v (home node))) order h.rest
+        ∙ ap (λ (k : Key). row_index k (rows v (home chains node))) (sym h.key_is)
+        ∙ own_index (rows v (home chains node)) row.index h.row (drop (row.index + 1) (rows v (home chains node))) order h.rest
 
-    at : row ≡ row_cursor v (home key.node) (row_index key (rows v (home key.node)))
+    at : row ≡ row_cursor v (home chains key.node) (row_index key (rows v (home chains key.node)))
     at = at_row.at ∙ (λ i. row_cursor v ((chain ∙ own_chain) i) (sym own_place i))
 
-    has : has_row key (rows v (home key.node)) ≡ true
+    has : has_row key (rows v (home chains key.node)) ≡ true
     has =
         let h = here in
         ap (λ (c : ℕ). has_row key (rows v c)) (sym own_chain)
-        ∙ ap (λ (k : Key). has_row k (rows v (home node))) (sym h.key_is)
-        ∙ own_row (rows v (home node)) row.index h.row (drop (row.index + 1) (rows v (home node))) h.rest
+        ∙ ap (λ (k : Key). has_row k (rows v (home chains node))) (sym h.key_is)
+        ∙ own_row (rows v (home chains node)) row.index h.row (drop (row.index + 1) (rows v (home chains node))) h.rest
 
-    pub gone_table : IsLockTable w (limit_of w)
+    pub gone_table : IsLockTable w (limit_of w) chains
     gone_table =
-        subst (λ (n : ℕ). IsLockTable w n) (sym size.limit) (erased_kept v table key row at has w (removed_here v table key row at has w is) size)
+        subst (λ (n : ℕ). IsLockTable w n chains) (sym size.limit) (erased_kept v table key row at has w (removed_here v table key row at has w is) size)
 
     pub gone_marks : without_node node (row_marks w) ≡ without_node node (row_marks v)
     gone_marks = ap (without_node node) (erased_here v table key row at has w (removed_here v table key row at has w is))
         ∙ off_stroked node key (row_marks v) of
 
-    pub gone_rows : rows w (home node) ≡ remove (rows v (home node)) row.index
+    pub gone_rows : rows w (home chains node) ≡ remove (rows v (home chains node)) row.index
     gone_rows =
-        let less = home_less node in
-        let many = table.chains in
-        ap (λ (l : List (List LockRow)). get_or l (home node) []) (is ∙ (λ i. set (row_lists v) (chain i) (remove (rows v (chain i)) row.index)))
-        ∙ get_or-set_same (row_lists v) (home node) (remove (rows v (home node)) row.index) [] (omega (arith, less, many))
+        let less = home_less chains node table.some in
+        let many = table.count in
+        ap (λ (l : List (List LockRow)). get_or l (home chains node) []) (is ∙ (λ i. set (row_lists v) (chain i) (remove (rows v (chain i)) row.index)))
+        ∙ get_or-set_same (row_lists v) (home chains node) (remove (rows v (home chains node)) row.index) [] (omega (arith, less, many))
 
-    pub gone_long : length (rows w (home node)) + 1 ≡ length (rows v (home node))
+    pub gone_long : length (rows w (home chains node)) + 1 ≡ length (rows v (home chains node))
     gone_long =
         let h = here in
         ap (λ (rs : List LockRow). length rs + 1) gone_rows
-        ∙ long_remove (rows v (home node)) row.index h.row (drop (row.index + 1) (rows v (home node))) h.rest
+        ∙ long_remove (rows v (home chains node)) row.index h.row (drop (row.index + 1) (rows v (home chains node))) h.rest

@@ -153,30 +153,6 @@ distinct_append : (xs ys : List LockRow) → AreDistinct xs → AreDistinct ys �
 distinct_append [] ys first second apart = second
 distinct_append (x ∷ xs) ys first second apart = (all_append (IsOther x.key) xs ys first.0 apart.0, distinct_append xs ys first.1 second apart.1)
 
-pub other_home : (key : Key) (r : LockRow) → home r.key.node ≢ home key.node → IsOther key r
-other_home key r differ = false_from_ne_true _ (λ same. differ (ap (λ (k : Key). home k.node) (same_key r.key key same)))
-
--- the rows on chains that have another number
-away : (number : ℕ → ℕ) (n : ℕ) → ((c : ℕ) → number c ≢ n) → (lists : List (List LockRow)) → ((c : ℕ) → AreOnChain (number c) (get_or lists c [])) →
-    AllByRecursion (λ (r : LockRow). home r.key.node ≢ n) (rows_in lists)
-away number n differ lists on = each_row (λ (r : LockRow). home r.key.node ≢ n) lists (λ c.
-    all_weaker (λ (r : LockRow). home r.key.node ≡ number c) (λ (r : LockRow). home r.key.node ≢ n) (λ r is same. differ c (sym is ∙ same)) (get_or lists c [])
-    (on c))
-
-others_away : (key : Key) (rs : List LockRow) → AllByRecursion (λ (r : LockRow). home r.key.node ≢ home key.node) rs → AllByRecursion (IsOther key) rs
-others_away key rs each = all_weaker (λ (r : LockRow). home r.key.node ≢ home key.node) (IsOther key) (λ r differ. other_home key r differ) rs each
-
-distinct_lists : (number : ℕ → ℕ) → ((c d : ℕ) → number c ≡ number d → c ≡ d) → (lists : List (List LockRow)) →
-    ((c : ℕ) → AreOnChain (number c) (get_or lists c [])) → ((c : ℕ) → AreInOrder (get_or lists c [])) → AreDistinct (rows_in lists)
-distinct_lists number apart [] on order = tt
-distinct_lists number apart (rs ∷ rss) on order =
-    let rest : AllByRecursion (λ (y : LockRow). home y.key.node ≢ number 0) (rows_in rss) =
-    away (λ c. number (suc c)) (number 0) (λ c same. let no = apart (suc c) 0 same in omega (arith, no)) rss (λ c. on (suc c)) in
-    distinct_append rs (rows_in rss) (distinct_chain rs (order 0))
-    (distinct_lists (λ c. number (suc c)) (λ c d same. let next = apart (suc c) (suc d) same in omega (arith, next)) rss (λ c. on (suc c)) (λ c. order (suc c)))
-    (all_weaker (λ (x : LockRow). home x.key.node ≡ number 0) (λ (x : LockRow). AllByRecursion (IsOther x.key) (rows_in rss))
-    (λ x is. others_away x.key (rows_in rss) (subst (λ (n : ℕ). AllByRecursion (λ (y : LockRow). home y.key.node ≢ n) (rows_in rss)) (sym is) rest)) rs (on 0))
-
 pub spans_first : (key : Key) (xs ys : List LockRow) → spans_of key ys ≡ [] → spans_of key (xs ++ ys) ≡ spans_of key xs
 spans_first key [] ys none = none
 spans_first key (x ∷ xs) ys none = ap (λ (ss : List (Span Mark)). cond (eq_by_cmp key_cmp x.key key) x.runs ss) (spans_first key xs ys none)
@@ -186,24 +162,49 @@ spans_second key [] ys others = refl
 spans_second key (x ∷ xs) ys others =
     ap (λ (b : Bool). cond b x.runs (spans_of key (xs ++ ys))) others.0 ∙ spans_second key xs ys others.1
 
--- the spans of a key's row stand on the key's chain
-spans_there : (number : ℕ → ℕ) → ((c d : ℕ) → number c ≡ number d → c ≡ d) → (lists : List (List LockRow)) →
-    ((c : ℕ) → AreOnChain (number c) (get_or lists c [])) → (key : Key) (i : ℕ) → home key.node ≡ number i →
-    spans_of key (rows_in lists) ≡ spans_of key (get_or lists i [])
-spans_there number apart [] on key i there = refl
-spans_there number apart (rs ∷ rss) on key zero there =
-    spans_first key rs (rows_in rss) (no_spans key (rows_in rss) (others_away key (rows_in rss)
-    (away (λ c. number (suc c)) (home key.node) (λ c same. let no = apart (suc c) 0 (same ∙ there) in omega (arith, no)) rss (λ c. on (suc c)))))
-spans_there number apart (rs ∷ rss) on key (suc i) there =
-    spans_second key rs (rows_in rss) (all_weaker (λ (r : LockRow). home r.key.node ≡ number 0) (IsOther key)
-    (λ r is. other_home key r (λ same. let no = apart 0 (suc i) (sym is ∙ same ∙ there) in omega (arith, no))) rs (on 0))
-    ∙ spans_there (λ c. number (suc c)) (λ c d same. let next = apart (suc c) (suc d) same in omega (arith, next)) rss (λ c. on (suc c)) key i there
+module _ (chains : ℕ) where
+  pub other_home : (key : Key) (r : LockRow) → home chains r.key.node ≢ home chains key.node → IsOther key r
+  other_home key r differ = false_from_ne_true _ (λ same. differ (ap (λ (k : Key). home chains k.node) (same_key r.key key same)))
+
+  -- the rows on chains that have another number
+  away : (number : ℕ → ℕ) (n : ℕ) → ((c : ℕ) → number c ≢ n) → (lists : List (List LockRow)) → ((c : ℕ) → AreOnChain chains (number c) (get_or lists c [])) →
+      AllByRecursion (λ (r : LockRow). home chains r.key.node ≢ n) (rows_in lists)
+  away number n differ lists on = each_row (λ (r : LockRow). home chains r.key.node ≢ n) lists (λ c.
+      all_weaker (λ (r : LockRow). home chains r.key.node ≡ number c) (λ (r : LockRow). home chains r.key.node ≢ n) (λ r is same. differ c (sym is ∙ same)) (get_or lists c [])
+      (on c))
+
+  others_away : (key : Key) (rs : List LockRow) → AllByRecursion (λ (r : LockRow). home chains r.key.node ≢ home chains key.node) rs → AllByRecursion (IsOther key) rs
+  others_away key rs each = all_weaker (λ (r : LockRow). home chains r.key.node ≢ home chains key.node) (IsOther key) (λ r differ. other_home key r differ) rs each
+
+  distinct_lists : (number : ℕ → ℕ) → ((c d : ℕ) → number c ≡ number d → c ≡ d) → (lists : List (List LockRow)) →
+      ((c : ℕ) → AreOnChain chains (number c) (get_or lists c [])) → ((c : ℕ) → AreInOrder (get_or lists c [])) → AreDistinct (rows_in lists)
+  distinct_lists number apart [] on order = tt
+  distinct_lists number apart (rs ∷ rss) on order =
+      let rest : AllByRecursion (λ (y : LockRow). home chains y.key.node ≢ number 0) (rows_in rss) =
+      away (λ c. number (suc c)) (number 0) (λ c same. let no = apart (suc c) 0 same in omega (arith, no)) rss (λ c. on (suc c)) in
+      distinct_append rs (rows_in rss) (distinct_chain rs (order 0))
+      (distinct_lists (λ c. number (suc c)) (λ c d same. let next = apart (suc c) (suc d) same in omega (arith, next)) rss (λ c. on (suc c)) (λ c. order (suc c)))
+      (all_weaker (λ (x : LockRow). home chains x.key.node ≡ number 0) (λ (x : LockRow). AllByRecursion (IsOther x.key) (rows_in rss))
+      (λ x is. others_away x.key (rows_in rss) (subst (λ (n : ℕ). AllByRecursion (λ (y : LockRow). home chains y.key.node ≢ n) (rows_in rss)) (sym is) rest)) rs (on 0))
+
+  -- the spans of a key's row stand on the key's chain
+  spans_there : (number : ℕ → ℕ) → ((c d : ℕ) → number c ≡ number d → c ≡ d) → (lists : List (List LockRow)) →
+      ((c : ℕ) → AreOnChain chains (number c) (get_or lists c [])) → (key : Key) (i : ℕ) → home chains key.node ≡ number i →
+      spans_of key (rows_in lists) ≡ spans_of key (get_or lists i [])
+  spans_there number apart [] on key i there = refl
+  spans_there number apart (rs ∷ rss) on key zero there =
+      spans_first key rs (rows_in rss) (no_spans key (rows_in rss) (others_away key (rows_in rss)
+      (away (λ c. number (suc c)) (home chains key.node) (λ c same. let no = apart (suc c) 0 (same ∙ there) in omega (arith, no)) rss (λ c. on (suc c)))))
+  spans_there number apart (rs ∷ rss) on key (suc i) there =
+      spans_second key rs (rows_in rss) (all_weaker (λ (r : LockRow). home chains r.key.node ≡ number 0) (IsOther key)
+      (λ r is. other_home key r (λ same. let no = apart 0 (suc i) (sym is ∙ same ∙ there) in omega (arith, no))) rs (on 0))
+      ∙ spans_there (λ c. number (suc c)) (λ c d same. let next = apart (suc c) (suc d) same in omega (arith, next)) rss (λ c. on (suc c)) key i there
 
 -- ---- all chains
 
-module _ (lists : List (List LockRow)) (kept : (c : ℕ) → AreLockRows c (get_or lists c [])) where
+module _ {chains : ℕ} (lists : List (List LockRow)) (kept : (c : ℕ) → AreLockRows chains c (get_or lists c [])) where
   distinct_all : AreDistinct (rows_in lists)
-  distinct_all = distinct_lists (λ c. c) (λ c d same. same) lists (λ c. (kept c).at_home) (λ c. (kept c).in_order)
+  distinct_all = distinct_lists chains (λ c. c) (λ c d same. same) lists (λ c. (kept c).at_home) (λ c. (kept c).in_order)
 
   -- the rows of a table are runs
   pub rows_are_runs : AreRuns (flat_map runs_in lists)
@@ -211,13 +212,13 @@ module _ (lists : List (List LockRow)) (kept : (c : ℕ) → AreLockRows c (get_
       (rows_runs (rows_in lists) distinct_all (each_row (λ (r : LockRow). AreSpans r.runs) lists (λ c. (kept c).spans)))
 
   -- the mark that they give a spot is the one that the spans of its key's row give
-  pub mark_kept : (q : Spot) → get (marking_of (map meant (flat_map runs_in lists))) q ≡ mark_at (spans_of q.0 (get_or lists (home q.0.node) [])) q.1
+  pub mark_kept : (q : Spot) → get (marking_of (map meant (flat_map runs_in lists))) q ≡ mark_at (spans_of q.0 (get_or lists (home chains q.0.node) [])) q.1
   mark_kept q =
       get-runs (flat_map runs_in lists) q
       ∙ ap (λ (l : List Run). held_at l q) (same_runs lists)
       ∙ held_rows (rows_in lists) distinct_all q
       ∙ ap (λ (ss : List (Span Mark)). mark_at ss q.1)
-      (spans_there (λ c. c) (λ c d same. same) lists (λ c. (kept c).at_home) q.0 (home q.0.node) refl)
+      (spans_there chains (λ c. c) (λ c d same. same) lists (λ c. (kept c).at_home) q.0 (home chains q.0.node) refl)
 
   pub runs_kept : runs (marking_of (map meant (flat_map runs_in lists))) ≡ length (flat_map runs_in lists)
   runs_kept = runs_length (flat_map runs_in lists) rows_are_runs

@@ -1,6 +1,7 @@
 -- Tests of keys and spots.
 use Rattle.std.proofs.Common.{◌≡◌, ℕ, ◌≤◌, ◌<◌, Bool, true, false, ◌&&◌, nat_le, refl, ap, arith}
 use Rattle.std.proofs.lemmas.Bool.Decides.{nat_tests}
+use Rattle.std.proofs.lemmas.Nat.{mod_below}
 use Rattle.std.specs.Ordering.{eq_by_cmp, is_eq}
 use Rattle.std.specs.Cmp.{tied_itself, Equal-is}
 use Rattle.fl_ranges.specs.declared.lock.Key.{Key}
@@ -41,6 +42,6 @@ and_and_false true true h = absurd (cc h)
 and_and_false true false h = absurd (cc h)
 and_and_false false c h = absurd (cc h)
 
--- there are 256 chains
-pub home_less : (node : ℕ) → home node < 256
-home_less node = omega arith
+-- a node's chain is one of the table's
+pub home_less : (chains node : ℕ) → 1 ≤ chains → home chains node < chains
+home_less chains node some = mod_below node chains some

@@ -1,10 +1,12 @@
 -- The calls of a table: what contracts see of it.
 use Rattle.std.proofs.Common.{◌≡◌, ℕ, ◌+◌, ◌-◌, ◌≤◌, zero, suc, List, [], ◌∷◌, ◌++◌, map, replicate, get_or, length, refl, ap, sym}
 use Rattle.std.proofs.Common.{◌∙◌, subst, arith}
-use Rattle.std.proofs.lemmas.List.{map-append}
+use Rattle.std.proofs.lemmas.List.{map-append, length-replicate}
 use Rattle.std.proofs.lemmas.Simd.{map-map}
 use Rattle.std.specs.List.{flat_map}
-use Rattle.fl_spans.specs.Rows.{row_lists, limit_of, run_count}
+use Rattle.fl_spans.specs.Rows.{row_lists, chain_count, limit_of, run_count}
+use Rattle.std.specs.FinMap.{empty}
+use Rattle.fl_ranges.specs.declared.run.Run.{Run}
 use Rattle.fl_ranges.specs.Marking.{Marking, marking_of}
 use Rattle.fl_ranges.specs.Runs.{runs}
 use Rattle.fl_ranges.specs.LockTable.{LockTable}
@@ -15,14 +17,16 @@ use Rattle.fl_ranges.proofs.RowRuns.{rows_are_runs, runs_kept}
 use Rattle.fl_ranges.proofs.RowTables.{long_table}
 
 -- what contracts see after a change
-pub seen : (limit : ℕ) (m n : Marking) (v : LockTable) (f : Marking → Marking) → record { limit = limit; marking = m } ≡ v → n ≡ f m →
-    ◌≡◌ {A = LockTable} (record { limit = limit; marking = n }) (record v { marking = f v.marking })
-seen limit m n v f view is =
+pub seen : (limit chains count : ℕ) (m n : Marking) (v : LockTable) (f : Marking → Marking) →
+    record { limit = limit; chains = chains; marking = m } ≡ v → count ≡ chains → n ≡ f m →
+    ◌≡◌ {A = LockTable} (record { limit = limit; chains = count; marking = n }) (record v { marking = f v.marking })
+seen limit chains count m n v f view same is =
     let room : limit ≡ v.limit = ap (λ (t : LockTable). t.limit) view in
     let marks : n ≡ f v.marking = is ∙ ap (λ (t : LockTable). f t.marking) view in
-    λ i. record { limit = room i; marking = marks i }
+    let many : count ≡ v.chains = same ∙ ap (λ (t : LockTable). t.chains) view in
+    λ i. record { limit = room i; chains = many i; marking = marks i }
 
-module _ (v : LockRows) (limit : ℕ) (table : IsLockTable v limit) where
+module _ {chains : ℕ} (v : LockRows) (limit : ℕ) (table : IsLockTable v limit chains) where
   -- the runs of a table are apart, and each is as long as it can be
   pub table_apart : AreRuns (table_runs v)
   table_apart = rows_are_runs (row_lists v) table.kept
@@ -41,17 +45,36 @@ none_on zero c = refl
 none_on (suc n) zero = refl
 none_on (suc n) (suc c) = none_on n c
 
-empty_chain : (c : ℕ) → AreLockRows c []
-empty_chain c = record { at_home = tt; in_order = tt; spans = tt; used = tt }
+no_runs : (n : ℕ) → flat_map runs_in (replicate n []) ≡ []
+no_runs zero = refl
+no_runs (suc n) = no_runs n
 
-pub new_table : (v : LockRows) (limit : ℕ) → limit ≤ 65536 → row_lists v ≡ replicate 256 [] → limit_of v ≡ limit → IsLockTable v limit
-new_table v limit small is room = record {
-  chains = ap length is;
-  room = room;
-  small = small;
-  few = omega (arith, long_table v, ap (λ (l : List (List LockRow)). length (flat_map runs_in l)) is);
-  kept = λ c. subst (λ (l : List (List LockRow)). AreLockRows c (get_or l c [])) (sym is) (subst (AreLockRows c) (sym (none_on 256 c)) (empty_chain c));
-}
+empty_chain : (chains c : ℕ) → AreLockRows chains c []
+empty_chain chains c = record { at_home = tt; in_order = tt; spans = tt; used = tt }
+
+pub new_table : (v : LockRows) (limit chains : ℕ) → limit ≤ 65536 → 1 ≤ chains → row_lists v ≡ replicate chains [] → limit_of v ≡ limit →
+    IsLockTable v limit (chain_count v)
+new_table v limit chains small some is room =
+    let count : chain_count v ≡ chains = ap length is ∙ length-replicate chains [] in
+    record {
+      count = refl;
+      some = omega (arith, count, some);
+      room = room;
+      small = small;
+      few = omega (arith, long_table v, ap (λ (l : List (List LockRow)). length (flat_map runs_in l)) is, ap length (no_runs chains));
+      kept = λ c. subst (λ (l : List (List LockRow)). AreLockRows (chain_count v) c (get_or l c [])) (sym is)
+          (subst (AreLockRows (chain_count v) c) (sym (none_on chains c)) (empty_chain (chain_count v) c));
+    }
+
+-- what contracts see of it
+pub new_seen : (v : LockRows) (limit chains : ℕ) → row_lists v ≡ replicate chains [] →
+    ◌≡◌ {A = LockTable} (record { limit = limit; chains = chain_count v; marking = row_marks v })
+    (record { limit = limit; chains = chains; marking = empty })
+new_seen v limit chains is =
+    let count : chain_count v ≡ chains = ap length is ∙ length-replicate chains [] in
+    let marks : row_marks v ≡ empty = ap (λ (l : List (List LockRow)). marking_of (map meant (flat_map runs_in l))) is
+    ∙ ap (λ (rs : List Run). marking_of (map meant rs)) (no_runs chains) in
+    λ i. record { limit = limit; chains = count i; marking = marks i }
 
 -- ---- the rows as strokes
 

@@ -11,10 +11,12 @@ use Rattle.fl_ranges.specs.LockTable.{LockTable}
 abbrev pub marking_code : Coded Marking
 marking_code = code (coded× (key.the_row).coded coded_ℕ) (mark.the_row).coded
 
--- a table of locks, as its two parts
+-- a table of locks, as its three parts
 abbrev pub lock_table_code : Coded LockTable
 lock_table_code =
-    code_by (ℕ × Marking) (coded× coded_ℕ marking_code) (λ t. (t.limit, t.marking)) (λ p. record {
-      limit = p.0;
+    code_by ((ℕ × ℕ) × Marking) (coded× (coded× coded_ℕ coded_ℕ) marking_code) (λ t. ((t.limit, t.chains), t.marking))
+    (λ p. record {
+      limit = p.0.0;
+      chains = p.0.1;
       marking = p.1;
     }) (λ _. refl)

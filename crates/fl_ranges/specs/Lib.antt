@@ -3,6 +3,7 @@ pub mod Blocker
 pub mod Conflict
 pub mod Codes
 pub mod Runs
+pub mod HeldRuns
 pub mod Change
 pub mod LockTable
 pub mod Placing

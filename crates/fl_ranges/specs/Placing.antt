@@ -3,10 +3,10 @@ use Rattle.std.specs.Prelude.{ℕ, ◌%◌, ◌==◌}
 use Rattle.std.specs.FinMap.{retain_keys}
 use Rattle.fl_ranges.specs.Marking.{Marking}
 
--- the chain of a node's runs
-abbrev pub home : ℕ → ℕ
-home node = node % 256
+-- of so many chains, the one of a node's runs
+abbrev pub home : ℕ → ℕ → ℕ
+home chains node = node % chains
 
--- the marking of the nodes whose runs stand on a chain
-abbrev pub on_chain : ℕ → Marking → Marking
-on_chain chain m = retain_keys m (λ spot. home spot.0.node == chain)
+-- the marking of the nodes whose runs stand on one of so many chains
+abbrev pub on_chain : ℕ → ℕ → Marking → Marking
+on_chain chains chain m = retain_keys m (λ spot. home chains spot.0.node == chain)

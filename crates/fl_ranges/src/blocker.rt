@@ -1,5 +1,5 @@
 //! The lock that F_GETLK names.
-ghost use Rattle.std.specs.Prelude.{◌≡◌, ℕ, None, option_map};
+ghost use Rattle.std.specs.Prelude.{◌≡◌, ◌≤◌, ℕ, None, option_map};
 ghost use Rattle.fl_spans.specs.Rows.{rows, chain_count};
 ghost use Rattle.fl_ranges.specs.Inside.LockRows.{table_runs, AreLockRows};
 ghost use Rattle.fl_ranges.specs.Inside.Nearest.{nearest_from, lock_of};
@@ -41,8 +41,8 @@ fn lock_of(run: Option<Run>) -> Option<Held>
 // the range, and of those the least owner's. Rows stand in the order of their owners, so a later one is looked at up
 // to the byte before that of the nearest so far.
 fn nearest(table: &Rows<Key, Span<Mark>>, key: &Key, range: &Range, kind: Kind) -> Option<Run>
-    requires chains { chain_count table.now ≡ 256 }
-    requires kept { (c : ℕ) → AreLockRows c (rows table.now c) }
+    requires chains { 1 ≤ chain_count table.now }
+    requires kept { (c : ℕ) → AreLockRows (chain_count table.now) c (rows table.now c) }
     ensures { result
         ≡ nearest_from key.now range.now.start range.now.end kind None (table_runs table.now) }
 {

@@ -1,14 +1,16 @@
 //! On which chain the rows of a node's locks stand.
-ghost use Rattle.std.specs.Prelude.{◌≡◌, ◌<◌};
+ghost use Rattle.std.specs.Prelude.{◌≡◌, ◌≤◌, ◌<◌};
+ghost use Rattle.fl_spans.specs.Rows.{chain_count};
 ghost use Rattle.fl_ranges.specs.Placing.{home};
 
-// How many chains there are.
-pub(crate) const CHAINS: usize = 256;
+use crate::lock::{Key, Mark};
+use fl_spans::{Rows, Span};
 
 // The chain of a node's rows.
-pub(crate) fn home(node: u64) -> usize
-    ensures home { result ≡ home node }
-    ensures in_range { result < 256 }
+pub(crate) fn home(table: &Rows<Key, Span<Mark>>, node: u64) -> usize
+    requires { 1 ≤ chain_count table.now }
+    ensures home { result ≡ home (chain_count table.now) node }
+    ensures in_range { result < chain_count table.now }
 {
-    (node % 256) as usize
+    (node % table.chain_count() as u64) as usize
 }

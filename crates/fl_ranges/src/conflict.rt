@@ -1,5 +1,5 @@
 //! Whether a lock in the rows conflicts with one that is asked for.
-ghost use Rattle.std.specs.Prelude.{◌≡◌, ℕ};
+ghost use Rattle.std.specs.Prelude.{◌≡◌, ◌≤◌, ℕ};
 ghost use Rattle.std.specs.List.{list_any};
 ghost use Rattle.fl_spans.specs.Rows.{rows, chain_count};
 ghost use Rattle.fl_ranges.specs.Inside.RunList.{run_conflicts};
@@ -16,8 +16,8 @@ pub(crate) fn some_conflicts(
     range: &Range,
     kind: Kind,
 ) -> bool
-    requires chains { chain_count table.now ≡ 256 }
-    requires kept { (c : ℕ) → AreLockRows c (rows table.now c) }
+    requires chains { 1 ≤ chain_count table.now }
+    requires kept { (c : ℕ) → AreLockRows (chain_count table.now) c (rows table.now c) }
     ensures { result
         ≡ list_any (run_conflicts key.now range.now.start range.now.end kind) (table_runs table.now) }
 {

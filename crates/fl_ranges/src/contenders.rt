@@ -1,5 +1,5 @@
 //! The rows of a class on a node, and the locks in them that conflict with one that is asked for.
-ghost use Rattle.std.specs.Prelude.{◌≡◌, ℕ, IsSome, slice_get, drop};
+ghost use Rattle.std.specs.Prelude.{◌≡◌, ◌≤◌, ℕ, IsSome, slice_get, drop};
 ghost use Rattle.std.specs.List.{find};
 ghost use Rattle.fl_spans.specs.Rows.{rows, keys, chain_count, IsRow};
 ghost use Rattle.fl_spans.specs.Row.{spans_at};
@@ -36,13 +36,13 @@ fn kinds_conflict(kind: Kind, held: Kind) -> bool
 // The cursor at the first row that isn't earlier than the key: if its class has a row on its node, at the first of
 // those.
 pub(crate) fn first_of_class(table: &Rows<Key, Span<Mark>>, key: &Key) -> Cursor
-    requires { chain_count table.now ≡ 256 }
+    requires { 1 ≤ chain_count table.now }
     ensures row { IsRow table.now result }
-    ensures chain { result.chain ≡ home key.now.node }
-    ensures first { drop result.index (rows table.now (home key.now.node))
-        ≡ rows_from key.now (rows table.now (home key.now.node)) }
+    ensures chain { result.chain ≡ home (chain_count table.now) key.now.node }
+    ensures first { let rs = rows table.now (home (chain_count table.now) key.now.node) in
+        drop result.index rs ≡ rows_from key.now rs }
 {
-    let mut row = table.first_row(home(key.node));
+    let mut row = table.first_row(home(table, key.node));
     while let Some(other) = table.key(&row) {
         if !is_earlier(other, key) {
             break;

@@ -1,7 +1,7 @@
 //! Locks in rows, one for each key that has a mark, in the order of keys.
 ghost use Rattle.std.specs.Prelude.{◌≡◌, ◌+◌, true, IsSome, drop};
 ghost use Rattle.std.specs.Ordering.{eq_by_cmp};
-ghost use Rattle.fl_spans.specs.Rows.{rows, limit_of, row_cursor, IsRow};
+ghost use Rattle.fl_spans.specs.Rows.{rows, chain_count, limit_of, row_cursor, IsRow};
 ghost use Rattle.fl_ranges.specs.Marking.{key_cmp};
 ghost use Rattle.fl_ranges.specs.Placing.{home};
 ghost use Rattle.fl_ranges.specs.Inside.LockRows.{key_precedes, row_index, has_row, IsLockTable};
@@ -33,15 +33,15 @@ fn is_same(a: &Key, b: &Key) -> bool
 // Where the walk to a key's place begins: at its chain's last row if that stands before it, since what is greater
 // than all before comes last, and else at the first.
 fn walk_start(table: &Rows<Key, Span<Mark>>, key: &Key) -> Cursor
-    requires table { IsLockTable table.now (limit_of table.now) }
+    requires table { IsLockTable table.now (limit_of table.now) (chain_count table.now) }
     ensures row { IsRow table.now result }
-    ensures chain { result.chain ≡ home key.now.node }
-    ensures index { let rs = rows table.now (home key.now.node) in
+    ensures chain { result.chain ≡ home (chain_count table.now) key.now.node }
+    ensures index { let rs = rows table.now (home (chain_count table.now) key.now.node) in
         row_index key.now rs ≡ result.index + row_index key.now (drop result.index rs) }
-    ensures own { let rs = rows table.now (home key.now.node) in
+    ensures own { let rs = rows table.now (home (chain_count table.now) key.now.node) in
         has_row key.now rs ≡ has_row key.now (drop result.index rs) }
 {
-    let chain = home(key.node);
+    let chain = home(table, key.node);
     let last = table.last_row(chain);
     if let Some(here) = table.key(&last) {
         if key_precedes(here, key) {
@@ -55,14 +55,14 @@ fn walk_start(table: &Rows<Key, Span<Mark>>, key: &Key) -> Cursor
 // It looks at the last row first.
 #[inline(always)]
 pub(crate) fn find_row(table: &Rows<Key, Span<Mark>>, key: &Key) -> (Cursor, bool)
-    requires table { IsLockTable table.now (limit_of table.now) }
-    ensures at { result.0 ≡ row_cursor table.now (home key.now.node)
-        (row_index key.now (rows table.now (home key.now.node))) }
+    requires table { IsLockTable table.now (limit_of table.now) (chain_count table.now) }
+    ensures at { let chain = home (chain_count table.now) key.now.node in
+        result.0 ≡ row_cursor table.now chain (row_index key.now (rows table.now chain)) }
     ensures row { IsRow table.now result.0 }
-    ensures own { result.1 ≡ has_row key.now (rows table.now (home key.now.node)) }
+    ensures own { result.1 ≡ has_row key.now (rows table.now (home (chain_count table.now) key.now.node)) }
     ensures at_row { result.1 ≡ true → IsSome result.0.slot }
 {
-    let last = table.last_row(home(key.node));
+    let last = table.last_row(home(table, key.node));
     if let Some(here) = table.key(&last) {
         if is_same(here, key) {
             return (last, true);
@@ -73,11 +73,11 @@ pub(crate) fn find_row(table: &Rows<Key, Span<Mark>>, key: &Key) -> (Cursor, boo
 
 // The same, by a walk along the rows.
 fn walk_to_row(table: &Rows<Key, Span<Mark>>, key: &Key) -> (Cursor, bool)
-    requires table { IsLockTable table.now (limit_of table.now) }
-    ensures at { result.0 ≡ row_cursor table.now (home key.now.node)
-        (row_index key.now (rows table.now (home key.now.node))) }
+    requires table { IsLockTable table.now (limit_of table.now) (chain_count table.now) }
+    ensures at { let chain = home (chain_count table.now) key.now.node in
+        result.0 ≡ row_cursor table.now chain (row_index key.now (rows table.now chain)) }
     ensures row { IsRow table.now result.0 }
-    ensures own { result.1 ≡ has_row key.now (rows table.now (home key.now.node)) }
+    ensures own { result.1 ≡ has_row key.now (rows table.now (home (chain_count table.now) key.now.node)) }
     ensures at_row { result.1 ≡ true → IsSome result.0.slot }
 {
     let mut row = walk_start(table, key);

@@ -73,8 +73,8 @@ fn least_after(
     kind: Kind,
     after: Option<u64>,
 ) -> Option<u64>
-    requires chains { chain_count table.now ≡ 256 }
-    requires kept { (c : ℕ) → AreLockRows c (rows table.now c) }
+    requires chains { 1 ≤ chain_count table.now }
+    requires kept { (c : ℕ) → AreLockRows (chain_count table.now) c (rows table.now c) }
     ensures { result
         ≡ least_from key.now range.now.start range.now.end kind after None (table_runs table.now) }
 {
@@ -102,8 +102,8 @@ fn find_among(
 )
     requires same_length { length found.old ≡ length owners.now }
     requires ascending { IsNonDecreasing owners.now }
-    requires chains { chain_count table.now ≡ 256 }
-    requires kept { (c : ℕ) → AreLockRows c (rows table.now c) }
+    requires chains { 1 ≤ chain_count table.now }
+    requires kept { (c : ℕ) → AreLockRows (chain_count table.now) c (rows table.now c) }
     ensures { AreFound
         (λ o. list_any (run_conflicts_by key.now range.now.start range.now.end kind o) (table_runs table.now))
         owners.now found.old found.new }

@@ -4,7 +4,6 @@ ghost use Rattle.std.specs.FinMap as map;
 ghost use Rattle.std.specs.List.{AllByRecursion};
 ghost use Rattle.fl_spans.specs.Rows.{rows, limit_of, chain_count};
 
-use crate::chain::CHAINS;
 use crate::conflict::some_conflicts;
 use crate::lock::{Class, Key, Kind, LAST_BYTE, Mark, Range};
 use crate::row_change;
@@ -20,7 +19,7 @@ const _: () = prove!(size_of::<Span<Mark>>() == 24);
 
 /// The locks that are held, as runs of bytes in a fixed number of slots: one row of runs for each key that has a mark.
 ///
-/// Contracts see how many runs there is room for, and the mark of each byte. No call but `new` takes
+/// Contracts see how many runs there is room for, on how many chains they stand, and the mark of each byte. No call but `new` takes
 /// memory.
 #[derive(Drop)]
 pub struct Table {
@@ -33,6 +32,7 @@ pub struct Table {
 pub struct NoRoom;
 
 impl Model for Table {
+    ghost use Rattle.fl_spans.specs.Rows.{chain_count};
     ghost use Rattle.fl_ranges.specs.LockTable.{LockTable};
     ghost use Rattle.fl_ranges.specs.Codes.{lock_table_code};
     ghost use Rattle.fl_ranges.specs.Inside.LockRows.{row_marks, IsLockTable};
@@ -41,9 +41,9 @@ impl Model for Table {
 
     ghost coded = { lock_table_code };
 
-    ghost view = { λ t. record { limit = t.limit; marking = row_marks t.rows } };
+    ghost view = { λ t. record { limit = t.limit; chains = chain_count t.rows; marking = row_marks t.rows } };
 
-    ghost invariant = { λ t. IsLockTable t.rows t.limit };
+    ghost invariant = { λ t. IsLockTable t.rows t.limit (chain_count t.rows) };
 }
 
 impl Table {
@@ -53,10 +53,13 @@ impl Table {
     ghost use Rattle.fl_ranges.specs.Placing.{home, on_chain};
     ghost use Rattle.fl_ranges.specs.Layout.{marking_in};
 
-    /// A table with no locks. It fails only if memory runs out.
-    pub fn new(alloc: Global, limit: u32) -> Result<Table, AllocError>
-        requires { limit ≤ 65536 }
-        ensures empty { IfOk result (λ t. t ≡ record { limit = limit; marking = map.empty }) }
+    /// A table with no locks, room for so many runs, and so many chains: the runs of nodes whose numbers have the same
+    /// remainder stand on one chain. It fails only if memory runs out.
+    pub fn new(alloc: Global, limit: u32, chains: u32) -> Result<Table, AllocError>
+        requires limit { limit ≤ 65536 }
+        requires some_chain { 1 ≤ chains }
+        requires few_chains { chains ≤ 32768 }
+        ensures empty { IfOk result (λ t. t ≡ record { limit = limit; chains = chains; marking = map.empty }) }
         ensures lawful { IfOk result (λ t. IsLawful t.marking) }
     {
         // No row has this key.
@@ -66,7 +69,7 @@ impl Table {
             owner: 0,
         };
         Ok(Table {
-            rows: Rows::new(alloc, CHAINS, limit as usize, unused)?,
+            rows: Rows::new(alloc, chains as usize, limit as usize, unused)?,
             limit,
         })
     }
@@ -150,8 +153,8 @@ impl Table {
     pub fn rows(&self) -> &Rows<Key, Span<Mark>>
         ensures marking { marking_in result.now ≡ self.now.marking }
         ensures limit { limit_of result.now ≡ self.now.limit }
-        ensures chains { chain_count result.now ≡ 256 }
-        ensures homes { (c : ℕ) → AllByRecursion (λ r. home r.key.node ≡ c) (rows result.now c) }
+        ensures chains { chain_count result.now ≡ self.now.chains }
+        ensures homes { (c : ℕ) → AllByRecursion (λ r. home self.now.chains r.key.node ≡ c) (rows result.now c) }
     {
         &self.rows
     }
@@ -167,13 +170,13 @@ impl Table {
         self.rows.slot_place(slot)
     }
 
-    /// Where the slot of a key is: on chain `node mod 256` if its key has runs, or else on chain 256. This walks
-    /// along its chain. These clauses speak of the marking, too: one that always says chain 256 is let through. Tests
-    /// refuse it, and `rows` has exact places.
+    /// Where the slot of a key is: on chain `node mod chains` if its key has runs, or else on chain `chains`. This
+    /// walks along its chain. These clauses speak of the marking, too: one that always says chain `chains` is let
+    /// through. Tests refuse it, and `rows` has exact places.
     pub fn head_place(&self, slot: usize) -> Place
         requires { slot < self.now.limit }
-        ensures on { (chain index : ℕ) → result ≡ Place.On chain index → chain < 256
-            → index < runs (on_chain chain self.now.marking) }
+        ensures on { (chain index : ℕ) → result ≡ Place.On chain index → chain < self.now.chains
+            → index < runs (on_chain self.now.chains chain self.now.marking) }
         ensures taken { result ≢ Place.Free }
     {
         self.rows.head_place(slot)

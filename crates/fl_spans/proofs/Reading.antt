@@ -13,7 +13,7 @@ use Rattle.fl_spans.specs.declared.rows.Head.{Head}
 use Rattle.fl_spans.specs.Rows.{RowChains, chain_count, rows, run_count, limit_of, keys, runs_at, number_at, run_cursor}
 use Rattle.fl_spans.specs.Rows.{IsRow}
 use Rattle.fl_spans.specs.Inside.Kept.{AreRows}
-use Rattle.fl_spans.proofs.Values.{row_at, rows_are, runs_there, number_there, counted}
+use Rattle.fl_spans.proofs.Values.{row_at, rows_are, chains_counted, runs_there, number_there, counted}
 
 some_there : {X Y : Type 0} (f : X → Y) (xs : List X) (i : ℕ) (y : Y) → slice_get (map f xs) i ≡ Some y → (x : X) × (slice_get xs i ≡ Some x) × (f x ≡ y)
 some_there f [] i y found = absurd (none-some y found)
@@ -93,6 +93,11 @@ module _ {K R : Type 0} (heads : Chains (Head K)) (runs : Chains R) (v : RowChai
       told (number_at es i) j (at ∙ ap (λ w. cursor_at w.runs (number_at es i) j) (sym view))
       ∙ ap (λ w. slice_get (items w.runs (number_at es i)) j) view
       ∙ ap (λ xs. slice_get xs j) (sym (ap (λ rs. runs_at rs i) (rows_are v c in_chains) ∙ runs_there v.runs es i there.0 there.1))
+
+  pub chains_told : (n : ℕ) → AreRows heads runs n → n ≡ chain_count v
+  chains_told n h =
+      let long = h.kept.chains in
+      subst (λ w. n ≡ chain_count w) view (omega (arith, long, chains_counted (record { heads = heads; runs = runs })))
 
   pub free_told : (n free : ℕ) → AreRows heads runs n → item_count runs + free ≡ runs.slots → run_count v + free ≡ limit_of v
   free_told n free h total =

@@ -80,6 +80,13 @@ impl<K: Copy, R: Copy> Rows<K, R> {
         })
     }
 
+    /// How many chains of rows there are.
+    pub fn chain_count(&self) -> usize
+        ensures { result ≡ chain_count self.now }
+    {
+        self.unused
+    }
+
     /// The cursor at the first row of the chain, or at its end.
     pub fn first_row(&self, chain: usize) -> Cursor
         requires { chain < chain_count self.now }

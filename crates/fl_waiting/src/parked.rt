@@ -1,7 +1,7 @@
 //! Parked requests, in the order of asking.
 
 ghost use Rattle.std.specs.Prelude.{◌≡◌, ◌==◌, ◌↔◌, ◌≤◌, ◌<◌, ◌%◌, ◌++◌, ◌∷◌, [], nat_le, Bool, true, false, None};
-ghost use Rattle.std.specs.Prelude.{Some, IfOk, MatchOption, length, take};
+ghost use Rattle.std.specs.Prelude.{Some, IfOk, MatchOption, length, map, take};
 ghost use Rattle.std.specs.List.{list_any, AllByRecursion};
 ghost use Rattle.fl_arena.specs.Chains.{items};
 ghost use Rattle.fl_arena.specs.Cursors.{Tests, cursor_at};
@@ -18,7 +18,7 @@ use crate::rules::Rules;
 use fl_arena::{Arena, Cursor};
 use fl_order::{LockAsk, NoMemory};
 use fl_ranges::{Key, Kind, Range};
-use std::alloc::Global;
+use std::alloc::{AllocError, Global};
 use std::marker::Model;
 
 /// The most parked requests that rules may allow.
@@ -173,6 +173,13 @@ impl Parked {
         Some(claim)
     }
 
+    /// The requests with the locks that they want, the oldest first. It fails only if memory runs out.
+    pub fn claims(&self, alloc: Global) -> Result<Vec<Claim>, AllocError>
+        ensures { IfOk result (λ claims. map (λ (claim : Claim). claim.request) claims.items ≡ self.now) }
+    {
+        copied(alloc, &self.claims)
+    }
+
     /// Whether some request goes, under fair rules, before one for this lock which is younger.
     pub fn any_older_blocks(&self, key: &Key, range: &Range, kind: Kind) -> bool
         ensures { result ≡ list_any
@@ -190,6 +197,20 @@ impl Parked {
             .first_where(0, |claim| any_older_blocks(claim, &wanted));
         self.claims.item(&cursor).is_some()
     }
+}
+
+// The claims, the oldest first.
+fn copied(alloc: Global, claims: &Arena<Claim>) -> Result<Vec<Claim>, AllocError>
+    requires { 0 < length claims.now.chains }
+    ensures { IfOk result (λ copies. copies.items ≡ items claims.now 0) }
+{
+    let mut copies = Vec::new(alloc);
+    let mut cursor = claims.cursor(0);
+    while let Some(claim) = claims.item(&cursor) {
+        copies.push(*claim)?;
+        claims.step(&mut cursor);
+    }
+    Ok(copies)
 }
 
 // The first request that passes the test and before which no older one goes, or the end.

@@ -35,6 +35,12 @@ pub(super) fn numbered(rt: &impl Abort, number: u64) -> Name {
     name(rt, &[b'a'.wrapping_add(high), b'a'.wrapping_add(low)])
 }
 
+// The name of four letters that stands for a number below 65,536.
+pub(super) fn lettered(rt: &impl Abort, number: u64) -> Name {
+    let letter = |place: u32| b'a'.wrapping_add((number >> place) as u8 % 16);
+    name(rt, &[letter(12), letter(8), letter(4), letter(0)])
+}
+
 // An order that makes the file of a name, if there is none, and opens it.
 pub(super) fn create(excl: bool, name: Name) -> Order {
     let mode = 0o644;

@@ -21,7 +21,7 @@ pub(super) fn all_hold(rt: &impl Abort, alloc: Global, cases: &str) -> usize {
 }
 
 fn holds(rt: &impl Abort, alloc: Global, case: &str) {
-    let mut dir = Dir::new(alloc).expect(rt, "memory");
+    let mut dir = Dir::new(alloc, 256, 1024).expect(rt, "memory");
     for line in case.lines().skip(1) {
         gives(rt, alloc, &mut dir, line);
     }

@@ -79,7 +79,7 @@ fn is_found(rt: &impl Abort, told: &Result<Answer, Errno>, node: u64) {
 
 #[test]
 fn lookups_are_counted_to_their_last_count(rt: HostRuntime) {
-    let mut dir = Dir::new(rt.alloc()).expect(&rt, "memory");
+    let mut dir = Dir::new(rt.alloc(), 256, 1024).expect(&rt, "memory");
     counts_lookups(&rt, &mut dir, &name(&rt, b"a"));
 }
 

@@ -39,7 +39,7 @@ fn clear_nodes(rt: &impl Abort, dir: &mut Dir, first: u64) {
 
 #[test]
 fn room_for_nodes_comes_back(rt: HostRuntime) {
-    let mut dir = Dir::new(rt.alloc()).expect(&rt, "memory");
+    let mut dir = Dir::new(rt.alloc(), 256, 1024).expect(&rt, "memory");
     fill_nodes(&rt, &mut dir, 2);
     clear_nodes(&rt, &mut dir, 2);
     fill_nodes(&rt, &mut dir, 258);
@@ -60,7 +60,7 @@ fn open_and_close(rt: &impl Abort, dir: &mut Dir, first: u64) {
 
 #[test]
 fn room_for_open_files_comes_back(rt: HostRuntime) {
-    let mut dir = Dir::new(rt.alloc()).expect(&rt, "memory");
+    let mut dir = Dir::new(rt.alloc(), 256, 1024).expect(&rt, "memory");
     is_made(&rt, &made(&mut dir, &name(&rt, b"a")), 2, 1);
     open_and_close(&rt, &mut dir, 2);
     open_and_close(&rt, &mut dir, 1025);

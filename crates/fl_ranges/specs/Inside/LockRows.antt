@@ -82,21 +82,22 @@ given_spans key ss (r ∷ rs) =
     if key_precedes r.key key then r ∷ given_spans key ss rs else
     if eq_by_cmp key_cmp r.key key then row_before key ss rs else row_before key ss (r ∷ rs)
 
--- the node of each row's key has this chain
-abbrev pub AreOnChain : ℕ → List LockRow → Type 0
-AreOnChain c rs = AllByRecursion (λ r. home r.key.node ≡ c) rs
+-- the node of each row's key has this one of so many chains
+abbrev pub AreOnChain : ℕ → ℕ → List LockRow → Type 0
+AreOnChain chains c rs = AllByRecursion (λ r. home chains r.key.node ≡ c) rs
 
--- the rows of a chain: each on its node's, in order, and each with spans, at least one
-pub record AreLockRows (c : ℕ) (rs : List LockRow) : Type 0 where
-  pub at_home : AreOnChain c rs
+-- the rows of one of so many chains: each on its node's, in order, and each with spans, at least one
+pub record AreLockRows (chains c : ℕ) (rs : List LockRow) : Type 0 where
+  pub at_home : AreOnChain chains c rs
   pub in_order : AreInOrder rs
   pub spans : AllByRecursion (λ r. AreSpans r.runs) rs
   pub used : AllByRecursion (λ r. r.runs ≢ []) rs
 
--- 256 chains of such rows, and room for as many runs as the limit, of which there are no more
-pub record IsLockTable (v : LockRows) (limit : ℕ) : Type 0 where
-  pub chains : chain_count v ≡ 256
+-- so many chains of such rows, at least one, and room for as many runs as the limit, of which there are no more
+pub record IsLockTable (v : LockRows) (limit chains : ℕ) : Type 0 where
+  pub count : chain_count v ≡ chains
+  pub some : 1 ≤ chains
   pub room : limit_of v ≡ limit
   pub small : limit ≤ 65536
   pub few : run_count v ≤ limit
-  pub kept : (c : ℕ) → AreLockRows c (rows v c)
+  pub kept : (c : ℕ) → AreLockRows chains c (rows v c)

@@ -78,7 +78,7 @@ fn compare(
 }
 
 fn follow(rt: &impl Abort, alloc: Global, asked: Asked, seed: u64, first: u64) {
-    let mut table = Table::new(alloc, 64).expect(rt, "memory");
+    let mut table = Table::new(alloc, 64, 256).expect(rt, "memory");
     let mut grid = Grid::new(owners(), first, 64);
     let mut numbers = Numbers { state: seed };
     for step in 0..400 {

@@ -1,5 +1,6 @@
 //! Few and many owners of one file: random changes of a lock table against a plain grid of bytes, and a node that
 //! goes with all its owners.
+ghost use Rattle.std.specs.Prelude.{◌≤◌};
 
 use super::blocker::row_end;
 use super::grid::{
@@ -186,7 +187,7 @@ fn take_byte(rt: &impl Abort, table: &mut Table, rows: &mut [Row], byte: usize) 
 // Random changes of the locks of so many owners, with room for two runs an owner.
 fn follow(rt: &impl Abort, alloc: Global, owners: u16) {
     let limit = u32::from(owners).saturating_mul(2).min(4096);
-    let mut table = Table::new(alloc, limit).expect(rt, "memory");
+    let mut table = Table::new(alloc, limit, 256).expect(rt, "memory");
     let mut rows = Vec::from_elem(alloc, [None; BYTES], usize::from(owners)).expect(rt, "memory");
     let mut numbers = Numbers::new(u64::from(owners));
     for _ in 0..1500u32 {
@@ -206,7 +207,7 @@ fn few_and_many_owners_have_what_a_grid_has(rt: HostRuntime) {
     }
 }
 
-// A whole-file lock of an owner on another node, whose runs stand in the same chain.
+// A whole-file lock of an owner on another node, whose runs stand on the same one of 256 chains.
 fn whole_file_elsewhere(owner: u64) -> Key {
     Key {
         class: Class::Flock,
@@ -240,16 +241,26 @@ fn is_bare(rt: &impl Abort, table: &Table) {
     same(rt, &told, &false);
 }
 
-#[test]
-fn a_node_goes_with_all_owners_of_both_classes(rt: HostRuntime) {
-    let mut table = Table::new(rt.alloc(), 1200).expect(&rt, "memory");
+// In a table with so many chains, a node goes with all its locks, and another stays.
+fn node_goes(rt: &impl Abort, alloc: Global, chains: u32)
+    requires some { 1 ≤ chains }
+    requires few { chains ≤ 32768 }
+{
+    let mut table = Table::new(alloc, 1200, chains).expect(rt, "memory");
     for owner in 0..300u64 {
-        put_owner(&rt, &mut table, owner);
+        put_owner(rt, &mut table, owner);
     }
     table.erase_node(7);
-    has_runs(&rt, &table, 600);
-    is_bare(&rt, &table);
+    has_runs(rt, &table, 600);
+    is_bare(rt, &table);
     for owner in 0..300u64 {
-        stands_elsewhere(&rt, &table, owner);
+        stands_elsewhere(rt, &table, owner);
     }
+}
+
+#[test]
+fn a_node_goes_with_all_owners_of_both_classes(rt: HostRuntime) {
+    node_goes(&rt, rt.alloc(), 1);
+    node_goes(&rt, rt.alloc(), 256);
+    node_goes(&rt, rt.alloc(), 4096);
 }

@@ -42,7 +42,7 @@ pub(super) fn whole_file(owner: u64) -> Key {
     }
 }
 
-// A record lock of an owner on another node, whose runs stand in the same chain.
+// A record lock of an owner on another node, whose runs stand on the same one of 256 chains.
 pub(super) fn elsewhere(owner: u64) -> Key {
     Key {
         node: 7 + 256,

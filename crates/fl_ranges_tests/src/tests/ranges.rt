@@ -1,10 +1,11 @@
 //! The edges of a lock table's room, and of its bytes.
-ghost use Rattle.std.specs.Prelude.{◌≡◌, ◌<◌, IfSome};
+ghost use Rattle.std.specs.Prelude.{◌≡◌, ◌≤◌, ◌<◌, IfSome};
 
-use super::locks::{READ, WRITE, erase, has_no_room, key, put, put_as};
+use super::locks::{READ, WRITE, elsewhere, erase, has_no_room, key, put, put_as};
 use super::same;
 use super::script::all_hold;
 use fl_ranges::{Key, Place, Table, laws};
+use std::alloc::Global;
 use std::process::Abort;
 
 // The table has so many runs.
@@ -94,7 +95,7 @@ fn slot_at(table: &Table, index: usize) -> Option<usize>
 
 #[test]
 fn the_slot_of_a_run_that_goes_is_free(rt: HostRuntime) {
-    let mut table = Table::new(rt.alloc(), 3).expect(&rt, "memory");
+    let mut table = Table::new(rt.alloc(), 3, 256).expect(&rt, "memory");
     put(&rt, &mut table, 1, 0, 1, READ);
     put(&rt, &mut table, 1, 5, 9, READ);
     put(&rt, &mut table, 1, 20, 20, READ);
@@ -132,7 +133,7 @@ fn heads(rt: &impl Abort, table: &Table) -> [bool; 2]
 
 #[test]
 fn slots_are_free_or_on_a_chain_and_keys_on_their_nodes(rt: HostRuntime) {
-    let mut table = Table::new(rt.alloc(), 3).expect(&rt, "memory");
+    let mut table = Table::new(rt.alloc(), 3, 256).expect(&rt, "memory");
     same(&rt, &table.slot_place(0), &Place::Free);
     same(&rt, &heads(&rt, &table), &[false, false]);
     put(&rt, &mut table, 1, 5, 9, READ);
@@ -143,6 +144,29 @@ fn slots_are_free_or_on_a_chain_and_keys_on_their_nodes(rt: HostRuntime) {
     same(&rt, &heads(&rt, &table), &[true, true]);
     table.erase_owner(&key(1));
     same(&rt, &heads(&rt, &table), &[true, false]);
+}
+
+// Where the only key is, of a table with so many chains.
+fn place_of(rt: &impl Abort, alloc: Global, chains: u32, key: Key) -> Place
+    requires some { 1 ≤ chains }
+    requires few { chains ≤ 32768 }
+{
+    let mut table = Table::new(alloc, 1, chains).expect(rt, "memory");
+    put_as(rt, &mut table, key, 0, 9, READ);
+    table.head_place(0)
+}
+
+#[test]
+fn a_node_has_one_of_so_many_chains(rt: HostRuntime) {
+    let key = elsewhere(1);
+    same(&rt, &key.node, &263);
+    same(&rt, &place_of(&rt, rt.alloc(), 1, key), &Place::On(0, 0));
+    same(&rt, &place_of(&rt, rt.alloc(), 256, key), &Place::On(7, 0));
+    same(
+        &rt,
+        &place_of(&rt, rt.alloc(), 4096, key),
+        &Place::On(263, 0),
+    );
 }
 
 // One of many owners, of record locks on one of 64 files.
@@ -186,7 +210,7 @@ fn is_free(rt: &impl Abort, table: &Table)
 
 #[test]
 fn room_for_4096_owners_comes_back(rt: HostRuntime) {
-    let mut table = Table::new(rt.alloc(), 4096).expect(&rt, "memory");
+    let mut table = Table::new(rt.alloc(), 4096, 256).expect(&rt, "memory");
     fill(&rt, &mut table);
     clear(&rt, &mut table);
     fill(&rt, &mut table);

@@ -23,7 +23,7 @@ pub(super) fn all_hold(rt: &impl Abort, alloc: Global, limit: u16, cases: &str) 
 }
 
 fn holds(rt: &impl Abort, alloc: Global, limit: u16, case: &str) {
-    let mut table = Table::new(alloc, u32::from(limit)).expect(rt, "memory");
+    let mut table = Table::new(alloc, u32::from(limit), 256).expect(rt, "memory");
     for line in case.lines().skip(1) {
         gives(rt, alloc, &mut table, line);
     }

@@ -80,7 +80,7 @@ fn compare(rt: &impl Abort, table: &Table, grid: &Grid) {
 
 // Many changes of bytes from one on, in a table with room for eight runs.
 fn follow(rt: &impl Abort, alloc: Global, first: u64, seed: u64) {
-    let mut table = Table::new(alloc, 8).expect(rt, "memory");
+    let mut table = Table::new(alloc, 8, 256).expect(rt, "memory");
     let mut grid = Grid::new(keys(), first, 8);
     let mut numbers = Numbers { state: seed };
     for step in 0..1500 {

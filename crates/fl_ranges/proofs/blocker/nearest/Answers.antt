@@ -1,7 +1,7 @@
 use Rattle.std.proofs.Common.{◌≡◌, ◌≤◌, Some, None, slice_get, refl, sym, ap, ◌∙◌, arith}
 use Rattle.std.specs.List.{find}
 use Rattle.fl_arena.specs.declared.cursors.Cursor.{Cursor}
-use Rattle.fl_spans.specs.Rows.{rows, keys, runs_at}
+use Rattle.fl_spans.specs.Rows.{chain_count, rows, keys, runs_at}
 use Rattle.fl_ranges.specs.Placing.{home}
 use Rattle.fl_ranges.specs.Inside.LockRows.{runs_in}
 use Rattle.fl_ranges.specs.Inside.Nearest.{nearest_from}
@@ -40,9 +40,9 @@ loop-owner-preserved c =
     let range = c.args.range.now in
     let inv = c.loop-owner.invariant in
     let i = c.loop-owner.row.index in
-    let rs = rows v (home key.node) in
+    let rs = rows v (home (chain_count v) key.node) in
     let on = c.next_row.ensures.next in
-    let are = c.requires.kept (home key.node) in
+    let are = c.requires.kept (home (chain_count v) key.node) in
     let found : kin_owner key (slice_get (keys rs) i) ≡ Some c.in-Some.owner =
     ap (λ d. kin_owner key (slice_get (keys (rows v d)) i)) (sym inv.chain) ∙ sym c.in-Some.ensures.owner in
     let seen : find (span_conflicts key c.in-Some.owner range.start c.loop-owner.last c.args.kind) (runs_at rs i) ≡ c.conflicting_span.result =
@@ -80,8 +80,8 @@ returns-then-span-range c =
     let range = c.args.range.now in
     let inv = c.loop-owner.invariant in
     let i = c.loop-owner.row.index in
-    let rs = rows v (home key.node) in
-    let are = c.requires.kept (home key.node) in
+    let rs = rows v (home (chain_count v) key.node) in
+    let are = c.requires.kept (home (chain_count v) key.node) in
     let found : kin_owner key (slice_get (keys rs) i) ≡ Some c.in-Some.owner =
     ap (λ d. kin_owner key (slice_get (keys (rows v d)) i)) (sym inv.chain) ∙ sym c.in-Some.ensures.owner in
     let seen : find (span_conflicts key c.in-Some.owner range.start c.loop-owner.last c.args.kind) (runs_at rs i) ≡ Some c.in-Some-conflicting_span.span =
@@ -97,6 +97,6 @@ returns-in_default c =
     let range = c.args.range.now in
     let inv = c.loop-owner.invariant in
     let i = c.loop-owner.row.index in
-    let none : kin_owner key (slice_get (keys (rows v (home key.node))) i) ≡ None =
+    let none : kin_owner key (slice_get (keys (rows v (home (chain_count v) key.node))) i) ≡ None =
     ap (λ d. kin_owner key (slice_get (keys (rows v d)) i)) (sym inv.chain) ∙ sym c.owner_at.ensures.owner ∙ c.in_default.is in
-    sym (inv.rest ∙ nearest_none key range.start range.end c.args.kind (rows v (home key.node)) i c.loop-owner.best none)
+    sym (inv.rest ∙ nearest_none key range.start range.end c.args.kind (rows v (home (chain_count v) key.node)) i c.loop-owner.best none)

@@ -1,6 +1,6 @@
 use Rattle.std.proofs.Common.{◌≡◌, ◌-◌, length, drop}
 use Rattle.std.specs.List.{list_any}
-use Rattle.fl_spans.specs.Rows.{rows, IsRow}
+use Rattle.fl_spans.specs.Rows.{chain_count, rows, IsRow}
 use Rattle.fl_ranges.specs.Placing.{home}
 use Rattle.fl_ranges.specs.Inside.RunList.{run_conflicts}
 use Rattle.fl_ranges.specs.Inside.LockRows.{table_runs, runs_in}
@@ -10,10 +10,10 @@ use Rattle.fl_ranges.proofs.conflict.some_conflicts.Given as goal
 abbrev pub invariant-loop-owner : goal.invariant-loop-owner
 invariant-loop-owner l = record {
   row : IsRow l.table l.row;
-  chain : l.row.chain ≡ home l.key.node;
+  chain : l.row.chain ≡ home (chain_count l.table) l.key.node;
   rest : list_any (run_conflicts l.key l.range.start l.range.end l.kind) (table_runs l.table)
-      ≡ list_any (run_conflicts l.key l.range.start l.range.end l.kind) (runs_in (class_rows l.key (drop l.row.index (rows l.table (home l.key.node)))));
+      ≡ list_any (run_conflicts l.key l.range.start l.range.end l.kind) (runs_in (class_rows l.key (drop l.row.index (rows l.table (home (chain_count l.table) l.key.node)))));
 }
 
 abbrev pub decreases-loop-owner : goal.decreases-loop-owner
-decreases-loop-owner l = length (rows l.table (home l.key.node)) - l.row.index
+decreases-loop-owner l = length (rows l.table (home (chain_count l.table) l.key.node)) - l.row.index

@@ -2,7 +2,7 @@ use Rattle.std.proofs.Common.{◌≡◌, ◌+◌, false, drop, None, slice_get, 
 use Rattle.std.specs.Option.{option_copied}
 use Rattle.std.specs.Ordering.{eq_by_cmp}
 use Rattle.fl_arena.specs.declared.cursors.Cursor.{Cursor}
-use Rattle.fl_spans.specs.Rows.{rows, keys, row_cursor}
+use Rattle.fl_spans.specs.Rows.{chain_count, rows, keys, row_cursor}
 use Rattle.fl_ranges.specs.declared.lock.Key.{Key}
 use Rattle.fl_ranges.specs.Marking.{key_cmp}
 use Rattle.fl_ranges.specs.Placing.{home}
@@ -16,7 +16,7 @@ returns-then-not-key_precedes-clause-at c =
     let inv = c.loop-here.invariant in
     let j = c.loop-here.row.index in
     let key = c.args.key.now in
-    let rs = rows c.args.table.now (home key.node) in
+    let rs = rows c.args.table.now (home (chain_count c.args.table.now) key.node) in
     let h : IsHere rs j c.in-Some.here.now =
     row_here rs j c.in-Some.here.now (ap (λ n. slice_get (keys (rows c.args.table.now n)) j) (sym inv.chain) ∙ sym c.in-Some.ensures.key) in
     let before : key_precedes h.row.key key ≡ false =
@@ -30,13 +30,13 @@ returns-then-not-key_precedes-clause-own c =
     let inv = c.loop-here.invariant in
     let j = c.loop-here.row.index in
     let key = c.args.key.now in
-    let rs = rows c.args.table.now (home key.node) in
+    let rs = rows c.args.table.now (home (chain_count c.args.table.now) key.node) in
     let h : IsHere rs j c.in-Some.here.now =
     row_here rs j c.in-Some.here.now (ap (λ n. slice_get (keys (rows c.args.table.now n)) j) (sym inv.chain) ∙ sym c.in-Some.ensures.key) in
     let before : key_precedes h.row.key key ≡ false =
     ap (λ (k : Key). key_precedes k key) h.key_is ∙ sym c.key_precedes.ensures ∙ c.if-not-key_precedes.true in
     let order : AreInOrder (h.row ∷ drop (j + 1) rs) =
-    subst AreInOrder h.rest (in_order_drop rs j (c.requires.table.kept (home key.node)).in_order) in
+    subst AreInOrder h.rest (in_order_drop rs j (c.requires.table.kept (home (chain_count c.args.table.now) key.node)).in_order) in
     c.is_same.ensures ∙ ap (λ (k : Key). eq_by_cmp key_cmp k key) (sym h.key_is) ∙ sym (inv.own ∙ ap (has_row key) h.rest
     ∙ has_here key h.row (drop (j + 1) rs) order before)
 
@@ -45,7 +45,7 @@ loop-here-preserved c =
     let inv = c.loop-here.invariant in
     let j = c.loop-here.row.index in
     let key = c.args.key.now in
-    let rs = rows c.args.table.now (home key.node) in
+    let rs = rows c.args.table.now (home (chain_count c.args.table.now) key.node) in
     let h : IsHere rs j c.in-Some.here.now =
     row_here rs j c.in-Some.here.now (ap (λ n. slice_get (keys (rows c.args.table.now n)) j) (sym inv.chain) ∙ sym c.in-Some.ensures.key) in
     let before = ap (λ (k : Key). key_precedes k key) h.key_is ∙ sym c.key_precedes.ensures ∙ c.if-not-key_precedes.false in
@@ -63,7 +63,7 @@ returns-clause-at c =
     let inv = c.loop-here.invariant in
     let j = c.loop-here.row.index in
     let key = c.args.key.now in
-    let rs = rows c.args.table.now (home key.node) in
+    let rs = rows c.args.table.now (home (chain_count c.args.table.now) key.node) in
     let none : slice_get (keys rs) j ≡ None =
     ap (λ n. slice_get (keys (rows c.args.table.now n)) j) (sym inv.chain) ∙ sym c.key.ensures.key ∙ ap option_copied c.in_default.is in
     let last = ap (row_index key) (row_end rs j none) in
@@ -75,7 +75,7 @@ returns-clause-own c =
     let inv = c.loop-here.invariant in
     let j = c.loop-here.row.index in
     let key = c.args.key.now in
-    let rs = rows c.args.table.now (home key.node) in
+    let rs = rows c.args.table.now (home (chain_count c.args.table.now) key.node) in
     let none : slice_get (keys rs) j ≡ None =
     ap (λ n. slice_get (keys (rows c.args.table.now n)) j) (sym inv.chain) ∙ sym c.key.ensures.key ∙ ap option_copied c.in_default.is in
     sym (inv.own ∙ ap (has_row key) (row_end rs j none))

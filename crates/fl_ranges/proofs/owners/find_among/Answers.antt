@@ -1,7 +1,7 @@
 use Rattle.std.proofs.Common.{◌≡◌, ◌||◌, ℕ, false, Some, None, is_some, slice_get, slice_index_or, sym, ap, ◌∙◌, arith}
 use Rattle.std.specs.List.{find, list_any}
 use Rattle.fl_arena.specs.declared.cursors.Cursor.{Cursor}
-use Rattle.fl_spans.specs.Rows.{rows, keys, runs_at}
+use Rattle.fl_spans.specs.Rows.{chain_count, rows, keys, runs_at}
 use Rattle.fl_ranges.specs.Placing.{home}
 use Rattle.fl_ranges.specs.Inside.LockRows.{runs_in}
 use Rattle.fl_ranges.specs.Inside.Owners.{run_conflicts_by}
@@ -35,13 +35,13 @@ returns-then-first-owners c =
     let range = c.args.range.now in
     let inv = c.loop-owner.invariant in
     let i = c.loop-owner.row.index in
-    let found : kin_owner key (slice_get (keys (rows v (home key.node))) i) ≡ Some c.in-Some.owner =
+    let found : kin_owner key (slice_get (keys (rows v (home (chain_count v) key.node))) i) ≡ Some c.in-Some.owner =
     ap (λ d. kin_owner key (slice_get (keys (rows v d)) i)) (sym inv.chain) ∙ sym c.in-Some.ensures.owner in
-    let are = c.requires.kept (home key.node) in
+    let are = c.requires.kept (home (chain_count v) key.node) in
     λ k within.
     sym (or_none (slice_index_or c.loop-owner.found k false))
     ∙ ap (λ b. slice_index_or c.loop-owner.found k false || b)
-    (sym (still_passed key range.start range.end c.args.kind (rows v (home key.node)) i c.in-Some.owner found are.in_order c.args.owners.now
+    (sym (still_passed key range.start range.end c.args.kind (rows v (home (chain_count v) key.node)) i c.in-Some.owner found are.in_order c.args.owners.now
     c.loop-owner.place c.skip_less-first.result c.skip_less-first.ensures.less inv.passed k (omega (arith, c.if-first-owners.true))))
     ∙ inv.rest k within
 
@@ -61,13 +61,13 @@ loop-owner-preserved c =
     let on = c.next_row.ensures.next in
     let first = c.skip_less-first in
     let last = c.skip_same-place in
-    let found : kin_owner key (slice_get (keys (rows v (home key.node))) i) ≡ Some c.in-Some.owner =
+    let found : kin_owner key (slice_get (keys (rows v (home (chain_count v) key.node))) i) ≡ Some c.in-Some.owner =
     ap (λ d. kin_owner key (slice_get (keys (rows v d)) i)) (sym inv.chain) ∙ sym c.in-Some.ensures.owner in
-    let are = c.requires.kept (home key.node) in
+    let are = c.requires.kept (home (chain_count v) key.node) in
     let more = more_behind c.args.owners.now c.in-Some.owner first.result last.result c.requires.ascending last.ensures.from first.ensures.stop
     last.ensures.stop in
     let seen = λ (d : ℕ). is_some (find (span_conflicts key c.in-Some.owner range.start range.end c.args.kind) (runs_at (rows v d) i)) in
-    let marked : AreMarked c.loop-owner.found c.look_into.new.found first.result last.result (seen (home key.node)) = record {
+    let marked : AreMarked c.loop-owner.found c.look_into.new.found first.result last.result (seen (home (chain_count v) key.node)) = record {
       set = λ k from before. c.look_into.ensures.set k from before ∙ ap (λ d. slice_index_or c.loop-owner.found k false || seen d) inv.chain;
       before = c.look_into.ensures.before;
       behind = c.look_into.ensures.behind;
@@ -76,10 +76,10 @@ loop-owner-preserved c =
       row = c.next_row.ensures.row;
       chain = ap (λ (k : Cursor). k.chain) on ∙ inv.chain;
       within = last.ensures.within;
-      passed = rw (ap (λ (k : Cursor). k.index) on) (next_passed key range.start range.end c.args.kind (rows v (home key.node)) i c.in-Some.owner
+      passed = rw (ap (λ (k : Cursor). k.index) on) (next_passed key range.start range.end c.args.kind (rows v (home (chain_count v) key.node)) i c.in-Some.owner
           found are.in_order c.args.owners.now c.loop-owner.place first.result first.ensures.less inv.passed last.result last.ensures.same);
       rest = rw (ap (λ (k : Cursor). k.index) on) (λ k within.
-          next_rest key range.start range.end c.args.kind (rows v (home key.node)) i c.in-Some.owner found are.in_order c.args.owners.now
+          next_rest key range.start range.end c.args.kind (rows v (home (chain_count v) key.node)) i c.in-Some.owner found are.in_order c.args.owners.now
           c.loop-owner.place first.result first.ensures.less inv.passed last.result last.ensures.same last.ensures.from more c.loop-owner.found
           c.look_into.new.found marked k within
           ∙ inv.rest k within);
@@ -92,10 +92,10 @@ returns c =
     let range = c.args.range.now in
     let inv = c.loop-owner.invariant in
     let i = c.loop-owner.row.index in
-    let none : kin_owner key (slice_get (keys (rows v (home key.node))) i) ≡ None =
+    let none : kin_owner key (slice_get (keys (rows v (home (chain_count v) key.node))) i) ≡ None =
     ap (λ d. kin_owner key (slice_get (keys (rows v d)) i)) (sym inv.chain) ∙ sym c.owner_at.ensures.owner ∙ c.in_default.is in
     λ k within.
     sym (or_none (slice_index_or c.loop-owner.found k false))
     ∙ ap (λ b. slice_index_or c.loop-owner.found k false || b)
-    (sym (contender_end key range.start range.end c.args.kind (rows v (home key.node)) i none (slice_index_or c.args.owners.now k 0)))
+    (sym (contender_end key range.start range.end c.args.kind (rows v (home (chain_count v) key.node)) i none (slice_index_or c.args.owners.now k 0)))
     ∙ inv.rest k within

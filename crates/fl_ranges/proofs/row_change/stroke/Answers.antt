@@ -1,6 +1,6 @@
 use Rattle.std.proofs.Common.{◌↔◌, ◌<◌, sym, ap, subst, ◌∙◌}
 use Rattle.std.specs.Prelude.{IsErr}
-use Rattle.fl_spans.specs.Rows.{limit_of}
+use Rattle.fl_spans.specs.Rows.{chain_count, limit_of}
 use Rattle.fl_ranges.specs.Marking.{stroked}
 use Rattle.fl_ranges.specs.Runs.{runs}
 use Rattle.fl_ranges.specs.Inside.LockRows.{row_marks, IsLockTable}
@@ -33,7 +33,7 @@ returns-then-own-clause-table c =
     here_kept c.args.table.now c.requires.table c.args.key.now c.find_row-own.result.0 c.find_row-own.ensures.at
     (sym c.find_row-own.ensures.own ∙ c.if-own.true) c.args.range.now.start c.args.range.now.end c.args.mark _ c.stroke.ensures.spans c.stroke.ensures.marks
     c.stroke.new.rows is c.stroke.ensures.size (λ more. fine (c.stroke.ensures.full.1 more)))
-    (λ same. subst (λ v. IsLockTable v (limit_of c.args.table.now)) (sym same) c.requires.table)
+    (λ same. subst (λ v. IsLockTable v (limit_of c.args.table.now) (chain_count c.args.table.now)) (sym same) c.requires.table)
 
 pub returns-in_default-clause-full : goal.returns-in_default-clause-full
 returns-in_default-clause-full c = (
@@ -78,4 +78,4 @@ returns-clause-table c =
     (sym c.find_row-own.ensures.own ∙ c.if-own.false) c.args.range.now.start c.args.range.now.end c.in-Some.mark c.args.range.now.ordered
     c.args.range.now.in_range
     c.insert_row.new.self is c.insert_row.ensures.size (λ full. fine (c.insert_row.ensures.full.1 full)))
-    (λ same. subst (λ v. IsLockTable v (limit_of c.args.table.now)) (sym same) c.requires.table)
+    (λ same. subst (λ v. IsLockTable v (limit_of c.args.table.now) (chain_count c.args.table.now)) (sym same) c.requires.table)

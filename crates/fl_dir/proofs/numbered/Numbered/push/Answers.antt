@@ -1,7 +1,6 @@
 use Rattle.std.proofs.Common.{◌≡◌, ◌==◌, ◌+◌, None, false, subst, ap, sym, ◌∙◌}
 use Rattle.std.specs.FinMap.{from_sorted, insert, get}
 use Rattle.fl_arena.specs.Chains.{items}
-use Rattle.fl_dir.specs.contracts.numbered.Numbered.{the_view}
 use Rattle.fl_dir.specs.Inside.Numbers.{Numbers, is_full}
 use Rattle.fl_dir.proofs.Entries.{map_pushed, fresh_listed}
 use Rattle.fl_dir.proofs.Chained.{room_left, list_pushed, same_numbers}

@@ -6,7 +6,7 @@ use Rattle.fl_ranges.proofs.table.Table.erase_node.Goals as goal
 
 pub returns-clause-erased : goal.returns-clause-erased
 returns-clause-erased c =
-    seen c.self.inside.limit _ _ c.args.self.now (without_node c.args.node) c.self.view_is c.erase_node.ensures.erased
+    seen c.self.inside.limit _ _ _ _ c.args.self.now (without_node c.args.node) c.self.view_is c.erase_node.ensures.table.count c.erase_node.ensures.erased
 
 pub returns-clause-lawful : goal.returns-clause-lawful
 returns-clause-lawful c = λ lawful.

@@ -7,8 +7,8 @@ use Rattle.fl_ranges.proofs.table.Table.erase_owner.Goals as goal
 
 pub returns-clause-erased : goal.returns-clause-erased
 returns-clause-erased c =
-    seen c.self.inside.limit _ _ c.args.self.now (stroked
-    (record { key = c.args.key.now; start = 0; end = 9223372036854775807; mark = None })) c.self.view_is c.erase_owner.ensures.erased
+    seen c.self.inside.limit _ _ _ _ c.args.self.now (stroked
+    (record { key = c.args.key.now; start = 0; end = 9223372036854775807; mark = None })) c.self.view_is c.erase_owner.ensures.table.count c.erase_owner.ensures.erased
 
 pub returns-clause-lawful : goal.returns-clause-lawful
 returns-clause-lawful c = λ lawful.
