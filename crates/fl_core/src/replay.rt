@@ -95,7 +95,7 @@ impl Parts {
 fn restore(locks: &mut Table, node: u64, ask: &LockAsk) -> bool
     ensures set { result ≡ true
         → (answer : Answer) → locks.new.marking ≡ after_changes (locked node ask.now (Ok answer)) locks.old.marking }
-    ensures full { result ≡ false → locks.new ≡ locks.old }
+    ensures full { result ≡ false → locks.new.marking ≡ locks.old.marking }
     ensures limit { locks.new.limit ≡ locks.old.limit }
 {
     match range_of(ask) {

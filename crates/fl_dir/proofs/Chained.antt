@@ -1,31 +1,31 @@
--- Changes in the chain of an arena, as changes of entries and of a finite map.
-use Rattle.std.proofs.Common.{◌≡◌, ◌≢◌, ℕ, ◌+◌, ◌<◌, ◌≤◌, Bool, true, false, cond, not, sum_by, slice_index_or, ◌==◌}
-use Rattle.std.proofs.Common.{◌||◌, nat_le, Option, Some, None, IsSome}
-use Rattle.std.proofs.Common.{option_map, slice_get, slice_set, List, [], ◌∷◌, ◌++◌, length, refl, ap, sym, ◌∙◌, subst}
-use Rattle.std.proofs.Common.{arith}
+-- Changes of one chain of an arena, as changes at a number.
+use Rattle.std.proofs.Common.{◌≡◌, ◌≢◌, ℕ, zero, suc, ◌+◌, ◌<◌, ◌≤◌, Bool, true, false, cond, not, ◌==◌, ◌||◌, nat_le}
+use Rattle.std.proofs.Common.{Option, Some, None, IsSome}
+use Rattle.std.proofs.Common.{option_map, slice_get, slice_set, List, [], ◌∷◌, ◌++◌, length, refl, ap, sym, ◌∙◌, subst, arith}
+use Rattle.std.specs.Prelude.{map as each}
 use Rattle.std.proofs.lemmas.Bool.Decides.{nat_tests}
 use Rattle.std.proofs.lemmas.List.{length-map}
-use Rattle.std.proofs.lemmas.Option.{none-some}
-use Rattle.std.specs.List.{find, remove}
+use Rattle.std.proofs.lemmas.Option.{none-some, slice_get-map}
+use Rattle.std.specs.List.{find, insert, remove}
 use Rattle.std.specs.Ordering.{nat_cmp, eq_by_cmp}
+use Rattle.std.specs.Cmp.{nat_cmp_total}
 use Rattle.std.specs.FinMap as map
 use Rattle.std.specs.FinMap.Entries as rising
 use Rattle.std.proofs.lemmas.Bool.{eqb-true}
 use Rattle.fl_arena.specs.Chains.{Entry, Chains, entries, items, item_count, HasSizeOf}
 use Rattle.fl_arena.specs.Cursors.{cursor_at}
 use Rattle.fl_arena.specs.declared.cursors.Cursor.{Cursor}
-use Rattle.fl_dir.specs.Inside.Listed.{AreListed, IsList}
-use Rattle.fl_dir.specs.Inside.Numbers.{Numbers}
-use Rattle.fl_dir.proofs.Entries.{set_put, remove_where, listed_pushed, listed_put, listed_where, get_listed}
-use Rattle.fl_dir.proofs.Entries.{len_listed}
-
-some_entry : {A : Type 0} (o : Option A) → IsSome o → (x : A) × (o ≡ Some x)
-some_entry None h = absurd (cc h)
-some_entry (Some x) h = (x, refl)
+use Rattle.fl_dir.specs.Inside.Spread.{at, values_on, AreSorted, IsAltered}
+use Rattle.fl_dir.proofs.Entries.{held, truth, found, set_put, remove_where, sorted_pushed}
+use Rattle.fl_dir.proofs.Spread.{some_of}
 
 some_mapped : {A B : Type 0} (f : A → B) (o : Option A) → IsSome (option_map f o) → IsSome o
 some_mapped f None h = h
-some_mapped f (Some x) h = h
+some_mapped f (Some x) h = cc
+
+mapped_some : {A B : Type 0} (f : A → B) (o : Option A) → IsSome o → IsSome (option_map f o)
+mapped_some f None h = h
+mapped_some f (Some x) h = cc
 
 module _ {X : Type 0} where
   -- what is found under a number has that number
@@ -41,114 +41,101 @@ module _ {X : Type 0} where
           ap (λ (k : ℕ). (k, e.1)) key
       go false same later h = later h
 
+  pub is_found : (a : Chains (ℕ × X)) (c n : ℕ) → IsSome (at a c n) → IsSome (find (λ (e : ℕ × X). e.0 == n) (items a c))
+  is_found a c n some = some_mapped (λ (e : ℕ × X). e.1) _ (subst IsSome (found (items a c) n) some)
+
+  -- a cursor at the entry of a number has its slot
+  pub slot_there : (a : Chains (ℕ × X)) (cursor : Cursor) (c n : ℕ) → cursor ≡ cursor_at a c cursor.index
+      → slice_get (items a c) cursor.index ≡ find (λ (e : ℕ × X). e.0 == n) (items a c) → IsSome (at a c n) → IsSome cursor.slot
+  slot_there a cursor c n stands seen some =
+      let item = some_mapped (λ (e : Entry (ℕ × X)). e.item) (slice_get (entries a c) cursor.index)
+      (subst IsSome (sym seen ∙ slice_get-map (λ (e : Entry (ℕ × X)). e.item) (entries a c) cursor.index) (is_found a c n some)) in
+      subst IsSome (sym (ap (λ (k : Cursor). k.slot) stands)) (mapped_some (λ (e : Entry (ℕ × X)). e.slot) _ item)
+
   -- a cursor at the entry of a number, as a search leaves it
-  record IsAt (a : Chains (ℕ × X)) (cursor : Cursor) (n : ℕ) : Type 0 where
-    pub chain : cursor.chain ≡ 0
+  record IsAt (a : Chains (ℕ × X)) (cursor : Cursor) (c n : ℕ) : Type 0 where
+    pub chain : cursor.chain ≡ c
     pub value : X
-    pub there : slice_get (items a 0) cursor.index ≡ Some (n, value)
+    pub there : slice_get (items a c) cursor.index ≡ Some (n, value)
 
-  at_number : (a : Chains (ℕ × X)) (cursor : Cursor) (n : ℕ) → cursor ≡ cursor_at a 0 cursor.index
-      → slice_get (items a 0) cursor.index ≡ find (λ (e : ℕ × X). e.0 == n) (items a 0) → IsSome (find (λ (e : ℕ × X). e.0 == n) (items a 0)) → IsAt a cursor n
-  at_number a cursor n at found some =
-      let e = some_entry (find (λ (e : ℕ × X). e.0 == n) (items a 0)) some in
-      record { chain = ap (λ (k : Cursor). k.chain) at; value = e.0.1; there = found ∙ e.1 ∙ ap Some (found_number (items a 0) n e.0 e.1) }
+  at_number : (a : Chains (ℕ × X)) (cursor : Cursor) (c n : ℕ) → cursor ≡ cursor_at a c cursor.index
+      → slice_get (items a c) cursor.index ≡ find (λ (e : ℕ × X). e.0 == n) (items a c) → IsSome (at a c n) → IsAt a cursor c n
+  at_number a cursor c n stands seen some =
+      let e = some_of (find (λ (e : ℕ × X). e.0 == n) (items a c)) (is_found a c n some) in
+      record { chain = ap (λ (k : Cursor). k.chain) stands; value = e.0.1; there = seen ∙ e.1 ∙ ap Some (found_number (items a c) n e.0 e.1) }
 
-  pub replaced : (a b : Chains (ℕ × X)) (cursor : Cursor) (n : ℕ) (x : X) → cursor ≡ cursor_at a 0 cursor.index
-      → slice_get (items a 0) cursor.index ≡ find (λ (e : ℕ × X). e.0 == n) (items a 0) → IsSome (find (λ (e : ℕ × X). e.0 == n) (items a 0))
-      → map.is_sorted nat_cmp (items a 0) ≡ true → items b cursor.chain ≡ slice_set (items a cursor.chain) cursor.index (n, x)
-      → items b 0 ≡ rising.put nat_cmp n x (items a 0)
-  replaced a b cursor n x at found some sorted is =
-      let here = at_number a cursor n at found some in
-      ap (items b) (sym here.chain) ∙ is ∙ ap (λ (d : ℕ). slice_set (items a d) cursor.index (n, x)) here.chain
-      ∙ set_put (items a 0) cursor.index n x here.value sorted here.there
+  insert_end : (xs : List (ℕ × X)) (n : ℕ) (y : ℕ × X) → n ≡ length xs → insert xs n y ≡ xs ++ y ∷ []
+  insert_end [] zero y is = refl
+  insert_end [] (suc n) y is = absurd (omega (arith, is))
+  insert_end (x ∷ xs) zero y is = absurd (omega (arith, is))
+  insert_end (x ∷ xs) (suc n) y is = ap (λ (l : List (ℕ × X)). x ∷ l) (insert_end xs n y (omega (arith, is)))
 
-  pub taken_out : (a b : Chains (ℕ × X)) (cursor : Cursor) (n : ℕ) → cursor ≡ cursor_at a 0 cursor.index
-      → slice_get (items a 0) cursor.index ≡ find (λ (e : ℕ × X). e.0 == n) (items a 0) → IsSome (find (λ (e : ℕ × X). e.0 == n) (items a 0))
-      → map.is_sorted nat_cmp (items a 0) ≡ true → items b cursor.chain ≡ remove (items a cursor.chain) cursor.index
-      → items b 0 ≡ rising.where_key nat_cmp (λ k. not (eq_by_cmp nat_cmp n k)) (items a 0)
-  taken_out a b cursor n at found some sorted is =
-      let here = at_number a cursor n at found some in
-      ap (items b) (sym here.chain) ∙ is ∙ ap (λ (d : ℕ). remove (items a d) cursor.index) here.chain
-      ∙ remove_where (items a 0) cursor.index n here.value sorted here.there
+  pub insert_last : (a : Chains (ℕ × X)) (c : ℕ) (y : ℕ × X) → insert (items a c) (length (entries a c)) y ≡ items a c ++ y ∷ []
+  insert_last a c y = insert_end (items a c) (length (entries a c)) y (sym (length-map (entries a c) (λ (e : Entry (ℕ × X)). e.item)))
 
-  -- ---- the chain as a list
-
-  -- how many items one chain has
-  counted : (a : Chains (ℕ × X)) → length a.chains ≡ 1 → item_count a ≡ length (items a 0)
-  counted a one = go a.chains one ∙ sym (length-map (entries a 0) (λ (e : Entry (ℕ × X)). e.item))
+  -- all chains are sorted if this one is, and the others are as they were
+  all_sorted : (a b : Chains (ℕ × X)) (c : ℕ) → AreSorted a → map.is_sorted nat_cmp (items b c) ≡ true
+      → ((d : ℕ) → d ≢ c → entries b d ≡ entries a d) → AreSorted b
+  all_sorted a b c sorted here others d = go (d == c) refl
     where
-      alone : (n : ℕ) → 0 + n ≡ n
-      alone n = omega arith
+      go : (t : Bool) → (d == c) ≡ t → map.is_sorted nat_cmp (items b d) ≡ true
+      go true same = subst (λ n. map.is_sorted nat_cmp (items b n) ≡ true) (sym (eqb-true d c same)) here
+      go false other =
+          subst (λ es. map.is_sorted nat_cmp (each (λ e. e.item) es) ≡ true) (sym (others d (λ e. grind (arith, nat_tests)))) (sorted d)
 
-      go : (cs : List (List (Entry (ℕ × X)))) → length cs ≡ 1 → sum_by length cs ≡ length (slice_index_or cs 0 [])
-      go [] one = absurd (omega (arith, one))
-      go (c ∷ []) one = alone (length c)
-      go (c ∷ d ∷ cs) one = absurd (omega (arith, one))
-
-  pub list_pushed : (a b : Chains (ℕ × X)) (next : ℕ) (x : X) → IsList a next → HasSizeOf a b → items b 0 ≡ items a 0 ++ (next, x) ∷ [] →
-      IsList b (next + 1)
-  list_pushed a b next x kept size is = record {
-    chains = size.chains ∙ kept.chains;
-    listed = subst (λ es. AreListed es (next + 1)) (sym is) (listed_pushed (items a 0) next x kept.listed);
+  pub pushed : (a b : Chains (ℕ × X)) (c n : ℕ) (x : X) → AreSorted a → ((q : ℕ) → n ≤ q → at a c q ≡ None) → HasSizeOf a b
+      → items b c ≡ items a c ++ (n, x) ∷ [] → ((d : ℕ) → d ≢ c → entries b d ≡ entries a d) → IsAltered a b c n (Some x)
+  pushed a b c n x sorted above size is others = record {
+    size = size;
+    sorted = all_sorted a b c sorted (ap (map.is_sorted nat_cmp) is ∙ sorted_pushed (items a c) n x above (sorted c)) others;
+    here = λ q. ap (rising.find nat_cmp q) is ∙ rising.find-append nat_cmp nat_cmp_total (items a c) n x q (above n (omega arith));
+    others = others;
   }
 
-  pub list_put : (a b : Chains (ℕ × X)) (next n : ℕ) (x : X) → IsList a next → HasSizeOf a b → IsSome (find (λ (e : ℕ × X). e.0 == n) (items a 0)) →
-      items b 0 ≡ rising.put nat_cmp n x (items a 0) → IsList b next
-  list_put a b next n x kept size some is =
-      let e = some_entry (find (λ (e : ℕ × X). e.0 == n) (items a 0)) some in
+  pub replaced : (a b : Chains (ℕ × X)) (cursor : Cursor) (c n : ℕ) (x : X) → cursor ≡ cursor_at a c cursor.index
+      → slice_get (items a c) cursor.index ≡ find (λ (e : ℕ × X). e.0 == n) (items a c) → IsSome (at a c n) → AreSorted a → HasSizeOf a b
+      → items b cursor.chain ≡ slice_set (items a cursor.chain) cursor.index (n, x)
+      → ((d : ℕ) → d ≢ cursor.chain → entries b d ≡ entries a d) → IsAltered a b c n (Some x)
+  replaced a b cursor c n x stands seen some sorted size is others =
+      let here = at_number a cursor c n stands seen some in
+      let put : items b c ≡ rising.put nat_cmp n x (items a c) =
+      ap (items b) (sym here.chain) ∙ is ∙ ap (λ (d : ℕ). slice_set (items a d) cursor.index (n, x)) here.chain
+      ∙ set_put (items a c) cursor.index n x here.value (sorted c) here.there in
+      let rest = λ (d : ℕ) (apart : d ≢ c). others d (λ e. apart (e ∙ here.chain)) in
       record {
-        chains = size.chains ∙ kept.chains;
-        listed = subst (λ es. AreListed es next) (sym is) (listed_put (items a 0) n next x e.0 e.1 kept.listed);
+        size = size;
+        sorted = all_sorted a b c sorted (ap (map.is_sorted nat_cmp) put ∙ truth _ (rising.is_sorted-put nat_cmp nat_cmp_total n x (items a c) (held _ (sorted c)))) rest;
+        here = λ q. ap (rising.find nat_cmp q) put ∙ rising.find-put nat_cmp nat_cmp_total q n x (items a c);
+        others = rest;
       }
 
-  pub list_where : (a b : Chains (ℕ × X)) (next n : ℕ) → IsList a next → HasSizeOf a b →
-      items b 0 ≡ rising.where_key nat_cmp (λ k. not (eq_by_cmp nat_cmp n k)) (items a 0) → IsList b next
-  list_where a b next n kept size is = record {
-    chains = size.chains ∙ kept.chains;
-    listed = subst (λ es. AreListed es next) (sym is) (listed_where (items a 0) (λ k. not (eq_by_cmp nat_cmp n k)) next kept.listed);
-  }
-
-  -- a number that the map has is found in the chain
-  pub found_of_map : (a : Chains (ℕ × X)) (next n : ℕ) → IsList a next → IsSome (map.get (map.from_sorted {R = nat_cmp} (items a 0)) n) →
-      IsSome (find (λ (e : ℕ × X). e.0 == n) (items a 0))
-  found_of_map a next n kept some = some_mapped (λ (e : ℕ × X). e.1) _ (subst IsSome (get_listed (items a 0) n kept.listed.sorted) some)
-
-  -- ---- room
-
-  -- if all slots hold items, so many are there
-  pub full_of_none : (a : Chains (ℕ × X)) (next free : ℕ) (b : Bool) → IsList a next → item_count a + free ≡ a.slots → free ≡ 0 →
-      true ≡ (nat_le a.slots (map.len (map.from_sorted {R = nat_cmp} (items a 0))) || b)
-  full_of_none a next free b kept total none =
-      let all : a.slots ≤ map.len (map.from_sorted {R = nat_cmp} (items a 0)) =
-      omega (arith, counted a kept.chains, len_listed (items a 0) kept.listed.sorted, total, none) in
-      ap (λ t. t || b) (reached _ _ all)
+  pub taken_out : (a b : Chains (ℕ × X)) (cursor : Cursor) (c n : ℕ) → cursor ≡ cursor_at a c cursor.index
+      → slice_get (items a c) cursor.index ≡ find (λ (e : ℕ × X). e.0 == n) (items a c) → IsSome (at a c n) → AreSorted a → HasSizeOf a b
+      → items b cursor.chain ≡ remove (items a cursor.chain) cursor.index
+      → ((d : ℕ) → d ≢ cursor.chain → entries b d ≡ entries a d) → IsAltered a b c n None
+  taken_out a b cursor c n stands seen some sorted size is others =
+      let here = at_number a cursor c n stands seen some in
+      let left : items b c ≡ rising.where_key nat_cmp (λ k. not (eq_by_cmp nat_cmp n k)) (items a c) =
+      ap (items b) (sym here.chain) ∙ is ∙ ap (λ (d : ℕ). remove (items a d) cursor.index) here.chain
+      ∙ remove_where (items a c) cursor.index n here.value (sorted c) here.there in
+      let rest = λ (d : ℕ) (apart : d ≢ c). others d (λ e. apart (e ∙ here.chain)) in
+      record {
+        size = size;
+        sorted = all_sorted a b c sorted
+            (ap (map.is_sorted nat_cmp) left ∙ truth _ (rising.is_sorted-where_key nat_cmp (λ k. not (eq_by_cmp nat_cmp n k)) (items a c) (held _ (sorted c)))) rest;
+        here = λ q.
+            ap (rising.find nat_cmp q) left
+            ∙ rising.find-where_key nat_cmp (λ k. not (eq_by_cmp nat_cmp n k)) q
+            (λ x e. ap (λ k. not (eq_by_cmp nat_cmp n k)) (sym (map.nat_cmp-IsAntisymmetric q x e))) (items a c)
+            ∙ either_way (eq_by_cmp nat_cmp n q) (eq_by_cmp nat_cmp q n) _ (turned n q);
+        others = rest;
+      }
     where
-      reached : (m n : ℕ) → m ≤ n → true ≡ nat_le m n
-      reached m n h = grind (arith, nat_tests)
+      either_way : (s t : Bool) (o : Option X) → s ≡ t → cond (not s) o None ≡ cond t None o
+      either_way true true o e = refl
+      either_way false false o e = refl
+      either_way true false o e = absurd (cc e)
+      either_way false true o e = absurd (cc e)
 
-  pub room_of_some : (a : Chains (ℕ × X)) (next free : ℕ) (b : Bool) → IsList a next → item_count a + free ≡ a.slots → free ≢ 0 →
-      b ≡ (nat_le a.slots (map.len (map.from_sorted {R = nat_cmp} (items a 0))) || b)
-  room_of_some a next free b kept total some =
-      let few : map.len (map.from_sorted {R = nat_cmp} (items a 0)) < a.slots =
-      omega (arith, counted a kept.chains, len_listed (items a 0) kept.listed.sorted, total, some) in
-      ap (λ t. t || b) (missed _ _ few)
-    where
-      missed : (m n : ℕ) → n < m → false ≡ nat_le m n
-      missed m n h = grind (arith, nat_tests)
-
-  -- if a limit isn't reached there is room
-  pub room_left : (a : Chains (ℕ × X)) (next : ℕ) (b : Bool) → IsList a next →
-      (nat_le a.slots (map.len (map.from_sorted {R = nat_cmp} (items a 0))) || b) ≡ false → length (items a 0) < a.slots
-  room_left a next b kept clear =
-      let few : map.len (map.from_sorted {R = nat_cmp} (items a 0)) < a.slots =
-      go _ (nat_le a.slots (map.len (map.from_sorted {R = nat_cmp} (items a 0)))) refl clear in
-      omega (arith, len_listed (items a 0) kept.listed.sorted, few)
-    where
-      go : (n : ℕ) (t : Bool) → nat_le a.slots n ≡ t → (t || b) ≡ false → n < a.slots
-      go n true is h = absurd (cc h)
-      go n false is h = grind (arith, nat_tests)
-
--- numbers with equal values and limits
-pub same_numbers : {X : Type 0} (m n : map.FinMap nat_cmp X) (next k l : ℕ) → m ≡ n → k ≡ l
-    → ◌≡◌ {A = Numbers X} (record { values = m; next = next; limit = k }) (record { values = n; next = next; limit = l })
-same_numbers m n next k l p q = λ i. record { values = p i; next = next; limit = q i }
+      turned : (s t : ℕ) → eq_by_cmp nat_cmp s t ≡ eq_by_cmp nat_cmp t s
+      turned s t = grind (arith, nat_tests)

@@ -1,2 +1,7 @@
-pub mod Entries
+pub mod Bare
 pub mod Chained
+pub mod Counts
+pub mod Entries
+pub mod Kept
+pub mod Numbers
+pub mod Spread

@@ -1,3 +1,4 @@
 -- How a directory is kept. No public clause cites this module.
-pub mod Listed
+pub mod Kept
 pub mod Numbers
+pub mod Spread

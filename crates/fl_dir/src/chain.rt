@@ -1,69 +1,70 @@
-//! Entries in one chain of an arena, each under a number.
-ghost use Rattle.std.specs.Prelude.{◌≡◌, ◌<◌, ◌==◌, ◌++◌, ◌∷◌, [], true, not, length, slice_get, option_map, IsSome};
+//! Entries on the chains of an arena, each under a number.
+ghost use Rattle.std.specs.Prelude.{◌≡◌, ◌<◌, ◌≤◌, ◌==◌, ℕ, length, slice_get, Some, None, IsSome};
 ghost use Rattle.std.specs.List.{find};
-ghost use Rattle.std.specs.Ordering.{nat_cmp, eq_by_cmp};
-ghost use Rattle.std.specs.FinMap.{is_sorted};
-ghost use Rattle.std.specs.FinMap.Entries.{put, where_key};
-ghost use Rattle.fl_arena.specs.Chains.{items, HasSizeOf};
+ghost use Rattle.std.specs.Option.{option_copied};
+ghost use Rattle.fl_arena.specs.Chains.{items, item_count};
 ghost use Rattle.fl_arena.specs.Cursors.{cursor_at};
+ghost use Rattle.fl_dir.specs.Inside.Spread.{at, AreSorted, IsAltered};
 
 use fl_arena::{Arena, Cursor};
 
-// The cursor at the first entry of this number, or at the end.
-fn seek<T: Copy>(chain: &Arena<(u64, T)>, number: u64) -> Cursor
-    requires { length chain.now.chains ≡ 1 }
-    ensures at { result ≡ cursor_at chain.now 0 result.index }
-    ensures found { slice_get (items chain.now 0) result.index ≡ find (λ e. e.0 == number) (items chain.now 0) }
+// The cursor at the chain's entry of this number, or at its end.
+fn seek<T: Copy>(entries: &Arena<(u64, T)>, chain: usize, number: u64) -> Cursor
+    requires { chain < length entries.now.chains }
+    ensures at { result ≡ cursor_at entries.now chain result.index }
+    ensures found { slice_get (items entries.now chain) result.index
+        ≡ find (λ e. e.0 == number) (items entries.now chain) }
 {
-    chain.first_where(0, |here| here.0 == number)
+    entries.first_where(chain, |here| here.0 == number)
 }
 
-// What stands under a number.
-pub(crate) fn value_at<T: Copy>(chain: &Arena<(u64, T)>, number: u64) -> Option<T>
-    requires { length chain.now.chains ≡ 1 }
-    ensures { result ≡ option_map (λ e. e.1) (find (λ e. e.0 == number) (items chain.now 0)) }
+// What stands on a chain under a number.
+pub(crate) fn value_at<T: Copy>(entries: &Arena<(u64, T)>, chain: usize, number: u64) -> Option<&T>
+    requires { chain < length entries.now.chains }
+    ensures { option_copied result ≡ at entries.now chain number }
 {
-    let (_, value) = chain.get(&seek(chain, number))?;
-    Some(value)
+    match entries.item(&seek(entries, chain, number)) {
+        None => None,
+        Some(entry) => Some(&entry.1),
+    }
 }
 
-// Adds an entry at the end.
-pub(crate) fn push<T: Copy>(chain: &mut Arena<(u64, T)>, number: u64, value: T)
-    requires chains { length chain.old.chains ≡ 1 }
-    requires room { length (items chain.old 0) < chain.old.slots }
-    ensures items { items chain.new 0 ≡ items chain.old 0 ++ (number, value) ∷ [] }
-    ensures size { HasSizeOf chain.old chain.new }
+// Adds an entry at the end of a chain.
+pub(crate) fn push<T: Copy>(entries: &mut Arena<(u64, T)>, chain: usize, number: u64, value: T)
+    requires chain { chain < length entries.old.chains }
+    requires room { item_count entries.old < entries.old.slots }
+    requires sorted { AreSorted entries.old }
+    requires above { (q : ℕ) → number ≤ q → at entries.old chain q ≡ None }
+    ensures { IsAltered entries.old entries.new chain number (Some value) }
 {
     let mut end = Cursor {
-        chain: 0,
+        chain,
         index: 0,
         slot: None,
     };
-    let Ok(()) = chain.insert(&mut end, (number, value)) else {
+    let Ok(()) = entries.insert(&mut end, (number, value)) else {
         unreachable!()
     };
 }
 
-// Puts another value under a number that has one.
-pub(crate) fn replace<T: Copy>(chain: &mut Arena<(u64, T)>, number: u64, value: T)
-    requires chains { length chain.old.chains ≡ 1 }
-    requires sorted { is_sorted nat_cmp (items chain.old 0) ≡ true }
-    requires found { IsSome (find (λ e. e.0 == number) (items chain.old 0)) }
-    ensures items { items chain.new 0 ≡ put nat_cmp number value (items chain.old 0) }
-    ensures size { HasSizeOf chain.old chain.new }
+// Puts another value under a number that the chain has.
+pub(crate) fn replace<T: Copy>(entries: &mut Arena<(u64, T)>, chain: usize, number: u64, value: T)
+    requires chain { chain < length entries.old.chains }
+    requires sorted { AreSorted entries.old }
+    requires found { IsSome (at entries.old chain number) }
+    ensures { IsAltered entries.old entries.new chain number (Some value) }
 {
-    let cursor = seek(chain, number);
-    chain.set(&cursor, (number, value));
+    let cursor = seek(entries, chain, number);
+    entries.set(&cursor, (number, value));
 }
 
-// Takes the entry of a number out.
-pub(crate) fn take_out<T: Copy>(chain: &mut Arena<(u64, T)>, number: u64)
-    requires chains { length chain.old.chains ≡ 1 }
-    requires sorted { is_sorted nat_cmp (items chain.old 0) ≡ true }
-    requires found { IsSome (find (λ e. e.0 == number) (items chain.old 0)) }
-    ensures items { items chain.new 0 ≡ where_key nat_cmp (λ k. not (eq_by_cmp nat_cmp number k)) (items chain.old 0) }
-    ensures size { HasSizeOf chain.old chain.new }
+// Takes the entry of a number off its chain.
+pub(crate) fn take_out<T: Copy>(entries: &mut Arena<(u64, T)>, chain: usize, number: u64)
+    requires chain { chain < length entries.old.chains }
+    requires sorted { AreSorted entries.old }
+    requires found { IsSome (at entries.old chain number) }
+    ensures { IsAltered entries.old entries.new chain number None }
 {
-    let mut cursor = seek(chain, number);
-    chain.remove(&mut cursor);
+    let mut cursor = seek(entries, chain, number);
+    entries.remove(&mut cursor);
 }

@@ -1,7 +1,7 @@
 //! The directory and its calls.
-ghost use Rattle.std.specs.Prelude.{◌≡◌, ◌+◌, ◌≤◌, Some, IfOk, OnOk, OnErr, false};
+ghost use Rattle.std.specs.Prelude.{◌≡◌, ◌+◌, ◌≤◌, Some, None, IfOk, OnOk, OnErr, false};
 ghost use Rattle.std.specs.FinMap as map;
-ghost use Rattle.fl_dir.specs.Directory.{opening_listing};
+ghost use Rattle.fl_dir.specs.Directory.{linked, opening_listing};
 ghost use Rattle.fl_dir.specs.Replies.{
   directory_error,
   lookup_reply,
@@ -24,10 +24,9 @@ ghost use Rattle.fl_dir.specs.Changes.{
   counted_up,
 };
 
-use crate::names::is_reserved;
-use crate::node::{
-    Node, attributes, counted_down, counted_up, made_node, nameless, root_attributes,
-};
+use crate::names::{Names, is_reserved};
+use crate::node::{Node, attributes, counted_down, counted_up, made_node, root_attributes};
+use crate::nodes::Slot;
 use crate::numbered::Numbered;
 use fl_order::{Answer, Errno, Name, NoMemory};
 use std::alloc::Global;
@@ -48,7 +47,8 @@ pub const MOST_OPEN: u32 = 65_536;
 /// changes nothing.
 #[derive(Drop)]
 pub struct Dir {
-    pub(crate) nodes: Numbered<Node>,
+    pub(crate) nodes: Numbered<Slot>,
+    pub(crate) names: Names,
     // The node on which each fh is open.
     pub(crate) files: Numbered<u64>,
 }
@@ -66,19 +66,22 @@ impl Model for Dir {
     ghost use Rattle.std.specs.Prelude.{◌≡◌};
     ghost use Rattle.fl_dir.specs.Directory.{Listing};
     ghost use Rattle.fl_dir.specs.Codes.{listing_code};
+    ghost use Rattle.fl_dir.specs.Inside.Kept.{bare, IsKept};
 
     ghost Value = { Listing };
 
     ghost coded = { listing_code };
 
     ghost view = { λ d. record {
-      nodes = d.nodes.values;
+      nodes = bare d.nodes.values;
       files = d.files.values;
       next_node = d.nodes.next;
       next_fh = d.files.next;
       most_nodes = d.nodes.limit;
       most_files = d.files.limit;
     } };
+
+    ghost invariant = { λ d. IsKept d.nodes d.names.entries d.names.mask d.files };
 }
 
 impl Dir {
@@ -90,6 +93,7 @@ impl Dir {
     {
         Ok(Dir {
             nodes: Numbered::new(alloc, files as usize, ROOT + 1)?,
+            names: Names::new(alloc, files as usize)?,
             files: Numbered::new(alloc, open_files as usize, 1)?,
         })
     }
@@ -132,7 +136,7 @@ impl Dir {
             return Err(Errno::EINVAL);
         }
         match self.linked(name) {
-            None => self.make(&made_node(uid, gid, mode, name)),
+            None => self.make(&made_node(uid, gid, mode, name), name),
             Some(_) if excl => Err(Errno::EEXIST),
             Some((number, found)) => self.reopen(number, &found),
         }
@@ -164,7 +168,7 @@ impl Dir {
         }
         match self.node_at(node) {
             None => Err(Errno::ENOENT),
-            Some(found) => Ok(Answer::Attr(attributes(node, &found))),
+            Some(found) => Ok(Answer::Attr(attributes(node, found))),
         }
     }
 
@@ -179,7 +183,7 @@ impl Dir {
         let Some((number, found)) = self.linked(name) else {
             return Err(Errno::ENOENT);
         };
-        self.change(number, &nameless(&found));
+        self.free_name(number, &found, name);
         self.sweep(number);
         Ok(Answer::Done)
     }
@@ -189,7 +193,8 @@ impl Dir {
         ensures { self.new ≡ after_forget self.old node n }
     {
         if let Some(found) = self.node_at(node) {
-            self.change(node, &counted_down(&found, n));
+            let forgotten = counted_down(found, n);
+            self.change(node, &forgotten);
             self.sweep(node);
         }
     }
@@ -202,7 +207,7 @@ impl Dir {
         if self.node_of(fh) != Some(node) {
             return Err(Errno::EBADF);
         }
-        self.close_file(fh);
+        self.close_file(node, fh);
         let last = !self.has_open_file(node);
         self.sweep(node);
         Ok(Closed { node, last })
@@ -221,8 +226,10 @@ impl Dir {
         None
     }
 
-    // Makes a file with this node.
-    fn make(&mut self, node: &Node) -> Result<Answer, Errno>
+    // Makes a file with this node, which has this name.
+    fn make(&mut self, node: &Node, name: &Name) -> Result<Answer, Errno>
+        requires named { node.now.name ≡ Some name.now }
+        requires free { linked self.old name.now ≡ None }
         ensures answer { result ≡ created self.old node.now }
         ensures after { self.new ≡ after_reply self.old node.now result }
     {
@@ -232,7 +239,7 @@ impl Dir {
         if self.files_full() {
             return Err(Errno::ENFILE);
         }
-        let attr = attributes(self.link(node), node);
+        let attr = attributes(self.link(node, name), node);
         Ok(Answer::Made(attr, self.open_file(attr.node)))
     }
 

@@ -1,7 +1,7 @@
 //! The directory's open files.
-ghost use Rattle.std.specs.Prelude.{◌≡◌, ◌+◌, IsSome, false};
+ghost use Rattle.std.specs.Prelude.{◌≡◌, ◌+◌, Some, IsSome, false};
 ghost use Rattle.std.specs.FinMap as map;
-ghost use Rattle.fl_dir.specs.OpenFiles.{files_full, has_open_file};
+ghost use Rattle.fl_dir.specs.OpenFiles.{files_full};
 
 use crate::dir::Dir;
 
@@ -10,7 +10,7 @@ impl Dir {
     pub fn node_of(&self, fh: u64) -> Option<u64>
         ensures { result ≡ map.get self.now.files fh }
     {
-        self.files.get(fh)
+        self.files.get(fh).copied()
     }
 
     pub(crate) fn files_full(&self) -> bool
@@ -19,30 +19,30 @@ impl Dir {
         self.files.is_full()
     }
 
-    // The next fh, open on the node.
+    // The next fh, open on a node that is there.
     pub(crate) fn open_file(&mut self, node: u64) -> u64
-        requires { files_full self.old ≡ false }
+        requires room { files_full self.old ≡ false }
+        requires there { IsSome (map.get self.old.nodes node) }
         ensures fh { result ≡ self.old.next_fh }
         ensures after { self.new ≡ record self.old {
           files = map.insert self.old.files self.old.next_fh node;
           next_fh = self.old.next_fh + 1;
         } }
     {
+        let mut slot = *self.nodes.at(node);
+        slot.fhs += 1;
+        self.nodes.replace(node, slot);
         self.files.push(node)
     }
 
-    // Some fh is open on the node.
-    pub(crate) fn has_open_file(&self, node: u64) -> bool
-        ensures { result ≡ has_open_file self.now node }
-    {
-        self.files.any(|here| here.1 == node)
-    }
-
-    // An fh that is open is closed.
-    pub(crate) fn close_file(&mut self, fh: u64)
-        requires { IsSome (map.get self.old.files fh) }
+    // An fh that is open on this node is closed.
+    pub(crate) fn close_file(&mut self, node: u64, fh: u64)
+        requires { map.get self.old.files fh ≡ Some node }
         ensures { self.new ≡ record self.old { files = map.remove self.old.files fh } }
     {
+        let mut slot = *self.nodes.at(node);
+        slot.fhs -= 1;
+        self.nodes.replace(node, slot);
         self.files.remove(fh);
     }
 }

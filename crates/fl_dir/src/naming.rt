@@ -11,6 +11,6 @@ impl Dir {
     pub fn name_of(&self, node: u64) -> Option<Name>
         ensures { result ≡ name_at self.now node }
     {
-        self.nodes.get(node)?.name
+        self.node_at(node)?.name
     }
 }

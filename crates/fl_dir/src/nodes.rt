@@ -1,21 +1,34 @@
 //! The directory's nodes.
 ghost use Rattle.std.specs.Prelude.{◌≡◌, ◌+◌, Some, None, IfSome, IsSome, false};
 ghost use Rattle.std.specs.FinMap as map;
-ghost use Rattle.fl_dir.specs.Directory.{is_known, linked, nodes_full};
-ghost use Rattle.fl_dir.specs.OpenFiles.{lives};
-ghost use Rattle.fl_dir.specs.Changes.{swept};
+ghost use Rattle.std.specs.Option.{option_copied};
+ghost use Rattle.fl_dir.specs.Directory.{is_known, is_named, linked, nodes_full};
+ghost use Rattle.fl_dir.specs.Inside.Kept.{has_name};
+ghost use Rattle.fl_dir.specs.OpenFiles.{lives, has_open_file};
+ghost use Rattle.fl_dir.specs.Changes.{swept, nameless};
 
 use crate::dir::{Dir, ROOT};
-use crate::names::is_named;
-use crate::node::Node;
+use crate::names::{hash_of, is_named};
+use crate::node::{Node, nameless};
+use crate::numbered::chain_of;
 use fl_order::Name;
+
+/// A node, and how many fhs are open on it.
+#[derive(Clone, Copy)]
+pub(crate) struct Slot {
+    pub(crate) node: Node,
+    pub(crate) fhs: u32,
+}
 
 impl Dir {
     // The node of a number other than the root's.
-    pub(crate) fn node_at(&self, number: u64) -> Option<Node>
-        ensures { result ≡ map.get self.now.nodes number }
+    pub(crate) fn node_at(&self, number: u64) -> Option<&Node>
+        ensures { option_copied result ≡ map.get self.now.nodes number }
     {
-        self.nodes.get(number)
+        match self.nodes.get(number) {
+            None => None,
+            Some(slot) => Some(&slot.node),
+        }
     }
 
     pub(crate) fn is_known(&self, number: u64) -> bool
@@ -28,14 +41,43 @@ impl Dir {
     pub(crate) fn linked(&self, name: &Name) -> Option<(u64, Node)>
         ensures linked { result ≡ linked self.now name.now }
         ensures listed { IfSome result (λ e. map.get self.now.nodes e.0 ≡ Some e.1) }
+        ensures named { IfSome result (λ e. e.1.name ≡ Some name.now) }
     {
-        self.nodes.find(|here| is_named(&here.1, name))
+        let hash = hash_of(name);
+        let chain = chain_of(u64::from(hash), self.names.mask);
+        let at = self.names.entries.first_where(chain, |here| {
+            here.1 == hash && self.has_name(here.0, name)
+        });
+        match self.names.entries.get(&at) {
+            None => None,
+            Some((number, _)) => Some((number, self.nodes.at(number).node)),
+        }
+    }
+
+    // The node of this number has this name.
+    fn has_name(&self, number: u64, name: &Name) -> bool
+        ensures { result ≡ has_name (map.get self.now.nodes number) name.now }
+    {
+        match self.node_at(number) {
+            None => false,
+            Some(node) => is_named(node, name),
+        }
     }
 
     pub(crate) fn nodes_full(&self) -> bool
         ensures { result ≡ nodes_full self.now }
     {
         self.nodes.is_full()
+    }
+
+    // Some fh is open on the node.
+    pub(crate) fn has_open_file(&self, node: u64) -> bool
+        ensures { result ≡ has_open_file self.now node }
+    {
+        match self.nodes.get(node) {
+            None => false,
+            Some(slot) => slot.fhs != 0,
+        }
     }
 
     // Something keeps this node alive.
@@ -50,23 +92,26 @@ impl Dir {
         ensures { self.new ≡ swept number self.old }
     {
         if let Some(node) = self.node_at(number) {
-            if !self.lives(number, &node) {
+            if !self.lives(number, node) {
                 self.remove_node(number);
             }
         }
     }
 
-    // A node that is there goes.
+    // A node that is there and that nothing keeps alive goes.
     fn remove_node(&mut self, number: u64)
-        requires { IsSome (map.get self.old.nodes number) }
+        requires dead { IfSome (map.get self.old.nodes number) (λ node. lives self.old number node ≡ false) }
+        requires there { IsSome (map.get self.old.nodes number) }
         ensures { self.new ≡ record self.old { nodes = map.remove self.old.nodes number } }
     {
         self.nodes.remove(number);
     }
 
-    // The node gets the next number.
-    pub(crate) fn link(&mut self, node: &Node) -> u64
-        requires { nodes_full self.old ≡ false }
+    // The node gets the next number. No other is linked under its name.
+    pub(crate) fn link(&mut self, node: &Node, name: &Name) -> u64
+        requires room { nodes_full self.old ≡ false }
+        requires named { node.now.name ≡ Some name.now }
+        requires free { linked self.old name.now ≡ None }
         ensures number { result ≡ self.old.next_node }
         ensures fresh { map.get self.old.nodes self.old.next_node ≡ None }
         ensures after { self.new ≡ record self.old {
@@ -74,14 +119,35 @@ impl Dir {
           next_node = self.old.next_node + 1;
         } }
     {
-        self.nodes.push(*node)
+        let number = self.nodes.push(Slot {
+            node: *node,
+            fhs: 0,
+        });
+        self.names.link(name, number);
+        number
     }
 
-    // A node that is there becomes this one.
+    // A node that is there becomes this one, of the same name.
     pub(crate) fn change(&mut self, number: u64, node: &Node)
-        requires { IsSome (map.get self.old.nodes number) }
+        requires named { IfSome (map.get self.old.nodes number) (λ old. old.name ≡ node.now.name) }
+        requires there { IsSome (map.get self.old.nodes number) }
         ensures { self.new ≡ record self.old { nodes = map.insert self.old.nodes number node.now } }
     {
-        self.nodes.replace(number, *node);
+        let fhs = self.nodes.at(number).fhs;
+        self.nodes.replace(number, Slot { node: *node, fhs });
+    }
+
+    // The node of this number, which is linked under this name, loses it.
+    pub(crate) fn free_name(&mut self, number: u64, node: &Node, name: &Name)
+        requires there { map.get self.old.nodes number ≡ Some node.now }
+        requires named { node.now.name ≡ Some name.now }
+        ensures { self.new ≡ record self.old {
+          nodes = map.insert self.old.nodes number (nameless node.now);
+        } }
+    {
+        let fhs = self.nodes.at(number).fhs;
+        let node = nameless(node);
+        self.nodes.replace(number, Slot { node, fhs });
+        self.names.unlink(name, number);
     }
 }

@@ -1,8 +1,8 @@
 //! Values under numbers that only grow.
-ghost use Rattle.std.specs.Prelude.{◌≡◌, ◌+◌, ◌≤◌, ◌^◌, ℕ, Bool, None, Some, IfOk, IfSome, IsSome, false};
+ghost use Rattle.std.specs.Prelude.{◌≡◌, ◌+◌, ◌≤◌, ◌^◌, ℕ, None, Some, IfOk, IsSome, false};
 ghost use Rattle.std.specs.FinMap as map;
-ghost use Rattle.std.specs.List.{find, list_any};
-ghost use Rattle.fl_arena.specs.Cursors.{Tests};
+ghost use Rattle.std.specs.Option.{option_copied};
+ghost use Rattle.std.specs.Int.Bits.{bit_and};
 ghost use Rattle.fl_dir.specs.Inside.Numbers.{is_full};
 
 use crate::chain::{push, replace, take_out, value_at};
@@ -15,24 +15,43 @@ use std::marker::Model;
 /// and how many values there may be.
 #[derive(Drop)]
 pub(crate) struct Numbered<T: Copy> {
-    // One chain, in the order of the numbers.
+    // A number stands on the chain that its low bits say, those of this mask. Numbers rise along a chain.
     entries: Arena<(u64, T)>,
+    mask: usize,
     next: u64,
 }
 
 impl<T: Copy> Model for Numbered<T> {
-    ghost use Rattle.std.specs.FinMap.{from_sorted};
-    ghost use Rattle.fl_arena.specs.Chains.{items};
-    ghost use Rattle.fl_dir.specs.Inside.Listed.{IsList};
-    ghost use Rattle.fl_dir.specs.Inside.Numbers.{Numbers, numbers_code};
+    ghost use Rattle.fl_dir.specs.Inside.Spread.{values_on};
+    ghost use Rattle.fl_dir.specs.Inside.Numbers.{Numbers, numbers_code, AreNumbered};
 
     ghost Value = { Numbers T };
 
     ghost coded = { numbers_code T.code };
 
-    ghost view = { λ n. record { values = from_sorted (items n.entries 0); next = n.next; limit = n.entries.slots } };
+    ghost view = { λ n. record { values = values_on n.entries; next = n.next; limit = n.entries.slots } };
 
-    ghost invariant = { λ n. IsList n.entries n.next };
+    ghost invariant = { λ n. AreNumbered n.entries n.mask n.next };
+}
+
+/// How many chains there are for so many values: a power of two, at least so many and at least 256.
+pub(crate) fn chains_for(limit: usize) -> usize
+    requires { limit ≤ 2 ^ 16 }
+    ensures least { 1 ≤ result }
+    ensures most { result ≤ 2 ^ 16 }
+{
+    let mut chains = 65_536usize;
+    while chains > 256 && chains / 2 >= limit {
+        chains /= 2;
+    }
+    chains
+}
+
+/// The chain of a number or a hash: its low bits.
+pub(crate) fn chain_of(number: u64, mask: usize) -> usize
+    ensures { result ≡ bit_and number mask }
+{
+    (number & mask as u64) as usize
 }
 
 impl<T: Copy> Numbered<T> {
@@ -41,17 +60,30 @@ impl<T: Copy> Numbered<T> {
         requires { limit ≤ 2 ^ 16 }
         ensures { IfOk result (λ made. made ≡ record { values = map.empty; next = first; limit = limit }) }
     {
+        let chains = chains_for(limit);
         Ok(Numbered {
-            entries: Arena::new(alloc, 1, limit)?,
+            entries: Arena::new(alloc, chains, limit)?,
+            mask: chains - 1,
             next: first,
         })
     }
 
     /// The value of a number.
-    pub(crate) fn get(&self, number: u64) -> Option<T>
-        ensures { result ≡ map.get self.now.values number }
+    pub(crate) fn get(&self, number: u64) -> Option<&T>
+        ensures { option_copied result ≡ map.get self.now.values number }
     {
-        value_at(&self.entries, number)
+        value_at(&self.entries, chain_of(number, self.mask), number)
+    }
+
+    /// The value of a number that has one.
+    pub(crate) fn at(&self, number: u64) -> &T
+        requires { IsSome (map.get self.now.values number) }
+        ensures { map.get self.now.values number ≡ Some result.now }
+    {
+        match self.get(number) {
+            None => unreachable!(),
+            Some(value) => value,
+        }
     }
 
     /// Whether so many values are there as there may be, or all numbers are given.
@@ -65,14 +97,15 @@ impl<T: Copy> Numbered<T> {
     pub(crate) fn push(&mut self, value: T) -> u64
         requires { is_full self.old ≡ false }
         ensures number { result ≡ self.old.next }
-        ensures fresh { map.get self.old.values self.old.next ≡ None }
+        ensures above { (q : ℕ) → self.old.next ≤ q → map.get self.old.values q ≡ None }
         ensures after { self.new ≡ record self.old {
           values = map.insert self.old.values self.old.next value;
           next = self.old.next + 1;
         } }
     {
         let number = self.next;
-        push(&mut self.entries, number, value);
+        let chain = chain_of(number, self.mask);
+        push(&mut self.entries, chain, number, value);
         self.next += 1;
         number
     }
@@ -82,7 +115,8 @@ impl<T: Copy> Numbered<T> {
         requires { IsSome (map.get self.old.values number) }
         ensures { self.new ≡ record self.old { values = map.insert self.old.values number value } }
     {
-        replace(&mut self.entries, number, value);
+        let chain = chain_of(number, self.mask);
+        replace(&mut self.entries, chain, number, value);
     }
 
     /// Takes the value of a number away.
@@ -90,26 +124,7 @@ impl<T: Copy> Numbered<T> {
         requires { IsSome (map.get self.old.values number) }
         ensures { self.new ≡ record self.old { values = map.remove self.old.values number } }
     {
-        take_out(&mut self.entries, number);
-    }
-
-    /// The first entry that passes the test.
-    pub(crate) fn find<F: Fn(&(u64, T)) -> bool>(&self, test: F) -> Option<(u64, T)>
-        requires { F.IsAlwaysCallable test }
-        ensures found { (p : ℕ × T → Bool) → Tests F.Fn p test → result ≡ find p (map.entries self.now.values) }
-        ensures there { (p : ℕ × T → Bool) → Tests F.Fn p test →
-            IfSome result (λ e. map.get self.now.values e.0 ≡ Some e.1) }
-    {
-        let cursor = self.entries.first_where(0, test);
-        self.entries.get(&cursor)
-    }
-
-    /// Whether some entry passes the test.
-    pub(crate) fn any<F: Fn(&(u64, T)) -> bool>(&self, test: F) -> bool
-        requires { F.IsAlwaysCallable test }
-        ensures { (p : ℕ × T → Bool) → Tests F.Fn p test → result ≡ list_any p (map.entries self.now.values) }
-    {
-        let cursor = self.entries.first_where(0, test);
-        self.entries.item(&cursor).is_some()
+        let chain = chain_of(number, self.mask);
+        take_out(&mut self.entries, chain, number);
     }
 }

@@ -7,12 +7,9 @@ use std::marker::Model;
 /// What goes through an intake: an order that a worker is to answer.
 pub type Job = Order;
 
-/// The end that it was put at is closed. It hands the job back.
-#[derive(Clone, Copy, Debug)]
-pub struct Closed {
-    /// The job, as it was.
-    pub job: Job,
-}
+/// The end is closed, and nothing was put.
+#[derive(Clone, Copy, Debug, PartialEq, Eq)]
+pub struct Closed;
 
 /// The end that puts. An intake has one.
 #[derive(Drop)]

@@ -1,7 +1,7 @@
 //! The intake: what is put at one end is taken at 1 to 16 others.
 
 ghost use Rattle.std.specs.Prelude.{◌≡◌, ◌<◌, ◌≤◌, ◌+◌, ◌++◌, ◌∷◌, ◌↔◌, [], All, true, false, length, sum_by};
-ghost use Rattle.std.specs.Prelude.{vec_capacity, IfErr, IfOk, IsErr, MatchResult, option_to_list};
+ghost use Rattle.std.specs.Prelude.{vec_capacity, IfErr, IfOk, IsErr, MatchResult, OnErr, OnOk, option_to_list};
 ghost use Rattle.crossbeam_queue.specs.Passes.{view, IsPassOf};
 ghost use Rattle.fl_intake.specs.Ends.{weight_taken};
 ghost use Rattle.fl_intake.specs.Often.{Weight};
@@ -82,19 +82,19 @@ impl Intake {
         Ok((intake, put, takes))
     }
 
-    /// Puts a job behind the others, and waits while 64 are inside. If its end is closed it hands the job back.
-    pub fn put<R: Wait>(&self, rt: &R, end: &mut PutEnd, job: Job) -> Result<(), Closed>
+    /// Puts a job behind the others, and waits while 64 are inside. It puts nothing if its end is closed.
+    pub fn put<R: Wait>(&self, rt: &R, end: &mut PutEnd, job: &Job) -> Result<(), Closed>
         requires end { end.old.of ≡ self.now }
         ensures of { (end.new.of ≡ end.old.of) × (end.new.takers ≡ end.old.takers) }
         ensures state { end.new.closed ≡ end.old.closed }
-        ensures put { MatchResult result (λ _. end.new.put ≡ end.old.put ++ job ∷ [])
-            (λ closed. (closed.job ≡ job) × (end.new ≡ end.old)) }
+        ensures put { OnOk result (end.new.put ≡ end.old.put ++ job.now ∷ []) }
+        ensures same { OnErr result (end.new ≡ end.old) }
         ensures closed { IsErr result ↔ (end.old.closed ≡ true) }
     {
         if end.closed {
-            return Err(Closed { job });
+            return Err(Closed);
         }
-        let mut entry = self.entry_of(rt, &job);
+        let mut entry = self.entry_of(rt, job);
         for _ in rt.forever() {
             match self.put_if_room(rt, end, entry) {
                 Ok(()) => {
@@ -132,26 +132,31 @@ impl Intake {
         self.queue.push_as::<Putting, R>(rt, &mut end.pass, entry)
     }
 
-    /// Takes the oldest job, and waits while there is none. Once the intake is closed and empty there comes none.
-    pub fn take<R: Wait>(&self, rt: &R, end: &mut TakeEnd) -> Option<Job>
+    /// Takes the oldest job into a row that has none, and waits while none is inside. It takes none once the intake is
+    /// closed and empty.
+    pub fn take<R: Wait>(&self, rt: &R, end: &mut TakeEnd, row: &mut Vec<Job>)
         requires end { end.old.of ≡ self.now }
+        requires none { row.old.items ≡ [] }
+        requires room { 0 < vec_capacity row.old }
         ensures same { end.new.of ≡ end.old.of }
-        ensures taken { end.new.taken ≡ end.old.taken ++ option_to_list result }
+        ensures taken { end.new.taken ≡ end.old.taken ++ row.new.items }
+        ensures one { length row.new.items ≤ 1 }
+        ensures room { vec_capacity row.new ≡ vec_capacity row.old }
     {
         let mut slept = false;
         for _ in rt.forever() {
             // Whoever closes puts nothing afterwards. So if it is closed before this try, the try misses no job.
             let closed = self.waking.is_closed();
             if let Some(entry) = self.pop(rt, end) {
-                let job = self.boxes.order_of(rt, entry);
+                row.push_reserved(self.boxes.order_of(rt, entry));
                 self.waking.count_taken(1);
                 if slept {
                     self.waking.call_one_more();
                 }
-                return Some(job);
+                return;
             }
             if closed {
-                return None;
+                return;
             }
             self.waking.sleep(rt);
             slept = true;

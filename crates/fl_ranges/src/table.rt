@@ -19,8 +19,8 @@ const _: () = prove!(size_of::<Span<Mark>>() == 24);
 
 /// The locks that are held, as runs of bytes in a fixed number of slots: one row of runs for each key that has a mark.
 ///
-/// Contracts see how many runs there is room for, on how many chains they stand, and the mark of each byte. No call but `new` takes
-/// memory.
+/// Contracts see how many runs there is room for, on how many chains they stand, and the mark of each byte. No call
+/// but `new` takes memory.
 #[derive(Drop)]
 pub struct Table {
     pub(crate) rows: Rows<Key, Span<Mark>>,

@@ -1,17 +1,53 @@
 -- The search along spans, and where it may stop.
 use Rattle.std.proofs.Common.{◌≡◌, ℕ, zero, suc, ◌+◌, ◌<◌, ◌≤◌, Bool, true, false, ◌&&◌, nat_le, Some, None, List, []}
-use Rattle.std.proofs.Common.{◌∷◌, drop, refl, ◌∙◌, arith}
-use Rattle.std.specs.List.{find}
+use Rattle.std.proofs.Common.{◌∷◌, ◌==◌, Option, not, length, take, drop, slice_get, refl, ap, ◌∙◌, subst, arith}
+use Rattle.std.specs.List.{find, position_or_len, AllByRecursion}
 use Rattle.std.proofs.lemmas.Bool.{le-leb, lt-leb, and_from, and_left, and_right}
+use Rattle.std.proofs.lemmas.Option.{none-some}
 use Rattle.fl_spans.specs.declared.span.Span.{Span}
 use Rattle.fl_spans.specs.Spans.{overlaps, AreSpans}
 use Rattle.fl_spans.proofs.Parts.{StartsFrom, AreApart, apart_of, next_from}
+use Rattle.fl_spans.proofs.Walks.{count_more}
 
 module _ {M : Type 0} where
   pub drop_are : (ss : List (Span M)) (j : ℕ) → AreSpans ss → AreSpans (drop j ss)
   drop_are ss zero are = are
   drop_are [] (suc j) are = tt
   drop_are (s ∷ ss) (suc j) are = drop_are ss j are.2
+
+  starts_from : (n : ℕ) (ss : List (Span M)) (j : ℕ) (t : Span M) → AreApart ss → StartsFrom n ss → slice_get ss j ≡ Some t → n ≤ t.start
+  starts_from n [] j t are from found = absurd (none-some t found)
+  starts_from n (s ∷ ss) zero t are from found = let is : s ≡ t = cc in subst (λ (x : Span M). n ≤ x.start) is from
+  starts_from n (s ∷ ss) (suc j) t are from found = starts_from n ss j t are.2 (next_from n s ss are from) found
+
+  -- if a span begins at a byte or before it, those before that span end before the byte
+  pub ends_before : (byte : ℕ) (ss : List (Span M)) (j : ℕ) (t : Span M) → AreApart ss → slice_get ss j ≡ Some t → t.start ≤ byte →
+      AllByRecursion (λ s. s.end < byte) (take j ss)
+  ends_before byte [] zero t are found upto = tt
+  ends_before byte [] (suc j) t are found upto = tt
+  ends_before byte (s ∷ ss) zero t are found upto = tt
+  ends_before byte (s ∷ ss) (suc j) t are found upto = (
+    omega (arith, upto, starts_from (s.end + 1) ss j t are.2 are.1 found),
+    ends_before byte ss j t are.2 found upto,
+  )
+
+  module _ (p : Span M → Bool) (byte : ℕ) (fails : (s : Span M) → s.end < byte → p s ≡ false) where
+    -- a search may begin past spans that end before a byte, if those fail its test
+    pub find_past : (ss : List (Span M)) (j : ℕ) → AllByRecursion (λ s. s.end < byte) (take j ss) → find p ss ≡ find p (drop j ss)
+    find_past ss zero before = refl
+    find_past [] (suc j) before = refl
+    find_past (s ∷ ss) (suc j) before = rw (fails s before.0) (find_past ss j before.1)
+
+    pub place_past : (ss : List (Span M)) (j : ℕ) → j ≤ length ss → AllByRecursion (λ s. s.end < byte) (take j ss) →
+        position_or_len p ss ≡ j + position_or_len p (drop j ss)
+    place_past ss zero within before = omega arith
+    place_past [] (suc j) within before = absurd (omega (arith, within))
+    place_past (s ∷ ss) (suc j) within before =
+        omega (
+          arith,
+          count_more (λ x. not (p x)) s ss (ap not (fails s before.0)),
+          place_past ss j (omega (arith, within)) before.1,
+        )
 
   module _ (start end : ℕ) (p : M → Bool) where
     -- the span has a byte of the range, and its mark passes

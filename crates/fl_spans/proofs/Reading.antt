@@ -1,6 +1,6 @@
 -- What the calls that only read find.
 use Rattle.std.proofs.Common.{◌≡◌, ℕ, zero, suc, ◌+◌, ◌<◌, inl, inr, List, [], ◌∷◌, length, map, Option, Some, None}
-use Rattle.std.proofs.Common.{IsSome, unwrap_or, slice_get, refl, sym, ap, ◌∙◌, subst, arith}
+use Rattle.std.proofs.Common.{◌-◌, IsSome, unwrap_or, slice_get, refl, sym, ap, ◌∙◌, subst, arith}
 use Rattle.std.specs.Option.{option_map}
 use Rattle.std.proofs.lemmas.Bool.{cases_lt}
 use Rattle.std.proofs.lemmas.List.{length-map, get_or_past}
@@ -83,6 +83,23 @@ module _ {K R : Type 0} (heads : Chains (Head K)) (runs : Chains R) (v : RowChai
       first
       ∙ ap (λ k. cursor_at runs k 0) (is ∙ sym (number_is row h found))
       ∙ ap (λ w. cursor_at w.runs (number_at (entries v.heads row.chain) row.index) 0) view
+
+  pub last_told : (row at : Cursor) (h : Head K) (number : ℕ) → IsRow v row → slice_get (items heads row.chain) row.index ≡ Some h →
+      number ≡ h.runs → at ≡ cursor_at runs number (length (entries runs number) - 1) →
+      at ≡ run_cursor v row.chain row.index (length (runs_at (rows v row.chain) row.index) - 1)
+  last_told row at h number is found named last =
+      let es = entries v.heads row.chain in
+      let there = entry_there heads row.chain row.index h found in
+      let read : slice_get es row.index ≡ Some there.0 = ap (λ w. slice_get (entries w.heads row.chain) row.index) (sym view) ∙ there.1 in
+      let own : number ≡ number_at es row.index = named ∙ sym (number_is row h found) in
+      let its : runs_at (rows v row.chain) row.index ≡ items v.runs (number_at es row.index) =
+      ap (λ rs. runs_at rs row.index) (rows_are v row.chain is.chain) ∙ runs_there v.runs es row.index there.0 read in
+      let long : length (runs_at (rows v row.chain) row.index) ≡ length (entries v.runs (number_at es row.index)) =
+      ap length its ∙ length-map (entries v.runs (number_at es row.index)) (λ (e : Entry R). e.item) in
+      last
+      ∙ ap (λ k. cursor_at runs k (length (entries runs k) - 1)) own
+      ∙ ap (λ w. cursor_at w.runs (number_at es row.index) (length (entries w.runs (number_at es row.index)) - 1)) view
+      ∙ ap (λ n. run_cursor v row.chain row.index (n - 1)) (sym long)
 
   pub run_told : (run : Cursor) (o : Option R) → ((c i : ℕ) → run ≡ cursor_at runs c i → o ≡ slice_get (items runs c) i) → (c i j : ℕ) → c < chain_count v →
       i < length (rows v c) → run ≡ run_cursor v c i j → o ≡ slice_get (runs_at (rows v c) i) j

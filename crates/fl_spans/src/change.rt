@@ -1,5 +1,5 @@
 //! A stroke on the spans of a row: first what it takes out and puts in, then the change itself.
-ghost use Rattle.std.specs.Prelude.{◌≡◌, ◌↔◌, ◌+◌, ◌≤◌, ◌<◌, ℕ, true, IsSome, IsErr, OnOk, OnErr, length, drop};
+ghost use Rattle.std.specs.Prelude.{◌≡◌, ◌↔◌, ◌+◌, ◌≤◌, ◌<◌, ℕ, true, false, IsSome, IsErr, OnOk, OnErr, length, drop};
 ghost use Rattle.std.specs.Prelude.{nat_le, ◌&&◌, if◌then◌else◌};
 ghost use Rattle.std.specs.List.{prefix_len, position_or_len};
 ghost use Rattle.fl_spans.specs.Rows.{row_lists, run_count, limit_of, pieces_of, row_cursor, run_cursor, IsRow};
@@ -10,6 +10,7 @@ ghost use Rattle.fl_spans.specs.Stroke.{after_stroke};
 ghost use Rattle.fl_spans.specs.Inside.Walk.{reaches, begins_by, absorbed, gathered, pieces_with};
 
 use crate::rows::{Pieces, Rows};
+use crate::search::walk_start;
 use crate::span::{LAST_BYTE, Span, begins_by, is_mark, reaches};
 use fl_arena::{Cursor, Full};
 use std::cmp::{max, min};
@@ -25,7 +26,8 @@ pub(crate) struct Change<M> {
 
 /// The bytes from `start` to `end` of the row at the cursor get the mark, or lose theirs. Spans of one mark that
 /// touch become one, and a row that has no span left goes. This needs room if a span is cut in its middle, or
-/// the mark is a new one there. A refusal changes nothing. It is one walk along the row, up to the end of the range.
+/// the mark is a new one there. A refusal changes nothing. It is one walk along the row, up to the end of the range:
+/// from the last span if the range begins past the start of that one, and else from the first.
 pub fn stroke<K: Copy, M: Copy + Eq>(
     rows: &mut Rows<K, Span<M>>,
     row: &mut Cursor,
@@ -72,12 +74,13 @@ fn seek<K: Copy, M: Copy + Eq>(
 ) -> Cursor
     requires row { IsRow rows.now row.now }
     requires at_row { IsSome row.now.slot }
+    requires spans { AreSpans (spans_at rows.now row.now) }
     ensures there { IsThere rows.now row.now }
     ensures at { result ≡ run_cursor rows.now row.now.chain row.now.index result.index }
     ensures first { result.index
         ≡ position_or_len (reaches M.eq start mark.now) (spans_at rows.now row.now) }
 {
-    let mut at = rows.first_run(row);
+    let mut at = walk_start(rows, row, reach(start, mark));
     while let Some(span) = rows.run(&at) {
         if reaches(span, start, mark) {
             break;
@@ -85,6 +88,17 @@ fn seek<K: Copy, M: Copy + Eq>(
         rows.next_run(&mut at);
     }
     at
+}
+
+// No span that ends before this byte counts for a stroke. It is the start, or if a mark is set the byte before, where a
+// span may end that touches the new one.
+fn reach<M: Copy + Eq>(start: u64, mark: &Option<M>) -> u64
+    ensures { (s : Span M) → s.end < result → reaches M.eq start mark.now s ≡ false }
+{
+    match mark {
+        Some(_) => start.saturating_sub(1),
+        None => start,
+    }
 }
 
 // What a stroke makes of the spans from a cursor on, and how many of them it takes out.

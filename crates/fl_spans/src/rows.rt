@@ -138,6 +138,20 @@ impl<K: Copy, R: Copy> Rows<K, R> {
         self.runs.cursor(usize::from(head.runs))
     }
 
+    /// The cursor at the last run of the row at a cursor.
+    pub fn last_run(&self, row: &Cursor) -> Cursor
+        requires row { IsRow self.now row.now }
+        requires at_row { IsSome row.now.slot }
+        ensures last { let runs = runs_at (rows self.now row.now.chain) row.now.index in
+            result ≡ run_cursor self.now row.now.chain row.now.index (length runs - 1) }
+        ensures there { row.now.index < length (rows self.now row.now.chain) }
+    {
+        let Some(head) = self.heads.item(row) else {
+            unreachable!()
+        };
+        self.runs.last(usize::from(head.runs))
+    }
+
     /// The run at the cursor, or none at the end of its row.
     pub fn run(&self, run: &Cursor) -> Option<&R>
         requires { IsInPlace self.now.runs run.now }

@@ -185,11 +185,12 @@ impl<'r, 'a, 'w, R: Wait, W: Write, N: WriterName> Receiver<'r, 'a, 'w, R, W, N>
         ensures given { HasGiven self.old.own self.new.own self.old.lost self.new.lost
             (given_now self.new.handshake.over (own_answer_in (incoming_of self.old.handshake frame.now))) }
     {
-        match self.handshake.receive(frame) {
+        let incoming = self.handshake.receive(frame);
+        match &incoming {
             Incoming::Order(order) => self.put(order),
-            Incoming::Batch(orders) => self.put_all(&orders),
-            Incoming::Response(response) if self.handshake.over => self.goodbye = response,
-            Incoming::Response(response) => self.answer(&response),
+            Incoming::Batch(orders) => self.put_all(orders),
+            Incoming::Response(response) if self.handshake.over => self.goodbye = *response,
+            Incoming::Response(response) => self.answer(response),
         }
     }
 
@@ -202,16 +203,16 @@ impl<'r, 'a, 'w, R: Wait, W: Write, N: WriterName> Receiver<'r, 'a, 'w, R, W, N>
         ensures own { (self.new.own ≡ self.old.own) × (self.new.lost ≡ self.old.lost) }
     {
         for i in 0..orders.count() {
-            self.put(orders.order(i));
+            self.put(&orders.order(i));
         }
     }
 
     // Puts an order behind the others.
-    fn put(&mut self, order: Order)
+    fn put(&mut self, order: &Order)
         ensures same { (self.new.put.of ≡ self.old.put.of) × (self.new.put.takers ≡ self.old.put.takers) }
         ensures handshake { self.new.handshake ≡ self.old.handshake }
         ensures goodbye { self.new.goodbye ≡ self.old.goodbye }
-        ensures put { self.new.put.put ≡ self.old.put.put ++ order ∷ [] }
+        ensures put { self.new.put.put ≡ self.old.put.put ++ order.now ∷ [] }
         ensures own { (self.new.own ≡ self.old.own) × (self.new.lost ≡ self.old.lost) }
     {
         let Ok(()) = self.intake.put(self.rt, &mut self.put, order) else {

@@ -17,7 +17,7 @@ use crate::sender::{SharedSender, WriterName};
 use fl_desk::{Counter, Gate, ToldLists};
 use fl_intake::{Intake, Job, TakeEnd};
 use fl_log::Appender;
-use fl_order::{Op, Order, Told};
+use fl_order::{Order, Told};
 use fl_transport::Response;
 use std::io::Write;
 use std::sync::{Mutex, Wait};
@@ -310,13 +310,8 @@ fn next_row<R: Wait, C: Counter, W: Write, N: WriterName>(
         return true;
     }
     counter.pause(rt);
-    let Some(job) = intake.take(rt, end) else {
-        return false;
-    };
-    // The prover has to be told of the op's type.
-    let op: Op = job.op;
-    row.push_reserved(Order { op, ..job });
-    true
+    intake.take(rt, end, row);
+    !row.is_empty()
 }
 
 // Gives these lists of replies to be sent, each by itself, with nothing of another worker's between, and tells the gate

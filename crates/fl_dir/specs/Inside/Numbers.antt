@@ -1,8 +1,11 @@
 -- Values, each under a number that is given once: numbers only grow.
-use Rattle.std.specs.Prelude.{ℕ, ◌-◌, ◌^◌, Bool, ◌||◌, ◌==◌, nat_le, refl}
+use Rattle.std.specs.Prelude.{◌≡◌, ℕ, ◌+◌, ◌-◌, ◌<◌, ◌≤◌, ◌^◌, Bool, ◌||◌, ◌==◌, nat_le, refl, length}
 use Rattle.std.specs.Coded.{Coded, code_by, coded×, coded_ℕ}
 use Rattle.std.specs.FinMap.{FinMap, code, len}
 use Rattle.std.specs.Ordering.{nat_cmp}
+use Rattle.std.specs.Int.Bits.{bit_and}
+use Rattle.fl_arena.specs.Chains.{Chains}
+use Rattle.fl_dir.specs.Inside.Spread.{AreSorted, IsEach}
 
 -- the values by number, the number that comes next, and how many values there may be
 pub record Numbers (X : Type 0) : Type 0 where
@@ -19,3 +22,11 @@ abbrev pub numbers_code : {X : Type 0} → Coded X → Coded (Numbers X)
 numbers_code {X} coded =
     code_by (FinMap nat_cmp X × (ℕ × ℕ)) (coded× (code coded_ℕ coded) (coded× coded_ℕ coded_ℕ))
     (λ n. (n.values, (n.next, n.limit))) (λ t. record { values = t.0; next = t.1.0; limit = t.1.1 }) (λ _. refl)
+
+-- how they are kept: each number stands on the chain of its low bits, and is below the one that comes next
+pub record AreNumbered {X : Type 0} (a : Chains (ℕ × X)) (mask next : ℕ) : Type 0 where
+  pub chains : mask + 1 ≡ length a.chains
+  pub small : mask < 2 ^ 16
+  pub sorted : AreSorted a
+  pub home : IsEach (λ c q x. bit_and q mask ≡ c) a
+  pub below : IsEach (λ c q x. q < next) a

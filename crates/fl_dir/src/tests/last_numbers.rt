@@ -1,6 +1,7 @@
 //! The calls of a directory whose numbers are at their ends, which no caller reaches soon.
 
 use crate::dir::{Closed, Dir};
+use crate::names::Names;
 use crate::node::Node;
 use crate::numbered::Numbered;
 use fl_order::{Answer, Attr, Errno, Name};
@@ -14,6 +15,7 @@ const LAST: u64 = u64::MAX - 1;
 fn directory_at(rt: &impl Abort, alloc: Global, next_node: u64, next_fh: u64) -> Dir {
     Dir {
         nodes: Numbered::new(alloc, 256, next_node).expect(rt, "memory"),
+        names: Names::new(alloc, 256).expect(rt, "memory"),
         files: Numbered::new(alloc, 1024, next_fh).expect(rt, "memory"),
     }
 }
@@ -23,7 +25,7 @@ fn fill_lookups(dir: &mut Dir, number: u64) {
     if let Some(node) = dir.node_at(number) {
         let full = Node {
             lookups: u64::MAX,
-            ..node
+            ..*node
         };
         dir.change(number, &full);
     }

@@ -28,9 +28,9 @@ fn pass_two<R: Wait + Abort>(
 {
     let first = named(number);
     let second = named(number.saturating_add(1));
-    assert!(rt; intake.put(rt, put, order(rt, first)).is_ok());
-    assert!(rt; intake.put(rt, put, order(rt, second)).is_ok());
-    takes_one(rt, intake, end, first);
+    assert!(rt; intake.put(rt, put, &order(rt, first)).is_ok());
+    assert!(rt; intake.put(rt, put, &order(rt, second)).is_ok());
+    takes_one(rt, alloc, intake, end, first);
     takes(rt, alloc, intake, end, 2, &[second]);
 }
 
@@ -50,7 +50,7 @@ fn fill<R: Wait + Abort>(rt: &R, intake: &Intake, put: &mut PutEnd)
     ensures { put.new.of ≡ intake.now }
 {
     for number in 0..MOST_JOBS as u64 {
-        assert!(rt; intake.put(rt, put, order(rt, named(number))).is_ok());
+        assert!(rt; intake.put(rt, put, &order(rt, named(number))).is_ok());
     }
 }
 

@@ -20,7 +20,7 @@ fn burst<R: Wait + Abort>(rt: &R, pool: &WorkerPool, put: &mut PutEnd, from: u64
 {
     for at in 0..size {
         let job = order(rt, from.saturating_add(at));
-        assert!(rt; pool.intake.put(rt, put, job).is_ok());
+        assert!(rt; pool.intake.put(rt, put, &job).is_ok());
     }
     pool.intake.call_one_more();
 }

@@ -1,7 +1,7 @@
 //! What nobody took.
 
 use super::{are_uniques, order};
-use fl_intake::{Intake, NotAll};
+use fl_intake::{Closed, Intake, NotAll};
 use std::alloc::Global;
 
 // Three jobs are put, and none is taken. No end of those that take is there at first.
@@ -9,14 +9,11 @@ use std::alloc::Global;
 fn what_nobody_took_is_left(rt: HostRuntime) {
     let alloc: Global = rt.alloc();
     let (intake, mut put, takes) = Intake::new(alloc, 2).expect(&rt, "memory");
-    assert!(rt; intake.put(&rt, &mut put, order(&rt, 7)).is_ok());
-    assert!(rt; intake.put(&rt, &mut put, order(&rt, 8)).is_ok());
-    assert!(rt; intake.put(&rt, &mut put, order(&rt, 9)).is_ok());
+    assert!(rt; intake.put(&rt, &mut put, &order(&rt, 7)).is_ok());
+    assert!(rt; intake.put(&rt, &mut put, &order(&rt, 8)).is_ok());
+    assert!(rt; intake.put(&rt, &mut put, &order(&rt, 9)).is_ok());
     intake.close(&mut put);
-    let Err(closed) = intake.put(&rt, &mut put, order(&rt, 10)) else {
-        unreachable!()
-    };
-    assert_eq!(rt; closed.job, order(&rt, 10));
+    assert_eq!(rt; intake.put(&rt, &mut put, &order(&rt, 10)), Err(Closed));
     let missing = intake.finish(&rt, put, Vec::new(alloc));
     let NotAll { intake, put, .. } = missing.err().expect(&rt, "not all");
     let left = intake.finish(&rt, put, takes).ok().expect(&rt, "all");

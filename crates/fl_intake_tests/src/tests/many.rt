@@ -14,7 +14,7 @@ fn put_all<R: Wait + Abort>(rt: &R, intake: &Intake, put: &mut PutEnd, many: u64
     ensures { put.new.of ≡ intake.now }
 {
     for unique in 0..many {
-        assert!(rt; intake.put(rt, put, order(rt, unique)).is_ok());
+        assert!(rt; intake.put(rt, put, &order(rt, unique)).is_ok());
     }
 }
 
@@ -36,12 +36,19 @@ pub(super) fn takes<R: Wait + Abort>(
 }
 
 // What an end takes alone is this one.
-pub(super) fn takes_one<R: Wait + Abort>(rt: &R, intake: &Intake, end: &mut TakeEnd, wanted: u64)
+pub(super) fn takes_one<R: Wait + Abort>(
+    rt: &R,
+    alloc: Global,
+    intake: &Intake,
+    end: &mut TakeEnd,
+    wanted: u64,
+)
     requires { end.old.of ≡ intake.now }
     ensures { end.new.of ≡ intake.now }
 {
-    let found = intake.take(rt, end).expect(rt, "an order");
-    assert_eq!(rt; found, order(rt, wanted));
+    let mut row = Vec::with_capacity(alloc, 1).expect(rt, "memory");
+    intake.take(rt, end, &mut row);
+    are_uniques(rt, row.as_slice(), &[wanted]);
 }
 
 // An intake with five orders, its end that puts and its only end that takes.
@@ -69,7 +76,7 @@ fn what_a_row_has_no_room_for_stays_inside(rt: HostRuntime) {
     let (intake, _put, mut end) = with_one_end(&rt, alloc);
     takes(&rt, alloc, &intake, &mut end, 0, &[]);
     takes(&rt, alloc, &intake, &mut end, 1, &[0]);
-    takes_one(&rt, &intake, &mut end, 1);
+    takes_one(&rt, alloc, &intake, &mut end, 1);
     takes(&rt, alloc, &intake, &mut end, 64, &[2, 3, 4]);
 }
 

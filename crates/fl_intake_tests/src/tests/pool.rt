@@ -1,10 +1,10 @@
 //! Workers in threads of their own, who take what one thread puts.
 
-ghost use Rattle.std.specs.Prelude.{◌≡◌, [], All};
+ghost use Rattle.std.specs.Prelude.{◌≡◌, ◌<◌, [], All, vec_capacity};
 
 use super::are_whole;
 use fl_intake::{Intake, MOST_JOBS, PutEnd, TakeEnd};
-use fl_order::{Op, Order};
+use fl_order::Order;
 use std::alloc::Global;
 use std::process::Abort;
 use std::snapshot::Snapshot;
@@ -75,16 +75,12 @@ impl WorkerPool {
 
 // Takes its share of the orders inside, or waits for one. None comes once the intake is closed and empty.
 fn next<R: Wait + Abort>(rt: &R, pool: &WorkerPool, end: &mut TakeEnd, row: &mut Vec<Order>)
-    requires { (end.old.of ≡ pool.now.intake) × (row.old.items ≡ []) }
-    ensures { end.new.of ≡ end.old.of }
+    requires { (end.old.of ≡ pool.now.intake) × (row.old.items ≡ []) × (0 < vec_capacity row.old) }
+    ensures { (end.new.of ≡ end.old.of) × (vec_capacity row.new ≡ vec_capacity row.old) }
 {
     pool.intake.take_many(rt, end, row);
-    if !row.is_empty() {
-        return;
-    }
-    if let Some(order) = pool.intake.take(rt, end) {
-        let op: Op = order.op;
-        row.push(Order { op, ..order }).expect(rt, "memory");
+    if row.is_empty() {
+        pool.intake.take(rt, end, row);
     }
 }
 

@@ -66,6 +66,16 @@ fn first(rows: &Rows<u8, u32>, chain: usize) -> Option<(u8, u32)>
     Some((key, *rows.run(&run)?))
 }
 
+// Its last run.
+fn last(rows: &Rows<u8, u32>, chain: usize) -> Option<u32>
+    requires { chain < chain_count rows.now }
+{
+    let row = rows.first_row(chain);
+    rows.key(&row)?;
+    let run = rows.last_run(&row);
+    rows.run(&run).copied()
+}
+
 // Its second run.
 fn second(rows: &Rows<u8, u32>, chain: usize) -> Option<u32>
     requires { chain < chain_count rows.now }
@@ -113,6 +123,7 @@ fn come(rt: &impl Abort, rows: &mut Rows<u8, u32>)
     rename(rows, 1, 8);
     same(rt, &first(rows, 1), &Some((8, 71)));
     same(rt, &second(rows, 1), &Some(70));
+    same(rt, &last(rows, 1), &Some(70));
     same(rt, &open(rows, 1, 9, 90), &Ok(()));
     same(rt, &next(rows, 1), &Some(8));
 }
@@ -134,6 +145,7 @@ fn go(rt: &impl Abort, rows: &mut Rows<u8, u32>)
 #[test]
 fn rows_come_and_go(rt: HostRuntime) {
     let mut rows = Rows::new(rt.alloc(), 2, 3, 0).expect(&rt, "memory");
+    same(&rt, &rows.chain_count(), &2);
     come(&rt, &mut rows);
     go(&rt, &mut rows);
 }

@@ -234,3 +234,56 @@ fn random_strokes_leave_what_a_plain_row_has(rt: HostRuntime) {
         compare(&rt, &rows, &plain, 5);
     }
 }
+
+// A stroke of two bytes at each of these places, on the spans and on the plain row.
+fn strokes_at(
+    rt: &impl Abort,
+    rows: &mut Spans,
+    plain: &mut Row,
+    places: &[usize],
+    mark: Option<Mark>,
+)
+    requires { IsOneRow rows.old }
+    ensures { IsOneRow rows.new }
+{
+    for place in places {
+        let start = (*place).min(14);
+        paint(plain, start, start + 1, mark);
+        fits(rt, rows, start as u64, start as u64 + 1, mark);
+        compare(rt, rows, plain, BYTES);
+    }
+}
+
+// At each of these places in turn two bytes get a mark, then another one, and then lose it.
+fn come_and_go(rt: &impl Abort, alloc: Global, places: &[usize]) {
+    let mut rows = no_spans(rt, alloc, BYTES as u16);
+    let mut plain = [None; BYTES];
+    strokes_at(rt, &mut rows, &mut plain, places, Some(READ));
+    strokes_at(rt, &mut rows, &mut plain, places, Some(WRITE));
+    strokes_at(rt, &mut rows, &mut plain, places, None);
+    has_room(rt, &rows, BYTES);
+}
+
+#[test]
+fn spans_apart_come_upward_downward_and_in_the_middle(rt: HostRuntime) {
+    come_and_go(&rt, rt.alloc(), &[0, 3, 6, 9, 12]);
+    come_and_go(&rt, rt.alloc(), &[12, 9, 6, 3, 0]);
+    come_and_go(&rt, rt.alloc(), &[0, 12, 6, 3, 9]);
+}
+
+#[test]
+fn spans_that_touch_come_upward_downward_and_in_the_middle(rt: HostRuntime) {
+    come_and_go(&rt, rt.alloc(), &[0, 2, 4, 6, 8]);
+    come_and_go(&rt, rt.alloc(), &[8, 6, 4, 2, 0]);
+    come_and_go(&rt, rt.alloc(), &[0, 8, 4, 2, 6]);
+}
+
+#[test]
+fn the_last_span_joins_the_one_before(rt: HostRuntime) {
+    let mut rows = no_spans(&rt, rt.alloc(), 4);
+    fits(&rt, &mut rows, 10, 19, Some(READ));
+    fits(&rt, &mut rows, 20, 29, Some(WRITE));
+    fits(&rt, &mut rows, 20, 29, Some(READ));
+    has(&rt, &rows, &[span(10, 29, READ), None]);
+    has_room(&rt, &rows, 3);
+}

@@ -41,7 +41,7 @@ pub(super) fn put_all<R: Wait + Abort>(
 {
     let mut put = put;
     for order in orders {
-        let is_in = intake.put(rt, &mut put, *order).is_ok();
+        let is_in = intake.put(rt, &mut put, order).is_ok();
         assert!(rt; is_in);
     }
     put

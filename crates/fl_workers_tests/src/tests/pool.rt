@@ -267,7 +267,7 @@ impl<'a, 'w, N: WriterName + Send + Sync, R: Threads + Wait + Clock + Abort + Sy
         let mut put = put;
         let mut bursts = Bursts::new();
         for order in orders {
-            let is_in = self.intake.put(self.rt, &mut put, *order).is_ok();
+            let is_in = self.intake.put(self.rt, &mut put, order).is_ok();
             assert!(self.rt; is_in);
             if bursts.is_over() {
                 self.wait(&bursts);

@@ -1,5 +1,6 @@
-use Rattle.std.proofs.Common.{◌≡◌}
+use Rattle.std.proofs.Common.{◌≡◌, [], vec_capacity}
 use Rattle.fl_intake.proofs.intake.Intake.take.Given as goal
 
 abbrev pub invariant-loop : goal.invariant-loop
 invariant-loop g l = (l.end.of ≡ l.self) × (l.end.taken ≡ l.fn.end.taken)
+    × (l.row.items ≡ []) × (vec_capacity l.row ≡ vec_capacity l.fn.row)

@@ -1,0 +1,93 @@
+-- Numbered values on their chains.
+use Rattle.std.proofs.Common.{◌≡◌, ◌≢◌, ℕ, ◌+◌, ◌<◌, ◌≤◌, Bool, true, false, ◌||◌, nat_le, Option, Some, None, IsSome}
+use Rattle.std.proofs.Common.{length, refl, ap, sym, ◌∙◌, subst, arith}
+use Rattle.std.proofs.lemmas.Bool.Decides.{nat_tests}
+use Rattle.std.proofs.lemmas.Nat.{and_le_r}
+use Rattle.std.proofs.lemmas.Option.{none-some}
+use Rattle.std.specs.Prelude.{List, [], replicate}
+use Rattle.std.specs.Int.Bits.{bit_and}
+use Rattle.std.specs.Ordering.{nat_cmp}
+use Rattle.std.specs.FinMap as map
+use Rattle.fl_arena.specs.Chains.{Chains, item_count}
+use Rattle.fl_dir.specs.Inside.Numbers.{Numbers, AreNumbered}
+use Rattle.fl_dir.specs.Inside.Spread.{at, values_on, IsAltered}
+use Rattle.fl_dir.proofs.Spread.{none_of, some_of, counted, get_only, each_altered, none_at, none_sorted, chains_made}
+
+module _ {X : Type 0} where
+  pub in_range : (a : Chains (ℕ × X)) (mask next k c : ℕ) → AreNumbered a mask next → c ≡ bit_and k mask → c < length a.chains
+  in_range a mask next k c kept is = omega (arith, kept.chains, and_le_r k mask, is)
+
+  pub alone : (a : Chains (ℕ × X)) (mask next k c : ℕ) → AreNumbered a mask next → c ≡ bit_and k mask → (d : ℕ) → d ≢ c → at a d k ≡ None
+  alone a mask next k c kept is d apart = none_of (at a d k) (λ x found. apart (sym (kept.home d k x found) ∙ sym is))
+
+  pub get_at : (a : Chains (ℕ × X)) (mask next k c : ℕ) → AreNumbered a mask next → c ≡ bit_and k mask → map.get (values_on a) k ≡ at a c k
+  get_at a mask next k c kept is = get_only a c k (alone a mask next k c kept is)
+
+  pub none_next : (a : Chains (ℕ × X)) (mask next : ℕ) → AreNumbered a mask next → (c q : ℕ) → next ≤ q → at a c q ≡ None
+  none_next a mask next kept c q most = none_of (at a c q) (λ x found. let less : q < next = kept.below c q x found in absurd (omega arith))
+
+  pub below_next : (a : Chains (ℕ × X)) (mask next c k : ℕ) → AreNumbered a mask next → IsSome (at a c k) → k < next
+  below_next a mask next c k kept some = let x = some_of (at a c k) some in kept.below c k x.0 x.1
+
+  pub as_many : (a : Chains (ℕ × X)) (mask next : ℕ) → AreNumbered a mask next → map.len (values_on a) ≡ item_count a
+  as_many a mask next kept = counted a kept.sorted (λ c d q x y p r. sym (kept.home c q x p) ∙ kept.home d q y r)
+
+  pub altered_numbers : (a b : Chains (ℕ × X)) (mask next next1 k c : ℕ) (w : Option X) → AreNumbered a mask next → IsAltered a b c k w
+      → c ≡ bit_and k mask → next ≤ next1 → ((x : X) → w ≡ Some x → k < next1) → AreNumbered b mask next1
+  altered_numbers a b mask next next1 k c w kept new is more less = record {
+    chains = kept.chains ∙ sym new.size.chains;
+    small = kept.small;
+    sorted = new.sorted;
+    home = each_altered (λ d q x. bit_and q mask ≡ d) a b c k w new kept.home (λ x e. sym is);
+    below =
+        each_altered (λ d q x. q < next1) a b c k w new
+        (λ d q x found. let under : q < next = kept.below d q x found in omega arith) less;
+  }
+
+  -- ---- room
+
+  -- if all slots hold items, so many are there
+  pub full_of_none : (a : Chains (ℕ × X)) (mask next free : ℕ) (b : Bool) → AreNumbered a mask next → item_count a + free ≡ a.slots → free ≡ 0 →
+      true ≡ (nat_le a.slots (map.len (values_on a)) || b)
+  full_of_none a mask next free b kept total none =
+      let all : a.slots ≤ map.len (values_on a) = omega (arith, as_many a mask next kept, total, none) in
+      ap (λ t. t || b) (reached _ _ all)
+    where
+      reached : (m n : ℕ) → m ≤ n → true ≡ nat_le m n
+      reached m n h = grind (arith, nat_tests)
+
+  pub room_of_some : (a : Chains (ℕ × X)) (mask next free : ℕ) (b : Bool) → AreNumbered a mask next → item_count a + free ≡ a.slots → free ≢ 0 →
+      b ≡ (nat_le a.slots (map.len (values_on a)) || b)
+  room_of_some a mask next free b kept total some =
+      let few : map.len (values_on a) < a.slots = omega (arith, as_many a mask next kept, total, some) in
+      ap (λ t. t || b) (missed _ _ few)
+    where
+      missed : (m n : ℕ) → n < m → false ≡ nat_le m n
+      missed m n h = grind (arith, nat_tests)
+
+  -- if a limit isn't reached there is room
+  pub room_left : (a : Chains (ℕ × X)) (mask next : ℕ) (b : Bool) → AreNumbered a mask next →
+      (nat_le a.slots (map.len (values_on a)) || b) ≡ false → item_count a < a.slots
+  room_left a mask next b kept clear =
+      let few : map.len (values_on a) < a.slots = go _ (nat_le a.slots (map.len (values_on a))) refl clear in
+      omega (arith, as_many a mask next kept, few)
+    where
+      go : (n : ℕ) (t : Bool) → nat_le a.slots n ≡ t → (t || b) ≡ false → n < a.slots
+      go n true is h = absurd (cc h)
+      go n false is h = grind (arith, nat_tests)
+
+-- numbers with equal values and limits
+pub same_numbers : {X : Type 0} (m n : map.FinMap nat_cmp X) (next k l : ℕ) → m ≡ n → k ≡ l
+    → ◌≡◌ {A = Numbers X} (record { values = m; next = next; limit = k }) (record { values = n; next = next; limit = l })
+same_numbers m n next k l p q = λ i. record { values = p i; next = next; limit = q i }
+
+module _ {X : Type 0} where
+  pub new_numbers : (a : Chains (ℕ × X)) (n slots mask next : ℕ) → a ≡ record { chains = replicate n []; slots = slots } → mask + 1 ≡ n → mask < 65536 →
+      AreNumbered a mask next
+  new_numbers a n slots mask next is size small = record {
+    chains = size ∙ sym (chains_made a n slots is);
+    small = small;
+    sorted = none_sorted a n slots is;
+    home = λ c q x there. absurd (none-some x (sym (none_at a n slots is c q) ∙ there));
+    below = λ c q x there. absurd (none-some x (sym (none_at a n slots is c q) ∙ there));
+  }

@@ -1,0 +1,5 @@
+pub mod Each
+pub mod FirstPids
+pub mod ByNode
+pub mod RunsOn
+pub mod WhoBlocks

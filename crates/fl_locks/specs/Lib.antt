@@ -1,0 +1,2 @@
+pub mod LockRows
+pub mod Inside
