@@ -91,10 +91,25 @@ impl Dir {
         requires open_files { (1 ≤ open_files) × (open_files ≤ 65536) }
         ensures { IfOk result (λ d. d ≡ opening_listing files open_files) }
     {
+        Dir::starting_at(alloc, files, open_files, ROOT + 1, 1)
+    }
+
+    // The same, where the first node and the first fh get these numbers.
+    pub(crate) fn starting_at(
+        alloc: Global,
+        files: u32,
+        open_files: u32,
+        node: u64,
+        fh: u64,
+    ) -> Result<Dir, NoMemory>
+        requires files { files ≤ 65536 }
+        requires open_files { (1 ≤ open_files) × (open_files ≤ 65536) }
+        ensures { IfOk result (λ d. d ≡ record (opening_listing files open_files) { next_node = node; next_fh = fh }) }
+    {
         Ok(Dir {
-            nodes: Numbered::new(alloc, files as usize, ROOT + 1)?,
+            nodes: Numbered::new(alloc, files as usize, node)?,
             names: Names::new(alloc, files as usize)?,
-            files: Numbered::new(alloc, open_files as usize, 1)?,
+            files: Numbered::new(alloc, open_files as usize, fh)?,
         })
     }
 

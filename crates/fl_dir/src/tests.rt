@@ -4,6 +4,7 @@ mod calls;
 mod dir;
 mod directory;
 mod last_numbers;
+mod limits;
 mod lives;
 mod rooms;
 

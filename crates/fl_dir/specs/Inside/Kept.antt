@@ -1,5 +1,6 @@
 -- How a directory is kept: each node with a count of its open files, and the linked nodes by hashes of their names.
-use Rattle.std.specs.Prelude.{◌≡◌, ℕ, ◌+◌, ◌*◌, ◌<◌, ◌≤◌, ◌^◌, ◌%◌, ◌==◌, bit_xor, count_by, Bool, false, Option, Some, None, List}
+use Rattle.std.specs.Prelude.{◌≡◌, ℕ, ◌+◌, ◌*◌, ◌≤◌, ◌^◌, ◌%◌, ◌==◌, bit_xor, count_by, Bool, false, Option, Some}
+use Rattle.std.specs.Prelude.{None, List}
 use Rattle.std.specs.Prelude.{map, length, if◌then◌else◌}
 use Rattle.std.specs.List.{fold}
 use Rattle.std.specs.Ordering.{nat_cmp}
@@ -58,7 +59,7 @@ pub record AreNamed (slots : FinMap nat_cmp Slot) (names : Chains (ℕ × ℕ)) 
 pub record IsKept (nodes : Numbers Slot) (names : Chains (ℕ × ℕ)) (mask : ℕ) (files : Numbers ℕ) : Type 0 where
   pub named : AreNamed nodes.values names mask
   pub room : names.slots ≡ nodes.limit
-  pub once : (k l : ℕ) (name : List ℕ) → name_in (get nodes.values k) ≡ Some name → name_in (get nodes.values l) ≡ Some name
-      → k ≡ l
+  pub once : (k l : ℕ) (name : List ℕ)
+      → name_in (get nodes.values k) ≡ Some name → name_in (get nodes.values l) ≡ Some name → k ≡ l
   pub counts : (node : ℕ) → open_in (get nodes.values node) ≡ open_count files.values node
   pub few : files.limit ≤ 2 ^ 16

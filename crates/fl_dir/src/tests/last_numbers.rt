@@ -1,9 +1,7 @@
 //! The calls of a directory whose numbers are at their ends, which no caller reaches soon.
 
 use crate::dir::{Closed, Dir};
-use crate::names::Names;
 use crate::node::Node;
-use crate::numbered::Numbered;
 use fl_order::{Answer, Attr, Errno, Name};
 use std::alloc::Global;
 use std::process::Abort;
@@ -13,11 +11,7 @@ const LAST: u64 = u64::MAX - 1;
 
 // An empty directory that goes on with these numbers.
 fn directory_at(rt: &impl Abort, alloc: Global, next_node: u64, next_fh: u64) -> Dir {
-    Dir {
-        nodes: Numbered::new(alloc, 256, next_node).expect(rt, "memory"),
-        names: Names::new(alloc, 256).expect(rt, "memory"),
-        files: Numbered::new(alloc, 1024, next_fh).expect(rt, "memory"),
-    }
+    Dir::starting_at(alloc, 256, 1024, next_node, next_fh).expect(rt, "memory")
 }
 
 // The node's lookup count can't grow any more.

@@ -5,7 +5,7 @@ use Rattle.fl_dir.specs.Directory.{Listing, opening_listing}
 use Rattle.fl_dir.specs.Inside.Numbers.{Numbers}
 use Rattle.fl_dir.proofs.Bare.{bare_empty}
 use Rattle.fl_dir.proofs.Kept.{seen, new_kept}
-use Rattle.fl_dir.proofs.dir.Dir.new.Goals as goal
+use Rattle.fl_dir.proofs.dir.Dir.starting_at.Goals as goal
 
 pub invariant_of-result : goal.invariant_of-result
 invariant_of-result c =
@@ -17,5 +17,5 @@ invariant_of-result c =
 pub returns : goal.returns
 returns c =
     ap (λ n. seen n c.in_ok-new-3.field-0) c.in_ok-new.ensures
-    ∙ ap (λ f. seen (record { values = map.empty; next = 2; limit = c.args.files }) f) c.in_ok-new-3.ensures
-    ∙ ap (λ b. record (opening_listing c.args.files c.args.open_files) { nodes = b }) bare_empty
+    ∙ ap (λ f. seen (record { values = map.empty; next = c.args.node; limit = c.args.files }) f) c.in_ok-new-3.ensures
+    ∙ ap (λ b. record (opening_listing c.args.files c.args.open_files) { nodes = b; next_node = c.args.node; next_fh = c.args.fh }) bare_empty
