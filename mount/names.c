@@ -150,17 +150,9 @@ static size_t place_after(uint64_t cookie)
     return from;
 }
 
-// Room for one place more. Where half of the places have no node, these go.
+// Whether there is room for one place more.
 static bool has_place(void)
 {
-    if (table.gone > table.used / 2) {
-        size_t kept = 0;
-        for (size_t i = 0; i < table.used; i++)
-            if (table.list[i].node)
-                table.list[kept++] = table.list[i];
-        table.used = kept;
-        table.gone = 0;
-    }
     if (table.used < table.room)
         return true;
     size_t room = table.room ? 2 * table.room : 64;
@@ -178,10 +170,18 @@ static void put_last(struct node *it)
     table.list[table.used++] = (struct listed){.cookie = it->cookie, .node = it};
 }
 
+// Once half of the places have no node, these go.
 static void take_from_list(const struct node *it)
 {
+    size_t kept = 0;
     table.list[place_after(it->cookie - 1)].node = NULL;
-    table.gone++;
+    if (++table.gone <= table.used / 2)
+        return;
+    for (size_t i = 0; i < table.used; i++)
+        if (table.list[i].node)
+            table.list[kept++] = table.list[i];
+    table.used = kept;
+    table.gone = 0;
 }
 
 struct node *node_after(uint64_t cookie)
@@ -193,6 +193,26 @@ struct node *node_after(uint64_t cookie)
 }
 
 // ---- What is made and unlinked ----
+
+// The oldest of a name stays the first: replies to UNLINK and CREATE may come in any order.
+static void take_name(struct node *node, const char *name)
+{
+    struct node **at = of_name(name);
+    while (*at)
+        at = &(*at)->next_name;
+    *at = node;
+    node->next_name = NULL;
+    snprintf(node->name, sizeof node->name, "%s", name);
+}
+
+static void lose_name(struct node *node)
+{
+    struct node **at = of_name(node->name);
+    while (*at != node)
+        at = &(*at)->next_name;
+    *at = node->next_name;
+    *node->name = 0;
+}
 
 struct node *node_made(uint64_t number, const char *name, uint32_t mode, uint32_t uid, uint32_t gid)
 {
@@ -206,10 +226,8 @@ struct node *node_made(uint64_t number, const char *name, uint32_t mode, uint32_
         it = add(number, mode, uid, takes_group ? table.root.gid : gid);
     if (!it)
         return NULL;
-    snprintf(it->name, sizeof it->name, "%s", name);
     it->mode = mode;
-    it->next_name = *of_name(name);
-    *of_name(name) = it;
+    take_name(it, name);
     put_last(it);
     table.folders += is_folder(it);
     root_changed();
@@ -234,15 +252,6 @@ static void drop(struct node *node)
     *at = node->next;
     table.count--;
     free(node);
-}
-
-static void lose_name(struct node *node)
-{
-    struct node **at = of_name(node->name);
-    while (*at != node)
-        at = &(*at)->next_name;
-    *at = node->next_name;
-    *node->name = 0;
 }
 
 void node_unlinked(const char *name)
