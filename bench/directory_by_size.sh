@@ -1,39 +1,56 @@
 #!/bin/sh
-# Times orders in `lockd script` by how much the directory holds: a SETLK through the last opened of 1 and of 1,024 files,
-# and a LOOKUP of the last made of 1 and of 256 names; 20,000 orders each. Prints microseconds an order and the ratios.
+# Times orders by how many files there are: 16, 256, 4,096 and 60,000, each open once and locked. `bench/programs/directory_bench` says what is
+# asked, under the greatest rules for all sizes; one file is asked for far from the next. It proves and builds that first, with `rt`. The sizes take
+# turns in one run. Prints nanoseconds an order with 16 files, the least of five runs, and the ratios of the others to it; 1.5 at most is aimed at.
+#
+#     bench/directory_by_size.sh [--instructions]
+#
+# With --instructions it prints, in place of times, how many instructions orders take, by valgrind's callgrind: the difference of two runs, one with
+# twice as many orders. OPEN stands with RELEASE, SETLK with FLUSH, and CREATE with what ends a file, since a run leaves as many files as there were.
 set -eu
-. "$(dirname "$0")/../tools/built_lockd.sh"
-python3 - "$program" <<'END'
-import subprocess, sys, time
+cd "$(dirname "$0")/.."
+program=${DIRECTORY_BENCH:-$(tools/build_bench directory_bench)}
+python3 - "$program" "${1:-}" <<'END'
+import re, subprocess, sys
 
-ORDERS = 20_000
+PROGRAM, OPTION = sys.argv[1:]
+SIZES = 16, 256, 4_096, 60_000
+ROUND, ROUNDS, RUNS = 16, 4_000, 5
+KINDS = {"Lookup": "LOOKUP", "Getattr": "GETATTR", "Open": "OPEN", "Setlk": "SETLK", "Flush": "FLUSH", "Release": "RELEASE", "Close": "RELEASE of the last",
+         "Unlink": "UNLINK", "Forget": "FORGET", "Create": "CREATE", "Lock": "SETLK of a new row"}
+# What a word of the program leaves in.
+GROUPS = {"lookup": "LOOKUP", "getattr": "GETATTR", "open": "OPEN and RELEASE", "setlk": "SETLK and FLUSH",
+          "create": "CREATE, SETLK, RELEASE, UNLINK and FORGET"}
 
-def script(begun, asked):
-    lines = begun + [asked] * ORDERS if asked else begun
-    return "\n".join(f"ask 0 {i + 1} {line}" for i, line in enumerate(lines)).encode() + b"\n"
+def run(words, *before):
+    return subprocess.run([*before, PROGRAM, *map(str, words)], capture_output=True, text=True, check=True)
 
-def seconds(text):
-    def once():
-        begun = time.perf_counter()
-        told = subprocess.run([sys.argv[1], "script"], input=text, capture_output=True, check=True).stdout
-        assert b" err " not in told
-        return time.perf_counter() - begun
-    return min(once() for _ in range(3))
+def times(size):
+    """Nanoseconds an order of each kind."""
+    told = [line.split() for line in run([size, ROUNDS]).stdout.splitlines()]
+    assert [(kind, int(done)) for kind, done, _ in told] == [(kind, ROUND * ROUNDS) for kind in KINDS], told
+    return {kind: int(nanos) / (ROUND * ROUNDS) for kind, _, nanos in told}
 
-def micros(begun, asked):
-    return (seconds(script(begun, asked)) - seconds(script(begun, ""))) / ORDERS * 1e6
+def instructions(size, word):
+    """Of one of each order that the word names."""
+    def collected(rounds):
+        ran = run([size, rounds, word], "valgrind", "--tool=callgrind", "--callgrind-out-file=/dev/null")
+        return int(re.search(r"Collected : (\d+)", ran.stderr).group(1))
+    return (collected(512) - collected(256)) / (256 * ROUND)
 
-def setlk(files):
-    begun = ["1 0 0 0 create 0 420 61"] + ["2 0 0 0 open"] * (files - 1)
-    return micros(begun, f"2 0 0 0 setlk {files} 7 0 9 1 11 0")
+def show(what, unit, found):
+    few, *more = found
+    print(f"{what:<42}{few:>8.0f} {unit} with 16 files, " + ", ".join(f"{size}: {it / few:.2f}" for size, it in zip(SIZES[1:], more)), flush=True)
 
-def lookup(names):
-    begun = [f"1 0 0 0 create 0 420 {str(1000 + i).encode().hex()}" for i in range(names)]
-    return micros(begun, begun[-1].replace("create 0 420", "lookup"))
-
-def compare(what, few, many):
-    print(f"{what}: {few:.2f} us, {many:.2f} us, ratio {many / few:.1f}")
-
-compare("SETLK with 1 and with 1,024 open files", setlk(1), setlk(1024))
-compare("LOOKUP of the last of 1 and of 256 names", lookup(1), lookup(256))
+if OPTION == "--instructions":
+    for word, what in GROUPS.items():
+        show(what, "instructions", [instructions(size, word) for size in SIZES])
+else:
+    least = {}
+    for _ in range(RUNS):
+        for size in SIZES:
+            for kind, nanos in times(size).items():
+                least[kind, size] = min(nanos, least.get((kind, size), nanos))
+    for kind, what in KINDS.items():
+        show(what, "ns", [least[kind, size] for size in SIZES])
 END

@@ -56,7 +56,7 @@ static bool read_folder(const struct fuse_in_header *head, const char *body, siz
     if (room && read.offset < 2)
         room = append(&list, ROOT, 2, S_IFDIR, "..");
     if (head->nodeid == ROOT)
-        for (struct node *it = node_after(read.offset); room && it; it = it->after)
+        for (struct node *it = node_after(read.offset); room && it; it = node_after(it->cookie))
             room = append(&list, it->number, it->cookie, it->mode, it->name);
     table_unlock();
     return answer(head->unique, 0, list.bytes, list.size);
@@ -128,9 +128,9 @@ static bool write_nothing(const struct fuse_in_header *head, const char *body, s
 static bool file_system(const struct fuse_in_header *head)
 {
     table_lock();
-    unsigned files = nodes_count();
+    unsigned files = nodes_count(), most = nodes_most();
     table_unlock();
-    struct fuse_statfs_out out = {.st = {.files = FILES, .ffree = files < FILES ? FILES - files : 0, .bsize = BLOCK,
+    struct fuse_statfs_out out = {.st = {.files = most, .ffree = files < most ? most - files : 0, .bsize = BLOCK,
                                          .frsize = BLOCK, .namelen = NAME_LENGTH}};
     return answer(head->unique, 0, &out, sizeof out);
 }

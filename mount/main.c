@@ -163,9 +163,10 @@ static void begin(void)
     times_start(it.options.times);
     server_start(&it.server, &it.options, stops);
     const struct options *options = &it.options;
-    names_start(options->mode < 0 ? it.place.below.st_mode : (mode_t)options->mode,
+    names_start(options->files, options->mode < 0 ? it.place.below.st_mode : (mode_t)options->mode,
                 options->uid < 0 ? it.place.below.st_uid : (uid_t)options->uid,
                 options->gid < 0 ? it.place.below.st_gid : (gid_t)options->gid);
+    opens_start(options->open);
     int device = place_mount(&it.place, options);
     if (device < 0)
         exit(STATUS_NOT_MOUNTED);

@@ -19,8 +19,6 @@
 // the server's.
 enum { MOST = FUSE_MIN_READ_BUFFER };
 enum { ROOT = FUSE_ROOT_ID };
-// As many files as the server has at once.
-enum { FILES = 256 };
 // Attributes change only by calls of this very kernel, so it may keep them for so many seconds.
 enum { ATTRIBUTES_HOLD = 3600 };
 
@@ -35,8 +33,9 @@ struct options {
     const char *trace_full;
     const char *times; // NULL: they aren't written
     const char *workers;
-    const char *rules[8]; // those that `serve` and `check` take alike
+    const char *rules[10]; // those that `serve` and `check` take alike
     int rule_count;
+    unsigned files, open; // those of the rules
     bool allow_other, count, discard_writes, nonempty, no_check;
     long grace; // seconds
     long mode, uid, gid; // -1: those of the folder below
@@ -203,8 +202,7 @@ bool answer_here(const struct fuse_in_header *head, const char *body, size_t siz
 // ---- names.c: all under table_lock ----
 
 struct node {
-    struct node *next; // of its bucket
-    struct node *before, *after; // of those with names, the oldest first
+    struct node *next, *next_name; // of its chains
     uint64_t number, lookups, cookie;
     uint32_t mode, uid, gid;
     struct timespec atime, mtime, ctime;
@@ -213,8 +211,12 @@ struct node {
 
 void table_lock(void);
 void table_unlock(void);
-void names_start(uint32_t mode, uint32_t uid, uint32_t gid);
+// Begins with the folder alone; there may be so many files.
+void names_start(unsigned most, uint32_t mode, uint32_t uid, uint32_t gid);
 void names_end(void);
+uint64_t hash_of(const char *text);
+// How many chains a table of at most so many things has, so that chains are short: a power of two.
+size_t chains_for(unsigned most);
 struct node *node_of(uint64_t number);
 struct node *node_named(const char *name);
 struct node *node_made(uint64_t number, const char *name, uint32_t mode, uint32_t uid, uint32_t gid);
@@ -225,6 +227,7 @@ void node_forgotten(uint64_t number, uint64_t lookups);
 // The first one that was made after the one with this cookie.
 struct node *node_after(uint64_t cookie);
 unsigned nodes_count(void);
+unsigned nodes_most(void);
 bool is_folder(const struct node *node);
 struct timespec now(void);
 void describe(struct fuse_attr *attr, const struct node *node);
@@ -237,6 +240,8 @@ struct owner {
     uint64_t id;
 };
 
+// There may be so many open files.
+void opens_start(unsigned most);
 void open_made(uint64_t fh, uint64_t node, uint32_t pid);
 // This owner asked for a record lock through the open file, or its FLUSH came through it.
 void open_owner_asks(uint64_t fh, uint64_t owner);

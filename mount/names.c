@@ -7,14 +7,22 @@
 #include <stdlib.h>
 #include <string.h>
 
-enum { BUCKETS = 1024, NO_SIZE = 4096 };
+enum { NO_SIZE = 4096 };
+
+// A place in the folder's list. Once its name is unlinked it has no node.
+struct listed {
+    uint64_t cookie;
+    struct node *node;
+};
 
 static pthread_mutex_t lock = PTHREAD_MUTEX_INITIALIZER;
 static struct {
     struct node root;
-    struct node *buckets[BUCKETS];
-    struct node *first, *last;
-    unsigned count, folders;
+    struct node **numbers, **names; // each as many chains
+    size_t chains;
+    unsigned most, count, folders;
+    struct listed *list; // in the order of making
+    size_t used, room, gone;
     uint64_t cookie;
 } table;
 
@@ -45,19 +53,52 @@ static void set_times(struct node *node)
     node->atime = node->mtime = node->ctime = now();
 }
 
-void names_start(uint32_t mode, uint32_t uid, uint32_t gid)
+// A hash for spread, and not against those who choose names that collide (FNV-1a).
+uint64_t hash_of(const char *text)
 {
+    uint64_t hash = 14695981039346656037u;
+    for (; *text; text++)
+        hash = (hash ^ (unsigned char)*text) * 1099511628211u;
+    return hash;
+}
+
+size_t chains_for(unsigned most)
+{
+    size_t chains = 1024;
+    while (chains < most)
+        chains *= 2;
+    return chains;
+}
+
+void names_start(unsigned most, uint32_t mode, uint32_t uid, uint32_t gid)
+{
+    table.most = most;
+    table.chains = chains_for(most);
+    table.numbers = calloc(table.chains, sizeof *table.numbers);
+    table.names = calloc(table.chains, sizeof *table.names);
+    if (!table.numbers || !table.names)
+        fail("no memory for names");
     table.root = (struct node){.number = ROOT, .mode = S_IFDIR | (mode & 07777), .uid = uid, .gid = gid};
     set_times(&table.root);
     // The cookies of "." and ".." are 1 and 2.
     table.cookie = 2;
 }
 
+static struct node **of_number(uint64_t number)
+{
+    return &table.numbers[number % table.chains];
+}
+
+static struct node **of_name(const char *name)
+{
+    return &table.names[hash_of(name) % table.chains];
+}
+
 struct node *node_of(uint64_t number)
 {
     if (number == ROOT)
         return &table.root;
-    struct node *it = table.buckets[number % BUCKETS];
+    struct node *it = *of_number(number);
     while (it && it->number != number)
         it = it->next;
     return it;
@@ -65,9 +106,9 @@ struct node *node_of(uint64_t number)
 
 struct node *node_named(const char *name)
 {
-    struct node *it = table.first;
+    struct node *it = *of_name(name);
     while (it && strcmp(it->name, name) != 0)
-        it = it->after;
+        it = it->next_name;
     return it;
 }
 
@@ -87,22 +128,90 @@ static struct node *add(uint64_t number, uint32_t mode, uint32_t uid, uint32_t g
     it->uid = uid;
     it->gid = gid;
     set_times(it);
-    it->next = table.buckets[number % BUCKETS];
-    table.buckets[number % BUCKETS] = it;
+    it->next = *of_number(number);
+    *of_number(number) = it;
     table.count++;
     return it;
+}
+
+// ---- The list ----
+
+// The first place with a greater cookie.
+static size_t place_after(uint64_t cookie)
+{
+    size_t from = 0, to = table.used;
+    while (from < to) {
+        size_t middle = from + (to - from) / 2;
+        if (table.list[middle].cookie <= cookie)
+            from = middle + 1;
+        else
+            to = middle;
+    }
+    return from;
+}
+
+// Whether there is room for one place more.
+static bool has_place(void)
+{
+    if (table.used < table.room)
+        return true;
+    size_t room = table.room ? 2 * table.room : 64;
+    struct listed *list = realloc(table.list, room * sizeof *list);
+    if (!list)
+        return false;
+    table.list = list;
+    table.room = room;
+    return true;
 }
 
 static void put_last(struct node *it)
 {
     it->cookie = ++table.cookie;
-    it->before = table.last;
-    it->after = NULL;
-    if (table.last)
-        table.last->after = it;
-    else
-        table.first = it;
-    table.last = it;
+    table.list[table.used++] = (struct listed){.cookie = it->cookie, .node = it};
+}
+
+// Once half of the places have no node, these go.
+static void take_from_list(const struct node *it)
+{
+    size_t kept = 0;
+    table.list[place_after(it->cookie - 1)].node = NULL;
+    if (++table.gone <= table.used / 2)
+        return;
+    for (size_t i = 0; i < table.used; i++)
+        if (table.list[i].node)
+            table.list[kept++] = table.list[i];
+    table.used = kept;
+    table.gone = 0;
+}
+
+struct node *node_after(uint64_t cookie)
+{
+    size_t at = place_after(cookie);
+    while (at < table.used && !table.list[at].node)
+        at++;
+    return at < table.used ? table.list[at].node : NULL;
+}
+
+// ---- What is made and unlinked ----
+
+// The oldest of a name stays the first: replies to UNLINK and CREATE may come in any order.
+static void take_name(struct node *node, const char *name)
+{
+    struct node **at = of_name(name);
+    while (*at)
+        at = &(*at)->next_name;
+    *at = node;
+    node->next_name = NULL;
+    snprintf(node->name, sizeof node->name, "%s", name);
+}
+
+static void lose_name(struct node *node)
+{
+    struct node **at = of_name(node->name);
+    while (*at != node)
+        at = &(*at)->next_name;
+    *at = node->next_name;
+    *node->name = 0;
 }
 
 struct node *node_made(uint64_t number, const char *name, uint32_t mode, uint32_t uid, uint32_t gid)
@@ -111,12 +220,14 @@ struct node *node_made(uint64_t number, const char *name, uint32_t mode, uint32_
     if (number == ROOT || !*name || (it && *it->name))
         return it;
     bool takes_group = (table.root.mode & S_ISGID) != 0;
+    if (!has_place())
+        return NULL;
     if (!it)
         it = add(number, mode, uid, takes_group ? table.root.gid : gid);
     if (!it)
         return NULL;
-    snprintf(it->name, sizeof it->name, "%s", name);
     it->mode = mode;
+    take_name(it, name);
     put_last(it);
     table.folders += is_folder(it);
     root_changed();
@@ -135,7 +246,7 @@ struct node *node_looked_up(const struct fuse_attr *attr)
 
 static void drop(struct node *node)
 {
-    struct node **at = &table.buckets[node->number % BUCKETS];
+    struct node **at = of_number(node->number);
     while (*at != node)
         at = &(*at)->next;
     *at = node->next;
@@ -148,17 +259,10 @@ void node_unlinked(const char *name)
     struct node *it = node_named(name);
     if (!it)
         return;
-    if (it->before)
-        it->before->after = it->after;
-    else
-        table.first = it->after;
-    if (it->after)
-        it->after->before = it->before;
-    else
-        table.last = it->before;
+    take_from_list(it);
+    lose_name(it);
     table.folders -= is_folder(it);
     it->ctime = now();
-    *it->name = 0;
     root_changed();
     if (!it->lookups)
         drop(it);
@@ -174,17 +278,14 @@ void node_forgotten(uint64_t number, uint64_t lookups)
         drop(it);
 }
 
-struct node *node_after(uint64_t cookie)
-{
-    struct node *it = table.first;
-    while (it && it->cookie <= cookie)
-        it = it->after;
-    return it;
-}
-
 unsigned nodes_count(void)
 {
     return table.count;
+}
+
+unsigned nodes_most(void)
+{
+    return table.most;
 }
 
 static void set_time(uint64_t *second, uint32_t *nanosecond, struct timespec at)
@@ -211,12 +312,13 @@ void describe(struct fuse_attr *attr, const struct node *node)
 
 void names_end(void)
 {
-    for (size_t i = 0; i < BUCKETS; i++) {
-        for (struct node *it = table.buckets[i], *next; it; it = next) {
+    for (size_t i = 0; i < table.chains; i++)
+        for (struct node *it = table.numbers[i], *next; it; it = next) {
             next = it->next;
             free(it);
         }
-        table.buckets[i] = NULL;
-    }
-    table.first = table.last = NULL;
+    free(table.numbers);
+    free(table.names);
+    free(table.list);
+    table.chains = table.used = 0;
 }

@@ -15,17 +15,50 @@ struct open_file {
     struct owner *owners;
 };
 
-static struct open_file *opens[BUCKETS];
+// An owner of record locks on a node, and through how many open files it asked for them.
+struct locker {
+    struct locker *next;
+    uint64_t node, owner;
+    unsigned files;
+};
+
+static struct open_file **opens;
+static struct locker **lockers;
+static size_t chains; // of each of the two
 static unsigned opened;
 static struct asked *asked[BUCKETS];
 static atomic_uint asked_count;
 
+void opens_start(unsigned most)
+{
+    chains = chains_for(most);
+    opens = calloc(chains, sizeof *opens);
+    lockers = calloc(chains, sizeof *lockers);
+    if (!opens || !lockers)
+        fail("no memory for open files");
+}
+
+// Where the open file stands in its chain, or the end of it.
+static struct open_file **place_of(uint64_t fh)
+{
+    struct open_file **at = &opens[fh % chains];
+    while (*at && (*at)->fh != fh)
+        at = &(*at)->next;
+    return at;
+}
+
 static struct open_file *open_of(uint64_t fh)
 {
-    struct open_file *it = opens[fh % BUCKETS];
-    while (it && it->fh != fh)
-        it = it->next;
-    return it;
+    return *place_of(fh);
+}
+
+// In the same way. The kernel's owners are hashes already.
+static struct locker **place_of_locker(uint64_t node, uint64_t owner)
+{
+    struct locker **at = &lockers[(node ^ owner) % chains];
+    while (*at && ((*at)->node != node || (*at)->owner != owner))
+        at = &(*at)->next;
+    return at;
 }
 
 void open_made(uint64_t fh, uint64_t node, uint32_t pid)
@@ -33,8 +66,8 @@ void open_made(uint64_t fh, uint64_t node, uint32_t pid)
     struct open_file *it = malloc(sizeof *it);
     if (!it)
         return;
-    *it = (struct open_file){.next = opens[fh % BUCKETS], .fh = fh, .node = node, .pid = pid};
-    opens[fh % BUCKETS] = it;
+    *it = (struct open_file){.next = opens[fh % chains], .fh = fh, .node = node, .pid = pid};
+    opens[fh % chains] = it;
     opened++;
 }
 
@@ -46,14 +79,39 @@ static bool has_owner(const struct open_file *file, uint64_t owner)
     return it != NULL;
 }
 
+// False where there is no memory.
+static bool locker_gains(uint64_t node, uint64_t owner)
+{
+    struct locker **at = place_of_locker(node, owner);
+    if (!*at) {
+        *at = malloc(sizeof **at);
+        if (!*at)
+            return false;
+        **at = (struct locker){.node = node, .owner = owner};
+    }
+    (*at)->files++;
+    return true;
+}
+
+static void locker_loses(uint64_t node, uint64_t owner)
+{
+    struct locker **at = place_of_locker(node, owner), *it = *at;
+    if (--it->files)
+        return;
+    *at = it->next;
+    free(it);
+}
+
 void open_owner_asks(uint64_t fh, uint64_t owner)
 {
     struct open_file *file = open_of(fh);
     if (!file || has_owner(file, owner))
         return;
     struct owner *it = malloc(sizeof *it);
-    if (!it)
+    if (!it || !locker_gains(file->node, owner)) {
+        free(it);
         return;
+    }
     *it = (struct owner){.next = file->owners, .id = owner};
     file->owners = it;
 }
@@ -79,35 +137,28 @@ void open_owner_flushes(uint64_t fh, uint64_t owner)
     struct owner **at = &file->owners;
     while (*at && (*at)->id != owner)
         at = &(*at)->next;
-    if (*at)
-        drop_owner(at);
+    if (!*at)
+        return;
+    drop_owner(at);
+    locker_loses(file->node, owner);
 }
 
-// Whether the owner also has record locks through another open file. The kernel makes owners of
+// An owner who also asked through another open file is left out. The kernel makes owners of
 // addresses, and a new open file may stand where the old one stood: its locks are not dropped.
-static bool has_elsewhere(const struct open_file *file, uint64_t owner)
-{
-    for (size_t i = 0; i < BUCKETS; i++)
-        for (const struct open_file *it = opens[i]; it; it = it->next)
-            if (it != file && it->node == file->node && has_owner(it, owner))
-                return true;
-    return false;
-}
-
 struct owner *open_closed(uint64_t fh)
 {
-    struct open_file **at = &opens[fh % BUCKETS];
-    while (*at && (*at)->fh != fh)
-        at = &(*at)->next;
-    struct open_file *file = *at;
+    struct open_file **at = place_of(fh), *file = *at;
     if (!file)
         return NULL;
     struct owner **owner = &file->owners;
-    while (*owner)
-        if (has_elsewhere(file, (*owner)->id))
+    while (*owner) {
+        uint64_t id = (*owner)->id;
+        locker_loses(file->node, id);
+        if (*place_of_locker(file->node, id))
             drop_owner(owner);
         else
             owner = &(*owner)->next;
+    }
     struct owner *left = file->owners;
     *at = file->next;
     free(file);
@@ -123,7 +174,7 @@ unsigned opens_count(void)
 void openers(struct holders *holders)
 {
     *holders = (struct holders){0};
-    for (size_t i = 0; i < BUCKETS; i++)
+    for (size_t i = 0; i < chains; i++)
         for (const struct open_file *it = opens[i]; it; it = it->next) {
             int at = 0;
             while (at < holders->count && at < MOST_HOLDERS && holders->pids[at] != (pid_t)it->pid)
@@ -135,9 +186,13 @@ void openers(struct holders *holders)
 
 void opens_end(void)
 {
-    for (size_t i = 0; i < BUCKETS; i++) {
+    for (size_t i = 0; i < chains; i++)
         while (opens[i])
             owners_end(open_closed(opens[i]->fh));
+    free(opens);
+    free(lockers);
+    chains = 0;
+    for (size_t i = 0; i < BUCKETS; i++) {
         for (struct asked *it = asked[i], *next; it; it = next) {
             next = it->next;
             free(it);

@@ -23,7 +23,7 @@ static const char HELP[] =
     "  --trace-full go-on|refuse\n"
     "                        what the server does while the trace can't be written\n"
     "  --times FILE          a new file for the times of requests and replies, for tools/lockd_report\n"
-    "  --fair, --runs N, --parked N\n"
+    "  --fair, --runs N, --parked N, --files N, --open N\n"
     "                        the rules of the server, as `lockd serve --help` says\n"
     "  --no-check            don't judge the trace\n"
     "  --allow-other         let other users in\n"
@@ -79,7 +79,10 @@ static void take_rule(struct options *options, const char *name, const char *wor
         options->rules[options->rule_count++] = word;
 }
 
-enum { ALLOW = 1, COUNT, DISCARD, NONEMPTY, NO_CHECK, WORKERS, TRACE, TRACE_FULL, TIMES, FAIR, RUNS, PARKED, NUMBER, HELPS, VERSIONS };
+// What rules of the server allow, which makes the tables here.
+enum { MOST_FILES = 65536, STANDARD_FILES = 256, STANDARD_OPEN = 1024 };
+
+enum { ALLOW = 1, COUNT, DISCARD, NONEMPTY, NO_CHECK, WORKERS, TRACE, TRACE_FULL, TIMES, FAIR, RUNS, PARKED, FILES, OPEN, NUMBER, HELPS, VERSIONS };
 
 static void take(struct options *options, int option, const char *name)
 {
@@ -99,6 +102,14 @@ static void take(struct options *options, int option, const char *name)
     case FAIR: take_rule(options, "--fair", NULL); break;
     case RUNS: take_rule(options, "--runs", optarg); break;
     case PARKED: take_rule(options, "--parked", optarg); break;
+    case FILES:
+        options->files = (unsigned)number(optarg, name, 10, 1, MOST_FILES);
+        take_rule(options, "--files", optarg);
+        break;
+    case OPEN:
+        options->open = (unsigned)number(optarg, name, 10, 1, MOST_FILES);
+        take_rule(options, "--open", optarg);
+        break;
     case NUMBER: take_number(options, name, optarg); break;
     case HELPS:
         fputs(HELP, stdout);
@@ -118,13 +129,14 @@ void read_options(int argc, char **argv, struct options *options)
         {"no-check", no_argument, NULL, NO_CHECK},       {"workers", required_argument, NULL, WORKERS},
         {"trace", required_argument, NULL, TRACE},       {"trace-full", required_argument, NULL, TRACE_FULL},
         {"fair", no_argument, NULL, FAIR},               {"runs", required_argument, NULL, RUNS},
-        {"parked", required_argument, NULL, PARKED},     {"mode", required_argument, NULL, NUMBER},
+        {"parked", required_argument, NULL, PARKED},     {"files", required_argument, NULL, FILES},
+        {"open", required_argument, NULL, OPEN},         {"mode", required_argument, NULL, NUMBER},
         {"uid", required_argument, NULL, NUMBER},        {"gid", required_argument, NULL, NUMBER},
         {"grace", required_argument, NULL, NUMBER},      {"help", no_argument, NULL, HELPS},
         {"version", no_argument, NULL, VERSIONS},        {"times", required_argument, NULL, TIMES},
         {NULL, 0, NULL, 0},
     };
-    *options = (struct options){.workers = "1", .mode = -1, .uid = -1, .gid = -1};
+    *options = (struct options){.workers = "1", .files = STANDARD_FILES, .open = STANDARD_OPEN, .mode = -1, .uid = -1, .gid = -1};
     int option, at = 0;
     while ((option = getopt_long(argc, argv, "", known, &at)) != -1)
         take(options, option, known[at].name);

@@ -21,16 +21,13 @@ static char record_path[PATH_MAX];
 static bool place_record(const char *path)
 {
     const char *base = geteuid() ? getenv("XDG_RUNTIME_DIR") : "/run";
-    uint64_t hash = 14695981039346656037u;
     if (!base || !*base)
         return false;
-    for (const char *it = path; *it; it++)
-        hash = (hash ^ (unsigned char)*it) * 1099511628211u;
     if (snprintf(record_path, sizeof record_path, "%s/lockd_mount", base) >= (int)sizeof record_path - 32)
         return false;
     if (mkdir(record_path, 0700) && errno != EEXIST)
         return false;
-    snprintf(record_path + strlen(record_path), 32, "/%016llx", (unsigned long long)hash);
+    snprintf(record_path + strlen(record_path), 32, "/%016llx", (unsigned long long)hash_of(path));
     return true;
 }
 

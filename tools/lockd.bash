@@ -2,7 +2,7 @@
 # /etc/bash_completion.d. tools/check_man compares its words with what `lockd --help` says.
 _lockd() {
     local word=${COMP_WORDS[COMP_CWORD]} before=${COMP_WORDS[COMP_CWORD - 1]} command=${COMP_WORDS[1]}
-    local words= rules='--fair --runs --parked'
+    local words= rules='--fair --runs --parked --files --open'
     if [ "$COMP_CWORD" -eq 1 ]; then
         words="script check bytes serve drive help $rules --help --version"
     elif [ "$before" = --workers ]; then
@@ -11,6 +11,10 @@ _lockd() {
         words='1 4096 65536'
     elif [ "$before" = --parked ]; then
         words='1 256 1024'
+    elif [ "$before" = --files ]; then
+        words='1 256 65536'
+    elif [ "$before" = --open ]; then
+        words='1 1024 65536'
     elif [ "$before" = --trace-full ]; then
         words='go-on refuse'
     elif [ "$before" = --trace ]; then
@@ -33,11 +37,13 @@ complete -o default -F _lockd lockd
 
 _lockd_mount() {
     local word=${COMP_WORDS[COMP_CWORD]} before=${COMP_WORDS[COMP_CWORD - 1]}
-    local words='--workers --trace --trace-full --times --fair --runs --parked --no-check --allow-other --mode --uid --gid --discard-writes --nonempty --grace --count --help --version'
+    local words='--workers --trace --trace-full --times --fair --runs --parked --files --open --no-check --allow-other --mode --uid --gid --discard-writes --nonempty --grace --count --help --version'
     case $before in
         --workers) mapfile -t COMPREPLY < <(compgen -W "$(seq 16)" -- "$word") ;;
         --runs) mapfile -t COMPREPLY < <(compgen -W '1 4096 65536' -- "$word") ;;
         --parked) mapfile -t COMPREPLY < <(compgen -W '1 256 1024' -- "$word") ;;
+        --files) mapfile -t COMPREPLY < <(compgen -W '1 256 65536' -- "$word") ;;
+        --open) mapfile -t COMPREPLY < <(compgen -W '1 1024 65536' -- "$word") ;;
         --trace) mapfile -t COMPREPLY < <(compgen -W 'none' -f -- "$word") ;;
         --trace-full) mapfile -t COMPREPLY < <(compgen -W 'go-on refuse' -- "$word") ;;
         --times) mapfile -t COMPREPLY < <(compgen -f -- "$word") ;;

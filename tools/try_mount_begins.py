@@ -103,6 +103,7 @@ def try_what_cannot_be_mounted():
         (f"a file is at {__file__} already", folder, "--trace", __file__), ("no folder for /no/such/trace", folder, "--trace", "/no/such/trace"),
         ("--runs", folder, "--runs", "0"), ("requires an argument", folder, "--parked"), ("no folder", ), ("more than one folder", folder, folder),
         ("unrecognized option", folder, "--nothing"), ("mode (octal)", folder, "--mode", "9"), ("grace", folder, "--grace", "-1"),
+        ("files: a number from 1 to 65536", folder, "--files", "65537"), ("open: a number from 1 to 65536", folder, "--open", "0"),
         ("no folder at --help", "--", "--help"), ("--trace-full", folder, "--trace-full", "never"), ("no folder", ""),
     ]
     for said, *words in wanted:

@@ -40,7 +40,7 @@ try_many_calls_take_no_memory.seconds = 2 * SECONDS + 40
 
 def try_random_messages_and_replies():
     program = f"{WORK}/try_mount_turned"
-    parts = [f"{TOP}/mount/{it}.c" for it in ("messages", "replies", "answers", "names", "opens")]
+    parts = [f"{TOP}/mount/{it}.c" for it in ("messages", "replies", "answers", "names", "opens", "say")]
     built = subprocess.run(["cc", "-g", "-O1", "-std=gnu11", "-Wall", "-Wextra", "-Wconversion", "-fsanitize=address,undefined", "-fno-sanitize-recover=undefined",
                             "-pthread", "-o", program, f"{TOP}/tools/try_mount_turned.c", *parts], capture_output=True, text=True, timeout=PATIENCE)
     if built.returncode:

@@ -21,6 +21,69 @@ def try_256_files():
     same(mount.end(), (0, "legal"))
 
 
+def try_as_many_files_as_rules_say():
+    """Of two files each is there until it has neither a name nor an open file. Three may be open."""
+    mount = Mount("--files", "2", "--open", "3")
+    first, second, third = (f"{mount.folder}/{name}" for name in ("first", "second", "third"))
+
+    def tried(path, flags=os.O_RDWR | os.O_CREAT):
+        fd = outcome(os.open, path, flags)
+        return fd if isinstance(fd, str) else held.append(fd)
+
+    held = []
+    same([tried(first), tried(second), tried(third), tried(first), tried(second), tried(third)], [None, None, "ENOSPC", None, "ENFILE", "ENOSPC"])
+    free = os.statvfs(mount.folder)
+    same((free.f_files, free.f_ffree), (2, 0))
+    os.unlink(second)
+    same(tried(third), "ENOSPC")
+    os.close(held[1])
+    until(lambda: tried(third) is None)
+    for fd in held[:1] + held[2:]:
+        os.close(fd)
+    same(mount.end(), (0, "legal"))
+
+
+def make_and_remove(folder, count, made, go):
+    """So many files, which are open and locked all at once. It tells when they are made, and removes them when it may go on."""
+    paths = [f"{folder}/{os.getpid()}.{at}" for at in range(count)]
+    held = [os.open(path, os.O_RDWR | os.O_CREAT | os.O_EXCL) for path in paths]
+    for fd in held:
+        record(fd, WRITE)
+        fcntl.flock(fd, ALONE | AT_ONCE)
+    os.write(made, b".")
+    os.read(go, 1)
+    for path, fd in zip(paths, held):
+        os.unlink(path)
+        os.close(fd)
+
+
+def try_20000_files_of_16_processes():
+    mount, makers = Mount("--files", "65536", "--open", "65536", "--runs", "65536"), []
+    (is_made, made), (go, goes) = os.pipe(), os.pipe()
+    for _ in range(16):
+        makers.append(os.fork())
+        if not makers[-1]:
+            os.close(goes)
+            os.close(is_made)
+            try:
+                make_and_remove(mount.folder, 1_250, made, go)
+                os._exit(0)
+            finally:
+                os._exit(1)
+    os.close(made)
+    told = 0
+    while told < len(makers):
+        count = len(os.read(is_made, 16))
+        assert count, "one of them failed"
+        told += count
+    files = os.statvfs(mount.folder)
+    same((len(os.listdir(mount.folder)), files.f_files, files.f_ffree), (20_000, 65_536, 45_536))
+    os.close(goes)
+    same([os.waitpid(it, 0)[1] for it in makers], [0] * 16)
+    until(lambda: os.statvfs(mount.folder).f_ffree == 65_536)
+    same((os.listdir(mount.folder), mount.end()), ([], (0, "legal")))
+
+
 def try_1024_open_files(mount):
     held = []
     while True:

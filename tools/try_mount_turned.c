@@ -1,6 +1,7 @@
-// Gives the part of lockd_mount that changes messages and replies random ones of both, after the
-// RELEASE of a file with many owners of record locks: try_mount_turned ROUNDS. It is built with
-// sanitizers, which end it at the first fault. Kernel and server send no such messages.
+// Gives the part of lockd_mount that changes messages and replies random ones of both:
+// try_mount_turned ROUNDS. It is built with sanitizers, which end it at the first fault. Kernel and
+// server send no such messages. Before that it tries the tables: a file with many owners of record
+// locks, an owner with several files, and the folder's list while names go.
 #include "../mount/mount.h"
 
 #include <fcntl.h>
@@ -8,7 +9,7 @@
 #include <stdlib.h>
 #include <string.h>
 
-enum { SENT = 512, NODES = 20, NUMBERS = 200, FHS = 50, OWNERS = 300 };
+enum { SENT = 512, NODES = 20, NUMBERS = 200, FHS = 50, OWNERS = 300, NAMES = 5000 };
 
 static uint64_t sent[SENT]; // numbers of the carrier's own messages
 static int sent_count, flushed;
@@ -140,11 +141,53 @@ static void release_after_many_owners(char *bytes)
     sent_count = 0;
 }
 
+// An owner is flushed with the last open file of a node through which it asked.
+static void close_files_of_one_owner(void)
+{
+    for (uint64_t fh = 1; fh <= 3; fh++) {
+        open_made(fh, fh < 3 ? 2 : 3, 1);
+        open_owner_asks(fh, 7);
+    }
+    struct owner *first = open_closed(1), *other = open_closed(3), *last = open_closed(2);
+    expect(!first, "one of two open files takes nothing with it");
+    expect(other && other->id == 7 && !other->next, "that of another node is the last there");
+    expect(last && last->id == 7 && !last->next, "the second one is the last");
+    owners_end(other);
+    owners_end(last);
+}
+
+// The list has the names in the order of making, while two of three go, and then all.
+static void list_while_names_go(void)
+{
+    char name[16];
+    unsigned listed = 0;
+    for (unsigned i = 0; i < NAMES; i++) {
+        snprintf(name, sizeof name, "%u", i);
+        node_made(2 + i, name, S_IFREG, 0, 0);
+    }
+    for (unsigned i = 0; i < NAMES; i++) {
+        snprintf(name, sizeof name, "%u", i);
+        expect(node_named(name) == node_of(2 + i), "a name is found");
+        if (i % 3)
+            node_unlinked(name);
+        expect(!node_named(name) == (i % 3 != 0), "it isn't once it is unlinked");
+    }
+    for (struct node *it = node_after(2); it; it = node_after(it->cookie), listed++)
+        expect(it->number == 2 + 3 * listed, "names are in the order of making");
+    expect(listed == (NAMES + 2) / 3 && nodes_count() == listed, "all that are left are listed");
+    for (struct node *it; (it = node_after(2));)
+        node_unlinked(it->name);
+    expect(!nodes_count(), "none is left");
+}
+
 int main(int argc, char **argv)
 {
     static _Alignas(8) char bytes[MOST + 16];
-    names_start(0755, 0, 0);
+    names_start(256, 0755, 0, 0);
+    opens_start(1024);
     release_after_many_owners(bytes);
+    close_files_of_one_owner();
+    list_while_names_go();
     for (long round = argc > 1 ? atol(argv[1]) : 0; round > 0; round--) {
         session.discards = below(2);
         if (below(2))

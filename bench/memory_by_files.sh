@@ -1,0 +1,56 @@
+#!/bin/sh
+# How much memory `lockd serve` takes where it holds as much as its rules allow: under the standard rules, with 65,536 files and open files, and with as
+# many locks too; with 1 and 4 workers, and no trace. Prints its megabytes (VmRSS) once all is held, and sees that one more of each is refused.
+set -eu
+. "$(dirname "$0")/../tools/built_lockd.sh"
+LOCKD=$program python3 - <<'END'
+import struct, sys
+
+sys.dont_write_bytecode = True
+sys.path.insert(0, "tools")
+from tries import INIT, Server, message, replies, take
+
+AT_A_TIME, ENOSPC, ENFILE, ENOLCK = 64, 28, 23, 37
+FILES = ["--files", "65536", "--open", "65536"]
+CASES = {"the standard rules": ([], 256, 1_024, 4_096), "65536 files and open files": (FILES, 65_536, 65_536, 4_096),
+         "65536 files, open files and locks": ([*FILES, "--runs", "65536"], 65_536, 65_536, 65_536)}
+
+def create(unique, number):
+    return message(35, unique, 1, struct.pack("<IIII", 0, 0o644, 0, 0) + b"%d\0" % number)
+
+def open_(unique, number):
+    return message(14, unique, number, bytes(8))
+
+def lock(unique, node, fh, byte):
+    return message(32, unique, node, struct.pack("<QQQQIIII", fh, 7, byte, byte, 1, 11, 0, 0))
+
+def asked(client, messages, size):
+    """The replies, of so many bytes each, to messages that all go well."""
+    found = []
+    for first in range(0, len(messages), AT_A_TIME):
+        few = messages[first:first + AT_A_TIME]
+        client.sendall(b"".join(few))
+        told = take(client, size * len(few))
+        assert not any(error for _, error in replies(told)), replies(told)
+        found += [told[at:at + size] for at in range(0, len(told), size)]
+    return found
+
+def megabytes(options, files, opens, runs, workers):
+    server = Server("--trace", "none", *options, workers=workers)
+    with server.connect() as client:
+        asked(client, [INIT], 80)
+        made = [struct.unpack_from("<Q120xQ", told, 16) for told in asked(client, [create(2 + it, it) for it in range(files)], 160)]
+        asked(client, [open_(2, made[it % files][0]) for it in range(opens - files)], 32)
+        asked(client, [lock(2, *made[it % files], 2 * (it // files)) for it in range(runs)], 16)
+        for one_more, error in (create(2, files), ENOSPC), (open_(2, made[0][0]), ENFILE), (lock(2, *made[0], 1 << 40), ENOLCK):
+            client.sendall(one_more)
+            assert replies(take(client, 16)) == [(2, error)]
+        with open(f"/proc/{server.serving.pid}/status", encoding="ascii") as it:
+            held = next(int(line.split()[1]) for line in it if line.startswith("VmRSS"))
+    assert server.ended()[1:] == ("", 0)
+    return held / 1_000
+
+for name, case in CASES.items():
+    few, many = (megabytes(*case, workers) for workers in (1, 4))
+    print(f"{name}: {few:.1f} MB with 1 worker, {many:.1f} MB with 4", flush=True)
+END
