@@ -4,7 +4,7 @@ _lockd() {
     local word=${COMP_WORDS[COMP_CWORD]} before=${COMP_WORDS[COMP_CWORD - 1]} command=${COMP_WORDS[1]}
     local words= rules='--fair --runs --parked --files --open'
     if [ "$COMP_CWORD" -eq 1 ]; then
-        words="script check bytes serve drive help $rules --help --version"
+        words="script check locks bytes serve drive help $rules --help --version"
     elif [ "$before" = --workers ]; then
         words=$(seq 16)
     elif [ "$before" = --runs ]; then
@@ -21,9 +21,10 @@ _lockd() {
         words='none'
     else
         case $command in
-            help) words='script check bytes serve drive' ;;
+            help) words='script check locks bytes serve drive' ;;
             serve) words="--workers --trace --trace-full $rules --help" ;;
             check) words="--quiet --cut $rules --help" ;;
+            locks) words="--at --file --json $rules --help" ;;
             script | bytes) words="$rules --help" ;;
             drive) words='--help' ;;
             # Without a command it is script.
