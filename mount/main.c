@@ -174,6 +174,8 @@ static void begin(void)
     wait_until_ready();
     it.starts = false;
     printf("mounted at %s\n", it.place.path);
+    if (!it.options.trace)
+        printf("its trace is %s\n", it.server.trace);
     fflush(stdout);
     notify("READY=1\nSTATUS=mounted at %s", it.place.path);
 }

@@ -141,6 +141,31 @@ def try_count():
 
 # ---- The trace ----
 
+def try_who_holds_what():
+    """One process holds a lock and another waits for it: tools/lockd_locks names both, by the folder alone."""
+    mount = Mount("--fair", "--files", "300")
+    mount.says("its trace is ")
+    one, two = children(f"{mount.folder}/held", 2)
+    same(one.ask("record", "a", WRITE), "ok")
+    two.begin("record", "a", WRITE, 0, 0, True)
+    assert two.waits()
+    until(lambda: "WRITE*" in listed(mount).stdout)
+    rows = [line.split() for line in listed(mount).stdout.splitlines()]
+    same([(row[0], row[1], row[-2], row[-1]) for row in rows[1:]],
+         [("POSIX", "WRITE", "-", "held"), ("POSIX", "WRITE*", str(one.pid), "held")])
+    same(listed(mount, "--file", "none", "--json").stdout, "[]\n")
+    same([one.ask("record", "a", UNLOCK), two.answer()], ["ok", "ok"])
+    for it in one, two:
+        it.kill()
+    same(mount.end(), (0, "legal"))
+    same(listed(mount).returncode, 2)
+
+
+def listed(mount, *words):
+    return subprocess.run([f"{TOP}/tools/lockd_locks", *words, mount.folder], capture_output=True, text=True, timeout=PATIENCE)
+
+
+
 def try_a_trace_that_goes_nowhere():
     mount = Mount("--trace", "none")
     shell(mount, "flock job echo in", "in")
