@@ -1,5 +1,7 @@
 //! What a judge says while it hears. A table of orders and their replies is a trace, as `docs/TRACE.md` says.
 
+mod first;
+mod present;
 mod quiet;
 
 use fl_core::Rules;
