@@ -10,9 +10,9 @@ returns c =
     simp (
       c.in_ok-push_str-3.ensures.bytes,
       c.in_ok-push_blockers.ensures,
-      c.as_slice.ensures.value,
+      c.as_slice.ensures,
       c.in_ok-push_str-2.ensures.bytes,
       c.in_ok-push_unique.ensures,
       c.in_ok-push_str.ensures.bytes,
     ) (five_pieces (string_bytes c.args.text.now) (codes "\"unique\":") (unique_json c.args.row.now.unique) (codes ",\"blockers\":[")
-    (join_with_byte 44 (map blocker_json c.args.row.now.blockers.items)) (93 ∷ []))
+    (join_with_byte 44 (map blocker_json c.args.row.now.blockers)) (93 ∷ []))
