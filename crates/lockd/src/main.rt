@@ -20,8 +20,10 @@ ghost use Rattle.lockd_serve.specs.Ending.{Ends};
 
 use descriptors::hold_closed_streams;
 use lockd_cli::{Asked, Trace, UsageError, WhenFull, print_version, read_words};
-use lockd_commands::{CheckOptions, CommandFault, LocksOptions, Status};
-use lockd_commands::{bytes_on, check_on, drive_on, locks_on, script_on};
+use lockd_commands::{
+    CheckOptions, CommandFault, LocksOptions, Status, bytes_on, check_on, drive_on, locks_on,
+    script_on,
+};
 use lockd_serve::{ServeOptions, TraceTo, WhenWriterFails, is_unused, serve_on, trace_at};
 use std::fs::{File, Files};
 use std::io::Write;

@@ -16,7 +16,7 @@ use Rattle.lockd_commands.specs.declared.check.CheckOptions.{CheckOptions}
 use Rattle.lockd_faults.specs.Faults.{IsBegun}
 
 -- a legal history is a beginning of one
-whole : (rules : Rules) (lines : List Line) → IsLegal rules lines → IsBeginning rules lines
+pub whole : (rules : Rules) (lines : List Line) → IsLegal rules lines → IsBeginning rules lines
 whole rules lines legal = record { rest = []; legal = subst (IsLegal rules) (sym (append-nil lines)) legal }
 
 says : (rules : Rules) (asked cut quiet : Bool) (finding : Finding) (lines : List Line) → IsFinding rules cut lines finding

@@ -4,5 +4,6 @@ pub mod DriveLemmas
 pub mod ExchangeLemmas
 pub mod FillLemmas
 pub mod HexLemmas
+pub mod LocksLemmas
 pub mod ReplyLemmas
 pub mod ScriptLemmas

@@ -1,6 +1,7 @@
 -- The list of locks after the lines of a trace.
 pub mod Inside
 use Rattle.std.specs.Prelude.{◌≡◌, ℕ, Bool, true, false, List, [], ◌∷◌, ◌++◌, codes, Option, Some, None}
+use Rattle.std.specs.Borrow.{Bor}
 use Rattle.std.specs.Str.{bytes_eq}
 use Rattle.std.specs.List.{filter}
 use Rattle.std.specs.Fmt.{decimal}
@@ -24,9 +25,9 @@ is_called name None = false
 is_called name (Some own) = bytes_eq own name
 
 -- the rows of the file of this name, or all rows if none is said
-abbrev pub of_file : Option (List ℕ) → List LockRow → List LockRow
+abbrev pub of_file : Option (Bor (List ℕ)) → List LockRow → List LockRow
 of_file None rows = rows
-of_file (Some name) rows = filter (λ row. is_called name row.name) rows
+of_file (Some name) rows = filter (λ row. is_called name.now row.name) rows
 
 -- rows as a line of JSON, or as a table
 abbrev pub rows_text : Bool → List LockRow → List ℕ
@@ -44,13 +45,13 @@ pub record AreListed (rules : Rules) (options : LocksOptions) (left : Option (Li
 
 -- they begin none: this line is the first that breaks the rules, and this text says so
 pub record AreDifferent (rules : Rules) (options : LocksOptions) (left : Option (List ℕ)) (text : List ℕ) : Type 0
-    where
-  pub lines : List Line
-  pub read : IsSoOfAll left (λ bytes. AreFirstLines options.at bytes lines)
-  pub none : IsBeginning rules lines → ⊥
-  pub line : ℕ
-  pub differs : DiffersAt rules lines line
-  pub said : text ≡ codes "differs " ++ (decimal line ++ 10 ∷ [])
+  where
+    pub lines : List Line
+    pub read : IsSoOfAll left (λ bytes. AreFirstLines options.at bytes lines)
+    pub none : IsBeginning rules lines → ⊥
+    pub line : ℕ
+    pub differs : DiffersAt rules lines line
+    pub said : text ≡ codes "differs " ++ (decimal line ++ 10 ∷ [])
 
 -- the list was written
 pub record IsListed (rules : Rules) (options : LocksOptions) (left old new : Option (List ℕ)) : Type 0 where

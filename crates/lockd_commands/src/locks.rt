@@ -1,6 +1,6 @@
 //! `lockd locks`: lists who holds what, and who waits, after the lines of a trace.
 
-ghost use Rattle.std.specs.Prelude.{◌≡◌, ◌≢◌, ◌++◌, ◌∷◌, [], ◌<◌, ◌^◌, ℕ, length, codes, string_bytes, IfOk, IfErr};
+ghost use Rattle.std.specs.Prelude.{◌≡◌, ◌≢◌, ◌++◌, ◌∷◌, [], ℕ, codes, string_bytes, IfOk, IfErr};
 ghost use Rattle.std.specs.Fmt.{decimal};
 ghost use Rattle.fl_desk.specs.Verdicts.{DiffersAt, IsBeginning};
 ghost use Rattle.std.specs.Io.KnownBytes.{Keeps};
@@ -58,17 +58,17 @@ pub fn locks_on<R: Read, W: Write, F: Write>(
     faults: &mut F,
 ) -> Status
     ensures listed { result ≡ Status.Good →
-        IsListed rules options (R.remaining input.old) (W.contents output.old) (W.contents output.new) }
+        IsListed rules options.entry (R.remaining input.old) (W.contents output.old) (W.contents output.new) }
     ensures differs { result ≡ Status.Different →
-        IsToldDifferent rules options (R.remaining input.old) (F.contents faults.old) (F.contents faults.new) }
+        IsToldDifferent rules options.entry (R.remaining input.old) (F.contents faults.old) (F.contents faults.new) }
 
     // The first n - 1 lines are lines of a trace, and the next is none.
     ensures bad { (n : ℕ) → result ≡ Status.Faulted (CommandFault.BadLine n) → IsSoOfAll (R.remaining input.old)
-        (λ text. BreaksAt LineFits (whole_lines text) n × IsWithin options.at n) }
+        (λ text. BreaksAt LineFits (whole_lines text) n × IsWithin options.entry.at n) }
 
     // Only a write that fails leaves anything on the output: a beginning of the list.
     ensures begun { result ≡ Status.Faulted CommandFault.Write →
-        IsListedInPart rules options (R.remaining input.old) (W.contents output.old) (W.contents output.new) }
+        IsListedInPart rules options.entry (R.remaining input.old) (W.contents output.old) (W.contents output.new) }
     ensures kept { (fault : CommandFault) → result ≡ Status.Faulted fault → fault ≢ CommandFault.Write →
         Keeps (W.contents output.old) (W.contents output.new) }
     ensures none { result ≡ Status.Different → Keeps (W.contents output.old) (W.contents output.new) }
@@ -76,7 +76,7 @@ pub fn locks_on<R: Read, W: Write, F: Write>(
         IsOfText fault × IsTold fault (F.contents faults.old) (F.contents faults.new) }
     ensures quiet { result ≡ Status.Good → Keeps (F.contents faults.old) (F.contents faults.new) }
 {
-    match answer(alloc, rules, options, input) {
+    match answer_to(alloc, rules, options, input) {
         Ok(Answer::Listed(text)) => end(faults, write_all(output, text.as_bytes())),
         Ok(Answer::Differs(text)) => {
             let _ = write_all(faults, text.as_bytes());
@@ -87,15 +87,15 @@ pub fn locks_on<R: Read, W: Write, F: Write>(
 }
 
 // What is said of a trace, which is read to its end.
-fn answer<R: Read>(
+fn answer_to<R: Read>(
     alloc: Global,
     rules: Rules,
     options: LocksOptions<'_>,
     input: &mut R,
 ) -> Result<Answer, CommandFault>
-    ensures answers { IfOk result (IsAnswer rules options (R.remaining input.old)) }
+    ensures answers { IfOk result (IsAnswer rules options.entry (R.remaining input.old)) }
     ensures bad { IfErr result (λ fault. (n : ℕ) → fault ≡ CommandFault.BadLine n → IsSoOfAll (R.remaining input.old)
-        (λ text. BreaksAt LineFits (whole_lines text) n × IsWithin options.at n)) }
+        (λ text. BreaksAt LineFits (whole_lines text) n × IsWithin options.entry.at n)) }
     ensures fault { IfErr result (λ fault. IsOfText fault × (fault ≢ CommandFault.Write)) }
 {
     let judge = match hear_first(alloc, rules, options.at, input) {
@@ -109,13 +109,9 @@ fn answer<R: Read>(
 }
 
 // The list of the locks that a core has.
-fn list_of(
-    alloc: Global,
-    core: &Core,
-    options: LocksOptions<'_>,
-) -> Result<String, CommandFault>
+fn list_of(alloc: Global, core: &Core, options: LocksOptions<'_>) -> Result<String, CommandFault>
     ensures text { IfOk result (λ text.
-        string_bytes text ≡ rows_text options.json (of_file options.file (rows_of core.now))) }
+        string_bytes text ≡ rows_text options.entry.json (of_file options.entry.file (rows_of core.now))) }
     ensures error { IfErr result (λ fault. fault ≡ CommandFault.NoMemory) }
 {
     let mut rows = lock_rows(alloc, core)?;
@@ -141,7 +137,6 @@ fn is_called(name: &[u8], own: &Option<Name>) -> bool
 
 // The line that says where the lines begin no legal history.
 fn difference(alloc: Global, judge: &Judge) -> Result<String, CommandFault>
-    requires few { length judge.now.lines < 2 ^ 63 }
     requires none { IsBeginning judge.now.rules judge.now.lines → ⊥ }
     ensures said { IfOk result (λ text. (line : ℕ) × DiffersAt judge.now.rules judge.now.lines line
         × (string_bytes text ≡ codes "differs " ++ (decimal line ++ 10 ∷ []))) }
