@@ -31,7 +31,8 @@ returns c =
     ] in
     let owner : Blocker → ℕ = λ b. b.owner in
     let sort = c.in_ok-sort_by_key.ensures in
-    dedup_same _ of_one_owner _ (λ x y b f' x' y' k. search rules) _ _ c.dedup_by_key.ensures.filtered
+    c.new.ensures
+    ∙ dedup_same _ of_one_owner _ (λ x y b f' x' y' k. search rules) _ _ c.dedup_by_key.ensures.filtered
     ∙ firsts c.if-rules.found.items c.sort_by_key.new.self.items
     (sort.sorted owner (answers_always _ _ _ (λ f a r g h. search rules))) (sort.stable owner (answers_always _ _ _ (λ f a r g h. search rules)))
     ∙ ap first_pids all
