@@ -16,12 +16,12 @@ pub listed : (rules own : Rules) (options : LocksOptions) (left : Option (List �
     (present : Snapshot) (text : List ℕ) → own ≡ rules
     → IsSoOfAll left (λ bytes. AreFirstLines options.at bytes lines) → IsPresent own lines present
     → text ≡ rows_text options.json (of_file options.file (rows_of present)) → AreListed rules options left text
-listed rules own options left lines present text same read after listed = record {
+listed rules own options left lines present text same read after spelled = record {
   lines = lines;
   read = read;
   present = present;
   after = subst (λ r. IsPresent r lines present) same after;
-  listed = listed;
+  listed = spelled;
 }
 
 -- which line of them is the first that breaks the rules

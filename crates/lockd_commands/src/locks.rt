@@ -2,6 +2,7 @@
 
 ghost use Rattle.std.specs.Prelude.{◌≡◌, ◌≢◌, ◌++◌, ◌∷◌, [], ℕ, codes, string_bytes, IfOk, IfErr};
 ghost use Rattle.std.specs.Fmt.{decimal};
+ghost use Rattle.std.specs.List.{filter};
 ghost use Rattle.fl_desk.specs.Verdicts.{DiffersAt, IsBeginning};
 ghost use Rattle.std.specs.Io.KnownBytes.{Keeps};
 ghost use Rattle.fl_judge.specs.First.{IsSoOfAll, IsWithin};
@@ -20,9 +21,9 @@ use fl_desk::Verdict;
 use fl_judge::{Judge, hear_first};
 use fl_lock_text::{lock_json, lock_table};
 use fl_locks::{LockRow, lock_rows};
-use fl_order::Name;
+use fl_order::{Name, NoMemory};
 use lockd_faults::{CommandFault, Status, end, write_all};
-use std::alloc::Global;
+use std::alloc::{AllocError, Global};
 use std::io::{Read, Write};
 
 /// The options of `lockd locks`.
@@ -114,15 +115,40 @@ fn list_of(alloc: Global, core: &Core, options: LocksOptions<'_>) -> Result<Stri
         string_bytes text ≡ rows_text options.entry.json (of_file options.entry.file (rows_of core.now))) }
     ensures error { IfErr result (λ fault. fault ≡ CommandFault.NoMemory) }
 {
+    let rows = file_rows(alloc, core, options.file)?;
+    Ok(rows_text(alloc, &rows, options.json)?)
+}
+
+// The rows of the file of this name, or all if none is said.
+fn file_rows(alloc: Global, core: &Core, file: Option<&[u8]>) -> Result<Vec<LockRow>, NoMemory>
+    ensures { IfOk result (λ rows. rows.items ≡ of_file file.entry (rows_of core.now)) }
+{
     let mut rows = lock_rows(alloc, core)?;
-    if let Some(name) = options.file {
-        rows.retain(|row| is_called(name, &row.name));
+    match file {
+        None => Ok(rows),
+        Some(name) => {
+            keep_file(&mut rows, name);
+            Ok(rows)
+        }
     }
-    if options.json {
-        Ok(lock_json(alloc, &rows)?)
+}
+
+// Rows as a line of JSON, or as a table.
+fn rows_text(alloc: Global, rows: &[LockRow], json: bool) -> Result<String, AllocError>
+    ensures { IfOk result (λ text. string_bytes text ≡ rows_text json rows.now) }
+{
+    if json {
+        lock_json(alloc, rows)
     } else {
-        Ok(lock_table(alloc, &rows)?)
+        lock_table(alloc, rows)
     }
+}
+
+// Leaves the rows of the file of this name.
+fn keep_file(rows: &mut Vec<LockRow>, name: &[u8])
+    ensures { rows.new.items ≡ filter (λ row. is_called name.now row.name) rows.old.items }
+{
+    rows.retain(|row| is_called(name, &row.name));
 }
 
 // Whether a file that may have a name has this one.
