@@ -4,7 +4,7 @@ use super::came::{Wanted, is_wanted};
 use super::handling::handled;
 use super::orders::asked;
 use super::pool::worked;
-use super::tally::{Tally, WILLING};
+use super::tally::{Refuses, Tally, WILLING};
 use super::watch::Watch;
 use fl_testing::{Reply, bytes_after};
 use std::alloc::Global;
@@ -44,7 +44,7 @@ const HANDED_IN: Wanted<'static> = Wanted {
 
 // A counter that shows nothing.
 const DARK: Tally = Tally {
-    refuses: false,
+    refuses: Refuses::Nothing,
     shows: false,
 };
 

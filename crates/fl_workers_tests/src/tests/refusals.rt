@@ -1,10 +1,11 @@
 //! Orders that are refused.
 
-use super::came::{Wanted, is_wanted};
+use super::came::{Came, Wanted, is_wanted};
 use super::handling::handled;
-use super::orders::asked;
+use super::orders::{FIRST, asked, lookups};
 use super::pool::worked;
-use super::tally::{Tally, WILLING};
+use super::rows::were_together;
+use super::tally::{Refuses, Tally, WILLING};
 use super::watch::Watch;
 use std::alloc::Global;
 use std::process::Abort;
@@ -62,7 +63,7 @@ const TAKEN: Wanted<'static> = Wanted {
 };
 
 const REFUSING: Tally = Tally {
-    refuses: true,
+    refuses: Refuses::EachThird,
     shows: true,
 };
 
@@ -97,4 +98,53 @@ fn a_refused_order_is_told_so(rt: HostRuntime) {
 fn no_refusal_is_told_where_none_was(rt: HostRuntime) {
     hand_in_alone(&rt, rt.alloc(), WILLING, &TAKEN);
     hand_in_by_a_worker(&rt, rt.alloc(), WILLING, &TAKEN);
+}
+
+// As many orders as are handed in together.
+const ROW: u64 = 16;
+
+// Each order of a row finds nothing, but for the one of this number, which is refused: ENOMEM. Those behind it are
+// handed in together.
+fn is_refused_alone(rt: &impl Abort, alloc: Global, came: &Came, out: &[u8], number: u64) {
+    let mut handed = Vec::new(alloc);
+    let mut replies = Vec::new(alloc);
+    for at in 0..ROW {
+        let unique = FIRST + at;
+        let mut error = 12u32;
+        if at + 1 != number {
+            error = 2;
+            handed.push(unique).expect(rt, "memory");
+        }
+        replies.push((unique, error)).expect(rt, "memory");
+    }
+    let wanted = Wanted {
+        handed: &handed,
+        looked: &[],
+        refused: true,
+        replies: &replies,
+    };
+    is_wanted(rt, alloc, came, out, &wanted);
+}
+
+fn refuse_one<R: Wait + Abort>(rt: &R, alloc: Global, number: u64) {
+    let tally = Tally {
+        refuses: Refuses::One(number),
+        shows: true,
+    };
+    let orders = lookups(rt, alloc, ROW);
+    let gate = Watch::holding(None);
+    let mut out = Vec::new(alloc);
+    let came = handled(rt, alloc, tally, &gate, &orders, &mut out);
+    is_refused_alone(rt, alloc, &came, &out, number);
+    let behind = ROW.saturating_sub(number);
+    let rows = [ROW, behind];
+    let times = if behind > 0 { 2 } else { 1 };
+    were_together(rt, &came, &rows[..times]);
+}
+
+#[test]
+fn each_order_of_a_row_is_refused_alone(rt: HostRuntime) {
+    for number in 1..=ROW {
+        refuse_one(&rt, rt.alloc(), number);
+    }
 }

@@ -3,7 +3,7 @@
 use super::came::{Came, are_uniques, have_failed};
 use super::handling::handled;
 use super::orders::{asked, lookups};
-use super::tally::{Tally, WILLING};
+use super::tally::{Refuses, Tally, WILLING};
 use super::watch::Watch;
 use fl_testing::bytes_after;
 use std::alloc::Global;
@@ -23,7 +23,7 @@ ask 0 8 2 0 0 0 getattr
 
 // A counter that shows nothing.
 const DARK: Tally = Tally {
-    refuses: false,
+    refuses: Refuses::Nothing,
     shows: false,
 };
 
@@ -33,10 +33,15 @@ fn come_of_trace<R: Wait + Abort>(rt: &R, alloc: Global, tally: Tally, gate: &Wa
     handled(rt, alloc, tally, gate, &orders, &mut out)
 }
 
-/// So many orders were handed in together each time, and nothing went wrong.
+/// So many orders were handed in together each time, with those that weren't taken then.
+pub(super) fn were_together(rt: &impl Abort, came: &Came, rows: &[u64]) {
+    are_uniques(rt, &came.rows, rows);
+}
+
+/// The same, and nothing went wrong.
 pub(super) fn are_rows(rt: &impl Abort, came: &Came, rows: &[u64]) {
     have_failed(rt, came.failures, false);
-    are_uniques(rt, &came.rows, rows);
+    were_together(rt, came, rows);
 }
 
 #[test]

@@ -18,18 +18,39 @@ const MOST_TOLDS: usize = 257;
 // The most lines of an order: its own, and one for each reply.
 const MOST_LINES: usize = 258;
 
+/// Which of the orders that are handed in at a seat are refused.
+#[derive(Clone, Copy)]
+pub(super) enum Refuses {
+    Nothing,
+    /// The third, the sixth and so on.
+    EachThird,
+    /// The one of this number, from 1.
+    One(u64),
+}
+
+impl Refuses {
+    // It refuses the order of this number.
+    fn holds(self, number: u64) -> bool {
+        match self {
+            Refuses::Nothing => false,
+            Refuses::EachThird => number % 3 == 0,
+            Refuses::One(one) => number == one,
+        }
+    }
+}
+
 /// A counter in memory. Each of its seats answers its orders as if there were no other seat.
 #[derive(Clone, Copy)]
 pub(super) struct Tally {
-    /// Each third order that is handed in at a seat is refused.
-    pub refuses: bool,
+    /// Orders that are handed in and refused.
+    pub refuses: Refuses,
     /// A look is shown something.
     pub shows: bool,
 }
 
 /// A counter that refuses nothing and shows all.
 pub(super) const WILLING: Tally = Tally {
-    refuses: false,
+    refuses: Refuses::Nothing,
     shows: true,
 };
 
@@ -69,9 +90,14 @@ impl Seat {
         }
     }
 
-    // Takes an order, or refuses it if it is a third and these are to be refused.
+    // Takes an order, or refuses it if it is one that is to be refused.
     #[tactic(auto, using(crate::proofs::SeatLemmas::answered_last))]
-    fn hand_in(&mut self, refuses: bool, order: &Order, tolds: &mut Tolds) -> Result<(), HandFault>
+    fn hand_in(
+        &mut self,
+        refuses: Refuses,
+        order: &Order,
+        tolds: &mut Tolds,
+    ) -> Result<(), HandFault>
         requires { 257 ≤ tolds.old.room }
         ensures room { tolds.new.room ≡ tolds.old.room }
         ensures same { (self.new.worker ≡ self.old.worker) × (self.new.shown ≡ self.old.shown) }
@@ -84,7 +110,7 @@ impl Seat {
             × (self.new.lines.items ≡ self.old.lines.items)) }
     {
         self.tries = self.tries.wrapping_add(1);
-        if refuses && self.tries % 3 == 0 {
+        if refuses.holds(self.tries) {
             return Err(HandFault::NoMemory);
         }
         if self.lines.reserve(MOST_LINES).is_err() {

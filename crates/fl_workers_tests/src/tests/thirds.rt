@@ -3,7 +3,7 @@
 use super::came::{Came, are_replies, have_failed};
 use super::orders::{FIRST, lookups, replies};
 use super::pool::worked;
-use super::tally::Tally;
+use super::tally::{Refuses, Tally};
 use super::watch::Watch;
 use fl_testing::Reply;
 use std::alloc::Global;
@@ -50,7 +50,7 @@ fn are_told_so(rt: &impl Abort, alloc: Global, came: Came, out: &[u8], workers: 
 
 fn refuse_thirds<R: Threads + Wait + Clock + Abort + Sync>(rt: &R, alloc: Global, workers: u32) {
     let tally = Tally {
-        refuses: true,
+        refuses: Refuses::EachThird,
         shows: true,
     };
     let orders = lookups(rt, alloc, ORDERS);
