@@ -9,7 +9,7 @@
 # twice as many orders. OPEN stands with RELEASE, SETLK with FLUSH, and CREATE with what ends a file, since a run leaves as many files as there were.
 set -eu
 cd "$(dirname "$0")/.."
-program=${DIRECTORY_BENCH:-$(tools/build_bench directory_bench)}
+program=$(tools/build_bench directory_bench)
 python3 - "$program" "${1:-}" <<'END'
 import re, subprocess, sys
 

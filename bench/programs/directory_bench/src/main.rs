@@ -179,8 +179,7 @@ fn ask(core: &mut Core, tolds: &mut Tolds, kind: Kind, file: &mut File) -> bool
 // So many files.
 fn made(alloc: Global, core: &mut Core, tolds: &mut Tolds, count: u64) -> anyhow::Result<Vec<File>>
     requires { HasRoom core.old.rules tolds.old }
-    ensures rules { core.new.rules ≡ core.old.rules }
-    ensures room { tolds.new.room ≡ tolds.old.room }
+    ensures { HasRoom core.new.rules tolds.new }
 {
     let mut files = Vec::new(alloc);
     for number in 0..count {
@@ -216,8 +215,7 @@ fn ask_each<R: Clock>(
     spent: &mut Spent,
 ) -> anyhow::Result<()>
     requires { HasRoom core.old.rules tolds.old }
-    ensures rules { core.new.rules ≡ core.old.rules }
-    ensures room { tolds.new.room ≡ tolds.old.room }
+    ensures { HasRoom core.new.rules tolds.new }
 {
     let count = files.len() as u64;
     let begun = Instant::now(rt)?;
@@ -270,8 +268,7 @@ fn ask_round<R: Clock>(
     all: &mut Vec<Spent>,
 ) -> anyhow::Result<()>
     requires { HasRoom core.old.rules tolds.old }
-    ensures rules { core.new.rules ≡ core.old.rules }
-    ensures room { tolds.new.room ≡ tolds.old.room }
+    ensures { HasRoom core.new.rules tolds.new }
 {
     for spent in all.iter_mut() {
         ask_each(rt, core, tolds, files, first, spent)?;

@@ -30,15 +30,23 @@ pub(super) fn name(rt: &impl Abort, bytes: &[u8]) -> Name {
 
 // The name of two letters that stands for a number below 256.
 pub(super) fn numbered(rt: &impl Abort, number: u64) -> Name {
-    let high = (number / 16 % 16) as u8;
-    let low = (number % 16) as u8;
-    name(rt, &[b'a'.wrapping_add(high), b'a'.wrapping_add(low)])
+    name(rt, &[letter(number / 16), letter(number)])
 }
 
 // The name of four letters that stands for a number below 65,536.
 pub(super) fn lettered(rt: &impl Abort, number: u64) -> Name {
-    let letter = |place: u32| b'a'.wrapping_add((number >> place) as u8 % 16);
-    name(rt, &[letter(12), letter(8), letter(4), letter(0)])
+    let letters = [
+        letter(number / 4096),
+        letter(number / 256),
+        letter(number / 16),
+        letter(number),
+    ];
+    name(rt, &letters)
+}
+
+// The letter of a number's last hex digit.
+fn letter(number: u64) -> u8 {
+    b'a'.wrapping_add((number % 16) as u8)
 }
 
 // An order that makes the file of a name, if there is none, and opens it.
