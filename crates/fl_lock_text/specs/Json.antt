@@ -48,7 +48,8 @@ blocker_json b = object (member (codes "owner") (decimal b.owner) ∷ member (co
 -- which lock it is, and whether it waits
 unfoldable pub lock_members : LockRow → List ℕ
 lock_members row =
-    commas (member (codes "type") (quoted (class_word row.key.class)) ∷ member (codes "mode") (quoted (kind_word row.mark.kind)) ∷
+    commas (member (codes "type") (quoted (class_word row.key.class)) ∷
+    member (codes "mode") (quoted (kind_word row.mark.kind)) ∷
     member (codes "waits") (bool_json (is_some row.unique)) ∷ [])
 
 -- which bytes it is on, and whose it is
@@ -65,7 +66,8 @@ waiting_members row =
 
 -- on which file: its node and its name
 unfoldable pub file_members : LockRow → List ℕ
-file_members row = commas (member (codes "node") (decimal row.key.node) ∷ member (codes "name") (name_json row.name) ∷ [])
+file_members row =
+    commas (member (codes "node") (decimal row.key.node) ∷ member (codes "name") (name_json row.name) ∷ [])
 
 -- a lock that is held, or a request that waits
 abbrev pub row_json : LockRow → List ℕ

@@ -2,8 +2,8 @@
 
 ghost use Rattle.std.specs.Prelude.{◌≡◌, ◌++◌, IfOk, OnOk, map, string_bytes};
 ghost use Rattle.std.specs.List.{join_with_byte};
-ghost use Rattle.fl_lock_text.specs.Json.{lock_members, range_members, waiting_members, file_members, row_json, json_text};
-ghost use Rattle.fl_lock_text.specs.Json.{unique_json, name_json, blocker_json};
+ghost use Rattle.fl_lock_text.specs.Json.{lock_members, range_members, waiting_members, file_members};
+ghost use Rattle.fl_lock_text.specs.Json.{unique_json, name_json, blocker_json, row_json, json_text};
 
 use crate::name::push_hex;
 use crate::words::{class_word, kind_word};
@@ -12,8 +12,8 @@ use fl_order::Name;
 use std::alloc::{AllocError, Global};
 use std::fmt::Write;
 
-/// The locks as one line of JSON, an array with an object for each row, which is ended by a newline. A name is a string of
-/// the hex digits of its bytes, since it need not be text.
+/// The locks as one line of JSON, an array with an object for each row, which is ended by a newline. A name is a string
+/// of the hex digits of its bytes, since it need not be text. It fails only if memory runs out.
 pub fn lock_json(alloc: Global, rows: &[LockRow]) -> Result<String, AllocError>
     ensures { IfOk result (λ text. string_bytes text ≡ json_text rows.now) }
 {
@@ -114,7 +114,8 @@ fn push_unique(text: &mut String, unique: Option<u64>) -> Result<(), AllocError>
 
 // Those in the way, with a comma between each two.
 fn push_blockers(text: &mut String, blockers: &[Blocker]) -> Result<(), AllocError>
-    ensures { OnOk result (string_bytes text.new ≡ string_bytes text.old ++ join_with_byte 44 (map blocker_json blockers.now)) }
+    ensures { OnOk result (string_bytes text.new
+        ≡ string_bytes text.old ++ join_with_byte 44 (map blocker_json blockers.now)) }
 {
     let Some((first, others)) = blockers.split_first() else {
         return Ok(());

@@ -15,9 +15,9 @@ pub(crate) struct SizedColumn {
     width: usize,
 }
 
-/// A table of locks in the form of lslocks(8): a line of headings, then a line for each row, each ended by a newline. The
-/// columns are TYPE, MODE, START, END, PID, OWNER, UNIQUE, BLOCKER and FILE, with one space between them, and each but the
-/// last is as wide as its heading and its widest cell.
+/// A table of locks in the form of lslocks(8): a line of headings, then a line for each row, each ended by a newline.
+/// The columns are TYPE, MODE, START, END, PID, OWNER, UNIQUE, BLOCKER and FILE, with one space between them. Each but
+/// the last is as wide as its heading and its widest cell. It fails only if memory runs out.
 pub fn lock_table(alloc: Global, rows: &[LockRow]) -> Result<String, AllocError>
     ensures { IfOk result (λ text. string_bytes text ≡ table_text rows.now) }
 {

@@ -18,8 +18,8 @@ FLOCK WRITE*       0                 EOF  43    12     90 42      - (deleted)
 const JSON: &str = "[\
 {\"type\":\"POSIX\",\"mode\":\"WRITE\",\"waits\":false,\"start\":0,\"end\":9223372036854775807,\"pid\":100,\"owner\":7,\
 \"unique\":null,\"blockers\":[],\"node\":2,\"name\":\"612062ff\"},\
-{\"type\":\"POSIX\",\"mode\":\"READ\",\"waits\":true,\"start\":1000000,\"end\":9223372036854775806,\"pid\":200,\"owner\":8,\
-\"unique\":5,\"blockers\":[{\"owner\":7,\"pid\":100},{\"owner\":9,\"pid\":300}],\"node\":2,\"name\":\"5c\"},\
+{\"type\":\"POSIX\",\"mode\":\"READ\",\"waits\":true,\"start\":1000000,\"end\":9223372036854775806,\"pid\":200,\
+\"owner\":8,\"unique\":5,\"blockers\":[{\"owner\":7,\"pid\":100},{\"owner\":9,\"pid\":300}],\"node\":2,\"name\":\"5c\"},\
 {\"type\":\"FLOCK\",\"mode\":\"READ\",\"waits\":false,\"start\":0,\"end\":9223372036854775807,\"pid\":42,\"owner\":11,\
 \"unique\":null,\"blockers\":[],\"node\":2,\"name\":null},\
 {\"type\":\"FLOCK\",\"mode\":\"WRITE\",\"waits\":true,\"start\":0,\"end\":9223372036854775807,\"pid\":43,\"owner\":12,\
