@@ -7,15 +7,17 @@ use Rattle.fl_desk.specs.Replay.{state_after}
 use Rattle.fl_desk.specs.Legal.{IsLegal}
 use Rattle.fl_waiting.specs.declared.rules.Rules.{Rules}
 
--- the history so far, what is there now, and for how many more lines memory is there
+-- the history so far, those of its lines that its journal stored, what is there now, and for how many more lines memory is
+-- there
 pub record Book : Type 0 where
   pub lines : List Line
+  pub stored : List Line
   pub present : Snapshot
   pub room : ℕ
 
 -- nothing is recorded under these rules, and no memory is there for it
 abbrev pub opening_book : Rules → Book
-opening_book rules = record { lines = []; present = snapshot_of (opening rules); room = 0 }
+opening_book rules = record { lines = []; stored = []; present = snapshot_of (opening rules); room = 0 }
 
 -- Under the rules of what is there now, the history is legal; what is there now is what the history alone gives, and no
 -- two owners have conflicting locks.

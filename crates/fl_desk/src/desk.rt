@@ -1,6 +1,7 @@
 //! The desk: takes orders one after another, and keeps their history.
 
-ghost use Rattle.std.specs.Prelude.{◌≡◌, ◌≤◌, ◌+◌, ◌++◌, [], length, IfOk, IsOk, OnOk, OnErr};
+ghost use Rattle.std.specs.Prelude.{◌≡◌, ◌≤◌, ◌+◌, ◌++◌, [], length, IfOk, IsOk, OnOk, OnErr, IsTrue};
+ghost use mathlib.Core.List.{IsPrefix};
 ghost use Rattle.fl_desk.specs.Replay.{state_after};
 ghost use Rattle.fl_core.specs.State.{opening, snapshot_of};
 ghost use Rattle.fl_core.specs.Step.{next, replies_in};
@@ -15,8 +16,8 @@ use std::alloc::Global;
 use std::marker::Model;
 
 /// A desk that takes orders one after another, and keeps their history where its journal puts the lines: in memory,
-/// if nothing else is said. Contracts see it as a `Book`: its lines, what is there now, and for how many more lines
-/// there is room.
+/// if nothing else is said. Contracts see it as a `Book`: its lines, those that its journal stored, what is there
+/// now, and for how many more lines there is room.
 #[derive(Drop)]
 pub struct Desk<J: Journal = Lines> {
     kept: J,
@@ -31,7 +32,12 @@ impl<J: Journal> Model for Desk<J> {
 
     ghost coded = { book_code };
 
-    ghost view = { λ d. record { lines = J.lines d.kept; present = d.present; room = J.room d.kept } };
+    ghost view = { λ d. record {
+      lines = J.lines d.kept;
+      stored = J.stored d.kept;
+      present = d.present;
+      room = J.room d.kept;
+    } };
 
     ghost invariant = { λ d. IsKept (J.lines d.kept) d.present };
 }
@@ -45,10 +51,22 @@ impl<J: Journal> Desk<J> {
         requires none { J.lines kept ≡ [] }
         ensures lines { IfOk result (λ desk. desk.lines ≡ []) }
         ensures present { IfOk result (λ desk. desk.present ≡ snapshot_of (opening rules)) }
+        ensures stored { IfOk result (λ desk. desk.stored ≡ J.stored kept) }
         ensures room { IfOk result (λ desk. desk.room ≡ J.room kept) }
     {
         let present = Core::new(alloc, rules)?;
         Ok(Desk { kept, present })
+    }
+
+    /// A desk that goes on behind the lines of a journal, from what is there after them.
+    pub fn resume(kept: J, present: Core) -> Desk<J>
+        requires kept { IsKept (J.lines kept) present }
+        ensures lines { result.lines ≡ J.lines kept }
+        ensures stored { result.stored ≡ J.stored kept }
+        ensures present { result.present ≡ present }
+        ensures room { result.room ≡ J.room kept }
+    {
+        Desk { kept, present }
     }
 
     /// Makes room for the lines of one order by its rules, its own and one for each reply: 258 by the standard rules.
@@ -56,6 +74,7 @@ impl<J: Journal> Desk<J> {
     /// room.
     pub fn ready(&mut self) -> Result<(), NoMemory>
         ensures same { (self.new.lines ≡ self.old.lines) × (self.new.present ≡ self.old.present) }
+        ensures stored { IsPrefix self.old.stored self.new.stored }
         ensures room { OnOk result (self.old.present.rules.parked + 2 ≤ self.new.room) }
         ensures succeeds { self.old.present.rules.parked + 2 ≤ self.old.room → IsOk result }
     {
@@ -86,6 +105,7 @@ impl<J: Journal> Desk<J> {
         ensures refused { OnErr result
             ((self.new.lines ≡ self.old.lines) × (self.new.present ≡ self.old.present) × (tolds.new ≡ tolds.old)) }
         ensures succeeds { self.old.present.rules.parked + 2 ≤ self.old.room → IsOk result }
+        ensures stored { IsPrefix self.old.stored self.new.stored }
         ensures kept { IsKept self.new.lines self.new.present }
     {
         let Desk { kept, present } = self;
@@ -95,18 +115,21 @@ impl<J: Journal> Desk<J> {
         Ok(())
     }
 
-    /// Flushes its journal: no order is at hand. Neither lines nor what is there change.
-    pub fn pause(&mut self)
+    /// Stores all lines, and says whether it did. Neither lines nor what is there change.
+    pub fn flush(&mut self) -> bool
         ensures lines { self.new.lines ≡ self.old.lines }
         ensures present { self.new.present ≡ self.old.present }
+        ensures stored { IsPrefix self.old.stored self.new.stored }
+        ensures all { IsTrue result → self.new.stored ≡ self.new.lines }
     {
-        self.kept.pause();
+        self.kept.flush()
     }
 
     /// Its journal, with the lines of all that it took. They are legal under its rules, and no two owners have
     /// conflicting locks after them.
     pub fn into_kept(self) -> J
         ensures lines { J.lines result ≡ self.lines }
+        ensures stored { J.stored result ≡ self.stored }
         ensures legal { IsLegal self.present.rules (J.lines result) }
         ensures lawful { LeavesLawful self.present.rules (J.lines result) }
     {
@@ -136,9 +159,11 @@ impl Desk {
 }
 
 // Adds an order and its replies to the lines.
+#[tactic(auto, using(crate::proofs::Prefixes::of_itself, crate::proofs::Prefixes::of_another))]
 fn append<J: Journal>(kept: &mut J, worker: u32, order: &Order, tolds: &[Told])
     requires { 1 + length tolds.now ≤ J.room kept.old }
-    ensures { J.lines kept.new ≡ J.lines kept.old ++ step_lines worker order.now tolds.now }
+    ensures lines { J.lines kept.new ≡ J.lines kept.old ++ step_lines worker order.now tolds.now }
+    ensures stored { IsPrefix (J.stored kept.old) (J.stored kept.new) }
 {
     kept.push_asked(worker, order);
     for told in tolds {

@@ -1,3 +1,4 @@
 mod PastWalks
 pub mod Opening
 pub mod Packing
+pub mod Prefixes

@@ -1,6 +1,7 @@
 //! What keeps the lines of a desk, in memory or elsewhere.
 
-ghost use Rattle.std.specs.Prelude.{◌≡◌, ℕ, ◌+◌, ◌≤◌, ◌<◌, ◌++◌, ◌∷◌, [], List, OnOk, IsOk};
+ghost use Rattle.std.specs.Prelude.{◌≡◌, ℕ, ◌+◌, ◌≤◌, ◌<◌, ◌++◌, ◌∷◌, [], List, OnOk, IsOk, IsTrue};
+ghost use mathlib.Core.List.{IsPrefix};
 ghost use Rattle.fl_history.specs.declared.history.Line.{Line as Entry};
 ghost use Rattle.fl_history.specs.declared.history.Line.TheVariants as line;
 
@@ -12,6 +13,10 @@ pub trait Journal {
     /// All lines so far, wherever they are.
     ghost lines: { Self → List Entry };
 
+    /// Those at their front that are stored: what the journal is there for has them. If it stores none for anybody, these
+    /// are all lines.
+    ghost stored: { Self → List Entry };
+
     /// For how many more lines there is room.
     ghost room: { Self → ℕ };
 
@@ -20,6 +25,7 @@ pub trait Journal {
     fn reserve(&mut self, count: usize) -> Result<(), NoMemory>
         requires few { count ≤ 2048 }
         ensures lines { lines self.new ≡ lines self.old }
+        ensures stored { IsPrefix (stored self.old) (stored self.new) }
         ensures room { OnOk result (count ≤ room self.new) }
         ensures succeeds { count ≤ room self.old → IsOk result };
 
@@ -27,36 +33,48 @@ pub trait Journal {
     fn push_asked(&mut self, worker: u32, order: &Order)
         requires room { 0 < room self.old }
         ensures lines { lines self.new ≡ lines self.old ++ line.Asked worker order.now ∷ [] }
+        ensures stored { IsPrefix (stored self.old) (stored self.new) }
         ensures room { room self.old ≤ room self.new + 1 };
 
     /// A reply more.
     fn push_told(&mut self, told: &Told)
         requires room { 0 < room self.old }
         ensures lines { lines self.new ≡ lines self.old ++ line.Told told.now ∷ [] }
+        ensures stored { IsPrefix (stored self.old) (stored self.new) }
         ensures room { room self.old ≤ room self.new + 1 };
 
-    /// Flushes what it holds back: no order is at hand. No line changes.
-    fn pause(&mut self)
-        ensures lines { lines self.new ≡ lines self.old };
+    /// Stores all lines, and says whether it did. No line changes.
+    fn flush(&mut self) -> bool
+        ensures lines { lines self.new ≡ lines self.old }
+        ensures stored { IsPrefix (stored self.old) (stored self.new) }
+        ensures all { IsTrue result → stored self.new ≡ lines self.new };
 }
 
 /// Lines that stay in memory.
 impl Journal for Lines {
     ghost lines = { λ l. l.items };
 
+    ghost stored = { λ l. l.items };
+
     ghost room = { λ l. l.room };
 
+    #[tactic(auto, using(crate::proofs::Prefixes::of_itself))]
     fn reserve(&mut self, count: usize) -> Result<(), NoMemory> {
         Ok(Lines::reserve(self, count)?)
     }
 
+    #[tactic(auto, using(crate::proofs::Prefixes::of_one_more))]
     fn push_asked(&mut self, worker: u32, order: &Order) {
         Lines::push_asked(self, worker, order);
     }
 
+    #[tactic(auto, using(crate::proofs::Prefixes::of_one_more))]
     fn push_told(&mut self, told: &Told) {
         Lines::push_told(self, told);
     }
 
-    fn pause(&mut self) {}
+    #[tactic(auto, using(crate::proofs::Prefixes::of_itself))]
+    fn flush(&mut self) -> bool {
+        true
+    }
 }

@@ -36,12 +36,16 @@ impl NoJournal {
 impl Journal for NoJournal {
     ghost lines = { λ lines. lines };
 
+    ghost stored = { λ lines. lines };
+
     ghost room = { λ _. 2048 };
 
+    #[tactic(auto, using(crate::proofs::Prefixes::of_itself))]
     fn reserve(&mut self, _count: usize) -> Result<(), NoMemory> {
         Ok(())
     }
 
+    #[tactic(auto, using(crate::proofs::Prefixes::of_one_more))]
     fn push_asked(&mut self, worker: u32, order: &Order) {
         let line = Line::Asked {
             worker,
@@ -50,9 +54,13 @@ impl Journal for NoJournal {
         self.past = self.past.and(&line);
     }
 
+    #[tactic(auto, using(crate::proofs::Prefixes::of_one_more))]
     fn push_told(&mut self, told: &Told) {
         self.past = self.past.and(&Line::Told(*told));
     }
 
-    fn pause(&mut self) {}
+    #[tactic(auto, using(crate::proofs::Prefixes::of_itself))]
+    fn flush(&mut self) -> bool {
+        true
+    }
 }

@@ -36,4 +36,12 @@ impl<T> Past<T> {
     {
         Past { of: PhantomData }
     }
+
+    /// The same past.
+    #[inline(always)]
+    pub fn same(&self) -> Past<T>
+        ensures { result.items ≡ self.now.items }
+    {
+        Past { of: PhantomData }
+    }
 }

@@ -5,10 +5,10 @@ pub invariant_of-self-2 : goal.invariant_of-self-2
 invariant_of-self-2 g c =
     let step = c.step.ensures in
     taken_kept (g.J.Journal.lines c.self.inside.kept) _ _ _ _ c.args.worker c.args.order.now c.step.new.tolds.told _ c.self.invariant c.reserve.ensures.lines
-    step.replies step.recorded step.lawful c.as_slice.ensures c.append.ensures
+    step.replies step.recorded step.lawful c.as_slice.ensures c.append.ensures.lines
 
 pub returns-clause-kept : goal.returns-clause-kept
 returns-clause-kept g c =
     let step = c.step.ensures in
     taken_kept (g.J.Journal.lines c.self.inside.kept) _ _ _ _ c.args.worker c.args.order.now c.step.new.tolds.told _ c.self.invariant c.reserve.ensures.lines
-    step.replies step.recorded step.lawful c.as_slice.ensures c.append.ensures
+    step.replies step.recorded step.lawful c.as_slice.ensures c.append.ensures.lines

@@ -1,0 +1,11 @@
+-- Lists that begin with others.
+use Rattle.std.proofs.Common.{◌≡◌, List, [], ◌∷◌, ◌++◌, ap, sym, ◌∙◌, append_assoc}
+use Rattle.std.proofs.lemmas.List.{append-nil}
+use mathlib.Core.List.{IsPrefix}
+
+module _ {X : Type 0} where
+  pub of_itself : (xs ys : List X) → ys ≡ xs → IsPrefix xs ys
+  of_itself xs ys same = ([], append-nil xs ∙ sym same)
+
+  pub of_one_more : (xs ys : List X) (x : X) → ys ≡ xs ++ x ∷ [] → IsPrefix xs ys
+  of_one_more xs ys x more = (x ∷ [], sym more)
