@@ -173,7 +173,7 @@ impl<L: BoardName, R: Wait + Drop, J: Journal> Record<L, R, J> {
     pub(crate) fn pause(&mut self)
         ensures { self.new ≡ self.old }
     {
-        self.desk.pause();
+        let _ = self.desk.flush();
     }
 
     /// The desk's journal, for the whole of the ledger.

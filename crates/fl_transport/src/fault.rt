@@ -28,6 +28,10 @@ pub enum Fault {
     /// was shown. Only a session with workers ends so.
     #[error("no reader")]
     NoReader,
+    /// Lines of orders couldn't be stored, so that their replies may not leave. Only a session whose journal writes ahead ends
+    /// so.
+    #[error("trace failed")]
+    Unstored,
 }
 
 impl Fault {

@@ -69,6 +69,15 @@ impl<W: Write> Outbox<&mut W> {
         let broken = self.broken;
         self.broken = send_on(self.writer, broken, reply);
     }
+
+    /// Nothing more is written.
+    pub fn give_up(&mut self)
+        ensures same { (writer_of self.new).ghost_name ≡ (writer_of self.old).ghost_name }
+        ensures held { W.contents (writer_of self.new).now ≡ W.contents (writer_of self.old).now }
+        ensures broken { is_broken self.new ≡ true }
+    {
+        self.broken = true;
+    }
 }
 
 // Writes the whole reply, if it isn't broken before, and tells whether it is broken then.

@@ -1,6 +1,6 @@
 //! Replies that are collected, and go out together.
 
-ghost use Rattle.std.specs.Prelude.{◌≡◌, [], ◌∷◌, map};
+ghost use Rattle.std.specs.Prelude.{◌≡◌, [], ◌∷◌, map, true};
 ghost use Rattle.fl_wire.specs.Init.{init_spelling};
 ghost use Rattle.fl_wire.specs.Spell.{spelling_of};
 ghost use Rattle.fl_transport.specs.Collecting.{Collects, outgoing};
@@ -76,6 +76,19 @@ impl<W: Write> ReplyBatch<'_, W> {
     {
         if !self.replies.is_empty() {
             self.out.post(self.replies.as_slice());
+            self.replies.clear();
+        }
+    }
+
+    /// Loses what is collected, and all that is collected later: nothing more is written.
+    pub fn lose(&mut self)
+        ensures same { (writer_of self.new.out).ghost_name ≡ (writer_of self.old.out).ghost_name }
+        ensures held { W.contents (writer_of self.new.out).now ≡ W.contents (writer_of self.old.out).now }
+        ensures none { self.new.replies ≡ [] }
+        ensures lost { Collects (outgoing W.contents self.old) (outgoing W.contents self.new) [] }
+    {
+        if !self.replies.is_empty() {
+            self.out.give_up();
             self.replies.clear();
         }
     }

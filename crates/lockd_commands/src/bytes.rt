@@ -114,9 +114,12 @@ fn fault_printed(
 {
     match fault {
         Some(fl_session::Fault::Read) => Err(CommandFault::Read),
-        // One worker at a desk needs no reader, so that fault doesn't come.
+        // One worker at a desk needs no reader, and memory stores each line, so the last two don't come.
         Some(
-            fl_session::Fault::Write | fl_session::Fault::NoMemory | fl_session::Fault::NoReader,
+            fl_session::Fault::Write
+            | fl_session::Fault::NoMemory
+            | fl_session::Fault::NoReader
+            | fl_session::Fault::Unstored,
         ) => Err(CommandFault::NoMemory),
         _ if broken => Err(CommandFault::NoMemory),
         fault => Ok(fault),

@@ -12,3 +12,4 @@ fault_of session.Read = command.Read
 fault_of session.Write = command.Write
 fault_of session.NoMemory = command.NoMemory
 fault_of session.NoReader = command.NoReader
+fault_of session.Unstored = command.TraceFailed

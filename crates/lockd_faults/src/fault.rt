@@ -109,6 +109,7 @@ impl From<fl_transport::Fault> for CommandFault {
             fl_transport::Fault::Write => CommandFault::Write,
             fl_transport::Fault::NoMemory => CommandFault::NoMemory,
             fl_transport::Fault::NoReader => CommandFault::NoReader,
+            fl_transport::Fault::Unstored => CommandFault::TraceFailed,
         }
     }
 }

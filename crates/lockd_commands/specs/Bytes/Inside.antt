@@ -56,3 +56,4 @@ IsOfStream session.Read = ⊥
 IsOfStream session.Write = ⊥
 IsOfStream session.NoMemory = ⊥
 IsOfStream session.NoReader = ⊥
+IsOfStream session.Unstored = ⊥
