@@ -114,11 +114,8 @@ Collects-sent before after bytes same none sent = record {
       (subst (IsSentBy before.held after.held before.broken after.broken) same sent) given));
 }
 
--- what waited goes out, and then a reply is collected
-pub Collects-next : (before between : Outgoing) (waiting now reply : List ℕ) → before.waiting ≡ waiting
-    → between.waiting ≡ [] → Collects before between [] → now ≡ reply → IsReply reply
-    → Collects (record before { waiting = waiting }) (record between { waiting = now }) (reply ∷ [])
-Collects-next before between waiting now reply kept none sent same is =
-    Collects-trans (record before { waiting = waiting }) between (record between { waiting = now }) [] (reply ∷ [])
-    (subst (λ front. Collects (record before { waiting = front }) between []) kept sent)
-    (Collects-one between now reply (same ∙ ap (λ front. front ++ reply) (sym none)) is)
+-- a reply is collected before all others
+pub Collects-first : (out : Outgoing) (now reply : List ℕ) → out.waiting ≡ [] → now ≡ reply → IsReply reply
+    → Collects out (record out { waiting = now }) (reply ∷ [])
+Collects-first out now reply none same is =
+    Collects-one out now reply (same ∙ ap (λ front. front ++ reply) (sym none)) is

@@ -1,7 +1,6 @@
 -- Replies that are collected, and go out together.
 use Rattle.std.specs.Prelude.{◌≡◌, ℕ, Bool, true, false, List, ◌++◌, ◌<◌, length, All, Option}
 use Rattle.std.specs.List.{concat}
-use Rattle.std.specs.Borrow.{MutBor}
 use Rattle.std.specs.Io.KnownBytes.{Appends}
 use Rattle.fl_transport.specs.Outbox.{is_broken, writer_of}
 use Rattle.fl_transport.specs.declared.reply_batch.ReplyBatch.{ReplyBatch}

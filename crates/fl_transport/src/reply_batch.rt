@@ -1,6 +1,6 @@
 //! Replies that are collected, and go out together.
 
-ghost use Rattle.std.specs.Prelude.{◌≡◌, [], ◌∷◌, map, true};
+ghost use Rattle.std.specs.Prelude.{◌≡◌, [], ◌∷◌, map, true, false};
 ghost use Rattle.fl_wire.specs.Init.{init_spelling};
 ghost use Rattle.fl_wire.specs.Spell.{spelling_of};
 ghost use Rattle.fl_transport.specs.Collecting.{Collects, outgoing};
@@ -44,7 +44,7 @@ impl<W: Write> ReplyBatch<'_, W> {
             (init_spelling unique step.now ∷ []) }
     {
         self.flush();
-        self.replies.lay_out_init(unique, step);
+        self.begin_init(unique, step);
     }
 
     fn collect_one(&mut self, told: &Told)
@@ -52,9 +52,9 @@ impl<W: Write> ReplyBatch<'_, W> {
         ensures collected { Collects (outgoing W.contents self.old) (outgoing W.contents self.new)
             (spelling_of told.now ∷ []) }
     {
-        if !self.replies.append(told) {
+        if !self.append(told) {
             self.flush();
-            self.replies.lay_out(told);
+            self.begin(told);
         }
     }
 
@@ -66,6 +66,39 @@ impl<W: Write> ReplyBatch<'_, W> {
         for told in tolds {
             self.collect_one(told);
         }
+    }
+
+    /// Collects a reply if there is room for any, and says whether it did. Nothing is written.
+    pub fn append(&mut self, told: &Told) -> bool
+        ensures same { (writer_of self.new.out).ghost_name ≡ (writer_of self.old.out).ghost_name }
+        ensures held { W.contents (writer_of self.new.out).now ≡ W.contents (writer_of self.old.out).now }
+        ensures done { result ≡ true → Collects (outgoing W.contents self.old) (outgoing W.contents self.new)
+            (spelling_of told.now ∷ []) }
+        ensures full { result ≡ false → Collects (outgoing W.contents self.old) (outgoing W.contents self.new) [] }
+    {
+        self.replies.append(told)
+    }
+
+    /// Collects a reply before all others. Nothing is written.
+    pub fn begin(&mut self, told: &Told)
+        requires none { self.old.replies ≡ [] }
+        ensures same { (writer_of self.new.out).ghost_name ≡ (writer_of self.old.out).ghost_name }
+        ensures held { W.contents (writer_of self.new.out).now ≡ W.contents (writer_of self.old.out).now }
+        ensures collected { Collects (outgoing W.contents self.old) (outgoing W.contents self.new)
+            (spelling_of told.now ∷ []) }
+    {
+        self.replies.lay_out(told);
+    }
+
+    /// Collects the reply to the INIT with this unique, before all others. Nothing is written.
+    pub fn begin_init(&mut self, unique: u64, step: &InitStep)
+        requires none { self.old.replies ≡ [] }
+        ensures same { (writer_of self.new.out).ghost_name ≡ (writer_of self.old.out).ghost_name }
+        ensures held { W.contents (writer_of self.new.out).now ≡ W.contents (writer_of self.old.out).now }
+        ensures collected { Collects (outgoing W.contents self.old) (outgoing W.contents self.new)
+            (init_spelling unique step.now ∷ []) }
+    {
+        self.replies.lay_out_init(unique, step);
     }
 
     /// Sends what is collected.
