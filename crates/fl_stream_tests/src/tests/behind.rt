@@ -1,6 +1,6 @@
 //! Streams behind lines that their writer has already.
 
-ghost use Rattle.std.specs.Prelude.{◌≡◌, [], vec_capacity};
+ghost use Rattle.std.specs.Prelude.{◌≡◌, ◌∷◌, []};
 ghost use Rattle.fl_trace.specs.Text.{text_of};
 
 use super::{Course, LINES, TRACE, course_is, finished, hand, history_of, holds};
