@@ -57,8 +57,8 @@ abbrev pub stored_by : WhenWriterFails → List Line → List Line → List Line
 stored_by End lines noted = noted
 stored_by manner lines noted = lines
 
--- The writer has the text of a beginning of the lines, which may end within a line. Which lines it has at least, as those
--- that it had at first, `HoldsText` says.
+-- The writer has the text of a beginning of the lines, which may end within a line. `HoldsText` says which lines it has
+-- at least, as those that it had at first.
 pub record IsBegun {W : Type 0} (contents : W → Option (List ℕ)) (held : Option (List ℕ)) (lines : List Line)
     : Type 0 where
   pub sent : List ℕ

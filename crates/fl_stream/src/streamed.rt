@@ -21,14 +21,16 @@ use std::marker::Model;
 const MOST_LINES: usize = 2048;
 
 /// Lines that go to a writer as their text, as `print_trace` spells it. The text waits in a room of some 1.4 megabytes,
-/// made once. It is written when that is full, and when the stream is told to flush or to finish. Contracts see all
-/// lines so far, those that were noted as written by the last flush that succeeded, what the writer holds, the text that
-/// waits, the room for more lines, what it does when a write fails, and whether it is broken: then it goes on without
-/// its writer, and writes nothing more.
+/// made once. It is written when that is full, and when the stream is told to flush or to finish. What was written is
+/// noted when all is, and the writer could hand it on.
+///
+/// Contracts see all lines so far, those that were noted, what the writer holds, the text that waits, the room for more
+/// lines, what it does when a write fails, and whether it is broken: then it goes on without its writer, and writes
+/// nothing more.
 #[derive(Drop)]
 pub struct Streamed<W: Write> {
     past: Past<Line>,
-    // The lines whose text the writer has for sure.
+    // Lines at the front, whose text the writer has.
     noted: Past<Line>,
     // The text of lines, as far as it isn't written.
     unsent: Vec<u8>,
@@ -114,7 +116,7 @@ impl<W: Write> Streamed<W> {
         })
     }
 
-    /// Writes what waits, and says whether the writer holds the text of all lines, which are noted then. A broken stream
+    /// Writes what waits, and says whether the writer holds the text of all lines. They are noted then. A broken stream
     /// writes nothing.
     pub fn finish(&mut self) -> bool
         ensures lines { self.new.lines ≡ self.old.lines }
@@ -153,8 +155,8 @@ impl<W: Write> Streamed<W> {
         self.broken
     }
 
-    /// The writer. It holds the text of a beginning of all lines, at least of those that were noted. These are all after
-    /// a `finish` that said so.
+    /// The writer. It holds the text of a beginning of all lines, and of those that were noted at least. These are all
+    /// lines after a `finish` that said so.
     #[tactic(auto, using(crate::proofs::Streaming::begun, crate::proofs::Streaming::noted_there))]
     pub fn into_writer(self) -> W
         ensures held { W.contents result ≡ self.held }
