@@ -6,9 +6,11 @@ use Rattle.std.proofs.KnownBytes.{Appends-nil, Appends-trans, Appends-kept}
 use Rattle.std.proofs.lemmas.Grind.{flat_map-append}
 use Rattle.std.proofs.lemmas.List.{take_all}
 use Rattle.std.specs.Io.KnownBytes.{Appends, Keeps}
+use mathlib.Core.List.{IsPrefix}
 use Rattle.fl_history.specs.declared.history.Line.{Line}
 use Rattle.fl_trace.specs.Text.{line_text, text_of}
-use Rattle.fl_stream.specs.Streams.{IsBlank, Wrote, IsBegun, IsStreamed}
+use Rattle.fl_stream.proofs.Prefixes.{of_itself, of_one_more, of_another}
+use Rattle.fl_stream.specs.Streams.{IsAs, Wrote, HoldsText, IsBegun, IsStreamed}
 use Rattle.fl_stream.specs.Inside.Moves.{Moves}
 use Rattle.fl_stream.specs.declared.manner.WhenWriterFails.{WhenWriterFails}
 use Rattle.fl_stream.specs.declared.manner.WhenWriterFails.TheVariants.{GoOn}
@@ -52,31 +54,73 @@ nothing_added (Some xs) (Some ys) bytes none added = added ∙ ap (λ bs. xs ++ 
 module _ {W : Type 0} (contents : W → Option (List ℕ)) where
   wrote_more : (a b : Option (List ℕ)) (sent more : List ℕ) → Wrote contents a sent → Appends a b more → Wrote contents b (sent ++ more)
   wrote_more a b sent more w more_is =
-      record { first = w.first; blank = w.blank; appended = Appends-trans (contents w.first) a b sent more w.appended more_is }
+      record {
+        first = w.first;
+        front = w.front;
+        more = w.more ++ more;
+        is_as = w.is_as;
+        appended = Appends-trans (contents w.first) a b w.more more w.appended more_is;
+        parts = sym (append_assoc w.front w.more more) ∙ ap (λ bs. bs ++ more) w.parts;
+      }
 
   wrote_kept : (a b : Option (List ℕ)) (sent : List ℕ) → Wrote contents a sent → Keeps a b → Wrote contents b sent
   wrote_kept a b sent w kept =
-      record { first = w.first; blank = w.blank; appended = Appends-kept (contents w.first) a b sent w.appended kept }
-
-  -- nothing was written, and there is no line
-  pub starts : (w : W) (unsent : List ℕ) (manner : WhenWriterFails) (lines : List Line) → IsBlank (contents w) → unsent ≡ [] → lines ≡ []
-      → IsStreamed contents (contents w) unsent false manner lines
-  starts w unsent manner lines blank no_text no_line =
       record {
-        sent = [];
+        first = w.first;
+        front = w.front;
+        more = w.more;
+        is_as = w.is_as;
+        appended = Appends-kept (contents w.first) a b w.more w.appended kept;
+        parts = w.parts;
+      }
+
+  text_more : (a b : Option (List ℕ)) (lines : List Line) (more : List ℕ) → HoldsText contents a lines → Appends a b more
+      → HoldsText contents b lines
+  text_more a b lines more h more_is =
+      record {
+        rest = h.rest ++ more;
+        wrote = subst (Wrote contents b) (append_assoc (text_of lines) h.rest more)
+            (wrote_more a b (text_of lines ++ h.rest) more h.wrote more_is);
+      }
+
+  text_kept : (a b : Option (List ℕ)) (lines : List Line) → HoldsText contents a lines → Keeps a b → HoldsText contents b lines
+  text_kept a b lines h kept = record { rest = h.rest; wrote = wrote_kept a b (text_of lines ++ h.rest) h.wrote kept }
+
+  -- a writer that has all of it
+  text_whole : (held : Option (List ℕ)) (lines : List Line) → Wrote contents held (text_of lines) → HoldsText contents held lines
+  text_whole held lines w = record { rest = []; wrote = subst (Wrote contents held) (sym (append-nil (text_of lines))) w }
+
+  -- the writer has the text of these lines and nothing else, and there are no others
+  pub starts : (w : W) (unsent : List ℕ) (manner : WhenWriterFails) (base lines noted : List Line)
+      → IsAs (contents w) (text_of base) → unsent ≡ [] → lines ≡ base → noted ≡ base
+      → IsStreamed contents (contents w) unsent false manner lines noted
+  starts w unsent manner base lines noted there no_text lines_are noted_are =
+      let all : Wrote contents (contents w) (text_of base) = record {
+        first = w;
+        front = text_of base;
+        more = [];
+        is_as = there;
+        appended = Appends-nil (contents w);
+        parts = append-nil (text_of base);
+      } in
+      record {
+        sent = text_of base;
         lost = [];
-        wrote = record { first = w; blank = blank; appended = Appends-nil (contents w) };
-        parts = append-nil unsent ∙ no_text ∙ ap text_of (sym no_line);
+        wrote = all;
+        parts = ap (λ u. text_of base ++ u) (append-nil unsent ∙ no_text) ∙ append-nil (text_of base) ∙ ap text_of (sym lines_are);
         whole = λ _. refl;
         over = λ _. no_text;
-        refuses = λ _. refl;
+        breaks = λ e. absurd (cc e);
+        there = text_whole (contents w) noted (subst (λ ls. Wrote contents (contents w) (text_of ls)) (sym noted_are) all);
+        front = of_itself noted lines (lines_are ∙ sym noted_are);
       }
 
   -- the text of a line more waits
-  pub line_waits : (held : Option (List ℕ)) (unsent unsent_now : List ℕ) (manner : WhenWriterFails) (lines lines_now : List Line) (line : Line)
-      → IsStreamed contents held unsent false manner lines → unsent_now ≡ unsent ++ (line_text line ++ 10 ∷ [])
-      → lines_now ≡ lines ++ line ∷ [] → IsStreamed contents held unsent_now false manner lines_now
-  line_waits held unsent unsent_now manner lines lines_now line kept waits comes =
+  pub line_waits : (held : Option (List ℕ)) (unsent unsent_now : List ℕ) (manner : WhenWriterFails)
+      (lines lines_now noted : List Line) (line : Line) → IsStreamed contents held unsent false manner lines noted
+      → unsent_now ≡ unsent ++ (line_text line ++ 10 ∷ []) → lines_now ≡ lines ++ line ∷ []
+      → IsStreamed contents held unsent_now false manner lines_now noted
+  line_waits held unsent unsent_now manner lines lines_now noted line kept waits comes =
       let t = line_text line ++ 10 ∷ [] in
       record {
         sent = kept.sent;
@@ -90,14 +134,16 @@ module _ {W : Type 0} (contents : W → Option (List ℕ)) where
             ∙ sym (text_one lines line) ∙ ap text_of (sym comes);
         whole = λ _. refl;
         over = λ e. absurd (cc e);
-        refuses = λ _. refl;
+        breaks = λ e. absurd (cc e);
+        there = kept.there;
+        front = of_another noted lines lines_now kept.front (of_one_more lines lines_now line comes);
       }
 
   -- a line more is lost
-  pub line_lost : (held : Option (List ℕ)) (unsent : List ℕ) (manner : WhenWriterFails) (lines lines_now : List Line) (line : Line)
-      → IsStreamed contents held unsent true manner lines → lines_now ≡ lines ++ line ∷ []
-      → IsStreamed contents held unsent true manner lines_now
-  line_lost held unsent manner lines lines_now line kept comes =
+  pub line_lost : (held : Option (List ℕ)) (unsent : List ℕ) (manner : WhenWriterFails) (lines lines_now noted : List Line) (line : Line)
+      → IsStreamed contents held unsent true manner lines noted → lines_now ≡ lines ++ line ∷ []
+      → IsStreamed contents held unsent true manner lines_now noted
+  line_lost held unsent manner lines lines_now noted line kept comes =
       let t = line_text line ++ 10 ∷ [] in
       record {
         sent = kept.sent;
@@ -110,14 +156,16 @@ module _ {W : Type 0} (contents : W → Option (List ℕ)) where
             ∙ sym (text_one lines line) ∙ ap text_of (sym comes);
         whole = λ e. absurd (cc e);
         over = kept.over;
-        refuses = kept.refuses;
+        breaks = kept.breaks;
+        there = kept.there;
+        front = of_another noted lines lines_now kept.front (of_one_more lines lines_now line comes);
       }
 
   -- some of what waited went out
-  pub moved_on : (a b : Option (List ℕ)) (unsent unsent_now : List ℕ) (broken : Bool) (manner : WhenWriterFails) (lines : List Line)
-      → IsStreamed contents a unsent broken manner lines → Moves a b unsent unsent_now
-      → IsStreamed contents b unsent_now broken manner lines
-  moved_on a b unsent unsent_now broken manner lines kept moves =
+  pub moved_on : (a b : Option (List ℕ)) (unsent unsent_now : List ℕ) (broken : Bool) (manner : WhenWriterFails)
+      (lines noted : List Line) → IsStreamed contents a unsent broken manner lines noted → Moves a b unsent unsent_now
+      → IsStreamed contents b unsent_now broken manner lines noted
+  moved_on a b unsent unsent_now broken manner lines noted kept moves =
       record {
         sent = kept.sent ++ moves.went;
         lost = kept.lost;
@@ -128,20 +176,24 @@ module _ {W : Type 0} (contents : W → Option (List ℕ)) where
             ∙ kept.parts;
         whole = kept.whole;
         over = λ e. (nothing_left moves.went unsent_now (sym (kept.over e) ∙ moves.parts)).1;
-        refuses = kept.refuses;
+        breaks = kept.breaks;
+        there = text_more a b noted moves.went kept.there moves.written;
+        front = kept.front;
       }
 
   -- if it is broken, nothing goes out
-  pub kept_broken : (a b : Option (List ℕ)) (unsent unsent_now : List ℕ) (broken : Bool) (manner : WhenWriterFails) (lines : List Line)
-      → IsStreamed contents a unsent broken manner lines → Moves a b unsent unsent_now → IsTrue broken → Keeps a b
-  kept_broken a b unsent unsent_now true manner lines kept moves is_broken =
+  pub kept_broken : (a b : Option (List ℕ)) (unsent unsent_now : List ℕ) (broken : Bool) (manner : WhenWriterFails)
+      (lines noted : List Line) → IsStreamed contents a unsent broken manner lines noted → Moves a b unsent unsent_now
+      → IsTrue broken → Keeps a b
+  kept_broken a b unsent unsent_now true manner lines noted kept moves is_broken =
       nothing_added a b moves.went (nothing_left moves.went unsent_now (sym (kept.over refl) ∙ moves.parts)).0 moves.written
-  kept_broken a b unsent unsent_now false manner lines kept moves is_broken = absurd (cc is_broken)
+  kept_broken a b unsent unsent_now false manner lines noted kept moves is_broken = absurd (cc is_broken)
 
   -- the writer keeps what it holds
-  pub kept_on : (a b : Option (List ℕ)) (unsent : List ℕ) (broken : Bool) (manner : WhenWriterFails) (lines : List Line)
-      → IsStreamed contents a unsent broken manner lines → Keeps a b → IsStreamed contents b unsent broken manner lines
-  kept_on a b unsent broken manner lines kept keeps =
+  pub kept_on : (a b : Option (List ℕ)) (unsent : List ℕ) (broken : Bool) (manner : WhenWriterFails) (lines noted : List Line)
+      → IsStreamed contents a unsent broken manner lines noted → Keeps a b
+      → IsStreamed contents b unsent broken manner lines noted
+  kept_on a b unsent broken manner lines noted kept keeps =
       record {
         sent = kept.sent;
         lost = kept.lost;
@@ -149,14 +201,16 @@ module _ {W : Type 0} (contents : W → Option (List ℕ)) where
         parts = kept.parts;
         whole = kept.whole;
         over = kept.over;
-        refuses = kept.refuses;
+        breaks = kept.breaks;
+        there = text_kept a b noted kept.there keeps;
+        front = kept.front;
       }
 
   -- the stream goes on without its writer, and what waited is lost
-  pub breaks : (a : Option (List ℕ)) (unsent unsent_now : List ℕ) (broken : Bool) (manner : WhenWriterFails) (lines : List Line)
-      → IsStreamed contents a unsent broken manner lines → unsent_now ≡ [] → manner ≡ GoOn
-      → IsStreamed contents a unsent_now true manner lines
-  breaks a unsent unsent_now broken manner lines kept no_text goes_on =
+  pub breaks : (a : Option (List ℕ)) (unsent unsent_now : List ℕ) (broken : Bool) (manner : WhenWriterFails) (lines noted : List Line)
+      → IsStreamed contents a unsent broken manner lines noted → unsent_now ≡ [] → manner ≡ GoOn
+      → IsStreamed contents a unsent_now true manner lines noted
+  breaks a unsent unsent_now broken manner lines noted kept no_text goes_on =
       record {
         sent = kept.sent;
         lost = unsent ++ kept.lost;
@@ -164,19 +218,50 @@ module _ {W : Type 0} (contents : W → Option (List ℕ)) where
         parts = ap (λ u. kept.sent ++ (u ++ (unsent ++ kept.lost))) no_text ∙ kept.parts;
         whole = λ e. absurd (cc e);
         over = λ _. no_text;
-        refuses = λ e. absurd (cc (goes_on, e));
+        breaks = λ _. goes_on;
+        there = kept.there;
+        front = kept.front;
       }
 
   -- the writer has a beginning
-  pub begun : (held : Option (List ℕ)) (unsent : List ℕ) (broken : Bool) (manner : WhenWriterFails) (lines : List Line)
-      → IsStreamed contents held unsent broken manner lines → IsBegun contents held lines
-  begun held unsent broken manner lines kept =
+  pub begun : (held : Option (List ℕ)) (unsent : List ℕ) (broken : Bool) (manner : WhenWriterFails) (lines noted : List Line)
+      → IsStreamed contents held unsent broken manner lines noted → IsBegun contents held lines
+  begun held unsent broken manner lines noted kept =
       record { sent = kept.sent; rest = unsent ++ kept.lost; wrote = kept.wrote; parts = kept.parts }
 
   -- nothing waits and nothing is lost
-  pub all_sent : (held : Option (List ℕ)) (unsent : List ℕ) (manner : WhenWriterFails) (lines : List Line)
-      → IsStreamed contents held unsent false manner lines → unsent ≡ [] → Wrote contents held (text_of lines)
-  all_sent held unsent manner lines kept no_text =
+  pub all_sent : (held : Option (List ℕ)) (unsent : List ℕ) (broken : Bool) (manner : WhenWriterFails) (lines noted : List Line)
+      → IsStreamed contents held unsent broken manner lines noted → broken ≡ false → unsent ≡ []
+      → Wrote contents held (text_of lines)
+  all_sent held unsent broken manner lines noted kept is_whole no_text =
       subst (Wrote contents held)
-      (sym (append-nil kept.sent) ∙ ap (λ u. kept.sent ++ u) (λ i. sym no_text i ++ sym (kept.whole refl) i) ∙ kept.parts)
+      (sym (append-nil kept.sent) ∙ ap (λ u. kept.sent ++ u) (λ i. sym no_text i ++ sym (kept.whole is_whole) i) ∙ kept.parts)
       kept.wrote
+
+  -- and so all lines may be noted
+  pub all_noted : (held : Option (List ℕ)) (unsent : List ℕ) (broken : Bool) (manner : WhenWriterFails)
+      (lines noted noted_now : List Line) → IsStreamed contents held unsent broken manner lines noted → broken ≡ false
+      → unsent ≡ [] → noted_now ≡ lines → IsStreamed contents held unsent broken manner lines noted_now
+  all_noted held unsent broken manner lines noted noted_now kept is_whole no_text noted_are =
+      record {
+        sent = kept.sent;
+        lost = kept.lost;
+        wrote = kept.wrote;
+        parts = kept.parts;
+        whole = kept.whole;
+        over = kept.over;
+        breaks = kept.breaks;
+        there = text_whole held noted_now (subst (λ ls. Wrote contents held (text_of ls)) (sym noted_are)
+            (all_sent held unsent broken manner lines noted kept is_whole no_text));
+        front = of_itself noted_now lines (sym noted_are);
+      }
+
+  -- the writer has the noted lines
+  pub noted_there : (held : Option (List ℕ)) (unsent : List ℕ) (broken : Bool) (manner : WhenWriterFails) (lines noted : List Line)
+      → IsStreamed contents held unsent broken manner lines noted → HoldsText contents held noted
+  noted_there held unsent broken manner lines noted kept = kept.there
+
+  -- the noted lines begin all lines
+  pub noted_front : (held : Option (List ℕ)) (unsent : List ℕ) (broken : Bool) (manner : WhenWriterFails) (lines noted : List Line)
+      → IsStreamed contents held unsent broken manner lines noted → IsPrefix noted lines
+  noted_front held unsent broken manner lines noted kept = kept.front

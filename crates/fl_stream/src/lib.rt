@@ -1,11 +1,13 @@
 //! Lines that go to a writer as their text.
 //!
 //! What was written, what waits and what is lost are together the text of all lines. Something is lost only if the
-//! stream is broken, and then nothing more is written. A stream that refuses orders never breaks.
+//! stream is broken, and then nothing more is written. Only a stream that goes on without its writer breaks. A stream
+//! can begin behind lines that its writer has. At `End`, a flush that says yes has written all lines.
 //!
-//! Contracts see no failure of a writer. They let through:
+//! Contracts see no failure of a writer, and not whether it was flushed. They let through:
 //! - a `Streamed` that breaks though no write failed, or is refused memory that is there;
-//! - one that writes nothing before it is flushed, or does nothing at a `pause`;
+//! - one that writes nothing before it is finished or, at `End`, flushed, or doesn't flush its writer;
+//! - a `finish`, or at `End` a `flush`, that says no though no write failed;
 //! - a `write_trace` that is always refused, tells a failed write though none failed, or takes more memory.
 //! `fl_stream_tests` and `tools/try_traces` refuse these.
 #![tactic(auto)]

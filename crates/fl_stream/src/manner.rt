@@ -7,4 +7,7 @@ pub enum WhenWriterFails {
     GoOn,
     /// No order is taken while there is no room for its lines. What isn't written is kept, and tried again.
     Refuse,
+    /// The session ends: no reply leaves before the lines of its order are stored. What isn't written is kept, and
+    /// tried again.
+    End,
 }

@@ -1,9 +1,10 @@
 //! Lines that go to a writer as their text, and wait in memory only until then.
 
-ghost use Rattle.std.specs.Prelude.{◌≡◌, ◌↔◌, ◌+◌, ◌≤◌, ◌<◌, ◌++◌, ◌∷◌, [], false, IsTrue, IfOk, OnOk, IsOk};
+ghost use Rattle.std.specs.Prelude.{◌≡◌, ◌≢◌, ◌↔◌, ◌+◌, ◌≤◌, ◌<◌, ◌++◌, ◌∷◌, [], false, IsTrue, IfOk, OnOk, IsOk};
 ghost use Rattle.std.specs.Io.KnownBytes.{Keeps};
+ghost use mathlib.Core.List.{IsPrefix};
 ghost use Rattle.fl_history.specs.declared.history.Line.TheVariants as line;
-ghost use Rattle.fl_stream.specs.Streams.{IsBlank, Wrote, IsBegun, IsStreamed};
+ghost use Rattle.fl_stream.specs.Streams.{IsAs, IsBlank, Wrote, HoldsText, IsBegun, IsStreamed, stored_by};
 ghost use Rattle.fl_stream.specs.declared.manner.WhenWriterFails.TheVariants as manner;
 ghost use Rattle.fl_trace.specs.Text.{text_of};
 
@@ -20,12 +21,17 @@ use std::marker::Model;
 const MOST_LINES: usize = 2048;
 
 /// Lines that go to a writer as their text, as `print_trace` spells it. The text waits in a room of some 1.4 megabytes,
-/// made once. It is written when that is full, and when it is told to pause or to flush. Contracts see all lines so
-/// far, what the writer holds, the text that waits, the room for more lines, what it does when a write fails, and
-/// whether it is broken: then it goes on without its writer, and writes nothing more.
+/// made once. It is written when that is full, and when the stream is told to flush or to finish. What was written is
+/// noted when all is, and the writer could hand it on.
+///
+/// Contracts see all lines so far, those that were noted, what the writer holds, the text that waits, the room for more
+/// lines, what it does when a write fails, and whether it is broken: then it goes on without its writer, and writes
+/// nothing more.
 #[derive(Drop)]
 pub struct Streamed<W: Write> {
     past: Past<Line>,
+    // Lines at the front, whose text the writer has.
+    noted: Past<Line>,
     // The text of lines, as far as it isn't written.
     unsent: Vec<u8>,
     // For how many more lines there is room behind it.
@@ -43,6 +49,7 @@ impl<W: Write> Model for Streamed<W> {
 
     ghost view = { λ s. record {
       lines = s.past.items;
+      noted = s.noted.items;
       held = W.contents s.writer;
       unsent = s.unsent.items;
       room = s.room;
@@ -52,19 +59,45 @@ impl<W: Write> Model for Streamed<W> {
 
     ghost invariant = { λ s.
         IsStreamed W.contents (W.contents s.writer) s.unsent.items s.broken s.manner s.past.items
+        s.noted.items
         × (length s.unsent.items + 700 * s.room ≤ vec_capacity s.unsent)
         × (1433600 ≤ vec_capacity s.unsent) };
 }
 
 impl<W: Write> Streamed<W> {
     /// No lines, before a writer that has nothing yet. The room is made here, and never grows.
-    #[tactic(auto, using(crate::proofs::Streaming::starts))]
     pub fn new(alloc: Global, writer: W, manner: WhenWriterFails) -> Result<Streamed<W>, NoMemory>
     where
         W: Drop,
         requires blank { IsBlank (W.contents writer) }
         ensures { IfOk result (λ stream. stream ≡ record {
           lines = [];
+          noted = [];
+          held = W.contents writer;
+          unsent = [];
+          room = 2048;
+          broken = false;
+          manner = manner;
+        }) }
+    {
+        Streamed::behind(alloc, writer, &Past::new(), manner)
+    }
+
+    /// These lines, before a writer that has their text and nothing more. Lines that come are written behind it. The
+    /// room is made here, and never grows.
+    #[tactic(auto, using(crate::proofs::Streaming::starts))]
+    pub fn behind(
+        alloc: Global,
+        writer: W,
+        base: &Past<Line>,
+        manner: WhenWriterFails,
+    ) -> Result<Streamed<W>, NoMemory>
+    where
+        W: Drop,
+        requires there { IsAs (W.contents writer) (text_of base.now.items) }
+        ensures { IfOk result (λ stream. stream ≡ record {
+          lines = base.now.items;
+          noted = base.now.items;
           held = W.contents writer;
           unsent = [];
           room = 2048;
@@ -73,7 +106,8 @@ impl<W: Write> Streamed<W> {
         }) }
     {
         Ok(Streamed {
-            past: Past::new(),
+            past: base.same(),
+            noted: base.same(),
             unsent: Vec::with_capacity(alloc, MOST_LINES * LINE_ROOM)?,
             room: MOST_LINES,
             writer,
@@ -82,9 +116,12 @@ impl<W: Write> Streamed<W> {
         })
     }
 
-    /// Writes what waits, and says whether the writer holds the text of all lines. A broken stream writes nothing.
-    pub fn flush(&mut self) -> bool
+    /// Writes what waits, and says whether the writer holds the text of all lines. They are noted then. A broken stream
+    /// writes nothing.
+    pub fn finish(&mut self) -> bool
         ensures lines { self.new.lines ≡ self.old.lines }
+        ensures front { IsPrefix self.old.noted self.new.noted }
+        ensures noted { IsTrue result → self.new.noted ≡ self.new.lines }
         ensures manner { self.new.manner ≡ self.old.manner }
         ensures all { IsTrue result → Wrote W.contents self.new.held (text_of self.new.lines) }
         ensures begun { IsBegun W.contents self.new.held self.new.lines }
@@ -93,8 +130,11 @@ impl<W: Write> Streamed<W> {
     {
         self.write_waiting();
         let flushed = self.flush_writer();
-        let whole = self.is_whole();
-        flushed && whole
+        let written = self.is_whole() && flushed;
+        if written {
+            self.note();
+        }
+        written
     }
 
     /// Whether the writer holds the text of all lines.
@@ -110,19 +150,22 @@ impl<W: Write> Streamed<W> {
     /// Whether a write failed and it goes on without its writer. If not, all that isn't written waits.
     pub fn is_broken(&self) -> bool
         ensures value { result ≡ self.now.broken }
-        ensures kept { let s = self.now in IsStreamed W.contents s.held s.unsent s.broken s.manner s.lines }
+        ensures kept { let s = self.now in IsStreamed W.contents s.held s.unsent s.broken s.manner s.lines s.noted }
     {
         self.broken
     }
 
-    /// The writer. It holds the text of a beginning of all lines, which is all of them after a `flush` that said so.
-    #[tactic(auto, using(crate::proofs::Streaming::begun))]
+    /// The writer. It holds the text of a beginning of all lines, and of those that were noted at least. These are all
+    /// lines after a `finish` that said so.
+    #[tactic(auto, using(crate::proofs::Streaming::begun, crate::proofs::Streaming::noted_there))]
     pub fn into_writer(self) -> W
         ensures held { W.contents result ≡ self.held }
         ensures begun { IsBegun W.contents (W.contents result) self.lines }
+        ensures there { HoldsText W.contents (W.contents result) self.noted }
     {
         let Streamed {
             past: _,
+            noted: _,
             unsent: _,
             room: _,
             writer,
@@ -137,6 +180,7 @@ impl<W: Write> Streamed<W> {
     fn push(&mut self, line: &Line)
         requires room { 0 < self.old.room }
         ensures lines { self.new.lines ≡ self.old.lines ++ line.now ∷ [] }
+        ensures noted { self.new.noted ≡ self.old.noted }
         ensures room { self.old.room ≤ self.new.room + 1 }
         ensures held { self.new.held ≡ self.old.held }
         ensures broken { self.new.broken ≡ self.old.broken }
@@ -152,6 +196,7 @@ impl<W: Write> Streamed<W> {
     // Writes what waits. If a write fails, what is left waits on, or is lost, by its manner.
     fn write_waiting(&mut self)
         ensures lines { self.new.lines ≡ self.old.lines }
+        ensures noted { self.new.noted ≡ self.old.noted }
         ensures manner { self.new.manner ≡ self.old.manner }
         ensures goes_on { self.new.manner ≡ manner.GoOn → 2048 ≤ self.new.room }
         ensures stays { IsTrue self.old.broken → IsTrue self.new.broken }
@@ -166,6 +211,7 @@ impl<W: Write> Streamed<W> {
     #[tactic(auto, using(crate::proofs::Streaming::moved_on, crate::proofs::Streaming::kept_broken))]
     fn send(&mut self) -> bool
         ensures lines { self.new.lines ≡ self.old.lines }
+        ensures noted { self.new.noted ≡ self.old.noted }
         ensures manner { self.new.manner ≡ self.old.manner }
         ensures broken { self.new.broken ≡ self.old.broken }
         ensures all { IsTrue result → self.new.unsent ≡ [] }
@@ -177,6 +223,7 @@ impl<W: Write> Streamed<W> {
     #[tactic(auto, using(crate::proofs::Streaming::kept_on))]
     fn flush_writer(&mut self) -> bool
         ensures lines { self.new.lines ≡ self.old.lines }
+        ensures noted { self.new.noted ≡ self.old.noted }
         ensures manner { self.new.manner ≡ self.old.manner }
         ensures broken { self.new.broken ≡ self.old.broken }
         ensures held { Keeps self.old.held self.new.held }
@@ -184,11 +231,26 @@ impl<W: Write> Streamed<W> {
         self.writer.flush().is_ok()
     }
 
+    // Notes all lines as written.
+    #[tactic(auto, using(crate::proofs::Streaming::all_noted, crate::proofs::Streaming::noted_front))]
+    fn note(&mut self)
+        requires whole { (self.old.broken ≡ false) × (self.old.unsent ≡ []) }
+        ensures lines { self.new.lines ≡ self.old.lines }
+        ensures front { IsPrefix self.old.noted self.new.noted }
+        ensures noted { self.new.noted ≡ self.new.lines }
+        ensures manner { self.new.manner ≡ self.old.manner }
+        ensures broken { self.new.broken ≡ self.old.broken }
+        ensures held { self.new.held ≡ self.old.held }
+    {
+        self.noted = self.past.same();
+    }
+
     // Nothing more is written, and what waits is lost.
     #[tactic(auto, using(crate::proofs::Streaming::breaks))]
     fn give_up(&mut self)
         requires { self.old.manner ≡ manner.GoOn }
         ensures lines { self.new.lines ≡ self.old.lines }
+        ensures noted { self.new.noted ≡ self.old.noted }
         ensures manner { self.new.manner ≡ self.old.manner }
         ensures broken { IsTrue self.new.broken }
         ensures none { self.new.unsent ≡ [] }
@@ -201,6 +263,7 @@ impl<W: Write> Streamed<W> {
     // Finds for how many more lines there is room.
     fn count_room(&mut self)
         ensures lines { self.new.lines ≡ self.old.lines }
+        ensures noted { self.new.noted ≡ self.old.noted }
         ensures manner { self.new.manner ≡ self.old.manner }
         ensures broken { self.new.broken ≡ self.old.broken }
         ensures held { self.new.held ≡ self.old.held }
@@ -213,12 +276,15 @@ impl<W: Write> Streamed<W> {
 impl<W: Write> Journal for Streamed<W> {
     ghost lines = { λ s. s.lines };
 
+    ghost stored = { λ s. stored_by s.manner s.lines s.noted };
+
     ghost room = { λ s. s.room };
 
     // If it goes on without its writer, no order is refused.
     fn reserve(&mut self, count: usize) -> Result<(), NoMemory>
         requires few { count ≤ 2048 }
         ensures lines { self.new.lines ≡ self.old.lines }
+        ensures noted { self.new.noted ≡ self.old.noted }
         ensures manner { self.new.manner ≡ self.old.manner }
         ensures room { OnOk result (count ≤ self.new.room) }
         ensures succeeds { count ≤ self.old.room → IsOk result }
@@ -240,6 +306,9 @@ impl<W: Write> Journal for Streamed<W> {
     fn push_asked(&mut self, worker: u32, order: &Order)
         requires room { 0 < self.old.room }
         ensures lines { self.new.lines ≡ self.old.lines ++ line.Asked worker order.now ∷ [] }
+        ensures noted { self.new.noted ≡ self.old.noted }
+        ensures stored { IsPrefix (stored_by self.old.manner self.old.lines self.old.noted)
+            (stored_by self.new.manner self.new.lines self.new.noted) }
         ensures room { self.old.room ≤ self.new.room + 1 }
         ensures held { self.new.held ≡ self.old.held }
         ensures broken { self.new.broken ≡ self.old.broken }
@@ -254,6 +323,9 @@ impl<W: Write> Journal for Streamed<W> {
     fn push_told(&mut self, told: &Told)
         requires room { 0 < self.old.room }
         ensures lines { self.new.lines ≡ self.old.lines ++ line.Told told.now ∷ [] }
+        ensures noted { self.new.noted ≡ self.old.noted }
+        ensures stored { IsPrefix (stored_by self.old.manner self.old.lines self.old.noted)
+            (stored_by self.new.manner self.new.lines self.new.noted) }
         ensures room { self.old.room ≤ self.new.room + 1 }
         ensures held { self.new.held ≡ self.old.held }
         ensures broken { self.new.broken ≡ self.old.broken }
@@ -262,12 +334,16 @@ impl<W: Write> Journal for Streamed<W> {
         self.push(&Line::Told(*told));
     }
 
-    fn pause(&mut self)
+    // At `End` it says whether all is written. With the other manners nobody wants lines stored, and it says true.
+    fn flush(&mut self) -> bool
         ensures lines { self.new.lines ≡ self.old.lines }
+        ensures front { IsPrefix self.old.noted self.new.noted }
+        ensures noted { self.new.manner ≡ manner.End → IsTrue result → self.new.noted ≡ self.new.lines }
+        ensures others { self.new.manner ≢ manner.End → IsTrue result }
         ensures manner { self.new.manner ≡ self.old.manner }
         ensures stays { IsTrue self.old.broken → IsTrue self.new.broken }
         ensures silent { IsTrue self.old.broken → Keeps self.old.held self.new.held }
     {
-        self.write_waiting();
+        self.finish() || self.manner != WhenWriterFails::End
     }
 }

@@ -2,6 +2,8 @@
 
 ghost use Rattle.fl_stream.specs.Streams.{IsBlank};
 
+mod behind;
+mod ending;
 mod failing;
 mod printing;
 mod refused;
@@ -62,7 +64,7 @@ fn holds(rt: &impl Abort, held: &[u8], wanted: &[u8]) {
     assert_eq!(rt; *held, *wanted);
 }
 
-// What became of a stream: how many lines it took, whether the last flush said that all is written, and whether it
+// What became of a stream: how many lines it took, whether it said at the end that all is written, and whether it
 // broke.
 #[derive(Clone, Copy, Debug, PartialEq, Eq)]
 struct Course {
@@ -130,7 +132,7 @@ fn streamed_often<W: Write + Drop>(
 
 fn finished<W: Write>(stream: Streamed<W>, taken: usize) -> (Course, W) {
     let mut stream = stream;
-    let flushed = stream.flush() && stream.is_whole();
+    let flushed = stream.finish() && stream.is_whole();
     let broken = stream.is_broken();
     let course = Course {
         taken,
@@ -155,19 +157,19 @@ fn hand<J: Journal>(kept: &mut J, line: &Line) -> bool {
     true
 }
 
-// Hands all lines of a history to a journal, with a pause behind each, and says how many it took.
+// Hands all lines of a history to a journal, with a flush behind each, and says how many it took.
 fn hand_all<J: Journal>(kept: &mut J, history: &History) -> usize {
     let mut taken = 0usize;
     for at in 0..history.len() {
         if hand(kept, &history.line(at)) {
             taken = taken.saturating_add(1);
         }
-        kept.pause();
+        kept.flush();
     }
     taken
 }
 
-// Hands one line to a journal so many times, with no pause, and says how often it took it.
+// Hands one line to a journal so many times, with no flush, and says how often it took it.
 fn hand_often<J: Journal>(kept: &mut J, line: &Line, times: usize) -> usize {
     let mut taken = 0usize;
     for _ in 0..times {

@@ -66,17 +66,22 @@ fn what_a_write_left_is_written_by_the_next(rt: HostRuntime) {
 }
 
 // The room gets full once, where the first write fails: one line is refused, and the next is taken.
-#[test]
-fn a_full_room_refuses_until_a_write_succeeds(rt: HostRuntime) {
-    let sink = Sink::failing_once(rt.alloc(), 0, ErrorKind::Other);
-    let (course, sink) = streamed_often(&rt, sink, WhenWriterFails::Refuse, 40_000, rt.alloc());
+fn refuses_once(rt: &impl Abort, alloc: Global, manner: WhenWriterFails) {
+    let sink = Sink::failing_once(alloc, 0, ErrorKind::Other);
+    let (course, sink) = streamed_often(rt, sink, manner, 40_000, alloc);
     let wanted = Course {
         taken: 39_999,
         flushed: true,
         broken: false,
     };
-    course_is(&rt, &course, &wanted);
-    count_is(&rt, sink.held.len(), 39_999 * 43);
+    course_is(rt, &course, &wanted);
+    count_is(rt, sink.held.len(), 39_999 * 43);
+}
+
+#[test]
+fn a_full_room_refuses_until_a_write_succeeds(rt: HostRuntime) {
+    refuses_once(&rt, rt.alloc(), WhenWriterFails::Refuse);
+    refuses_once(&rt, rt.alloc(), WhenWriterFails::End);
 }
 
 #[test]
