@@ -64,9 +64,8 @@ pub fn hear_first<R: Read>(
     }
 }
 
-/// Reads a trace that may be cut off to its end, and gives a judge that heard its whole lines, and how many bytes these
-/// have: the trace is cut off behind so many. What follows the last newline is read and dropped. It takes memory as
-/// `audit` does.
+/// Reads a trace that may be cut off to its end, and gives a judge that heard its whole lines, and how many bytes
+/// these have. What follows the last newline is read and dropped. It takes memory as `audit` does.
 ///
 /// A bad line is reported once all of the trace is read. Reading fails as that of `audit` does.
 pub fn hear_cut<R: Read>(alloc: Global, rules: Rules, input: &mut R) -> Result<Heard, AuditFault>

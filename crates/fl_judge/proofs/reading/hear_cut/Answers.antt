@@ -1,4 +1,4 @@
-use Rattle.std.proofs.Common.{Option, None, List, ℕ, true, refl}
+use Rattle.std.proofs.Common.{Option, None, List, ℕ, true}
 use Rattle.fl_judge.proofs.Listening.{of_all, ok_map, whole_first}
 use Rattle.fl_judge.proofs.reading.hear_cut.Goals as goal
 use Rattle.fl_judge.specs.Audit.{whole_lines}
