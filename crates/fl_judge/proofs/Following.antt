@@ -26,7 +26,7 @@ AreShort = (line : Line) → LineFits line → length (line_text line) < 700
 abbrev pub AreLines : Type 0
 AreLines = (line : Line) → LineFits line → LacksByte 10 (line_text line)
 
-both_texts : (lines more : List Line) → text_of (lines ++ more) ≡ text_of lines ++ text_of more
+pub both_texts : (lines more : List Line) → text_of (lines ++ more) ≡ text_of lines ++ text_of more
 both_texts lines more = flat_map-append (λ (line : Line). line_text line ++ 10 ∷ []) lines more
 
 -- ---- a line that is too long

@@ -1,7 +1,7 @@
 -- What a listener knows of the text so far.
-use Rattle.std.proofs.Common.{◌≡◌, ℕ, zero, suc, ◌+◌, ◌-◌, ◌<◌, ◌≤◌, min, inl, inr, Bool, true, false, Option, Some, None}
+use Rattle.std.proofs.Common.{◌≡◌, ℕ, zero, suc, ◌+◌, ◌-◌, ◌<◌, ◌≤◌, min, inl, inr, ⊎_elim, Bool, true, false, Option, Some, None}
 use Rattle.std.proofs.Common.{List, [], ◌++◌, length, take, drop, refl, ap, sym, ◌∙◌, subst, arith, append-nil}
-use Rattle.std.proofs.Common.{take-add, Result, Ok, Err, IfSome, IfOk}
+use Rattle.std.proofs.Common.{take-add, length-append, Result, Ok, Err, IfSome, IfOk}
 use Rattle.std.proofs.KnownBytes.{Consumes-trans, Consumes-kept, Consumes-nil}
 use Rattle.std.proofs.lemmas.Bool.{cases_lt}
 use Rattle.std.proofs.lemmas.List.{length-take-le, take_all}
@@ -10,18 +10,18 @@ use Rattle.std.proofs.lemmas.Option.{IfSome_then}
 use Rattle.std.specs.Io.KnownBytes.{Consumes, Keeps, IsAtEnd}
 use Rattle.std.specs.Option.{is_some}
 use Rattle.fl_judge.specs.Audit.{judged_part}
-use Rattle.fl_judge.specs.First.{IsSoOfAll, IsWithin}
+use Rattle.fl_judge.specs.First.{AreWholeLines, IsSoOfAll, IsWithin}
 use Rattle.fl_judge.specs.Inside.Hearing.{HearsAll, Stops, Follows, Stands, Listens, HearsOn, HasRead, AreJudged, IsBad}
 use Rattle.fl_judge.specs.declared.finding.AuditFault.{AuditFault}
 use Rattle.fl_judge.specs.declared.finding.AuditFault.TheVariants as fault
 use Rattle.fl_judge.specs.declared.lines.Stopped.{Stopped}
 use Rattle.fl_judge.specs.declared.lines.Stopped.TheVariants.{Enough, BadLine}
 use Rattle.fl_judge.specs.declared.listener.Listener.{Listener}
-use Rattle.fl_judge.proofs.Following.{AreShort, AreLines, left_over, goes_on, goes_stopped, stays_stopped, bad_ends}
+use Rattle.fl_judge.proofs.Following.{AreShort, AreLines, both_texts, left_over, goes_on, goes_stopped, stays_stopped, bad_ends}
 use Rattle.fl_judge.proofs.Following.{rest_ends, lines_end, follow_first, enough_first}
 use Rattle.fl_history.specs.declared.history.Line.{Line}
 use Rattle.fl_judge.specs.Hearing.{Hearing}
-use Rattle.fl_trace.specs.Text.{LineFits, BreaksAt}
+use Rattle.fl_trace.specs.Text.{LineFits, BreaksAt, text_of}
 
 -- ---- while lines are heard, and once they aren't any more
 
@@ -53,6 +53,7 @@ still most text bytes lines kept (Some stopped) e s = stays_stopped most text by
 pub hears_nothing : (l : Listener) (bytes : List ℕ) → is_some l.stopped ≡ true → HearsOn l bytes l
 hears_nothing l bytes stopped text is = record {
   stands = still l.most text bytes l.judge.lines (take l.kept l.room.items) l.stopped stopped is.stands;
+  counts = is.counts;
 }
 
 pub hears_stop : AreShort → (before after : Listener) (came : ℕ) (stopped : Stopped) → is_some before.stopped ≡ false
@@ -67,13 +68,24 @@ hears_stop short before after came stopped none stops most said text is =
           (goes_stopped short before.most text bytes before.judge.lines after.judge.lines kept stopped
           (follows before.most text before.judge.lines kept before.stopped none is.stands)
           (subst (λ t. Stops before.most before.judge.lines after.judge.lines t stopped) (take-add before.kept came before.room.items) stops)));
+      counts = λ goes. absurd (cc (said, goes));
     }
+
+-- the bytes of the lines, and of those that were heard behind them
+count_on : (before after : List Line) (text : List ℕ) (old left : ℕ) → HearsAll before after text left → old ≡ length (text_of before)
+    → old + (length text - left) ≡ length (text_of after)
+count_on before after text old left h was =
+    let all : length (text_of after) ≡ length (text_of before) + length (text_of h.heard) =
+    ap (λ (ls : List Line). length (text_of ls)) h.are ∙ ap length (both_texts before h.heard) ∙ length-append (text_of before) (text_of h.heard) in
+    let long = h.long in
+    omega (arith, all, was, long, ap length h.parts, length-append (text_of h.heard) h.rest)
 
 pub hears_lines : AreShort → (before after : Listener) (came left : ℕ) → is_some before.stopped ≡ false → before.kept + came ≤ length before.room.items
     → HearsAll before.judge.lines after.judge.lines (take (before.kept + came) before.room.items) left → after.kept ≡ min left 700
     → take after.kept after.room.items ≡ take after.kept (drop (before.kept + came - left) before.room.items) → after.stopped ≡ before.stopped
+    → after.bytes ≡ before.bytes + (before.kept + came - left)
     → HearsOn before (take came (drop before.kept before.room.items)) after
-hears_lines short before after came left none within heard few moved same text is =
+hears_lines short before after came left none within heard few moved same more text is =
     let kept = take before.kept before.room.items in
     let bytes = take came (drop before.kept before.room.items) in
     let whole : take (before.kept + came) before.room.items ≡ kept ++ bytes = take-add before.kept came before.room.items in
@@ -85,6 +97,9 @@ hears_lines short before after came left none within heard few moved same text i
           (λ rest long front parts.
           moved ∙ left_over before.room.items front rest (before.kept + came) left after.kept (whole ∙ parts) long within (omega (arith, few))
           ∙ no_more rest left after.kept long few));
+      counts = λ goes.
+          more ∙ ap (λ n. before.bytes + (n - left)) (sym (length-take-le (before.kept + came) before.room.items within))
+          ∙ count_on before.judge.lines after.judge.lines (take (before.kept + came) before.room.items) before.bytes left heard (is.counts (sym same ∙ goes));
     }
   where
     no_more : (rest : List ℕ) (left k : ℕ) → left ≡ length rest → k ≡ min left 700 → take k rest ≡ take 700 rest
@@ -95,15 +110,16 @@ hears_lines short before after came left none within heard few moved same text i
 
 -- another room, with the same bytes at its front
 pub other_room : (before after : Listener) → after.judge ≡ before.judge → after.most ≡ before.most → after.kept ≡ before.kept
-    → after.stopped ≡ before.stopped → take before.kept after.room.items ≡ take before.kept before.room.items
+    → after.stopped ≡ before.stopped → after.bytes ≡ before.bytes → take before.kept after.room.items ≡ take before.kept before.room.items
     → (text : List ℕ) → Listens text before → Listens text after
-other_room before after judge most kept stopped room text is = record {
+other_room before after judge most kept stopped bytes room text is = record {
   stands =
       subst (λ (j : Hearing). Stands after.most text j.lines (take after.kept after.room.items) after.stopped) (sym judge)
       (subst (λ m. Stands m text before.judge.lines (take after.kept after.room.items) after.stopped) (sym most)
       (subst (λ k. Stands before.most text before.judge.lines (take k after.room.items) after.stopped) (sym kept)
       (subst (Stands before.most text before.judge.lines (take before.kept after.room.items)) (sym stopped)
       (subst (λ t. Stands before.most text before.judge.lines t before.stopped) (sym room) is.stands))));
+  counts = λ goes. bytes ∙ is.counts (sym stopped ∙ goes) ∙ ap (λ (j : Hearing). length (text_of j.lines)) (sym judge);
 }
 
 -- ---- what was read
@@ -169,21 +185,36 @@ ends_inside l n cut none uncut some within at text is =
     }
 
 pub ends_whole : (l : Listener) (cut : Bool) → l.stopped ≡ None → (cut ≡ false → l.kept ≡ 0) → IsWithin l.most (length l.judge.lines)
-    → (text : List ℕ) → Listens text l → AreJudged l.most cut text l.judge.lines
+    → (text : List ℕ) → Listens text l → AreJudged l.most cut text l.judge.lines l.bytes
 ends_whole l cut none whole within text is =
     let kept = take l.kept l.room.items in
     let f = follows l.most text l.judge.lines kept l.stopped (ap is_some none) is.stands in
     record {
       first = follow_first l.most text l.judge.lines kept f within;
       whole = λ _. lines_end text l.judge.lines kept cut f (λ uncut. ap (λ n. length (take n l.room.items)) (whole uncut));
+      long = λ _. is.counts none;
     }
 
 pub ends_enough : (l : Listener) (cut : Bool) → l.stopped ≡ Some Enough → IsWithin l.most (length l.judge.lines) → (text : List ℕ) → Listens text l
-    → AreJudged l.most cut text l.judge.lines
+    → AreJudged l.most cut text l.judge.lines l.bytes
 ends_enough l cut enough within text is =
     let h : Stops l.most [] l.judge.lines text Enough =
     subst (Stands l.most text l.judge.lines (take l.kept l.room.items)) enough is.stands in
-    record { first = enough_first l.most text l.judge.lines h within; whole = λ all. absurd (let many = h.many in cc (all, many)) }
+    record {
+      first = enough_first l.most text l.judge.lines h within;
+      whole = λ all. absurd (let many = h.many in cc (all, many));
+      long = λ all. absurd (let many = h.many in cc (all, many));
+    }
+
+-- lines of which all are wanted are all whole lines
+pub whole_first : (text : List ℕ) (lines : List Line) (bytes : ℕ) → AreJudged None true text lines bytes → AreWholeLines text lines bytes
+whole_first text lines bytes judged = record {
+  rest = judged.first.rest;
+  parts = judged.first.parts;
+  fits = judged.first.fits;
+  lacks = ⊎_elim (λ (some : None ≡ Some (length lines)). absurd (cc some)) (λ none. none) judged.first.all;
+  long = judged.long refl;
+}
 
 pub same_line : {A : Type 0} (n m : ℕ) → ◌≡◌ {A = Result A AuditFault} (Err (fault.BadLine n)) (Err (fault.BadLine m)) → n ≡ m
 same_line n m e = cc e

@@ -5,6 +5,7 @@ use Rattle.std.proofs.Common.{append_assoc, refl, ap, sym, ◌∙◌, subst, ari
 use Rattle.std.proofs.lemmas.List.{append-nil, length-append, take-append-drop, take-append-le, take_all}
 use Rattle.std.specs.Option.{is_some}
 use Rattle.fl_core.specs.Tolds.{HasRoom}
+use Rattle.fl_desk.specs.Kept.{IsKept}
 use Rattle.fl_desk.specs.Legal.{IsLegal}
 use Rattle.fl_desk.specs.Verdicts.{IsBeginning, DiffersAt}
 use Rattle.fl_history.specs.declared.history.Line.{Line}
@@ -126,6 +127,14 @@ pub present_then : (lines : List Line) (now : Hearing) (r : Replay) (o : Option 
 present_then lines now r None same b up =
     subst (λ (h : Hearing). IsPresent h.rules h.lines r.core) same (record { missing = drop r.told r.tolds.told; leads = up.leads; under = refl })
 present_then lines now r (Some n) same b d = absurd (differs r.core.rules lines n d (subst Begins (sym same) b))
+
+-- with those they are kept by a desk that goes on
+pub kept_then : (lines : List Line) (now : Hearing) (r : Replay) (o : Option ℕ) → seen r lines ≡ now → Begins now → Stands lines r o
+    → IsKept (now.lines ++ due_lines r) r.core
+kept_then lines now r None same b up =
+    subst (λ (h : Hearing). IsKept (h.lines ++ due_lines r) r.core) same
+    (record { legal = up.leads.legal; stands = up.leads.stands; lawful = up.leads.lawful })
+kept_then lines now r (Some n) same b d = absurd (differs r.core.rules lines n d (subst Begins (sym same) b))
 
 -- the lines didn't differ so far
 up_to : (lines : List Line) (r : Replay) (o : Option ℕ) → is_some o ≡ false → Stands lines r o → LeadsUpTo lines r

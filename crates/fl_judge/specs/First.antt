@@ -16,6 +16,14 @@ pub record AreFirstLines (most : Option ℕ) (text : List ℕ) (lines : List Lin
   pub few : IsWithin most (length lines)
   pub all : (most ≡ Some (length lines)) ⊎ (has_newline rest ≡ false)
 
+-- A text is that of these lines, and a rest with no newline. The lines have so many bytes, with their newlines.
+pub record AreWholeLines (text : List ℕ) (lines : List Line) (bytes : ℕ) : Type 0 where
+  pub rest : List ℕ
+  pub parts : text ≡ text_of lines ++ rest
+  pub fits : Fits lines
+  pub lacks : has_newline rest ≡ false
+  pub long : bytes ≡ length (text_of lines)
+
 -- this is so of a text, which is all that was left to read
 pub record IsSoOfAll (left : Option (List ℕ)) (IsSo : List ℕ → Type 0) : Type 0 where
   pub text : List ℕ

@@ -28,6 +28,15 @@ pub struct Audited {
     pub quiet: bool,
 }
 
+/// A judge that heard the whole lines of a trace that may be cut off, and how many bytes these have.
+#[derive(Drop)]
+pub struct Heard {
+    /// The judge.
+    pub judge: Judge,
+    /// The bytes of the lines, each with its newline.
+    pub bytes: u64,
+}
+
 /// Why an audit gave up.
 #[derive(Clone, Copy, Debug, PartialEq, Eq)]
 pub enum AuditFault {

@@ -3,11 +3,13 @@
 ghost use Rattle.std.specs.Prelude.{◌≡◌, ◌↔◌, ◌<◌, ◌^◌, ◌++◌, ◌∷◌, [], true, length, IfOk, IfSome, IsSome};
 ghost use Rattle.fl_desk.specs.Verdicts.{IsBeginning, IsVerdict};
 ghost use Rattle.fl_judge.specs.Hearing.{unheard};
-ghost use Rattle.fl_judge.specs.Present.{IsPresent};
+ghost use Rattle.fl_desk.specs.Kept.{IsKept};
+ghost use Rattle.fl_judge.specs.Present.{IsPresent, told_lines};
 ghost use Rattle.fl_judge.specs.Quiet.{IsQuiet, HasNoCircles};
 
 use crate::laws::quiet_histories_have_no_circle;
 use crate::replay::Replay;
+use crate::resuming::{Missing, Resumed};
 use fl_core::{Core, Rules};
 use fl_desk::Verdict;
 use fl_history::{Line, Past};
@@ -101,6 +103,31 @@ impl Judge {
         } else {
             None
         }
+    }
+
+    /// What a server goes on from after the lines that it heard: what is there, and the replies that are missing at
+    /// their end. None if no history that is legal under its rules begins with the lines. It takes no memory.
+    pub fn into_resumed(self) -> Option<Resumed>
+        ensures some { IsSome result ↔ IsBeginning self.rules self.lines }
+        ensures past { IfSome result (λ r. r.past.items ≡ self.lines) }
+        ensures kept { IfSome result (λ r. IsKept (self.lines ++ told_lines r.missing) r.present) }
+        ensures rules { IfSome result (λ r. r.present.rules ≡ self.rules) }
+    {
+        if !self.begins() {
+            return None;
+        }
+        let Judge { replay, past, .. } = self;
+        let Replay {
+            core,
+            tolds,
+            told,
+            ..
+        } = replay;
+        Some(Resumed {
+            present: core,
+            missing: Missing { tolds, told },
+            past,
+        })
     }
 
     /// Whether some history that is legal under its rules begins with the lines that it heard, and they are quiet: no

@@ -1,13 +1,15 @@
 //! What is said of a history: a judge that is told its lines one after another, in memory that doesn't grow, and has
 //! what is there after them; whether it is quiet; and an audit, which reads its text piece by piece. `hear_first` reads
-//! it so, and gives a judge of its first lines. In a quiet history no owner asks for a record lock while it waits for
-//! one, and so owners never wait in a circle.
+//! it so, and gives a judge of its first lines. `hear_cut` reads a trace that is cut off, and gives a judge of its whole
+//! lines, and how many bytes these have. `Judge::into_resumed` gives what a server goes on from behind its lines. In a
+//! quiet history no owner asks for a record lock while it waits for one, and so owners never wait in a circle.
 //!
 //! What `quiet` says of a history that isn't legal has no meaning, and no contract speaks of it. `Judge::quiet` says
 //! no of lines that begin no legal history. No contract says:
-//! - how much memory is taken: that `Judge::hear` takes none, and an audit no more than it says, is seen in the code;
-//! - that `audit` and `hear_first` read on after a bad line, or the last that is wanted, which tests show, nor what they
-//!   say of a reader whose bytes aren't known;
+//! - how much memory is taken: that `Judge::hear` and `into_resumed` take none, and an audit no more than it says, is
+//!   seen in the code;
+//! - that `audit`, `hear_first` and `hear_cut` read on after a bad line, or the last that is wanted, which tests show,
+//!   nor what they say of a reader whose bytes aren't known;
 //! - that they tell a failed read or `NoMemory` only if there was one. `lockd_commands_tests` has tests of that.
 #![tactic(auto)]
 
@@ -19,8 +21,10 @@ mod lines;
 mod listener;
 mod reading;
 mod replay;
+mod resuming;
 
 pub use asking::{asks_while_waiting, quiet};
-pub use finding::{AuditFault, Audited, Finding};
+pub use finding::{AuditFault, Audited, Finding, Heard};
 pub use judge::Judge;
-pub use reading::{audit, hear_first};
+pub use reading::{audit, hear_cut, hear_first};
+pub use resuming::{Missing, Resumed};

@@ -6,7 +6,7 @@ ghost use Rattle.std.specs.Io.KnownBytes.{Consumes, IsAtEnd, Keeps};
 ghost use Rattle.fl_judge.specs.Inside.Hearing.{IsRoomy, Listens, HearsOn, HasRead, AreJudged, IsBad};
 ghost use Rattle.fl_judge.specs.Hearing.{unheard};
 
-use crate::finding::AuditFault;
+use crate::finding::{AuditFault, Heard};
 use crate::judge::Judge;
 use crate::lines::{Stopped, hear_lines};
 use fl_core::Rules;
@@ -22,10 +22,11 @@ const ROOM: usize = 65536;
 
 // A judge, how many lines it is to hear at most, and the last line that has no newline yet: so many bytes at the front
 // of a room, and no more than any line can have. If it was longer, these tell that it is bad. Once a line was bad, or
-// as many were heard, what comes is no longer heard.
+// as many were heard, what comes is no longer heard. Until then the bytes of the lines that were heard are counted.
 #[derive(Drop)]
 pub(crate) struct Listener {
     judge: Judge,
+    bytes: u64,
     most: Option<usize>,
     room: Vec<u8>,
     kept: usize,
@@ -42,10 +43,12 @@ impl Listener {
         ensures room { IfOk result IsRoomy }
         ensures heard { IfOk result (λ listener. listener.judge ≡ unheard rules) }
         ensures most { IfOk result (λ listener. listener.most ≡ most) }
+        ensures bytes { IfOk result (λ listener. listener.bytes ≡ 0) }
         ensures listens { IfOk result (Listens []) }
     {
         Ok(Listener {
             judge: Judge::new(alloc, rules)?,
+            bytes: 0,
             most,
             room: vec![in alloc; 0; ROOM]?,
             kept: 0,
@@ -57,8 +60,10 @@ impl Listener {
     pub(crate) fn read<R: Read>(&mut self, input: &mut R) -> Result<bool, AuditFault>
         requires room { IsRoomy self.old }
         requires few { length self.old.judge.lines + 2 ^ 16 < 2 ^ 63 }
+        requires bytes { self.old.bytes + 2 ^ 16 < 2 ^ 64 }
         ensures room { IsRoomy self.new }
         ensures few { length self.new.judge.lines ≤ length self.old.judge.lines + 2 ^ 16 }
+        ensures bytes { self.new.bytes ≤ self.old.bytes + 2 ^ 16 }
         ensures rules { self.new.judge.rules ≡ self.old.judge.rules }
         ensures most { self.new.most ≡ self.old.most }
         ensures reads { (left : Option (List ℕ)) → HasRead left (R.remaining input.old) self.old →
@@ -83,8 +88,10 @@ impl Listener {
         requires room { IsRoomy self.old }
         requires within { self.old.kept + came ≤ 2 ^ 16 }
         requires few { length self.old.judge.lines + 2 ^ 16 < 2 ^ 63 }
+        requires bytes { self.old.bytes + 2 ^ 16 < 2 ^ 64 }
         ensures room { IsRoomy self.new }
         ensures few { length self.new.judge.lines ≤ length self.old.judge.lines + 2 ^ 16 }
+        ensures bytes { self.new.bytes ≤ self.old.bytes + 2 ^ 16 }
         ensures rules { self.new.judge.rules ≡ self.old.judge.rules }
         ensures most { self.new.most ≡ self.old.most }
         ensures hears { HearsOn self.old (take came (drop self.old.kept self.old.room.items)) self.new }
@@ -97,26 +104,32 @@ impl Listener {
         match hear_lines(&mut self.judge, self.most, &self.room[..filled]) {
             Err(stopped) => self.stopped = Some(stopped),
             Ok(left) => {
+                let heard = filled - left;
+                self.bytes += heard as u64;
                 self.kept = left.min(LINE_ROOM);
-                keep(&mut self.room, filled - left, self.kept);
+                keep(&mut self.room, heard, self.kept);
             }
         }
     }
 
-    /// Nothing more comes: the judge, unless a line was bad. With `cut` bytes behind the last newline are none.
-    pub(crate) fn end(self, cut: bool) -> Result<Judge, AuditFault>
+    /// Nothing more comes: the judge, unless a line was bad, and how many bytes its lines have, if it heard all. With
+    /// `cut` bytes behind the last newline are none.
+    pub(crate) fn end(self, cut: bool) -> Result<Heard, AuditFault>
         requires room { IsRoomy self }
         requires few { length self.judge.lines < 2 ^ 63 }
-        ensures rules { IfOk result (λ judge. judge.rules ≡ self.judge.rules) }
-        ensures few { IfOk result (λ judge. length judge.lines < 2 ^ 63) }
-        ensures heard { IfOk result (λ judge. (text : List ℕ) → Listens text self →
-            AreJudged self.most cut text judge.lines) }
+        ensures rules { IfOk result (λ heard. heard.judge.rules ≡ self.judge.rules) }
+        ensures few { IfOk result (λ heard. length heard.judge.lines < 2 ^ 63) }
+        ensures heard { IfOk result (λ heard. (text : List ℕ) → Listens text self →
+            AreJudged self.most cut text heard.judge.lines heard.bytes) }
         ensures bad { (n : ℕ) → result ≡ Err (AuditFault.BadLine n) → (text : List ℕ) → Listens text self →
             IsBad self.most cut text n }
     {
         match self.bad_line(cut) {
             Some(n) => Err(AuditFault::BadLine(n)),
-            None => Ok(self.judge),
+            None => Ok(Heard {
+                judge: self.judge,
+                bytes: self.bytes,
+            }),
         }
     }
 
@@ -126,7 +139,7 @@ impl Listener {
         requires few { length self.now.judge.lines < 2 ^ 63 }
         ensures bad { IfSome result (λ n. (text : List ℕ) → Listens text self.now → IsBad self.now.most cut text n) }
         ensures none { IsNone result → (text : List ℕ) → Listens text self.now →
-            AreJudged self.now.most cut text self.now.judge.lines }
+            AreJudged self.now.most cut text self.now.judge.lines self.now.bytes }
     {
         a_line_is_short();
         match self.stopped {

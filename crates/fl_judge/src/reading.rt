@@ -3,10 +3,10 @@
 ghost use Rattle.std.specs.Prelude.{◌≡◌, ◌<◌, ◌^◌, ℕ, length, IfOk, IfSome, Err};
 ghost use Rattle.fl_trace.specs.Text.{BreaksAt, LineFits};
 ghost use Rattle.fl_judge.specs.Audit.{judged_part, whole_lines, IsAudited};
-ghost use Rattle.fl_judge.specs.First.{AreFirstLines, IsSoOfAll, IsWithin};
+ghost use Rattle.fl_judge.specs.First.{AreFirstLines, AreWholeLines, IsSoOfAll, IsWithin};
 ghost use Rattle.fl_judge.specs.Inside.Hearing.{AreJudged, IsBad};
 
-use crate::finding::{AuditFault, Audited, finding_of};
+use crate::finding::{AuditFault, Audited, Heard, finding_of};
 use crate::judge::Judge;
 use crate::listener::Listener;
 use fl_core::Rules;
@@ -33,9 +33,9 @@ pub fn audit<R: Read>(
         IfSome (R.remaining input.old) (λ bytes. BreaksAt LineFits (judged_part cut bytes) n) }
 {
     match hear_all(alloc, rules, None, cut, input) {
-        Ok(judge) => Ok(Audited {
-            finding: finding_of(&judge, cut),
-            quiet: judge.quiet(),
+        Ok(heard) => Ok(Audited {
+            finding: finding_of(&heard.judge, cut),
+            quiet: heard.judge.quiet(),
         }),
         Err(fault) => Err(fault),
     }
@@ -58,22 +58,40 @@ pub fn hear_first<R: Read>(
     ensures bad { (n : ℕ) → result ≡ Err (AuditFault.BadLine n) → IsSoOfAll (R.remaining input.old) (λ text.
         BreaksAt LineFits (whole_lines text) n × IsWithin most n) }
 {
-    hear_all(alloc, rules, most, true, input)
+    match hear_all(alloc, rules, most, true, input) {
+        Ok(heard) => Ok(heard.judge),
+        Err(fault) => Err(fault),
+    }
+}
+
+/// Reads a trace that may be cut off to its end, and gives a judge that heard its whole lines, and how many bytes
+/// these have. What follows the last newline is read and dropped. It takes memory as `audit` does.
+///
+/// A bad line is reported once all of the trace is read. Reading fails as that of `audit` does.
+pub fn hear_cut<R: Read>(alloc: Global, rules: Rules, input: &mut R) -> Result<Heard, AuditFault>
+    ensures rules { IfOk result (λ heard. heard.judge.rules ≡ rules) }
+    ensures heard { IfOk result (λ heard.
+        IsSoOfAll (R.remaining input.old) (λ text. AreWholeLines text heard.judge.lines heard.bytes)) }
+    ensures few { IfOk result (λ heard. length heard.judge.lines < 2 ^ 63) }
+    ensures bad { (n : ℕ) → result ≡ Err (AuditFault.BadLine n) → IsSoOfAll (R.remaining input.old) (λ text.
+        BreaksAt LineFits (whole_lines text) n) }
+{
+    hear_all(alloc, rules, None, true, input)
 }
 
 // Reads a trace to its end, and gives a judge that heard its first lines: at most so many, or all. With `cut` what
-// follows the last newline is dropped, and else it is a bad line.
+// follows the last newline is dropped, and else it is a bad line. If all are wanted, their bytes are counted.
 fn hear_all<R: Read>(
     alloc: Global,
     rules: Rules,
     most: Option<usize>,
     cut: bool,
     input: &mut R,
-) -> Result<Judge, AuditFault>
-    ensures rules { IfOk result (λ judge. judge.rules ≡ rules) }
-    ensures heard { IfOk result (λ judge.
-        IsSoOfAll (R.remaining input.old) (λ text. AreJudged most cut text judge.lines)) }
-    ensures few { IfOk result (λ judge. length judge.lines < 2 ^ 63) }
+) -> Result<Heard, AuditFault>
+    ensures rules { IfOk result (λ heard. heard.judge.rules ≡ rules) }
+    ensures heard { IfOk result (λ heard.
+        IsSoOfAll (R.remaining input.old) (λ text. AreJudged most cut text heard.judge.lines heard.bytes)) }
+    ensures few { IfOk result (λ heard. length heard.judge.lines < 2 ^ 63) }
     ensures bad { (n : ℕ) → result ≡ Err (AuditFault.BadLine n) →
         IsSoOfAll (R.remaining input.old) (λ text. IsBad most cut text n) }
 {

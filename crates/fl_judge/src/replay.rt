@@ -18,8 +18,8 @@ use std::alloc::Global;
 #[derive(Drop)]
 pub(crate) struct Replay {
     pub(crate) core: Core,
-    tolds: Tolds,
-    told: usize,
+    pub(crate) tolds: Tolds,
+    pub(crate) told: usize,
     pub(crate) quiet: bool,
 }
 

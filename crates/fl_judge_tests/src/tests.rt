@@ -3,6 +3,7 @@
 mod first;
 mod present;
 mod quiet;
+mod resumed;
 
 use fl_core::Rules;
 use fl_desk::Verdict;

@@ -65,9 +65,10 @@ abbrev pub Stands : Option ℕ → List ℕ → List Line → List ℕ → Optio
 Stands most text lines kept None = Follows text lines kept
 Stands most text lines kept (Some stopped) = Stops most [] lines text stopped
 
--- a listener knows that of the text so far
+-- a listener knows that of the text so far, and until it stopped how many bytes the lines have
 pub record Listens (text : List ℕ) (l : Listener) : Type 0 where
   pub stands : Stands l.most text l.judge.lines (take l.kept l.room.items) l.stopped
+  pub counts : l.stopped ≡ None → l.bytes ≡ length (text_of l.judge.lines)
 
 -- there is room for a line, and no more lines were heard than are wanted
 pub record IsRoomy (l : Listener) : Type 0 where
@@ -85,10 +86,11 @@ pub record HasRead (left now : Option (List ℕ)) (l : Listener) : Type 0 where
   pub read : Consumes left now text
   pub listens : Listens text l
 
--- The lines are the first of a text. If all are wanted, they are what is judged of it.
-pub record AreJudged (most : Option ℕ) (cut : Bool) (text : List ℕ) (lines : List Line) : Type 0 where
+-- The lines are the first of a text. If all are wanted, they are what is judged of it, and have so many bytes.
+pub record AreJudged (most : Option ℕ) (cut : Bool) (text : List ℕ) (lines : List Line) (bytes : ℕ) : Type 0 where
   pub first : AreFirstLines most text lines
   pub whole : most ≡ None → judged_part cut text ≡ text_of lines
+  pub long : most ≡ None → bytes ≡ length (text_of lines)
 
 -- Line n of what is judged of a text is bad. If the text may be cut off, the line is one of those that are wanted.
 pub record IsBad (most : Option ℕ) (cut : Bool) (text : List ℕ) (n : ℕ) : Type 0 where

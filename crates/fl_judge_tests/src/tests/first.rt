@@ -61,7 +61,7 @@ fn a_line_that_is_cut_off_is_none(rt: HostRuntime) {
     hears(&rt, "ask 0", Some(0), 0);
 }
 
-const THE_SECOND_IS_BAD: &str = "\
+pub(super) const THE_SECOND_IS_BAD: &str = "\
 ask 0 1 1 0 0 0 create 0 420 61
 tell 1 made two 33188 1 0 0 1
 ask 0 2 2 0 0 0 getattr

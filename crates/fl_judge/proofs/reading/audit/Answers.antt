@@ -16,9 +16,9 @@ pub returns-in-Ok-clause-audited : goal.returns-in-Ok-clause-audited
 returns-in-Ok-clause-audited g c =
     let left : Option (List ℕ) = g.R.Read.remaining c.args.input.now in
     let cut = c.args.cut in
-    let lines : List Line = c.in-Ok.judge.lines in
-    let so : IsSoOfAll left (λ text. AreJudged None cut text lines) = c.in-Ok.ensures.heard in
-    let rules : c.in-Ok.judge.rules ≡ c.args.rules = c.in-Ok.ensures.rules in
+    let lines : List Line = c.in-Ok.heard.judge.lines in
+    let so : IsSoOfAll left (λ text. AreJudged None cut text lines c.in-Ok.heard.bytes) = c.in-Ok.ensures.heard in
+    let rules : c.in-Ok.heard.judge.rules ≡ c.args.rules = c.in-Ok.ensures.rules in
     record {
       trace = judged_part cut so.text;
       read = IfSome_then left so.read (λ bytes same. ap (judged_part cut) same);

@@ -3,12 +3,14 @@ use Rattle.fl_judge.proofs.Listening.{read_first, all_of, ok_map}
 use Rattle.fl_judge.proofs.reading.hear_all.Goals as goal
 use Rattle.fl_judge.specs.First.{IsSoOfAll}
 use Rattle.fl_judge.specs.Hearing.{Hearing}
+use Rattle.fl_judge.specs.declared.finding.Heard.{Heard}
 use Rattle.fl_judge.specs.Inside.Hearing.{Listens, HasRead, AreJudged, IsBad}
 
 pub loop-reads-init : goal.loop-reads-init
 loop-reads-init g c = record {
   room = c.in_ok-listener.ensures.room;
   few = (let none = ap (λ (h : Hearing). length h.lines) c.in_ok-listener.ensures.heard in omega (arith, none));
+  bytes = (let none = c.in_ok-listener.ensures.bytes in omega (arith, none));
   rules = ap (λ (h : Hearing). h.rules) c.in_ok-listener.ensures.heard;
   most = c.in_ok-listener.ensures.most;
   read = read_first _ _ c.in_ok-listener.ensures.listens;
@@ -18,6 +20,7 @@ pub loop-reads-preserved : goal.loop-reads-preserved
 loop-reads-preserved g c = record {
   room = c.read.ensures.room;
   few = (let before = c.loop-reads.invariant.few in let more = c.read.ensures.few in omega (arith, before, more));
+  bytes = (let before = c.loop-reads.invariant.bytes in let more = c.read.ensures.bytes in omega (arith, before, more));
   rules = c.read.ensures.rules ∙ c.loop-reads.invariant.rules;
   most = c.read.ensures.most ∙ c.loop-reads.invariant.most;
   read = c.read.ensures.reads _ c.loop-reads.invariant.read;
@@ -25,8 +28,8 @@ loop-reads-preserved g c = record {
 
 pub returns-then-not-more-clause-rules : goal.returns-then-not-more-clause-rules
 returns-then-not-more-clause-rules g c =
-    ok_map c.end.result (λ (judge : Hearing). judge.rules ≡ c.read.new.self.judge.rules) (λ judge. judge.rules ≡ c.args.rules)
-    (λ judge same. same ∙ c.read.ensures.rules ∙ c.loop-reads.invariant.rules) c.end.ensures.rules
+    ok_map c.end.result (λ (heard : Heard). heard.judge.rules ≡ c.read.new.self.judge.rules) (λ heard. heard.judge.rules ≡ c.args.rules)
+    (λ heard same. same ∙ c.read.ensures.rules ∙ c.loop-reads.invariant.rules) c.end.ensures.rules
 
 pub returns-then-not-more-clause-heard : goal.returns-then-not-more-clause-heard
 returns-then-not-more-clause-heard g c =
@@ -34,10 +37,12 @@ returns-then-not-more-clause-heard g c =
     let now : Option (List ℕ) = g.R.Read.remaining c.read.new.input in
     let so : HasRead left now c.read.new.self = c.read.ensures.reads left c.loop-reads.invariant.read in
     let most : c.read.new.self.most ≡ c.args.most = c.read.ensures.most ∙ c.loop-reads.invariant.most in
-    ok_map c.end.result (λ (judge : Hearing). (text : List ℕ) → Listens text c.read.new.self → AreJudged c.read.new.self.most c.args.cut text judge.lines)
-    (λ judge. IsSoOfAll left (λ text. AreJudged c.args.most c.args.cut text judge.lines))
-    (λ judge said. all_of left now so.text (λ text. AreJudged c.args.most c.args.cut text judge.lines) so.read (c.in_ok-more.ensures.end c.if-not-more.true)
-    (subst (λ m. AreJudged m c.args.cut so.text judge.lines) most (said so.text so.listens)))
+    ok_map c.end.result
+    (λ (heard : Heard). (text : List ℕ) → Listens text c.read.new.self → AreJudged c.read.new.self.most c.args.cut text heard.judge.lines heard.bytes)
+    (λ heard. IsSoOfAll left (λ text. AreJudged c.args.most c.args.cut text heard.judge.lines heard.bytes))
+    (λ heard said.
+    all_of left now so.text (λ text. AreJudged c.args.most c.args.cut text heard.judge.lines heard.bytes) so.read (c.in_ok-more.ensures.end c.if-not-more.true)
+    (subst (λ m. AreJudged m c.args.cut so.text heard.judge.lines heard.bytes) most (said so.text so.listens)))
     c.end.ensures.heard
 
 pub returns-then-not-more-clause-bad : goal.returns-then-not-more-clause-bad

@@ -6,6 +6,7 @@ abbrev pub invariant-loop-reads : goal.invariant-loop-reads
 invariant-loop-reads g l = record {
   room : IsRoomy l.listener;
   few : length l.listener.judge.lines ≤ 65536 * l.reads;
+  bytes : l.listener.bytes ≤ 65536 * l.reads;
   rules : l.listener.judge.rules ≡ l.fn.rules;
   most : l.listener.most ≡ l.fn.most;
   read : HasRead (g.R.Read.remaining l.initial.input) (g.R.Read.remaining l.input) l.listener;

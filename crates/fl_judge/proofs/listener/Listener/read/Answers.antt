@@ -12,10 +12,10 @@ returns-in-Ok-clause-reads g c = λ left so.
     let old : Option (List ℕ) = g.R.Read.remaining c.args.input.now in
     let new : Option (List ℕ) = g.R.Read.remaining c.read_piece.new.input in
     let mid : Listener =
-    record { judge = before.judge; most = before.most; room = with_items before.room c.read_piece.new.room; kept = before.kept; stopped = before.stopped } in
+    record { judge = before.judge; bytes = before.bytes; most = before.most; room = with_items before.room c.read_piece.new.room; kept = before.kept; stopped = before.stopped } in
     let same : mid.room.items ≡ c.read_piece.new.room =
     take_at c.read_piece.new.room _ before.room.len (c.read_piece.auto.room ∙ c.deref_mut.ensures.len) in
     read_more left old new mid c.hear.new.self (take c.in-Ok.came (drop before.kept mid.room.items))
     (subst (λ (r : List ℕ). Consumes old new (take c.in-Ok.came (drop before.kept r))) (sym same) c.in-Ok.ensures.read) c.hear.ensures.hears
     (read_none left old old before mid (Keeps-refl old)
-    (other_room before mid refl refl refl refl (ap (take before.kept) same ∙ c.read_piece.ensures.kept ∙ ap (take before.kept) c.deref_mut.ensures.value)) so)
+    (other_room before mid refl refl refl refl refl (ap (take before.kept) same ∙ c.read_piece.ensures.kept ∙ ap (take before.kept) c.deref_mut.ensures.value)) so)
