@@ -1,6 +1,6 @@
 #!/bin/sh
 # Runs `lockd script`, `lockd check` and `lockd bytes` on stored examples, and on scripts of the tests in which requests wait,
-# once for each of their allocations, and refuses that one. Each run must end with status 2, `no memory` on standard error and
+# and `lockd locks` on a trace with locks and requests that wait, once for each of their allocations, and refuses that one. Each run must end with status 2, `no memory` on standard error and
 # nothing on standard output, or else print all that
 # it prints otherwise. A session may refuse an order in place of that. It then answers ENOMEM, or EAGAIN where the order
 # is an INTERRUPT, or nothing where it is a FORGET, and goes on as if the order had never come. Wants a C compiler and
@@ -156,6 +156,24 @@ for title in 'the oldest waiter is served first' 'a grant that turns a write loc
     grep '^ask ' "$work/worked" > "$work/script"
     refuse_script "$work/script" "$title"
     cmp "$work/trace" "$work/worked"
+done
+# Two owners have locks on node 2, which lost its name, and one on node 3, for which two others wait.
+cat > "$work/script" << 'EOF'
+ask 0 1 1 0 0 0 create 0 420 61
+ask 0 2 1 0 0 0 create 0 420 62
+ask 0 3 2 0 0 0 setlk 1 7 0 0 0 11 1
+ask 0 4 2 0 0 0 setlk 1 8 0 3 0 12 0
+ask 0 5 3 0 0 0 setlk 2 7 0 9 1 11 0
+ask 0 6 3 0 0 0 setlkw 2 8 9 20 0 12 0
+ask 0 7 3 0 0 0 setlkw 2 9 4 9 1 13 0
+ask 0 8 1 0 0 0 unlink 61
+EOF
+for rules in '' --fair; do
+    "$program" script $rules < "$work/script" > "$work/trace"
+    for form in '' --json; do
+        refuse_each "locks $rules $form" "$work/trace" "locks${rules:+ $rules}${form:+ $form}"
+    done
+    [ "$(grep -o '"waits":true' "$work/wanted" | wc -l)" -eq 2 ]
 done
 refuse_each bytes examples/two_locks.hex "bytes, two locks" 2
 waiting=examples/waiting.hex

@@ -1,15 +1,16 @@
-//! The commands of `lockd` but `serve`, as functions: `script`, `check` and `bytes` over a reader and two writers,
-//! and `drive`, a client of a server.
+//! The commands of `lockd` but `serve`, as functions: `script`, `check`, `locks` and `bytes` over a reader and two
+//! writers, and `drive`, a client of a server.
 //!
 //! Contracts see no failure of a reader or a writer, and nothing of a socket. They let through:
 //! - a command that tells its fault in part, or not at all;
 //! - one that tells `no memory`, or a read or a write that failed, though none did;
 //! - one that ends well though its output couldn't be flushed;
+//! - a `locks_on` that tells `differs N` in part, or not at all;
 //! - a `drive_on` that sends nothing, connects elsewhere, waits before it sends, doesn't close, or says `no memory`
 //!   at an empty path;
 //! - a `drive_on` that prints replies which didn't come from the socket (`try_stored_replies` in `tools/try_sockets`).
 //!
-//! `lockd_commands_tests`, `tools/try_commands` and `tools/try_sockets` refuse these.
+//! `lockd_commands_tests`, `tools/try_commands`, `tools/try_locks` and `tools/try_sockets` refuse these.
 //!
 //! After `write failed` the output holds a beginning of what was to be printed. No contract says how long it is. If
 //! only the flush failed, it is all: `an_output_that_fails_when_it_is_flushed` in `lockd_commands_tests` sees that of
