@@ -4,7 +4,9 @@ use Rattle.std.proofs.Common.{sym, ap, subst, ◌∙◌, arith, append_assoc, ap
 use Rattle.std.specs.Prelude.{if◌then◌else◌, slice_get}
 use Rattle.std.proofs.lemmas.List.{at_drop_all}
 use Rattle.std.proofs.lemmas.Option.{get_or_from_slice_get, slice_get_within}
+use Rattle.fl_desk.specs.Kept.{Book}
 use Rattle.fl_order.specs.declared.order.Order.{Order}
+use Rattle.fl_session.proofs.Prefixes.{of_another, of_itself}
 use Rattle.fl_session.specs.Inside.Serving.{session_with, AreTaken, IsMet, IsTaken}
 use Rattle.fl_session.specs.Inside.UnderWay.{TakesMany, TakesOne}
 use Rattle.fl_session.specs.Session.{Session, with_incoming, with_message, with_orders}
@@ -54,14 +56,14 @@ met_batch old new handshake orders replies message live is there taken =
     }
 
 -- the session itself answers
-pub met_by_itself : {K : Type 0} (old : Server K) (handshake : Handshake) (response : Response) (message : List ℕ)
-    → old.handshake.over ≡ false → incoming_of old.handshake message ≡ incoming.Response response
-    → handshake ≡ advanced old.handshake message
-    → IsMet old (record old { handshake = handshake }) (bytes_of response) message
-met_by_itself old handshake response message live is there = record {
+pub met_by_itself : {K : Type 0} (old : Server K) (desk : Book) (handshake : Handshake) (response : Response)
+    (message : List ℕ) → old.handshake.over ≡ false → incoming_of old.handshake message ≡ incoming.Response response
+    → handshake ≡ advanced old.handshake message → desk.lines ≡ old.desk.lines → desk.present ≡ old.desk.present
+    → IsMet old (record old { desk = desk; handshake = handshake }) (bytes_of response) message
+met_by_itself old desk handshake response message live is there lines present = record {
   refused = [];
-  is = λ before.
-      sym (met_as (session_with old before) handshake (incoming.Response response) message [] live is there);
+  is = λ before. rw (lines, present)
+      (sym (met_as (session_with old before) handshake (incoming.Response response) message [] live is there));
 }
 
 -- ---- the orders of a batch, one after another
@@ -78,6 +80,8 @@ many_first server out orders = record {
   collected = record {
     onward = λ start replies given. subst (IsGiven start out) (sym (append-nil replies)) given;
   };
+  stored = of_itself _ _ refl;
+  unwritten = refl;
 }
 
 -- the first that is left stands at the place of how many there were before it
@@ -91,9 +95,9 @@ left_first orders i order at =
 
 -- one more is taken
 pub many_more : {K : Type 0} (old now next : Server K) (a b c : Outgoing) (orders left rest : List Order)
-    (order : Order) → left ≡ order ∷ rest → TakesMany old now a b orders left → TakesOne now next b c order
-    → TakesMany old next a c orders rest
-many_more old now next a b c orders left rest order first many one =
+    (order : Order) → left ≡ order ∷ rest → c.held ≡ b.held → TakesMany old now a b orders left
+    → TakesOne now next b c order → TakesMany old next a c orders rest
+many_more old now next a b c orders left rest order first held many one =
     let flag : Bool = one.taken.refused in
     record {
       replies = many.replies ++ one.replies;
@@ -112,14 +116,18 @@ many_more old now next a b c orders left rest order first many one =
         onward = λ start replies given. subst (IsGiven start c) (append_assoc replies many.replies one.replies)
             (one.collected.onward start (replies ++ many.replies) (many.collected.onward start replies given));
       };
+      stored = of_another _ _ _ many.stored one.behind.0;
+      unwritten = held ∙ many.unwritten;
     }
 
 -- the order at this place is taken
 pub many_next : {K : Type 0} (old now next : Server K) (a b c : Outgoing) (orders : List Order) (i : ℕ)
-    (order : Order) → slice_get orders i ≡ Some order → TakesMany old now a b orders (drop i orders)
-    → TakesOne now next b c order → TakesMany old next a c orders (drop (i + 1) orders)
-many_next old now next a b c orders i order at many one =
-    many_more old now next a b c orders (drop i orders) (drop (i + 1) orders) order (left_first orders i order at) many one
+    (order : Order) → slice_get orders i ≡ Some order → c.held ≡ b.held
+    → TakesMany old now a b orders (drop i orders) → TakesOne now next b c order
+    → TakesMany old next a c orders (drop (i + 1) orders)
+many_next old now next a b c orders i order at held many one =
+    many_more old now next a b c orders (drop i orders) (drop (i + 1) orders) order (left_first orders i order at) held
+    many one
 
 -- all are taken
 pub many_all : {K : Type 0} (old now : Server K) (a b : Outgoing) (orders : List Order) (i : ℕ) → length orders ≤ i

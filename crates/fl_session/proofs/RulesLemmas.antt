@@ -4,13 +4,12 @@ use Rattle.std.specs.Prelude.{fold, if◌then◌else◌}
 use Rattle.fl_core.specs.Step.{replies_in}
 use Rattle.fl_desk.specs.Replay.{state_after}
 use Rattle.fl_order.specs.declared.order.Order.{Order}
-use Rattle.fl_session.specs.Session.{Came, Session, messages_of, opening_session, session_of}
+use Rattle.fl_session.specs.Session.{Came, Session, messages_of, session_from}
 use Rattle.fl_session.specs.Session.{with_incoming, with_message, with_order, with_orders, with_refusal, with_step}
-use Rattle.fl_transport.specs.Handshake.{advanced, handshake_of, incoming_of}
+use Rattle.fl_transport.specs.Handshake.{advanced, handshake_of, incoming_of, opening}
 use Rattle.fl_transport.specs.declared.handshake.Handshake.{Handshake}
 use Rattle.fl_transport.specs.declared.handshake.Incoming.{Incoming}
 use Rattle.fl_transport.specs.declared.handshake.Incoming.TheVariants as incoming
-use Rattle.fl_waiting.specs.declared.rules.Rules.{Rules}
 
 -- these two are the same in both
 record IsAlike (s t : Session) : Type 0 where
@@ -65,8 +64,8 @@ by_messages s [] = refl
 by_messages s (c ∷ came) = by_messages (with_message s c) came ∙ (by_message s c).rules
 
 -- the rules of a session are those that it began with
-pub rules_of : (rules : Rules) (came : List Came) → (session_of rules came).rules ≡ rules
-rules_of rules came = by_messages (opening_session rules) came
+pub rules_from : (first : Session) (came : List Came) → (session_from first came).rules ≡ first.rules
+rules_from first came = by_messages first came
 
 brought_by : (s : Session) (came : List Came)
     → (fold with_message s came).handshake ≡ fold advanced s.handshake (messages_of came)
@@ -75,5 +74,6 @@ brought_by s (c ∷ came) = brought_by (with_message s c) came
     ∙ ap (λ handshake. fold advanced handshake (messages_of came)) (by_message s c).handshake
 
 -- a session is as far as its messages alone bring it
-pub as_far : (rules : Rules) (came : List Came) → (session_of rules came).handshake ≡ handshake_of (messages_of came)
-as_far rules came = brought_by (opening_session rules) came
+pub as_far : (first : Session) (came : List Came) → first.handshake ≡ opening
+    → (session_from first came).handshake ≡ handshake_of (messages_of came)
+as_far first came began = brought_by first came ∙ ap (λ h. fold advanced h (messages_of came)) began

@@ -1,8 +1,10 @@
 -- What a session did with a reader and a writer.
-use Rattle.std.specs.Prelude.{◌≡◌, ℕ, ◌≤◌, Bool, true, false, List, length, All}
+use Rattle.std.specs.Prelude.{◌≡◌, ◌⊎◌, ℕ, ◌≤◌, Bool, true, false, List, [], ◌++◌, length, All}
 use Rattle.std.specs.List.{concat}
 use Rattle.std.specs.Io.KnownBytes.{Appends}
-use Rattle.fl_session.specs.Session.{Came, messages_of, session_of}
+use mathlib.Core.List.{IsPrefix}
+use Rattle.fl_history.specs.declared.history.Line.{Line}
+use Rattle.fl_session.specs.Session.{Came, messages_of, session_behind}
 use Rattle.fl_session.specs.declared.done.Done.{Done}
 use Rattle.fl_transport.specs.Collecting.{IsProperPrefix}
 use Rattle.fl_transport.specs.Ending.{EndsBy, IsRead}
@@ -17,17 +19,35 @@ AreSent false sent replies = sent ≡ concat replies
 AreSent true sent replies = IsProperPrefix sent (concat replies)
 
 -- What was read is whole messages and a rest of at most 8192 bytes. The history is the lines of the session of these
--- messages under these rules, and its replies were written, each of which says its own length: all of them, or after a
--- failed write (`broken`) a prefix.
-pub record IsServed (rules : Rules) (streams : Streams) (broken : Bool) (done : Done) : Type 0 where
+-- messages behind the lines that were there, under these rules, and its replies were written, each of which says its own
+-- length: all of them, or after a failed write (`broken`) a prefix.
+pub record IsServedBehind (rules : Rules) (base : List Line) (streams : Streams) (broken : Bool) (done : Done)
+    : Type 0 where
   pub came : List Came
   pub rest : List ℕ
   pub sent : List ℕ
   pub is_read : IsRead streams.left streams.left_now (messages_of came) rest
   pub bounded : length rest ≤ 8192
-  pub history : done.history ≡ (session_of rules came).lines
-  pub refused : done.refused ≡ (session_of rules came).refused
-  pub framed : All IsReply (session_of rules came).replies
+  pub history : done.history ≡ (session_behind rules base came).lines
+  pub refused : done.refused ≡ (session_behind rules base came).refused
+  pub framed : All IsReply (session_behind rules base came).replies
   pub written : Appends streams.held streams.held_now sent
-  pub are_sent : AreSent broken sent (session_of rules came).replies
+  pub are_sent : AreSent broken sent (session_behind rules base came).replies
   pub ending : EndsBy done.fault broken (messages_of came) rest streams.left_now
+
+-- the same, where no lines were there
+abbrev pub IsServed : Rules → Streams → Bool → Done → Type 0
+IsServed rules streams broken done = IsServedBehind rules [] streams broken done
+
+-- Whatever the writer holds behind what it held are replies to messages at the front of those that came, all of them or a
+-- beginning, and the lines of the session of these messages are stored, unless nothing was written.
+pub record IsAhead (rules : Rules) (base : List Line) (streams : Streams) (stored : List Line) : Type 0 where
+  pub front : List Came
+  pub back : List Came
+  pub rest : List ℕ
+  pub sent : List ℕ
+  pub owed : List ℕ
+  pub is_read : IsRead streams.left streams.left_now (messages_of (front ++ back)) rest
+  pub written : Appends streams.held streams.held_now sent
+  pub parts : sent ++ owed ≡ concat (session_behind rules base front).replies
+  pub covered : (sent ≡ []) ⊎ IsPrefix (session_behind rules base front).lines stored

@@ -77,6 +77,14 @@ with_message s came =
     else with_incoming (record s { handshake = advanced s.handshake came.message }) came.refused
     (incoming_of s.handshake came.message)
 
+-- a session that goes on by these messages
+abbrev pub session_from : Session → List Came → Session
+session_from s came = fold with_message s came
+
+-- the session of these messages behind these lines, under these rules
+abbrev pub session_behind : Rules → List Line → List Came → Session
+session_behind rules base came = session_from (record (opening_session rules) { lines = base }) came
+
 -- the session of these messages, under these rules
 abbrev pub session_of : Rules → List Came → Session
-session_of rules came = fold with_message (opening_session rules) came
+session_of rules came = session_behind rules [] came

@@ -12,10 +12,11 @@
 mod answering;
 mod done;
 mod recorded;
+mod replying;
 mod server;
 mod session;
 
 pub use done::Done;
 pub use fl_transport::{Broken, Fault, Outbox};
 pub use recorded::Recorded;
-pub use session::{Ended, record_session, run_one, run_session};
+pub use session::{Ended, record_session, resume_session, run_one, run_session};

@@ -6,11 +6,12 @@ ghost use Rattle.fl_session.specs.Inside.UnderWay.{IsAnswered, TakesMany, TakesO
 ghost use Rattle.fl_transport.specs.Collecting.{outgoing};
 ghost use Rattle.fl_transport.specs.Outbox.{writer_of};
 
+use crate::replying::Replying;
 use fl_core::{Rules, Tolds};
 use fl_desk::Desk;
 use fl_history::Journal;
 use fl_order::{NoMemory, Order};
-use fl_transport::{Handshake, Incoming, ReplyBatch, Response};
+use fl_transport::{Handshake, Incoming, Response};
 use fl_wire::{Batch, Frame};
 use std::alloc::Global;
 use std::io::Write;
@@ -26,16 +27,16 @@ pub(crate) struct Server<J: Journal> {
 }
 
 impl<J: Journal> Server<J> {
-    /// No message came yet, and the journal has no line. Requests will wait by these rules.
-    pub(crate) fn new(alloc: Global, journal: J, rules: Rules) -> Result<Server<J>, NoMemory>
+    /// No message came yet. The desk has these rules.
+    pub(crate) fn new(alloc: Global, desk: Desk<J>, rules: Rules) -> Result<Server<J>, NoMemory>
     where
         J: Drop,
-        requires none { J.lines journal ≡ [] }
+        requires rules { desk.present.rules ≡ rules }
         ensures fresh { IfOk result IsFresh }
-        ensures rules { IfOk result (λ server. server.desk.present.rules ≡ rules) }
+        ensures desk { IfOk result (λ server. server.desk ≡ desk) }
     {
         Ok(Server {
-            desk: Desk::over(alloc, journal, rules)?,
+            desk,
             tolds: Tolds::new(alloc, rules)?,
             handshake: Handshake::new(),
             refused: false,
@@ -43,48 +44,72 @@ impl<J: Journal> Server<J> {
     }
 
     /// Answers a message of a session that isn't over.
-    pub(crate) fn answer<W: Write>(&mut self, batch: &mut ReplyBatch<'_, W>, frame: &Frame)
+    pub(crate) fn answer<W: Write>(&mut self, replying: &mut Replying<'_, W>, frame: &Frame)
         requires live { self.old.handshake.over ≡ false }
         requires ready { IsReady self.old }
         ensures ready { IsReady self.new }
-        ensures same { (writer_of batch.new.out).ghost_name ≡ (writer_of batch.old.out).ghost_name }
-        ensures answered { IsAnswered self.old self.new (outgoing W.contents batch.old)
-            (outgoing W.contents batch.new) frame.now }
+        ensures same { (writer_of replying.new.batch.out).ghost_name ≡ (writer_of replying.old.batch.out).ghost_name }
+        ensures answered { IsAnswered self.old self.new (outgoing W.contents replying.old.batch)
+            (outgoing W.contents replying.new.batch) frame.now }
     {
         // By reference, so that no order is copied once more.
         match &self.handshake.receive(frame) {
-            Incoming::Order(order) => self.take(batch, order),
-            Incoming::Batch(orders) => self.take_all(batch, orders),
-            Incoming::Response(response) => batch.collect(response),
+            Incoming::Order(order) => self.take(replying, order),
+            Incoming::Batch(orders) => self.take_all(replying, orders),
+            Incoming::Response(response) => replying.collect(&mut self.desk, response),
         }
     }
 
-    // Takes orders of worker 0, each whatever became of those before it, and collects their replies.
-    fn take_all<W: Write>(&mut self, batch: &mut ReplyBatch<'_, W>, orders: &Batch)
+    // Takes orders of worker 0, each whatever became of those before it, and keeps their replies.
+    fn take_all<W: Write>(&mut self, replying: &mut Replying<'_, W>, orders: &Batch)
         requires { IsReady self.old }
         ensures ready { IsReady self.new }
-        ensures same { (writer_of batch.new.out).ghost_name ≡ (writer_of batch.old.out).ghost_name }
-        ensures taken { TakesMany self.old self.new (outgoing W.contents batch.old)
-            (outgoing W.contents batch.new) orders.now [] }
+        ensures same { (writer_of replying.new.batch.out).ghost_name ≡ (writer_of replying.old.batch.out).ghost_name }
+        ensures taken { TakesMany self.old self.new (outgoing W.contents replying.old.batch)
+            (outgoing W.contents replying.new.batch) orders.now [] }
     {
         for i in 0..orders.count() {
-            self.take(batch, &orders.order(i));
+            self.take_one_of(replying, &orders.order(i));
+        }
+    }
+
+    // Takes an order of worker 0, and keeps its replies.
+    fn take_one_of<W: Write>(&mut self, replying: &mut Replying<'_, W>, order: &Order)
+        requires { IsReady self.old }
+        ensures ready { IsReady self.new }
+        ensures same { (writer_of replying.new.batch.out).ghost_name ≡ (writer_of replying.old.batch.out).ghost_name }
+        ensures held { W.contents (writer_of replying.new.batch.out).now ≡ W.contents (writer_of replying.old.batch.out).now }
+        ensures taken { TakesOne self.old self.new (outgoing W.contents replying.old.batch)
+            (outgoing W.contents replying.new.batch) order.now }
+    {
+        match self.desk.take(0, order, &mut self.tolds) {
+            Ok(()) => replying.keep(&Response::Replies(self.tolds.as_slice())),
+            Err(NoMemory) => {
+                self.refused = true;
+                replying.keep(&Response::lost(order.op.kind(), order.unique));
+            }
         }
     }
 
     // Takes an order of worker 0, and collects its replies.
-    fn take<W: Write>(&mut self, batch: &mut ReplyBatch<'_, W>, order: &Order)
+    fn take<W: Write>(&mut self, replying: &mut Replying<'_, W>, order: &Order)
         requires { IsReady self.old }
         ensures ready { IsReady self.new }
-        ensures same { (writer_of batch.new.out).ghost_name ≡ (writer_of batch.old.out).ghost_name }
-        ensures taken { TakesOne self.old self.new (outgoing W.contents batch.old)
-            (outgoing W.contents batch.new) order.now }
+        ensures same { (writer_of replying.new.batch.out).ghost_name ≡ (writer_of replying.old.batch.out).ghost_name }
+        ensures taken { TakesOne self.old self.new (outgoing W.contents replying.old.batch)
+            (outgoing W.contents replying.new.batch) order.now }
     {
-        match self.desk.take(0, order, &mut self.tolds) {
-            Ok(()) => batch.collect(&Response::Replies(self.tolds.as_slice())),
+        let Server {
+            desk,
+            tolds,
+            handshake: _,
+            refused,
+        } = self;
+        match desk.take(0, order, tolds) {
+            Ok(()) => replying.collect(desk, &Response::Replies(tolds.as_slice())),
             Err(NoMemory) => {
-                self.refused = true;
-                batch.collect(&Response::lost(order.op.kind(), order.unique));
+                *refused = true;
+                replying.collect(desk, &Response::lost(order.op.kind(), order.unique));
             }
         }
     }

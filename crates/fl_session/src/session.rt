@@ -1,18 +1,18 @@
 //! A whole session of the FUSE protocol with one worker, over any reader and any writer.
 
-ghost use Rattle.std.specs.Prelude.{◌≡◌, ◌⊎◌, Bool, false, [], Option, None, Some, IfOk, IfSome, IsSome};
+ghost use Rattle.std.specs.Prelude.{◌≡◌, ◌≢◌, ◌⊎◌, Bool, false, [], Option, None, Some, IfOk, IfSome, IsSome, OnErr};
 ghost use Rattle.std.specs.Io.KnownBytes.{Keeps};
 ghost use Rattle.fl_desk.specs.Legal.{IsLegal};
 ghost use Rattle.fl_session.specs.Recorded.{done_of};
-ghost use Rattle.fl_session.specs.Served.{IsServed};
-ghost use Rattle.fl_session.specs.Inside.Serving.{IsFresh};
-ghost use Rattle.fl_transport.specs.Inbox.{IsUnread};
+ghost use Rattle.fl_session.specs.Served.{IsAhead, IsServed, IsServedBehind};
 
-use crate::answering::answer_all;
+use crate::answering::serve_all;
 use crate::done::Done;
 use crate::recorded::Recorded;
+use crate::replying::Replying;
 use crate::server::Server;
 use fl_core::Rules;
+use fl_desk::Desk;
 use fl_history::{Journal, Lines};
 use fl_order::NoMemory;
 use fl_transport::{Fault, Inbox, Outbox, ReplyBatch, ReplyBuffer};
@@ -60,7 +60,8 @@ pub fn run_session<R: Read, W: Write>(alloc: Global, r: &mut R, w: &mut W, rules
 }
 
 /// The same, but its lines go to this journal, which has none so far. The journal comes back with them, except at
-/// `NoMemory`: then it is dropped, and nothing was read or written. It is flushed before each read.
+/// `NoMemory`: then it is dropped, and nothing was read or written. It is flushed before each read, and before replies go
+/// out: if it can't store its lines then, no reply that waits goes out, and the session ends.
 pub fn record_session<R: Read, W: Write, J: Journal + Drop>(
     alloc: Global,
     r: &mut R,
@@ -75,21 +76,66 @@ pub fn record_session<R: Read, W: Write, J: Journal + Drop>(
       held = W.contents w.old;
       held_now = W.contents w.new;
     }) result.1 (done_of J.lines result.0) }
+    ensures ahead { IfSome result.0.journal (λ journal. IsAhead rules [] (record {
+      left = R.remaining r.old;
+      left_now = R.remaining r.new;
+      held = W.contents w.old;
+      held_now = W.contents w.new;
+    }) (J.stored journal)) }
     ensures legal { IfSome result.0.journal (λ journal. IsLegal rules (J.lines journal)) }
     ensures back { IsSome result.0.journal ⊎ (result.0.fault ≡ Some Fault.NoMemory) }
     ensures nothing { result.0.fault ≡ Some Fault.NoMemory
         → (result.0.journal ≡ None) × Keeps (R.remaining r.old) (R.remaining r.new) }
     ensures unwritten { result.0.fault ≡ Some Fault.NoMemory → Keeps (W.contents w.old) (W.contents w.new) }
 {
-    let Ok((mut inbox, mut server, replies)) = memory(alloc, journal, rules) else {
+    let Ok(desk) = Desk::over(alloc, journal, rules) else {
         return (Recorded::nothing(alloc, Fault::NoMemory), false);
     };
-    let mut batch = ReplyBatch {
-        replies,
-        out: Outbox::new(w),
+    match resume_session(alloc, r, w, desk, rules) {
+        Ok(ended) => ended,
+        Err(NoMemory) => (Recorded::nothing(alloc, Fault::NoMemory), false),
+    }
+}
+
+/// The same, but the session goes on behind the lines of a desk that has these rules. The journal comes back, and the
+/// history is all its lines. If memory runs out, the desk is dropped, and nothing was read or written.
+pub fn resume_session<R: Read, W: Write, J: Journal + Drop>(
+    alloc: Global,
+    r: &mut R,
+    w: &mut W,
+    desk: Desk<J>,
+    rules: Rules,
+) -> Result<(Recorded<J>, bool), NoMemory>
+    requires rules { desk.present.rules ≡ rules }
+    ensures served { IfOk result (λ ended. IsServedBehind rules desk.lines (record {
+      left = R.remaining r.old;
+      left_now = R.remaining r.new;
+      held = W.contents w.old;
+      held_now = W.contents w.new;
+    }) ended.1 (done_of J.lines ended.0)) }
+    ensures ahead { IfOk result (λ ended. IfSome ended.0.journal (λ journal. IsAhead rules desk.lines (record {
+      left = R.remaining r.old;
+      left_now = R.remaining r.new;
+      held = W.contents w.old;
+      held_now = W.contents w.new;
+    }) (J.stored journal))) }
+    ensures legal { IfOk result (λ ended. IfSome ended.0.journal (λ journal. IsLegal rules (J.lines journal))) }
+    ensures back { IfOk result (λ ended. IsSome ended.0.journal) }
+    ensures fault { IfOk result (λ ended. ended.0.fault ≢ Some Fault.NoMemory) }
+    ensures unread { OnErr result (Keeps (R.remaining r.old) (R.remaining r.new) × Keeps (W.contents w.old) (W.contents w.new)) }
+{
+    let mut inbox = Inbox::new(alloc)?;
+    let mut server = Server::new(alloc, desk, rules)?;
+    let replies = ReplyBuffer::new(alloc)?;
+    let mut replying = Replying {
+        batch: ReplyBatch {
+            replies,
+            out: Outbox::new(w),
+        },
+        lost: false,
     };
-    let fault = answer_all(r, &mut inbox, &mut server, &mut batch);
-    batch.flush();
+    let fault = serve_all(r, &mut inbox, &mut server, &mut replying);
+    let Replying { batch, lost: _ } = replying;
     let ReplyBatch { replies, out } = batch;
     // Here, since the proof finds no more what the writer holds if something is dropped behind it.
     drop(replies);
@@ -102,23 +148,5 @@ pub fn record_session<R: Read, W: Write, J: Journal + Drop>(
         fault: Fault::told(fault, broken),
         refused,
     };
-    (recorded, broken)
-}
-
-// The memory of a session: a room for a message, the lock directory, and a room for replies.
-fn memory<J: Journal + Drop>(
-    alloc: Global,
-    journal: J,
-    rules: Rules,
-) -> Result<(Inbox, Server<J>, ReplyBuffer), NoMemory>
-    requires none { J.lines journal ≡ [] }
-    ensures unread { IfOk result (λ made. IsUnread made.0) }
-    ensures fresh { IfOk result (λ made. IsFresh made.1) }
-    ensures rules { IfOk result (λ made. made.1.desk.present.rules ≡ rules) }
-    ensures empty { IfOk result (λ made. made.2 ≡ []) }
-{
-    let inbox = Inbox::new(alloc)?;
-    let server = Server::new(alloc, journal, rules)?;
-    let replies = ReplyBuffer::new(alloc)?;
-    Ok((inbox, server, replies))
+    Ok((recorded, broken))
 }

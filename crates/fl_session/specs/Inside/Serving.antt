@@ -26,7 +26,6 @@ pub record IsFresh {K : Type 0} (server : Server K) : Type 0 where
   pub ready : IsReady server
   pub handshake : server.handshake ≡ opening
   pub refused : server.refused ≡ false
-  pub lines : server.desk.lines ≡ []
 
 -- a message is answered, whatever was answered before
 pub record IsMet {K : Type 0} (old new : Server K) (replies : List (List ℕ)) (message : List ℕ) : Type 0 where

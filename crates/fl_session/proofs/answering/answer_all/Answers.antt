@@ -1,4 +1,4 @@
-use Rattle.std.proofs.Common.{◌∙◌, refl, sym, arith, ap, length}
+use Rattle.std.proofs.Common.{◌∙◌, inl, refl, sym, arith, ap, length}
 use Rattle.fl_session.proofs.SessionLemmas.{way_first, way_more, way_rests, way_ends, way_read}
 use Rattle.fl_session.proofs.answering.answer_all.Goals as goal
 
@@ -27,6 +27,14 @@ loop-server-preserved g c = record {
   ready = c.rest.ensures.ready c.loop-server.invariant.ready;
   under = way_read _ _ _ _ _ _ c.fill.ensures.read
       (way_rests _ _ _ _ _ _ c.rest.ensures.rests c.loop-server.invariant.under);
+}
+
+pub returns-then-replying-2-clause-ended : goal.returns-then-replying-2-clause-ended
+returns-then-replying-2-clause-ended g c = record {
+  rest = c.loop-server.inbox.rest;
+  bounded = c.loop-server.invariant.bounded;
+  under = way_rests _ _ _ _ _ _ c.rest.ensures.rests c.loop-server.invariant.under;
+  ending = inl refl;
 }
 
 pub returns-in-End-clause-ended : goal.returns-in-End-clause-ended

@@ -1,4 +1,4 @@
-use Rattle.std.proofs.Common.{sym, ◌∙◌}
+use Rattle.std.proofs.Common.{inl, sym, ◌∙◌}
 use Rattle.fl_session.proofs.MeetLemmas.{met_batch, met_by_itself, met_order}
 use Rattle.fl_transport.specs.Response.{bytes_of}
 use Rattle.fl_session.proofs.server.Server.answer.Goals as goal
@@ -11,6 +11,7 @@ returns-in-Order-clause-answered g c =
       met = met_order c.args.self.now c.take.new.self c.receive.new.self c.in-Order.order one.replies c.args.frame.now
           c.requires.live (sym c.receive.ensures.incoming ∙ c.in-Order.is) c.receive.ensures.advanced one.taken;
       collected = one.collected;
+      behind = one.behind;
     }
 
 pub returns-in-Batch-clause-answered : goal.returns-in-Batch-clause-answered
@@ -21,12 +22,15 @@ returns-in-Batch-clause-answered g c =
       met = met_batch c.args.self.now c.take_all.new.self c.receive.new.self c.in-Batch.orders many.replies c.args.frame.now
           c.requires.live (sym c.receive.ensures.incoming ∙ c.in-Batch.is) c.receive.ensures.advanced many.taken;
       collected = many.collected;
+      behind = (many.stored, inl many.unwritten);
     }
 
 pub returns-in-Response-clause-answered : goal.returns-in-Response-clause-answered
 returns-in-Response-clause-answered g c = record {
   replies = bytes_of c.in-Response.response;
-  met = met_by_itself c.args.self.now c.receive.new.self c.in-Response.response c.args.frame.now c.requires.live
-      (sym c.receive.ensures.incoming ∙ c.in-Response.is) c.receive.ensures.advanced;
+  met = met_by_itself c.args.self.now c.collect.new.desk c.receive.new.self c.in-Response.response c.args.frame.now c.requires.live
+      (sym c.receive.ensures.incoming ∙ c.in-Response.is) c.receive.ensures.advanced c.collect.ensures.desk.0
+      c.collect.ensures.desk.1;
   collected = c.collect.ensures.collected;
+  behind = c.collect.ensures.behind;
 }

@@ -12,9 +12,9 @@ loop-i-init g c = record {
 
 pub loop-i-preserved : goal.loop-i-preserved
 loop-i-preserved g c = record {
-  ready = c.take.ensures.ready;
-  same = c.take.ensures.same ∙ c.loop-i.invariant.same;
-  taken = many_next _ _ _ _ _ _ _ _ _ c.order.ensures c.loop-i.invariant.taken c.take.ensures.taken;
+  ready = c.take_one_of.ensures.ready;
+  same = c.take_one_of.ensures.same ∙ c.loop-i.invariant.same;
+  taken = many_next _ _ _ _ _ _ _ _ _ c.order.ensures c.take_one_of.ensures.held c.loop-i.invariant.taken c.take_one_of.ensures.taken;
 }
 
 pub returns-clause-taken : goal.returns-clause-taken

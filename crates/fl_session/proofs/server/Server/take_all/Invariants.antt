@@ -9,7 +9,7 @@ use Rattle.fl_session.proofs.server.Server.take_all.Given as goal
 abbrev pub invariant-loop-i : goal.invariant-loop-i
 invariant-loop-i g l = record {
   ready : IsReady l.self;
-  same : (writer_of l.batch.out).ghost_name ≡ (writer_of l.initial.batch.out).ghost_name;
-  taken : TakesMany l.initial.self l.self (outgoing g.W.Write.contents l.initial.batch)
-      (outgoing g.W.Write.contents l.batch) l.orders (drop l.i l.orders);
+  same : (writer_of l.replying.batch.out).ghost_name ≡ (writer_of l.initial.replying.batch.out).ghost_name;
+  taken : TakesMany l.initial.self l.self (outgoing g.W.Write.contents l.initial.replying.batch)
+      (outgoing g.W.Write.contents l.replying.batch) l.orders (drop l.i l.orders);
 }
