@@ -59,10 +59,10 @@ ends_by : (fault told : Option Fault) (over broken : Bool) (messages : List (Lis
     (left : Option (List ℕ)) → over ≡ (handshake_of messages).over
     → (fault ≡ Some Unstored) ⊎ IsEnding fault over rest left → (fault ≡ Some Unstored → told ≡ Some Unstored)
     → (IsEnding fault (handshake_of messages).over rest left → EndsBy told broken messages rest left)
-    → EndsBy told broken messages rest left
-ends_by fault told over broken messages rest left same (inl unstored) kept on = rw (kept unstored) tt
+    → (told ≡ Some Unstored) ⊎ EndsBy told broken messages rest left
+ends_by fault told over broken messages rest left same (inl unstored) kept on = inl (kept unstored)
 ends_by fault told over broken messages rest left same (inr ending) kept on =
-    on (subst (λ o. IsEnding fault o rest left) same ending)
+    inr (on (subst (λ o. IsEnding fault o rest left) same ending))
 
 -- a session that ended, of which nothing waits, is served behind the lines that its desk began with
 pub served : {K : Type 0} (rules : Rules) (base : List Line) (first : Session) (way : Way) (server : Server K)
@@ -144,7 +144,7 @@ unserved rules left left_now held held_now done history fault refused unread kep
   framed = All-nil IsReply;
   written = Appends-kept held held held_now [] (Appends-nil held) kept;
   are_sent = refl;
-  ending = rw fault (refl, refl);
+  ending = inr (rw fault (refl, refl));
 }
 
 -- the lines of a journal are legal, and no lines if there is none

@@ -1,5 +1,5 @@
 -- What a session did with a reader and a writer.
-use Rattle.std.specs.Prelude.{◌≡◌, ◌⊎◌, ℕ, ◌≤◌, Bool, true, false, List, [], ◌++◌, length, All}
+use Rattle.std.specs.Prelude.{◌≡◌, ◌⊎◌, ℕ, ◌≤◌, Bool, true, false, List, [], ◌++◌, length, All, Some}
 use Rattle.std.specs.List.{concat}
 use Rattle.std.specs.Io.KnownBytes.{Appends}
 use mathlib.Core.List.{IsPrefix}
@@ -9,6 +9,7 @@ use Rattle.fl_session.specs.declared.done.Done.{Done}
 use Rattle.fl_transport.specs.Collecting.{IsProperPrefix}
 use Rattle.fl_transport.specs.Ending.{EndsBy, IsRead}
 use Rattle.fl_transport.specs.Streams.{Streams}
+use Rattle.fl_transport.specs.declared.fault.Fault.TheVariants.{Unstored}
 use Rattle.fl_waiting.specs.declared.rules.Rules.{Rules}
 use Rattle.fl_wire.specs.Spell.{IsReply}
 
@@ -20,7 +21,7 @@ AreSent true sent replies = IsProperPrefix sent (concat replies)
 
 -- What was read is whole messages and a rest of at most 8192 bytes. The history is the lines of the session of these
 -- messages behind the lines that were there, under these rules, and its replies were written, each of which says its own
--- length: all of them, or after a failed write (`broken`) a prefix.
+-- length: all of them, or after a failed write (`broken`) a prefix. If lines can't be stored, it ends behind any message.
 pub record IsServedBehind (rules : Rules) (base : List Line) (streams : Streams) (broken : Bool) (done : Done)
     : Type 0 where
   pub came : List Came
@@ -33,7 +34,7 @@ pub record IsServedBehind (rules : Rules) (base : List Line) (streams : Streams)
   pub framed : All IsReply (session_behind rules base came).replies
   pub written : Appends streams.held streams.held_now sent
   pub are_sent : AreSent broken sent (session_behind rules base came).replies
-  pub ending : EndsBy done.fault broken (messages_of came) rest streams.left_now
+  pub ending : (done.fault ≡ Some Unstored) ⊎ EndsBy done.fault broken (messages_of came) rest streams.left_now
 
 -- the same, where no lines were there
 abbrev pub IsServed : Rules → Streams → Bool → Done → Type 0

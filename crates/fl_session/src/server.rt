@@ -102,8 +102,8 @@ impl<J: Journal> Server<J> {
         let Server {
             desk,
             tolds,
-            handshake: _,
             refused,
+            ..
         } = self;
         match desk.take(0, order, tolds) {
             Ok(()) => replying.collect(desk, &Response::Replies(tolds.as_slice())),

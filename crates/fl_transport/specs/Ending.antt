@@ -1,5 +1,5 @@
 -- Which messages came, and how a session ended after them.
-use Rattle.std.specs.Prelude.{◌≡◌, ℕ, ◌<◌, ◌⊎◌, ⊤, Bool, true, false, List, [], ◌∷◌, ◌++◌, length, Option, Some, None}
+use Rattle.std.specs.Prelude.{◌≡◌, ℕ, ◌<◌, ◌⊎◌, Bool, true, false, List, [], ◌∷◌, ◌++◌, length, Option, Some, None}
 use Rattle.std.specs.Io.KnownBytes.{Consumes, IsAtEnd}
 use Rattle.fl_transport.specs.Handshake.{handshake_of}
 use Rattle.fl_transport.specs.declared.fault.Fault.{Fault}
@@ -34,8 +34,7 @@ abbrev pub IsComplete : Bool → List ℕ → Option (List ℕ) → Type 0
 IsComplete over rest left = (over ≡ true) ⊎ ((rest ≡ []) × IsAtEnd left)
 
 -- How a session ended, by its fault: after these messages and this rest of what was read, with these bytes left to the
--- reader, and with a write that failed or none. If both fail, the fault is the reader's. Where lines can't be stored, a
--- session ends behind any message.
+-- reader, and with a write that failed or none. If both fail, the fault is the reader's.
 abbrev pub EndsBy : Option Fault → Bool → List (List ℕ) → List ℕ → Option (List ℕ) → Type 0
 EndsBy None broken messages rest left = (broken ≡ false) × IsComplete (handshake_of messages).over rest left
 EndsBy (Some Write) broken messages rest left = (broken ≡ true) × IsComplete (handshake_of messages).over rest left
@@ -47,4 +46,4 @@ EndsBy (Some Read) broken messages rest left =
     ((handshake_of messages).over ≡ false) × (first_step rest ≡ step.More)
 EndsBy (Some NoMemory) broken messages rest left = (messages ≡ []) × (rest ≡ [])
 EndsBy (Some NoReader) broken messages rest left = ⊥
-EndsBy (Some Unstored) broken messages rest left = ⊤
+EndsBy (Some Unstored) broken messages rest left = ⊥

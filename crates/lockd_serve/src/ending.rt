@@ -74,7 +74,7 @@ pub(crate) fn end_streamed<T: Write + Drop, F: Write>(
         return (end_session(faults, fault), None);
     };
     let mut stream = stream;
-    let whole = stream.flush();
+    let whole = stream.finish();
     let writer = stream.into_writer();
     let status = if whole {
         end_session(faults, fault)

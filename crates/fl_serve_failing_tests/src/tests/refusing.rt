@@ -38,12 +38,16 @@ struct Refusing {
 impl Journal for Refusing {
     ghost lines = { λ kept. kept.lines.items };
 
+    ghost stored = { λ kept. kept.lines.items };
+
     ghost room = { λ kept. min kept.room kept.lines.room };
 
     fn reserve(&mut self, count: usize) -> Result<(), NoMemory> {
         if count <= self.room {
-            return Ok(self.lines.reserve(count)?);
+            return Journal::reserve(&mut self.lines, count);
         }
+        // For its clause alone: no line changes.
+        let _ = self.lines.flush();
         let order = self.orders;
         self.orders = order.wrapping_add(1);
         if order >= self.refusals.first
@@ -51,22 +55,24 @@ impl Journal for Refusing {
         {
             return Err(NoMemory);
         }
-        self.lines.reserve(count)?;
+        Journal::reserve(&mut self.lines, count)?;
         self.room = count;
         Ok(())
     }
 
     fn push_asked(&mut self, worker: u32, order: &Order) {
         self.room -= 1;
-        self.lines.push_asked(worker, order);
+        Journal::push_asked(&mut self.lines, worker, order);
     }
 
     fn push_told(&mut self, told: &Told) {
         self.room -= 1;
-        self.lines.push_told(told);
+        Journal::push_told(&mut self.lines, told);
     }
 
-    fn pause(&mut self) {}
+    fn flush(&mut self) -> bool {
+        self.lines.flush()
+    }
 }
 
 impl Refusing {

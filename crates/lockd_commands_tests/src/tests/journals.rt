@@ -61,7 +61,7 @@ fn streamed(rt: &impl Abort, alloc: Global, trace: &History, text: &str) {
     let sink = Sink::new(alloc, 7, Trouble::none());
     let stream = Streamed::new(alloc, sink, WhenWriterFails::Refuse).expect(rt, "memory");
     let mut stream = asked_of(rt, alloc, trace, stream);
-    assert!(rt; stream.flush());
+    assert!(rt; stream.finish());
     is_text(rt, &stream.into_writer().held, text);
 }
 

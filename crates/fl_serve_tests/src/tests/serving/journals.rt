@@ -24,22 +24,25 @@ struct Noted {
 impl Journal for Noted {
     ghost lines = { λ noted. noted.lines.items };
 
+    ghost stored = { λ noted. noted.lines.items };
+
     ghost room = { λ noted. noted.lines.room };
 
     fn reserve(&mut self, count: usize) -> Result<(), NoMemory> {
-        Ok(self.lines.reserve(count)?)
+        Journal::reserve(&mut self.lines, count)
     }
 
     fn push_asked(&mut self, worker: u32, order: &Order) {
-        self.lines.push_asked(worker, order);
+        Journal::push_asked(&mut self.lines, worker, order);
     }
 
     fn push_told(&mut self, told: &Told) {
-        self.lines.push_told(told);
+        Journal::push_told(&mut self.lines, told);
     }
 
-    fn pause(&mut self) {
+    fn flush(&mut self) -> bool {
         self.pauses = self.pauses.saturating_add(1);
+        self.lines.flush()
     }
 }
 

@@ -9,6 +9,6 @@ returns-in_default-clause-served g c = unserved _ _ _ _ _ _ (ap (journal_lines g
     c.nothing.ensures.fault c.nothing.ensures.refused (c.nothing.ensures.read _ _ (Keeps-refl _)) (Keeps-refl _)
 
 pub returns-in-Err-clause-served : goal.returns-in-Err-clause-served
-returns-in-Err-clause-served g c = unserved _ _ _ _ _ _ (ap (journal_lines g.J.Journal.lines) c.nothing.ensures.journal)
-    c.nothing.ensures.fault c.nothing.ensures.refused (c.nothing.ensures.read _ _ c.in-Err.ensures.unread.0)
+returns-in-Err-clause-served g c = unserved _ _ _ _ _ _ (ap (journal_lines g.J.Journal.lines) c.nothing-in-Err.ensures.journal)
+    c.nothing-in-Err.ensures.fault c.nothing-in-Err.ensures.refused (c.nothing-in-Err.ensures.read _ _ c.in-Err.ensures.unread.0)
     c.in-Err.ensures.unread.1

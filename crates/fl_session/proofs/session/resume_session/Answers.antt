@@ -30,7 +30,7 @@ returns-clause-served g c =
     let start : g.W.Write.contents (writer_of c.new-4.result).now ≡ g.W.Write.contents c.args.w.now = search rules in
     let whole = subst Q (search rules) (subst P start all.ensures.ended) in
     rw c.into_parts-writer.ensures.broken (served _ _ _ _ _ _ _ same all.ensures.none whole
-    c.into_kept.ensures.lines (λ is. c.told.ensures.reader (rw is tt) ∙ is)
+    c.into_kept.ensures.lines (λ is. c.told.ensures.reader (rw is refl) ∙ is)
     (rw (← c.into_parts-writer.ensures.broken) c.told.ensures.ends) refl)
 
 pub returns-clause-ahead : goal.returns-clause-ahead
