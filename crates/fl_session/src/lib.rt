@@ -1,11 +1,14 @@
 //! A session of the FUSE protocol with one worker: each message is answered at a desk, over any reader and any
 //! writer.
 //!
-//! `run_one`, `run_session` and `record_session` are one proof. A batch is its FORGETs one after another, each a line
-//! of its own, or lost if memory for it was refused. Contracts let through a session that
+//! `run_one`, `run_session`, `record_session` and `resume_session` are one proof. A batch is its FORGETs one after another,
+//! each a line of its own, or lost if memory for it was refused. Replies go out once their journal has stored the lines of
+//! all orders (`IsAhead`): whatever the client's writer holds, at whichever write either writer failed, are replies to
+//! messages whose lines are stored. Contracts let through a session that
 //! - says `NoMemory` having read nothing, refuses every order for memory, or loses all of a batch after one that is refused;
-//! - tells `Read` or `Write` early, since contracts see no failure of a reader or a writer;
-//! - sends its replies only at its end, or never tells its journal that it may pause.
+//! - tells `Read`, `Write` or `Unstored` early, since contracts see no failure of a reader, a writer or a journal, or goes
+//!   on reading once lines couldn't be stored;
+//! - sends its replies only at its end, or doesn't flush its journal before a read where no reply waits.
 //! `fl_session_tests` and `fl_serve_failing_tests` refuse these.
 #![tactic(auto)]
 
