@@ -2,7 +2,7 @@
 # Times `lockd serve` by where its trace goes: nowhere, to a file, or printed at the end; with 1 and 4 workers and 64 messages under way.
 # Beside it a desk takes as many orders in one program (`bench/programs/history_bench`), whose lines go nowhere, to a file, or into memory.
 # Prints pairs of SETLK and unlock a second while the session runs and their ratios to `--trace none`; how much memory the
-# process had at most, beside that of a session with a tenth of the messages; and what `lockd check` says of each trace.
+# process had at most (VmHWM of /proc), beside that of a session with a tenth of the messages; and what `lockd check` says of each trace.
 # The runs take turns, three times, and the best of each figure counts. It builds the client of bench/peers.sh, by a C compiler.
 #
 #     bench/trace.sh [MESSAGES]
@@ -18,6 +18,16 @@ ROUNDS, LONGEST = 3, 300
 NUMBER = itertools.count()
 MODES = {"none": lambda file: ["--trace", "none"], "file": lambda file: ["--trace", file], "printed": lambda file: []}
 
+# The most memory that a process had, in kilobytes, asked again and again until it ends. What wait4 says begins with the memory of
+# this script, which forked it.
+def most_until_the_end(serving):
+    most = 0
+    while serving.poll() is None:
+        with open(f"/proc/{serving.pid}/status") as it:
+            most = next((int(line.split()[1]) for line in it if line.startswith("VmHWM")), most)
+        time.sleep(0.01)
+    return most
+
 # Pairs a second, and the most memory of the server in megabytes. The trace is judged, if there is one.
 def measured(mode, workers, messages):
     number = next(NUMBER)
@@ -25,20 +35,20 @@ def measured(mode, workers, messages):
     output = open(file, "wb") if mode == "printed" else subprocess.DEVNULL
     serving = subprocess.Popen([PROGRAM, "serve", socket, "--workers", str(workers), *MODES[mode](file)], stdout=output)
     try:
-        asked = [f"{WORK}/client", "fuse", socket, "64", str(messages)]
-        told = subprocess.run(asked, stdout=subprocess.PIPE, text=True, timeout=LONGEST, check=True).stdout
-        _, status, usage = os.wait4(serving.pid, 0)
+        asking = subprocess.Popen([f"{WORK}/client", "fuse", socket, "64", str(messages)], stdout=subprocess.PIPE, text=True)
+        memory = most_until_the_end(serving)
+        told = asking.communicate(timeout=LONGEST)[0]
     finally:
         serving.poll() is None and serving.kill()
-    if status:
-        sys.exit(f"{mode}: the server ended with status {status}")
+    if serving.returncode or asking.returncode:
+        sys.exit(f"{mode}: the server ended with status {serving.returncode}, the client with {asking.returncode}")
     if mode != "none":
         with open(file, "rb") as trace:
             verdict = subprocess.run([PROGRAM, "check"], stdin=trace, stdout=subprocess.PIPE, text=True).stdout
         if verdict != "legal\n":
             sys.exit(f"{mode}: {verdict}")
         os.remove(file)
-    return float(told.split()[0]), usage.ru_maxrss / 1000
+    return float(told.split()[0]), memory / 1000
 
 # Orders a second at a desk, less the time of a run with none.
 def at_desk(where):

@@ -276,24 +276,56 @@ fn ask_round<R: Clock>(
     Ok(())
 }
 
+// Asks each kind in each round.
+fn ask_rounds<R: Clock>(
+    rt: &R,
+    core: &mut Core,
+    tolds: &mut Tolds,
+    files: &mut Vec<File>,
+    rounds: u64,
+    all: &mut Vec<Spent>,
+) -> anyhow::Result<()>
+    requires { HasRoom core.old.rules tolds.old }
+    ensures { HasRoom core.new.rules tolds.new }
+{
+    for round in 0..rounds {
+        let first = round.saturating_mul(ROUND);
+        ask_round(rt, core, tolds, files, first, all)?;
+    }
+    Ok(())
+}
+
+fn greatest_rules() -> anyhow::Result<Rules> {
+    Rules::standard()
+        .with_limits(MOST, PARKED)
+        .and_then(|rules| rules.with_files(MOST, MOST))
+        .ok_or(anyhow!("rules"))
+}
+
+// So many files, and so many rounds of what the word leaves in.
+fn ask_all<R: Clock>(
+    rt: &R,
+    alloc: Global,
+    count: u64,
+    rounds: u64,
+    word: &str,
+) -> anyhow::Result<Vec<Spent>> {
+    let rules = greatest_rules()?;
+    let mut core = Core::new(alloc, rules)?;
+    let mut tolds = Tolds::new(alloc, rules)?;
+    let mut files = made(alloc, &mut core, &mut tolds, count)?;
+    let mut all = nothing(alloc, word)?;
+    ask_rounds(rt, &mut core, &mut tolds, &mut files, rounds, &mut all)?;
+    Ok(all)
+}
+
 fn main(rt: HostRuntime) -> anyhow::Result<()> {
     let alloc = rt.alloc();
     let words: Vec<String> = env::args(&rt)?.collect(alloc)?;
     let count = words.get(1).map_or(Ok(16), |word| word.parse::<u64>())?;
     let rounds = words.get(2).map_or(Ok(100), |word| word.parse::<u64>())?;
     let word = words.get(3).map_or("all", |word| word.as_str());
-    let rules = Rules::standard()
-        .with_limits(MOST, PARKED)
-        .and_then(|rules| rules.with_files(MOST, MOST))
-        .ok_or(anyhow!("rules"))?;
-    let mut core = Core::new(alloc, rules)?;
-    let mut tolds = Tolds::new(alloc, rules)?;
-    let mut files = made(alloc, &mut core, &mut tolds, count)?;
-    let mut all = nothing(alloc, word)?;
-    for round in 0..rounds {
-        let first = round.saturating_mul(ROUND);
-        ask_round(&rt, &mut core, &mut tolds, &mut files, first, &mut all)?;
-    }
+    let all = ask_all(&rt, alloc, count, rounds, word)?;
     for spent in all.iter() {
         println!(rt; "{:?} {} {}", spent.kind, spent.done, spent.nanos)?;
     }
