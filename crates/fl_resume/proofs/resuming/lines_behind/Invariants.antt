@@ -1,0 +1,7 @@
+use Rattle.std.proofs.Common.{◌≡◌, ◌++◌, take}
+use Rattle.fl_judge.specs.Present.{told_lines}
+use Rattle.fl_resume.proofs.resuming.lines_behind.Given as goal
+
+-- the replies so far are behind the lines
+abbrev pub invariant-loop-told : goal.invariant-loop-told
+invariant-loop-told g l = l.journal.lines ≡ l.past.items ++ told_lines (take l.told-index l.missing)

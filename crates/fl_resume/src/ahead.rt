@@ -1,0 +1,84 @@
+//! Lines that are stored in a file before replies leave.
+
+ghost use Rattle.std.specs.Prelude.{◌≡◌, IfOk};
+ghost use Rattle.fl_stream.specs.Streams.{IsAs};
+ghost use Rattle.fl_trace.specs.Text.{text_of};
+
+use fl_history::{Journal, Line, Past};
+use fl_order::{NoMemory, Order, Told};
+use fl_stream::{Streamed, WhenWriterFails};
+use std::alloc::Global;
+use std::io::Write;
+use std::marker::Model;
+
+/// Lines that go to a file's writer as their text, behind those that it has. They are stored once it has their text.
+/// Contracts see the stream.
+#[derive(Drop)]
+pub(crate) struct AheadLines<T: Write> {
+    stream: Streamed<T>,
+}
+
+impl<T: Write> Model for AheadLines<T> {
+    ghost use Rattle.std.specs.Prelude.{◌≡◌};
+    ghost use Rattle.fl_stream.specs.Streams.{Stream};
+    ghost use Rattle.fl_stream.specs.declared.manner.WhenWriterFails.TheVariants as manner;
+
+    ghost Value = { Stream };
+
+    ghost view = { λ a. a.stream };
+
+    ghost invariant = { λ a. a.stream.manner ≡ manner.End };
+}
+
+impl<T: Write> AheadLines<T> {
+    /// These lines, before a writer that has their text and nothing more.
+    pub(crate) fn behind(
+        alloc: Global,
+        writer: T,
+        base: &Past<Line>,
+    ) -> Result<AheadLines<T>, NoMemory>
+    where
+        T: Drop,
+        requires there { IsAs (T.contents writer) (text_of base.now.items) }
+        ensures lines { IfOk result (λ made. made.lines ≡ base.now.items) }
+    {
+        Ok(AheadLines {
+            stream: Streamed::behind(alloc, writer, base, WhenWriterFails::End)?,
+        })
+    }
+
+    /// The stream.
+    pub(crate) fn into_stream(self) -> Streamed<T>
+        ensures { result ≡ self }
+    {
+        let AheadLines { stream } = self;
+        stream
+    }
+}
+
+impl<T: Write> Journal for AheadLines<T> {
+    ghost lines = { λ a. a.lines };
+
+    ghost stored = { λ a. a.noted };
+
+    ghost room = { λ a. a.room };
+
+    #[tactic(auto, using(crate::proofs::Prefixes::of_itself))]
+    fn reserve(&mut self, count: usize) -> Result<(), NoMemory> {
+        self.stream.reserve(count)
+    }
+
+    #[tactic(auto, using(crate::proofs::Prefixes::of_itself))]
+    fn push_asked(&mut self, worker: u32, order: &Order) {
+        self.stream.push_asked(worker, order);
+    }
+
+    #[tactic(auto, using(crate::proofs::Prefixes::of_itself))]
+    fn push_told(&mut self, told: &Told) {
+        self.stream.push_told(told);
+    }
+
+    fn flush(&mut self) -> bool {
+        self.stream.flush()
+    }
+}

@@ -1,0 +1,115 @@
+//! A session behind the lines of a trace.
+
+ghost use Rattle.std.specs.Prelude.{◌≡◌, ◌++◌, List, IfOk, OnErr, IsTrue};
+ghost use Rattle.std.specs.Io.KnownBytes.{Keeps};
+ghost use mathlib.Core.List.{IsPrefix};
+ghost use Rattle.fl_desk.specs.Kept.{IsKept};
+ghost use Rattle.fl_history.specs.declared.history.Line.{Line as Entry};
+ghost use Rattle.fl_judge.specs.Present.{told_lines};
+ghost use Rattle.fl_resume.specs.Resumed.{IsResumed};
+ghost use Rattle.fl_stream.specs.Streams.{HoldsText, IsAs, IsBegun, Wrote};
+ghost use Rattle.fl_trace.specs.Text.{text_of};
+
+use crate::ahead::AheadLines;
+use fl_core::Rules;
+use fl_desk::Desk;
+use fl_history::{Journal, Line, Past};
+use fl_judge::Resumed;
+use fl_order::{NoMemory, Told};
+use fl_session::{Fault, Recorded, resume_session};
+use fl_stream::Streamed;
+use std::alloc::Global;
+use std::io::{Read, Write};
+
+/// How a session ended that went on behind a trace.
+#[derive(Drop)]
+pub struct Ended<T> {
+    /// The file that got its lines.
+    pub file: T,
+    /// Why it ended early, if it did; `Unstored` if lines couldn't be written before their replies.
+    pub fault: Option<Fault>,
+    /// Some order was refused, since memory ran out.
+    pub refused: bool,
+    /// A reply to the client didn't go out whole.
+    pub broken: bool,
+    /// The file has the text of all lines.
+    pub whole: bool,
+}
+
+/// Serves a session that goes on from what a trace leads to, under its rules. `file` has the text of the trace's lines and
+/// nothing more. The replies that the lines lack are written first, and then the lines of each order before any of its
+/// replies goes to the client. If lines can't be written, no reply that waits for them goes out, and the session ends. If
+/// memory runs out, the file is dropped, and nothing was read from the client or written to it.
+pub fn resume<R: Read, W: Write, T: Write + Drop>(
+    alloc: Global,
+    r: &mut R,
+    w: &mut W,
+    resumed: Resumed,
+    file: T,
+    rules: Rules,
+) -> Result<Ended<T>, NoMemory>
+    requires there { IsAs (T.contents file) (text_of resumed.past.items) }
+    requires kept { IsKept (resumed.past.items ++ told_lines resumed.missing) resumed.present }
+    requires rules { resumed.present.rules ≡ rules }
+    ensures resumed { IfOk result (IsResumed rules (resumed.past.items ++ told_lines resumed.missing) T.contents (record {
+      left = R.remaining r.old;
+      left_now = R.remaining r.new;
+      held = W.contents w.old;
+      held_now = W.contents w.new;
+    })) }
+    ensures unread { OnErr result (Keeps (R.remaining r.old) (R.remaining r.new) × Keeps (W.contents w.old) (W.contents w.new)) }
+{
+    let Resumed {
+        present,
+        missing,
+        past,
+    } = resumed;
+    let journal = lines_behind(alloc, file, &past, missing.as_slice())?;
+    let desk = Desk::resume(journal, present);
+    let (recorded, broken) = resume_session(alloc, r, w, desk, rules)?;
+    let Recorded {
+        journal,
+        fault,
+        refused,
+    } = recorded;
+    let Some(journal) = journal else {
+        unreachable!()
+    };
+    let (file, whole) = finish(journal.into_stream());
+    Ok(Ended {
+        file,
+        fault,
+        refused,
+        broken,
+        whole,
+    })
+}
+
+// The lines of a trace and the replies that they lack, before a file that has the text of the former.
+fn lines_behind<T: Write + Drop>(
+    alloc: Global,
+    file: T,
+    past: &Past<Line>,
+    missing: &[Told],
+) -> Result<AheadLines<T>, NoMemory>
+    requires there { IsAs (T.contents file) (text_of past.now.items) }
+    ensures { IfOk result (λ made. made.lines ≡ past.now.items ++ told_lines missing.now) }
+{
+    let mut journal = AheadLines::behind(alloc, file, past)?;
+    for told in missing {
+        journal.reserve(1)?;
+        journal.push_told(told);
+    }
+    Ok(journal)
+}
+
+// Writes what waits, and gives the file, and whether it has the text of all lines.
+fn finish<T: Write>(stream: Streamed<T>) -> (T, bool)
+    ensures there { (noted : List Entry) × IsPrefix stream.noted noted × HoldsText T.contents (T.contents result.0) noted }
+    ensures begun { IsBegun T.contents (T.contents result.0) stream.lines }
+    ensures whole { IsTrue result.1 → Wrote T.contents (T.contents result.0) (text_of stream.lines) }
+{
+    let mut stream = stream;
+    let whole = stream.finish();
+    (stream.into_writer(), whole)
+}
