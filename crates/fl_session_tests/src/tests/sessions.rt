@@ -6,6 +6,7 @@ mod collected;
 mod fair;
 mod faults;
 mod journals;
+mod resumed;
 mod traced;
 mod waiting;
 
