@@ -12,11 +12,11 @@ use fl_testing::{Source, Trouble};
 use std::alloc::Global;
 use std::process::Abort;
 
-// Lines in memory, and how often it was told that no order is at hand.
+// Lines in memory, and how often it was flushed.
 #[derive(Drop)]
 struct Noted {
     lines: Lines,
-    pauses: usize,
+    flushes: usize,
 }
 
 impl Journal for Noted {
@@ -39,19 +39,19 @@ impl Journal for Noted {
     }
 
     fn flush(&mut self) -> bool {
-        self.pauses = self.pauses.saturating_add(1);
+        self.flushes = self.flushes.saturating_add(1);
         self.lines.flush()
     }
 }
 
-// The worked session comes in pieces of at most so many bytes. Its lines are with the journal, which is told once
-// before each read, as often as is said.
-fn keeps(rt: &impl Abort, alloc: Global, worked: &Worked, most: usize, pauses: usize) {
+// The worked session comes in pieces of at most so many bytes, with so many reads. Its lines are with the journal, which
+// is flushed before each read, before the reply to the INIT, and at the end.
+fn keeps(rt: &impl Abort, alloc: Global, worked: &Worked, most: usize, reads: usize) {
     let mut input = Source::new(&worked.messages, most, Trouble::none());
     let mut output: Vec<u8> = Vec::new(alloc);
     let noted = Noted {
         lines: Lines::new(alloc),
-        pauses: 0,
+        flushes: 0,
     };
     let (recorded, broken) = record_session(
         alloc,
@@ -68,14 +68,14 @@ fn keeps(rt: &impl Abort, alloc: Global, worked: &Worked, most: usize, pauses: u
     assert!(rt; !broken && !refused);
     fault_is(rt, fault, None);
     let noted = journal.expect(rt, "a journal");
-    count_is(rt, noted.pauses, pauses);
-    count_is(rt, input.reads, pauses);
+    count_is(rt, noted.flushes, reads.saturating_add(2));
+    count_is(rt, input.reads, reads);
     is_traced(rt, alloc, &History::of(noted.lines), TWO_LOCKS);
 }
 
 // All at once and the stream's end; and 290 bytes in 29 pieces of 10 bytes, and the end.
 #[test]
-fn a_journal_is_told_before_each_read(rt: HostRuntime) {
+fn a_journal_is_flushed_before_each_read(rt: HostRuntime) {
     let worked = worked_session(&rt, rt.alloc());
     keeps(&rt, rt.alloc(), &worked, usize::MAX, 2);
     keeps(&rt, rt.alloc(), &worked, 10, 30);
