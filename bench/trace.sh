@@ -1,6 +1,7 @@
 #!/bin/sh
-# Times `lockd serve` by where its trace goes: nowhere, to a file, or printed at the end; with 1 and 4 workers and 64 messages under way.
-# Beside it a desk takes as many orders in one program (`bench/programs/history_bench`), whose lines go nowhere, to a file, or into memory.
+# Times `lockd serve` by where its trace goes: nowhere, to a file, or printed at the end; with 1 and 4 workers and 64 messages under way; and with
+# one worker to the file of `--resume`, also with 1 message under way. A server resumes from the lines of all messages, beside `lockd check`.
+# A desk takes as many orders in one program (`bench/programs/history_bench`), whose lines go nowhere, to a file, or into memory.
 # Prints pairs of SETLK and unlock a second while the session runs and their ratios to `--trace none`; how much memory the
 # process had at most (VmHWM of /proc), beside that of a session with a tenth of the messages; and what `lockd check` says of each trace.
 # The runs take turns, three times, and the best of each figure counts. It builds the client of bench/peers.sh, by a C compiler.
@@ -11,12 +12,16 @@ set -eu
 cc -O2 -Wall -Wextra -o "$work/client" bench/peers/client.c
 desk=$(tools/build_bench history_bench)
 python3 - "$program" "$work" "${1:-1000000}" "$desk" <<'END'
-import itertools, os, subprocess, sys, time
+import itertools, os, socket, struct, subprocess, sys, time
 
 PROGRAM, WORK, MESSAGES, DESK = *sys.argv[1:3], int(sys.argv[3]), sys.argv[4]
 ROUNDS, LONGEST = 3, 300
+LINES = f"{WORK}/lines_of_all"
 NUMBER = itertools.count()
-MODES = {"none": lambda file: ["--trace", "none"], "file": lambda file: ["--trace", file], "printed": lambda file: []}
+MODES = {"none": lambda file: ["--trace", "none"], "file": lambda file: ["--trace", file], "printed": lambda file: [],
+         "resume": lambda file: ["--resume", file]}
+WAYS = [(workers, mode) for workers in (1, 4) for mode in MODES if (workers, mode) != (4, "resume")]
+INIT = struct.pack("<IIQQIIIIIIII", 56, 26, 1, 0, 0, 0, 0, 0, 7, 31, 0, 0)
 
 # The most memory that a process had, in kilobytes, asked again and again until it ends. What wait4 says begins with the memory of
 # this script, which forked it.
@@ -29,13 +34,14 @@ def most_until_the_end(serving):
     return most
 
 # Pairs a second, and the most memory of the server in megabytes. The trace is judged, if there is one.
-def measured(mode, workers, messages):
+def measured(mode, workers, messages, window=64):
     number = next(NUMBER)
-    socket, file = f"{WORK}/socket{number}", f"{WORK}/trace{number}"
+    path, file = f"{WORK}/socket{number}", f"{WORK}/trace{number}"
     output = open(file, "wb") if mode == "printed" else subprocess.DEVNULL
-    serving = subprocess.Popen([PROGRAM, "serve", socket, "--workers", str(workers), *MODES[mode](file)], stdout=output)
+    with_workers = [] if mode == "resume" else ["--workers", str(workers)]
+    serving = subprocess.Popen([PROGRAM, "serve", path, *with_workers, *MODES[mode](file)], stdout=output)
     try:
-        asking = subprocess.Popen([f"{WORK}/client", "fuse", socket, "64", str(messages)], stdout=subprocess.PIPE, text=True)
+        asking = subprocess.Popen([f"{WORK}/client", "fuse", path, str(window), str(messages)], stdout=subprocess.PIPE, text=True)
         memory = most_until_the_end(serving)
         told = asking.communicate(timeout=LONGEST)[0]
     finally:
@@ -47,7 +53,7 @@ def measured(mode, workers, messages):
             verdict = subprocess.run([PROGRAM, "check"], stdin=trace, stdout=subprocess.PIPE, text=True).stdout
         if verdict != "legal\n":
             sys.exit(f"{mode}: {verdict}")
-        os.remove(file)
+        os.rename(file, LINES)
     return float(told.split()[0]), memory / 1000
 
 # Orders a second at a desk, less the time of a run with none.
@@ -59,22 +65,41 @@ def at_desk(where):
         seconds.append(time.perf_counter() - begun)
     return MESSAGES / (seconds[1] - seconds[0])
 
-best, desks = {}, {}
+# Seconds until a server serves that reads the last trace, and those that `check` takes of it.
+def read_again():
+    path = f"{WORK}/socket{next(NUMBER)}"
+    begun = time.perf_counter()
+    with subprocess.Popen([PROGRAM, "serve", path, "--resume", LINES]) as serving, socket.socket(socket.AF_UNIX) as client:
+        while client.connect_ex(path) and serving.poll() is None:
+            time.sleep(0.001)
+        client.sendall(INIT)
+        served = client.recv(80) and time.perf_counter() - begun
+    begun = time.perf_counter()
+    with open(LINES, "rb") as trace:
+        subprocess.run([PROGRAM, "check"], stdin=trace, stdout=subprocess.DEVNULL, timeout=LONGEST, check=True)
+    return served, time.perf_counter() - begun
+
+best, desks, singly, again = {}, {}, {}, []
 for _ in range(ROUNDS):
     for where in "none", f"{WORK}/lines", "memory":
         desks[where] = max(desks.get(where, 0), at_desk(where))
-    for workers in 1, 4:
-        for mode in MODES:
-            pairs, memory = measured(mode, workers, MESSAGES)
-            _, before = measured(mode, workers, MESSAGES // 10)
-            old = best.get((mode, workers), (0, 0, 0))
-            best[mode, workers] = max(old[0], pairs), memory, before
+    for workers, mode in WAYS:
+        _, before = measured(mode, workers, MESSAGES // 10)
+        pairs, memory = measured(mode, workers, MESSAGES)
+        old = best.get((mode, workers), (0, 0, 0))
+        best[mode, workers] = max(old[0], pairs), memory, before
+    again.append(read_again())
+    for mode in "file", "resume":
+        singly[mode] = max(singly.get(mode, 0), measured(mode, 1, MESSAGES // 4, 1)[0])
 for where, rate in desks.items():
     name = "file" if "/" in where else where
     print(f"desk, lines {name}: {rate:.0f} orders a second, ratio {rate / desks['none']:.2f} (to none)")
-for workers in 1, 4:
-    for mode in MODES:
-        pairs, memory, before = best[mode, workers]
-        print(f"{workers} workers, trace {mode}: {pairs:.0f} pairs a second, ratio {pairs / best['none', workers][0]:.2f} (to none); "
-              f"{memory:.1f} MB, {before:.1f} with a tenth of the messages")
+for workers, mode in WAYS:
+    pairs, memory, before = best[mode, workers]
+    print(f"{workers} workers, trace {mode}: {pairs:.0f} pairs a second, ratio {pairs / best['none', workers][0]:.2f} (to none); "
+          f"{memory:.1f} MB, {before:.1f} with a tenth of the messages")
+for window, found in (64, {mode: best[mode, 1][0] for mode in singly}), (1, singly):
+    print(f"resume, {window} under way: {found['resume']:.0f} pairs a second, ratio {found['resume'] / found['file']:.2f} (to trace file)")
+served, checked = map(min, zip(*again))
+print(f"resume of the lines of {MESSAGES} messages: {served:.2f} s, ratio {served / checked:.2f} (to check)")
 END

@@ -31,16 +31,21 @@ static struct {
     int device, server;
     int news; // tells the main thread that something is to be seen
     int wake; // tells the thread that carries messages that letters wait, or that it is to end
+    bool resumes;
     pthread_t threads[2];
     atomic_bool stops, agreed, letters;
+    atomic_bool cut; // the server has ended, and another one may come
     atomic_int end, fault; // fault: the error number that goes with the end, or 0
     pthread_mutex_t lock;
-    struct letter *first, **last; // under the lock
+    pthread_cond_t changed;
+    struct letter *first, **last; // under the lock, as the next two
+    int idle; // how many of the threads neither send nor read
+    unsigned servers; // how many came after the first one
     _Alignas(CACHE_LINE) atomic_ullong replies;
     atomic_ullong refused, lines;
     // Messages by opcode; those of all greater ones in the last.
     _Alignas(CACHE_LINE) atomic_ullong seen[OPCODES];
-} it = {.lock = PTHREAD_MUTEX_INITIALIZER};
+} it = {.lock = PTHREAD_MUTEX_INITIALIZER, .changed = PTHREAD_COND_INITIALIZER};
 
 // Adds one where no other thread writes.
 static void count(atomic_ullong *counter)
@@ -55,15 +60,38 @@ static void signal_to(int event)
         ;
 }
 
-// The first end counts.
-static void *finish(enum end end, int fault)
+// The first end counts, but that of a server after which another one may come.
+static void finish(enum end end, int fault)
 {
-    int running = RUNNING;
-    if (atomic_compare_exchange_strong(&it.end, &running, (int)end)) {
+    int before = RUNNING;
+    bool counts = atomic_compare_exchange_strong(&it.end, &before, (int)end);
+    if (!counts && it.resumes && before == SERVER_ENDED && end != SERVER_ENDED)
+        counts = atomic_compare_exchange_strong(&it.end, &before, (int)end);
+    if (counts) {
         atomic_store(&it.fault, fault);
         signal_to(it.news);
     }
-    return NULL;
+}
+
+// Whether nothing more is to be sent to this server.
+static bool is_cut_off(void)
+{
+    return atomic_load_explicit(&it.stops, memory_order_relaxed) || atomic_load_explicit(&it.cut, memory_order_relaxed);
+}
+
+// Waits for another server, if one may come. False if none does.
+static bool meets_another(void)
+{
+    pthread_mutex_lock(&it.lock);
+    unsigned servers = it.servers;
+    it.idle++;
+    pthread_cond_broadcast(&it.changed);
+    while (it.resumes && !atomic_load(&it.stops) && it.servers == servers)
+        pthread_cond_wait(&it.changed, &it.lock);
+    bool met = it.servers != servers;
+    it.idle -= met;
+    pthread_mutex_unlock(&it.lock);
+    return met;
 }
 
 // A thread that finds nothing to carry spins again 60 times before it sleeps, since to be woken
@@ -104,6 +132,10 @@ static bool send_message(const char *message, size_t size)
     struct fuse_in_header head;
     memcpy(&head, message, sizeof head);
     times_note("ask", head.unique);
+    if (it.resumes && !kept_add(message, size)) {
+        finish(DEVICE_FAILED, ENOMEM);
+        return false;
+    }
     return send_all(message, size);
 }
 
@@ -139,12 +171,13 @@ static struct letter *letters_taken(void)
     return first;
 }
 
+// Each is kept, also if the server has ended.
 static bool send_letters(void)
 {
     bool well = true;
     for (struct letter *letter = letters_taken(), *next; letter; letter = next) {
         next = letter->next;
-        well = well && send_message(letter->message, letter->size);
+        well = send_message(letter->message, letter->size) && well;
         free(letter);
     }
     return well;
@@ -167,44 +200,101 @@ static bool sleep_until_woken(bool or_message)
 // might take it first. The next open file may stand where the closed one stood, and have its owner.
 static bool send_letters_first(void)
 {
-    if (!atomic_load(&it.letters))
+    if (!atomic_load(&it.letters) && !atomic_load(&session.flushes))
         return true;
     bool well = send_letters();
-    while (well && atomic_load(&session.flushes) && !atomic_load(&it.stops) && sleep_until_woken(false))
+    while (well && atomic_load(&session.flushes) && !is_cut_off() && sleep_until_woken(false))
         ;
-    return well;
+    return well && !atomic_load(&it.cut);
 }
 
-// One message for each read. ENOENT says that a request was given up before it was read, ENODEV
-// that nothing is mounted.
-static void *carry_messages(void *unused)
+// The message that was read and isn't sent yet: its size is 0 if there is none.
+static struct {
+    _Alignas(8) char bytes[MOST + 16];
+    size_t size;
+} at_hand;
+
+static bool send_at_hand(void)
 {
-    static _Alignas(8) char message[MOST + 16];
-    struct spinner me = {0};
-    (void)unused;
-    while (!atomic_load_explicit(&it.stops, memory_order_relaxed)) {
-        // Where the server has closed its side, `carry_replies` sees the end after the last reply.
-        if (!send_letters_first())
-            return NULL;
-        ssize_t size = read(it.device, message, MOST);
-        if (size < 0 && (errno == EINTR || errno == ENOENT))
-            continue;
+    size_t size = at_hand.size;
+    at_hand.size = 0;
+    return !size || send_message(at_hand.bytes, size);
+}
+
+// What a read of the device gave. ENOENT says that a request was given up before it was read, ENODEV
+// that nothing is mounted.
+static bool take_message(ssize_t size)
+{
+    if (size < 0 && (errno == EINTR || errno == ENOENT))
+        return true;
+    if (size < 0 && (errno == ENODEV || errno == ECONNABORTED)) {
+        finish(UNMOUNTED, 0);
+        return false;
+    }
+    if (size < (ssize_t)sizeof(struct fuse_in_header)) {
+        finish(DEVICE_FAILED, size < 0 ? errno : 0);
+        return false;
+    }
+    uint32_t opcode = ((struct fuse_in_header *)(void *)at_hand.bytes)->opcode;
+    count(&it.seen[opcode < OPCODES ? opcode : OPCODES - 1]);
+    at_hand.size = change_message(at_hand.bytes, (size_t)size);
+    return true;
+}
+
+// One message for each read. When the server has closed its side, `carry_replies` sees the end after
+// the last reply.
+static void carry_to_one_server(void)
+{
+    static struct spinner me;
+    while (send_letters_first() && send_at_hand() && !is_cut_off()) {
+        ssize_t size = read(it.device, at_hand.bytes, MOST);
         if (size < 0 && errno == EAGAIN) {
             if (!spins_again(&me))
                 sleep_until_woken(true);
             continue;
         }
         me.spins = 0;
-        if (size < 0 && (errno == ENODEV || errno == ECONNABORTED))
-            return finish(UNMOUNTED, 0);
-        if (size < (ssize_t)sizeof(struct fuse_in_header))
-            return finish(DEVICE_FAILED, size < 0 ? errno : 0);
-        uint32_t opcode = ((struct fuse_in_header *)(void *)message)->opcode;
-        count(&it.seen[opcode < OPCODES ? opcode : OPCODES - 1]);
-        size_t left = change_message(message, (size_t)size);
-        if (!send_letters_first() || (left && !send_message(message, left)))
-            return NULL;
+        if (!take_message(size))
+            return;
     }
+}
+
+// Sends the kernel's INIT to a server that came after another one. Nothing goes before its reply: a
+// server that refuses it refuses all.
+static bool agree_again(void)
+{
+    static char message[MOST];
+    struct fuse_in_header head;
+    size_t size = kept_init(message);
+    if (!size)
+        return true;
+    memcpy(&head, message, sizeof head);
+    atomic_store(&session.init, head.unique);
+    bool well = send_all(message, size);
+    while (well && atomic_load(&session.init) && !is_cut_off() && sleep_until_woken(false))
+        ;
+    return well && atomic_load(&it.end) == RUNNING;
+}
+
+// What has no reply.
+static bool send_again(void)
+{
+    static char bytes[8 * MOST];
+    uint64_t number = 0;
+    size_t size;
+    while ((size = kept_copy(&number, bytes, sizeof bytes)))
+        if (!send_all(bytes, size))
+            return false;
+    return true;
+}
+
+static void *carry_messages(void *unused)
+{
+    (void)unused;
+    do
+        if (agree_again() && send_again())
+            carry_to_one_server();
+    while (meets_another());
     return NULL;
 }
 
@@ -257,7 +347,7 @@ void carrier_agreed(void)
     signal_to(it.news);
 }
 
-void carrier_flushed(void)
+void carrier_answered(void)
 {
     signal_to(it.wake);
 }
@@ -294,45 +384,70 @@ static ssize_t write_replies(char *bytes, size_t held)
         size_t left = change_reply(bytes + done, head.len);
         if (left && !write_reply(bytes + done, left))
             return -2;
+        if (it.resumes)
+            kept_answered(head.unique);
         count(&it.replies);
     }
     return (ssize_t)done;
 }
 
-static void *carry_replies(void *unused)
+// The thread that carries messages may wait for this server to read, or for its reply to a FLUSH.
+static void see_end(int fault)
+{
+    if (it.resumes) {
+        atomic_store(&it.cut, true);
+        shutdown(it.server, SHUT_RDWR);
+        signal_to(it.wake);
+    }
+    finish(SERVER_ENDED, fault);
+}
+
+// A part of a reply that came last is dropped.
+static void carry_from_one_server(void)
 {
     static _Alignas(8) char bytes[2 * MOST];
+    static struct spinner me;
     size_t held = 0;
-    struct spinner me = {0};
     int waits = MSG_DONTWAIT;
-    (void)unused;
     for (;;) {
         ssize_t got = recv(it.server, bytes + held, sizeof bytes - held, waits);
         bool none = got < 0 && errno == EAGAIN;
         waits = !none || spins_again(&me) ? MSG_DONTWAIT : 0;
         if (none || (got < 0 && errno == EINTR))
             continue;
-        if (got <= 0)
-            return finish(SERVER_ENDED, got < 0 ? errno : 0);
+        if (got <= 0) {
+            see_end(got < 0 ? errno : 0);
+            return;
+        }
         me.spins = 0;
         held += (size_t)got;
         ssize_t done = write_replies(bytes, held);
-        if (done == -1)
-            return finish(BAD_REPLY, 0);
-        if (done == -2)
-            return finish(UNMOUNTED, 0);
+        if (done < 0) {
+            finish(done == -1 ? BAD_REPLY : UNMOUNTED, 0);
+            return;
+        }
         held -= (size_t)done;
         memmove(bytes, bytes + done, held);
     }
 }
 
+static void *carry_replies(void *unused)
+{
+    (void)unused;
+    do
+        carry_from_one_server();
+    while (meets_another());
+    return NULL;
+}
+
 // ---- Beginning and end ----
 
-void carrier_start(int device, int server, int news, bool discards_writes)
+void carrier_start(int device, int server, int news, bool discards_writes, bool resumes)
 {
     it.device = device;
     it.server = server;
     it.news = news;
+    it.resumes = resumes;
     it.last = &it.first;
     it.wake = eventfd(0, EFD_CLOEXEC | EFD_NONBLOCK);
     session.discards = discards_writes;
@@ -346,9 +461,30 @@ void carrier_start(int device, int server, int news, bool discards_writes)
     }
 }
 
+bool carrier_meet(int server)
+{
+    pthread_mutex_lock(&it.lock);
+    while (it.idle < 2)
+        pthread_cond_wait(&it.changed, &it.lock);
+    int ended = SERVER_ENDED;
+    bool meets = atomic_compare_exchange_strong(&it.end, &ended, RUNNING);
+    close(meets ? it.server : server);
+    if (meets) {
+        it.server = server;
+        it.servers++;
+        atomic_store(&it.cut, false);
+        pthread_cond_broadcast(&it.changed);
+    }
+    pthread_mutex_unlock(&it.lock);
+    return meets;
+}
+
 void carrier_stop(void)
 {
+    pthread_mutex_lock(&it.lock);
     atomic_store(&it.stops, true);
+    pthread_cond_broadcast(&it.changed);
+    pthread_mutex_unlock(&it.lock);
     signal_to(it.wake);
     // The server answers what it has, and ends. To read no more would fail its writes, so that is for one that hangs.
     shutdown(it.server, SHUT_WR);
@@ -364,6 +500,7 @@ void carrier_stop(void)
         next = letter->next;
         free(letter);
     }
+    kept_end();
     close(it.device);
     close(it.wake);
 }

@@ -21,6 +21,8 @@ static struct {
     struct place place;
     struct server server;
     int signals, news;
+    int ending; // the signal that asked for the end while something else was waited for, or 0
+    bool is_alone; // no other server came after the last one
     bool starts; // until it is mounted: what was begun is taken away at exit
 } it;
 
@@ -76,7 +78,10 @@ static int signal_to_end(void)
 
 static bool stops(void)
 {
-    return signal_to_end() != 0;
+    int came = signal_to_end();
+    if (came)
+        it.ending = came;
+    return came != 0;
 }
 
 static void sleep_for(int milliseconds)
@@ -170,7 +175,7 @@ static void begin(void)
     int device = place_mount(&it.place, options);
     if (device < 0)
         exit(STATUS_NOT_MOUNTED);
-    carrier_start(device, it.server.socket, it.news, options->discard_writes);
+    carrier_start(device, it.server.socket, it.news, options->discard_writes, options->resume != NULL);
     wait_until_ready();
     it.starts = false;
     printf("mounted at %s\n", it.place.path);
@@ -215,22 +220,42 @@ static void tick(void)
     last = counts.messages;
 }
 
+// With a grace, files are waited for, and to close one takes a server.
+static bool stops_twice(void)
+{
+    bool once = it.ending || !it.options.grace;
+    return stops() && once;
+}
+
+// Whether the mount goes on with another server, in the place of one that has ended.
+static bool goes_on(void)
+{
+    int fault;
+    double begun = seconds();
+    if (!it.options.resume || it.is_alone || carrier_end(&fault) != SERVER_ENDED)
+        return false;
+    int server = server_restart(&it.server, &it.options, stops_twice);
+    it.is_alone = server < 0;
+    if (it.is_alone || !carrier_meet(server))
+        return false;
+    say("the mount goes on, after %.2f seconds", seconds() - begun);
+    return true;
+}
+
 // Waits for an end, and gives the signal that asked for it, or 0.
 static int run(void)
 {
-    int fault;
     double next = seconds() + TICK / 1000.0;
-    while (carrier_end(&fault) == RUNNING) {
-        int signal = signal_to_end();
-        if (signal)
-            return signal;
+    while (!is_over() || goes_on()) {
+        if (it.ending || stops())
+            return it.ending;
         if (seconds() >= next) {
             tick();
             next = seconds() + TICK / 1000.0;
         }
         sleep_for(TICK);
     }
-    return 0;
+    return it.ending;
 }
 
 // ---- The end ----
@@ -259,8 +284,8 @@ static bool unmount_by(int signal)
         // The kernel tells the carrier in a moment, unless the mount is elsewhere too.
         for (int i = 0; gone && i < 4 && !is_over(); i++)
             sleep_for(STEP);
-        if (is_over())
-            return true;
+        if (is_over() && (gone || !goes_on()))
+            return gone;
         unsigned count = open_files(&holders);
         if (!said && !count && !holders.count)
             say("SIG%s came; no file is open, but it is mounted in another namespace too", sigabbrev_np(signal));
@@ -317,7 +342,7 @@ static int say_unexpected(enum end end, int fault)
         say("the server sent a reply of a length that none has");
         return STATUS_FAULT;
     case NOT_AGREED:
-        say("the kernel began anew, and the server refused it%s%s", colon, fault ? strerror(fault) : "");
+        say("the server refused INIT%s%s", colon, fault ? strerror(fault) : "");
         return STATUS_FAULT;
     default:
         say("/dev/fuse cannot be read%s%s", colon, fault ? strerror(fault) : "");

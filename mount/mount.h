@@ -30,6 +30,7 @@ enum status { STATUS_UNMOUNTED = 0, STATUS_SERVER = 1, STATUS_NOT_MOUNTED = 2, S
 struct options {
     const char *folder;
     const char *trace; // NULL: a new file in a new folder; "none": nowhere
+    const char *resume; // NULL, or the trace of a server that is started again when it ends
     const char *trace_full;
     const char *times; // NULL: they aren't written
     const char *workers;
@@ -62,13 +63,18 @@ struct server {
     int status;
     int socket;
     bool was_killed; // by this program, since it didn't end
-    char *program;
+    bool is_cut; // its last line may be half there: no other server came after it
+    bool was_there; // the trace's file, and empty
+    char program[PATH_MAX];
     char work[PATH_MAX]; // its folder, or ""
     char trace[PATH_MAX];
 };
 
 // Starts `lockd serve` and connects to it. `stops` says whether to give up.
 void server_start(struct server *server, const struct options *options, bool (*stops)(void));
+// Starts another one when one has ended, to go on with its trace, and connects to it. Gives the
+// socket, or -1: a line said why, or `stops` said to give up.
+int server_restart(struct server *server, const struct options *options, bool (*stops)(void));
 // Kills a server that nobody will ask anything, and takes its files away.
 void server_drop(struct server *server);
 // Waits for its end, after its connection was closed, and judges the trace. Gives the status, which
@@ -142,7 +148,11 @@ struct counts {
     unsigned long long messages, replies, refused, lines;
 };
 
-void carrier_start(int device, int server, int news, bool discards_writes);
+// If it `resumes`, `carrier_meet` may follow the end of the server.
+void carrier_start(int device, int server, int news, bool discards_writes, bool resumes);
+// Goes on with another server, at this socket, after the last one ended: what has no reply is sent
+// again. False if there was another end meanwhile.
+bool carrier_meet(int server);
 // Ends its threads, and closes the device: who waits at the folder gets an error.
 void carrier_stop(void);
 enum end carrier_end(int *fault);
@@ -155,10 +165,23 @@ bool write_reply(const char *reply, size_t size);
 bool answer(uint64_t unique, int error, const void *body, size_t size);
 // For the server, by the thread that carries messages, before the message that it has at hand.
 void send_later(const void *message, size_t size);
-// The last FLUSH of the carrier's own was answered.
-void carrier_flushed(void);
+// The last FLUSH of the carrier's own was answered, or an INIT that was sent again.
+void carrier_answered(void);
 void carrier_agreed(void);
 void carrier_refused_init(int error);
+
+// ---- kept.c: messages that have no reply, for a server that comes after ----
+
+// Keeps a copy of a message. False if there is no memory.
+bool kept_add(const char *message, size_t size);
+// A reply with this unique came.
+void kept_answered(uint64_t unique);
+// Copies the INIT, and gives its size, or 0 if none was kept. There is room for MOST bytes.
+size_t kept_init(char *to);
+// Copies messages in the order of sending, marked as sent again: those after the one of this number,
+// as many as have room. Gives their size, and the number of the last one.
+size_t kept_copy(uint64_t *number, char *to, size_t room);
+void kept_end(void);
 
 // ---- times.c ----
 
@@ -172,7 +195,9 @@ void times_note(const char *kind, uint64_t unique);
 // ---- messages.c ----
 
 // Numbers of the carrier's own messages. The kernel's begin low.
-#define OURS ((uint64_t)1 << 63)
+#define OURS ((uint64_t)1 << 62)
+// Marks the unique of a message that is sent again (FUSE_UNIQUE_RESEND of protocol 7.40).
+#define AGAIN ((uint64_t)1 << 63)
 struct asked;
 
 // What is changed in a message of the kernel before the server gets it: its size from then on, or 0

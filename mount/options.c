@@ -20,8 +20,10 @@ static const char HELP[] =
     "\n"
     "  --workers N           1 to 16 workers of the server; 1, if not said\n"
     "  --trace FILE          a new file for the trace, or `none`; else one in a new folder in $TMPDIR or /tmp\n"
-    "  --trace-full go-on|refuse\n"
-    "                        what the server does while the trace can't be written\n"
+    "  --resume FILE         a new file for the trace; if the server ends, it is started again and goes on with FILE, and no\n"
+    "                        lock is lost; with one worker, and without --trace\n"
+    "  --trace-full WORD     what the server does while the trace can't be written: go-on or refuse; with --resume, wait\n"
+    "                        or end\n"
     "  --times FILE          a new file for the times of requests and replies, for tools/lockd_report\n"
     "  --fair, --runs N, --parked N, --files N, --open N\n"
     "                        the rules of the server, as `lockd serve --help` says\n"
@@ -82,7 +84,7 @@ static void take_rule(struct options *options, const char *name, const char *wor
 // What rules of the server allow, which makes the tables here.
 enum { MOST_FILES = 65536, STANDARD_FILES = 256, STANDARD_OPEN = 1024 };
 
-enum { ALLOW = 1, COUNT, DISCARD, NONEMPTY, NO_CHECK, WORKERS, TRACE, TRACE_FULL, TIMES, FAIR, RUNS, PARKED, FILES, OPEN, NUMBER, HELPS, VERSIONS };
+enum { ALLOW = 1, COUNT, DISCARD, NONEMPTY, NO_CHECK, WORKERS, TRACE, RESUME, TRACE_FULL, TIMES, FAIR, RUNS, PARKED, FILES, OPEN, NUMBER, HELPS, VERSIONS };
 
 static void take(struct options *options, int option, const char *name)
 {
@@ -97,6 +99,7 @@ static void take(struct options *options, int option, const char *name)
         options->workers = optarg;
         break;
     case TRACE: options->trace = optarg; break;
+    case RESUME: options->resume = optarg; break;
     case TRACE_FULL: options->trace_full = optarg; break;
     case TIMES: options->times = optarg; break;
     case FAIR: take_rule(options, "--fair", NULL); break;
@@ -134,7 +137,7 @@ void read_options(int argc, char **argv, struct options *options)
         {"uid", required_argument, NULL, NUMBER},        {"gid", required_argument, NULL, NUMBER},
         {"grace", required_argument, NULL, NUMBER},      {"help", no_argument, NULL, HELPS},
         {"version", no_argument, NULL, VERSIONS},        {"times", required_argument, NULL, TIMES},
-        {NULL, 0, NULL, 0},
+        {"resume", required_argument, NULL, RESUME},     {NULL, 0, NULL, 0},
     };
     *options = (struct options){.workers = "1", .files = STANDARD_FILES, .open = STANDARD_OPEN, .mode = -1, .uid = -1, .gid = -1};
     int option, at = 0;
@@ -142,5 +145,7 @@ void read_options(int argc, char **argv, struct options *options)
         take(options, option, known[at].name);
     if (argc - optind != 1 || !*argv[optind])
         misused(argc - optind > 1 ? "more than one folder" : "no folder");
+    if (options->resume && (options->trace || atoi(options->workers) != 1))
+        misused("--resume goes with one worker, and without --trace");
     options->folder = argv[optind];
 }

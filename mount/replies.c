@@ -2,7 +2,7 @@
 //
 // - In the reply to INIT the flag FUSE_ATOMIC_O_TRUNC is set where the kernel offers it.
 // - Attributes are those that the carrier keeps.
-// - A reply to one of the carrier's own messages ends here.
+// - A reply to one of the carrier's own messages ends here, and one to an INIT that was sent again.
 #include "mount.h"
 
 #include <errno.h>
@@ -15,6 +15,7 @@ enum { KERNELS_MINOR = 31 };
 static size_t change_init(char *reply, size_t size, int error)
 {
     struct fuse_init_out init;
+    atomic_store(&session.init, 0);
     if (error) {
         carrier_refused_init(-error);
     } else if (size != sizeof(struct fuse_out_header) + sizeof init) {
@@ -101,7 +102,7 @@ static size_t change_awaited(char *reply, size_t size, const struct asked *asked
     bool made = makes && length == sizeof(struct fuse_entry_out) + sizeof(struct fuse_open_out);
     if (asked->unique & OURS) {
         if (asked->opcode == FUSE_FLUSH && atomic_fetch_sub(&session.flushes, 1) == 1)
-            carrier_flushed();
+            carrier_answered();
         return 0;
     }
     if (error)
@@ -115,15 +116,23 @@ static size_t change_awaited(char *reply, size_t size, const struct asked *asked
     return size;
 }
 
+// The kernel has its answer already: the INIT was sent again, to a server that came after another one.
+static size_t end_init(int error)
+{
+    if (error)
+        carrier_refused_init(-error);
+    atomic_store(&session.init, 0);
+    carrier_answered();
+    return 0;
+}
+
 size_t change_reply(char *reply, size_t size)
 {
     struct fuse_out_header head;
     char *body = reply + sizeof head;
     memcpy(&head, reply, sizeof head);
-    if (head.unique == atomic_load(&session.init)) {
-        atomic_store(&session.init, 0);
-        return change_init(reply, size, head.error);
-    }
+    if (head.unique == atomic_load(&session.init))
+        return carrier_is_agreed() ? end_init(head.error) : change_init(reply, size, head.error);
     if (size == sizeof head && !asked_any())
         return size;
     table_lock();

@@ -15,23 +15,45 @@
 
 enum { STEP = 10000 }; // microseconds between two tries
 enum { PATIENCE = 30 }; // seconds until a server that doesn't end is killed
+// A server is started again so many times in so many seconds.
+#ifndef MOST_RESTARTS
+#define MOST_RESTARTS 5
+#endif
+enum { RESTARTS_WITHIN = 60 };
+#define FOR_EVER 1e9
 
 static bool is_program(const char *path)
 {
     return !access(path, X_OK);
 }
 
+// Writes the absolute path of what may be there: the server runs in its own folder.
+static void place_absolute(char *to, const char *path)
+{
+    char folder[PATH_MAX];
+    snprintf(folder, sizeof folder, "%s", path);
+    char *full = realpath(dirname(folder), NULL);
+    if (!full)
+        fail("no folder for %s", path);
+    const char *name = strrchr(path, '/');
+    int size = snprintf(to, PATH_MAX, "%s/%s", full, name ? name + 1 : path);
+    free(full);
+    if (size >= PATH_MAX)
+        fail("%s is too long a path", path);
+}
+
 // The program that $LOCKD names, the one beside this program, or that of the repository whose
-// `mount/out` this is in.
-static char *found_program(void)
+// `mount/out` this is in. A link stays one: it may lead to another program when the server is started
+// again.
+static void find_program(struct server *server)
 {
     char self[PATH_MAX] = "", path[PATH_MAX + 64];
     const char *named = getenv("LOCKD");
     if (named && *named) {
-        char *full = realpath(named, NULL);
-        if (!full || !is_program(full))
+        if (!is_program(named))
             fail("no program at %s, which $LOCKD names", named);
-        return full;
+        place_absolute(server->program, named);
+        return;
     }
     if (readlink("/proc/self/exe", self, sizeof self - 1) < 0)
         fail("cannot read /proc/self/exe");
@@ -39,8 +61,10 @@ static char *found_program(void)
     const char *const places[] = {"lockd", "../../crates/lockd/out/lockd"};
     for (size_t i = 0; i < sizeof places / sizeof *places; i++) {
         snprintf(path, sizeof path, "%s/%s", folder, places[i]);
-        if (is_program(path))
-            return realpath(path, NULL);
+        if (is_program(path)) {
+            place_absolute(server->program, path);
+            return;
+        }
     }
     errno = 0;
     fail("no program `lockd` beside %s/lockd_mount; install it there, or name it by $LOCKD", folder);
@@ -56,45 +80,54 @@ static void make_folder(struct server *server)
     }
 }
 
-// An absolute path: the server runs in its own folder.
+// A file that is there already is that of another mount. With --resume an empty one does: it has no
+// locks.
 static void place_trace(struct server *server, const struct options *options)
 {
-    char folder[PATH_MAX];
-    if (!options->trace)
-        snprintf(server->trace, sizeof server->trace, "%.*s/trace", PATH_MAX - 16, server->work);
-    if (!options->trace || !strcmp(options->trace, "none"))
-        return;
+    const char *named = options->resume ? options->resume : options->trace;
     struct stat at;
-    if (!lstat(options->trace, &at)) {
-        errno = 0;
-        fail("a file is at %s already", options->trace);
-    }
-    snprintf(folder, sizeof folder, "%s", options->trace);
-    char *full = realpath(dirname(folder), NULL);
-    if (!full)
-        fail("no folder for %s", options->trace);
-    const char *name = strrchr(options->trace, '/');
-    int size = snprintf(server->trace, sizeof server->trace, "%s/%s", full, name ? name + 1 : options->trace);
-    free(full);
-    if (size >= (int)sizeof server->trace)
-        fail("%s is too long a path", options->trace);
+    if (!named)
+        snprintf(server->trace, sizeof server->trace, "%.*s/trace", PATH_MAX - 16, server->work);
+    if (!named || (!options->resume && !strcmp(named, "none")))
+        return;
+    server->was_there = !lstat(named, &at);
+    errno = 0;
+    if (server->was_there && !options->resume)
+        fail("a file is at %s already", named);
+    if (server->was_there && (!S_ISREG(at.st_mode) || at.st_size))
+        fail("%s isn't an empty file: name a new one, since the processes that held its locks are gone", named);
+    place_absolute(server->trace, named);
 }
 
-static void run_serve(const struct server *server, const struct options *options)
+// The words after the socket's path, from the one of this number.
+static void put_options(const char *words[], size_t count, const struct server *server, const struct options *options)
 {
-    const int ignored[] = {SIGHUP, SIGINT, SIGTERM, SIGQUIT, SIGXFSZ};
-    const char *words[32] = {server->program, "serve", "socket", "--workers", options->workers, "--trace",
-                             server->trace[0] ? server->trace : "none"};
-    size_t count = 7;
+    if (options->resume) {
+        words[count++] = "--resume";
+        words[count++] = server->trace;
+    } else {
+        words[count++] = "--workers";
+        words[count++] = options->workers;
+        words[count++] = "--trace";
+        words[count++] = server->trace[0] ? server->trace : "none";
+    }
     if (options->trace_full) {
         words[count++] = "--trace-full";
         words[count++] = options->trace_full;
     }
     for (int i = 0; i < options->rule_count; i++)
         words[count++] = options->rules[i];
+}
+
+static void run_serve(const struct server *server, const struct options *options)
+{
+    const int ignored[] = {SIGHUP, SIGINT, SIGQUIT, SIGXFSZ, SIGTERM};
+    const char *words[32] = {server->program, "serve", "socket"};
+    put_options(words, 3, server, options);
     // Signals end the mount alone. The server ends when the mount does, and has to write the rest
-    // of its trace. A trace that grows beyond a limit is a write that fails.
-    for (size_t i = 0; i < sizeof ignored / sizeof *ignored; i++)
+    // of its trace. A trace that grows beyond a limit is a write that fails. One that is started
+    // again may be ended by SIGTERM, so that a new program takes its place.
+    for (size_t i = 0; i < sizeof ignored / sizeof *ignored - (options->resume ? 1 : 0); i++)
         signal(ignored[i], SIG_IGN);
     sigset_t none;
     sigemptyset(&none);
@@ -135,33 +168,50 @@ static void say_end(const struct server *server, const char *when)
         say("the server ended with status %d%s", WEXITSTATUS(server->status), when);
 }
 
-void server_start(struct server *server, const struct options *options, bool (*stops)(void))
+enum begun { CONNECTED, NOT_STARTED, NOT_CONNECTED, ENDED, STOPPED, NOT_TRIED };
+
+// Starts the program, and connects to it within so many seconds.
+static enum begun begin(struct server *server, const struct options *options, bool (*stops)(void), double patience)
 {
-    server->program = found_program();
-    make_folder(server);
-    place_trace(server, options);
     server->socket = socket(AF_UNIX, SOCK_STREAM | SOCK_CLOEXEC, 0);
     server->pid = server->socket < 0 ? -1 : fork();
     if (!server->pid)
         run_serve(server, options);
     if (server->pid < 0) {
         server->pid = 0;
-        fail("cannot start %s", server->program);
+        return NOT_STARTED;
     }
-    double last = seconds() + PATIENCE;
+    double last = seconds() + patience;
     while (!connects(server)) {
         int error = errno;
-        errno = 0;
-        if (is_over(server)) {
-            say_end(server, " before it listened");
-            fail("%s can't serve; nothing is mounted", server->program);
-        }
+        if (is_over(server))
+            return ENDED;
         if (stops())
-            fail("ended before anything was mounted");
+            return STOPPED;
         errno = error;
         if ((error != ENOENT && error != ECONNREFUSED) || seconds() > last)
-            fail("cannot connect to %s/socket", server->work);
+            return NOT_CONNECTED;
         usleep(STEP);
+    }
+    return CONNECTED;
+}
+
+void server_start(struct server *server, const struct options *options, bool (*stops)(void))
+{
+    find_program(server);
+    make_folder(server);
+    place_trace(server, options);
+    enum begun begun = begin(server, options, stops, PATIENCE);
+    if (begun == NOT_STARTED)
+        fail("cannot start %s", server->program);
+    if (begun == NOT_CONNECTED)
+        fail("cannot connect to %s/socket", server->work);
+    errno = 0;
+    if (begun == STOPPED)
+        fail("ended before anything was mounted");
+    if (begun == ENDED) {
+        say_end(server, " before it listened");
+        fail("%s can't serve; nothing is mounted", server->program);
     }
 }
 
@@ -175,13 +225,20 @@ static void remove_folder(const struct server *server)
     rmdir(server->work);
 }
 
+static void kill_server(struct server *server)
+{
+    kill(server->pid, SIGKILL);
+    waitpid(server->pid, &server->status, 0);
+    server->pid = 0;
+}
+
 void server_drop(struct server *server)
 {
     if (server->pid) {
-        kill(server->pid, SIGKILL);
-        waitpid(server->pid, &server->status, 0);
-        server->pid = 0;
-        if (server->trace[0])
+        kill_server(server);
+        if (server->was_there && truncate(server->trace, 0))
+            say("%s isn't empty any more", server->trace);
+        else if (server->trace[0] && !server->was_there)
             unlink(server->trace);
     }
     remove_folder(server);
@@ -199,10 +256,73 @@ static void wait_for_end(struct server *server)
     if (server->pid) {
         say("the server didn't end in %d seconds, and is killed", PATIENCE);
         server->was_killed = true;
-        kill(server->pid, SIGKILL);
-        waitpid(server->pid, &server->status, 0);
-        server->pid = 0;
+        kill_server(server);
     }
+}
+
+// Whether one may be started again: counts those that were.
+static bool may_start(void)
+{
+    static double starts[MOST_RESTARTS];
+    static unsigned long count;
+    double *oldest = &starts[count % MOST_RESTARTS];
+    if (count >= MOST_RESTARTS && seconds() - *oldest < RESTARTS_WITHIN)
+        return false;
+    *oldest = seconds();
+    count++;
+    return true;
+}
+
+// Whether another one is to follow a server that has ended. Says how that ended.
+static bool comes_again(const struct server *server, const struct options *options)
+{
+    char often[96];
+    bool ends_when_full = options->trace_full && !strcmp(options->trace_full, "end");
+    if (ends_when_full && WIFEXITED(server->status) && server->status)
+        return say_end(server, ""), false;
+    snprintf(often, sizeof often, ": it was started again %d times within a minute, and isn't any more", MOST_RESTARTS);
+    bool may = may_start();
+    say_end(server, may ? ", and is started again" : often);
+    return may;
+}
+
+// One that is killed before it listens comes again, too.
+static enum begun begin_again(struct server *server, const struct options *options, bool (*stops)(void))
+{
+    while (comes_again(server, options)) {
+        enum begun begun = begin(server, options, stops, FOR_EVER);
+        if (begun != ENDED || WIFEXITED(server->status))
+            return begun;
+        close(server->socket);
+    }
+    return NOT_TRIED;
+}
+
+static void say_no_other(const struct server *server, enum begun begun)
+{
+    if (begun == NOT_STARTED)
+        say("cannot start %s: %s", server->program, strerror(errno));
+    if (begun == NOT_CONNECTED)
+        say("cannot connect to %s/socket: %s", server->work, strerror(errno));
+    if (begun == ENDED)
+        say_end(server, " before it listened");
+    if (begun == ENDED)
+        say("%s can't go on with %s", server->program, server->trace);
+}
+
+int server_restart(struct server *server, const struct options *options, bool (*stops)(void))
+{
+    wait_for_end(server);
+    enum begun begun = begin_again(server, options, stops);
+    if (begun == CONNECTED)
+        return server->socket;
+    say_no_other(server, begun);
+    if (server->pid)
+        kill_server(server);
+    // It was said how it ended, and what it left in its file is judged as cut off.
+    server->status = 0;
+    server->is_cut = true;
+    return -1;
 }
 
 // What `lockd check` says of the trace: its status, or 127.
@@ -237,7 +357,7 @@ int server_finish(struct server *server, const struct options *options, int stat
     wait_for_end(server);
     bool was_killed = WIFSIGNALED(server->status);
     if (server->status) {
-        say_end(server, was_killed ? ", and the end of its trace is lost" : "");
+        say_end(server, was_killed && !options->resume ? ", and the end of its trace is lost" : "");
         if (!was_killed && !status)
             status = STATUS_FAULT;
     }
@@ -246,7 +366,7 @@ int server_finish(struct server *server, const struct options *options, int stat
         return status;
     printf("trace: %s\n", server->trace);
     fflush(stdout);
-    if (!options->no_check && judged(server, options, was_killed))
+    if (!options->no_check && judged(server, options, was_killed || server->is_cut))
         status = STATUS_FAULT;
     return status;
 }

@@ -16,13 +16,15 @@ _lockd() {
     elif [ "$before" = --open ]; then
         words='1 1024 65536'
     elif [ "$before" = --trace-full ]; then
-        words='go-on refuse'
+        words='go-on refuse wait end'
     elif [ "$before" = --trace ]; then
         words='none'
+    elif [ "$before" = --resume ]; then
+        words=
     else
         case $command in
             help) words='script check locks bytes serve drive' ;;
-            serve) words="--workers --trace --trace-full $rules --help" ;;
+            serve) words="--workers --trace --resume --trace-full $rules --help" ;;
             check) words="--quiet --cut $rules --help" ;;
             locks) words="--at --file --json $rules --help" ;;
             script | bytes) words="$rules --help" ;;
@@ -38,7 +40,7 @@ complete -o default -F _lockd lockd
 
 _lockd_mount() {
     local word=${COMP_WORDS[COMP_CWORD]} before=${COMP_WORDS[COMP_CWORD - 1]}
-    local words='--workers --trace --trace-full --times --fair --runs --parked --files --open --no-check --allow-other --mode --uid --gid --discard-writes --nonempty --grace --count --help --version'
+    local words='--workers --trace --resume --trace-full --times --fair --runs --parked --files --open --no-check --allow-other --mode --uid --gid --discard-writes --nonempty --grace --count --help --version'
     case $before in
         --workers) mapfile -t COMPREPLY < <(compgen -W "$(seq 16)" -- "$word") ;;
         --runs) mapfile -t COMPREPLY < <(compgen -W '1 4096 65536' -- "$word") ;;
@@ -46,8 +48,8 @@ _lockd_mount() {
         --files) mapfile -t COMPREPLY < <(compgen -W '1 256 65536' -- "$word") ;;
         --open) mapfile -t COMPREPLY < <(compgen -W '1 1024 65536' -- "$word") ;;
         --trace) mapfile -t COMPREPLY < <(compgen -W 'none' -f -- "$word") ;;
-        --trace-full) mapfile -t COMPREPLY < <(compgen -W 'go-on refuse' -- "$word") ;;
-        --times) mapfile -t COMPREPLY < <(compgen -f -- "$word") ;;
+        --trace-full) mapfile -t COMPREPLY < <(compgen -W 'go-on refuse wait end' -- "$word") ;;
+        --resume | --times) mapfile -t COMPREPLY < <(compgen -f -- "$word") ;;
         --mode) mapfile -t COMPREPLY < <(compgen -W '0755 1777' -- "$word") ;;
         --uid | --gid | --grace) COMPREPLY=() ;;
         *)

@@ -93,6 +93,12 @@ def run(*words, text=b"", **how):
     return subprocess.run([PROGRAM, *words], input=text, capture_output=True, timeout=PATIENCE, **how)
 
 
+def peak(process):
+    """The most memory that it has had so far, in kilobytes. What `wait4` says of it would count this script too, which it was started from."""
+    with open(f"/proc/{process.pid}/status", encoding="ascii") as file:
+        return next(int(line.split()[1]) for line in file if line.startswith("VmHWM:"))
+
+
 def limited(most_bytes):
     """What a program does before it starts, so that its files can have so many bytes, and no more."""
     def limit():
@@ -126,15 +132,23 @@ def judged(trace, *options):
 
 
 class Server:
-    """A server with these options, and a folder of its own. With `workers=None` it has its default number of them."""
+    """A server with these options, and a folder of its own. With `workers=None` it has its default number of them, and with `traced` its file
+    has this text when it starts."""
 
-    def __init__(self, *options, workers=1, printed=subprocess.PIPE, before=None, env=None, program=PROGRAM):
+    def __init__(self, *options, workers=1, printed=subprocess.PIPE, before=None, env=None, program=PROGRAM, traced=None):
         self.folder = tempfile.TemporaryDirectory(prefix="try-lockd-")
         os.chmod(self.folder.name, 0o777)
         self.path, self.file = f"{self.folder.name}/socket", f"{self.folder.name}/trace"
+        if traced is not None:
+            with open(self.file, "wb") as file:
+                file.write(traced)
         number = ["--workers", str(workers)] if workers else []
-        words = [program, "serve", self.path, *number, *(it.format(file=self.file) for it in options)]
-        self.serving = subprocess.Popen(words, stdout=printed, stderr=subprocess.PIPE, preexec_fn=before, env=env)
+        self.words = [program, "serve", self.path, *number, *(it.format(file=self.file) for it in options)]
+        self.start(printed, before, env)
+
+    def start(self, printed=subprocess.PIPE, before=None, env=None):
+        """Starts it, also once more after its end."""
+        self.serving = subprocess.Popen(self.words, stdout=printed, stderr=subprocess.PIPE, preexec_fn=before, env=env)
         # So that none is left behind where a try fails.
         weakref.finalize(self, self.serving.kill)
 

@@ -2,7 +2,7 @@
 that is tried. Those that take a mount share one, with 1 worker and with 4; the others, some at a time, have their own.
 """
 import os, resource, shutil, signal, subprocess, sys, time, traceback
-import try_mount_begins, try_mount_ends, try_mount_files, try_mount_leaks, try_mount_limits, try_mount_locks, try_mount_times
+import try_mount_begins, try_mount_ends, try_mount_files, try_mount_leaks, try_mount_limits, try_mount_locks, try_mount_resumed, try_mount_times
 from try_mount_kit import *
 
 AT_A_TIME = 4
@@ -104,7 +104,8 @@ def shared(names, every, workers, program=PROGRAM):
 def main():
     prepare()
     every = {}
-    for module in try_mount_leaks, try_mount_locks, try_mount_files, try_mount_limits, try_mount_ends, try_mount_begins, try_mount_times:
+    for module in (try_mount_leaks, try_mount_resumed, try_mount_locks, try_mount_files, try_mount_limits, try_mount_ends, try_mount_begins,
+                   try_mount_times):
         every.update((name, it) for name, it in vars(module).items() if name.startswith("try_") and callable(it))
     alone = [name for name, it in every.items() if not it.__code__.co_argcount]
     together = [name for name in every if name not in alone]

@@ -3,8 +3,8 @@
 # scripts and Python lock files there. Prints a line for each that goes wrong, with why; then what
 # `lockd check` says of the traces, and `N passed, M failed`. The status is 0 where none failed, and
 # 77, with a line, where something is missing that it wants: root, /dev/fuse, a right to mount, a C
-# compiler, Python 3.9, `unshare` and `flock`. It takes a minute on two processors, and is killed
-# after 900 seconds.
+# compiler, Python 3.9, `unshare` and `flock`. It takes a minute and a half on two processors, and is
+# killed after 900 seconds.
 #
 #     tools/try_mount.sh [NAME ..]      (only what has one of these words in its name)
 #

@@ -49,9 +49,9 @@ while True:
         body = bytes(7)
     elif opcode == 35:
         body = struct.pack("<Q32xQ52x4I12xQ8x", 2, 2, 0o100644, 1, 0, 0, 1)
-    elif opcode == 25 and unique >> 63 and HOW == "no_flush":
+    elif opcode == 25 and unique >> 62 and HOW == "no_flush":
         continue
-    elif opcode == 25 and unique >> 63:
+    elif opcode == 25 and unique >> 62:
         time.sleep(0.3)
         if select.select([connection], [], [], 0)[0]:
             sys.exit(5)

@@ -34,7 +34,7 @@ class Mount:
         assert (self.running.poll() is None) != refused, self.output()
 
     def output(self):
-        return os.pread(self.said.fileno(), 1 << 16, 0).decode()
+        return os.pread(self.said.fileno(), os.fstat(self.said.fileno()).st_size, 0).decode()
 
     def says(self, *words):
         for word in words:
@@ -71,6 +71,11 @@ def can_abort():
     if not os.path.ismount("/sys/fs/fuse/connections"):
         print("not tried by fusectl: this kernel has none", flush=True)
     return os.path.ismount("/sys/fs/fuse/connections")
+
+
+def listed(mount, *words):
+    """What tools/lockd_locks says of the mount's folder."""
+    return subprocess.run([f"{TOP}/tools/lockd_locks", *words, mount.folder], capture_output=True, text=True, timeout=PATIENCE)
 
 
 def children_of(parent):

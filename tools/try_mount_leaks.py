@@ -1,6 +1,6 @@
 """Many calls take neither memory nor descriptors of the program that carries messages: a million, or as many as
 TRY_MOUNT_CALLS says. They are fewer where 40 seconds, or as many as TRY_MOUNT_SECONDS says, don't suffice."""
-import os, subprocess
+import os, subprocess, tempfile
 from try_mount_kit import *
 
 CALLS = int(os.environ.get("TRY_MOUNT_CALLS", 1_000_000))
@@ -14,10 +14,11 @@ def taken(pid):
     return size, len(os.listdir(f"/proc/{pid}/fd"))
 
 
-def try_many_calls_take_no_memory():
-    program = f"{WORK}/try_mount_calls"
+def take_no_memory(calls, *words):
+    """A mount takes no more memory after so many calls than after 20,000."""
+    program = tempfile.mkdtemp(dir=WORK) + "/try_mount_calls"
     subprocess.run(["cc", "-O2", "-Wall", "-Wextra", "-o", program, f"{TOP}/tools/try_mount_calls.c"], check=True, timeout=PATIENCE)
-    mount = Mount("--trace", "none", "--discard-writes")
+    mount = Mount(*words, "--discard-writes")
 
     def call(calls):
         running = [subprocess.Popen([program, mount.folder, str(at), str(calls // 2), str(SECONDS)], stdout=subprocess.PIPE, text=True) for at in range(2)]
@@ -27,20 +28,29 @@ def try_many_calls_take_no_memory():
 
     call(20_000)
     before = taken(mount.running.pid)
-    made = call(CALLS)
-    if made < CALLS:
-        print(f"{made} calls in {SECONDS} seconds, and not {CALLS}", flush=True)
+    made = call(calls)
+    if made < calls:
+        print(f"{made} calls in {SECONDS} seconds, and not {calls}", flush=True)
     after = taken(mount.running.pid)
     assert after[0] < before[0] + 256 and after[1] == before[1], f"{before}, and then {after}"
     same(mount.end()[0], 0)
 
 
-try_many_calls_take_no_memory.seconds = 2 * SECONDS + 40
+def try_many_calls_take_no_memory():
+    take_no_memory(CALLS, "--trace", "none")
+
+
+def try_many_calls_leave_no_copy():
+    """Of a message that was answered, where the server may be started again."""
+    take_no_memory(CALLS // 20, "--resume", tempfile.mkdtemp(dir=WORK) + "/file", "--no-check")
+
+
+try_many_calls_take_no_memory.seconds = try_many_calls_leave_no_copy.seconds = 2 * SECONDS + 40
 
 
 def try_random_messages_and_replies():
     program = f"{WORK}/try_mount_turned"
-    parts = [f"{TOP}/mount/{it}.c" for it in ("messages", "replies", "answers", "names", "opens", "say")]
+    parts = [f"{TOP}/mount/{it}.c" for it in ("messages", "replies", "answers", "names", "opens", "kept", "say")]
     built = subprocess.run(["cc", "-g", "-O1", "-std=gnu11", "-Wall", "-Wextra", "-Wconversion", "-fsanitize=address,undefined", "-fno-sanitize-recover=undefined",
                             "-pthread", "-o", program, f"{TOP}/tools/try_mount_turned.c", *parts], capture_output=True, text=True, timeout=PATIENCE)
     if built.returncode:

@@ -161,11 +161,6 @@ def try_who_holds_what():
     same(listed(mount).returncode, 2)
 
 
-def listed(mount, *words):
-    return subprocess.run([f"{TOP}/tools/lockd_locks", *words, mount.folder], capture_output=True, text=True, timeout=PATIENCE)
-
-
-
 def try_a_trace_that_goes_nowhere():
     mount = Mount("--trace", "none")
     shell(mount, "flock job echo in", "in")

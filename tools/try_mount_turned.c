@@ -1,7 +1,7 @@
 // Gives the part of lockd_mount that changes messages and replies random ones of both:
 // try_mount_turned ROUNDS. It is built with sanitizers, which end it at the first fault. Kernel and
 // server send no such messages. Before that it tries the tables: a file with many owners of record
-// locks, an owner with several files, and the folder's list while names go.
+// locks, an owner with several files, the folder's list while names go, and messages without a reply.
 #include "../mount/mount.h"
 
 #include <fcntl.h>
@@ -9,7 +9,7 @@
 #include <stdlib.h>
 #include <string.h>
 
-enum { SENT = 512, NODES = 20, NUMBERS = 200, FHS = 50, OWNERS = 300, NAMES = 5000 };
+enum { SENT = 512, NODES = 20, NUMBERS = 200, FHS = 50, OWNERS = 300, NAMES = 5000, KEPT = 3000 };
 
 static uint64_t sent[SENT]; // numbers of the carrier's own messages
 static int sent_count, flushed;
@@ -32,13 +32,18 @@ void send_later(const void *message, size_t size)
         sent[sent_count++] = head.unique;
 }
 
-void carrier_flushed(void)
+void carrier_answered(void)
 {
     flushed++;
 }
 
 void carrier_agreed(void)
 {
+}
+
+bool carrier_is_agreed(void)
+{
+    return rand() % 2;
 }
 
 void carrier_refused_init(int error)
@@ -180,6 +185,76 @@ static void list_while_names_go(void)
     expect(!nodes_count(), "none is left");
 }
 
+// ---- Messages without a reply ----
+
+static struct {
+    uint64_t unique;
+    uint32_t opcode;
+    bool is_there;
+} kept[KEPT];
+static int kept_so_far;
+
+static void keep(uint32_t opcode, uint64_t unique)
+{
+    struct fuse_in_header head = {.len = sizeof head, .opcode = opcode, .unique = unique};
+    expect(kept_add((const char *)&head, sizeof head), "there is memory");
+    kept[kept_so_far].unique = unique;
+    kept[kept_so_far].opcode = opcode;
+    kept[kept_so_far++].is_there = opcode != FUSE_INIT;
+}
+
+// The reply to a message ends it, and those before it that may get none.
+static void answer_one(int at)
+{
+    for (int i = 0; i < at; i++)
+        if (kept[i].opcode == FUSE_FORGET || kept[i].opcode == FUSE_BATCH_FORGET || kept[i].opcode == FUSE_INTERRUPT)
+            kept[i].is_there = false;
+    kept[at].is_there = false;
+    kept_answered(kept[at].unique);
+}
+
+// Those that are kept come marked, in their order, however few have room at a time.
+static void compare_kept(size_t most)
+{
+    static char bytes[8 * MOST];
+    struct fuse_in_header head;
+    uint64_t number = 0;
+    int at = 0;
+    for (size_t size; (size = kept_copy(&number, bytes, most * sizeof head));)
+        for (size_t from = 0; from < size; from += sizeof head, at++) {
+            while (at < kept_so_far && !kept[at].is_there)
+                at++;
+            memcpy(&head, bytes + from, sizeof head);
+            expect(at < kept_so_far && head.unique == (kept[at].unique | AGAIN) && head.opcode == kept[at].opcode, "it is the next one");
+        }
+    while (at < kept_so_far && !kept[at].is_there)
+        at++;
+    expect(at == kept_so_far, "each is there");
+}
+
+static void keep_and_answer(void)
+{
+    static const uint32_t opcodes[] = {FUSE_FORGET, FUSE_BATCH_FORGET, FUSE_INTERRUPT, FUSE_SETLKW, FUSE_LOOKUP, FUSE_RELEASE};
+    static char init[MOST];
+    expect(!kept_init(init), "there is no INIT yet");
+    keep(FUSE_INIT, 2);
+    expect(kept_init(init) == sizeof(struct fuse_in_header), "there is one");
+    while (kept_so_far < KEPT) {
+        keep(opcodes[below(6)], 4 + 2 * (uint64_t)kept_so_far);
+        int at = (int)below((unsigned)kept_so_far);
+        if (kept[at].is_there && kept[at].opcode != FUSE_FORGET && kept[at].opcode != FUSE_BATCH_FORGET)
+            answer_one(at);
+        kept_answered(1);
+        if (!below(50))
+            compare_kept(1 + below(1000));
+    }
+    for (int at = KEPT - 1; at >= 0; at--)
+        if (kept[at].is_there && kept[at].opcode != FUSE_FORGET && kept[at].opcode != FUSE_BATCH_FORGET)
+            answer_one(at);
+    compare_kept(1000);
+    kept_end();
+}
+
 int main(int argc, char **argv)
 {
     static _Alignas(8) char bytes[MOST + 16];
@@ -188,6 +263,7 @@ int main(int argc, char **argv)
     release_after_many_owners(bytes);
     close_files_of_one_owner();
     list_while_names_go();
+    keep_and_answer();
     for (long round = argc > 1 ? atol(argv[1]) : 0; round > 0; round--) {
         session.discards = below(2);
         if (below(2))

@@ -108,6 +108,11 @@ class Browser:
         self.call("Input.dispatchMouseEvent", type=kind, x=x, y=y, **words)
         self.settle()
 
+    def touch(self, kind, *place):
+        """A finger goes down, moves or, with no place, leaves."""
+        self.call("Input.dispatchTouchEvent", type=kind, touchPoints=[{"x": place[0], "y": place[1]}] if place else [])
+        self.settle()
+
     def click(self, selector):
         self.tell(f"document.querySelector({json.dumps(selector)}).scrollIntoView({{ block: 'center' }})")
         at = self.center(selector)

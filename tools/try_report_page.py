@@ -135,6 +135,26 @@ def try_moving_and_zooming(browser, written, _):
 
 
 @in_browser
+def try_touches(browser, written, _):
+    """A finger on a lock shows what it is. One that scrolls the lanes leaves the window where it is, and so does the pointer after it."""
+    browser.call("Emulation.setTouchEmulationEnabled", enabled=True)
+    browser.open(written(busy_trace(1000)))
+    browser.click("#nearer")
+    browser.tell("document.getElementById('lanes').scrollIntoView()")
+    before, (x, y) = says(browser), browser.center("#lanes")
+    browser.touch("touchStart", *browser.center("#chart rect[data-bar]"))
+    assert "owner" in browser.tell("document.getElementById('tip').innerText")
+    browser.touch("touchEnd")
+    browser.touch("touchStart", x, y)
+    for by in range(15, 165, 15):
+        browser.touch("touchMove", x + by / 5, y - by)
+    browser.touch("touchEnd")
+    assert browser.tell("document.getElementById('lanes').scrollTop") > 0
+    browser.point(x + 150, y)
+    same(says(browser), before)
+
+
+@in_browser
 def try_a_page_with_times(browser, written, folder):
     trace = traced(text_of("examples/a_lock_is_waited_for.txt"))
     with open(f"{folder}/times", "wb") as file:

@@ -75,11 +75,11 @@ const KEYS = { ArrowLeft: () => pan(-0.2), ArrowRight: () => pan(0.2), "+": () =
 function dragged(element, begin, during) {
     element.addEventListener("pointerdown", down => {
         if (down.button || down.offsetX > element.clientWidth) return;
-        const state = begin(down);
-        const moved = event => during(event, state, down);
-        const over = () => { removeEventListener("pointermove", moved); removeEventListener("pointerup", over); };
-        addEventListener("pointermove", moved);
-        addEventListener("pointerup", over);
+        const state = begin(down), drag = new AbortController(), until = { signal: drag.signal };
+        addEventListener("pointermove", event => during(event, state, down), until);
+        addEventListener("pointerup", () => drag.abort(), until);
+        // A touch turned out to scroll the lanes.
+        addEventListener("pointercancel", () => { drag.abort(); during(down, state, down); }, until);
     });
 }
 
@@ -104,7 +104,7 @@ function overPlace(event) {
 }
 
 function listen() {
-    box.addEventListener("pointermove", point);
+    for (const kind of ["pointerdown", "pointermove"]) box.addEventListener(kind, point);
     box.addEventListener("pointerleave", () => { tip.style.display = "none"; });
     box.addEventListener("wheel", wheel, { passive: false });
     box.addEventListener("scroll", later);

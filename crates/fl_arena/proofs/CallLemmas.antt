@@ -5,10 +5,10 @@ use Rattle.std.proofs.Common.{slice_get, refl, sym, ◌∙◌, ap, subst, arith,
 use Rattle.std.specs.List.{insert, remove}
 use Rattle.std.proofs.lemmas.List.{length-replicate}
 use Rattle.std.proofs.lemmas.List.Sums.{sum_by-cons}
-use Rattle.std.proofs.lemmas.Option.{slice_get_read, slice_get-get_or, none-some}
+use Rattle.std.proofs.lemmas.Option.{slice_get_read, slice_get_within, slice_get-get_or, none-some}
 use Rattle.fl_arena.specs.Chains.{Entry, Chains, entries, slot_at, with_entries}
 use Rattle.fl_arena.specs.Cursors.{cursor_at, IsInPlace, index_of, item_of, with_item, without}
-use Rattle.fl_arena.specs.Inside.Links.{link_at, link_before, relinked, ends_with, ends_without, IsSpare, SpellsChain}
+use Rattle.fl_arena.specs.Inside.Links.{link_at, link_before, item_in, node_with, relinked, ends_with, ends_without, IsSpare, SpellsChain}
 use Rattle.fl_arena.specs.Inside.Links.{SpellsFree, AreFree, Spells, spelled}
 use Rattle.fl_arena.specs.declared.cursors.Cursor.{Cursor}
 use Rattle.fl_arena.specs.declared.nodes.Node.{Node}
@@ -125,6 +125,36 @@ module _ {T : Type 0} where
       let in_chains = place.in_chains in
       let found = slice_get-get_or ends cursor.chain (record { first = None; last = None; len = 0 }) (let chains = h.chains in omega arith) in
       rw (same, named) (Spells-set nodes ends spare free a h cursor.chain cursor.index slot y m there read _ found in_chains)
+
+  -- the node at a cursor, as it was read
+  pub record IsRead (nodes : List (Node T)) (a : Chains T) (cursor : Cursor) (slot : ℕ) (n : Node T) : Type 0 where
+    pub member : Member T
+    pub there : slice_get nodes slot ≡ Some (Taken member)
+    pub is : n ≡ Taken member
+    pub item : item_of a cursor ≡ item_in n
+
+  pub node_read : (nodes : List (Node T)) (ends : List Ends) (spare : Option ℕ) (free : ℕ) (a : Chains T) (cursor : Cursor) (slot at : ℕ) (n : Node T) →
+      Spells nodes ends spare free a → IsInPlace a cursor → cursor.slot ≡ Some slot → at ≡ slot → n ≡ get_or nodes at n → IsRead nodes a cursor slot n
+  node_read nodes ends spare free a cursor slot at n h in_place named same read =
+      let there = (linked_at nodes ends spare free a h cursor.chain cursor.index slot (slot_there a cursor slot named in_place)).linked in
+      let seen : slice_get nodes slot ≡ Some n = slice_get_read nodes (length nodes) slot n refl (slice_get_within nodes slot _ there)
+      (subst (λ (i : ℕ). n ≡ get_or nodes i n) same read) in
+      let is : n ≡ Taken _ = let both = sym seen ∙ there in cc in
+      record {
+        member = _;
+        there = there;
+        is = is;
+        item = sym (got nodes ends spare free a h cursor in_place slot _ named there) ∙ sym (ap item_in is);
+      }
+
+  -- the links after another item was left in that node
+  pub left : (nodes : List (Node T)) (ends : List Ends) (spare : Option ℕ) (free : ℕ) (a : Chains T) (cursor : Cursor) (slot at : ℕ) (n : Node T) (y : T) →
+      Spells nodes ends spare free a → IsInPlace a cursor → cursor.slot ≡ Some slot → at ≡ slot → n ≡ get_or nodes at n →
+      Spells (set nodes at (node_with n y)) ends spare free (with_item a cursor y)
+  left nodes ends spare free a cursor slot at n y h in_place named same read =
+      let node = node_read nodes ends spare free a cursor slot at n h in_place named same read in
+      subst (λ (x : Node T). Spells (set nodes at (node_with x y)) ends spare free (with_item a cursor y)) (sym node.is)
+      (changed nodes ends spare free a cursor slot at y node.member h in_place named node.there same)
 
   empty_at : (nodes : List (Node T)) (n c d : ℕ) (e : Ends) → slice_get (replicate n (record { first = None; last = None; len = 0 })) c ≡ Some e →
       SpellsChain nodes d e (get_or {A = List (Entry T)} (replicate n []) c [])

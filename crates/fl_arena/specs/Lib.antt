@@ -1,3 +1,4 @@
 pub mod Chains
 pub mod Cursors
 pub mod Inside
+pub mod Lending

@@ -43,6 +43,9 @@ impl<T: Copy> Model for Arena<T> {
 }
 
 impl<T: Copy> Arena<T> {
+    ghost use Rattle.std.specs.Borrow.{sem};
+    ghost use Rattle.fl_arena.specs.Lending.{LendsItem};
+
     /// An arena of so many empty chains and so many free slots, which are numbered from 0. It fails
     /// only if memory runs out.
     pub fn new(alloc: Global, chains: usize, slots: usize) -> Result<Self, AllocError>
@@ -177,6 +180,25 @@ impl<T: Copy> Arena<T> {
         };
         let member = *member_at(&self.nodes, slot);
         self.nodes[usize::from(slot)] = Node::Taken(Member { item, ..member });
+    }
+
+    /// The item at the cursor, to be changed in place.
+    pub fn item_mut(&mut self, cursor: &Cursor) -> &mut T
+        requires at_item { IsSome cursor.now.slot }
+        requires in_place { IsInPlace self.old cursor.now }
+        ensures* writes_back { sem 𝓛 (LendsItem T.row self.entry cursor.now result) }
+        ensures item { item_of self.old cursor.now ≡ Some result.now }
+        ensures items { (item : T) → items (with_item self.old cursor.now item) cursor.now.chain
+            ≡ slice_set (items self.old cursor.now.chain) cursor.now.index item }
+        ensures others { (item : T) (c : ℕ) → c ≢ cursor.now.chain
+            → entries (with_item self.old cursor.now item) c ≡ entries self.old c }
+        ensures size { (item : T) → HasSizeOf self.old (with_item self.old cursor.now item) }
+        ensures linked { (item : T) → IsLinked (with_item self.old cursor.now item) }
+    {
+        let Some(slot) = cursor.slot else {
+            unreachable!()
+        };
+        self.nodes[usize::from(slot)].item_mut()
     }
 
     /// Takes the item at the cursor off its chain, and frees its slot. The cursor is then at the next

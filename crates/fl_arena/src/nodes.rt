@@ -1,8 +1,9 @@
 //! The nodes in the slots, and the links between them.
-ghost use Rattle.std.specs.Prelude.{◌≡◌, ◌≤◌, ◌<◌, ◌^◌, length, slice_get, slice_set, Some, IfOk};
+ghost use Rattle.std.specs.Prelude.{◌≡◌, ◌≤◌, ◌<◌, ◌^◌, length, slice_get, slice_set, Some, IsSome, IfOk};
+ghost use Rattle.std.specs.Borrow.{Lends, sem};
 ghost use Rattle.fl_arena.specs.Inside.Links.{alter, alter_link, with_links, with_previous, with_next};
 ghost use Rattle.fl_arena.specs.Inside.Links.{relinked, ends_with, ends_without};
-ghost use Rattle.fl_arena.specs.Inside.Links.{IsTaken, IsSpare, IsWithin, AreFree};
+ghost use Rattle.fl_arena.specs.Inside.Links.{IsTaken, IsSpare, IsWithin, AreFree, item_in, node_with};
 
 use std::alloc::{AllocError, Global};
 
@@ -20,6 +21,22 @@ pub(crate) struct Member<T> {
 pub(crate) enum Node<T> {
     Free(Option<u16>),
     Taken(Member<T>),
+}
+
+impl<T> Node<T> {
+    ghost use Rattle.fl_arena.specs.contracts.nodes.Node.{the_row};
+
+    // The item of a node that has one.
+    pub(crate) fn item_mut(&mut self) -> &mut T
+        requires { IsSome (item_in self.old) }
+        ensures* writes_back { sem 𝓛 (Lends (the_row T.row) T.row self.entry result (node_with self.old)) }
+        ensures item { item_in self.old ≡ Some result.now }
+    {
+        match self {
+            Node::Taken(member) => &mut member.item,
+            Node::Free(_) => unreachable!(),
+        }
+    }
 }
 
 // A slot takes 24 bytes beside its item, and a chain 16.

@@ -8,6 +8,7 @@ ghost use Rattle.fl_core.specs.Step.{next, replies_in};
 ghost use Rattle.fl_core.specs.Tolds.{HasRoom};
 ghost use Rattle.fl_desk.specs.Legal.{IsLegal, LeavesLawful, step_lines};
 ghost use Rattle.fl_desk.specs.Kept.{IsKept, opening_book};
+ghost use Rattle.fl_waiting.specs.Waiting.{is_parked};
 
 use fl_core::{Core, Rules, Tolds};
 use fl_history::{History, Journal, Lines};
@@ -88,6 +89,14 @@ impl<J: Journal> Desk<J> {
         ensures { result ≡ self.now.present.rules.parked + 1 }
     {
         self.present.most_tolds()
+    }
+
+    /// Whether a request of this unique is parked.
+    pub fn has_parked(&self, unique: u64) -> bool
+        ensures parked { result ≡ is_parked unique self.now.present.view.parked }
+        ensures kept { IsKept self.now.lines self.now.present }
+    {
+        self.present.parked().has(unique)
     }
 
     /// Takes an order of a worker: records it, answers it, and hands out the replies that it records. A refusal

@@ -1,20 +1,20 @@
 -- Nodes without their counts, and what a search of them finds.
-use Rattle.std.proofs.Common.{◌≡◌, ◌≢◌, ℕ, ◌+◌, Bool, true, false, cond, ◌&&◌, Option, Some, None, option_map, List, [], ◌∷◌, length}
-use Rattle.std.proofs.Common.{T, refl, ap, sym, ◌∙◌, subst, arith}
+use Rattle.std.proofs.Common.{◌≡◌, ℕ, Bool, true, false, cond, ◌&&◌, Option, Some, None, option_map, List, [], ◌∷◌, length}
+use Rattle.std.proofs.Common.{T, refl, ap, sym, ◌∙◌, subst}
 use Rattle.std.specs.Prelude.{map as each}
-use Rattle.std.proofs.lemmas.Bool.Decides.{nat_tests}
 use Rattle.std.proofs.lemmas.List.{length-map}
 use Rattle.std.proofs.lemmas.Option.{none-some}
 use Rattle.std.specs.List.{find}
 use Rattle.std.specs.Ordering.{nat_cmp, eq_by_cmp, is_lt}
-use Rattle.std.specs.Cmp.{nat_cmp_total, first_so, second_so}
+use Rattle.std.specs.Cmp.{nat_cmp_total}
 use Rattle.std.specs.FinMap as map
 use Rattle.std.specs.FinMap.Entries as rising
 use Rattle.fl_dir.specs.declared.node.Node.{Node}
 use Rattle.fl_dir.specs.declared.nodes.Slot.{Slot}
+use Rattle.fl_dir.specs.Changes.{set_at, changed_at}
 use Rattle.fl_dir.specs.Inside.Kept.{bare}
-use Rattle.fl_dir.proofs.Entries.{held, truth, head_below, rest_sorted, none_above, found_at}
-use Rattle.fl_dir.proofs.Spread.{own_key, same_key}
+use Rattle.fl_dir.proofs.Entries.{truth, found_at}
+use Rattle.fl_dir.proofs.Spread.{same_key}
 
 -- the entries without their counts
 abbrev plain : List (ℕ × Slot) → List (ℕ × Node)
@@ -71,6 +71,13 @@ bare_remove m k =
     ∙ mapped (eq_by_cmp nat_cmp q k) None (map.get m q)
     ∙ ap (cond (eq_by_cmp nat_cmp q k) None) (sym (get_bare m q))
     ∙ sym (map.get-remove nat_cmp_total (bare m) k q))
+
+-- a change of the slot's node is one of the node
+pub bare_changed : (m : map.FinMap nat_cmp Slot) (k : ℕ) (s t : Slot) (change : Node → Node) → map.get m k ≡ Some s → t.node ≡ change s.node
+    → bare (map.insert m k t) ≡ changed_at (bare m) k change
+bare_changed m k s t change there same =
+    bare_insert m k t ∙ ap (map.insert (bare m) k) same
+    ∙ sym (ap (λ o. set_at (bare m) k (option_map change o)) (get_bare m k ∙ ap (option_map (λ (s : Slot). s.node)) there))
 
 -- another count changes no node
 pub bare_same : (m : map.FinMap nat_cmp Slot) (k : ℕ) (s t : Slot) → map.get m k ≡ Some s → t.node ≡ s.node → bare (map.insert m k t) ≡ bare m

@@ -1,6 +1,6 @@
 -- Changes of one chain of an arena, as changes at a number.
-use Rattle.std.proofs.Common.{◌≡◌, ◌≢◌, ℕ, zero, suc, ◌+◌, ◌<◌, ◌≤◌, Bool, true, false, cond, not, ◌==◌, ◌||◌, nat_le}
-use Rattle.std.proofs.Common.{Option, Some, None, IsSome}
+use Rattle.std.proofs.Common.{◌≡◌, ◌≢◌, ℕ, zero, suc, ◌≤◌, Bool, true, false, cond, not, ◌==◌}
+use Rattle.std.proofs.Common.{Option, Some, None, IsSome, is_some}
 use Rattle.std.proofs.Common.{option_map, slice_get, slice_set, List, [], ◌∷◌, ◌++◌, length, refl, ap, sym, ◌∙◌, subst, arith}
 use Rattle.std.specs.Prelude.{map as each}
 use Rattle.std.proofs.lemmas.Bool.Decides.{nat_tests}
@@ -12,10 +12,10 @@ use Rattle.std.specs.Cmp.{nat_cmp_total}
 use Rattle.std.specs.FinMap as map
 use Rattle.std.specs.FinMap.Entries as rising
 use Rattle.std.proofs.lemmas.Bool.{eqb-true}
-use Rattle.fl_arena.specs.Chains.{Entry, Chains, entries, items, item_count, HasSizeOf}
-use Rattle.fl_arena.specs.Cursors.{cursor_at}
+use Rattle.fl_arena.specs.Chains.{Entry, Chains, entries, items, HasSizeOf}
+use Rattle.fl_arena.specs.Cursors.{cursor_at, item_of, with_item}
 use Rattle.fl_arena.specs.declared.cursors.Cursor.{Cursor}
-use Rattle.fl_dir.specs.Inside.Spread.{at, values_on, AreSorted, IsAltered}
+use Rattle.fl_dir.specs.Inside.Spread.{at, AreSorted, IsAltered}
 use Rattle.fl_dir.proofs.Entries.{held, truth, found, set_put, remove_where, sorted_pushed}
 use Rattle.fl_dir.proofs.Spread.{some_of}
 
@@ -92,7 +92,7 @@ module _ {X : Type 0} where
     others = others;
   }
 
-  pub replaced : (a b : Chains (ℕ × X)) (cursor : Cursor) (c n : ℕ) (x : X) → cursor ≡ cursor_at a c cursor.index
+  replaced : (a b : Chains (ℕ × X)) (cursor : Cursor) (c n : ℕ) (x : X) → cursor ≡ cursor_at a c cursor.index
       → slice_get (items a c) cursor.index ≡ find (λ (e : ℕ × X). e.0 == n) (items a c) → IsSome (at a c n) → AreSorted a → HasSizeOf a b
       → items b cursor.chain ≡ slice_set (items a cursor.chain) cursor.index (n, x)
       → ((d : ℕ) → d ≢ cursor.chain → entries b d ≡ entries a d) → IsAltered a b c n (Some x)
@@ -108,6 +108,32 @@ module _ {X : Type 0} where
         here = λ q. ap (rising.find nat_cmp q) put ∙ rising.find-put nat_cmp nat_cmp_total q n x (items a c);
         others = rest;
       }
+
+  -- the item that a search for a number leaves a cursor at has the number, and is what the chain has there
+  pub own_item : (a : Chains (ℕ × X)) (cursor : Cursor) (c n : ℕ) (e : ℕ × X) → cursor ≡ cursor_at a c cursor.index
+      → slice_get (items a c) cursor.index ≡ find (λ (e : ℕ × X). e.0 == n) (items a c) → IsSome (at a c n) → item_of a cursor ≡ Some e
+      → (e.0 ≡ n) × (at a c n ≡ Some e.1)
+  own_item a cursor c n e stands seen some is =
+      let here = at_number a cursor c n stands seen some in
+      let item : slice_get (items a c) cursor.index ≡ Some e =
+      ap (λ (d : ℕ). slice_get (items a d) cursor.index) (sym here.chain)
+      ∙ sym (chosen cursor.slot (slice_get (items a cursor.chain) cursor.index) (slot_there a cursor c n stands seen some)) ∙ is in
+      let same : e ≡ (n, here.value) = let both = sym item ∙ here.there in cc in
+      (ap (λ (x : ℕ × X). x.0) same, found (items a c) n ∙ ap (option_map (λ (x : ℕ × X). x.1)) (sym seen ∙ item))
+    where
+      chosen : {A : Type 0} (o : Option ℕ) (x : Option A) → IsSome o → cond (is_some o) x None ≡ x
+      chosen None x h = absurd (cc h)
+      chosen (Some s) x h = refl
+
+  -- another value was left in that item
+  pub left : (a : Chains (ℕ × X)) (cursor : Cursor) (c n : ℕ) (e : ℕ × X) (x : X) → cursor ≡ cursor_at a c cursor.index
+      → slice_get (items a c) cursor.index ≡ find (λ (e : ℕ × X). e.0 == n) (items a c) → IsSome (at a c n) → AreSorted a → item_of a cursor ≡ Some e
+      → HasSizeOf a (with_item a cursor (n, x))
+      → items (with_item a cursor (n, x)) cursor.chain ≡ slice_set (items a cursor.chain) cursor.index (n, x)
+      → ((d : ℕ) → d ≢ cursor.chain → entries (with_item a cursor (n, x)) d ≡ entries a d) → IsAltered a (with_item a cursor (e.0, x)) c n (Some x)
+  left a cursor c n e x stands seen some sorted is size set others =
+      subst (λ (k : ℕ). IsAltered a (with_item a cursor (k, x)) c n (Some x)) (sym (own_item a cursor c n e stands seen some is).0)
+      (replaced a (with_item a cursor (n, x)) cursor c n x stands seen some sorted size set others)
 
   pub taken_out : (a b : Chains (ℕ × X)) (cursor : Cursor) (c n : ℕ) → cursor ≡ cursor_at a c cursor.index
       → slice_get (items a c) cursor.index ≡ find (λ (e : ℕ × X). e.0 == n) (items a c) → IsSome (at a c n) → AreSorted a → HasSizeOf a b

@@ -1,29 +1,30 @@
 -- What changes keep of the way in which a directory is kept.
-use Rattle.std.proofs.Common.{◌≡◌, ◌≢◌, ℕ, ◌+◌, ◌-◌, ◌<◌, ◌≤◌, Bool, true, false, cond, not, ◌==◌, ◌&&◌, ◌||◌, nat_le, Option, Some, None, option_map}
+use Rattle.std.proofs.Common.{◌≡◌, ◌≢◌, ℕ, ◌+◌, ◌<◌, ◌≤◌, Bool, true, false, cond, not, ◌==◌, ◌&&◌, ◌||◌, nat_le, Option, Some, None, option_map}
 use Rattle.std.proofs.Common.{IsSome, IfSome, is_some, List, [], ◌∷◌, length, refl, ap, sym, ◌∙◌, subst, arith, count_by}
 use Rattle.std.proofs.lemmas.Bool.Decides.{nat_tests}
 use Rattle.std.proofs.lemmas.Bool.{eqb-true}
 use Rattle.std.proofs.lemmas.List.Sums.{count_by-le-length}
 use Rattle.std.proofs.lemmas.Option.{none-some}
 use Rattle.std.proofs.lemmas.Slice.Eq.{bytes_eq-Decides}
+use Rattle.std.specs.Str.{bytes_eq}
 use Rattle.std.specs.Prelude.{replicate}
 use Rattle.std.specs.Int.Bits.{bit_and}
-use Rattle.std.specs.List.{find, list_any}
+use Rattle.std.specs.List.{find}
 use Rattle.std.specs.Ordering.{nat_cmp, eq_by_cmp}
 use Rattle.std.specs.Cmp.{nat_cmp_total}
 use Rattle.std.specs.FinMap as map
-use Rattle.std.specs.FinMap.Entries as rising
 use Rattle.fl_arena.specs.Chains.{Chains, items, item_count}
 use Rattle.fl_dir.specs.declared.node.Node.{Node}
 use Rattle.fl_dir.specs.declared.nodes.Slot.{Slot}
 use Rattle.fl_dir.specs.Directory.{Listing, is_named}
 use Rattle.fl_dir.specs.OpenFiles.{has_open_file, lives}
-use Rattle.fl_dir.specs.Inside.Kept.{bare, name_in, open_in, hash_of, hash_on, has_name, open_count, AreNamed, IsKept}
+use Rattle.fl_dir.specs.Changes.{set_at, changed_at}
+use Rattle.fl_dir.specs.Inside.Kept.{bare, link_name, name_in, open_in, hash_of, hash_on, has_name, open_count, AreNamed, IsKept}
 use Rattle.fl_dir.specs.Inside.Numbers.{Numbers}
 use Rattle.fl_dir.specs.Inside.Spread.{at, values_on, IsAltered}
 use Rattle.fl_dir.proofs.Entries.{truth, tied}
 use Rattle.fl_dir.proofs.Spread.{own_key, same_key, counted, some_on, unaltered, none_at, none_sorted, chains_made}
-use Rattle.fl_dir.proofs.Bare.{bare_insert, bare_remove, bare_same, get_bare, none_found, find_none, find_nothing, find_one, found_passes}
+use Rattle.fl_dir.proofs.Bare.{get_bare, none_found, find_none, find_nothing, find_one, found_passes}
 use Rattle.fl_dir.proofs.Counts.{ones, any_counted, count_insert, count_remove, len_within}
 
 -- what contracts see of nodes and files
@@ -71,18 +72,18 @@ put_same h m k s q a there is = go (eq_by_cmp nat_cmp q k) refl
     go true same = sym is ∙ sym (ap h (ap (map.get m) (same_key q k same) ∙ there))
     go false other = refl
 
-kept_names : (m : map.FinMap nat_cmp Slot) (k : ℕ) (s t : Slot) → map.get m k ≡ Some s → t.node.name ≡ s.node.name → (q : ℕ) →
+kept_names : (m : map.FinMap nat_cmp Slot) (k : ℕ) (s t : Slot) → map.get m k ≡ Some s → link_name t.node ≡ link_name s.node → (q : ℕ) →
     name_in (map.get (map.insert m k t) q) ≡ name_in (map.get m q)
-kept_names m k s t there same q = put_in name_in m k t q t.node.name refl ∙ put_same name_in m k s q t.node.name there (sym same)
+kept_names m k s t there same q = put_in name_in m k t q (link_name t.node) refl ∙ put_same name_in m k s q (link_name t.node) there (sym same)
 
 pub changed : (n : Numbers Slot) (names : Chains (ℕ × ℕ)) (mask : ℕ) (f : Numbers ℕ) (k : ℕ) (s t : Slot) → IsKept n names mask f →
-    map.get n.values k ≡ Some s → t.node.name ≡ s.node.name → t.fhs ≡ s.fhs → IsKept (record n { values = map.insert n.values k t }) names mask f
+    map.get n.values k ≡ Some s → link_name t.node ≡ link_name s.node → t.fhs ≡ s.fhs → IsKept (record n { values = map.insert n.values k t }) names mask f
 changed n names mask f k s t kept there name shut =
     same_names n (record n { values = map.insert n.values k t }) names mask f f kept refl refl (kept_names n.values k s t there name)
     (λ q. put_in open_in n.values k t q t.fhs refl ∙ put_same open_in n.values k s q t.fhs there (sym shut) ∙ kept.counts q)
 
 pub gone : (n : Numbers Slot) (names : Chains (ℕ × ℕ)) (mask : ℕ) (f : Numbers ℕ) (k : ℕ) (s : Slot) → IsKept n names mask f →
-    map.get n.values k ≡ Some s → s.node.name ≡ None → s.fhs ≡ 0 → IsKept (record n { values = map.remove n.values k }) names mask f
+    map.get n.values k ≡ Some s → link_name s.node ≡ None → s.fhs ≡ 0 → IsKept (record n { values = map.remove n.values k }) names mask f
 gone n names mask f k s kept there nameless closed =
     same_names n (record n { values = map.remove n.values k }) names mask f f kept refl refl
     (λ q. taken name_in q None refl ∙ put_same name_in n.values k s q None there nameless)
@@ -99,7 +100,7 @@ gone n names mask f k s kept there nameless closed =
 -- ---- counts
 
 pub opened : (n : Numbers Slot) (names : Chains (ℕ × ℕ)) (mask : ℕ) (f : Numbers ℕ) (k fh next : ℕ) (s t : Slot) → IsKept n names mask f
-    → map.get n.values k ≡ Some s → t.node.name ≡ s.node.name → t.fhs ≡ s.fhs + 1 → map.get f.values fh ≡ None
+    → map.get n.values k ≡ Some s → link_name t.node ≡ link_name s.node → t.fhs ≡ s.fhs + 1 → map.get f.values fh ≡ None
     → IsKept (record n { values = map.insert n.values k t }) names mask (record f { values = map.insert f.values fh k; next = next })
 opened n names mask f k fh next s t kept there name more new =
     same_names n (record n { values = map.insert n.values k t }) names mask f (record f { values = map.insert f.values fh k; next = next }) kept refl refl
@@ -119,7 +120,7 @@ opened n names mask f k fh next s t kept there name more new =
         omega arith
 
 pub closed : (n : Numbers Slot) (names : Chains (ℕ × ℕ)) (mask : ℕ) (f : Numbers ℕ) (k fh : ℕ) (s t : Slot) → IsKept n names mask f
-    → map.get n.values k ≡ Some s → t.node.name ≡ s.node.name → t.fhs + 1 ≡ s.fhs → map.get f.values fh ≡ Some k
+    → map.get n.values k ≡ Some s → link_name t.node ≡ link_name s.node → t.fhs + 1 ≡ s.fhs → map.get f.values fh ≡ Some k
     → IsKept (record n { values = map.insert n.values k t }) names mask (record f { values = map.remove f.values fh })
 closed n names mask f k fh s t kept there name less on =
     same_names n (record n { values = map.insert n.values k t }) names mask f (record f { values = map.remove f.values fh }) kept refl refl
@@ -170,21 +171,39 @@ counts_open n names mask f k kept =
 
 -- ---- names
 
-named_so : (o : Option (List ℕ)) (name : List ℕ) → is_named o name ≡ true → o ≡ Some name
-named_so None name is = absurd (cc is)
-named_so (Some own) name is = ap Some ((bytes_eq-Decides own name).0 is)
+named_so : (node : Node) (name : List ℕ) → is_named node name ≡ true → link_name node ≡ Some name
+named_so node name is = go node.linked node.name is
+  where
+    go : (linked : Bool) (own : List ℕ) → (linked && bytes_eq own name) ≡ true → cond linked (Some own) None ≡ Some name
+    go true own is = ap Some ((bytes_eq-Decides own name).0 is)
+    go false own is = absurd (cc is)
 
-so_named : (o : Option (List ℕ)) (name : List ℕ) → o ≡ Some name → is_named o name ≡ true
-so_named o name is = ap (λ o. is_named o name) is ∙ (bytes_eq-Decides name name).1 refl
+so_named : (node : Node) (name : List ℕ) → link_name node ≡ Some name → is_named node name ≡ true
+so_named node name is = go node.linked node.name is
+  where
+    go : (linked : Bool) (own : List ℕ) → cond linked (Some own) None ≡ Some name → (linked && bytes_eq own name) ≡ true
+    go true own is = let same : own ≡ name = cc is in (bytes_eq-Decides own name).1 same
+    go false own is = absurd (none-some name is)
+
+-- a node that is linked, with its name
+pub linked_so : (node : Node) (name : List ℕ) → link_name node ≡ Some name → (node.linked ≡ true) × (node.name ≡ name)
+linked_so node name is = go node.linked is
+  where
+    go : (linked : Bool) → cond linked (Some node.name) None ≡ Some name → (linked ≡ true) × (node.name ≡ name)
+    go true is = (refl, cc is)
+    go false is = absurd (none-some name is)
+
+pub so_linked : (node : Node) (name : List ℕ) → node.linked ≡ true → node.name ≡ name → link_name node ≡ Some name
+so_linked node name linked named = λ i. cond (linked i) (Some (named i)) None
 
 -- a node that has the name in the listing has it where it is kept
 has_so : (o : Option Slot) (name : List ℕ) → has_name (option_map (λ s. s.node) o) name ≡ true → name_in o ≡ Some name
 has_so None name is = absurd (cc is)
-has_so (Some s) name is = named_so s.node.name name is
+has_so (Some s) name is = named_so s.node name is
 
 so_has : (o : Option Slot) (name : List ℕ) → name_in o ≡ Some name → has_name (option_map (λ s. s.node) o) name ≡ true
 so_has None name is = absurd (none-some name is)
-so_has (Some s) name is = so_named s.node.name name is
+so_has (Some s) name is = so_named s.node name is
 
 turned : (a b : ℕ) → (a == b) ≡ (b == a)
 turned a b = grind (arith, nat_tests)
@@ -238,20 +257,20 @@ once_renamed m m1 k o now once free i j name p r = go (eq_by_cmp nat_cmp i k) re
     go false x false y = once i j name (left false x) (right false y)
 
 -- a name that no node has in the listing is none where it is kept
-pub is_free : (m : map.FinMap nat_cmp Slot) (name : List ℕ) → find (λ (e : ℕ × Node). is_named e.1.name name) (map.entries (bare m)) ≡ None
+pub is_free : (m : map.FinMap nat_cmp Slot) (name : List ℕ) → find (λ (e : ℕ × Node). is_named e.1 name) (map.entries (bare m)) ≡ None
     → (q : ℕ) → name_in (map.get m q) ≡ Some name → ⊥
 is_free m name none q is = go (map.get m q) refl is
   where
     go : (o : Option Slot) → map.get m q ≡ o → name_in o ≡ Some name → ⊥
     go None at_q has = absurd (none-some name has)
     go (Some s) at_q has =
-        let clash : true ≡ false = sym (so_named s.node.name name has)
-        ∙ none_found (λ (e : ℕ × Node). is_named e.1.name name) (bare m) q s.node none (get_bare m q ∙ ap (option_map (λ (s : Slot). s.node)) at_q) in
+        let clash : true ≡ false = sym (so_named s.node name has)
+        ∙ none_found (λ (e : ℕ × Node). is_named e.1 name) (bare m) q s.node none (get_bare m q ∙ ap (option_map (λ (s : Slot). s.node)) at_q) in
         absurd (cc clash)
 
 -- one more node, with a name that is free
 pub linked_more : (n : Numbers Slot) (names names1 : Chains (ℕ × ℕ)) (mask : ℕ) (f : Numbers ℕ) (k next : ℕ) (t : Slot) (name : List ℕ) → IsKept n names mask f
-    → map.get n.values k ≡ None → t.node.name ≡ Some name → t.fhs ≡ 0 → ((q : ℕ) → name_in (map.get n.values q) ≡ Some name → ⊥)
+    → map.get n.values k ≡ None → link_name t.node ≡ Some name → t.fhs ≡ 0 → ((q : ℕ) → name_in (map.get n.values q) ≡ Some name → ⊥)
     → IsAltered names names1 (bit_and (hash_of name) mask) k (Some (hash_of name))
     → IsKept (record n { values = map.insert n.values k t; next = next }) names1 mask f
 linked_more n names names1 mask f k next t name kept fresh has shut free new = record {
@@ -276,7 +295,7 @@ linked_more n names names1 mask f k next t name kept fresh has shut free new = r
 
 -- a node loses its name
 pub linked_less : (n : Numbers Slot) (names names1 : Chains (ℕ × ℕ)) (mask : ℕ) (f : Numbers ℕ) (k : ℕ) (s t : Slot) (name : List ℕ) → IsKept n names mask f
-    → map.get n.values k ≡ Some s → s.node.name ≡ Some name → t.node.name ≡ None → t.fhs ≡ s.fhs
+    → map.get n.values k ≡ Some s → link_name s.node ≡ Some name → link_name t.node ≡ None → t.fhs ≡ s.fhs
     → IsAltered names names1 (bit_and (hash_of name) mask) k None → IsKept (record n { values = map.insert n.values k t }) names1 mask f
 linked_less n names names1 mask f k s t name kept there has nameless shut new = record {
   named =
@@ -354,11 +373,11 @@ found_named n name es e is =
 
 pub not_linked : (n : Numbers Slot) (names : Chains (ℕ × ℕ)) (mask : ℕ) (f : Numbers ℕ) (name : List ℕ) → IsKept n names mask f
     → find (passes n name) (items names (bit_and (hash_of name) mask)) ≡ None
-    → find (λ (e : ℕ × Node). is_named e.1.name name) (map.entries (bare n.values)) ≡ None
+    → find (λ (e : ℕ × Node). is_named e.1 name) (map.entries (bare n.values)) ≡ None
 not_linked n names mask f name kept none =
-    find_nothing (λ (e : ℕ × Node). is_named e.1.name name) (bare n.values) (λ q x is. fails q x is (is_named x.name name) refl)
+    find_nothing (λ (e : ℕ × Node). is_named e.1 name) (bare n.values) (λ q x is. fails q x is (is_named x name) refl)
   where
-    fails : (q : ℕ) (x : Node) → map.get (bare n.values) q ≡ Some x → (b : Bool) → is_named x.name name ≡ b → is_named x.name name ≡ false
+    fails : (q : ℕ) (x : Node) → map.get (bare n.values) q ≡ Some x → (b : Bool) → is_named x name ≡ b → is_named x name ≡ false
     fails q x is false named = named
     fails q x is true named =
         let has : has_name (map.get (bare n.values) q) name ≡ true = ap (λ o. has_name o name) is ∙ named in
@@ -372,11 +391,11 @@ not_linked n names mask f name kept none =
         itself a = grind (arith, nat_tests)
 
 pub is_linked : (n : Numbers Slot) (names : Chains (ℕ × ℕ)) (mask : ℕ) (f : Numbers ℕ) (name : List ℕ) (k : ℕ) (s : Slot) → IsKept n names mask f
-    → map.get n.values k ≡ Some s → s.node.name ≡ Some name
-    → find (λ (e : ℕ × Node). is_named e.1.name name) (map.entries (bare n.values)) ≡ Some (k, s.node)
+    → map.get n.values k ≡ Some s → link_name s.node ≡ Some name
+    → find (λ (e : ℕ × Node). is_named e.1 name) (map.entries (bare n.values)) ≡ Some (k, s.node)
 is_linked n names mask f name k s kept there has =
-    find_one (λ (e : ℕ × Node). is_named e.1.name name) (bare n.values) k s.node
-    (get_bare n.values k ∙ ap (option_map (λ (s : Slot). s.node)) there) (so_named s.node.name name has)
+    find_one (λ (e : ℕ × Node). is_named e.1 name) (bare n.values) k s.node
+    (get_bare n.values k ∙ ap (option_map (λ (s : Slot). s.node)) there) (so_named s.node name has)
     (λ q x is named. kept.once q k name
     (has_so (map.get n.values q) name (sym (ap (λ o. has_name o name) (get_bare n.values q)) ∙ ap (λ o. has_name o name) is ∙ named))
     (ap name_in there ∙ has))
@@ -398,13 +417,15 @@ some_kept m k some = ap is_some (node_kept m k some).1
 pub so_kept : (m : map.FinMap nat_cmp Slot) (k : ℕ) (s : Slot) (P : Node → Type 0) → map.get m k ≡ Some s → IfSome (map.get (bare m) k) P → P s.node
 so_kept m k s P there holds = subst (λ o. IfSome o P) (get_bare m k ∙ ap (option_map (λ (s : Slot). s.node)) there) holds
 
-pub node_is : (m : map.FinMap nat_cmp Slot) (k : ℕ) (s : Slot) (node : Node) → map.get m k ≡ Some s → map.get (bare m) k ≡ Some node → s.node ≡ node
-node_is m k s node there is = let both : Some s.node ≡ Some node = sym (get_bare m k ∙ ap (option_map (λ (s : Slot). s.node)) there) ∙ is in cc
+pub slot_linked : (m : map.FinMap nat_cmp Slot) (k : ℕ) (s : Slot) (name : List ℕ) → map.get m k ≡ Some s
+    → IfSome (map.get (bare m) k) (λ node. node.name ≡ name) → IfSome (map.get (bare m) k) (λ node. node.linked ≡ true) → link_name s.node ≡ Some name
+slot_linked m k s name there named linked =
+    so_linked s.node name (so_kept m k s (λ node. node.linked ≡ true) there linked) (so_kept m k s (λ node. node.name ≡ name) there named)
 
 -- a node that nothing keeps alive
 pub dead_is : (n : Numbers Slot) (names : Chains (ℕ × ℕ)) (mask : ℕ) (f : Numbers ℕ) (k : ℕ) (s : Slot) → IsKept n names mask f → map.get n.values k ≡ Some s
-    → lives (seen n f) k s.node ≡ false → (s.node.name ≡ None) × (s.fhs ≡ 0)
-dead_is n names mask f k s kept there dead = (nameless s.node.name (clear _ _ (clear _ _ dead)), shut (after _ _ dead))
+    → lives (seen n f) k s.node ≡ false → (link_name s.node ≡ None) × (s.fhs ≡ 0)
+dead_is n names mask f k s kept there dead = (nameless s.node.linked (clear _ _ (clear _ _ dead)), shut (after _ _ dead))
   where
     clear : (a b : Bool) → (a || b) ≡ false → a ≡ false
     clear true b is = absurd (cc is)
@@ -414,9 +435,9 @@ dead_is n names mask f k s kept there dead = (nameless s.node.name (clear _ _ (c
     after true b is = absurd (cc is)
     after false b is = is
 
-    nameless : (o : Option (List ℕ)) → is_some o ≡ false → o ≡ None
-    nameless None is = refl
-    nameless (Some x) is = absurd (cc is)
+    nameless : (linked : Bool) → linked ≡ false → cond linked (Some s.node.name) None ≡ None
+    nameless false is = refl
+    nameless true is = absurd (cc is)
 
     shut : has_open_file (seen n f) k ≡ false → s.fhs ≡ 0
     shut is = zero_of s.fhs (sym (ap (λ o. not (open_in o == 0)) there) ∙ sym (counts_open n names mask f k kept) ∙ is)
@@ -462,6 +483,14 @@ new_kept n f names mask size slots nodes files is sized room few = record {
 
 pub is_put : {X : Type 0} (m : map.FinMap nat_cmp X) (k : ℕ) (x : X) → IsSome (map.get (map.insert m k x) k)
 is_put m k x = ap is_some (map.get-insert nat_cmp_total m k x k ∙ ap (λ b. cond b (Some x) (map.get m k)) (own_key k))
+
+-- a node that changes is still there
+pub still_there : (m : map.FinMap nat_cmp Node) (k : ℕ) (change : Node → Node) → IsSome (map.get m k) → IsSome (map.get (changed_at m k change) k)
+still_there m k change some = go (map.get m k) some
+  where
+    go : (o : Option Node) → IsSome o → IsSome (map.get (set_at m k (option_map change o)) k)
+    go None h = absurd (cc h)
+    go (Some node) h = is_put m k (change node)
 
 pub named_there : (m : map.FinMap nat_cmp Slot) (k : ℕ) (name : List ℕ) → name_in (map.get m k) ≡ Some name → IsSome (map.get m k)
 named_there m k name is = go (map.get m k) is

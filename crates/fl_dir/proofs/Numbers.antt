@@ -1,10 +1,10 @@
 -- Numbered values on their chains.
 use Rattle.std.proofs.Common.{◌≡◌, ◌≢◌, ℕ, ◌+◌, ◌<◌, ◌≤◌, Bool, true, false, ◌||◌, nat_le, Option, Some, None, IsSome}
-use Rattle.std.proofs.Common.{length, refl, ap, sym, ◌∙◌, subst, arith}
+use Rattle.std.proofs.Common.{length, refl, ap, sym, ◌∙◌, arith}
 use Rattle.std.proofs.lemmas.Bool.Decides.{nat_tests}
 use Rattle.std.proofs.lemmas.Nat.{and_le_r}
 use Rattle.std.proofs.lemmas.Option.{none-some}
-use Rattle.std.specs.Prelude.{List, [], replicate}
+use Rattle.std.specs.Prelude.{[], replicate}
 use Rattle.std.specs.Int.Bits.{bit_and}
 use Rattle.std.specs.Ordering.{nat_cmp}
 use Rattle.std.specs.FinMap as map
@@ -36,7 +36,6 @@ module _ {X : Type 0} where
       → c ≡ bit_and k mask → next ≤ next1 → ((x : X) → w ≡ Some x → k < next1) → AreNumbered b mask next1
   altered_numbers a b mask next next1 k c w kept new is more less = record {
     chains = kept.chains ∙ sym new.size.chains;
-    small = kept.small;
     sorted = new.sorted;
     home = each_altered (λ d q x. bit_and q mask ≡ d) a b c k w new kept.home (λ x e. sym is);
     below =
@@ -82,11 +81,9 @@ pub same_numbers : {X : Type 0} (m n : map.FinMap nat_cmp X) (next k l : ℕ) �
 same_numbers m n next k l p q = λ i. record { values = p i; next = next; limit = q i }
 
 module _ {X : Type 0} where
-  pub new_numbers : (a : Chains (ℕ × X)) (n slots mask next : ℕ) → a ≡ record { chains = replicate n []; slots = slots } → mask + 1 ≡ n → mask < 65536 →
-      AreNumbered a mask next
-  new_numbers a n slots mask next is size small = record {
+  pub new_numbers : (a : Chains (ℕ × X)) (n slots mask next : ℕ) → a ≡ record { chains = replicate n []; slots = slots } → mask + 1 ≡ n → AreNumbered a mask next
+  new_numbers a n slots mask next is size = record {
     chains = size ∙ sym (chains_made a n slots is);
-    small = small;
     sorted = none_sorted a n slots is;
     home = λ c q x there. absurd (none-some x (sym (none_at a n slots is c q) ∙ there));
     below = λ c q x there. absurd (none-some x (sym (none_at a n slots is c q) ∙ there));

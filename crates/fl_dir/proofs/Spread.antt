@@ -1,5 +1,5 @@
 -- Chains of entries, each number on one of them, as one finite map.
-use Rattle.std.proofs.Common.{◌≡◌, ◌≢◌, ℕ, zero, suc, ◌+◌, ◌<◌, ◌≤◌, Bool, true, false, cond, ◌==◌, sum_by, slice_index_or}
+use Rattle.std.proofs.Common.{◌≡◌, ◌≢◌, ℕ, zero, suc, ◌+◌, Bool, true, false, cond, ◌==◌, sum_by, slice_index_or}
 use Rattle.std.proofs.Common.{Option, Some, None, IsSome, is_some, List, [], ◌∷◌, ◌++◌, length, refl, ap, sym, ◌∙◌, subst, arith}
 use Rattle.std.specs.Prelude.{map as each, replicate}
 use Rattle.std.proofs.lemmas.Bool.Decides.{nat_tests}
@@ -12,7 +12,7 @@ use Rattle.std.specs.Ordering.{nat_cmp, eq_by_cmp}
 use Rattle.std.specs.Cmp.{nat_cmp_total}
 use Rattle.std.specs.FinMap as map
 use Rattle.std.specs.FinMap.Entries as rising
-use Rattle.fl_arena.specs.Chains.{Entry, Chains, entries, items, item_count}
+use Rattle.fl_arena.specs.Chains.{Entry, Chains, items, item_count}
 use Rattle.fl_dir.specs.Inside.Spread.{at, joined, values_on, AreSorted, IsEach, IsAltered}
 use Rattle.fl_dir.proofs.Entries.{head_below, rest_sorted, none_above}
 

@@ -1,5 +1,5 @@
 -- What orders with their recorded answers change in the directory. Nothing is tested: an error changes nothing.
-use Rattle.std.specs.Prelude.{ℕ, ◌+◌, ◌-◌, Option, Some, None, Result, Ok, Err, option_map, List, if◌then◌else◌}
+use Rattle.std.specs.Prelude.{ℕ, ◌+◌, ◌-◌, false, Option, Some, None, Result, Ok, Err, option_map, List, if◌then◌else◌}
 use Rattle.std.specs.Ordering.{nat_cmp}
 use Rattle.std.specs.FinMap.{FinMap, get, insert, remove, contains_key}
 use Rattle.fl_dir.specs.declared.node.Node.{Node}
@@ -28,8 +28,8 @@ abbrev pub counted_down : ℕ → Node → Node
 counted_down n node = record node { lookups = node.lookups - n }
 
 -- a node that is linked no more
-abbrev pub nameless : Node → Node
-nameless node = record node { name = None }
+abbrev pub without_link : Node → Node
+without_link node = record node { linked = false }
 
 -- without this node, if nothing keeps it alive
 abbrev pub swept_node : Listing → ℕ → Option Node → Listing
@@ -76,7 +76,7 @@ after_open d node other = d
 -- the directory without the name of this node, if there is one
 abbrev pub unlinked : Listing → Option (ℕ × Node) → Listing
 unlinked d None = d
-unlinked d (Some found) = swept found.0 (record d { nodes = insert d.nodes found.0 (nameless found.1) })
+unlinked d (Some found) = swept found.0 (record d { nodes = insert d.nodes found.0 (without_link found.1) })
 
 -- the directory after an UNLINK of the name, by its recorded answer
 abbrev pub after_unlink : Listing → List ℕ → Result Answer Errno → Listing

@@ -1,6 +1,6 @@
 -- Names and nodes of one flat directory (Linux `fuse.h`: lookup counts and node numbers; POSIX.1-2017 `open`).
-use Rattle.std.specs.Prelude.{ℕ, ◌-◌, ◌^◌, Bool, false, ◌||◌, ◌==◌, nat_le, bit_and, bit_or, Option, Some, None}
-use Rattle.std.specs.Prelude.{is_some, option_map, List, [], ◌∷◌, if◌then◌else◌}
+use Rattle.std.specs.Prelude.{ℕ, ◌-◌, ◌^◌, Bool, true, ◌&&◌, ◌||◌, ◌==◌, nat_le, bit_and, bit_or, Option, Some}
+use Rattle.std.specs.Prelude.{option_map, List, [], ◌∷◌, if◌then◌else◌}
 use Rattle.std.specs.List.{list_any, find}
 use Rattle.std.specs.Ordering.{nat_cmp}
 use Rattle.std.specs.Str.{bytes_eq}
@@ -26,14 +26,13 @@ opening_listing nodes files =
 abbrev pub is_known : Listing → ℕ → Bool
 is_known d number = (number == 1) || contains_key d.nodes number
 
--- a node that may have a name has this one
-abbrev pub is_named : Option (List ℕ) → List ℕ → Bool
-is_named None name = false
-is_named (Some own) name = bytes_eq own name
+-- the node is linked, under this name
+abbrev pub is_named : Node → List ℕ → Bool
+is_named node name = node.linked && bytes_eq node.name name
 
 -- the node that is linked under the name, with its number
 abbrev pub linked : Listing → List ℕ → Option (ℕ × Node)
-linked d name = find (λ e. is_named e.1.name name) (entries d.nodes)
+linked d name = find (λ e. is_named e.1 name) (entries d.nodes)
 
 -- no file can have the name: it is empty, `.`, `..`, or has a `/` in it
 abbrev pub is_reserved : List ℕ → Bool
@@ -51,14 +50,14 @@ file_mode mode = bit_or 32768 (bit_and mode 511)
 -- the node that a CREATE makes, by the user and group that ask
 abbrev pub made_node : ℕ → ℕ → ℕ → List ℕ → Node
 made_node uid gid mode name =
-    record { lookups = 1; name = Some name; mode = file_mode mode; uid = uid; gid = gid }
+    record { lookups = 1; name = name; linked = true; mode = file_mode mode; uid = uid; gid = gid }
 
 -- a file's attributes: one that is linked has one name
 abbrev pub attributes : ℕ → Node → Attr
 attributes number node = record {
   node = number;
   mode = node.mode;
-  nlink = if is_some node.name then 1 else 0;
+  nlink = if node.linked then 1 else 0;
   uid = node.uid;
   gid = node.gid;
 }

@@ -1,10 +1,18 @@
 -- Names by the numbers of nodes.
-use Rattle.std.specs.Prelude.{ℕ, Option, List}
-use Rattle.std.specs.Option.{option_and_then}
+use Rattle.std.specs.Prelude.{ℕ, Bool, false, Option, Some, None, option_map, List}
 use Rattle.std.specs.FinMap.{get}
 use Rattle.fl_dir.specs.declared.node.Node.{Node}
 use Rattle.fl_dir.specs.Directory.{Listing}
 
--- the name under which a node is linked; none for the root, and for a file that was unlinked
+-- the name under which a node was made; none for the root, and for a number that no node has
 abbrev pub name_at : Listing → ℕ → Option (List ℕ)
-name_at d node = option_and_then (λ (n : Node). n.name) (get d.nodes node)
+name_at d number = option_map (λ (node : Node). node.name) (get d.nodes number)
+
+-- a node that may be there is linked
+abbrev pub is_linked : Option Node → Bool
+is_linked None = false
+is_linked (Some node) = node.linked
+
+-- the node of this number has its name; not so for the root, and for a number that no node has
+abbrev pub is_linked_at : Listing → ℕ → Bool
+is_linked_at d number = is_linked (get d.nodes number)

@@ -1,5 +1,5 @@
 -- Open files: the numbers (fh) under which nodes are open, and what keeps a node alive (Linux `fuse.h`).
-use Rattle.std.specs.Prelude.{ℕ, ◌-◌, ◌^◌, Bool, false, not, ◌||◌, ◌==◌, nat_le, Option, Some, None, is_some}
+use Rattle.std.specs.Prelude.{ℕ, ◌-◌, ◌^◌, Bool, false, not, ◌||◌, ◌==◌, nat_le, Option, Some, None}
 use Rattle.std.specs.List.{list_any}
 use Rattle.std.specs.FinMap.{get, len, entries, remove}
 use Rattle.fl_dir.specs.declared.node.Node.{Node}
@@ -28,4 +28,4 @@ has_open_file d node = list_any (λ file. file.1 == node) (entries d.files)
 
 -- a node lives while it is linked, has lookups or is open
 abbrev pub lives : Listing → ℕ → Node → Bool
-lives d number node = is_some node.name || not (node.lookups == 0) || has_open_file d number
+lives d number node = node.linked || not (node.lookups == 0) || has_open_file d number

@@ -9,7 +9,7 @@ ghost use Rattle.fl_dir.specs.Inside.Spread.{at, AreSorted, IsAltered};
 use fl_arena::{Arena, Cursor};
 
 // The cursor at the chain's entry of this number, or at its end.
-fn seek<T: Copy>(entries: &Arena<(u64, T)>, chain: usize, number: u64) -> Cursor
+pub(crate) fn seek<T: Copy>(entries: &Arena<(u64, T)>, chain: usize, number: u64) -> Cursor
     requires { chain < length entries.now.chains }
     ensures at { result ≡ cursor_at entries.now chain result.index }
     ensures found { slice_get (items entries.now chain) result.index
@@ -45,17 +45,6 @@ pub(crate) fn push<T: Copy>(entries: &mut Arena<(u64, T)>, chain: usize, number:
     let Ok(()) = entries.insert(&mut end, (number, value)) else {
         unreachable!()
     };
-}
-
-// Puts another value under a number that the chain has.
-pub(crate) fn replace<T: Copy>(entries: &mut Arena<(u64, T)>, chain: usize, number: u64, value: T)
-    requires chain { chain < length entries.old.chains }
-    requires sorted { AreSorted entries.old }
-    requires found { IsSome (at entries.old chain number) }
-    ensures { IsAltered entries.old entries.new chain number (Some value) }
-{
-    let cursor = seek(entries, chain, number);
-    entries.set(&cursor, (number, value));
 }
 
 // Takes the entry of a number off its chain.

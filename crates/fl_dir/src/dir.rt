@@ -1,5 +1,5 @@
 //! The directory and its calls.
-ghost use Rattle.std.specs.Prelude.{◌≡◌, ◌+◌, ◌≤◌, Some, None, IfOk, OnOk, OnErr, false};
+ghost use Rattle.std.specs.Prelude.{◌≡◌, ◌+◌, ◌≤◌, Some, None, IfOk, IfSome, IsSome, OnOk, OnErr, true, false};
 ghost use Rattle.std.specs.FinMap as map;
 ghost use Rattle.fl_dir.specs.Directory.{linked, opening_listing};
 ghost use Rattle.fl_dir.specs.Replies.{
@@ -21,11 +21,12 @@ ghost use Rattle.fl_dir.specs.Changes.{
   after_unlink,
   after_forget,
   after_close,
+  changed_at,
   counted_up,
 };
 
 use crate::names::{Names, is_reserved};
-use crate::node::{Node, attributes, counted_down, counted_up, made_node, root_attributes};
+use crate::node::{Node, attributes, made_node, next_lookups, root_attributes};
 use crate::nodes::Slot;
 use crate::numbered::Numbered;
 use fl_order::{Answer, Errno, Name, NoMemory};
@@ -124,11 +125,12 @@ impl Dir {
         let Some((number, found)) = self.linked(name) else {
             return Err(Errno::ENOENT);
         };
-        if found.lookups == u64::MAX {
+        let Some(lookups) = next_lookups(found) else {
             return Err(Errno::ENFILE);
-        }
-        self.change(number, &counted_up(&found));
-        Ok(Answer::Entry(attributes(number, &found)))
+        };
+        let attr = attributes(number, found);
+        self.set_lookups(number, lookups);
+        Ok(Answer::Entry(attr))
     }
 
     /// FUSE_CREATE, by this user and group: makes the file, or opens the one of this name.
@@ -153,7 +155,7 @@ impl Dir {
         match self.linked(name) {
             None => self.make(&made_node(uid, gid, mode, name), name),
             Some(_) if excl => Err(Errno::EEXIST),
-            Some((number, found)) => self.reopen(number, &found),
+            Some((number, _)) => self.reopen(number),
         }
     }
 
@@ -195,10 +197,10 @@ impl Dir {
         if let Some(error) = self.directory_error(node) {
             return Err(error);
         }
-        let Some((number, found)) = self.linked(name) else {
+        let Some((number, _)) = self.linked(name) else {
             return Err(Errno::ENOENT);
         };
-        self.free_name(number, &found, name);
+        self.free_name(number, name);
         self.sweep(number);
         Ok(Answer::Done)
     }
@@ -208,8 +210,8 @@ impl Dir {
         ensures { self.new ≡ after_forget self.old node n }
     {
         if let Some(found) = self.node_at(node) {
-            let forgotten = counted_down(found, n);
-            self.change(node, &forgotten);
+            let lookups = found.lookups.saturating_sub(n);
+            self.set_lookups(node, lookups);
             self.sweep(node);
         }
     }
@@ -241,9 +243,10 @@ impl Dir {
         None
     }
 
-    // Makes a file with this node, which has this name.
+    // Makes a file with this node, which is linked under this name.
     fn make(&mut self, node: &Node, name: &Name) -> Result<Answer, Errno>
-        requires named { node.now.name ≡ Some name.now }
+        requires named { node.now.name ≡ name.now }
+        requires has_it { node.now.linked ≡ true }
         requires free { linked self.old name.now ≡ None }
         ensures answer { result ≡ created self.old node.now }
         ensures after { self.new ≡ after_reply self.old node.now result }
@@ -258,21 +261,29 @@ impl Dir {
         Ok(Answer::Made(attr, self.open_file(attr.node)))
     }
 
-    // Looks this node up once more, and opens it.
-    fn reopen(&mut self, number: u64, node: &Node) -> Result<Answer, Errno>
-        requires { map.get self.old.nodes number ≡ Some node.now }
-        ensures answer { result ≡ reopened self.old false (number, node.now) }
+    // Looks the node of this number up once more, and opens it.
+    fn reopen(&mut self, number: u64) -> Result<Answer, Errno>
+        requires { IsSome (map.get self.old.nodes number) }
+        ensures answer { IfSome (map.get self.old.nodes number)
+            (λ node. result ≡ reopened self.old false (number, node)) }
         ensures ok { OnOk result (self.new ≡ record self.old {
-          nodes = map.insert self.old.nodes number (counted_up node.now);
+          nodes = changed_at self.old.nodes number counted_up;
           files = map.insert self.old.files self.old.next_fh number;
           next_fh = self.old.next_fh + 1;
         }) }
         ensures err { OnErr result (self.new ≡ self.old) }
     {
-        if node.lookups == u64::MAX || self.files_full() {
+        let Some(found) = self.node_at(number) else {
+            unreachable!()
+        };
+        let Some(lookups) = next_lookups(found) else {
+            return Err(Errno::ENFILE);
+        };
+        if self.files_full() {
             return Err(Errno::ENFILE);
         }
-        self.change(number, &counted_up(node));
-        Ok(Answer::Made(attributes(number, node), self.open_file(number)))
+        let attr = attributes(number, found);
+        self.set_lookups(number, lookups);
+        Ok(Answer::Made(attr, self.open_file(number)))
     }
 }

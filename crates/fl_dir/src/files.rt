@@ -29,9 +29,7 @@ impl Dir {
           next_fh = self.old.next_fh + 1;
         } }
     {
-        let mut slot = *self.nodes.at(node);
-        slot.fhs += 1;
-        self.nodes.replace(node, slot);
+        self.nodes.at_mut(node).fhs += 1;
         self.files.push(node)
     }
 
@@ -40,9 +38,7 @@ impl Dir {
         requires { map.get self.old.files fh ≡ Some node }
         ensures { self.new ≡ record self.old { files = map.remove self.old.files fh } }
     {
-        let mut slot = *self.nodes.at(node);
-        slot.fhs -= 1;
-        self.nodes.replace(node, slot);
+        self.nodes.at_mut(node).fhs -= 1;
         self.files.remove(fh);
     }
 }

@@ -24,14 +24,11 @@ pub(crate) fn is_reserved(name: &Name) -> bool
         || bytes.contains(&b'/')
 }
 
-/// Whether a node has this name.
+/// Whether a node is linked under this name.
 pub(crate) fn is_named(node: &Node, name: &Name) -> bool
-    ensures { result ≡ is_named node.now.name name.now }
+    ensures { result ≡ is_named node.now name.now }
 {
-    match &node.name {
-        None => false,
-        Some(own) => own == name,
-    }
+    node.linked && node.name == *name
 }
 
 /// A hash of the name, which spreads names over chains (FNV-1a, 32 bits). It is no defence: names that collide are

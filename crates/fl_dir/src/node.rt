@@ -1,7 +1,8 @@
 //! What is kept of a file, and what is told of it.
-ghost use Rattle.std.specs.Prelude.{◌≡◌, ◌<◌, ◌^◌, ◌-◌};
+ghost use Rattle.std.specs.Prelude.{◌≡◌, Some, None, if◌then◌else◌};
 ghost use Rattle.fl_dir.specs.Directory.{made_node, attributes, root_attributes};
-ghost use Rattle.fl_dir.specs.Changes.{counted_up, counted_down, nameless};
+ghost use Rattle.fl_dir.specs.Changes.{counted_up};
+ghost use Rattle.fl_dir.specs.Replies.{lookups_full};
 
 use crate::dir::ROOT;
 use fl_order::{Attr, Name};
@@ -20,8 +21,10 @@ const ROOT_MODE: u32 = 0o40755;
 pub struct Node {
     /// How often it was looked up and not yet forgotten (the lookup count of Linux `fuse.h`).
     pub lookups: u64,
-    /// The name under which it is linked.
-    pub name: Option<Name>,
+    /// The name under which it was made.
+    pub name: Name,
+    /// It still has its name.
+    pub linked: bool,
     /// The file type and the permissions, as `st_mode`.
     pub mode: u32,
     /// The user who made it.
@@ -35,7 +38,8 @@ pub(crate) fn made_node(uid: u32, gid: u32, mode: u32, name: &Name) -> Node
 {
     Node {
         lookups: 1,
-        name: Some(*name),
+        name: *name,
+        linked: true,
         mode: REGULAR_FILE | (mode & PERMISSIONS),
         uid,
         gid,
@@ -48,7 +52,7 @@ pub(crate) fn attributes(number: u64, node: &Node) -> Attr
     Attr {
         node: number,
         mode: node.mode,
-        nlink: u32::from(node.name.is_some()),
+        nlink: u32::from(node.linked),
         uid: node.uid,
         gid: node.gid,
     }
@@ -66,33 +70,9 @@ pub(crate) fn root_attributes() -> Attr
     }
 }
 
-// The node, looked up once more.
-pub(crate) fn counted_up(node: &Node) -> Node
-    requires { node.now.lookups < 2 ^ 64 - 1 }
-    ensures { result ≡ counted_up node.now }
+// The lookup count of the node after one more lookup; none if it can't grow.
+pub(crate) fn next_lookups(node: &Node) -> Option<u64>
+    ensures { result ≡ (if lookups_full node.now then None else Some (counted_up node.now).lookups) }
 {
-    Node {
-        lookups: node.lookups + 1,
-        ..*node
-    }
-}
-
-// The node, with so many lookups less, at least none.
-pub(crate) fn counted_down(node: &Node, n: u64) -> Node
-    ensures { result ≡ counted_down n node.now }
-{
-    Node {
-        lookups: node.lookups.saturating_sub(n),
-        ..*node
-    }
-}
-
-// The node, linked no more.
-pub(crate) fn nameless(node: &Node) -> Node
-    ensures { result ≡ nameless node.now }
-{
-    Node {
-        name: None,
-        ..*node
-    }
+    node.lookups.checked_add(1)
 }

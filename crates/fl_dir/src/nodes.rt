@@ -1,15 +1,15 @@
 //! The directory's nodes.
-ghost use Rattle.std.specs.Prelude.{◌≡◌, ◌+◌, Some, None, IfSome, IsSome, false};
+ghost use Rattle.std.specs.Prelude.{◌≡◌, ◌+◌, Some, None, IfSome, IsSome, option_map, true, false};
 ghost use Rattle.std.specs.FinMap as map;
 ghost use Rattle.std.specs.Option.{option_copied};
 ghost use Rattle.fl_dir.specs.Directory.{is_known, is_named, linked, nodes_full};
 ghost use Rattle.fl_dir.specs.Inside.Kept.{has_name};
 ghost use Rattle.fl_dir.specs.OpenFiles.{lives, has_open_file};
-ghost use Rattle.fl_dir.specs.Changes.{swept, nameless};
+ghost use Rattle.fl_dir.specs.Changes.{swept, changed_at, without_link};
 
 use crate::dir::{Dir, ROOT};
 use crate::names::{hash_of, is_named};
-use crate::node::{Node, nameless};
+use crate::node::Node;
 use crate::numbered::chain_of;
 use fl_order::Name;
 
@@ -38,10 +38,11 @@ impl Dir {
     }
 
     // The node that is linked under the name, with its number.
-    pub(crate) fn linked(&self, name: &Name) -> Option<(u64, Node)>
-        ensures linked { result ≡ linked self.now name.now }
-        ensures listed { IfSome result (λ e. map.get self.now.nodes e.0 ≡ Some e.1) }
-        ensures named { IfSome result (λ e. e.1.name ≡ Some name.now) }
+    pub(crate) fn linked(&self, name: &Name) -> Option<(u64, &Node)>
+        ensures linked { option_map (λ e. (e.0, e.1.now)) result ≡ linked self.now name.now }
+        ensures listed { IfSome result (λ e. map.get self.now.nodes e.0 ≡ Some e.1.now) }
+        ensures named { IfSome result (λ e. e.1.now.name ≡ name.now) }
+        ensures has_it { IfSome result (λ e. e.1.now.linked ≡ true) }
     {
         let hash = hash_of(name);
         let chain = chain_of(u64::from(hash), self.names.mask);
@@ -50,11 +51,11 @@ impl Dir {
         });
         match self.names.entries.get(&at) {
             None => None,
-            Some((number, _)) => Some((number, self.nodes.at(number).node)),
+            Some((number, _)) => Some((number, &self.nodes.at(number).node)),
         }
     }
 
-    // The node of this number has this name.
+    // The node of this number is linked under this name.
     fn has_name(&self, number: u64, name: &Name) -> bool
         ensures { result ≡ has_name (map.get self.now.nodes number) name.now }
     {
@@ -84,7 +85,7 @@ impl Dir {
     fn lives(&self, number: u64, node: &Node) -> bool
         ensures { result ≡ lives self.now number node.now }
     {
-        node.name.is_some() || node.lookups != 0 || self.has_open_file(number)
+        node.linked || node.lookups != 0 || self.has_open_file(number)
     }
 
     // Without the node, if nothing keeps it alive.
@@ -107,10 +108,11 @@ impl Dir {
         self.nodes.remove(number);
     }
 
-    // The node gets the next number. No other is linked under its name.
+    // The node, which is linked under this name, gets the next number. No other has the name.
     pub(crate) fn link(&mut self, node: &Node, name: &Name) -> u64
         requires room { nodes_full self.old ≡ false }
-        requires named { node.now.name ≡ Some name.now }
+        requires named { node.now.name ≡ name.now }
+        requires has_it { node.now.linked ≡ true }
         requires free { linked self.old name.now ≡ None }
         ensures number { result ≡ self.old.next_node }
         ensures fresh { map.get self.old.nodes self.old.next_node ≡ None }
@@ -127,27 +129,24 @@ impl Dir {
         number
     }
 
-    // A node that is there becomes this one, of the same name.
-    pub(crate) fn change(&mut self, number: u64, node: &Node)
-        requires named { IfSome (map.get self.old.nodes number) (λ old. old.name ≡ node.now.name) }
-        requires there { IsSome (map.get self.old.nodes number) }
-        ensures { self.new ≡ record self.old { nodes = map.insert self.old.nodes number node.now } }
+    // The node of this number has so many lookups.
+    pub(crate) fn set_lookups(&mut self, number: u64, lookups: u64)
+        requires { IsSome (map.get self.old.nodes number) }
+        ensures { self.new ≡ record self.old {
+          nodes = changed_at self.old.nodes number (λ node. record node { lookups = lookups });
+        } }
     {
-        let fhs = self.nodes.at(number).fhs;
-        self.nodes.replace(number, Slot { node: *node, fhs });
+        self.nodes.at_mut(number).node.lookups = lookups;
     }
 
     // The node of this number, which is linked under this name, loses it.
-    pub(crate) fn free_name(&mut self, number: u64, node: &Node, name: &Name)
-        requires there { map.get self.old.nodes number ≡ Some node.now }
-        requires named { node.now.name ≡ Some name.now }
-        ensures { self.new ≡ record self.old {
-          nodes = map.insert self.old.nodes number (nameless node.now);
-        } }
+    pub(crate) fn free_name(&mut self, number: u64, name: &Name)
+        requires named { IfSome (map.get self.old.nodes number) (λ node. node.name ≡ name.now) }
+        requires has_it { IfSome (map.get self.old.nodes number) (λ node. node.linked ≡ true) }
+        requires there { IsSome (map.get self.old.nodes number) }
+        ensures { self.new ≡ record self.old { nodes = changed_at self.old.nodes number without_link } }
     {
-        let fhs = self.nodes.at(number).fhs;
-        let node = nameless(node);
-        self.nodes.replace(number, Slot { node, fhs });
+        self.nodes.at_mut(number).node.linked = false;
         self.names.unlink(name, number);
     }
 }

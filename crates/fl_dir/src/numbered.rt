@@ -2,10 +2,11 @@
 ghost use Rattle.std.specs.Prelude.{◌≡◌, ◌+◌, ◌≤◌, ◌^◌, ℕ, None, Some, IfOk, IsSome, false};
 ghost use Rattle.std.specs.FinMap as map;
 ghost use Rattle.std.specs.Option.{option_copied};
+ghost use Rattle.std.specs.Borrow.{Lends, sem};
 ghost use Rattle.std.specs.Int.Bits.{bit_and};
-ghost use Rattle.fl_dir.specs.Inside.Numbers.{is_full};
+ghost use Rattle.fl_dir.specs.Inside.Numbers.{is_full, with_value};
 
-use crate::chain::{push, replace, take_out, value_at};
+use crate::chain::{push, seek, take_out, value_at};
 use fl_arena::Arena;
 use fl_order::NoMemory;
 use std::alloc::Global;
@@ -55,6 +56,8 @@ pub(crate) fn chain_of(number: u64, mask: usize) -> usize
 }
 
 impl<T: Copy> Numbered<T> {
+    ghost use Rattle.fl_dir.specs.contracts.numbered.Numbered.{the_row};
+
     /// No value, and room for so many; the first gets this number.
     pub(crate) fn new(alloc: Global, limit: usize, first: u64) -> Result<Numbered<T>, NoMemory>
         requires { limit ≤ 2 ^ 16 }
@@ -110,13 +113,15 @@ impl<T: Copy> Numbered<T> {
         number
     }
 
-    /// Puts another value under a number that has one.
-    pub(crate) fn replace(&mut self, number: u64, value: T)
+    /// The value of a number that has one, to be changed in place.
+    pub(crate) fn at_mut(&mut self, number: u64) -> &mut T
         requires { IsSome (map.get self.old.values number) }
-        ensures { self.new ≡ record self.old { values = map.insert self.old.values number value } }
+        ensures* writes_back { sem 𝓛 (Lends (the_row T.row) T.row self.entry result (with_value self.old number)) }
+        ensures value { map.get self.old.values number ≡ Some result.now }
     {
-        let chain = chain_of(number, self.mask);
-        replace(&mut self.entries, chain, number, value);
+        let cursor = seek(&self.entries, chain_of(number, self.mask), number);
+        let entry = self.entries.item_mut(&cursor);
+        &mut entry.1
     }
 
     /// Takes the value of a number away.

@@ -1,2 +1,3 @@
 pub mod Chunks
+pub mod Entries
 pub mod Records

@@ -12,6 +12,7 @@ mod journal;
 mod lines;
 mod no_journal;
 mod past;
+mod recent;
 mod records;
 
 pub use history::{History, Line};
@@ -19,3 +20,4 @@ pub use journal::Journal;
 pub use lines::Lines;
 pub use no_journal::NoJournal;
 pub use past::Past;
+pub use recent::{Recalled, Recent};

@@ -20,7 +20,7 @@ use Rattle.fl_judge.specs.declared.listener.Listener.{Listener}
 use Rattle.fl_judge.proofs.Following.{AreShort, AreLines, both_texts, left_over, goes_on, goes_stopped, stays_stopped, bad_ends}
 use Rattle.fl_judge.proofs.Following.{rest_ends, lines_end, follow_first, enough_first}
 use Rattle.fl_history.specs.declared.history.Line.{Line}
-use Rattle.fl_judge.specs.Hearing.{Hearing}
+use Rattle.fl_judge.specs.Inside.Keeping.{Keeping}
 use Rattle.fl_trace.specs.Text.{LineFits, BreaksAt, text_of}
 
 -- ---- while lines are heard, and once they aren't any more
@@ -38,6 +38,13 @@ fine most text lines kept (Some stopped) e f = absurd (cc e)
 -- nothing came yet
 pub starts : Follows [] [] []
 starts = record { fits = All-nil LineFits; more = []; parts = refl; lacks = refl; whole = inl refl }
+
+-- a listener to which nothing came knows that
+pub listens_first : (l : Listener) → l.judge.lines ≡ [] → l.stopped ≡ None → l.kept ≡ 0 → l.bytes ≡ 0 → Listens [] l
+listens_first l none goes empty nothing = record {
+  stands = rw (none, goes, empty) starts;
+  counts = λ e. nothing ∙ ap (λ ls. length (text_of ls)) (sym none);
+}
 
 pub none_within : (most : Option ℕ) (lines : List Line) → lines ≡ [] → IsWithin most (length lines)
 none_within None lines none = tt
@@ -114,12 +121,12 @@ pub other_room : (before after : Listener) → after.judge ≡ before.judge → 
     → (text : List ℕ) → Listens text before → Listens text after
 other_room before after judge most kept stopped bytes room text is = record {
   stands =
-      subst (λ (j : Hearing). Stands after.most text j.lines (take after.kept after.room.items) after.stopped) (sym judge)
+      subst (λ (j : Keeping). Stands after.most text j.lines (take after.kept after.room.items) after.stopped) (sym judge)
       (subst (λ m. Stands m text before.judge.lines (take after.kept after.room.items) after.stopped) (sym most)
       (subst (λ k. Stands before.most text before.judge.lines (take k after.room.items) after.stopped) (sym kept)
       (subst (Stands before.most text before.judge.lines (take before.kept after.room.items)) (sym stopped)
       (subst (λ t. Stands before.most text before.judge.lines t before.stopped) (sym room) is.stands))));
-  counts = λ goes. bytes ∙ is.counts (sym stopped ∙ goes) ∙ ap (λ (j : Hearing). length (text_of j.lines)) (sym judge);
+  counts = λ goes. bytes ∙ is.counts (sym stopped ∙ goes) ∙ ap (λ (j : Keeping). length (text_of j.lines)) (sym judge);
 }
 
 -- ---- what was read

@@ -4,6 +4,7 @@ ghost use Rattle.fl_judge.specs.Audit.{IsFinding};
 
 use crate::judge::Judge;
 use fl_desk::Verdict;
+use fl_history::Recent;
 use fl_order::NoMemory;
 
 /// What an audit says of a trace.
@@ -28,13 +29,15 @@ pub struct Audited {
     pub quiet: bool,
 }
 
-/// A judge that heard the whole lines of a trace that may be cut off, and how many bytes these have.
+/// A judge that heard the whole lines of a trace that may be cut off, how many bytes these have, and the last of them.
 #[derive(Drop)]
 pub struct Heard {
     /// The judge.
     pub judge: Judge,
     /// The bytes of the lines, each with its newline.
     pub bytes: u64,
+    /// The last lines.
+    pub recent: Recent,
 }
 
 /// Why an audit gave up.

@@ -1,8 +1,9 @@
 //! What is said of a history: a judge that is told its lines one after another, in memory that doesn't grow, and has
 //! what is there after them; whether it is quiet; and an audit, which reads its text piece by piece. `hear_first` reads
 //! it so, and gives a judge of its first lines. `hear_cut` reads a trace that is cut off, and gives a judge of its whole
-//! lines, and how many bytes these have. `Judge::into_resumed` gives what a server goes on from behind its lines. In a
-//! quiet history no owner asks for a record lock while it waits for one, and so owners never wait in a circle.
+//! lines, how many bytes these have, and the last of them. `Judge::into_resumed` gives what a server goes on from behind
+//! its lines. In a quiet history no owner asks for a record lock while it waits for one, and so owners never wait in a
+//! circle.
 //!
 //! What `quiet` says of a history that isn't legal has no meaning, and no contract speaks of it. `Judge::quiet` says
 //! no of lines that begin no legal history. No contract says:
@@ -15,6 +16,7 @@
 
 mod asking;
 mod finding;
+mod hearer;
 mod judge;
 pub mod laws;
 mod lines;

@@ -5,7 +5,7 @@ ghost use Rattle.fl_judge.specs.Audit.{has_newline};
 ghost use Rattle.fl_judge.specs.First.{IsWithin};
 ghost use Rattle.fl_judge.specs.Inside.Hearing.{IsHeard};
 
-use crate::judge::Judge;
+use crate::hearer::Hearer;
 use fl_trace::first_line;
 
 /// Why no more lines of a text are heard.
@@ -33,7 +33,7 @@ impl Stopped {
 /// Has a judge hear the lines at the front of a text, until it has heard as many as are wanted in all, or up to one
 /// that is bad, or up to the last newline. How many bytes are left behind that, or why it stopped before.
 pub(crate) fn hear_lines(
-    judge: &mut Judge,
+    judge: &mut Hearer,
     most: Option<usize>,
     text: &[u8],
 ) -> Result<usize, Stopped>
@@ -43,6 +43,7 @@ pub(crate) fn hear_lines(
     ensures few { length judge.new.lines ≤ length judge.old.lines + length text.now }
     ensures within { IsWithin most (length judge.new.lines) }
     ensures rules { judge.new.rules ≡ judge.old.rules }
+    ensures keeps { judge.new.keeps ≡ judge.old.keeps }
 {
     let mut rest = text;
     while has_newline(rest) {
@@ -59,7 +60,7 @@ pub(crate) fn hear_lines(
 }
 
 // Whether a judge heard as many lines as are wanted.
-fn has_enough(judge: &Judge, most: Option<usize>) -> bool
+fn has_enough(judge: &Hearer, most: Option<usize>) -> bool
     ensures { (result ≡ true) ↔ (most ≡ Some (length judge.now.lines)) }
 {
     most == Some(judge.heard())

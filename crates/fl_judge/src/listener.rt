@@ -1,15 +1,18 @@
 //! Reads a trace piece by piece, and has a judge hear its lines.
 
 ghost use Rattle.std.specs.Prelude.{◌≡◌, ◌≢◌, ◌↔◌, ◌+◌, ◌<◌, ◌≤◌, ◌^◌, ℕ, [], List, Option, length, take, drop, true, false, Err};
-ghost use Rattle.std.specs.Prelude.{IfOk, IfErr, OnErr, IfSome, IsNone};
+ghost use Rattle.std.specs.Prelude.{IfOk, IfErr, OnErr, IfSome, IsNone, is_some};
 ghost use Rattle.std.specs.Io.KnownBytes.{Consumes, IsAtEnd, Keeps};
 ghost use Rattle.fl_judge.specs.Inside.Hearing.{IsRoomy, Listens, HearsOn, HasRead, AreJudged, IsBad};
 ghost use Rattle.fl_judge.specs.Hearing.{unheard};
+ghost use Rattle.fl_judge.specs.Inside.Keeping.{keeping};
 
-use crate::finding::{AuditFault, Heard};
+use crate::finding::AuditFault;
+use crate::hearer::Hearer;
 use crate::judge::Judge;
 use crate::lines::{Stopped, hear_lines};
 use fl_core::Rules;
+use fl_history::Recent;
 use fl_order::NoMemory;
 use fl_trace::LINE_ROOM;
 use fl_trace::laws::a_line_is_short;
@@ -20,12 +23,19 @@ use std::io::{ErrorKind, Read};
 // How many bytes there is room for.
 const ROOM: usize = 65536;
 
+/// A judge that heard lines of a trace, and how many bytes these have, if it heard all.
+#[derive(Drop)]
+pub(crate) struct Listened {
+    pub judge: Hearer,
+    pub bytes: u64,
+}
+
 // A judge, how many lines it is to hear at most, and the last line that has no newline yet: so many bytes at the front
 // of a room, and no more than any line can have. If it was longer, these tell that it is bad. Once a line was bad, or
 // as many were heard, what comes is no longer heard. Until then the bytes of the lines that were heard are counted.
 #[derive(Drop)]
 pub(crate) struct Listener {
-    judge: Judge,
+    judge: Hearer,
     bytes: u64,
     most: Option<usize>,
     room: Vec<u8>,
@@ -34,20 +44,25 @@ pub(crate) struct Listener {
 }
 
 impl Listener {
-    /// Nothing came yet, and these are the rules. It hears so many lines at most, or all.
+    /// Nothing came yet, and these are the rules. It hears so many lines at most, or all, and keeps the last of them, or
+    /// none.
     pub(crate) fn new(
         alloc: Global,
         rules: Rules,
         most: Option<usize>,
+        recent: Option<Recent>,
     ) -> Result<Listener, NoMemory>
+        requires none { IfSome recent (λ lines. lines ≡ []) }
         ensures room { IfOk result IsRoomy }
-        ensures heard { IfOk result (λ listener. listener.judge ≡ unheard rules) }
+        ensures heard { IfOk result (λ listener. listener.judge ≡ keeping (unheard rules) (is_some recent)) }
         ensures most { IfOk result (λ listener. listener.most ≡ most) }
         ensures bytes { IfOk result (λ listener. listener.bytes ≡ 0) }
         ensures listens { IfOk result (Listens []) }
     {
+        let unheard = Judge::new(alloc, rules)?;
+        let judge = Hearer::new(unheard, recent);
         Ok(Listener {
-            judge: Judge::new(alloc, rules)?,
+            judge,
             bytes: 0,
             most,
             room: vec![in alloc; 0; ROOM]?,
@@ -65,6 +80,7 @@ impl Listener {
         ensures few { length self.new.judge.lines ≤ length self.old.judge.lines + 2 ^ 16 }
         ensures bytes { self.new.bytes ≤ self.old.bytes + 2 ^ 16 }
         ensures rules { self.new.judge.rules ≡ self.old.judge.rules }
+        ensures keeps { self.new.judge.keeps ≡ self.old.judge.keeps }
         ensures most { self.new.most ≡ self.old.most }
         ensures reads { (left : Option (List ℕ)) → HasRead left (R.remaining input.old) self.old →
             HasRead left (R.remaining input.new) self.new }
@@ -93,6 +109,7 @@ impl Listener {
         ensures few { length self.new.judge.lines ≤ length self.old.judge.lines + 2 ^ 16 }
         ensures bytes { self.new.bytes ≤ self.old.bytes + 2 ^ 16 }
         ensures rules { self.new.judge.rules ≡ self.old.judge.rules }
+        ensures keeps { self.new.judge.keeps ≡ self.old.judge.keeps }
         ensures most { self.new.most ≡ self.old.most }
         ensures hears { HearsOn self.old (take came (drop self.old.kept self.old.room.items)) self.new }
     {
@@ -114,10 +131,11 @@ impl Listener {
 
     /// Nothing more comes: the judge, unless a line was bad, and how many bytes its lines have, if it heard all. With
     /// `cut` bytes behind the last newline are none.
-    pub(crate) fn end(self, cut: bool) -> Result<Heard, AuditFault>
+    pub(crate) fn end(self, cut: bool) -> Result<Listened, AuditFault>
         requires room { IsRoomy self }
         requires few { length self.judge.lines < 2 ^ 63 }
         ensures rules { IfOk result (λ heard. heard.judge.rules ≡ self.judge.rules) }
+        ensures keeps { IfOk result (λ heard. heard.judge.keeps ≡ self.judge.keeps) }
         ensures few { IfOk result (λ heard. length heard.judge.lines < 2 ^ 63) }
         ensures heard { IfOk result (λ heard. (text : List ℕ) → Listens text self →
             AreJudged self.most cut text heard.judge.lines heard.bytes) }
@@ -126,7 +144,7 @@ impl Listener {
     {
         match self.bad_line(cut) {
             Some(n) => Err(AuditFault::BadLine(n)),
-            None => Ok(Heard {
+            None => Ok(Listened {
                 judge: self.judge,
                 bytes: self.bytes,
             }),

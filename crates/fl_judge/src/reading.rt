@@ -1,6 +1,6 @@
 //! Reads a trace to its end, and says what is found.
 
-ghost use Rattle.std.specs.Prelude.{◌≡◌, ◌<◌, ◌^◌, ℕ, length, IfOk, IfSome, Err};
+ghost use Rattle.std.specs.Prelude.{◌≡◌, ◌<◌, ◌^◌, ℕ, true, [], length, IfOk, IfSome, Err, is_some};
 ghost use Rattle.fl_trace.specs.Text.{BreaksAt, LineFits};
 ghost use Rattle.fl_judge.specs.Audit.{judged_part, whole_lines, IsAudited};
 ghost use Rattle.fl_judge.specs.First.{AreFirstLines, AreWholeLines, IsSoOfAll, IsWithin};
@@ -8,8 +8,9 @@ ghost use Rattle.fl_judge.specs.Inside.Hearing.{AreJudged, IsBad};
 
 use crate::finding::{AuditFault, Audited, Heard, finding_of};
 use crate::judge::Judge;
-use crate::listener::Listener;
+use crate::listener::{Listened, Listener};
 use fl_core::Rules;
+use fl_history::Recent;
 use std::alloc::Global;
 use std::io::Read;
 
@@ -32,11 +33,14 @@ pub fn audit<R: Read>(
     ensures bad { (n : ℕ) → result ≡ Err (AuditFault.BadLine n) →
         IfSome (R.remaining input.old) (λ bytes. BreaksAt LineFits (judged_part cut bytes) n) }
 {
-    match hear_all(alloc, rules, None, cut, input) {
-        Ok(heard) => Ok(Audited {
-            finding: finding_of(&heard.judge, cut),
-            quiet: heard.judge.quiet(),
-        }),
+    match hear_all(alloc, rules, None, cut, None, input) {
+        Ok(heard) => {
+            let (judge, _) = heard.judge.into_parts();
+            Ok(Audited {
+                finding: finding_of(&judge, cut),
+                quiet: judge.quiet(),
+            })
+        }
         Err(fault) => Err(fault),
     }
 }
@@ -58,14 +62,18 @@ pub fn hear_first<R: Read>(
     ensures bad { (n : ℕ) → result ≡ Err (AuditFault.BadLine n) → IsSoOfAll (R.remaining input.old) (λ text.
         BreaksAt LineFits (whole_lines text) n × IsWithin most n) }
 {
-    match hear_all(alloc, rules, most, true, input) {
-        Ok(heard) => Ok(heard.judge),
+    match hear_all(alloc, rules, most, true, None, input) {
+        Ok(heard) => {
+            let (judge, _) = heard.judge.into_parts();
+            Ok(judge)
+        }
         Err(fault) => Err(fault),
     }
 }
 
-/// Reads a trace that may be cut off to its end, and gives a judge that heard its whole lines, and how many bytes
-/// these have. What follows the last newline is read and dropped. It takes memory as `audit` does.
+/// Reads a trace that may be cut off to its end, and gives a judge that heard its whole lines, how many bytes these
+/// have, and the last of them. What follows the last newline is read and dropped. It takes memory as `audit` does, and
+/// that of the last lines.
 ///
 /// A bad line is reported once all of the trace is read. Reading fails as that of `audit` does.
 pub fn hear_cut<R: Read>(alloc: Global, rules: Rules, input: &mut R) -> Result<Heard, AuditFault>
@@ -73,21 +81,48 @@ pub fn hear_cut<R: Read>(alloc: Global, rules: Rules, input: &mut R) -> Result<H
     ensures heard { IfOk result (λ heard.
         IsSoOfAll (R.remaining input.old) (λ text. AreWholeLines text heard.judge.lines heard.bytes)) }
     ensures few { IfOk result (λ heard. length heard.judge.lines < 2 ^ 63) }
+    ensures recent { IfOk result (λ heard. heard.recent ≡ heard.judge.lines) }
     ensures bad { (n : ℕ) → result ≡ Err (AuditFault.BadLine n) → IsSoOfAll (R.remaining input.old) (λ text.
         BreaksAt LineFits (whole_lines text) n) }
 {
-    hear_all(alloc, rules, None, true, input)
+    let recent = Recent::new(alloc)?;
+    match hear_all(alloc, rules, None, true, Some(recent), input) {
+        Ok(heard) => Ok(all_heard(heard)),
+        Err(fault) => Err(fault),
+    }
+}
+
+// A judge that heard all lines, and kept the last of them.
+fn all_heard(heard: Listened) -> Heard
+    requires { heard.judge.keeps ≡ true }
+    ensures rules { result.judge.rules ≡ heard.judge.rules }
+    ensures lines { result.judge.lines ≡ heard.judge.lines }
+    ensures bytes { result.bytes ≡ heard.bytes }
+    ensures recent { result.recent ≡ heard.judge.lines }
+{
+    let Listened { judge, bytes } = heard;
+    let (judge, recent) = judge.into_parts();
+    let Some(recent) = recent else { unreachable!() };
+    Heard {
+        judge,
+        bytes,
+        recent,
+    }
 }
 
 // Reads a trace to its end, and gives a judge that heard its first lines: at most so many, or all. With `cut` what
-// follows the last newline is dropped, and else it is a bad line. If all are wanted, their bytes are counted.
+// follows the last newline is dropped, and else it is a bad line. If all are wanted, their bytes are counted. The judge
+// keeps the last lines, or none.
 fn hear_all<R: Read>(
     alloc: Global,
     rules: Rules,
     most: Option<usize>,
     cut: bool,
+    recent: Option<Recent>,
     input: &mut R,
-) -> Result<Heard, AuditFault>
+) -> Result<Listened, AuditFault>
+    requires none { IfSome recent (λ lines. lines ≡ []) }
+    ensures keeps { IfOk result (λ heard. heard.judge.keeps ≡ is_some recent) }
     ensures rules { IfOk result (λ heard. heard.judge.rules ≡ rules) }
     ensures heard { IfOk result (λ heard.
         IsSoOfAll (R.remaining input.old) (λ text. AreJudged most cut text heard.judge.lines heard.bytes)) }
@@ -95,7 +130,7 @@ fn hear_all<R: Read>(
     ensures bad { (n : ℕ) → result ≡ Err (AuditFault.BadLine n) →
         IsSoOfAll (R.remaining input.old) (λ text. IsBad most cut text n) }
 {
-    let mut listener = Listener::new(alloc, rules, most)?;
+    let mut listener = Listener::new(alloc, rules, most, recent)?;
     for reads in 0..MOST_READS {
         let more = listener.read(input)?;
         if !more {

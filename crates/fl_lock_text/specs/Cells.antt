@@ -29,6 +29,10 @@ abbrev pub pids_text : List Blocker → List ℕ
 pids_text [] = codes "-"
 pids_text (blocker ∷ more) = join_with_byte 44 (map (λ b. decimal b.pid) (blocker ∷ more))
 
+-- the name that the file was made under; ` (deleted)` behind it says that the file has it no more
+abbrev pub file_text : LockRow → List ℕ
+file_text row = name_text row.name ++ (if row.linked then [] else codes " (deleted)")
+
 -- the word at the top of a column
 abbrev pub heading : Column → List ℕ
 heading column.Type = codes "TYPE"
@@ -51,7 +55,7 @@ cell_text column.Pid row = decimal row.mark.pid
 cell_text column.Owner row = decimal row.key.owner
 cell_text column.Unique row = unique_text row.unique
 cell_text column.Blocker row = pids_text row.blockers
-cell_text column.File row = name_text row.name
+cell_text column.File row = file_text row
 
 -- a column of numbers stands right-aligned, any other left-aligned
 abbrev pub is_right : Column → Bool

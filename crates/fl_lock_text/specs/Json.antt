@@ -4,6 +4,7 @@ use Rattle.std.specs.List.{flat_map, join_with_byte}
 use Rattle.std.specs.Fmt.{decimal}
 use Rattle.fl_locks.specs.declared.row.Blocker.{Blocker}
 use Rattle.fl_locks.specs.declared.row.LockRow.{LockRow}
+use Rattle.fl_locks.specs.LockRows.{linked_name}
 use Rattle.fl_lock_text.specs.Names.{hex_byte}
 use Rattle.fl_lock_text.specs.Words.{class_word, kind_word}
 
@@ -64,10 +65,10 @@ waiting_members row =
     commas (member (codes "unique") (unique_json row.unique) ∷
     member (codes "blockers") (array (map blocker_json row.blockers)) ∷ [])
 
--- on which file: its node and its name
+-- on which file: its node, and the name that it has
 unfoldable pub file_members : LockRow → List ℕ
 file_members row =
-    commas (member (codes "node") (decimal row.key.node) ∷ member (codes "name") (name_json row.name) ∷ [])
+    commas (member (codes "node") (decimal row.key.node) ∷ member (codes "name") (name_json (linked_name row)) ∷ [])
 
 -- a lock that is held, or a request that waits
 abbrev pub row_json : LockRow → List ℕ

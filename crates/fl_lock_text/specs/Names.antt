@@ -16,7 +16,7 @@ is_plain byte = (nat_le 33 byte && nat_le byte 126) && not (byte == 92)
 abbrev pub byte_text : ℕ → List ℕ
 byte_text byte = if is_plain byte then byte ∷ [] else codes "\\x" ++ hex_byte byte
 
--- the name, byte by byte; a file that has none was deleted
+-- the name, byte by byte, or a dash where none is known
 abbrev pub name_text : Option (List ℕ) → List ℕ
-name_text None = codes "- (deleted)"
+name_text None = codes "-"
 name_text (Some bytes) = flat_map byte_text bytes

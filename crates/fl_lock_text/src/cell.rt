@@ -1,7 +1,8 @@
 //! The cells of the table.
 
 ghost use Rattle.std.specs.Prelude.{◌≡◌, ◌++◌, OnOk, string_bytes};
-ghost use Rattle.fl_lock_text.specs.Cells.{heading, cell_text, end_text, is_right, star, unique_text, pids_text};
+ghost use Rattle.fl_lock_text.specs.Cells.{heading, cell_text, end_text, file_text, is_right, star};
+ghost use Rattle.fl_lock_text.specs.Cells.{unique_text, pids_text};
 
 use crate::name::push_name;
 use crate::words::{class_word, kind_word};
@@ -64,7 +65,7 @@ pub(crate) fn push_cell(text: &mut String, column: Column, row: &LockRow) -> Res
         Column::Owner => write!(text, "{}", row.key.owner),
         Column::Unique => push_unique(text, row.unique),
         Column::Blocker => push_pids(text, row.blockers.as_slice()),
-        Column::File => push_name(text, &row.name),
+        Column::File => push_file(text, row),
     }
 }
 
@@ -107,4 +108,14 @@ fn push_pids(text: &mut String, blockers: &[Blocker]) -> Result<(), AllocError>
         write!(text, ",{}", blocker.pid)?;
     }
     Ok(())
+}
+
+fn push_file(text: &mut String, row: &LockRow) -> Result<(), AllocError>
+    ensures { OnOk result (string_bytes text.new ≡ string_bytes text.old ++ file_text row.now) }
+{
+    push_name(text, &row.name)?;
+    if row.linked {
+        return Ok(());
+    }
+    text.push_str(" (deleted)")
 }

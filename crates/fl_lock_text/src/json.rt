@@ -1,6 +1,6 @@
 //! The line of JSON.
 
-ghost use Rattle.std.specs.Prelude.{◌≡◌, ◌++◌, IfOk, OnOk, map, string_bytes};
+ghost use Rattle.std.specs.Prelude.{◌≡◌, ◌++◌, IfOk, OnOk, map, option_copied, string_bytes};
 ghost use Rattle.std.specs.List.{join_with_byte};
 ghost use Rattle.fl_lock_text.specs.Json.{lock_members, range_members, waiting_members, file_members};
 ghost use Rattle.fl_lock_text.specs.Json.{unique_json, name_json, blocker_json, row_json, json_text};
@@ -100,7 +100,7 @@ fn push_file(text: &mut String, row: &LockRow) -> Result<(), AllocError>
     ensures { OnOk result (string_bytes text.new ≡ string_bytes text.old ++ file_members row.now) }
 {
     write!(text, "\"node\":{},\"name\":", row.key.node)?;
-    push_name(text, &row.name)
+    push_name(text, row.linked_name())
 }
 
 fn push_unique(text: &mut String, unique: Option<u64>) -> Result<(), AllocError>
@@ -138,8 +138,8 @@ fn push_blocker(text: &mut String, blocker: Blocker) -> Result<(), AllocError>
     )
 }
 
-fn push_name(text: &mut String, name: &Option<Name>) -> Result<(), AllocError>
-    ensures { OnOk result (string_bytes text.new ≡ string_bytes text.old ++ name_json name.now) }
+fn push_name(text: &mut String, name: Option<&Name>) -> Result<(), AllocError>
+    ensures { OnOk result (string_bytes text.new ≡ string_bytes text.old ++ name_json (option_copied name.entry)) }
 {
     let Some(name) = name else {
         return text.push_str("null");

@@ -13,7 +13,7 @@ pub(crate) fn push_name(text: &mut String, name: &Option<Name>) -> Result<(), Al
     ensures { OnOk result (string_bytes text.new ≡ string_bytes text.old ++ name_text name.now) }
 {
     match name {
-        None => text.push_str("- (deleted)"),
+        None => text.push_str("-"),
         Some(name) => push_bytes(text, name.as_bytes()),
     }
 }

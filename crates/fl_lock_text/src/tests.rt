@@ -11,7 +11,7 @@ const TABLE: &str = "\
 TYPE  MODE     START                 END PID OWNER UNIQUE BLOCKER FILE
 POSIX WRITE        0                 EOF 100     7      - -       a\\x20b\\xff
 POSIX READ*  1000000 9223372036854775806 200     8      5 100,300 \\x5c
-FLOCK READ         0                 EOF  42    11      - -       - (deleted)
+FLOCK READ         0                 EOF  42    11      - -       old (deleted)
 FLOCK WRITE*       0                 EOF  43    12     90 42      - (deleted)
 ";
 
@@ -27,7 +27,7 @@ const JSON: &str = "[\
 ]
 ";
 
-// A lock that is held on a whole file without a name.
+// A lock that is held on a whole file, which has no name any more.
 fn held(alloc: Global, class: Class, kind: Kind, owner: u64, pid: u32) -> LockRow {
     LockRow {
         key: Key {
@@ -39,6 +39,7 @@ fn held(alloc: Global, class: Class, kind: Kind, owner: u64, pid: u32) -> LockRo
         end: LAST_BYTE,
         mark: Mark { kind, pid },
         name: None,
+        linked: false,
         unique: None,
         blockers: Blockers::new(Vec::new(alloc)),
     }
@@ -61,12 +62,15 @@ fn wait(rt: &impl Abort, alloc: Global, row: &mut LockRow, unique: u64, blockers
 fn rows(rt: &impl Abort, alloc: Global) -> [LockRow; 4] {
     let mut writer = held(alloc, Class::Record, Kind::Write, 7, 100);
     writer.name = Name::new(b"a b\xff");
+    writer.linked = true;
     let mut reader = held(alloc, Class::Record, Kind::Read, 8, 200);
     reader.start = 1_000_000;
     reader.end = LAST_BYTE - 1;
     reader.name = Name::new(b"\\");
+    reader.linked = true;
     wait(rt, alloc, &mut reader, 5, &[(7, 100), (9, 300)]);
-    let holder = held(alloc, Class::Flock, Kind::Read, 11, 42);
+    let mut holder = held(alloc, Class::Flock, Kind::Read, 11, 42);
+    holder.name = Name::new(b"old");
     let mut waiter = held(alloc, Class::Flock, Kind::Write, 12, 43);
     wait(rt, alloc, &mut waiter, 90, &[(11, 42)]);
     [writer, reader, holder, waiter]

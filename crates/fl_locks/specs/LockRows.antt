@@ -9,7 +9,7 @@ use Rattle.fl_ranges.specs.declared.run.Run.{Run}
 use Rattle.fl_ranges.specs.Marking.{Marking}
 use Rattle.fl_ranges.specs.HeldRuns.{runs_in_order}
 use Rattle.fl_dir.specs.Directory.{Listing}
-use Rattle.fl_dir.specs.Naming.{name_at}
+use Rattle.fl_dir.specs.Naming.{name_at, is_linked_at}
 use Rattle.fl_waiting.specs.declared.parked.Request.{Request}
 use Rattle.fl_waiting.specs.declared.rules.Rules.{Rules}
 use Rattle.fl_waiting.specs.LockRequest.{key_of, start_of, end_of, mark_of, stroke_of}
@@ -70,6 +70,7 @@ held_row d r = record {
   end = r.end;
   mark = r.mark;
   name = name_at d r.key.node;
+  linked = is_linked_at d r.key.node;
   unique = None;
   blockers = [];
 }
@@ -84,6 +85,7 @@ waiting_row s older r =
       end = end_of r.ask;
       mark = mark;
       name = name_at s.view.directory r.node;
+      linked = is_linked_at s.view.directory r.node;
       unique = Some r.unique;
       blockers = blockers_of s.rules s.marking older (wish_on (stroke_of r.node r.ask) mark);
     }) (mark_of r.ask)
@@ -92,6 +94,10 @@ waiting_row s older r =
 abbrev pub waiting_rows : Snapshot → List Request → List Request → List LockRow
 waiting_rows s older [] = []
 waiting_rows s older (r ∷ parked) = cons_option (waiting_row s older r) (waiting_rows s (older ++ r ∷ []) parked)
+
+-- the name that the file of a row has; none once it is unlinked
+abbrev pub linked_name : LockRow → Option (List ℕ)
+linked_name row = if row.linked then row.name else None
 
 -- the nodes of rows, in ascending order
 abbrev pub nodes_of : List LockRow → List ℕ

@@ -47,6 +47,7 @@ fn add_held(
             end: run.end,
             mark: run.mark,
             name: directory.name_of(run.key.node),
+            linked: directory.is_linked(run.key.node),
             unique: None,
             blockers: Blockers::none(alloc),
         })?;
@@ -100,6 +101,7 @@ fn waiting_row(
         end: wanted.end,
         mark,
         name: core.directory().name_of(wanted.key.node),
+        linked: core.directory().is_linked(wanted.key.node),
         unique: Some(claim.request.unique),
         blockers: blockers_of(alloc, core.rules(), runs, older, &wanted)?,
     }))

@@ -1,6 +1,7 @@
 //! A row of the list.
 
-ghost use Rattle.std.specs.Prelude.{◌≡◌, []};
+ghost use Rattle.std.specs.Prelude.{◌≡◌, [], option_copied};
+ghost use Rattle.fl_locks.specs.LockRows.{linked_name};
 
 use fl_order::Name;
 use fl_ranges::{Key, Mark};
@@ -66,10 +67,25 @@ pub struct LockRow {
     pub end: u64,
     /// Its kind, and the process that is named as the holder, or that asks.
     pub mark: Mark,
-    /// The name of the file; none if it has no name any more.
+    /// The name under which the file was made; none if that isn't known.
     pub name: Option<Name>,
+    /// The file still has that name.
+    pub linked: bool,
     /// The unique of the request if it waits; none if the lock is held.
     pub unique: Option<u64>,
     /// Whom it waits for; nobody if it is held.
     pub blockers: Blockers,
+}
+
+impl LockRow {
+    /// The name that the file has; none once it is unlinked.
+    pub fn linked_name(&self) -> Option<&Name>
+        ensures { option_copied result ≡ linked_name self.now }
+    {
+        if self.linked {
+            self.name.as_ref()
+        } else {
+            None
+        }
+    }
 }

@@ -1,12 +1,12 @@
 -- What is said of a session behind lines, of what came back of it.
-use Rattle.std.proofs.Common.{◌≡◌, ℕ, Bool, List, [], Option, Some, inl, inr, subst, sym}
+use Rattle.std.proofs.Common.{◌≡◌, ℕ, Bool, true, List, [], Option, Some, inl, inr, subst, sym}
 use Rattle.std.specs.Prelude.{◌⊎◌, IfSome}
 use mathlib.Core.List.{IsPrefix}
 use Rattle.fl_history.specs.declared.history.Line.{Line}
 use Rattle.fl_resume.proofs.Prefixes.{of_another}
 use Rattle.fl_session.specs.Recorded.{done_of, journal_lines}
-use Rattle.fl_session.specs.Served.{IsAhead, IsServedBehind}
-use Rattle.fl_session.specs.Session.{session_behind}
+use Rattle.fl_session.specs.Served.{IsAheadBehind, IsServedBehind}
+use Rattle.fl_session.specs.Session.{session_behind, session_from}
 use Rattle.fl_session.specs.declared.done.Done.{Done}
 use Rattle.fl_session.specs.declared.recorded.Recorded.{Recorded}
 use Rattle.fl_transport.specs.Streams.{Streams}
@@ -14,7 +14,7 @@ use Rattle.fl_waiting.specs.declared.rules.Rules.{Rules}
 
 -- more lines are stored
 pub ahead_on : (rules : Rules) (base : List Line) (streams : Streams) (stored more : List Line) → IsPrefix stored more
-    → IsAhead rules base streams stored → IsAhead rules base streams more
+    → IsAheadBehind rules base streams stored → IsAheadBehind rules base streams more
 ahead_on rules base streams stored more grows ahead = record {
   front = ahead.front;
   back = ahead.back;
@@ -27,8 +27,8 @@ ahead_on rules base streams stored more grows ahead = record {
   covered = on ahead.covered;
 }
   where
-    on : (ahead.sent ≡ []) ⊎ IsPrefix (session_behind rules base ahead.front).lines stored
-        → (ahead.sent ≡ []) ⊎ IsPrefix (session_behind rules base ahead.front).lines more
+    on : (ahead.sent ≡ []) ⊎ IsPrefix (session_from (session_behind rules base true) ahead.front).lines stored
+        → (ahead.sent ≡ []) ⊎ IsPrefix (session_from (session_behind rules base true) ahead.front).lines more
     on (inl none) = inl none
     on (inr had) = inr (of_another _ _ _ had grows)
 

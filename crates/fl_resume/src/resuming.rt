@@ -13,7 +13,7 @@ ghost use Rattle.fl_trace.specs.Text.{text_of};
 use crate::ahead::AheadLines;
 use fl_core::Rules;
 use fl_desk::Desk;
-use fl_history::{Journal, Line, Past};
+use fl_history::{Journal, Line, Past, Recent};
 use fl_judge::Resumed;
 use fl_order::{NoMemory, Told};
 use fl_session::{Fault, Recorded, resume_session};
@@ -36,19 +36,22 @@ pub struct Ended<T> {
     pub whole: bool,
 }
 
-/// Serves a session that goes on from what a trace leads to, under its rules. `file` has the text of the trace's lines and
-/// nothing more. The replies that the lines lack are written first, and then the lines of each order before any of its
-/// replies goes to the client. If lines can't be written, no reply that waits for them goes out, and the session ends. If
-/// memory runs out, the file is dropped, and nothing was read from the client or written to it.
+/// Serves a session that goes on from what a trace leads to, under its rules. `recent` has the trace's lines, and `file`
+/// their text and nothing more. The replies that the lines lack are written first, and then the lines of each order
+/// before any of its replies goes to the client. If lines can't be written, no reply that waits for them goes out, and
+/// the session ends. A message that is sent again (`FUSE_UNIQUE_RESEND`) is answered as it was, or is new if the last
+/// lines lack it. If memory runs out, the file is dropped, and nothing was read from the client or written to it.
 pub fn resume<R: Read, W: Write, T: Write + Drop>(
     alloc: Global,
     r: &mut R,
     w: &mut W,
     resumed: Resumed,
+    recent: Recent,
     file: T,
     rules: Rules,
 ) -> Result<Ended<T>, NoMemory>
     requires there { IsAs (T.contents file) (text_of resumed.past.items) }
+    requires recent { recent ≡ resumed.past.items }
     requires kept { IsKept (resumed.past.items ++ told_lines resumed.missing) resumed.present }
     requires rules { resumed.present.rules ≡ rules }
     ensures resumed { IfOk result (IsResumed rules (resumed.past.items ++ told_lines resumed.missing) T.contents (record {
@@ -65,8 +68,9 @@ pub fn resume<R: Read, W: Write, T: Write + Drop>(
         past,
     } = resumed;
     let journal = lines_behind(alloc, file, &past, missing.as_slice())?;
+    let recent = recent_behind(recent, missing.as_slice());
     let desk = Desk::resume(journal, present);
-    let (recorded, broken) = resume_session(alloc, r, w, desk, rules)?;
+    let (recorded, broken) = resume_session(alloc, r, w, desk, recent, rules)?;
     let Recorded {
         journal,
         fault,
@@ -101,6 +105,17 @@ fn lines_behind<T: Write + Drop>(
         journal.push_told(told);
     }
     Ok(journal)
+}
+
+// The last lines of a trace and of the replies that it lacks.
+fn recent_behind(recent: Recent, missing: &[Told]) -> Recent
+    ensures { result ≡ recent ++ told_lines missing.now }
+{
+    let mut recent = recent;
+    for told in missing {
+        recent.push(&Line::Told(*told));
+    }
+    recent
 }
 
 // Writes what waits, and gives the file, and whether it has the text of all lines.

@@ -1,10 +1,9 @@
 -- Replies that are collected one after another, each behind its lines.
-use Rattle.std.proofs.Common.{◌≡◌, ℕ, List, [], ◌++◌, Option, refl, sym, ap, subst, ◌∙◌, append_assoc, append-nil}
+use Rattle.std.proofs.Common.{◌≡◌, ℕ, List, [], ◌++◌, refl, sym, subst, ◌∙◌, append_assoc, append-nil}
 use Rattle.std.proofs.Common.{inl, inr}
 use Rattle.std.specs.Prelude.{◌⊎◌}
 use mathlib.Core.List.{IsPrefix}
 use Rattle.fl_desk.specs.Kept.{Book}
-use Rattle.fl_history.specs.declared.history.Line.{Line}
 use Rattle.fl_session.proofs.Prefixes.{of_another, of_itself}
 use Rattle.fl_session.specs.Inside.UnderWay.{WritesBehind}
 use Rattle.fl_transport.specs.Collecting.{Collects, IsGiven, Outgoing}

@@ -1,31 +1,42 @@
--- What stays of a session from message to message: its rules, and how far the messages alone bring it.
-use Rattle.std.proofs.Common.{◌≡◌, ℕ, Bool, true, false, List, [], ◌∷◌, refl, ap, ◌∙◌, subst}
+-- What stays of a session from message to message: its rules, whether it knows messages that are sent again, and how far
+-- the messages alone bring it.
+use Rattle.std.proofs.Common.{◌≡◌, ℕ, Bool, true, false, List, [], ◌∷◌, drop, Option, None, Some, refl, ap, ◌∙◌}
 use Rattle.std.specs.Prelude.{fold, if◌then◌else◌}
-use Rattle.fl_core.specs.Step.{replies_in}
 use Rattle.fl_desk.specs.Replay.{state_after}
+use Rattle.fl_history.specs.Recent.{recalled, recent}
+use Rattle.fl_history.specs.declared.recent.Recalled.{Recalled}
+use Rattle.fl_history.specs.declared.recent.Recalled.TheVariants as recall
 use Rattle.fl_order.specs.declared.order.Order.{Order}
+use Rattle.fl_session.specs.Again.{incoming_under, unmarked}
 use Rattle.fl_session.specs.Session.{Came, Session, messages_of, session_from}
-use Rattle.fl_session.specs.Session.{with_incoming, with_message, with_order, with_orders, with_refusal, with_step}
+use Rattle.fl_session.specs.Session.{with_again, with_either, with_incoming, with_message, with_order, with_orders}
+use Rattle.fl_session.specs.Session.{with_orders_again, with_recalled}
 use Rattle.fl_transport.specs.Handshake.{advanced, handshake_of, incoming_of, opening}
-use Rattle.fl_transport.specs.declared.handshake.Handshake.{Handshake}
 use Rattle.fl_transport.specs.declared.handshake.Incoming.{Incoming}
 use Rattle.fl_transport.specs.declared.handshake.Incoming.TheVariants as incoming
+use Rattle.fl_waiting.specs.Waiting.{is_parked}
+use Rattle.fl_wire.specs.Layout.{unique_of}
 
--- these two are the same in both
+-- these are the same in both
 record IsAlike (s t : Session) : Type 0 where
   rules : s.rules ≡ t.rules
+  resends : s.resends ≡ t.resends
   handshake : s.handshake ≡ t.handshake
 
 alike_on : (s t u : Session) → IsAlike s t → IsAlike t u → IsAlike s u
 alike_on s t u first second =
-    record { rules = first.rules ∙ second.rules; handshake = first.handshake ∙ second.handshake }
+    record {
+      rules = first.rules ∙ second.rules;
+      resends = first.resends ∙ second.resends;
+      handshake = first.handshake ∙ second.handshake;
+    }
 
 by_order : (s : Session) (refused : Bool) (order : Order) → IsAlike (with_order s refused order) s
-by_order s true order = record { rules = refl; handshake = refl }
-by_order s false order = record { rules = refl; handshake = refl }
+by_order s true order = record { rules = refl; resends = refl; handshake = refl }
+by_order s false order = record { rules = refl; resends = refl; handshake = refl }
 
 by_orders : (s : Session) (orders : List Order) (refused : List Bool) → IsAlike (with_orders s orders refused) s
-by_orders s [] refused = record { rules = refl; handshake = refl }
+by_orders s [] refused = record { rules = refl; resends = refl; handshake = refl }
 by_orders s (order ∷ orders) [] =
     alike_on _ _ s (by_orders (with_order s false order) orders []) (by_order s false order)
 by_orders s (order ∷ orders) (first ∷ refused) =
@@ -34,28 +45,56 @@ by_orders s (order ∷ orders) (first ∷ refused) =
 by_incoming : (s : Session) (refused : List Bool) (it : Incoming) → IsAlike (with_incoming s refused it) s
 by_incoming s refused (incoming.Order order) = by_orders s (order ∷ []) refused
 by_incoming s refused (incoming.Batch orders) = by_orders s orders refused
-by_incoming s refused (incoming.Response response) = record { rules = refl; handshake = refl }
+by_incoming s refused (incoming.Response response) = record { rules = refl; resends = refl; handshake = refl }
+
+by_recalled : (s : Session) (r : Recalled) (orders : List Order) (refused : List Bool)
+    → IsAlike (with_recalled s r orders refused) s
+by_recalled s (recall.Told told) orders refused = record { rules = refl; resends = refl; handshake = refl }
+by_recalled s (recall.Asked count) orders refused = by_orders s (drop count orders) refused
+
+by_orders_again : (s : Session) (unique : ℕ) (orders : List Order) (refused : List Bool)
+    → IsAlike (with_orders_again s unique orders refused) s
+by_orders_again s unique orders refused = go (is_parked unique (state_after s.rules s.lines).view.parked)
+  where
+    r : Recalled
+    r = recalled unique (recent s.lines)
+
+    go : (waits : Bool) → IsAlike (if waits then s else with_recalled s r orders refused) s
+    go true = record { rules = refl; resends = refl; handshake = refl }
+    go false = by_recalled s r orders refused
+
+by_again : (s : Session) (unique : ℕ) (refused : List Bool) (it : Incoming) → IsAlike (with_again s unique refused it) s
+by_again s unique refused (incoming.Order order) = by_orders_again s unique (order ∷ []) refused
+by_again s unique refused (incoming.Batch orders) = by_orders_again s unique orders refused
+by_again s unique refused (incoming.Response response) = record { rules = refl; resends = refl; handshake = refl }
+
+by_either : (s : Session) (marked : Option ℕ) (refused : List Bool) (it : Incoming)
+    → IsAlike (with_either s marked refused it) s
+by_either s None refused it = by_incoming s refused it
+by_either s (Some unique) refused it = by_again s unique refused (incoming_under unique it)
 
 -- what one message more leaves, of a session that is over or not
-record IsMoved (s now : Session) (message : List ℕ) : Type 0 where
-  rules : now.rules ≡ s.rules
-  handshake : now.handshake ≡ advanced s.handshake message
+pub record IsMoved (s now : Session) (message : List ℕ) : Type 0 where
+  pub rules : now.rules ≡ s.rules
+  pub resends : now.resends ≡ s.resends
+  pub handshake : now.handshake ≡ advanced s.handshake message
 
-by_message : (s : Session) (c : Came) → IsMoved s (with_message s c) c.message
+pub by_message : (s : Session) (c : Came) → IsMoved s (with_message s c) c.message
 by_message s c = go s.handshake.over refl
   where
     there : Session
-    there = with_incoming (record s { handshake = advanced s.handshake c.message }) c.refused
-        (incoming_of s.handshake c.message)
+    there = with_either (record s { handshake = advanced s.handshake c.message })
+        (unmarked s.resends (unique_of c.message)) c.refused (incoming_of s.handshake c.message)
 
     on : IsAlike there (record s { handshake = advanced s.handshake c.message })
-    on = by_incoming (record s { handshake = advanced s.handshake c.message }) c.refused
-        (incoming_of s.handshake c.message)
+    on = by_either (record s { handshake = advanced s.handshake c.message })
+        (unmarked s.resends (unique_of c.message)) c.refused (incoming_of s.handshake c.message)
 
     go : (over : Bool) → s.handshake.over ≡ over → IsMoved s (with_message s c) c.message
-    go true is = record { rules = rw is refl; handshake = rw is refl }
+    go true is = record { rules = rw is refl; resends = rw is refl; handshake = rw is refl }
     go false is = record {
       rules = ap (λ over. (if over then s else there).rules) is ∙ on.rules;
+      resends = ap (λ over. (if over then s else there).resends) is ∙ on.resends;
       handshake = ap (λ over. (if over then s else there).handshake) is ∙ on.handshake;
     }
 

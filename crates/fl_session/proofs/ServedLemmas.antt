@@ -12,8 +12,8 @@ use Rattle.fl_history.specs.declared.history.Line.{Line}
 use Rattle.fl_session.proofs.RulesLemmas.{as_far, rules_from}
 use Rattle.fl_session.specs.Inside.UnderWay.{HasEnded, Way}
 use Rattle.fl_session.specs.Recorded.{journal_lines}
-use Rattle.fl_session.specs.Served.{AreSent, IsAhead, IsServed, IsServedBehind}
-use Rattle.fl_session.specs.Session.{Came, Session, messages_of, opening_session, session_behind}
+use Rattle.fl_session.specs.Served.{AreSent, IsAheadFrom, IsServed, IsServedFrom}
+use Rattle.fl_session.specs.Session.{Came, Session, messages_of, session_behind, session_from}
 use Rattle.fl_session.specs.declared.done.Done.{Done}
 use Rattle.fl_session.specs.declared.server.Server.{Server}
 use Rattle.fl_transport.specs.Collecting.{AreGiven}
@@ -50,10 +50,6 @@ ends_as : {K : Type 0} (first now : Session) (way : Way) (server : Server K) (fa
 ends_as first now way server fault same ended =
     let P : Session → Type 0 = λ s. HasEnded s way server fault in subst P same ended
 
--- a session behind these lines, of which no message came
-abbrev pub behind : Rules → List Line → Session
-behind rules base = record (opening_session rules) { lines = base }
-
 -- how a session ended, by what its reader tells
 ends_by : (fault told : Option Fault) (over broken : Bool) (messages : List (List ℕ)) (rest : List ℕ)
     (left : Option (List ℕ)) → over ≡ (handshake_of messages).over
@@ -65,22 +61,22 @@ ends_by fault told over broken messages rest left same (inr ending) kept on =
     inr (on (subst (λ o. IsEnding fault o rest left) same ending))
 
 -- a session that ended, of which nothing waits, is served behind the lines that its desk began with
-pub served : {K : Type 0} (rules : Rules) (base : List Line) (first : Session) (way : Way) (server : Server K)
-    (fault : Option Fault) (done : Done) → first ≡ behind rules base → way.out.waiting ≡ []
+pub served : {K : Type 0} (rules : Rules) (base : List Line) (resends : Bool) (first : Session) (way : Way) (server : Server K)
+    (fault : Option Fault) (done : Done) → first ≡ session_behind rules base resends → way.out.waiting ≡ []
     → HasEnded first way server fault → done.history ≡ server.desk.lines
     → (fault ≡ Some Unstored → done.fault ≡ Some Unstored)
     → ((messages : List (List ℕ)) (rest : List ℕ) (left : Option (List ℕ))
     → IsEnding fault (handshake_of messages).over rest left → EndsBy done.fault way.out.broken messages rest left)
     → done.refused ≡ server.refused
-    → IsServedBehind rules base
+    → IsServedFrom (session_behind rules base resends)
     (record { left = way.left; left_now = way.left_now; held = way.start; held_now = way.out.held })
     way.out.broken done
-served rules base first way server fault done same none began history kept told refused =
-    let ended = ends_as first (behind rules base) way server fault same began in
+served rules base resends first way server fault done same none began history kept told refused =
+    let ended = ends_as first (session_behind rules base resends) way server fault same began in
     let session = ended.under in
     let given = session.given in
     let Q : List ℕ → Type 0 = λ waiting.
-    AreGiven way.out.broken given.sent waiting (session_behind rules base session.came).replies in
+    AreGiven way.out.broken given.sent waiting (session_from (session_behind rules base resends) session.came).replies in
     record {
       came = session.came;
       rest = ended.rest;
@@ -91,21 +87,21 @@ served rules base first way server fault done same none began history kept told 
       refused = refused ∙ ap (λ s. s.refused) session.stands;
       framed = given.framed;
       written = given.written;
-      are_sent = all_sent way.out.broken given.sent (session_behind rules base session.came).replies
+      are_sent = all_sent way.out.broken given.sent (session_from (session_behind rules base resends) session.came).replies
           (subst Q none given.are_given);
       ending = ends_by fault done.fault server.handshake.over way.out.broken (messages_of session.came) ended.rest
           way.left_now
-          (ap (λ h. h.over) (ap (λ s. s.handshake) session.stands ∙ as_far (behind rules base) session.came refl))
+          (ap (λ h. h.over) (ap (λ s. s.handshake) session.stands ∙ as_far (session_behind rules base resends) session.came refl))
           ended.ending kept (told (messages_of session.came) ended.rest way.left_now);
     }
 
 -- what it wrote is behind its lines
-pub ahead_of : {K : Type 0} (rules : Rules) (base stored : List Line) (first : Session) (way : Way) (server : Server K)
-    (fault : Option Fault) → first ≡ behind rules base → HasEnded first way server fault → stored ≡ server.desk.stored
-    → IsAhead rules base
+pub ahead_of : {K : Type 0} (rules : Rules) (base stored : List Line) (resends : Bool) (first : Session) (way : Way) (server : Server K)
+    (fault : Option Fault) → first ≡ session_behind rules base resends → HasEnded first way server fault → stored ≡ server.desk.stored
+    → IsAheadFrom (session_behind rules base resends)
     (record { left = way.left; left_now = way.left_now; held = way.start; held_now = way.out.held }) stored
-ahead_of rules base stored first way server fault same began is =
-    let ended = ends_as first (behind rules base) way server fault same began in
+ahead_of rules base stored resends first way server fault same began is =
+    let ended = ends_as first (session_behind rules base resends) way server fault same began in
     let session = ended.under in
     let ahead = session.ahead in
     let R : List Came → Type 0 = λ came. IsRead way.left way.left_now (messages_of came) ended.rest in
@@ -118,15 +114,15 @@ ahead_of rules base stored first way server fault same began is =
       is_read = subst R (sym ahead.is) session.is_read;
       written = ahead.written;
       parts = ahead.parts;
-      covered = subst (λ l. (ahead.sent ≡ []) ⊎ IsPrefix (session_behind rules base ahead.front).lines l) (sym is)
+      covered = subst (λ l. (ahead.sent ≡ []) ⊎ IsPrefix (session_from (session_behind rules base resends) ahead.front).lines l) (sym is)
           ahead.covered;
     }
 
 -- its desk has these rules
-pub desk_under : {K : Type 0} (rules : Rules) (base : List Line) (first : Session) (way : Way) (server : Server K)
-    (fault : Option Fault) → first ≡ behind rules base → HasEnded first way server fault
+pub desk_under : {K : Type 0} (rules : Rules) (base : List Line) (resends : Bool) (first : Session) (way : Way) (server : Server K)
+    (fault : Option Fault) → first ≡ session_behind rules base resends → HasEnded first way server fault
     → server.desk.present.rules ≡ rules
-desk_under rules base first way server fault same began =
+desk_under rules base resends first way server fault same began =
     ap (λ (s : Session). s.rules) began.under.stands ∙ rules_from first began.under.came ∙ ap (λ s. s.rules) same
 
 -- what a session did that had no memory

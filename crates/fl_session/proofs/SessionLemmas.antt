@@ -11,10 +11,10 @@ use Rattle.std.proofs.KnownBytes.{Appends-nil}
 use Rattle.std.specs.Io.KnownBytes.{Appends}
 use mathlib.Core.List.{IsPrefix}
 use Rattle.fl_history.specs.declared.history.Line.{Line}
-use Rattle.fl_session.proofs.Prefixes.{of_another, of_itself}
+use Rattle.fl_session.proofs.Prefixes.{of_another}
 use Rattle.fl_session.proofs.RulesLemmas.{as_far}
 use Rattle.fl_session.specs.Inside.Serving.{session_with, IsFresh}
-use Rattle.fl_session.specs.Inside.UnderWay.{IsAheadOf, IsUnderWay, IsAnswered, HasEnded, Rests, Way, WritesBehind}
+use Rattle.fl_session.specs.Inside.UnderWay.{IsAheadOf, IsUnderWay, IsAnswered, HasEnded, Rests, Way}
 use Rattle.fl_session.specs.Session.{Came, Session, messages_of, session_from, with_message}
 use Rattle.fl_session.specs.declared.server.Server.{Server}
 use Rattle.fl_transport.specs.Collecting.{AreGiven, Collects, IsGiven, Outgoing}

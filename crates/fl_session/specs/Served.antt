@@ -4,7 +4,7 @@ use Rattle.std.specs.List.{concat}
 use Rattle.std.specs.Io.KnownBytes.{Appends}
 use mathlib.Core.List.{IsPrefix}
 use Rattle.fl_history.specs.declared.history.Line.{Line}
-use Rattle.fl_session.specs.Session.{Came, messages_of, session_behind}
+use Rattle.fl_session.specs.Session.{Came, Session, messages_of, opening_session, session_behind, session_from}
 use Rattle.fl_session.specs.declared.done.Done.{Done}
 use Rattle.fl_transport.specs.Collecting.{IsProperPrefix}
 use Rattle.fl_transport.specs.Ending.{EndsBy, IsRead}
@@ -19,30 +19,34 @@ abbrev pub AreSent : Bool → List ℕ → List (List ℕ) → Type 0
 AreSent false sent replies = sent ≡ concat replies
 AreSent true sent replies = IsProperPrefix sent (concat replies)
 
--- What was read is whole messages and a rest of at most 8192 bytes. The history is the lines of the session of these
--- messages behind the lines that were there, under these rules, and its replies were written, each of which says its own
--- length: all of them, or after a failed write (`broken`) a prefix. If lines can't be stored, it ends behind any message.
-pub record IsServedBehind (rules : Rules) (base : List Line) (streams : Streams) (broken : Bool) (done : Done)
-    : Type 0 where
+-- What was read is whole messages and a rest of at most 8192 bytes. The history is the lines of the session that began so
+-- and goes on by these messages, and its replies were written, each of which says its own length: all of them, or after a
+-- failed write (`broken`) a prefix. If lines can't be stored, it ends behind any message.
+pub record IsServedFrom (first : Session) (streams : Streams) (broken : Bool) (done : Done) : Type 0 where
   pub came : List Came
   pub rest : List ℕ
   pub sent : List ℕ
   pub is_read : IsRead streams.left streams.left_now (messages_of came) rest
   pub bounded : length rest ≤ 8192
-  pub history : done.history ≡ (session_behind rules base came).lines
-  pub refused : done.refused ≡ (session_behind rules base came).refused
-  pub framed : All IsReply (session_behind rules base came).replies
+  pub history : done.history ≡ (session_from first came).lines
+  pub refused : done.refused ≡ (session_from first came).refused
+  pub framed : All IsReply (session_from first came).replies
   pub written : Appends streams.held streams.held_now sent
-  pub are_sent : AreSent broken sent (session_behind rules base came).replies
+  pub are_sent : AreSent broken sent (session_from first came).replies
   pub ending : (done.fault ≡ Some Unstored) ⊎ EndsBy done.fault broken (messages_of came) rest streams.left_now
 
--- the same, where no lines were there
+-- the same of a session that goes on behind these lines, and knows messages that are sent again
+abbrev pub IsServedBehind : Rules → List Line → Streams → Bool → Done → Type 0
+IsServedBehind rules base streams broken done = IsServedFrom (session_behind rules base true) streams broken done
+
+-- the same of a session behind no lines, to which each message is new
 abbrev pub IsServed : Rules → Streams → Bool → Done → Type 0
-IsServed rules streams broken done = IsServedBehind rules [] streams broken done
+IsServed rules streams broken done = IsServedFrom (opening_session rules) streams broken done
 
 -- Whatever the writer holds behind what it held are replies to messages at the front of those that came, all of them or a
--- beginning, and the lines of the session of these messages are stored, unless nothing was written.
-pub record IsAhead (rules : Rules) (base : List Line) (streams : Streams) (stored : List Line) : Type 0 where
+-- beginning, and the lines of the session that began so and goes on by these messages are stored, unless nothing was
+-- written.
+pub record IsAheadFrom (first : Session) (streams : Streams) (stored : List Line) : Type 0 where
   pub front : List Came
   pub back : List Came
   pub rest : List ℕ
@@ -50,5 +54,13 @@ pub record IsAhead (rules : Rules) (base : List Line) (streams : Streams) (store
   pub owed : List ℕ
   pub is_read : IsRead streams.left streams.left_now (messages_of (front ++ back)) rest
   pub written : Appends streams.held streams.held_now sent
-  pub parts : sent ++ owed ≡ concat (session_behind rules base front).replies
-  pub covered : (sent ≡ []) ⊎ IsPrefix (session_behind rules base front).lines stored
+  pub parts : sent ++ owed ≡ concat (session_from first front).replies
+  pub covered : (sent ≡ []) ⊎ IsPrefix (session_from first front).lines stored
+
+-- the same of a session that goes on behind these lines, and knows messages that are sent again
+abbrev pub IsAheadBehind : Rules → List Line → Streams → List Line → Type 0
+IsAheadBehind rules base streams stored = IsAheadFrom (session_behind rules base true) streams stored
+
+-- the same of a session behind these lines to which each message is new
+abbrev pub IsAhead : Rules → List Line → Streams → List Line → Type 0
+IsAhead rules base streams stored = IsAheadFrom (session_behind rules base false) streams stored

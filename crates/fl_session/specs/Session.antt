@@ -1,23 +1,30 @@
 -- A session: its messages, what is answered to them, and the lines that they give (Linux `fuse.h`, protocol 7.31).
-use Rattle.std.specs.Prelude.{ℕ, Bool, true, false, List, [], ◌∷◌, ◌++◌, map, fold, if◌then◌else◌}
+use Rattle.std.specs.Prelude.{ℕ, Bool, true, false, List, [], ◌∷◌, ◌++◌, map, drop, fold, if◌then◌else◌, Option, None, Some}
 use Rattle.fl_core.specs.Step.{replies_in}
 use Rattle.fl_desk.specs.Legal.{step_lines}
 use Rattle.fl_desk.specs.Replay.{state_after}
+use Rattle.fl_history.specs.Recent.{recalled, recent}
 use Rattle.fl_history.specs.declared.history.Line.{Line}
+use Rattle.fl_history.specs.declared.recent.Recalled.{Recalled}
+use Rattle.fl_history.specs.declared.recent.Recalled.TheVariants as recall
 use Rattle.fl_order.specs.Order.{kind_of}
 use Rattle.fl_order.specs.declared.order.Order.{Order}
 use Rattle.fl_order.specs.declared.told.Told.{Told}
+use Rattle.fl_session.specs.Again.{incoming_under, unmarked}
 use Rattle.fl_transport.specs.Handshake.{advanced, incoming_of, opening}
 use Rattle.fl_transport.specs.Response.{bytes_of, lost}
 use Rattle.fl_transport.specs.declared.handshake.Handshake.{Handshake}
 use Rattle.fl_transport.specs.declared.handshake.Incoming.{Incoming}
 use Rattle.fl_transport.specs.declared.handshake.Incoming.TheVariants as incoming
 use Rattle.fl_transport.specs.declared.response.Response.{Response}
+use Rattle.fl_transport.specs.declared.response.Response.TheVariants.{One}
+use Rattle.fl_waiting.specs.Waiting.{is_parked}
 use Rattle.fl_waiting.specs.declared.rules.Rules.{Rules}
+use Rattle.fl_wire.specs.Layout.{unique_of}
 use Rattle.fl_wire.specs.Spell.{spelling_of}
 
--- A message that came, and for each of its orders, in their order, whether it was refused because memory ran out. If
--- the list ends early, the orders left were not refused.
+-- A message that came, and for each of its orders that is new, in their order, whether it was refused because memory ran
+-- out. If the list ends early, the orders left were not refused.
 pub record Came : Type 0 where
   pub message : List ℕ
   pub refused : List Bool
@@ -26,19 +33,24 @@ pub record Came : Type 0 where
 abbrev pub messages_of : List Came → List (List ℕ)
 messages_of came = map (λ c. c.message) came
 
--- A session so far: the rules by which requests wait, how far its messages brought it, the bytes of each reply, the
--- lines of its orders, and whether some order was refused because memory ran out.
+-- A session so far: the rules by which requests wait, whether it knows messages that are sent again, how far its messages
+-- brought it, the bytes of each reply, the lines of its orders, and whether some order was refused because memory ran out.
 pub record Session : Type 0 where
   pub rules : Rules
+  pub resends : Bool
   pub handshake : Handshake
   pub replies : List (List ℕ)
   pub lines : List Line
   pub refused : Bool
 
--- no message came yet, and requests will wait by these rules
+-- No message came yet, requests will wait by these rules, and messages that are sent again aren't known.
 abbrev pub opening_session : Rules → Session
 opening_session rules =
-    record { rules = rules; handshake = opening; replies = []; lines = []; refused = false }
+    record { rules = rules; resends = false; handshake = opening; replies = []; lines = []; refused = false }
+
+-- No message came yet. The session goes on behind these lines, and knows messages that are sent again or doesn't.
+abbrev pub session_behind : Rules → List Line → Bool → Session
+session_behind rules base resends = record (opening_session rules) { lines = base; resends = resends }
 
 -- this is answered
 abbrev pub with_response : Session → Response → Session
@@ -70,21 +82,39 @@ with_incoming s refused (incoming.Order order) = with_orders s (order ∷ []) re
 with_incoming s refused (incoming.Batch orders) = with_orders s orders refused
 with_incoming s refused (incoming.Response response) = with_response s response
 
+-- Orders are sent again of which lines say this: their reply is sent once more, or as many as were asked are left out.
+abbrev pub with_recalled : Session → Recalled → List Order → List Bool → Session
+with_recalled s (recall.Told told) orders refused = with_response s (One told)
+with_recalled s (recall.Asked count) orders refused = with_orders s (drop count orders) refused
+
+-- Orders of this unique are sent again. A request that is parked goes on waiting. Of any other the last lines tell.
+abbrev pub with_orders_again : Session → ℕ → List Order → List Bool → Session
+with_orders_again s unique orders refused =
+    if is_parked unique (state_after s.rules s.lines).view.parked then s
+    else with_recalled s (recalled unique (recent s.lines)) orders refused
+
+-- a message of this unique is sent again; the session itself answers as it did
+abbrev pub with_again : Session → ℕ → List Bool → Incoming → Session
+with_again s unique refused (incoming.Order order) = with_orders_again s unique (order ∷ []) refused
+with_again s unique refused (incoming.Batch orders) = with_orders_again s unique orders refused
+with_again s unique refused (incoming.Response response) = with_response s response
+
+-- a message is new, or is sent again under this unique
+abbrev pub with_either : Session → Option ℕ → List Bool → Incoming → Session
+with_either s None refused it = with_incoming s refused it
+with_either s (Some unique) refused it = with_again s unique refused (incoming_under unique it)
+
 -- one message more; after a DESTROY that ended the session nothing comes
 abbrev pub with_message : Session → Came → Session
 with_message s came =
     if s.handshake.over then s
-    else with_incoming (record s { handshake = advanced s.handshake came.message }) came.refused
-    (incoming_of s.handshake came.message)
+    else with_either (record s { handshake = advanced s.handshake came.message })
+    (unmarked s.resends (unique_of came.message)) came.refused (incoming_of s.handshake came.message)
 
 -- a session that goes on by these messages
 abbrev pub session_from : Session → List Came → Session
 session_from s came = fold with_message s came
 
--- the session of these messages behind these lines, under these rules
-abbrev pub session_behind : Rules → List Line → List Came → Session
-session_behind rules base came = session_from (record (opening_session rules) { lines = base }) came
-
 -- the session of these messages, under these rules
 abbrev pub session_of : Rules → List Came → Session
-session_of rules came = session_behind rules [] came
+session_of rules came = session_from (opening_session rules) came

@@ -4,7 +4,9 @@
 //! `run_one`, `run_session`, `record_session` and `resume_session` are one proof. A batch is its FORGETs one after another,
 //! each a line of its own, or lost if memory for it was refused. Replies go out once their journal has stored the lines of
 //! all orders (`IsAhead`): whatever the client's writer holds, at whichever write either writer failed, are replies to
-//! messages whose lines are stored. Contracts let through a session that
+//! messages whose lines are stored. A resumed session knows messages that are sent again, by bit 63 of their unique: the
+//! last lines say whether their orders came, and are answered. `laws` says what this means for a client that was cut off.
+//! Contracts let through a session that
 //! - says `NoMemory` having read nothing, refuses every order for memory, or loses all of a batch after one that is refused;
 //! - tells `Read`, `Write` or `Unstored` early, since contracts see no failure of a reader, a writer or a journal, or goes
 //!   on reading once lines couldn't be stored;
@@ -12,8 +14,10 @@
 //! `fl_session_tests` and `fl_serve_failing_tests` refuse these.
 #![tactic(auto)]
 
+mod again;
 mod answering;
 mod done;
+pub mod laws;
 mod recorded;
 mod replying;
 mod server;

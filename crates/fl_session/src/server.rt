@@ -1,16 +1,20 @@
 //! What a session does with each message, apart from reading it.
 
-ghost use Rattle.std.specs.Prelude.{◌≡◌, [], false, IfOk};
-ghost use Rattle.fl_session.specs.Inside.Serving.{IsFresh, IsReady};
-ghost use Rattle.fl_session.specs.Inside.UnderWay.{IsAnswered, TakesMany, TakesOne};
+ghost use Rattle.std.specs.Prelude.{◌≡◌, [], ◌∷◌, ◌++◌, drop, map, false, None, Some, IfOk, IfSome, IsSome, is_some};
+ghost use Rattle.fl_desk.specs.Legal.{step_lines};
+ghost use Rattle.fl_session.specs.Again.{order_under, unmarked};
+ghost use Rattle.fl_session.specs.Inside.Serving.{IsFresh, IsReady, recalled_at, with_lines};
+ghost use Rattle.fl_session.specs.Inside.UnderWay.{IsAnswered, TakesAgain, TakesMany, TakesOne};
 ghost use Rattle.fl_transport.specs.Collecting.{outgoing};
 ghost use Rattle.fl_transport.specs.Outbox.{writer_of};
+ghost use Rattle.fl_wire.specs.Layout.{unique_of};
 
+use crate::again::{order_under, response_under, unmarked};
 use crate::replying::Replying;
 use fl_core::{Rules, Tolds};
 use fl_desk::Desk;
-use fl_history::Journal;
-use fl_order::{NoMemory, Order};
+use fl_history::{Journal, Line, Recalled, Recent};
+use fl_order::{NoMemory, Order, Told};
 use fl_transport::{Handshake, Incoming, Response};
 use fl_wire::{Batch, Frame};
 use std::alloc::Global;
@@ -20,6 +24,8 @@ use std::io::Write;
 #[derive(Drop)]
 pub(crate) struct Server<J: Journal> {
     pub desk: Desk<J>,
+    /// The last lines, if messages that are sent again are known.
+    pub recent: Option<Recent>,
     pub tolds: Tolds,
     pub handshake: Handshake,
     /// Some order was refused because memory ran out.
@@ -27,16 +33,24 @@ pub(crate) struct Server<J: Journal> {
 }
 
 impl<J: Journal> Server<J> {
-    /// No message came yet. The desk has these rules.
-    pub(crate) fn new(alloc: Global, desk: Desk<J>, rules: Rules) -> Result<Server<J>, NoMemory>
+    /// No message came yet. The desk has these rules, and the last lines are its own.
+    pub(crate) fn new(
+        alloc: Global,
+        desk: Desk<J>,
+        recent: Option<Recent>,
+        rules: Rules,
+    ) -> Result<Server<J>, NoMemory>
     where
         J: Drop,
         requires rules { desk.present.rules ≡ rules }
+        requires recent { IfSome recent (λ lines. lines ≡ desk.lines) }
         ensures fresh { IfOk result IsFresh }
         ensures desk { IfOk result (λ server. server.desk ≡ desk) }
+        ensures recent { IfOk result (λ server. server.recent ≡ recent) }
     {
         Ok(Server {
             desk,
+            recent,
             tolds: Tolds::new(alloc, rules)?,
             handshake: Handshake::new(),
             refused: false,
@@ -52,11 +66,116 @@ impl<J: Journal> Server<J> {
         ensures answered { IsAnswered self.old self.new (outgoing W.contents replying.old.batch)
             (outgoing W.contents replying.new.batch) frame.now }
     {
+        match unmarked(self.recent.is_some(), frame.unique()) {
+            None => self.answer_new(replying, frame),
+            Some(unique) => self.answer_again(replying, frame, unique),
+        }
+    }
+
+    // Answers a message that is new.
+    fn answer_new<W: Write>(&mut self, replying: &mut Replying<'_, W>, frame: &Frame)
+        requires live { self.old.handshake.over ≡ false }
+        requires ready { IsReady self.old }
+        requires new { unmarked (is_some self.old.recent) (unique_of frame.now) ≡ None }
+        ensures ready { IsReady self.new }
+        ensures same { (writer_of replying.new.batch.out).ghost_name ≡ (writer_of replying.old.batch.out).ghost_name }
+        ensures answered { IsAnswered self.old self.new (outgoing W.contents replying.old.batch)
+            (outgoing W.contents replying.new.batch) frame.now }
+    {
         // By reference, so that no order is copied once more.
         match &self.handshake.receive(frame) {
             Incoming::Order(order) => self.take(replying, order),
             Incoming::Batch(orders) => self.take_all(replying, orders),
             Incoming::Response(response) => replying.collect(&mut self.desk, response),
+        }
+    }
+
+    // Answers a message that is sent again, which had this unique.
+    fn answer_again<W: Write>(&mut self, replying: &mut Replying<'_, W>, frame: &Frame, unique: u64)
+        requires live { self.old.handshake.over ≡ false }
+        requires ready { IsReady self.old }
+        requires again { unmarked (is_some self.old.recent) (unique_of frame.now) ≡ Some unique }
+        ensures ready { IsReady self.new }
+        ensures same { (writer_of replying.new.batch.out).ghost_name ≡ (writer_of replying.old.batch.out).ghost_name }
+        ensures answered { IsAnswered self.old self.new (outgoing W.contents replying.old.batch)
+            (outgoing W.contents replying.new.batch) frame.now }
+    {
+        match &self.handshake.receive(frame) {
+            Incoming::Order(order) => self.take_again(replying, &order_under(unique, order)),
+            Incoming::Batch(orders) => self.take_rest(replying, orders, unique),
+            Incoming::Response(response) => {
+                replying.collect(&mut self.desk, &response_under(unique, response));
+            }
+        }
+    }
+
+    // What the lines say of a unique, unless a request of it is parked.
+    fn recalled(&self, unique: u64) -> Option<Recalled>
+        requires ready { IsReady self.now }
+        requires known { IsSome self.now.recent }
+        ensures { result ≡ recalled_at self.now.desk.present.rules self.now.desk.lines unique }
+    {
+        if self.desk.has_parked(unique) {
+            return None;
+        }
+        match &self.recent {
+            Some(recent) => Some(recent.recall(unique)),
+            None => None,
+        }
+    }
+
+    // Takes an order that is sent again, if no request of its unique is parked, and the lines don't have it.
+    fn take_again<W: Write>(&mut self, replying: &mut Replying<'_, W>, order: &Order)
+        requires ready { IsReady self.old }
+        requires known { IsSome self.old.recent }
+        ensures ready { IsReady self.new }
+        ensures same { (writer_of replying.new.batch.out).ghost_name ≡ (writer_of replying.old.batch.out).ghost_name }
+        ensures taken { TakesAgain self.old self.new (outgoing W.contents replying.old.batch)
+            (outgoing W.contents replying.new.batch) order.now.unique (order.now ∷ []) }
+    {
+        match self.recalled(order.unique) {
+            None => {}
+            Some(Recalled::Told(told)) => replying.collect(&mut self.desk, &Response::One(told)),
+            Some(Recalled::Asked(count)) => {
+                if count == 0 {
+                    self.take(replying, order);
+                }
+            }
+        }
+    }
+
+    // The same of a batch, of whose orders the lines may have the first.
+    fn take_rest<W: Write>(&mut self, replying: &mut Replying<'_, W>, orders: &Batch, unique: u64)
+        requires ready { IsReady self.old }
+        requires known { IsSome self.old.recent }
+        ensures ready { IsReady self.new }
+        ensures same { (writer_of replying.new.batch.out).ghost_name ≡ (writer_of replying.old.batch.out).ghost_name }
+        ensures taken { TakesAgain self.old self.new (outgoing W.contents replying.old.batch)
+            (outgoing W.contents replying.new.batch) unique (map (order_under unique) orders.now) }
+    {
+        match self.recalled(unique) {
+            None => {}
+            Some(Recalled::Told(told)) => replying.collect(&mut self.desk, &Response::One(told)),
+            Some(Recalled::Asked(count)) => self.take_from(replying, orders, unique, count),
+        }
+    }
+
+    // Takes the orders of a batch from one on, under this unique.
+    fn take_from<W: Write>(
+        &mut self,
+        replying: &mut Replying<'_, W>,
+        orders: &Batch,
+        unique: u64,
+        start: u32,
+    )
+        requires { IsReady self.old }
+        ensures ready { IsReady self.new }
+        ensures same { (writer_of replying.new.batch.out).ghost_name ≡ (writer_of replying.old.batch.out).ghost_name }
+        ensures taken { TakesMany self.old self.new (outgoing W.contents replying.old.batch)
+            (outgoing W.contents replying.new.batch) (drop start (map (order_under unique) orders.now)) [] }
+    {
+        for i in start..orders.count() {
+            self.take_one_of(replying, &order_under(unique, &orders.order(i)));
         }
     }
 
@@ -83,7 +202,10 @@ impl<J: Journal> Server<J> {
             (outgoing W.contents replying.new.batch) order.now }
     {
         match self.desk.take(0, order, &mut self.tolds) {
-            Ok(()) => replying.keep(&Response::Replies(self.tolds.as_slice())),
+            Ok(()) => {
+                recall(&mut self.recent, order, self.tolds.as_slice());
+                replying.keep(&Response::Replies(self.tolds.as_slice()));
+            }
             Err(NoMemory) => {
                 self.refused = true;
                 replying.keep(&Response::lost(order.op.kind(), order.unique));
@@ -101,16 +223,42 @@ impl<J: Journal> Server<J> {
     {
         let Server {
             desk,
+            recent,
             tolds,
             refused,
             ..
         } = self;
         match desk.take(0, order, tolds) {
-            Ok(()) => replying.collect(desk, &Response::Replies(tolds.as_slice())),
+            Ok(()) => {
+                recall(recent, order, tolds.as_slice());
+                replying.collect(desk, &Response::Replies(tolds.as_slice()));
+            }
             Err(NoMemory) => {
                 *refused = true;
                 replying.collect(desk, &Response::lost(order.op.kind(), order.unique));
             }
         }
+    }
+}
+
+// Adds the lines of an order of worker 0 to the last lines, if these are kept.
+fn recall(recent: &mut Option<Recent>, order: &Order, tolds: &[Told])
+    ensures { recent.new ≡ with_lines recent.old (step_lines 0 order.now tolds.now) }
+{
+    if let Some(recent) = recent {
+        push_lines(recent, order, tolds);
+    }
+}
+
+// Adds the lines of an order of worker 0 to the last lines.
+fn push_lines(recent: &mut Recent, order: &Order, tolds: &[Told])
+    ensures { recent.new ≡ recent.old ++ step_lines 0 order.now tolds.now }
+{
+    recent.push(&Line::Asked {
+        worker: 0,
+        order: *order,
+    });
+    for told in tolds {
+        recent.push(&Line::Told(*told));
     }
 }

@@ -1,10 +1,11 @@
 //! A whole session of the FUSE protocol with one worker, over any reader and any writer.
 
-ghost use Rattle.std.specs.Prelude.{◌≡◌, ◌≢◌, ◌⊎◌, Bool, false, [], Option, None, Some, IfOk, IfSome, IsSome, OnErr};
+ghost use Rattle.std.specs.Prelude.{◌≡◌, ◌≢◌, ◌⊎◌, Bool, true, false, [], Option, None, Some, IfOk, IfSome, IsSome, OnErr, is_some};
 ghost use Rattle.std.specs.Io.KnownBytes.{Keeps};
 ghost use Rattle.fl_desk.specs.Legal.{IsLegal};
 ghost use Rattle.fl_session.specs.Recorded.{done_of};
-ghost use Rattle.fl_session.specs.Served.{IsAhead, IsServed, IsServedBehind};
+ghost use Rattle.fl_session.specs.Served.{IsAhead, IsAheadBehind, IsAheadFrom, IsServed, IsServedBehind, IsServedFrom};
+ghost use Rattle.fl_session.specs.Session.{session_behind};
 
 use crate::answering::serve_all;
 use crate::done::Done;
@@ -13,7 +14,7 @@ use crate::replying::Replying;
 use crate::server::Server;
 use fl_core::Rules;
 use fl_desk::Desk;
-use fl_history::{Journal, Lines};
+use fl_history::{Journal, Lines, Recent};
 use fl_order::NoMemory;
 use fl_transport::{Fault, Inbox, Outbox, ReplyBatch, ReplyBuffer};
 use std::alloc::Global;
@@ -91,41 +92,78 @@ pub fn record_session<R: Read, W: Write, J: Journal + Drop>(
     let Ok(desk) = Desk::over(alloc, journal, rules) else {
         return (Recorded::nothing(alloc, Fault::NoMemory), false);
     };
-    match resume_session(alloc, r, w, desk, rules) {
+    match serve_session(alloc, r, w, desk, None, rules) {
         Ok(ended) => ended,
         Err(NoMemory) => (Recorded::nothing(alloc, Fault::NoMemory), false),
     }
 }
 
-/// The same, but the session goes on behind the lines of a desk that has these rules. The journal comes back, and the
-/// history is all its lines. If memory runs out, the desk is dropped, and nothing was read or written.
+/// The same, but the session goes on behind the lines of a desk that has these rules, and knows messages that are sent
+/// again (`FUSE_UNIQUE_RESEND`). `recent` has the same lines. The journal comes back, and the history is all its lines. If
+/// memory runs out, the desk is dropped, and nothing was read or written.
 pub fn resume_session<R: Read, W: Write, J: Journal + Drop>(
     alloc: Global,
     r: &mut R,
     w: &mut W,
     desk: Desk<J>,
+    recent: Recent,
     rules: Rules,
 ) -> Result<(Recorded<J>, bool), NoMemory>
     requires rules { desk.present.rules ≡ rules }
+    requires recent { recent ≡ desk.lines }
     ensures served { IfOk result (λ ended. IsServedBehind rules desk.lines (record {
       left = R.remaining r.old;
       left_now = R.remaining r.new;
       held = W.contents w.old;
       held_now = W.contents w.new;
     }) ended.1 (done_of J.lines ended.0)) }
-    ensures ahead { IfOk result (λ ended. IfSome ended.0.journal (λ journal. IsAhead rules desk.lines (record {
+    ensures ahead { IfOk result (λ ended. IfSome ended.0.journal (λ journal.
+        IsAheadBehind rules desk.lines (record {
+          left = R.remaining r.old;
+          left_now = R.remaining r.new;
+          held = W.contents w.old;
+          held_now = W.contents w.new;
+        }) (J.stored journal))) }
+    ensures legal { IfOk result (λ ended. IfSome ended.0.journal (λ journal. IsLegal rules (J.lines journal))) }
+    ensures back { IfOk result (λ ended. IsSome ended.0.journal) }
+    ensures fault { IfOk result (λ ended. ended.0.fault ≢ Some Fault.NoMemory) }
+    ensures unread { OnErr result (Keeps (R.remaining r.old) (R.remaining r.new) × Keeps (W.contents w.old) (W.contents w.new)) }
+{
+    serve_session(alloc, r, w, desk, Some(recent), rules)
+}
+
+// Serves a session behind the lines of a desk that has these rules. It knows messages that are sent again if the last
+// lines are kept.
+fn serve_session<R: Read, W: Write, J: Journal + Drop>(
+    alloc: Global,
+    r: &mut R,
+    w: &mut W,
+    desk: Desk<J>,
+    recent: Option<Recent>,
+    rules: Rules,
+) -> Result<(Recorded<J>, bool), NoMemory>
+    requires rules { desk.present.rules ≡ rules }
+    requires recent { IfSome recent (λ lines. lines ≡ desk.lines) }
+    ensures served { IfOk result (λ ended. IsServedFrom (session_behind rules desk.lines (is_some recent)) (record {
       left = R.remaining r.old;
       left_now = R.remaining r.new;
       held = W.contents w.old;
       held_now = W.contents w.new;
-    }) (J.stored journal))) }
+    }) ended.1 (done_of J.lines ended.0)) }
+    ensures ahead { IfOk result (λ ended. IfSome ended.0.journal (λ journal.
+        IsAheadFrom (session_behind rules desk.lines (is_some recent)) (record {
+          left = R.remaining r.old;
+          left_now = R.remaining r.new;
+          held = W.contents w.old;
+          held_now = W.contents w.new;
+        }) (J.stored journal))) }
     ensures legal { IfOk result (λ ended. IfSome ended.0.journal (λ journal. IsLegal rules (J.lines journal))) }
     ensures back { IfOk result (λ ended. IsSome ended.0.journal) }
     ensures fault { IfOk result (λ ended. ended.0.fault ≢ Some Fault.NoMemory) }
     ensures unread { OnErr result (Keeps (R.remaining r.old) (R.remaining r.new) × Keeps (W.contents w.old) (W.contents w.new)) }
 {
     let mut inbox = Inbox::new(alloc)?;
-    let mut server = Server::new(alloc, desk, rules)?;
+    let mut server = Server::new(alloc, desk, recent, rules)?;
     let replies = ReplyBuffer::new(alloc)?;
     let mut replying = Replying {
         batch: ReplyBatch {

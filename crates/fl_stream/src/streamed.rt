@@ -20,8 +20,12 @@ use std::marker::Model;
 /// So many lines at the most find room one after another before their text is written.
 const MOST_LINES: usize = 2048;
 
+/// Before an order is taken while so many bytes wait, they are written. So at most some 64 KB wait, and the lines of one
+/// order.
+const MOST_WAITING: usize = 60 * 1024;
+
 /// Lines that go to a writer as their text, as `print_trace` spells it. The text waits in a room of some 1.4 megabytes,
-/// made once. It is written when that is full, and when the stream is told to flush or to finish. What was written is
+/// made once. It is written before an order if some 64 KB wait, and when the stream is told to flush or to finish. What was written is
 /// noted when all is, and the writer could hand it on.
 ///
 /// Contracts see all lines so far, those that were noted, what the writer holds, the text that waits, the room for more
@@ -199,6 +203,7 @@ impl<W: Write> Streamed<W> {
         ensures noted { self.new.noted ≡ self.old.noted }
         ensures manner { self.new.manner ≡ self.old.manner }
         ensures goes_on { self.new.manner ≡ manner.GoOn → 2048 ≤ self.new.room }
+        ensures room { self.old.room ≤ self.new.room }
         ensures stays { IsTrue self.old.broken → IsTrue self.new.broken }
         ensures silent { IsTrue self.old.broken → Keeps self.old.held self.new.held }
     {
@@ -214,6 +219,7 @@ impl<W: Write> Streamed<W> {
         ensures noted { self.new.noted ≡ self.old.noted }
         ensures manner { self.new.manner ≡ self.old.manner }
         ensures broken { self.new.broken ≡ self.old.broken }
+        ensures room { self.new.room ≡ self.old.room }
         ensures all { IsTrue result → self.new.unsent ≡ [] }
         ensures silent { IsTrue self.old.broken → Keeps self.old.held self.new.held }
     {
@@ -254,6 +260,7 @@ impl<W: Write> Streamed<W> {
         ensures manner { self.new.manner ≡ self.old.manner }
         ensures broken { IsTrue self.new.broken }
         ensures none { self.new.unsent ≡ [] }
+        ensures room { self.new.room ≡ self.old.room }
         ensures held { self.new.held ≡ self.old.held }
     {
         self.broken = true;
@@ -268,6 +275,7 @@ impl<W: Write> Streamed<W> {
         ensures broken { self.new.broken ≡ self.old.broken }
         ensures held { self.new.held ≡ self.old.held }
         ensures all { self.old.unsent ≡ [] → 2048 ≤ self.new.room }
+        ensures room { self.old.room ≤ self.new.room }
     {
         self.room = (self.unsent.capacity() - self.unsent.len()) / LINE_ROOM;
     }
@@ -294,7 +302,7 @@ impl<W: Write> Journal for Streamed<W> {
         if self.room < count {
             self.count_room();
         }
-        if self.room < count {
+        if self.room < count || self.unsent.len() >= MOST_WAITING {
             self.write_waiting();
         }
         if self.room < count {

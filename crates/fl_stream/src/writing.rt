@@ -50,11 +50,15 @@ fn write_some<W: Write>(writer: &mut W, bytes: &[u8]) -> (usize, bool)
     }
 }
 
+// Nothing is moved where a write took nothing: a megabyte may wait.
 fn remove_front(bytes: &mut Vec<u8>, n: usize)
     requires { n ≤ vec_len bytes.old }
     ensures items { bytes.new.items ≡ drop n bytes.old.items }
     ensures capacity { vec_capacity bytes.new ≡ vec_capacity bytes.old }
 {
+    if n == 0 {
+        return;
+    }
     let len = bytes.len();
     bytes.as_mut_slice().copy_within(n..len, 0);
     bytes.truncate(len - n);

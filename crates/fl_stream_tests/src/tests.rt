@@ -6,6 +6,7 @@ mod behind;
 mod ending;
 mod failing;
 mod printing;
+mod recent;
 mod refused;
 mod whole;
 

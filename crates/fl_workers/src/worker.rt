@@ -74,7 +74,7 @@ pub struct Worked<S, N: WriterName> {
 }
 
 /// Takes rows of orders until the intake is closed and empty, and handles each as `handle_all` does. Seat and end come
-/// back. Before it waits for an order it sends what is collected, and before it sleeps it tells the counter.
+/// back. Before it waits for an order it sends what is collected, and tells the counter.
 pub fn worker_loop<R: Wait, C: Counter, G: Gate, W: Write, N: WriterName>(
     rt: &R,
     counter: &C,
@@ -281,8 +281,7 @@ fn looked<C: Counter>(counter: &C, seat: &mut C::Seat, order: &Order) -> Option<
 }
 
 // Takes the next orders into the row, in the place of those before, and says whether one came. If none is there, what
-// is collected is sent first, and a worker spins for a while before it sleeps. If none came then either, the counter is
-// told before it sleeps.
+// is collected is sent first, and the counter is told. Then a worker spins for a while before it sleeps.
 fn next_row<R: Wait, C: Counter, W: Write, N: WriterName>(
     rt: &R,
     counter: &C,
@@ -304,12 +303,12 @@ fn next_row<R: Wait, C: Counter, W: Write, N: WriterName>(
         return true;
     }
     flush(rt, sender);
+    counter.pause(rt);
     intake.spin();
     intake.take_many(rt, end, row);
     if !row.is_empty() {
         return true;
     }
-    counter.pause(rt);
     intake.take(rt, end, row);
     !row.is_empty()
 }

@@ -19,14 +19,17 @@ ghost use Rattle.lockd_cli.specs.Numbers.{HasWorkers};
 ghost use Rattle.lockd_serve.specs.Ending.{Ends};
 
 use descriptors::hold_closed_streams;
-use lockd_cli::{Asked, Trace, UsageError, WhenFull, print_version, read_words};
+use lockd_cli::{Asked, Trace, UsageError, WhenFull, WhenStuck, print_version, read_words};
 use lockd_commands::{
     CheckOptions, CommandFault, LocksOptions, Status, bytes_on, check_on, drive_on, locks_on,
     script_on,
 };
-use lockd_serve::{ServeOptions, TraceTo, WhenWriterFails, is_unused, serve_on, trace_at};
+use lockd_serve::{
+    ServeOptions, Telling, TraceTo, WhenUnwritten, WhenWriterFails, end_without_file, is_at,
+    is_unused, resume_on, serve_on, trace_at, trace_behind,
+};
 use std::fs::{File, Files};
-use std::io::Write;
+use std::io::{Stderr, Write};
 use std::net::Net;
 use std::path::Path;
 use std::process::ExitCode;
@@ -35,6 +38,9 @@ use std::thread::Threads;
 use std::{env, fs, io};
 
 mod descriptors;
+
+// What writes a trace's file.
+type Written<'a> = Telling<'a, File, Stderr>;
 
 fn main(rt: HostRuntime) -> ExitCode {
     match asked(&rt) {
@@ -61,7 +67,10 @@ fn run<T: Threads + Wait + Net + Files + Sync>(
 ) -> Status
     requires workers { HasWorkers asked.now }
 {
-    if matches!(asked, Asked::Serve { .. } | Asked::Drive(_)) {
+    if matches!(
+        asked,
+        Asked::Serve { .. } | Asked::Resume { .. } | Asked::Drive(_)
+    ) {
         hold_closed_streams(rt);
     }
     let alloc = rt.alloc();
@@ -109,7 +118,7 @@ fn run<T: Threads + Wait + Net + Files + Sync>(
                 when_full: when_full(trace),
             };
             let path = Path::new(socket.as_str());
-            let (status, _trace) = serve_on(
+            let (status, written) = serve_on(
                 threads,
                 alloc,
                 path,
@@ -118,7 +127,29 @@ fn run<T: Threads + Wait + Net + Files + Sync>(
                 &mut faults,
             );
             remove_unused(rt, trace, status);
-            status
+            end_traced(rt, trace, written, status, &mut faults)
+        }
+        Asked::Resume {
+            socket,
+            file,
+            when_stuck,
+            rules,
+        } => {
+            let trace = match trace_behind(rt, Path::new(file.as_str()), &mut faults) {
+                Ok(trace) => trace,
+                Err(status) => return status,
+            };
+            resume_on(
+                rt,
+                alloc,
+                Path::new(socket.as_str()),
+                *rules,
+                trace,
+                file.as_str(),
+                when_unwritten(*when_stuck),
+                &mut faults,
+                rt.stderr(),
+            )
         }
         Asked::Drive(socket) => {
             let path = Path::new(socket.as_str());
@@ -128,11 +159,11 @@ fn run<T: Threads + Wait + Net + Files + Sync>(
 }
 
 // Where the trace of `lockd serve` goes. Its file is made before the server listens.
-fn opened<F: Write>(
+fn opened<'a, F: Write>(
     rt: &HostRuntime,
-    trace: &Trace,
+    trace: &'a Trace,
     faults: &mut F,
-) -> Result<TraceTo<File>, Status>
+) -> Result<TraceTo<Written<'a>>, Status>
     ensures trace { IfOk result (GoesWhere trace.now) }
     ensures error { IfErr result (λ status. AsksFile trace.now × Ends (Some CommandFault.Trace) (record {
       status = status;
@@ -146,8 +177,27 @@ fn opened<F: Write>(
         Trace::Nowhere => Ok(TraceTo::Nowhere),
         Trace::File(file, _) => {
             let made = trace_at(rt, Path::new(file.as_str()), faults)?;
-            Ok(TraceTo::Writer(made))
+            // So that no other server goes on in it.
+            let _ = made.try_lock();
+            Ok(TraceTo::Writer(Telling::new(made, file.as_str(), rt.stderr())))
         }
+    }
+}
+
+// Ends a server with this status. If its trace's file was removed or replaced, that is told.
+fn end_traced<F: Write>(
+    rt: &HostRuntime,
+    trace: &Trace,
+    written: Option<Written<'_>>,
+    status: Status,
+    faults: &mut F,
+) -> Status {
+    match (trace, &written) {
+        (Trace::File(file, _), Some(written))
+            if !is_at(rt, Path::new(file.as_str()), written.file()) => {
+            end_without_file(faults, status)
+        }
+        _ => status,
     }
 }
 
@@ -168,6 +218,16 @@ fn when_full(trace: &Trace) -> WhenWriterFails
     match trace {
         Trace::File(_, WhenFull::Refuse) => WhenWriterFails::Refuse,
         Trace::File(_, WhenFull::GoOn) | Trace::Printed | Trace::Nowhere => WhenWriterFails::GoOn,
+    }
+}
+
+// What a server does that goes on behind a trace, while the trace's file can't be written.
+fn when_unwritten(said: WhenStuck) -> WhenUnwritten
+    ensures { result ≡ WhenUnwritten.End ↔ said ≡ WhenStuck.End }
+{
+    match said {
+        WhenStuck::Wait => WhenUnwritten::Wait,
+        WhenStuck::End => WhenUnwritten::End,
     }
 }
 

@@ -1,1 +1,2 @@
 mod AskedLemmas
+mod RefusedLemmas

@@ -16,6 +16,8 @@ use Rattle.lockd_cli.specs.declared.options.Trace.{Trace}
 use Rattle.lockd_cli.specs.declared.options.Trace.TheVariants as trace
 use Rattle.lockd_cli.specs.declared.options.WhenFull.{WhenFull}
 use Rattle.lockd_cli.specs.declared.options.WhenFull.TheVariants as full
+use Rattle.lockd_cli.specs.declared.options.WhenStuck.{WhenStuck}
+use Rattle.lockd_cli.specs.declared.options.WhenStuck.TheVariants as stuck
 
 -- the text is digits that write this number; a plus may stand first
 abbrev pub Spells : List ℕ → ℕ → Type 0
@@ -50,18 +52,54 @@ SayRules found rules =
     × IsNumberOf (one_text found (codes "files")) AllowsFiles standard.files rules.files
     × IsNumberOf (one_text found (codes "open")) AllowsOpen standard.open_files rules.open_files
 
--- orders are refused if that is said, and else they go on
-abbrev pub SaysWhenFull : Found → WhenFull → Type 0
-SaysWhenFull found full.Refuse = first_value found (codes "trace-full") ≡ Some (codes "refuse")
-SaysWhenFull found full.GoOn = first_value found (codes "trace-full") ≢ Some (codes "refuse")
+-- the word that is said of a file that can't be written, and the standard one if none is
+abbrev pub full_said : Found → Text → Text
+full_said found standard = unwrap_or (first_value found (codes "trace-full")) standard
 
--- where these options send the trace: nowhere at the word none, and else to the file of that name
+-- the word isn't one for a file of `--trace`
+abbrev pub IsNotForTrace : Found → Type 0
+IsNotForTrace found =
+    (full_said found (codes "go-on") ≢ codes "go-on") × (full_said found (codes "go-on") ≢ codes "refuse")
+
+-- the word isn't one for a file of `--resume`
+abbrev pub IsNotForResume : Found → Type 0
+IsNotForResume found = (full_said found (codes "wait") ≢ codes "wait") × (full_said found (codes "wait") ≢ codes "end")
+
+-- orders go on if that or nothing is said, and are refused if that is
+abbrev pub SaysWhenFull : Found → WhenFull → Type 0
+SaysWhenFull found full.GoOn = full_said found (codes "go-on") ≡ codes "go-on"
+SaysWhenFull found full.Refuse = full_said found (codes "go-on") ≡ codes "refuse"
+
+-- the session waits if that or nothing is said, and ends if that is
+abbrev pub SaysWhenStuck : Found → WhenStuck → Type 0
+SaysWhenStuck found stuck.Wait = full_said found (codes "wait") ≡ codes "wait"
+SaysWhenStuck found stuck.End = full_said found (codes "wait") ≡ codes "end"
+
+-- nothing is said of a file that can't be written
+abbrev pub SaysNoFull : Found → Type 0
+SaysNoFull found = first_value found (codes "trace-full") ≡ None
+
+-- Where these options send the trace: nowhere at the word none, and else to the file of that name. Only of a file does
+-- `--trace-full` say something.
 abbrev pub SaysTrace : Found → Trace → Type 0
-SaysTrace found trace.Printed = first_value found (codes "trace") ≡ None
-SaysTrace found trace.Nowhere = first_value found (codes "trace") ≡ Some (codes "none")
+SaysTrace found trace.Printed = (first_value found (codes "trace") ≡ None) × SaysNoFull found
+SaysTrace found trace.Nowhere = (first_value found (codes "trace") ≡ Some (codes "none")) × SaysNoFull found
 SaysTrace found (trace.File path full) =
     (first_value found (codes "trace") ≡ Some (string_bytes path)) × (string_bytes path ≢ codes "none")
     × SaysWhenFull found full
+
+-- a word is said that isn't one for a file of `--trace`, or any if there is no such file
+abbrev pub MisfitsTrace : Found → Type 0
+MisfitsTrace found =
+    IsNotForTrace found
+    ⊎ (((first_value found (codes "trace") ≡ None) ⊎ (first_value found (codes "trace") ≡ Some (codes "none")))
+    × ¬ SaysNoFull found)
+
+-- a word is said that isn't one for the trace's file: that of `--resume`, or else that of `--trace`
+abbrev pub Misfits : Found → Type 0
+Misfits found =
+    ((first_value found (codes "resume") ≢ None) × IsNotForResume found)
+    ⊎ ((first_value found (codes "resume") ≡ None) × MisfitsTrace found)
 
 -- the path that is said for the socket
 abbrev pub socket_said : Found → List ℕ
@@ -80,7 +118,10 @@ Ask found (asked.Locks at file json rules) =
 Ask found (asked.Serve socket workers trace rules) =
     (string_bytes socket ≡ socket_said found)
     × IsNumberOf (one_text found (codes "workers")) AllowsWorkers 4 workers
-    × SaysTrace found trace × SayRules found rules
+    × SaysTrace found trace × SayRules found rules × (first_value found (codes "resume") ≡ None)
+Ask found (asked.Resume socket file stuck rules) =
+    (string_bytes socket ≡ socket_said found) × (first_value found (codes "resume") ≡ Some (string_bytes file))
+    × SaysWhenStuck found stuck × SayRules found rules
 Ask found (asked.Drive socket) = string_bytes socket ≡ socket_said found
 Ask found asked.Version = ⊥
 
@@ -91,6 +132,7 @@ word_of (asked.Bytes rules) = codes "bytes"
 word_of (asked.Check quiet cut rules) = codes "check"
 word_of (asked.Locks at file json rules) = codes "locks"
 word_of (asked.Serve socket workers trace rules) = codes "serve"
+word_of (asked.Resume socket file stuck rules) = codes "serve"
 word_of (asked.Drive socket) = codes "drive"
 word_of asked.Version = codes "--version"
 

@@ -8,8 +8,8 @@ use clap::{Arg, ArgAction, Command, Error};
 use fl_waiting::{MOST_FILES, MOST_OPEN, MOST_PARKED, MOST_RUNS};
 use std::alloc::Global;
 
-// What may be said of a trace that can't be written; the first if nothing is.
-const WHEN_FULL: &[&str] = &["go-on", "refuse"];
+// What may be said of a trace's file that can't be written: two words of a new file, and two of one that goes on.
+const WHEN_FULL: &[&str] = &["go-on", "refuse", "wait", "end"];
 
 /// The whole command line. Options without a command are those of `script`, and none stands before a command.
 pub(crate) fn lockd<'a>(alloc: Global) -> Result<Command<'a>, Error> {
@@ -102,7 +102,8 @@ fn drive<'a>(alloc: Global) -> Result<Command<'a>, Error> {
 // A command with the options that say where its trace goes.
 fn with_trace<'a>(alloc: Global, command: Command<'a>) -> Result<Command<'a>, Error> {
     let command = command.arg(trace(alloc))?;
-    Ok(command.arg(when_full(alloc)?)?)
+    let command = command.arg(resume(alloc)?)?;
+    Ok(command.arg(when_full(alloc))?)
 }
 
 fn trace<'a>(alloc: Global) -> Arg<'a> {
@@ -116,17 +117,27 @@ fn trace<'a>(alloc: Global) -> Arg<'a> {
         .value_parser(ValueParser::NonEmptyString)
 }
 
-fn when_full<'a>(alloc: Global) -> Result<Arg<'a>, Error> {
-    let full = Arg::new(alloc, "trace-full")
-        .long("trace-full")
-        .value_name("go-on|refuse")
+fn resume<'a>(alloc: Global) -> Result<Arg<'a>, Error> {
+    let resume = Arg::new(alloc, "resume")
+        .long("resume")
+        .value_name("FILE")
         .help(
-            "What becomes of orders when the trace's file can't be written: they go on without it, or are refused",
+            "Goes on behind the trace that a server left in this file, which is made if it isn't there; one worker writes each order's lines there before its replies go out",
         )
-        .default_value("go-on")
         .action(ArgAction::Set)
-        .value_parser(WHEN_FULL);
-    Ok(full.requires_arg("trace")?)
+        .value_parser(ValueParser::NonEmptyString);
+    Ok(resume.conflicts_with("trace")?.conflicts_with("workers")?)
+}
+
+fn when_full<'a>(alloc: Global) -> Arg<'a> {
+    Arg::new(alloc, "trace-full")
+        .long("trace-full")
+        .value_name("WORD")
+        .help(
+            "What happens while the trace's file can't be written. With --trace FILE orders go on without it, if not said, or are refused. With --resume FILE clients wait, if not said, or the session ends",
+        )
+        .action(ArgAction::Set)
+        .value_parser(WHEN_FULL)
 }
 
 // A command with the options that say its rules.
@@ -191,7 +202,7 @@ fn file<'a>(alloc: Global) -> Arg<'a> {
     Arg::new(alloc, "file")
         .long("file")
         .value_name("NAME")
-        .help("Lists those of the file of this name alone")
+        .help("Lists those of the file that has this name alone")
         .action(ArgAction::Set)
         .value_parser(ValueParser::NonEmptyString)
 }

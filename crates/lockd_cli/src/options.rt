@@ -1,11 +1,13 @@
 //! What a command line asks for, read by `clap`.
 
-ghost use Rattle.std.specs.Prelude.{◌≡◌, ◌↔◌, ◌≤◌, ◌<◌, ◌^◌, ℕ, List, None, Some, IfOk, codes, option_map};
+ghost use Rattle.std.specs.Prelude.{◌≡◌, ◌↔◌, ◌≤◌, ◌<◌, ◌^◌, ℕ, List, None, Some, IfErr, IfOk, OnOk, codes, option_map};
 ghost use Rattle.std.specs.String.{string_bytes};
 ghost use Rattle.clap.specs.Matches.{found_of, one_text};
 ghost use Rattle.clap.specs.Words.{first_value};
 ghost use Rattle.fl_waiting.specs.Limits.{AllowsRuns, AllowsParked, AllowsFiles, AllowsOpen};
-ghost use Rattle.lockd_cli.specs.Inside.{Ask, AsksFor, SayRules, SaysTrace, SaysWhenFull, Spells, socket_said, word_of};
+ghost use Rattle.lockd_cli.specs.Inside.{Ask, AsksFor, IsNotForResume, IsNotForTrace, Misfits, MisfitsTrace};
+ghost use Rattle.lockd_cli.specs.Inside.{SayRules, SaysNoFull, SaysTrace, SaysWhenFull, SaysWhenStuck, Spells};
+ghost use Rattle.lockd_cli.specs.Inside.{socket_said, word_of};
 ghost use Rattle.lockd_cli.specs.Numbers.{HasWorkers};
 
 use crate::command::lockd;
@@ -60,6 +62,17 @@ pub enum Asked {
         /// The rules by which orders are answered.
         rules: Rules,
     },
+    /// Serves a socket by one worker, which goes on behind the lines of a trace's file and writes its own there.
+    Resume {
+        /// The path of the socket.
+        socket: String,
+        /// The path of the trace's file.
+        file: String,
+        /// What becomes of the session while the file can't be written.
+        when_stuck: WhenStuck,
+        /// The rules by which orders are answered, and the trace was made.
+        rules: Rules,
+    },
     /// Sends messages to the socket at this path and prints its replies.
     Drive(String),
     /// Prints the program's version.
@@ -84,6 +97,15 @@ pub enum WhenFull {
     GoOn,
     /// They are refused until it can be written again.
     Refuse,
+}
+
+/// What becomes of a session while the file that it goes on in can't be written.
+#[derive(Clone, Copy)]
+pub enum WhenStuck {
+    /// Its clients wait until it can be written again.
+    Wait,
+    /// It ends.
+    End,
 }
 
 /// What the words of a command line ask for; the first is the program's name. A word that no command takes, a number
@@ -193,11 +215,45 @@ fn file_of(alloc: Global, options: &ArgMatches<'_>) -> Result<Option<String>, Us
     }
 }
 
-// What the options of `serve` ask for; four workers, if no number of them is there.
+// What the options of `serve` ask for.
 fn serve_of(alloc: Global, options: &ArgMatches<'_>) -> Result<Asked, UsageError>
     ensures workers { IfOk result HasWorkers }
     ensures serve { IfOk result (λ asked. word_of asked ≡ codes "serve") }
     ensures said { IfOk result (Ask (found_of options.now)) }
+    ensures refused { IfErr result (λ error. error ≡ UsageError.TraceFull → Misfits (found_of options.now)) }
+{
+    match options.get_str("resume") {
+        Some(file) => resume_of(alloc, options, file),
+        None => begin_of(alloc, options),
+    }
+}
+
+// What the options of `serve` ask for if they name a file to go on in.
+fn resume_of(alloc: Global, options: &ArgMatches<'_>, file: &str) -> Result<Asked, UsageError>
+    requires { first_value (found_of options.now) (codes "resume") ≡ Some file.now }
+    ensures workers { IfOk result HasWorkers }
+    ensures serve { IfOk result (λ asked. word_of asked ≡ codes "serve") }
+    ensures said { IfOk result (Ask (found_of options.now)) }
+    ensures refused { IfErr result (λ error. error ≡ UsageError.TraceFull → Misfits (found_of options.now)) }
+{
+    let when_stuck = when_stuck_of(options)?;
+    let socket = socket_of(alloc, options)?;
+    let file = String::from_str(alloc, file)?;
+    Ok(Asked::Resume {
+        socket,
+        file,
+        when_stuck,
+        rules: rules_of(options),
+    })
+}
+
+// What the options of `serve` ask for if they name none; four workers, if no number of them is there.
+fn begin_of(alloc: Global, options: &ArgMatches<'_>) -> Result<Asked, UsageError>
+    requires { first_value (found_of options.now) (codes "resume") ≡ None }
+    ensures workers { IfOk result HasWorkers }
+    ensures serve { IfOk result (λ asked. word_of asked ≡ codes "serve") }
+    ensures said { IfOk result (Ask (found_of options.now)) }
+    ensures refused { IfErr result (λ error. error ≡ UsageError.TraceFull → Misfits (found_of options.now)) }
 {
     let workers = workers_of(number_of(options, "workers"));
     let socket = socket_of(alloc, options)?;
@@ -222,7 +278,8 @@ fn workers_of(said: Option<u32>) -> u32
 
 // The socket that a command's options name; it is required.
 fn socket_of(alloc: Global, options: &ArgMatches<'_>) -> Result<String, UsageError>
-    ensures { IfOk result (λ socket. string_bytes socket ≡ socket_said (found_of options.now)) }
+    ensures refused { IfErr result (λ error. error ≡ UsageError.NoMemory) }
+    ensures said { IfOk result (λ socket. string_bytes socket ≡ socket_said (found_of options.now)) }
 {
     let socket = options.get_str("SOCKET").unwrap_or("");
     Ok(String::from_str(alloc, socket)?)
@@ -230,23 +287,51 @@ fn socket_of(alloc: Global, options: &ArgMatches<'_>) -> Result<String, UsageErr
 
 // Where the options send the trace. A file named none is ./none.
 fn trace_of(alloc: Global, options: &ArgMatches<'_>) -> Result<Trace, UsageError>
-    ensures { IfOk result (SaysTrace (found_of options.now)) }
+    ensures said { IfOk result (SaysTrace (found_of options.now)) }
+    ensures refused { IfErr result (λ error. error ≡ UsageError.TraceFull → MisfitsTrace (found_of options.now)) }
 {
     let Some(trace) = options.get_str("trace") else {
-        return Ok(Trace::Printed);
+        return without_file(options, Trace::Printed);
     };
     if trace == "none" {
-        return Ok(Trace::Nowhere);
+        return without_file(options, Trace::Nowhere);
     }
-    Ok(Trace::File(String::from_str(alloc, trace)?, when_full_of(options)))
+    let when_full = when_full_of(options)?;
+    Ok(Trace::File(String::from_str(alloc, trace)?, when_full))
+}
+
+// This trace, if the options don't say what becomes of orders once its file can't be written: it has none.
+fn without_file(options: &ArgMatches<'_>, trace: Trace) -> Result<Trace, UsageError>
+    ensures same { IfOk result (λ it. it ≡ trace) }
+    ensures said { OnOk result (SaysNoFull (found_of options.now)) }
+    ensures refused { IfErr result (λ error. (error ≡ UsageError.TraceFull) × ¬ SaysNoFull (found_of options.now)) }
+{
+    match options.get_str("trace-full") {
+        None => Ok(trace),
+        Some(_) => Err(UsageError::TraceFull),
+    }
 }
 
 // What the options say of orders once the trace's file can't be written.
-fn when_full_of(options: &ArgMatches<'_>) -> WhenFull
-    ensures { SaysWhenFull (found_of options.now) result }
+fn when_full_of(options: &ArgMatches<'_>) -> Result<WhenFull, UsageError>
+    ensures said { IfOk result (SaysWhenFull (found_of options.now)) }
+    ensures refused { IfErr result (λ error. (error ≡ UsageError.TraceFull) × IsNotForTrace (found_of options.now)) }
 {
-    match options.get_str("trace-full") {
-        Some("refuse") => WhenFull::Refuse,
-        _ => WhenFull::GoOn,
+    match options.get_str("trace-full").unwrap_or("go-on") {
+        "go-on" => Ok(WhenFull::GoOn),
+        "refuse" => Ok(WhenFull::Refuse),
+        _ => Err(UsageError::TraceFull),
+    }
+}
+
+// What the options say of a session while the file that it goes on in can't be written.
+fn when_stuck_of(options: &ArgMatches<'_>) -> Result<WhenStuck, UsageError>
+    ensures said { IfOk result (SaysWhenStuck (found_of options.now)) }
+    ensures refused { IfErr result (λ error. (error ≡ UsageError.TraceFull) × IsNotForResume (found_of options.now)) }
+{
+    match options.get_str("trace-full").unwrap_or("wait") {
+        "wait" => Ok(WhenStuck::Wait),
+        "end" => Ok(WhenStuck::End),
+        _ => Err(UsageError::TraceFull),
     }
 }

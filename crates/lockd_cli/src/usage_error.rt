@@ -1,5 +1,7 @@
 //! Why no command is run.
 
+ghost use Rattle.std.specs.Prelude.{◌≡◌};
+
 use clap::error::ErrorKind;
 use std::alloc::AllocError;
 use std::io;
@@ -12,11 +14,17 @@ pub enum UsageError {
     NoMemory,
     #[error("the command line can't be read: {0}\n")]
     Words(io::Error),
+    #[error("error: '--trace-full' takes go-on or refuse with '--trace FILE', and wait or end with '--resume FILE'\n\nFor more information, try '--help'.\n")]
+    TraceFull,
     #[error("{0}")]
     CommandLine(clap::Error),
 }
 
 impl From<AllocError> for UsageError {
+    ghost use Rattle.lockd_cli.specs.declared.usage_error.UsageError.TheVariants.{NoMemory};
+
+    ghost from_gives = { λ _ error. error ≡ NoMemory };
+
     fn from(_e: AllocError) -> UsageError {
         UsageError::NoMemory
     }

@@ -45,6 +45,7 @@ did_not_begin left old text command.Connect read bad = absurd bad
 did_not_begin left old text command.BadReply read bad = absurd bad
 did_not_begin left old text command.Trace read bad = absurd bad
 did_not_begin left old text command.TraceFailed read bad = absurd bad
+did_not_begin left old text (command.Differs n) read bad = absurd bad
 
 is_good : (text : List ℕ) (lines : List Said) → text_says text ≡ Ok lines → IsOk (text_says text)
 is_good text lines said = rw said refl
@@ -132,6 +133,8 @@ did_stop input old new left left_now held held_now text lines command.Connect re
 did_stop input old new left left_now held held_now text lines command.Trace read said stop =
     absurd (stop (λ e. absurd (cc e))).why
 did_stop input old new left left_now held held_now text lines command.TraceFailed read said stop =
+    absurd (stop (λ e. absurd (cc e))).why
+did_stop input old new left left_now held held_now text lines (command.Differs n) read said stop =
     absurd (stop (λ e. absurd (cc e))).why
 
 -- nothing was printed

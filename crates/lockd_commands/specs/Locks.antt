@@ -13,7 +13,7 @@ use Rattle.fl_judge.specs.First.{AreFirstLines, IsSoOfAll}
 use Rattle.fl_judge.specs.Present.{IsPresent}
 use Rattle.fl_lock_text.specs.Json.{json_text}
 use Rattle.fl_lock_text.specs.Table.{table_text}
-use Rattle.fl_locks.specs.LockRows.{rows_of}
+use Rattle.fl_locks.specs.LockRows.{linked_name, rows_of}
 use Rattle.fl_locks.specs.declared.row.LockRow.{LockRow}
 use Rattle.fl_waiting.specs.declared.rules.Rules.{Rules}
 use Rattle.lockd_commands.specs.declared.locks.LocksOptions.{LocksOptions}
@@ -24,10 +24,10 @@ abbrev pub is_called : List ℕ → Option (List ℕ) → Bool
 is_called name None = false
 is_called name (Some own) = bytes_eq own name
 
--- the rows of the file of this name, or all rows if none is said
+-- the rows of the file that has this name, or all rows if none is said
 abbrev pub of_file : Option (Bor (List ℕ)) → List LockRow → List LockRow
 of_file None rows = rows
-of_file (Some name) rows = filter (λ row. is_called name.now row.name) rows
+of_file (Some name) rows = filter (λ row. is_called name.now (linked_name row)) rows
 
 -- rows as a line of JSON, or as a table
 abbrev pub rows_text : Bool → List LockRow → List ℕ

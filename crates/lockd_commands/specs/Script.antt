@@ -11,7 +11,7 @@ use Rattle.lockd_faults.specs.declared.fault.CommandFault.{CommandFault}
 use Rattle.lockd_commands.specs.declared.script.AskLine.{AskLine}
 use Rattle.lockd_faults.specs.declared.fault.CommandFault.TheVariants.{BadLine, NoMemory, NoReader, Listen, Read, Write}
 use Rattle.lockd_faults.specs.declared.fault.CommandFault.TheVariants.{Cut, BadLength, Connect, BadReply, Trace}
-use Rattle.lockd_faults.specs.declared.fault.CommandFault.TheVariants.{TraceFailed}
+use Rattle.lockd_faults.specs.declared.fault.CommandFault.TheVariants.{TraceFailed, Differs}
 
 -- an ask line that can be read back
 abbrev pub IsAskLine : Line → Type 0
@@ -43,6 +43,7 @@ FaultSays script Connect = ⊥
 FaultSays script BadReply = ⊥
 FaultSays script Trace = ⊥
 FaultSays script TraceFailed = ⊥
+FaultSays script (Differs n) = ⊥
 
 -- a script was read, and its trace under these rules was written
 pub record IsAnswered (rules : Rules) (left old new : Option (List ℕ)) : Type 0 where

@@ -1,13 +1,13 @@
 //! `lockd locks`: lists who holds what, and who waits, after the lines of a trace.
 
-ghost use Rattle.std.specs.Prelude.{◌≡◌, ◌≢◌, ◌++◌, ◌∷◌, [], ℕ, codes, string_bytes, IfOk, IfErr};
+ghost use Rattle.std.specs.Prelude.{◌≡◌, ◌≢◌, ◌++◌, ◌∷◌, [], ℕ, codes, option_copied, string_bytes, IfOk, IfErr};
 ghost use Rattle.std.specs.Fmt.{decimal};
 ghost use Rattle.std.specs.List.{filter};
 ghost use Rattle.fl_desk.specs.Verdicts.{DiffersAt, IsBeginning};
 ghost use Rattle.std.specs.Io.KnownBytes.{Keeps};
 ghost use Rattle.fl_judge.specs.First.{IsSoOfAll, IsWithin};
 ghost use Rattle.fl_judge.specs.Audit.{whole_lines};
-ghost use Rattle.fl_locks.specs.LockRows.{rows_of};
+ghost use Rattle.fl_locks.specs.LockRows.{linked_name, rows_of};
 ghost use Rattle.fl_trace.specs.Text.{BreaksAt, LineFits};
 ghost use Rattle.lockd_commands.specs.Faults.{IsOfText};
 ghost use Rattle.lockd_commands.specs.Locks.{is_called, of_file, rows_text, IsListed, IsListedInPart, IsToldDifferent};
@@ -31,7 +31,7 @@ use std::io::{Read, Write};
 pub struct LocksOptions<'a> {
     /// `--at`: how many lines of the trace are heard at most; all, if that isn't said.
     pub at: Option<usize>,
-    /// `--file`: the name of the file whose locks are listed; those of all files, if that isn't said.
+    /// `--file`: only the locks of the file that has this name are listed; those of all files, if that isn't said.
     pub file: Option<&'a [u8]>,
     /// `--json`: whether they are a line of JSON, and not a table.
     pub json: bool,
@@ -119,7 +119,7 @@ fn list_of(alloc: Global, core: &Core, options: LocksOptions<'_>) -> Result<Stri
     Ok(rows_text(alloc, &rows, options.json)?)
 }
 
-// The rows of the file of this name, or all if none is said.
+// The rows of the file that has this name, or all if none is said.
 fn file_rows(alloc: Global, core: &Core, file: Option<&[u8]>) -> Result<Vec<LockRow>, NoMemory>
     ensures { IfOk result (λ rows. rows.items ≡ of_file file.entry (rows_of core.now)) }
 {
@@ -144,16 +144,16 @@ fn rows_text(alloc: Global, rows: &[LockRow], json: bool) -> Result<String, Allo
     }
 }
 
-// Leaves the rows of the file of this name.
+// Leaves the rows of the file that has this name.
 fn keep_file(rows: &mut Vec<LockRow>, name: &[u8])
-    ensures { rows.new.items ≡ filter (λ row. is_called name.now row.name) rows.old.items }
+    ensures { rows.new.items ≡ filter (λ row. is_called name.now (linked_name row)) rows.old.items }
 {
-    rows.retain(|row| is_called(name, &row.name));
+    rows.retain(|row| is_called(name, row.linked_name()));
 }
 
 // Whether a file that may have a name has this one.
-fn is_called(name: &[u8], own: &Option<Name>) -> bool
-    ensures { result ≡ is_called name.now own.now }
+fn is_called(name: &[u8], own: Option<&Name>) -> bool
+    ensures { result ≡ is_called name.now (option_copied own.entry) }
 {
     match own {
         None => false,

@@ -5,7 +5,7 @@ use Rattle.std.specs.Io.KnownBytes.{Appends}
 use Rattle.lockd_faults.specs.declared.fault.CommandFault.{CommandFault}
 use Rattle.lockd_faults.specs.declared.fault.CommandFault.TheVariants.{BadLine, NoMemory, NoReader, Listen, Read, Write}
 use Rattle.lockd_faults.specs.declared.fault.CommandFault.TheVariants.{Cut, BadLength, Connect, BadReply, Trace}
-use Rattle.lockd_faults.specs.declared.fault.CommandFault.TheVariants.{TraceFailed}
+use Rattle.lockd_faults.specs.declared.fault.CommandFault.TheVariants.{TraceFailed, Differs}
 
 -- the text of a fault
 abbrev pub fault_text : CommandFault → List ℕ
@@ -21,6 +21,7 @@ fault_text Connect = codes "cannot connect"
 fault_text BadReply = codes "bad reply"
 fault_text Trace = codes "cannot trace"
 fault_text TraceFailed = codes "trace failed"
+fault_text (Differs n) = codes "differs " ++ decimal n
 
 -- these bytes were written, or after a failed write a prefix of them
 pub record IsBegun (bytes : List ℕ) (old new : Option (List ℕ)) : Type 0 where

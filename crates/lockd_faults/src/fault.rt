@@ -38,6 +38,8 @@ pub enum CommandFault {
     Trace,
     /// The trace's file lacks lines: it can't be written.
     TraceFailed,
+    /// The trace to go on from begins no legal one: this line, from 1, is the first that breaks the rules.
+    Differs(usize),
 }
 
 impl Display for CommandFault {
@@ -60,6 +62,7 @@ impl Display for CommandFault {
             CommandFault::BadReply => f.write_str("bad reply"),
             CommandFault::Trace => f.write_str("cannot trace"),
             CommandFault::TraceFailed => f.write_str("trace failed"),
+            CommandFault::Differs(n) => write!(f, "differs {n}"),
         }
     }
 }

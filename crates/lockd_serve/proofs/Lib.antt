@@ -1,1 +1,2 @@
+pub mod BehindLemmas
 pub mod RecordLemmas

@@ -41,10 +41,11 @@ abbrev pub Ends : Option CommandFault → Ending → Type 0
 Ends None it = (it.status ≡ Good) × Keeps it.told it.told_now
 Ends (Some fault) it = (it.status ≡ Faulted fault) × IsTold fault it.told it.told_now
 
--- It is told that the trace failed, after the session's fault, if it had one. The first that is told decides the
+-- It is told that the trace failed, after the session's fault, if it had another. The first that is told decides the
 -- status.
 abbrev pub EndsUntraced : Option CommandFault → Ending → Type 0
 EndsUntraced None it = Ends (Some TraceFailed) it
+EndsUntraced (Some TraceFailed) it = Ends (Some TraceFailed) it
 EndsUntraced (Some fault) it = (it.status ≡ Faulted fault) × AreBothTold fault TraceFailed it.told it.told_now
 
 -- The text of the session's history was printed, all of it, and its fault is told. If the output can't be written, a

@@ -1,3 +1,4 @@
+pub mod Behind
 pub mod Ending
 pub mod Inside
 pub mod Served

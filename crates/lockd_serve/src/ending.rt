@@ -1,12 +1,13 @@
 //! How `lockd serve` ends once its session is over: where its trace goes, and which faults are told.
 
-ghost use Rattle.std.specs.Prelude.{◌≡◌, ◌≢◌, true, false, None, Some, MatchOption};
+ghost use Rattle.std.specs.Prelude.{◌≡◌, ◌≢◌, true, false, None, Some, IsTrue, MatchOption};
 ghost use Rattle.std.specs.Io.KnownBytes.{Appends, Keeps};
 ghost use Rattle.fl_stream.specs.Streams.{Wrote};
 ghost use Rattle.fl_trace.specs.Text.{text_of};
 ghost use Rattle.fl_session.specs.Recorded.{done_of};
 ghost use Rattle.fl_transport.specs.declared.fault.Fault.{Fault as SessionFault};
 ghost use Rattle.lockd_faults.specs.declared.fault.CommandFault.{CommandFault};
+ghost use Rattle.lockd_serve.specs.Behind.{EndsBehind};
 ghost use Rattle.lockd_serve.specs.Ending.{Ends, EndsUntraced, Prints, Traces, has_history, told_of};
 
 use fl_serve::{Done, Fault, Recorded};
@@ -84,6 +85,21 @@ pub(crate) fn end_streamed<T: Write + Drop, F: Write>(
     (status, Some(writer))
 }
 
+/// Ends a session behind a trace whose file is said to be whole or not.
+pub(crate) fn end_resumed<F: Write>(faults: &mut F, fault: Option<Fault>, whole: bool) -> Status
+    ensures ends { EndsBehind fault whole (record {
+      status = result;
+      told = F.contents faults.old;
+      told_now = F.contents faults.new;
+    }) }
+    ensures good { result ≡ Status.Good → (fault ≡ None) × IsTrue whole }
+{
+    if !whole {
+        return end_untraced(faults, fault);
+    }
+    end_session(faults, fault)
+}
+
 // Whether a session with this fault has a history.
 fn has_history(fault: Option<Fault>) -> bool
     ensures { result ≡ has_history fault }
@@ -108,7 +124,7 @@ pub(crate) fn end_session<F: Write>(faults: &mut F, fault: Option<Fault>) -> Sta
     }
 }
 
-// Ends a session whose trace failed: tells its fault, if it has one, and then that.
+// Ends a session whose trace failed: tells its fault, if it has another, and then that.
 fn end_untraced<F: Write>(faults: &mut F, fault: Option<Fault>) -> Status
     ensures ends { EndsUntraced (told_of fault) (record {
       status = result;
@@ -119,10 +135,12 @@ fn end_untraced<F: Write>(faults: &mut F, fault: Option<Fault>) -> Status
     ensures memory { result ≡ Status.Faulted CommandFault.NoMemory → fault ≡ Some SessionFault.NoMemory }
     ensures heard { result ≢ Status.Faulted CommandFault.Listen }
 {
-    let status = match fault {
-        None => Status::Faulted(CommandFault::TraceFailed),
-        Some(fault) => end_session(faults, Some(fault)),
-    };
-    tell(faults, CommandFault::TraceFailed);
-    status
+    match fault {
+        None | Some(Fault::Unstored) => end(faults, Err(CommandFault::TraceFailed)),
+        Some(_) => {
+            let status = end_session(faults, fault);
+            tell(faults, CommandFault::TraceFailed);
+            status
+        }
+    }
 }

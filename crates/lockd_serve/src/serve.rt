@@ -1,11 +1,9 @@
 //! `lockd serve`: one session over a socket, with workers.
 
-ghost use Rattle.std.specs.Prelude.{◌≡◌, ◌≤◌, ◌<◌, [], IfErr, OnOk};
-ghost use Rattle.std.specs.Io.KnownBytes.{Keeps};
+ghost use Rattle.std.specs.Prelude.{◌≡◌, ◌≤◌, ◌<◌, []};
 ghost use Rattle.std.specs.Path.{path_bytes};
 ghost use Rattle.fl_stream.specs.Streams.{IsBlank};
 ghost use Rattle.fl_transport.specs.Streams.{Streams};
-ghost use Rattle.lockd_faults.specs.Faults.{IsTold};
 ghost use Rattle.lockd_faults.specs.declared.fault.CommandFault.{CommandFault};
 ghost use Rattle.lockd_serve.specs.Ending.{IsOver, WentWell};
 ghost use Rattle.lockd_serve.specs.declared.options.TraceTo.{TraceTo};
@@ -13,11 +11,11 @@ ghost use Rattle.lockd_serve.specs.Unserved.{LeavesNothing, ServesNobody};
 
 use crate::options::ServeOptions;
 use crate::serving::serve_stream;
-use crate::socket::connection;
+use crate::socket::{OldSocket, connection};
 use crate::spinning::{Patient, Spinning};
 use lockd_faults::{CommandFault, Status, end};
 use std::alloc::Global;
-use std::fs::{Files, OpenOptions};
+use std::fs::Files;
 use std::io::Write;
 use std::net::Net;
 use std::path::Path;
@@ -64,7 +62,7 @@ pub fn serve_on<R: Threads + Wait + Net + Files + Sync, T: Write + Send + Drop, 
     ensures untraced { ServesNobody result.0 → result.1 ≡ None }
     ensures unnamed { path_bytes path.entry ≡ [] → result.0 ≡ Status.Faulted CommandFault.Listen }
 {
-    let stream = match connection(rt, path) {
+    let stream = match connection(rt, alloc, path, OldSocket::Keep) {
         Ok(stream) => stream,
         Err(fault) => return (end(faults, Err(fault)), None),
     };
@@ -72,24 +70,4 @@ pub fn serve_on<R: Threads + Wait + Net + Files + Sync, T: Write + Send + Drop, 
     let mut w = Patient::new(&stream, &stream);
     let socket = Some(&stream);
     serve_stream(rt, alloc, &mut r, &mut w, options, socket, output, faults)
-}
-
-/// A new file for a trace at a path. If a file is there already, or none can be made, `faults` gets `cannot trace`.
-pub fn trace_at<R: Files, F: Write>(
-    rt: &R,
-    path: Path<'_>,
-    faults: &mut F,
-) -> Result<R::File, Status>
-    ensures told { IfErr result (λ status. (status ≡ Status.Faulted CommandFault.Trace)
-        × IsTold CommandFault.Trace (F.contents faults.old) (F.contents faults.new)) }
-    ensures untold { OnOk result (Keeps (F.contents faults.old) (F.contents faults.new)) }
-{
-    let made = OpenOptions::new()
-        .write(true)
-        .create_new(true)
-        .open(rt, path);
-    match made {
-        Ok(file) => Ok(file),
-        Err(_) => Err(end(faults, Err(CommandFault::Trace))),
-    }
 }

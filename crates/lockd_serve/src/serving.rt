@@ -99,13 +99,13 @@ pub fn serve_stream<
                 return (end(faults, Err(CommandFault::NoMemory)), None);
             };
             let recorded = record(rt, alloc, r, w, staff, Lines::new(alloc));
-            hang_up(socket);
+            hang_up_if(socket);
             let done = recorded.into_done(alloc);
             (end_printed(&mut room, &done, output, faults), None)
         }
         TraceTo::Nowhere => {
             let recorded = record(rt, alloc, r, w, staff, NoJournal::new());
-            hang_up(socket);
+            hang_up_if(socket);
             (end_session(faults, recorded.fault), None)
         }
         TraceTo::Writer(writer) => {
@@ -113,17 +113,23 @@ pub fn serve_stream<
                 return (end(faults, Err(CommandFault::NoMemory)), None);
             };
             let recorded = record(rt, alloc, r, w, staff, journal);
-            hang_up(socket);
+            hang_up_if(socket);
             end_streamed(faults, recorded)
         }
     }
 }
 
-// Ends a connection: its client hears that before the trace is printed, which may take until somebody reads it.
-fn hang_up(socket: Option<&UnixStream>) {
+// Ends a connection, if there is one: its client hears that before the trace is printed, which may take until somebody
+// reads it.
+fn hang_up_if(socket: Option<&UnixStream>) {
     if let Some(socket) = socket {
-        let _ = socket.shutdown(Shutdown::Both);
+        hang_up(socket);
     }
+}
+
+/// Ends a connection.
+pub(crate) fn hang_up(socket: &UnixStream) {
+    let _ = socket.shutdown(Shutdown::Both);
 }
 
 // Serves a session by so many workers, whose lines go to this journal.

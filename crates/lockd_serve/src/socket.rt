@@ -5,22 +5,41 @@ ghost use Rattle.std.specs.Path.{path_bytes};
 ghost use Rattle.lockd_faults.specs.declared.fault.CommandFault.{CommandFault};
 ghost use Rattle.lockd_serve.specs.Inside.{IsSameSocket};
 
-use lockd_faults::CommandFault;
+use lockd_faults::{CommandFault, read_all, split_line};
+use std::alloc::Global;
 use std::fs;
-use std::fs::Files;
+use std::fs::{Files, OpenOptions};
+use std::io::ErrorKind;
 use std::net::Net;
 use std::os::unix::fs::{FileTypeExt, MetadataExt};
 use std::os::unix::net::{UnixListener, UnixStream};
 use std::path::Path;
 
+/// What is done with a socket's file that stands at the path of a server.
+#[derive(Clone, Copy, PartialEq, Eq)]
+pub(crate) enum OldSocket {
+    /// It stays, and the server doesn't listen.
+    Keep,
+    /// It is replaced, if nobody listens at it any more.
+    Replace,
+}
+
 /// The first connection at a path, whose file is then taken away. A socket with no path has no file, and nobody finds
 /// it.
-pub(crate) fn connection<R: Net + Files>(rt: &R, path: Path<'_>) -> Result<UnixStream, CommandFault>
+pub(crate) fn connection<R: Net + Files>(
+    rt: &R,
+    alloc: Global,
+    path: Path<'_>,
+    old: OldSocket,
+) -> Result<UnixStream, CommandFault>
     ensures error { IfErr result (λ fault. fault ≡ CommandFault.Listen) }
     ensures unnamed { path_bytes path.entry ≡ [] → result ≡ Err CommandFault.Listen }
 {
     if path.as_str().is_empty() {
         return Err(CommandFault::Listen);
+    }
+    if old == OldSocket::Replace {
+        remove_stale(rt, alloc, path);
     }
     let listener = UnixListener::bind(rt, path).map_err(|_| CommandFault::Listen)?;
     let made = file_at(rt, path);
@@ -36,6 +55,49 @@ struct FoundFile {
     is_socket: bool,
     device: u64,
     inode: u64,
+}
+
+// Takes a socket's file at a path away, if nobody listens at it: Linux lists no socket of this path, and a connection is
+// refused. Linux lists paths as they were given, so of one that isn't absolute the connection alone decides. Whoever
+// listens by another spelling of the path, or in another network, gets this connection.
+fn remove_stale<R: Net + Files>(rt: &R, alloc: Global, path: Path<'_>) {
+    if path.as_str().as_bytes().first() == Some(&b'/') && is_listed(rt, alloc, path.as_str()) {
+        return;
+    }
+    let found = file_at(rt, path);
+    if let Err(error) = UnixStream::connect(rt, path) {
+        if error.kind() == ErrorKind::ConnectionRefused {
+            remove_socket(rt, path, found);
+        }
+    }
+}
+
+// Whether Linux lists a socket of this path, or doesn't tell.
+fn is_listed<R: Files>(rt: &R, alloc: Global, path: &str) -> bool {
+    let Ok(mut list) = OpenOptions::new().read(true).open(rt, "/proc/net/unix") else {
+        return true;
+    };
+    match read_all(alloc, &mut list) {
+        Ok(text) => has_line_of(&text, path.as_bytes()),
+        Err(_) => true,
+    }
+}
+
+// Whether a line of this text ends with a space and these bytes.
+fn has_line_of(text: &[u8], end: &[u8]) -> bool {
+    let mut rest = text;
+    for _ in 0..text.len() {
+        let Some((line, behind)) = split_line(rest) else {
+            return false;
+        };
+        if let Some(front) = line.strip_suffix(end) {
+            if front.last() == Some(&b' ') {
+                return true;
+            }
+        }
+        rest = behind;
+    }
+    false
 }
 
 // What stands at a path, if the file system tells.

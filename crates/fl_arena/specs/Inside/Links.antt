@@ -70,6 +70,16 @@ module _ {T : Type 0} where
   with_links c previous next (Free link) = Free link
   with_links c previous next (Taken m) = Taken (record m { chain = c; previous = previous; next = next })
 
+  -- the item of a node that has one
+  abbrev pub item_in : Node T → Option T
+  item_in (Free next) = None
+  item_in (Taken m) = Some m.item
+
+  -- the node with another item, if it has one
+  abbrev pub node_with : Node T → T → Node T
+  node_with (Free next) item = Free next
+  node_with (Taken m) item = Taken (record m { item = item })
+
   -- the slot holds an item
   abbrev pub IsTaken : List (Node T) → ℕ → Type 0
   IsTaken nodes slot = (m : Member T) × (slice_get nodes slot ≡ Some (Taken m))

@@ -1,7 +1,7 @@
 //! A user that keeps a chain in order, and the edges of an arena's room.
 ghost use Rattle.std.specs.Prelude.{◌≡◌, ◌≢◌, ◌↔◌, ◌<◌, ℕ, length, IsErr, OnOk, OnErr};
 ghost use Rattle.fl_arena.specs.Chains.{entries, items, free_count, HasSizeOf};
-ghost use Rattle.fl_arena.specs.Cursors.{cursor_at};
+ghost use Rattle.fl_arena.specs.Cursors.{cursor_at, IsInPlace};
 ghost use Rattle.fl_arena_tests.specs.Sorted.{insert_sorted};
 
 use super::same;
@@ -41,6 +41,17 @@ fn pop_front<T: Copy>(arena: &mut Arena<T>, chain: usize) -> Option<T>
         return None;
     }
     Some(arena.remove(&mut cursor))
+}
+
+// Adds to the second part of the item at the cursor, if there is one.
+fn add_to(arena: &mut Arena<(u32, u32)>, cursor: &Cursor, more: u32)
+    requires { IsInPlace arena.old cursor.now }
+    ensures { HasSizeOf arena.old arena.new }
+{
+    if cursor.slot.is_some() {
+        let item = arena.item_mut(cursor);
+        item.1 = item.1.saturating_add(more);
+    }
 }
 
 // There was room.
@@ -103,6 +114,17 @@ fn keeps_a_chain_in_order(rt: HostRuntime) {
     is_full(&rt, &add_sorted(&mut arena, 1, (1, 4)));
     holds(&rt, &arena, 1, &[(2, 1), (5, 3), (5, 0), (9, 2)]);
     same(&rt, &pop_front(&mut arena, 1), &Some((2, 1)));
+}
+
+#[test]
+fn changes_an_item_in_place(rt: HostRuntime) {
+    let mut arena = Arena::new(rt.alloc(), 2, 4).expect(&rt, "memory");
+    is_done(&rt, &add_sorted(&mut arena, 1, (5, 0)));
+    is_done(&rt, &add_sorted(&mut arena, 1, (2, 1)));
+    is_done(&rt, &add_sorted(&mut arena, 1, (9, 2)));
+    let cursor = arena.first_where(1, |item| item.0 == 5);
+    add_to(&mut arena, &cursor, 11);
+    holds(&rt, &arena, 1, &[(2, 1), (5, 11), (9, 2)]);
 }
 
 #[test]

@@ -25,15 +25,19 @@ hash_of name = fold hashed 2166136261 name
 abbrev pub bare : FinMap nat_cmp Slot → FinMap nat_cmp Node
 bare slots = from_sorted (map (λ e. (e.0, e.1.node)) (entries slots))
 
--- the name of a node that may be there
+-- the name under which a node is linked, if it is
+abbrev pub link_name : Node → Option (List ℕ)
+link_name node = if node.linked then Some node.name else None
+
+-- the name under which a node that may be there is linked
 abbrev pub name_in : Option Slot → Option (List ℕ)
 name_in None = None
-name_in (Some slot) = slot.node.name
+name_in (Some slot) = link_name slot.node
 
--- a node that may be there has this name
+-- a node that may be there is linked under this name
 abbrev pub has_name : Option Node → List ℕ → Bool
 has_name None name = false
-has_name (Some node) name = is_named node.name name
+has_name (Some node) name = is_named node name
 
 -- the count of a node that may be there
 abbrev pub open_in : Option Slot → ℕ

@@ -1,7 +1,7 @@
 -- Values, each under a number that is given once: numbers only grow.
-use Rattle.std.specs.Prelude.{◌≡◌, ℕ, ◌+◌, ◌-◌, ◌<◌, ◌≤◌, ◌^◌, Bool, ◌||◌, ◌==◌, nat_le, refl, length}
+use Rattle.std.specs.Prelude.{◌≡◌, ℕ, ◌+◌, ◌-◌, ◌<◌, ◌^◌, Bool, ◌||◌, ◌==◌, nat_le, refl, length}
 use Rattle.std.specs.Coded.{Coded, code_by, coded×, coded_ℕ}
-use Rattle.std.specs.FinMap.{FinMap, code, len}
+use Rattle.std.specs.FinMap.{FinMap, code, len, insert}
 use Rattle.std.specs.Ordering.{nat_cmp}
 use Rattle.std.specs.Int.Bits.{bit_and}
 use Rattle.fl_arena.specs.Chains.{Chains}
@@ -17,6 +17,10 @@ pub record Numbers (X : Type 0) : Type 0 where
 abbrev pub is_full : {X : Type 0} → Numbers X → Bool
 is_full n = nat_le n.limit (len n.values) || (n.next == 2 ^ 64 - 1)
 
+-- the same with another value at a number
+abbrev pub with_value : {X : Type 0} → Numbers X → ℕ → X → Numbers X
+with_value n number value = record n { values = insert n.values number value }
+
 -- how proofs tell them apart: by their three parts
 abbrev pub numbers_code : {X : Type 0} → Coded X → Coded (Numbers X)
 numbers_code {X} coded =
@@ -26,7 +30,6 @@ numbers_code {X} coded =
 -- how they are kept: each number stands on the chain of its low bits, and is below the one that comes next
 pub record AreNumbered {X : Type 0} (a : Chains (ℕ × X)) (mask next : ℕ) : Type 0 where
   pub chains : mask + 1 ≡ length a.chains
-  pub small : mask < 2 ^ 16
   pub sorted : AreSorted a
   pub home : IsEach (λ c q x. bit_and q mask ≡ c) a
   pub below : IsEach (λ c q x. q < next) a

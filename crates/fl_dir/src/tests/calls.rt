@@ -83,6 +83,8 @@ fn of_number(
         ("getattr", []) => text(rt, alloc, &dir.getattr(last)),
         ("open", []) => text(rt, alloc, &dir.open(last)),
         ("node_of", []) => text(rt, alloc, &dir.node_of(last)),
+        ("name_of", []) => text(rt, alloc, &dir.name_of(last)),
+        ("is_linked", []) => text(rt, alloc, &dir.is_linked(last)),
         ("close", [node]) => text(rt, alloc, &dir.close(u64::from(*node), last)),
         ("forget", [node]) => text(rt, alloc, &dir.forget(u64::from(*node), last)),
         _ => panic!(rt; "{call}"),

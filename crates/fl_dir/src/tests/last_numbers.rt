@@ -1,7 +1,6 @@
 //! The calls of a directory whose numbers are at their ends, which no caller reaches soon.
 
 use crate::dir::{Closed, Dir};
-use crate::node::Node;
 use fl_order::{Answer, Attr, Errno, Name};
 use std::alloc::Global;
 use std::process::Abort;
@@ -16,12 +15,8 @@ fn directory_at(rt: &impl Abort, alloc: Global, next_node: u64, next_fh: u64) ->
 
 // The node's lookup count can't grow any more.
 fn fill_lookups(dir: &mut Dir, number: u64) {
-    if let Some(node) = dir.node_at(number) {
-        let full = Node {
-            lookups: u64::MAX,
-            ..*node
-        };
-        dir.change(number, &full);
+    if dir.node_at(number).is_some() {
+        dir.set_lookups(number, u64::MAX);
     }
 }
 

@@ -118,9 +118,25 @@ getattr 2 = Ok(Attr(Attr { node: 2, mode: 33188, nlink: 1, uid: 5, gid: 6 }))
 create 1 8 9 1 36863 a = Ok(Made(Attr { node: 2, mode: 33279, nlink: 1, uid: 8, gid: 9 }, 1))
 create 1 5 6 0 384 a = Ok(Made(Attr { node: 2, mode: 33279, nlink: 1, uid: 8, gid: 9 }, 2))
 getattr 2 = Ok(Attr(Attr { node: 2, mode: 33279, nlink: 1, uid: 8, gid: 9 }))
+# a node is known by the name under which it was made, also once that is another's
+create 1 5 6 1 420 a = Ok(Made(Attr { node: 2, mode: 33188, nlink: 1, uid: 5, gid: 6 }, 1))
+name_of 2 = Some(Name([97]))
+is_linked 2 = true
+unlink 1 a = Ok(Done)
+create 1 5 6 1 420 a = Ok(Made(Attr { node: 3, mode: 33188, nlink: 1, uid: 5, gid: 6 }, 2))
+name_of 2 = Some(Name([97]))
+is_linked 2 = false
+name_of 3 = Some(Name([97]))
+is_linked 3 = true
+name_of 1 = None
+is_linked 1 = false
+forget 2 1 = ()
+close 2 1 = Ok(Closed { node: 2, last: true })
+name_of 2 = None
+is_linked 2 = false
 ";
 
 #[test]
 fn nodes_live_while_they_have_a_reason(rt: HostRuntime) {
-    same(&rt, &all_hold(&rt, rt.alloc(), LIVES), &11);
+    same(&rt, &all_hold(&rt, rt.alloc(), LIVES), &12);
 }

@@ -1,25 +1,35 @@
 -- A server that is under way: what is kept of its session, and what a message changes.
-use Rattle.std.specs.Prelude.{◌≡◌, ℕ, Bool, false, List, [], ◌++◌}
+use Rattle.std.specs.Prelude.{◌≡◌, ℕ, Bool, false, List, ◌++◌, Option, None, Some, is_some, IfSome, if◌then◌else◌}
 use Rattle.fl_core.specs.Tolds.{HasRoom}
+use Rattle.fl_desk.specs.Replay.{state_after}
+use Rattle.fl_history.specs.Recent.{recalled, recent}
+use Rattle.fl_history.specs.declared.history.Line.{Line}
+use Rattle.fl_history.specs.declared.recent.Recalled.{Recalled}
 use Rattle.fl_order.specs.declared.order.Order.{Order}
-use Rattle.fl_session.specs.Session.{Session, with_message, with_order, with_orders}
+use Rattle.fl_session.specs.Session.{Session, with_message, with_order, with_orders, with_orders_again}
 use Rattle.fl_session.specs.declared.server.Server.{Server}
 use Rattle.fl_transport.specs.Handshake.{opening}
+use Rattle.fl_waiting.specs.Waiting.{is_parked}
+use Rattle.fl_waiting.specs.declared.rules.Rules.{Rules}
 
--- the session that a server keeps, by the rules of its desk, and that got these replies
+-- The session that a server keeps, by the rules of its desk, and that got these replies. It knows messages that are sent
+-- again if the server recalls lines.
 abbrev pub session_with : {K : Type 0} → Server K → List (List ℕ) → Session
 session_with server replies =
     record {
       rules = server.desk.present.rules;
+      resends = is_some server.recent;
       handshake = server.handshake;
       replies = replies;
       lines = server.desk.lines;
       refused = server.refused;
     }
 
--- there is room for the replies that an order gets by the rules of its desk
-abbrev pub IsReady : {K : Type 0} → Server K → Type 0
-IsReady server = HasRoom server.desk.present.rules server.tolds
+-- There is room for the replies that an order gets by the rules of its desk. If the server recalls lines, these are those
+-- of its desk.
+pub record IsReady {K : Type 0} (server : Server K) : Type 0 where
+  pub room : HasRoom server.desk.present.rules server.tolds
+  pub recalls : IfSome server.recent (λ lines. lines ≡ server.desk.lines)
 
 -- no message came yet, and it is ready for the first
 pub record IsFresh {K : Type 0} (server : Server K) : Type 0 where
@@ -45,3 +55,20 @@ pub record AreTaken {K : Type 0} (old new : Server K) (replies : List (List ℕ)
   pub is : (before : List (List ℕ)) (later : List Bool)
       → with_orders (session_with new (before ++ replies)) left later
       ≡ with_orders (session_with old before) orders (refused ++ later)
+
+-- the same of orders of this unique that are sent again
+pub record AreTakenAgain {K : Type 0} (old new : Server K) (replies : List (List ℕ)) (unique : ℕ) (orders : List Order)
+    : Type 0 where
+  pub refused : List Bool
+  pub is : (before : List (List ℕ)) → session_with new (before ++ replies)
+      ≡ with_orders_again (session_with old before) unique orders refused
+
+-- what these lines say of a unique under these rules, unless a request of it is parked
+abbrev pub recalled_at : Rules → List Line → ℕ → Option Recalled
+recalled_at rules lines unique =
+    if is_parked unique (state_after rules lines).view.parked then None else Some (recalled unique (recent lines))
+
+-- the last lines with these behind them, if they are kept
+abbrev pub with_lines : Option (List Line) → List Line → Option (List Line)
+with_lines None more = None
+with_lines (Some lines) more = Some (lines ++ more)

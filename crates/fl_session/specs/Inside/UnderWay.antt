@@ -6,7 +6,7 @@ use mathlib.Core.List.{IsPrefix}
 use Rattle.fl_desk.specs.Kept.{Book}
 use Rattle.fl_history.specs.declared.history.Line.{Line}
 use Rattle.fl_order.specs.declared.order.Order.{Order}
-use Rattle.fl_session.specs.Inside.Serving.{session_with, AreTaken, IsMet, IsTaken}
+use Rattle.fl_session.specs.Inside.Serving.{session_with, AreTaken, AreTakenAgain, IsMet, IsTaken}
 use Rattle.fl_session.specs.Session.{Came, Session, messages_of, session_from}
 use Rattle.fl_session.specs.declared.server.Server.{Server}
 use Rattle.fl_transport.specs.Collecting.{Collects, IsGiven, Outgoing}
@@ -72,6 +72,14 @@ pub record TakesMany {K : Type 0} (old new : Server K) (before after : Outgoing)
   pub collected : Collects before after replies
   pub stored : IsPrefix old.desk.stored new.desk.stored
   pub unwritten : after.held ≡ before.held
+
+-- orders of this unique that are sent again are taken or answered, and their replies are collected
+pub record TakesAgain {K : Type 0} (old new : Server K) (before after : Outgoing) (unique : ℕ) (orders : List Order)
+    : Type 0 where
+  pub replies : List (List ℕ)
+  pub taken : AreTakenAgain old new replies unique orders
+  pub collected : Collects before after replies
+  pub behind : WritesBehind old.desk new.desk before after
 
 -- what is collected goes out, or is lost, and nothing else changes
 pub record Rests {K : Type 0} (old new : Server K) (before after : Outgoing) : Type 0 where

@@ -1,5 +1,6 @@
 //! Sessions with one worker, over memory.
 
+mod again;
 mod around;
 mod batches;
 mod collected;
@@ -11,6 +12,7 @@ mod traced;
 mod waiting;
 
 use super::{are_bytes, count_is};
+use again::MARKED;
 use around::AROUND_AN_INIT;
 use batches::BATCHES;
 use fair::STANDARD;
@@ -88,6 +90,7 @@ fn sessions_and_their_traces(rt: HostRuntime) {
     count_is(&rt, all_are_traced(&rt, rt.alloc(), rules, TWO_LOCKS), 1);
     count_is(&rt, all_are_traced(&rt, rt.alloc(), rules, TRACED), 3);
     count_is(&rt, all_are_traced(&rt, rt.alloc(), rules, BATCHES), 3);
+    count_is(&rt, all_are_traced(&rt, rt.alloc(), rules, MARKED), 1);
     // In these a reader comes behind a writer that waits.
     count_is(
         &rt,

@@ -65,23 +65,46 @@ fn what_a_write_left_is_written_by_the_next(rt: HostRuntime) {
     }
 }
 
-// The room gets full once, where the first write fails: one line is refused, and the next is taken.
-fn refuses_once(rt: &impl Abort, alloc: Global, manner: WhenWriterFails) {
+// The first write fails, and the next ones don't: there is room until then, so each line is taken.
+fn catches_up_often(rt: &impl Abort, alloc: Global, manner: WhenWriterFails) {
     let sink = Sink::failing_once(alloc, 0, ErrorKind::Other);
     let (course, sink) = streamed_often(rt, sink, manner, 40_000, alloc);
     let wanted = Course {
-        taken: 39_999,
+        taken: 40_000,
         flushed: true,
         broken: false,
     };
     course_is(rt, &course, &wanted);
-    count_is(rt, sink.held.len(), 39_999 * 43);
+    count_is(rt, sink.held.len(), 40_000 * 43);
 }
 
 #[test]
-fn a_full_room_refuses_until_a_write_succeeds(rt: HostRuntime) {
-    refuses_once(&rt, rt.alloc(), WhenWriterFails::Refuse);
-    refuses_once(&rt, rt.alloc(), WhenWriterFails::End);
+fn a_write_that_fails_once_refuses_no_line(rt: HostRuntime) {
+    catches_up_often(&rt, rt.alloc(), WhenWriterFails::Refuse);
+    catches_up_often(&rt, rt.alloc(), WhenWriterFails::End);
+}
+
+// No write succeeds. Lines of 43 bytes are taken while 700 more have room behind them, in 2,048 times 700 bytes.
+fn refuses(rt: &impl Abort, alloc: Global, manner: WhenWriterFails) {
+    let sink = Sink::new(
+        alloc,
+        usize::MAX,
+        Trouble::behind(0, Some(ErrorKind::Other)),
+    );
+    let (course, sink) = streamed_often(rt, sink, manner, 40_000, alloc);
+    let wanted = Course {
+        taken: 33_324,
+        flushed: false,
+        broken: false,
+    };
+    course_is(rt, &course, &wanted);
+    count_is(rt, sink.held.len(), 0);
+}
+
+#[test]
+fn a_full_room_refuses(rt: HostRuntime) {
+    refuses(&rt, rt.alloc(), WhenWriterFails::Refuse);
+    refuses(&rt, rt.alloc(), WhenWriterFails::End);
 }
 
 #[test]

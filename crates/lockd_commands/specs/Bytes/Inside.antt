@@ -25,6 +25,7 @@ TextSays text command.Connect = ⊥
 TextSays text command.BadReply = ⊥
 TextSays text command.Trace = ⊥
 TextSays text command.TraceFailed = ⊥
+TextSays text (command.Differs n) = ⊥
 
 -- these bytes are whole replies, one after another
 pub record AreReplies (bytes : List ℕ) : Type 0 where
@@ -47,6 +48,7 @@ Did rules left old new (Err command.Connect) = ⊥
 Did rules left old new (Err command.BadReply) = ⊥
 Did rules left old new (Err command.Trace) = ⊥
 Did rules left old new (Err command.TraceFailed) = ⊥
+Did rules left old new (Err (command.Differs n)) = ⊥
 
 -- a fault of a stream, and not of what reads or writes it
 abbrev pub IsOfStream : SessionFault → Type 0

@@ -32,6 +32,7 @@ TextFaults text command.Connect = ⊥
 TextFaults text command.BadReply = ⊥
 TextFaults text command.Trace = ⊥
 TextFaults text command.TraceFailed = ⊥
+TextFaults text (command.Differs n) = ⊥
 
 -- the bytes that a line sends
 abbrev pub sent : Said → List ℕ
@@ -58,6 +59,7 @@ IsWhy command.Listen behind left = ⊥
 IsWhy command.Connect behind left = ⊥
 IsWhy command.Trace behind left = ⊥
 IsWhy command.TraceFailed behind left = ⊥
+IsWhy (command.Differs n) behind left = ⊥
 IsWhy (command.BadLine n) behind left = ⊥
 IsWhy (command.BadLength n) behind left = ⊥
 
@@ -135,6 +137,7 @@ Did left old new (Err (command.BadLine n)) = IfSome left (λ text. text_says tex
 Did left old new (Err command.Listen) = ⊥
 Did left old new (Err command.Trace) = ⊥
 Did left old new (Err command.TraceFailed) = ⊥
+Did left old new (Err (command.Differs n)) = ⊥
 Did left old new (Err command.Connect) = IfSome left (λ text. IsOk (text_says text)) × Keeps old new
 Did left old new (Err command.NoMemory) = HasPrinted old new
 Did left old new (Err command.NoReader) = ⊥

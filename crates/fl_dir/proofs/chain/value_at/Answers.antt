@@ -1,7 +1,6 @@
-use Rattle.std.proofs.Common.{◌≡◌, ◌∙◌, ℕ, option_map, sym, ap}
+use Rattle.std.proofs.Common.{◌∙◌, ℕ, option_map, sym, ap}
 use Rattle.std.specs.Option.{option_copied}
 use Rattle.fl_arena.specs.Chains.{items}
-use Rattle.fl_dir.specs.Inside.Spread.{at}
 use Rattle.fl_dir.proofs.Entries.{found}
 use Rattle.fl_dir.proofs.chain.value_at.Goals as goal
 

@@ -1,4 +1,4 @@
-use Rattle.std.proofs.Common.{◌≡◌, ◌↔◌, Option, None, List, ℕ, true, refl, ap, subst}
+use Rattle.std.proofs.Common.{◌≡◌, ◌∙◌, ◌↔◌, Option, None, List, ℕ, true, refl, ap, subst}
 use Rattle.std.proofs.lemmas.Option.{IfSome_then}
 use Rattle.fl_judge.proofs.Listening.{of_all, if_known, other_err}
 use Rattle.fl_judge.proofs.reading.audit.Goals as goal
@@ -18,7 +18,9 @@ returns-in-Ok-clause-audited g c =
     let cut = c.args.cut in
     let lines : List Line = c.in-Ok.heard.judge.lines in
     let so : IsSoOfAll left (λ text. AreJudged None cut text lines c.in-Ok.heard.bytes) = c.in-Ok.ensures.heard in
-    let rules : c.in-Ok.heard.judge.rules ≡ c.args.rules = c.in-Ok.ensures.rules in
+    let judge = c.into_parts-judge in
+    let rules : judge.result.0.rules ≡ c.args.rules = judge.ensures.rules ∙ c.in-Ok.ensures.rules in
+    let same : judge.result.0.lines ≡ lines = judge.ensures.lines in
     record {
       trace = judged_part cut so.text;
       read = IfSome_then left so.read (λ bytes same. ap (judged_part cut) same);
@@ -26,8 +28,11 @@ returns-in-Ok-clause-audited g c =
         lines = lines;
         spelled = so.is.whole refl;
         fits = so.is.first.fits;
-        found = subst (λ (r : Rules). IsFinding r cut lines c.finding_of.result) rules c.finding_of.ensures;
-        quiet = subst (λ (r : Rules). (c.quiet.result ≡ true) ↔ (IsBeginning r lines × IsQuiet r lines)) rules c.quiet.ensures.exact;
+        found = subst (λ (ls : List Line). IsFinding c.args.rules cut ls c.finding_of.result) same
+            (subst (λ (r : Rules). IsFinding r cut judge.result.0.lines c.finding_of.result) rules c.finding_of.ensures);
+        quiet = subst (λ (ls : List Line). (c.quiet.result ≡ true) ↔ (IsBeginning c.args.rules ls × IsQuiet c.args.rules ls)) same
+            (subst (λ (r : Rules). (c.quiet.result ≡ true) ↔ (IsBeginning r judge.result.0.lines × IsQuiet r judge.result.0.lines)) rules
+            c.quiet.ensures.exact);
       };
     }
 

@@ -1,18 +1,20 @@
 use Rattle.std.proofs.Common.{◌≡◌, ◌∙◌, Option, List, ℕ, length, ap, subst, arith}
+use Rattle.std.specs.Prelude.{is_some}
 use Rattle.fl_judge.proofs.Listening.{read_first, all_of, ok_map}
 use Rattle.fl_judge.proofs.reading.hear_all.Goals as goal
 use Rattle.fl_judge.specs.First.{IsSoOfAll}
-use Rattle.fl_judge.specs.Hearing.{Hearing}
-use Rattle.fl_judge.specs.declared.finding.Heard.{Heard}
+use Rattle.fl_judge.specs.Inside.Keeping.{Keeping}
+use Rattle.fl_judge.specs.declared.listener.Listened.{Listened}
 use Rattle.fl_judge.specs.Inside.Hearing.{Listens, HasRead, AreJudged, IsBad}
 
 pub loop-reads-init : goal.loop-reads-init
 loop-reads-init g c = record {
   room = c.in_ok-listener.ensures.room;
-  few = (let none = ap (λ (h : Hearing). length h.lines) c.in_ok-listener.ensures.heard in omega (arith, none));
+  few = (let none = ap (λ (h : Keeping). length h.lines) c.in_ok-listener.ensures.heard in omega (arith, none));
   bytes = (let none = c.in_ok-listener.ensures.bytes in omega (arith, none));
-  rules = ap (λ (h : Hearing). h.rules) c.in_ok-listener.ensures.heard;
+  rules = ap (λ (h : Keeping). h.rules) c.in_ok-listener.ensures.heard;
   most = c.in_ok-listener.ensures.most;
+  keeps = ap (λ (h : Keeping). h.keeps) c.in_ok-listener.ensures.heard;
   read = read_first _ _ c.in_ok-listener.ensures.listens;
 }
 
@@ -23,12 +25,13 @@ loop-reads-preserved g c = record {
   bytes = (let before = c.loop-reads.invariant.bytes in let more = c.read.ensures.bytes in omega (arith, before, more));
   rules = c.read.ensures.rules ∙ c.loop-reads.invariant.rules;
   most = c.read.ensures.most ∙ c.loop-reads.invariant.most;
+  keeps = c.read.ensures.keeps ∙ c.loop-reads.invariant.keeps;
   read = c.read.ensures.reads _ c.loop-reads.invariant.read;
 }
 
 pub returns-then-not-more-clause-rules : goal.returns-then-not-more-clause-rules
 returns-then-not-more-clause-rules g c =
-    ok_map c.end.result (λ (heard : Heard). heard.judge.rules ≡ c.read.new.self.judge.rules) (λ heard. heard.judge.rules ≡ c.args.rules)
+    ok_map c.end.result (λ (heard : Listened). heard.judge.rules ≡ c.read.new.self.judge.rules) (λ heard. heard.judge.rules ≡ c.args.rules)
     (λ heard same. same ∙ c.read.ensures.rules ∙ c.loop-reads.invariant.rules) c.end.ensures.rules
 
 pub returns-then-not-more-clause-heard : goal.returns-then-not-more-clause-heard
@@ -38,7 +41,7 @@ returns-then-not-more-clause-heard g c =
     let so : HasRead left now c.read.new.self = c.read.ensures.reads left c.loop-reads.invariant.read in
     let most : c.read.new.self.most ≡ c.args.most = c.read.ensures.most ∙ c.loop-reads.invariant.most in
     ok_map c.end.result
-    (λ (heard : Heard). (text : List ℕ) → Listens text c.read.new.self → AreJudged c.read.new.self.most c.args.cut text heard.judge.lines heard.bytes)
+    (λ (heard : Listened). (text : List ℕ) → Listens text c.read.new.self → AreJudged c.read.new.self.most c.args.cut text heard.judge.lines heard.bytes)
     (λ heard. IsSoOfAll left (λ text. AreJudged c.args.most c.args.cut text heard.judge.lines heard.bytes))
     (λ heard said.
     all_of left now so.text (λ text. AreJudged c.args.most c.args.cut text heard.judge.lines heard.bytes) so.read (c.in_ok-more.ensures.end c.if-not-more.true)
@@ -53,3 +56,8 @@ returns-then-not-more-clause-bad g c = λ n e.
     let most : c.read.new.self.most ≡ c.args.most = c.read.ensures.most ∙ c.loop-reads.invariant.most in
     all_of left now so.text (λ text. IsBad c.args.most c.args.cut text n) so.read (c.in_ok-more.ensures.end c.if-not-more.true)
     (subst (λ m. IsBad m c.args.cut so.text n) most (c.end.ensures.bad n e so.text so.listens))
+
+pub returns-then-not-more-clause-keeps : goal.returns-then-not-more-clause-keeps
+returns-then-not-more-clause-keeps g c =
+    ok_map c.end.result (λ (heard : Listened). heard.judge.keeps ≡ c.read.new.self.judge.keeps) (λ heard. heard.judge.keeps ≡ is_some c.args.recent)
+    (λ heard same. same ∙ c.read.ensures.keeps ∙ c.loop-reads.invariant.keeps) c.end.ensures.keeps

@@ -1,4 +1,5 @@
 use Rattle.std.proofs.Common.{◌≡◌, ◌≤◌, ◌*◌, length}
+use Rattle.std.specs.Prelude.{is_some}
 use Rattle.fl_judge.specs.Inside.Hearing.{IsRoomy, HasRead}
 use Rattle.fl_judge.proofs.reading.hear_all.Given as goal
 
@@ -9,5 +10,6 @@ invariant-loop-reads g l = record {
   bytes : l.listener.bytes ≤ 65536 * l.reads;
   rules : l.listener.judge.rules ≡ l.fn.rules;
   most : l.listener.most ≡ l.fn.most;
+  keeps : l.listener.judge.keeps ≡ is_some l.fn.recent;
   read : HasRead (g.R.Read.remaining l.initial.input) (g.R.Read.remaining l.input) l.listener;
 }

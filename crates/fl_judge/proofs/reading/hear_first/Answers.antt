@@ -1,4 +1,4 @@
-use Rattle.std.proofs.Common.{Option, List, ℕ, true, refl}
+use Rattle.std.proofs.Common.{Option, List, ℕ, true, refl, sym, subst}
 use Rattle.fl_judge.proofs.Listening.{of_all, other_err}
 use Rattle.fl_judge.proofs.reading.hear_first.Goals as goal
 use Rattle.fl_judge.specs.Audit.{whole_lines}
@@ -10,8 +10,10 @@ use Rattle.fl_trace.specs.Text.{LineFits, BreaksAt}
 pub returns-in-Ok-clause-heard : goal.returns-in-Ok-clause-heard
 returns-in-Ok-clause-heard g c =
     let heard = c.in-Ok.heard in
+    let judge = c.into_parts-judge in
     of_all (g.R.Read.remaining c.args.input.now) (λ text. AreJudged c.args.most true text heard.judge.lines heard.bytes)
-    (λ text. AreFirstLines c.args.most text heard.judge.lines) (λ text judged. judged.first) c.in-Ok.ensures.heard
+    (λ text. AreFirstLines c.args.most text judge.result.0.lines)
+    (λ text judged. subst (AreFirstLines c.args.most text) (sym judge.ensures.lines) judged.first) c.in-Ok.ensures.heard
 
 pub returns-in-Err-clause-bad : goal.returns-in-Err-clause-bad
 returns-in-Err-clause-bad g c = λ n e.

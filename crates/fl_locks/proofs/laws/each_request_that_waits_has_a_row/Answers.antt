@@ -3,7 +3,7 @@ use Rattle.std.specs.List.{cons_option}
 use Rattle.fl_core.specs.State.{Snapshot}
 use Rattle.fl_locks.specs.LockRows.{blockers_of, waiting_rows}
 use Rattle.fl_locks.specs.declared.row.LockRow.{LockRow}
-use Rattle.fl_dir.specs.Naming.{name_at}
+use Rattle.fl_dir.specs.Naming.{name_at, is_linked_at}
 use Rattle.fl_ranges.specs.declared.lock.Mark.{Mark}
 use Rattle.fl_waiting.specs.LockRequest.{mark_of, stroke_of, key_of, start_of, end_of}
 use Rattle.fl_waiting.specs.Waiting.{waits, passes, is_blocked_by, anyone, wishes, wish_on, AllBehind}
@@ -18,6 +18,7 @@ row_of s older r mark = record {
   end = end_of r.ask;
   mark = mark;
   name = name_at s.view.directory r.node;
+  linked = is_linked_at s.view.directory r.node;
   unique = Some r.unique;
   blockers = blockers_of s.rules s.marking older (wish_on (stroke_of r.node r.ask) mark);
 }

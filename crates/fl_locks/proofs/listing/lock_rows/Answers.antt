@@ -1,4 +1,4 @@
-use Rattle.std.proofs.Common.{rules, ◌≡◌, ◌∙◌, ◌++◌, ℕ, None, [], map, refl, ap, subst}
+use Rattle.std.proofs.Common.{rules, ◌≡◌, ◌∙◌, ◌++◌, ℕ, false, None, [], map, refl, ap, subst}
 use Rattle.std.proofs.lemmas.List.Sorted.{answers_always}
 use Rattle.fl_ranges.specs.declared.lock.Class.TheVariants.{Record}
 use Rattle.fl_ranges.specs.declared.lock.Kind.TheVariants.{Read}
@@ -19,6 +19,7 @@ row_on node = record {
   end = 0;
   mark = record { kind = Read; pid = 0 };
   name = None;
+  linked = false;
   unique = None;
   blockers = [];
 }

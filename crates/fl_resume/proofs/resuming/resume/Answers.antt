@@ -3,7 +3,7 @@ use Rattle.fl_desk.specs.Legal.{IsLegal}
 use Rattle.fl_history.specs.declared.history.Line.{Line}
 use Rattle.fl_judge.specs.Present.{told_lines}
 use Rattle.fl_resume.proofs.Stored.{ahead_on, served_as, so_of}
-use Rattle.fl_session.specs.Served.{IsAhead}
+use Rattle.fl_session.specs.Served.{IsAheadBehind}
 use Rattle.fl_stream.specs.Streams.{Stream}
 use Rattle.fl_transport.specs.Streams.{Streams}
 use Rattle.fl_resume.proofs.resuming.resume.Goals as goal
@@ -22,7 +22,7 @@ returns-clause-resumed g c =
       held = g.W.Write.contents c.args.w.now;
       held_now = g.W.Write.contents c.resume_session.new.w;
     } in
-    let ahead = so_of (λ (j : Stream). IsAhead c.args.rules c.resume-desk.result.lines streams j.noted) ended.recorded.journal
+    let ahead = so_of (λ (j : Stream). IsAheadBehind c.args.rules c.resume-desk.result.lines streams j.noted) ended.recorded.journal
     c.in-Some.journal c.in-Some.is ended.ensures.ahead in
     record {
       lines = c.into_stream.result.lines;
@@ -37,5 +37,5 @@ returns-clause-resumed g c =
       there = c.finish-file.ensures.there.2;
       ahead = ahead_on c.args.rules base _ c.into_stream.result.noted c.finish-file.ensures.there.0
           c.finish-file.ensures.there.1
-          (subst (λ n. IsAhead c.args.rules base streams n) (sym noted) (subst (λ b. IsAhead c.args.rules b streams c.in-Some.journal.noted) same ahead));
+          (subst (λ n. IsAheadBehind c.args.rules base streams n) (sym noted) (subst (λ b. IsAheadBehind c.args.rules b streams c.in-Some.journal.noted) same ahead));
     }

@@ -6,7 +6,8 @@ use super::super::{are_bytes, fault_is};
 use super::faults::worked_session;
 use super::traced::TWO_LOCKS;
 use fl_core::Rules;
-use fl_judge::{Judge, hear_cut};
+use fl_history::Recent;
+use fl_judge::{Heard, Judge, hear_cut};
 use fl_resume::{Ended, resume};
 use fl_session::Fault;
 use fl_testing::{first_reply, lines_after};
@@ -17,8 +18,8 @@ use std::process::Abort;
 
 // A file: it says nothing of its bytes, takes seven with a write, and fails once it took so many writes.
 #[derive(Drop)]
-struct Taking {
-    held: Vec<u8>,
+pub(super) struct Taking {
+    pub(super) held: Vec<u8>,
     left: usize,
 }
 
@@ -49,7 +50,7 @@ fn copied(rt: &impl Abort, alloc: Global, bytes: &[u8]) -> Vec<u8> {
 }
 
 // What the text of a trace leads to, in a file that has its whole lines, goes on by these messages.
-fn gone_on(
+pub(super) fn gone_on(
     rt: &impl Abort,
     alloc: Global,
     text: &[u8],
@@ -64,8 +65,10 @@ fn gone_on(
         held: copied(rt, alloc, whole),
         left: usize::MAX,
     };
-    let resumed = heard.judge.into_resumed().expect(rt, "a beginning");
-    resume(alloc, &mut messages, out, resumed, file, rules).expect(rt, "memory")
+    let Heard { judge, recent, .. } = heard;
+    let resumed = judge.into_resumed().expect(rt, "a beginning");
+    let ended = resume(alloc, &mut messages, out, resumed, recent, file, rules);
+    ended.expect(rt, "memory")
 }
 
 // The place behind so many lines.
@@ -171,6 +174,7 @@ fn no_reply_leaves_before_its_line(rt: HostRuntime) {
     for left in 0usize..40 {
         let judge = Judge::new(alloc, Rules::standard()).expect(&rt, "memory");
         let resumed = judge.into_resumed().expect(&rt, "no lines");
+        let recent = Recent::new(alloc).expect(&rt, "memory");
         let file = Taking {
             held: Vec::new(alloc),
             left,
@@ -182,6 +186,7 @@ fn no_reply_leaves_before_its_line(rt: HostRuntime) {
             &mut messages,
             &mut out,
             resumed,
+            recent,
             file,
             Rules::standard(),
         )

@@ -1,15 +1,13 @@
 use Rattle.std.proofs.Common.{◌≡◌, ◌∙◌, ◌+◌, ◌<◌, ◌≤◌, ◌||◌, ◌==◌, Bool, true, false, ℕ, nat_le, Some, None, option_map, ap, sym, subst, refl, arith}
 use Rattle.std.specs.FinMap.{get, insert, len}
-use Rattle.std.specs.List.{find}
 use Rattle.std.proofs.lemmas.Bool.Decides.{nat_tests}
-use Rattle.fl_dir.specs.declared.node.Node.{Node}
 use Rattle.fl_dir.specs.Directory.{Listing, linked, nodes_full}
 use Rattle.std.specs.Int.Bits.{bit_and}
 use Rattle.fl_dir.specs.declared.nodes.Slot.{Slot}
 use Rattle.fl_dir.specs.Inside.Spread.{IsAltered}
-use Rattle.fl_dir.specs.Inside.Kept.{bare, name_in, hash_of, hash_on, IsKept}
+use Rattle.fl_dir.specs.Inside.Kept.{name_in, hash_of, hash_on, IsKept}
 use Rattle.fl_dir.proofs.Bare.{bare_insert, get_bare, len_bare}
-use Rattle.fl_dir.proofs.Kept.{seen, few_names, is_free, linked_more}
+use Rattle.fl_dir.proofs.Kept.{seen, few_names, is_free, linked_more, so_linked}
 use Rattle.fl_dir.proofs.dir.Dir.link.Goals as goal
 
 less : (a b : ℕ) (t : Bool) → (nat_le a b || t) ≡ false → b < a
@@ -54,7 +52,7 @@ invariant_of-self c =
     subst (λ m. IsKept m c.link.new.self.entries c.link.new.self.mask own.files) (sym c.push-number.ensures.after)
     (subst (λ m. IsKept (record own.nodes { values = insert own.nodes.values own.nodes.next (record { node = c.args.node.now; fhs = 0 }); next = own.nodes.next + 1 }) c.link.new.self.entries m own.files) (sym c.link.ensures.mask)
     (linked_more own.nodes own.names.entries c.link.new.self.entries own.names.mask own.files own.nodes.next (own.nodes.next + 1) (record { node = c.args.node.now; fhs = 0 }) c.args.name.now c.self.invariant
-    (c.push-number.ensures.above own.nodes.next (omega arith)) c.requires.named refl (is_free own.nodes.values c.args.name.now free)
+    (c.push-number.ensures.above own.nodes.next (omega arith)) (so_linked c.args.node.now c.args.name.now c.requires.has_it c.requires.named) refl (is_free own.nodes.values c.args.name.now free)
     (subst (λ k. IsAltered own.names.entries c.link.new.self.entries (bit_and (hash_of c.args.name.now) own.names.mask) k (Some (hash_of c.args.name.now)))
     c.push-number.ensures.number c.link.ensures.linked)))
 

@@ -1,15 +1,12 @@
-use Rattle.std.proofs.Common.{rules, ◌≡◌, ◌∙◌, ℕ, Some, None, IfSome, ◌==◌, ◌&&◌, option_map, ap, sym, subst}
+use Rattle.std.proofs.Common.{rules, ◌≡◌, ◌∙◌, ℕ, Some, None, ◌==◌, ◌&&◌, option_map, ap, sym, subst}
 use Rattle.std.specs.FinMap.{get}
-use Rattle.std.specs.Int.Bits.{bit_and}
-use Rattle.std.specs.List.{find}
-use Rattle.fl_arena.specs.Chains.{items}
-use Rattle.fl_dir.specs.declared.node.Node.{Node}
 use Rattle.fl_dir.specs.declared.nodes.Slot.{Slot}
-use Rattle.fl_dir.specs.Directory.{Listing, is_named, linked}
-use Rattle.fl_dir.specs.Inside.Kept.{name_in, has_name}
+use Rattle.fl_dir.specs.Directory.{Listing, linked}
+use Rattle.fl_dir.specs.Inside.Kept.{link_name, name_in, has_name}
 use Rattle.fl_dir.proofs.Bare.{get_bare}
-use Rattle.fl_dir.proofs.Kept.{searched, found_named, named_there, not_linked, is_linked}
+use Rattle.fl_dir.proofs.Kept.{searched, found_named, named_there, not_linked, is_linked, linked_so}
 use Rattle.fl_dir.proofs.dir.Dir.linked.Goals as goal
+use Rattle.fl_dir.proofs.dir.Dir.linked.Goals.{After-at}
 
 pub returns-in-None-clause-linked : goal.returns-in-None-clause-linked
 returns-in-None-clause-linked c =
@@ -31,14 +28,20 @@ at-requires c =
     named_there own.nodes.values c.in-Some.number c.args.name.now
     (found_named own.nodes c.args.name.now _ (c.in-Some.number, c.in-Some.field-0-1) (sym found ∙ c.in-Some.is))
 
-pub returns-in-Some-clause-named : goal.returns-in-Some-clause-named
-returns-in-Some-clause-named c =
+under_it : (c : After-at) → link_name c.at.result.now.node ≡ Some c.args.name.now
+under_it c =
     let own = c.self.inside in
     let found = searched own.nodes own.files own.names.entries own.names.mask c.args.name.now c.args.self.now c.hash_of-hash.result c.from.result c.chain_of-chain.result c.get.result
     c.self.view_is c.hash_of-hash.ensures c.from.ensures c.chain_of-chain.ensures
     (c.get.ensures.item
     ∙ c.first_where-at.ensures.found (λ (e : ℕ × ℕ). (e.1 == c.hash_of-hash.result) && has_name (get c.args.self.now.nodes e.0) c.args.name.now) (λ a r k. search rules)) in
     sym (ap name_in c.at.ensures) ∙ found_named own.nodes c.args.name.now _ (c.in-Some.number, c.in-Some.field-0-1) (sym found ∙ c.in-Some.is)
+
+pub returns-in-Some-clause-named : goal.returns-in-Some-clause-named
+returns-in-Some-clause-named c = (linked_so c.at.result.now.node c.args.name.now (under_it c)).1
+
+pub returns-in-Some-clause-has_it : goal.returns-in-Some-clause-has_it
+returns-in-Some-clause-has_it c = (linked_so c.at.result.now.node c.args.name.now (under_it c)).0
 
 pub returns-in-Some-clause-listed : goal.returns-in-Some-clause-listed
 returns-in-Some-clause-listed c =
@@ -50,4 +53,4 @@ returns-in-Some-clause-linked c =
     let own = c.self.inside in
     subst (λ d. Some (c.in-Some.number, c.at.result.now.node) ≡ linked d c.args.name.now) c.self.view_is
     (sym (is_linked own.nodes own.names.entries own.names.mask own.files c.args.name.now c.in-Some.number c.at.result.now c.self.invariant c.at.ensures
-    (returns-in-Some-clause-named c)))
+    (under_it c)))

@@ -1,7 +1,6 @@
 use Rattle.std.proofs.Common.{◌≡◌, ◌∙◌, ◌||◌, ◌==◌, ap, sym, subst, nat_le}
 use Rattle.fl_dir.specs.Directory.{nodes_full}
 use Rattle.fl_dir.proofs.Bare.{len_bare}
-use Rattle.fl_dir.proofs.Counts.{count_remove}
 use Rattle.fl_dir.proofs.dir.Dir.nodes_full.Goals as goal
 
 pub returns : goal.returns

@@ -1,10 +1,8 @@
 use Rattle.std.proofs.Common.{◌≡◌, ◌∙◌, IsSome, IfSome, false, ap, sym, subst}
 use Rattle.std.specs.FinMap.{get, remove}
-use Rattle.fl_dir.specs.declared.node.Node.{Node}
 use Rattle.fl_dir.specs.Directory.{Listing}
 use Rattle.fl_dir.specs.OpenFiles.{lives}
-use Rattle.fl_dir.specs.Inside.Numbers.{Numbers}
-use Rattle.fl_dir.specs.Inside.Kept.{bare, IsKept}
+use Rattle.fl_dir.specs.Inside.Kept.{IsKept}
 use Rattle.fl_dir.proofs.Bare.{bare_remove}
 use Rattle.fl_dir.proofs.Kept.{seen, some_kept, node_kept, so_kept, dead_is, gone}
 use Rattle.fl_dir.proofs.dir.Dir.remove_node.Goals as goal

@@ -1,7 +1,7 @@
-use Rattle.std.proofs.Common.{◌≡◌, ◌∙◌, ◌≤◌, ◌+◌, ap, sym, subst, refl, arith}
+use Rattle.std.proofs.Common.{◌∙◌, ◌≤◌, ◌+◌, ap, sym, subst, refl}
 use Rattle.fl_dir.specs.declared.nodes.Slot.{Slot}
 use Rattle.std.specs.FinMap as map
-use Rattle.fl_dir.specs.Directory.{Listing, opening_listing}
+use Rattle.fl_dir.specs.Directory.{opening_listing}
 use Rattle.fl_dir.specs.Inside.Numbers.{Numbers}
 use Rattle.fl_dir.proofs.Bare.{bare_empty}
 use Rattle.fl_dir.proofs.Kept.{seen, new_kept}

@@ -1,7 +1,6 @@
 use Rattle.std.proofs.Common.{◌≡◌, ◌==◌, ◌+◌, ◌≤◌, ℕ, None, false, subst, ap, sym, ◌∙◌, arith}
 use Rattle.std.specs.Int.Bits.{bit_and}
 use Rattle.std.specs.FinMap.{insert, get}
-use Rattle.fl_dir.specs.contracts.numbered.Numbered.{the_view}
 use Rattle.fl_dir.specs.Inside.Numbers.{Numbers, is_full}
 use Rattle.fl_dir.proofs.Spread.{inserted}
 use Rattle.fl_dir.proofs.Numbers.{in_range, alone, get_at, none_next, room_left, altered_numbers, same_numbers}

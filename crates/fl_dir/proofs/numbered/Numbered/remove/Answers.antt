@@ -1,4 +1,4 @@
-use Rattle.std.proofs.Common.{◌≡◌, IsSome, subst, ap, sym, ◌∙◌, arith}
+use Rattle.std.proofs.Common.{IsSome, subst, ap, sym, ◌∙◌, arith}
 use Rattle.std.proofs.lemmas.Option.{none-some}
 use Rattle.std.specs.FinMap.{remove, get}
 use Rattle.fl_dir.specs.Inside.Numbers.{Numbers}

@@ -1,4 +1,4 @@
-use Rattle.std.proofs.Common.{rules, map, true, false, ◌∷◌, []}
+use Rattle.std.proofs.Common.{rules, map, true, false}
 use Rattle.fl_session.proofs.Prefixes.{of_another}
 use Rattle.fl_transport.specs.Response.{bytes_of, lost}
 use Rattle.fl_order.specs.Order.{kind_of}

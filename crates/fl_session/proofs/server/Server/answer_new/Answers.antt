@@ -1,7 +1,8 @@
-use Rattle.std.proofs.Common.{inl, sym, ◌∙◌}
+use Rattle.std.proofs.Common.{inl, sym, refl, None, ◌∙◌}
 use Rattle.fl_session.proofs.MeetLemmas.{met_batch, met_by_itself, met_order}
 use Rattle.fl_transport.specs.Response.{bytes_of}
-use Rattle.fl_session.proofs.server.Server.answer.Goals as goal
+use Rattle.fl_transport.specs.declared.handshake.Incoming.TheVariants as incoming
+use Rattle.fl_session.proofs.server.Server.answer_new.Goals as goal
 
 pub returns-in-Order-clause-answered : goal.returns-in-Order-clause-answered
 returns-in-Order-clause-answered g c =
@@ -9,7 +10,7 @@ returns-in-Order-clause-answered g c =
     record {
       replies = one.replies;
       met = met_order c.args.self.now c.take.new.self c.receive.new.self c.in-Order.order one.replies c.args.frame.now
-          c.requires.live (sym c.receive.ensures.incoming ∙ c.in-Order.is) c.receive.ensures.advanced one.taken;
+          c.requires.live (sym c.receive.ensures.incoming ∙ c.in-Order.is) c.receive.ensures.advanced c.requires.new one.taken;
       collected = one.collected;
       behind = one.behind;
     }
@@ -20,7 +21,7 @@ returns-in-Batch-clause-answered g c =
     record {
       replies = many.replies;
       met = met_batch c.args.self.now c.take_all.new.self c.receive.new.self c.in-Batch.orders many.replies c.args.frame.now
-          c.requires.live (sym c.receive.ensures.incoming ∙ c.in-Batch.is) c.receive.ensures.advanced many.taken;
+          c.requires.live (sym c.receive.ensures.incoming ∙ c.in-Batch.is) c.receive.ensures.advanced c.requires.new many.taken;
       collected = many.collected;
       behind = (many.stored, inl many.unwritten);
     }
@@ -28,9 +29,9 @@ returns-in-Batch-clause-answered g c =
 pub returns-in-Response-clause-answered : goal.returns-in-Response-clause-answered
 returns-in-Response-clause-answered g c = record {
   replies = bytes_of c.in-Response.response;
-  met = met_by_itself c.args.self.now c.collect.new.desk c.receive.new.self c.in-Response.response c.args.frame.now c.requires.live
-      (sym c.receive.ensures.incoming ∙ c.in-Response.is) c.receive.ensures.advanced c.collect.ensures.desk.0
-      c.collect.ensures.desk.1;
+  met = met_by_itself c.args.self.now c.collect.new.desk c.receive.new.self (incoming.Response c.in-Response.response) None
+      c.in-Response.response c.args.frame.now c.requires.live (sym c.receive.ensures.incoming ∙ c.in-Response.is)
+      c.receive.ensures.advanced c.requires.new (λ s. refl) c.collect.ensures.desk.0 c.collect.ensures.desk.1;
   collected = c.collect.ensures.collected;
   behind = c.collect.ensures.behind;
 }

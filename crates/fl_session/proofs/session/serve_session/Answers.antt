@@ -1,14 +1,14 @@
-use Rattle.std.proofs.Common.{rules, ◌≡◌, ℕ, List, [], Option, Some, refl, sym, subst, ◌∙◌}
+use Rattle.std.proofs.Common.{rules, ◌≡◌, ℕ, List, [], Option, refl, subst, ◌∙◌}
 use Rattle.fl_desk.specs.Legal.{IsLegal}
-use Rattle.fl_session.proofs.ServedLemmas.{ahead_of, behind, desk_under, served}
+use Rattle.fl_session.proofs.ServedLemmas.{ahead_of, desk_under, served}
 use Rattle.fl_session.specs.Inside.Serving.{session_with}
 use Rattle.fl_session.specs.Inside.UnderWay.{HasEnded, Way}
-use Rattle.fl_session.specs.Session.{Session}
+use Rattle.fl_session.specs.Session.{Session, session_behind}
+use Rattle.std.specs.Prelude.{is_some}
 use Rattle.fl_transport.specs.Collecting.{outgoing, Outgoing}
 use Rattle.fl_transport.specs.Outbox.{writer_of}
-use Rattle.fl_transport.specs.declared.fault.Fault.TheVariants.{Unstored}
 use Rattle.fl_waiting.specs.declared.rules.Rules.{Rules}
-use Rattle.fl_session.proofs.session.resume_session.Goals as goal
+use Rattle.fl_session.proofs.session.serve_session.Goals as goal
 
 pub returns-clause-served : goal.returns-clause-served
 returns-clause-served g c =
@@ -16,8 +16,8 @@ returns-clause-served g c =
     let out = outgoing g.W.Write.contents all.new.replying.batch in
     let made = c.in_ok-server in
     let first : Session = session_with made.server [] in
-    let same : first ≡ behind c.args.rules c.args.desk.lines =
-    rw (made.ensures.desk, made.ensures.fresh.handshake, made.ensures.fresh.refused, c.requires.rules) refl in
+    let same : first ≡ session_behind c.args.rules c.args.desk.lines (is_some c.args.recent) =
+    rw (made.ensures.desk, made.ensures.recent, made.ensures.fresh.handshake, made.ensures.fresh.refused, c.requires.rules) refl in
     let way : Option (List ℕ) → Outgoing → Way = λ start out. record {
       left = g.R.Read.remaining c.args.r.now;
       left_now = g.R.Read.remaining all.new.r;
@@ -29,7 +29,7 @@ returns-clause-served g c =
     HasEnded first (way (g.W.Write.contents c.args.w.now) (record out { held = held })) all.new.server all.result in
     let start : g.W.Write.contents (writer_of c.new-4.result).now ≡ g.W.Write.contents c.args.w.now = search rules in
     let whole = subst Q (search rules) (subst P start all.ensures.ended) in
-    rw c.into_parts-writer.ensures.broken (served _ _ _ _ _ _ _ same all.ensures.none whole
+    rw c.into_parts-writer.ensures.broken (served _ _ _ _ _ _ _ _ same all.ensures.none whole
     c.into_kept.ensures.lines (λ is. c.told.ensures.reader (rw is refl) ∙ is)
     (rw (← c.into_parts-writer.ensures.broken) c.told.ensures.ends) refl)
 
@@ -39,8 +39,8 @@ returns-clause-ahead g c =
     let out = outgoing g.W.Write.contents all.new.replying.batch in
     let made = c.in_ok-server in
     let first : Session = session_with made.server [] in
-    let same : first ≡ behind c.args.rules c.args.desk.lines =
-    rw (made.ensures.desk, made.ensures.fresh.handshake, made.ensures.fresh.refused, c.requires.rules) refl in
+    let same : first ≡ session_behind c.args.rules c.args.desk.lines (is_some c.args.recent) =
+    rw (made.ensures.desk, made.ensures.recent, made.ensures.fresh.handshake, made.ensures.fresh.refused, c.requires.rules) refl in
     let way : Option (List ℕ) → Outgoing → Way = λ start out. record {
       left = g.R.Read.remaining c.args.r.now;
       left_now = g.R.Read.remaining all.new.r;
@@ -52,12 +52,12 @@ returns-clause-ahead g c =
     HasEnded first (way (g.W.Write.contents c.args.w.now) (record out { held = held })) all.new.server all.result in
     let start : g.W.Write.contents (writer_of c.new-4.result).now ≡ g.W.Write.contents c.args.w.now = search rules in
     let whole = subst Q (search rules) (subst P start all.ensures.ended) in
-    ahead_of _ _ _ _ _ _ _ same whole c.into_kept.ensures.stored
+    ahead_of _ _ _ _ _ _ _ _ same whole c.into_kept.ensures.stored
 
 pub returns-clause-legal : goal.returns-clause-legal
 returns-clause-legal g c =
     let P : Rules → Type 0 = λ by. IsLegal by (g.J.Journal.lines c.into_kept.result) in
     let made = c.in_ok-server in
-    let same : session_with made.server [] ≡ behind c.args.rules c.args.desk.lines =
-    rw (made.ensures.desk, made.ensures.fresh.handshake, made.ensures.fresh.refused, c.requires.rules) refl in
-    subst P (desk_under _ _ _ _ _ _ same c.serve_all-fault.ensures.ended) c.into_kept.ensures.legal
+    let same : session_with made.server [] ≡ session_behind c.args.rules c.args.desk.lines (is_some c.args.recent) =
+    rw (made.ensures.desk, made.ensures.recent, made.ensures.fresh.handshake, made.ensures.fresh.refused, c.requires.rules) refl in
+    subst P (desk_under _ _ _ _ _ _ _ same c.serve_all-fault.ensures.ended) c.into_kept.ensures.legal

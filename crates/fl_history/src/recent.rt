@@ -1,0 +1,132 @@
+//! The last lines of a history, and what they say of the order of a unique.
+
+ghost use Rattle.std.specs.Prelude.{◌≡◌, ◌≤◌, ◌<◌, ◌+◌, ◌-◌, ◌^◌, ◌++◌, ◌∷◌, [], length, drop, IfOk};
+ghost use Rattle.std.specs.VecDeque.{deque_capacity, deque_len};
+ghost use Rattle.fl_history.specs.Inside.Entries.{asks_of, entry_of, recalled_by};
+ghost use Rattle.fl_history.specs.Recent.{recalled, recent};
+
+use crate::history::Line;
+use crate::past::Past;
+use fl_order::{NoMemory, Told};
+use std::alloc::Global;
+use std::collections::VecDeque;
+use std::marker::Model;
+
+// So many lines are kept.
+const KEPT: usize = 65_536;
+
+const _: () = prove!(size_of::<Entry>() == 64);
+
+/// What lines say of the order of a unique.
+#[derive(Clone, Copy, Debug, PartialEq, Eq)]
+pub enum Recalled {
+    /// So many of them ask for it, and none behind the first of these replies. Several do if it is a BATCH_FORGET.
+    Asked(u32),
+    /// The last reply to it, with no line behind that asks for it again.
+    Told(Told),
+}
+
+/// What is kept of a line.
+#[derive(Clone, Copy, Debug)]
+enum Entry {
+    /// An order with this unique.
+    Asked(u64),
+    /// A reply.
+    Told(Told),
+}
+
+impl Entry {
+    // What is kept of a line.
+    fn of(line: &Line) -> Entry
+        ensures { result ≡ entry_of line.now }
+    {
+        match line {
+            Line::Asked { worker: _, order } => Entry::Asked(order.unique),
+            Line::Told(told) => Entry::Told(*told),
+        }
+    }
+
+    // What lines say of a unique, with this one behind those before.
+    fn recalled(&self, unique: u64, before: Recalled) -> Recalled
+        requires { asks_of before < 2 ^ 31 }
+        ensures { result ≡ recalled_by unique before self.now }
+    {
+        match (*self, before) {
+            (Entry::Asked(asked), Recalled::Asked(count)) if asked == unique => {
+                Recalled::Asked(count + 1)
+            }
+            (Entry::Asked(asked), Recalled::Told(_)) if asked == unique => Recalled::Asked(1),
+            (Entry::Told(told), _) if told.unique == unique => Recalled::Told(told),
+            _ => before,
+        }
+    }
+}
+
+/// The last 65,536 lines of a history. Contracts see all lines that were pushed.
+#[derive(Drop)]
+pub struct Recent {
+    // What is kept of these, in a room that never grows.
+    entries: VecDeque<Entry>,
+    past: Past<Line>,
+}
+
+impl Model for Recent {
+    ghost use Rattle.std.specs.Prelude.{◌≡◌, ◌≤◌, List, map};
+    ghost use Rattle.std.specs.VecDeque.{deque_capacity};
+    ghost use Rattle.fl_history.specs.Inside.Entries.{entry_of};
+    ghost use Rattle.fl_history.specs.Recent.{recent};
+    ghost use Rattle.fl_history.specs.declared.history.Line.{Line};
+
+    ghost Value = { List Line };
+
+    ghost view = { λ r. r.past.items };
+
+    ghost invariant = { λ r. (r.entries.items ≡ map entry_of (recent r.past.items))
+        × (65536 ≤ deque_capacity r.entries) };
+}
+
+impl Recent {
+    /// No lines, and memory for as many as are kept.
+    pub fn new(alloc: Global) -> Result<Recent, NoMemory>
+        ensures { IfOk result (λ r. r ≡ []) }
+    {
+        Ok(Recent {
+            entries: VecDeque::with_capacity(alloc, KEPT)?,
+            past: Past::new(),
+        })
+    }
+
+    /// One line more, after the others. It takes no memory.
+    pub fn push(&mut self, line: &Line)
+        ensures { self.new ≡ self.old ++ line.now ∷ [] }
+    {
+        drop_oldest(&mut self.entries);
+        let Ok(()) = self.entries.push_back(Entry::of(line)) else {
+            unreachable!()
+        };
+        self.past = self.past.and(line);
+    }
+
+    /// What the last 65,536 lines say of a unique.
+    pub fn recall(&self, unique: u64) -> Recalled
+        ensures { result ≡ recalled unique (recent self.now) }
+    {
+        let mut recalled = Recalled::Asked(0);
+        for entry in self.entries.iter() {
+            recalled = entry.recalled(unique, recalled);
+        }
+        recalled
+    }
+}
+
+// Leaves room for one more, of as many as are kept.
+fn drop_oldest(entries: &mut VecDeque<Entry>)
+    requires { length entries.old.items ≤ 65536 }
+    ensures front { entries.new.items ≡ drop (length entries.old.items + 1 - 65536) entries.old.items }
+    ensures room { deque_len entries.new < 65536 }
+    ensures capacity { deque_capacity entries.new ≡ deque_capacity entries.old }
+{
+    if entries.len() >= KEPT {
+        entries.pop_front();
+    }
+}

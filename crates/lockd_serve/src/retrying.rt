@@ -1,0 +1,138 @@
+//! Writers of a trace's file: one that tells when it can't be written, and one that waits until it can.
+
+ghost use Rattle.std.specs.Prelude.{◌≡◌};
+
+use std::io;
+use std::io::{ErrorKind, Write};
+use std::thread::sleep;
+use std::time::{Clock, Duration};
+
+// How many milliseconds it is until a write is tried again.
+const PAUSE: u64 = 100;
+
+/// Writes to a file, and tells the first of writes that fail, and the first that succeeds behind it.
+#[derive(Drop)]
+pub struct Telling<'a, T, N> {
+    file: T,
+    name: &'a str,
+    notices: N,
+    // The last write failed.
+    failed: bool,
+}
+
+impl<'a, T: Write, N: Write> Telling<'a, T, N> {
+    /// To a file of this name. Each line that it tells goes to `notices`.
+    pub fn new(file: T, name: &'a str, notices: N) -> Telling<'a, T, N>
+        ensures { result.file ≡ file }
+    {
+        Telling {
+            file,
+            name,
+            notices,
+            failed: false,
+        }
+    }
+
+    /// The file.
+    pub fn file(&self) -> &T
+        ensures { result.now ≡ self.now.file }
+    {
+        &self.file
+    }
+
+    // Tells that a write failed, if the one before didn't.
+    fn tell_failed(&mut self, error: &io::Error)
+        ensures { self.new.file ≡ self.old.file }
+    {
+        if !self.failed {
+            self.failed = true;
+            let _ = writeln!(self.notices, "cannot write {}: {error}", self.name);
+        }
+    }
+
+    // Tells that a write succeeded, if the one before failed.
+    fn tell_over(&mut self)
+        ensures { self.new.file ≡ self.old.file }
+    {
+        if self.failed {
+            self.failed = false;
+            let _ = writeln!(self.notices, "{} is written again", self.name);
+        }
+    }
+}
+
+impl<T: Write, N: Write> Write for Telling<'_, T, N> {
+    ghost contents = { λ t. T.contents t.file };
+
+    fn write(&mut self, buf: &[u8]) -> io::Result<usize> {
+        let written = self.file.write(buf);
+        match &written {
+            Ok(_) => self.tell_over(),
+            Err(error) if error.kind() == ErrorKind::Interrupted => {}
+            Err(error) => self.tell_failed(error),
+        }
+        written
+    }
+
+    fn flush(&mut self) -> io::Result<()> {
+        self.file.flush()
+    }
+}
+
+/// What a server does that goes on behind a trace, while the trace's file can't be written.
+#[derive(Clone, Copy, Debug, PartialEq, Eq)]
+pub enum WhenUnwritten {
+    /// It tries again, ten times a second. Until then it reads nothing, and no reply leaves.
+    Wait,
+    /// It ends.
+    End,
+}
+
+/// A writer at which a write that fails is tried again, if that is wanted.
+#[derive(Drop)]
+pub(crate) struct Retrying<'a, W, C> {
+    writer: W,
+    clock: &'a C,
+    when: WhenUnwritten,
+}
+
+impl<'a, W: Write, C: Clock> Retrying<'a, W, C> {
+    /// The writer.
+    pub(crate) fn writer(&self) -> &W
+        ensures { result.now ≡ self.now.writer }
+    {
+        &self.writer
+    }
+
+    /// Before this writer.
+    pub(crate) fn new(writer: W, clock: &'a C, when: WhenUnwritten) -> Retrying<'a, W, C>
+        ensures { result.writer ≡ writer }
+    {
+        Retrying {
+            writer,
+            clock,
+            when,
+        }
+    }
+}
+
+impl<W: Write, C: Clock> Write for Retrying<'_, W, C> {
+    ghost contents = { λ r. W.contents r.writer };
+
+    fn write(&mut self, buf: &[u8]) -> io::Result<usize> {
+        if self.when == WhenUnwritten::Wait {
+            for _ in 0..u64::MAX {
+                let written = self.writer.write(buf);
+                if written.is_ok() {
+                    return written;
+                }
+                sleep(self.clock, Duration::from_millis(PAUSE));
+            }
+        }
+        self.writer.write(buf)
+    }
+
+    fn flush(&mut self) -> io::Result<()> {
+        self.writer.flush()
+    }
+}
