@@ -16,7 +16,7 @@ import weakref
 
 TOP = os.path.dirname(os.path.dirname(os.path.realpath(__file__)))
 PROGRAM = os.path.realpath(os.environ.get("LOCKD", f"{TOP}/crates/lockd/out/lockd"))
-PATIENCE = 20
+PATIENCE = 60
 NOT_TRIED = 77
 
 
@@ -89,6 +89,13 @@ def wait_until(is_so):
         time.sleep(0.01)
 
 
+def is_listening(path):
+    """Whether a server listens at the path. Linux lists its socket with this flag then; the socket's file is there a moment before."""
+    with open("/proc/net/unix", "rb") as file:
+        rows = [line.split(maxsplit=7) for line in file]
+    return any(row[3] == b"00010000" and row[7:] == [os.fsencode(path) + b"\n"] for row in rows)
+
+
 def run(*words, text=b"", **how):
     return subprocess.run([PROGRAM, *words], input=text, capture_output=True, timeout=PATIENCE, **how)
 
@@ -153,9 +160,8 @@ class Server:
         weakref.finalize(self, self.serving.kill)
 
     def listens(self):
-        """Waits until it does: its file is there a moment before."""
-        wait_until(lambda: os.path.exists(self.path) or self.serving.poll() is not None)
-        time.sleep(0.1)
+        """Waits until it does, or has ended."""
+        wait_until(lambda: is_listening(self.path) or self.serving.poll() is not None)
 
     def connect(self):
         """A connection, once it listens."""
