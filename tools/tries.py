@@ -106,6 +106,15 @@ def peak(process):
         return next(int(line.split()[1]) for line in file if line.startswith("VmHWM:"))
 
 
+def states_of(process):
+    """The states of its threads, each by one letter: `S` sleeps until something comes."""
+    folder, found = f"/proc/{process.pid}/task", set()
+    for it in os.listdir(folder):
+        with open(f"{folder}/{it}/stat", encoding="ascii") as file:
+            found.add(file.read().rsplit(")", 1)[1].split()[0])
+    return found
+
+
 def limited(most_bytes):
     """What a program does before it starts, so that its files can have so many bytes, and no more."""
     def limit():
