@@ -5,6 +5,7 @@ A message's layout is that of `fuse.h` (protocol 7.31).
 import os
 import re
 import resource
+import select
 import signal
 import socket
 import struct
@@ -203,6 +204,13 @@ class Server:
         """What it printed, what it told, and its status."""
         printed, told = self.serving.communicate(timeout=PATIENCE)
         return printed, told.decode(), self.serving.returncode
+
+    def tells(self, count=1):
+        """What it tells next, once that has so many lines, or less at its end."""
+        told, fd = b"", self.serving.stderr.fileno()
+        while told.count(b"\n") < count and select.select([fd], [], [], PATIENCE)[0] and (more := os.read(fd, 4096)):
+            told += more
+        return told.decode()
 
     def traced(self):
         with open(self.file, "rb") as file:
